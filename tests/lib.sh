@@ -1,0 +1,39 @@
+# What the end-to-end scripts share: each check counts, and the last line says how many passed.
+top=$(cd "$(dirname "${BASH_SOURCE[0]}")/.." && pwd)
+program=$top/bin/cmcache
+work=$(mktemp -d)
+trap 'rm -rf "$work"' EXIT
+passed=0
+failed=0
+
+# check NAME STATUS: the program's last run ended with the status, and wrote what stands in $work/want.
+check() {
+    if [ "$status" = "$2" ] && cmp -s "$work/got" "$work/want"; then
+        passed=$((passed + 1))
+    else
+        failed=$((failed + 1))
+        echo "FAILED: $1 (status $status, wanted $2)"
+        diff "$work/want" "$work/got" | head -5
+    fi
+}
+
+# check_status NAME STATUS: only the status, and that standard error says something where told so by a third word.
+check_status() {
+    if [ "$status" = "$2" ] && { [ "${3:-}" != "says" ] || [ -s "$work/errors" ]; }; then
+        passed=$((passed + 1))
+    else
+        failed=$((failed + 1))
+        echo "FAILED: $1 (status $status, wanted $2)"
+    fi
+}
+
+# run ARGS..: the program on $work/in.
+run() {
+    "$program" "$@" <"$work/in" >"$work/got" 2>"$work/errors"
+    status=$?
+}
+
+finish() {
+    echo "$passed passed, $failed failed"
+    [ "$failed" = 0 ]
+}
