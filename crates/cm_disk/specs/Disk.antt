@@ -1,0 +1,60 @@
+-- The disk model: what a disk holds now, what of it is not surely stored, and what a crash may leave.
+-- Source: the project's own model of a disk, docs/CRASH.md.
+use Rattle.std.specs.Prelude.{◌≡◌, ◌≤◌, ◌<◌, ◌+◌, ◌^◌, ℕ, Bool, true, false, ◌&&◌, ◌||◌, nat_lt, nat_le, min, max, List, length, get_or}
+
+-- What is not surely stored: the positions that were opened since the last sync that succeeded, and the
+-- least and the greatest length that the disk had since then.
+pub record Unsynced : Type 0 where
+  pub is_open : ℕ → Bool
+  pub least : ℕ
+  pub greatest : ℕ
+
+abbrev pub IsBytes : List ℕ → Type 0
+IsBytes xs = (i : ℕ) → i < length xs → get_or xs i 0 < 256
+
+-- A crash may leave the image. Its length is one that the disk may have. A byte at an open position, or at
+-- or past the least length, is any byte; all others are those of the contents.
+pub record IsImage (contents : List ℕ) (unsynced : Unsynced) (image : List ℕ) : Type 0 where
+  pub no_shorter : unsynced.least ≤ length image
+  pub no_longer : length image ≤ unsynced.greatest
+  pub bytes : IsBytes image
+  pub same : (i : ℕ) → i < unsynced.least → unsynced.is_open i ≡ false → get_or image i 0 ≡ get_or contents i 0
+
+-- Everything is stored: nothing is open, and there is one length.
+pub record IsSettled (contents : List ℕ) (unsynced : Unsynced) : Type 0 where
+  pub none_open : (i : ℕ) → unsynced.is_open i ≡ false
+  pub least : unsynced.least ≡ length contents
+  pub greatest : unsynced.greatest ≡ length contents
+
+-- What holds of every disk. A disk has at most 2^40 bytes, so that sums of two places fit 64 bits.
+pub record IsSound (contents : List ℕ) (unsynced : Unsynced) : Type 0 where
+  pub least : unsynced.least ≤ length contents
+  pub greatest : length contents ≤ unsynced.greatest
+  pub limit : unsynced.greatest ≤ 2 ^ 40
+  pub bytes : IsBytes contents
+
+-- No more is unsynced than `most` says.
+pub record IsWithin (most unsynced : Unsynced) : Type 0 where
+  pub positions : (i : ℕ) → unsynced.is_open i ≡ true → most.is_open i ≡ true
+  pub least : most.least ≤ unsynced.least
+  pub greatest : unsynced.greatest ≤ most.greatest
+
+-- the position is one of n from `at` on
+abbrev pub is_among : ℕ → ℕ → ℕ → Bool
+is_among at n i = nat_le at i && nat_lt i (at + n)
+
+-- what may be unsynced once a write of n bytes began: its range too, and the length that it makes
+abbrev pub widened : ℕ → ℕ → Unsynced → Unsynced
+widened at n unsynced = record {
+  is_open = λ i. unsynced.is_open i || is_among at n i;
+  least = unsynced.least;
+  greatest = max unsynced.greatest (at + n);
+}
+
+-- what may be unsynced once a cut to a length began
+abbrev pub shortened : ℕ → Unsynced → Unsynced
+shortened len unsynced = record {
+  is_open = unsynced.is_open;
+  least = min unsynced.least len;
+  greatest = unsynced.greatest;
+}

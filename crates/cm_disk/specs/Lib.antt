@@ -1,0 +1,5 @@
+pub mod Disk
+pub mod Calls
+pub mod Moments
+pub mod Medium
+pub mod Sim
