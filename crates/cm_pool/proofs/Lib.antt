@@ -1,0 +1,13 @@
+pub mod Lists
+pub mod Dyadic
+pub mod FreeLists
+pub mod Holes
+pub mod Joins
+pub mod FreeWords
+pub mod Spaces
+pub mod Places
+pub mod Pools
+pub mod ChunkLaws
+pub mod HeldFacts
+pub mod Largest
+pub mod NoneLost

@@ -1,0 +1,7 @@
+pub mod Geometry
+pub mod Chunks
+pub mod FreeSpace
+pub mod Lists
+pub mod Held
+pub mod Blocks
+pub mod Laws

@@ -1,0 +1,62 @@
+// A chunk: a part of a root whose size is a power of two.
+ghost use Rattle.std.specs.Prelude.{◌≡◌, ◌+◌, ◌^◌, ◌≤◌, ◌↔◌, min, IsTrue};
+
+use crate::geometry::Geometry;
+
+/// The words `at .. at + 128 * 2^order` of root `root`, of 8 bytes each.
+///
+/// In a region `at` is a multiple of the size and the chunk lies inside its root ([`Chunk::is_within`]); a chunk that
+/// was read from a file may have any numbers.
+#[derive(Clone, Copy, Debug, PartialEq, Eq)]
+pub struct Chunk {
+    pub root: u32,
+    pub order: u32,
+    pub at: u32,
+}
+
+/// Where every chunk that reaches past the `u32`s ends, for [`Chunk::meets`]. From order 26 on each chunk does.
+const FAR: u64 = 1 << 33;
+
+impl Chunk {
+    ghost use Rattle.cm_pool.specs.Chunks.{chunk_size, Meets, IsChunk};
+
+    /// Whether the two chunks share a word.
+    pub fn meets(&self, other: &Chunk) -> bool
+        ensures { IsTrue result ↔ Meets self.now other.now }
+    {
+        let begin = u64::from(self.at.max(other.at));
+        let end = self.end().min(other.end());
+        self.root == other.root && begin < end
+    }
+
+    /// Whether a region of these sizes can have this chunk: its order is at most `top`, its root below `roots`, it
+    /// lies at a multiple of its size, and inside the root.
+    pub fn is_within(&self, geometry: Geometry) -> bool
+        ensures { IsTrue result ↔ IsChunk geometry self.now }
+    {
+        let top = geometry.top();
+        self.order <= top
+            && self.root < geometry.roots()
+            && self.at % self.size() == 0
+            && u64::from(self.at) + u64::from(self.size()) <= 128 << top
+    }
+
+    /// How many words a chunk of a region has.
+    pub fn size(&self) -> u32
+        requires { self.now.order ≤ 12 }
+        ensures { result ≡ chunk_size self.now.order }
+    {
+        128 << self.order
+    }
+
+    // The word behind the chunk's last, or `FAR` where that is further on.
+    fn end(&self) -> u64
+        ensures { result ≡ min (self.now.at + chunk_size self.now.order) (2 ^ 33) }
+    {
+        if self.order < 26 {
+            u64::from(self.at) + (128 << self.order)
+        } else {
+            FAR
+        }
+    }
+}
