@@ -1,0 +1,3 @@
+pub mod Fetching
+pub mod ChainFacts
+pub mod Places

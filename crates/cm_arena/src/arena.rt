@@ -1,0 +1,211 @@
+// An arena.
+ghost use Rattle.std.specs.Prelude.{List, ◌≡◌, ◌<◌, ◌≤◌, ◌↔◌, [], ◌∷◌, ◌++◌, length, vec_len, vec_capacity, IsTrue, IfOk, IfSome, IfNone, OnSome, OnErr, IsErrOf, MatchResult, if◌then◌else◌};
+ghost use Rattle.cm_pool.specs.Chunks.{chunk_size};
+ghost use Rattle.cm_arena.specs.Chains.{used_of, chain_of, IsArena};
+ghost use Rattle.cm_arena.specs.Placing.{IsOnTop, HasRoom, next_offset as next_offset_of};
+
+use crate::fetch::{fetch, order_for};
+use crate::place::Place;
+use crate::refusal::Refusal;
+use cm_pool::chunk::Chunk;
+use cm_pool::pool::Pool;
+use std::alloc::{AllocError, Global};
+use std::marker::Model;
+
+/// The chunks of one loader, in the order in which they were taken, each with how many words at its front are used.
+///
+/// Contracts see an arena as that chain. Only the last chunk is filled further.
+#[derive(Drop)]
+pub struct Arena {
+    chunks: Vec<Chunk>,
+    used: Vec<u32>,
+}
+
+impl Model for Arena {
+    ghost use Rattle.std.specs.Prelude.{List};
+    ghost use Rattle.cm_arena.specs.Chains.{Filled, chain_of, chain_code, IsArena};
+
+    ghost Value = { List Filled };
+
+    ghost coded = { chain_code };
+
+    ghost view = { λ a. chain_of a.chunks.items a.used.items };
+
+    ghost invariant = { λ a. IsArena a.chunks.items a.used.items };
+}
+
+impl Arena {
+    ghost use Rattle.cm_arena.specs.Chains.{chunks_of, used_of};
+    ghost use Rattle.cm_arena.specs.Placing.{Places, IsFull, HasRoom, IsInside, IsNext, with_place};
+    ghost use Rattle.cm_pool.specs.declared.chunk.Chunk.{Chunk};
+    ghost use Rattle.cm_pool.specs.Lists.{Among};
+    ghost use Rattle.cm_pool.specs.Held.{AreHeld, NoneIsLost};
+
+    /// An arena with no chunk.
+    pub fn new(alloc: Global) -> Arena
+        ensures { result ≡ [] }
+    {
+        Arena {
+            chunks: Vec::new(alloc),
+            used: Vec::new(alloc),
+        }
+    }
+
+    /// The chunks, in order.
+    pub fn chunks(&self) -> &[Chunk]
+        ensures { result.now ≡ chunks_of self.now }
+    {
+        &self.chunks
+    }
+
+    /// How many words at the front of a chunk are used, if the chunk is one of the arena's.
+    pub fn used(&self, chunk: &Chunk) -> Option<u32>
+        ensures { result ≡ used_of self.now chunk.now }
+    {
+        used_in(&self.chunks, &self.used, chunk)
+    }
+
+    /// Finds a place for the words of a record: on the top of the last chunk where that has room, and else at the
+    /// front of a new one. The new one is of the order that the words need or, in a longer chain, of a larger one, up
+    /// to order 4; where no chunk of the larger order is free, of the order needed; and where none of that order is
+    /// free either, it comes out of a new root.
+    ///
+    /// The refusal is `RecordTooLong` where a root chunk doesn't hold the words, and else `RegionFull` where the last
+    /// chunk has no room, no chunk of the order needed is free, and all roots are present. `OutOfMemory` comes only
+    /// where neither does and the last chunk has no room. After a refusal arena and pool are as they were.
+    pub fn place(&mut self, words: u32, pool: &mut Pool) -> Result<Place, Refusal>
+        requires { 1 ≤ words }
+        ensures ok { IfOk result (λ place. Places self.old pool.old words place self.new pool.new) }
+        // The words lie inside a chunk of this arena. What it has and others have of the pool stays theirs alone, and
+        // no word of the pool is lost.
+        ensures inside { IfOk result (λ place. IsInside place × Among place.chunk (chunks_of self.new)) }
+        ensures alone { (others : List Chunk) → AreHeld pool.old (chunks_of self.old ++ others) → AreHeld pool.new (chunks_of self.new ++ others) }
+        ensures none_lost { (others : List Chunk) → NoneIsLost pool.old (chunks_of self.old ++ others) → NoneIsLost pool.new (chunks_of self.new ++ others) }
+
+        ensures too_long { IsErrOf result Refusal.RecordTooLong ↔ (chunk_size pool.old.geometry.top < words) }
+        ensures full { IsErrOf result Refusal.RegionFull ↔ IsFull self.old pool.old words }
+        ensures memory { IsErrOf result Refusal.OutOfMemory → ¬ HasRoom self.old words }
+        ensures err { OnErr result ((self.new ≡ self.old) × (pool.new ≡ pool.old)) }
+    {
+        let top = pool.geometry().top();
+        if words > 128 << top {
+            return Err(Refusal::RecordTooLong);
+        }
+        if let Some(place) = place_on_top(&self.chunks, &mut self.used, words) {
+            return Ok(place);
+        }
+        let keeps = reserve_one(&mut self.chunks, &mut self.used);
+        let need = order_for(words);
+        let wanted = need.max((self.chunks.len().min(4) as u32).min(top));
+        let chunk = fetch(pool, wanted, need, keeps)?;
+        append(&mut self.chunks, &mut self.used, chunk, words);
+        Ok(Place {
+            chunk,
+            offset: 0,
+            words,
+        })
+    }
+
+    /// Takes over a place that was found again. It has to be the next one: inside its chunk, and behind the used words
+    /// of the last chunk, or at the front of another one. False, and nothing is changed, where it isn't.
+    ///
+    /// That another chunk shares no word with those that are in use is for the caller to see, as by [`Pool::take`].
+    pub fn adopt(&mut self, place: Place) -> Result<bool, AllocError>
+        ensures next { IfOk result (λ taken. IsTrue taken ↔ IsNext self.old place) }
+        ensures left { MatchResult result (λ taken. self.new ≡ (if taken then with_place self.old place else self.old)) (λ _. self.new ≡ self.old) }
+        ensures memory { OnErr result (IsNext self.old place) }
+    {
+        let offset = next_offset(&self.chunks, &self.used, &place.chunk);
+        if place.offset != offset || !place.is_inside() {
+            return Ok(false);
+        }
+        if offset > 0 {
+            let last = self.used.len() - 1;
+            self.used[last] = offset + place.words;
+            return Ok(true);
+        }
+        if !reserve_one(&mut self.chunks, &mut self.used) {
+            return Err(AllocError);
+        }
+        append(&mut self.chunks, &mut self.used, place.chunk, place.words);
+        Ok(true)
+    }
+
+    /// Gives the arena up: its chunks, in order.
+    pub fn release(self) -> Vec<Chunk>
+        ensures { result.items ≡ chunks_of self }
+    {
+        let Arena { chunks, used: _ } = self;
+        chunks
+    }
+}
+
+// How many words of a chunk are used, by the chunks and the used words that stand side by side.
+fn used_in(chunks: &[Chunk], used: &[u32], chunk: &Chunk) -> Option<u32>
+    requires { length chunks.now ≡ length used.now }
+    ensures { result ≡ used_of (chain_of chunks.now used.now) chunk.now }
+{
+    for (at, mine) in chunks.iter().enumerate() {
+        if mine == chunk {
+            return Some(used[at]);
+        }
+    }
+    None
+}
+
+// Uses so many words more of the last chunk, where it has room for them.
+fn place_on_top(chunks: &[Chunk], used: &mut Vec<u32>, words: u32) -> Option<Place>
+    requires { IsArena chunks.now used.old.items }
+    ensures some { IfSome result (λ place. IsOnTop (chain_of chunks.now used.old.items) words place (chain_of chunks.now used.new.items)) }
+    ensures kept { OnSome result (1 ≤ words → IsArena chunks.now used.new.items) }
+    ensures none { IfNone result ((¬ HasRoom (chain_of chunks.now used.old.items) words) × (used.new.items ≡ used.old.items)) }
+{
+    let last = chunks.len().checked_sub(1)?;
+    let chunk = chunks[last];
+    let offset = used[last];
+    if words > chunk.size() - offset {
+        return None;
+    }
+    used[last] = offset + words;
+    Some(Place {
+        chunk,
+        offset,
+        words,
+    })
+}
+
+// Makes room for one chunk more, and says whether there is.
+fn reserve_one(chunks: &mut Vec<Chunk>, used: &mut Vec<u32>) -> bool
+    ensures chunks { chunks.new.items ≡ chunks.old.items }
+    ensures used { used.new.items ≡ used.old.items }
+    ensures chunk_room { IsTrue result → vec_len chunks.new < vec_capacity chunks.new }
+    ensures used_room { IsTrue result → vec_len used.new < vec_capacity used.new }
+{
+    chunks.reserve(1).is_ok() && used.reserve(1).is_ok()
+}
+
+// Puts one chunk more behind the others, where there is room for it.
+fn append(chunks: &mut Vec<Chunk>, used: &mut Vec<u32>, chunk: Chunk, words: u32)
+    requires chunk_room { vec_len chunks.old < vec_capacity chunks.old }
+    requires used_room { vec_len used.old < vec_capacity used.old }
+    ensures chunks { chunks.new.items ≡ chunks.old.items ++ chunk ∷ [] }
+    ensures used { used.new.items ≡ used.old.items ++ words ∷ [] }
+{
+    chunks.push(chunk).unwrap();
+    used.push(words).unwrap();
+}
+
+// Where the next words in a chunk go: behind the used ones of the last chunk, and to the front of another.
+fn next_offset(chunks: &[Chunk], used: &[u32], chunk: &Chunk) -> u32
+    requires { length chunks.now ≡ length used.now }
+    ensures { result ≡ next_offset_of (chain_of chunks.now used.now) chunk.now }
+{
+    let Some(last) = chunks.len().checked_sub(1) else {
+        return 0;
+    };
+    if chunks[last] == *chunk {
+        used[last]
+    } else {
+        0
+    }
+}

@@ -1,0 +1,63 @@
+// Which chunk an arena takes from a pool.
+ghost use Rattle.std.specs.Prelude.{◌≡◌, ◌≢◌, ℕ, ◌≤◌, ◌⊎◌, ◌↔◌, IsTrue, IfOk, IfSome, IfNone, OnOk, OnErr, IsErrOf};
+ghost use Rattle.cm_pool.specs.Chunks.{chunk_size};
+ghost use Rattle.cm_pool.specs.FreeSpace.{HasFree};
+ghost use Rattle.cm_arena.specs.Placing.{IsNeed, IsWanted, IsNeeded, Fetches};
+
+use crate::refusal::Refusal;
+use cm_pool::chunk::Chunk;
+use cm_pool::pool::Pool;
+
+/// The least order whose chunks hold so many words.
+pub fn order_for(words: u32) -> u32
+    requires { words ≤ chunk_size 12 }
+    ensures need { IsNeed words result }
+    ensures small { result ≤ 12 }
+{
+    let mut order = 0;
+    while 128 << order < words {
+        order += 1;
+    }
+    order
+}
+
+// A chunk of the order wanted, or else of the one needed.
+fn first_of(pool: &mut Pool, wanted: u32, need: u32) -> Option<Chunk>
+    requires needed { need ≤ wanted }
+    requires wanted { wanted ≤ pool.old.geometry.top }
+    ensures some { IfSome result (λ chunk. IsWanted pool.old wanted chunk pool.new ⊎ IsNeeded pool.old wanted need chunk pool.new) }
+    ensures none { IfNone result ((¬ HasFree pool.old wanted) × (¬ HasFree pool.old need) × (pool.new ≡ pool.old)) }
+{
+    if let Some(chunk) = pool.alloc(wanted) {
+        return Some(chunk);
+    }
+    pool.alloc(need)
+}
+
+/// A chunk of the order wanted, or else of the one needed, or else of the one wanted out of a new root. The caller
+/// says whether it can keep one.
+pub fn fetch(pool: &mut Pool, wanted: u32, need: u32, keeps: bool) -> Result<Chunk, Refusal>
+    requires needed { need ≤ wanted }
+    requires wanted { wanted ≤ pool.old.geometry.top }
+    ensures ok { IfOk result (λ chunk. Fetches pool.old wanted need chunk pool.new) }
+    ensures kept { OnOk result (IsTrue keeps) }
+    ensures full { IsErrOf result Refusal.RegionFull ↔ ((¬ HasFree pool.old need) × (pool.old.geometry.roots ≤ pool.old.roots)) }
+    ensures not_long { result ≢ Err Refusal.RecordTooLong }
+    ensures err { OnErr result (pool.new ≡ pool.old) }
+{
+    if let Some(chunk) = first_of(pool, wanted, need) {
+        if !keeps {
+            pool.give(chunk);
+            return Err(Refusal::OutOfMemory);
+        }
+        return Ok(chunk);
+    }
+    if !keeps && pool.roots() < pool.geometry().roots() {
+        return Err(Refusal::OutOfMemory);
+    }
+    match pool.add_root() {
+        Ok(true) => Ok(pool.alloc(wanted).unwrap()),
+        Ok(false) => Err(Refusal::RegionFull),
+        Err(_) => Err(Refusal::OutOfMemory),
+    }
+}
