@@ -1,0 +1,234 @@
+-- Reading bytes from left to right, as a function of lists: the value and the rest, or where it stops.
+-- What it has to do with spellings is proved above it, in `read_shape` and the laws of this crate.
+use Rattle.std.specs.Prelude.{◌≡◌, ◌⊎◌, ℕ, zero, suc, ◌+◌, ◌-◌, Bool, true, false, List, [], ◌∷◌, length, take, drop, Option, Some, None, Result, Ok, Err, nat_lt, ◌==◌, ◌&&◌, if◌then◌else◌}
+use Rattle.byteorder.specs.Endian.{big_number}
+use Rattle.cm_class.specs.declared.stop.Stop.{Stop}
+use Rattle.cm_class.specs.declared.stop.Stop.TheVariants.{Short, Bad, NoMemory}
+use Rattle.cm_class.specs.declared.fault.ShapeFault.{ShapeFault}
+use Rattle.cm_class.specs.declared.fault.ShapeFault.TheVariants as faults
+use Rattle.cm_class.specs.declared.tag.Tag.{Tag}
+use Rattle.cm_class.specs.declared.tag.Tag.TheVariants as tags
+use Rattle.cm_class.specs.declared.constant.Constant.{Constant}
+use Rattle.cm_class.specs.declared.constant.Constant.TheVariants as constant
+use Rattle.cm_class.specs.declared.constant.Slot.{Slot}
+use Rattle.cm_class.specs.declared.constant.Slot.TheVariants.{Usable, Unusable}
+use Rattle.cm_class.specs.declared.class_file.Attribute.{Attribute}
+use Rattle.cm_class.specs.declared.class_file.Member.{Member}
+use Rattle.cm_class.specs.declared.class_file.ClassFile.{ClassFile}
+use Rattle.cm_class.specs.Spelling.{is_wide, heading}
+
+infixl 10 ◌>>=◌
+abbrev pub ◌>>=◌ : {A B : Type 0} → Result A Stop → (A → Result B Stop) → Result B Stop
+(Ok x) >>= f = f x
+(Err e) >>= f = Err e
+
+-- What a function returned, seen by view, is what reading gives, unless memory was refused.
+abbrev pub Fails : {Y : Type 0} → Stop → Result Y Stop → Type 0
+Fails NoMemory read = Unit {0}
+Fails Short read = read ≡ Err Short
+Fails (Bad left) read = read ≡ Err (Bad left)
+
+abbrev pub Gives : {X Y : Type 0} → (X → Y) → Result X Stop → Result Y Stop → Type 0
+Gives view (Ok x) read = read ≡ Ok (view x)
+Gives view (Err e) read = Fails e read
+
+-- ---- putting readers together
+
+-- one reader behind another
+abbrev pub both_at : {A B : Type 0} → (List ℕ → Result (A × List ℕ) Stop) → (List ℕ → Result (B × List ℕ) Stop) → List ℕ → Result ((A × B) × List ℕ) Stop
+both_at one two bytes = do
+  a ← one bytes
+  b ← two a.1
+  Ok ((a.0, b.0), b.1)
+
+-- what is made of the value that was read
+abbrev pub made_at : {A B : Type 0} → (A → B) → (List ℕ → Result (A × List ℕ) Stop) → List ℕ → Result (B × List ℕ) Stop
+made_at make one bytes = do
+  a ← one bytes
+  Ok (make a.0, a.1)
+
+-- ---- numbers and bytes
+
+-- a number of so many bytes
+abbrev pub number_at : ℕ → List ℕ → Result (ℕ × List ℕ) Stop
+number_at n bytes = if nat_lt (length bytes) n then Err Short else Ok (big_number n bytes, drop n bytes)
+
+abbrev pub byte_at : List ℕ → Result (ℕ × List ℕ) Stop
+byte_at [] = Err Short
+byte_at (b ∷ bytes) = Ok (b, bytes)
+
+-- so many bytes
+abbrev pub bytes_at : ℕ → List ℕ → Result (List ℕ × List ℕ) Stop
+bytes_at n bytes = if nat_lt (length bytes) n then Err Short else Ok (take n bytes, drop n bytes)
+
+-- this byte and no other
+abbrev pub literal_at : ℕ → List ℕ → Result (Unit {0} × List ℕ) Stop
+literal_at e [] = Err Short
+literal_at e (b ∷ bytes) = if b == e then Ok (tt, bytes) else Err (Bad (length bytes + 1))
+
+-- these bytes and no others
+unfoldable pub expected_at : List ℕ → List ℕ → Result (Unit {0} × List ℕ) Stop
+expected_at [] bytes = Ok (tt, bytes)
+expected_at (e ∷ expected) bytes = do
+  first ← literal_at e bytes
+  expected_at expected first.1
+
+-- the pool's count, which isn't 0
+unfoldable pub count_at : List ℕ → Result (ℕ × List ℕ) Stop
+count_at bytes = do
+  n ← number_at 2 bytes
+  if n.0 == 0 then Err (Bad (length n.1 + 1)) else Ok (n.0, n.1)
+
+-- ---- lists
+
+-- so many items
+unfoldable pub many_at : {A : Type 0} → (List ℕ → Result (A × List ℕ) Stop) → ℕ → List ℕ → Result (List A × List ℕ) Stop
+many_at item zero bytes = Ok ([], bytes)
+many_at item (suc n) bytes = do
+  first ← item bytes
+  others ← many_at item n first.1
+  Ok (first.0 ∷ others.0, others.1)
+
+-- a count, and that many items
+unfoldable pub counted_at : {A : Type 0} → (List ℕ → Result (A × List ℕ) Stop) → List ℕ → Result (List A × List ℕ) Stop
+counted_at item bytes = do
+  n ← number_at 2 bytes
+  many_at item n.0 n.1
+
+-- ---- the constant pool
+
+abbrev pub tag_of : ℕ → Option Tag
+tag_of n =
+    if n == 1 then Some tags.Utf8
+    else if n == 3 then Some tags.Integer
+    else if n == 4 then Some tags.Float
+    else if n == 5 then Some tags.Long
+    else if n == 6 then Some tags.Double
+    else if n == 7 then Some tags.Class
+    else if n == 8 then Some tags.String
+    else if n == 9 then Some tags.Fieldref
+    else if n == 10 then Some tags.Methodref
+    else if n == 11 then Some tags.InterfaceMethodref
+    else if n == 12 then Some tags.NameAndType
+    else if n == 15 then Some tags.MethodHandle
+    else if n == 16 then Some tags.MethodType
+    else if n == 18 then Some tags.InvokeDynamic
+    else None
+
+-- how many slots a constant of this kind takes
+abbrev pub takes_two : Tag → Bool
+takes_two tags.Long = true
+takes_two tags.Double = true
+takes_two _ = false
+
+-- the tag of a constant that has so many slots left; a wide one takes two of them
+abbrev pub tag_found : ℕ → Option Tag → List ℕ → Result (Tag × List ℕ) Stop
+tag_found left None bytes = Err (Bad (length bytes + 1))
+tag_found left (Some t) bytes = if takes_two t && nat_lt left 2 then Err (Bad (length bytes + 1)) else Ok (t, bytes)
+
+unfoldable pub tag_at : ℕ → List ℕ → Result (Tag × List ℕ) Stop
+tag_at left [] = Err Short
+tag_at left (b ∷ bytes) = tag_found left (tag_of b) bytes
+
+-- a length of so many bytes, and bytes of that length
+unfoldable pub sized_at : ℕ → List ℕ → Result (List ℕ × List ℕ) Stop
+sized_at n bytes = do
+  size ← number_at n bytes
+  bytes_at size.0 size.1
+
+-- one number, made into a constant
+unfoldable pub one_at : (ℕ → Constant) → ℕ → List ℕ → Result (Constant × List ℕ) Stop
+one_at make n bytes = made_at make (number_at n) bytes
+
+-- two numbers, the second of two bytes, made into a constant
+unfoldable pub two_at : (ℕ → ℕ → Constant) → (List ℕ → Result (ℕ × List ℕ) Stop) → List ℕ → Result (Constant × List ℕ) Stop
+two_at make first bytes = made_at (λ x. make x.0 x.1) (both_at first (number_at 2)) bytes
+
+unfoldable pub text_at : List ℕ → Result (Constant × List ℕ) Stop
+text_at bytes = made_at constant.Utf8 (sized_at 2) bytes
+
+-- what stands behind a tag
+abbrev pub info_at : Tag → List ℕ → Result (Constant × List ℕ) Stop
+info_at tags.Utf8 bytes = text_at bytes
+info_at tags.Integer bytes = one_at constant.Integer 4 bytes
+info_at tags.Float bytes = one_at constant.Float 4 bytes
+info_at tags.Long bytes = one_at constant.Long 8 bytes
+info_at tags.Double bytes = one_at constant.Double 8 bytes
+info_at tags.Class bytes = one_at constant.Class 2 bytes
+info_at tags.String bytes = one_at constant.String 2 bytes
+info_at tags.Fieldref bytes = two_at constant.Fieldref (number_at 2) bytes
+info_at tags.Methodref bytes = two_at constant.Methodref (number_at 2) bytes
+info_at tags.InterfaceMethodref bytes = two_at constant.InterfaceMethodref (number_at 2) bytes
+info_at tags.NameAndType bytes = two_at constant.NameAndType (number_at 2) bytes
+info_at tags.MethodHandle bytes = two_at constant.MethodHandle byte_at bytes
+info_at tags.MethodType bytes = one_at constant.MethodType 2 bytes
+info_at tags.InvokeDynamic bytes = two_at constant.InvokeDynamic (number_at 2) bytes
+
+unfoldable pub constant_at : ℕ → List ℕ → Result (Constant × List ℕ) Stop
+constant_at left bytes = do
+  tag ← tag_at left bytes
+  info_at tag.0 tag.1
+
+-- so many slots, the first of which may be the second of a wide constant
+unfoldable pub slots_at : Bool → ℕ → List ℕ → Result (List Slot × List ℕ) Stop
+slots_at second zero bytes = Ok ([], bytes)
+slots_at true (suc left) bytes = do
+  others ← slots_at false left bytes
+  Ok (Unusable ∷ others.0, others.1)
+slots_at false (suc left) bytes = do
+  c ← constant_at (suc left) bytes
+  others ← slots_at (is_wide c.0) left c.1
+  Ok (Usable c.0 ∷ others.0, others.1)
+
+-- ---- members and classes
+
+unfoldable pub attribute_at : List ℕ → Result (Attribute × List ℕ) Stop
+attribute_at bytes = made_at (λ x. record { name = x.0; bytes = x.1 }) (both_at (number_at 2) (sized_at 4)) bytes
+
+unfoldable pub member_at : List ℕ → Result (Member × List ℕ) Stop
+member_at bytes =
+    made_at (λ x. record { flags = x.0; name = x.1.0; descriptor = x.1.1.0; attributes = x.1.1.1 })
+    (both_at (number_at 2) (both_at (number_at 2) (both_at (number_at 2) (counted_at attribute_at)))) bytes
+
+-- the heading, the pool's count and its slots
+unfoldable pub pool_at : List ℕ → Result (List Slot × List ℕ) Stop
+pool_at bytes = do
+  start ← expected_at heading bytes
+  count ← count_at start.1
+  slots_at false (count.0 - 1) count.1
+
+-- the numbers and lists behind the pool
+abbrev pub Body : Type 0
+Body = ℕ × (ℕ × (ℕ × (List ℕ × (List Member × (List Member × List Attribute)))))
+
+abbrev pub body_at : List ℕ → Result (Body × List ℕ) Stop
+body_at bytes =
+    both_at (number_at 2) (both_at (number_at 2) (both_at (number_at 2) (both_at (counted_at (number_at 2))
+    (both_at (counted_at member_at) (both_at (counted_at member_at) (counted_at attribute_at)))))) bytes
+
+unfoldable pub class_at : List ℕ → Result (ClassFile × List ℕ) Stop
+class_at bytes =
+    made_at (λ x. record {
+      slots = x.0;
+      flags = x.1.0;
+      this_class = x.1.1.0;
+      super_class = x.1.1.1.0;
+      interfaces = x.1.1.1.1.0;
+      fields = x.1.1.1.1.1.0;
+      methods = x.1.1.1.1.1.1.0;
+      attributes = x.1.1.1.1.1.1.1;
+    })
+    (both_at pool_at body_at) bytes
+
+-- ---- whole texts
+
+-- what a reading of a class file says of all of the bytes
+abbrev pub answer_of : List ℕ → Result (ClassFile × List ℕ) Stop → Result ClassFile ShapeFault
+answer_of bytes (Ok x) = if length x.1 == 0 then Ok x.0 else Err (faults.Trailing (length bytes - length x.1))
+answer_of bytes (Err Short) = Err faults.Truncated
+answer_of bytes (Err (Bad left)) = Err (faults.Malformed (length bytes - left))
+answer_of bytes (Err NoMemory) = Err faults.NoMemory
+
+-- it is this answer, unless memory was refused
+abbrev pub IsUnlessRefused : Result ClassFile ShapeFault → Result ClassFile ShapeFault → Type 0
+IsUnlessRefused answer result = (result ≡ answer) ⊎ (result ≡ Err faults.NoMemory)

@@ -1,0 +1,102 @@
+ghost use Rattle.std.specs.Prelude.{◌≡◌};
+
+use crate::class_file::{Attribute, ClassFile, Member};
+use crate::constant::Slot;
+use std::marker::Model;
+
+/// A class file that has a spelling in bytes. Contracts see the `ClassFile` that it holds.
+#[derive(Debug, Drop)]
+pub struct Class {
+    file: ClassFile,
+}
+
+impl Model for Class {
+    ghost use Rattle.cm_class.specs.declared.class_file.ClassFile.{ClassFile};
+    ghost use Rattle.cm_class.specs.Spelling.{HasSpelling};
+
+    ghost Value = { ClassFile };
+
+    ghost view = { λ class. class.file };
+
+    ghost invariant = { λ class. HasSpelling class.file };
+}
+
+impl Class {
+    ghost use Rattle.std.specs.Prelude.{◌≡◌};
+    ghost use Rattle.cm_class.specs.Spelling.{HasSpelling};
+
+    /// The class of these parts. Each list is within its count, each wide constant has its unusable
+    /// slot, and no other slot is unusable.
+    pub fn from_file(file: ClassFile) -> Class
+        requires { HasSpelling file }
+        ensures { result ≡ file }
+    {
+        Class { file }
+    }
+
+    /// Its parts.
+    pub fn into_file(self) -> ClassFile
+        ensures file { result ≡ self }
+        ensures spelled { HasSpelling result }
+    {
+        let Class { file } = self;
+        file
+    }
+
+    /// The constant pool from index 1 on.
+    pub fn slots(&self) -> &[Slot]
+        ensures { result.now ≡ self.now.slots }
+    {
+        self.file.slots.as_slice()
+    }
+
+    /// The access flags (JVMS 4.1).
+    pub fn flags(&self) -> u16
+        ensures value { result ≡ self.now.flags }
+        ensures spelled { HasSpelling self.now }
+    {
+        self.file.flags
+    }
+
+    /// Index of the class in the pool.
+    pub fn this_class(&self) -> u16
+        ensures { result ≡ self.now.this_class }
+    {
+        self.file.this_class
+    }
+
+    /// Index of the super class in the pool; 0 where there is none.
+    pub fn super_class(&self) -> u16
+        ensures { result ≡ self.now.super_class }
+    {
+        self.file.super_class
+    }
+
+    /// Indexes of the interfaces in the pool.
+    pub fn interfaces(&self) -> &[u16]
+        ensures { result.now ≡ self.now.interfaces }
+    {
+        self.file.interfaces.as_slice()
+    }
+
+    /// The fields, in the file's order.
+    pub fn fields(&self) -> &[Member]
+        ensures { result.now ≡ self.now.fields }
+    {
+        self.file.fields.as_slice()
+    }
+
+    /// The methods, in the file's order.
+    pub fn methods(&self) -> &[Member]
+        ensures { result.now ≡ self.now.methods }
+    {
+        self.file.methods.as_slice()
+    }
+
+    /// The attributes of the class itself, in the file's order.
+    pub fn attributes(&self) -> &[Attribute]
+        ensures { result.now ≡ self.now.attributes }
+    {
+        self.file.attributes.as_slice()
+    }
+}

@@ -1,0 +1,37 @@
+use crate::constant::Slot;
+use crate::row::Row;
+
+/// An attribute (JVMS 4.7), its content as bytes.
+#[derive(Debug, Drop)]
+pub struct Attribute {
+    /// Index of its name in the pool.
+    pub name: u16,
+    pub bytes: Row<u8>,
+}
+
+/// A field or a method (JVMS 4.5, 4.6).
+#[derive(Debug, Drop)]
+pub struct Member {
+    pub flags: u16,
+    /// Index of its name in the pool.
+    pub name: u16,
+    /// Index of its descriptor in the pool.
+    pub descriptor: u16,
+    pub attributes: Row<Attribute>,
+}
+
+/// All that a class file of version 52.0 holds (JVMS 4.1), of any sizes: some have no spelling, as
+/// one of 65,536 fields.
+#[derive(Debug, Drop)]
+pub struct ClassFile {
+    /// The constant pool from index 1 on.
+    pub slots: Row<Slot>,
+    pub flags: u16,
+    pub this_class: u16,
+    /// 0 where there is none.
+    pub super_class: u16,
+    pub interfaces: Row<u16>,
+    pub fields: Row<Member>,
+    pub methods: Row<Member>,
+    pub attributes: Row<Attribute>,
+}

@@ -1,0 +1,26 @@
+//! Class files of version 52.0 as values, and the reader of their bytes (JVMS SE 8, chapter 4).
+#![tactic(auto)]
+
+mod class;
+mod class_file;
+mod constant;
+mod fault;
+mod laws;
+mod members;
+mod numbers;
+mod pool;
+mod row;
+mod shape;
+mod stop;
+mod tag;
+
+pub use class::Class;
+pub use class_file::{Attribute, ClassFile, Member};
+pub use constant::{Constant, Slot};
+pub use fault::ShapeFault;
+pub use laws::{each_text_has_one_answer, no_spelling_begins_another, one_class_for_one_spelling};
+pub use row::Row;
+pub use shape::read_shape;
+
+#[cfg(test)]
+mod tests;

@@ -1,0 +1,104 @@
+//! Readers of attributes, interfaces, fields and methods.
+ghost use Rattle.std.specs.Prelude.{◌≡◌};
+ghost use Rattle.cm_class.specs.Reading.{Gives, number_at, many_at, counted_at, attribute_at, member_at};
+
+use crate::class_file::{Attribute, Member};
+use crate::numbers::{content, read_u16};
+use crate::row::Row;
+use crate::stop::Stop;
+use std::alloc::Global;
+
+#[tactic(auto, unfolding(crate::specs::Reading::attribute_at))]
+fn attribute(alloc: Global, bytes: &[u8]) -> Result<(Attribute, &[u8]), Stop>
+    ensures { Gives (λ x. (x.0, x.1.now)) result (attribute_at bytes.now) }
+{
+    let (name, rest) = read_u16(bytes)?;
+    let (bytes, rest) = content(alloc, rest)?;
+    Ok((Attribute { name, bytes }, rest))
+}
+
+fn many_attributes(alloc: Global, count: u16, bytes: &[u8]) -> Result<(Vec<Attribute>, &[u8]), Stop>
+    ensures { Gives (λ x. (x.0.items, x.1.now)) result (many_at attribute_at count bytes.now) }
+{
+    let mut attributes = Vec::new(alloc);
+    let mut rest = bytes;
+    for _ in 0..count {
+        let (item, after) = attribute(alloc, rest)?;
+        attributes.push(item)?;
+        rest = after;
+    }
+    Ok((attributes, rest))
+}
+
+/// Attributes behind their count.
+#[tactic(auto, unfolding(crate::specs::Reading::counted_at))]
+pub(crate) fn attributes(alloc: Global, bytes: &[u8]) -> Result<(Row<Attribute>, &[u8]), Stop>
+    ensures { Gives (λ x. (x.0, x.1.now)) result (counted_at attribute_at bytes.now) }
+{
+    let (count, rest) = read_u16(bytes)?;
+    let (items, rest) = many_attributes(alloc, count, rest)?;
+    Ok((Row::from_vec(items), rest))
+}
+
+#[tactic(auto, unfolding(crate::specs::Reading::member_at))]
+fn member(alloc: Global, bytes: &[u8]) -> Result<(Member, &[u8]), Stop>
+    ensures { Gives (λ x. (x.0, x.1.now)) result (member_at bytes.now) }
+{
+    let (flags, rest) = read_u16(bytes)?;
+    let (name, rest) = read_u16(rest)?;
+    let (descriptor, rest) = read_u16(rest)?;
+    let (attributes, rest) = attributes(alloc, rest)?;
+    let member = Member {
+        flags,
+        name,
+        descriptor,
+        attributes,
+    };
+    Ok((member, rest))
+}
+
+fn many_members(alloc: Global, count: u16, bytes: &[u8]) -> Result<(Vec<Member>, &[u8]), Stop>
+    ensures { Gives (λ x. (x.0.items, x.1.now)) result (many_at member_at count bytes.now) }
+{
+    let mut members = Vec::new(alloc);
+    let mut rest = bytes;
+    for _ in 0..count {
+        let (item, after) = member(alloc, rest)?;
+        members.push(item)?;
+        rest = after;
+    }
+    Ok((members, rest))
+}
+
+/// Fields or methods behind their count.
+#[tactic(auto, unfolding(crate::specs::Reading::counted_at))]
+pub(crate) fn members(alloc: Global, bytes: &[u8]) -> Result<(Row<Member>, &[u8]), Stop>
+    ensures { Gives (λ x. (x.0, x.1.now)) result (counted_at member_at bytes.now) }
+{
+    let (count, rest) = read_u16(bytes)?;
+    let (items, rest) = many_members(alloc, count, rest)?;
+    Ok((Row::from_vec(items), rest))
+}
+
+fn many_numbers(alloc: Global, count: u16, bytes: &[u8]) -> Result<(Vec<u16>, &[u8]), Stop>
+    ensures { Gives (λ x. (x.0.items, x.1.now)) result (many_at (number_at 2) count bytes.now) }
+{
+    let mut numbers = Vec::new(alloc);
+    let mut rest = bytes;
+    for _ in 0..count {
+        let (item, after) = read_u16(rest)?;
+        numbers.push(item)?;
+        rest = after;
+    }
+    Ok((numbers, rest))
+}
+
+/// Interfaces behind their count.
+#[tactic(auto, unfolding(crate::specs::Reading::counted_at))]
+pub(crate) fn interfaces(alloc: Global, bytes: &[u8]) -> Result<(Row<u16>, &[u8]), Stop>
+    ensures { Gives (λ x. (x.0, x.1.now)) result (counted_at (number_at 2) bytes.now) }
+{
+    let (count, rest) = read_u16(bytes)?;
+    let (items, rest) = many_numbers(alloc, count, rest)?;
+    Ok((Row::from_vec(items), rest))
+}

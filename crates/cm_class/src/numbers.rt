@@ -1,0 +1,113 @@
+//! Readers of numbers and of rows of bytes, big-endian. Each answers what it read and the bytes that
+//! are left.
+ghost use Rattle.std.specs.Prelude.{◌≡◌, ◌<◌, IfOk};
+ghost use Rattle.cm_class.specs.Spelling.{heading};
+ghost use Rattle.cm_class.specs.Reading.{Gives, number_at, byte_at, bytes_at, sized_at, literal_at, expected_at, count_at};
+
+use crate::row::Row;
+use crate::stop::Stop;
+use byteorder::{BigEndian, ByteOrder};
+use std::alloc::Global;
+
+/// The magic number, minor version 0 and major version 52 (JVMS 4.1).
+const HEADING: [u8; 8] = [0xCA, 0xFE, 0xBA, 0xBE, 0, 0, 0, 52];
+
+pub(crate) fn read_u8(bytes: &[u8]) -> Result<(u8, &[u8]), Stop>
+    ensures { Gives (λ x. (x.0, x.1.now)) result (byte_at bytes.now) }
+{
+    match bytes {
+        [] => Err(Stop::Short),
+        [byte, rest @ ..] => Ok((*byte, rest)),
+    }
+}
+
+pub(crate) fn read_u16(bytes: &[u8]) -> Result<(u16, &[u8]), Stop>
+    ensures { Gives (λ x. (x.0, x.1.now)) result (number_at 2 bytes.now) }
+{
+    if bytes.len() < 2 {
+        return Err(Stop::Short);
+    }
+    Ok((BigEndian::read_u16(bytes), &bytes[2..]))
+}
+
+pub(crate) fn read_u32(bytes: &[u8]) -> Result<(u32, &[u8]), Stop>
+    ensures { Gives (λ x. (x.0, x.1.now)) result (number_at 4 bytes.now) }
+{
+    if bytes.len() < 4 {
+        return Err(Stop::Short);
+    }
+    Ok((BigEndian::read_u32(bytes), &bytes[4..]))
+}
+
+pub(crate) fn read_u64(bytes: &[u8]) -> Result<(u64, &[u8]), Stop>
+    ensures { Gives (λ x. (x.0, x.1.now)) result (number_at 8 bytes.now) }
+{
+    if bytes.len() < 8 {
+        return Err(Stop::Short);
+    }
+    Ok((BigEndian::read_u64(bytes), &bytes[8..]))
+}
+
+/// A copy of so many bytes. It takes memory only for bytes that are there.
+fn row(alloc: Global, len: usize, bytes: &[u8]) -> Result<(Row<u8>, &[u8]), Stop>
+    ensures { Gives (λ x. (x.0, x.1.now)) result (bytes_at len bytes.now) }
+{
+    if bytes.len() < len {
+        return Err(Stop::Short);
+    }
+    let (front, rest) = bytes.split_at(len);
+    Ok((Row::from_vec(Vec::from_slice(alloc, front)?), rest))
+}
+
+/// Bytes behind their length in two bytes.
+#[tactic(auto, unfolding(crate::specs::Reading::sized_at))]
+pub(crate) fn text(alloc: Global, bytes: &[u8]) -> Result<(Row<u8>, &[u8]), Stop>
+    ensures { Gives (λ x. (x.0, x.1.now)) result (sized_at 2 bytes.now) }
+{
+    let (len, rest) = read_u16(bytes)?;
+    row(alloc, usize::from(len), rest)
+}
+
+/// Bytes behind their length in four bytes.
+#[tactic(auto, unfolding(crate::specs::Reading::sized_at))]
+pub(crate) fn content(alloc: Global, bytes: &[u8]) -> Result<(Row<u8>, &[u8]), Stop>
+    ensures { Gives (λ x. (x.0, x.1.now)) result (sized_at 4 bytes.now) }
+{
+    let (len, rest) = read_u32(bytes)?;
+    row(alloc, len as usize, rest)
+}
+
+/// What follows this one byte.
+fn after_byte(expected: u8, bytes: &[u8]) -> Result<&[u8], Stop>
+    ensures { Gives (λ x. (tt, x.now)) result (literal_at expected bytes.now) }
+{
+    match bytes {
+        [] => Err(Stop::Short),
+        [byte, rest @ ..] if *byte == expected => Ok(rest),
+        _ => Err(Stop::Bad(bytes.len())),
+    }
+}
+
+/// What follows the heading.
+pub(crate) fn after_heading(bytes: &[u8]) -> Result<&[u8], Stop>
+    ensures { Gives (λ x. (tt, x.now)) result (expected_at heading bytes.now) }
+{
+    let mut rest = bytes;
+    for expected in &HEADING {
+        rest = after_byte(*expected, rest)?;
+    }
+    Ok(rest)
+}
+
+/// The count of the pool, which is one more than its last index. A count of 0 has no spelling.
+#[tactic(auto, unfolding(crate::specs::Reading::count_at))]
+pub(crate) fn pool_count(bytes: &[u8]) -> Result<(u16, &[u8]), Stop>
+    ensures count { Gives (λ x. (x.0, x.1.now)) result (count_at bytes.now) }
+    ensures positive { IfOk result (λ x. 0 < x.0) }
+{
+    let (count, rest) = read_u16(bytes)?;
+    if count == 0 {
+        return Err(Stop::Bad(rest.len() + 1));
+    }
+    Ok((count, rest))
+}

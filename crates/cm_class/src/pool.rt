@@ -1,0 +1,163 @@
+//! Readers of the constant pool.
+ghost use Rattle.std.specs.Prelude.{◌≡◌, false};
+ghost use Rattle.cm_class.specs.Reading.{Gives, tag_at, info_at, constant_at, slots_at, pool_at, both_at, number_at};
+
+use crate::constant::{Constant, Slot};
+use crate::numbers::{after_heading, pool_count, read_u8, read_u16, read_u32, read_u64, text};
+use crate::row::Row;
+use crate::stop::Stop;
+use crate::tag::Tag;
+use std::alloc::Global;
+
+/// The tag of a constant that has so many slots left. A wide one takes two of them.
+#[tactic(auto, unfolding(crate::specs::Reading::tag_at))]
+fn tag(left: u16, bytes: &[u8]) -> Result<(Tag, &[u8]), Stop>
+    ensures { Gives (λ x. (x.0, x.1.now)) result (tag_at left bytes.now) }
+{
+    let [byte, rest @ ..] = bytes else {
+        return Err(Stop::Short);
+    };
+    match Tag::from_byte(*byte) {
+        Some(tag) if !(tag.is_wide() && left < 2) => Ok((tag, rest)),
+        _ => Err(Stop::Bad(bytes.len())),
+    }
+}
+
+/// The two numbers of a constant.
+fn two(bytes: &[u8]) -> Result<(u16, u16, &[u8]), Stop>
+    ensures { Gives (λ x. ((x.0, x.1), x.2.now)) result (both_at (number_at 2) (number_at 2) bytes.now) }
+{
+    let (first, rest) = read_u16(bytes)?;
+    let (second, rest) = read_u16(rest)?;
+    Ok((first, second, rest))
+}
+
+/// What stands behind a tag (JVMS 4.4.1 to 4.4.10).
+#[tactic(auto, unfolding(crate::specs::Reading::one_at, crate::specs::Reading::two_at, crate::specs::Reading::text_at))]
+fn info(alloc: Global, tag: Tag, bytes: &[u8]) -> Result<(Constant, &[u8]), Stop>
+    ensures { Gives (λ x. (x.0, x.1.now)) result (info_at tag bytes.now) }
+{
+    match tag {
+        Tag::Utf8 => {
+            let (text, rest) = text(alloc, bytes)?;
+            Ok((Constant::Utf8(text), rest))
+        }
+        Tag::Integer => {
+            let (bits, rest) = read_u32(bytes)?;
+            Ok((Constant::Integer(bits), rest))
+        }
+        Tag::Float => {
+            let (bits, rest) = read_u32(bytes)?;
+            Ok((Constant::Float(bits), rest))
+        }
+        Tag::Long => {
+            let (bits, rest) = read_u64(bytes)?;
+            Ok((Constant::Long(bits), rest))
+        }
+        Tag::Double => {
+            let (bits, rest) = read_u64(bytes)?;
+            Ok((Constant::Double(bits), rest))
+        }
+        Tag::Class => {
+            let (name, rest) = read_u16(bytes)?;
+            Ok((Constant::Class { name }, rest))
+        }
+        Tag::String => {
+            let (text, rest) = read_u16(bytes)?;
+            Ok((Constant::String { text }, rest))
+        }
+        Tag::MethodType => {
+            let (descriptor, rest) = read_u16(bytes)?;
+            Ok((Constant::MethodType { descriptor }, rest))
+        }
+        Tag::MethodHandle => {
+            let (kind, rest) = read_u8(bytes)?;
+            let (reference, rest) = read_u16(rest)?;
+            Ok((Constant::MethodHandle { kind, reference }, rest))
+        }
+        Tag::Fieldref => {
+            let (class, name_and_type, rest) = two(bytes)?;
+            Ok((
+                Constant::Fieldref {
+                    class,
+                    name_and_type,
+                },
+                rest,
+            ))
+        }
+        Tag::Methodref => {
+            let (class, name_and_type, rest) = two(bytes)?;
+            Ok((
+                Constant::Methodref {
+                    class,
+                    name_and_type,
+                },
+                rest,
+            ))
+        }
+        Tag::InterfaceMethodref => {
+            let (class, name_and_type, rest) = two(bytes)?;
+            Ok((
+                Constant::InterfaceMethodref {
+                    class,
+                    name_and_type,
+                },
+                rest,
+            ))
+        }
+        Tag::NameAndType => {
+            let (name, descriptor, rest) = two(bytes)?;
+            Ok((Constant::NameAndType { name, descriptor }, rest))
+        }
+        Tag::InvokeDynamic => {
+            let (bootstrap_method, name_and_type, rest) = two(bytes)?;
+            Ok((
+                Constant::InvokeDynamic {
+                    bootstrap_method,
+                    name_and_type,
+                },
+                rest,
+            ))
+        }
+    }
+}
+
+#[tactic(auto, unfolding(crate::specs::Reading::constant_at))]
+fn constant(alloc: Global, left: u16, bytes: &[u8]) -> Result<(Constant, &[u8]), Stop>
+    ensures { Gives (λ x. (x.0, x.1.now)) result (constant_at left bytes.now) }
+{
+    let (tag, rest) = tag(left, bytes)?;
+    info(alloc, tag, rest)
+}
+
+/// So many slots, each constant and, behind a wide one, its unusable second index.
+fn slots(alloc: Global, count: u16, bytes: &[u8]) -> Result<(Vec<Slot>, &[u8]), Stop>
+    ensures { Gives (λ x. (x.0.items, x.1.now)) result (slots_at false count bytes.now) }
+{
+    let mut slots = Vec::new(alloc);
+    let mut rest = bytes;
+    let mut second = false;
+    for index in 0..count {
+        if second {
+            slots.push(Slot::Unusable)?;
+            second = false;
+        } else {
+            let (item, after) = constant(alloc, count - index, rest)?;
+            second = item.is_wide();
+            slots.push(Slot::Usable(item))?;
+            rest = after;
+        }
+    }
+    Ok((slots, rest))
+}
+
+/// The heading, the pool's count and its slots.
+#[tactic(auto, unfolding(crate::specs::Reading::pool_at))]
+pub(crate) fn pool(alloc: Global, bytes: &[u8]) -> Result<(Row<Slot>, &[u8]), Stop>
+    ensures { Gives (λ x. (x.0, x.1.now)) result (pool_at bytes.now) }
+{
+    let rest = after_heading(bytes)?;
+    let (count, rest) = pool_count(rest)?;
+    let (items, rest) = slots(alloc, count - 1, rest)?;
+    Ok((Row::from_vec(items), rest))
+}

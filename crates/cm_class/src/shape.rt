@@ -1,0 +1,69 @@
+//! The reader of whole class files.
+ghost use Rattle.std.specs.Prelude.{◌≡◌, ◌⊎◌, IfOk, IfErr, Result};
+ghost use Rattle.cm_class.specs.declared.class_file.ClassFile.{ClassFile};
+ghost use Rattle.cm_class.specs.declared.fault.ShapeFault.{ShapeFault};
+ghost use Rattle.cm_class.specs.Shape.{Spells, IsFault, IsAnswer};
+ghost use Rattle.cm_class.specs.Reading.{Gives, class_at, answer_of, IsUnlessRefused};
+
+use crate::class::Class;
+use crate::class_file::ClassFile;
+use crate::fault::ShapeFault;
+use crate::members::{attributes, interfaces, members};
+use crate::numbers::read_u16;
+use crate::pool::pool;
+use crate::stop::Stop;
+use std::alloc::Global;
+
+#[tactic(auto, unfolding(crate::specs::Reading::class_at))]
+fn class_file(alloc: Global, bytes: &[u8]) -> Result<(ClassFile, &[u8]), Stop>
+    ensures { Gives (λ x. (x.0, x.1.now)) result (class_at bytes.now) }
+{
+    let (slots, rest) = pool(alloc, bytes)?;
+    let (flags, rest) = read_u16(rest)?;
+    let (this_class, rest) = read_u16(rest)?;
+    let (super_class, rest) = read_u16(rest)?;
+    let (interfaces, rest) = interfaces(alloc, rest)?;
+    let (fields, rest) = members(alloc, rest)?;
+    let (methods, rest) = members(alloc, rest)?;
+    let (attributes, rest) = attributes(alloc, rest)?;
+    let file = ClassFile {
+        slots,
+        flags,
+        this_class,
+        super_class,
+        interfaces,
+        fields,
+        methods,
+        attributes,
+    };
+    Ok((file, rest))
+}
+
+/// The class file that the bytes spell, all of them.
+fn whole(alloc: Global, bytes: &[u8]) -> Result<Class, ShapeFault>
+    ensures { IsUnlessRefused (answer_of bytes.now (class_at bytes.now)) result }
+{
+    match class_file(alloc, bytes) {
+        Ok((file, [])) => Ok(Class::from_file(file)),
+        Ok((_, rest)) => Err(ShapeFault::Trailing(bytes.len() - rest.len())),
+        Err(Stop::Short) => Err(ShapeFault::Truncated),
+        Err(Stop::Bad(left)) => Err(ShapeFault::Malformed(bytes.len() - left)),
+        Err(Stop::NoMemory) => Err(ShapeFault::NoMemory),
+    }
+}
+
+/// Reads a class file of version 52.0 (JVMS 4.1) from all of the bytes, in one pass.
+///
+/// It is refused exactly where the bytes are no spelling of a class file, with the one fault that
+/// they have; or with `NoMemory` where memory was refused. It reserves memory only for bytes that
+/// are there, whatever the counts and lengths in the file say.
+pub fn read_shape(alloc: Global, bytes: &[u8]) -> Result<Class, ShapeFault>
+    ensures ok { IfOk result (Spells bytes.now) }
+    ensures fault { IfErr result (IsFault bytes.now) }
+
+    // What is so is answered, unless memory was refused.
+    ensures only { (answer : Result ClassFile ShapeFault) → IsAnswer bytes.now answer
+        → (result ≡ answer) ⊎ (result ≡ Err ShapeFault.NoMemory) }
+{
+    whole(alloc, bytes)
+}
