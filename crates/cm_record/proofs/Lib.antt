@@ -1,0 +1,13 @@
+pub mod Packed
+pub mod Lengths
+pub mod Steps
+pub mod Digits
+pub mod Runs
+pub mod Again
+pub mod WholeRecord
+pub mod Fronts
+pub mod Turns
+pub mod Taken
+pub mod TakenRecord
+pub mod Skips
+pub mod Worked

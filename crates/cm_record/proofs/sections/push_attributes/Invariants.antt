@@ -1,0 +1,9 @@
+use Rattle.std.proofs.Common.{◌≡◌, ◌+◌, ◌++◌, length, drop}
+use Rattle.cm_record.specs.Layout.{attributes, attribute_runs}
+use Rattle.cm_record.proofs.sections.push_attributes.Given as goal
+
+abbrev pub invariant-loop-attribute : goal.invariant-loop-attribute
+invariant-loop-attribute l = record {
+  added : l.words.items ++ attributes l.at (drop l.attribute-index l.these) ≡ l.fn.words.items ++ attributes l.fn.at l.these;
+  next : l.at + length (attribute_runs (drop l.attribute-index l.these)) ≡ l.fn.at + length (attribute_runs l.these);
+}

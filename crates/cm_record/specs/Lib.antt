@@ -1,0 +1,5 @@
+pub mod Packing
+pub mod Layout
+pub mod Places
+pub mod Reading
+pub mod Names

@@ -1,0 +1,23 @@
+//! Classes as records: rows of words that can lie anywhere in memory or in a file, since all places in
+//! them count from their first word.
+#![tactic(auto)]
+
+mod checking;
+mod entry;
+mod laws;
+mod names;
+mod packing;
+mod parts;
+mod places;
+mod reading;
+mod record;
+mod refusal;
+mod sections;
+mod whole;
+
+pub use laws::layout_determines_class;
+pub use record::{Record, build};
+pub use refusal::{RecordFault, RecordRefusal};
+
+#[cfg(test)]
+mod tests;

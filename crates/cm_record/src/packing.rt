@@ -1,0 +1,85 @@
+//! Bytes in words, and small numbers side by side in a word.
+ghost use Rattle.std.specs.Prelude.{◌≡◌, ◌<◌, ◌≤◌, ◌+◌, ◌*◌, ◌++◌, ℕ, length, take, drop, slice_index, OnOk};
+ghost use Rattle.cm_record.specs.Packing.{word_from, bytes_of as word_bytes_of, packed, word_bytes, run_words as words_of_run, joined as joined_of};
+
+use std::alloc::AllocError;
+
+/// What one more of 16 bits is worth, from the second number of a word on.
+pub(crate) const SECOND: u64 = 1 << 16;
+
+pub(crate) const THIRD: u64 = 1 << 32;
+
+pub(crate) const FOURTH: u64 = 1 << 48;
+
+/// Four numbers in one word, the first of them lowest.
+pub(crate) fn joined(first: u16, second: u16, third: u16, fourth: u16) -> u64
+    ensures { result ≡ joined_of first second third fourth }
+{
+    u64::from(first)
+        + SECOND * u64::from(second)
+        + THIRD * u64::from(third)
+        + FOURTH * u64::from(fourth)
+}
+
+/// The first eight bytes, with zeros where there are fewer.
+fn first_eight(bytes: &[u8]) -> [u8; 8]
+    ensures { (k : ℕ) → k < 8 → slice_index result k ≡ slice_index bytes.now k }
+{
+    let mut eight = [0u8; 8];
+    let count = bytes.len().min(8);
+    eight[..count].copy_from_slice(&bytes[..count]);
+    eight
+}
+
+/// The word of the first eight bytes, the first of them lowest. Where there are fewer, the rest is 0.
+pub(crate) fn word_of(bytes: &[u8]) -> u64
+    ensures { result ≡ word_from bytes.now }
+{
+    u64::from_le_bytes(first_eight(bytes))
+}
+
+/// How many words a run of so many bytes takes.
+pub(crate) fn run_words(count: usize) -> u64
+    ensures { result ≡ words_of_run count }
+{
+    let count = count as u64;
+    count / 8 + u64::from(count % 8 != 0)
+}
+
+/// Adds the run of these bytes.
+pub(crate) fn push_run(words: &mut Vec<u64>, bytes: &[u8]) -> Result<(), AllocError>
+    ensures { OnOk result (words.new.items ≡ words.old.items ++ packed bytes.now) }
+{
+    let mut rest = bytes;
+    while !rest.is_empty() {
+        words.push(word_of(rest))?;
+        rest = &rest[rest.len().min(8)..];
+    }
+    Ok(())
+}
+
+/// A word's eight bytes, the lowest first.
+#[tactic(auto, unfolding(crate::specs::Packing::bytes_of))]
+pub(crate) fn bytes_of(word: u64) -> [u8; 8]
+    ensures { result ≡ word_bytes_of word }
+{
+    word.to_le_bytes()
+}
+
+/// Writes a word as eight bytes, the lowest first.
+fn write_word(out: &mut [u8], at: usize, word: u64)
+    requires { at + 8 ≤ length out.old }
+    ensures { out.new ≡ take at out.old ++ word_bytes_of word ++ drop (at + 8) out.old }
+{
+    out[at..at + 8].copy_from_slice(&bytes_of(word));
+}
+
+/// Writes words, each as eight bytes with the lowest first.
+pub(crate) fn write_words(words: &[u64], out: &mut [u8])
+    requires { length out.old ≡ 8 * length words.now }
+    ensures { out.new ≡ word_bytes words.now }
+{
+    for (i, word) in words.iter().enumerate() {
+        write_word(out, 8 * i, *word);
+    }
+}

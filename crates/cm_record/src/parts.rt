@@ -1,0 +1,117 @@
+//! The parts of a class's record, each made of sections.
+ghost use Rattle.std.specs.Prelude.{◌≡◌, ◌≤◌, ◌+◌, ◌++◌, ◌∷◌, length, OnOk, IfOk};
+ghost use Rattle.cm_record.specs.Layout.{head, directory, members, member_attributes, attributes, attribute_runs, text_runs, all_members, all_attributes, attributes_at, runs_at, attribute_runs_at, record_len, limit};
+ghost use Rattle.cm_record.specs.Places.{ArePlaces};
+
+use crate::packing::joined;
+use crate::places::Places;
+use crate::sections::{
+    push_attribute_runs, push_attributes, push_directory, push_interfaces, push_members,
+    push_text_runs,
+};
+use cm_class::{Class, Member};
+use std::alloc::AllocError;
+
+/// Adds the attributes of members. It gives where the run of the next would begin.
+fn push_member_attributes(
+    words: &mut Vec<u64>,
+    at: u64,
+    these: &[Member],
+) -> Result<u64, AllocError>
+    requires { at + length (attribute_runs (member_attributes these.now)) ≤ limit }
+    ensures { IfOk result (λ next. (words.new.items ≡ words.old.items ++ attributes at (member_attributes these.now))
+        × (next ≡ at + length (attribute_runs (member_attributes these.now)))) }
+{
+    let mut at = at;
+    for member in these {
+        at = push_attributes(words, at, member.attributes.as_slice())?;
+    }
+    Ok(at)
+}
+
+/// Adds the runs of the attributes of members.
+fn push_member_runs(words: &mut Vec<u64>, these: &[Member]) -> Result<(), AllocError>
+    ensures { OnOk result (words.new.items ≡ words.old.items ++ attribute_runs (member_attributes these.now)) }
+{
+    for member in these {
+        push_attribute_runs(words, member.attributes.as_slice())?;
+    }
+    Ok(())
+}
+
+/// Adds the first eight words.
+pub(crate) fn push_head(
+    words: &mut Vec<u64>,
+    class: &Class,
+    places: &Places,
+) -> Result<(), AllocError>
+    requires places { ArePlaces class.now places.now }
+    ensures { OnOk result (words.new.items ≡ words.old.items ++ head class.now) }
+{
+    let _spelled = class.flags();
+    let counts = (
+        class.interfaces().len(),
+        class.slots().len() + 1,
+        class.fields().len(),
+    );
+    words.extend_from_slice(&[
+        places.len,
+        joined(
+            class.flags(),
+            class.this_class(),
+            class.super_class(),
+            counts.0 as u16,
+        ),
+        joined(
+            counts.1 as u16,
+            counts.2 as u16,
+            class.methods().len() as u16,
+            class.attributes().len() as u16,
+        ),
+        8,
+        places.interfaces,
+        places.members,
+        places.attributes,
+        places.runs,
+    ])
+}
+
+/// Adds the directory, the interfaces and the members.
+pub(crate) fn push_pool_and_members(
+    words: &mut Vec<u64>,
+    class: &Class,
+    places: &Places,
+) -> Result<(), AllocError>
+    requires places { ArePlaces class.now places.now }
+    requires short { record_len class.now ≤ limit }
+    ensures { OnOk result (words.new.items ≡ words.old.items ++ (0 ∷ directory (runs_at class.now) class.now.slots)
+        ++ class.now.interfaces ++ members (attributes_at class.now) (all_members class.now)) }
+{
+    let _spelled = class.flags();
+    words.push(0)?;
+    push_directory(words, places.runs, class.slots())?;
+    push_interfaces(words, class.interfaces())?;
+    let next = push_members(words, places.attributes, class.fields())?;
+    push_members(words, next, class.methods())?;
+    Ok(())
+}
+
+/// Adds the attributes and the runs.
+pub(crate) fn push_attributes_and_runs(
+    words: &mut Vec<u64>,
+    class: &Class,
+    places: &Places,
+) -> Result<(), AllocError>
+    requires places { ArePlaces class.now places.now }
+    requires short { record_len class.now ≤ limit }
+    ensures { OnOk result (words.new.items ≡ words.old.items ++ attributes (attribute_runs_at class.now) (all_attributes class.now)
+        ++ text_runs class.now.slots ++ attribute_runs (all_attributes class.now)) }
+{
+    let next = push_member_attributes(words, places.attribute_runs, class.fields())?;
+    let next = push_member_attributes(words, next, class.methods())?;
+    push_attributes(words, next, class.attributes())?;
+    push_text_runs(words, class.slots())?;
+    push_member_runs(words, class.fields())?;
+    push_member_runs(words, class.methods())?;
+    push_attribute_runs(words, class.attributes())
+}

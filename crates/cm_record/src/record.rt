@@ -1,0 +1,136 @@
+//! The record of a class.
+ghost use Rattle.std.specs.Prelude.{◌≡◌, ◌≤◌, ◌<◌, ◌↔◌, ◌*◌, length, IfOk, OnOk, IsErrOf, option_map};
+ghost use Rattle.cm_record.specs.declared.refusal.RecordRefusal.TheVariants as refusal;
+ghost use Rattle.cm_record.specs.declared.refusal.RecordFault.TheVariants as fault;
+ghost use Rattle.cm_class.specs.declared.class_file.ClassFile.{ClassFile};
+ghost use Rattle.cm_record.specs.Packing.{word_bytes};
+ghost use Rattle.cm_record.specs.Names.{class_name_of, super_name_of};
+ghost use Rattle.cm_record.specs.Layout.{lay, record_len, limit, IsRecord, IsRecordOf};
+ghost use Rattle.cm_record.specs.Places.{ArePlaces};
+
+use crate::checking::is_record;
+use crate::entry::first;
+use crate::names::name_at;
+use crate::packing::write_words;
+use crate::parts::{push_attributes_and_runs, push_head, push_pool_and_members};
+use crate::places::Places;
+use crate::refusal::{RecordFault, RecordRefusal};
+use crate::whole::read_class;
+use cm_class::Class;
+use std::alloc::{AllocError, Global};
+use std::marker::Model;
+
+/// A class as words. Contracts see the list of its words, which are the layout of one class.
+#[derive(Debug, Drop)]
+pub struct Record {
+    words: Vec<u64>,
+}
+
+impl Model for Record {
+    ghost use Rattle.std.specs.Prelude.{List, ℕ};
+    ghost use Rattle.cm_record.specs.Layout.{IsRecord};
+
+    ghost Value = { List ℕ };
+
+    ghost view = { λ r. r.words.items };
+
+    ghost invariant = { λ r. IsRecord r.words.items };
+}
+
+/// The words of a class's layout.
+fn laid(alloc: Global, class: &Class, places: &Places) -> Result<Vec<u64>, AllocError>
+    requires places { ArePlaces class.now places.now }
+    requires short { record_len class.now ≤ limit }
+    ensures { IfOk result (λ words. words.items ≡ lay class.now) }
+{
+    let mut words = Vec::with_capacity(alloc, places.len as usize)?;
+    push_head(&mut words, class, places)?;
+    push_pool_and_members(&mut words, class, places)?;
+    push_attributes_and_runs(&mut words, class, places)?;
+    Ok(words)
+}
+
+/// The class's record. `TooLong` comes exactly where its layout has more than 524,288 words.
+pub fn build(alloc: Global, class: &Class) -> Result<Record, RecordRefusal>
+    ensures ok { IfOk result (λ r. r ≡ lay class.now) }
+    ensures too_long { IsErrOf result RecordRefusal.TooLong ↔ (limit < length (lay class.now)) }
+{
+    let Some(places) = Places::of(class) else {
+        return Err(RecordRefusal::TooLong);
+    };
+    let words = laid(alloc, class, &places)?;
+    Ok(Record { words })
+}
+
+impl Record {
+    /// The record of these words. `NotARecord` comes exactly where no class has them as its record, so `NoMemory`
+    /// is only told of the words of a record.
+    pub fn read(alloc: Global, words: &[u64]) -> Result<Record, RecordFault>
+        ensures ok { IfOk result (λ r. r ≡ words.now) }
+        ensures laid { OnOk result (IsRecord words.now) }
+        ensures not_a_record { IsErrOf result RecordFault.NotARecord ↔ (IsRecord words.now → ⊥) }
+        ensures memory { IsErrOf result RecordFault.NoMemory → IsRecord words.now }
+    {
+        if !is_record(words) {
+            return Err(RecordFault::NotARecord);
+        }
+        let words = Vec::from_slice(alloc, words)?;
+        Ok(Record { words })
+    }
+
+    /// How many words it has.
+    pub fn words(&self) -> u32
+        ensures words { result ≡ length self.now }
+        ensures short { result ≤ limit }
+        ensures laid { IsRecord self.now }
+    {
+        self.words.len() as u32
+    }
+
+    /// Its words, each as eight bytes, the lowest first.
+    pub fn bytes_into(&self, out: &mut [u8])
+        requires { length out.old ≡ 8 * length self.now }
+        ensures { out.new ≡ word_bytes self.now }
+    {
+        write_words(self.words.as_slice(), out)
+    }
+
+    /// The access flags of its class.
+    pub fn flags(&self) -> u16
+        ensures { (c : ClassFile) → IsRecordOf c self.now → result ≡ c.flags }
+    {
+        first(self.words[1])
+    }
+
+    /// Its class.
+    pub fn to_class(&self, alloc: Global) -> Result<Class, AllocError>
+        ensures { IfOk result (λ c. IsRecordOf c self.now) }
+    {
+        match read_class(alloc, self.words.as_slice()) {
+            Ok(file) => Ok(Class::from_file(file)),
+            Err(RecordFault::NoMemory) => Err(AllocError),
+            Err(RecordFault::NotARecord) => unreachable!(),
+        }
+    }
+
+    /// The name of its class: the bytes of the Utf8 that this_class leads to; none where it leads to no Utf8.
+    pub fn class_name(&self, alloc: Global) -> Result<Vec<u8>, AllocError>
+        ensures { (c : ClassFile) → IsRecordOf c self.now → IfOk result (λ name. name.items ≡ class_name_of c) }
+    {
+        let class = self.to_class(alloc)?;
+        Vec::from_slice(alloc, name_at(class.slots(), class.this_class()))
+    }
+
+    /// The name of the super class, as that of the class; none where there is no super class.
+    pub fn super_name(&self, alloc: Global) -> Result<Option<Vec<u8>>, AllocError>
+        ensures { (c : ClassFile) → IsRecordOf c self.now
+            → IfOk result (λ name. option_map (λ bytes. bytes.items) name ≡ super_name_of c) }
+    {
+        let class = self.to_class(alloc)?;
+        let index = class.super_class();
+        if index == 0 {
+            return Ok(None);
+        }
+        Ok(Some(Vec::from_slice(alloc, name_at(class.slots(), index))?))
+    }
+}

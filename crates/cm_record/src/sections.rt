@@ -1,0 +1,166 @@
+//! The sections of a record, each added behind the words so far.
+ghost use Rattle.std.specs.Prelude.{◌≡◌, ◌≤◌, ◌<◌, ◌+◌, ◌*◌, ◌^◌, ◌++◌, length, OnOk, IfOk};
+ghost use Rattle.std.specs.List.{AllByRecursion};
+ghost use Rattle.cm_class.specs.Spelling.{MemberFits};
+ghost use Rattle.cm_record.specs.Packing.{run_words as run_words_of};
+ghost use Rattle.cm_record.specs.Layout.{constant_words, constant_run, slot_run, directory, text_runs, members, member_attributes, attributes, attribute_run, attribute_runs, limit};
+
+use crate::entry::whole_word;
+use crate::packing::{SECOND, THIRD, joined, push_run, run_words};
+use cm_class::{Attribute, Constant, Member, Slot};
+use std::alloc::AllocError;
+
+/// The word of a Utf8 whose run begins at `at`.
+fn text_word(at: u64, bytes: &[u8]) -> u64
+    requires { at + run_words_of (length bytes.now) ≤ limit }
+    ensures { result ≡ 1 + 2 ^ 16 * length bytes.now + 2 ^ 32 * at }
+{
+    1 + SECOND * bytes.len() as u64 + THIRD * at
+}
+
+/// Adds a constant's words in the directory, where its run begins at `at`.
+fn push_constant(words: &mut Vec<u64>, at: u64, constant: &Constant) -> Result<(), AllocError>
+    requires { at + length (constant_run constant.now) ≤ limit }
+    ensures { OnOk result (words.new.items ≡ words.old.items ++ constant_words at constant.now) }
+{
+    match constant {
+        Constant::Utf8(bytes) => words.push(text_word(at, bytes.as_slice()))?,
+        Constant::Long(bits) | Constant::Double(bits) => {
+            words.push(whole_word(constant))?;
+            words.push(*bits)?;
+        }
+        _ => words.push(whole_word(constant))?,
+    }
+    Ok(())
+}
+
+/// How many words a constant's run takes.
+fn constant_run_words(constant: &Constant) -> u64
+    ensures { result ≡ length (constant_run constant.now) }
+{
+    match constant {
+        Constant::Utf8(bytes) => run_words(bytes.as_slice().len()),
+        _ => 0,
+    }
+}
+
+/// How many words a slot's run takes.
+pub(crate) fn slot_run_words(slot: &Slot) -> u64
+    ensures { result ≡ length (slot_run slot.now) }
+{
+    match slot {
+        Slot::Usable(constant) => constant_run_words(constant),
+        Slot::Unusable => 0,
+    }
+}
+
+/// Adds the slots' words in the directory, where the first run begins at `at`.
+pub(crate) fn push_directory(
+    words: &mut Vec<u64>,
+    at: u64,
+    slots: &[Slot],
+) -> Result<(), AllocError>
+    requires { at + length (text_runs slots.now) ≤ limit }
+    ensures { OnOk result (words.new.items ≡ words.old.items ++ directory at slots.now) }
+{
+    let mut at = at;
+    for slot in slots {
+        if let Slot::Usable(constant) = slot {
+            push_constant(words, at, constant)?;
+            at += constant_run_words(constant);
+        }
+    }
+    Ok(())
+}
+
+/// Adds the runs of the constant pool.
+pub(crate) fn push_text_runs(words: &mut Vec<u64>, slots: &[Slot]) -> Result<(), AllocError>
+    ensures { OnOk result (words.new.items ≡ words.old.items ++ text_runs slots.now) }
+{
+    for slot in slots {
+        if let Slot::Usable(Constant::Utf8(bytes)) = slot {
+            push_run(words, bytes.as_slice())?;
+        }
+    }
+    Ok(())
+}
+
+/// Adds the interfaces, a word each.
+pub(crate) fn push_interfaces(words: &mut Vec<u64>, interfaces: &[u16]) -> Result<(), AllocError>
+    ensures { OnOk result (words.new.items ≡ words.old.items ++ interfaces.now) }
+{
+    for interface in interfaces {
+        words.push(u64::from(*interface))?;
+    }
+    Ok(())
+}
+
+/// Adds members, where the attributes of the first begin at `at`. It gives where those of the next would.
+pub(crate) fn push_members(
+    words: &mut Vec<u64>,
+    at: u64,
+    these: &[Member],
+) -> Result<u64, AllocError>
+    requires fit { AllByRecursion MemberFits these.now }
+    requires room { at + 2 * length (member_attributes these.now) ≤ limit }
+    ensures { IfOk result (λ next. (words.new.items ≡ words.old.items ++ members at these.now)
+        × (next ≡ at + 2 * length (member_attributes these.now))) }
+{
+    let mut at = at;
+    for member in these {
+        let count = member.attributes.as_slice().len();
+        words.push(joined(member.flags, member.name, member.descriptor, count as u16))?;
+        words.push(at)?;
+        at += 2 * count as u64;
+    }
+    Ok(at)
+}
+
+/// How many words an attribute's run takes.
+#[tactic(auto, using(crate::proofs::Packed::packed_len))]
+pub(crate) fn attribute_run_words(attribute: &Attribute) -> u64
+    ensures { result ≡ length (attribute_run attribute.now) }
+{
+    run_words(attribute.bytes.as_slice().len())
+}
+
+/// The word of an attribute's name and length.
+#[tactic(auto, using(crate::proofs::Packed::packed_len))]
+fn attribute_word(attribute: &Attribute) -> u64
+    requires { length (attribute_run attribute.now) ≤ limit }
+    ensures { result ≡ attribute.now.name + 2 ^ 32 * length attribute.now.bytes }
+{
+    u64::from(attribute.name) + THIRD * attribute.bytes.as_slice().len() as u64
+}
+
+/// Adds attributes, where the run of the first begins at `at`. It gives where that of the next would.
+pub(crate) fn push_attributes(
+    words: &mut Vec<u64>,
+    at: u64,
+    these: &[Attribute],
+) -> Result<u64, AllocError>
+    requires { at + length (attribute_runs these.now) ≤ limit }
+    ensures { IfOk result (λ next. (words.new.items ≡ words.old.items ++ attributes at these.now)
+        × (next ≡ at + length (attribute_runs these.now))) }
+{
+    let mut at = at;
+    for attribute in these {
+        words.push(attribute_word(attribute))?;
+        words.push(at)?;
+        at += attribute_run_words(attribute);
+    }
+    Ok(at)
+}
+
+/// Adds the runs of attributes.
+pub(crate) fn push_attribute_runs(
+    words: &mut Vec<u64>,
+    these: &[Attribute],
+) -> Result<(), AllocError>
+    ensures { OnOk result (words.new.items ≡ words.old.items ++ attribute_runs these.now) }
+{
+    for attribute in these {
+        push_run(words, attribute.bytes.as_slice())?;
+    }
+    Ok(())
+}
