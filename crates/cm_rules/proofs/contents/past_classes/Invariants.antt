@@ -1,0 +1,7 @@
+use Rattle.std.proofs.Common.{◌≡◌, ◌-◌}
+use Rattle.cm_rules.specs.Entries.{names, is_class_entry}
+use Rattle.cm_rules.specs.Contents.{past_rows, past_counted, past_u2}
+use Rattle.cm_rules.proofs.contents.past_classes.Given as goal
+
+abbrev pub invariant-loop : goal.invariant-loop
+invariant-loop l = past_rows (past_u2 (names is_class_entry l.class)) (l.count - l.counter) l.rest ≡ past_counted (past_u2 (names is_class_entry l.class)) l.bytes

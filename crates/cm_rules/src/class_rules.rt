@@ -1,0 +1,36 @@
+//! The rules on the class itself.
+ghost use Rattle.std.specs.Prelude.{◌≡◌};
+ghost use Rattle.cm_rules.specs.ClassRules.{class_flags_agree, this_is_no_array, super_is_right};
+
+use crate::entries::class_name;
+use crate::flags::{is_abstract, is_annotation, is_enum, is_final, is_interface, is_super};
+use crate::text::begins_with;
+use cm_class::Class;
+
+const OBJECT: &[u8] = b"java/lang/Object";
+
+pub(crate) fn class_flags_agree(flags: u16) -> bool
+    ensures { result ≡ class_flags_agree flags }
+{
+    if is_interface(flags) {
+        is_abstract(flags) && !(is_final(flags) || is_super(flags) || is_enum(flags))
+    } else {
+        !is_annotation(flags) && !(is_final(flags) && is_abstract(flags))
+    }
+}
+
+pub(crate) fn this_is_no_array(class: &Class) -> bool
+    ensures { result ≡ this_is_no_array class.now }
+{
+    !begins_with(b'[', class_name(class, class.this_class()))
+}
+
+pub(crate) fn super_is_right(class: &Class) -> bool
+    ensures { result ≡ super_is_right class.now }
+{
+    if is_interface(class.flags()) {
+        class_name(class, class.super_class()) == OBJECT
+    } else {
+        class.super_class() != 0 || class_name(class, class.this_class()) == OBJECT
+    }
+}

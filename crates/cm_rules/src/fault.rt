@@ -1,0 +1,23 @@
+use crate::rule::Broken;
+use cm_class::ShapeFault;
+use thiserror::Error;
+
+/// Why bytes are no class that keeps the rules. Places count bytes from 0.
+#[derive(Clone, Copy, Debug, PartialEq, Eq, Error)]
+pub enum ClassFault {
+    /// The bytes are a proper beginning of a class file.
+    #[error("truncated")]
+    Truncated,
+    /// A class file of this length is a proper beginning of the bytes.
+    #[error("trailing {0}")]
+    Trailing(usize),
+    /// Neither: class files begin with this many of the bytes, and none with one more.
+    #[error("malformed {0}")]
+    Malformed(usize),
+    /// The bytes are a class file, and this is the first rule that it breaks, where it does first.
+    #[error("rule {0:?}")]
+    Rule(Broken),
+    /// Memory was refused.
+    #[error("memory")]
+    NoMemory,
+}

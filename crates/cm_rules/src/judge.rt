@@ -1,0 +1,112 @@
+ghost use Rattle.std.specs.Prelude.{◌≡◌, map, slice_get, IfOk};
+ghost use Rattle.cm_rules.specs.Entries.{text};
+ghost use Rattle.cm_rules.specs.Text.{is_class_name, is_unqualified_name, is_method_name, is_field_descriptor, is_array_descriptor, is_method_descriptor, method_units};
+ghost use Rattle.cm_rules.specs.ClassRules.{bootstrap_count as bootstrap_count_of};
+ghost use Rattle.cm_rules.specs.Judged.{judgement, judged, places_of, SizesFit};
+
+use crate::entries::text;
+use crate::judgement::{Judgement, Places, bootstrap_count, find_places, judge, judgements};
+use crate::text::begins_with;
+use cm_class::Class;
+use std::alloc::{AllocError, Global};
+
+fn judgement_at(table: &[Judgement], place: usize) -> Option<Judgement>
+    ensures { result ≡ slice_get table.now place }
+{
+    table.get(place).copied()
+}
+
+/// A class, with what was found out of its texts.
+#[derive(Drop)]
+pub(crate) struct Judge<'a> {
+    pub(crate) class: &'a Class,
+    table: Vec<Judgement>,
+    pub(crate) places: Places,
+    pub(crate) bootstrap_count: u16,
+    ghost of_class: { table.items ≡ map judged class.now.slots },
+    ghost sized: { SizesFit class.now },
+    ghost places_are: { places ≡ places_of class.now },
+    ghost count_is: { bootstrap_count ≡ bootstrap_count_of class.now },
+}
+
+impl<'a> Judge<'a> {
+    pub(crate) fn new(alloc: Global, class: &'a Class) -> Result<Judge<'a>, AllocError>
+        ensures { IfOk result (λ judge. judge.class.now ≡ class.entry.now) }
+    {
+        let _flags = class.flags();
+        let table = judgements(alloc, class)?;
+        Ok(Judge {
+            class,
+            table,
+            places: find_places(class),
+            bootstrap_count: bootstrap_count(class),
+        })
+    }
+
+    /// What was found out of the text at an index; of no bytes, where there is no text.
+    pub(crate) fn judgement(&self, index: u16) -> Judgement
+        ensures { result ≡ judgement (text self.now.class.now index) }
+    {
+        if index == 0 {
+            return judge(&[]);
+        }
+        match judgement_at(&self.table, usize::from(index) - 1) {
+            Some(found) => found,
+            None => judge(&[]),
+        }
+    }
+
+    /// Whether the text at an index is a class name.
+    #[tactic(auto, unfolding(crate::specs::Judged::judgement))]
+    pub(crate) fn names_class_name(&self, index: u16) -> bool
+        ensures { result ≡ is_class_name (text self.now.class.now index) }
+    {
+        self.judgement(index).class_name
+    }
+
+    /// Whether it is an unqualified name.
+    #[tactic(auto, unfolding(crate::specs::Judged::judgement))]
+    pub(crate) fn names_unqualified_name(&self, index: u16) -> bool
+        ensures { result ≡ is_unqualified_name (text self.now.class.now index) }
+    {
+        self.judgement(index).unqualified_name
+    }
+
+    /// Whether it is a method's name.
+    #[tactic(auto, unfolding(crate::specs::Judged::judgement))]
+    pub(crate) fn names_method_name(&self, index: u16) -> bool
+        ensures { result ≡ is_method_name (text self.now.class.now index) }
+    {
+        self.judgement(index).method_name
+    }
+
+    /// Whether it is a field descriptor.
+    #[tactic(auto, unfolding(crate::specs::Judged::judgement))]
+    pub(crate) fn names_field_descriptor(&self, index: u16) -> bool
+        ensures { result ≡ is_field_descriptor (text self.now.class.now index) }
+    {
+        self.judgement(index).field_descriptor
+    }
+
+    /// The units of the method descriptor at an index.
+    #[tactic(auto, unfolding(crate::specs::Judged::judgement))]
+    pub(crate) fn method_units(&self, index: u16) -> Option<u8>
+        ensures { result ≡ method_units (text self.now.class.now index) }
+    {
+        self.judgement(index).method_units
+    }
+
+    /// Whether it is a method descriptor.
+    pub(crate) fn names_method_descriptor(&self, index: u16) -> bool
+        ensures { result ≡ is_method_descriptor (text self.now.class.now index) }
+    {
+        self.method_units(index).is_some()
+    }
+
+    /// Whether it is the descriptor of an array.
+    pub(crate) fn names_array_descriptor(&self, index: u16) -> bool
+        ensures { result ≡ is_array_descriptor (text self.now.class.now index) }
+    {
+        begins_with(b'[', text(self.class, index)) && self.names_field_descriptor(index)
+    }
+}

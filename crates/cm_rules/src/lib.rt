@@ -1,0 +1,28 @@
+//! The static rules on class files of version 52.0 (JVMS SE 8, chapter 4), each judged on a class
+//! whose shape is right.
+#![tactic(auto)]
+
+mod attribute_rules;
+mod class_rules;
+mod contents;
+mod entries;
+mod fault;
+mod flags;
+mod judge;
+mod judgement;
+mod laws;
+mod member_rules;
+mod pool_rules;
+mod read;
+mod rule;
+mod rules;
+mod search;
+mod text;
+
+pub use fault::ClassFault;
+pub use laws::fault_is_the_first;
+pub use read::{first_fault, read_class};
+pub use rule::{Broken, Rule, Spot};
+
+#[cfg(test)]
+mod tests;

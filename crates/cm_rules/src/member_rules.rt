@@ -1,0 +1,148 @@
+//! The rules on one field or method.
+ghost use Rattle.std.specs.Prelude.{◌≡◌};
+ghost use Rattle.std.specs.List.{list_all, list_any};
+ghost use Rattle.cm_rules.specs.Entries.{names, is_text_entry};
+ghost use Rattle.cm_rules.specs.ClassRules.{same_member, is_first, names_texts, field_is_named, interface_field_agrees, field_flags_agree, method_is_named, is_clinit, units_fit, abstract_agrees, interface_method_agrees, init_agrees, method_flags_agree};
+
+use crate::entries::{is_text_entry, text};
+use crate::flags::{
+    is_abstract, is_bridge, is_enum, is_final, is_interface, is_native, is_private, is_protected,
+    is_public, is_public_or_private, is_static, is_strict, is_synchronized, is_transient,
+    is_volatile, visibilities,
+};
+use crate::judge::Judge;
+use cm_class::{Attribute, Class, Member};
+
+fn attributes_name_texts(class: &Class, attributes: &[Attribute]) -> bool
+    ensures { result ≡ list_all (λ a. names is_text_entry class.now a.name) attributes.now }
+{
+    attributes
+        .iter()
+        .all(|attribute| is_text_entry(class, attribute.name))
+}
+
+/// Whether its name, its descriptor and the names of its attributes are texts.
+pub(crate) fn names_texts(class: &Class, member: &Member) -> bool
+    ensures { result ≡ names_texts class.now member.now }
+{
+    is_text_entry(class, member.name)
+        && is_text_entry(class, member.descriptor)
+        && attributes_name_texts(class, member.attributes.as_slice())
+}
+
+pub(crate) fn field_is_named(judge: &Judge, field: &Member) -> bool
+    ensures { result ≡ field_is_named judge.now.class.now field.now }
+{
+    judge.names_unqualified_name(field.name) && judge.names_field_descriptor(field.descriptor)
+}
+
+fn interface_field_agrees(flags: u16) -> bool
+    ensures { result ≡ interface_field_agrees flags }
+{
+    is_public(flags)
+        && is_static(flags)
+        && is_final(flags)
+        && !(is_private(flags)
+            || is_protected(flags)
+            || is_volatile(flags)
+            || is_transient(flags)
+            || is_enum(flags))
+}
+
+pub(crate) fn field_flags_agree(class: &Class, flags: u16) -> bool
+    ensures { result ≡ field_flags_agree class.now flags }
+{
+    visibilities(flags) <= 1
+        && !(is_final(flags) && is_volatile(flags))
+        && (!is_interface(class.flags()) || interface_field_agrees(flags))
+}
+
+pub(crate) fn method_is_named(judge: &Judge, method: &Member) -> bool
+    ensures { result ≡ method_is_named judge.now.class.now method.now }
+{
+    judge.names_method_name(method.name) && judge.names_method_descriptor(method.descriptor)
+}
+
+pub(crate) fn is_clinit(class: &Class, method: &Member) -> bool
+    ensures { result ≡ is_clinit class.now method.now }
+{
+    text(class, method.name) == b"<clinit>".as_slice()
+}
+
+/// Whether its parameters, with its receiver, have at most 255 units.
+pub(crate) fn units_fit(judge: &Judge, method: &Member) -> bool
+    ensures { result ≡ units_fit judge.now.class.now method.now }
+{
+    if is_static(method.flags) || is_clinit(judge.class, method) {
+        return true;
+    }
+    match judge.method_units(method.descriptor) {
+        Some(units) => units <= 254,
+        None => false,
+    }
+}
+
+fn abstract_agrees(flags: u16) -> bool
+    ensures { result ≡ abstract_agrees flags }
+{
+    !(is_private(flags)
+        || is_static(flags)
+        || is_final(flags)
+        || is_synchronized(flags)
+        || is_native(flags)
+        || is_strict(flags))
+}
+
+fn interface_method_agrees(flags: u16) -> bool
+    ensures { result ≡ interface_method_agrees flags }
+{
+    is_public_or_private(flags)
+        && !(is_protected(flags) || is_final(flags) || is_synchronized(flags) || is_native(flags))
+}
+
+fn init_agrees(flags: u16) -> bool
+    ensures { result ≡ init_agrees flags }
+{
+    !(is_static(flags)
+        || is_final(flags)
+        || is_synchronized(flags)
+        || is_bridge(flags)
+        || is_native(flags)
+        || is_abstract(flags))
+}
+
+pub(crate) fn method_flags_agree(class: &Class, method: &Member) -> bool
+    ensures { result ≡ method_flags_agree class.now method.now }
+{
+    let flags = method.flags;
+    is_clinit(class, method)
+        || (visibilities(flags) <= 1
+            && (!is_abstract(flags) || abstract_agrees(flags))
+            && (!is_interface(class.flags()) || interface_method_agrees(flags))
+            && (text(class, method.name) != b"<init>".as_slice() || init_agrees(flags)))
+}
+
+/// Whether two members have one name and one descriptor.
+fn same_member(class: &Class, one: &Member, other: &Member) -> bool
+    ensures { result ≡ same_member class.now one.now other.now }
+{
+    text(class, one.name) == text(class, other.name)
+        && text(class, one.descriptor) == text(class, other.descriptor)
+}
+
+fn any_same_member(class: &Class, member: &Member, others: &[Member]) -> bool
+    ensures { result ≡ list_any (same_member class.now member.now) others.now }
+{
+    others.iter().any(|other| same_member(class, member, other))
+}
+
+/// Whether no member before the place is the same.
+pub(crate) fn is_first(class: &Class, members: &[Member], place: usize, member: &Member) -> bool
+    ensures { result ≡ is_first class.now members.now place member.now }
+{
+    if place <= members.len() {
+        !any_same_member(class, member, members.split_at(place).0)
+    } else {
+        !any_same_member(class, member, members)
+    }
+}

@@ -1,0 +1,153 @@
+//! The rules on the constant pool, each on one of its constants.
+ghost use Rattle.std.specs.Prelude.{◌≡◌};
+ghost use Rattle.cm_rules.specs.PoolRules.{text_has_form, names_member, names_kinds, handle_names, handle_has_kind, class_has_name, field_reference_is_formed, names_method, is_callable, method_reference_is_formed, dynamic_call_is_formed, method_type_is_formed, handle_has_name};
+
+use crate::entries::{
+    is_class_entry, is_fieldref, is_interface_methodref, is_methodref, is_name_and_type_entry,
+    is_text_entry, pair, reference_name, text,
+};
+use crate::judge::Judge;
+use crate::text::{begins_with, ends_in_void, is_text};
+use cm_class::{Class, Constant};
+
+pub(crate) fn text_has_form(constant: &Constant) -> bool
+    ensures { result ≡ text_has_form constant.now }
+{
+    match constant {
+        Constant::Utf8(bytes) => is_text(bytes.as_slice()),
+        _ => true,
+    }
+}
+
+/// Whether a reference to a member names a class, and a name with a descriptor.
+fn names_member(class: &Class, of: u16, name_and_type: u16) -> bool
+    ensures { result ≡ names_member class.now of name_and_type }
+{
+    is_class_entry(class, of) && is_name_and_type_entry(class, name_and_type)
+}
+
+pub(crate) fn names_kinds(class: &Class, constant: &Constant) -> bool
+    ensures { result ≡ names_kinds class.now constant.now }
+{
+    match constant {
+        Constant::Class { name: text }
+        | Constant::String { text }
+        | Constant::MethodType { descriptor: text } => is_text_entry(class, *text),
+        Constant::Fieldref {
+            class: of,
+            name_and_type,
+        }
+        | Constant::Methodref {
+            class: of,
+            name_and_type,
+        }
+        | Constant::InterfaceMethodref {
+            class: of,
+            name_and_type,
+        } => { names_member(class, *of, *name_and_type) }
+        Constant::NameAndType { name, descriptor } => {
+            is_text_entry(class, *name) && is_text_entry(class, *descriptor)
+        }
+        Constant::InvokeDynamic { name_and_type, .. } => {
+            is_name_and_type_entry(class, *name_and_type)
+        }
+        _ => true,
+    }
+}
+
+pub(crate) fn handle_has_kind(class: &Class, constant: &Constant) -> bool
+    ensures { result ≡ handle_has_kind class.now constant.now }
+{
+    let Constant::MethodHandle { kind, reference } = constant else {
+        return true;
+    };
+    match *kind {
+        1..=4 => is_fieldref(class, *reference),
+        5 | 8 => is_methodref(class, *reference),
+        6 | 7 => is_methodref(class, *reference) || is_interface_methodref(class, *reference),
+        9 => is_interface_methodref(class, *reference),
+        _ => false,
+    }
+}
+
+pub(crate) fn class_has_name(judge: &Judge, constant: &Constant) -> bool
+    ensures { result ≡ class_has_name judge.now.class.now constant.now }
+{
+    let Constant::Class { name } = constant else {
+        return true;
+    };
+    judge.names_class_name(*name) || judge.names_array_descriptor(*name)
+}
+
+pub(crate) fn field_reference_is_formed(judge: &Judge, constant: &Constant) -> bool
+    ensures { result ≡ field_reference_is_formed judge.now.class.now constant.now }
+{
+    let Constant::Fieldref { name_and_type, .. } = constant else {
+        return true;
+    };
+    let (name, descriptor) = pair(judge.class, *name_and_type);
+    judge.names_unqualified_name(name) && judge.names_field_descriptor(descriptor)
+}
+
+/// Whether a pair has a method's name and descriptor.
+fn names_method(judge: &Judge, name_and_type: u16) -> bool
+    ensures { result ≡ names_method judge.now.class.now name_and_type }
+{
+    let (name, descriptor) = pair(judge.class, name_and_type);
+    judge.names_method_name(name) && judge.names_method_descriptor(descriptor)
+}
+
+/// Whether a pair's name may be called by a reference: of the names that begin with `<` only `<init>`,
+/// which returns nothing.
+fn is_callable(class: &Class, name_and_type: u16) -> bool
+    ensures { result ≡ is_callable class.now name_and_type }
+{
+    let (name, descriptor) = pair(class, name_and_type);
+    let name = text(class, name);
+    !begins_with(b'<', name)
+        || (name == b"<init>".as_slice() && ends_in_void(text(class, descriptor)))
+}
+
+pub(crate) fn method_reference_is_formed(judge: &Judge, constant: &Constant) -> bool
+    ensures { result ≡ method_reference_is_formed judge.now.class.now constant.now }
+{
+    match constant {
+        Constant::Methodref { name_and_type, .. } => {
+            names_method(judge, *name_and_type) && is_callable(judge.class, *name_and_type)
+        }
+        Constant::InterfaceMethodref { name_and_type, .. } => names_method(judge, *name_and_type),
+        _ => true,
+    }
+}
+
+pub(crate) fn dynamic_call_is_formed(judge: &Judge, constant: &Constant) -> bool
+    ensures { result ≡ dynamic_call_is_formed judge.now.class.now constant.now }
+{
+    match constant {
+        Constant::InvokeDynamic { name_and_type, .. } => names_method(judge, *name_and_type),
+        _ => true,
+    }
+}
+
+pub(crate) fn method_type_is_formed(judge: &Judge, constant: &Constant) -> bool
+    ensures { result ≡ method_type_is_formed judge.now.class.now constant.now }
+{
+    match constant {
+        Constant::MethodType { descriptor } => judge.names_method_descriptor(*descriptor),
+        _ => true,
+    }
+}
+
+pub(crate) fn handle_has_name(class: &Class, constant: &Constant) -> bool
+    ensures { result ≡ handle_has_name class.now constant.now }
+{
+    let Constant::MethodHandle { kind, reference } = constant else {
+        return true;
+    };
+    let name = reference_name(class, *reference);
+    match *kind {
+        8 => name == b"<init>".as_slice(),
+        1..=4 => true,
+        _ => !(name == b"<init>".as_slice() || name == b"<clinit>".as_slice()),
+    }
+}

@@ -1,0 +1,103 @@
+ghost use Rattle.std.specs.Prelude.{◌≡◌, ◌⊎◌, IfOk, IfErr, Result};
+ghost use Rattle.cm_class.specs.declared.class_file.ClassFile.{ClassFile};
+ghost use Rattle.cm_rules.specs.declared.fault.ClassFault.{ClassFault};
+ghost use Rattle.cm_rules.specs.Fault.{fault, first_of, all_rules};
+ghost use Rattle.cm_rules.specs.Answer.{IsRight, IsWrong, IsReading, IsUnlessRefused, class_fault_of};
+
+use crate::fault::ClassFault;
+use crate::judge::Judge;
+use crate::rule::{Broken, Rule};
+use crate::search::broken_spot;
+use cm_class::{Class, ShapeFault, read_shape};
+use std::alloc::{AllocError, Global};
+
+/// The rules, in the order in which they are judged.
+const RULES: [Rule; 24] = [
+    Rule::TextForm,
+    Rule::EntryKinds,
+    Rule::HandleKind,
+    Rule::ClassName,
+    Rule::FieldReference,
+    Rule::MethodReference,
+    Rule::DynamicCall,
+    Rule::MethodType,
+    Rule::HandleName,
+    Rule::ClassFlags,
+    Rule::ThisClass,
+    Rule::SuperClass,
+    Rule::FieldName,
+    Rule::FieldFlags,
+    Rule::FieldTwice,
+    Rule::MethodName,
+    Rule::MethodUnits,
+    Rule::MethodFlags,
+    Rule::MethodTwice,
+    Rule::CodeCount,
+    Rule::CodeForm,
+    Rule::MemberAttributes,
+    Rule::ClassAttributes,
+    Rule::BootstrapMethods,
+];
+
+/// The first of the rules that the class breaks, with the first spot.
+fn first_of(judge: &Judge, rules: &[Rule]) -> Option<Broken>
+    ensures { result ≡ first_of judge.now.class.now rules.now }
+{
+    for rule in rules {
+        match broken_spot(judge, *rule) {
+            Some(spot) => return Some(Broken { rule: *rule, spot }),
+            None => {}
+        }
+    }
+    None
+}
+
+/// The first rule that a class breaks, with the first spot where it does; `None` where it keeps them
+/// all. Each text is judged once, however many entries and members name it.
+#[tactic(auto, unfolding(crate::specs::Fault::fault))]
+pub fn first_fault(alloc: Global, class: &Class) -> Result<Option<Broken>, AllocError>
+    ensures { IfOk result (λ found. found ≡ fault class.now) }
+{
+    let judge = Judge::new(alloc, class)?;
+    Ok(first_of(&judge, &RULES))
+}
+
+fn class_fault(fault: ShapeFault) -> ClassFault
+    ensures { result ≡ class_fault_of fault }
+{
+    match fault {
+        ShapeFault::Truncated => ClassFault::Truncated,
+        ShapeFault::Trailing(at) => ClassFault::Trailing(at),
+        ShapeFault::Malformed(at) => ClassFault::Malformed(at),
+        ShapeFault::NoMemory => ClassFault::NoMemory,
+    }
+}
+
+fn judged(alloc: Global, bytes: &[u8]) -> Result<Class, ClassFault>
+    ensures { IsUnlessRefused bytes.now result }
+{
+    match read_shape(alloc, bytes) {
+        Err(fault) => Err(class_fault(fault)),
+        Ok(class) => match first_fault(alloc, &class) {
+            Ok(None) => Ok(class),
+            Ok(Some(broken)) => Err(ClassFault::Rule(broken)),
+            Err(_) => Err(ClassFault::NoMemory),
+        },
+    }
+}
+
+/// Reads a class of version 52.0 from all of the bytes, and judges it by the rules.
+///
+/// It is refused exactly where the bytes spell no class file, with the one fault of their shape, or
+/// where the class breaks a rule, with the first such rule and its first spot; or with `NoMemory`
+/// where memory was refused.
+pub fn read_class(alloc: Global, bytes: &[u8]) -> Result<Class, ClassFault>
+    ensures ok { IfOk result (IsRight bytes.now) }
+    ensures fault { IfErr result (IsWrong bytes.now) }
+
+    // What is so is answered, unless memory was refused.
+    ensures only { (answer : Result ClassFile ClassFault) → IsReading bytes.now answer
+        → (result ≡ answer) ⊎ (result ≡ Err ClassFault.NoMemory) }
+{
+    judged(alloc, bytes)
+}
