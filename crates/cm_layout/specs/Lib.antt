@@ -1,0 +1,5 @@
+pub mod Slots
+pub mod Superblock
+pub mod Rows
+pub mod Region
+pub mod State
