@@ -1,0 +1,9 @@
+pub mod Named
+pub mod Written
+pub mod Narrowed
+pub mod RowLemmas
+pub mod ListedRows
+pub mod Records
+pub mod Opened
+pub mod Formatted
+pub mod Refusals

@@ -1,0 +1,5 @@
+pub mod Listed
+pub mod Escapes
+pub mod Narrow
+pub mod Store
+pub mod Prepare

@@ -1,0 +1,239 @@
+use crate::directory::Directory;
+use crate::escape::{escape_into, unescape};
+use crate::prepare::{PrepareFault, prepare};
+use crate::refusal::Refusal;
+use crate::script::{Outcome, ToolFault, run_script};
+use crate::store::Store;
+use cm_disk::SimDisk;
+use std::alloc::Global;
+use std::io::{self, BufRead, Read, Write};
+use std::test::*;
+
+/// Class A: 53 bytes, named `A`, of `java/lang/Object`.
+const CLASS_A: &[u8] =
+    b"cafebabe000000340005070002010001410700040100106a6176612f6c616e672f4f626a6563740021000100030000000000000000";
+
+/// The replies to a script on a fresh store, and what it came to.
+fn replies(alloc: Global, script: &[u8]) -> Result<(Vec<u8>, Outcome), Fail> {
+    let mut store = Store::create(alloc, SimDisk::new(alloc))
+        .ok()
+        .ok_or("no store")?;
+    let mut reader = script;
+    let mut written = Vec::new(alloc);
+    let outcome = run_script(alloc, &mut reader, &mut written, &mut store)?;
+    Ok((written, outcome))
+}
+
+/// A script in which `A` in braces stands for class A.
+fn expanded(alloc: Global, script: &[u8]) -> Result<Vec<u8>, Fail> {
+    let mut text = Vec::new(alloc);
+    for byte in script {
+        if *byte == b'@' {
+            text.extend_from_slice(CLASS_A)?;
+        } else {
+            text.push(*byte)?;
+        }
+    }
+    Ok(text)
+}
+
+#[test]
+fn scripts_are_answered(rt: HostRuntime) -> Result<(), Fail> {
+    let alloc = rt.alloc();
+    let cases: [(&[u8], &[u8]); 8] = [
+        (b"", b""),
+        (b"loader app", b"ok 1\n"),
+        (
+            b"loader app\ndefine app @\nfind app A\n",
+            b"ok 1\nok 2 A\nclass A flags 0021 super java/lang/Object words 16\n",
+        ),
+        (b"define app\n", b"refused 15 line\n"),
+        (b"define nobody @\n", b"refused 3 no loader\n"),
+        (
+            b"loader a\ndefine a @00\n",
+            b"ok 1\nrefused 14 trailing 53\n",
+        ),
+        (
+            b"loader a\nloader b\ndefine a @\ndefine b @\ndefine a @\n",
+            b"ok 1\nok 2\nok 3 A\nok 4 A\nrefused 4 class exists\n",
+        ),
+        (
+            b"loader a\nloader a\nloader \x7f\n",
+            b"ok 1\nrefused 2 loader exists\nrefused 1 name\n",
+        ),
+    ];
+    for (script, wanted) in &cases {
+        let (written, _) = replies(alloc, &expanded(alloc, script)?)?;
+        assert_eq!(rt; written.as_slice(), *wanted);
+    }
+    Ok(())
+}
+
+#[test]
+fn a_refused_line_is_told(rt: HostRuntime) -> Result<(), Fail> {
+    let (_, fine) = replies(rt.alloc(), b"loader a\n")?;
+    assert_eq!(rt;
+        fine,
+        Outcome {
+            refused: false,
+            unsure: false
+        }
+    );
+    let (_, refused) = replies(rt.alloc(), b"loader a\nloader a\n")?;
+    assert_eq!(rt;
+        refused,
+        Outcome {
+            refused: true,
+            unsure: false
+        }
+    );
+    Ok(())
+}
+
+/// Gives its bytes, and then fails.
+#[derive(Drop)]
+struct FailingReader<'a> {
+    bytes: &'a [u8],
+}
+
+impl<'a> Read for FailingReader<'a> {
+    fn read(&mut self, _buf: &mut [u8]) -> io::Result<usize> {
+        Err(io::Error::from(io::ErrorKind::Other))
+    }
+}
+
+impl<'a> BufRead for FailingReader<'a> {
+    fn fill_buf(&mut self) -> io::Result<&[u8]> {
+        if self.bytes.is_empty() {
+            return Err(io::Error::from(io::ErrorKind::Other));
+        }
+        Ok(self.bytes)
+    }
+
+    fn consume(&mut self, amount: usize) {
+        if amount <= self.bytes.len() {
+            self.bytes = &self.bytes[amount..];
+        }
+    }
+}
+
+#[test]
+fn a_reader_that_fails_in_mid_line_ends_the_run(rt: HostRuntime) -> Result<(), Fail> {
+    let alloc = rt.alloc();
+    let mut store = Store::create(alloc, SimDisk::new(alloc))
+        .ok()
+        .ok_or("no store")?;
+    let mut reader = FailingReader {
+        bytes: b"loader a\nloader b",
+    };
+    let mut written = Vec::new(alloc);
+    let outcome = run_script(alloc, &mut reader, &mut written, &mut store);
+    assert_eq!(rt; outcome, Err(ToolFault::Input));
+    assert_eq!(rt; written.as_slice(), b"ok 1\n".as_slice());
+    assert_eq!(rt; store.number(), 1);
+    Ok(())
+}
+
+/// Takes so many replies, and then fails.
+#[derive(Drop)]
+struct FailingWriter {
+    replies: u8,
+}
+
+impl Write for FailingWriter {
+    fn write(&mut self, buf: &[u8]) -> io::Result<usize> {
+        if self.replies == 0 {
+            return Err(io::Error::from(io::ErrorKind::Other));
+        }
+        self.replies -= 1;
+        Ok(buf.len())
+    }
+
+    fn flush(&mut self) -> io::Result<()> {
+        Ok(())
+    }
+}
+
+#[test]
+fn a_writer_that_fails_at_the_second_reply_ends_the_run(rt: HostRuntime) -> Result<(), Fail> {
+    let alloc = rt.alloc();
+    let mut store = Store::create(alloc, SimDisk::new(alloc))
+        .ok()
+        .ok_or("no store")?;
+    let mut reader = b"loader a\nloader b\nloader c\n".as_slice();
+    let mut writer = FailingWriter { replies: 1 };
+    let outcome = run_script(alloc, &mut reader, &mut writer, &mut store);
+    assert_eq!(rt; outcome, Err(ToolFault::Output));
+    assert_eq!(rt; store.number(), 2);
+    Ok(())
+}
+
+#[test]
+fn names_are_escaped_and_read_again(rt: HostRuntime) -> Result<(), Fail> {
+    let alloc = rt.alloc();
+    let mut text = Vec::new(alloc);
+    escape_into(&mut text, b"a%\xc3\xa9 ")?;
+    assert_eq!(rt; text.as_slice(), b"a%25%C3%A9%20".as_slice());
+    let name = unescape(alloc, b"a%25%c3%A9%20").ok().ok_or("a name")?;
+    assert_eq!(rt; name.as_slice(), b"a%\xc3\xa9 ".as_slice());
+    for bad in [
+        b"%41".as_slice(),
+        b"%".as_slice(),
+        b"a b".as_slice(),
+        b"%g0".as_slice(),
+        b"\x80".as_slice(),
+    ] {
+        assert!(rt; unescape(alloc, bad).is_err());
+    }
+    Ok(())
+}
+
+#[test]
+fn classes_are_prepared(rt: HostRuntime) -> Result<(), Fail> {
+    let alloc = rt.alloc();
+    let bytes = hex::decode(alloc, CLASS_A)?;
+    let class = prepare(alloc, &bytes).ok().ok_or("class A")?;
+    assert_eq!(rt; class.name(), b"A".as_slice());
+    assert_eq!(rt; class.words(), 16);
+    let short = bytes.len() - 1;
+    if short <= bytes.len() {
+        assert!(rt;
+            matches!(
+                prepare(alloc, &bytes[..short]),
+                Err(PrepareFault::Truncated)
+            )
+        );
+    }
+    Ok(())
+}
+
+#[test]
+fn the_journal_fills(rt: HostRuntime) -> Result<(), Fail> {
+    let alloc = rt.alloc();
+    let mut store = Store::create(alloc, SimDisk::new(alloc))
+        .ok()
+        .ok_or("no store")?;
+    for i in 0..2047u32 {
+        let name = format!(in alloc; "l{i}")?;
+        assert_eq!(rt; store.add_loader(name.as_bytes()), Ok(u64::from(i) + 1));
+    }
+    assert_eq!(rt; store.add_loader(b"last"), Err(Refusal::JournalFull));
+    assert_eq!(rt; store.number(), 2047);
+    assert!(rt; !store.is_broken());
+    Ok(())
+}
+
+#[test]
+fn a_directory_finds_what_it_was_given(rt: HostRuntime) -> Result<(), Fail> {
+    let alloc = rt.alloc();
+    let mut directory = Directory::new(alloc);
+    directory.add_loader(Vec::from_slice(alloc, b"app")?, 7)?;
+    assert_eq!(rt; directory.number(b"app".as_slice()), Some(7));
+    assert_eq!(rt; directory.number(b"other".as_slice()), None);
+    assert!(rt;
+        directory
+            .class(b"app".as_slice(), b"A".as_slice())
+            .is_none()
+    );
+    Ok(())
+}
