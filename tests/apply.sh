@@ -1,0 +1,83 @@
+#!/usr/bin/env bash
+# The built program, end to end: scripts in memory, refusals, statuses, and what it says of wrong words.
+set -u
+. "$(dirname "$0")/lib.sh"
+
+a=cafebabe000000340005070002010001410700040100106a6176612f6c616e672f4f626a6563740021000100030000000000000000
+
+cp "$top/examples/first.txt" "$work/in"
+printf 'ok 1\nok 2 A\nclass A flags 0021 super java/lang/Object words 16\n' >"$work/want"
+run apply --memory
+check "the first example" 0
+
+: >"$work/in"
+: >"$work/want"
+run apply --memory
+check "an empty script" 0
+
+printf 'loader app' >"$work/in"
+printf 'ok 1\n' >"$work/want"
+run apply --memory
+check "a script without a last newline" 0
+
+printf 'loader app\n\nloader\nloader  app\nloader app \nfind app\nfind app %%41\nfind app %%g0\nfind app A\nnope\n' >"$work/in"
+printf 'ok 1\nrefused 15 line\nrefused 15 line\nrefused 15 line\nrefused 15 line\nrefused 15 line\nrefused 15 line\nrefused 15 line\nnone\nrefused 15 line\n' >"$work/want"
+run apply --memory
+check "lines of no known form" 1
+
+{ printf 'loader '; head -c 16777210 /dev/zero | tr '\0' 'a'; printf '\nloader b\n'; } >"$work/in"
+printf 'refused 15 line\nok 1\n' >"$work/want"
+run apply --memory
+check "a line of more than 16,777,216 bytes" 1
+
+{ printf 'loader '; head -c 16777209 /dev/zero | tr '\0' 'a'; printf '\nloader b\n'; } >"$work/in"
+printf 'refused 1 name\nok 1\n' >"$work/want"
+run apply --memory
+check "a line of 16,777,216 bytes" 1
+
+printf 'loader a\xff\nfind a\xff A\nloader b\n' >"$work/in"
+printf 'refused 1 name\nnone\nok 1\n' >"$work/want"
+run apply --memory
+check "bytes that aren't UTF-8" 1
+
+{
+    echo "loader app"
+    echo "define app ${a}00"
+    echo "define app ${a%00}"
+    echo "define app cafebabe00030034${a#cafebabe00000034}"
+    echo "define app cafebabe00000035${a#cafebabe00000034}"
+    echo "define app"
+    echo "define app zz"
+    echo "define nobody $a"
+    echo "define app $a"
+    echo "define app $a"
+} >"$work/in"
+printf 'ok 1\nrefused 14 trailing 53\nrefused 14 truncated\nrefused 14 malformed 5\nrefused 14 malformed 7\nrefused 15 line\nrefused 15 line\nrefused 3 no loader\nok 2 A\nrefused 4 class exists\n' >"$work/want"
+run apply --memory
+check "classes that are refused" 1
+
+printf 'loader a\nloader b\ndefine a %s\ndefine b %s\ndefine a %s\n' "$a" "$a" "$a" >"$work/in"
+printf 'ok 1\nok 2\nok 3 A\nok 4 A\nrefused 4 class exists\n' >"$work/want"
+run apply --memory
+check "one class in two loaders" 1
+
+n=cafebabe00000034000507000201 # a class whose name is the two bytes c3a9
+printf 'loader app\ndefine app %s\nfind app %%c3%%a9\n' "${n}0002c3a90700040100106a6176612f6c616e672f4f626a6563740021000100030000000000000000" >"$work/in"
+printf 'ok 1\nok 2 %%C3%%A9\nclass %%C3%%A9 flags 0021 super java/lang/Object words 16\n' >"$work/want"
+run apply --memory
+check "a name outside ASCII" 0
+
+: >"$work/in"
+run apply
+check_status "neither FILE nor --memory" 2 says
+run apply --memory file
+check_status "both FILE and --memory" 2 says
+run
+check_status "no words" 2 says
+run nonsense
+check_status "an unknown command" 2 says
+run --help
+check_status "--help" 0
+if [ -s "$work/got" ] && [ ! -s "$work/errors" ]; then passed=$((passed + 1)); else failed=$((failed + 1)); echo "FAILED: the help isn't on standard output"; fi
+
+finish
