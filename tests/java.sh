@@ -1,0 +1,43 @@
+#!/usr/bin/env bash
+# Classes that the machine's Java compiler writes for version 52.0 are taken, and found again with the flags and the super
+# class that the JDK's own disassembler tells.
+set -u
+cd "$(dirname "$0")/.." || exit 1
+. tests/lib.sh
+
+mkdir "$work/classes"
+if ! javac --release 8 -Xlint:none -nowarn -g -d "$work/classes" tests/java/*.java 2>"$work/errors"; then
+    cat "$work/errors"
+    echo "0 passed, 1 failed"
+    exit 1
+fi
+
+examples/define_lines.py app "$work/classes" >"$work/in"
+echo "ok 1" >"$work/want"
+number=1
+names=()
+while read -r file; do
+    name=${file#"$work/classes/"}
+    names+=("${name%.class}")
+    number=$((number + 1))
+    echo "ok $number ${name%.class}" >>"$work/want"
+done < <(find "$work/classes" -name '*.class' | LC_ALL=C sort)
+
+# What the disassembler says of a class: its flags and its super class.
+told() {
+    javap -v -p -cp "$work/classes" "$1" | awk '
+        /^  flags: / && !flags { match($0, /0x[0-9a-f]+/); flags = substr($0, RSTART + 2, 4) }
+        /^  super_class: / { print flags, $NF; exit }'
+}
+
+for name in "${names[@]}"; do
+    echo "find app $name" >>"$work/in"
+    read -r flags super < <(told "$work/classes/$name.class")
+    echo "class $name flags $flags super $super" >>"$work/want"
+done
+
+run apply --memory
+# The record's length isn't the disassembler's to tell.
+sed -E -i 's/^(class .*) words [0-9]+$/\1/' "$work/got"
+check "${#names[@]} compiled classes" 0
+finish
