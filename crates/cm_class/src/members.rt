@@ -3,7 +3,7 @@ ghost use Rattle.std.specs.Prelude.{◌≡◌};
 ghost use Rattle.cm_class.specs.Reading.{Gives, number_at, many_at, counted_at, attribute_at, member_at};
 
 use crate::class_file::{Attribute, Member};
-use crate::numbers::{content, read_u16};
+use crate::numbers::{content, read_u16, room_for};
 use crate::row::Row;
 use crate::stop::Stop;
 use std::alloc::Global;
@@ -20,7 +20,7 @@ fn attribute(alloc: Global, bytes: &[u8]) -> Result<(Attribute, &[u8]), Stop>
 fn many_attributes(alloc: Global, count: u16, bytes: &[u8]) -> Result<(Vec<Attribute>, &[u8]), Stop>
     ensures { Gives (λ x. (x.0.items, x.1.now)) result (many_at attribute_at count bytes.now) }
 {
-    let mut attributes = Vec::new(alloc);
+    let mut attributes = Vec::with_capacity(alloc, room_for(count, 6, bytes))?;
     let mut rest = bytes;
     for _ in 0..count {
         let (item, after) = attribute(alloc, rest)?;
@@ -60,7 +60,7 @@ fn member(alloc: Global, bytes: &[u8]) -> Result<(Member, &[u8]), Stop>
 fn many_members(alloc: Global, count: u16, bytes: &[u8]) -> Result<(Vec<Member>, &[u8]), Stop>
     ensures { Gives (λ x. (x.0.items, x.1.now)) result (many_at member_at count bytes.now) }
 {
-    let mut members = Vec::new(alloc);
+    let mut members = Vec::with_capacity(alloc, room_for(count, 8, bytes))?;
     let mut rest = bytes;
     for _ in 0..count {
         let (item, after) = member(alloc, rest)?;
@@ -83,7 +83,7 @@ pub(crate) fn members(alloc: Global, bytes: &[u8]) -> Result<(Row<Member>, &[u8]
 fn many_numbers(alloc: Global, count: u16, bytes: &[u8]) -> Result<(Vec<u16>, &[u8]), Stop>
     ensures { Gives (λ x. (x.0.items, x.1.now)) result (many_at (number_at 2) count bytes.now) }
 {
-    let mut numbers = Vec::new(alloc);
+    let mut numbers = Vec::with_capacity(alloc, room_for(count, 2, bytes))?;
     let mut rest = bytes;
     for _ in 0..count {
         let (item, after) = read_u16(rest)?;

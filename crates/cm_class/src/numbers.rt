@@ -48,6 +48,14 @@ pub(crate) fn read_u64(bytes: &[u8]) -> Result<(u64, &[u8]), Stop>
     Ok((BigEndian::read_u64(bytes), &bytes[8..]))
 }
 
+/// How many items to make room for, where a count is told and each item takes at least so many bytes: no
+/// more of them than the bytes can spell, so that a false count asks for no memory.
+pub(crate) fn room_for(count: u16, least: usize, bytes: &[u8]) -> usize
+    requires { 0 < least }
+{
+    usize::from(count).min(bytes.len() / least)
+}
+
 /// A copy of so many bytes. It takes memory only for bytes that are there.
 fn row(alloc: Global, len: usize, bytes: &[u8]) -> Result<(Row<u8>, &[u8]), Stop>
     ensures { Gives (λ x. (x.0, x.1.now)) result (bytes_at len bytes.now) }

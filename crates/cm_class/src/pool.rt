@@ -3,7 +3,9 @@ ghost use Rattle.std.specs.Prelude.{◌≡◌, false};
 ghost use Rattle.cm_class.specs.Reading.{Gives, tag_at, info_at, constant_at, slots_at, pool_at, both_at, number_at};
 
 use crate::constant::{Constant, Slot};
-use crate::numbers::{after_heading, pool_count, read_u8, read_u16, read_u32, read_u64, text};
+use crate::numbers::{
+    after_heading, pool_count, read_u8, read_u16, read_u32, read_u64, room_for, text,
+};
 use crate::row::Row;
 use crate::stop::Stop;
 use crate::tag::Tag;
@@ -134,7 +136,7 @@ fn constant(alloc: Global, left: u16, bytes: &[u8]) -> Result<(Constant, &[u8]),
 fn slots(alloc: Global, count: u16, bytes: &[u8]) -> Result<(Vec<Slot>, &[u8]), Stop>
     ensures { Gives (λ x. (x.0.items, x.1.now)) result (slots_at false count bytes.now) }
 {
-    let mut slots = Vec::new(alloc);
+    let mut slots = Vec::with_capacity(alloc, room_for(count, 3, bytes))?;
     let mut rest = bytes;
     let mut second = false;
     for index in 0..count {

@@ -1,16 +1,18 @@
 -- Runs, word by word.
-use Rattle.std.proofs.Common.{◌≡◌, ◌<◌, ◌+◌, ◌*◌, ℕ, zero, suc, List, [], ◌∷◌, ◌++◌, length, get_or, take, drop, min, refl, sym, ◌∙◌, ap, arith}
-use Rattle.std.specs.Int.{w64, from_le_bytes}
+use Rattle.std.proofs.Common.{◌≡◌, ◌<◌, ◌≤◌, ◌+◌, ◌*◌, ◌^◌, ℕ, zero, suc, List, [], ◌∷◌, ◌++◌, length, get_or, take, drop, min, refl, sym, ◌∙◌, ap, subst, inl, inr, arith}
+use Rattle.std.proofs.Math.Nat.{eq-or-lt_of_le}
+use Rattle.std.specs.Int.{w64, from_le_bytes, to_le_bytes}
+use Rattle.std.proofs.lemmas.Nat.{from_le_bytes-to_le_bytes_8}
 use Rattle.std.proofs.lemmas.List.{length-drop, drop_min, length-append, length-take-le, take_at, drop_at, drop-drop, take_more, append-nil}
 use Rattle.std.proofs.lemmas.Grind.{flat_map-append}
 use Rattle.cm_record.specs.Packing.{bytes_of, word_bytes, word_from, packed_into, packed, run_words}
 
-packed_len_into : (n : ℕ) (bytes : List ℕ) → length (packed_into n bytes) ≡ n
-packed_len_into zero bytes = refl
-packed_len_into (suc n) bytes = ap suc (packed_len_into n (drop 8 bytes))
+pub length-packed_into : (n : ℕ) (bytes : List ℕ) → length (packed_into n bytes) ≡ n
+length-packed_into zero bytes = refl
+length-packed_into (suc n) bytes = ap suc (length-packed_into n (drop 8 bytes))
 
 pub packed_len : (bytes : List ℕ) → length (packed bytes) ≡ run_words (length bytes)
-packed_len bytes = packed_len_into (run_words (length bytes)) bytes
+packed_len bytes = length-packed_into (run_words (length bytes)) bytes
 
 -- the run of some bytes is the word of the first eight, and the run of the others
 pub packed_more : (bytes : List ℕ) (n : ℕ) → n ≡ min (length bytes) 8 → 0 < length bytes → packed bytes ≡ word_from bytes ∷ packed (drop n bytes)
@@ -46,3 +48,33 @@ write_step out start words i word e lt ew =
     let more : word_bytes (take (i + 1) words) ≡ done ++ bytes_of word =
     ap word_bytes (take_more words i 0 lt ∙ ap (λ w. take i words ++ w ∷ []) (sym ew)) ∙ (flat_map-append bytes_of (take i words) (word ∷ []) ∙ ap (λ w. done ++ w) (append-nil (bytes_of word))) in
     rw (front, back, more) refl
+
+-- ---- words from their bytes again
+
+pub word_back : (word : ℕ) → word < 2 ^ 64 → word_from (bytes_of word) ≡ word
+unfolding word_from bytes_of
+word_back word small = from_le_bytes-to_le_bytes_8 word small
+
+-- behind the first eight bytes of a word there may be more
+word_in_front : (word : ℕ) (rest : List ℕ) → word_from (bytes_of word ++ rest) ≡ word_from (bytes_of word)
+unfolding word_from bytes_of
+word_in_front word rest = refl
+
+rest_behind : (word : ℕ) (rest : List ℕ) → drop 8 (bytes_of word ++ rest) ≡ rest
+unfolding bytes_of
+rest_behind word rest = refl
+
+pub words_back : (words : List ℕ) → ((j : ℕ) → j < length words → word_from (bytes_of (get_or words j 0)) ≡ get_or words j 0) → packed_into (length words) (word_bytes words) ≡ words
+words_back [] back = refl
+words_back (w ∷ words) back =
+    (λ i. (word_in_front w (word_bytes words) ∙ back 0 (omega arith)) i ∷ packed_into (length words) (rest_behind w (word_bytes words) i))
+    ∙ ap (λ ws. w ∷ ws) (words_back words (λ j small. back (suc j) (omega arith)))
+
+-- one more of them
+pub one_more_back : (words : List ℕ) (i : ℕ) → ((j : ℕ) → j < i → word_from (bytes_of (get_or words j 0)) ≡ get_or words j 0) → word_from (bytes_of (get_or words i 0)) ≡ get_or words i 0
+    → (j : ℕ) → j < i + 1 → word_from (bytes_of (get_or words j 0)) ≡ get_or words j 0
+one_more_back words i before last j small =
+    elim (eq-or-lt_of_le {n = j} {m = i} (omega arith)) [
+      | inl same ↦ subst (λ k. word_from (bytes_of (get_or words k 0)) ≡ get_or words k 0) (sym same) last
+      | inr less ↦ before j less
+    ]

@@ -1,6 +1,6 @@
 //! Bytes in words, and small numbers side by side in a word.
 ghost use Rattle.std.specs.Prelude.{◌≡◌, ◌<◌, ◌≤◌, ◌+◌, ◌*◌, ◌++◌, ℕ, length, take, drop, slice_index, OnOk};
-ghost use Rattle.cm_record.specs.Packing.{word_from, bytes_of as word_bytes_of, packed, word_bytes, run_words as words_of_run, joined as joined_of};
+ghost use Rattle.cm_record.specs.Packing.{word_from, bytes_of as word_bytes_of, packed, packed_into, word_bytes, run_words as words_of_run, joined as joined_of};
 
 use std::alloc::AllocError;
 
@@ -21,14 +21,25 @@ pub(crate) fn joined(first: u16, second: u16, third: u16, fourth: u16) -> u64
         + FOURTH * u64::from(fourth)
 }
 
-/// The first eight bytes, with zeros where there are fewer.
-fn first_eight(bytes: &[u8]) -> [u8; 8]
+/// The first bytes of fewer than eight, with zeros behind them.
+fn filled_up(bytes: &[u8]) -> [u8; 8]
     ensures { (k : ℕ) → k < 8 → slice_index result k ≡ slice_index bytes.now k }
 {
     let mut eight = [0u8; 8];
     let count = bytes.len().min(8);
     eight[..count].copy_from_slice(&bytes[..count]);
     eight
+}
+
+/// The first eight bytes, with zeros where there are fewer.
+fn first_eight(bytes: &[u8]) -> [u8; 8]
+    ensures { (k : ℕ) → k < 8 → slice_index result k ≡ slice_index bytes.now k }
+{
+    // Most words of a run are whole ones.
+    match bytes.first_chunk::<8>() {
+        Some(eight) => *eight,
+        None => filled_up(bytes),
+    }
 }
 
 /// The word of the first eight bytes, the first of them lowest. Where there are fewer, the rest is 0.
@@ -69,7 +80,8 @@ pub(crate) fn bytes_of(word: u64) -> [u8; 8]
 /// Writes a word as eight bytes, the lowest first.
 fn write_word(out: &mut [u8], at: usize, word: u64)
     requires { at + 8 ≤ length out.old }
-    ensures { out.new ≡ take at out.old ++ word_bytes_of word ++ drop (at + 8) out.old }
+    ensures written { out.new ≡ take at out.old ++ word_bytes_of word ++ drop (at + 8) out.old }
+    ensures back { word_from (word_bytes_of word) ≡ word }
 {
     out[at..at + 8].copy_from_slice(&bytes_of(word));
 }
@@ -77,7 +89,8 @@ fn write_word(out: &mut [u8], at: usize, word: u64)
 /// Writes words, each as eight bytes with the lowest first.
 pub(crate) fn write_words(words: &[u64], out: &mut [u8])
     requires { length out.old ≡ 8 * length words.now }
-    ensures { out.new ≡ word_bytes words.now }
+    ensures written { out.new ≡ word_bytes words.now }
+    ensures back { packed_into (length words.now) (word_bytes words.now) ≡ words.now }
 {
     for (i, word) in words.iter().enumerate() {
         write_word(out, 8 * i, *word);

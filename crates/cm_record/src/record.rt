@@ -3,7 +3,7 @@ ghost use Rattle.std.specs.Prelude.{◌≡◌, ◌≤◌, ◌<◌, ◌↔◌, �
 ghost use Rattle.cm_record.specs.declared.refusal.RecordRefusal.TheVariants as refusal;
 ghost use Rattle.cm_record.specs.declared.refusal.RecordFault.TheVariants as fault;
 ghost use Rattle.cm_class.specs.declared.class_file.ClassFile.{ClassFile};
-ghost use Rattle.cm_record.specs.Packing.{word_bytes};
+ghost use Rattle.cm_record.specs.Packing.{word_bytes, packed_into};
 ghost use Rattle.cm_record.specs.Names.{class_name_of, super_name_of};
 ghost use Rattle.cm_record.specs.Layout.{lay, record_len, limit, IsRecord, IsRecordOf};
 ghost use Rattle.cm_record.specs.Places.{ArePlaces};
@@ -90,7 +90,10 @@ impl Record {
     /// Its words, each as eight bytes, the lowest first.
     pub fn bytes_into(&self, out: &mut [u8])
         requires { length out.old ≡ 8 * length self.now }
-        ensures { out.new ≡ word_bytes self.now }
+        ensures bytes { out.new ≡ word_bytes self.now }
+
+        // The bytes tell the words.
+        ensures words { packed_into (length self.now) out.new ≡ self.now }
     {
         write_words(self.words.as_slice(), out)
     }
