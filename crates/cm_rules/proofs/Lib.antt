@@ -1,6 +1,7 @@
 pub mod Rows
-pub mod TextLoops
 pub mod Tables
+pub mod TextNumbers
+pub mod FirstPlaces
 pub mod Rowed
 pub mod Searches
 pub mod RulesInOrder

@@ -12,7 +12,7 @@ use Rattle.cm_rules.specs.declared.rule.Rule.TheVariants as rules
 use Rattle.cm_rules.specs.declared.rule.Spot.{Spot}
 use Rattle.cm_rules.specs.declared.rule.Spot.TheVariants.{Pool, This, Super, Interface, Field, Method, Attribute}
 use Rattle.cm_rules.specs.declared.rule.Broken.{Broken}
-use Rattle.cm_rules.specs.Text.{is_text_after, is_text, is_class_name_from, is_class_name, name_after, after_class, after_field, is_unqualified_name, is_method_name, is_field_descriptor, parameters, method_units}
+use Rattle.cm_names.specs.Text.{is_text_after, is_text, is_class_name_from, is_class_name, name_after, after_class, after_field, is_unqualified_name, is_method_name, is_field_descriptor, parameters, method_units}
 use Rattle.cm_rules.specs.Contents.{past_rows}
 use Rattle.cm_rules.specs.ClassRules.{object, place_named, bootstrap_count, is_attribute, common_is_formed, value_is_formed, names_value_of}
 use Rattle.cm_rules.specs.Fault.{fault, first_of, broken_spot, pool_rule, this_rule, super_rule, interface_rule, field_rule, method_rule, attribute_rule}

@@ -4,6 +4,9 @@ use Rattle.std.proofs.lemmas.List.{drop_all}
 use Rattle.std.specs.Prelude.{find, option_map}
 use Rattle.std.specs.List.{range_with_len}
 use Rattle.cm_class.specs.declared.class_file.ClassFile.{ClassFile}
+use Rattle.cm_class.specs.declared.constant.Constant.{Constant}
+use Rattle.cm_class.specs.declared.constant.Slot.{Slot}
+use Rattle.cm_class.specs.declared.constant.Slot.TheVariants.{Usable, Unusable}
 use Rattle.cm_rules.specs.declared.rule.Rule.{Rule}
 use Rattle.cm_rules.specs.declared.rule.Spot.{Spot}
 use Rattle.cm_rules.specs.declared.rule.Spot.TheVariants.{Pool, This, Super, Interface, Field, Method, Attribute}
@@ -84,3 +87,14 @@ module _ (c : ClassFile) (rule : Rule) where
       let methods = find_sort H Method (method_rule rule c) c.methods 0 (at_place c.methods (method_rule rule c)) in
       let attributes = find_sort H Attribute (attribute_rule rule c) c.attributes 0 (at_place c.attributes (attribute_rule rule c)) in
       parts ∙ rw (slots, own_here, interfaces, fields, methods, attributes) refl
+
+-- ---- a rule that no item breaks
+
+pub nothing_fails : {A : Type 0} (test : ℕ → A → Bool) (i : ℕ) (items : List A) → ((j : ℕ) (x : A) → test j x ≡ true) → first_failing test i items ≡ None
+unfolding first_failing
+nothing_fails test i [] h = refl
+nothing_fails test i (x ∷ items) h = rw (h i x) (nothing_fails test (i + 1) items h)
+
+pub slot_passes : (test : Constant → Bool) (slot : Slot) → ((k : Constant) → test k ≡ true) → in_slot test slot ≡ true
+slot_passes test (Usable k) h = h k
+slot_passes test Unusable h = refl

@@ -8,7 +8,7 @@ use Rattle.cm_class.specs.declared.constant.Constant.TheVariants as constant
 use Rattle.cm_class.specs.declared.class_file.Attribute.{Attribute}
 use Rattle.cm_class.specs.declared.class_file.Member.{Member}
 use Rattle.cm_class.specs.declared.class_file.ClassFile.{ClassFile}
-use Rattle.cm_rules.specs.Text.{is_unqualified_name, is_method_name, is_field_descriptor, is_method_descriptor, method_units, begins_with, bracket, init, clinit, is_empty}
+use Rattle.cm_names.specs.Text.{is_unqualified_name, is_method_name, is_field_descriptor, is_method_descriptor, method_units, begins_with, bracket, init, clinit, is_empty}
 use Rattle.cm_rules.specs.Entries.{names, text, is_named, class_name, is_text_entry, is_long, is_float, is_double, is_integer, is_string_entry}
 use Rattle.cm_rules.specs.Flags.{is_public, is_private, is_protected, is_static, is_final, is_super, is_synchronized, is_volatile, is_bridge, is_transient, is_native, is_interface, is_abstract, is_strict, is_annotation, is_enum, visibilities, one_if}
 use Rattle.cm_rules.specs.Contents.{is_one_index, code_is_formed, exceptions_are_formed, enclosing_method_is_formed, inner_classes_are_formed, bootstrap_methods_are_formed, count_of}

@@ -3,7 +3,7 @@
 use Rattle.std.specs.Prelude.{ℕ, zero, suc, ◌+◌, ◌*◌, Bool, true, false, ◌&&◌, ◌||◌, List, ◌∷◌, length, drop, Option, Some, None, option_and_then, nat_lt, nat_le, ◌==◌, if◌then◌else◌}
 use Rattle.std.specs.Option.{option_map_or}
 use Rattle.cm_class.specs.declared.class_file.ClassFile.{ClassFile}
-use Rattle.cm_rules.specs.Text.{is_empty}
+use Rattle.cm_names.specs.Text.{is_empty}
 use Rattle.cm_rules.specs.Entries.{names, is_text_entry, is_class_entry, is_name_and_type_entry, is_method_handle, is_loadable}
 
 infixl 10 ◌>>=◌

@@ -6,7 +6,7 @@ use Rattle.cm_rules.specs.declared.judgement.Judgement.{Judgement}
 use Rattle.cm_class.specs.declared.class_file.ClassFile.{ClassFile}
 use Rattle.cm_rules.specs.declared.judgement.Places.{Places}
 use Rattle.cm_rules.specs.ClassRules.{place_named, source_file, enclosing_method, inner_classes, bootstrap_methods}
-use Rattle.cm_rules.specs.Text.{is_unqualified_name, is_method_name, is_class_name, is_field_descriptor, method_units}
+use Rattle.cm_names.specs.Text.{is_unqualified_name, is_method_name, is_class_name, is_field_descriptor, method_units}
 use Rattle.cm_rules.specs.Entries.{text_of}
 
 unfoldable pub judgement : List ℕ → Judgement

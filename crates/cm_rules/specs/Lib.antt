@@ -1,10 +1,10 @@
-pub mod Text
 pub mod Entries
 pub mod Flags
 pub mod PoolRules
 pub mod Contents
 pub mod ClassRules
 pub mod Fault
+pub mod Numbers
 pub mod Judged
 pub mod Answer
 pub mod Least

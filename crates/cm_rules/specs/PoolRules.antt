@@ -4,7 +4,7 @@ use Rattle.std.specs.Prelude.{ℕ, Bool, true, ◌&&◌, ◌||◌, not, ◌==◌
 use Rattle.cm_class.specs.declared.constant.Constant.{Constant}
 use Rattle.cm_class.specs.declared.constant.Constant.TheVariants as constant
 use Rattle.cm_class.specs.declared.class_file.ClassFile.{ClassFile}
-use Rattle.cm_rules.specs.Text.{is_within, is_text, is_unqualified_name, is_method_name, is_class_name, is_field_descriptor, is_array_descriptor, is_method_descriptor, begins_with, ends_in_void, init, clinit, less}
+use Rattle.cm_names.specs.Text.{is_within, is_text, is_unqualified_name, is_method_name, is_class_name, is_field_descriptor, is_array_descriptor, is_method_descriptor, begins_with, ends_in_void, init, clinit, less}
 use Rattle.cm_rules.specs.Entries.{names, text, pair_name, pair_descriptor, reference_name, is_text_entry, is_class_entry, is_name_and_type_entry, is_fieldref, is_methodref, is_interface_methodref}
 
 -- each text has the form

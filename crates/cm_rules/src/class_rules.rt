@@ -4,8 +4,8 @@ ghost use Rattle.cm_rules.specs.ClassRules.{class_flags_agree, this_is_no_array,
 
 use crate::entries::class_name;
 use crate::flags::{is_abstract, is_annotation, is_enum, is_final, is_interface, is_super};
-use crate::text::begins_with;
 use cm_class::Class;
+use cm_names::begins_with;
 
 const OBJECT: &[u8] = b"java/lang/Object";
 

@@ -7,8 +7,8 @@ ghost use Rattle.cm_rules.specs.Contents.{u2_of, u4_of, past, past_u2, any, is_w
 use crate::entries::{
     is_class_entry, is_loadable, is_method_handle, is_name_and_type_entry, is_text_entry,
 };
-use crate::text::first;
 use cm_class::Class;
+use cm_names::first;
 
 /// A number of two bytes.
 pub(crate) fn read_u2(bytes: &[u8]) -> Option<(u16, &[u8])>

@@ -1,19 +1,30 @@
 ghost use Rattle.std.specs.Prelude.{◌≡◌, map, slice_get, IfOk};
+ghost use Rattle.std.specs.Option.{ForSome};
 ghost use Rattle.cm_rules.specs.Entries.{text};
-ghost use Rattle.cm_rules.specs.Text.{is_class_name, is_unqualified_name, is_method_name, is_field_descriptor, is_array_descriptor, is_method_descriptor, method_units};
-ghost use Rattle.cm_rules.specs.ClassRules.{bootstrap_count as bootstrap_count_of};
+ghost use Rattle.cm_names.specs.Text.{is_class_name, is_unqualified_name, is_method_name, is_field_descriptor, is_array_descriptor, is_method_descriptor, method_units};
+ghost use Rattle.cm_rules.specs.ClassRules.{bootstrap_count as bootstrap_count_of, is_first};
 ghost use Rattle.cm_rules.specs.Judged.{judgement, judged, places_of, SizesFit};
 
 use crate::entries::text;
+use crate::firsts::Firsts;
 use crate::judgement::{Judgement, Places, bootstrap_count, find_places, judge, judgements};
-use crate::text::begins_with;
-use cm_class::Class;
+use crate::member_rules::is_first;
+use cm_class::{Class, Member};
+use cm_names::begins_with;
 use std::alloc::{AllocError, Global};
 
 fn judgement_at(table: &[Judgement], place: usize) -> Option<Judgement>
     ensures { result ≡ slice_get table.now place }
 {
     table.get(place).copied()
+}
+
+/// How many fields, and how many methods, are few: so many are compared pair by pair in less time than it
+/// takes to number the texts of their class.
+const FEW: usize = 32;
+
+fn has_few_members(class: &Class) -> bool {
+    class.fields().len() <= FEW && class.methods().len() <= FEW
 }
 
 /// A class, with what was found out of its texts.
@@ -23,10 +34,13 @@ pub(crate) struct Judge<'a> {
     table: Vec<Judgement>,
     pub(crate) places: Places,
     pub(crate) bootstrap_count: u16,
+    /// Of a class that has many members; those of others are compared pair by pair.
+    firsts: Option<Firsts<'a>>,
     ghost of_class: { table.items ≡ map judged class.now.slots },
     ghost sized: { SizesFit class.now },
     ghost places_are: { places ≡ places_of class.now },
     ghost count_is: { bootstrap_count ≡ bootstrap_count_of class.now },
+    ghost firsts_of_class: { ForSome firsts (λ f. f.class.now ≡ class.now) },
 }
 
 impl<'a> Judge<'a> {
@@ -35,12 +49,38 @@ impl<'a> Judge<'a> {
     {
         let _flags = class.flags();
         let table = judgements(alloc, class)?;
+        let firsts = if has_few_members(class) {
+            None
+        } else {
+            Some(Firsts::new(alloc, class)?)
+        };
         Ok(Judge {
             class,
             table,
             places: find_places(class),
             bootstrap_count: bootstrap_count(class),
+            firsts,
         })
+    }
+
+    /// Whether no field before the place has the name and the descriptor of this one.
+    pub(crate) fn is_first_field(&self, place: usize, field: &Member) -> bool
+        ensures { result ≡ is_first self.now.class.now self.now.class.now.fields place field.now }
+    {
+        match &self.firsts {
+            Some(firsts) => firsts.is_first_field(place, field),
+            None => is_first(self.class, self.class.fields(), place, field),
+        }
+    }
+
+    /// Whether no method before the place has the name and the descriptor of this one.
+    pub(crate) fn is_first_method(&self, place: usize, method: &Member) -> bool
+        ensures { result ≡ is_first self.now.class.now self.now.class.now.methods place method.now }
+    {
+        match &self.firsts {
+            Some(firsts) => firsts.is_first_method(place, method),
+            None => is_first(self.class, self.class.methods(), place, method),
+        }
     }
 
     /// What was found out of the text at an index; of no bytes, where there is no text.

@@ -4,10 +4,10 @@ ghost use Rattle.cm_rules.specs.Judged.{judgement, judged, places_of};
 
 use crate::attribute_rules::is_attribute;
 use crate::contents::{bootstrap_methods_are_formed, count_of};
-use crate::text::{
+use cm_class::{Attribute, Class, Constant, Slot};
+use cm_names::{
     is_class_name, is_field_descriptor, is_method_name, is_unqualified_name, method_units,
 };
-use cm_class::{Attribute, Class, Constant, Slot};
 use std::alloc::{AllocError, Global};
 
 /// What is found out of a text once, however many entries and members name it.

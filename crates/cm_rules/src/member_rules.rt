@@ -1,8 +1,8 @@
 //! The rules on one field or method.
-ghost use Rattle.std.specs.Prelude.{◌≡◌};
+ghost use Rattle.std.specs.Prelude.{◌≡◌, bytes_eq};
 ghost use Rattle.std.specs.List.{list_all, list_any};
-ghost use Rattle.cm_rules.specs.Entries.{names, is_text_entry};
-ghost use Rattle.cm_rules.specs.ClassRules.{same_member, is_first, names_texts, field_is_named, interface_field_agrees, field_flags_agree, method_is_named, is_clinit, units_fit, abstract_agrees, interface_method_agrees, init_agrees, method_flags_agree};
+ghost use Rattle.cm_rules.specs.Entries.{names, is_text_entry, text as text_at};
+ghost use Rattle.cm_rules.specs.ClassRules.{names_texts, field_is_named, interface_field_agrees, field_flags_agree, method_is_named, is_clinit, units_fit, abstract_agrees, interface_method_agrees, init_agrees, method_flags_agree, same_member, is_first};
 
 use crate::entries::{is_text_entry, text};
 use crate::flags::{
@@ -122,12 +122,18 @@ pub(crate) fn method_flags_agree(class: &Class, method: &Member) -> bool
             && (text(class, method.name) != b"<init>".as_slice() || init_agrees(flags)))
 }
 
+/// Whether two indexes name one text. Long texts are compared only where the indexes differ.
+fn same_text(class: &Class, one: u16, other: u16) -> bool
+    ensures { result ≡ bytes_eq (text_at class.now one) (text_at class.now other) }
+{
+    one == other || text(class, one) == text(class, other)
+}
+
 /// Whether two members have one name and one descriptor.
 fn same_member(class: &Class, one: &Member, other: &Member) -> bool
     ensures { result ≡ same_member class.now one.now other.now }
 {
-    text(class, one.name) == text(class, other.name)
-        && text(class, one.descriptor) == text(class, other.descriptor)
+    same_text(class, one.name, other.name) && same_text(class, one.descriptor, other.descriptor)
 }
 
 fn any_same_member(class: &Class, member: &Member, others: &[Member]) -> bool

@@ -7,8 +7,8 @@ use crate::entries::{
     is_text_entry, pair, reference_name, text,
 };
 use crate::judge::Judge;
-use crate::text::{begins_with, ends_in_void, is_text};
 use cm_class::{Class, Constant};
+use cm_names::{begins_with, ends_in_void, is_text};
 
 pub(crate) fn text_has_form(constant: &Constant) -> bool
     ensures { result ≡ text_has_form constant.now }

@@ -10,8 +10,7 @@ use crate::class_rules::{class_flags_agree, super_is_right, this_is_no_array};
 use crate::entries::{is_class_entry, is_text_entry};
 use crate::judge::Judge;
 use crate::member_rules::{
-    field_flags_agree, field_is_named, is_first, method_flags_agree, method_is_named, names_texts,
-    units_fit,
+    field_flags_agree, field_is_named, method_flags_agree, method_is_named, names_texts, units_fit,
 };
 use crate::pool_rules::{
     class_has_name, dynamic_call_is_formed, field_reference_is_formed, handle_has_kind,
@@ -95,7 +94,7 @@ pub(crate) fn field_rule(judge: &Judge, rule: Rule, place: usize, field: &Member
         Rule::EntryKinds => names_texts(class, field),
         Rule::FieldName => field_is_named(judge, field),
         Rule::FieldFlags => field_flags_agree(class, field.flags),
-        Rule::FieldTwice => is_first(class, class.fields(), place, field),
+        Rule::FieldTwice => judge.is_first_field(place, field),
         Rule::MemberAttributes => field_attributes_are_right(class, field),
         _ => true,
     }
@@ -111,7 +110,7 @@ pub(crate) fn method_rule(judge: &Judge, rule: Rule, place: usize, method: &Memb
         Rule::MethodName => method_is_named(judge, method),
         Rule::MethodUnits => units_fit(judge, method),
         Rule::MethodFlags => method_flags_agree(class, method),
-        Rule::MethodTwice => is_first(class, class.methods(), place, method),
+        Rule::MethodTwice => judge.is_first_method(place, method),
         Rule::CodeCount => code_count_is_right(class, method),
         Rule::CodeForm => code_has_form(class, method),
         Rule::MemberAttributes => method_attributes_are_right(class, method),

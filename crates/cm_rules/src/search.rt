@@ -1,6 +1,8 @@
 //! The first spot where a class breaks a rule.
-ghost use Rattle.std.specs.Prelude.{◌≡◌, ◌+◌, ◌<◌, ◌^◌, IfSome};
-ghost use Rattle.cm_rules.specs.Fault.{slot_failing, interface_failing, field_failing, method_failing, attribute_failing, item_spot, own_spot, found_spot, broken_spot, fault};
+ghost use Rattle.std.specs.Prelude.{◌≡◌, ◌+◌, ◌<◌, ◌^◌, false, true, IfSome};
+ghost use Rattle.cm_class.specs.declared.class_file.ClassFile.{ClassFile};
+ghost use Rattle.cm_class.specs.declared.constant.Constant.{Constant};
+ghost use Rattle.cm_rules.specs.Fault.{slot_failing, interface_failing, field_failing, method_failing, attribute_failing, item_spot, own_spot, found_spot, broken_spot, fault, pool_rule};
 
 use crate::judge::Judge;
 use crate::rule::{Rule, Spot};
@@ -95,10 +97,42 @@ fn own_spot(judge: &Judge, rule: Rule) -> Option<Spot>
     None
 }
 
+/// Whether a rule speaks of constants of the pool.
+#[tactic(auto, unfolding(crate::specs::Fault::pool_rule))]
+fn speaks_of_pool(rule: Rule) -> bool
+    ensures { result ≡ false → (c : ClassFile) (k : Constant) → pool_rule rule c k ≡ true }
+{
+    match rule {
+        Rule::TextForm
+        | Rule::EntryKinds
+        | Rule::HandleKind
+        | Rule::ClassName
+        | Rule::FieldReference
+        | Rule::MethodReference
+        | Rule::DynamicCall
+        | Rule::MethodType
+        | Rule::HandleName
+        | Rule::BootstrapMethods => true,
+        _ => false,
+    }
+}
+
+/// The place of the first constant that breaks the rule. Pools are long, so most rules look at none.
+fn pool_place(judge: &Judge, rule: Rule) -> Option<u16>
+    ensures place { result ≡ slot_failing judge.now.class.now rule }
+    ensures within { IfSome result (λ place. place + 1 < 2 ^ 16) }
+{
+    if speaks_of_pool(rule) {
+        first_slot(judge, rule)
+    } else {
+        None
+    }
+}
+
 fn found_spot(judge: &Judge, rule: Rule) -> Option<Spot>
     ensures { result ≡ found_spot judge.now.class.now rule }
 {
-    if let Some(place) = first_slot(judge, rule) {
+    if let Some(place) = pool_place(judge, rule) {
         return Some(Spot::Pool(place + 1));
     }
     if let Some(spot) = own_spot(judge, rule) {

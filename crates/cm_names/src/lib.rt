@@ -1,0 +1,13 @@
+//! Texts of class files on their bytes: the form that each has (JVMS SE 8, section 4.4.7), names (4.2)
+//! and descriptors (4.3).
+#![tactic(auto)]
+
+mod text;
+
+pub use text::{
+    begins_with, ends_in_void, first, is_class_name, is_field_descriptor, is_method_name, is_text,
+    is_unqualified_name, method_units,
+};
+
+#[cfg(test)]
+mod tests;
