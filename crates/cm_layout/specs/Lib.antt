@@ -3,3 +3,4 @@ pub mod Superblock
 pub mod Rows
 pub mod Region
 pub mod State
+pub mod Step

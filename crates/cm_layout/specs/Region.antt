@@ -3,7 +3,7 @@
 -- says where in the roots its record stands.
 use Rattle.std.specs.Prelude.{◌≡◌, ◌≢◌, ℕ, ◌+◌, ◌*◌, ◌^◌, ◌<◌, ◌≤◌, ◌⊎◌, List, [], ◌∷◌, ◌++◌, length, take, drop, map}
 use Rattle.std.specs.List.{flat_map, AllByRecursion}
-use Rattle.cm_record.specs.Packing.{word_bytes}
+use Rattle.cm_record.specs.Packing.{packed_into}
 use Rattle.cm_pool.specs.Geometry.{Sizes}
 use Rattle.cm_layout.specs.declared.heads.HalfHead.{HalfHead}
 use Rattle.cm_layout.specs.declared.entry.DefineEntry.{DefineEntry}
@@ -78,7 +78,7 @@ place_of sizes e = e.chunk.root * root_bytes sizes + 8 * (e.chunk.at + e.offset)
 pub record HoldsRecord (sizes : Sizes) (roots : List ℕ) (e : DefineEntry) (words : List ℕ) : Type 0 where
   pub count : length words ≡ e.words
   pub whole : (e.chunk.root + 1) * root_bytes sizes ≤ length roots
-  pub bytes : take (8 * e.words) (drop (place_of sizes e) roots) ≡ word_bytes words
+  pub held : packed_into e.words (take (8 * e.words) (drop (place_of sizes e) roots)) ≡ words
 
 -- a row with the words of its record; a loader has none
 abbrev pub HoldsRow : Sizes → List ℕ → Entry × List ℕ → Type 0

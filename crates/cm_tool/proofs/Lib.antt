@@ -1,9 +1,8 @@
-pub mod Named
-pub mod Written
-pub mod Narrowed
-pub mod RowLemmas
-pub mod ListedRows
-pub mod Records
-pub mod Opened
-pub mod Formatted
-pub mod Refusals
+pub mod Cuts
+pub mod Commands
+pub mod Reading
+pub mod Writing
+pub mod Running
+pub mod Rows
+pub mod LineLaws
+pub mod AnswerLaws

@@ -1,5 +1,8 @@
-pub mod Listed
 pub mod Escapes
-pub mod Narrow
-pub mod Store
-pub mod Prepare
+pub mod Lines
+pub mod Texts
+pub mod Answers
+pub mod Seen
+pub mod Runs
+pub mod Laws
+pub mod Applied

@@ -1,16 +1,14 @@
-//! The functions of the program `cmcache`.
+//! The functions of the program `cmcache`: scripts, their lines and their replies.
 #![tactic(auto)]
 
-pub mod directory;
+pub mod answer;
+pub mod apply;
 pub mod escape;
-pub mod fault;
-pub mod format;
+pub mod input;
+pub mod laws;
 pub mod line;
-pub mod narrow;
-pub mod prepare;
-pub mod refusal;
+pub mod output;
 pub mod reply;
 pub mod script;
-pub mod store;
 #[cfg(test)]
 mod tests;

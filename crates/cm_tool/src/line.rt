@@ -1,5 +1,11 @@
 //! The lines of a script.
 
+ghost use Rattle.std.specs.Prelude.{◌≡◌, ◌≢◌, [], ◌∷◌, ◌++◌, IfSome, IfNone};
+ghost use Rattle.std.specs.List.{All};
+ghost use Rattle.std.specs.Option.{option_map};
+ghost use Rattle.cm_tool.specs.Lines.{asked, asked_by};
+ghost use Rattle.cm_tool.specs.Seen.{seen};
+
 /// What a line asks for.
 #[derive(Clone, Copy, Debug, PartialEq, Eq)]
 pub enum Line<'a> {
@@ -11,37 +17,50 @@ pub enum Line<'a> {
     Find(&'a [u8], &'a [u8]),
 }
 
-/// A line's first word and what is behind the space.
-fn cut(line: &[u8]) -> Option<(&[u8], &[u8])> {
-    let at = line.iter().position(|byte| *byte == b' ')?;
-    if at < line.len() {
-        let (word, rest) = line.split_at(at);
-        Some((word, &rest[1..]))
+/// What is in front of the first such byte, and what is behind it.
+pub fn cut(text: &[u8], at: u8) -> Option<(&[u8], &[u8])>
+    ensures found { IfSome result (λ parts. text.now ≡ parts.0.now ++ at ∷ parts.1.now) }
+    ensures first { IfSome result (λ parts. All (λ b. b ≢ at) parts.0.now) }
+    ensures none { IfNone result (All (λ b. b ≢ at) text.now) }
+{
+    for (i, byte) in text.iter().enumerate() {
+        if *byte == at {
+            return Some((&text[..i], &text[i + 1..]));
+        }
+    }
+    None
+}
+
+/// What a line asks for, if it has one of the known forms: words with one space between, none empty.
+pub fn parse(line: &[u8]) -> Option<Line<'_>>
+    ensures { option_map seen result ≡ asked line.now }
+{
+    let (verb, rest) = cut(line, b' ')?;
+    match cut(rest, b' ') {
+        None => of_one_name(verb, rest),
+        Some((name, last)) => match cut(last, b' ') {
+            None => of_two_names(verb, name, last),
+            Some(_) => None,
+        },
+    }
+}
+
+fn of_one_name<'a>(verb: &[u8], name: &'a [u8]) -> Option<Line<'a>>
+    ensures { option_map seen result ≡ asked_by (verb.now ∷ name.now ∷ []) }
+{
+    if verb == b"loader".as_slice() && !name.is_empty() {
+        Some(Line::Loader(name))
     } else {
         None
     }
 }
 
-/// A word: not empty, and without a space.
-fn is_word(word: &[u8]) -> bool {
-    !word.is_empty() && !word.contains(&b' ')
-}
-
-/// What a line asks for, if it has one of the known forms: words with one space between, none empty.
-pub fn parse(line: &[u8]) -> Option<Line<'_>> {
-    let (verb, rest) = cut(line)?;
-    if verb == b"loader".as_slice() {
-        return if is_word(rest) {
-            Some(Line::Loader(rest))
-        } else {
-            None
-        };
-    }
-    let (name, last) = cut(rest)?;
-    if name.is_empty() || !is_word(last) {
-        return None;
-    }
-    if verb == b"define".as_slice() {
+fn of_two_names<'a>(verb: &[u8], name: &'a [u8], last: &'a [u8]) -> Option<Line<'a>>
+    ensures { option_map seen result ≡ asked_by (verb.now ∷ name.now ∷ last.now ∷ []) }
+{
+    if name.is_empty() || last.is_empty() {
+        None
+    } else if verb == b"define".as_slice() {
         Some(Line::Define(name, last))
     } else if verb == b"find".as_slice() {
         Some(Line::Find(name, last))

@@ -1,10 +1,17 @@
 //! The lines that answer a script's lines.
 
+ghost use Rattle.std.specs.Prelude.{◌≡◌, ◌<◌, ◌++◌, [], ◌∷◌, length, codes, IfOk, OnOk};
+ghost use Rattle.std.specs.Fmt.{decimal};
+ghost use Rattle.cm_class.specs.declared.class_file.ClassFile.{ClassFile};
+ghost use Rattle.cm_record.specs.Layout.{IsRecord, IsRecordOf};
+ghost use Rattle.cm_tool.specs.Texts.{told_number, told_defined, told_nothing, told_class, told_refused, told_unsure, told_bad_line, told_refusal, told_fault, refusal_text, fault_text, broken_text, spot_text, flags_text, lower_digit};
+ghost use Rattle.cm_tool.specs.Seen.{IsReply};
+
 use crate::escape::escape_into;
-use crate::prepare::PrepareFault;
-use crate::refusal::Refusal;
 use cm_record::Record;
 use cm_rules::{Broken, Spot};
+use cm_store::prepare::PrepareFault;
+use cm_store::refusal::Refusal;
 use std::alloc::{AllocError, Global};
 
 /// What a reply tells of its command.
@@ -23,93 +30,196 @@ pub struct Reply {
     pub line: Vec<u8>,
 }
 
-/// `ok N`, and behind it the name of the class that was defined.
-pub fn done(alloc: Global, number: u64, class: Option<&[u8]>) -> Result<Reply, AllocError> {
-    let mut line = text(alloc, b"ok ")?;
-    push_number(alloc, &mut line, number)?;
-    if let Some(name) = class {
-        line.push(b' ')?;
-        escape_into(&mut line, name)?;
-    }
+/// `ok N`.
+pub fn done(alloc: Global, number: u64) -> Result<Reply, AllocError>
+    ensures { IfOk result (IsReply (told_number number)) }
+{
+    end(Kind::Done, numbered(alloc, b"ok ", number)?)
+}
+
+/// `ok N CLASS`.
+pub fn defined(alloc: Global, number: u64, name: &[u8]) -> Result<Reply, AllocError>
+    ensures { IfOk result (IsReply (told_defined number name.now)) }
+{
+    let mut line = numbered(alloc, b"ok ", number)?;
+    line.extend_from_slice(b" ")?;
+    escape_into(&mut line, name)?;
     end(Kind::Done, line)
 }
 
 /// `class CLASS flags HHHH super S words W`.
-pub fn found(alloc: Global, name: &[u8], record: &Record) -> Result<Reply, AllocError> {
-    let flags = format!(in alloc; " flags {:04x} super ", record.flags())?;
+pub fn found(alloc: Global, name: &[u8], class: &Record) -> Result<Reply, AllocError>
+    ensures told { (c : ClassFile) → IsRecordOf c class.now
+        → IfOk result (IsReply (told_class name.now c (length class.now))) }
+    ensures laid { OnOk result (IsRecord class.now) }
+{
     let mut line = text(alloc, b"class ")?;
     escape_into(&mut line, name)?;
-    line.extend_from_slice(flags.as_bytes())?;
-    match record.super_name(alloc)? {
+    line.extend_from_slice(b" flags ")?;
+    push_flags(&mut line, class.flags())?;
+    line.extend_from_slice(b" super ")?;
+    match class.super_name(alloc)? {
         Some(super_name) => escape_into(&mut line, &super_name)?,
-        None => line.push(b'-')?,
+        None => line.extend_from_slice(b"-")?,
     }
     line.extend_from_slice(b" words ")?;
-    push_number(alloc, &mut line, u64::from(record.words()))?;
+    push_number(alloc, &mut line, u64::from(class.words()))?;
     end(Kind::Done, line)
 }
 
 /// `none`.
-pub fn nothing(alloc: Global) -> Result<Reply, AllocError> {
+pub fn nothing(alloc: Global) -> Result<Reply, AllocError>
+    ensures { IfOk result (IsReply told_nothing) }
+{
     end(Kind::Done, text(alloc, b"none")?)
 }
 
-/// `refused N TEXT`, or `unsure N`.
-pub fn refused(alloc: Global, refusal: Refusal) -> Result<Reply, AllocError> {
-    if let Refusal::Unsure(number) = refusal {
-        let mut line = text(alloc, b"unsure ")?;
-        push_number(alloc, &mut line, number)?;
-        return end(Kind::Unsure, line);
-    }
-    let why = format!(in alloc; "{refusal}")?;
-    refused_as(alloc, refusal.number(), why.as_bytes())
-}
-
-/// `refused N TEXT` for a class that isn't prepared. The text of a broken rule is `V` and its number, and the spot.
-pub fn unprepared(alloc: Global, fault: PrepareFault) -> Result<Reply, AllocError> {
-    let why = match fault {
-        PrepareFault::Truncated => format!(in alloc; "truncated")?,
-        PrepareFault::Trailing(at) => format!(in alloc; "trailing {at}")?,
-        PrepareFault::Malformed(at) => format!(in alloc; "malformed {at}")?,
-        PrepareFault::Rule(broken) => broken_rule(alloc, broken)?,
-        PrepareFault::RecordTooLong => format!(in alloc; "record too long")?,
-        PrepareFault::NoMemory => format!(in alloc; "memory")?,
-    };
-    refused_as(alloc, fault.number(), why.as_bytes())
-}
-
-fn broken_rule(alloc: Global, broken: Broken) -> Result<String, AllocError> {
-    let rule = broken.rule.number();
-    match broken.spot {
-        Spot::Pool(index) => format!(in alloc; "V{rule} pool {index}"),
-        Spot::This => format!(in alloc; "V{rule} this"),
-        Spot::Super => format!(in alloc; "V{rule} super"),
-        Spot::Interface(at) => format!(in alloc; "V{rule} interface {at}"),
-        Spot::Field(at) => format!(in alloc; "V{rule} field {at}"),
-        Spot::Method(at) => format!(in alloc; "V{rule} method {at}"),
-        Spot::Attribute(at) => format!(in alloc; "V{rule} attribute {at}"),
+/// `refused K TEXT`, or `unsure N`.
+pub fn refused(alloc: Global, refusal: Refusal) -> Result<Reply, AllocError>
+    ensures { IfOk result (IsReply (told_refusal refusal)) }
+{
+    match refusal {
+        Refusal::Unsure(number) => unsure(alloc, number),
+        _ => refused_as(alloc, refusal.number(), text_of_refusal(&refusal)),
     }
 }
 
-/// `refused N TEXT` of this number and text.
-pub fn refused_as(alloc: Global, number: u8, why: &[u8]) -> Result<Reply, AllocError> {
-    let mut line = text(alloc, b"refused ")?;
-    push_number(alloc, &mut line, u64::from(number))?;
-    line.push(b' ')?;
+/// `unsure N`.
+fn unsure(alloc: Global, number: u64) -> Result<Reply, AllocError>
+    ensures { IfOk result (IsReply (told_unsure number)) }
+{
+    end(Kind::Unsure, numbered(alloc, b"unsure ", number)?)
+}
+
+/// `refused K TEXT` for a class that isn't prepared. The text of a broken rule is `V` and its number, and the spot.
+pub fn unprepared(alloc: Global, fault: PrepareFault) -> Result<Reply, AllocError>
+    ensures { IfOk result (IsReply (told_fault fault)) }
+{
+    let why = text_of_fault(alloc, fault)?;
+    refused_as(alloc, fault.number(), &why)
+}
+
+/// `refused 15 line`: the line has no known form.
+pub fn bad_line(alloc: Global) -> Result<Reply, AllocError>
+    ensures { IfOk result (IsReply told_bad_line) }
+{
+    refused_as(alloc, 15, b"line")
+}
+
+/// `refused K TEXT` of this number and text.
+fn refused_as(alloc: Global, number: u8, why: &[u8]) -> Result<Reply, AllocError>
+    ensures { IfOk result (IsReply (told_refused number why.now)) }
+{
+    let mut line = numbered(alloc, b"refused ", u64::from(number))?;
+    line.extend_from_slice(b" ")?;
     line.extend_from_slice(why)?;
     end(Kind::Refused, line)
 }
 
-fn text(alloc: Global, bytes: &[u8]) -> Result<Vec<u8>, AllocError> {
+fn text_of_refusal(refusal: &Refusal) -> &'static [u8]
+    ensures { result.now ≡ refusal_text refusal.now }
+{
+    match refusal {
+        Refusal::BadName => b"name",
+        Refusal::LoaderExists => b"loader exists",
+        Refusal::NoLoader => b"no loader",
+        Refusal::ClassExists => b"class exists",
+        Refusal::RecordTooLong => b"record too long",
+        Refusal::RegionFull => b"region full",
+        Refusal::JournalFull => b"journal full",
+        Refusal::NoMemory => b"memory",
+        Refusal::Broken => b"broken",
+        Refusal::NumbersSpent => b"numbers spent",
+        Refusal::Unsure(_) => b"unsure",
+    }
+}
+
+fn text_of_fault(alloc: Global, fault: PrepareFault) -> Result<Vec<u8>, AllocError>
+    ensures { IfOk result (λ why. why.items ≡ fault_text fault) }
+{
+    match fault {
+        PrepareFault::Truncated => text(alloc, b"truncated"),
+        PrepareFault::Trailing(at) => numbered(alloc, b"trailing ", at as u64),
+        PrepareFault::Malformed(at) => numbered(alloc, b"malformed ", at as u64),
+        PrepareFault::Rule(broken) => text_of_rule(alloc, broken),
+        PrepareFault::RecordTooLong => text(alloc, b"record too long"),
+        PrepareFault::NoMemory => text(alloc, b"memory"),
+    }
+}
+
+fn text_of_rule(alloc: Global, broken: Broken) -> Result<Vec<u8>, AllocError>
+    ensures { IfOk result (λ why. why.items ≡ broken_text broken) }
+{
+    let mut why = numbered(alloc, b"V", u64::from(broken.rule.number()))?;
+    let spot = text_of_spot(alloc, broken.spot)?;
+    why.extend_from_slice(&spot)?;
+    Ok(why)
+}
+
+fn text_of_spot(alloc: Global, spot: Spot) -> Result<Vec<u8>, AllocError>
+    ensures { IfOk result (λ at. at.items ≡ spot_text spot) }
+{
+    match spot {
+        Spot::Pool(index) => numbered(alloc, b" pool ", u64::from(index)),
+        Spot::This => text(alloc, b" this"),
+        Spot::Super => text(alloc, b" super"),
+        Spot::Interface(at) => numbered(alloc, b" interface ", u64::from(at)),
+        Spot::Field(at) => numbered(alloc, b" field ", u64::from(at)),
+        Spot::Method(at) => numbered(alloc, b" method ", u64::from(at)),
+        Spot::Attribute(at) => numbered(alloc, b" attribute ", u64::from(at)),
+    }
+}
+
+fn text(alloc: Global, bytes: &[u8]) -> Result<Vec<u8>, AllocError>
+    ensures { IfOk result (λ text. text.items ≡ bytes.now) }
+{
     Vec::from_slice(alloc, bytes)
 }
 
-fn push_number(alloc: Global, line: &mut Vec<u8>, number: u64) -> Result<(), AllocError> {
+/// A word and a number.
+fn numbered(alloc: Global, word: &[u8], number: u64) -> Result<Vec<u8>, AllocError>
+    ensures { IfOk result (λ text. text.items ≡ word.now ++ decimal number) }
+{
+    let mut line = text(alloc, word)?;
+    push_number(alloc, &mut line, number)?;
+    Ok(line)
+}
+
+fn push_number(alloc: Global, line: &mut Vec<u8>, number: u64) -> Result<(), AllocError>
+    ensures { OnOk result (line.new.items ≡ line.old.items ++ decimal number) }
+{
     let digits = number.to_string(alloc)?;
     line.extend_from_slice(digits.as_bytes())
 }
 
-fn end(kind: Kind, mut line: Vec<u8>) -> Result<Reply, AllocError> {
+/// Flags as four hexadecimal digits.
+fn push_flags(line: &mut Vec<u8>, flags: u16) -> Result<(), AllocError>
+    ensures { OnOk result (line.new.items ≡ line.old.items ++ flags_text flags) }
+{
+    line.extend_from_slice(&[
+        digit_of_value(flags / 4096),
+        digit_of_value(flags / 256 % 16),
+        digit_of_value(flags / 16 % 16),
+        digit_of_value(flags % 16),
+    ])
+}
+
+/// The digit of a value below 16, lower case.
+fn digit_of_value(value: u16) -> u8
+    requires { value < 16 }
+    ensures { result ≡ lower_digit value }
+{
+    if value < 10 {
+        b'0' + value as u8
+    } else {
+        b'a' + (value - 10) as u8
+    }
+}
+
+/// The reply of a line without its newline.
+fn end(kind: Kind, mut line: Vec<u8>) -> Result<Reply, AllocError>
+    ensures { IfOk result (IsReply (record { kind = kind; text = line.items })) }
+{
     line.push(b'\n')?;
     Ok(Reply { kind, line })
 }

@@ -1,23 +1,20 @@
 //! Scripts: lines that are read, run and answered one after another.
 
-ghost use Rattle.std.specs.Prelude.{◌≡◌, ◌<◌, true, length};
+ghost use Rattle.std.specs.Prelude.{◌≡◌, ◌||◌, ℕ, List, IfOk, IfErr};
+ghost use Rattle.cm_store.specs.Store.{StoreValue};
+ghost use Rattle.cm_tool.specs.Answers.{is_refused, is_unsure};
+ghost use Rattle.cm_tool.specs.Runs.{Holds, Turns, IsAnswered, EndsEarly, IsRun, LeavesDisk};
+ghost use Rattle.cm_tool.specs.Seen.{RepliesTo};
 
-use crate::escape::{NameFault, unescape};
-use crate::line::{Line, parse};
-use crate::prepare::prepare;
-use crate::reply::{Kind, Reply, done, found, nothing, refused, refused_as, unprepared};
-use crate::store::Store;
+use crate::answer::answer;
+use crate::input::{LineBuffer, read_line};
+use crate::output::write_reply;
+use crate::reply::{Kind, Reply, bad_line};
 use cm_disk::Disk;
-use hex::FromHexError;
+use cm_store::store::Store;
 use std::alloc::{AllocError, Global};
-use std::io::{BufRead, ErrorKind, Write};
+use std::io::{BufRead, Write};
 use thiserror::Error;
-
-/// How many bytes a line may have, without its newline.
-const LINE_LIMIT: usize = 16_777_216;
-
-/// The refusal of a line of no known form.
-const BAD_LINE: u8 = 15;
 
 /// What a script came to.
 #[derive(Clone, Copy, Debug, PartialEq, Eq)]
@@ -39,168 +36,105 @@ pub enum ToolFault {
     Memory,
 }
 
-/// What was read of a line.
-enum LineRead {
-    /// There are no more lines.
-    End,
-    Line,
-    /// It has more bytes than a line may have; they were passed over.
-    TooLong,
+impl Outcome {
+    /// The same with one more reply.
+    fn after(self, kind: Kind) -> Outcome
+        ensures refused { result.refused ≡ (self.refused || is_refused kind) }
+        ensures unsure { result.unsure ≡ (self.unsure || is_unsure kind) }
+    {
+        Outcome {
+            refused: self.refused || matches!(kind, Kind::Refused),
+            unsure: self.unsure || matches!(kind, Kind::Unsure),
+        }
+    }
 }
 
 /// Runs a script on a store: reads its lines, and writes the reply to each as soon as it is there.
 ///
-/// A line ends at a newline; a rest that isn't empty is a line too. After a fault what was acknowledged stays.
+/// A line ends at a newline; a rest that isn't empty is a line too. After an `Err` what was acknowledged stays: `Input`
+/// where the reader fails, `Output` where the writer does, `Memory` where a growth is refused for a line or a reply.
 pub fn run_script<R: BufRead, W: Write, D: Disk + Drop>(
     alloc: Global,
     reader: &mut R,
     writer: &mut W,
     store: &mut Store<D>,
-) -> Result<Outcome, ToolFault> {
+) -> Result<Outcome, ToolFault>
+    ensures ok { IfOk result (IsAnswered (R.remaining reader.old) (W.contents writer.old) (W.contents writer.new) store.old store.new) }
+    ensures err { IfErr result (EndsEarly (R.remaining reader.old) (W.contents writer.old) (W.contents writer.new) store.old store.new) }
+{
+    let mut line = LineBuffer::new(alloc);
     let mut outcome = Outcome {
         refused: false,
         unsure: false,
     };
-    let mut line = Vec::new(alloc);
-    for _ in 0..u64::MAX {
-        line.clear();
-        let reply = match read_line(reader, &mut line)? {
-            LineRead::End => return Ok(outcome),
-            LineRead::Line => answer(alloc, store, &line),
-            LineRead::TooLong => bad_line(alloc),
-        };
-        let Ok(reply) = reply else {
-            return Err(ToolFault::Memory);
-        };
-        write_reply(writer, &reply)?;
-        match reply.kind {
-            Kind::Done => {}
-            Kind::Refused => outcome.refused = true,
-            Kind::Unsure => {
-                outcome.unsure = true;
-                return Ok(outcome);
+    'lines: for _ in 0..u64::MAX {
+        match run_line(alloc, reader, writer, store, &mut line) {
+            Ok(Some(kind)) => {
+                outcome = outcome.after(kind);
+                if outcome.unsure {
+                    return Ok(outcome);
+                }
             }
+            Ok(None) => return Ok(outcome),
+            Err(fault) => return Err(fault),
         }
     }
-    Ok(outcome)
+    Err(ToolFault::Input)
 }
 
-fn write_reply<W: Write>(writer: &mut W, reply: &Reply) -> Result<(), ToolFault> {
-    if writer.write_all(&reply.line).is_err() || writer.flush().is_err() {
-        return Err(ToolFault::Output);
-    }
-    Ok(())
-}
-
-/// Reads up to the next newline, and takes it.
-fn read_line<R: BufRead>(reader: &mut R, line: &mut Vec<u8>) -> Result<LineRead, ToolFault> {
-    let mut is_empty = true;
-    let mut is_long = false;
-    for _ in 0..u64::MAX {
-        let (taken, is_end) = match reader.fill_buf() {
-            Ok(bytes) => {
-                if bytes.is_empty() {
-                    break;
-                }
-                let (piece, is_end) = up_to_newline(bytes);
-                is_long = is_long
-                    || piece.len() > LINE_LIMIT
-                    || line.len() > LINE_LIMIT - piece.len();
-                if !is_long && line.extend_from_slice(piece).is_err() {
-                    return Err(ToolFault::Memory);
-                }
-                (if is_end { piece.len() + 1 } else { piece.len() }, is_end)
-            }
-            Err(error) if error.kind() == ErrorKind::Interrupted => (0, false),
-            Err(_) => return Err(ToolFault::Input),
-        };
-        reader.consume(taken);
-        is_empty = is_empty && taken == 0;
-        if is_end {
-            return Ok(if is_long {
-                LineRead::TooLong
-            } else {
-                LineRead::Line
-            });
-        }
-    }
-    if is_empty {
-        Ok(LineRead::End)
-    } else if is_long {
-        Ok(LineRead::TooLong)
-    } else {
-        Ok(LineRead::Line)
-    }
-}
-
-/// The bytes in front of the first newline, and whether there is one.
-fn up_to_newline(bytes: &[u8]) -> (&[u8], bool)
-    ensures fits { result.1 ≡ true → length result.0.now < length bytes.now }
+/// Runs a script on an open store, and hands back its disk, whatever came of the script.
+pub fn run_to_end<R: BufRead, W: Write, D: Disk + Drop>(
+    alloc: Global,
+    reader: &mut R,
+    writer: &mut W,
+    store: Store<D>,
+) -> (Result<Outcome, ToolFault>, D)
+    ensures { (new : StoreValue)
+        × IsRun (R.remaining reader.old) (W.contents writer.old) (W.contents writer.new) store new result.0
+        × LeavesDisk (D.contents result.1) (D.failures result.1) new }
 {
-    for (i, byte) in bytes.iter().enumerate() {
-        if *byte == b'\n' {
-            return (&bytes[..i], true);
-        }
+    let mut store = store;
+    let result = run_script(alloc, reader, writer, &mut store);
+    let _is_broken = store.is_broken();
+    (result, store.into_disk())
+}
+
+/// Reads a line, runs it and writes its reply. `None` says that there was no line.
+fn run_line<R: BufRead, W: Write, D: Disk + Drop>(
+    alloc: Global,
+    reader: &mut R,
+    writer: &mut W,
+    store: &mut Store<D>,
+    line: &mut LineBuffer,
+) -> Result<Option<Kind>, ToolFault>
+    ensures { Turns (R.remaining reader.old) (R.remaining reader.new) (W.contents writer.old) (W.contents writer.new) store.old store.new result }
+{
+    match read_line(reader, line) {
+        Ok(true) => {}
+        Ok(false) => return Ok(None),
+        Err(fault) => return Err(fault),
     }
-    (bytes, false)
+    let reply = match answer_line(alloc, store, line) {
+        Ok(reply) => reply,
+        Err(_) => return Err(ToolFault::Memory),
+    };
+    match write_reply(writer, &reply) {
+        Ok(()) => Ok(Some(reply.kind)),
+        Err(fault) => Err(fault),
+    }
 }
 
-fn bad_line(alloc: Global) -> Result<Reply, AllocError> {
-    refused_as(alloc, BAD_LINE, b"line")
-}
-
-/// Runs one line, and makes its reply.
-fn answer<D: Disk + Drop>(
+/// Runs a line that was read, and makes its reply.
+fn answer_line<D: Disk + Drop>(
     alloc: Global,
     store: &mut Store<D>,
-    line: &[u8],
-) -> Result<Reply, AllocError> {
-    match parse(line) {
-        Some(Line::Loader(name)) => match store.add_loader(name) {
-            Ok(number) => done(alloc, number, None),
-            Err(refusal) => refused(alloc, refusal),
-        },
-        Some(Line::Define(loader, digits)) => define(alloc, store, loader, digits),
-        Some(Line::Find(loader, class)) => find(alloc, store, loader, class),
-        None => bad_line(alloc),
-    }
-}
-
-fn define<D: Disk + Drop>(
-    alloc: Global,
-    store: &mut Store<D>,
-    loader: &[u8],
-    digits: &[u8],
-) -> Result<Reply, AllocError> {
-    let bytes = match hex::decode(alloc, digits) {
-        Ok(bytes) => bytes,
-        Err(FromHexError::OutOfMemory) => return Err(AllocError),
-        Err(_) => return bad_line(alloc),
-    };
-    let class = match prepare(alloc, &bytes) {
-        Ok(class) => class,
-        Err(fault) => return unprepared(alloc, fault),
-    };
-    let name = Vec::from_slice(alloc, class.name())?;
-    match store.define(loader, class) {
-        Ok(number) => done(alloc, number, Some(&name)),
-        Err(refusal) => refused(alloc, refusal),
-    }
-}
-
-fn find<D: Disk + Drop>(
-    alloc: Global,
-    store: &Store<D>,
-    loader: &[u8],
-    class: &[u8],
-) -> Result<Reply, AllocError> {
-    let name = match unescape(alloc, class) {
-        Ok(name) => name,
-        Err(NameFault::BadEscape) => return bad_line(alloc),
-        Err(NameFault::NoMemory) => return Err(AllocError),
-    };
-    match store.find(loader, &name) {
-        Some(record) => found(alloc, &name, record),
-        None => nothing(alloc),
+    line: &LineBuffer,
+) -> Result<Reply, AllocError>
+    ensures { (text : List ℕ) → Holds text line.now → RepliesTo text store.old store.new result }
+{
+    if line.is_long {
+        bad_line(alloc)
+    } else {
+        answer(alloc, store, &line.bytes)
     }
 }

@@ -1,12 +1,9 @@
-use crate::directory::Directory;
 use crate::escape::{escape_into, unescape};
-use crate::prepare::{PrepareFault, prepare};
-use crate::refusal::Refusal;
-use crate::script::{Outcome, ToolFault, run_script};
-use crate::store::Store;
-use cm_disk::SimDisk;
+use crate::script::{Outcome, ToolFault, run_script, run_to_end};
+use cm_disk::{Disk, SimDisk};
+use cm_store::store::Store;
 use std::alloc::Global;
-use std::io::{self, BufRead, Read, Write};
+use std::io::{self, BufRead, BufReader, Read, Write};
 use std::test::*;
 
 /// Class A: 53 bytes, named `A`, of `java/lang/Object`.
@@ -87,6 +84,31 @@ fn a_refused_line_is_told(rt: HostRuntime) -> Result<(), Fail> {
             unsure: false
         }
     );
+    Ok(())
+}
+
+#[test]
+fn a_script_is_read_in_pieces(rt: HostRuntime) -> Result<(), Fail> {
+    let alloc = rt.alloc();
+    let script = expanded(alloc, b"loader app\n\ndefine app @\nfind app A")?;
+    let store = Store::create(alloc, SimDisk::new(alloc))
+        .ok()
+        .ok_or("no store")?;
+    let mut reader = BufReader::with_capacity(alloc, 3, script.as_slice())?;
+    let mut written = Vec::new(alloc);
+    let (outcome, mut disk) = run_to_end(alloc, &mut reader, &mut written, store);
+    assert_eq!(rt;
+        outcome,
+        Ok(Outcome {
+            refused: true,
+            unsure: false
+        })
+    );
+    assert_eq!(rt;
+        written.as_slice(),
+        b"ok 1\nrefused 15 line\nok 2 A\nclass A flags 0021 super java/lang/Object words 16\n".as_slice()
+    );
+    assert_eq!(rt; disk.len(), Ok(790_528));
     Ok(())
 }
 
@@ -185,55 +207,5 @@ fn names_are_escaped_and_read_again(rt: HostRuntime) -> Result<(), Fail> {
     ] {
         assert!(rt; unescape(alloc, bad).is_err());
     }
-    Ok(())
-}
-
-#[test]
-fn classes_are_prepared(rt: HostRuntime) -> Result<(), Fail> {
-    let alloc = rt.alloc();
-    let bytes = hex::decode(alloc, CLASS_A)?;
-    let class = prepare(alloc, &bytes).ok().ok_or("class A")?;
-    assert_eq!(rt; class.name(), b"A".as_slice());
-    assert_eq!(rt; class.words(), 16);
-    let short = bytes.len() - 1;
-    if short <= bytes.len() {
-        assert!(rt;
-            matches!(
-                prepare(alloc, &bytes[..short]),
-                Err(PrepareFault::Truncated)
-            )
-        );
-    }
-    Ok(())
-}
-
-#[test]
-fn the_journal_fills(rt: HostRuntime) -> Result<(), Fail> {
-    let alloc = rt.alloc();
-    let mut store = Store::create(alloc, SimDisk::new(alloc))
-        .ok()
-        .ok_or("no store")?;
-    for i in 0..2047u32 {
-        let name = format!(in alloc; "l{i}")?;
-        assert_eq!(rt; store.add_loader(name.as_bytes()), Ok(u64::from(i) + 1));
-    }
-    assert_eq!(rt; store.add_loader(b"last"), Err(Refusal::JournalFull));
-    assert_eq!(rt; store.number(), 2047);
-    assert!(rt; !store.is_broken());
-    Ok(())
-}
-
-#[test]
-fn a_directory_finds_what_it_was_given(rt: HostRuntime) -> Result<(), Fail> {
-    let alloc = rt.alloc();
-    let mut directory = Directory::new(alloc);
-    directory.add_loader(Vec::from_slice(alloc, b"app")?, 7)?;
-    assert_eq!(rt; directory.number(b"app".as_slice()), Some(7));
-    assert_eq!(rt; directory.number(b"other".as_slice()), None);
-    assert!(rt;
-        directory
-            .class(b"app".as_slice(), b"A".as_slice())
-            .is_none()
-    );
     Ok(())
 }

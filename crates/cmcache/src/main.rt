@@ -5,8 +5,9 @@ mod command;
 
 use crate::command::{Request, read_words};
 use cm_disk::SimDisk;
-use cm_tool::script::{Outcome, run_script};
-use cm_tool::store::Store;
+use cm_store::format::format;
+use cm_tool::apply::{ApplyFault, apply_script};
+use cm_tool::script::Outcome;
 use std::alloc::Global;
 use std::io::{self, BufReader, BufWriter};
 use std::process::ExitCode;
@@ -34,22 +35,24 @@ fn run(rt: &(impl Env + Input + Print + Eprint + AllocGlobal)) -> u8 {
 /// Runs the script on standard input on a fresh cache in memory.
 fn apply_in_memory(rt: &(impl Input + Print + Eprint + AllocGlobal)) -> u8 {
     let alloc = rt.alloc();
-    let mut store = match Store::create(alloc, SimDisk::new(alloc)) {
-        Ok(store) => store,
-        Err((fault, _)) => {
-            let _ = println!(rt; "{fault}");
-            return FAILED;
-        }
-    };
+    let mut disk = SimDisk::new(alloc);
+    if let Err(fault) = format(alloc, &mut disk) {
+        let _ = println!(rt; "{fault}");
+        return FAILED;
+    }
     let Ok(mut reader) = BufReader::new(alloc, rt.reader()) else {
         return failed(rt, "out of memory");
     };
     let Ok(mut writer) = BufWriter::new(alloc, io::writer(rt)) else {
         return failed(rt, "out of memory");
     };
-    match run_script(alloc, &mut reader, &mut writer, &mut store) {
+    match apply_script(alloc, &mut reader, &mut writer, disk).0 {
         Ok(outcome) => status_of(outcome),
-        Err(fault) => {
+        Err(ApplyFault::Open(fault)) => {
+            let _ = println!(rt; "{fault}");
+            FAILED
+        }
+        Err(ApplyFault::Script(fault)) => {
             let _ = eprintln!(rt; "cmcache: {fault}");
             FAILED
         }

@@ -1,0 +1,16 @@
+pub mod Named
+pub mod Written
+pub mod Narrowed
+pub mod RowLemmas
+pub mod ListedRows
+pub mod Held
+pub mod Opened
+pub mod Replayed
+pub mod Groups
+pub mod Journals
+pub mod Cut
+pub mod Formatted
+pub mod Refusals
+pub mod OneCache
+pub mod Framed
+pub mod Steps

@@ -1,0 +1,86 @@
+-- What unsure and refused replies say of the cache.
+use Rattle.std.proofs.Common.{◌≡◌, ◌<◌, ℕ, true, false, ltb, List, length, cond, Option, Some, None, Result, Ok, Err, inl, inr, refl, ap, ◌∙◌}
+use Rattle.hex.specs.Hex.{decode_of}
+use Rattle.hex.specs.declared.error.FromHexError.{FromHexError}
+use Rattle.cm_record.specs.Layout.{lay}
+use Rattle.cm_record.specs.Names.{class_name_of}
+use Rattle.cm_layout.specs.State.{class_in}
+use Rattle.cm_store.specs.declared.refusal.Refusal.{Refusal}
+use Rattle.cm_store.specs.declared.refusal.Refusal.TheVariants.{BadName, LoaderExists, NoLoader, ClassExists, RecordTooLong, RegionFull, JournalFull, NoMemory, Broken, NumbersSpent, Unsure}
+use Rattle.cm_store.specs.Store.{StoreValue, loader_refusal, define_refusal}
+use Rattle.cm_tool.specs.declared.reply.Kind.TheVariants as kind
+use Rattle.cm_tool.specs.Escapes.{unescaped}
+use Rattle.cm_tool.specs.Lines.{Asked, AsksLoader, AsksDefine, AsksFind, asked, line_limit}
+use Rattle.cm_tool.specs.Texts.{Told, told_refusal}
+use Rattle.cm_tool.specs.Answers.{AnswersCommand, AnswersDefine, AnswersFind, AnswersAsked, IsBadLine, TellsClass, is_refused, is_unsure}
+use Rattle.cm_tool.specs.Laws.{UnsureIsLost, RefusedIsSame}
+use Rattle.cm_tool.proofs.Commands.{loader_refusal_is_sure, define_refusal_is_sure}
+
+-- what the kind of a reply says
+pub record IsHonest (old : StoreValue) (told : Told) (new : StoreValue) : Type 0 where
+  pub lost : is_unsure told.kind ≡ true → (old.failures < new.failures) × (new.broken ≡ true)
+  pub same : is_refused told.kind ≡ true → new ≡ old
+
+done : (old new : StoreValue) (told : Told) → told.kind ≡ kind.Done → IsHonest old told new
+done old new told k =
+    record {
+      lost = λ e. let f : is_unsure told.kind ≡ false = ap is_unsure k in absurd (cc);
+      same = λ e. let f : is_refused told.kind ≡ false = ap is_refused k in absurd (cc);
+    }
+
+refused : (old new : StoreValue) (told : Told) → told.kind ≡ kind.Refused → new ≡ old → IsHonest old told new
+refused old new told k same =
+    record { lost = λ e. let f : is_unsure told.kind ≡ false = ap is_unsure k in absurd (cc); same = λ e. same }
+
+unsure : (old new : StoreValue) (told : Told) → told.kind ≡ kind.Unsure → old.failures < new.failures → new.broken ≡ true → IsHonest old told new
+unsure old new told k failed broken =
+    record { lost = λ e. (failed, broken); same = λ e. let f : is_refused told.kind ≡ false = ap is_refused k in absurd (cc) }
+
+refusal_kind : (r : Refusal) → ((n : ℕ) → r ≡ Unsure n → ⊥) → (told_refusal r).kind ≡ kind.Refused
+refusal_kind BadName sure = refl
+refusal_kind LoaderExists sure = refl
+refusal_kind NoLoader sure = refl
+refusal_kind ClassExists sure = refl
+refusal_kind RecordTooLong sure = refl
+refusal_kind RegionFull sure = refl
+refusal_kind JournalFull sure = refl
+refusal_kind NoMemory sure = refl
+refusal_kind Broken sure = refl
+refusal_kind NumbersSpent sure = refl
+refusal_kind (Unsure n) sure = absurd (sure n refl)
+
+command : (o : Option Refusal) (reply : Told) (Leaves : StoreValue → StoreValue → Type 0) (old new : StoreValue) (told : Told) → ((n : ℕ) → o ≡ Some (Unsure n) → ⊥) → reply.kind ≡ kind.Done
+    → AnswersCommand o reply Leaves old told new → IsHonest old told new
+command (Some r) reply Leaves old new told sure k h = refused old new told (ap (λ (t : Told). t.kind) h.reply ∙ refusal_kind r (λ n e. sure n (ap Some e))) h.same
+command None reply Leaves old new told sure k (inl h) = done old new told (ap (λ (t : Told). t.kind) h.0 ∙ k)
+command None reply Leaves old new told sure k (inr (inl h)) = refused old new told (ap (λ (t : Told). t.kind) h.reply) h.same
+command None reply Leaves old new told sure k (inr (inr h)) = unsure old new told (ap (λ (t : Told). t.kind) h.reply) h.failed h.broken
+
+bad_line : (old new : StoreValue) (told : Told) → IsBadLine old told new → IsHonest old told new
+bad_line old new told h = refused old new told (ap (λ (t : Told). t.kind) h.0) h.1
+
+define : (loader : List ℕ) (bytes : Result (List ℕ) FromHexError) (old new : StoreValue) (told : Told) → AnswersDefine loader bytes old told new → IsHonest old told new
+define loader (Err e) old new told h = bad_line old new told h
+define loader (Ok bytes) old new told (inl h) = refused old new told (ap (λ (t : Told). t.kind) h.reply) h.same
+define loader (Ok bytes) old new told (inr h) =
+    command (define_refusal old loader (class_name_of h.c) (length (lay h.c))) _ _ old new told (define_refusal_is_sure old loader (class_name_of h.c) (length (lay h.c))) refl h.answer
+
+class_kind : (name : List ℕ) (words : Option (List ℕ)) (told : Told) → TellsClass name words told → told.kind ≡ kind.Done
+class_kind name None told h = ap (λ (t : Told). t.kind) h
+class_kind name (Some words) told h = ap (λ (t : Told). t.kind) h.2
+
+find : (loader : List ℕ) (name : Option (List ℕ)) (old new : StoreValue) (told : Told) → AnswersFind loader name old told new → IsHonest old told new
+find loader None old new told h = bad_line old new told h
+find loader (Some name) old new told h = done old new told (class_kind name (class_in old.listed.classes loader name) told h.0)
+
+question : (a : Option Asked) (old new : StoreValue) (told : Told) → AnswersAsked a old told new → IsHonest old told new
+question None old new told h = bad_line old new told h
+question (Some (AsksLoader name)) old new told h = command (loader_refusal old name) _ _ old new told (loader_refusal_is_sure old name) refl h
+question (Some (AsksDefine loader digits)) old new told h = define loader (decode_of digits) old new told h
+question (Some (AsksFind loader name)) old new told h = find loader (unescaped name) old new told h
+
+pub unsure_is_lost : UnsureIsLost
+unsure_is_lost line old new told h = (question (cond (ltb line_limit (length line)) None (asked line)) old new told h).lost
+
+pub refused_is_same : RefusedIsSame
+refused_is_same line old new told h = (question (cond (ltb line_limit (length line)) None (asked line)) old new told h).same

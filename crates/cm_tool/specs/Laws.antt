@@ -1,0 +1,44 @@
+-- What holds of the definitions themselves.
+use Rattle.std.specs.Prelude.{◌≡◌, ◌≢◌, ◌<◌, ◌⊎◌, ◌↔◌, ℕ, true, ◌++◌, List, [], ◌∷◌, length, codes, Some}
+use Rattle.std.specs.List.{All, flat_map}
+use Rattle.cm_store.specs.Store.{StoreValue}
+use Rattle.cm_tool.specs.Lines.{Asked, AsksLoader, AsksDefine, AsksFind, asked, lines_of}
+use Rattle.cm_tool.specs.Texts.{Told}
+use Rattle.cm_tool.specs.Answers.{AnswersLine, is_refused, is_unsure}
+
+-- ---- lines
+
+-- each line with a newline behind it
+abbrev pub put_together : List (List ℕ) → List ℕ
+put_together lines = flat_map (λ line. line ++ 10 ∷ []) lines
+
+-- No line has a newline, and put together they are the script, or the script with a newline behind it.
+abbrev pub LinesMakeScript : Type 0
+LinesMakeScript = (script : List ℕ) → All (λ line. All (λ b. b ≢ 10) line) (lines_of script) × ((put_together (lines_of script) ≡ script) ⊎ (put_together (lines_of script) ≡ script ++ 10 ∷ []))
+
+abbrev pub IsWord : List ℕ → Type 0
+IsWord text = (0 < length text) × All (λ b. b ≢ 32) text
+
+abbrev pub AreWords : Asked → Type 0
+AreWords (AsksLoader name) = IsWord name
+AreWords (AsksDefine loader digits) = IsWord loader × IsWord digits
+AreWords (AsksFind loader name) = IsWord loader × IsWord name
+
+abbrev pub spelled : Asked → List ℕ
+spelled (AsksLoader name) = codes "loader " ++ name
+spelled (AsksDefine loader digits) = codes "define " ++ (loader ++ 32 ∷ digits)
+spelled (AsksFind loader name) = codes "find " ++ (loader ++ 32 ∷ name)
+
+-- A line asks for something exactly where it is spelled so, in words.
+abbrev pub OneSpelling : Type 0
+OneSpelling = (line : List ℕ) (question : Asked) → (asked line ≡ Some question) ↔ ((line ≡ spelled question) × AreWords question)
+
+-- ---- answers
+
+-- An unsure reply comes only where the device failed in this line, and then the cache is broken.
+abbrev pub UnsureIsLost : Type 0
+UnsureIsLost = (line : List ℕ) (old new : StoreValue) (told : Told) → AnswersLine line old told new → is_unsure told.kind ≡ true → (old.failures < new.failures) × (new.broken ≡ true)
+
+-- A refused line changes nothing.
+abbrev pub RefusedIsSame : Type 0
+RefusedIsSame = (line : List ℕ) (old new : StoreValue) (told : Told) → AnswersLine line old told new → is_refused told.kind ≡ true → new ≡ old

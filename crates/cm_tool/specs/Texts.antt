@@ -1,0 +1,103 @@
+-- The texts of replies, without their newlines, and what each tells of its command.
+use Rattle.std.specs.Prelude.{ℕ, ◌+◌, ◌-◌, ◌/◌, ◌%◌, nat_lt, if◌then◌else◌, List, [], ◌∷◌, ◌++◌, codes, Option, Some, None}
+use Rattle.std.specs.Fmt.{decimal}
+use Rattle.cm_class.specs.declared.class_file.ClassFile.{ClassFile}
+use Rattle.cm_record.specs.Names.{super_name_of}
+use Rattle.cm_rules.specs.declared.rule.Spot.{Spot}
+use Rattle.cm_rules.specs.declared.rule.Spot.TheVariants as spot
+use Rattle.cm_rules.specs.declared.rule.Broken.{Broken}
+use Rattle.cm_rules.specs.Fault.{number}
+use Rattle.cm_store.specs.declared.refusal.Refusal.{Refusal}
+use Rattle.cm_store.specs.declared.refusal.Refusal.TheVariants as refusal
+use Rattle.cm_store.specs.declared.prepare.PrepareFault.{PrepareFault}
+use Rattle.cm_store.specs.declared.prepare.PrepareFault.TheVariants as fault
+use Rattle.cm_store.specs.Numbers.{refusal_number, fault_number}
+use Rattle.cm_tool.specs.declared.reply.Kind.{Kind}
+use Rattle.cm_tool.specs.declared.reply.Kind.TheVariants as kind
+use Rattle.cm_tool.specs.Escapes.{escaped}
+
+-- what a reply tells of its command, and its text
+pub record Told : Type 0 where
+  pub kind : Kind
+  pub text : List ℕ
+
+-- ---- of commands that are done
+
+abbrev pub told_number : ℕ → Told
+told_number n = record { kind = kind.Done; text = codes "ok " ++ decimal n }
+
+abbrev pub told_defined : ℕ → List ℕ → Told
+told_defined n name = record { kind = kind.Done; text = codes "ok " ++ decimal n ++ codes " " ++ escaped name }
+
+abbrev pub told_nothing : Told
+told_nothing = record { kind = kind.Done; text = codes "none" }
+
+abbrev pub lower_digit : ℕ → ℕ
+lower_digit v = if nat_lt v 10 then 48 + v else 97 + (v - 10)
+
+-- flags, in four hexadecimal digits
+abbrev pub flags_text : ℕ → List ℕ
+flags_text flags = lower_digit (flags / 4096) ∷ lower_digit (flags / 256 % 16) ∷ lower_digit (flags / 16 % 16) ∷ lower_digit (flags % 16) ∷ []
+
+abbrev pub super_text : Option (List ℕ) → List ℕ
+super_text None = codes "-"
+super_text (Some name) = escaped name
+
+-- a class that is found under a name, with a record of so many words
+abbrev pub told_class : List ℕ → ClassFile → ℕ → Told
+told_class name c words =
+    record { kind = kind.Done; text = codes "class " ++ escaped name ++ codes " flags " ++ flags_text c.flags ++ codes " super " ++ super_text (super_name_of c) ++ codes " words " ++ decimal words }
+
+-- ---- of commands that aren't done
+
+abbrev pub told_refused : ℕ → List ℕ → Told
+told_refused k why = record { kind = kind.Refused; text = codes "refused " ++ decimal k ++ codes " " ++ why }
+
+abbrev pub told_unsure : ℕ → Told
+told_unsure n = record { kind = kind.Unsure; text = codes "unsure " ++ decimal n }
+
+abbrev pub told_bad_line : Told
+told_bad_line = told_refused 15 (codes "line")
+
+abbrev pub refusal_text : Refusal → List ℕ
+refusal_text refusal.BadName = codes "name"
+refusal_text refusal.LoaderExists = codes "loader exists"
+refusal_text refusal.NoLoader = codes "no loader"
+refusal_text refusal.ClassExists = codes "class exists"
+refusal_text refusal.RecordTooLong = codes "record too long"
+refusal_text refusal.RegionFull = codes "region full"
+refusal_text refusal.JournalFull = codes "journal full"
+refusal_text refusal.NoMemory = codes "memory"
+refusal_text refusal.Broken = codes "broken"
+refusal_text refusal.NumbersSpent = codes "numbers spent"
+refusal_text (refusal.Unsure n) = codes "unsure"
+
+-- a command that the device didn't take is unsure, and not refused
+abbrev pub told_refusal : Refusal → Told
+told_refusal (refusal.Unsure n) = told_unsure n
+told_refusal r = told_refused (refusal_number r) (refusal_text r)
+
+-- where in a class a rule is broken
+abbrev pub spot_text : Spot → List ℕ
+spot_text (spot.Pool index) = codes " pool " ++ decimal index
+spot_text spot.This = codes " this"
+spot_text spot.Super = codes " super"
+spot_text (spot.Interface at) = codes " interface " ++ decimal at
+spot_text (spot.Field at) = codes " field " ++ decimal at
+spot_text (spot.Method at) = codes " method " ++ decimal at
+spot_text (spot.Attribute at) = codes " attribute " ++ decimal at
+
+abbrev pub broken_text : Broken → List ℕ
+broken_text b = codes "V" ++ decimal (number b.rule) ++ spot_text b.spot
+
+abbrev pub fault_text : PrepareFault → List ℕ
+fault_text fault.Truncated = codes "truncated"
+fault_text (fault.Trailing at) = codes "trailing " ++ decimal at
+fault_text (fault.Malformed at) = codes "malformed " ++ decimal at
+fault_text (fault.Rule broken) = broken_text broken
+fault_text fault.RecordTooLong = codes "record too long"
+fault_text fault.NoMemory = codes "memory"
+
+-- a class that isn't prepared
+abbrev pub told_fault : PrepareFault → Told
+told_fault f = told_refused (fault_number f) (fault_text f)
