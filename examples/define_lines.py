@@ -42,4 +42,5 @@ def main(words):
             print("define", loader, data.hex())
 
 
-main(sys.argv[1:])
+if __name__ == "__main__":
+    main(sys.argv[1:])

@@ -1,0 +1,68 @@
+#!/usr/bin/env bash
+# Measures what reading, judging and recording class files costs, and prints one table. It isn't part of the gate.
+#
+#     bench/run.sh [PASSES]
+#
+# It builds cm_bench, runs it over ordinary class files (version 52.0, from jars of Debian packages) and over hostile
+# ones (examples/bench_classes.py says what they are), and lets ASM, a mature library, read the same ordinary files
+# whole. Each row has the best of PASSES passes (20; of hostile files 3). "ratio" is the time for each byte of class file,
+# compared with the same step on ordinary files.
+set -eu
+top=$(cd "$(dirname "${BASH_SOURCE[0]}")/.." && pwd)
+passes=${1:-20}
+work=$(mktemp -d)
+trap 'rm -rf "$work"' EXIT
+
+packages=(libasm-java libcommons-io-java libcommons-lang3-java libguava-java)
+jars=(/usr/share/java/{asm,asm-analysis,asm-commons,asm-tree,asm-util,commons-io,commons-lang3,guava}.jar)
+hostile=(fields fields-equal methods methods-equal references dimensions dynamic length)
+
+fetch() {
+    dpkg -s "${packages[@]}" >/dev/null 2>&1 && return
+    apt-get update -qq >&2
+    apt-get install -y -qq "${packages[@]}" >&2
+}
+
+build() {
+    (cd "$top/crates/cm_bench" && rt run </dev/null) >"$work/log" 2>&1 || { cat "$work/log" >&2; exit 1; }
+}
+
+# Rows of cm_bench, with the stream's name in front.
+measure() {
+    timeout 600 "$top/crates/cm_bench/out/cm_bench" --passes "$2" <"$work/$1.bin" | sed "s/^/$1 /"
+}
+
+read_by_asm() {
+    local path=/usr/share/java/asm.jar:/usr/share/java/asm-tree.jar
+    javac -cp "$path" -d "$work" "$top/bench/ReadAll.java"
+    java -cp "$path:$work" ReadAll 30 "$passes" <"$work/ordinary.bin" | sed 's/^/ordinary /'
+}
+
+fetch
+build
+"$top/examples/bench_classes.py" --only-52 "${jars[@]}" >"$work/ordinary.bin"
+for kind in "${hostile[@]}"; do
+    "$top/examples/bench_classes.py" --hostile "$kind" >"$work/$kind.bin"
+done
+
+{
+    read_by_asm
+    measure ordinary "$passes"
+    for kind in "${hostile[@]}"; do
+        measure "$kind" 3 || echo "$kind (not ended in 10 minutes)"
+    done
+} | awk '
+    # STREAM STEP classes C bytes B faults F best NS ns RATE MB/s
+    $3 != "classes" { print; next }
+    {
+        each = $6 ? $10 / $6 : 0
+        if ($1 == "ordinary") base[$2] = each
+        step = $2 == "ASM" ? "" : $2
+        ratio = "-"
+        if (step && $6) ratio = sprintf("%.2f", each / base[step])
+        printf "%-14s %-17s %11d bytes %6d faults %13d ns %8s MB/s  ratio %s\n", $1, $2, $6, $8, $10, $12, ratio
+        if ($1 == "ordinary" && $2 == "ASM") asm = each
+        if ($1 == "ordinary" && $2 == "read_class+build")
+            printf "%-14s time of read_class+build for each byte, to that of ASM: %.2f\n", "", each / asm
+    }'
+echo "load of the machine at the end: $(cut -d' ' -f1 /proc/loadavg) on $(nproc) cores"

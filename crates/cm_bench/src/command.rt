@@ -1,0 +1,44 @@
+//! The command line.
+
+use anyhow::Result;
+use clap::{Arg, ArgAction, Command, value_parser};
+use std::alloc::Global;
+use std::env;
+use std::rt::Env;
+
+/// What the command line asks for.
+#[derive(Clone, Copy, Debug, PartialEq, Eq)]
+pub enum Request {
+    /// To run the steps, each in so many timed passes; with none, once and for its counts alone.
+    Run(Option<u32>),
+    /// Nothing more: the help or a usage text was printed. The status to end with.
+    Told(u8),
+}
+
+fn whole_command<'a>(alloc: Global) -> Result<Command<'a>> {
+    let passes = Arg::new(alloc, "passes")
+        .long("passes")
+        .value_name("N")
+        .help("Run each step N times, and print the best time too")
+        .action(ArgAction::Set)
+        .value_parser(value_parser!(u32).range(1..));
+    let command = Command::new(alloc, "cm_bench")
+        .about(
+            "Reads class files from standard input, each behind its length (4 bytes, big-endian)",
+        )
+        .arg(passes)?;
+    Ok(command)
+}
+
+/// Reads the command line; prints the help, or what is wrong with it.
+pub fn read_words(rt: &(impl Env + Print + Eprint + AllocGlobal)) -> Result<Request> {
+    let alloc = rt.alloc();
+    let words: Vec<String> = env::args(rt)?.collect(alloc)?;
+    match whole_command(alloc)?.try_get_matches_from(words.as_slice()) {
+        Ok(matches) => Ok(Request::Run(matches.get_one::<u32>("passes"))),
+        Err(error) => {
+            error.print(rt)?;
+            Ok(Request::Told(if error.exit_code() == 0 { 0 } else { 2 }))
+        }
+    }
+}

@@ -1,0 +1,66 @@
+//! `cm_bench`: what reading, judging and recording class files costs.
+//!
+//! It reads class files from standard input, each behind its length in four bytes, and runs the reader,
+//! the rules and the records over them. Without `--passes` it prints counts alone.
+#![tactic(auto)]
+
+mod command;
+mod report;
+mod samples;
+mod step;
+mod stream;
+#[cfg(test)]
+mod tests;
+
+use crate::command::{Request, read_words};
+use crate::report::report;
+use crate::samples::Samples;
+use crate::step::Step;
+use crate::stream::classes_in;
+use anyhow::Result;
+use std::io::Read;
+use std::process::ExitCode;
+use std::rt::{Clock, Env};
+
+/// The input, the output, the clock or memory failed.
+const FAILED: u8 = 3;
+
+/// The steps, in the order in which they are run.
+const STEPS: [Step; 4] = [
+    Step::ReadShape,
+    Step::ReadClass,
+    Step::ReadAndBuild,
+    Step::ReadRecord,
+];
+
+fn main(rt: HostRuntime) -> ExitCode {
+    ExitCode::from(run(&rt))
+}
+
+/// Does what the command line asks for, and gives the status.
+fn run(rt: &(impl Clock + Env + Input + Print + Eprint + AllocGlobal)) -> u8 {
+    let done = match read_words(rt) {
+        Ok(Request::Told(status)) => return status,
+        Ok(Request::Run(passes)) => bench(rt, passes),
+        Err(error) => Err(error),
+    };
+    match done {
+        Ok(()) => 0,
+        Err(error) => {
+            let _ = eprintln!(rt; "cm_bench: {error}");
+            FAILED
+        }
+    }
+}
+
+/// Runs each step over the classes on standard input.
+fn bench(rt: &(impl Clock + Input + Print + AllocGlobal), passes: Option<u32>) -> Result<()> {
+    let alloc = rt.alloc();
+    let mut bytes = Vec::new(alloc);
+    rt.reader().read_to_end(&mut bytes)?;
+    let samples = Samples::new(alloc, classes_in(alloc, &bytes)?)?;
+    for step in STEPS {
+        report(rt, step, &samples, passes)?;
+    }
+    Ok(())
+}

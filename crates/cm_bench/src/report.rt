@@ -1,0 +1,60 @@
+//! What is printed of a step.
+
+use crate::samples::Samples;
+use crate::step::Step;
+use anyhow::Result;
+use std::rt::Clock;
+use std::time::{Duration, Instant};
+
+/// The bytes of all of the classes.
+fn total_len(classes: &[&[u8]]) -> usize {
+    let mut total: usize = 0;
+    for class in classes {
+        total = total.saturating_add(class.len());
+    }
+    total
+}
+
+/// The least time that the step takes over all of its samples, in so many passes.
+fn best_pass(
+    rt: &(impl Clock + AllocGlobal),
+    step: Step,
+    samples: &Samples,
+    passes: u32,
+) -> Result<Duration> {
+    let alloc = rt.alloc();
+    let mut best = Duration::MAX;
+    for _ in 0..passes {
+        let start = Instant::now(rt)?;
+        step.run(alloc, samples)?;
+        best = best.min(start.elapsed(rt)?);
+    }
+    Ok(best)
+}
+
+/// Tenths of a million bytes a second.
+fn rate(bytes: usize, time: Duration) -> u128 {
+    bytes as u128 * 10_000 / time.as_nanos().max(1)
+}
+
+/// Runs a step once, and then in so many timed passes, and prints its line.
+pub fn report(
+    rt: &(impl Clock + Print + AllocGlobal),
+    step: Step,
+    samples: &Samples,
+    passes: Option<u32>,
+) -> Result<()> {
+    let name = step.name();
+    let classes = step.classes(samples);
+    let (count, bytes) = (classes.len(), total_len(classes));
+    let faults = step.run(rt.alloc(), samples)?;
+    print!(rt; "{name} classes {count} bytes {bytes} faults {faults}")?;
+    if let Some(passes) = passes {
+        let best = best_pass(rt, step, samples, passes)?;
+        let (nanos, rate) = (best.as_nanos(), rate(bytes, best));
+        let (whole, tenths) = (rate / 10, rate % 10);
+        print!(rt; " best {nanos} ns {whole}.{tenths} MB/s")?;
+    }
+    println!(rt;)?;
+    Ok(())
+}
