@@ -1,6 +1,7 @@
 #!/usr/bin/env bash
 # Classes that the machine's Java compiler writes for version 52.0 are taken, and found again with the flags and the super
-# class that the JDK's own disassembler tells.
+# class that the JDK's own disassembler tells. The same classes with single bytes changed get the replies that
+# tests/oracle.py works out, which shares no code with the program; it gives those of tests/vectors too.
 set -u
 cd "$(dirname "$0")/.." || exit 1
 . tests/lib.sh
@@ -40,4 +41,22 @@ run apply --memory
 # The record's length isn't the disassembler's to tell.
 sed -E -i 's/^(class .*) words [0-9]+$/\1/' "$work/got"
 check "${#names[@]} compiled classes" 0
+
+# Every seventh byte of each class, changed in three ways.
+mkdir "$work/changed"
+tests/changed_classes.py "$work/classes" "$work/changed" 7
+for script in "$work"/changed/*.in; do
+    cp "$script" "$work/in"
+    tests/oracle.py <"$work/in" >"$work/want"
+    wanted=$?
+    run apply --memory
+    check "changed classes, $(basename "$script" .in)" "$wanted"
+done
+
+for script in tests/vectors/*.in; do
+    tests/oracle.py <"$script" >"$work/got"
+    status=$?
+    cp "${script%.in}.out" "$work/want"
+    check "the oracle on $(basename "$script" .in)" 1
+done
 finish

@@ -1,13 +1,15 @@
 #!/usr/bin/env bash
-# Refused memory: one allocation of the crate's tests fails, and they ask again. A pool or an arena that isn't as it was before
-# the refused call gives other answers.
+# Refused memory: one allocation of the crate's tests fails, and they ask again. A pool, an arena or a store that isn't as it
+# was before the refused call gives other answers.
 set -u
 cd "$(dirname "$0")/.." || exit 1
 . tests/lib.sh
 
-# refuse CRATE N: the crate's tests pass though their Nth allocation is refused.
+# refuse CRATE N [TEST]: the crate's tests, or the one of that name, pass though their Nth allocation is refused.
 refuse() {
-    if out=$(cd "crates/$1" && rt try --test --fail-alloc "$2" 2>&1); then
+    local words=(--test --fail-alloc "$2")
+    [ $# -ge 3 ] && words+=(-- "$3")
+    if out=$(cd "crates/$1" && rt try "${words[@]}" 2>&1); then
         passed=$((passed + 1))
     else
         failed=$((failed + 1))
@@ -20,6 +22,11 @@ refuse() {
 refuse cm_pool 1
 for allocation in 3 4 5; do
     refuse cm_arena "$allocation"
+done
+
+# A store's: those of the command that adds a loader, and those of the one that defines a class.
+for allocation in 19 20 21 32 33 34 35; do
+    refuse cm_store "$allocation" a_refused_growth
 done
 
 finish
