@@ -4,4 +4,5 @@ pub mod Lists
 pub mod PoolLaws
 pub mod Classes
 pub mod Loops
+pub mod Walks
 pub mod Shapes

@@ -29,6 +29,12 @@ fails_equal Short x y e h = sym e ∙ h
 fails_equal (Bad left) x y e h = sym e ∙ h
 fails_equal NoMemory x y e h = tt
 
+-- a stop that isn't for want of memory is one in any case
+pub fails_exactly : {A : Type 0} (stop : Stop) (read : Result A Stop) → read ≡ Err stop → Fails stop read
+fails_exactly Short read h = h
+fails_exactly (Bad left) read h = h
+fails_exactly NoMemory read h = tt
+
 module _ {A : Type 0} (item : List ℕ → Read A) where
   pub goes_on : (front : List A) (count i : ℕ) (bytes : List ℕ) (a : A) (after : List ℕ) (total : Read (List A)) → i < count → item bytes ≡ Ok (a, after)
       → with_front front (many_at item (count - i) bytes) ≡ total → with_front (front ++ a ∷ []) (many_at item (count - (i + 1)) after) ≡ total
@@ -69,11 +75,11 @@ expected_goes_on expected i bytes rest total lt h so_far =
     let one : expected_at (drop i expected) bytes ≡ expected_at (drop (i + 1) expected) rest = next_expected expected i bytes lt ∙ rw h refl in
     sym one ∙ so_far
 
-pub expected_ends : (stop : Stop) (expected : List ℕ) (i : ℕ) (bytes : List ℕ) (total : Read (Unit {0})) → i < length expected → Fails stop (literal_at (get_or expected i 0) bytes)
-    → expected_at (drop i expected) bytes ≡ total → Fails stop total
+pub expected_ends : (stop : Stop) (expected : List ℕ) (i : ℕ) (bytes : List ℕ) (total : Read (Unit {0})) → i < length expected → literal_at (get_or expected i 0) bytes ≡ Err stop
+    → expected_at (drop i expected) bytes ≡ total → total ≡ Err stop
 expected_ends stop expected i bytes total lt h so_far =
-    fails_equal stop (literal_at (get_or expected i 0) bytes >>= λ first. expected_at (drop (i + 1) expected) first.1) total (sym (next_expected expected i bytes lt) ∙ so_far)
-    (fails_first stop (literal_at (get_or expected i 0) bytes) (λ first. expected_at (drop (i + 1) expected) first.1) h)
+    let one : expected_at (drop i expected) bytes ≡ Err stop = next_expected expected i bytes lt ∙ rw h refl in
+    sym so_far ∙ one
 
 pub expected_done : (expected : List ℕ) (i : ℕ) (bytes : List ℕ) (total : Read (Unit {0})) → length expected ≤ i → expected_at (drop i expected) bytes ≡ total → total ≡ Ok (tt, bytes)
 unfolding expected_at

@@ -9,7 +9,7 @@ use Rattle.cm_class.specs.declared.fault.ShapeFault.{ShapeFault}
 use Rattle.cm_class.specs.declared.fault.ShapeFault.TheVariants as faults
 use Rattle.cm_class.specs.Spelling.{spell, HasSpelling, AreBytes}
 use Rattle.cm_class.specs.Shape.{Spells, IsSpelling, IsProperBeginning, IsTruncated, IsTrailing, BeginsSpelling, IsMalformed, IsAnswer, IsFault}
-use Rattle.cm_class.specs.Reading.{class_at, answer_of, IsUnlessRefused}
+use Rattle.cm_class.specs.Reading.{rest_of, class_at, answer_of, IsUnlessRefused}
 use Rattle.cm_class.proofs.Readers.{Read, Says, Stuck, same_read}
 use Rattle.cm_class.proofs.Classes.{class_reads}
 use Rattle.cm_class.proofs.Lists.{positive}
@@ -128,32 +128,51 @@ says_answer bytes (Err NoMemory) h = absurd h
 pub is_answer : (bytes : List ℕ) → AreBytes bytes → IsAnswer bytes (answer_of bytes (class_at bytes))
 is_answer bytes are = says_answer bytes (class_at bytes) (class_reads.says bytes are)
 
--- what was read has a spelling, and what is left is no longer than all
-pub read_fits : (bytes : List ℕ) (c : ClassFile) (rest : List ℕ) → AreBytes bytes → class_at bytes ≡ Ok (c, rest) → HasSpelling c × (length rest ≤ length bytes)
+-- what was read has a spelling
+pub read_fits : (bytes : List ℕ) (c : ClassFile) (rest : List ℕ) → AreBytes bytes → class_at bytes ≡ Ok (c, rest) → HasSpelling c
 read_fits bytes c rest are e =
     let h : HasSpelling c × (bytes ≡ spell c ++ rest) = subst (Says spell HasSpelling bytes) e (class_reads.says bytes are) in
-    (h.0, omega (arith, ap length h.1, length-append (spell c) rest))
+    h.0
 
-pub left_fits : (bytes : List ℕ) (left : ℕ) → AreBytes bytes → class_at bytes ≡ Err (Bad left) → left ≤ length bytes
-left_fits bytes left are e =
-    let h : Stuck spell HasSpelling bytes left = subst (Says spell HasSpelling bytes) e (class_reads.says bytes are) in
-    omega (arith, h.left_is, ap length h.parts, length-append h.front (h.at ∷ h.rest))
+-- what is left is no longer than all
+rest_within : (bytes rest : List ℕ) (read : Read ClassFile) → Says spell HasSpelling bytes read → rest_of read ≡ Ok rest → length rest ≤ length bytes
+rest_within bytes rest (Ok x) h e =
+    let same : x.1 ≡ rest = cc in
+    omega (arith, ap length same, ap length h.1, length-append (spell x.0) x.1)
+rest_within bytes rest (Err stop) h e = absurd cc
+
+left_within : (bytes : List ℕ) (left : ℕ) (read : Read ClassFile) → Says spell HasSpelling bytes read → rest_of read ≡ Err (Bad left) → left ≤ length bytes
+left_within bytes left (Ok x) h e = absurd cc
+left_within bytes left (Err Short) h e = absurd cc
+left_within bytes left (Err (Bad n)) h e =
+    let same : n ≡ left = cc in
+    omega (arith, same, h.left_is, ap length h.parts, length-append h.front (h.at ∷ h.rest))
+left_within bytes left (Err NoMemory) h e = absurd h
+
+pub rest_fits : (bytes rest : List ℕ) → AreBytes bytes → rest_of (class_at bytes) ≡ Ok rest → length rest ≤ length bytes
+rest_fits bytes rest are e = rest_within bytes rest (class_at bytes) (class_reads.says bytes are) e
+
+pub left_fits : (bytes : List ℕ) (left : ℕ) → AreBytes bytes → rest_of (class_at bytes) ≡ Err (Bad left) → left ≤ length bytes
+left_fits bytes left are e = left_within bytes left (class_at bytes) (class_reads.says bytes are) e
 
 -- ---- clauses of the call
 
 module _ (bytes : List ℕ) (are : AreBytes bytes) (result : Result ClassFile ShapeFault) (given : IsUnlessRefused (answer_of bytes (class_at bytes)) result) where
-  answered : IsAnswer bytes result ⊎ (result ≡ Err faults.NoMemory)
-  answered = ⊎_elim (λ e. inl (subst (IsAnswer bytes) (sym e) (is_answer bytes are))) (λ e. inr e) given
+  -- what is answered is so, or memory was refused of bytes that spell a class file
+  answered : IsAnswer bytes result ⊎ ((result ≡ Err faults.NoMemory) × IsSpelling bytes)
+  answered =
+      ⊎_elim (λ e. inl (subst (IsAnswer bytes) (sym e) (is_answer bytes are)))
+      (λ refused. inr (refused.0, (refused.1.0, subst (IsAnswer bytes) refused.1.1 (is_answer bytes are)))) given
 
   pub ok_is : IfOk result (Spells bytes)
-  ok_is = ⊎_elim (ok_of result) (λ e. subst (λ (r : Result ClassFile ShapeFault). IfOk r (Spells bytes)) (sym e) tt) answered
+  ok_is = ⊎_elim (ok_of result) (λ refused. subst (λ (r : Result ClassFile ShapeFault). IfOk r (Spells bytes)) (sym refused.0) tt) answered
     where
       ok_of : (r : Result ClassFile ShapeFault) → IsAnswer bytes r → IfOk r (Spells bytes)
       ok_of (Ok c) h = h
       ok_of (Err fault) h = tt
 
   pub fault_is : IfErr result (IsFault bytes)
-  fault_is = ⊎_elim (fault_of result) (λ e. subst (λ (r : Result ClassFile ShapeFault). IfErr r (IsFault bytes)) (sym e) tt) answered
+  fault_is = ⊎_elim (fault_of result) (λ refused. subst (λ (r : Result ClassFile ShapeFault). IfErr r (IsFault bytes)) (sym refused.0) refused.1) answered
     where
       fault_of : (r : Result ClassFile ShapeFault) → IsAnswer bytes r → IfErr r (IsFault bytes)
       fault_of (Ok c) h = tt
@@ -162,5 +181,5 @@ module _ (bytes : List ℕ) (are : AreBytes bytes) (result : Result ClassFile Sh
       fault_of (Err (faults.Malformed at)) h = h
       fault_of (Err faults.NoMemory) h = absurd h
 
-  pub only_is : (answer : Result ClassFile ShapeFault) → IsAnswer bytes answer → (result ≡ answer) ⊎ (result ≡ Err faults.NoMemory)
-  only_is answer h = ⊎_elim (λ mine. inl (one_answer bytes result answer mine h)) (λ e. inr e) answered
+  pub only_is : (answer : Result ClassFile ShapeFault) → IsAnswer bytes answer → (result ≡ answer) ⊎ ((result ≡ Err faults.NoMemory) × IsSpelling bytes)
+  only_is answer h = ⊎_elim (λ mine. inl (one_answer bytes result answer mine h)) (λ refused. inr refused) answered

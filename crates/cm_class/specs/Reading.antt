@@ -32,6 +32,16 @@ abbrev pub Gives : {X Y : Type 0} → (X → Y) → Result X Stop → Result Y S
 Gives view (Ok x) read = read ≡ Ok (view x)
 Gives view (Err e) read = Fails e read
 
+-- the same of a function that takes no memory, so that none is refused
+abbrev pub GivesExactly : {X Y : Type 0} → (X → Y) → Result X Stop → Result Y Stop → Type 0
+GivesExactly view (Ok x) read = read ≡ Ok (view x)
+GivesExactly view (Err e) read = read ≡ Err e
+
+-- of what is read, the bytes that are left
+abbrev pub rest_of : {A : Type 0} → Result (A × List ℕ) Stop → Result (List ℕ) Stop
+rest_of (Ok x) = Ok x.1
+rest_of (Err e) = Err e
+
 -- ---- putting readers together
 
 -- one reader behind another
@@ -229,6 +239,6 @@ answer_of bytes (Err Short) = Err faults.Truncated
 answer_of bytes (Err (Bad left)) = Err (faults.Malformed (length bytes - left))
 answer_of bytes (Err NoMemory) = Err faults.NoMemory
 
--- it is this answer, unless memory was refused
+-- it is this answer; or memory was refused, where the answer is a class file
 abbrev pub IsUnlessRefused : Result ClassFile ShapeFault → Result ClassFile ShapeFault → Type 0
-IsUnlessRefused answer result = (result ≡ answer) ⊎ (result ≡ Err faults.NoMemory)
+IsUnlessRefused answer result = (result ≡ answer) ⊎ ((result ≡ Err faults.NoMemory) × ((c : ClassFile) × (answer ≡ Ok c)))

@@ -47,9 +47,9 @@ IsAnswer bytes (Err (Trailing at)) = IsTrailing bytes at
 IsAnswer bytes (Err (Malformed at)) = IsMalformed bytes at
 IsAnswer bytes (Err NoMemory) = ⊥
 
--- the same of a fault alone, where nothing is said once memory was refused
+-- the same of a fault alone; that memory was refused is told only of bytes that spell a class file
 abbrev pub IsFault : List ℕ → ShapeFault → Type 0
 IsFault bytes Truncated = IsTruncated bytes
 IsFault bytes (Trailing at) = IsTrailing bytes at
 IsFault bytes (Malformed at) = IsMalformed bytes at
-IsFault bytes NoMemory = Unit {0}
+IsFault bytes NoMemory = IsSpelling bytes

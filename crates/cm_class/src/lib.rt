@@ -13,6 +13,7 @@ mod row;
 mod shape;
 mod stop;
 mod tag;
+mod walk;
 
 pub use class::Class;
 pub use class_file::{Attribute, ClassFile, Member};

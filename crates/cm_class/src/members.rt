@@ -3,7 +3,7 @@ ghost use Rattle.std.specs.Prelude.{◌≡◌};
 ghost use Rattle.cm_class.specs.Reading.{Gives, number_at, many_at, counted_at, attribute_at, member_at};
 
 use crate::class_file::{Attribute, Member};
-use crate::numbers::{content, read_u16, room_for};
+use crate::numbers::{content, read_u16, room_for, row};
 use crate::row::Row;
 use crate::stop::Stop;
 use std::alloc::Global;
@@ -13,7 +13,8 @@ fn attribute(alloc: Global, bytes: &[u8]) -> Result<(Attribute, &[u8]), Stop>
     ensures { Gives (λ x. (x.0, x.1.now)) result (attribute_at bytes.now) }
 {
     let (name, rest) = read_u16(bytes)?;
-    let (bytes, rest) = content(alloc, rest)?;
+    let (content, rest) = content(rest)?;
+    let bytes = row(alloc, content)?;
     Ok((Attribute { name, bytes }, rest))
 }
 

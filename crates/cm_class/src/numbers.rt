@@ -1,19 +1,19 @@
 //! Readers of numbers and of rows of bytes, big-endian. Each answers what it read and the bytes that
 //! are left.
-ghost use Rattle.std.specs.Prelude.{◌≡◌, ◌<◌, IfOk};
+ghost use Rattle.std.specs.Prelude.{◌≡◌, ◌<◌, ◌≤◌, ◌*◌, ℕ, length, IfOk};
 ghost use Rattle.cm_class.specs.Spelling.{heading};
-ghost use Rattle.cm_class.specs.Reading.{Gives, number_at, byte_at, bytes_at, sized_at, literal_at, expected_at, count_at};
+ghost use Rattle.cm_class.specs.Reading.{GivesExactly, number_at, byte_at, bytes_at, sized_at, literal_at, expected_at, count_at};
 
 use crate::row::Row;
 use crate::stop::Stop;
 use byteorder::{BigEndian, ByteOrder};
-use std::alloc::Global;
+use std::alloc::{AllocError, Global};
 
 /// The magic number, minor version 0 and major version 52 (JVMS 4.1).
 const HEADING: [u8; 8] = [0xCA, 0xFE, 0xBA, 0xBE, 0, 0, 0, 52];
 
 pub(crate) fn read_u8(bytes: &[u8]) -> Result<(u8, &[u8]), Stop>
-    ensures { Gives (λ x. (x.0, x.1.now)) result (byte_at bytes.now) }
+    ensures { GivesExactly (λ x. (x.0, x.1.now)) result (byte_at bytes.now) }
 {
     match bytes {
         [] => Err(Stop::Short),
@@ -22,7 +22,7 @@ pub(crate) fn read_u8(bytes: &[u8]) -> Result<(u8, &[u8]), Stop>
 }
 
 pub(crate) fn read_u16(bytes: &[u8]) -> Result<(u16, &[u8]), Stop>
-    ensures { Gives (λ x. (x.0, x.1.now)) result (number_at 2 bytes.now) }
+    ensures { GivesExactly (λ x. (x.0, x.1.now)) result (number_at 2 bytes.now) }
 {
     if bytes.len() < 2 {
         return Err(Stop::Short);
@@ -31,7 +31,7 @@ pub(crate) fn read_u16(bytes: &[u8]) -> Result<(u16, &[u8]), Stop>
 }
 
 pub(crate) fn read_u32(bytes: &[u8]) -> Result<(u32, &[u8]), Stop>
-    ensures { Gives (λ x. (x.0, x.1.now)) result (number_at 4 bytes.now) }
+    ensures { GivesExactly (λ x. (x.0, x.1.now)) result (number_at 4 bytes.now) }
 {
     if bytes.len() < 4 {
         return Err(Stop::Short);
@@ -40,7 +40,7 @@ pub(crate) fn read_u32(bytes: &[u8]) -> Result<(u32, &[u8]), Stop>
 }
 
 pub(crate) fn read_u64(bytes: &[u8]) -> Result<(u64, &[u8]), Stop>
-    ensures { Gives (λ x. (x.0, x.1.now)) result (number_at 8 bytes.now) }
+    ensures { GivesExactly (λ x. (x.0, x.1.now)) result (number_at 8 bytes.now) }
 {
     if bytes.len() < 8 {
         return Err(Stop::Short);
@@ -52,42 +52,51 @@ pub(crate) fn read_u64(bytes: &[u8]) -> Result<(u64, &[u8]), Stop>
 /// more of them than the bytes can spell, so that a false count asks for no memory.
 pub(crate) fn room_for(count: u16, least: usize, bytes: &[u8]) -> usize
     requires { 0 < least }
+    ensures told { result ≤ count }
+    ensures there { result * least ≤ length bytes.now }
+    ensures all { (n : ℕ) → n ≤ count → n * least ≤ length bytes.now → n ≤ result }
 {
     usize::from(count).min(bytes.len() / least)
 }
 
-/// A copy of so many bytes. It takes memory only for bytes that are there.
-fn row(alloc: Global, len: usize, bytes: &[u8]) -> Result<(Row<u8>, &[u8]), Stop>
-    ensures { Gives (λ x. (x.0, x.1.now)) result (bytes_at len bytes.now) }
+/// So many bytes, and those behind them.
+fn front(len: usize, bytes: &[u8]) -> Result<(&[u8], &[u8]), Stop>
+    ensures { GivesExactly (λ x. (x.0.now, x.1.now)) result (bytes_at len bytes.now) }
 {
     if bytes.len() < len {
         return Err(Stop::Short);
     }
-    let (front, rest) = bytes.split_at(len);
-    Ok((Row::from_vec(Vec::from_slice(alloc, front)?), rest))
+    Ok(bytes.split_at(len))
 }
 
 /// Bytes behind their length in two bytes.
 #[tactic(auto, unfolding(crate::specs::Reading::sized_at))]
-pub(crate) fn text(alloc: Global, bytes: &[u8]) -> Result<(Row<u8>, &[u8]), Stop>
-    ensures { Gives (λ x. (x.0, x.1.now)) result (sized_at 2 bytes.now) }
+pub(crate) fn text(bytes: &[u8]) -> Result<(&[u8], &[u8]), Stop>
+    ensures { GivesExactly (λ x. (x.0.now, x.1.now)) result (sized_at 2 bytes.now) }
 {
     let (len, rest) = read_u16(bytes)?;
-    row(alloc, usize::from(len), rest)
+    front(usize::from(len), rest)
 }
 
 /// Bytes behind their length in four bytes.
 #[tactic(auto, unfolding(crate::specs::Reading::sized_at))]
-pub(crate) fn content(alloc: Global, bytes: &[u8]) -> Result<(Row<u8>, &[u8]), Stop>
-    ensures { Gives (λ x. (x.0, x.1.now)) result (sized_at 4 bytes.now) }
+pub(crate) fn content(bytes: &[u8]) -> Result<(&[u8], &[u8]), Stop>
+    ensures { GivesExactly (λ x. (x.0.now, x.1.now)) result (sized_at 4 bytes.now) }
 {
     let (len, rest) = read_u32(bytes)?;
-    row(alloc, len as usize, rest)
+    front(len as usize, rest)
+}
+
+/// A copy of bytes that were read.
+pub(crate) fn row(alloc: Global, bytes: &[u8]) -> Result<Row<u8>, AllocError>
+    ensures { IfOk result (λ row. row ≡ bytes.now) }
+{
+    Ok(Row::from_vec(Vec::from_slice(alloc, bytes)?))
 }
 
 /// What follows this one byte.
 fn after_byte(expected: u8, bytes: &[u8]) -> Result<&[u8], Stop>
-    ensures { Gives (λ x. (tt, x.now)) result (literal_at expected bytes.now) }
+    ensures { GivesExactly (λ x. (tt, x.now)) result (literal_at expected bytes.now) }
 {
     match bytes {
         [] => Err(Stop::Short),
@@ -98,7 +107,7 @@ fn after_byte(expected: u8, bytes: &[u8]) -> Result<&[u8], Stop>
 
 /// What follows the heading.
 pub(crate) fn after_heading(bytes: &[u8]) -> Result<&[u8], Stop>
-    ensures { Gives (λ x. (tt, x.now)) result (expected_at heading bytes.now) }
+    ensures { GivesExactly (λ x. (tt, x.now)) result (expected_at heading bytes.now) }
 {
     let mut rest = bytes;
     for expected in &HEADING {
@@ -110,7 +119,7 @@ pub(crate) fn after_heading(bytes: &[u8]) -> Result<&[u8], Stop>
 /// The count of the pool, which is one more than its last index. A count of 0 has no spelling.
 #[tactic(auto, unfolding(crate::specs::Reading::count_at))]
 pub(crate) fn pool_count(bytes: &[u8]) -> Result<(u16, &[u8]), Stop>
-    ensures count { Gives (λ x. (x.0, x.1.now)) result (count_at bytes.now) }
+    ensures count { GivesExactly (λ x. (x.0, x.1.now)) result (count_at bytes.now) }
     ensures positive { IfOk result (λ x. 0 < x.0) }
 {
     let (count, rest) = read_u16(bytes)?;

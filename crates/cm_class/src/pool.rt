@@ -1,10 +1,10 @@
 //! Readers of the constant pool.
 ghost use Rattle.std.specs.Prelude.{◌≡◌, false};
-ghost use Rattle.cm_class.specs.Reading.{Gives, tag_at, info_at, constant_at, slots_at, pool_at, both_at, number_at};
+ghost use Rattle.cm_class.specs.Reading.{Gives, GivesExactly, tag_at, info_at, constant_at, slots_at, pool_at, both_at, number_at};
 
 use crate::constant::{Constant, Slot};
 use crate::numbers::{
-    after_heading, pool_count, read_u8, read_u16, read_u32, read_u64, room_for, text,
+    after_heading, pool_count, read_u8, read_u16, read_u32, read_u64, room_for, row, text,
 };
 use crate::row::Row;
 use crate::stop::Stop;
@@ -13,8 +13,8 @@ use std::alloc::Global;
 
 /// The tag of a constant that has so many slots left. A wide one takes two of them.
 #[tactic(auto, unfolding(crate::specs::Reading::tag_at))]
-fn tag(left: u16, bytes: &[u8]) -> Result<(Tag, &[u8]), Stop>
-    ensures { Gives (λ x. (x.0, x.1.now)) result (tag_at left bytes.now) }
+pub(crate) fn tag(left: u16, bytes: &[u8]) -> Result<(Tag, &[u8]), Stop>
+    ensures { GivesExactly (λ x. (x.0, x.1.now)) result (tag_at left bytes.now) }
 {
     let [byte, rest @ ..] = bytes else {
         return Err(Stop::Short);
@@ -26,8 +26,8 @@ fn tag(left: u16, bytes: &[u8]) -> Result<(Tag, &[u8]), Stop>
 }
 
 /// The two numbers of a constant.
-fn two(bytes: &[u8]) -> Result<(u16, u16, &[u8]), Stop>
-    ensures { Gives (λ x. ((x.0, x.1), x.2.now)) result (both_at (number_at 2) (number_at 2) bytes.now) }
+pub(crate) fn two(bytes: &[u8]) -> Result<(u16, u16, &[u8]), Stop>
+    ensures { GivesExactly (λ x. ((x.0, x.1), x.2.now)) result (both_at (number_at 2) (number_at 2) bytes.now) }
 {
     let (first, rest) = read_u16(bytes)?;
     let (second, rest) = read_u16(rest)?;
@@ -41,8 +41,8 @@ fn info(alloc: Global, tag: Tag, bytes: &[u8]) -> Result<(Constant, &[u8]), Stop
 {
     match tag {
         Tag::Utf8 => {
-            let (text, rest) = text(alloc, bytes)?;
-            Ok((Constant::Utf8(text), rest))
+            let (text, rest) = text(bytes)?;
+            Ok((Constant::Utf8(row(alloc, text)?), rest))
         }
         Tag::Integer => {
             let (bits, rest) = read_u32(bytes)?;

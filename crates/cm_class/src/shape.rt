@@ -2,8 +2,8 @@
 ghost use Rattle.std.specs.Prelude.{◌≡◌, ◌⊎◌, IfOk, IfErr, Result};
 ghost use Rattle.cm_class.specs.declared.class_file.ClassFile.{ClassFile};
 ghost use Rattle.cm_class.specs.declared.fault.ShapeFault.{ShapeFault};
-ghost use Rattle.cm_class.specs.Shape.{Spells, IsFault, IsAnswer};
-ghost use Rattle.cm_class.specs.Reading.{Gives, class_at, answer_of, IsUnlessRefused};
+ghost use Rattle.cm_class.specs.Shape.{Spells, IsSpelling, IsFault, IsAnswer};
+ghost use Rattle.cm_class.specs.Reading.{Gives, GivesExactly, rest_of, class_at, answer_of, IsUnlessRefused};
 
 use crate::class::Class;
 use crate::class_file::ClassFile;
@@ -12,6 +12,7 @@ use crate::members::{attributes, interfaces, members};
 use crate::numbers::read_u16;
 use crate::pool::pool;
 use crate::stop::Stop;
+use crate::walk::after_class_file;
 use std::alloc::Global;
 
 #[tactic(auto, unfolding(crate::specs::Reading::class_at))]
@@ -39,31 +40,47 @@ fn class_file(alloc: Global, bytes: &[u8]) -> Result<(ClassFile, &[u8]), Stop>
     Ok((file, rest))
 }
 
+/// What refuses bytes of which reading a class file leaves this, or stops there. Where nothing is left
+/// they spell one, and want of memory refuses them.
+fn refusal(bytes: &[u8], left: Result<&[u8], Stop>) -> ShapeFault
+    requires { GivesExactly (λ x. x.now) left (rest_of (class_at bytes.now)) }
+    ensures { IsUnlessRefused (answer_of bytes.now (class_at bytes.now)) (Err result) }
+{
+    match left {
+        Ok([]) => ShapeFault::NoMemory,
+        Ok(rest) => ShapeFault::Trailing(bytes.len() - rest.len()),
+        Err(Stop::Short) => ShapeFault::Truncated,
+        Err(Stop::Bad(left)) => ShapeFault::Malformed(bytes.len() - left),
+        Err(Stop::NoMemory) => ShapeFault::NoMemory,
+    }
+}
+
 /// The class file that the bytes spell, all of them.
 fn whole(alloc: Global, bytes: &[u8]) -> Result<Class, ShapeFault>
     ensures { IsUnlessRefused (answer_of bytes.now (class_at bytes.now)) result }
 {
     match class_file(alloc, bytes) {
         Ok((file, [])) => Ok(Class::from_file(file)),
-        Ok((_, rest)) => Err(ShapeFault::Trailing(bytes.len() - rest.len())),
-        Err(Stop::Short) => Err(ShapeFault::Truncated),
-        Err(Stop::Bad(left)) => Err(ShapeFault::Malformed(bytes.len() - left)),
-        Err(Stop::NoMemory) => Err(ShapeFault::NoMemory),
+        Ok((_, rest)) => Err(refusal(bytes, Ok(rest))),
+        // The bytes may have a fault behind the place where memory was refused.
+        Err(Stop::NoMemory) => Err(refusal(bytes, after_class_file(bytes))),
+        Err(stop) => Err(refusal(bytes, Err(stop))),
     }
 }
 
 /// Reads a class file of version 52.0 (JVMS 4.1) from all of the bytes, in one pass.
 ///
 /// It is refused exactly where the bytes are no spelling of a class file, with the one fault that
-/// they have; or with `NoMemory` where memory was refused. It reserves memory only for bytes that
-/// are there, whatever the counts and lengths in the file say.
+/// they have; or with `NoMemory`, only where they are one and memory was refused. It reserves memory
+/// only for bytes that are there, whatever the counts and lengths in the file say. Where memory was
+/// refused, and only there, a second pass, which takes none, looks for a fault.
 pub fn read_shape(alloc: Global, bytes: &[u8]) -> Result<Class, ShapeFault>
     ensures ok { IfOk result (Spells bytes.now) }
     ensures fault { IfErr result (IsFault bytes.now) }
 
-    // What is so is answered, unless memory was refused.
+    // What is so is answered, unless the bytes spell a class file and memory was refused.
     ensures only { (answer : Result ClassFile ShapeFault) → IsAnswer bytes.now answer
-        → (result ≡ answer) ⊎ (result ≡ Err ShapeFault.NoMemory) }
+        → (result ≡ answer) ⊎ ((result ≡ Err ShapeFault.NoMemory) × IsSpelling bytes.now) }
 {
     whole(alloc, bytes)
 }

@@ -1,4 +1,6 @@
 use super::*;
+use crate::stop::Stop;
+use crate::walk::after_class_file;
 use std::test::*;
 
 /// Class A: a public class of the name A, with a super class, and nothing else.
@@ -21,6 +23,34 @@ const BODY: [u8; 46] = [
     2, 0, 0, 8, 0, 0, 0, 1, 0, 8, 0, 1, 0, 0x19, 0, 1, 0, 1, 0, 1, 0, 1, 0, 0, 0, 2, 0xab, 0xcd, 0,
     1, 4, 1, 0, 2, 0, 3, 0, 0, 0, 1, 0, 5, 0, 0, 0, 0,
 ];
+
+/// Bytes of class A, what stands in their place, and the first byte with which no class goes on.
+const WRONG: [(usize, u8, usize); 11] = [
+    (0, 0xcb, 0),
+    (3, 0xbf, 3),
+    (4, 1, 4),
+    (5, 3, 5),
+    (6, 1, 6),
+    (7, 53, 7),
+    (9, 0, 9),
+    (10, 2, 10),
+    (13, 0, 13),
+    (17, 19, 17),
+    (20, 17, 20),
+];
+
+/// How many bytes the walk leaves behind a class file.
+fn left(bytes: &[u8]) -> Result<usize, Stop> {
+    Ok(after_class_file(bytes)?.len())
+}
+
+fn with_byte(place: usize, byte: u8) -> [u8; 53] {
+    let mut bytes = CLASS_A;
+    if let Some(here) = bytes.get_mut(place) {
+        *here = byte;
+    }
+    bytes
+}
 
 fn fault(rt: &HostRuntime, bytes: &[u8]) -> Option<ShapeFault> {
     read_shape(rt.alloc(), bytes).err()
@@ -154,31 +184,19 @@ fn what_follows_is_trailing(rt: HostRuntime) -> Result<(), Fail> {
     Ok(())
 }
 
-/// Class A with one byte changed.
 #[test]
 fn the_first_wrong_byte(rt: HostRuntime) {
-    let changes = [
-        (0, 0xcb, 0),
-        (3, 0xbf, 3),
-        (4, 1, 4),
-        (5, 3, 5),
-        (6, 1, 6),
-        (7, 53, 7),
-        (9, 0, 9),
-        (10, 2, 10),
-        (13, 0, 13),
-        (17, 19, 17),
-        (20, 17, 20),
-    ];
-    for (place, byte, at) in changes {
-        let mut bytes = CLASS_A;
-        if let Some(here) = bytes.get_mut(place) {
-            *here = byte;
-        }
+    for (place, byte, at) in WRONG {
+        let bytes = with_byte(place, byte);
         assert_eq!(rt;
             fault(&rt, &bytes),
             Some(ShapeFault::Malformed(at)),
             "at {place}"
+        );
+        assert_eq!(rt;
+            left(&bytes),
+            Err(Stop::Bad(bytes.len().saturating_sub(at))),
+            "walked, at {place}"
         );
     }
 }
@@ -193,6 +211,7 @@ fn no_second_slot(rt: HostRuntime) {
         assert_eq!(rt; fault(&rt, &bytes), Some(ShapeFault::Malformed(10)));
         assert_eq!(rt; fault(&rt, &bytes[..11]), Some(ShapeFault::Malformed(10)));
         assert_eq!(rt; fault(&rt, &bytes[..10]), Some(ShapeFault::Truncated));
+        assert_eq!(rt; left(&bytes), Err(Stop::Bad(43)));
     }
 }
 
@@ -202,5 +221,41 @@ fn a_false_length(rt: HostRuntime) -> Result<(), Fail> {
     let mut bytes = Vec::from_slice(rt.alloc(), &CLASS_A[..51])?;
     bytes.extend_from_slice(&[0, 1, 0, 2, 0xff, 0xff, 0xff, 0xff])?;
     assert_eq!(rt; fault(&rt, &bytes), Some(ShapeFault::Truncated));
+    assert_eq!(rt; left(&bytes), Err(Stop::Short));
+    Ok(())
+}
+
+/// The walk goes over each kind of part, and is cut short wherever the bytes end within one.
+#[test]
+fn the_walk_ends_behind_a_class(rt: HostRuntime) -> Result<(), Fail> {
+    assert_eq!(rt; left(&CLASS_A), Ok(0));
+    let mut bytes = Vec::from_slice(rt.alloc(), &POOL)?;
+    bytes.extend_from_slice(&BODY)?;
+    assert_eq!(rt; left(&bytes), Ok(0));
+    for len in 0..bytes.len() {
+        assert_eq!(rt; left(&bytes[..len]), Err(Stop::Short), "at {len}");
+    }
+    bytes.extend_from_slice(&[0xca, 0xfe, 0xba])?;
+    assert_eq!(rt; left(&bytes), Ok(3));
+    Ok(())
+}
+
+/// A fault is answered though memory was refused to what stands before it, and a class is asked for
+/// again: so under `rt try --test --fail-alloc`, whichever allocation of these reads is refused.
+#[test]
+fn a_fault_behind_a_refusal(rt: HostRuntime) -> Result<(), Fail> {
+    let mut trailing = [0; 54];
+    trailing[..53].copy_from_slice(&CLASS_A);
+    assert_eq!(rt; fault(&rt, &trailing), Some(ShapeFault::Trailing(53)));
+    assert_eq!(rt; fault(&rt, &CLASS_A[..52]), Some(ShapeFault::Truncated));
+    assert_eq!(rt;
+        fault(&rt, &with_byte(20, 17)),
+        Some(ShapeFault::Malformed(20))
+    );
+    let class = match read_shape(rt.alloc(), &CLASS_A) {
+        Err(ShapeFault::NoMemory) => read_shape(rt.alloc(), &CLASS_A),
+        answer => answer,
+    };
+    assert_eq!(rt; class?.flags(), 0x21);
     Ok(())
 }

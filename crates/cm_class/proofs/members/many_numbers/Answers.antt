@@ -1,12 +1,12 @@
 use Rattle.std.proofs.lemmas.Result.{err_from_is_err_and}
 use Rattle.cm_class.specs.Reading.{many_at, number_at}
-use Rattle.cm_class.proofs.Loops.{goes_on, ends, is_done}
+use Rattle.cm_class.proofs.Loops.{goes_on, ends, is_done, fails_exactly}
 use Rattle.cm_class.proofs.members.many_numbers.Goals as goal
 
 pub returns-in_err-item : goal.returns-in_err-item
 returns-in_err-item c =
     let p = err_from_is_err_and c.from_residual-in_err-item.result c.from_residual-in_err-item.ensures.1 in
-    rw (p.1, p.2) (ends (number_at 2) c.in_err-item.field-0.0 c.loop.numbers.items c.args.count c.loop.counter c.loop.rest.now (many_at (number_at 2) c.args.count c.args.bytes.now) c.loop-test.true c.in_err-item.ensures c.loop.invariant)
+    rw (p.1, p.2) (ends (number_at 2) c.in_err-item.field-0.0 c.loop.numbers.items c.args.count c.loop.counter c.loop.rest.now (many_at (number_at 2) c.args.count c.args.bytes.now) c.loop-test.true (fails_exactly c.in_err-item.field-0.0 (number_at 2 c.loop.rest.now) c.in_err-item.ensures) c.loop.invariant)
 
 pub loop-preserved : goal.loop-preserved
 loop-preserved c =
