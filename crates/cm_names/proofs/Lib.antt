@@ -1,1 +1,5 @@
+pub mod Joining
+pub mod Judging
+pub mod Marking
+pub mod Stopping
 pub mod TextLoops

@@ -154,11 +154,11 @@ units_small bytes = by_test (begins_with 68 bytes || begins_with 74 bytes)
 
 -- ---- texts of which more is known
 
-both_true : (x y : Bool) → x && y ≡ true → (x ≡ true) × (y ≡ true)
+pub both_true : (x y : Bool) → x && y ≡ true → (x ≡ true) × (y ≡ true)
 both_true true y e = (refl, e)
 both_true false y e = absurd cc
 
-not_true : (x : Bool) → not x ≡ true → x ≡ false
+pub not_true : (x : Bool) → not x ≡ true → x ≡ false
 not_true true e = absurd cc
 not_true false e = refl
 

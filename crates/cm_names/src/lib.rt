@@ -2,8 +2,13 @@
 //! and descriptors (4.3).
 #![tactic(auto)]
 
+mod joined;
+mod judgement;
+mod marks;
+mod stops;
 mod text;
 
+pub use judgement::{Judgement, judge};
 pub use text::{
     begins_with, ends_in_void, first, is_class_name, is_field_descriptor, is_method_name, is_text,
     is_unqualified_name, method_units,

@@ -3,6 +3,9 @@ ghost use Rattle.std.specs.Prelude.{◌≡◌, ◌&&◌, ◌==◌, true, not, []
 ghost use Rattle.std.specs.List.{list_all};
 ghost use Rattle.cm_names.specs.Text.{is_within, less, greater, is_text, is_text_after, owed_after, is_name_byte, is_unqualified_name, is_method_name, is_class_name, name_after, is_base_type, after_class, after_field, is_field_descriptor, begins_with, is_array_descriptor, units_of_first, parameters, is_return_descriptor, method_units, ends_in_void};
 
+use crate::joined::are_names;
+use crate::stops::first_stop;
+
 /// Of an array (JVMS 4.4.1).
 const MAX_DIMENSIONS: usize = 255;
 
@@ -40,7 +43,7 @@ pub fn is_text(bytes: &[u8]) -> bool
 }
 
 /// Whether the bytes are a text, character by character.
-fn are_characters(bytes: &[u8]) -> bool
+pub(crate) fn are_characters(bytes: &[u8]) -> bool
     ensures { result ≡ is_text bytes.now }
 {
     let mut owed = 0;
@@ -120,7 +123,7 @@ pub fn is_class_name(bytes: &[u8]) -> bool
 }
 
 /// Whether the bytes are a class name, byte by byte.
-fn are_joined_names(bytes: &[u8]) -> bool
+pub(crate) fn are_joined_names(bytes: &[u8]) -> bool
     ensures { result ≡ is_class_name bytes.now }
 {
     let mut begins = true;
@@ -155,18 +158,13 @@ pub fn first(bytes: &[u8]) -> Option<(u8, &[u8])>
 fn after_class(bytes: &[u8]) -> Option<&[u8]>
     ensures { option_copied result ≡ after_class true bytes.now }
 {
-    let mut begins = true;
-    for (place, byte) in bytes.iter().enumerate() {
-        if *byte == b';' {
-            return if begins {
-                None
-            } else {
-                Some(bytes.split_at(place + 1).1)
-            };
-        }
-        begins = name_after(begins, *byte)?;
+    let (name, rest) = bytes.split_at(first_stop(bytes));
+    let (byte, behind) = first(rest)?;
+    if byte == b';' && are_names(name) {
+        Some(behind)
+    } else {
+        None
     }
-    None
 }
 
 /// What stands behind a field descriptor that is no array.

@@ -1,0 +1,65 @@
+-- What is found out of a text once.
+use Rattle.std.specs.Prelude.{ℕ, drop, Bool, List, not, ◌&&◌, ◌||◌, ◌==◌, if◌then◌else◌, bytes_eq}
+use Rattle.std.specs.List.{list_all}
+use lib.Lanes.{zip2}
+use Rattle.std.specs.Int.{w64, trailing_zeros}
+use Rattle.cm_names.specs.declared.judgement.Judgement.{Judgement}
+use Rattle.cm_names.specs.declared.marks.Marks.{Marks}
+use Rattle.cm_names.specs.Text.{dot, slash, semicolon, bracket, less, greater, init, clinit, is_within, is_text, is_unqualified_name, is_method_name, is_class_name, is_field_descriptor, method_units}
+
+unfoldable pub judgement : List ℕ → Judgement
+judgement bytes = record {
+  text = is_text bytes;
+  class_name = is_class_name bytes;
+  unqualified_name = is_unqualified_name bytes;
+  method_name = is_method_name bytes;
+  field_descriptor = is_field_descriptor bytes;
+  method_units = method_units bytes;
+}
+
+-- the two method names that have angles
+abbrev pub is_special_name : List ℕ → Bool
+is_special_name bytes = bytes_eq bytes init || bytes_eq bytes clinit
+
+-- ---- which kinds of bytes are not among some
+
+abbrev pub is_plain : ℕ → Bool
+is_plain b = is_within 0x01 0x7F b
+
+abbrev pub is_no_slash : ℕ → Bool
+is_no_slash b = not (b == slash)
+
+abbrev pub is_no_stop : ℕ → Bool
+is_no_stop b = not (b == dot) && not (b == semicolon) && not (b == bracket)
+
+abbrev pub is_no_angle : ℕ → Bool
+is_no_angle b = not (b == less) && not (b == greater)
+
+unfoldable pub marks_of : List ℕ → Marks
+marks_of bytes = record {
+  plain = list_all is_plain bytes;
+  no_slash = list_all is_no_slash bytes;
+  no_stop = list_all is_no_stop bytes;
+  no_angle = list_all is_no_angle bytes;
+}
+
+-- of some bytes and of others
+unfoldable pub both_marks : Marks → Marks → Marks
+both_marks a b = record {
+  plain = a.plain && b.plain;
+  no_slash = a.no_slash && b.no_slash;
+  no_stop = a.no_stop && b.no_stop;
+  no_angle = a.no_angle && b.no_angle;
+}
+
+-- the place of the lowest bit that is set, or n
+abbrev pub first_set : ℕ → ℕ → ℕ
+first_set mask n = if mask == 0 then n else trailing_zeros w64 mask
+
+-- each byte with the one behind it
+abbrev pub neighbours : List ℕ → List (ℕ × ℕ)
+neighbours bytes = zip2 (λ (a : ℕ) (b : ℕ). (a, b)) bytes (drop 1 bytes)
+
+-- not both are slashes
+abbrev pub are_apart : ℕ × ℕ → Bool
+are_apart p = not (p.0 == slash && p.1 == slash)

@@ -1,0 +1,92 @@
+//! What a text of a class is, found out all at once.
+ghost use Rattle.std.specs.Prelude.{◌≡◌};
+ghost use Rattle.cm_names.specs.Text.{is_text, is_class_name, is_unqualified_name, is_method_name, is_field_descriptor};
+ghost use Rattle.cm_names.specs.Judged.{judgement, marks_of, is_special_name};
+
+use crate::joined::are_names;
+use crate::marks::{Marks, marks_of};
+use crate::text::{are_characters, is_field_descriptor, method_units};
+
+/// What is found out of a text once, however many entries and members name it.
+#[derive(Clone, Copy, Debug, PartialEq, Eq)]
+pub struct Judgement {
+    /// Whether it has the form of a text (JVMS 4.4.7).
+    pub text: bool,
+    /// Whether it is a class name (JVMS 4.2.1).
+    pub class_name: bool,
+    /// Whether it is an unqualified name (JVMS 4.2.2).
+    pub unqualified_name: bool,
+    /// Whether it names a method (JVMS 4.2.2).
+    pub method_name: bool,
+    /// Whether it is a field descriptor (JVMS 4.3.2).
+    pub field_descriptor: bool,
+    /// The units of a method descriptor's parameters (JVMS 4.3.3).
+    pub method_units: Option<u8>,
+}
+
+/// Told by the marks: most texts are plain.
+fn is_marked_text(bytes: &[u8], marks: Marks) -> bool
+    requires { marks ≡ marks_of bytes.now }
+    ensures { result ≡ is_text bytes.now }
+{
+    marks.plain || are_characters(bytes)
+}
+
+/// Told by the marks alone.
+#[tactic(auto, using(crate::proofs::Judging::unqualified_by_marks))]
+fn is_marked_unqualified_name(bytes: &[u8], marks: Marks) -> bool
+    requires { marks ≡ marks_of bytes.now }
+    ensures { result ≡ is_unqualified_name bytes.now }
+{
+    !bytes.is_empty() & marks.no_stop & marks.no_slash
+}
+
+/// Told by the marks: most class names are unqualified names, and none has a stop.
+fn is_marked_class_name(bytes: &[u8], marks: Marks) -> bool
+    requires { marks ≡ marks_of bytes.now }
+    ensures { result ≡ is_class_name bytes.now }
+{
+    marks.no_stop && (is_marked_unqualified_name(bytes, marks) || are_names(bytes))
+}
+
+/// The two method names that have angles.
+fn is_special_name(bytes: &[u8]) -> bool
+    ensures { result ≡ is_special_name bytes.now }
+{
+    bytes == b"<init>".as_slice() || bytes == b"<clinit>".as_slice()
+}
+
+/// Told by the marks, and by comparing where there are angles.
+fn is_marked_method_name(bytes: &[u8], marks: Marks) -> bool
+    requires { marks ≡ marks_of bytes.now }
+    ensures { result ≡ is_method_name bytes.now }
+{
+    is_marked_unqualified_name(bytes, marks) && (marks.no_angle || is_special_name(bytes))
+}
+
+/// Told by the marks: without a `;` or a `[` it is one byte.
+fn is_marked_field_descriptor(bytes: &[u8], marks: Marks) -> bool
+    requires { marks ≡ marks_of bytes.now }
+    ensures { result ≡ is_field_descriptor bytes.now }
+{
+    if marks.no_stop && bytes.len() != 1 {
+        return false;
+    }
+    is_field_descriptor(bytes)
+}
+
+/// What the bytes are. Which kinds of bytes they have tells most of it.
+#[tactic(auto, unfolding(crate::specs::Judged::judgement))]
+pub fn judge(bytes: &[u8]) -> Judgement
+    ensures { result ≡ judgement bytes.now }
+{
+    let marks = marks_of(bytes);
+    Judgement {
+        text: is_marked_text(bytes, marks),
+        class_name: is_marked_class_name(bytes, marks),
+        unqualified_name: is_marked_unqualified_name(bytes, marks),
+        method_name: is_marked_method_name(bytes, marks),
+        field_descriptor: is_marked_field_descriptor(bytes, marks),
+        method_units: method_units(bytes),
+    }
+}
