@@ -1,9 +1,8 @@
 -- What is read from a slot is what was written there.
-use Rattle.std.proofs.Common.{◌≡◌, ℕ, ◌<◌, ◌≤◌, ◌-◌, ◌^◌, List, [], ◌∷◌, ◌++◌, length, take, drop, get_or, replicate, refl, sym, ap, ◌∙◌, arith}
+use Rattle.std.proofs.Common.{◌≡◌, ℕ, ◌<◌, ◌-◌, ◌^◌, List, length, take, drop, get_or, replicate, refl, sym, ap, ◌∙◌, arith}
 use Rattle.std.specs.Int.{w16, w32, w64, from_le_bytes, to_le_bytes}
 use Rattle.std.proofs.lemmas.Nat.{from_le_bytes-to_le_bytes_2, from_le_bytes-to_le_bytes_4, from_le_bytes-to_le_bytes_8}
 use Rattle.std.proofs.lemmas.List.{take_at}
-use Rattle.cm_pool.specs.declared.chunk.Chunk.{Chunk}
 use Rattle.cm_layout.specs.declared.heads.HalfHead.{HalfHead}
 use Rattle.cm_layout.specs.declared.heads.GroupHead.{GroupHead}
 use Rattle.cm_layout.specs.declared.entry.LoaderEntry.{LoaderEntry}

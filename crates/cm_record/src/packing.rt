@@ -1,5 +1,5 @@
 //! Bytes in words, and small numbers side by side in a word.
-ghost use Rattle.std.specs.Prelude.{◌≡◌, ◌<◌, ◌≤◌, ◌+◌, ◌*◌, ◌++◌, ℕ, length, take, drop, slice_index, OnOk};
+ghost use Rattle.std.specs.Prelude.{◌≡◌, ◌<◌, ◌≤◌, ◌+◌, ◌*◌, ◌++◌, ℕ, length, take, drop, slice_index, IfOk, OnOk};
 ghost use Rattle.cm_record.specs.Packing.{word_from, bytes_of as word_bytes_of, packed, packed_into, word_bytes, run_words as words_of_run, joined as joined_of};
 
 use std::alloc::AllocError;
@@ -57,14 +57,26 @@ pub(crate) fn run_words(count: usize) -> u64
     count / 8 + u64::from(count % 8 != 0)
 }
 
+/// Adds the words of whole eights of bytes. It gives the bytes behind them.
+fn push_eights<'a>(words: &mut Vec<u64>, bytes: &'a [u8]) -> Result<&'a [u8], AllocError>
+    ensures words { IfOk result (λ rest. words.new.items ++ packed rest.now ≡ words.old.items ++ packed bytes.now) }
+    ensures few { IfOk result (λ rest. length rest.now < 8) }
+{
+    let mut rest = bytes;
+    while let Some((eight, behind)) = rest.split_first_chunk::<8>() {
+        words.push(u64::from_le_bytes(*eight))?;
+        rest = behind;
+    }
+    Ok(rest)
+}
+
 /// Adds the run of these bytes.
 pub(crate) fn push_run(words: &mut Vec<u64>, bytes: &[u8]) -> Result<(), AllocError>
     ensures { OnOk result (words.new.items ≡ words.old.items ++ packed bytes.now) }
 {
-    let mut rest = bytes;
-    while !rest.is_empty() {
+    let rest = push_eights(words, bytes)?;
+    if !rest.is_empty() {
         words.push(word_of(rest))?;
-        rest = &rest[rest.len().min(8)..];
     }
     Ok(())
 }

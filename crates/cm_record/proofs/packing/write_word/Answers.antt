@@ -1,4 +1,3 @@
-use Rattle.std.proofs.Common.{◌≡◌}
 use Rattle.cm_record.proofs.Packed.{word_back}
 use Rattle.cm_record.proofs.packing.write_word.Goals as goal
 

@@ -1,0 +1,21 @@
+use Rattle.std.proofs.Common.{◌≡◌, ◌∙◌, ◌+◌, ap, sym, ◌++◌, ◌∷◌, [], drop, get_or, length, append_assoc, arith}
+use Rattle.std.proofs.lemmas.List.{get_or-take}
+use Rattle.cm_record.specs.Packing.{packed, word_from}
+use Rattle.cm_record.proofs.Packed.{packed_more, word_same}
+use Rattle.cm_record.proofs.packing.push_eights.Goals as goal
+
+pub loop-eight-preserved : goal.loop-eight-preserved
+loop-eight-preserved c =
+    let words = c.loop-eight.words.items in
+    let rest = c.loop-eight.rest.now in
+    let behind = c.in-Some.behind.now in
+    let parts = c.in-Some.ensures.cases in
+    let enough : length behind + 8 ≡ length rest = parts.2 in
+    let word_is : c.from_le_bytes.result ≡ word_from rest =
+    c.from_le_bytes.ensures ∙ word_same c.in-Some.eight.now rest (λ k lt. ap (λ xs. get_or xs k 0) parts.0 ∙ get_or-take 8 rest k 0 lt) in
+    let more : packed rest ≡ word_from rest ∷ packed (drop 8 rest) = packed_more rest 8 (omega (arith, enough)) (omega (arith, enough)) in
+    ap (λ xs. xs ++ packed behind) c.in_ok-push.ensures.items
+    ∙ append_assoc words (c.from_le_bytes.result ∷ []) (packed behind)
+    ∙ (λ i. words ++ word_is i ∷ packed (parts.1 i))
+    ∙ ap (λ xs. words ++ xs) (sym more)
+    ∙ c.loop-eight.invariant
