@@ -7,3 +7,5 @@ pub mod Searches
 pub mod RulesInOrder
 pub mod OneAnswer
 pub mod FirstFault
+pub mod KeptRules
+pub mod Prints

@@ -3,7 +3,7 @@ use Rattle.std.proofs.Common.{◌≡◌, ◌⊎◌, inl, inr, ⊎_elim, ℕ, Lis
 use Rattle.cm_class.specs.declared.class_file.ClassFile.{ClassFile}
 use Rattle.cm_class.specs.declared.fault.ShapeFault.{ShapeFault}
 use Rattle.cm_class.specs.declared.fault.ShapeFault.TheVariants as shapes
-use Rattle.cm_class.specs.Shape.{IsAnswer}
+use Rattle.cm_class.specs.Shape.{IsSpelling, IsAnswer}
 use Rattle.cm_class.proofs.Shapes.{one_answer}
 use Rattle.cm_rules.specs.declared.rule.Broken.{Broken}
 use Rattle.cm_rules.specs.declared.fault.ClassFault.{ClassFault}
@@ -77,13 +77,13 @@ pub one_reading : (bytes : List ℕ) (r s : Reading) → IsReading bytes r → I
 one_reading bytes r s h k = same_shape bytes r s h k (one_answer bytes (shape_of bytes r h) (shape_of bytes s k) (shape_is bytes r h) (shape_is bytes s k))
 
 -- what was answered is so, or memory was refused
-answered : (bytes : List ℕ) (r : Reading) → IsUnlessRefused bytes r → IsReading bytes r ⊎ (r ≡ Err NoMemory)
+answered : (bytes : List ℕ) (r : Reading) → IsUnlessRefused bytes r → IsReading bytes r ⊎ ((r ≡ Err NoMemory) × IsSpelling bytes)
 answered bytes (Ok c) h = inl h
 answered bytes (Err Truncated) h = inl h
 answered bytes (Err (Trailing at)) h = inl h
 answered bytes (Err (Malformed at)) h = inl h
 answered bytes (Err (Rule broken)) h = inl h
-answered bytes (Err NoMemory) h = inr refl
+answered bytes (Err NoMemory) h = inr (refl, h)
 
-pub only_reading : (bytes : List ℕ) (r : Reading) → IsUnlessRefused bytes r → (s : Reading) → IsReading bytes s → (r ≡ s) ⊎ (r ≡ Err NoMemory)
+pub only_reading : (bytes : List ℕ) (r : Reading) → IsUnlessRefused bytes r → (s : Reading) → IsReading bytes s → (r ≡ s) ⊎ ((r ≡ Err NoMemory) × IsSpelling bytes)
 only_reading bytes r h s k = ⊎_elim (λ mine. inl (one_reading bytes r s mine k)) (λ e. inr e) (answered bytes r h)

@@ -1,13 +1,20 @@
 -- What a table has of each slot.
 use Rattle.std.proofs.Common.{◌≡◌, ℕ, zero, suc, ◌-◌, List, [], ◌∷◌, map, refl, ap, ◌∙◌, arith}
-use Rattle.std.specs.Prelude.{slice_get, unwrap_or, option_and_then}
+use Rattle.std.specs.Prelude.{◌&&◌, slice_get, unwrap_or, option_and_then}
+use Rattle.std.specs.List.{list_all}
 use Rattle.std.specs.Option.{option_map_or}
+use Rattle.cm_class.specs.declared.constant.Constant.{Constant}
+use Rattle.cm_class.specs.declared.constant.Constant.TheVariants as constant
 use Rattle.cm_class.specs.declared.constant.Slot.{Slot}
 use Rattle.cm_class.specs.declared.constant.Slot.TheVariants.{Usable, Unusable}
 use Rattle.cm_class.specs.declared.class_file.ClassFile.{ClassFile}
-use Rattle.cm_rules.specs.declared.judgement.Judgement.{Judgement}
+use Rattle.cm_names.specs.declared.judgement.Judgement.{Judgement}
 use Rattle.cm_rules.specs.Entries.{usable, text, text_of}
-use Rattle.cm_rules.specs.Judged.{judgement, judged}
+use Rattle.cm_names.specs.Judged.{judgement}
+use Rattle.cm_names.specs.Text.{is_text, is_text_after}
+use Rattle.cm_rules.specs.Judged.{judged}
+use Rattle.cm_rules.specs.Fault.{in_slot}
+use Rattle.cm_rules.specs.PoolRules.{text_has_form}
 
 look_up : (slots : List Slot) (i : ℕ) → unwrap_or (slice_get (map judged slots) i) (judgement []) ≡ judgement (option_map_or text_of (option_and_then usable (slice_get slots i)) [])
 look_up [] i = refl
@@ -25,3 +32,30 @@ at_index c table (suc i) is nonzero =
 
 pub at_zero : (c : ClassFile) → judgement [] ≡ judgement (text c 0)
 at_zero c = refl
+
+-- ---- the form of texts; no bytes have it too
+
+text_in_slot : (slot : Slot) → (judged slot).text ≡ in_slot text_has_form slot
+unfolding judgement is_text is_text_after
+text_in_slot Unusable = refl
+text_in_slot (Usable c) = of c
+  where
+    of : (c : Constant) → (judged (Usable c)).text ≡ in_slot text_has_form (Usable c)
+    of (constant.Utf8 bytes) = refl
+    of (constant.Integer n) = refl
+    of (constant.Float n) = refl
+    of (constant.Long n) = refl
+    of (constant.Double n) = refl
+    of (constant.Class n) = refl
+    of (constant.String n) = refl
+    of (constant.Fieldref n m) = refl
+    of (constant.Methodref n m) = refl
+    of (constant.InterfaceMethodref n m) = refl
+    of (constant.NameAndType n m) = refl
+    of (constant.MethodHandle n m) = refl
+    of (constant.MethodType n) = refl
+    of (constant.InvokeDynamic n m) = refl
+
+pub texts_in_table : (slots : List Slot) → list_all (λ found. found.text) (map judged slots) ≡ list_all (in_slot text_has_form) slots
+texts_in_table [] = refl
+texts_in_table (slot ∷ slots) = (λ i. text_in_slot slot i && texts_in_table slots i)

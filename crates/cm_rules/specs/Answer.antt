@@ -3,7 +3,7 @@ use Rattle.std.specs.Prelude.{◌≡◌, ℕ, List, Some, None, Result, Ok, Err}
 use Rattle.cm_class.specs.declared.class_file.ClassFile.{ClassFile}
 use Rattle.cm_class.specs.declared.fault.ShapeFault.{ShapeFault}
 use Rattle.cm_class.specs.declared.fault.ShapeFault.TheVariants as shapes
-use Rattle.cm_class.specs.Shape.{Spells, IsTruncated, IsTrailing, IsMalformed}
+use Rattle.cm_class.specs.Shape.{Spells, IsSpelling, IsTruncated, IsTrailing, IsMalformed}
 use Rattle.cm_rules.specs.declared.rule.Broken.{Broken}
 use Rattle.cm_rules.specs.declared.fault.ClassFault.{ClassFault}
 use Rattle.cm_rules.specs.declared.fault.ClassFault.TheVariants.{Truncated, Trailing, Malformed, Rule, NoMemory}
@@ -18,13 +18,13 @@ pub record IsRight (bytes : List ℕ) (c : ClassFile) : Type 0 where
 abbrev pub IsBroken : List ℕ → Broken → Type 0
 IsBroken bytes broken = (c : ClassFile) × Spells bytes c × (fault c ≡ Some broken)
 
--- of a fault; nothing is said once memory was refused
+-- of a fault; that memory was refused is told only of bytes that spell a class
 abbrev pub IsWrong : List ℕ → ClassFault → Type 0
 IsWrong bytes Truncated = IsTruncated bytes
 IsWrong bytes (Trailing at) = IsTrailing bytes at
 IsWrong bytes (Malformed at) = IsMalformed bytes at
 IsWrong bytes (Rule broken) = IsBroken bytes broken
-IsWrong bytes NoMemory = Unit {0}
+IsWrong bytes NoMemory = IsSpelling bytes
 
 -- of an answer; that memory was refused is none
 abbrev pub IsReading : List ℕ → Result ClassFile ClassFault → Type 0

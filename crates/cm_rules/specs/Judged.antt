@@ -2,21 +2,12 @@
 use Rattle.std.specs.Prelude.{ℕ, ◌+◌, ◌<◌, ◌^◌, length, List, []}
 use Rattle.cm_class.specs.declared.constant.Slot.{Slot}
 use Rattle.cm_class.specs.declared.constant.Slot.TheVariants.{Usable, Unusable}
-use Rattle.cm_rules.specs.declared.judgement.Judgement.{Judgement}
+use Rattle.cm_names.specs.declared.judgement.Judgement.{Judgement}
+use Rattle.cm_names.specs.Judged.{judgement}
 use Rattle.cm_class.specs.declared.class_file.ClassFile.{ClassFile}
 use Rattle.cm_rules.specs.declared.judgement.Places.{Places}
 use Rattle.cm_rules.specs.ClassRules.{place_named, source_file, enclosing_method, inner_classes, bootstrap_methods}
-use Rattle.cm_names.specs.Text.{is_unqualified_name, is_method_name, is_class_name, is_field_descriptor, method_units}
 use Rattle.cm_rules.specs.Entries.{text_of}
-
-unfoldable pub judgement : List ℕ → Judgement
-judgement bytes = record {
-  class_name = is_class_name bytes;
-  unqualified_name = is_unqualified_name bytes;
-  method_name = is_method_name bytes;
-  field_descriptor = is_field_descriptor bytes;
-  method_units = method_units bytes;
-}
 
 abbrev pub slot_text : Slot → List ℕ
 slot_text (Usable c) = text_of c

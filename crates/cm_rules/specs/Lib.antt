@@ -8,3 +8,5 @@ pub mod Numbers
 pub mod Judged
 pub mod Answer
 pub mod Least
+pub mod Apart
+pub mod Kept

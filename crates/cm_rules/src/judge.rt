@@ -1,22 +1,32 @@
 ghost use Rattle.std.specs.Prelude.{◌≡◌, map, slice_get, IfOk};
 ghost use Rattle.std.specs.Option.{ForSome};
+ghost use Rattle.std.specs.List.{list_all};
+ghost use Rattle.cm_rules.specs.Fault.{in_slot};
+ghost use Rattle.cm_rules.specs.PoolRules.{text_has_form};
 ghost use Rattle.cm_rules.specs.Entries.{text};
 ghost use Rattle.cm_names.specs.Text.{is_class_name, is_unqualified_name, is_method_name, is_field_descriptor, is_array_descriptor, is_method_descriptor, method_units};
 ghost use Rattle.cm_rules.specs.ClassRules.{bootstrap_count as bootstrap_count_of, is_first};
-ghost use Rattle.cm_rules.specs.Judged.{judgement, judged, places_of, SizesFit};
+ghost use Rattle.cm_names.specs.Judged.{judgement};
+ghost use Rattle.cm_rules.specs.Judged.{judged, places_of, SizesFit};
 
 use crate::entries::text;
 use crate::firsts::Firsts;
-use crate::judgement::{Judgement, Places, bootstrap_count, find_places, judge, judgements};
+use crate::judgement::{Places, bootstrap_count, find_places, judge_nothing, judgements};
 use crate::member_rules::is_first;
 use cm_class::{Class, Member};
-use cm_names::begins_with;
+use cm_names::{Judgement, begins_with};
 use std::alloc::{AllocError, Global};
 
 fn judgement_at(table: &[Judgement], place: usize) -> Option<Judgement>
     ensures { result ≡ slice_get table.now place }
 {
     table.get(place).copied()
+}
+
+fn all_have_form(table: &[Judgement]) -> bool
+    ensures { result ≡ list_all (λ found. found.text) table.now }
+{
+    table.iter().all(|found| found.text)
 }
 
 /// How many fields, and how many methods, are few: so many are compared pair by pair in less time than it
@@ -34,7 +44,8 @@ pub(crate) struct Judge<'a> {
     table: Vec<Judgement>,
     pub(crate) places: Places,
     pub(crate) bootstrap_count: u16,
-    /// Of a class that has many members; those of others are compared pair by pair.
+    /// Of a class that has many members, once a broken rule is looked for; without them members are
+    /// compared pair by pair.
     firsts: Option<Firsts<'a>>,
     ghost of_class: { table.items ≡ map judged class.now.slots },
     ghost sized: { SizesFit class.now },
@@ -49,16 +60,36 @@ impl<'a> Judge<'a> {
     {
         let _flags = class.flags();
         let table = judgements(alloc, class)?;
-        let firsts = if has_few_members(class) {
-            None
-        } else {
-            Some(Firsts::new(alloc, class)?)
-        };
         Ok(Judge {
             class,
             table,
             places: find_places(class),
             bootstrap_count: bootstrap_count(class),
+            firsts: None,
+        })
+    }
+
+    /// The same, with the first places of its members, where these are many. Only the search for a broken
+    /// rule needs them.
+    pub(crate) fn with_firsts(self, alloc: Global) -> Result<Judge<'a>, AllocError>
+        ensures { IfOk result (λ judge. judge.class.now ≡ self.entry.class.now) }
+    {
+        if has_few_members(self.class) {
+            return Ok(self);
+        }
+        let firsts = Some(Firsts::new(alloc, self.class)?);
+        let Judge {
+            class,
+            table,
+            places,
+            bootstrap_count,
+            ..
+        } = self;
+        Ok(Judge {
+            class,
+            table,
+            places,
+            bootstrap_count,
             firsts,
         })
     }
@@ -83,21 +114,29 @@ impl<'a> Judge<'a> {
         }
     }
 
+    /// Whether each text has its form.
+    #[tactic(auto, using(crate::proofs::Tables::texts_in_table))]
+    pub(crate) fn texts_have_form(&self) -> bool
+        ensures { result ≡ list_all (in_slot text_has_form) self.now.class.now.slots }
+    {
+        all_have_form(&self.table)
+    }
+
     /// What was found out of the text at an index; of no bytes, where there is no text.
     pub(crate) fn judgement(&self, index: u16) -> Judgement
         ensures { result ≡ judgement (text self.now.class.now index) }
     {
         if index == 0 {
-            return judge(&[]);
+            return judge_nothing();
         }
         match judgement_at(&self.table, usize::from(index) - 1) {
             Some(found) => found,
-            None => judge(&[]),
+            None => judge_nothing(),
         }
     }
 
     /// Whether the text at an index is a class name.
-    #[tactic(auto, unfolding(crate::specs::Judged::judgement))]
+    #[tactic(auto, unfolding(cm_names::specs::Judged::judgement))]
     pub(crate) fn names_class_name(&self, index: u16) -> bool
         ensures { result ≡ is_class_name (text self.now.class.now index) }
     {
@@ -105,7 +144,7 @@ impl<'a> Judge<'a> {
     }
 
     /// Whether it is an unqualified name.
-    #[tactic(auto, unfolding(crate::specs::Judged::judgement))]
+    #[tactic(auto, unfolding(cm_names::specs::Judged::judgement))]
     pub(crate) fn names_unqualified_name(&self, index: u16) -> bool
         ensures { result ≡ is_unqualified_name (text self.now.class.now index) }
     {
@@ -113,7 +152,7 @@ impl<'a> Judge<'a> {
     }
 
     /// Whether it is a method's name.
-    #[tactic(auto, unfolding(crate::specs::Judged::judgement))]
+    #[tactic(auto, unfolding(cm_names::specs::Judged::judgement))]
     pub(crate) fn names_method_name(&self, index: u16) -> bool
         ensures { result ≡ is_method_name (text self.now.class.now index) }
     {
@@ -121,7 +160,7 @@ impl<'a> Judge<'a> {
     }
 
     /// Whether it is a field descriptor.
-    #[tactic(auto, unfolding(crate::specs::Judged::judgement))]
+    #[tactic(auto, unfolding(cm_names::specs::Judged::judgement))]
     pub(crate) fn names_field_descriptor(&self, index: u16) -> bool
         ensures { result ≡ is_field_descriptor (text self.now.class.now index) }
     {
@@ -129,7 +168,7 @@ impl<'a> Judge<'a> {
     }
 
     /// The units of the method descriptor at an index.
-    #[tactic(auto, unfolding(crate::specs::Judged::judgement))]
+    #[tactic(auto, unfolding(cm_names::specs::Judged::judgement))]
     pub(crate) fn method_units(&self, index: u16) -> Option<u8>
         ensures { result ≡ method_units (text self.now.class.now index) }
     {

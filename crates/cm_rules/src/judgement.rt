@@ -1,36 +1,25 @@
-ghost use Rattle.std.specs.Prelude.{◌≡◌, map, position, IfOk};
+ghost use Rattle.std.specs.Prelude.{◌≡◌, [], map, position, IfOk};
 ghost use Rattle.cm_rules.specs.ClassRules.{is_attribute, place_named, rows_of, bootstrap_count};
-ghost use Rattle.cm_rules.specs.Judged.{judgement, judged, places_of};
+ghost use Rattle.cm_names.specs.Judged.{judgement};
+ghost use Rattle.cm_rules.specs.Judged.{judged, places_of};
 
 use crate::attribute_rules::is_attribute;
 use crate::contents::{bootstrap_methods_are_formed, count_of};
 use cm_class::{Attribute, Class, Constant, Slot};
-use cm_names::{
-    is_class_name, is_field_descriptor, is_method_name, is_unqualified_name, method_units,
-};
+use cm_names::{Judgement, judge};
 use std::alloc::{AllocError, Global};
 
-/// What is found out of a text once, however many entries and members name it.
-#[derive(Clone, Copy, Debug)]
-pub(crate) struct Judgement {
-    pub(crate) class_name: bool,
-    pub(crate) unqualified_name: bool,
-    pub(crate) method_name: bool,
-    pub(crate) field_descriptor: bool,
-    /// The units of a method descriptor's parameters.
-    pub(crate) method_units: Option<u8>,
-}
-
-#[tactic(auto, unfolding(crate::specs::Judged::judgement))]
-pub(crate) fn judge(bytes: &[u8]) -> Judgement
-    ensures { result ≡ judgement bytes.now }
+/// What is found out of no bytes.
+pub(crate) fn judge_nothing() -> Judgement
+    ensures { result ≡ judgement [] }
 {
     Judgement {
-        class_name: is_class_name(bytes),
-        unqualified_name: is_unqualified_name(bytes),
-        method_name: is_method_name(bytes),
-        field_descriptor: is_field_descriptor(bytes),
-        method_units: method_units(bytes),
+        text: true,
+        class_name: false,
+        unqualified_name: false,
+        method_name: false,
+        field_descriptor: false,
+        method_units: None,
     }
 }
 
@@ -39,7 +28,7 @@ fn judge_slot(slot: &Slot) -> Judgement
 {
     match slot {
         Slot::Usable(Constant::Utf8(bytes)) => judge(bytes.as_slice()),
-        _ => judge(&[]),
+        _ => judge_nothing(),
     }
 }
 

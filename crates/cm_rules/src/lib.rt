@@ -2,6 +2,7 @@
 //! whose shape is right.
 #![tactic(auto)]
 
+mod apart;
 mod attribute_rules;
 mod class_rules;
 mod contents;
@@ -11,6 +12,7 @@ mod firsts;
 mod flags;
 mod judge;
 mod judgement;
+mod keeps;
 mod laws;
 mod member_rules;
 mod numbers;

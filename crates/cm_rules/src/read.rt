@@ -2,10 +2,12 @@ ghost use Rattle.std.specs.Prelude.{◌≡◌, ◌⊎◌, IfOk, IfErr, Result};
 ghost use Rattle.cm_class.specs.declared.class_file.ClassFile.{ClassFile};
 ghost use Rattle.cm_rules.specs.declared.fault.ClassFault.{ClassFault};
 ghost use Rattle.cm_rules.specs.Fault.{fault, first_of, all_rules};
+ghost use Rattle.cm_class.specs.Shape.{IsSpelling};
 ghost use Rattle.cm_rules.specs.Answer.{IsRight, IsWrong, IsReading, IsUnlessRefused, class_fault_of};
 
 use crate::fault::ClassFault;
 use crate::judge::Judge;
+use crate::keeps::keeps_rules;
 use crate::rule::{Broken, Rule};
 use crate::search::broken_spot;
 use cm_class::{Class, ShapeFault, read_shape};
@@ -53,12 +55,17 @@ fn first_of(judge: &Judge, rules: &[Rule]) -> Option<Broken>
 }
 
 /// The first rule that a class breaks, with the first spot where it does; `None` where it keeps them
-/// all. Each text is judged once, however many entries and members name it.
+/// all. Each text is judged once, however many entries and members name it. Only where one pass finds
+/// that the class breaks some rule is the first of them looked for.
 #[tactic(auto, unfolding(crate::specs::Fault::fault))]
 pub fn first_fault(alloc: Global, class: &Class) -> Result<Option<Broken>, AllocError>
     ensures { IfOk result (λ found. found ≡ fault class.now) }
 {
     let judge = Judge::new(alloc, class)?;
+    if keeps_rules(alloc, &judge)? {
+        return Ok(None);
+    }
+    let judge = judge.with_firsts(alloc)?;
     Ok(first_of(&judge, &RULES))
 }
 
@@ -89,15 +96,15 @@ fn judged(alloc: Global, bytes: &[u8]) -> Result<Class, ClassFault>
 /// Reads a class of version 52.0 from all of the bytes, and judges it by the rules.
 ///
 /// It is refused exactly where the bytes spell no class file, with the one fault of their shape, or
-/// where the class breaks a rule, with the first such rule and its first spot; or with `NoMemory`
-/// where memory was refused.
+/// where the class breaks a rule, with the first such rule and its first spot; or with `NoMemory`,
+/// where they spell a class file and memory was refused: a fault of their shape is told in any case.
 pub fn read_class(alloc: Global, bytes: &[u8]) -> Result<Class, ClassFault>
     ensures ok { IfOk result (IsRight bytes.now) }
     ensures fault { IfErr result (IsWrong bytes.now) }
 
-    // What is so is answered, unless memory was refused.
+    // What is so is answered, unless the bytes spell a class file and memory was refused.
     ensures only { (answer : Result ClassFile ClassFault) → IsReading bytes.now answer
-        → (result ≡ answer) ⊎ (result ≡ Err ClassFault.NoMemory) }
+        → (result ≡ answer) ⊎ ((result ≡ Err ClassFault.NoMemory) × IsSpelling bytes.now) }
 {
     judged(alloc, bytes)
 }

@@ -162,3 +162,75 @@ fn twice(rt: HostRuntime) -> Result<(), Fail> {
     }
     Ok(())
 }
+
+/// The fields of five names with each base type, and others behind them.
+fn crossed(rt: &HostRuntime, others: &[Item]) -> Result<Vec<Item>, Fail> {
+    let mut fields = Vec::new(rt.alloc());
+    for name in 5..10_u16 {
+        for descriptor in 10..18_u16 {
+            fields.push((1, name, descriptor))?;
+        }
+    }
+    fields.extend_from_slice(others)?;
+    Ok(fields)
+}
+
+fn found_in_fields<'a>(
+    rt: &HostRuntime,
+    entries: &'a [Entry<'a>],
+    fields: &'a [Item],
+) -> Result<Found, Fail> {
+    let draft = Draft {
+        entries,
+        fields,
+        ..PLAIN
+    };
+    found(rt, draft)
+}
+
+/// Two names that differ in the middle alone.
+const NAME_A: &[u8] =
+    b"the front of a name that is a long one, a, and the back of a name that is a long one";
+
+const NAME_B: &[u8] =
+    b"the front of a name that is a long one, b, and the back of a name that is a long one";
+
+const MANY: &[Entry<'static>] = &[
+    Entry::Text(b"a"),
+    Entry::Text(b"b"),
+    Entry::Text(b"c"),
+    Entry::Text(b"d"),
+    Entry::Text(b"e"),
+    Entry::Text(b"B"),
+    Entry::Text(b"C"),
+    Entry::Text(b"D"),
+    Entry::Text(b"F"),
+    Entry::Text(b"I"),
+    Entry::Text(b"J"),
+    Entry::Text(b"S"),
+    Entry::Text(b"Z"),
+    Entry::Text(b"a"),
+    Entry::Text(NAME_A),
+    Entry::Text(NAME_B),
+];
+
+/// Among many fields too those are told apart that differ, also in the middle of a long name alone.
+#[test]
+fn many(rt: HostRuntime) -> Result<(), Fail> {
+    let rows: [(&[Item], Found); 5] = [
+        (&[], None),
+        (&[(1, 9, 17)], Some((15, Spot::Field(40)))),
+        (&[(1, 18, 10)], Some((15, Spot::Field(40)))),
+        (&[(1, 19, 10), (1, 20, 10)], None),
+        (
+            &[(1, 19, 10), (1, 20, 10), (1, 19, 10)],
+            Some((15, Spot::Field(42))),
+        ),
+    ];
+    for (row, (others, expected)) in rows.into_iter().enumerate() {
+        let fields = crossed(&rt, others)?;
+        let found = found_in_fields(&rt, MANY, fields.as_slice())?;
+        assert_eq!(rt; found, expected, "row {row}");
+    }
+    Ok(())
+}

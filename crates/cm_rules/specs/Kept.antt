@@ -1,0 +1,39 @@
+-- What one pass over a class asks of each of its parts: all that the rules say of a part of its sort.
+use Rattle.std.specs.Prelude.{ℕ, Bool, ◌&&◌, List, drop}
+use Rattle.std.specs.List.{list_all}
+use Rattle.cm_class.specs.declared.constant.Constant.{Constant}
+use Rattle.cm_class.specs.declared.class_file.Attribute.{Attribute}
+use Rattle.cm_class.specs.declared.class_file.Member.{Member}
+use Rattle.cm_class.specs.declared.class_file.ClassFile.{ClassFile}
+use Rattle.cm_rules.specs.declared.rule.Rule.{Rule}
+use Rattle.cm_rules.specs.Fault.{all_rules, pool_rule, this_rule, super_rule, interface_rule, attribute_rule}
+use Rattle.cm_rules.specs.ClassRules.{names_texts, field_is_named, field_flags_agree, method_is_named, units_fit, method_flags_agree, code_count_is_right, code_has_form, field_attributes_are_right, method_attributes_are_right}
+
+-- all but the first, which speaks of texts alone
+abbrev pub later_rules : List Rule
+later_rules = drop 1 all_rules
+
+unfoldable pub constant_keeps : ClassFile → Constant → Bool
+constant_keeps c constant = list_all (λ rule. pool_rule rule c constant) later_rules
+
+unfoldable pub this_keeps : ClassFile → Bool
+this_keeps c = list_all (λ rule. this_rule rule c) all_rules
+
+unfoldable pub super_keeps : ClassFile → Bool
+super_keeps c = list_all (λ rule. super_rule rule c) all_rules
+
+unfoldable pub interface_keeps : ClassFile → ℕ → Bool
+interface_keeps c index = list_all (λ rule. interface_rule rule c index) all_rules
+
+-- of a field, but that no other is the same
+unfoldable pub field_keeps : ClassFile → Member → Bool
+field_keeps c m = names_texts c m && (field_is_named c m && (field_flags_agree c m.flags && field_attributes_are_right c m))
+
+-- of a method, but that no other is the same
+unfoldable pub method_keeps : ClassFile → Member → Bool
+method_keeps c m =
+    names_texts c m && (method_is_named c m && (units_fit c m && (method_flags_agree c m
+    && (code_count_is_right c m && (code_has_form c m && method_attributes_are_right c m)))))
+
+unfoldable pub attribute_keeps : ClassFile → ℕ → Attribute → Bool
+attribute_keeps c i a = list_all (λ rule. attribute_rule rule c i a) all_rules
