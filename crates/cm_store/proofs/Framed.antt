@@ -1,5 +1,5 @@
 -- A text of the narrow form frames its rows, as the region file's rules say it of any text.
-use Rattle.std.proofs.Common.{◌≡◌, ◌⊎◌, ℕ, ◌+◌, ◌*◌, ◌^◌, ◌<◌, ◌≤◌, List, [], ◌∷◌, ◌++◌, length, map, All, get_or, refl, sym, ap, subst, ◌∙◌, append_assoc, arith, inl, inr}
+use Rattle.std.proofs.Common.{◌≡◌, ℕ, ◌+◌, ◌<◌, ◌≤◌, List, [], ◌∷◌, ◌++◌, length, map, All, get_or, refl, sym, ap, subst, ◌∙◌, append_assoc, arith, inl, inr}
 use Rattle.std.specs.List.{AllByRecursion, flat_map}
 use Rattle.std.proofs.lemmas.List.{length-append, length-map, append-nil}
 use Rattle.std.proofs.lemmas.List.Elements.{All-nil, All-cons}
@@ -13,7 +13,7 @@ use Rattle.cm_layout.specs.declared.entry.Entry.{Entry}
 use Rattle.cm_layout.specs.declared.entry.Entry.TheVariants.{Loader, Define}
 use Rattle.cm_layout.specs.Slots.{FitsEntry}
 use Rattle.cm_layout.specs.Rows.{classes_in, DefineKeepsRules, EntryKeepsRules, GroupsKeepRules, rows_after_all}
-use Rattle.cm_layout.specs.Region.{Frames, Counts, groups_bytes, IsGoodHalf, IsGoodHead, Half, half_bytes, rows_of, number_at_end, HoldsRow}
+use Rattle.cm_layout.specs.Region.{Frames, groups_bytes, IsGoodHalf, Half, half_bytes}
 use Rattle.cm_layout.specs.State.{Row, LoaderRow, ClassRow, entry_of, entries_of, framed}
 use Rattle.cm_store.specs.Listed.{Listed}
 use Rattle.cm_store.specs.Narrow.{first_head, singles}

@@ -2,7 +2,7 @@
 -- given.
 use Rattle.std.proofs.Common.{◌≡◌, ◌≢◌, ℕ, zero, suc, ◌+◌, ◌*◌, ◌<◌, ◌≤◌, List, [], ◌∷◌, ◌++◌, length, take, drop, get_or, map, refl, sym, ap, subst, ◌∙◌, append_assoc, arith}
 use Rattle.std.specs.List.{AllByRecursion}
-use Rattle.std.proofs.lemmas.List.{length-append, length-take, length-drop, length-map, take_at, drop_at, append-nil, take-append-drop, drop-drop, drop_more}
+use Rattle.std.proofs.lemmas.List.{length-append, length-drop, length-map, take_at, drop_at, take-append-drop, drop-drop, drop_more}
 use Rattle.cm_layout.specs.declared.entry.Entry.{Entry}
 use Rattle.cm_layout.specs.Slots.{FitsEntry}
 use Rattle.cm_layout.specs.Region.{IsEnd, HoldsRow, group_bytes, groups_bytes}
@@ -13,7 +13,6 @@ use Rattle.cm_store.specs.Replay.{ReplayValue, IsReplay, IsGroupOf, IsJournal}
 use Rattle.cm_store.proofs.Narrowed.{groups-append, fits-append, length-group, length-groups}
 use Rattle.cm_store.proofs.Opened.{all-append, framed-append}
 use Rattle.cm_store.proofs.RowLemmas.{entries_of-append}
-use Rattle.cm_store.proofs.Written.{take_next}
 
 -- ---- a gate
 

@@ -1,17 +1,16 @@
 -- One text is at most one cache: its groups tell the rows, and the rows tell what a directory lists.
-use Rattle.std.proofs.Common.{◌≡◌, ◌≢◌, ℕ, ◌+◌, ◌*◌, List, [], ◌∷◌, ◌++◌, length, take, drop, map, Option, Some, None, refl, sym, ap, subst, ◌∙◌, append_assoc, arith}
+use Rattle.std.proofs.Common.{◌≡◌, ℕ, ◌+◌, ◌*◌, List, [], ◌∷◌, ◌++◌, length, take, drop, map, Option, Some, None, refl, sym, ap, subst, ◌∙◌, append_assoc}
 use Rattle.std.specs.List.{AllByRecursion}
 use Rattle.std.specs.Option.{is_some, option_and_then}
 use Rattle.std.specs.FinMap.{get, same_map}
 use Rattle.std.specs.Cmp.Lexicographic.{nat_list_cmp_total}
-use Rattle.std.proofs.lemmas.List.{length-append, take_at, drop_at}
+use Rattle.std.proofs.lemmas.List.{take_at, drop_at}
 use Rattle.cm_class.specs.declared.class_file.ClassFile.{ClassFile}
 use Rattle.cm_class.specs.Spelling.{HasSpelling}
 use Rattle.cm_record.specs.Layout.{lay}
 use Rattle.cm_record.specs.Packing.{packed_into}
 use Rattle.cm_layout.specs.declared.entry.LoaderEntry.{LoaderEntry}
 use Rattle.cm_layout.specs.declared.entry.DefineEntry.{DefineEntry}
-use Rattle.cm_layout.specs.declared.entry.Entry.{Entry}
 use Rattle.cm_layout.specs.declared.entry.Entry.TheVariants.{Loader, Define}
 use Rattle.cm_layout.specs.Slots.{FitsEntry}
 use Rattle.cm_layout.specs.Rows.{classes_in}
@@ -88,11 +87,13 @@ same_listed rows one other h g =
     (λ q. same_inner (get one.classes q) (get other.classes q) (h.loaders q ∙ sym (g.loaders q)) (λ name. h.classes q name ∙ sym (g.classes q name))) in
     (λ i. record { numbers = numbers i; classes = classes i })
 
-pub one_cache : LayoutTells → (text : List ℕ) (one other : Listed) (n k m j : ℕ) → IsOpen default_sizes text one n k → IsOpen default_sizes text other m j → (one ≡ other) × (n ≡ m) × (k ≡ j)
+pub one_cache : LayoutTells → (text : List ℕ) (one other : Listed) (n k m j : ℕ) (h : IsOpen default_sizes text one n k) (g : IsOpen default_sizes text other m j)
+    → (h.rows ≡ g.rows) × (one ≡ other) × (n ≡ m) × (k ≡ j)
 one_cache tells text one other n k m j h g =
     let p = open_journal text one n k h in
     let q = open_journal text other m j g in
     let rows : h.rows ≡ g.rows = same_rows tells _ 0 [] h.rows g.rows p.behind q.behind h.follows g.follows p.fits q.fits p.held q.held p.end q.end (sym p.bytes ∙ q.bytes) in (
+      rows,
       same_listed g.rows one other (subst (λ r. Lists r one) rows h.lists) g.lists,
       h.commands_are ∙ ap length rows ∙ sym g.commands_are,
       h.classes_are ∙ ap (λ r. length (classes_in (entries_of r))) rows ∙ sym g.classes_are,

@@ -7,7 +7,6 @@ use Rattle.std.proofs.lemmas.List.{length-append, length-map}
 use Rattle.cm_disk.specs.Calls.{overwritten}
 use Rattle.cm_pool.specs.Geometry.{Sizes}
 use Rattle.cm_class.specs.declared.class_file.ClassFile.{ClassFile}
-use Rattle.cm_class.specs.Spelling.{HasSpelling}
 use Rattle.cm_record.specs.Names.{class_name_of}
 use Rattle.std.specs.Option.{option_map, option_and_then, is_some}
 use Rattle.cm_record.specs.Layout.{lay}

@@ -1,28 +1,27 @@
 -- What reading the journal again keeps: a row that follows the others leaves what is kept of them all, and what is kept
 -- tells whether a row follows.
-use Rattle.std.proofs.Common.{◌≡◌, ◌⊎◌, ℕ, zero, suc, ◌+◌, ◌-◌, ◌*◌, ◌<◌, ◌≤◌, Bool, true, false, cond, not, eqb, eqb-true, eq-eqb, leb, le-leb, ltb, ◌&&◌, List, [], ◌∷◌, ◌++◌, length, take, drop, map, All, Option, Some, None, IsSome, refl, sym, ap, subst, ◌∙◌, arith, inl, inr}
+use Rattle.std.proofs.Common.{◌≡◌, ℕ, zero, suc, ◌+◌, ◌-◌, ◌*◌, ◌≤◌, true, cond, eqb, eqb-true, eq-eqb, le-leb, ◌&&◌, List, [], ◌∷◌, ◌++◌, length, take, drop, map, All, Option, Some, None, refl, sym, ap, subst, ◌∙◌, arith, inl, inr}
 use Rattle.std.proofs.lemmas.List.{length-map}
-use Rattle.std.specs.List.{slice_get, list_all, AllByRecursion}
+use Rattle.std.specs.List.{slice_get, list_all}
 use Rattle.std.specs.Option.{option_and_then, option_map, option_or, is_some}
-use Rattle.std.specs.FinMap.{get, insert, empty}
+use Rattle.std.specs.FinMap.{insert, empty}
 use Rattle.std.specs.Str.{bytes_eq}
 use Rattle.std.specs.Cmp.Lexicographic.{bytes_decides}
 use Rattle.std.proofs.lemmas.List.{length-append, length-drop, drop-drop}
 use Rattle.std.proofs.lemmas.List.Elements.{All-head, All-tail}
 use Rattle.cm_class.specs.declared.class_file.ClassFile.{ClassFile}
-use Rattle.cm_record.specs.Layout.{lay, limit, IsRecord, IsRecordOf}
+use Rattle.cm_record.specs.Layout.{lay, IsRecordOf}
 use Rattle.cm_record.specs.Names.{class_name_of}
 use Rattle.cm_record.specs.Packing.{packed_into}
 use Rattle.cm_layout.specs.declared.entry.LoaderEntry.{LoaderEntry}
 use Rattle.cm_layout.specs.declared.entry.DefineEntry.{DefineEntry}
 use Rattle.cm_layout.specs.declared.entry.Entry.TheVariants.{Loader, Define}
-use Rattle.cm_layout.specs.Rows.{name_of, number_of, classes_in, IsLoaderName}
+use Rattle.cm_layout.specs.Rows.{name_of, number_of, IsLoaderName}
 use Rattle.cm_layout.specs.Region.{HoldsRecord, place_of}
 use Rattle.cm_layout.specs.State.{Row, LoaderRow, ClassRow, entries_of, class_at, class_in}
-use Rattle.cm_store.specs.Listed.{Listed}
-use Rattle.cm_store.specs.Store.{LoaderFollows, ClassFollows, RowsFollow, KeepsRules, Lists, default_sizes, is_visible, is_loader_name}
+use Rattle.cm_store.specs.Store.{LoaderFollows, ClassFollows, RowsFollow, KeepsRules, default_sizes, is_visible, is_loader_name}
 use Rattle.cm_store.specs.Replay.{roots_of, row_name, name_at, HasNextRoot, ReplayValue, IsReplay}
-use Rattle.cm_store.proofs.RowLemmas.{branch, differ, or_none, some_of, entries_of-append, number_of-append, number_between, name_between, follows-append}
+use Rattle.cm_store.proofs.RowLemmas.{branch, differ, entries_of-append, number_of-append, name_between, follows-append}
 use Rattle.cm_store.proofs.ListedRows.{lists-loader, lists-class, with_class}
 use Rattle.cm_store.proofs.Opened.{classes-last, class_is_new}
 

@@ -1,5 +1,5 @@
 -- What a command leaves is what the step of its change makes of the state.
-use Rattle.std.proofs.Common.{◌≡◌, ◌⊎◌, ℕ, ◌+◌, ◌*◌, ◌^◌, ◌≤◌, Bool, true, false, cond, not, eqb, ltb, le-ltb, List, [], ◌∷◌, length, Option, Some, None, Result, Ok, Err, refl, sym, ap, subst, ◌∙◌, arith, inl, inr}
+use Rattle.std.proofs.Common.{◌≡◌, ℕ, ◌+◌, ◌^◌, Bool, true, false, cond, not, eqb, ltb, le-ltb, List, length, Option, Some, None, Result, Ok, Err, refl, sym, ap, subst, ◌∙◌, arith, inl, inr}
 use Rattle.std.specs.Option.{is_some, option_map, option_and_then, unwrap_or}
 use Rattle.std.specs.Ordering.{nat_cmp}
 use Rattle.std.specs.Cmp.Lexicographic.{slice_cmp}
@@ -9,12 +9,12 @@ use Rattle.cm_class.specs.declared.class_file.ClassFile.{ClassFile}
 use Rattle.cm_record.specs.Layout.{lay}
 use Rattle.cm_record.specs.Names.{class_name_of}
 use Rattle.cm_layout.specs.State.{ByName, CacheState, class_in}
-use Rattle.cm_layout.specs.Step.{Change, AddLoader, Define, Cause, BadName, NumbersSpent, LoaderExists, NoLoader, ClassExists, JournalFull, RecordTooLong, step, with_loader, with_class, is_name, is_full}
+use Rattle.cm_layout.specs.Step.{Cause, BadName, NumbersSpent, LoaderExists, NoLoader, ClassExists, JournalFull, RecordTooLong, with_loader, with_class, is_name, is_full}
 use Rattle.cm_store.specs.Listed.{Listed}
 use Rattle.cm_store.specs.declared.refusal.Refusal.{Refusal}
 use Rattle.cm_store.specs.declared.refusal.Refusal.TheVariants as refusal
 use Rattle.cm_store.specs.Shown.{Shows, cause_of, LoaderSteps, ClassSteps}
-use Rattle.cm_store.specs.Store.{StoreValue, loader_refusal, define_refusal, AddsLoader, AddsClass, default_sizes, nothing_listed}
+use Rattle.cm_store.specs.Store.{StoreValue, default_sizes, nothing_listed}
 use Rattle.cm_store.proofs.ListedRows.{get-inserted, case_of}
 use Rattle.cm_store.proofs.RowLemmas.{differ}
 use Rattle.cm_store.proofs.Refusals.{loader_passes, class_passes}

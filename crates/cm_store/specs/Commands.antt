@@ -1,5 +1,5 @@
 -- What a command asks of a cache: why it is refused, and what it leaves.
-use Rattle.std.specs.Prelude.{List, length, Option}
+use Rattle.std.specs.Prelude.{length, Option}
 use Rattle.cm_store.specs.declared.refusal.Refusal.{Refusal}
 use Rattle.cm_store.specs.declared.command.Command.{Command}
 use Rattle.cm_store.specs.declared.command.Command.TheVariants.{AddLoader, Define}

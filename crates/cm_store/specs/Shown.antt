@@ -1,5 +1,5 @@
 -- The state of a cache behind what a directory lists: each class in place of its record's words, which tell it.
-use Rattle.std.specs.Prelude.{◌≡◌, ℕ, false, List, length, Option, Some, None, is_some, Result, Ok, Err}
+use Rattle.std.specs.Prelude.{◌≡◌, ℕ, false, List, length, Option, Some, None, is_some, Ok, Err}
 use Rattle.std.specs.Option.{option_map}
 use Rattle.std.specs.FinMap as map
 use Rattle.cm_record.specs.Layout.{lay}

@@ -7,7 +7,7 @@ use Rattle.std.specs.FinMap as map
 use Rattle.cm_pool.specs.Geometry.{Sizes}
 use Rattle.cm_class.specs.declared.class_file.ClassFile.{ClassFile}
 use Rattle.cm_class.specs.Spelling.{HasSpelling}
-use Rattle.cm_record.specs.Layout.{lay}
+use Rattle.cm_record.specs.Layout.{lay, limit}
 use Rattle.cm_rules.specs.Fault.{fault as first_fault}
 use Rattle.cm_record.specs.Names.{class_name_of}
 use Rattle.cm_layout.specs.declared.entry.LoaderEntry.{LoaderEntry}
@@ -173,10 +173,11 @@ pub record PreparedValue : Type 0 where
 abbrev pub prepared_code : Coded PreparedValue
 prepared_code = code_by (List ℕ × List ℕ) (coded× (coded_list coded_ℕ) (coded_list coded_ℕ)) (λ p. (p.name, p.words)) (λ p. record { name = p.0; words = p.1 }) (λ _. refl)
 
--- the words are the record of this class, and the name is its name
+-- the words are the record of this class, which is no longer than records may be, and the name is its name
 pub record IsPreparedOf (c : ClassFile) (p : PreparedValue) : Type 0 where
   pub right : KeepsRules c
   pub words : p.words ≡ lay c
+  pub short : length p.words ≤ limit
   pub name : p.name ≡ class_name_of c
 
 abbrev pub IsPrepared : PreparedValue → Type 0

@@ -1,6 +1,6 @@
 //! The commands that change a cache.
 
-use crate::store::Prepared;
+use crate::prepared::Prepared;
 
 /// One change of a cache.
 #[derive(Debug, Drop)]

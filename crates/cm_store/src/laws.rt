@@ -11,10 +11,11 @@ ghost use Rattle.cm_layout.specs.State.{Row, CacheState, framed};
 
 use cm_record::layout_determines_class;
 
-/// One text is at most one cache: the same loaders and numbers, the same classes, the same number of commands.
+/// One text is at most one cache: the same rows, so each loader has the same chunks, and with them the same loaders and
+/// numbers, the same classes, the same number of commands.
 pub fn text_determines_cache()
-    ensures { (text : List ℕ) (one other : Listed) (n k m j : ℕ) → IsOpen default_sizes text one n k → IsOpen default_sizes text other m j
-        → (one ≡ other) × (n ≡ m) × (k ≡ j) }
+    ensures { (text : List ℕ) (one other : Listed) (n k m j : ℕ) (h : IsOpen default_sizes text one n k) (g : IsOpen default_sizes text other m j)
+        → (h.rows ≡ g.rows) × (one ≡ other) × (n ≡ m) × (k ≡ j) }
 {
     layout_determines_class();
 }

@@ -2,6 +2,7 @@
 //! for each class. It stands in for the front and the committer until they come.
 #![tactic(auto)]
 
+mod class_texts;
 pub mod command;
 pub mod directory;
 pub mod fault;
@@ -11,6 +12,7 @@ mod loader_names;
 pub mod narrow;
 pub mod open;
 pub mod prepare;
+pub mod prepared;
 mod records;
 pub mod refusal;
 mod replay;

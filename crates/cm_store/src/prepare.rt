@@ -7,7 +7,7 @@ ghost use Rattle.cm_store.specs.Store.{IsPreparedOf};
 ghost use Rattle.cm_store.specs.Numbers.{fault_number};
 ghost use Rattle.cm_store.specs.Prepare.{IsUnprepared, unprepared_for};
 
-use crate::store::Prepared;
+use crate::prepared::Prepared;
 use cm_record::{RecordRefusal, build};
 use cm_rules::{Broken, ClassFault, read_class};
 use std::alloc::Global;
@@ -57,7 +57,7 @@ fn of_class(fault: ClassFault) -> PrepareFault
 /// Reads a class, judges it by the rules and makes its record.
 ///
 /// The faults are looked for in this order: the file's shape, then the rules in their order, then the record's length.
-/// Want of memory may come at any of them.
+/// Want of memory is told only of bytes whose shape has no fault.
 pub fn prepare(alloc: Global, bytes: &[u8]) -> Result<Prepared, PrepareFault>
     ensures ok { IfOk result (λ p. (c : ClassFile) × IsRight bytes.now c × IsPreparedOf c p) }
     ensures fault { IfErr result (IsUnprepared bytes.now) }

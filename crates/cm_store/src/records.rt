@@ -7,8 +7,8 @@ ghost use Rattle.cm_record.specs.Names.{class_name_of};
 ghost use Rattle.cm_record.specs.Packing.{word_from, packed_into};
 ghost use Rattle.cm_store.specs.Store.{HasOpenCause, KeepsRules};
 
+use crate::class_texts::zero_bytes;
 use crate::fault::OpenFault;
-use crate::store::zero_bytes;
 use cm_disk::Disk;
 use cm_record::{Record, RecordFault, layout_determines_class};
 use cm_rules::first_fault;

@@ -12,12 +12,14 @@ ghost use Rattle.std.specs.Option.{option_copied};
 ghost use Rattle.cm_layout.specs.State.{class_in};
 ghost use Rattle.std.specs.List.{list_all};
 
+use crate::class_texts::ClassTexts;
 use crate::command::Command;
 use crate::directory::Directory;
 use crate::fault::OpenFault;
 use crate::format::format;
-use crate::narrow::{group_text, write_class, write_group};
+use crate::narrow::{group_text, write_group};
 use crate::open::{Opened, read_cache};
+use crate::prepared::Prepared;
 use crate::refusal::Refusal;
 use cm_disk::{DeviceFault, Disk};
 use cm_layout::entry::{DefineEntry, Entry, LoaderEntry};
@@ -28,7 +30,7 @@ use std::alloc::{AllocError, Global};
 use std::marker::Model;
 
 /// How many slots a half has.
-const SLOTS: u64 = 4096;
+pub(crate) const SLOTS: u64 = 4096;
 
 /// The order of a root chunk.
 pub(crate) const TOP: u32 = 8;
@@ -351,7 +353,7 @@ impl<D: Disk + Drop> Store<D> {
         let Some(loader_number) = self.directory.number(loader) else {
             return Err(Refusal::NoLoader);
         };
-        let Prepared { name, record } = class;
+        let (name, record) = class.into_parts();
         let entry = DefineEntry {
             loader: loader_number,
             chunk: Chunk {
@@ -378,134 +380,5 @@ impl<D: Disk + Drop> Store<D> {
                 Err(Refusal::Unsure(number))
             }
         }
-    }
-}
-
-/// What is written to define a class, made before anything is written.
-#[derive(Drop)]
-struct ClassTexts {
-    /// A root of zeros.
-    zeros: Vec<u8>,
-    bytes: Vec<u8>,
-    group: Vec<u8>,
-}
-
-impl ClassTexts {
-    ghost use Rattle.cm_store.specs.Narrow.{IsGroupText, with_root};
-    ghost use Rattle.cm_layout.specs.declared.entry.Entry.TheVariants.{Define};
-    ghost use Rattle.cm_record.specs.Packing.{word_bytes, packed_into};
-
-    fn new(
-        alloc: Global,
-        commands: u64,
-        entry: DefineEntry,
-        class: &Record,
-    ) -> Result<ClassTexts, AllocError>
-        requires { 2 * commands + 3 ≤ 4096 }
-        ensures zeros { IfOk result (λ t. length t.zeros.items ≡ 262144) }
-        ensures words { IfOk result (λ t. t.bytes.items ≡ word_bytes class.now) }
-        ensures back { IfOk result (λ t. packed_into (length class.now) (word_bytes class.now) ≡ class.now) }
-        ensures group { IfOk result (λ t. IsGroupText 4096 commands (Define entry) t.group.items) }
-    {
-        let zeros = zero_bytes(alloc, ROOT_BYTES as usize)?;
-        let mut bytes = zero_bytes(alloc, 8 * class.words() as usize)?;
-        class.bytes_into(&mut bytes);
-        let group = group_text(alloc, commands, &Entry::Define(entry), SLOTS)?;
-        Ok(ClassTexts {
-            zeros,
-            bytes,
-            group,
-        })
-    }
-
-    fn write<D: Disk>(
-        &self,
-        disk: &mut D,
-        len: u64,
-        place: u64,
-        slot: u64,
-    ) -> Result<(), DeviceFault>
-        requires len { len ≡ length (D.contents disk.old) }
-        requires inside { place ≤ len }
-        requires limit { length (D.contents disk.old) ≤ 2 ^ 40 }
-        requires root { place + length self.now.zeros.items ≤ 2 ^ 40 }
-        requires short { length self.now.bytes.items ≤ length self.now.zeros.items }
-        requires journal { slot + length self.now.group.items ≤ place }
-        requires some { 1 ≤ length self.now.group.items }
-        ensures written { OnOk result (D.contents disk.new ≡ with_group slot self.now.group.items (overwritten place self.now.bytes.items (with_root place self.now.zeros.items (D.contents disk.old)))) }
-        ensures len { OnOk result (length (D.contents disk.new) ≡ max len (place + length self.now.zeros.items)) }
-        ensures settled { OnOk result (IsSettled (D.contents disk.new) (D.unsynced disk.new)) }
-        ensures cause { HasCause (D.failures disk.old) (D.failures disk.new) result }
-    {
-        write_class(
-            disk,
-            len,
-            place,
-            &self.zeros,
-            &self.bytes,
-            slot,
-            &self.group,
-        )
-    }
-}
-
-pub(crate) fn zero_bytes(alloc: Global, count: usize) -> Result<Vec<u8>, AllocError>
-    ensures { IfOk result (λ v. length v.items ≡ count) }
-{
-    vec![in alloc; 0; count]
-}
-
-/// A class that is ready to be defined: its name and its record.
-#[derive(Debug, Drop)]
-pub struct Prepared {
-    name: Vec<u8>,
-    record: Record,
-}
-
-impl Model for Prepared {
-    ghost use Rattle.cm_store.specs.Store.{PreparedValue, prepared_code, IsPrepared};
-
-    ghost Value = { PreparedValue };
-
-    ghost coded = { prepared_code };
-
-    ghost view = { λ p. record { name = p.name.items; words = p.record } };
-
-    ghost invariant = { λ p. IsPrepared (record { name = p.name.items; words = p.record }) };
-}
-
-impl Prepared {
-    ghost use Rattle.std.specs.Prelude.{◌≡◌};
-    ghost use Rattle.cm_class.specs.declared.class_file.ClassFile.{ClassFile};
-    ghost use Rattle.cm_record.specs.Layout.{lay};
-    ghost use Rattle.cm_store.specs.Store.{IsPrepared, IsPreparedOf, IsRightRecord, KeepsRules};
-
-    /// The class of a record, ready to be defined.
-    pub(crate) fn of_record(alloc: Global, class: Record) -> Result<Prepared, AllocError>
-        requires { IsRightRecord class }
-        ensures words { IfOk result (λ p. p.words ≡ class) }
-        ensures of { (c : ClassFile) → KeepsRules c → class ≡ lay c → IfOk result (λ p. IsPreparedOf c p) }
-    {
-        let _words = class.words();
-        let name = class.class_name(alloc)?;
-        Ok(Prepared {
-            name,
-            record: class,
-        })
-    }
-
-    /// The class's name.
-    pub fn name(&self) -> &[u8]
-        ensures { result.now ≡ self.now.name }
-    {
-        &self.name
-    }
-
-    /// How many words its record has.
-    pub fn words(&self) -> u32
-        ensures words { result ≡ length self.now.words }
-        ensures prepared { IsPrepared self.now }
-    {
-        self.record.words()
     }
 }

@@ -1,10 +1,10 @@
 -- From what a store answers to a command to what is replied.
-use Rattle.std.proofs.Common.{◌≡◌, ◌+◌, ◌^◌, ℕ, Bool, true, false, cond, not, eqb, List, length, Option, Some, None, Result, Ok, Err, IfOk, OnOk, inl, inr, refl, sym, ap, subst, ◌∙◌}
+use Rattle.std.proofs.Common.{◌≡◌, ◌≤◌, ◌+◌, ◌^◌, ℕ, Bool, true, false, cond, not, eqb, List, length, Option, Some, None, Result, Ok, Err, IfOk, OnOk, inl, inr, refl, sym, ap, subst, ◌∙◌}
 use Rattle.std.specs.Option.{is_some}
 use Rattle.std.specs.FinMap.{get}
 use Rattle.hex.specs.Hex.{decode_of}
 use Rattle.cm_class.specs.declared.class_file.ClassFile.{ClassFile}
-use Rattle.cm_record.specs.Layout.{IsRecord, IsRecordOf}
+use Rattle.cm_record.specs.Layout.{IsRecord, IsRecordOf, limit}
 use Rattle.cm_record.specs.Names.{class_name_of}
 use Rattle.cm_rules.specs.Answer.{IsRight}
 use Rattle.cm_layout.specs.State.{class_in}
@@ -107,6 +107,7 @@ class_of_prepared loader bytes old new told p c right prepared answer =
     record {
       c = c;
       right = right;
+      short = subst (λ w. length w ≤ limit) prepared.words prepared.short;
       answer = subst (λ w. AnswersCommand (define_refusal old loader (class_name_of c) (length w)) (told_defined (old.number + 1) (class_name_of c)) (AddsClass loader (class_name_of c) w) old told new) prepared.words
           (subst (λ n. AnswersCommand (define_refusal old loader n (length p.words)) (told_defined (old.number + 1) n) (AddsClass loader n p.words) old told new) prepared.name answer);
     }

@@ -1,10 +1,10 @@
 -- The answers of a cache to the lines of a script: to one line after another, each by the cache's value so far.
-use Rattle.std.specs.Prelude.{◌≡◌, ◌<◌, ◌⊎◌, ℕ, ◌+◌, ◌++◌, Bool, true, false, nat_lt, if◌then◌else◌, List, [], ◌∷◌, length, Option, Some, None, Result, Ok, Err}
+use Rattle.std.specs.Prelude.{◌≡◌, ◌<◌, ◌≤◌, ◌⊎◌, ℕ, ◌+◌, ◌++◌, Bool, true, false, nat_lt, if◌then◌else◌, List, [], ◌∷◌, length, Option, Some, None, Result, Ok, Err}
 use Rattle.std.specs.List.{flat_map}
 use Rattle.hex.specs.Hex.{decode_of}
 use Rattle.hex.specs.declared.error.FromHexError.{FromHexError}
 use Rattle.cm_class.specs.declared.class_file.ClassFile.{ClassFile}
-use Rattle.cm_record.specs.Layout.{lay, IsRecordOf}
+use Rattle.cm_record.specs.Layout.{lay, limit, IsRecordOf}
 use Rattle.cm_record.specs.Names.{class_name_of}
 use Rattle.cm_rules.specs.Answer.{IsRight}
 use Rattle.cm_layout.specs.State.{class_in}
@@ -50,10 +50,11 @@ pub record AnswersFault (bytes : List ℕ) (old : StoreValue) (told : Told) (new
   pub reply : told ≡ told_fault fault
   pub same : new ≡ old
 
--- they are a class that keeps the rules
+-- they are a class that keeps the rules, whose record is no longer than records may be
 pub record AnswersClass (loader bytes : List ℕ) (old : StoreValue) (told : Told) (new : StoreValue) : Type 0 where
   pub c : ClassFile
   pub right : IsRight bytes c
+  pub short : length (lay c) ≤ limit
   pub answer : AnswersCommand (define_refusal old loader (class_name_of c) (length (lay c))) (told_defined (old.number + 1) (class_name_of c)) (AddsClass loader (class_name_of c) (lay c)) old told new
 
 -- of the bytes that the digits stand for

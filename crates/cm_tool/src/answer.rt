@@ -12,7 +12,8 @@ use crate::line::{Line, parse};
 use crate::reply::{Reply, bad_line, defined, done, found, nothing, refused, unprepared};
 use cm_disk::Disk;
 use cm_store::prepare::prepare;
-use cm_store::store::{Prepared, Store};
+use cm_store::prepared::Prepared;
+use cm_store::store::Store;
 use hex::FromHexError;
 use std::alloc::{AllocError, Global};
 

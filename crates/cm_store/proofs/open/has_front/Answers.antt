@@ -1,9 +1,9 @@
-use Rattle.std.proofs.Common.{◌≡◌, ◌≢◌, ◌∙◌, ◌∷◌, [], ◌+◌, ◌≤◌, ◌<◌, ◌⊎◌, List, ℕ, length, take, drop, get_or, Bool, true, false, not, eqb, ap, sym, subst, refl, arith, IsTrue, inl, inr}
+use Rattle.std.proofs.Common.{◌≡◌, ◌≢◌, ◌∙◌, ◌+◌, ◌≤◌, List, ℕ, length, take, drop, get_or, Bool, true, false, not, eqb, ap, sym, subst, refl, arith, IsTrue, inl, inr}
 use Rattle.std.specs.Cmp.Lexicographic.{bytes_decides}
 use Rattle.std.proofs.lemmas.Bool.Decides.{eqb_tells}
 use Rattle.std.proofs.lemmas.List.{drop_more}
 use Rattle.cm_layout.specs.Region.{IsEnd}
-use Rattle.cm_store.specs.Replay.{HasFront, front_bytes}
+use Rattle.cm_store.specs.Replay.{front_bytes}
 use Rattle.cm_store.proofs.Journals.{end_of_first, first_of_end}
 use Rattle.cm_store.proofs.RowLemmas.{differ}
 use Rattle.cm_store.proofs.open.has_front.Goals as goal

@@ -1,5 +1,4 @@
-use Rattle.std.proofs.Common.{◌≡◌, ◌∙◌, IfErr, Result, length, ap, sym, subst, arith}
-use Rattle.cm_store.specs.declared.fault.OpenFault.{OpenFault}
+use Rattle.std.proofs.Common.{◌≡◌, ◌∙◌, IfErr, length, ap, subst, arith}
 use Rattle.cm_store.specs.declared.fault.OpenFault.TheVariants.{NotACache}
 use Rattle.cm_store.specs.Replay.{Stands}
 use Rattle.cm_store.proofs.Cut.{open_has_parts}

@@ -1,10 +1,10 @@
-use Rattle.std.proofs.Common.{◌≡◌, ◌∙◌, ◌≤◌, ◌<◌, List, ℕ, length, take, drop, Result, Ok, Err, true, false, ap, sym, subst, refl, arith, IsTrue}
+use Rattle.std.proofs.Common.{◌≡◌, ◌∙◌, ◌≤◌, ℕ, length, drop, Err, false, ap, sym, subst, refl, arith, IsTrue}
 use Rattle.std.proofs.lemmas.List.{length-take, length-drop}
 use Rattle.cm_store.specs.declared.fault.OpenFault.{OpenFault}
 use Rattle.cm_store.specs.declared.fault.OpenFault.TheVariants.{NotACache, Device, NoMemory}
 use Rattle.cm_store.specs.Listed.{Listed}
 use Rattle.cm_store.specs.Store.{HasOpenCause, IsOpen, default_sizes}
-use Rattle.cm_store.specs.Replay.{Stands, HasFront, IsJournal, IsReplay, ReplayValue, roots_of}
+use Rattle.cm_store.specs.Replay.{HasFront, IsJournal, IsReplay, roots_of}
 use Rattle.cm_store.proofs.Cut.{read_is_open, open_has_parts, journal_of}
 use Rattle.cm_store.proofs.open.read_parts.Goals as goal
 

@@ -1,8 +1,8 @@
-use Rattle.std.proofs.Common.{◌≡◌, ◌≢◌, ◌∙◌, ◌∷◌, [], ◌++◌, ◌+◌, ◌-◌, ◌*◌, ◌<◌, ◌≤◌, List, ℕ, length, take, drop, get_or, Result, Ok, Err, OnOk, ap, sym, subst, refl, arith}
+use Rattle.std.proofs.Common.{◌≡◌, ◌≢◌, ◌∙◌, ◌∷◌, [], ◌++◌, ◌+◌, ◌-◌, ◌*◌, ◌≤◌, List, ℕ, take, drop, get_or, Result, Ok, Err, OnOk, ap, sym, subst, arith}
 use Rattle.cm_layout.specs.State.{Row}
 use Rattle.cm_store.specs.declared.fault.OpenFault.{OpenFault}
 use Rattle.cm_store.specs.Store.{HasOpenCause}
-use Rattle.cm_store.specs.Replay.{ReplayValue, IsReplay, IsGroupOf, roots_of}
+use Rattle.cm_store.specs.Replay.{IsReplay, IsGroupOf, roots_of}
 use Rattle.cm_store.proofs.Journals.{left_next, left_after, reading_next, reading_end, end_behind}
 use Rattle.cm_store.proofs.replay.replayed.Goals as goal
 

@@ -1,4 +1,4 @@
-use Rattle.std.proofs.Common.{◌≡◌, ◌≤◌, ◌*◌, List, []}
+use Rattle.std.proofs.Common.{◌≡◌, ◌≤◌, List, []}
 use Rattle.cm_layout.specs.State.{Row}
 use Rattle.cm_store.specs.Store.{RowsFollow, default_sizes}
 use Rattle.cm_store.specs.Replay.{roots_of, IsJournal}

@@ -1,4 +1,4 @@
-use Rattle.std.proofs.Common.{[], ap, refl, subst, sym, arith}
+use Rattle.std.proofs.Common.{[], refl, subst, sym, arith}
 use Rattle.cm_store.specs.Store.{Lists}
 use Rattle.cm_store.proofs.Formatted.{lists-none}
 use Rattle.cm_store.proofs.replay.Replay.new.Goals as goal

@@ -1,10 +1,8 @@
-use Rattle.std.proofs.Common.{◌≡◌, ◌≢◌, ◌∙◌, ◌∷◌, [], ◌++◌, ◌+◌, List, ℕ, length, take, drop, Option, Some, None, Result, Err, OnOk, ap, sym, subst, refl, arith, IsTrue}
-use Rattle.cm_layout.specs.declared.entry.Entry.{Entry}
+use Rattle.std.proofs.Common.{◌≡◌, ◌∙◌, ◌∷◌, [], ◌++◌, List, ℕ, length, take, drop, Some, None, ap, sym, subst, refl, arith, IsTrue}
 use Rattle.cm_layout.specs.declared.entry.Entry.TheVariants.{Loader, Define}
 use Rattle.cm_layout.specs.declared.entry.LoaderEntry.{LoaderEntry}
 use Rattle.cm_layout.specs.Slots.{entry_bytes}
 use Rattle.cm_layout.specs.State.{Row, LoaderRow, ClassRow, entry_of}
-use Rattle.cm_store.specs.declared.fault.OpenFault.TheVariants.{NotACache}
 use Rattle.cm_store.specs.Store.{LoaderFollows}
 use Rattle.cm_store.specs.Replay.{ReplayValue, IsReplay, IsGroupOf, roots_of}
 use Rattle.cm_store.proofs.Replayed.{length-names}
