@@ -1,19 +1,45 @@
 import java.io.BufferedInputStream;
+import java.io.ByteArrayInputStream;
 import java.io.DataInputStream;
 import java.io.IOException;
 import java.util.ArrayList;
 import java.util.List;
+import java.util.Map;
+import javassist.bytecode.ClassFile;
+import org.apache.bcel.classfile.ClassParser;
+import org.apache.bcel.classfile.JavaClass;
 import org.objectweb.asm.ClassReader;
 import org.objectweb.asm.tree.ClassNode;
 
 /**
- * ASM's full read of the class files on standard input, each behind its length in four bytes: a ClassReader that fills
- * a ClassNode, tree of members, instructions and attributes included. Prints a line in the form of cm_bench.
+ * A mature library's full read of the class files on standard input, each behind its length in four bytes. Prints a line
+ * in the form of cm_bench.
  *
- * Arguments: passes to warm up, and passes of which the best counts.
+ * Arguments: the library (ASM, Javassist or BCEL), passes to warm up, and passes of which the best counts.
  */
 public final class ReadAll {
     private ReadAll() {}
+
+    /** Reads one class file, and tells how many members it has: what is read must be used, or it may be left out. */
+    private interface Library {
+        long members(byte[] bytes) throws IOException;
+    }
+
+    private static final Map<String, Library> LIBRARIES = Map.of(
+            "ASM", bytes -> {
+                // A tree of members, instructions and attributes.
+                ClassNode node = new ClassNode();
+                new ClassReader(bytes).accept(node, 0);
+                return node.fields.size() + node.methods.size();
+            },
+            "Javassist", bytes -> {
+                ClassFile file = new ClassFile(new DataInputStream(new ByteArrayInputStream(bytes)));
+                return file.getFields().size() + file.getMethods().size();
+            },
+            "BCEL", bytes -> {
+                JavaClass parsed = new ClassParser(new ByteArrayInputStream(bytes), "input").parse();
+                return parsed.getFields().length + parsed.getMethods().length;
+            });
 
     private static List<byte[]> read() throws IOException {
         List<byte[]> classes = new ArrayList<>();
@@ -23,44 +49,39 @@ public final class ReadAll {
                 if (length.length == 0) {
                     return classes;
                 }
-                int size = new DataInputStream(new java.io.ByteArrayInputStream(length)).readInt();
+                int size = new DataInputStream(new ByteArrayInputStream(length)).readInt();
                 classes.add(in.readNBytes(size));
             }
         }
     }
 
-    /** What is read must be used, or the compiler may leave the reading out. */
-    private static long pass(List<byte[]> classes) {
+    private static long pass(Library library, List<byte[]> classes) throws IOException {
         long members = 0;
         for (byte[] bytes : classes) {
-            ClassNode node = new ClassNode();
-            new ClassReader(bytes).accept(node, 0);
-            members += node.fields.size() + node.methods.size();
+            members += library.members(bytes);
         }
         return members;
     }
 
     public static void main(String[] args) throws IOException {
-        int warm = Integer.parseInt(args[0]);
-        int passes = Integer.parseInt(args[1]);
+        Library library = LIBRARIES.get(args[0]);
+        int warm = Integer.parseInt(args[1]);
+        int passes = Integer.parseInt(args[2]);
         List<byte[]> classes = read();
-        long bytes = 0;
-        for (byte[] each : classes) {
-            bytes += each.length;
-        }
+        long bytes = classes.stream().mapToLong(each -> each.length).sum();
         long members = 0;
         for (int i = 0; i < warm; i++) {
-            members += pass(classes);
+            members += pass(library, classes);
         }
         long best = Long.MAX_VALUE;
         for (int i = 0; i < passes; i++) {
             long start = System.nanoTime();
-            members += pass(classes);
+            members += pass(library, classes);
             best = Math.min(best, System.nanoTime() - start);
         }
         long tenths = bytes * 10_000 / best;
-        System.out.printf("ASM classes %d bytes %d faults 0 best %d ns %d.%d MB/s%n",
-                classes.size(), bytes, best, tenths / 10, tenths % 10);
+        System.out.printf("%s classes %d bytes %d faults 0 best %d ns %d.%d MB/s%n",
+                args[0], classes.size(), bytes, best, tenths / 10, tenths % 10);
         if (members < 0) {
             throw new IllegalStateException();
         }

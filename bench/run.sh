@@ -4,16 +4,17 @@
 #     bench/run.sh [PASSES]
 #
 # It builds cm_bench, runs it over ordinary class files (version 52.0, from jars of Debian packages) and over hostile
-# ones (examples/bench_classes.py says what they are), and lets ASM, a mature library, read the same ordinary files
-# whole. Each row has the best of PASSES passes (20; of hostile files 3). "ratio" is the time for each byte of class file,
-# compared with the same step on ordinary files.
+# ones (examples/bench_classes.py says what they are), and lets mature libraries (ASM, Javassist, BCEL) read the same
+# ordinary files whole. Each row has the best of PASSES passes (20; of hostile files 3). "ratio" is the time for each byte
+# of class file, compared with the same step on ordinary files.
 set -eu
 top=$(cd "$(dirname "${BASH_SOURCE[0]}")/.." && pwd)
 passes=${1:-20}
 work=$(mktemp -d)
 trap 'rm -rf "$work"' EXIT
 
-packages=(libasm-java libcommons-io-java libcommons-lang3-java libguava-java)
+packages=(libasm-java libbcel-java libjavassist-java libcommons-io-java libcommons-lang3-java libguava-java)
+libraries=(ASM Javassist BCEL)
 jars=(/usr/share/java/{asm,asm-analysis,asm-commons,asm-tree,asm-util,commons-io,commons-lang3,guava}.jar)
 hostile=(fields fields-equal methods methods-equal references dimensions dynamic length)
 
@@ -32,10 +33,13 @@ measure() {
     timeout 600 "$top/crates/cm_bench/out/cm_bench" --passes "$2" <"$work/$1.bin" | sed "s/^/$1 /"
 }
 
-read_by_asm() {
-    local path=/usr/share/java/asm.jar:/usr/share/java/asm-tree.jar
+read_by_libraries() {
+    local path library
+    path=$(printf '/usr/share/java/%s.jar:' asm asm-tree bcel javassist)$work
     javac -cp "$path" -d "$work" "$top/bench/ReadAll.java"
-    java -cp "$path:$work" ReadAll 30 "$passes" <"$work/ordinary.bin" | sed 's/^/ordinary /'
+    for library in "${libraries[@]}"; do
+        java -cp "$path" ReadAll "$library" 30 "$passes" <"$work/ordinary.bin" | sed 's/^/ordinary /'
+    done
 }
 
 fetch
@@ -46,7 +50,7 @@ for kind in "${hostile[@]}"; do
 done
 
 {
-    read_by_asm
+    read_by_libraries
     measure ordinary "$passes"
     for kind in "${hostile[@]}"; do
         measure "$kind" 3 || echo "$kind (not ended in 10 minutes)"
@@ -57,12 +61,13 @@ done
     {
         each = $6 ? $10 / $6 : 0
         if ($1 == "ordinary") base[$2] = each
-        step = $2 == "ASM" ? "" : $2
+        step = $2 ~ /^(ASM|Javassist|BCEL)$/ ? "" : $2
         ratio = "-"
         if (step && $6) ratio = sprintf("%.2f", each / base[step])
         printf "%-14s %-17s %11d bytes %6d faults %13d ns %8s MB/s  ratio %s\n", $1, $2, $6, $8, $10, $12, ratio
-        if ($1 == "ordinary" && $2 == "ASM") asm = each
+        if ($1 == "ordinary" && !step) library[$2] = each
         if ($1 == "ordinary" && $2 == "read_class+build")
-            printf "%-14s time of read_class+build for each byte, to that of ASM: %.2f\n", "", each / asm
+            for (name in library)
+                printf "%-14s time of read_class+build for each byte, to that of %s: %.2f\n", "", name, each / library[name]
     }'
 echo "load of the machine at the end: $(cut -d' ' -f1 /proc/loadavg) on $(nproc) cores"

@@ -1,6 +1,6 @@
 #!/usr/bin/env bash
 # Refused memory: one allocation of the crate's tests fails, and they ask again. A pool, an arena or a store that isn't as it
-# was before the refused call gives other answers.
+# was before the refused call gives other answers, and so does a reader that tells of memory in place of a fault.
 set -u
 cd "$(dirname "$0")/.." || exit 1
 . tests/lib.sh
@@ -22,6 +22,11 @@ refuse() {
 refuse cm_pool 1
 for allocation in 3 4 5; do
     refuse cm_arena "$allocation"
+done
+
+# A read's: a fault behind the place of the refusal is answered all the same.
+for allocation in 1 2 3 4 5 6 7 8 9 10 11; do
+    refuse cm_class "$allocation" a_fault_behind_a_refusal
 done
 
 # A store's: those of the command that adds a loader, and those of the one that defines a class.
