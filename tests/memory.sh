@@ -29,8 +29,9 @@ for allocation in 1 2 3 4 5 6 7 8 9 10 11; do
     refuse cm_class "$allocation" a_fault_behind_a_refusal
 done
 
-# A store's: those of the command that adds a loader, and those of the one that defines a class.
-for allocation in 19 20 21 32 33 34 35; do
+# A store's: all of the command that adds a loader, and all of the one that defines a class (each was seen to be answered
+# NoMemory; behind them come the growths of the disk).
+for allocation in 19 20 21 33 34 35 36; do
     refuse cm_store "$allocation" a_refused_growth
 done
 
