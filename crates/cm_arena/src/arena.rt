@@ -71,7 +71,7 @@ impl Arena {
     /// free either, it comes out of a new root.
     ///
     /// The refusal is `RecordTooLong` where a root chunk doesn't hold the words, and else `RegionFull` where the last
-    /// chunk has no room, no chunk of the order needed is free, and all roots are present. `OutOfMemory` comes only
+    /// chunk has no room, no chunk of the order needed is free, and all roots are present. `NoMemory` comes only
     /// where neither does and the last chunk has no room. After a refusal arena and pool are as they were.
     pub fn place(&mut self, words: u32, pool: &mut Pool) -> Result<Place, Refusal>
         requires { 1 ≤ words }
@@ -84,7 +84,7 @@ impl Arena {
 
         ensures too_long { IsErrOf result Refusal.RecordTooLong ↔ (chunk_size pool.old.geometry.top < words) }
         ensures full { IsErrOf result Refusal.RegionFull ↔ IsFull self.old pool.old words }
-        ensures memory { IsErrOf result Refusal.OutOfMemory → ¬ HasRoom self.old words }
+        ensures memory { IsErrOf result Refusal.NoMemory → ¬ HasRoom self.old words }
         ensures err { OnErr result ((self.new ≡ self.old) × (pool.new ≡ pool.old)) }
     {
         let top = pool.geometry().top();

@@ -48,16 +48,16 @@ pub fn fetch(pool: &mut Pool, wanted: u32, need: u32, keeps: bool) -> Result<Chu
     if let Some(chunk) = first_of(pool, wanted, need) {
         if !keeps {
             pool.give(chunk);
-            return Err(Refusal::OutOfMemory);
+            return Err(Refusal::NoMemory);
         }
         return Ok(chunk);
     }
     if !keeps && pool.roots() < pool.geometry().roots() {
-        return Err(Refusal::OutOfMemory);
+        return Err(Refusal::NoMemory);
     }
     match pool.add_root() {
         Ok(true) => Ok(pool.alloc(wanted).unwrap()),
         Ok(false) => Err(Refusal::RegionFull),
-        Err(_) => Err(Refusal::OutOfMemory),
+        Err(_) => Err(Refusal::NoMemory),
     }
 }

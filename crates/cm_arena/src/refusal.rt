@@ -12,5 +12,5 @@ pub enum Refusal {
     RegionFull,
     /// A growth was refused.
     #[error("memory")]
-    OutOfMemory,
+    NoMemory,
 }

@@ -19,12 +19,12 @@ fn empty_pool(alloc: Global, top: u32, roots: u32) -> Result<Pool, Fail> {
     Ok(Pool::new(alloc, geometry)?)
 }
 
-// Asks again where memory was refused: arena and pool are as they were, so the answer is the one that was due.
+// Asks again where an allocation failed: arena and pool are as they were, so the answer is the one that was due.
 fn place(arena: &mut Arena, words: u32, pool: &mut Pool) -> Result<Place, Refusal>
     requires { 1 ≤ words }
 {
     match arena.place(words, pool) {
-        Err(Refusal::OutOfMemory) => arena.place(words, pool),
+        Err(Refusal::NoMemory) => arena.place(words, pool),
         answer => answer,
     }
 }

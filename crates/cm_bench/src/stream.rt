@@ -19,7 +19,7 @@ pub enum StreamFault {
     /// The stream ends inside the class whose length begins here.
     #[error("the input ends inside the class whose length is at byte {0}")]
     InClass(usize),
-    /// Memory was refused.
+    /// An allocation failed.
     #[error("out of memory")]
     NoMemory,
 }
@@ -93,7 +93,7 @@ pub fn classes_in(alloc: Global, bytes: &[u8]) -> Result<Vec<&[u8]>, StreamFault
     ensures ok { IfOk result (λ v. AllFit (map (λ class. class.now) v.items) × (bytes.now ≡ stream_of (map (λ class. class.now) v.items))) }
     ensures fault { IfErr result (IsFault bytes.now) }
 
-    // The stream of any classes is answered with these, unless memory was refused.
+    // The stream of any classes is answered with these, unless an allocation failed.
     ensures only { (classes : List (List ℕ)) → AllFit classes → bytes.now ≡ stream_of classes
         → Answers (λ v. map (λ class. class.now) v.items) classes result }
 {

@@ -29,7 +29,7 @@ fails_equal Short x y e h = sym e ∙ h
 fails_equal (Bad left) x y e h = sym e ∙ h
 fails_equal NoMemory x y e h = tt
 
--- a stop that isn't for want of memory is one in any case
+-- a stop that isn't a failed allocation is one in any case
 pub fails_exactly : {A : Type 0} (stop : Stop) (read : Result A Stop) → read ≡ Err stop → Fails stop read
 fails_exactly Short read h = h
 fails_exactly (Bad left) read h = h

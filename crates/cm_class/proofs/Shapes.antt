@@ -158,7 +158,7 @@ left_fits bytes left are e = left_within bytes left (class_at bytes) (class_read
 -- ---- clauses of the call
 
 module _ (bytes : List ℕ) (are : AreBytes bytes) (result : Result ClassFile ShapeFault) (given : IsUnlessRefused (answer_of bytes (class_at bytes)) result) where
-  -- what is answered is so, or memory was refused of bytes that spell a class file
+  -- what is answered is so, or an allocation failed of bytes that spell a class file
   answered : IsAnswer bytes result ⊎ ((result ≡ Err faults.NoMemory) × IsSpelling bytes)
   answered =
       ⊎_elim (λ e. inl (subst (IsAnswer bytes) (sym e) (is_answer bytes are)))

@@ -22,7 +22,7 @@ abbrev pub ◌>>=◌ : {A B : Type 0} → Result A Stop → (A → Result B Stop
 (Ok x) >>= f = f x
 (Err e) >>= f = Err e
 
--- What a function returned, seen by view, is what reading gives, unless memory was refused.
+-- What a function returned, seen by view, is what reading gives, unless an allocation failed.
 abbrev pub Fails : {Y : Type 0} → Stop → Result Y Stop → Type 0
 Fails NoMemory read = Unit {0}
 Fails Short read = read ≡ Err Short
@@ -239,6 +239,6 @@ answer_of bytes (Err Short) = Err faults.Truncated
 answer_of bytes (Err (Bad left)) = Err (faults.Malformed (length bytes - left))
 answer_of bytes (Err NoMemory) = Err faults.NoMemory
 
--- it is this answer; or memory was refused, where the answer is a class file
+-- it is this answer; or an allocation failed, where the answer is a class file
 abbrev pub IsUnlessRefused : Result ClassFile ShapeFault → Result ClassFile ShapeFault → Type 0
 IsUnlessRefused answer result = (result ≡ answer) ⊎ ((result ≡ Err faults.NoMemory) × ((c : ClassFile) × (answer ≡ Ok c)))

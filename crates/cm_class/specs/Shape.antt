@@ -39,7 +39,7 @@ pub record IsMalformed (bytes : List ℕ) (at : ℕ) : Type 0 where
   pub begins : BeginsSpelling bytes at
   pub longest : (n : ℕ) → n ≤ length bytes → BeginsSpelling bytes n → n ≤ at
 
--- what each answer of a reader says of the bytes; that memory was refused is none
+-- what each answer of a reader says of the bytes; that an allocation failed is none
 abbrev pub IsAnswer : List ℕ → Result ClassFile ShapeFault → Type 0
 IsAnswer bytes (Ok c) = Spells bytes c
 IsAnswer bytes (Err Truncated) = IsTruncated bytes
@@ -47,7 +47,7 @@ IsAnswer bytes (Err (Trailing at)) = IsTrailing bytes at
 IsAnswer bytes (Err (Malformed at)) = IsMalformed bytes at
 IsAnswer bytes (Err NoMemory) = ⊥
 
--- the same of a fault alone; that memory was refused is told only of bytes that spell a class file
+-- the same of a fault alone; that an allocation failed is told only of bytes that spell a class file
 abbrev pub IsFault : List ℕ → ShapeFault → Type 0
 IsFault bytes Truncated = IsTruncated bytes
 IsFault bytes (Trailing at) = IsTrailing bytes at

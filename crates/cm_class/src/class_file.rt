@@ -1,12 +1,12 @@
 use crate::constant::Slot;
-use crate::row::Row;
+use crate::items::Items;
 
 /// An attribute (JVMS 4.7), its content as bytes.
 #[derive(Debug, Drop)]
 pub struct Attribute {
     /// Index of its name in the pool.
     pub name: u16,
-    pub bytes: Row<u8>,
+    pub bytes: Items<u8>,
 }
 
 /// A field or a method (JVMS 4.5, 4.6).
@@ -17,7 +17,7 @@ pub struct Member {
     pub name: u16,
     /// Index of its descriptor in the pool.
     pub descriptor: u16,
-    pub attributes: Row<Attribute>,
+    pub attributes: Items<Attribute>,
 }
 
 /// All that a class file of version 52.0 holds (JVMS 4.1), of any sizes: some have no spelling, as
@@ -25,13 +25,13 @@ pub struct Member {
 #[derive(Debug, Drop)]
 pub struct ClassFile {
     /// The constant pool from index 1 on.
-    pub slots: Row<Slot>,
+    pub slots: Items<Slot>,
     pub flags: u16,
     pub this_class: u16,
     /// 0 where there is none.
     pub super_class: u16,
-    pub interfaces: Row<u16>,
-    pub fields: Row<Member>,
-    pub methods: Row<Member>,
-    pub attributes: Row<Attribute>,
+    pub interfaces: Items<u16>,
+    pub fields: Items<Member>,
+    pub methods: Items<Member>,
+    pub attributes: Items<Attribute>,
 }

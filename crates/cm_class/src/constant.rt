@@ -1,12 +1,12 @@
 ghost use Rattle.std.specs.Prelude.{◌≡◌};
 
-use crate::row::Row;
+use crate::items::Items;
 
 /// An entry of the constant pool (JVMS 4.4). Each index is one of the pool, from 1 on.
 #[derive(Debug, Drop)]
 pub enum Constant {
     /// Tag 1: bytes, which rules of their own take for text.
-    Utf8(Row<u8>),
+    Utf8(Items<u8>),
     /// Tag 3: the number's bits.
     Integer(u32),
     /// Tag 4: the number's bits.

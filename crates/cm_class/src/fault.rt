@@ -12,7 +12,7 @@ pub enum ShapeFault {
     /// Neither: class files begin with this many of the bytes, and none with one more.
     #[error("malformed {0}")]
     Malformed(usize),
-    /// The bytes are a class file, and memory was refused.
+    /// The bytes are a class file, and an allocation failed.
     #[error("memory")]
     NoMemory,
 }

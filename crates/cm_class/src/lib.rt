@@ -5,11 +5,11 @@ mod class;
 mod class_file;
 mod constant;
 mod fault;
+mod items;
 mod laws;
 mod members;
 mod numbers;
 mod pool;
-mod row;
 mod shape;
 mod stop;
 mod tag;
@@ -19,8 +19,8 @@ pub use class::Class;
 pub use class_file::{Attribute, ClassFile, Member};
 pub use constant::{Constant, Slot};
 pub use fault::ShapeFault;
+pub use items::Items;
 pub use laws::{each_text_has_one_answer, no_spelling_begins_another, one_class_for_one_spelling};
-pub use row::Row;
 pub use shape::read_shape;
 
 #[cfg(test)]

@@ -3,8 +3,8 @@ ghost use Rattle.std.specs.Prelude.{◌≡◌};
 ghost use Rattle.cm_class.specs.Reading.{Gives, number_at, many_at, counted_at, attribute_at, member_at};
 
 use crate::class_file::{Attribute, Member};
-use crate::numbers::{content, read_u16, room_for, row};
-use crate::row::Row;
+use crate::numbers::{byte_items, content, read_u16, room_for};
+use crate::items::Items;
 use crate::stop::Stop;
 use std::alloc::Global;
 
@@ -14,7 +14,7 @@ fn attribute(alloc: Global, bytes: &[u8]) -> Result<(Attribute, &[u8]), Stop>
 {
     let (name, rest) = read_u16(bytes)?;
     let (content, rest) = content(rest)?;
-    let bytes = row(alloc, content)?;
+    let bytes = byte_items(alloc, content)?;
     Ok((Attribute { name, bytes }, rest))
 }
 
@@ -33,12 +33,12 @@ fn many_attributes(alloc: Global, count: u16, bytes: &[u8]) -> Result<(Vec<Attri
 
 /// Attributes behind their count.
 #[tactic(auto, unfolding(crate::specs::Reading::counted_at))]
-pub(crate) fn attributes(alloc: Global, bytes: &[u8]) -> Result<(Row<Attribute>, &[u8]), Stop>
+pub(crate) fn attributes(alloc: Global, bytes: &[u8]) -> Result<(Items<Attribute>, &[u8]), Stop>
     ensures { Gives (λ x. (x.0, x.1.now)) result (counted_at attribute_at bytes.now) }
 {
     let (count, rest) = read_u16(bytes)?;
     let (items, rest) = many_attributes(alloc, count, rest)?;
-    Ok((Row::from_vec(items), rest))
+    Ok((Items::from_vec(items), rest))
 }
 
 #[tactic(auto, unfolding(crate::specs::Reading::member_at))]
@@ -73,12 +73,12 @@ fn many_members(alloc: Global, count: u16, bytes: &[u8]) -> Result<(Vec<Member>,
 
 /// Fields or methods behind their count.
 #[tactic(auto, unfolding(crate::specs::Reading::counted_at))]
-pub(crate) fn members(alloc: Global, bytes: &[u8]) -> Result<(Row<Member>, &[u8]), Stop>
+pub(crate) fn members(alloc: Global, bytes: &[u8]) -> Result<(Items<Member>, &[u8]), Stop>
     ensures { Gives (λ x. (x.0, x.1.now)) result (counted_at member_at bytes.now) }
 {
     let (count, rest) = read_u16(bytes)?;
     let (items, rest) = many_members(alloc, count, rest)?;
-    Ok((Row::from_vec(items), rest))
+    Ok((Items::from_vec(items), rest))
 }
 
 fn many_numbers(alloc: Global, count: u16, bytes: &[u8]) -> Result<(Vec<u16>, &[u8]), Stop>
@@ -96,10 +96,10 @@ fn many_numbers(alloc: Global, count: u16, bytes: &[u8]) -> Result<(Vec<u16>, &[
 
 /// Interfaces behind their count.
 #[tactic(auto, unfolding(crate::specs::Reading::counted_at))]
-pub(crate) fn interfaces(alloc: Global, bytes: &[u8]) -> Result<(Row<u16>, &[u8]), Stop>
+pub(crate) fn interfaces(alloc: Global, bytes: &[u8]) -> Result<(Items<u16>, &[u8]), Stop>
     ensures { Gives (λ x. (x.0, x.1.now)) result (counted_at (number_at 2) bytes.now) }
 {
     let (count, rest) = read_u16(bytes)?;
     let (items, rest) = many_numbers(alloc, count, rest)?;
-    Ok((Row::from_vec(items), rest))
+    Ok((Items::from_vec(items), rest))
 }

@@ -1,10 +1,10 @@
-//! Readers of numbers and of rows of bytes, big-endian. Each answers what it read and the bytes that
+//! Readers of numbers and of lists of bytes, big-endian. Each answers what it read and the bytes that
 //! are left.
 ghost use Rattle.std.specs.Prelude.{◌≡◌, ◌<◌, ◌≤◌, ◌*◌, ℕ, length, IfOk};
 ghost use Rattle.cm_class.specs.Spelling.{heading};
 ghost use Rattle.cm_class.specs.Reading.{GivesExactly, number_at, byte_at, bytes_at, sized_at, literal_at, expected_at, count_at};
 
-use crate::row::Row;
+use crate::items::Items;
 use crate::stop::Stop;
 use byteorder::{BigEndian, ByteOrder};
 use std::alloc::{AllocError, Global};
@@ -88,10 +88,10 @@ pub(crate) fn content(bytes: &[u8]) -> Result<(&[u8], &[u8]), Stop>
 }
 
 /// A copy of bytes that were read.
-pub(crate) fn row(alloc: Global, bytes: &[u8]) -> Result<Row<u8>, AllocError>
-    ensures { IfOk result (λ row. row ≡ bytes.now) }
+pub(crate) fn byte_items(alloc: Global, bytes: &[u8]) -> Result<Items<u8>, AllocError>
+    ensures { IfOk result (λ items. items ≡ bytes.now) }
 {
-    Ok(Row::from_vec(Vec::from_slice(alloc, bytes)?))
+    Ok(Items::from_vec(Vec::from_slice(alloc, bytes)?))
 }
 
 /// What follows this one byte.

@@ -3,10 +3,10 @@ ghost use Rattle.std.specs.Prelude.{◌≡◌, false};
 ghost use Rattle.cm_class.specs.Reading.{Gives, GivesExactly, tag_at, info_at, constant_at, slots_at, pool_at, both_at, number_at};
 
 use crate::constant::{Constant, Slot};
+use crate::items::Items;
 use crate::numbers::{
-    after_heading, pool_count, read_u8, read_u16, read_u32, read_u64, room_for, row, text,
+    after_heading, byte_items, pool_count, read_u8, read_u16, read_u32, read_u64, room_for, text,
 };
-use crate::row::Row;
 use crate::stop::Stop;
 use crate::tag::Tag;
 use std::alloc::Global;
@@ -42,7 +42,7 @@ fn info(alloc: Global, tag: Tag, bytes: &[u8]) -> Result<(Constant, &[u8]), Stop
     match tag {
         Tag::Utf8 => {
             let (text, rest) = text(bytes)?;
-            Ok((Constant::Utf8(row(alloc, text)?), rest))
+            Ok((Constant::Utf8(byte_items(alloc, text)?), rest))
         }
         Tag::Integer => {
             let (bits, rest) = read_u32(bytes)?;
@@ -155,11 +155,11 @@ fn slots(alloc: Global, count: u16, bytes: &[u8]) -> Result<(Vec<Slot>, &[u8]), 
 
 /// The heading, the pool's count and its slots.
 #[tactic(auto, unfolding(crate::specs::Reading::pool_at))]
-pub(crate) fn pool(alloc: Global, bytes: &[u8]) -> Result<(Row<Slot>, &[u8]), Stop>
+pub(crate) fn pool(alloc: Global, bytes: &[u8]) -> Result<(Items<Slot>, &[u8]), Stop>
     ensures { Gives (λ x. (x.0, x.1.now)) result (pool_at bytes.now) }
 {
     let rest = after_heading(bytes)?;
     let (count, rest) = pool_count(rest)?;
     let (items, rest) = slots(alloc, count - 1, rest)?;
-    Ok((Row::from_vec(items), rest))
+    Ok((Items::from_vec(items), rest))
 }

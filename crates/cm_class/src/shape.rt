@@ -41,7 +41,7 @@ fn class_file(alloc: Global, bytes: &[u8]) -> Result<(ClassFile, &[u8]), Stop>
 }
 
 /// What refuses bytes of which reading a class file leaves this, or stops there. Where nothing is left
-/// they spell one, and want of memory refuses them.
+/// they spell one, and an allocation failed.
 fn refusal(bytes: &[u8], left: Result<&[u8], Stop>) -> ShapeFault
     requires { GivesExactly (λ x. x.now) left (rest_of (class_at bytes.now)) }
     ensures { IsUnlessRefused (answer_of bytes.now (class_at bytes.now)) (Err result) }
@@ -62,7 +62,7 @@ fn whole(alloc: Global, bytes: &[u8]) -> Result<Class, ShapeFault>
     match class_file(alloc, bytes) {
         Ok((file, [])) => Ok(Class::from_file(file)),
         Ok((_, rest)) => Err(refusal(bytes, Ok(rest))),
-        // The bytes may have a fault behind the place where memory was refused.
+        // The bytes may have a fault behind the place where an allocation failed.
         Err(Stop::NoMemory) => Err(refusal(bytes, after_class_file(bytes))),
         Err(stop) => Err(refusal(bytes, Err(stop))),
     }
@@ -71,14 +71,14 @@ fn whole(alloc: Global, bytes: &[u8]) -> Result<Class, ShapeFault>
 /// Reads a class file of version 52.0 (JVMS 4.1) from all of the bytes, in one pass.
 ///
 /// It is refused exactly where the bytes are no spelling of a class file, with the one fault that
-/// they have; or with `NoMemory`, only where they are one and memory was refused. It reserves memory
+/// they have; or with `NoMemory`, only where they are one and an allocation failed. It reserves memory
 /// only for bytes that are there, whatever the counts and lengths in the file say. Where memory was
 /// refused, and only there, a second pass, which takes none, looks for a fault.
 pub fn read_shape(alloc: Global, bytes: &[u8]) -> Result<Class, ShapeFault>
     ensures ok { IfOk result (Spells bytes.now) }
     ensures fault { IfErr result (IsFault bytes.now) }
 
-    // What is so is answered, unless the bytes spell a class file and memory was refused.
+    // What is so is answered, unless the bytes spell a class file and an allocation failed.
     ensures only { (answer : Result ClassFile ShapeFault) → IsAnswer bytes.now answer
         → (result ≡ answer) ⊎ ((result ≡ Err ShapeFault.NoMemory) × IsSpelling bytes.now) }
 {

@@ -10,7 +10,7 @@ pub(crate) enum Stop {
     Short,
     /// So many bytes were left, and with the first of them nothing goes on.
     Bad(usize),
-    /// Memory was refused.
+    /// An allocation failed.
     NoMemory,
 }
 

@@ -240,7 +240,7 @@ fn the_walk_ends_behind_a_class(rt: HostRuntime) -> Result<(), Fail> {
     Ok(())
 }
 
-/// A fault is answered though memory was refused to what stands before it, and a class is asked for
+/// A fault is answered though an allocation failed to what stands before it, and a class is asked for
 /// again: so under `rt try --test --fail-alloc`, whichever allocation of these reads is refused.
 #[test]
 fn a_fault_behind_a_refusal(rt: HostRuntime) -> Result<(), Fail> {

@@ -1,5 +1,5 @@
 //! Where a class file ends in bytes, told without taking memory. Each function stands beside a reader:
-//! it answers what that one leaves or where it stops, and never that memory was refused.
+//! it answers what that one leaves or where it stops, and never that an allocation failed.
 ghost use Rattle.std.specs.Prelude.{◌≡◌, false};
 ghost use Rattle.cm_class.specs.Spelling.{is_wide};
 ghost use Rattle.cm_class.specs.Reading.{GivesExactly, rest_of, made_at, number_at, info_at, constant_at, slots_at, pool_at, many_at, counted_at, attribute_at, member_at, class_at};

@@ -60,7 +60,7 @@ fn meets_where_a_word_is_shared(rt: HostRuntime) {
     }
 }
 
-// An empty pool; asked for once more where memory was refused.
+// An empty pool; asked for once more where an allocation failed.
 fn empty_pool(alloc: Global, geometry: Geometry) -> Result<Pool, AllocError> {
     match Pool::new(alloc, geometry) {
         Ok(pool) => Ok(pool),
@@ -68,7 +68,7 @@ fn empty_pool(alloc: Global, geometry: Geometry) -> Result<Pool, AllocError> {
     }
 }
 
-// Adds a root; once more where memory was refused, since the pool is as it was.
+// Adds a root; once more where an allocation failed, since the pool is as it was.
 fn add_root(pool: &mut Pool) -> Result<bool, AllocError> {
     match pool.add_root() {
         Ok(added) => Ok(added),

@@ -22,7 +22,7 @@ abbrev pub ◌>>=◌ : {A B : Type 0} → Option A → (A → Option B) → Opti
 None >>= f = None
 (Some x) >>= f = f x
 
--- What a function returned, seen by view, is what reading gives, unless memory was refused.
+-- What a function returned, seen by view, is what reading gives, unless an allocation failed.
 abbrev pub Fails : {Y : Type 0} → RecordFault → Option Y → Type 0
 Fails NoMemory read = Unit {0}
 Fails NotARecord read = read ≡ None

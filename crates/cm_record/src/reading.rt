@@ -7,7 +7,7 @@ ghost use Rattle.cm_record.specs.Reading.{Gives, run_at, constant_at, slots_at, 
 use crate::entry::{Entry, attribute_word, entry_at, first, fourth, is_wide, second, third, upper};
 use crate::packing::{SECOND, bytes_of, word_of};
 use crate::refusal::RecordFault;
-use cm_class::{Attribute, Constant, Member, Row, Slot};
+use cm_class::{Attribute, Constant, Member, Items, Slot};
 use std::alloc::Global;
 
 /// A run of so many bytes, and the words behind it.
@@ -58,7 +58,7 @@ fn read_constant<'a, 'b>(
     match entry_at(at, *word).ok_or(RecordFault::NotARecord)? {
         Entry::Text(count) => {
             let (bytes, runs) = read_run(alloc, count as usize, runs)?;
-            Ok((Constant::Utf8(Row::from_vec(bytes)), main, runs))
+            Ok((Constant::Utf8(Items::from_vec(bytes)), main, runs))
         }
         Entry::Long => {
             let [bits, main @ ..] = main else {
@@ -153,7 +153,7 @@ fn read_attribute<'a, 'b>(
         return Err(RecordFault::NotARecord);
     }
     let (bytes, runs) = read_run(alloc, count as usize, runs)?;
-    let bytes = Row::from_vec(bytes);
+    let bytes = Items::from_vec(bytes);
     Ok((Attribute { name, bytes }, behind, runs))
 }
 
@@ -206,7 +206,7 @@ fn read_member<'a, 'b, 'c>(
         flags: first(*word),
         name: second(*word),
         descriptor: third(*word),
-        attributes: Row::from_vec(own),
+        attributes: Items::from_vec(own),
     };
     Ok((member, behind, attributes, runs))
 }

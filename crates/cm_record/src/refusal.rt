@@ -12,7 +12,7 @@ pub enum RecordRefusal {
     /// Its layout has more than 524,288 words.
     #[error("the record is too long")]
     TooLong,
-    /// Memory was refused.
+    /// An allocation failed.
     #[error("out of memory")]
     NoMemory,
 }
@@ -31,7 +31,7 @@ pub enum RecordFault {
     /// No class has these words as its layout, or there are more than 524,288 of them.
     #[error("not a record")]
     NotARecord,
-    /// Memory was refused.
+    /// An allocation failed.
     #[error("out of memory")]
     NoMemory,
 }

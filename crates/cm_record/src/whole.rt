@@ -6,7 +6,7 @@ ghost use Rattle.cm_record.specs.Reading.{Gives, first_of, head_is_right as head
 use crate::entry::{first, fourth, second, third};
 use crate::reading::{read_attributes, read_interfaces, read_members, read_slots};
 use crate::refusal::RecordFault;
-use cm_class::{ClassFile, Row};
+use cm_class::{ClassFile, Items};
 use std::alloc::Global;
 
 /// The numbers in the first words, and where the sections begin, fit together.
@@ -89,13 +89,13 @@ pub(crate) fn read_class(alloc: Global, words: &[u64]) -> Result<ClassFile, Reco
         return Err(RecordFault::NotARecord);
     }
     Ok(ClassFile {
-        slots: Row::from_vec(slots),
+        slots: Items::from_vec(slots),
         flags: first(numbers),
         this_class: second(numbers),
         super_class: third(numbers),
-        interfaces: Row::from_vec(interfaces),
-        fields: Row::from_vec(fields),
-        methods: Row::from_vec(methods),
-        attributes: Row::from_vec(own),
+        interfaces: Items::from_vec(interfaces),
+        fields: Items::from_vec(fields),
+        methods: Items::from_vec(methods),
+        attributes: Items::from_vec(own),
     })
 }

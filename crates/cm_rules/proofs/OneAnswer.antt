@@ -76,7 +76,7 @@ same_shape bytes (Err NoMemory) (Err NoMemory) h k e = absurd h
 pub one_reading : (bytes : List ℕ) (r s : Reading) → IsReading bytes r → IsReading bytes s → r ≡ s
 one_reading bytes r s h k = same_shape bytes r s h k (one_answer bytes (shape_of bytes r h) (shape_of bytes s k) (shape_is bytes r h) (shape_is bytes s k))
 
--- what was answered is so, or memory was refused
+-- what was answered is so, or an allocation failed
 answered : (bytes : List ℕ) (r : Reading) → IsUnlessRefused bytes r → IsReading bytes r ⊎ ((r ≡ Err NoMemory) × IsSpelling bytes)
 answered bytes (Ok c) h = inl h
 answered bytes (Err Truncated) h = inl h

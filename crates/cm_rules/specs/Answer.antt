@@ -18,7 +18,7 @@ pub record IsRight (bytes : List ℕ) (c : ClassFile) : Type 0 where
 abbrev pub IsBroken : List ℕ → Broken → Type 0
 IsBroken bytes broken = (c : ClassFile) × Spells bytes c × (fault c ≡ Some broken)
 
--- of a fault; that memory was refused is told only of bytes that spell a class
+-- of a fault; that an allocation failed is told only of bytes that spell a class
 abbrev pub IsWrong : List ℕ → ClassFault → Type 0
 IsWrong bytes Truncated = IsTruncated bytes
 IsWrong bytes (Trailing at) = IsTrailing bytes at
@@ -26,7 +26,7 @@ IsWrong bytes (Malformed at) = IsMalformed bytes at
 IsWrong bytes (Rule broken) = IsBroken bytes broken
 IsWrong bytes NoMemory = IsSpelling bytes
 
--- of an answer; that memory was refused is none
+-- of an answer; that an allocation failed is none
 abbrev pub IsReading : List ℕ → Result ClassFile ClassFault → Type 0
 IsReading bytes (Ok c) = IsRight bytes c
 IsReading bytes (Err Truncated) = IsTruncated bytes
@@ -35,7 +35,7 @@ IsReading bytes (Err (Malformed at)) = IsMalformed bytes at
 IsReading bytes (Err (Rule broken)) = IsBroken bytes broken
 IsReading bytes (Err NoMemory) = ⊥
 
--- it is so, or memory was refused
+-- it is so, or an allocation failed
 abbrev pub IsUnlessRefused : List ℕ → Result ClassFile ClassFault → Type 0
 IsUnlessRefused bytes (Ok c) = IsRight bytes c
 IsUnlessRefused bytes (Err fault) = IsWrong bytes fault

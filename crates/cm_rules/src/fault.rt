@@ -17,7 +17,7 @@ pub enum ClassFault {
     /// The bytes are a class file, and this is the first rule that it breaks, where it does first.
     #[error("rule {0:?}")]
     Rule(Broken),
-    /// Memory was refused.
+    /// An allocation failed.
     #[error("memory")]
     NoMemory,
 }

@@ -97,12 +97,12 @@ fn judged(alloc: Global, bytes: &[u8]) -> Result<Class, ClassFault>
 ///
 /// It is refused exactly where the bytes spell no class file, with the one fault of their shape, or
 /// where the class breaks a rule, with the first such rule and its first spot; or with `NoMemory`,
-/// where they spell a class file and memory was refused: a fault of their shape is told in any case.
+/// where they spell a class file and an allocation failed: a fault of their shape is told in any case.
 pub fn read_class(alloc: Global, bytes: &[u8]) -> Result<Class, ClassFault>
     ensures ok { IfOk result (IsRight bytes.now) }
     ensures fault { IfErr result (IsWrong bytes.now) }
 
-    // What is so is answered, unless the bytes spell a class file and memory was refused.
+    // What is so is answered, unless the bytes spell a class file and an allocation failed.
     ensures only { (answer : Result ClassFile ClassFault) → IsReading bytes.now answer
         → (result ≡ answer) ⊎ ((result ≡ Err ClassFault.NoMemory) × IsSpelling bytes.now) }
 {

@@ -14,7 +14,7 @@ use Rattle.cm_store.specs.declared.prepare.PrepareFault.TheVariants.{Truncated, 
 abbrev pub IsTooLong : List ℕ → Type 0
 IsTooLong bytes = (c : ClassFile) × IsRight bytes c × (limit < length (lay c))
 
--- that memory was refused is told only of bytes that spell a class
+-- that an allocation failed is told only of bytes that spell a class
 abbrev pub IsUnprepared : List ℕ → PrepareFault → Type 0
 IsUnprepared bytes Truncated = IsTruncated bytes
 IsUnprepared bytes (Trailing at) = IsTrailing bytes at

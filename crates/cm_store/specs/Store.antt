@@ -145,7 +145,7 @@ define_refusal s loader name words =
     else if nat_le 64 s.classes then Some refusal.RegionFull
     else None
 
--- where nothing stands in a command's way, it is done, or memory was refused, or the device failed
+-- where nothing stands in a command's way, it is done, or an allocation failed, or the device failed
 abbrev pub IsUnrefused : Result ℕ Refusal → Type 0
 IsUnrefused (Ok n) = Unit {0}
 IsUnrefused (Err refusal.NoMemory) = Unit {0}

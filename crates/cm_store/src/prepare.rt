@@ -25,7 +25,7 @@ pub enum PrepareFault {
     Rule(Broken),
     /// The record is longer than any record may be.
     RecordTooLong,
-    /// Memory was refused.
+    /// An allocation failed.
     NoMemory,
 }
 
@@ -57,7 +57,7 @@ fn of_class(fault: ClassFault) -> PrepareFault
 /// Reads a class, judges it by the rules and makes its record.
 ///
 /// The faults are looked for in this order: the file's shape, then the rules in their order, then the record's length.
-/// Want of memory is told only of bytes whose shape has no fault.
+/// `NoMemory` is told only of bytes whose shape has no fault.
 pub fn prepare(alloc: Global, bytes: &[u8]) -> Result<Prepared, PrepareFault>
     ensures ok { IfOk result (λ p. (c : ClassFile) × IsRight bytes.now c × IsPreparedOf c p) }
     ensures fault { IfErr result (IsUnprepared bytes.now) }

@@ -163,7 +163,7 @@ fn an_empty_disk_is_no_cache(rt: HostRuntime) {
     assert_eq!(rt; fault, Some(OpenFault::NotACache));
 }
 
-/// Class A, ready to be defined; asked for once more where memory was refused.
+/// Class A, ready to be defined; asked for once more where an allocation failed.
 fn class_a(alloc: Global) -> Result<Prepared, Fail> {
     let bytes = match hex::decode(alloc, CLASS_A) {
         Ok(bytes) => bytes,
@@ -175,7 +175,7 @@ fn class_a(alloc: Global) -> Result<Prepared, Fail> {
     }
 }
 
-/// An empty store; asked for once more where memory was refused.
+/// An empty store; asked for once more where an allocation failed.
 fn empty_store(alloc: Global) -> Result<Store<SimDisk>, Fail> {
     match Store::create(alloc, SimDisk::new(alloc)) {
         Err((OpenFault::NoMemory | OpenFault::Device, _)) => {

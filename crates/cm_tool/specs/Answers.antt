@@ -33,7 +33,7 @@ pub record IsLost (old : StoreValue) (told : Told) (new : StoreValue) : Type 0 w
   pub broken : new.broken ≡ true
 
 -- Of a command, by the first refusal that applies to it: where none does, it is done with this reply and leaves that, or
--- memory was refused, or the device failed.
+-- an allocation failed, or the device failed.
 abbrev pub AnswersCommand : Option Refusal → Told → (StoreValue → StoreValue → Type 0) → StoreValue → Told → StoreValue → Type 0
 AnswersCommand (Some r) reply Leaves old told new = IsRefused r old told new
 AnswersCommand None reply Leaves old told new = ((told ≡ reply) × Leaves old new) ⊎ (IsRefused refusal.NoMemory old told new ⊎ IsLost old told new)

@@ -96,7 +96,7 @@ pub record BreaksBefore (held holds : Option (List ℕ)) (old new : StoreValue) 
   pub same : new ≡ old
   pub nothing : Keeps held holds
 
--- A failing reader breaks before a line, a failing writer in one, and want of memory before it, or in it with nothing of
+-- A failing reader breaks before a line, a failing writer in one, and a failed allocation before it, or in it with nothing of
 -- its reply written.
 abbrev pub Breaks : ToolFault → Option (List ℕ) → Option (List ℕ) → Option (List ℕ) → StoreValue → StoreValue → Type 0
 Breaks fault.Input script held holds old new = BreaksBefore held holds old new
@@ -143,7 +143,7 @@ Ends fault.Output script lines held holds replies between new = EndsIn script li
 Ends fault.Memory script lines held holds replies between new = EndsBefore held holds replies between new ⊎ ((e : EndsIn script lines held holds replies between new) × (e.part ≡ []))
 
 -- The script's first lines were answered, each reply is written, and none is unsure. Then the run broke: by a failing reader
--- before the next line was run, by a failing writer in it, and for want of memory before it, or in it with nothing of its
+-- before the next line was run, by a failing writer in it, and by a failed allocation before it, or in it with nothing of its
 -- reply written.
 pub record EndsEarly (script held holds : Option (List ℕ)) (old new : StoreValue) (e : ToolFault) : Type 0 where
   pub lines : List (List ℕ)

@@ -10,7 +10,7 @@ use std::alloc::{AllocError, Global};
 pub enum NameFault {
     /// It isn't the one spelling of a name.
     BadEscape,
-    /// Memory was refused.
+    /// An allocation failed.
     NoMemory,
 }
 

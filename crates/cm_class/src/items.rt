@@ -5,38 +5,38 @@ use std::marker::Model;
 /// A list of values in order, as bytes or attributes. It is made from a `Vec` and gives it back, and
 /// neither takes memory.
 #[derive(Debug, Drop)]
-pub struct Row<T> {
-    items: Vec<T>,
+pub struct Items<T> {
+    values: Vec<T>,
 }
 
-impl<T> Model for Row<T> {
+impl<T> Model for Items<T> {
     ghost use Rattle.std.specs.Prelude.{List};
 
     ghost Value = { List T };
 
-    ghost view = { λ row. row.items.items };
+    ghost view = { λ list. list.values.items };
 }
 
-impl<T> Row<T> {
-    /// The row of the same values.
-    pub fn from_vec(items: Vec<T>) -> Row<T>
-        ensures { result ≡ items.items }
+impl<T> Items<T> {
+    /// The list of the same values.
+    pub fn from_vec(values: Vec<T>) -> Items<T>
+        ensures { result ≡ values.items }
     {
-        Row { items }
+        Items { values }
     }
 
     /// Its values, to read.
     pub fn as_slice(&self) -> &[T]
         ensures { result.now ≡ self.now }
     {
-        self.items.as_slice()
+        self.values.as_slice()
     }
 
     /// Its values, given up.
     pub fn into_vec(self) -> Vec<T>
         ensures { result.items ≡ self }
     {
-        let Row { items } = self;
-        items
+        let Items { values } = self;
+        values
     }
 }
