@@ -1,38 +1,81 @@
 #!/usr/bin/env bash
-# Refused memory: one allocation of the crate's tests fails, and they ask again. A pool, an arena or a store that isn't as it
-# was before the refused call gives other answers, and so does a reader that tells of memory in place of a fault.
+# Failed allocations. Each test named here, and the program on a script, runs once for each of its allocations, with that
+# one refused, up to the first run that meets no refusal; each run has to pass, and the number of refusals has to be what
+# it is. A pool, an arena or a store that isn't as it was before the failed call gives other answers, and so does a reader
+# that says `NoMemory` in place of a fault. And what a class file's counts claim falsely is never asked for.
+#
+# Needs a C compiler, and the executables that the gate leaves (it builds what is missing).
 set -u
 cd "$(dirname "$0")/.." || exit 1
 . tests/lib.sh
 
-# refuse CRATE N [TEST]: the crate's tests, or the one of that name, pass though their Nth allocation is refused.
-refuse() {
-    local words=(--test --fail-alloc "$2")
-    [ $# -ge 3 ] && words+=(-- "$3")
-    if out=$(cd "crates/$1" && rt try "${words[@]}" 2>&1); then
+library=$work/allocations.so
+cc -O2 -Wall -Werror -shared -fPIC -o "$library" tests/allocations.c || { echo "0 passed, 1 failed"; exit 1; }
+
+# say NAME: what came of the last command is a check that passed or failed.
+say() {
+    if [ $? = 0 ]; then
         passed=$((passed + 1))
     else
         failed=$((failed + 1))
-        echo "FAILED: $1 with its allocation $2 refused"
-        printf '%s\n' "$out" | tail -15
+        echo "FAILED: $1"
     fi
 }
 
-# The pool's own allocation; the arena's that follow a test's own.
-refuse cm_pool 1
-for allocation in 3 4 5; do
-    refuse cm_arena "$allocation"
-done
+# count N: the Nth of the three counts that the last run left (asked for, most bytes, refused).
+count() { od -An -t u8 -j $((8 * ($1 - 1))) -N 8 "$work/counts" | tr -d ' '; }
 
-# A read's: a fault behind the place of the refusal is answered all the same.
-for allocation in 1 2 3 4 5 6 7 8 9 10 11; do
-    refuse cm_class "$allocation" a_fault_behind_a_refusal
-done
+# sweep CRATE TEST REFUSALS
+sweep() {
+    local tests=crates/$1/out/$1_tests refuse=0 broken=0
+    [ -x "$tests" ] || (cd "crates/$1" && rt test) >"$work/log" 2>&1 || cat "$work/log"
+    while [ $refuse -lt 2000 ]; do
+        refuse=$((refuse + 1))
+        rm -f "$work/counts"
+        ALLOCATIONS=$work/counts REFUSE=$refuse LD_PRELOAD=$library "$tests" "$2" >"$work/log" 2>&1 || {
+            broken=1
+            echo "$1 $2 with its allocation $refuse refused:"
+            tail -n 3 "$work/log"
+        }
+        [ "$(count 3)" = 0 ] && break
+    done
+    [ $broken = 0 ]
+    say "$1 $2: a run with a refused allocation"
+    [ $((refuse - 1)) = "$3" ]
+    say "$1 $2: $((refuse - 1)) refusals were met, and not $3"
+}
 
-# A store's: all of the command that adds a loader, and all of the one that defines a class (each was seen to be answered
-# NoMemory; behind them come the growths of the disk).
-for allocation in 19 20 21 33 34 35 36; do
-    refuse cm_store "$allocation" a_refused_growth
-done
+sweep cm_pool tests::a_failed_allocation_leaves_the_pool_as_it_was 1
+sweep cm_arena tests::places_words 3
+sweep cm_arena tests::takes_larger_chunks_in_a_longer_chain 7
+sweep cm_class tests::a_fault_behind_a_refusal 11
+sweep cm_store_tests stores::a_refused_growth_leaves_the_store_as_it_was 37
+
+# The program's own, on a script with commands that are done, refused, and looked up.
+a=cafebabe000000340005070002010001410700040100106a6176612f6c616e672f4f626a6563740021000100030000000000000000
+"$program" --help >"$work/log" 2>&1 # builds it where it is missing
+printf 'loader app\ndefine app %s\nfind app A\nloader app\n' "$a" |
+    tests/refused_memory.py "$top/crates/cmcache/out/cmcache" "$library" 114
+say "the program with a refused allocation"
+
+# asks NAME HEX: reading, judging and recording this class asks for no more than 4,096 bytes at once, though it claims more.
+bench=$top/crates/cm_bench/out/cm_bench
+[ -x "$bench" ] || (cd crates/cm_bench && rt run </dev/null) >"$work/log" 2>&1 || cat "$work/log"
+asks() {
+    local length=$((${#2} / 2))
+    printf '%08x%s' "$length" "$2" | python3 -c 'import sys; sys.stdout.buffer.write(bytes.fromhex(sys.stdin.read()))' >"$work/in"
+    rm -f "$work/counts"
+    ALLOCATIONS=$work/counts LD_PRELOAD=$library "$bench" <"$work/in" >"$work/got" && [ "$(count 2)" -le 4096 ] && grep -q "faults $3" "$work/got"
+    say "$1: $(count 2) bytes were asked for at once"
+}
+asks "class A" "$a" 0
+asks "65,535 constants" cafebabe00000034ffff 1
+asks "a Utf8 of 65,535 bytes" cafebabe0000003400050100ffff 1
+asks "65,535 interfaces" "${a%0000000000000000}ffff" 1
+asks "65,535 fields" "${a%000000000000}ffff" 1
+asks "65,535 methods" "${a%00000000}ffff" 1
+asks "65,535 attributes" "${a%0000}ffff" 1
+asks "a field with 65,535 attributes" "${a%000000000000}0001000100020002ffff" 1
+asks "an attribute of 4 GiB" "${a%0000}00010002ffffffff" 1
 
 finish
