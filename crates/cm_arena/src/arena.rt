@@ -7,8 +7,7 @@ ghost use Rattle.cm_arena.specs.Placing.{IsOnTop, HasRoom, next_offset as next_o
 use crate::fetch::{fetch, order_for};
 use crate::place::Place;
 use crate::refusal::Refusal;
-use cm_pool::chunk::Chunk;
-use cm_pool::pool::Pool;
+use cm_pool::{Chunk, Pool};
 use std::alloc::{AllocError, Global};
 use std::marker::Model;
 

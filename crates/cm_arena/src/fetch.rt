@@ -5,8 +5,7 @@ ghost use Rattle.cm_pool.specs.FreeSpace.{HasFree};
 ghost use Rattle.cm_arena.specs.Placing.{IsNeed, IsWanted, IsNeeded, Fetches};
 
 use crate::refusal::Refusal;
-use cm_pool::chunk::Chunk;
-use cm_pool::pool::Pool;
+use cm_pool::{Chunk, Pool};
 
 /// The least order whose chunks hold so many words.
 pub fn order_for(words: u32) -> u32

@@ -1,12 +1,14 @@
-//! Arenas: the chains of chunks in which the metadata of one class loader lie.
-//!
-//! An arena takes its chunks from a pool, fills the last one from the front on, and gives them all up at once. This is
-//! the scheme of OpenJDK JEP 387; the numbers are this project's own.
+//! Arenas: the chains of chunks in which the metadata of one class loader lie (the scheme of OpenJDK JEP 387).
 #![tactic(auto)]
 
-pub mod arena;
+mod arena;
 mod fetch;
-pub mod place;
-pub mod refusal;
+mod place;
+mod refusal;
+
+pub use arena::Arena;
+pub use place::Place;
+pub use refusal::Refusal;
+
 #[cfg(test)]
 mod tests;

@@ -1,7 +1,7 @@
 // Where the words of a record lie.
 ghost use Rattle.std.specs.Prelude.{◌↔◌, IsTrue};
 
-use cm_pool::chunk::Chunk;
+use cm_pool::Chunk;
 
 /// The `words` words of a chunk from its `offset`-th on.
 #[derive(Clone, Copy, Debug, PartialEq, Eq)]

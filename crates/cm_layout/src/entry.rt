@@ -4,7 +4,7 @@ ghost use Rattle.std.specs.Prelude.{◌≡◌, ◌≤◌, length, IfSome, Some};
 
 use crate::heads::{SLOT_BYTES, is_same_slot};
 use crate::name::SlotName;
-use cm_pool::chunk::Chunk;
+use cm_pool::Chunk;
 
 /// A loader comes into being.
 #[derive(Debug, Drop)]

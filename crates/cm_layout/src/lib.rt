@@ -1,13 +1,17 @@
-//! The region file: its slots and heads, and which text is a cache.
+//! The region file: its slots and heads, and which file contents are a cache.
 #![tactic(auto)]
 
-pub mod entry;
-pub mod heads;
+mod entry;
+mod heads;
 mod laws;
-pub mod name;
-pub mod superblock;
+mod name;
+mod superblock;
 
+pub use entry::{DefineEntry, Entry, LoaderEntry};
+pub use heads::{GroupHead, HalfHead, OPEN_GATE, SLOT_BYTES, is_same_slot};
 pub use laws::{changes_go_on, slot_determines_entry, slot_determines_head};
+pub use name::{NAME_BYTES, SlotName};
+pub use superblock::{FRONT_BYTES, SUPERBLOCK_BYTES, encode_front};
 
 #[cfg(test)]
 mod tests;

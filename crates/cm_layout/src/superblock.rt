@@ -4,7 +4,7 @@ ghost use Rattle.std.specs.Prelude.{◌≡◌, IfSome, Some};
 ghost use Rattle.cm_pool.specs.Geometry.{IsGeometry};
 ghost use Rattle.cm_layout.specs.Superblock.{superblock_front};
 
-use cm_pool::geometry::Geometry;
+use cm_pool::Geometry;
 
 /// The length of a superblock in bytes. Its last one is its gate.
 pub const SUPERBLOCK_BYTES: usize = 4096;

@@ -2,8 +2,7 @@ use crate::entry::{DefineEntry, Entry, LoaderEntry};
 use crate::heads::{GroupHead, HalfHead};
 use crate::name::SlotName;
 use crate::superblock::encode_front;
-use cm_pool::chunk::Chunk;
-use cm_pool::geometry::Geometry;
+use cm_pool::{Chunk, Geometry};
 use std::test::*;
 
 #[test]

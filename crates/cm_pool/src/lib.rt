@@ -1,14 +1,17 @@
-//! The chunks of a class metadata cache's region, and the pool that hands them out.
-//!
-//! A region has up to `roots` root chunks of one size. A chunk is a part of a root: its size is a power of two, and it
-//! lies at a multiple of its size. This is the buddy scheme of OpenJDK JEP 387; the sizes are this project's own.
+//! The chunks of a class metadata cache's region, and the pool that hands them out (the buddy scheme of OpenJDK JEP 387).
 #![tactic(auto)]
 
 mod block;
-pub mod chunk;
+mod chunk;
 mod free_list;
-pub mod geometry;
-pub mod laws;
-pub mod pool;
+mod geometry;
+mod laws;
+mod pool;
+
+pub use chunk::Chunk;
+pub use geometry::Geometry;
+pub use laws::{giving_back_restores, halves_make_whole, nested_or_apart, one_list_of_largest};
+pub use pool::Pool;
+
 #[cfg(test)]
 mod tests;

@@ -216,3 +216,14 @@ fn agrees_with_a_set_of_words(rt: HostRuntime) -> Result<(), Fail> {
     }
     Ok(())
 }
+
+// Whichever allocation fails, the pool is as it was: what is asked again is answered as if nothing had happened.
+#[test]
+fn a_failed_allocation_leaves_the_pool_as_it_was(rt: HostRuntime) -> Result<(), Fail> {
+    let mut pool = whole_pool(rt.alloc(), 3, 2)?;
+    assert_eq!(rt; pool.roots(), 2);
+    assert_eq!(rt; pool.alloc(3), Some(chunk(0, 3, 0)));
+    assert_eq!(rt; pool.alloc(0), Some(chunk(1, 0, 0)));
+    assert_eq!(rt; add_root(&mut pool)?, false);
+    Ok(())
+}

@@ -8,7 +8,7 @@ ghost use Rattle.cm_store.specs.Narrow.{with_group};
 use crate::narrow::{group_text, write_class};
 use crate::store::{ROOT_BYTES, SLOTS};
 use cm_disk::{DeviceFault, Disk};
-use cm_layout::entry::{DefineEntry, Entry};
+use cm_layout::{DefineEntry, Entry};
 use cm_record::Record;
 use std::alloc::{AllocError, Global};
 

@@ -8,9 +8,8 @@ ghost use Rattle.cm_store.specs.Store.{IsOpen, default_sizes, nothing_listed, Is
 
 use crate::fault::OpenFault;
 use cm_disk::{DeviceFault, Disk};
-use cm_layout::heads::{HalfHead, OPEN_GATE};
-use cm_layout::superblock::encode_front;
-use cm_pool::geometry::Geometry;
+use cm_layout::{HalfHead, OPEN_GATE, encode_front};
+use cm_pool::Geometry;
 use std::alloc::{AllocError, Global};
 
 /// Where the superblock's gate stands.

@@ -19,6 +19,3 @@ mod replay;
 pub mod store;
 
 pub use laws::{cache_frames_its_rows, commands_are_steps, text_determines_cache};
-
-#[cfg(test)]
-mod tests;

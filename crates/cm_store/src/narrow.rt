@@ -9,8 +9,7 @@ ghost use Rattle.cm_layout.specs.Region.{group_bytes, IsEnd};
 ghost use Rattle.cm_store.specs.Narrow.{IsNarrow, slot_at, IsGroupText, with_group, with_root};
 
 use cm_disk::{DeviceFault, Disk};
-use cm_layout::entry::Entry;
-use cm_layout::heads::{GroupHead, OPEN_GATE, SLOT_BYTES};
+use cm_layout::{Entry, GroupHead, OPEN_GATE, SLOT_BYTES};
 use std::alloc::{AllocError, Global};
 
 /// The bytes of a group of one entry, its gate open, and a slot of zeros behind it where the half has one more.

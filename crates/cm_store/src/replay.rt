@@ -16,9 +16,8 @@ use crate::loader_names::LoaderNames;
 use crate::records::{kept_name, read_record};
 use crate::store::{ROOT_BYTES, ROOT_WORDS, ROOTS, ROOTS_AT, TOP, is_name};
 use cm_disk::Disk;
-use cm_layout::entry::{DefineEntry, Entry, LoaderEntry};
-use cm_layout::heads::{GroupHead, OPEN_GATE, SLOT_BYTES, is_same_slot};
-use cm_pool::chunk::Chunk;
+use cm_layout::{DefineEntry, Entry, GroupHead, LoaderEntry, OPEN_GATE, SLOT_BYTES, is_same_slot};
+use cm_pool::Chunk;
 use std::alloc::Global;
 use std::marker::Model;
 

@@ -1,11 +1,11 @@
-use crate::command::Command;
-use crate::directory::Directory;
-use crate::fault::OpenFault;
-use crate::prepare::{PrepareFault, prepare};
-use crate::prepared::Prepared;
-use crate::refusal::Refusal;
-use crate::store::Store;
 use cm_disk::{Disk, SimDisk};
+use cm_store::command::Command;
+use cm_store::directory::Directory;
+use cm_store::fault::OpenFault;
+use cm_store::prepare::{PrepareFault, prepare};
+use cm_store::prepared::Prepared;
+use cm_store::refusal::Refusal;
+use cm_store::store::Store;
 use std::alloc::Global;
 use std::test::*;
 
@@ -206,5 +206,48 @@ fn a_refused_growth_leaves_the_store_as_it_was(rt: HostRuntime) -> Result<(), Fa
     };
     assert!(rt; defined == Ok(2) || (defined == Err(Refusal::Unsure(2)) && store.is_broken()));
     assert!(rt; store.is_broken() || store.number() == 2);
+    Ok(())
+}
+
+/// The class `A` with one attribute of so many bytes: its record has 20 words, and those of the bytes.
+fn class_of_bytes(alloc: Global, count: u32) -> Result<Vec<u8>, Fail> {
+    let front =
+        b"cafebabe000000340006070002010001410700040100106a6176612f6c616e672f4f626a65637401000158";
+    let mut bytes = hex::decode(alloc, front)?;
+    bytes.extend_from_slice(&[0, 0x21, 0, 1, 0, 3, 0, 0, 0, 0, 0, 0, 0, 1, 0, 5])?;
+    bytes.extend_from_slice(&count.to_be_bytes())?;
+    for _ in 0..count {
+        bytes.push(0)?;
+    }
+    Ok(bytes)
+}
+
+#[test]
+fn a_root_holds_records_of_32768_words(rt: HostRuntime) -> Result<(), Fail> {
+    let alloc = rt.alloc();
+    let mut store = empty_store(alloc)?;
+    store.commit(Command::AddLoader(b"a"))?;
+    store.commit(Command::AddLoader(b"b"))?;
+    let largest = prepare(alloc, &class_of_bytes(alloc, 261_984)?);
+    let largest = largest.ok().ok_or("a class")?;
+    assert_eq!(rt; largest.words(), 32_768);
+    assert_eq!(rt; store.commit(Command::Define(b"a", largest)), Ok(3));
+    let longer = prepare(alloc, &class_of_bytes(alloc, 261_985)?);
+    let longer = longer.ok().ok_or("a class")?;
+    assert_eq!(rt; longer.words(), 32_769);
+    assert_eq!(rt;
+        store.commit(Command::Define(b"b", longer)),
+        Err(Refusal::RecordTooLong)
+    );
+    Ok(())
+}
+
+#[test]
+fn a_class_is_prepared_up_to_524288_words(rt: HostRuntime) -> Result<(), Fail> {
+    let alloc = rt.alloc();
+    let longest = prepare(alloc, &class_of_bytes(alloc, 4_194_144)?);
+    assert_eq!(rt; longest.ok().ok_or("a class")?.words(), 524_288);
+    let longer = prepare(alloc, &class_of_bytes(alloc, 4_194_145)?);
+    assert!(rt; matches!(longer, Err(PrepareFault::RecordTooLong)));
     Ok(())
 }

@@ -1,0 +1,5 @@
+//! Stores on disks in memory: what is committed, opened again, damaged, and refused memory.
+#![tactic(auto)]
+
+#[cfg(test)]
+mod stores;
