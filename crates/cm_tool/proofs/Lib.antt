@@ -5,4 +5,5 @@ pub mod Writing
 pub mod Running
 pub mod Rows
 pub mod LineLaws
+pub mod EscapeLaws
 pub mod AnswerLaws

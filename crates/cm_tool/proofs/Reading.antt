@@ -6,7 +6,7 @@ use Rattle.std.proofs.lemmas.List.Elements.{All-nil, All-append}
 use Rattle.std.proofs.KnownBytes.{Consumes-nil, Consumes-trans}
 use Rattle.std.specs.Io.KnownBytes.{Consumes, IsAtEnd}
 use Rattle.std.specs.Option.{OnSome}
-use Rattle.cm_tool.specs.declared.input.LineBuffer.{LineBuffer}
+use Rattle.cm_tool.specs.declared.line_buffer.LineBuffer.{LineBuffer}
 use Rattle.cm_tool.specs.declared.input.Piece.TheVariants as piece
 use Rattle.cm_tool.specs.Lines.{without_empty_rest, lines_of}
 use Rattle.cm_tool.specs.Runs.{TakesLines, HasNoLine, Holds, Grows, TakesPiece, ReadsLine}

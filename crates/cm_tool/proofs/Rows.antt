@@ -11,7 +11,7 @@ use Rattle.cm_store.specs.declared.refusal.Refusal.TheVariants as refusal
 use Rattle.cm_store.specs.declared.prepare.PrepareFault.TheVariants as fault
 use Rattle.cm_tool.specs.Escapes.{unescaped}
 use Rattle.cm_tool.specs.Lines.{asked, lines_of, AsksLoader, AsksDefine, AsksFind}
-use Rattle.cm_tool.specs.Texts.{told_number, told_defined, told_nothing, told_class, told_bad_line, told_refusal, told_fault}
+use Rattle.cm_tool.specs.Texts.{number_reply, defined_reply, none_reply, class_reply, bad_line_reply, refusal_reply, fault_reply}
 
 abbrev class_a : ClassFile
 class_a = record {
@@ -27,78 +27,78 @@ class_a = record {
 
 -- ---- replies
 
-number_1 : (told_number 1).text ≡ codes "ok 1"
+number_1 : (number_reply 1).text ≡ codes "ok 1"
 unfolding digits
 number_1 = refl
 
-number_10 : (told_number 10).text ≡ codes "ok 10"
+number_10 : (number_reply 10).text ≡ codes "ok 10"
 unfolding digits
 number_10 = refl
 
-a_defined : (told_defined 2 (codes "A")).text ≡ codes "ok 2 A"
+a_defined : (defined_reply 2 (codes "A")).text ≡ codes "ok 2 A"
 unfolding digits
 a_defined = refl
 
-a_found : (told_class (codes "A") class_a 16).text ≡ codes "class A flags 0021 super java/lang/Object words 16"
+a_found : (class_reply (codes "A") class_a 16).text ≡ codes "class A flags 0021 super java/lang/Object words 16"
 unfolding digits
 a_found = refl
 
-object_found : (told_class (codes "java/lang/Object") (record class_a { super_class = 0; flags = 0xB7AF }) 8209).text ≡ codes "class java/lang/Object flags b7af super - words 8209"
+object_found : (class_reply (codes "java/lang/Object") (record class_a { super_class = 0; flags = 0xB7AF }) 8209).text ≡ codes "class java/lang/Object flags b7af super - words 8209"
 unfolding digits
 object_found = refl
 
-escaped_name : (told_defined 2 (0xC3 ∷ 0xA9 ∷ [])).text ≡ codes "ok 2 %C3%A9"
+escaped_name : (defined_reply 2 (0xC3 ∷ 0xA9 ∷ [])).text ≡ codes "ok 2 %C3%A9"
 unfolding digits
 escaped_name = refl
 
-none_found : told_nothing.text ≡ codes "none"
+none_found : none_reply.text ≡ codes "none"
 none_found = refl
 
-bad_line : told_bad_line.text ≡ codes "refused 15 line"
+bad_line : bad_line_reply.text ≡ codes "refused 15 line"
 unfolding digits
 bad_line = refl
 
-class_exists : (told_refusal refusal.ClassExists).text ≡ codes "refused 4 class exists"
+class_exists : (refusal_reply refusal.ClassExists).text ≡ codes "refused 4 class exists"
 unfolding digits
 class_exists = refl
 
-no_loader : (told_refusal refusal.NoLoader).text ≡ codes "refused 3 no loader"
+no_loader : (refusal_reply refusal.NoLoader).text ≡ codes "refused 3 no loader"
 unfolding digits
 no_loader = refl
 
-numbers_spent : (told_refusal refusal.NumbersSpent).text ≡ codes "refused 12 numbers spent"
+numbers_spent : (refusal_reply refusal.NumbersSpent).text ≡ codes "refused 12 numbers spent"
 unfolding digits
 numbers_spent = refl
 
-unsure_2 : (told_refusal (refusal.Unsure 2)).text ≡ codes "unsure 2"
+unsure_2 : (refusal_reply (refusal.Unsure 2)).text ≡ codes "unsure 2"
 unfolding digits
 unsure_2 = refl
 
-trailing_53 : (told_fault (fault.Trailing 53)).text ≡ codes "refused 14 trailing 53"
+trailing_53 : (fault_reply (fault.Trailing 53)).text ≡ codes "refused 14 trailing 53"
 unfolding digits
 trailing_53 = refl
 
-truncated : (told_fault fault.Truncated).text ≡ codes "refused 14 truncated"
+truncated : (fault_reply fault.Truncated).text ≡ codes "refused 14 truncated"
 unfolding digits
 truncated = refl
 
-malformed_5 : (told_fault (fault.Malformed 5)).text ≡ codes "refused 14 malformed 5"
+malformed_5 : (fault_reply (fault.Malformed 5)).text ≡ codes "refused 14 malformed 5"
 unfolding digits
 malformed_5 = refl
 
-this_is_no_class : (told_fault (fault.Rule (record { rule = rules.EntryKinds; spot = spot.This }))).text ≡ codes "refused 14 V2 this"
+this_is_no_class : (fault_reply (fault.Rule (record { rule = rules.EntryKinds; spot = spot.This }))).text ≡ codes "refused 14 V2 this"
 unfolding digits
 this_is_no_class = refl
 
-fifth_text : (told_fault (fault.Rule (record { rule = rules.TextForm; spot = spot.Pool 5 }))).text ≡ codes "refused 14 V1 pool 5"
+fifth_text : (fault_reply (fault.Rule (record { rule = rules.TextForm; spot = spot.Pool 5 }))).text ≡ codes "refused 14 V1 pool 5"
 unfolding digits
 fifth_text = refl
 
-first_method : (told_fault (fault.Rule (record { rule = rules.MethodUnits; spot = spot.Method 0 }))).text ≡ codes "refused 14 V17 method 0"
+first_method : (fault_reply (fault.Rule (record { rule = rules.MethodUnits; spot = spot.Method 0 }))).text ≡ codes "refused 14 V17 method 0"
 unfolding digits
 first_method = refl
 
-too_long : (told_fault fault.RecordTooLong).text ≡ codes "refused 5 record too long"
+too_long : (fault_reply fault.RecordTooLong).text ≡ codes "refused 5 record too long"
 unfolding digits
 too_long = refl
 

@@ -1,6 +1,6 @@
 -- Class names in scripts: a byte from 21 to 7E other than `%` stands for itself; every other byte is `%` and two
 -- hexadecimal digits, written upper case and read in either case. So each name has one spelling, but for that case.
-use Rattle.std.specs.Prelude.{◌<◌, ℕ, ◌+◌, ◌-◌, ◌*◌, ◌/◌, ◌%◌, Bool, not, ◌&&◌, ◌==◌, nat_le, nat_lt, if◌then◌else◌, List, [], ◌∷◌, ◌++◌, Option, Some, None, Result, Ok, Err}
+use Rattle.std.specs.Prelude.{◌<◌, ℕ, zero, suc, ◌+◌, ◌-◌, ◌*◌, ◌/◌, ◌%◌, Bool, not, ◌&&◌, ◌==◌, nat_le, nat_lt, if◌then◌else◌, List, [], ◌∷◌, ◌++◌, Option, Some, None, Result, Ok, Err}
 use Rattle.std.specs.Option.{option_map, option_and_then}
 use Rattle.std.specs.List.{flat_map}
 use Rattle.cm_tool.specs.declared.escape.Awaited.{Awaited}
@@ -62,3 +62,18 @@ IsDigitRead (Byte b) = Unit {0}
 abbrev pub named_by : List ℕ → Option (List ℕ) → Option (List ℕ)
 named_by front None = None
 named_by front (Some name) = Some (front ++ name)
+
+-- ---- spellings up to the case of their digits
+
+-- a hexadecimal digit in upper case
+abbrev pub in_upper_case : ℕ → ℕ
+in_upper_case d = if nat_le 97 d && nat_le d 102 then d - 32 else d
+
+-- a text whose first so many bytes are digits, with the digits behind each `%` in upper case
+unfoldable pub upper_from : ℕ → List ℕ → List ℕ
+upper_from n [] = []
+upper_from zero (b ∷ text) = b ∷ upper_from (if b == 37 then 2 else 0) text
+upper_from (suc n) (d ∷ text) = in_upper_case d ∷ upper_from n text
+
+abbrev pub with_upper_digits : List ℕ → List ℕ
+with_upper_digits text = upper_from 0 text

@@ -2,8 +2,9 @@
 use Rattle.std.specs.Prelude.{◌≡◌, ◌≢◌, ◌<◌, ◌⊎◌, ◌↔◌, ℕ, true, ◌++◌, List, [], ◌∷◌, length, codes, Some}
 use Rattle.std.specs.List.{All, flat_map}
 use Rattle.cm_store.specs.Store.{StoreValue}
+use Rattle.cm_tool.specs.Escapes.{escaped, unescaped, with_upper_digits}
 use Rattle.cm_tool.specs.Lines.{Asked, AsksLoader, AsksDefine, AsksFind, asked, lines_of}
-use Rattle.cm_tool.specs.Texts.{Told}
+use Rattle.cm_tool.specs.Texts.{ReplyText}
 use Rattle.cm_tool.specs.Answers.{AnswersLine, is_refused, is_unsure}
 
 -- ---- lines
@@ -37,8 +38,18 @@ OneSpelling = (line : List ℕ) (question : Asked) → (asked line ≡ Some ques
 
 -- An unsure reply comes only where the device failed in this line, and then the cache is broken.
 abbrev pub UnsureIsLost : Type 0
-UnsureIsLost = (line : List ℕ) (old new : StoreValue) (told : Told) → AnswersLine line old told new → is_unsure told.kind ≡ true → (old.failures < new.failures) × (new.broken ≡ true)
+UnsureIsLost = (line : List ℕ) (old new : StoreValue) (given : ReplyText) → AnswersLine line old given new → is_unsure given.kind ≡ true → (old.failures < new.failures) × (new.broken ≡ true)
 
 -- A refused line changes nothing.
 abbrev pub RefusedIsSame : Type 0
-RefusedIsSame = (line : List ℕ) (old new : StoreValue) (told : Told) → AnswersLine line old told new → is_refused told.kind ≡ true → new ≡ old
+RefusedIsSame = (line : List ℕ) (old new : StoreValue) (given : ReplyText) → AnswersLine line old given new → is_refused given.kind ≡ true → new ≡ old
+
+-- ---- names
+
+-- A name's spelling spells that name.
+abbrev pub UnescapingUndoes : Type 0
+UnescapingUndoes = (name : List ℕ) → All (λ b. b < 256) name → unescaped (escaped name) ≡ Some name
+
+-- What spells a name is its spelling, but for the case of the digits.
+abbrev pub SpellingIsOne : Type 0
+SpellingIsOne = (word name : List ℕ) → unescaped word ≡ Some name → with_upper_digits word ≡ escaped name

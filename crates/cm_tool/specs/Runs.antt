@@ -3,7 +3,7 @@ use Rattle.std.specs.Prelude.{◌≡◌, ◌≢◌, ◌<◌, ◌≤◌, ◌⊎�
 use Rattle.std.specs.List.{All, list_any}
 use Rattle.std.specs.Io.KnownBytes.{Consumes, IsAtEnd, Appends, Keeps}
 use Rattle.cm_store.specs.Store.{StoreValue, IsOpen, default_sizes}
-use Rattle.cm_tool.specs.declared.input.LineBuffer.{LineBuffer}
+use Rattle.cm_tool.specs.declared.line_buffer.LineBuffer.{LineBuffer}
 use Rattle.cm_tool.specs.declared.input.Piece.{Piece}
 use Rattle.cm_tool.specs.declared.input.Piece.TheVariants as piece
 use Rattle.cm_tool.specs.declared.reply.Kind.{Kind}
@@ -11,8 +11,19 @@ use Rattle.cm_tool.specs.declared.script.Outcome.{Outcome}
 use Rattle.cm_tool.specs.declared.script.ToolFault.{ToolFault}
 use Rattle.cm_tool.specs.declared.script.ToolFault.TheVariants as fault
 use Rattle.cm_tool.specs.Lines.{lines_of, line_limit}
-use Rattle.cm_tool.specs.Texts.{Told}
+use Rattle.cm_tool.specs.Texts.{ReplyText}
 use Rattle.cm_tool.specs.Answers.{AnswersLine, AnswersEach, Answers, is_refused, is_unsure, reply_line, reply_lines}
+
+-- ---- what goes in and out
+
+-- The script that a reader still gives, and what a writer holds before a run and after it; nothing where they don't tell.
+pub record Io : Type 0 where
+  pub script : Option (List ℕ)
+  pub before : Option (List ℕ)
+  pub after : Option (List ℕ)
+
+abbrev pub io : Option (List ℕ) → Option (List ℕ) → Option (List ℕ) → Io
+io script before after = record { script = script; before = before; after = after }
 
 -- ---- reading
 
@@ -68,11 +79,11 @@ pub record WritesPart (held holds : Option (List ℕ)) (text : List ℕ) : Type 
 -- a line was read, run and answered
 pub record Turned (script rest held holds : Option (List ℕ)) (old new : StoreValue) (k : Kind) : Type 0 where
   pub line : List ℕ
-  pub told : Told
+  pub given : ReplyText
   pub taken : TakesLines script rest (line ∷ [])
-  pub answer : AnswersLine line old told new
-  pub kind : k ≡ told.kind
-  pub written : Appends held holds (reply_line told)
+  pub answer : AnswersLine line old given new
+  pub kind : k ≡ given.kind
+  pub written : Appends held holds (reply_line given)
 
 pub record HasEnded (script held holds : Option (List ℕ)) (old new : StoreValue) : Type 0 where
   pub none : HasNoLine script
@@ -86,10 +97,10 @@ Begins known lines = IfSome known (λ script. (more : List (List ℕ)) × (lines
 -- the next line was run, and a part of its reply was written, or nothing
 pub record BreaksIn (script held holds : Option (List ℕ)) (old new : StoreValue) : Type 0 where
   pub line : List ℕ
-  pub told : Told
+  pub given : ReplyText
   pub next : Begins script (line ∷ [])
-  pub answer : AnswersLine line old told new
-  pub written : WritesPart held holds (reply_line told)
+  pub answer : AnswersLine line old given new
+  pub written : WritesPart held holds (reply_line given)
 
 -- nothing was run, and nothing was written
 pub record BreaksBefore (held holds : Option (List ℕ)) (old new : StoreValue) : Type 0 where
@@ -103,41 +114,42 @@ Breaks fault.Input script held holds old new = BreaksBefore held holds old new
 Breaks fault.Output script held holds old new = BreaksIn script held holds old new
 Breaks fault.Memory script held holds old new = BreaksBefore held holds old new ⊎ ((b : BreaksIn script held holds old new) × (b.written.part ≡ []))
 
-abbrev pub Turns : Option (List ℕ) → Option (List ℕ) → Option (List ℕ) → Option (List ℕ) → StoreValue → StoreValue → Result (Option Kind) ToolFault → Type 0
-Turns script rest held holds old new (Ok (Some k)) = Turned script rest held holds old new k
-Turns script rest held holds old new (Ok None) = HasEnded script held holds old new
-Turns script rest held holds old new (Err e) = Breaks e script held holds old new
+-- what the reader gives behind the line comes first
+abbrev pub Turns : Option (List ℕ) → Io → StoreValue → StoreValue → Result (Option Kind) ToolFault → Type 0
+Turns rest io old new (Ok (Some k)) = Turned io.script rest io.before io.after old new k
+Turns rest io old new (Ok None) = HasEnded io.script io.before io.after old new
+Turns rest io old new (Err e) = Breaks e io.script io.before io.after old new
 
 -- ---- a whole script
 
 -- Where the reader tells its script, the lines are that script's; the replies are answers to them, and they are what is
 -- written. The outcome tells whether some reply is a refusal, and whether one is unsure.
-pub record IsAnswered (script held holds : Option (List ℕ)) (old new : StoreValue) (outcome : Outcome) : Type 0 where
+pub record IsAnswered (io : Io) (old new : StoreValue) (outcome : Outcome) : Type 0 where
   pub lines : List (List ℕ)
-  pub lines_are : IfSome script (λ text. lines ≡ lines_of text)
-  pub replies : List Told
+  pub lines_are : IfSome io.script (λ script. lines ≡ lines_of script)
+  pub replies : List ReplyText
   pub answers : Answers lines old replies new
-  pub written : Appends held holds (reply_lines replies)
-  pub refused : outcome.refused ≡ list_any (λ told. is_refused told.kind) replies
-  pub unsure : outcome.unsure ≡ list_any (λ told. is_unsure told.kind) replies
+  pub written : Appends io.before io.after (reply_lines replies)
+  pub refused : outcome.refused ≡ list_any (λ given. is_refused given.kind) replies
+  pub unsure : outcome.unsure ≡ list_any (λ given. is_unsure given.kind) replies
 
 -- nothing more was run, and nothing more is written
-pub record EndsBefore (held holds : Option (List ℕ)) (replies : List Told) (between new : StoreValue) : Type 0 where
+pub record EndsBefore (held holds : Option (List ℕ)) (replies : List ReplyText) (between new : StoreValue) : Type 0 where
   pub same : new ≡ between
   pub written : Appends held holds (reply_lines replies)
 
 -- the next line was run too, and a part of its reply is written, or nothing of it
-pub record EndsIn (script : Option (List ℕ)) (lines : List (List ℕ)) (held holds : Option (List ℕ)) (replies : List Told) (between new : StoreValue) : Type 0 where
+pub record EndsIn (script : Option (List ℕ)) (lines : List (List ℕ)) (held holds : Option (List ℕ)) (replies : List ReplyText) (between new : StoreValue) : Type 0 where
   pub line : List ℕ
   pub begins : Begins script (lines ++ line ∷ [])
-  pub told : Told
-  pub answer : AnswersLine line between told new
+  pub given : ReplyText
+  pub answer : AnswersLine line between given new
   pub part : List ℕ
   pub rest : List ℕ
-  pub whole : reply_line told ≡ part ++ rest
+  pub whole : reply_line given ≡ part ++ rest
   pub written : Appends held holds (reply_lines replies ++ part)
 
-abbrev pub Ends : ToolFault → Option (List ℕ) → List (List ℕ) → Option (List ℕ) → Option (List ℕ) → List Told → StoreValue → StoreValue → Type 0
+abbrev pub Ends : ToolFault → Option (List ℕ) → List (List ℕ) → Option (List ℕ) → Option (List ℕ) → List ReplyText → StoreValue → StoreValue → Type 0
 Ends fault.Input script lines held holds replies between new = EndsBefore held holds replies between new
 Ends fault.Output script lines held holds replies between new = EndsIn script lines held holds replies between new
 Ends fault.Memory script lines held holds replies between new = EndsBefore held holds replies between new ⊎ ((e : EndsIn script lines held holds replies between new) × (e.part ≡ []))
@@ -145,20 +157,28 @@ Ends fault.Memory script lines held holds replies between new = EndsBefore held 
 -- The script's first lines were answered, each reply is written, and none is unsure. Then the run broke: by a failing reader
 -- before the next line was run, by a failing writer in it, and by a failed allocation before it, or in it with nothing of its
 -- reply written.
-pub record EndsEarly (script held holds : Option (List ℕ)) (old new : StoreValue) (e : ToolFault) : Type 0 where
+pub record EndsEarly (io : Io) (old new : StoreValue) (e : ToolFault) : Type 0 where
   pub lines : List (List ℕ)
-  pub begins : Begins script lines
-  pub replies : List Told
+  pub begins : Begins io.script lines
+  pub replies : List ReplyText
   pub between : StoreValue
   pub answered : AnswersEach lines old replies between
-  pub ends : Ends e script lines held holds replies between new
+  pub ends : Ends e io.script lines io.before io.after replies between new
 
-abbrev pub IsRun : Option (List ℕ) → Option (List ℕ) → Option (List ℕ) → StoreValue → StoreValue → Result Outcome ToolFault → Type 0
-IsRun script held holds old new (Ok outcome) = IsAnswered script held holds old new outcome
-IsRun script held holds old new (Err e) = EndsEarly script held holds old new e
+abbrev pub IsRun : Io → StoreValue → StoreValue → Result Outcome ToolFault → Type 0
+IsRun io old new (Ok outcome) = IsAnswered io old new outcome
+IsRun io old new (Err e) = EndsEarly io old new e
 
--- The disk of a store that ran a script: its text is the cache that the store lists, unless the device failed.
-pub record LeavesDisk (text : List ℕ) (failures : ℕ) (new : StoreValue) : Type 0 where
-  pub text_is : text ≡ new.text
-  pub failures_are : failures ≡ new.failures
-  pub stands : new.broken ≡ false → IsOpen default_sizes text new.listed new.number new.classes
+-- the bytes of a disk, and how often it failed
+pub record Medium : Type 0 where
+  pub bytes : List ℕ
+  pub failures : ℕ
+
+abbrev pub medium : List ℕ → ℕ → Medium
+medium bytes failures = record { bytes = bytes; failures = failures }
+
+-- The disk of a store that ran a script: its bytes are the cache that the store lists, unless the device failed.
+pub record LeavesDisk (left : Medium) (new : StoreValue) : Type 0 where
+  pub bytes_are : left.bytes ≡ new.text
+  pub failures_are : left.failures ≡ new.failures
+  pub stands : new.broken ≡ false → IsOpen default_sizes left.bytes new.listed new.number new.classes

@@ -17,20 +17,20 @@ use Rattle.cm_tool.specs.declared.reply.Kind.TheVariants as kind
 use Rattle.cm_tool.specs.Escapes.{escaped}
 
 -- what a reply tells of its command, and its text
-pub record Told : Type 0 where
+pub record ReplyText : Type 0 where
   pub kind : Kind
   pub text : List ℕ
 
 -- ---- of commands that are done
 
-abbrev pub told_number : ℕ → Told
-told_number n = record { kind = kind.Done; text = codes "ok " ++ decimal n }
+abbrev pub number_reply : ℕ → ReplyText
+number_reply n = record { kind = kind.Done; text = codes "ok " ++ decimal n }
 
-abbrev pub told_defined : ℕ → List ℕ → Told
-told_defined n name = record { kind = kind.Done; text = codes "ok " ++ decimal n ++ codes " " ++ escaped name }
+abbrev pub defined_reply : ℕ → List ℕ → ReplyText
+defined_reply n name = record { kind = kind.Done; text = codes "ok " ++ decimal n ++ codes " " ++ escaped name }
 
-abbrev pub told_nothing : Told
-told_nothing = record { kind = kind.Done; text = codes "none" }
+abbrev pub none_reply : ReplyText
+none_reply = record { kind = kind.Done; text = codes "none" }
 
 abbrev pub lower_digit : ℕ → ℕ
 lower_digit v = if nat_lt v 10 then 48 + v else 97 + (v - 10)
@@ -44,20 +44,20 @@ super_text None = codes "-"
 super_text (Some name) = escaped name
 
 -- a class that is found under a name, with a record of so many words
-abbrev pub told_class : List ℕ → ClassFile → ℕ → Told
-told_class name c words =
+abbrev pub class_reply : List ℕ → ClassFile → ℕ → ReplyText
+class_reply name c words =
     record { kind = kind.Done; text = codes "class " ++ escaped name ++ codes " flags " ++ flags_text c.flags ++ codes " super " ++ super_text (super_name_of c) ++ codes " words " ++ decimal words }
 
 -- ---- of commands that aren't done
 
-abbrev pub told_refused : ℕ → List ℕ → Told
-told_refused k why = record { kind = kind.Refused; text = codes "refused " ++ decimal k ++ codes " " ++ why }
+abbrev pub refused_reply : ℕ → List ℕ → ReplyText
+refused_reply k why = record { kind = kind.Refused; text = codes "refused " ++ decimal k ++ codes " " ++ why }
 
-abbrev pub told_unsure : ℕ → Told
-told_unsure n = record { kind = kind.Unsure; text = codes "unsure " ++ decimal n }
+abbrev pub unsure_reply : ℕ → ReplyText
+unsure_reply n = record { kind = kind.Unsure; text = codes "unsure " ++ decimal n }
 
-abbrev pub told_bad_line : Told
-told_bad_line = told_refused 15 (codes "line")
+abbrev pub bad_line_reply : ReplyText
+bad_line_reply = refused_reply 15 (codes "line")
 
 abbrev pub refusal_text : Refusal → List ℕ
 refusal_text refusal.BadName = codes "name"
@@ -73,9 +73,9 @@ refusal_text refusal.NumbersSpent = codes "numbers spent"
 refusal_text (refusal.Unsure n) = codes "unsure"
 
 -- a command that the device didn't take is unsure, and not refused
-abbrev pub told_refusal : Refusal → Told
-told_refusal (refusal.Unsure n) = told_unsure n
-told_refusal r = told_refused (refusal_number r) (refusal_text r)
+abbrev pub refusal_reply : Refusal → ReplyText
+refusal_reply (refusal.Unsure n) = unsure_reply n
+refusal_reply r = refused_reply (refusal_number r) (refusal_text r)
 
 -- where in a class a rule is broken
 abbrev pub spot_text : Spot → List ℕ
@@ -99,5 +99,5 @@ fault_text fault.RecordTooLong = codes "record too long"
 fault_text fault.NoMemory = codes "memory"
 
 -- a class that isn't prepared
-abbrev pub told_fault : PrepareFault → Told
-told_fault f = told_refused (fault_number f) (fault_text f)
+abbrev pub fault_reply : PrepareFault → ReplyText
+fault_reply f = refused_reply (fault_number f) (fault_text f)

@@ -1,6 +1,8 @@
 //! Scripts on the cache that stands on a disk.
 
-ghost use Rattle.cm_tool.specs.Applied.{Applies};
+ghost use Rattle.std.specs.Prelude.{IfOk, IfErr};
+ghost use Rattle.cm_tool.specs.Runs.{io, medium, IsAnswered};
+ghost use Rattle.cm_tool.specs.Applied.{RunsFromOpened, IsStopped};
 
 use crate::script::{Outcome, ToolFault, run_to_end};
 use cm_disk::Disk;
@@ -31,8 +33,16 @@ pub fn apply_script<R: BufRead, W: Write, D: Disk + Drop>(
     writer: &mut W,
     disk: D,
 ) -> (Result<Outcome, ApplyFault>, D)
-    ensures { Applies (R.remaining reader.old) (W.contents writer.old) (W.contents writer.new) (D.contents disk) (D.contents result.1)
-        (D.failures disk) (D.failures result.1) result.0 }
+    ensures ok { IfOk result.0 (λ outcome. RunsFromOpened
+        (medium (D.contents disk) (D.failures disk))
+        (medium (D.contents result.1) (D.failures result.1))
+        (λ old new. IsAnswered
+            (io (R.remaining reader.old) (W.contents writer.old) (W.contents writer.new))
+            old new outcome)) }
+    ensures err { IfErr result.0 (IsStopped
+        (io (R.remaining reader.old) (W.contents writer.old) (W.contents writer.new))
+        (medium (D.contents disk) (D.failures disk))
+        (medium (D.contents result.1) (D.failures result.1))) }
 {
     match Store::open(alloc, disk) {
         Ok(store) => match run_to_end(alloc, reader, writer, store) {

@@ -1,58 +1,13 @@
 //! Reading a script line by line.
 
-ghost use Rattle.std.specs.Prelude.{◌≡◌, ◌≢◌, ◌≤◌, ℕ, nat_lt, List, [], ◌∷◌, length, take, true, false, IfOk, IfErr, OnOk};
-ghost use Rattle.cm_tool.specs.Runs.{TakesLines, HasNoLine, Holds, Grows, IsPiece, TakesPiece, ReadsLine};
+ghost use Rattle.std.specs.Prelude.{◌≡◌, ◌≢◌, ◌≤◌, ℕ, List, length, take, IfOk, IfErr};
+ghost use Rattle.cm_tool.specs.Runs.{IsPiece, TakesPiece, ReadsLine, Grows};
 
 use crate::line::cut;
+use crate::line_buffer::LineBuffer;
 use crate::script::ToolFault;
-use std::alloc::{AllocError, Global};
+use std::alloc::AllocError;
 use std::io::{BufRead, ErrorKind};
-
-/// How many bytes a line may have, without its newline.
-const LINE_LIMIT: usize = 16_777_216;
-
-/// A line that is read: its bytes, or that it has more of them than a line may have.
-#[derive(Drop)]
-pub struct LineBuffer {
-    pub bytes: Vec<u8>,
-    pub is_long: bool,
-}
-
-impl LineBuffer {
-    pub fn new(alloc: Global) -> LineBuffer
-        ensures { Holds [] result }
-    {
-        LineBuffer {
-            bytes: Vec::new(alloc),
-            is_long: false,
-        }
-    }
-
-    fn clear(&mut self)
-        ensures { Holds [] self.new }
-    {
-        self.bytes.clear();
-        self.is_long = false;
-    }
-
-    /// Whether the line has bytes at all.
-    fn has_bytes(&self) -> bool
-        ensures { (line : List ℕ) → Holds line self.now → result ≡ nat_lt 0 (length line) }
-    {
-        self.is_long || !self.bytes.is_empty()
-    }
-
-    /// Adds bytes of the line. Those of a line that is too long aren't kept.
-    fn push(&mut self, bytes: &[u8]) -> Result<(), AllocError>
-        ensures { OnOk result (Grows self.old self.new bytes.now) }
-    {
-        if self.is_long || bytes.len() > LINE_LIMIT || self.bytes.len() > LINE_LIMIT - bytes.len() {
-            self.is_long = true;
-            return Ok(());
-        }
-        self.bytes.extend_from_slice(bytes)
-    }
-}
 
 /// Where a piece of a line ends.
 enum Piece {

@@ -1,6 +1,7 @@
-//! What holds of the definitions themselves. Each law is the contract of a function with an empty body.
+//! What holds of the definitions themselves. Each law is the contract of a function with an empty
+//! body.
 
-ghost use Rattle.cm_tool.specs.Laws.{LinesMakeScript, OneSpelling, UnsureIsLost, RefusedIsSame};
+ghost use Rattle.cm_tool.specs.Laws.{LinesMakeScript, OneSpelling, UnsureIsLost, RefusedIsSame, UnescapingUndoes, SpellingIsOne};
 
 /// The lines of a script have no newlines, and put together they are the script.
 pub fn lines_make_the_script()
@@ -20,4 +21,14 @@ pub fn unsure_is_lost()
 /// A refused line changes nothing.
 pub fn refused_is_same()
     ensures { RefusedIsSame }
+{}
+
+/// A class name's spelling in a script is read as that name.
+pub fn unescaping_undoes_escaping()
+    ensures { UnescapingUndoes }
+{}
+
+/// Only a name's own spelling is read as it, in which each digit behind a `%` may have either case.
+pub fn names_have_one_spelling()
+    ensures { SpellingIsOne }
 {}

@@ -4,7 +4,7 @@ ghost use Rattle.std.specs.Prelude.{◌≡◌, ◌<◌, ◌++◌, [], ◌∷◌,
 ghost use Rattle.std.specs.Fmt.{decimal};
 ghost use Rattle.cm_class.specs.declared.class_file.ClassFile.{ClassFile};
 ghost use Rattle.cm_record.specs.Layout.{IsRecord, IsRecordOf};
-ghost use Rattle.cm_tool.specs.Texts.{told_number, told_defined, told_nothing, told_class, told_refused, told_unsure, told_bad_line, told_refusal, told_fault, refusal_text, fault_text, broken_text, spot_text, flags_text, lower_digit};
+ghost use Rattle.cm_tool.specs.Texts.{number_reply, defined_reply, none_reply, class_reply, refused_reply, unsure_reply, bad_line_reply, refusal_reply, fault_reply, refusal_text, fault_text, broken_text, spot_text, flags_text, lower_digit};
 ghost use Rattle.cm_tool.specs.Seen.{IsReply};
 
 use crate::escape::escape_into;
@@ -32,14 +32,14 @@ pub struct Reply {
 
 /// `ok N`.
 pub fn done(alloc: Global, number: u64) -> Result<Reply, AllocError>
-    ensures { IfOk result (IsReply (told_number number)) }
+    ensures { IfOk result (IsReply (number_reply number)) }
 {
     end(Kind::Done, numbered(alloc, b"ok ", number)?)
 }
 
 /// `ok N CLASS`.
 pub fn defined(alloc: Global, number: u64, name: &[u8]) -> Result<Reply, AllocError>
-    ensures { IfOk result (IsReply (told_defined number name.now)) }
+    ensures { IfOk result (IsReply (defined_reply number name.now)) }
 {
     let mut line = numbered(alloc, b"ok ", number)?;
     line.extend_from_slice(b" ")?;
@@ -49,8 +49,8 @@ pub fn defined(alloc: Global, number: u64, name: &[u8]) -> Result<Reply, AllocEr
 
 /// `class CLASS flags HHHH super S words W`.
 pub fn found(alloc: Global, name: &[u8], class: &Record) -> Result<Reply, AllocError>
-    ensures told { (c : ClassFile) → IsRecordOf c class.now
-        → IfOk result (IsReply (told_class name.now c (length class.now))) }
+    ensures given { (c : ClassFile) → IsRecordOf c class.now
+        → IfOk result (IsReply (class_reply name.now c (length class.now))) }
     ensures laid { OnOk result (IsRecord class.now) }
 {
     let mut line = text(alloc, b"class ")?;
@@ -69,14 +69,14 @@ pub fn found(alloc: Global, name: &[u8], class: &Record) -> Result<Reply, AllocE
 
 /// `none`.
 pub fn nothing(alloc: Global) -> Result<Reply, AllocError>
-    ensures { IfOk result (IsReply told_nothing) }
+    ensures { IfOk result (IsReply none_reply) }
 {
     end(Kind::Done, text(alloc, b"none")?)
 }
 
 /// `refused K TEXT`, or `unsure N`.
 pub fn refused(alloc: Global, refusal: Refusal) -> Result<Reply, AllocError>
-    ensures { IfOk result (IsReply (told_refusal refusal)) }
+    ensures { IfOk result (IsReply (refusal_reply refusal)) }
 {
     match refusal {
         Refusal::Unsure(number) => unsure(alloc, number),
@@ -86,14 +86,14 @@ pub fn refused(alloc: Global, refusal: Refusal) -> Result<Reply, AllocError>
 
 /// `unsure N`.
 fn unsure(alloc: Global, number: u64) -> Result<Reply, AllocError>
-    ensures { IfOk result (IsReply (told_unsure number)) }
+    ensures { IfOk result (IsReply (unsure_reply number)) }
 {
     end(Kind::Unsure, numbered(alloc, b"unsure ", number)?)
 }
 
 /// `refused K TEXT` for a class that isn't prepared. The text of a broken rule is `V` and its number, and the spot.
 pub fn unprepared(alloc: Global, fault: PrepareFault) -> Result<Reply, AllocError>
-    ensures { IfOk result (IsReply (told_fault fault)) }
+    ensures { IfOk result (IsReply (fault_reply fault)) }
 {
     let why = text_of_fault(alloc, fault)?;
     refused_as(alloc, fault.number(), &why)
@@ -101,14 +101,14 @@ pub fn unprepared(alloc: Global, fault: PrepareFault) -> Result<Reply, AllocErro
 
 /// `refused 15 line`: the line has no known form.
 pub fn bad_line(alloc: Global) -> Result<Reply, AllocError>
-    ensures { IfOk result (IsReply told_bad_line) }
+    ensures { IfOk result (IsReply bad_line_reply) }
 {
     refused_as(alloc, 15, b"line")
 }
 
 /// `refused K TEXT` of this number and text.
 fn refused_as(alloc: Global, number: u8, why: &[u8]) -> Result<Reply, AllocError>
-    ensures { IfOk result (IsReply (told_refused number why.now)) }
+    ensures { IfOk result (IsReply (refused_reply number why.now)) }
 {
     let mut line = numbered(alloc, b"refused ", u64::from(number))?;
     line.extend_from_slice(b" ")?;

@@ -3,11 +3,12 @@
 ghost use Rattle.std.specs.Prelude.{◌≡◌, ◌||◌, ℕ, List, IfOk, IfErr};
 ghost use Rattle.cm_store.specs.Store.{StoreValue};
 ghost use Rattle.cm_tool.specs.Answers.{is_refused, is_unsure};
-ghost use Rattle.cm_tool.specs.Runs.{Holds, Turns, IsAnswered, EndsEarly, IsRun, LeavesDisk};
+ghost use Rattle.cm_tool.specs.Runs.{io, medium, Holds, Turns, IsAnswered, EndsEarly, IsRun, LeavesDisk};
 ghost use Rattle.cm_tool.specs.Seen.{RepliesTo};
 
 use crate::answer::answer;
-use crate::input::{LineBuffer, read_line};
+use crate::input::read_line;
+use crate::line_buffer::LineBuffer;
 use crate::output::write_reply;
 use crate::reply::{Kind, Reply, bad_line};
 use cm_disk::Disk;
@@ -59,8 +60,12 @@ pub fn run_script<R: BufRead, W: Write, D: Disk + Drop>(
     writer: &mut W,
     store: &mut Store<D>,
 ) -> Result<Outcome, ToolFault>
-    ensures ok { IfOk result (IsAnswered (R.remaining reader.old) (W.contents writer.old) (W.contents writer.new) store.old store.new) }
-    ensures err { IfErr result (EndsEarly (R.remaining reader.old) (W.contents writer.old) (W.contents writer.new) store.old store.new) }
+    ensures ok { IfOk result (IsAnswered
+        (io (R.remaining reader.old) (W.contents writer.old) (W.contents writer.new))
+        store.old store.new) }
+    ensures err { IfErr result (EndsEarly
+        (io (R.remaining reader.old) (W.contents writer.old) (W.contents writer.new))
+        store.old store.new) }
 {
     let mut line = LineBuffer::new(alloc);
     let mut outcome = Outcome {
@@ -90,8 +95,9 @@ pub fn run_to_end<R: BufRead, W: Write, D: Disk + Drop>(
     store: Store<D>,
 ) -> (Result<Outcome, ToolFault>, D)
     ensures { (new : StoreValue)
-        × IsRun (R.remaining reader.old) (W.contents writer.old) (W.contents writer.new) store new result.0
-        × LeavesDisk (D.contents result.1) (D.failures result.1) new }
+        × IsRun (io (R.remaining reader.old) (W.contents writer.old) (W.contents writer.new))
+            store new result.0
+        × LeavesDisk (medium (D.contents result.1) (D.failures result.1)) new }
 {
     let mut store = store;
     let result = run_script(alloc, reader, writer, &mut store);
@@ -107,7 +113,9 @@ fn run_line<R: BufRead, W: Write, D: Disk + Drop>(
     store: &mut Store<D>,
     line: &mut LineBuffer,
 ) -> Result<Option<Kind>, ToolFault>
-    ensures { Turns (R.remaining reader.old) (R.remaining reader.new) (W.contents writer.old) (W.contents writer.new) store.old store.new result }
+    ensures { Turns (R.remaining reader.new)
+        (io (R.remaining reader.old) (W.contents writer.old) (W.contents writer.new))
+        store.old store.new result }
 {
     match read_line(reader, line) {
         Ok(true) => {}

@@ -1,5 +1,5 @@
 use Rattle.std.proofs.Common.{Ok, refl, subst}
-use Rattle.cm_tool.specs.Runs.{Turns}
+use Rattle.cm_tool.specs.Runs.{io, Turns}
 use Rattle.cm_tool.proofs.Running.{run_start, run_more, run_lost, run_broken, run_given_up}
 use Rattle.cm_tool.proofs.script.run_script.Goals as goal
 
@@ -14,7 +14,7 @@ returns-then-outcome-clause-ok g c =
     let m = g.W.Write.contents c.run_line.new.writer in
     run_lost (g.R.Read.remaining c.args.reader.now) b d (g.W.Write.contents c.args.writer.now) k m c.args.store.now c.lines.store c.run_line.new.store
     c.lines.outcome c.after-outcome.result c.in-Ok-Some.kind c.lines.invariant
-    (subst (λ o. Turns b d k m c.lines.store c.run_line.new.store (Ok o)) c.in-Ok-Some.field-0-is c.in-Ok-Some.ensures)
+    (subst (λ o. Turns d (io b k m) c.lines.store c.run_line.new.store (Ok o)) c.in-Ok-Some.field-0-is c.in-Ok-Some.ensures)
     (record { refused = c.after-outcome.ensures.refused; unsure = c.after-outcome.ensures.unsure }) c.if-outcome.true
 
 pub lines-preserved : goal.lines-preserved
@@ -25,7 +25,7 @@ lines-preserved g c =
     let m = g.W.Write.contents c.run_line.new.writer in
     run_more (g.R.Read.remaining c.args.reader.now) b d (g.W.Write.contents c.args.writer.now) k m c.args.store.now c.lines.store c.run_line.new.store
     c.lines.outcome c.after-outcome.result c.in-Ok-Some.kind c.lines.invariant
-    (subst (λ o. Turns b d k m c.lines.store c.run_line.new.store (Ok o)) c.in-Ok-Some.field-0-is c.in-Ok-Some.ensures)
+    (subst (λ o. Turns d (io b k m) c.lines.store c.run_line.new.store (Ok o)) c.in-Ok-Some.field-0-is c.in-Ok-Some.ensures)
     (record { refused = c.after-outcome.ensures.refused; unsure = c.after-outcome.ensures.unsure }) c.if-outcome.false
 
 pub returns-in-Err-clause-err : goal.returns-in-Err-clause-err

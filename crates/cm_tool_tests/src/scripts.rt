@@ -1,9 +1,8 @@
-use crate::escape::{escape_into, unescape};
-use crate::script::{Outcome, ToolFault, run_script, run_to_end};
 use cm_disk::{Disk, SimDisk};
 use cm_store::store::Store;
+use cm_tool::{Outcome, escape_into, run_script, run_to_end, unescape};
 use std::alloc::Global;
-use std::io::{self, BufRead, BufReader, Read, Write};
+use std::io::BufReader;
 use std::test::*;
 
 /// Class A: 53 bytes, named `A`, of `java/lang/Object`.
@@ -67,7 +66,7 @@ fn scripts_are_answered(rt: HostRuntime) -> Result<(), Fail> {
 }
 
 #[test]
-fn a_refused_line_is_told(rt: HostRuntime) -> Result<(), Fail> {
+fn a_refused_line_shows_in_the_outcome(rt: HostRuntime) -> Result<(), Fail> {
     let (_, fine) = replies(rt.alloc(), b"loader a\n")?;
     assert_eq!(rt;
         fine,
@@ -112,84 +111,6 @@ fn a_script_is_read_in_pieces(rt: HostRuntime) -> Result<(), Fail> {
     Ok(())
 }
 
-/// Gives its bytes, and then fails.
-#[derive(Drop)]
-struct FailingReader<'a> {
-    bytes: &'a [u8],
-}
-
-impl<'a> Read for FailingReader<'a> {
-    fn read(&mut self, _buf: &mut [u8]) -> io::Result<usize> {
-        Err(io::Error::from(io::ErrorKind::Other))
-    }
-}
-
-impl<'a> BufRead for FailingReader<'a> {
-    fn fill_buf(&mut self) -> io::Result<&[u8]> {
-        if self.bytes.is_empty() {
-            return Err(io::Error::from(io::ErrorKind::Other));
-        }
-        Ok(self.bytes)
-    }
-
-    fn consume(&mut self, amount: usize) {
-        if amount <= self.bytes.len() {
-            self.bytes = &self.bytes[amount..];
-        }
-    }
-}
-
-#[test]
-fn a_reader_that_fails_in_mid_line_ends_the_run(rt: HostRuntime) -> Result<(), Fail> {
-    let alloc = rt.alloc();
-    let mut store = Store::create(alloc, SimDisk::new(alloc))
-        .ok()
-        .ok_or("no store")?;
-    let mut reader = FailingReader {
-        bytes: b"loader a\nloader b",
-    };
-    let mut written = Vec::new(alloc);
-    let outcome = run_script(alloc, &mut reader, &mut written, &mut store);
-    assert_eq!(rt; outcome, Err(ToolFault::Input));
-    assert_eq!(rt; written.as_slice(), b"ok 1\n".as_slice());
-    assert_eq!(rt; store.number(), 1);
-    Ok(())
-}
-
-/// Takes so many replies, and then fails.
-#[derive(Drop)]
-struct FailingWriter {
-    replies: u8,
-}
-
-impl Write for FailingWriter {
-    fn write(&mut self, buf: &[u8]) -> io::Result<usize> {
-        if self.replies == 0 {
-            return Err(io::Error::from(io::ErrorKind::Other));
-        }
-        self.replies -= 1;
-        Ok(buf.len())
-    }
-
-    fn flush(&mut self) -> io::Result<()> {
-        Ok(())
-    }
-}
-
-#[test]
-fn a_writer_that_fails_at_the_second_reply_ends_the_run(rt: HostRuntime) -> Result<(), Fail> {
-    let alloc = rt.alloc();
-    let mut store = Store::create(alloc, SimDisk::new(alloc))
-        .ok()
-        .ok_or("no store")?;
-    let mut reader = b"loader a\nloader b\nloader c\n".as_slice();
-    let mut writer = FailingWriter { replies: 1 };
-    let outcome = run_script(alloc, &mut reader, &mut writer, &mut store);
-    assert_eq!(rt; outcome, Err(ToolFault::Output));
-    assert_eq!(rt; store.number(), 2);
-    Ok(())
-}
-
 #[test]
 fn names_are_escaped_and_read_again(rt: HostRuntime) -> Result<(), Fail> {
     let alloc = rt.alloc();
@@ -207,5 +128,20 @@ fn names_are_escaped_and_read_again(rt: HostRuntime) -> Result<(), Fail> {
     ] {
         assert!(rt; unescape(alloc, bad).is_err());
     }
+    Ok(())
+}
+
+#[test]
+fn a_script_of_70000_lines_is_answered(rt: HostRuntime) -> Result<(), Fail> {
+    let alloc = rt.alloc();
+    let mut script = Vec::new(alloc);
+    let mut wanted = Vec::new(alloc);
+    for _ in 0..70_000 {
+        script.extend_from_slice(b"find nobody A\n")?;
+        wanted.extend_from_slice(b"none\n")?;
+    }
+    let (written, outcome) = replies(alloc, &script)?;
+    assert!(rt; !outcome.refused && !outcome.unsure);
+    assert!(rt; written == wanted);
     Ok(())
 }
