@@ -6,8 +6,7 @@ mod command;
 use crate::command::{Request, read_words};
 use cm_disk::SimDisk;
 use cm_store::format::format;
-use cm_tool::apply::{ApplyFault, apply_script};
-use cm_tool::script::Outcome;
+use cm_tool::{ApplyFault, Outcome, apply_script};
 use std::alloc::Global;
 use std::io::{self, BufReader, BufWriter};
 use std::process::ExitCode;
@@ -27,8 +26,11 @@ fn main(rt: HostRuntime) -> ExitCode {
 fn run(rt: &(impl Env + Input + Print + Eprint + AllocGlobal)) -> u8 {
     match read_words(rt) {
         Ok(Request::ApplyInMemory) => apply_in_memory(rt),
-        Ok(Request::Told(status)) => status,
-        Err(_) => failed(rt, "the command line can't be read"),
+        Ok(Request::Printed(status)) => status,
+        Err(fault) => {
+            let _ = eprintln!(rt; "cmcache: {fault}");
+            FAILED
+        }
     }
 }
 
