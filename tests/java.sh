@@ -1,7 +1,8 @@
 #!/usr/bin/env bash
 # Classes that the machine's Java compiler writes for version 52.0 are taken, and found again with the flags and the super
 # class that the JDK's own disassembler tells. The same classes with single bytes changed get the replies that
-# tests/oracle.py works out, which shares no code with the program; it gives those of tests/vectors too.
+# tests/oracle.py works out, which shares no code with the program; it gives those of tests/vectors too. Needs a JDK (javac,
+# javap) and Python 3.
 set -u
 cd "$(dirname "$0")/.." || exit 1
 . tests/lib.sh

@@ -27,6 +27,25 @@ check_status() {
     fi
 }
 
+# check_last NAME: the last command ended with 0.
+check_last() {
+    if [ $? = 0 ]; then
+        passed=$((passed + 1))
+    else
+        failed=$((failed + 1))
+        echo "FAILED: $1"
+    fi
+}
+
+# check_streams NAME OUT ERR: whether there is something or nothing ("some", "none") on standard output and error.
+check_streams() {
+    local out=none err=none
+    [ -s "$work/got" ] && out=some
+    [ -s "$work/errors" ] && err=some
+    [ "$out $err" = "$2 $3" ]
+    check_last "$1"
+}
+
 # run ARGS..: the program on $work/in.
 run() {
     "$program" "$@" <"$work/in" >"$work/got" 2>"$work/errors"

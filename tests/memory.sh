@@ -12,16 +12,6 @@ cd "$(dirname "$0")/.." || exit 1
 library=$work/allocations.so
 cc -O2 -Wall -Werror -shared -fPIC -o "$library" tests/allocations.c || { echo "0 passed, 1 failed"; exit 1; }
 
-# say NAME: what came of the last command is a check that passed or failed.
-say() {
-    if [ $? = 0 ]; then
-        passed=$((passed + 1))
-    else
-        failed=$((failed + 1))
-        echo "FAILED: $1"
-    fi
-}
-
 # count N: the Nth of the three counts that the last run left (asked for, most bytes, refused).
 count() { od -An -t u8 -j $((8 * ($1 - 1))) -N 8 "$work/counts" | tr -d ' '; }
 
@@ -40,9 +30,9 @@ sweep() {
         [ "$(count 3)" = 0 ] && break
     done
     [ $broken = 0 ]
-    say "$1 $2: a run with a refused allocation"
+    check_last "$1 $2: a run with a refused allocation"
     [ $((refuse - 1)) = "$3" ]
-    say "$1 $2: $((refuse - 1)) refusals were met, and not $3"
+    check_last "$1 $2: $((refuse - 1)) refusals were met, and not $3"
 }
 
 sweep cm_pool tests::a_failed_allocation_leaves_the_pool_as_it_was 1
@@ -56,7 +46,7 @@ a=cafebabe000000340005070002010001410700040100106a6176612f6c616e672f4f626a656374
 "$program" --help >"$work/log" 2>&1 # builds it where it is missing
 printf 'loader app\ndefine app %s\nfind app A\nloader app\n' "$a" |
     tests/refused_memory.py "$top/crates/cmcache/out/cmcache" "$library" 114
-say "the program with a refused allocation"
+check_last "the program with a refused allocation"
 
 # asks NAME HEX: reading, judging and recording this class asks for no more than 4,096 bytes at once, though it claims more.
 bench=$top/crates/cm_bench/out/cm_bench
@@ -66,7 +56,7 @@ asks() {
     printf '%08x%s' "$length" "$2" | python3 -c 'import sys; sys.stdout.buffer.write(bytes.fromhex(sys.stdin.read()))' >"$work/in"
     rm -f "$work/counts"
     ALLOCATIONS=$work/counts LD_PRELOAD=$library "$bench" <"$work/in" >"$work/got" && [ "$(count 2)" -le 4096 ] && grep -q "faults $3" "$work/got"
-    say "$1: $(count 2) bytes were asked for at once"
+    check_last "$1: $(count 2) bytes were asked for at once"
 }
 asks "class A" "$a" 0
 asks "65,535 constants" cafebabe00000034ffff 1

@@ -1,5 +1,5 @@
 #!/usr/bin/env bash
-# The built program, end to end: scripts in memory, refusals, statuses, and what it says of wrong words.
+# Scripts run by the built program: replies, refusals and statuses. Needs nothing beyond the machine's own tools.
 set -u
 . "$(dirname "$0")/lib.sh"
 
@@ -66,18 +66,5 @@ printf 'loader app\ndefine app %s\nfind app %%c3%%a9\n' "${n}0002c3a907000401001
 printf 'ok 1\nok 2 %%C3%%A9\nclass %%C3%%A9 flags 0021 super java/lang/Object words 16\n' >"$work/want"
 run apply --memory
 check "a name outside ASCII" 0
-
-: >"$work/in"
-run apply
-check_status "neither FILE nor --memory" 2 says
-run apply --memory file
-check_status "both FILE and --memory" 2 says
-run
-check_status "no words" 2 says
-run nonsense
-check_status "an unknown command" 2 says
-run --help
-check_status "--help" 0
-if [ -s "$work/got" ] && [ ! -s "$work/errors" ]; then passed=$((passed + 1)); else failed=$((failed + 1)); echo "FAILED: the help isn't on standard output"; fi
 
 finish
