@@ -5,8 +5,8 @@ use Rattle.std.specs.List.{flat_map}
 use Rattle.std.proofs.lemmas.Bool.{eqb-true, ltb-false, le-ltb}
 use Rattle.std.proofs.lemmas.List.{nil_from_length}
 use Rattle.cm_class.specs.declared.stop.Stop.TheVariants.{Bad}
-use Rattle.cm_class.specs.declared.tag.Tag.{Tag}
-use Rattle.cm_class.specs.declared.tag.Tag.TheVariants as tags
+use Rattle.cm_class.specs.declared.kind.Kind.{Kind}
+use Rattle.cm_class.specs.declared.kind.Kind.TheVariants as kinds
 use Rattle.cm_class.specs.declared.constant.Constant.{Constant}
 use Rattle.cm_class.specs.declared.constant.Constant.TheVariants as constant
 use Rattle.cm_class.specs.declared.constant.Slot.{Slot}
@@ -19,40 +19,40 @@ use Rattle.cm_class.proofs.Lists.{expected_reads, count_reads, rest_of}
 
 -- ---- tags
 
-abbrev pub number_of : Tag → ℕ
-number_of tags.Utf8 = 1
-number_of tags.Integer = 3
-number_of tags.Float = 4
-number_of tags.Long = 5
-number_of tags.Double = 6
-number_of tags.Class = 7
-number_of tags.String = 8
-number_of tags.Fieldref = 9
-number_of tags.Methodref = 10
-number_of tags.InterfaceMethodref = 11
-number_of tags.NameAndType = 12
-number_of tags.MethodHandle = 15
-number_of tags.MethodType = 16
-number_of tags.InvokeDynamic = 18
+abbrev pub number_of : Kind → ℕ
+number_of kinds.Utf8 = 1
+number_of kinds.Integer = 3
+number_of kinds.Float = 4
+number_of kinds.Long = 5
+number_of kinds.Double = 6
+number_of kinds.Class = 7
+number_of kinds.String = 8
+number_of kinds.Fieldref = 9
+number_of kinds.Methodref = 10
+number_of kinds.InterfaceMethodref = 11
+number_of kinds.NameAndType = 12
+number_of kinds.MethodHandle = 15
+number_of kinds.MethodType = 16
+number_of kinds.InvokeDynamic = 18
 
-number_again : (t : Tag) → tag_of (number_of t) ≡ Some t
-number_again tags.Utf8 = refl
-number_again tags.Integer = refl
-number_again tags.Float = refl
-number_again tags.Long = refl
-number_again tags.Double = refl
-number_again tags.Class = refl
-number_again tags.String = refl
-number_again tags.Fieldref = refl
-number_again tags.Methodref = refl
-number_again tags.InterfaceMethodref = refl
-number_again tags.NameAndType = refl
-number_again tags.MethodHandle = refl
-number_again tags.MethodType = refl
-number_again tags.InvokeDynamic = refl
+number_again : (t : Kind) → tag_of (number_of t) ≡ Some t
+number_again kinds.Utf8 = refl
+number_again kinds.Integer = refl
+number_again kinds.Float = refl
+number_again kinds.Long = refl
+number_again kinds.Double = refl
+number_again kinds.Class = refl
+number_again kinds.String = refl
+number_again kinds.Fieldref = refl
+number_again kinds.Methodref = refl
+number_again kinds.InterfaceMethodref = refl
+number_again kinds.NameAndType = refl
+number_again kinds.MethodHandle = refl
+number_again kinds.MethodType = refl
+number_again kinds.InvokeDynamic = refl
 
 -- one test of `tag_of`
-tested : (n : ℕ) (t : Tag) (others : Option Tag) → IfSome others (λ u. number_of u ≡ n) → IfSome (cond (eqb n (number_of t)) (Some t) others) (λ u. number_of u ≡ n)
+tested : (n : ℕ) (t : Kind) (others : Option Kind) → IfSome others (λ u. number_of u ≡ n) → IfSome (cond (eqb n (number_of t)) (Some t) others) (λ u. number_of u ≡ n)
 tested n t others h = by_test (eqb n (number_of t)) refl
   where
     by_test : (b : Bool) → eqb n (number_of t) ≡ b → IfSome (cond b (Some t) others) (λ u. number_of u ≡ n)
@@ -61,17 +61,17 @@ tested n t others h = by_test (eqb n (number_of t)) refl
 
 number_is : (n : ℕ) → IfSome (tag_of n) (λ t. number_of t ≡ n)
 number_is n =
-    tested n tags.Utf8 _ (tested n tags.Integer _ (tested n tags.Float _ (tested n tags.Long _ (tested n tags.Double _ (tested n tags.Class _ (tested n tags.String _ (tested n tags.Fieldref _ (tested n tags.Methodref _ (tested n tags.InterfaceMethodref _ (tested n tags.NameAndType _ (tested n tags.MethodHandle _ (tested n tags.MethodType _ (tested n tags.InvokeDynamic None tt)))))))))))))
+    tested n kinds.Utf8 _ (tested n kinds.Integer _ (tested n kinds.Float _ (tested n kinds.Long _ (tested n kinds.Double _ (tested n kinds.Class _ (tested n kinds.String _ (tested n kinds.Fieldref _ (tested n kinds.Methodref _ (tested n kinds.InterfaceMethodref _ (tested n kinds.NameAndType _ (tested n kinds.MethodHandle _ (tested n kinds.MethodType _ (tested n kinds.InvokeDynamic None tt)))))))))))))
 
 -- there is room for a constant of this kind
-abbrev pub TagFits : ℕ → Tag → Type 0
+abbrev pub TagFits : ℕ → Kind → Type 0
 TagFits left t = (takes_two t && nat_lt left 2) ≡ false
 
 -- two tags of one byte
-one_tag : (t u : Tag) → number_of t ≡ number_of u → t ≡ u
+one_tag : (t u : Kind) → number_of t ≡ number_of u → t ≡ u
 one_tag t u e = let same : Some t ≡ Some u = sym (number_again t) ∙ ap tag_of e ∙ number_again u in cc
 
-says_found : (left b : ℕ) (bytes : List ℕ) (found : Option Tag) → tag_of b ≡ found → IfSome found (λ t. number_of t ≡ b)
+says_found : (left b : ℕ) (bytes : List ℕ) (found : Option Kind) → tag_of b ≡ found → IfSome found (λ t. number_of t ≡ b)
     → Says (λ t. u1 (number_of t)) (TagFits left) (b ∷ bytes) (tag_found left found bytes)
 says_found left b bytes None e h = record {
   front = [];
@@ -79,7 +79,7 @@ says_found left b bytes None e h = record {
   rest = bytes;
   parts = refl;
   left_is = refl;
-  value = tags.Integer;
+  value = kinds.Integer;
   fits = refl;
   more = 3 ∷ [];
   begins = refl;
@@ -90,28 +90,28 @@ says_found left b bytes None e h = record {
 }
 says_found left b bytes (Some t) e h = by_test (takes_two t && nat_lt left 2) refl
   where
-    by_test : (w : Bool) → (takes_two t && nat_lt left 2) ≡ w → Says (λ u. u1 (number_of u)) (TagFits left) (b ∷ bytes) (cond {A = Read Tag} w (Err (Bad (length bytes + 1))) (Ok (t, bytes)))
+    by_test : (w : Bool) → (takes_two t && nat_lt left 2) ≡ w → Says (λ u. u1 (number_of u)) (TagFits left) (b ∷ bytes) (cond {A = Read Kind} w (Err (Bad (length bytes + 1))) (Ok (t, bytes)))
     by_test true g = record {
       front = [];
       at = b;
       rest = bytes;
       parts = refl;
       left_is = refl;
-      value = tags.Integer;
+      value = kinds.Integer;
       fits = refl;
       more = 3 ∷ [];
       begins = refl;
       stuck = λ u fits x y same.
           let heads : number_of u ≡ b = cc in
-          let kinds : t ≡ u = one_tag t u (h ∙ sym heads) in
-          let both : true ≡ false = sym g ∙ ap (λ (v : Tag). takes_two v && nat_lt left 2) kinds ∙ fits in
+          let one : t ≡ u = one_tag t u (h ∙ sym heads) in
+          let both : true ≡ false = sym g ∙ ap (λ (v : Kind). takes_two v && nat_lt left 2) one ∙ fits in
           absurd cc;
     }
     by_test false g = (g, ap (λ (n : ℕ). n ∷ bytes) (sym h))
 
 tag_says : (left : ℕ) (bytes : List ℕ) → AreBytes bytes → Says (λ t. u1 (number_of t)) (TagFits left) bytes (tag_at left bytes)
 unfolding tag_at
-tag_says left [] are = record { value = tags.Integer; fits = refl; next = 3; more = []; parts = refl }
+tag_says left [] are = record { value = kinds.Integer; fits = refl; next = 3; more = []; parts = refl }
 tag_says left (b ∷ bytes) are = says_found left b bytes (tag_of b) refl (number_is b)
 
 tag_reads : (left : ℕ) → Reads (tag_at left) (λ t. u1 (number_of t)) (TagFits left)
@@ -119,27 +119,27 @@ unfolding tag_at
 tag_reads left = record {
   says = tag_says left;
   again = λ t fits rest. rw (number_again t, fits) refl;
-  some = tags.Integer;
+  some = kinds.Integer;
   some_fits = refl;
 }
 
 -- ---- constants
 
-abbrev pub kind : Constant → Tag
-kind (constant.Utf8 v) = tags.Utf8
-kind (constant.Integer v) = tags.Integer
-kind (constant.Float v) = tags.Float
-kind (constant.Long v) = tags.Long
-kind (constant.Double v) = tags.Double
-kind (constant.Class v) = tags.Class
-kind (constant.String v) = tags.String
-kind (constant.Fieldref v w) = tags.Fieldref
-kind (constant.Methodref v w) = tags.Methodref
-kind (constant.InterfaceMethodref v w) = tags.InterfaceMethodref
-kind (constant.NameAndType v w) = tags.NameAndType
-kind (constant.MethodHandle v w) = tags.MethodHandle
-kind (constant.MethodType v) = tags.MethodType
-kind (constant.InvokeDynamic v w) = tags.InvokeDynamic
+abbrev pub kind : Constant → Kind
+kind (constant.Utf8 v) = kinds.Utf8
+kind (constant.Integer v) = kinds.Integer
+kind (constant.Float v) = kinds.Float
+kind (constant.Long v) = kinds.Long
+kind (constant.Double v) = kinds.Double
+kind (constant.Class v) = kinds.Class
+kind (constant.String v) = kinds.String
+kind (constant.Fieldref v w) = kinds.Fieldref
+kind (constant.Methodref v w) = kinds.Methodref
+kind (constant.InterfaceMethodref v w) = kinds.InterfaceMethodref
+kind (constant.NameAndType v w) = kinds.NameAndType
+kind (constant.MethodHandle v w) = kinds.MethodHandle
+kind (constant.MethodType v) = kinds.MethodType
+kind (constant.InvokeDynamic v w) = kinds.InvokeDynamic
 
 tag-kind : (c : Constant) → tag c ≡ number_of (kind c)
 tag-kind (constant.Utf8 v) = refl
@@ -174,21 +174,21 @@ is_wide-kind (constant.MethodType v) = refl
 is_wide-kind (constant.InvokeDynamic v w) = refl
 
 -- the constants of a kind, from their fields
-abbrev OfKind : Tag → Constant → Type 0
-OfKind tags.Utf8 c = (v : List ℕ) × (c ≡ constant.Utf8 v)
-OfKind tags.Integer c = (v : ℕ) × (c ≡ constant.Integer v)
-OfKind tags.Float c = (v : ℕ) × (c ≡ constant.Float v)
-OfKind tags.Long c = (v : ℕ) × (c ≡ constant.Long v)
-OfKind tags.Double c = (v : ℕ) × (c ≡ constant.Double v)
-OfKind tags.Class c = (v : ℕ) × (c ≡ constant.Class v)
-OfKind tags.String c = (v : ℕ) × (c ≡ constant.String v)
-OfKind tags.Fieldref c = (v : ℕ) × (w : ℕ) × (c ≡ constant.Fieldref v w)
-OfKind tags.Methodref c = (v : ℕ) × (w : ℕ) × (c ≡ constant.Methodref v w)
-OfKind tags.InterfaceMethodref c = (v : ℕ) × (w : ℕ) × (c ≡ constant.InterfaceMethodref v w)
-OfKind tags.NameAndType c = (v : ℕ) × (w : ℕ) × (c ≡ constant.NameAndType v w)
-OfKind tags.MethodHandle c = (v : ℕ) × (w : ℕ) × (c ≡ constant.MethodHandle v w)
-OfKind tags.MethodType c = (v : ℕ) × (c ≡ constant.MethodType v)
-OfKind tags.InvokeDynamic c = (v : ℕ) × (w : ℕ) × (c ≡ constant.InvokeDynamic v w)
+abbrev OfKind : Kind → Constant → Type 0
+OfKind kinds.Utf8 c = (v : List ℕ) × (c ≡ constant.Utf8 v)
+OfKind kinds.Integer c = (v : ℕ) × (c ≡ constant.Integer v)
+OfKind kinds.Float c = (v : ℕ) × (c ≡ constant.Float v)
+OfKind kinds.Long c = (v : ℕ) × (c ≡ constant.Long v)
+OfKind kinds.Double c = (v : ℕ) × (c ≡ constant.Double v)
+OfKind kinds.Class c = (v : ℕ) × (c ≡ constant.Class v)
+OfKind kinds.String c = (v : ℕ) × (c ≡ constant.String v)
+OfKind kinds.Fieldref c = (v : ℕ) × (w : ℕ) × (c ≡ constant.Fieldref v w)
+OfKind kinds.Methodref c = (v : ℕ) × (w : ℕ) × (c ≡ constant.Methodref v w)
+OfKind kinds.InterfaceMethodref c = (v : ℕ) × (w : ℕ) × (c ≡ constant.InterfaceMethodref v w)
+OfKind kinds.NameAndType c = (v : ℕ) × (w : ℕ) × (c ≡ constant.NameAndType v w)
+OfKind kinds.MethodHandle c = (v : ℕ) × (w : ℕ) × (c ≡ constant.MethodHandle v w)
+OfKind kinds.MethodType c = (v : ℕ) × (c ≡ constant.MethodType v)
+OfKind kinds.InvokeDynamic c = (v : ℕ) × (w : ℕ) × (c ≡ constant.InvokeDynamic v w)
 
 of_kind : (c : Constant) → OfKind (kind c) c
 of_kind (constant.Utf8 v) = (v, refl)
@@ -207,63 +207,63 @@ of_kind (constant.MethodType v) = (v, refl)
 of_kind (constant.InvokeDynamic v w) = (v, w, refl)
 
 -- a constant of this kind that fits
-abbrev FitsAs : Tag → Constant → Type 0
+abbrev FitsAs : Kind → Constant → Type 0
 FitsAs t c = ConstantFits c × (kind c ≡ t)
 
 -- the fields of such a constant
-fields_of : (t : Tag) (c : Constant) → kind c ≡ t → OfKind t c
-fields_of t c e = subst (λ (u : Tag). OfKind u c) e (of_kind c)
+fields_of : (t : Kind) (c : Constant) → kind c ≡ t → OfKind t c
+fields_of t c e = subst (λ (u : Kind). OfKind u c) e (of_kind c)
 
-info_reads : (t : Tag) → Reads (info_at t) info (FitsAs t)
+info_reads : (t : Kind) → Reads (info_at t) info (FitsAs t)
 unfolding one_at two_at text_at
-info_reads tags.Utf8 =
-    reads_made (sized_at 2) (λ v. u2 (length v) ++ v) (λ v. IsU2 (length v) × AreBytes v) constant.Utf8 info (FitsAs tags.Utf8) text_reads
-    (λ c fits. let f : OfKind tags.Utf8 c = fields_of tags.Utf8 c fits.1 in (f.0, subst ConstantFits f.1 fits.0, sym f.1)) (λ v fits. ((fits, refl), refl))
-info_reads tags.Integer =
-    reads_made (number_at 4) u4 IsU4 constant.Integer info (FitsAs tags.Integer) u4_reads
-    (λ c fits. let f : OfKind tags.Integer c = fields_of tags.Integer c fits.1 in (f.0, subst ConstantFits f.1 fits.0, sym f.1)) (λ v fits. ((fits, refl), refl))
-info_reads tags.Float =
-    reads_made (number_at 4) u4 IsU4 constant.Float info (FitsAs tags.Float) u4_reads
-    (λ c fits. let f : OfKind tags.Float c = fields_of tags.Float c fits.1 in (f.0, subst ConstantFits f.1 fits.0, sym f.1)) (λ v fits. ((fits, refl), refl))
-info_reads tags.Long =
-    reads_made (number_at 8) u8 IsU8 constant.Long info (FitsAs tags.Long) u8_reads
-    (λ c fits. let f : OfKind tags.Long c = fields_of tags.Long c fits.1 in (f.0, subst ConstantFits f.1 fits.0, sym f.1)) (λ v fits. ((fits, refl), refl))
-info_reads tags.Double =
-    reads_made (number_at 8) u8 IsU8 constant.Double info (FitsAs tags.Double) u8_reads
-    (λ c fits. let f : OfKind tags.Double c = fields_of tags.Double c fits.1 in (f.0, subst ConstantFits f.1 fits.0, sym f.1)) (λ v fits. ((fits, refl), refl))
-info_reads tags.Class =
-    reads_made (number_at 2) u2 IsU2 constant.Class info (FitsAs tags.Class) u2_reads
-    (λ c fits. let f : OfKind tags.Class c = fields_of tags.Class c fits.1 in (f.0, subst ConstantFits f.1 fits.0, sym f.1)) (λ v fits. ((fits, refl), refl))
-info_reads tags.String =
-    reads_made (number_at 2) u2 IsU2 constant.String info (FitsAs tags.String) u2_reads
-    (λ c fits. let f : OfKind tags.String c = fields_of tags.String c fits.1 in (f.0, subst ConstantFits f.1 fits.0, sym f.1)) (λ v fits. ((fits, refl), refl))
-info_reads tags.Fieldref =
-    reads_made (both_at (number_at 2) (number_at 2)) (λ x. u2 x.0 ++ u2 x.1) (λ x. IsU2 x.0 × IsU2 x.1) (λ x. constant.Fieldref x.0 x.1) info (FitsAs tags.Fieldref)
+info_reads kinds.Utf8 =
+    reads_made (sized_at 2) (λ v. u2 (length v) ++ v) (λ v. IsU2 (length v) × AreBytes v) constant.Utf8 info (FitsAs kinds.Utf8) text_reads
+    (λ c fits. let f : OfKind kinds.Utf8 c = fields_of kinds.Utf8 c fits.1 in (f.0, subst ConstantFits f.1 fits.0, sym f.1)) (λ v fits. ((fits, refl), refl))
+info_reads kinds.Integer =
+    reads_made (number_at 4) u4 IsU4 constant.Integer info (FitsAs kinds.Integer) u4_reads
+    (λ c fits. let f : OfKind kinds.Integer c = fields_of kinds.Integer c fits.1 in (f.0, subst ConstantFits f.1 fits.0, sym f.1)) (λ v fits. ((fits, refl), refl))
+info_reads kinds.Float =
+    reads_made (number_at 4) u4 IsU4 constant.Float info (FitsAs kinds.Float) u4_reads
+    (λ c fits. let f : OfKind kinds.Float c = fields_of kinds.Float c fits.1 in (f.0, subst ConstantFits f.1 fits.0, sym f.1)) (λ v fits. ((fits, refl), refl))
+info_reads kinds.Long =
+    reads_made (number_at 8) u8 IsU8 constant.Long info (FitsAs kinds.Long) u8_reads
+    (λ c fits. let f : OfKind kinds.Long c = fields_of kinds.Long c fits.1 in (f.0, subst ConstantFits f.1 fits.0, sym f.1)) (λ v fits. ((fits, refl), refl))
+info_reads kinds.Double =
+    reads_made (number_at 8) u8 IsU8 constant.Double info (FitsAs kinds.Double) u8_reads
+    (λ c fits. let f : OfKind kinds.Double c = fields_of kinds.Double c fits.1 in (f.0, subst ConstantFits f.1 fits.0, sym f.1)) (λ v fits. ((fits, refl), refl))
+info_reads kinds.Class =
+    reads_made (number_at 2) u2 IsU2 constant.Class info (FitsAs kinds.Class) u2_reads
+    (λ c fits. let f : OfKind kinds.Class c = fields_of kinds.Class c fits.1 in (f.0, subst ConstantFits f.1 fits.0, sym f.1)) (λ v fits. ((fits, refl), refl))
+info_reads kinds.String =
+    reads_made (number_at 2) u2 IsU2 constant.String info (FitsAs kinds.String) u2_reads
+    (λ c fits. let f : OfKind kinds.String c = fields_of kinds.String c fits.1 in (f.0, subst ConstantFits f.1 fits.0, sym f.1)) (λ v fits. ((fits, refl), refl))
+info_reads kinds.Fieldref =
+    reads_made (both_at (number_at 2) (number_at 2)) (λ x. u2 x.0 ++ u2 x.1) (λ x. IsU2 x.0 × IsU2 x.1) (λ x. constant.Fieldref x.0 x.1) info (FitsAs kinds.Fieldref)
     (reads_both (number_at 2) u2 IsU2 (number_at 2) u2 IsU2 u2_reads u2_reads)
-    (λ c fits. let f : OfKind tags.Fieldref c = fields_of tags.Fieldref c fits.1 in ((f.0, f.1), subst ConstantFits f.2 fits.0, sym f.2)) (λ v fits. ((fits, refl), refl))
-info_reads tags.Methodref =
-    reads_made (both_at (number_at 2) (number_at 2)) (λ x. u2 x.0 ++ u2 x.1) (λ x. IsU2 x.0 × IsU2 x.1) (λ x. constant.Methodref x.0 x.1) info (FitsAs tags.Methodref)
+    (λ c fits. let f : OfKind kinds.Fieldref c = fields_of kinds.Fieldref c fits.1 in ((f.0, f.1), subst ConstantFits f.2 fits.0, sym f.2)) (λ v fits. ((fits, refl), refl))
+info_reads kinds.Methodref =
+    reads_made (both_at (number_at 2) (number_at 2)) (λ x. u2 x.0 ++ u2 x.1) (λ x. IsU2 x.0 × IsU2 x.1) (λ x. constant.Methodref x.0 x.1) info (FitsAs kinds.Methodref)
     (reads_both (number_at 2) u2 IsU2 (number_at 2) u2 IsU2 u2_reads u2_reads)
-    (λ c fits. let f : OfKind tags.Methodref c = fields_of tags.Methodref c fits.1 in ((f.0, f.1), subst ConstantFits f.2 fits.0, sym f.2)) (λ v fits. ((fits, refl), refl))
-info_reads tags.InterfaceMethodref =
-    reads_made (both_at (number_at 2) (number_at 2)) (λ x. u2 x.0 ++ u2 x.1) (λ x. IsU2 x.0 × IsU2 x.1) (λ x. constant.InterfaceMethodref x.0 x.1) info (FitsAs tags.InterfaceMethodref)
+    (λ c fits. let f : OfKind kinds.Methodref c = fields_of kinds.Methodref c fits.1 in ((f.0, f.1), subst ConstantFits f.2 fits.0, sym f.2)) (λ v fits. ((fits, refl), refl))
+info_reads kinds.InterfaceMethodref =
+    reads_made (both_at (number_at 2) (number_at 2)) (λ x. u2 x.0 ++ u2 x.1) (λ x. IsU2 x.0 × IsU2 x.1) (λ x. constant.InterfaceMethodref x.0 x.1) info (FitsAs kinds.InterfaceMethodref)
     (reads_both (number_at 2) u2 IsU2 (number_at 2) u2 IsU2 u2_reads u2_reads)
-    (λ c fits. let f : OfKind tags.InterfaceMethodref c = fields_of tags.InterfaceMethodref c fits.1 in ((f.0, f.1), subst ConstantFits f.2 fits.0, sym f.2)) (λ v fits. ((fits, refl), refl))
-info_reads tags.NameAndType =
-    reads_made (both_at (number_at 2) (number_at 2)) (λ x. u2 x.0 ++ u2 x.1) (λ x. IsU2 x.0 × IsU2 x.1) (λ x. constant.NameAndType x.0 x.1) info (FitsAs tags.NameAndType)
+    (λ c fits. let f : OfKind kinds.InterfaceMethodref c = fields_of kinds.InterfaceMethodref c fits.1 in ((f.0, f.1), subst ConstantFits f.2 fits.0, sym f.2)) (λ v fits. ((fits, refl), refl))
+info_reads kinds.NameAndType =
+    reads_made (both_at (number_at 2) (number_at 2)) (λ x. u2 x.0 ++ u2 x.1) (λ x. IsU2 x.0 × IsU2 x.1) (λ x. constant.NameAndType x.0 x.1) info (FitsAs kinds.NameAndType)
     (reads_both (number_at 2) u2 IsU2 (number_at 2) u2 IsU2 u2_reads u2_reads)
-    (λ c fits. let f : OfKind tags.NameAndType c = fields_of tags.NameAndType c fits.1 in ((f.0, f.1), subst ConstantFits f.2 fits.0, sym f.2)) (λ v fits. ((fits, refl), refl))
-info_reads tags.MethodHandle =
-    reads_made (both_at byte_at (number_at 2)) (λ x. u1 x.0 ++ u2 x.1) (λ x. IsU1 x.0 × IsU2 x.1) (λ x. constant.MethodHandle x.0 x.1) info (FitsAs tags.MethodHandle)
+    (λ c fits. let f : OfKind kinds.NameAndType c = fields_of kinds.NameAndType c fits.1 in ((f.0, f.1), subst ConstantFits f.2 fits.0, sym f.2)) (λ v fits. ((fits, refl), refl))
+info_reads kinds.MethodHandle =
+    reads_made (both_at byte_at (number_at 2)) (λ x. u1 x.0 ++ u2 x.1) (λ x. IsU1 x.0 × IsU2 x.1) (λ x. constant.MethodHandle x.0 x.1) info (FitsAs kinds.MethodHandle)
     (reads_both byte_at u1 IsU1 (number_at 2) u2 IsU2 u1_reads u2_reads)
-    (λ c fits. let f : OfKind tags.MethodHandle c = fields_of tags.MethodHandle c fits.1 in ((f.0, f.1), subst ConstantFits f.2 fits.0, sym f.2)) (λ v fits. ((fits, refl), refl))
-info_reads tags.MethodType =
-    reads_made (number_at 2) u2 IsU2 constant.MethodType info (FitsAs tags.MethodType) u2_reads
-    (λ c fits. let f : OfKind tags.MethodType c = fields_of tags.MethodType c fits.1 in (f.0, subst ConstantFits f.1 fits.0, sym f.1)) (λ v fits. ((fits, refl), refl))
-info_reads tags.InvokeDynamic =
-    reads_made (both_at (number_at 2) (number_at 2)) (λ x. u2 x.0 ++ u2 x.1) (λ x. IsU2 x.0 × IsU2 x.1) (λ x. constant.InvokeDynamic x.0 x.1) info (FitsAs tags.InvokeDynamic)
+    (λ c fits. let f : OfKind kinds.MethodHandle c = fields_of kinds.MethodHandle c fits.1 in ((f.0, f.1), subst ConstantFits f.2 fits.0, sym f.2)) (λ v fits. ((fits, refl), refl))
+info_reads kinds.MethodType =
+    reads_made (number_at 2) u2 IsU2 constant.MethodType info (FitsAs kinds.MethodType) u2_reads
+    (λ c fits. let f : OfKind kinds.MethodType c = fields_of kinds.MethodType c fits.1 in (f.0, subst ConstantFits f.1 fits.0, sym f.1)) (λ v fits. ((fits, refl), refl))
+info_reads kinds.InvokeDynamic =
+    reads_made (both_at (number_at 2) (number_at 2)) (λ x. u2 x.0 ++ u2 x.1) (λ x. IsU2 x.0 × IsU2 x.1) (λ x. constant.InvokeDynamic x.0 x.1) info (FitsAs kinds.InvokeDynamic)
     (reads_both (number_at 2) u2 IsU2 (number_at 2) u2 IsU2 u2_reads u2_reads)
-    (λ c fits. let f : OfKind tags.InvokeDynamic c = fields_of tags.InvokeDynamic c fits.1 in ((f.0, f.1), subst ConstantFits f.2 fits.0, sym f.2)) (λ v fits. ((fits, refl), refl))
+    (λ c fits. let f : OfKind kinds.InvokeDynamic c = fields_of kinds.InvokeDynamic c fits.1 in ((f.0, f.1), subst ConstantFits f.2 fits.0, sym f.2)) (λ v fits. ((fits, refl), refl))
 
 -- there is room for the constant
 abbrev pub HasRoom : ℕ → Constant → Type 0

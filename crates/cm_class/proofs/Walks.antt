@@ -1,8 +1,8 @@
 -- Walking over items one after the other, as a loop does that keeps none of them.
 use Rattle.std.proofs.Common.{◌≡◌, Bool, true, false, ℕ, suc, ◌-◌, ◌+◌, ◌≤◌, ◌<◌, List, ◌∷◌, Result, Ok, Err, refl, sym, ◌∙◌, arith}
 use Rattle.cm_class.specs.declared.stop.Stop.{Stop}
-use Rattle.cm_class.specs.declared.tag.Tag.{Tag}
-use Rattle.cm_class.specs.declared.tag.Tag.TheVariants as tags
+use Rattle.cm_class.specs.declared.kind.Kind.{Kind}
+use Rattle.cm_class.specs.declared.kind.Kind.TheVariants as kinds
 use Rattle.cm_class.specs.declared.constant.Constant.{Constant}
 use Rattle.cm_class.specs.declared.constant.Constant.TheVariants as constant
 use Rattle.cm_class.specs.declared.constant.Slot.{Slot}
@@ -64,22 +64,22 @@ wide_made make wide (Ok x) after all e = let left : x.1 ≡ after = cc in rw (al
 wide_made make wide (Err stop) after all e = absurd cc
 
 -- a tag says whether its constant is wide
-pub wide_of : (t : Tag) (bytes after : List ℕ) → rest_of (info_at t bytes) ≡ Ok after → made_at is_wide (info_at t) bytes ≡ Ok (takes_two t, after)
+pub wide_of : (t : Kind) (bytes after : List ℕ) → rest_of (info_at t bytes) ≡ Ok after → made_at is_wide (info_at t) bytes ≡ Ok (takes_two t, after)
 unfolding one_at two_at text_at
-wide_of tags.Utf8 bytes after e = wide_made constant.Utf8 false (sized_at 2 bytes) after (λ a. refl) e
-wide_of tags.Integer bytes after e = wide_made constant.Integer false (number_at 4 bytes) after (λ a. refl) e
-wide_of tags.Float bytes after e = wide_made constant.Float false (number_at 4 bytes) after (λ a. refl) e
-wide_of tags.Long bytes after e = wide_made constant.Long true (number_at 8 bytes) after (λ a. refl) e
-wide_of tags.Double bytes after e = wide_made constant.Double true (number_at 8 bytes) after (λ a. refl) e
-wide_of tags.Class bytes after e = wide_made constant.Class false (number_at 2 bytes) after (λ a. refl) e
-wide_of tags.String bytes after e = wide_made constant.String false (number_at 2 bytes) after (λ a. refl) e
-wide_of tags.Fieldref bytes after e = wide_made (λ x. constant.Fieldref x.0 x.1) false (both_at (number_at 2) (number_at 2) bytes) after (λ a. refl) e
-wide_of tags.Methodref bytes after e = wide_made (λ x. constant.Methodref x.0 x.1) false (both_at (number_at 2) (number_at 2) bytes) after (λ a. refl) e
-wide_of tags.InterfaceMethodref bytes after e = wide_made (λ x. constant.InterfaceMethodref x.0 x.1) false (both_at (number_at 2) (number_at 2) bytes) after (λ a. refl) e
-wide_of tags.NameAndType bytes after e = wide_made (λ x. constant.NameAndType x.0 x.1) false (both_at (number_at 2) (number_at 2) bytes) after (λ a. refl) e
-wide_of tags.MethodHandle bytes after e = wide_made (λ x. constant.MethodHandle x.0 x.1) false (both_at byte_at (number_at 2) bytes) after (λ a. refl) e
-wide_of tags.MethodType bytes after e = wide_made constant.MethodType false (number_at 2 bytes) after (λ a. refl) e
-wide_of tags.InvokeDynamic bytes after e = wide_made (λ x. constant.InvokeDynamic x.0 x.1) false (both_at (number_at 2) (number_at 2) bytes) after (λ a. refl) e
+wide_of kinds.Utf8 bytes after e = wide_made constant.Utf8 false (sized_at 2 bytes) after (λ a. refl) e
+wide_of kinds.Integer bytes after e = wide_made constant.Integer false (number_at 4 bytes) after (λ a. refl) e
+wide_of kinds.Float bytes after e = wide_made constant.Float false (number_at 4 bytes) after (λ a. refl) e
+wide_of kinds.Long bytes after e = wide_made constant.Long true (number_at 8 bytes) after (λ a. refl) e
+wide_of kinds.Double bytes after e = wide_made constant.Double true (number_at 8 bytes) after (λ a. refl) e
+wide_of kinds.Class bytes after e = wide_made constant.Class false (number_at 2 bytes) after (λ a. refl) e
+wide_of kinds.String bytes after e = wide_made constant.String false (number_at 2 bytes) after (λ a. refl) e
+wide_of kinds.Fieldref bytes after e = wide_made (λ x. constant.Fieldref x.0 x.1) false (both_at (number_at 2) (number_at 2) bytes) after (λ a. refl) e
+wide_of kinds.Methodref bytes after e = wide_made (λ x. constant.Methodref x.0 x.1) false (both_at (number_at 2) (number_at 2) bytes) after (λ a. refl) e
+wide_of kinds.InterfaceMethodref bytes after e = wide_made (λ x. constant.InterfaceMethodref x.0 x.1) false (both_at (number_at 2) (number_at 2) bytes) after (λ a. refl) e
+wide_of kinds.NameAndType bytes after e = wide_made (λ x. constant.NameAndType x.0 x.1) false (both_at (number_at 2) (number_at 2) bytes) after (λ a. refl) e
+wide_of kinds.MethodHandle bytes after e = wide_made (λ x. constant.MethodHandle x.0 x.1) false (both_at byte_at (number_at 2) bytes) after (λ a. refl) e
+wide_of kinds.MethodType bytes after e = wide_made constant.MethodType false (number_at 2 bytes) after (λ a. refl) e
+wide_of kinds.InvokeDynamic bytes after e = wide_made (λ x. constant.InvokeDynamic x.0 x.1) false (both_at (number_at 2) (number_at 2) bytes) after (λ a. refl) e
 
 -- ---- slots
 

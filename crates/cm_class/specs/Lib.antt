@@ -1,3 +1,4 @@
 pub mod Spelling
 pub mod Shape
 pub mod Reading
+pub mod Names

@@ -6,8 +6,8 @@ use Rattle.cm_class.specs.declared.stop.Stop.{Stop}
 use Rattle.cm_class.specs.declared.stop.Stop.TheVariants.{Short, Bad, NoMemory}
 use Rattle.cm_class.specs.declared.fault.ShapeFault.{ShapeFault}
 use Rattle.cm_class.specs.declared.fault.ShapeFault.TheVariants as faults
-use Rattle.cm_class.specs.declared.tag.Tag.{Tag}
-use Rattle.cm_class.specs.declared.tag.Tag.TheVariants as tags
+use Rattle.cm_class.specs.declared.kind.Kind.{Kind}
+use Rattle.cm_class.specs.declared.kind.Kind.TheVariants as kinds
 use Rattle.cm_class.specs.declared.constant.Constant.{Constant}
 use Rattle.cm_class.specs.declared.constant.Constant.TheVariants as constant
 use Rattle.cm_class.specs.declared.constant.Slot.{Slot}
@@ -107,36 +107,36 @@ counted_at item bytes = do
 
 -- ---- the constant pool
 
-abbrev pub tag_of : ℕ → Option Tag
+abbrev pub tag_of : ℕ → Option Kind
 tag_of n =
-    if n == 1 then Some tags.Utf8
-    else if n == 3 then Some tags.Integer
-    else if n == 4 then Some tags.Float
-    else if n == 5 then Some tags.Long
-    else if n == 6 then Some tags.Double
-    else if n == 7 then Some tags.Class
-    else if n == 8 then Some tags.String
-    else if n == 9 then Some tags.Fieldref
-    else if n == 10 then Some tags.Methodref
-    else if n == 11 then Some tags.InterfaceMethodref
-    else if n == 12 then Some tags.NameAndType
-    else if n == 15 then Some tags.MethodHandle
-    else if n == 16 then Some tags.MethodType
-    else if n == 18 then Some tags.InvokeDynamic
+    if n == 1 then Some kinds.Utf8
+    else if n == 3 then Some kinds.Integer
+    else if n == 4 then Some kinds.Float
+    else if n == 5 then Some kinds.Long
+    else if n == 6 then Some kinds.Double
+    else if n == 7 then Some kinds.Class
+    else if n == 8 then Some kinds.String
+    else if n == 9 then Some kinds.Fieldref
+    else if n == 10 then Some kinds.Methodref
+    else if n == 11 then Some kinds.InterfaceMethodref
+    else if n == 12 then Some kinds.NameAndType
+    else if n == 15 then Some kinds.MethodHandle
+    else if n == 16 then Some kinds.MethodType
+    else if n == 18 then Some kinds.InvokeDynamic
     else None
 
 -- how many slots a constant of this kind takes
-abbrev pub takes_two : Tag → Bool
-takes_two tags.Long = true
-takes_two tags.Double = true
+abbrev pub takes_two : Kind → Bool
+takes_two kinds.Long = true
+takes_two kinds.Double = true
 takes_two _ = false
 
 -- the tag of a constant that has so many slots left; a wide one takes two of them
-abbrev pub tag_found : ℕ → Option Tag → List ℕ → Result (Tag × List ℕ) Stop
+abbrev pub tag_found : ℕ → Option Kind → List ℕ → Result (Kind × List ℕ) Stop
 tag_found left None bytes = Err (Bad (length bytes + 1))
 tag_found left (Some t) bytes = if takes_two t && nat_lt left 2 then Err (Bad (length bytes + 1)) else Ok (t, bytes)
 
-unfoldable pub tag_at : ℕ → List ℕ → Result (Tag × List ℕ) Stop
+unfoldable pub tag_at : ℕ → List ℕ → Result (Kind × List ℕ) Stop
 tag_at left [] = Err Short
 tag_at left (b ∷ bytes) = tag_found left (tag_of b) bytes
 
@@ -158,21 +158,21 @@ unfoldable pub text_at : List ℕ → Result (Constant × List ℕ) Stop
 text_at bytes = made_at constant.Utf8 (sized_at 2) bytes
 
 -- what stands behind a tag
-abbrev pub info_at : Tag → List ℕ → Result (Constant × List ℕ) Stop
-info_at tags.Utf8 bytes = text_at bytes
-info_at tags.Integer bytes = one_at constant.Integer 4 bytes
-info_at tags.Float bytes = one_at constant.Float 4 bytes
-info_at tags.Long bytes = one_at constant.Long 8 bytes
-info_at tags.Double bytes = one_at constant.Double 8 bytes
-info_at tags.Class bytes = one_at constant.Class 2 bytes
-info_at tags.String bytes = one_at constant.String 2 bytes
-info_at tags.Fieldref bytes = two_at constant.Fieldref (number_at 2) bytes
-info_at tags.Methodref bytes = two_at constant.Methodref (number_at 2) bytes
-info_at tags.InterfaceMethodref bytes = two_at constant.InterfaceMethodref (number_at 2) bytes
-info_at tags.NameAndType bytes = two_at constant.NameAndType (number_at 2) bytes
-info_at tags.MethodHandle bytes = two_at constant.MethodHandle byte_at bytes
-info_at tags.MethodType bytes = one_at constant.MethodType 2 bytes
-info_at tags.InvokeDynamic bytes = two_at constant.InvokeDynamic (number_at 2) bytes
+abbrev pub info_at : Kind → List ℕ → Result (Constant × List ℕ) Stop
+info_at kinds.Utf8 bytes = text_at bytes
+info_at kinds.Integer bytes = one_at constant.Integer 4 bytes
+info_at kinds.Float bytes = one_at constant.Float 4 bytes
+info_at kinds.Long bytes = one_at constant.Long 8 bytes
+info_at kinds.Double bytes = one_at constant.Double 8 bytes
+info_at kinds.Class bytes = one_at constant.Class 2 bytes
+info_at kinds.String bytes = one_at constant.String 2 bytes
+info_at kinds.Fieldref bytes = two_at constant.Fieldref (number_at 2) bytes
+info_at kinds.Methodref bytes = two_at constant.Methodref (number_at 2) bytes
+info_at kinds.InterfaceMethodref bytes = two_at constant.InterfaceMethodref (number_at 2) bytes
+info_at kinds.NameAndType bytes = two_at constant.NameAndType (number_at 2) bytes
+info_at kinds.MethodHandle bytes = two_at constant.MethodHandle byte_at bytes
+info_at kinds.MethodType bytes = one_at constant.MethodType 2 bytes
+info_at kinds.InvokeDynamic bytes = two_at constant.InvokeDynamic (number_at 2) bytes
 
 unfoldable pub constant_at : ℕ → List ℕ → Result (Constant × List ℕ) Stop
 constant_at left bytes = do

@@ -6,13 +6,14 @@ mod class_file;
 mod constant;
 mod fault;
 mod items;
+mod kind;
 mod laws;
 mod members;
+mod names;
 mod numbers;
 mod pool;
 mod shape;
 mod stop;
-mod tag;
 mod walk;
 
 pub use class::Class;
@@ -20,6 +21,7 @@ pub use class_file::{Attribute, ClassFile, Member};
 pub use constant::{Constant, Slot};
 pub use fault::ShapeFault;
 pub use items::Items;
+pub use kind::Kind;
 pub use laws::{each_text_has_one_answer, no_spelling_begins_another, one_class_for_one_spelling};
 pub use shape::read_shape;
 

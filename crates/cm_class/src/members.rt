@@ -3,8 +3,8 @@ ghost use Rattle.std.specs.Prelude.{◌≡◌};
 ghost use Rattle.cm_class.specs.Reading.{Gives, number_at, many_at, counted_at, attribute_at, member_at};
 
 use crate::class_file::{Attribute, Member};
-use crate::numbers::{byte_items, content, read_u16, room_for};
 use crate::items::Items;
+use crate::numbers::{byte_items, content, read_u16, room_for};
 use crate::stop::Stop;
 use std::alloc::Global;
 

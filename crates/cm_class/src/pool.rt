@@ -4,22 +4,22 @@ ghost use Rattle.cm_class.specs.Reading.{Gives, GivesExactly, tag_at, info_at, c
 
 use crate::constant::{Constant, Slot};
 use crate::items::Items;
+use crate::kind::Kind;
 use crate::numbers::{
     after_heading, byte_items, pool_count, read_u8, read_u16, read_u32, read_u64, room_for, text,
 };
 use crate::stop::Stop;
-use crate::tag::Tag;
 use std::alloc::Global;
 
 /// The tag of a constant that has so many slots left. A wide one takes two of them.
 #[tactic(auto, unfolding(crate::specs::Reading::tag_at))]
-pub(crate) fn tag(left: u16, bytes: &[u8]) -> Result<(Tag, &[u8]), Stop>
+pub(crate) fn tag(left: u16, bytes: &[u8]) -> Result<(Kind, &[u8]), Stop>
     ensures { GivesExactly (λ x. (x.0, x.1.now)) result (tag_at left bytes.now) }
 {
     let [byte, rest @ ..] = bytes else {
         return Err(Stop::Short);
     };
-    match Tag::from_byte(*byte) {
+    match Kind::from_tag(*byte) {
         Some(tag) if !(tag.is_wide() && left < 2) => Ok((tag, rest)),
         _ => Err(Stop::Bad(bytes.len())),
     }
@@ -36,48 +36,48 @@ pub(crate) fn two(bytes: &[u8]) -> Result<(u16, u16, &[u8]), Stop>
 
 /// What stands behind a tag (JVMS 4.4.1 to 4.4.10).
 #[tactic(auto, unfolding(crate::specs::Reading::one_at, crate::specs::Reading::two_at, crate::specs::Reading::text_at))]
-fn info(alloc: Global, tag: Tag, bytes: &[u8]) -> Result<(Constant, &[u8]), Stop>
-    ensures { Gives (λ x. (x.0, x.1.now)) result (info_at tag bytes.now) }
+fn info(alloc: Global, kind: Kind, bytes: &[u8]) -> Result<(Constant, &[u8]), Stop>
+    ensures { Gives (λ x. (x.0, x.1.now)) result (info_at kind bytes.now) }
 {
-    match tag {
-        Tag::Utf8 => {
+    match kind {
+        Kind::Utf8 => {
             let (text, rest) = text(bytes)?;
             Ok((Constant::Utf8(byte_items(alloc, text)?), rest))
         }
-        Tag::Integer => {
+        Kind::Integer => {
             let (bits, rest) = read_u32(bytes)?;
             Ok((Constant::Integer(bits), rest))
         }
-        Tag::Float => {
+        Kind::Float => {
             let (bits, rest) = read_u32(bytes)?;
             Ok((Constant::Float(bits), rest))
         }
-        Tag::Long => {
+        Kind::Long => {
             let (bits, rest) = read_u64(bytes)?;
             Ok((Constant::Long(bits), rest))
         }
-        Tag::Double => {
+        Kind::Double => {
             let (bits, rest) = read_u64(bytes)?;
             Ok((Constant::Double(bits), rest))
         }
-        Tag::Class => {
+        Kind::Class => {
             let (name, rest) = read_u16(bytes)?;
             Ok((Constant::Class { name }, rest))
         }
-        Tag::String => {
+        Kind::String => {
             let (text, rest) = read_u16(bytes)?;
             Ok((Constant::String { text }, rest))
         }
-        Tag::MethodType => {
+        Kind::MethodType => {
             let (descriptor, rest) = read_u16(bytes)?;
             Ok((Constant::MethodType { descriptor }, rest))
         }
-        Tag::MethodHandle => {
+        Kind::MethodHandle => {
             let (kind, rest) = read_u8(bytes)?;
             let (reference, rest) = read_u16(rest)?;
             Ok((Constant::MethodHandle { kind, reference }, rest))
         }
-        Tag::Fieldref => {
+        Kind::Fieldref => {
             let (class, name_and_type, rest) = two(bytes)?;
             Ok((
                 Constant::Fieldref {
@@ -87,7 +87,7 @@ fn info(alloc: Global, tag: Tag, bytes: &[u8]) -> Result<(Constant, &[u8]), Stop
                 rest,
             ))
         }
-        Tag::Methodref => {
+        Kind::Methodref => {
             let (class, name_and_type, rest) = two(bytes)?;
             Ok((
                 Constant::Methodref {
@@ -97,7 +97,7 @@ fn info(alloc: Global, tag: Tag, bytes: &[u8]) -> Result<(Constant, &[u8]), Stop
                 rest,
             ))
         }
-        Tag::InterfaceMethodref => {
+        Kind::InterfaceMethodref => {
             let (class, name_and_type, rest) = two(bytes)?;
             Ok((
                 Constant::InterfaceMethodref {
@@ -107,11 +107,11 @@ fn info(alloc: Global, tag: Tag, bytes: &[u8]) -> Result<(Constant, &[u8]), Stop
                 rest,
             ))
         }
-        Tag::NameAndType => {
+        Kind::NameAndType => {
             let (name, descriptor, rest) = two(bytes)?;
             Ok((Constant::NameAndType { name, descriptor }, rest))
         }
-        Tag::InvokeDynamic => {
+        Kind::InvokeDynamic => {
             let (bootstrap_method, name_and_type, rest) = two(bytes)?;
             Ok((
                 Constant::InvokeDynamic {

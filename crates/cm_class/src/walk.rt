@@ -4,45 +4,45 @@ ghost use Rattle.std.specs.Prelude.{◌≡◌, false};
 ghost use Rattle.cm_class.specs.Spelling.{is_wide};
 ghost use Rattle.cm_class.specs.Reading.{GivesExactly, rest_of, made_at, number_at, info_at, constant_at, slots_at, pool_at, many_at, counted_at, attribute_at, member_at, class_at};
 
+use crate::kind::Kind;
 use crate::numbers::{
     after_heading, content, pool_count, read_u8, read_u16, read_u32, read_u64, text,
 };
 use crate::pool::{tag, two};
 use crate::stop::Stop;
-use crate::tag::Tag;
 
 /// What follows that which stands behind a tag.
 #[tactic(auto, unfolding(crate::specs::Reading::one_at, crate::specs::Reading::two_at, crate::specs::Reading::text_at))]
-fn after_info(tag: Tag, bytes: &[u8]) -> Result<&[u8], Stop>
-    ensures { GivesExactly (λ x. x.now) result (rest_of (info_at tag bytes.now)) }
+fn after_info(kind: Kind, bytes: &[u8]) -> Result<&[u8], Stop>
+    ensures { GivesExactly (λ x. x.now) result (rest_of (info_at kind bytes.now)) }
 {
-    match tag {
-        Tag::Utf8 => {
+    match kind {
+        Kind::Utf8 => {
             let (_, rest) = text(bytes)?;
             Ok(rest)
         }
-        Tag::Integer | Tag::Float => {
+        Kind::Integer | Kind::Float => {
             let (_, rest) = read_u32(bytes)?;
             Ok(rest)
         }
-        Tag::Long | Tag::Double => {
+        Kind::Long | Kind::Double => {
             let (_, rest) = read_u64(bytes)?;
             Ok(rest)
         }
-        Tag::Class | Tag::String | Tag::MethodType => {
+        Kind::Class | Kind::String | Kind::MethodType => {
             let (_, rest) = read_u16(bytes)?;
             Ok(rest)
         }
-        Tag::MethodHandle => {
+        Kind::MethodHandle => {
             let (_, rest) = read_u8(bytes)?;
             let (_, rest) = read_u16(rest)?;
             Ok(rest)
         }
-        Tag::Fieldref
-        | Tag::Methodref
-        | Tag::InterfaceMethodref
-        | Tag::NameAndType
-        | Tag::InvokeDynamic => {
+        Kind::Fieldref
+        | Kind::Methodref
+        | Kind::InterfaceMethodref
+        | Kind::NameAndType
+        | Kind::InvokeDynamic => {
             let (_, _, rest) = two(bytes)?;
             Ok(rest)
         }

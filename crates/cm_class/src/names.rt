@@ -1,0 +1,131 @@
+//! What an index of a class's constant pool names.
+
+use crate::class::Class;
+use crate::constant::{Constant, Slot};
+use crate::kind::Kind;
+
+impl Constant {
+    ghost use Rattle.std.specs.Prelude.{◌≡◌};
+    ghost use Rattle.cm_class.specs.Names.{is_kind};
+
+    /// Whether it is of this kind.
+    pub fn is_kind(&self, kind: Kind) -> bool
+        ensures { result ≡ is_kind kind self.now }
+    {
+        match kind {
+            Kind::Utf8 => matches!(self, Constant::Utf8(_)),
+            Kind::Integer => matches!(self, Constant::Integer(_)),
+            Kind::Float => matches!(self, Constant::Float(_)),
+            Kind::Long => matches!(self, Constant::Long(_)),
+            Kind::Double => matches!(self, Constant::Double(_)),
+            Kind::Class => matches!(self, Constant::Class { .. }),
+            Kind::String => matches!(self, Constant::String { .. }),
+            Kind::Fieldref => matches!(self, Constant::Fieldref { .. }),
+            Kind::Methodref => matches!(self, Constant::Methodref { .. }),
+            Kind::InterfaceMethodref => matches!(self, Constant::InterfaceMethodref { .. }),
+            Kind::NameAndType => matches!(self, Constant::NameAndType { .. }),
+            Kind::MethodHandle => matches!(self, Constant::MethodHandle { .. }),
+            Kind::MethodType => matches!(self, Constant::MethodType { .. }),
+            Kind::InvokeDynamic => matches!(self, Constant::InvokeDynamic { .. }),
+        }
+    }
+}
+
+impl Class {
+    ghost use Rattle.std.specs.Prelude.{◌≡◌, option_copied};
+    ghost use Rattle.std.specs.Option.{option_map_or};
+    ghost use Rattle.cm_class.specs.Names.{constant_named, names, utf8, names_utf8, class_name_index, class_name, name_index_at, descriptor_index_at, pair_index, reference_name};
+
+    /// The constant that an index of the pool names; none at 0, behind a Long or a Double, and past the
+    /// pool (JVMS 4.4).
+    pub fn constant(&self, index: u16) -> Option<&Constant>
+        ensures { option_copied result ≡ constant_named self.now index }
+    {
+        if index == 0 {
+            return None;
+        }
+        match self.slots().get(usize::from(index) - 1) {
+            Some(Slot::Usable(constant)) => Some(constant),
+            _ => None,
+        }
+    }
+
+    /// Whether an index names a constant of this kind.
+    pub fn names(&self, index: u16, kind: Kind) -> bool
+        ensures { result ≡ names kind self.now index }
+    {
+        match self.constant(index) {
+            Some(constant) => constant.is_kind(kind),
+            None => false,
+        }
+    }
+
+    /// The bytes of the Utf8 that an index names; none where it names no Utf8.
+    pub fn utf8(&self, index: u16) -> &[u8]
+        ensures { result.now ≡ utf8 self.now index }
+    {
+        match self.constant(index) {
+            Some(Constant::Utf8(bytes)) => bytes.as_slice(),
+            _ => &[],
+        }
+    }
+
+    /// Whether an index names a Utf8 of these bytes.
+    pub fn names_utf8(&self, index: u16, bytes: &[u8]) -> bool
+        ensures { result ≡ names_utf8 self.now index bytes.now }
+    {
+        self.names(index, Kind::Utf8) && self.utf8(index) == bytes
+    }
+
+    /// Index of a class's name; 0 where there is no class.
+    fn class_name_index(&self, index: u16) -> u16
+        ensures { result ≡ option_map_or class_name_index (constant_named self.now index) 0 }
+    {
+        match self.constant(index) {
+            Some(Constant::Class { name }) => *name,
+            _ => 0,
+        }
+    }
+
+    /// The name of the class that an index names: the bytes of the Utf8 that it leads to; none where it
+    /// leads to no Utf8 (JVMS 4.4.1).
+    pub fn class_name(&self, index: u16) -> &[u8]
+        ensures { result.now ≡ class_name self.now index }
+    {
+        self.utf8(self.class_name_index(index))
+    }
+
+    /// The indexes of the name and of the descriptor in the NameAndType that an index names; both 0 where
+    /// it names none (JVMS 4.4.6).
+    pub fn name_and_type(&self, index: u16) -> (u16, u16)
+        ensures name { result.0 ≡ name_index_at self.now index }
+        ensures descriptor { result.1 ≡ descriptor_index_at self.now index }
+    {
+        match self.constant(index) {
+            Some(Constant::NameAndType { name, descriptor }) => (*name, *descriptor),
+            _ => (0, 0),
+        }
+    }
+
+    /// Index of the NameAndType that a reference to a member names; 0 where there is none.
+    fn pair_index(&self, index: u16) -> u16
+        ensures { result ≡ option_map_or pair_index (constant_named self.now index) 0 }
+    {
+        match self.constant(index) {
+            Some(
+                Constant::Fieldref { name_and_type, .. }
+                | Constant::Methodref { name_and_type, .. }
+                | Constant::InterfaceMethodref { name_and_type, .. },
+            ) => *name_and_type,
+            _ => 0,
+        }
+    }
+
+    /// The name of the field or method to which the reference at an index refers; no bytes where there
+    /// is none (JVMS 4.4.2).
+    pub fn reference_name(&self, index: u16) -> &[u8]
+        ensures { result.now ≡ reference_name self.now index }
+    {
+        self.utf8(self.name_and_type(self.pair_index(index)).0)
+    }
+}
