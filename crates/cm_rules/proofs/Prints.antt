@@ -12,7 +12,7 @@ use Rattle.std.proofs.lemmas.List.Sorted.{IsPermutation-sym}
 use Rattle.std.proofs.lemmas.Map.Keys.{IsDistinct-IsPermutation}
 use Rattle.cm_class.specs.declared.class_file.ClassFile.{ClassFile}
 use Rattle.cm_class.specs.declared.class_file.Member.{Member}
-use Rattle.cm_rules.specs.Entries.{text}
+use Rattle.cm_class.specs.Names.{utf8}
 use Rattle.cm_rules.specs.Fault.{first_failing}
 use Rattle.cm_rules.specs.ClassRules.{same_member, is_first}
 use Rattle.cm_rules.specs.Apart.{Differ, names_print, print, goes_up, increases}
@@ -64,17 +64,17 @@ ends numbers i before total le so_far = ap (goes_up before) (sym (drop_all i num
 flips : (x y : ℕ) → eqb x y ≡ eqb y x
 flips x y = grind (arith, nat_tests)
 
-same_texts : (c : ClassFile) (x y : Member) → same_member c x y ≡ true → (text c x.name ≡ text c y.name) × (text c x.descriptor ≡ text c y.descriptor)
+same_texts : (c : ClassFile) (x y : Member) → same_member c x y ≡ true → (utf8 c x.name ≡ utf8 c y.name) × (utf8 c x.descriptor ≡ utf8 c y.descriptor)
 same_texts c x y e = (
-  (bytes_decides (text c x.name) (text c y.name)).0 (left (bytes_eq (text c x.name) (text c y.name)) (bytes_eq (text c x.descriptor) (text c y.descriptor)) e),
-  (bytes_decides (text c x.descriptor) (text c y.descriptor)).0 (right (bytes_eq (text c x.name) (text c y.name)) (bytes_eq (text c x.descriptor) (text c y.descriptor)) e),
+  (bytes_decides (utf8 c x.name) (utf8 c y.name)).0 (left (bytes_eq (utf8 c x.name) (utf8 c y.name)) (bytes_eq (utf8 c x.descriptor) (utf8 c y.descriptor)) e),
+  (bytes_decides (utf8 c x.descriptor) (utf8 c y.descriptor)).0 (right (bytes_eq (utf8 c x.name) (utf8 c y.name)) (bytes_eq (utf8 c x.descriptor) (utf8 c y.descriptor)) e),
 )
 
 -- equal texts have equal prints
 same_print : (c : ClassFile) (x y : Member) → same_member c x y ≡ true → print c y ≡ print c x
 same_print c x y e =
     let texts = same_texts c x y e in
-    ap (λ (t : List ℕ). names_print t (text c y.descriptor)) (sym texts.0) ∙ ap (names_print (text c x.name)) (sym texts.1)
+    ap (λ (t : List ℕ). names_print t (utf8 c y.descriptor)) (sym texts.0) ∙ ap (names_print (utf8 c x.name)) (sym texts.1)
 
 -- ---- members by their prints
 

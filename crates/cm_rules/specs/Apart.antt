@@ -3,7 +3,7 @@ use Rattle.std.specs.Prelude.{◌≡◌, ℕ, ◌+◌, ◌-◌, ◌*◌, ◌^◌
 use Rattle.std.specs.List.{fold}
 use Rattle.cm_class.specs.declared.class_file.Member.{Member}
 use Rattle.cm_class.specs.declared.class_file.ClassFile.{ClassFile}
-use Rattle.cm_rules.specs.Entries.{text}
+use Rattle.cm_class.specs.Names.{utf8}
 use Rattle.cm_rules.specs.ClassRules.{is_first}
 use Rattle.cm_rules.specs.Fault.{first_failing}
 
@@ -28,7 +28,7 @@ unfoldable pub names_print : List ℕ → List ℕ → ℕ
 names_print name descriptor = text_print (text_print (length name) name) descriptor
 
 abbrev pub print : ClassFile → Member → ℕ
-print c m = names_print (text c m.name) (text c m.descriptor)
+print c m = names_print (utf8 c m.name) (utf8 c m.descriptor)
 
 -- each number is above the one before it
 unfoldable pub goes_up : ℕ → List ℕ → Bool

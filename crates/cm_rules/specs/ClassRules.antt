@@ -9,7 +9,8 @@ use Rattle.cm_class.specs.declared.class_file.Attribute.{Attribute}
 use Rattle.cm_class.specs.declared.class_file.Member.{Member}
 use Rattle.cm_class.specs.declared.class_file.ClassFile.{ClassFile}
 use Rattle.cm_names.specs.Text.{is_unqualified_name, is_method_name, is_field_descriptor, is_method_descriptor, method_units, begins_with, bracket, init, clinit, is_empty}
-use Rattle.cm_rules.specs.Entries.{names, text, is_named, class_name, is_text_entry, is_long, is_float, is_double, is_integer, is_string_entry}
+use Rattle.cm_class.specs.declared.kind.Kind.TheVariants as kinds
+use Rattle.cm_class.specs.Names.{class_name, names, names_utf8, utf8}
 use Rattle.cm_rules.specs.Flags.{is_public, is_private, is_protected, is_static, is_final, is_super, is_synchronized, is_volatile, is_bridge, is_transient, is_native, is_interface, is_abstract, is_strict, is_annotation, is_enum, visibilities, one_if}
 use Rattle.cm_rules.specs.Contents.{is_one_index, code_is_formed, exceptions_are_formed, enclosing_method_is_formed, inner_classes_are_formed, bootstrap_methods_are_formed, count_of}
 
@@ -40,7 +41,7 @@ super_is_right c =
 -- ---- attributes by their names
 
 unfoldable pub is_attribute : ClassFile → List ℕ → Attribute → Bool
-is_attribute c name a = is_named c a.name name
+is_attribute c name a = names_utf8 c a.name name
 
 abbrev pub with_name : ClassFile → List ℕ → List Attribute → List Attribute
 with_name c name attributes = filter (is_attribute c name) attributes
@@ -52,11 +53,11 @@ count_named c name attributes = length (with_name c name attributes)
 
 -- its name, its descriptor and the names of its attributes are texts
 abbrev pub names_texts : ClassFile → Member → Bool
-names_texts c m = names is_text_entry c m.name && names is_text_entry c m.descriptor && list_all (λ a. names is_text_entry c a.name) m.attributes
+names_texts c m = names kinds.Utf8 c m.name && names kinds.Utf8 c m.descriptor && list_all (λ a. names kinds.Utf8 c a.name) m.attributes
 
 -- a member of the same name and descriptor
 abbrev pub same_member : ClassFile → Member → Member → Bool
-same_member c m n = bytes_eq (text c m.name) (text c n.name) && bytes_eq (text c m.descriptor) (text c n.descriptor)
+same_member c m n = bytes_eq (utf8 c m.name) (utf8 c n.name) && bytes_eq (utf8 c m.descriptor) (utf8 c n.descriptor)
 
 -- no member before this place is the same
 abbrev pub is_first : ClassFile → List Member → ℕ → Member → Bool
@@ -65,7 +66,7 @@ is_first c members i m = not (list_any (same_member c m) (take i members))
 -- ---- fields (JVMS 4.5)
 
 abbrev pub field_is_named : ClassFile → Member → Bool
-field_is_named c m = is_unqualified_name (text c m.name) && is_field_descriptor (text c m.descriptor)
+field_is_named c m = is_unqualified_name (utf8 c m.name) && is_field_descriptor (utf8 c m.descriptor)
 
 abbrev pub interface_field_agrees : ℕ → Bool
 interface_field_agrees flags =
@@ -82,14 +83,14 @@ field_flags_agree c flags =
 -- ---- methods (JVMS 4.6)
 
 abbrev pub method_is_named : ClassFile → Member → Bool
-method_is_named c m = is_method_name (text c m.name) && is_method_descriptor (text c m.descriptor)
+method_is_named c m = is_method_name (utf8 c m.name) && is_method_descriptor (utf8 c m.descriptor)
 
 abbrev pub is_clinit : ClassFile → Member → Bool
-is_clinit c m = bytes_eq (text c m.name) clinit
+is_clinit c m = bytes_eq (utf8 c m.name) clinit
 
 -- with its receiver a method takes at most 255 units (JVMS 4.3.3)
 abbrev pub units_fit : ClassFile → Member → Bool
-units_fit c m = is_static m.flags || is_clinit c m || option_map_or (λ n. nat_le n 254) (method_units (text c m.descriptor)) false
+units_fit c m = is_static m.flags || is_clinit c m || option_map_or (λ n. nat_le n 254) (method_units (utf8 c m.descriptor)) false
 
 abbrev pub abstract_agrees : ℕ → Bool
 abstract_agrees flags = not (is_private flags || is_static flags || is_final flags || is_synchronized flags || is_native flags || is_strict flags)
@@ -111,7 +112,7 @@ method_flags_agree c m =
     && implies (is_interface c.flags)
     (one_if (is_public m.flags) + one_if (is_private m.flags) == 1
     && not (is_protected m.flags || is_final m.flags || is_synchronized m.flags || is_native m.flags))
-    && implies (bytes_eq (text c m.name) init)
+    && implies (bytes_eq (utf8 c m.name) init)
     (not (is_static m.flags || is_final m.flags || is_synchronized m.flags || is_bridge m.flags || is_native m.flags || is_abstract m.flags)))
 
 abbrev pub code : List ℕ
@@ -140,7 +141,7 @@ deprecated = codes "Deprecated"
 -- what fields, methods and classes have in common (JVMS 4.7.8, 4.7.9, 4.7.15)
 unfoldable pub common_is_formed : ClassFile → Attribute → Bool
 common_is_formed c a =
-    implies (is_attribute c signature a) (is_one_index (names is_text_entry c) a.bytes)
+    implies (is_attribute c signature a) (is_one_index (names kinds.Utf8 c) a.bytes)
     && implies (is_attribute c synthetic a || is_attribute c deprecated a) (is_empty a.bytes)
 
 abbrev pub constant_value : List ℕ
@@ -149,15 +150,15 @@ constant_value = codes "ConstantValue"
 -- whether an index names a constant that a field of this descriptor may have (JVMS 4.7.2, table 4.7.2-A)
 unfoldable pub names_value_of : List ℕ → ClassFile → ℕ → Bool
 names_value_of descriptor c i =
-    if bytes_eq descriptor (codes "J") then names is_long c i
-    else if bytes_eq descriptor (codes "F") then names is_float c i
-    else if bytes_eq descriptor (codes "D") then names is_double c i
-    else if bytes_eq descriptor (codes "I") || bytes_eq descriptor (codes "S") || bytes_eq descriptor (codes "C") || bytes_eq descriptor (codes "B") || bytes_eq descriptor (codes "Z") then names is_integer c i
-    else bytes_eq descriptor (codes "Ljava/lang/String;") && names is_string_entry c i
+    if bytes_eq descriptor (codes "J") then names kinds.Long c i
+    else if bytes_eq descriptor (codes "F") then names kinds.Float c i
+    else if bytes_eq descriptor (codes "D") then names kinds.Double c i
+    else if bytes_eq descriptor (codes "I") || bytes_eq descriptor (codes "S") || bytes_eq descriptor (codes "C") || bytes_eq descriptor (codes "B") || bytes_eq descriptor (codes "Z") then names kinds.Integer c i
+    else bytes_eq descriptor (codes "Ljava/lang/String;") && names kinds.String c i
 
 -- a field that isn't static may name anything
 abbrev pub may_have_value : ClassFile → Member → ℕ → Bool
-may_have_value c m i = not (is_static m.flags) || names_value_of (text c m.descriptor) c i
+may_have_value c m i = not (is_static m.flags) || names_value_of (utf8 c m.descriptor) c i
 
 unfoldable pub value_is_formed : ClassFile → Member → Attribute → Bool
 value_is_formed c m a = is_one_index (may_have_value c m) a.bytes
@@ -201,7 +202,7 @@ abbrev pub inner_classes : List ℕ
 inner_classes = codes "InnerClasses"
 
 abbrev pub source_file_is_right : ClassFile → ℕ → Attribute → Bool
-source_file_is_right c i a = implies (is_attribute c source_file a) (is_first_named c source_file i && is_one_index (names is_text_entry c) a.bytes)
+source_file_is_right c i a = implies (is_attribute c source_file a) (is_first_named c source_file i && is_one_index (names kinds.Utf8 c) a.bytes)
 
 abbrev pub enclosing_method_is_right : ClassFile → ℕ → Attribute → Bool
 enclosing_method_is_right c i a = implies (is_attribute c enclosing_method a) (is_first_named c enclosing_method i && enclosing_method_is_formed c a.bytes)

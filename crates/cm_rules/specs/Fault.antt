@@ -13,7 +13,8 @@ use Rattle.cm_rules.specs.declared.rule.Rule.TheVariants as rules
 use Rattle.cm_rules.specs.declared.rule.Spot.{Spot}
 use Rattle.cm_rules.specs.declared.rule.Spot.TheVariants.{Pool, This, Super, Interface, Field, Method, Attribute}
 use Rattle.cm_rules.specs.declared.rule.Broken.{Broken}
-use Rattle.cm_rules.specs.Entries.{usable, names, is_text_entry, is_class_entry}
+use Rattle.cm_class.specs.declared.kind.Kind.TheVariants as kinds
+use Rattle.cm_class.specs.Names.{constant_in, names}
 use Rattle.cm_rules.specs.PoolRules.{text_has_form, names_kinds, handle_has_kind, class_has_name, field_reference_is_formed, method_reference_is_formed, dynamic_call_is_formed, method_type_is_formed, handle_has_name}
 use Rattle.cm_rules.specs.ClassRules.{class_flags_agree, this_is_no_array, super_is_right, names_texts, is_first, field_is_named, field_flags_agree, method_is_named, units_fit, method_flags_agree, code_count_is_right, code_has_form, field_attributes_are_right, method_attributes_are_right, class_attribute_is_right, bootstrap_attribute_is_right, dynamic_call_is_bound}
 
@@ -65,20 +66,20 @@ pool_rule _ c constant = true
 
 -- of the class itself
 unfoldable pub this_rule : Rule → ClassFile → Bool
-this_rule rules.EntryKinds c = names is_class_entry c c.this_class
+this_rule rules.EntryKinds c = names kinds.Class c c.this_class
 this_rule rules.ClassFlags c = class_flags_agree c.flags
 this_rule rules.ThisClass c = this_is_no_array c
 this_rule _ c = true
 
 -- of the super class
 unfoldable pub super_rule : Rule → ClassFile → Bool
-super_rule rules.EntryKinds c = c.super_class == 0 || names is_class_entry c c.super_class
+super_rule rules.EntryKinds c = c.super_class == 0 || names kinds.Class c c.super_class
 super_rule rules.SuperClass c = super_is_right c
 super_rule _ c = true
 
 -- of the index of an interface
 unfoldable pub interface_rule : Rule → ClassFile → ℕ → Bool
-interface_rule rules.EntryKinds c index = names is_class_entry c index
+interface_rule rules.EntryKinds c index = names kinds.Class c index
 interface_rule _ c index = true
 
 -- of a field at a place
@@ -104,7 +105,7 @@ method_rule _ c i m = true
 
 -- of an attribute of the class at a place
 unfoldable pub attribute_rule : Rule → ClassFile → ℕ → AttributeOf → Bool
-attribute_rule rules.EntryKinds c i a = names is_text_entry c a.name
+attribute_rule rules.EntryKinds c i a = names kinds.Utf8 c a.name
 attribute_rule rules.ClassAttributes c i a = class_attribute_is_right c i a
 attribute_rule rules.BootstrapMethods c i a = bootstrap_attribute_is_right c i a
 attribute_rule _ c i a = true
@@ -115,7 +116,7 @@ at_item items i test = option_map_or test (slice_get items i) true
 
 -- a test of what stands in a slot; the second slot of a constant has nothing
 abbrev pub in_slot : (Constant → Bool) → Slot → Bool
-in_slot test slot = option_map_or test (usable slot) true
+in_slot test slot = option_map_or test (constant_in slot) true
 
 -- whether a class keeps a rule at a spot
 abbrev pub holds : Rule → ClassFile → Spot → Bool

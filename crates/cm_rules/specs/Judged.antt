@@ -7,10 +7,10 @@ use Rattle.cm_names.specs.Judged.{judgement}
 use Rattle.cm_class.specs.declared.class_file.ClassFile.{ClassFile}
 use Rattle.cm_rules.specs.declared.judgement.Places.{Places}
 use Rattle.cm_rules.specs.ClassRules.{place_named, source_file, enclosing_method, inner_classes, bootstrap_methods}
-use Rattle.cm_rules.specs.Entries.{text_of}
+use Rattle.cm_class.specs.Names.{utf8_in}
 
 abbrev pub slot_text : Slot → List ℕ
-slot_text (Usable c) = text_of c
+slot_text (Usable c) = utf8_in c
 slot_text Unusable = []
 
 -- of the text that stands in a slot; other slots have none

@@ -6,7 +6,7 @@ use Rattle.std.specs.List.{range_with_len}
 use Rattle.std.specs.BTreeMap.{BTreeMap, get}
 use Rattle.cm_class.specs.declared.class_file.Member.{Member}
 use Rattle.cm_class.specs.declared.class_file.ClassFile.{ClassFile}
-use Rattle.cm_rules.specs.Entries.{text}
+use Rattle.cm_class.specs.Names.{names, utf8}
 use Rattle.cm_rules.specs.Fault.{or_else}
 
 -- the least number below a limit that passes a test
@@ -16,11 +16,11 @@ first_below test (suc n) = or_else (first_below test n) (if test n then Some n e
 
 -- the least of the indexes below a limit that has this text
 abbrev pub index_of : ClassFile → List ℕ → ℕ → Option ℕ
-index_of c bytes limit = first_below (λ j. bytes_eq bytes (text c j)) limit
+index_of c bytes limit = first_below (λ j. bytes_eq bytes (utf8 c j)) limit
 
 -- the least index with the text that an index has
 unfoldable pub number : ClassFile → ℕ → ℕ
-number c i = unwrap_or (index_of c (text c i) i) i
+number c i = unwrap_or (index_of c (utf8 c i) i) i
 
 -- of each index of the pool, from 0 on
 abbrev pub numbers_of : ClassFile → List ℕ

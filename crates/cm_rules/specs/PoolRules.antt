@@ -5,7 +5,8 @@ use Rattle.cm_class.specs.declared.constant.Constant.{Constant}
 use Rattle.cm_class.specs.declared.constant.Constant.TheVariants as constant
 use Rattle.cm_class.specs.declared.class_file.ClassFile.{ClassFile}
 use Rattle.cm_names.specs.Text.{is_within, is_text, is_unqualified_name, is_method_name, is_class_name, is_field_descriptor, is_array_descriptor, is_method_descriptor, begins_with, ends_in_void, init, clinit, less}
-use Rattle.cm_rules.specs.Entries.{names, text, pair_name, pair_descriptor, reference_name, is_text_entry, is_class_entry, is_name_and_type_entry, is_fieldref, is_methodref, is_interface_methodref}
+use Rattle.cm_class.specs.declared.kind.Kind.TheVariants as kinds
+use Rattle.cm_class.specs.Names.{is_kind, names, names_such, pair_descriptor, pair_name, reference_name, utf8}
 
 -- each text has the form
 abbrev pub text_has_form : Constant → Bool
@@ -14,34 +15,34 @@ text_has_form _ = true
 
 -- a reference to a member names a class, and a name with a descriptor
 abbrev pub names_member : ClassFile → ℕ → ℕ → Bool
-names_member c class name_and_type = names is_class_entry c class && names is_name_and_type_entry c name_and_type
+names_member c class name_and_type = names kinds.Class c class && names kinds.NameAndType c name_and_type
 
 -- each index names an entry of its kind (of method handles the next rule speaks)
 abbrev pub names_kinds : ClassFile → Constant → Bool
-names_kinds c (constant.Class name) = names is_text_entry c name
-names_kinds c (constant.String text) = names is_text_entry c text
-names_kinds c (constant.MethodType descriptor) = names is_text_entry c descriptor
+names_kinds c (constant.Class name) = names kinds.Utf8 c name
+names_kinds c (constant.String text) = names kinds.Utf8 c text
+names_kinds c (constant.MethodType descriptor) = names kinds.Utf8 c descriptor
 names_kinds c (constant.Fieldref class name_and_type) = names_member c class name_and_type
 names_kinds c (constant.Methodref class name_and_type) = names_member c class name_and_type
 names_kinds c (constant.InterfaceMethodref class name_and_type) = names_member c class name_and_type
-names_kinds c (constant.NameAndType name descriptor) = names is_text_entry c name && names is_text_entry c descriptor
-names_kinds c (constant.InvokeDynamic bootstrap_method name_and_type) = names is_name_and_type_entry c name_and_type
+names_kinds c (constant.NameAndType name descriptor) = names kinds.Utf8 c name && names kinds.Utf8 c descriptor
+names_kinds c (constant.InvokeDynamic bootstrap_method name_and_type) = names kinds.NameAndType c name_and_type
 names_kinds c _ = true
 
 -- what a method handle of each kind names (JVMS 4.4.8)
 abbrev pub handle_names : ℕ → Constant → Bool
 handle_names kind target =
-    if is_within 1 4 kind then is_fieldref target
-    else if kind == 5 || kind == 8 then is_methodref target
-    else if kind == 6 || kind == 7 then is_methodref target || is_interface_methodref target
-    else kind == 9 && is_interface_methodref target
+    if is_within 1 4 kind then is_kind kinds.Fieldref target
+    else if kind == 5 || kind == 8 then is_kind kinds.Methodref target
+    else if kind == 6 || kind == 7 then is_kind kinds.Methodref target || is_kind kinds.InterfaceMethodref target
+    else kind == 9 && is_kind kinds.InterfaceMethodref target
 
 abbrev pub handle_has_kind : ClassFile → Constant → Bool
-handle_has_kind c (constant.MethodHandle kind reference) = names (handle_names kind) c reference
+handle_has_kind c (constant.MethodHandle kind reference) = names_such (handle_names kind) c reference
 handle_has_kind c _ = true
 
 abbrev pub class_has_name : ClassFile → Constant → Bool
-class_has_name c (constant.Class name) = is_class_name (text c name) || is_array_descriptor (text c name)
+class_has_name c (constant.Class name) = is_class_name (utf8 c name) || is_array_descriptor (utf8 c name)
 class_has_name c _ = true
 
 abbrev pub field_reference_is_formed : ClassFile → Constant → Bool
@@ -65,7 +66,7 @@ dynamic_call_is_formed c (constant.InvokeDynamic bootstrap_method pair) = names_
 dynamic_call_is_formed c _ = true
 
 abbrev pub method_type_is_formed : ClassFile → Constant → Bool
-method_type_is_formed c (constant.MethodType descriptor) = is_method_descriptor (text c descriptor)
+method_type_is_formed c (constant.MethodType descriptor) = is_method_descriptor (utf8 c descriptor)
 method_type_is_formed c _ = true
 
 -- kind 8 makes an object, and the other kinds that call a method make none (JVMS 4.4.8)

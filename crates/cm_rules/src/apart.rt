@@ -3,7 +3,6 @@ ghost use Rattle.std.specs.Prelude.{◌≡◌, true, map, IfOk};
 ghost use Rattle.std.specs.List.{fold};
 ghost use Rattle.cm_rules.specs.Apart.{Differ, stepped, walked, text_print, names_print, print, goes_up, increases};
 
-use crate::entries::text;
 use crate::member_rules::is_first;
 use cm_class::{Class, Member};
 use std::alloc::{AllocError, Global};
@@ -69,7 +68,7 @@ fn names_print(name: &[u8], descriptor: &[u8]) -> u64
 fn print(class: &Class, member: &Member) -> u64
     ensures { result ≡ print class.now member.now }
 {
-    names_print(text(class, member.name), text(class, member.descriptor))
+    names_print(class.utf8(member.name), class.utf8(member.descriptor))
 }
 
 fn prints(alloc: Global, class: &Class, members: &[Member]) -> Result<Vec<u64>, AllocError>

@@ -8,18 +8,17 @@ use crate::contents::{
     bootstrap_methods_are_formed, code_is_formed, enclosing_method_is_formed,
     exceptions_are_formed, inner_classes_are_formed, is_one_text, is_whole, read_u2,
 };
-use crate::entries::{is_double, is_float, is_integer, is_long, is_named, is_string_entry, text};
 use crate::flags::{is_abstract, is_native, is_static};
 use crate::judge::Judge;
 use crate::member_rules::is_clinit;
-use cm_class::{Attribute, Class, Constant, Member};
+use cm_class::{Attribute, Class, Constant, Kind, Member};
 
 /// Whether an attribute has this name.
 #[tactic(auto, unfolding(crate::specs::ClassRules::is_attribute))]
 pub(crate) fn is_attribute(class: &Class, name: &[u8], attribute: &Attribute) -> bool
     ensures { result ≡ is_attribute class.now name.now attribute.now }
 {
-    is_named(class, attribute.name, name)
+    class.names_utf8(attribute.name, name)
 }
 
 /// How many of the attributes have this name.
@@ -74,27 +73,27 @@ fn names_value_of(descriptor: &[u8], class: &Class, index: u16) -> bool
     ensures { result ≡ names_value_of descriptor.now class.now index }
 {
     if descriptor == b"J".as_slice() {
-        is_long(class, index)
+        class.names(index, Kind::Long)
     } else if descriptor == b"F".as_slice() {
-        is_float(class, index)
+        class.names(index, Kind::Float)
     } else if descriptor == b"D".as_slice() {
-        is_double(class, index)
+        class.names(index, Kind::Double)
     } else if descriptor == b"I".as_slice()
         || descriptor == b"S".as_slice()
         || descriptor == b"C".as_slice()
         || descriptor == b"B".as_slice()
         || descriptor == b"Z".as_slice()
     {
-        is_integer(class, index)
+        class.names(index, Kind::Integer)
     } else {
-        descriptor == b"Ljava/lang/String;".as_slice() && is_string_entry(class, index)
+        descriptor == b"Ljava/lang/String;".as_slice() && class.names(index, Kind::String)
     }
 }
 
 fn may_have_value(class: &Class, field: &Member, index: u16) -> bool
     ensures { result ≡ may_have_value class.now field.now index }
 {
-    !is_static(field.flags) || names_value_of(text(class, field.descriptor), class, index)
+    !is_static(field.flags) || names_value_of(class.utf8(field.descriptor), class, index)
 }
 
 fn past_value<'b>(class: &Class, field: &Member, bytes: &'b [u8]) -> Option<&'b [u8]>

@@ -2,7 +2,6 @@
 ghost use Rattle.std.specs.Prelude.{◌≡◌};
 ghost use Rattle.cm_rules.specs.ClassRules.{class_flags_agree, this_is_no_array, super_is_right};
 
-use crate::entries::class_name;
 use crate::flags::{is_abstract, is_annotation, is_enum, is_final, is_interface, is_super};
 use cm_class::Class;
 use cm_names::begins_with;
@@ -22,15 +21,15 @@ pub(crate) fn class_flags_agree(flags: u16) -> bool
 pub(crate) fn this_is_no_array(class: &Class) -> bool
     ensures { result ≡ this_is_no_array class.now }
 {
-    !begins_with(b'[', class_name(class, class.this_class()))
+    !begins_with(b'[', class.class_name(class.this_class()))
 }
 
 pub(crate) fn super_is_right(class: &Class) -> bool
     ensures { result ≡ super_is_right class.now }
 {
     if is_interface(class.flags()) {
-        class_name(class, class.super_class()) == OBJECT
+        class.class_name(class.super_class()) == OBJECT
     } else {
-        class.super_class() != 0 || class_name(class, class.this_class()) == OBJECT
+        class.super_class() != 0 || class.class_name(class.this_class()) == OBJECT
     }
 }

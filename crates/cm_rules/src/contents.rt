@@ -1,13 +1,11 @@
 //! The contents of attributes, as far as the rules look into them. Each reader answers what stands
 //! behind what it passed over.
 ghost use Rattle.std.specs.Prelude.{◌≡◌, ◌==◌, ◌||◌, option_copied, option_map};
-ghost use Rattle.cm_rules.specs.Entries.{names, is_text_entry, is_class_entry, is_name_and_type_entry, is_method_handle, is_loadable};
-ghost use Rattle.cm_rules.specs.Contents.{u2_of, u4_of, past, past_u2, any, is_whole, past_counted, past_handler, past_attribute, past_code, code_is_formed, is_one_index, exceptions_are_formed, past_enclosing_method, enclosing_method_is_formed, past_inner_class, inner_classes_are_formed, past_bootstrap_method, bootstrap_methods_are_formed, count_of};
+ghost use Rattle.cm_class.specs.declared.kind.Kind.TheVariants as kinds;
+ghost use Rattle.cm_class.specs.Names.{names, names_such};
+ghost use Rattle.cm_rules.specs.Contents.{is_loadable, u2_of, u4_of, past, past_u2, any, is_whole, past_counted, past_handler, past_attribute, past_code, code_is_formed, is_one_index, exceptions_are_formed, past_enclosing_method, enclosing_method_is_formed, past_inner_class, inner_classes_are_formed, past_bootstrap_method, bootstrap_methods_are_formed, count_of};
 
-use crate::entries::{
-    is_class_entry, is_loadable, is_method_handle, is_name_and_type_entry, is_text_entry,
-};
-use cm_class::Class;
+use cm_class::{Class, Constant, Kind};
 use cm_names::first;
 
 /// A number of two bytes.
@@ -49,10 +47,10 @@ fn past_any(bytes: &[u8]) -> Option<&[u8]>
 
 /// Past an index of a text.
 fn past_text<'b>(class: &Class, bytes: &'b [u8]) -> Option<&'b [u8]>
-    ensures { option_copied result ≡ past_u2 (names is_text_entry class.now) bytes.now }
+    ensures { option_copied result ≡ past_u2 (names kinds.Utf8 class.now) bytes.now }
 {
     let (index, rest) = read_u2(bytes)?;
-    if is_text_entry(class, index) {
+    if class.names(index, Kind::Utf8) {
         Some(rest)
     } else {
         None
@@ -61,10 +59,10 @@ fn past_text<'b>(class: &Class, bytes: &'b [u8]) -> Option<&'b [u8]>
 
 /// Past an index of a class.
 fn past_class<'b>(class: &Class, bytes: &'b [u8]) -> Option<&'b [u8]>
-    ensures { option_copied result ≡ past_u2 (names is_class_entry class.now) bytes.now }
+    ensures { option_copied result ≡ past_u2 (names kinds.Class class.now) bytes.now }
 {
     let (index, rest) = read_u2(bytes)?;
-    if is_class_entry(class, index) {
+    if class.names(index, Kind::Class) {
         Some(rest)
     } else {
         None
@@ -73,10 +71,10 @@ fn past_class<'b>(class: &Class, bytes: &'b [u8]) -> Option<&'b [u8]>
 
 /// Past 0 or an index of a class.
 fn past_class_or_none<'b>(class: &Class, bytes: &'b [u8]) -> Option<&'b [u8]>
-    ensures { option_copied result ≡ past_u2 (λ i. i == 0 || names is_class_entry class.now i) bytes.now }
+    ensures { option_copied result ≡ past_u2 (λ i. i == 0 || names kinds.Class class.now i) bytes.now }
 {
     let (index, rest) = read_u2(bytes)?;
-    if index == 0 || is_class_entry(class, index) {
+    if index == 0 || class.names(index, Kind::Class) {
         Some(rest)
     } else {
         None
@@ -85,10 +83,10 @@ fn past_class_or_none<'b>(class: &Class, bytes: &'b [u8]) -> Option<&'b [u8]>
 
 /// Past 0 or an index of a text.
 fn past_text_or_none<'b>(class: &Class, bytes: &'b [u8]) -> Option<&'b [u8]>
-    ensures { option_copied result ≡ past_u2 (λ i. i == 0 || names is_text_entry class.now i) bytes.now }
+    ensures { option_copied result ≡ past_u2 (λ i. i == 0 || names kinds.Utf8 class.now i) bytes.now }
 {
     let (index, rest) = read_u2(bytes)?;
-    if index == 0 || is_text_entry(class, index) {
+    if index == 0 || class.names(index, Kind::Utf8) {
         Some(rest)
     } else {
         None
@@ -97,10 +95,10 @@ fn past_text_or_none<'b>(class: &Class, bytes: &'b [u8]) -> Option<&'b [u8]>
 
 /// Past 0 or an index of a name with a descriptor.
 fn past_pair_or_none<'b>(class: &Class, bytes: &'b [u8]) -> Option<&'b [u8]>
-    ensures { option_copied result ≡ past_u2 (λ i. i == 0 || names is_name_and_type_entry class.now i) bytes.now }
+    ensures { option_copied result ≡ past_u2 (λ i. i == 0 || names kinds.NameAndType class.now i) bytes.now }
 {
     let (index, rest) = read_u2(bytes)?;
-    if index == 0 || is_name_and_type_entry(class, index) {
+    if index == 0 || class.names(index, Kind::NameAndType) {
         Some(rest)
     } else {
         None
@@ -109,19 +107,38 @@ fn past_pair_or_none<'b>(class: &Class, bytes: &'b [u8]) -> Option<&'b [u8]>
 
 /// Past an index of a method handle.
 fn past_method_handle<'b>(class: &Class, bytes: &'b [u8]) -> Option<&'b [u8]>
-    ensures { option_copied result ≡ past_u2 (names is_method_handle class.now) bytes.now }
+    ensures { option_copied result ≡ past_u2 (names kinds.MethodHandle class.now) bytes.now }
 {
     let (index, rest) = read_u2(bytes)?;
-    if is_method_handle(class, index) {
+    if class.names(index, Kind::MethodHandle) {
         Some(rest)
     } else {
         None
     }
 }
 
+/// Whether an index names what a bootstrap method takes (JVMS 4.7.23).
+fn is_loadable(class: &Class, index: u16) -> bool
+    ensures { result ≡ names_such is_loadable class.now index }
+{
+    matches!(
+        class.constant(index),
+        Some(
+            Constant::String { .. }
+                | Constant::Class { .. }
+                | Constant::Integer(_)
+                | Constant::Long(_)
+                | Constant::Float(_)
+                | Constant::Double(_)
+                | Constant::MethodHandle { .. }
+                | Constant::MethodType { .. }
+        )
+    )
+}
+
 /// Past an index of what a bootstrap method takes.
 fn past_loadable<'b>(class: &Class, bytes: &'b [u8]) -> Option<&'b [u8]>
-    ensures { option_copied result ≡ past_u2 (names is_loadable class.now) bytes.now }
+    ensures { option_copied result ≡ past_u2 (names_such is_loadable class.now) bytes.now }
 {
     let (index, rest) = read_u2(bytes)?;
     if is_loadable(class, index) {
@@ -151,7 +168,7 @@ fn past_handler<'b>(class: &Class, size: u32, bytes: &'b [u8]) -> Option<&'b [u8
     if start < end
         && u32::from(end) <= size
         && u32::from(handler) < size
-        && (catch == 0 || is_class_entry(class, catch))
+        && (catch == 0 || class.names(catch, Kind::Class))
     {
         Some(rest)
     } else {
@@ -202,7 +219,7 @@ fn past_attributes<'b>(class: &Class, bytes: &'b [u8]) -> Option<&'b [u8]>
 
 /// Past a count, and that many classes.
 fn past_classes<'b>(class: &Class, bytes: &'b [u8]) -> Option<&'b [u8]>
-    ensures { option_copied result ≡ past_counted (past_u2 (names is_class_entry class.now)) bytes.now }
+    ensures { option_copied result ≡ past_counted (past_u2 (names kinds.Class class.now)) bytes.now }
 {
     let (count, mut rest) = read_u2(bytes)?;
     for _ in 0..count {
@@ -224,7 +241,7 @@ fn past_inner_classes<'b>(class: &Class, bytes: &'b [u8]) -> Option<&'b [u8]>
 
 /// Past a count, and that many what a bootstrap method takes.
 fn past_loadables<'b>(class: &Class, bytes: &'b [u8]) -> Option<&'b [u8]>
-    ensures { option_copied result ≡ past_counted (past_u2 (names is_loadable class.now)) bytes.now }
+    ensures { option_copied result ≡ past_counted (past_u2 (names_such is_loadable class.now)) bytes.now }
 {
     let (count, mut rest) = read_u2(bytes)?;
     for _ in 0..count {
@@ -275,7 +292,7 @@ pub(crate) fn code_is_formed(class: &Class, bytes: &[u8]) -> bool
 
 /// Whether the bytes are the index of a text, and nothing else.
 pub(crate) fn is_one_text(class: &Class, bytes: &[u8]) -> bool
-    ensures { result ≡ is_one_index (names is_text_entry class.now) bytes.now }
+    ensures { result ≡ is_one_index (names kinds.Utf8 class.now) bytes.now }
 {
     is_whole(past_text(class, bytes))
 }

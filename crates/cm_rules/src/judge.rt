@@ -3,13 +3,12 @@ ghost use Rattle.std.specs.Option.{ForSome};
 ghost use Rattle.std.specs.List.{list_all};
 ghost use Rattle.cm_rules.specs.Fault.{in_slot};
 ghost use Rattle.cm_rules.specs.PoolRules.{text_has_form};
-ghost use Rattle.cm_rules.specs.Entries.{text};
+ghost use Rattle.cm_class.specs.Names.{utf8};
 ghost use Rattle.cm_names.specs.Text.{is_class_name, is_unqualified_name, is_method_name, is_field_descriptor, is_array_descriptor, is_method_descriptor, method_units};
 ghost use Rattle.cm_rules.specs.ClassRules.{bootstrap_count as bootstrap_count_of, is_first};
 ghost use Rattle.cm_names.specs.Judged.{judgement};
 ghost use Rattle.cm_rules.specs.Judged.{judged, places_of, SizesFit};
 
-use crate::entries::text;
 use crate::firsts::Firsts;
 use crate::judgement::{Places, bootstrap_count, find_places, judge_nothing, judgements};
 use crate::member_rules::is_first;
@@ -124,7 +123,7 @@ impl<'a> Judge<'a> {
 
     /// What was found out of the text at an index; of no bytes, where there is no text.
     pub(crate) fn judgement(&self, index: u16) -> Judgement
-        ensures { result ≡ judgement (text self.now.class.now index) }
+        ensures { result ≡ judgement (utf8 self.now.class.now index) }
     {
         if index == 0 {
             return judge_nothing();
@@ -138,7 +137,7 @@ impl<'a> Judge<'a> {
     /// Whether the text at an index is a class name.
     #[tactic(auto, unfolding(cm_names::specs::Judged::judgement))]
     pub(crate) fn names_class_name(&self, index: u16) -> bool
-        ensures { result ≡ is_class_name (text self.now.class.now index) }
+        ensures { result ≡ is_class_name (utf8 self.now.class.now index) }
     {
         self.judgement(index).class_name
     }
@@ -146,7 +145,7 @@ impl<'a> Judge<'a> {
     /// Whether it is an unqualified name.
     #[tactic(auto, unfolding(cm_names::specs::Judged::judgement))]
     pub(crate) fn names_unqualified_name(&self, index: u16) -> bool
-        ensures { result ≡ is_unqualified_name (text self.now.class.now index) }
+        ensures { result ≡ is_unqualified_name (utf8 self.now.class.now index) }
     {
         self.judgement(index).unqualified_name
     }
@@ -154,7 +153,7 @@ impl<'a> Judge<'a> {
     /// Whether it is a method's name.
     #[tactic(auto, unfolding(cm_names::specs::Judged::judgement))]
     pub(crate) fn names_method_name(&self, index: u16) -> bool
-        ensures { result ≡ is_method_name (text self.now.class.now index) }
+        ensures { result ≡ is_method_name (utf8 self.now.class.now index) }
     {
         self.judgement(index).method_name
     }
@@ -162,7 +161,7 @@ impl<'a> Judge<'a> {
     /// Whether it is a field descriptor.
     #[tactic(auto, unfolding(cm_names::specs::Judged::judgement))]
     pub(crate) fn names_field_descriptor(&self, index: u16) -> bool
-        ensures { result ≡ is_field_descriptor (text self.now.class.now index) }
+        ensures { result ≡ is_field_descriptor (utf8 self.now.class.now index) }
     {
         self.judgement(index).field_descriptor
     }
@@ -170,22 +169,22 @@ impl<'a> Judge<'a> {
     /// The units of the method descriptor at an index.
     #[tactic(auto, unfolding(cm_names::specs::Judged::judgement))]
     pub(crate) fn method_units(&self, index: u16) -> Option<u8>
-        ensures { result ≡ method_units (text self.now.class.now index) }
+        ensures { result ≡ method_units (utf8 self.now.class.now index) }
     {
         self.judgement(index).method_units
     }
 
     /// Whether it is a method descriptor.
     pub(crate) fn names_method_descriptor(&self, index: u16) -> bool
-        ensures { result ≡ is_method_descriptor (text self.now.class.now index) }
+        ensures { result ≡ is_method_descriptor (utf8 self.now.class.now index) }
     {
         self.method_units(index).is_some()
     }
 
     /// Whether it is the descriptor of an array.
     pub(crate) fn names_array_descriptor(&self, index: u16) -> bool
-        ensures { result ≡ is_array_descriptor (text self.now.class.now index) }
+        ensures { result ≡ is_array_descriptor (utf8 self.now.class.now index) }
     {
-        begins_with(b'[', text(self.class, index)) && self.names_field_descriptor(index)
+        begins_with(b'[', self.class.utf8(index)) && self.names_field_descriptor(index)
     }
 }

@@ -12,7 +12,6 @@ use crate::attribute_rules::{
     dynamic_call_is_bound, field_attributes_are_right, method_attributes_are_right,
 };
 use crate::class_rules::{class_flags_agree, super_is_right, this_is_no_array};
-use crate::entries::{is_class_entry, is_text_entry};
 use crate::judge::Judge;
 use crate::member_rules::{
     field_flags_agree, field_is_named, method_flags_agree, method_is_named, names_texts, units_fit,
@@ -21,7 +20,7 @@ use crate::pool_rules::{
     class_has_name, dynamic_call_is_formed, field_reference_is_formed, handle_has_kind,
     handle_has_name, method_reference_is_formed, method_type_is_formed, names_kinds,
 };
-use cm_class::{Attribute, Class, Constant, Member, Slot};
+use cm_class::{Attribute, Class, Constant, Kind, Member, Slot};
 use std::alloc::{AllocError, Global};
 
 /// Whether a constant keeps all rules but that on the form of texts.
@@ -81,7 +80,7 @@ fn slots_keep(judge: &Judge) -> bool
 fn this_keeps(class: &Class) -> bool
     ensures { result ≡ this_keeps class.now }
 {
-    is_class_entry(class, class.this_class())
+    class.names(class.this_class(), Kind::Class)
         && class_flags_agree(class.flags())
         && this_is_no_array(class)
 }
@@ -90,7 +89,7 @@ fn this_keeps(class: &Class) -> bool
 fn super_keeps(class: &Class) -> bool
     ensures { result ≡ super_keeps class.now }
 {
-    (class.super_class() == 0 || is_class_entry(class, class.super_class()))
+    (class.super_class() == 0 || class.names(class.super_class(), Kind::Class))
         && super_is_right(class)
 }
 
@@ -98,7 +97,7 @@ fn super_keeps(class: &Class) -> bool
 fn interface_keeps(class: &Class, index: u16) -> bool
     ensures { result ≡ interface_keeps class.now index }
 {
-    is_class_entry(class, index)
+    class.names(index, Kind::Class)
 }
 
 fn interfaces_keep(class: &Class) -> bool
@@ -161,7 +160,7 @@ fn methods_keep(judge: &Judge) -> bool
 fn attribute_keeps(judge: &Judge, place: usize, attribute: &Attribute) -> bool
     ensures { result ≡ attribute_keeps judge.now.class.now place attribute.now }
 {
-    is_text_entry(judge.class, attribute.name)
+    judge.class.names(attribute.name, Kind::Utf8)
         && class_attribute_is_right(judge, place, attribute)
         && bootstrap_attribute_is_right(judge, place, attribute)
 }

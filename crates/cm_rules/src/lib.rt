@@ -6,7 +6,6 @@ mod apart;
 mod attribute_rules;
 mod class_rules;
 mod contents;
-mod entries;
 mod fault;
 mod firsts;
 mod flags;

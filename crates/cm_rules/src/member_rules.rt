@@ -1,32 +1,32 @@
 //! The rules on one field or method.
 ghost use Rattle.std.specs.Prelude.{◌≡◌, bytes_eq};
 ghost use Rattle.std.specs.List.{list_all, list_any};
-ghost use Rattle.cm_rules.specs.Entries.{names, is_text_entry, text as text_at};
+ghost use Rattle.cm_class.specs.declared.kind.Kind.TheVariants as kinds;
+ghost use Rattle.cm_class.specs.Names.{names, utf8};
 ghost use Rattle.cm_rules.specs.ClassRules.{names_texts, field_is_named, interface_field_agrees, field_flags_agree, method_is_named, is_clinit, units_fit, abstract_agrees, interface_method_agrees, init_agrees, method_flags_agree, same_member, is_first};
 
-use crate::entries::{is_text_entry, text};
 use crate::flags::{
     is_abstract, is_bridge, is_enum, is_final, is_interface, is_native, is_private, is_protected,
     is_public, is_public_or_private, is_static, is_strict, is_synchronized, is_transient,
     is_volatile, visibilities,
 };
 use crate::judge::Judge;
-use cm_class::{Attribute, Class, Member};
+use cm_class::{Attribute, Class, Kind, Member};
 
 fn attributes_name_texts(class: &Class, attributes: &[Attribute]) -> bool
-    ensures { result ≡ list_all (λ a. names is_text_entry class.now a.name) attributes.now }
+    ensures { result ≡ list_all (λ a. names kinds.Utf8 class.now a.name) attributes.now }
 {
     attributes
         .iter()
-        .all(|attribute| is_text_entry(class, attribute.name))
+        .all(|attribute| class.names(attribute.name, Kind::Utf8))
 }
 
 /// Whether its name, its descriptor and the names of its attributes are texts.
 pub(crate) fn names_texts(class: &Class, member: &Member) -> bool
     ensures { result ≡ names_texts class.now member.now }
 {
-    is_text_entry(class, member.name)
-        && is_text_entry(class, member.descriptor)
+    class.names(member.name, Kind::Utf8)
+        && class.names(member.descriptor, Kind::Utf8)
         && attributes_name_texts(class, member.attributes.as_slice())
 }
 
@@ -66,7 +66,7 @@ pub(crate) fn method_is_named(judge: &Judge, method: &Member) -> bool
 pub(crate) fn is_clinit(class: &Class, method: &Member) -> bool
     ensures { result ≡ is_clinit class.now method.now }
 {
-    text(class, method.name) == b"<clinit>".as_slice()
+    class.utf8(method.name) == b"<clinit>".as_slice()
 }
 
 /// Whether its parameters, with its receiver, have at most 255 units.
@@ -119,14 +119,14 @@ pub(crate) fn method_flags_agree(class: &Class, method: &Member) -> bool
         || (visibilities(flags) <= 1
             && (!is_abstract(flags) || abstract_agrees(flags))
             && (!is_interface(class.flags()) || interface_method_agrees(flags))
-            && (text(class, method.name) != b"<init>".as_slice() || init_agrees(flags)))
+            && (class.utf8(method.name) != b"<init>".as_slice() || init_agrees(flags)))
 }
 
 /// Whether two indexes name one text. Long texts are compared only where the indexes differ.
 fn same_text(class: &Class, one: u16, other: u16) -> bool
-    ensures { result ≡ bytes_eq (text_at class.now one) (text_at class.now other) }
+    ensures { result ≡ bytes_eq (utf8 class.now one) (utf8 class.now other) }
 {
-    one == other || text(class, one) == text(class, other)
+    one == other || class.utf8(one) == class.utf8(other)
 }
 
 /// Whether two members have one name and one descriptor.

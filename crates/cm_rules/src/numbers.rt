@@ -7,7 +7,6 @@ ghost use Rattle.std.specs.Map.{update};
 ghost use Rattle.std.specs.BTreeMap.{get_by};
 ghost use Rattle.cm_rules.specs.Numbers.{numbers_of, number_in};
 
-use crate::entries::text;
 use cm_class::Class;
 use std::alloc::{AllocError, Global};
 use std::collections::BTreeMap;
@@ -42,7 +41,7 @@ pub(crate) fn numbers(alloc: Global, class: &Class) -> Result<Vec<u16>, AllocErr
     let mut seen = BTreeMap::new(alloc);
     let mut numbers = Vec::with_capacity(alloc, usize::from(count))?;
     for index in 0..count {
-        let number = number_of(&mut seen, text(class, index), index)?;
+        let number = number_of(&mut seen, class.utf8(index), index)?;
         numbers.push(number)?;
     }
     Ok(numbers)

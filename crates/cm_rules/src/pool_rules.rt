@@ -2,12 +2,8 @@
 ghost use Rattle.std.specs.Prelude.{◌≡◌};
 ghost use Rattle.cm_rules.specs.PoolRules.{text_has_form, names_member, names_kinds, handle_names, handle_has_kind, class_has_name, field_reference_is_formed, names_method, is_callable, method_reference_is_formed, dynamic_call_is_formed, method_type_is_formed, handle_has_name};
 
-use crate::entries::{
-    is_class_entry, is_fieldref, is_interface_methodref, is_methodref, is_name_and_type_entry,
-    is_text_entry, pair, reference_name, text,
-};
 use crate::judge::Judge;
-use cm_class::{Class, Constant};
+use cm_class::{Class, Constant, Kind};
 use cm_names::{begins_with, ends_in_void, is_text};
 
 pub(crate) fn text_has_form(constant: &Constant) -> bool
@@ -23,7 +19,7 @@ pub(crate) fn text_has_form(constant: &Constant) -> bool
 fn names_member(class: &Class, of: u16, name_and_type: u16) -> bool
     ensures { result ≡ names_member class.now of name_and_type }
 {
-    is_class_entry(class, of) && is_name_and_type_entry(class, name_and_type)
+    class.names(of, Kind::Class) && class.names(name_and_type, Kind::NameAndType)
 }
 
 pub(crate) fn names_kinds(class: &Class, constant: &Constant) -> bool
@@ -32,7 +28,7 @@ pub(crate) fn names_kinds(class: &Class, constant: &Constant) -> bool
     match constant {
         Constant::Class { name: text }
         | Constant::String { text }
-        | Constant::MethodType { descriptor: text } => is_text_entry(class, *text),
+        | Constant::MethodType { descriptor: text } => class.names(*text, Kind::Utf8),
         Constant::Fieldref {
             class: of,
             name_and_type,
@@ -46,10 +42,10 @@ pub(crate) fn names_kinds(class: &Class, constant: &Constant) -> bool
             name_and_type,
         } => { names_member(class, *of, *name_and_type) }
         Constant::NameAndType { name, descriptor } => {
-            is_text_entry(class, *name) && is_text_entry(class, *descriptor)
+            class.names(*name, Kind::Utf8) && class.names(*descriptor, Kind::Utf8)
         }
         Constant::InvokeDynamic { name_and_type, .. } => {
-            is_name_and_type_entry(class, *name_and_type)
+            class.names(*name_and_type, Kind::NameAndType)
         }
         _ => true,
     }
@@ -62,10 +58,11 @@ pub(crate) fn handle_has_kind(class: &Class, constant: &Constant) -> bool
         return true;
     };
     match *kind {
-        1..=4 => is_fieldref(class, *reference),
-        5 | 8 => is_methodref(class, *reference),
-        6 | 7 => is_methodref(class, *reference) || is_interface_methodref(class, *reference),
-        9 => is_interface_methodref(class, *reference),
+        1..=4 => class.names(*reference, Kind::Fieldref),
+        5 | 8 => class.names(*reference, Kind::Methodref),
+        6 | 7 => class.names(*reference, Kind::Methodref)
+            || class.names(*reference, Kind::InterfaceMethodref),
+        9 => class.names(*reference, Kind::InterfaceMethodref),
         _ => false,
     }
 }
@@ -85,7 +82,7 @@ pub(crate) fn field_reference_is_formed(judge: &Judge, constant: &Constant) -> b
     let Constant::Fieldref { name_and_type, .. } = constant else {
         return true;
     };
-    let (name, descriptor) = pair(judge.class, *name_and_type);
+    let (name, descriptor) = judge.class.name_and_type(*name_and_type);
     judge.names_unqualified_name(name) && judge.names_field_descriptor(descriptor)
 }
 
@@ -93,7 +90,7 @@ pub(crate) fn field_reference_is_formed(judge: &Judge, constant: &Constant) -> b
 fn names_method(judge: &Judge, name_and_type: u16) -> bool
     ensures { result ≡ names_method judge.now.class.now name_and_type }
 {
-    let (name, descriptor) = pair(judge.class, name_and_type);
+    let (name, descriptor) = judge.class.name_and_type(name_and_type);
     judge.names_method_name(name) && judge.names_method_descriptor(descriptor)
 }
 
@@ -102,10 +99,10 @@ fn names_method(judge: &Judge, name_and_type: u16) -> bool
 fn is_callable(class: &Class, name_and_type: u16) -> bool
     ensures { result ≡ is_callable class.now name_and_type }
 {
-    let (name, descriptor) = pair(class, name_and_type);
-    let name = text(class, name);
+    let (name, descriptor) = class.name_and_type(name_and_type);
+    let name = class.utf8(name);
     !begins_with(b'<', name)
-        || (name == b"<init>".as_slice() && ends_in_void(text(class, descriptor)))
+        || (name == b"<init>".as_slice() && ends_in_void(class.utf8(descriptor)))
 }
 
 pub(crate) fn method_reference_is_formed(judge: &Judge, constant: &Constant) -> bool
@@ -144,7 +141,7 @@ pub(crate) fn handle_has_name(class: &Class, constant: &Constant) -> bool
     let Constant::MethodHandle { kind, reference } = constant else {
         return true;
     };
-    let name = reference_name(class, *reference);
+    let name = class.reference_name(*reference);
     match *kind {
         8 => name == b"<init>".as_slice(),
         1..=4 => true,

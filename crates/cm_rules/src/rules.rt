@@ -7,7 +7,6 @@ use crate::attribute_rules::{
     dynamic_call_is_bound, field_attributes_are_right, method_attributes_are_right,
 };
 use crate::class_rules::{class_flags_agree, super_is_right, this_is_no_array};
-use crate::entries::{is_class_entry, is_text_entry};
 use crate::judge::Judge;
 use crate::member_rules::{
     field_flags_agree, field_is_named, method_flags_agree, method_is_named, names_texts, units_fit,
@@ -17,7 +16,7 @@ use crate::pool_rules::{
     handle_has_name, method_reference_is_formed, method_type_is_formed, names_kinds, text_has_form,
 };
 use crate::rule::Rule;
-use cm_class::{Attribute, Constant, Member, Slot};
+use cm_class::{Attribute, Constant, Kind, Member, Slot};
 
 #[tactic(auto, unfolding(crate::specs::Fault::pool_rule))]
 pub(crate) fn pool_rule(judge: &Judge, rule: Rule, constant: &Constant) -> bool
@@ -54,7 +53,7 @@ pub(crate) fn this_rule(judge: &Judge, rule: Rule) -> bool
 {
     let class = judge.class;
     match rule {
-        Rule::EntryKinds => is_class_entry(class, class.this_class()),
+        Rule::EntryKinds => class.names(class.this_class(), Kind::Class),
         Rule::ClassFlags => class_flags_agree(class.flags()),
         Rule::ThisClass => this_is_no_array(class),
         _ => true,
@@ -68,7 +67,7 @@ pub(crate) fn super_rule(judge: &Judge, rule: Rule) -> bool
     let class = judge.class;
     match rule {
         Rule::EntryKinds => {
-            class.super_class() == 0 || is_class_entry(class, class.super_class())
+            class.super_class() == 0 || class.names(class.super_class(), Kind::Class)
         }
         Rule::SuperClass => super_is_right(class),
         _ => true,
@@ -80,7 +79,7 @@ pub(crate) fn interface_rule(judge: &Judge, rule: Rule, index: u16) -> bool
     ensures { result ≡ interface_rule rule judge.now.class.now index }
 {
     match rule {
-        Rule::EntryKinds => is_class_entry(judge.class, index),
+        Rule::EntryKinds => judge.class.names(index, Kind::Class),
         _ => true,
     }
 }
@@ -123,7 +122,7 @@ pub(crate) fn attribute_rule(judge: &Judge, rule: Rule, place: usize, attribute:
     ensures { result ≡ attribute_rule rule judge.now.class.now place attribute.now }
 {
     match rule {
-        Rule::EntryKinds => is_text_entry(judge.class, attribute.name),
+        Rule::EntryKinds => judge.class.names(attribute.name, Kind::Utf8),
         Rule::ClassAttributes => class_attribute_is_right(judge, place, attribute),
         Rule::BootstrapMethods => bootstrap_attribute_is_right(judge, place, attribute),
         _ => true,

@@ -1,15 +1,15 @@
-use Rattle.cm_rules.specs.Entries.{names, is_loadable}
-use Rattle.cm_rules.specs.Contents.{past_counted, past_u2}
+use Rattle.cm_class.specs.Names.{names_such}
+use Rattle.cm_rules.specs.Contents.{is_loadable, past_counted, past_u2}
 use Rattle.cm_rules.proofs.Rowed.{rows_goes_on, rows_refuse, rows_end}
 use Rattle.cm_rules.proofs.contents.past_loadables.Goals as goal
 
 pub returns-in_err-rest : goal.returns-in_err-rest
 returns-in_err-rest c =
-    rw c.from_residual-in_err-rest.ensures (rows_refuse (past_u2 (names is_loadable c.args.class.now)) c.in_ok-count.count c.loop.counter c.loop.rest.now (past_counted (past_u2 (names is_loadable c.args.class.now)) c.args.bytes.now) c.loop-test.true c.in_err-rest.ensures c.loop.invariant)
+    rw c.from_residual-in_err-rest.ensures (rows_refuse (past_u2 (names_such is_loadable c.args.class.now)) c.in_ok-count.count c.loop.counter c.loop.rest.now (past_counted (past_u2 (names_such is_loadable c.args.class.now)) c.args.bytes.now) c.loop-test.true c.in_err-rest.ensures c.loop.invariant)
 
 pub loop-preserved : goal.loop-preserved
 loop-preserved c =
-    rows_goes_on (past_u2 (names is_loadable c.args.class.now)) c.in_ok-count.count c.loop.counter c.loop.rest.now c.in_ok-rest.rest.now (past_counted (past_u2 (names is_loadable c.args.class.now)) c.args.bytes.now) c.loop-test.true c.in_ok-rest.ensures c.loop.invariant
+    rows_goes_on (past_u2 (names_such is_loadable c.args.class.now)) c.in_ok-count.count c.loop.counter c.loop.rest.now c.in_ok-rest.rest.now (past_counted (past_u2 (names_such is_loadable c.args.class.now)) c.args.bytes.now) c.loop-test.true c.in_ok-rest.ensures c.loop.invariant
 
 pub returns : goal.returns
-returns c = rows_end (past_u2 (names is_loadable c.args.class.now)) c.in_ok-count.count c.loop.counter c.loop.rest.now (past_counted (past_u2 (names is_loadable c.args.class.now)) c.args.bytes.now) c.loop-test.false c.loop.invariant
+returns c = rows_end (past_u2 (names_such is_loadable c.args.class.now)) c.in_ok-count.count c.loop.counter c.loop.rest.now (past_counted (past_u2 (names_such is_loadable c.args.class.now)) c.args.bytes.now) c.loop-test.false c.loop.invariant
