@@ -3,11 +3,14 @@ use Rattle.std.proofs.Common.{◌≡◌, ◌<◌, ◌≤◌, ◌+◌, ◌-◌, �
 use Rattle.std.specs.Prelude.{◌==◌, nat_le, is_some}
 use Rattle.std.proofs.lemmas.List.{drop_at, drop-drop, length-drop}
 use Rattle.std.proofs.lemmas.Bool.{eqb-true, leb-true, and_parts}
+use Rattle.cm_class.specs.declared.constant.Slot.{Slot}
+use Rattle.cm_class.specs.declared.class_file.Attribute.{Attribute}
+use Rattle.cm_class.specs.declared.class_file.Member.{Member}
 use Rattle.cm_class.specs.declared.class_file.ClassFile.{ClassFile}
 use Rattle.cm_class.specs.Spelling.{HasSpelling}
 use Rattle.cm_record.specs.Packing.{joined}
 use Rattle.cm_record.specs.Layout.{lay, limit, directory, text_runs, members, member_attributes, attributes, attribute_runs, attributes_at, runs_at, record_len, IsRecord}
-use Rattle.cm_record.specs.Reading.{first_of, second_of, third_of, fourth_of, slots_at, interfaces_from, attributes_from, members_from, head_is_right, sections_end, class_at}
+use Rattle.cm_record.specs.Reading.{first_of, second_of, third_of, fourth_of, slots_at, interfaces_from, attributes_from, members_from, head_is_right, sections_end, pool_from, body_from, pool_of, body_of, class_at}
 use Rattle.cm_record.proofs.Digits.{joined_parts}
 use Rattle.cm_record.proofs.Lengths.{attributes_len, all_attributes_len, all_members_len, all_runs_len, lay_len}
 use Rattle.cm_record.proofs.Taken.{bind_some, only_if_some, some_same, SlotsTaken, InterfacesTaken, MembersTaken, AttributesTaken, slots_taken, interfaces_taken, members_taken, attributes_taken}
@@ -237,6 +240,34 @@ module _ (w : List ℕ) (c : ClassFile) (m1 m2 m3 m4 a1 a2 a3 r1 r2 r3 r4 : List
       (tail ∙ sym (main_there c spelled))
       ∙ sym (nine (lay c) long))
 
+-- what was read of the pool and the interfaces, part by part
+pool_parts : (total count n : ℕ) (main runs : List ℕ) (p : List Slot × List ℕ × List ℕ × List ℕ) → pool_from total count n main runs ≡ Some p
+    → (m : List ℕ) × (slots_at total false count main runs ≡ Some (p.0, m, p.3)) × (interfaces_from n m ≡ Some (p.1, p.2))
+unfolding pool_from
+pool_parts total count n main runs p e =
+    let s = bind_some (slots_at total false count main runs) _ p e in
+    let i = bind_some (interfaces_from n s.0.1) _ p s.2 in
+    let same : (s.0.0, i.0.0, i.0.1, s.0.2) ≡ p = some_same _ p i.2 in
+    subst (λ (x : List Slot × List ℕ × List ℕ × List ℕ). (m : List ℕ) × (slots_at total false count main runs ≡ Some (x.0, m, x.3)) × (interfaces_from n m ≡ Some (x.1, x.2))) same (s.0.1, s.1, i.1)
+
+-- and of what stands behind them
+record BodyParts (total fields methods own : ℕ) (main attrs runs : List ℕ) (p : List Member × List Member × List Attribute × List ℕ × List ℕ × List ℕ) : Type 0 where
+  between : List ℕ × List ℕ × List ℕ
+  behind : List ℕ × List ℕ
+  of_fields : members_from total fields main attrs runs ≡ Some (p.0, between.0, between.1, between.2)
+  of_methods : members_from total methods between.0 between.1 between.2 ≡ Some (p.1, p.3, behind.0, behind.1)
+  of_class : attributes_from total own behind.0 behind.1 ≡ Some (p.2, p.4, p.5)
+
+body_parts : (total fields methods own : ℕ) (main attrs runs : List ℕ) (p : List Member × List Member × List Attribute × List ℕ × List ℕ × List ℕ) → body_from total fields methods own main attrs runs ≡ Some p
+    → BodyParts total fields methods own main attrs runs p
+unfolding body_from
+body_parts total fields methods own main attrs runs p e =
+    let f = bind_some (members_from total fields main attrs runs) _ p e in
+    let m = bind_some (members_from total methods f.0.1 f.0.2 f.0.3) _ p f.2 in
+    let a = bind_some (attributes_from total own m.0.2 m.0.3) _ p m.2 in
+    let same : (f.0.0, m.0.0, a.0.0, m.0.1, a.0.1, a.0.2) ≡ p = some_same _ p a.2 in
+    subst (BodyParts total fields methods own main attrs runs) same (record { between = (f.0.1, f.0.2, f.0.3); behind = (m.0.2, m.0.3); of_fields = f.1; of_methods = m.1; of_class = a.1 })
+
 -- where a class is read, the words are its layout
 pub class_taken : (w : List ℕ) (c : ClassFile) → get_or w 1 0 < 2 ^ 64 → get_or w 2 0 < 2 ^ 64 → class_at w ≡ Some c → HasSpelling c × (w ≡ lay c)
 unfolding class_at
@@ -246,42 +277,41 @@ class_taken w c small_1 small_2 e =
     let w7 = get_or w 7 0 in
     let tested = only_if_some (head_is_right w) _ c e in
     let head = head_facts w tested.0 in
-    let s1 = bind_some (slots_at total false (first_of (get_or w 2 0) - 1) (drop 9 w) (drop w7 w)) _ c tested.1 in
-    let s2 = bind_some (interfaces_from (fourth_of (get_or w 1 0)) s1.0.1) _ c s1.2 in
-    let s3 = bind_some (members_from total (second_of (get_or w 2 0)) s2.0.1 (drop w6 w) s1.0.2) _ c s2.2 in
-    let s4 = bind_some (members_from total (third_of (get_or w 2 0)) s3.0.1 s3.0.2 s3.0.3) _ c s3.2 in
-    let s5 = bind_some (attributes_from total (fourth_of (get_or w 2 0)) s4.0.2 s4.0.3) _ c s4.2 in
+    let pool = bind_some (pool_of w) _ c tested.1 in
+    let body = bind_some (body_of w pool.0.2 pool.0.3) _ c pool.2 in
+    let s = pool_parts total (first_of (get_or w 2 0) - 1) (fourth_of (get_or w 1 0)) (drop 9 w) (drop w7 w) pool.0 pool.1 in
+    let b = body_parts total (second_of (get_or w 2 0)) (third_of (get_or w 2 0)) (fourth_of (get_or w 2 0)) pool.0.2 (drop w6 w) pool.0.3 body.0 body.1 in
     let made : ClassFile = record {
-      slots = s1.0.0;
+      slots = pool.0.0;
       flags = first_of (get_or w 1 0);
       this_class = second_of (get_or w 1 0);
       super_class = third_of (get_or w 1 0);
-      interfaces = s2.0.0;
-      fields = s3.0.0;
-      methods = s4.0.0;
-      attributes = s5.0.0;
+      interfaces = pool.0.1;
+      fields = body.0.0;
+      methods = body.0.1;
+      attributes = body.0.2;
     } in
-    let s6 = only_if_some (sections_end w s4.0.1 s5.0.1 s5.0.2) (Some made) c s5.2 in
+    let s6 = only_if_some (sections_end w body.0.3 body.0.4 body.0.5) (Some made) c body.2 in
     let same : made ≡ c = some_same made c s6.1 in
-    let ends = end_facts w s4.0.1 s5.0.1 s5.0.2 s6.0 in
-    let text = text_runs s1.0.0 in
-    let of_fields = attribute_runs (member_attributes s3.0.0) in
-    let of_methods = attribute_runs (member_attributes s4.0.0) in
+    let ends = end_facts w body.0.3 body.0.4 body.0.5 s6.0 in
+    let text = text_runs pool.0.0 in
+    let of_fields = attribute_runs (member_attributes body.0.0) in
+    let of_methods = attribute_runs (member_attributes body.0.1) in
     let p1 : w7 + length (drop w7 w) ≡ total = omega (arith, length-drop w7 w, head.runs_in) in
-    let slots = slots_taken total w7 false (first_of (get_or w 2 0) - 1) (drop 9 w) (drop w7 w) s1.0 p1 s1.1 in
-    let interfaces = interfaces_taken (fourth_of (get_or w 1 0)) s1.0.1 s2.0 s2.1 in
-    let p2 : w7 + length text + length s1.0.2 ≡ total = omega (arith, p1, ap length slots.run_split, length-append text s1.0.2) in
+    let slots = slots_taken total w7 false (first_of (get_or w 2 0) - 1) (drop 9 w) (drop w7 w) (pool.0.0, s.0, pool.0.3) p1 s.1 in
+    let interfaces = interfaces_taken (fourth_of (get_or w 1 0)) s.0 (pool.0.1, pool.0.2) s.2 in
+    let p2 : w7 + length text + length pool.0.3 ≡ total = omega (arith, p1, ap length slots.run_split, length-append text pool.0.3) in
     let q2 : w6 + length (drop w6 w) ≡ total = omega (arith, length-drop w6 w, head.attributes_in) in
-    let fields = members_taken total w6 (w7 + length text) (second_of (get_or w 2 0)) s2.0.1 (drop w6 w) s1.0.2 s3.0 q2 p2 s3.1 in
-    let p3 : w7 + length text + length of_fields + length s3.0.3 ≡ total = omega (arith, p2, ap length fields.run_split, length-append of_fields s3.0.3) in
-    let q3 : w6 + 2 * length (member_attributes s3.0.0) + length s3.0.2 ≡ total =
-    omega (arith, q2, ap length fields.split, length-append (attributes (w7 + length text) (member_attributes s3.0.0)) s3.0.2, attributes_len (w7 + length text) (member_attributes s3.0.0)) in
-    let methods = members_taken total (w6 + 2 * length (member_attributes s3.0.0)) (w7 + length text + length of_fields) (third_of (get_or w 2 0)) s3.0.1 s3.0.2 s3.0.3 s4.0 q3 p3 s4.1 in
-    let p4 : w7 + length text + length of_fields + length of_methods + length s4.0.3 ≡ total = omega (arith, p3, ap length methods.run_split, length-append of_methods s4.0.3) in
-    let own = attributes_taken total (w7 + length text + length of_fields + length of_methods) (fourth_of (get_or w 2 0)) s4.0.2 s4.0.3 s5.0 p4 s5.1 in
+    let fields = members_taken total w6 (w7 + length text) (second_of (get_or w 2 0)) pool.0.2 (drop w6 w) pool.0.3 (body.0.0, b.between.0, b.between.1, b.between.2) q2 p2 b.of_fields in
+    let p3 : w7 + length text + length of_fields + length b.between.2 ≡ total = omega (arith, p2, ap length fields.run_split, length-append of_fields b.between.2) in
+    let q3 : w6 + 2 * length (member_attributes body.0.0) + length b.between.1 ≡ total =
+    omega (arith, q2, ap length fields.split, length-append (attributes (w7 + length text) (member_attributes body.0.0)) b.between.1, attributes_len (w7 + length text) (member_attributes body.0.0)) in
+    let methods = members_taken total (w6 + 2 * length (member_attributes body.0.0)) (w7 + length text + length of_fields) (third_of (get_or w 2 0)) b.between.0 b.between.1 b.between.2 (body.0.1, body.0.3, b.behind.0, b.behind.1) q3 p3 b.of_methods in
+    let p4 : w7 + length text + length of_fields + length of_methods + length b.behind.1 ≡ total = omega (arith, p3, ap length methods.run_split, length-append of_methods b.behind.1) in
+    let own = attributes_taken total (w7 + length text + length of_fields + length of_methods) (fourth_of (get_or w 2 0)) b.behind.0 b.behind.1 (body.0.2, body.0.4, body.0.5) p4 b.of_class in
     subst (λ (x : ClassFile). HasSpelling x × (w ≡ lay x)) same (
-      spelled w made s1.0.1 s2.0.1 s3.0.1 s4.0.1 s3.0.2 s4.0.2 s5.0.1 s1.0.2 s3.0.3 s4.0.3 s5.0.2 head refl refl refl slots interfaces fields methods own ends small_1 small_2,
-      laid w made s1.0.1 s2.0.1 s3.0.1 s4.0.1 s3.0.2 s4.0.2 s5.0.1 s1.0.2 s3.0.3 s4.0.3 s5.0.2 head refl refl refl slots interfaces fields methods own ends small_1 small_2,
+      spelled w made s.0 pool.0.2 b.between.0 body.0.3 b.between.1 b.behind.0 body.0.4 pool.0.3 b.between.2 b.behind.1 body.0.5 head refl refl refl slots interfaces fields methods own ends small_1 small_2,
+      laid w made s.0 pool.0.2 b.between.0 body.0.3 b.between.1 b.behind.0 body.0.4 pool.0.3 b.between.2 b.behind.1 body.0.5 head refl refl refl slots interfaces fields methods own ends small_1 small_2,
     )
 
 -- ---- records, and words from which a class is read

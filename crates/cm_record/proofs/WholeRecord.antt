@@ -7,7 +7,7 @@ use Rattle.cm_class.specs.declared.class_file.ClassFile.{ClassFile}
 use Rattle.cm_class.specs.Spelling.{HasSpelling}
 use Rattle.cm_record.specs.Packing.{joined}
 use Rattle.cm_record.specs.Layout.{head, lay, directory, text_runs, members, member_attributes, attributes, attribute_runs, all_members, all_attributes, interfaces_at, members_at, attributes_at, runs_at, attribute_runs_at, record_len, IsRecordOf, IsRecord}
-use Rattle.cm_record.specs.Reading.{first_of, second_of, third_of, fourth_of, slots_at, interfaces_from, attributes_from, members_from, head_is_right, sections_end, class_at}
+use Rattle.cm_record.specs.Reading.{first_of, second_of, third_of, fourth_of, slots_at, interfaces_from, attributes_from, members_from, head_is_right, sections_end, pool_from, body_from, class_at}
 use Rattle.cm_record.proofs.Digits.{first-joined, second-joined, third-joined, fourth-joined}
 use Rattle.cm_record.proofs.Lengths.{attributes_append, attribute_runs_append, members_append, all_runs, all_members_len, attributes_len, members_len, directory_len, lay_len}
 use Rattle.cm_record.proofs.Again.{slots_again, interfaces_again, members_again, attributes_again}
@@ -137,7 +137,7 @@ class_read : (words : List ℕ) (c : ClassFile) (m1 m2 m3 m4 a1 a2 a3 r1 r2 r3 r
     → members_from (length words) (length c.methods) m3 a1 r2 ≡ Some (c.methods, m4, a2, r3)
     → attributes_from (length words) (length c.attributes) a2 r3 ≡ Some (c.attributes, a3, r4)
     → sections_end words m4 a3 r4 ≡ true → class_at words ≡ Some c
-unfolding class_at
+unfolding class_at pool_from body_from
 class_read words c m1 m2 m3 m4 a1 a2 a3 r1 r2 r3 r4 right flags this super ic count fc mc ac s1 s2 s3 s4 s5 ends =
     rw (right, count, s1, ic, s2, fc, s3, mc, s4, ac, s5, ends, flags, this, super) refl
 

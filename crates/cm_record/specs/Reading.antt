@@ -205,22 +205,42 @@ abbrev pub sections_end : List ℕ → List ℕ → List ℕ → List ℕ → Bo
 sections_end words main attrs runs =
     length main + get_or words 6 0 == length words && length attrs + get_or words 7 0 == length words && length runs == 0
 
+-- the slots of the pool and the interfaces, and what is left behind them
+unfoldable pub pool_from : ℕ → ℕ → ℕ → List ℕ → List ℕ → Option (List Slot × List ℕ × List ℕ × List ℕ)
+pool_from total count interfaces main runs = do
+  slots ← slots_at total false count main runs
+  those ← interfaces_from interfaces slots.1
+  Some (slots.0, those.0, those.1, slots.2)
+
+-- the fields, the methods and the class's own attributes, and what is left behind them
+unfoldable pub body_from : ℕ → ℕ → ℕ → ℕ → List ℕ → List ℕ → List ℕ → Option (List Member × List Member × List Attribute × List ℕ × List ℕ × List ℕ)
+body_from total fields methods own main attrs runs = do
+  f ← members_from total fields main attrs runs
+  m ← members_from total methods f.1 f.2 f.3
+  a ← attributes_from total own m.2 m.3
+  Some (f.0, m.0, a.0, m.1, a.1, a.2)
+
+-- the pool and the interfaces, from where the head says that they are
+abbrev pub pool_of : List ℕ → Option (List Slot × List ℕ × List ℕ × List ℕ)
+pool_of words = pool_from (length words) (first_of (get_or words 2 0) - 1) (fourth_of (get_or words 1 0)) (drop 9 words) (drop (get_or words 7 0) words)
+
+-- what stands behind them, from what they leave
+abbrev pub body_of : List ℕ → List ℕ → List ℕ → Option (List Member × List Member × List Attribute × List ℕ × List ℕ × List ℕ)
+body_of words main runs = body_from (length words) (second_of (get_or words 2 0)) (third_of (get_or words 2 0)) (fourth_of (get_or words 2 0)) main (drop (get_or words 6 0) words) runs
+
 unfoldable pub class_at : List ℕ → Option ClassFile
 class_at words = only_if (head_is_right words) (do
-  slots ← slots_at (length words) false (first_of (get_or words 2 0) - 1) (drop 9 words) (drop (get_or words 7 0) words)
-  interfaces ← interfaces_from (fourth_of (get_or words 1 0)) slots.1
-  fields ← members_from (length words) (second_of (get_or words 2 0)) interfaces.1 (drop (get_or words 6 0) words) slots.2
-  methods ← members_from (length words) (third_of (get_or words 2 0)) fields.1 fields.2 fields.3
-  attributes ← attributes_from (length words) (fourth_of (get_or words 2 0)) methods.2 methods.3
-  only_if (sections_end words methods.1 attributes.1 attributes.2) (Some (record {
-    slots = slots.0;
+  pool ← pool_of words
+  body ← body_of words pool.2 pool.3
+  only_if (sections_end words body.3 body.4 body.5) (Some (record {
+    slots = pool.0;
     flags = first_of (get_or words 1 0);
     this_class = second_of (get_or words 1 0);
     super_class = third_of (get_or words 1 0);
-    interfaces = interfaces.0;
-    fields = fields.0;
-    methods = methods.0;
-    attributes = attributes.0;
+    interfaces = pool.1;
+    fields = body.0;
+    methods = body.1;
+    attributes = body.2;
   })))
 
 -- ---- what was read before what is left is read
@@ -250,6 +270,15 @@ left2 (Some read) = Some (read.1, read.2)
 abbrev pub left3 : {A B C D : Type 0} → Option (A × B × C × D) → Option (B × C × D)
 left3 None = None
 left3 (Some read) = Some (read.1, read.2, read.3)
+
+-- what is left behind a pool, and behind a body
+abbrev pub pool_left : Option (List Slot × List ℕ × List ℕ × List ℕ) → Option (List ℕ × List ℕ)
+pool_left None = None
+pool_left (Some read) = Some (read.2, read.3)
+
+abbrev pub body_left : Option (List Member × List Member × List Attribute × List ℕ × List ℕ × List ℕ) → Option (List ℕ × List ℕ × List ℕ)
+body_left None = None
+body_left (Some read) = Some (read.3, read.4, read.5)
 
 -- whether a constant is wide, and what is left
 abbrev pub width_left : Option (Constant × List ℕ × List ℕ) → Option (Bool × List ℕ × List ℕ)

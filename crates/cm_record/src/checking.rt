@@ -1,7 +1,7 @@
 //! Telling whether words are a record, without memory: the walk of `reading`, which keeps nothing.
 ghost use Rattle.std.specs.Prelude.{◌≡◌, ◌≤◌, length, false, ◌↔◌, IfSome, IsTrue, is_some};
 ghost use Rattle.cm_record.specs.Layout.{limit, IsRecord};
-ghost use Rattle.cm_record.specs.Reading.{Leaves, left1, left2, left3, width_left, run_at, constant_at, slots_at, interfaces_from, attribute_at, attributes_from, member_at, members_from, class_at};
+ghost use Rattle.cm_record.specs.Reading.{Leaves, left1, left2, left3, width_left, run_at, constant_at, slots_at, interfaces_from, attribute_at, attributes_from, member_at, members_from, pool_from, pool_left, body_from, body_left, class_at};
 
 use crate::entry::{Entry, attribute_word, entry_at, first, fourth, is_wide, second, third, upper};
 use crate::packing::{SECOND, bytes_of, word_of};
@@ -207,6 +207,46 @@ fn skip_members<'a, 'b, 'c>(
     Some((main, attributes, runs))
 }
 
+/// What is left behind the slots of the pool and the interfaces.
+#[tactic(auto, unfolding(crate::specs::Reading::pool_from))]
+fn skip_pool<'a, 'b>(
+    total: usize,
+    count: usize,
+    interfaces: usize,
+    main: &'a [u64],
+    runs: &'b [u64],
+) -> Option<(&'a [u64], &'b [u64])>
+    requires short { total ≤ limit }
+    requires suffix { length runs.now ≤ total }
+    ensures left { Leaves (λ x. (x.0.now, x.1.now)) result
+        (pool_left (pool_from total count interfaces main.now runs.now)) }
+    ensures suffix { IfSome result (λ x. length x.1.now ≤ length runs.now) }
+{
+    let (main, runs) = skip_slots(total, count, main, runs)?;
+    let main = skip_interfaces(interfaces, main)?;
+    Some((main, runs))
+}
+
+/// What is left behind so many fields, methods and attributes of the class.
+#[tactic(auto, unfolding(crate::specs::Reading::body_from))]
+fn skip_body<'a, 'b, 'c>(
+    total: usize,
+    counts: (usize, usize, usize),
+    main: &'a [u64],
+    attributes: &'b [u64],
+    runs: &'c [u64],
+) -> Option<(&'a [u64], &'b [u64], &'c [u64])>
+    requires attributes { length attributes.now ≤ total }
+    requires runs { length runs.now ≤ total }
+    ensures { Leaves (λ x. (x.0.now, x.1.now, x.2.now)) result
+        (body_left (body_from total counts.0 counts.1 counts.2 main.now attributes.now runs.now)) }
+{
+    let (main, attributes, runs) = skip_members(total, counts.0, main, attributes, runs)?;
+    let (main, attributes, runs) = skip_members(total, counts.1, main, attributes, runs)?;
+    let (attributes, runs) = skip_attributes(total, counts.2, attributes, runs)?;
+    Some((main, attributes, runs))
+}
+
 /// Nothing, where each section is there and ends where the next begins.
 #[tactic(auto, using(std::proofs::lemmas::List::take_rest), unfolding(crate::specs::Reading::class_at))]
 fn sections_fit(words: &[u64]) -> Option<()>
@@ -218,14 +258,16 @@ fn sections_fit(words: &[u64]) -> Option<()>
     }
     let total = words.len();
     let (numbers, counts) = (words[1], words[2]);
-    let (count, fields, methods) = (first(counts), second(counts), third(counts));
-    let attributes = &words[words[6] as usize..];
+    let (count, interfaces) = (first(counts) as usize - 1, fourth(numbers) as usize);
     let runs = &words[words[7] as usize..];
-    let (main, runs) = skip_slots(total, count as usize - 1, &words[9..], runs)?;
-    let main = skip_interfaces(fourth(numbers) as usize, main)?;
-    let (main, attributes, runs) = skip_members(total, fields as usize, main, attributes, runs)?;
-    let (main, attributes, runs) = skip_members(total, methods as usize, main, attributes, runs)?;
-    let (attributes, runs) = skip_attributes(total, fourth(counts) as usize, attributes, runs)?;
+    let (main, runs) = skip_pool(total, count, interfaces, &words[9..], runs)?;
+    let members = (
+        second(counts) as usize,
+        third(counts) as usize,
+        fourth(counts) as usize,
+    );
+    let attributes = &words[words[6] as usize..];
+    let (main, attributes, runs) = skip_body(total, members, main, attributes, runs)?;
     if sections_end(words, main, attributes, runs) {
         Some(())
     } else {

@@ -7,7 +7,7 @@ ghost use Rattle.cm_record.specs.Reading.{Gives, run_at, constant_at, slots_at, 
 use crate::entry::{Entry, attribute_word, entry_at, first, fourth, is_wide, second, third, upper};
 use crate::packing::{SECOND, bytes_of, word_of};
 use crate::refusal::RecordFault;
-use cm_class::{Attribute, Constant, Member, Items, Slot};
+use cm_class::{Attribute, Constant, Items, Member, Slot};
 use std::alloc::Global;
 
 /// A run of so many bytes, and the words behind it.

@@ -1,12 +1,12 @@
 //! Reading a whole record.
-ghost use Rattle.std.specs.Prelude.{◌≡◌, ◌≤◌, ◌+◌, ◌↔◌, length, slice_index, IsTrue};
+ghost use Rattle.std.specs.Prelude.{◌≡◌, ◌≤◌, ◌+◌, ◌↔◌, length, slice_index, IsTrue, IfOk};
 ghost use Rattle.cm_record.specs.Layout.{limit};
-ghost use Rattle.cm_record.specs.Reading.{Gives, first_of, head_is_right as head_is_right_of, sections_end as sections_end_of, class_at};
+ghost use Rattle.cm_record.specs.Reading.{Gives, first_of, head_is_right as head_is_right_of, sections_end as sections_end_of, pool_from, body_from, class_at};
 
 use crate::entry::{first, fourth, second, third};
 use crate::reading::{read_attributes, read_interfaces, read_members, read_slots};
 use crate::refusal::RecordFault;
-use cm_class::{ClassFile, Items};
+use cm_class::{Attribute, ClassFile, Items, Member, Slot};
 use std::alloc::Global;
 
 /// The numbers in the first words, and where the sections begin, fit together.
@@ -46,6 +46,70 @@ pub(crate) fn sections_end(words: &[u64], main: &[u64], attributes: &[u64], runs
         && runs.is_empty()
 }
 
+/// The slots of the pool and the interfaces, and what is left behind them.
+#[tactic(auto, unfolding(crate::specs::Reading::pool_from))]
+fn read_pool<'a, 'b>(
+    alloc: Global,
+    total: usize,
+    count: usize,
+    interfaces: usize,
+    main: &'a [u64],
+    runs: &'b [u64],
+) -> Result<(Vec<Slot>, Vec<u16>, &'a [u64], &'b [u64]), RecordFault>
+    requires short { total ≤ limit }
+    requires suffix { length runs.now ≤ total }
+    ensures read { Gives (λ x. (x.0.items, x.1.items, x.2.now, x.3.now)) result
+        (pool_from total count interfaces main.now runs.now) }
+    ensures suffix { IfOk result (λ x. length x.3.now ≤ length runs.now) }
+{
+    let (slots, main, runs) = read_slots(alloc, total, count, main, runs)?;
+    let (interfaces, main) = read_interfaces(alloc, interfaces, main)?;
+    Ok((slots, interfaces, main, runs))
+}
+
+/// What stands behind the pool and the interfaces, and what is left behind each section.
+#[derive(Drop)]
+struct Body<'a, 'b, 'c> {
+    fields: Vec<Member>,
+    methods: Vec<Member>,
+    own: Vec<Attribute>,
+    main: &'a [u64],
+    attributes: &'b [u64],
+    runs: &'c [u64],
+}
+
+/// So many fields, methods and attributes of the class.
+#[tactic(auto, unfolding(crate::specs::Reading::body_from))]
+fn read_body<'a, 'b, 'c>(
+    alloc: Global,
+    total: usize,
+    counts: (usize, usize, usize),
+    main: &'a [u64],
+    attributes: &'b [u64],
+    runs: &'c [u64],
+) -> Result<Body<'a, 'b, 'c>, RecordFault>
+    requires attributes { length attributes.now ≤ total }
+    requires runs { length runs.now ≤ total }
+    ensures { Gives (λ x. (x.fields.items, x.methods.items, x.own.items, x.main.now, x.attributes.now, x.runs.now)) result
+        (body_from total counts.0 counts.1 counts.2 main.now attributes.now runs.now) }
+{
+    let (fields, main, attributes, runs) = read_members(
+        alloc, total, counts.0, main, attributes, runs,
+    )?;
+    let (methods, main, attributes, runs) = read_members(
+        alloc, total, counts.1, main, attributes, runs,
+    )?;
+    let (own, attributes, runs) = read_attributes(alloc, total, counts.2, attributes, runs)?;
+    Ok(Body {
+        fields,
+        methods,
+        own,
+        main,
+        attributes,
+        runs,
+    })
+}
+
 /// The class whose layout the words are.
 #[tactic(auto, using(std::proofs::lemmas::List::take_rest), unfolding(crate::specs::Reading::class_at))]
 pub(crate) fn read_class(alloc: Global, words: &[u64]) -> Result<ClassFile, RecordFault>
@@ -57,35 +121,23 @@ pub(crate) fn read_class(alloc: Global, words: &[u64]) -> Result<ClassFile, Reco
     }
     let total = words.len();
     let (numbers, counts) = (words[1], words[2]);
-    let (count, fields, methods) = (first(counts), second(counts), third(counts));
-    let attributes = &words[words[6] as usize..];
     let runs = &words[words[7] as usize..];
-    let (slots, main, runs) = read_slots(alloc, total, count as usize - 1, &words[9..], runs)?;
-    let (interfaces, main) = read_interfaces(alloc, fourth(numbers) as usize, main)?;
-    let (fields, main, attributes, runs) = read_members(
+    let (slots, interfaces, main, runs) = read_pool(
         alloc,
         total,
-        fields as usize,
-        main,
-        attributes,
+        first(counts) as usize - 1,
+        fourth(numbers) as usize,
+        &words[9..],
         runs,
     )?;
-    let (methods, main, attributes, runs) = read_members(
-        alloc,
-        total,
-        methods as usize,
-        main,
-        attributes,
-        runs,
-    )?;
-    let (own, attributes, runs) = read_attributes(
-        alloc,
-        total,
+    let members = (
+        second(counts) as usize,
+        third(counts) as usize,
         fourth(counts) as usize,
-        attributes,
-        runs,
-    )?;
-    if !sections_end(words, main, attributes, runs) {
+    );
+    let attributes = &words[words[6] as usize..];
+    let body = read_body(alloc, total, members, main, attributes, runs)?;
+    if !sections_end(words, body.main, body.attributes, body.runs) {
         return Err(RecordFault::NotARecord);
     }
     Ok(ClassFile {
@@ -94,8 +146,8 @@ pub(crate) fn read_class(alloc: Global, words: &[u64]) -> Result<ClassFile, Reco
         this_class: second(numbers),
         super_class: third(numbers),
         interfaces: Items::from_vec(interfaces),
-        fields: Items::from_vec(fields),
-        methods: Items::from_vec(methods),
-        attributes: Items::from_vec(own),
+        fields: Items::from_vec(body.fields),
+        methods: Items::from_vec(body.methods),
+        attributes: Items::from_vec(body.own),
     })
 }
