@@ -1,0 +1,14 @@
+//! A buffer of 64-bit words in one block of memory, of a fixed capacity.
+#![tactic(auto)]
+
+mod block;
+mod bytes;
+mod word_buf;
+
+// A crate can name a buffer in a contract only if the types of its fields are exported.
+#[doc(hidden)]
+pub use block::{Base, Cells, Deed};
+pub use word_buf::WordBuf;
+
+#[cfg(test)]
+mod tests;

@@ -1,0 +1,134 @@
+//! The buffer: its eight calls, and the words as a slice. Nothing here holds a pointer.
+ghost use Rattle.std.specs.Prelude.{◌≡◌, ◌≤◌, ◌<◌, ◌+◌, ◌-◌, ◌*◌, ◌/◌, ◌%◌, [], ◌∷◌, ◌++◌, length, slice_index, slice_set, slice_range, IfOk};
+
+use crate::block::{Base, Cells, Deed, allocate, deallocate};
+use crate::bytes::write_words;
+use std::alloc::{AllocError, Global};
+use std::fmt;
+use std::fmt::{Debug, Formatter, Write};
+use std::marker::Model;
+
+/// A list of 64-bit words with room for a fixed number of them, in one block of memory. It may move to another
+/// thread, and several may read it.
+pub struct WordBuf {
+    base: Base<u64>,
+    cells: Cells<u64>,
+    deed: Deed<u64, Global>,
+    alloc: Global,
+    len: usize,
+    capacity: usize,
+}
+
+impl Model for WordBuf {
+    ghost use Rattle.cm_words.specs.Words.{Words, words_of, words_code};
+    ghost use Rattle.cm_words.specs.Places.{somes};
+    ghost use Rattle.cm_words.specs.Buffer.{IsBuffer};
+
+    ghost Value = { Words };
+
+    ghost coded = { words_code };
+
+    ghost view = { λ b. words_of (somes b.cells.slots) b.capacity };
+
+    ghost invariant = { λ b. IsBuffer b.base b.cells b.deed b.alloc b.len b.capacity };
+}
+
+impl WordBuf {
+    ghost use Rattle.cm_words.specs.Words.{words_of};
+    ghost use Rattle.cm_words.specs.Bytes.{word_bytes};
+
+    /// An empty buffer with room for so many words, which is all the memory that it ever takes.
+    pub fn with_capacity(alloc: Global, capacity: usize) -> Result<WordBuf, AllocError>
+        ensures { IfOk result (λ b. b ≡ words_of [] capacity) }
+    {
+        // No block has more than 2^63 bytes.
+        if capacity >= 1 << 60 {
+            return Err(AllocError);
+        }
+        let (base, cells, deed) = allocate(&alloc, capacity)?;
+        Ok(WordBuf {
+            base,
+            cells,
+            deed,
+            alloc,
+            len: 0,
+            capacity,
+        })
+    }
+
+    /// How many words there are.
+    pub fn len(&self) -> usize
+        ensures { result ≡ length self.now.words }
+    {
+        self.len
+    }
+
+    /// How many more there may be.
+    pub fn room(&self) -> usize
+        ensures { result ≡ self.now.capacity - length self.now.words }
+    {
+        self.capacity - self.len
+    }
+
+    /// Adds a word behind the others.
+    pub fn push(&mut self, word: u64)
+        requires { length self.old.words < self.old.capacity }
+        ensures { self.new ≡ words_of (self.old.words ++ word ∷ []) self.old.capacity }
+    {
+        self.cells.write(self.base, self.len, word);
+        self.len += 1;
+    }
+
+    /// Puts another word in the place of one.
+    pub fn set(&mut self, at: usize, word: u64)
+        requires { at < length self.old.words }
+        ensures { self.new ≡ words_of (slice_set self.old.words at word) self.old.capacity }
+    {
+        self.cells.write(self.base, at, word);
+    }
+
+    /// The word at a place.
+    pub fn get(&self, at: usize) -> u64
+        requires { at < length self.now.words }
+        ensures { result ≡ slice_index self.now.words at }
+    {
+        self.as_slice()[at]
+    }
+
+    /// The words, to read.
+    pub fn as_slice(&self) -> &[u64]
+        ensures { result.now ≡ self.now.words }
+    {
+        self.cells.slice(self.base, 0, self.len)
+    }
+
+    /// The words from `from` on as bytes, as many as `out` has room for: each as eight bytes, the lowest first.
+    pub fn bytes_into(&self, from: usize, out: &mut [u8])
+        requires whole { length out.old % 8 ≡ 0 }
+        requires within { from + length out.old / 8 ≤ length self.now.words }
+        ensures { out.new ≡ word_bytes (slice_range self.now.words from (from + length out.old / 8)) }
+    {
+        let words = &self.as_slice()[from..from + out.len() / 8];
+        write_words(words, out);
+    }
+}
+
+impl Drop for WordBuf {
+    fn drop(self) {
+        let WordBuf {
+            base,
+            cells,
+            deed,
+            alloc,
+            len: _,
+            capacity,
+        } = self;
+        deallocate(&alloc, base, capacity, cells, deed);
+    }
+}
+
+impl Debug for WordBuf {
+    fn fmt<W: Write>(&self, f: &mut Formatter<W>) -> fmt::Result {
+        f.debug_list().entries(self.as_slice()).finish()
+    }
+}
