@@ -18,6 +18,3 @@ mod whole;
 pub use laws::layout_determines_class;
 pub use record::{Record, build};
 pub use refusal::{RecordFault, RecordRefusal};
-
-#[cfg(test)]
-mod tests;
