@@ -1,5 +1,8 @@
+pub mod CharacterLaws
+pub mod ClassNameLaws
 pub mod Joining
 pub mod Judging
 pub mod Marking
 pub mod Stopping
 pub mod TextLoops
+pub mod TypeLaws

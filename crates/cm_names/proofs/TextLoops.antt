@@ -174,7 +174,7 @@ pub plain_is_text : (bytes : List ℕ) → list_all (is_within 0x01 0x7F) bytes 
 unfolding is_text
 plain_is_text bytes h = plain_after bytes h
 
-name_step : (begins : Bool) (b : ℕ) → is_name_byte b ≡ true → name_after begins b ≡ Some false
+pub name_step : (begins : Bool) (b : ℕ) → is_name_byte b ≡ true → name_after begins b ≡ Some false
 unfolding name_after
 name_step begins b h =
     let slash_is : eqb b slash ≡ false = not_true (eqb b slash) (both_true (not (eqb b dot) && not (eqb b semicolon) && not (eqb b bracket)) (not (eqb b slash)) h).1 in
