@@ -1,0 +1,4 @@
+pub mod FirstDuplicate
+pub mod Interning
+pub mod Repeating
+pub mod SeenMembers

@@ -1,0 +1,223 @@
+-- Members that were looked at, by what stands for their names and descriptors.
+use Rattle.std.proofs.Common.{◌≡◌, ⊎_elim, inl, inr, ◌⊎◌, ℕ, zero, suc, ◌+◌, ◌<◌, Bool, true, false, cond, eqb, List, [], ◌∷◌, length, map, get_or, Option, Some, None, refl, sym, ap, ap₂, subst, ◌∙◌, arith}
+use Rattle.std.specs.Prelude.{◌&&◌}
+use Rattle.std.specs.List.{Contains}
+use Rattle.std.specs.Ordering.{nat_cmp, ordering_then, is_eq}
+use Rattle.std.specs.declared.cmp.Ordering.{Ordering}
+use Rattle.std.specs.BTreeSet.{BTreeSet, contains}
+use Rattle.std.proofs.lemmas.Bool.{cases_Bool, cases_lt}
+use Rattle.std.proofs.lemmas.Bool.Decides.{nat_tests}
+use Rattle.std.proofs.lemmas.List.{get_or_default, length-map}
+use Rattle.cm_class.specs.declared.class_file.ClassFile.{ClassFile}
+use Rattle.cm_class.specs.declared.class_file.Member.{Member}
+use Rattle.cm_class.specs.Names.{utf8}
+use Rattle.cm_duplicates.specs.Duplicates.{is_first, first_duplicate}
+use Rattle.cm_duplicates.specs.First.{Agree}
+use Rattle.cm_duplicates.specs.Fingerprints.{fingerprint, joined, member_fingerprint, HasRepeated}
+use Rattle.cm_duplicates.specs.Interned.{Interned, interned, NamesWhatItStandsFor, KeepsInterned}
+use Rattle.cm_duplicates.proofs.FirstDuplicate.{stands_first, stands_again, all_pass}
+
+-- ---- keys
+
+abbrev pub key_cmp : ℕ × ℕ → ℕ × ℕ → Ordering
+key_cmp p q = ordering_then (nat_cmp p.0 q.0) (nat_cmp p.1 q.1)
+
+abbrev pub same_key : ℕ × ℕ → ℕ × ℕ → Bool
+same_key p q = eqb p.0 q.0 && eqb p.1 q.1
+
+-- the order of keys tells them apart
+pub key_is : (p q : ℕ × ℕ) → is_eq (key_cmp p q) ≡ same_key p q
+key_is p q = grind (arith, nat_tests)
+
+pair_is : (a b c d : ℕ) → a ≡ c → b ≡ d → ◌≡◌ {A = ℕ × ℕ} (a, b) (c, d)
+pair_is a b c d e f = rw (e, f) refl
+
+same_key_is : (p q : ℕ × ℕ) → same_key p q ≡ true → p ≡ q
+same_key_is p q t =
+    let first : p.0 ≡ q.0 = grind (arith, nat_tests) in
+    let second : p.1 ≡ q.1 = grind (arith, nat_tests) in
+    pair_is p.0 p.1 q.0 q.1 first second
+
+is_same_key : (p q : ℕ × ℕ) → p ≡ q → same_key p q ≡ true
+is_same_key p q e = rw e (grind (arith, nat_tests))
+
+abbrev pub Keys : Type 0
+Keys = BTreeSet (ℕ × ℕ)
+
+-- ---- what was seen of the members before a place
+
+-- a key names what a member names
+abbrev pub Names : ClassFile → ℕ × ℕ → Member → Type 0
+Names c key m = (utf8 c key.0 ≡ utf8 c m.name) × (utf8 c key.1 ≡ utf8 c m.descriptor)
+
+-- it is that of a member before a place
+pub record IsEarlier (c : ClassFile) (members : List Member) (place : ℕ) (key : ℕ × ℕ) : Type 0 where
+  pub earlier : ℕ
+  pub before : earlier < place
+  pub within : earlier < length members
+  pub names : (m : Member) → Names c key (get_or members earlier m)
+
+-- a member's key was seen
+pub record HasKey (c : ClassFile) (table : Interned) (seen : Keys) (m : Member) : Type 0 where
+  pub key : ℕ × ℕ
+  pub name : interned table (utf8 c m.name) ≡ Some key.0
+  pub descriptor : interned table (utf8 c m.descriptor) ≡ Some key.1
+  pub was_seen : contains key_cmp seen key ≡ true
+
+pub record SeenBefore (c : ClassFile) (members : List Member) (repeated : List ℕ) (table : Interned) (seen : Keys) (place : ℕ) : Type 0 where
+  pub earlier : (key : ℕ × ℕ) → contains key_cmp seen key ≡ true → IsEarlier c members place key
+  pub keys : (k : ℕ) (m : Member) → k < place → k < length members → Contains repeated (member_fingerprint c (get_or members k m)) → HasKey c table seen (get_or members k m)
+
+pub nothing_seen : (c : ClassFile) (members : List Member) (repeated : List ℕ) (table : Interned) (seen : Keys) → seen.keys ≡ [] → SeenBefore c members repeated table seen 0
+nothing_seen c members repeated table seen empty = record {
+  earlier = λ key h. let none : contains key_cmp seen key ≡ false = rw empty refl in absurd cc;
+  keys = λ k m lt. absurd (omega (arith, lt));
+}
+
+-- ---- members that agree have one fingerprint
+
+same_fingerprint : (c : ClassFile) (m n : Member) → Agree c m n → member_fingerprint c m ≡ member_fingerprint c n
+same_fingerprint c m n h = ap₂ (λ a b. joined (fingerprint a) (fingerprint b)) h.name h.descriptor
+
+fingerprint_at : (c : ClassFile) (members : List Member) (i : ℕ) (m : Member) → i < length members → get_or (map (member_fingerprint c) members) i 0 ≡ member_fingerprint c (get_or members i m)
+fingerprint_at c members i m lt = at members i lt
+  where
+    at : (l : List Member) (i : ℕ) → i < length l → get_or (map (member_fingerprint c) l) i 0 ≡ member_fingerprint c (get_or l i m)
+    at [] i lt = absurd (omega (arith, lt))
+    at (x ∷ l) zero lt = refl
+    at (x ∷ l) (suc i) lt = at l i (omega (arith, lt))
+
+-- the number of a member
+pub fingerprint_of : (c : ClassFile) (members : List Member) (numbers : List ℕ) (i : ℕ) (m : Member) → numbers ≡ map (member_fingerprint c) members → i < length members → m ≡ get_or members i m → get_or numbers i 0 ≡ member_fingerprint c m
+fingerprint_of c members numbers i m e lt is = ap (λ l. get_or l i 0) e ∙ fingerprint_at c members i m lt ∙ ap (member_fingerprint c) (sym is)
+
+pub has_repeated_of : (c : ClassFile) (members : List Member) (numbers repeated : List ℕ) → numbers ≡ map (member_fingerprint c) members → HasRepeated numbers repeated → HasRepeated (map (member_fingerprint c) members) repeated
+has_repeated_of c members numbers repeated e h = let P : List ℕ → Type 0 = λ l. HasRepeated l repeated in subst P e h
+
+pub names_of : (c d : ClassFile) (table : Interned) → d ≡ c → NamesWhatItStandsFor d table → NamesWhatItStandsFor c table
+names_of c d table e h = let P : ClassFile → Type 0 = λ x. NamesWhatItStandsFor x table in subst P e h
+
+-- and what a member's number is told by
+pub contains_same : (numbers : List ℕ) (m n : ℕ) → m ≡ n → Contains numbers m → Contains numbers n
+contains_same numbers m n e h = let P : ℕ → Type 0 = λ x. Contains numbers x in subst P e h
+
+module _ (c : ClassFile) (members : List Member) (repeated : List ℕ) (has : HasRepeated (map (member_fingerprint c) members) repeated) where
+  -- a member that agrees with one before it has a repeated fingerprint
+  repeats : (k i : ℕ) (m x : Member) → k < i → i < length members → m ≡ get_or members i m → Agree c m (get_or members k x) → Contains repeated (member_fingerprint c m)
+  repeats k i m x lt within is agree =
+      let earlier : get_or (map (member_fingerprint c) members) k 0 ≡ member_fingerprint c (get_or members k x) = fingerprint_at c members k x (omega (arith, lt, within)) in
+      let later : get_or (map (member_fingerprint c) members) i 0 ≡ member_fingerprint c m = fingerprint_at c members i m within ∙ ap (member_fingerprint c) (sym is) in
+      let same : get_or (map (member_fingerprint c) members) k 0 ≡ get_or (map (member_fingerprint c) members) i 0 = earlier ∙ sym (same_fingerprint c m (get_or members k x) agree) ∙ sym later in
+      let within_too : i < length (map (member_fingerprint c) members) = omega (arith, within, length-map members (member_fingerprint c)) in
+      let P : ℕ → Type 0 = λ n. Contains repeated n in subst P later (has k i lt within_too same)
+
+  -- without one it stands first
+  pub first_without : (i : ℕ) (m : Member) → i < length members → m ≡ get_or members i m → (Contains repeated (member_fingerprint c m) → ⊥) → is_first c members i m ≡ true
+  first_without i m within is lacks = stands_first c members i m (λ k x lt before agree. lacks (repeats k i m x lt within is agree))
+
+  -- where none is repeated, there is no duplicate
+  pub none_repeated : repeated ≡ [] → first_duplicate c members ≡ None
+  none_repeated empty = all_pass (is_first c members) 0 members (λ i m lt.
+      let z : 0 + i ≡ i = omega arith in
+      rw z (first_without i (get_or members i m) lt (get_or_default members i m (get_or members i m) lt) (λ h. absurd (omega (arith, ap length empty, h.1)))))
+
+  -- ---- the next member
+
+  module _ (table : Interned) (seen : Keys) (i : ℕ) (m : Member) (within : i < length members) (is : m ≡ get_or members i m) (so_far : SeenBefore c members repeated table seen i) where
+    at_next : (k : ℕ) → k < i + 1 → (k < i) ⊎ (k ≡ i)
+    at_next k lt = ⊎_elim inl (λ le. inr (omega (arith, le, lt))) (cases_lt k i)
+
+    later : (key : ℕ × ℕ) → IsEarlier c members i key → IsEarlier c members (i + 1) key
+    later key e = record { earlier = e.earlier; before = omega (arith, e.before); within = e.within; names = e.names }
+
+    -- it isn't looked at
+    pub seen_without : (Contains repeated (member_fingerprint c m) → ⊥) → SeenBefore c members repeated table seen (i + 1)
+    seen_without lacks = record {
+      earlier = λ key h. later key (so_far.earlier key h);
+      keys = λ k x lt inside h. ⊎_elim (λ before. so_far.keys k x before inside h) (λ here. absurd (lacks (at_m k x here h))) (at_next k lt);
+    }
+      where
+        at_m : (k : ℕ) (x : Member) → k ≡ i → Contains repeated (member_fingerprint c (get_or members k x)) → Contains repeated (member_fingerprint c m)
+        at_m k x here h =
+            let one : get_or members k x ≡ m = ap (λ (j : ℕ). get_or members j x) here ∙ get_or_default members i x m within ∙ sym is in
+            let P : Member → Type 0 = λ y. Contains repeated (member_fingerprint c y) in subst P one h
+
+    module _ (new : Interned) (keeps : KeepsInterned table new) (right : NamesWhatItStandsFor c new) (key : ℕ × ℕ) (name : interned new (utf8 c m.name) ≡ Some key.0) (descriptor : interned new (utf8 c m.descriptor) ≡ Some key.1) where
+      names_it : Names c key m
+      names_it = (right (utf8 c m.name) key.0 name, right (utf8 c m.descriptor) key.1 descriptor)
+
+      some_is : (a b : ℕ) → ◌≡◌ {A = Option ℕ} (Some a) (Some b) → a ≡ b
+      some_is a b e = cc
+
+      -- its key was seen
+      pub again : contains key_cmp seen key ≡ true → is_first c members i m ≡ false
+      again h =
+          let e = so_far.earlier key h in
+          stands_again c members i e.earlier m m e.before e.within record {
+            name = sym names_it.0 ∙ (e.names m).0;
+            descriptor = sym names_it.1 ∙ (e.names m).1;
+          }
+
+      -- its key wasn't
+      pub first : Contains repeated (member_fingerprint c m) → contains key_cmp seen key ≡ false → is_first c members i m ≡ true
+      first candidate h = stands_first c members i m (λ k x lt inside agree. lacks k x agree (so_far.keys k x lt inside (candidate_too k x agree)))
+        where
+          candidate_too : (k : ℕ) (x : Member) → Agree c m (get_or members k x) → Contains repeated (member_fingerprint c (get_or members k x))
+          candidate_too k x agree = let P : ℕ → Type 0 = λ n. Contains repeated n in subst P (same_fingerprint c m (get_or members k x) agree) candidate
+
+          lacks : (k : ℕ) (x : Member) → Agree c m (get_or members k x) → HasKey c table seen (get_or members k x) → ⊥
+          lacks k x agree has_key =
+              let other = has_key.key in
+              let same_name : other.0 ≡ key.0 = some_is other.0 key.0 (sym (keeps (utf8 c (get_or members k x).name) other.0 has_key.name) ∙ ap (interned new) (sym agree.name) ∙ name) in
+              let same_descriptor : other.1 ≡ key.1 = some_is other.1 key.1 (sym (keeps (utf8 c (get_or members k x).descriptor) other.1 has_key.descriptor) ∙ ap (interned new) (sym agree.descriptor) ∙ descriptor) in
+              let one : other ≡ key = pair_is other.0 other.1 key.0 key.1 same_name same_descriptor in
+              let t : contains key_cmp seen key ≡ true = ap (contains key_cmp seen) (sym one) ∙ has_key.was_seen in
+              cc
+
+      module _ (after : Keys) (added : (q : ℕ × ℕ) → contains key_cmp after q ≡ cond (is_eq (key_cmp key q)) true (contains key_cmp seen q)) where
+        at_key : contains key_cmp after key ≡ true
+        at_key = added key ∙ ap (λ b. cond b true (contains key_cmp seen key)) (key_is key key ∙ is_same_key key key refl)
+
+        still : (q : ℕ × ℕ) → contains key_cmp seen q ≡ true → contains key_cmp after q ≡ true
+        still q h = added q ∙ ap (λ b. cond (is_eq (key_cmp key q)) true b) h ∙ both (is_eq (key_cmp key q))
+          where
+            both : (b : Bool) → cond b true true ≡ true
+            both true = refl
+            both false = refl
+
+        earlier_than_next : (q : ℕ × ℕ) → contains key_cmp after q ≡ true → IsEarlier c members (i + 1) q
+        earlier_than_next q h = ⊎_elim here before (cases_Bool (is_eq (key_cmp key q)))
+          where
+            here : is_eq (key_cmp key q) ≡ true → IsEarlier c members (i + 1) q
+            here t =
+                let one : key ≡ q = same_key_is key q (sym (key_is key q) ∙ t) in
+                let P : ℕ × ℕ → Type 0 = λ k. IsEarlier c members (i + 1) k in
+                subst P one record {
+                  earlier = i;
+                  before = omega arith;
+                  within = within;
+                  names = λ x. let at : m ≡ get_or members i x = is ∙ get_or_default members i m x within in let Q : Member → Type 0 = λ y. Names c key y in subst Q at names_it;
+                }
+
+            before : is_eq (key_cmp key q) ≡ false → IsEarlier c members (i + 1) q
+            before f = later q (so_far.earlier q (sym (ap (λ b. cond b true (contains key_cmp seen q)) f) ∙ sym (added q) ∙ h))
+
+        pub seen_with : SeenBefore c members repeated new after (i + 1)
+        seen_with = record {
+          earlier = earlier_than_next;
+          keys = λ k x lt inside h. ⊎_elim (λ before. kept k x (so_far.keys k x before inside h)) (λ here. its k x here) (at_next k lt);
+        }
+          where
+            kept : (k : ℕ) (x : Member) → HasKey c table seen (get_or members k x) → HasKey c new after (get_or members k x)
+            kept k x has_key = record {
+              key = has_key.key;
+              name = keeps (utf8 c (get_or members k x).name) has_key.key.0 has_key.name;
+              descriptor = keeps (utf8 c (get_or members k x).descriptor) has_key.key.1 has_key.descriptor;
+              was_seen = still has_key.key has_key.was_seen;
+            }
+
+            its : (k : ℕ) (x : Member) → k ≡ i → HasKey c new after (get_or members k x)
+            its k x here =
+                let one : m ≡ get_or members k x = is ∙ get_or_default members i m x within ∙ ap (λ (j : ℕ). get_or members j x) (sym here) in
+                let P : Member → Type 0 = λ y. HasKey c new after y in
+                subst P one record { key = key; name = name; descriptor = descriptor; was_seen = at_key }

@@ -1,0 +1,25 @@
+-- Numbers that depend on bytes alone: where they differ, the bytes do.
+use Rattle.std.specs.Prelude.{◌≡◌, ℕ, ◌<◌, List, length, bit_xor, slice_index}
+use Rattle.std.specs.List.{Contains}
+use Rattle.std.specs.Int.{w64, rotate_left}
+use Rattle.std.specs.Hash.FoldHasher.{initial, write, finish}
+use Rattle.cm_class.specs.declared.class_file.ClassFile.{ClassFile}
+use Rattle.cm_class.specs.declared.class_file.Member.{Member}
+use Rattle.cm_class.specs.Names.{utf8}
+
+-- what std's hasher makes of them
+unfoldable pub fingerprint : List ℕ → ℕ
+fingerprint bytes = finish (write initial bytes)
+
+-- of a name and a descriptor
+unfoldable pub joined : ℕ → ℕ → ℕ
+joined name descriptor = bit_xor name (rotate_left w64 descriptor 32)
+
+-- of a member
+abbrev pub member_fingerprint : ClassFile → Member → ℕ
+member_fingerprint c m = joined (fingerprint (utf8 c m.name)) (fingerprint (utf8 c m.descriptor))
+
+-- each number that stands at two places is among the repeated ones
+abbrev pub HasRepeated : List ℕ → List ℕ → Type 0
+HasRepeated numbers repeated =
+    (i j : ℕ) → i < j → j < length numbers → slice_index numbers i ≡ slice_index numbers j → Contains repeated (slice_index numbers j)

@@ -1,0 +1,4 @@
+pub mod Duplicates
+pub mod Fingerprints
+pub mod First
+pub mod Interned

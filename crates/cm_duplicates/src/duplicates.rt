@@ -1,0 +1,52 @@
+//! The first member with the name and the descriptor of one before it.
+ghost use Rattle.std.specs.Prelude.{◌≡◌, ◌^◌, ◌<◌, map, length, IfOk};
+ghost use Rattle.std.specs.List.Sorted.{IsNonDecreasing};
+ghost use Rattle.cm_duplicates.specs.Duplicates.{first_duplicate};
+ghost use Rattle.cm_duplicates.specs.Fingerprints.{HasRepeated, member_fingerprint};
+
+use crate::candidates::first_among_repeated;
+use crate::fingerprints::member_fingerprints;
+use crate::pairs::first_by_pairs;
+use crate::repeated::repeated;
+use cm_class::{Class, Member};
+use std::alloc::{AllocError, Global};
+
+/// So many members are compared pair by pair in less time than it takes to find their fingerprints.
+const FEW: usize = 32;
+
+fn first_duplicate(
+    alloc: Global,
+    class: &Class,
+    members: &[Member],
+) -> Result<Option<u16>, AllocError>
+    requires { length members.now < 2 ^ 16 }
+    ensures { IfOk result (λ found. found ≡ first_duplicate class.now members.now) }
+{
+    if members.len() <= FEW {
+        return Ok(first_by_pairs(class, members));
+    }
+    let fingerprints = member_fingerprints(alloc, class, members)?;
+    let repeated = repeated(alloc, &fingerprints)?;
+    if repeated.is_empty() {
+        return Ok(None);
+    }
+    first_among_repeated(alloc, class, members, &fingerprints, &repeated)
+}
+
+/// The first field with the name and the descriptor of one before it (JVMS 4.5); none where no two
+/// fields have both. The time is near-linear in the class, whatever names it has. `Err` where an
+/// allocation failed.
+pub fn first_duplicate_field(alloc: Global, class: &Class) -> Result<Option<u16>, AllocError>
+    ensures { IfOk result (λ found. found ≡ first_duplicate class.now class.now.fields) }
+{
+    let _spelled = class.flags(); // brings the class's invariant into the proof's scope
+    first_duplicate(alloc, class, class.fields())
+}
+
+/// The first method with the name and the descriptor of one before it (JVMS 4.6), in the same way.
+pub fn first_duplicate_method(alloc: Global, class: &Class) -> Result<Option<u16>, AllocError>
+    ensures { IfOk result (λ found. found ≡ first_duplicate class.now class.now.methods) }
+{
+    let _spelled = class.flags(); // brings the class's invariant into the proof's scope
+    first_duplicate(alloc, class, class.methods())
+}

@@ -1,0 +1,70 @@
+//! Members by numbers that depend on their names and descriptors alone.
+ghost use Rattle.std.specs.Prelude.{◌≡◌, ◌+◌, map, length, unwrap_or, slice_get, IfOk};
+ghost use Rattle.std.specs.List.{range_with_len};
+ghost use Rattle.cm_class.specs.Names.{utf8};
+ghost use Rattle.cm_duplicates.specs.Fingerprints.{fingerprint, joined, member_fingerprint};
+
+use cm_class::{Class, Member};
+use std::alloc::{AllocError, Global};
+use std::hash::{FoldHasher, Hasher};
+
+/// A number that depends on the bytes alone. Whoever picks the bytes can make numbers agree.
+#[tactic(auto, unfolding(crate::specs::Fingerprints::fingerprint))]
+fn fingerprint(bytes: &[u8]) -> u64
+    ensures { result ≡ fingerprint bytes.now }
+{
+    let mut hasher = FoldHasher::default();
+    hasher.write(bytes);
+    hasher.finish()
+}
+
+/// Of each index of the pool, from 0 on, so that a Utf8 is walked once however many members name it.
+fn utf8_fingerprints(alloc: Global, class: &Class) -> Result<Vec<u64>, AllocError>
+    ensures { IfOk result (λ v. v.items
+        ≡ map (λ i. fingerprint (utf8 class.now i)) (range_with_len 0 (length class.now.slots + 1))) }
+{
+    let _spelled = class.flags(); // brings the class's invariant into the proof's scope
+    let count = class.slots().len() as u16 + 1;
+    let mut fingerprints = Vec::with_capacity(alloc, usize::from(count))?;
+    for index in 0..count {
+        fingerprints.push(fingerprint(class.utf8(index)))?;
+    }
+    Ok(fingerprints)
+}
+
+/// At an index. Past the pool there are no bytes.
+fn fingerprint_at(class: &Class, fingerprints: &[u64], index: u16) -> u64
+    requires { fingerprints.now
+        ≡ map (λ i. fingerprint (utf8 class.now i)) (range_with_len 0 (length class.now.slots + 1)) }
+    ensures { result ≡ fingerprint (utf8 class.now index) }
+{
+    match fingerprints.get(usize::from(index)) {
+        Some(number) => *number,
+        None => fingerprint(class.utf8(index)),
+    }
+}
+
+#[tactic(auto, unfolding(crate::specs::Fingerprints::joined))]
+fn joined(name: u64, descriptor: u64) -> u64
+    ensures { result ≡ joined name descriptor }
+{
+    name ^ descriptor.rotate_left(32)
+}
+
+/// Of each member, in their order.
+pub(crate) fn member_fingerprints(
+    alloc: Global,
+    class: &Class,
+    members: &[Member],
+) -> Result<Vec<u64>, AllocError>
+    ensures { IfOk result (λ v. v.items ≡ map (member_fingerprint class.now) members.now) }
+{
+    let of_utf8s = utf8_fingerprints(alloc, class)?;
+    let mut fingerprints = Vec::with_capacity(alloc, members.len())?;
+    for member in members {
+        let name = fingerprint_at(class, &of_utf8s, member.name);
+        let descriptor = fingerprint_at(class, &of_utf8s, member.descriptor);
+        fingerprints.push(joined(name, descriptor))?;
+    }
+    Ok(fingerprints)
+}

@@ -1,0 +1,42 @@
+//! Which numbers stand at more than one place.
+ghost use Rattle.std.specs.Prelude.{◌≡◌, ◌↔◌, ℕ, ◌+◌, ◌<◌, IsTrue, IfOk, length, slice_index};
+ghost use Rattle.std.specs.List.{Contains};
+ghost use Rattle.std.specs.List.Sorted.{IsNonDecreasing};
+ghost use Rattle.cm_duplicates.specs.Fingerprints.{HasRepeated};
+
+use std::alloc::{AllocError, Global};
+
+/// The numbers of a sorted list that are the same as the one before them.
+fn repeated_in(alloc: Global, sorted: &[u64]) -> Result<Vec<u64>, AllocError>
+    requires { IsNonDecreasing sorted.now }
+    ensures all { IfOk result
+        (λ r. (k : ℕ) → k + 1 < length sorted.now → slice_index sorted.now k ≡ slice_index sorted.now (k + 1)
+        → Contains r.items (slice_index sorted.now k)) }
+    ensures order { IfOk result (λ r. IsNonDecreasing r.items) }
+{
+    let mut repeated = Vec::new(alloc);
+    for place in 1..sorted.len() {
+        if sorted[place - 1] == sorted[place] {
+            repeated.push(sorted[place])?;
+        }
+    }
+    Ok(repeated)
+}
+
+/// The numbers that stand at more than one place, ascending.
+pub(crate) fn repeated(alloc: Global, numbers: &[u64]) -> Result<Vec<u64>, AllocError>
+    ensures all { IfOk result (λ r. HasRepeated numbers.now r.items) }
+    ensures order { IfOk result (λ r. IsNonDecreasing r.items) }
+{
+    let mut sorted = numbers.to_vec(alloc)?;
+    sorted.sort_unstable();
+    repeated_in(alloc, &sorted)
+}
+
+/// Whether a number is among those that ascend.
+pub(crate) fn is_among(numbers: &[u64], number: u64) -> bool
+    requires { IsNonDecreasing numbers.now }
+    ensures { IsTrue result ↔ Contains numbers.now number }
+{
+    numbers.binary_search(&number).is_ok()
+}
