@@ -7,10 +7,14 @@ use Rattle.cm_class.specs.declared.constant.Slot.TheVariants.{Usable, Unusable}
 use Rattle.cm_class.specs.declared.class_file.Member.{Member}
 use Rattle.cm_class.specs.declared.class_file.ClassFile.{ClassFile}
 use Rattle.cm_rules.specs.declared.rule.Rule.{Rule}
-use Rattle.cm_rules.specs.PoolRules.{text_has_form}
-use Rattle.cm_rules.specs.Fault.{all_rules, in_slot, pool_rule, this_rule, super_rule, interface_rule, field_rule, method_rule, attribute_rule, first_failing, own_spot, item_spot, broken_spot, first_of, fault}
-use Rattle.cm_rules.specs.ClassRules.{names_texts, is_first, field_is_named, field_flags_agree, method_is_named, units_fit, method_flags_agree, code_count_is_right, code_has_form, field_attributes_are_right, method_attributes_are_right}
-use Rattle.cm_rules.specs.Apart.{Differ}
+use Rattle.cm_duplicates.specs.Duplicates.{first_failing}
+use Rattle.cm_constraints.specs.Constants.{in_slot}
+use Rattle.cm_rules.specs.Fault.{all_rules, pool_rule, this_rule, super_rule, interface_rule, field_constraint, field_rule, method_constraint, method_rule, attribute_rule, own_spot, item_spot, broken_spot, first_of, fault}
+use Rattle.cm_duplicates.specs.Duplicates.{is_first, first_duplicate}
+use Rattle.cm_constraints.specs.Constants.{utf8_has_form}
+use Rattle.cm_constraints.specs.Flags.{field_flags_agree}
+use Rattle.cm_constraints.specs.Members.{names_utf8s, field_is_named, method_is_named, units_fit, flags_fit_method, code_count_is_right, code_has_form}
+use Rattle.cm_constraints.specs.Attributes.{field_attributes_are_right, method_attributes_are_right}
 use Rattle.cm_rules.specs.Kept.{later_rules, constant_keeps, this_keeps, super_keeps, interface_keeps, field_keeps, method_keeps, attribute_keeps}
 use Rattle.cm_rules.proofs.Searches.{broken_is}
 
@@ -132,23 +136,23 @@ module _ (c : ClassFile) where
   none_of (rule ∷ others) k = rw (no_spot rule others k) (none_of others (fewer rule others k))
 
   -- of a slot the first rule apart from the others
-  slot_whole : (slot : Slot) → in_slot text_has_form slot ≡ true → in_slot (constant_keeps c) slot ≡ true → list_all (λ rule. in_slot (pool_rule rule c) slot) all_rules ≡ true
+  slot_whole : (slot : Slot) → in_slot utf8_has_form slot ≡ true → in_slot (constant_keeps c) slot ≡ true → list_all (λ rule. in_slot (pool_rule rule c) slot) all_rules ≡ true
   unfolding constant_keeps pool_rule
-  slot_whole (Usable k) t h = both (text_has_form k) (list_all (λ rule. pool_rule rule c k) later_rules) t h
+  slot_whole (Usable k) t h = both (utf8_has_form k) (list_all (λ rule. pool_rule rule c k) later_rules) t h
   slot_whole Unusable t h = refl
 
   field_whole : (i : ℕ) (m : Member) → field_keeps c m ≡ true → is_first c c.fields i m ≡ true → list_all (λ rule. field_rule rule c i m) all_rules ≡ true
-  unfolding field_keeps field_rule
-  field_whole i m k first = four (names_texts c m) (field_is_named c m) (field_flags_agree c m.flags) (field_attributes_are_right c m) (is_first c c.fields i m) k first
+  unfolding field_keeps field_rule field_constraint
+  field_whole i m k first = four (names_utf8s c m) (field_is_named c m) (field_flags_agree c.flags m.flags) (field_attributes_are_right c m) (is_first c c.fields i m) k first
 
   method_whole : (i : ℕ) (m : Member) → method_keeps c m ≡ true → is_first c c.methods i m ≡ true → list_all (λ rule. method_rule rule c i m) all_rules ≡ true
-  unfolding method_keeps method_rule
+  unfolding method_keeps method_rule method_constraint
   method_whole i m k first =
-      seven (names_texts c m) (method_is_named c m) (units_fit c m) (method_flags_agree c m) (code_count_is_right c m) (code_has_form c m) (method_attributes_are_right c m) (is_first c c.methods i m) k first
+      seven (names_utf8s c m) (method_is_named c m) (units_fit c m) (flags_fit_method c m) (code_count_is_right c m) (code_has_form c m) (method_attributes_are_right c m) (is_first c c.methods i m) k first
 
-  pub no_fault : list_all (in_slot text_has_form) c.slots ≡ true → list_all (in_slot (constant_keeps c)) c.slots ≡ true → this_keeps c ≡ true → super_keeps c ≡ true
+  pub no_fault : list_all (in_slot utf8_has_form) c.slots ≡ true → list_all (in_slot (constant_keeps c)) c.slots ≡ true → this_keeps c ≡ true → super_keeps c ≡ true
       → list_all (interface_keeps c) c.interfaces ≡ true → list_all (field_keeps c) c.fields ≡ true → list_all (method_keeps c) c.methods ≡ true
-      → first_failing (attribute_keeps c) 0 c.attributes ≡ None → Differ c c.fields → Differ c c.methods → fault c ≡ None
+      → first_failing (attribute_keeps c) 0 c.attributes ≡ None → first_duplicate c c.fields ≡ None → first_duplicate c c.methods ≡ None → fault c ≡ None
   unfolding fault this_keeps super_keeps interface_keeps attribute_keeps
   no_fault texts slots this super interfaces fields methods attributes fields_differ methods_differ = none_of all_rules (record {
     slots = all_pass (λ slot. list_all (λ rule. in_slot (pool_rule rule c) slot) all_rules) 0 c.slots (wholes c.slots texts slots);
@@ -160,9 +164,9 @@ module _ (c : ClassFile) where
     attributes = attributes;
   })
     where
-      wholes : (among : List Slot) → list_all (in_slot text_has_form) among ≡ true → list_all (in_slot (constant_keeps c)) among ≡ true → list_all (λ slot. list_all (λ rule. in_slot (pool_rule rule c) slot) all_rules) among ≡ true
+      wholes : (among : List Slot) → list_all (in_slot utf8_has_form) among ≡ true → list_all (in_slot (constant_keeps c)) among ≡ true → list_all (λ slot. list_all (λ rule. in_slot (pool_rule rule c) slot) all_rules) among ≡ true
       wholes [] t h = refl
       wholes (slot ∷ among) t h =
           both (list_all (λ rule. in_slot (pool_rule rule c) slot) all_rules) (list_all (λ s. list_all (λ rule. in_slot (pool_rule rule c) s) all_rules) among)
-          (slot_whole slot (left (in_slot text_has_form slot) (list_all (in_slot text_has_form) among) t) (left (in_slot (constant_keeps c) slot) (list_all (in_slot (constant_keeps c)) among) h))
-          (wholes among (right (in_slot text_has_form slot) (list_all (in_slot text_has_form) among) t) (right (in_slot (constant_keeps c) slot) (list_all (in_slot (constant_keeps c)) among) h))
+          (slot_whole slot (left (in_slot utf8_has_form slot) (list_all (in_slot utf8_has_form) among) t) (left (in_slot (constant_keeps c) slot) (list_all (in_slot (constant_keeps c)) among) h))
+          (wholes among (right (in_slot utf8_has_form slot) (list_all (in_slot utf8_has_form) among) t) (right (in_slot (constant_keeps c) slot) (list_all (in_slot (constant_keeps c)) among) h))

@@ -1,11 +1,7 @@
-pub mod Rows
-pub mod Tables
-pub mod TextNumbers
-pub mod FirstPlaces
-pub mod Rowed
 pub mod Searches
 pub mod RulesInOrder
 pub mod OneAnswer
 pub mod FirstFault
 pub mod KeptRules
-pub mod Prints
+pub mod Elsewhere
+pub mod WorkedExamples

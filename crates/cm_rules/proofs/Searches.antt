@@ -10,7 +10,9 @@ use Rattle.cm_class.specs.declared.constant.Slot.TheVariants.{Usable, Unusable}
 use Rattle.cm_rules.specs.declared.rule.Rule.{Rule}
 use Rattle.cm_rules.specs.declared.rule.Spot.{Spot}
 use Rattle.cm_rules.specs.declared.rule.Spot.TheVariants.{Pool, This, Super, Interface, Field, Method, Attribute}
-use Rattle.cm_rules.specs.Fault.{first_failing, at_item, in_slot, holds, pool_rule, this_rule, super_rule, interface_rule, field_rule, method_rule, attribute_rule, or_else, item_spot, own_spot, broken_spot, found_spot}
+use Rattle.cm_duplicates.specs.Duplicates.{first_failing}
+use Rattle.cm_constraints.specs.Constants.{in_slot}
+use Rattle.cm_rules.specs.Fault.{at_item, holds, pool_rule, this_rule, super_rule, interface_rule, field_rule, method_rule, attribute_rule, or_else, item_spot, own_spot, broken_spot, found_spot}
 
 module _ {A : Type 0} (test : ℕ → A → Bool) where
   step : (items : List A) (i : ℕ) (x : A) → i < length items → x ≡ get_or items i x → first_failing test i (drop i items) ≡ cond (test i x) (first_failing test (i + 1) (drop (i + 1) items)) (Some i)

@@ -4,7 +4,6 @@ use Rattle.std.specs.Prelude.{ℕ, ◌+◌, ◌-◌, Bool, true, ◌||◌, not, 
 use Rattle.std.specs.Option.{option_map_or}
 use Rattle.std.specs.List.{range_with_len}
 use Rattle.cm_class.specs.declared.constant.Constant.{Constant}
-use Rattle.cm_class.specs.declared.constant.Slot.{Slot}
 use Rattle.cm_class.specs.declared.class_file.Attribute.{Attribute as AttributeOf}
 use Rattle.cm_class.specs.declared.class_file.Member.{Member}
 use Rattle.cm_class.specs.declared.class_file.ClassFile.{ClassFile}
@@ -14,9 +13,13 @@ use Rattle.cm_rules.specs.declared.rule.Spot.{Spot}
 use Rattle.cm_rules.specs.declared.rule.Spot.TheVariants.{Pool, This, Super, Interface, Field, Method, Attribute}
 use Rattle.cm_rules.specs.declared.rule.Broken.{Broken}
 use Rattle.cm_class.specs.declared.kind.Kind.TheVariants as kinds
-use Rattle.cm_class.specs.Names.{constant_in, names}
-use Rattle.cm_rules.specs.PoolRules.{text_has_form, names_kinds, handle_has_kind, class_has_name, field_reference_is_formed, method_reference_is_formed, dynamic_call_is_formed, method_type_is_formed, handle_has_name}
-use Rattle.cm_rules.specs.ClassRules.{class_flags_agree, this_is_no_array, super_is_right, names_texts, is_first, field_is_named, field_flags_agree, method_is_named, units_fit, method_flags_agree, code_count_is_right, code_has_form, field_attributes_are_right, method_attributes_are_right, class_attribute_is_right, bootstrap_attribute_is_right, dynamic_call_is_bound}
+use Rattle.cm_class.specs.Names.{names}
+use Rattle.cm_duplicates.specs.Duplicates.{is_first, first_failing}
+use Rattle.cm_constraints.specs.Flags.{class_flags_agree, field_flags_agree}
+use Rattle.cm_constraints.specs.Constants.{in_slot, utf8_has_form, names_kinds, handle_has_kind, class_has_name, field_reference_is_formed, method_reference_is_formed, dynamic_call_is_formed, method_type_is_formed, handle_has_name, dynamic_call_is_bound}
+use Rattle.cm_constraints.specs.Itself.{this_is_no_array, super_is_right}
+use Rattle.cm_constraints.specs.Members.{names_utf8s, field_is_named, method_is_named, units_fit, flags_fit_method, code_count_is_right, code_has_form}
+use Rattle.cm_constraints.specs.Attributes.{field_attributes_are_right, method_attributes_are_right, class_attribute_is_right, bootstrap_attribute_is_right}
 
 abbrev pub number : Rule → ℕ
 number rules.TextForm = 1
@@ -52,7 +55,7 @@ all_rules =
 
 -- of a constant
 unfoldable pub pool_rule : Rule → ClassFile → Constant → Bool
-pool_rule rules.TextForm c constant = text_has_form constant
+pool_rule rules.TextForm c constant = utf8_has_form constant
 pool_rule rules.EntryKinds c constant = names_kinds c constant
 pool_rule rules.HandleKind c constant = handle_has_kind c constant
 pool_rule rules.ClassName c constant = class_has_name c constant
@@ -82,26 +85,34 @@ unfoldable pub interface_rule : Rule → ClassFile → ℕ → Bool
 interface_rule rules.EntryKinds c index = names kinds.Class c index
 interface_rule _ c index = true
 
+-- of a field, whatever stands before it
+unfoldable pub field_constraint : Rule → ClassFile → Member → Bool
+field_constraint rules.EntryKinds c m = names_utf8s c m
+field_constraint rules.FieldName c m = field_is_named c m
+field_constraint rules.FieldFlags c m = field_flags_agree c.flags m.flags
+field_constraint rules.MemberAttributes c m = field_attributes_are_right c m
+field_constraint _ c m = true
+
 -- of a field at a place
 unfoldable pub field_rule : Rule → ClassFile → ℕ → Member → Bool
-field_rule rules.EntryKinds c i m = names_texts c m
-field_rule rules.FieldName c i m = field_is_named c m
-field_rule rules.FieldFlags c i m = field_flags_agree c m.flags
 field_rule rules.FieldTwice c i m = is_first c c.fields i m
-field_rule rules.MemberAttributes c i m = field_attributes_are_right c m
-field_rule _ c i m = true
+field_rule rule c i m = field_constraint rule c m
+
+-- of a method, whatever stands before it
+unfoldable pub method_constraint : Rule → ClassFile → Member → Bool
+method_constraint rules.EntryKinds c m = names_utf8s c m
+method_constraint rules.MethodName c m = method_is_named c m
+method_constraint rules.MethodUnits c m = units_fit c m
+method_constraint rules.MethodFlags c m = flags_fit_method c m
+method_constraint rules.CodeCount c m = code_count_is_right c m
+method_constraint rules.CodeForm c m = code_has_form c m
+method_constraint rules.MemberAttributes c m = method_attributes_are_right c m
+method_constraint _ c m = true
 
 -- of a method at a place
 unfoldable pub method_rule : Rule → ClassFile → ℕ → Member → Bool
-method_rule rules.EntryKinds c i m = names_texts c m
-method_rule rules.MethodName c i m = method_is_named c m
-method_rule rules.MethodUnits c i m = units_fit c m
-method_rule rules.MethodFlags c i m = method_flags_agree c m
 method_rule rules.MethodTwice c i m = is_first c c.methods i m
-method_rule rules.CodeCount c i m = code_count_is_right c m
-method_rule rules.CodeForm c i m = code_has_form c m
-method_rule rules.MemberAttributes c i m = method_attributes_are_right c m
-method_rule _ c i m = true
+method_rule rule c i m = method_constraint rule c m
 
 -- of an attribute of the class at a place
 unfoldable pub attribute_rule : Rule → ClassFile → ℕ → AttributeOf → Bool
@@ -113,10 +124,6 @@ attribute_rule _ c i a = true
 -- a test of the item at a place, where there is one
 abbrev pub at_item : {A : Type 0} → List A → ℕ → (A → Bool) → Bool
 at_item items i test = option_map_or test (slice_get items i) true
-
--- a test of what stands in a slot; the second slot of a constant has nothing
-abbrev pub in_slot : (Constant → Bool) → Slot → Bool
-in_slot test slot = option_map_or test (constant_in slot) true
 
 -- whether a class keeps a rule at a spot
 abbrev pub holds : Rule → ClassFile → Spot → Bool
@@ -146,11 +153,6 @@ first_of c (rule ∷ others) = option_map_or (λ spot. Some (record { rule = rul
 -- the first rule that a class breaks, with the first spot
 unfoldable pub fault : ClassFile → Option Broken
 fault c = first_of c all_rules
-
--- the first place from one on whose item fails a test
-unfoldable pub first_failing : {A : Type 0} → (ℕ → A → Bool) → ℕ → List A → Option ℕ
-first_failing test i [] = None
-first_failing test i (x ∷ items) = if test i x then first_failing test (i + 1) items else Some i
 
 -- ---- The same spot, found sort by sort.
 

@@ -7,9 +7,11 @@ use Rattle.cm_class.specs.declared.class_file.Member.{Member}
 use Rattle.cm_class.specs.declared.class_file.ClassFile.{ClassFile}
 use Rattle.cm_rules.specs.declared.rule.Rule.{Rule}
 use Rattle.cm_rules.specs.Fault.{all_rules, pool_rule, this_rule, super_rule, interface_rule, attribute_rule}
-use Rattle.cm_rules.specs.ClassRules.{names_texts, field_is_named, field_flags_agree, method_is_named, units_fit, method_flags_agree, code_count_is_right, code_has_form, field_attributes_are_right, method_attributes_are_right}
+use Rattle.cm_constraints.specs.Flags.{field_flags_agree}
+use Rattle.cm_constraints.specs.Members.{names_utf8s, field_is_named, method_is_named, units_fit, flags_fit_method, code_count_is_right, code_has_form}
+use Rattle.cm_constraints.specs.Attributes.{field_attributes_are_right, method_attributes_are_right}
 
--- all but the first, which speaks of texts alone
+-- all but the first, which speaks of Utf8s alone
 abbrev pub later_rules : List Rule
 later_rules = drop 1 all_rules
 
@@ -27,12 +29,12 @@ interface_keeps c index = list_all (λ rule. interface_rule rule c index) all_ru
 
 -- of a field, but that no other is the same
 unfoldable pub field_keeps : ClassFile → Member → Bool
-field_keeps c m = names_texts c m && (field_is_named c m && (field_flags_agree c m.flags && field_attributes_are_right c m))
+field_keeps c m = names_utf8s c m && (field_is_named c m && (field_flags_agree c.flags m.flags && field_attributes_are_right c m))
 
 -- of a method, but that no other is the same
 unfoldable pub method_keeps : ClassFile → Member → Bool
 method_keeps c m =
-    names_texts c m && (method_is_named c m && (units_fit c m && (method_flags_agree c m
+    names_utf8s c m && (method_is_named c m && (units_fit c m && (flags_fit_method c m
     && (code_count_is_right c m && (code_has_form c m && method_attributes_are_right c m)))))
 
 unfoldable pub attribute_keeps : ClassFile → ℕ → Attribute → Bool

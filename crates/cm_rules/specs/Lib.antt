@@ -1,11 +1,5 @@
-pub mod Flags
-pub mod PoolRules
-pub mod Contents
-pub mod ClassRules
 pub mod Fault
-pub mod Numbers
-pub mod Judged
-pub mod Answer
 pub mod Least
-pub mod Apart
 pub mod Kept
+pub mod Answer
+pub mod Sizes

@@ -1,53 +1,48 @@
 //! Whether a class keeps all rules, found in one pass. Most classes do; of others the first rule that they
 //! break is looked for in order.
-ghost use Rattle.std.specs.Prelude.{◌≡◌, true, None, IfOk};
+ghost use Rattle.std.specs.Prelude.{◌≡◌, true, None};
 ghost use Rattle.std.specs.List.{list_all};
-ghost use Rattle.cm_rules.specs.Fault.{in_slot, first_failing, fault};
-ghost use Rattle.cm_rules.specs.Apart.{Differ};
+ghost use Rattle.cm_duplicates.specs.Duplicates.{first_failing};
+ghost use Rattle.cm_constraints.specs.Constants.{in_slot};
+ghost use Rattle.cm_rules.specs.Fault.{fault};
 ghost use Rattle.cm_rules.specs.Kept.{constant_keeps, this_keeps, super_keeps, interface_keeps, field_keeps, method_keeps, attribute_keeps};
 
-use crate::apart::members_differ;
-use crate::attribute_rules::{
-    bootstrap_attribute_is_right, class_attribute_is_right, code_count_is_right, code_has_form,
-    dynamic_call_is_bound, field_attributes_are_right, method_attributes_are_right,
-};
-use crate::class_rules::{class_flags_agree, super_is_right, this_is_no_array};
-use crate::judge::Judge;
-use crate::member_rules::{
-    field_flags_agree, field_is_named, method_flags_agree, method_is_named, names_texts, units_fit,
-};
-use crate::pool_rules::{
-    class_has_name, dynamic_call_is_formed, field_reference_is_formed, handle_has_kind,
-    handle_has_name, method_reference_is_formed, method_type_is_formed, names_kinds,
-};
+use crate::findings::Findings;
 use cm_class::{Attribute, Class, Constant, Kind, Member, Slot};
-use std::alloc::{AllocError, Global};
+use cm_constraints::{
+    Subject, bootstrap_attribute_is_right, class_attribute_is_right, class_flags_agree,
+    class_has_name, code_count_is_right, code_has_form, dynamic_call_is_bound,
+    dynamic_call_is_formed, field_attributes_are_right, field_flags_agree, field_is_named,
+    field_reference_is_formed, flags_fit_method, handle_has_kind, handle_has_name,
+    method_attributes_are_right, method_is_named, method_reference_is_formed,
+    method_type_is_formed, names_kinds, names_utf8s, super_is_right, this_is_no_array, units_fit,
+};
 
 /// Whether a constant keeps all rules but that on the form of texts.
 #[tactic(auto, unfolding(crate::specs::Kept::constant_keeps, crate::specs::Fault::pool_rule))]
-fn constant_keeps(judge: &Judge, constant: &Constant) -> bool
-    ensures { result ≡ constant_keeps judge.now.class.now constant.now }
+fn constant_keeps(subject: &Subject, constant: &Constant) -> bool
+    ensures { result ≡ constant_keeps subject.now.class.now constant.now }
 {
-    let class = judge.class;
+    let class = subject.class;
     match constant {
-        Constant::Class { .. } => names_kinds(class, constant) && class_has_name(judge, constant),
+        Constant::Class { .. } => names_kinds(class, constant) && class_has_name(subject, constant),
         Constant::String { .. } | Constant::NameAndType { .. } => names_kinds(class, constant),
         Constant::Fieldref { .. } => {
-            names_kinds(class, constant) && field_reference_is_formed(judge, constant)
+            names_kinds(class, constant) && field_reference_is_formed(subject, constant)
         }
         Constant::Methodref { .. } | Constant::InterfaceMethodref { .. } => {
-            names_kinds(class, constant) && method_reference_is_formed(judge, constant)
+            names_kinds(class, constant) && method_reference_is_formed(subject, constant)
         }
         Constant::MethodHandle { .. } => {
             handle_has_kind(class, constant) && handle_has_name(class, constant)
         }
         Constant::MethodType { .. } => {
-            names_kinds(class, constant) && method_type_is_formed(judge, constant)
+            names_kinds(class, constant) && method_type_is_formed(subject, constant)
         }
         Constant::InvokeDynamic { .. } => {
             names_kinds(class, constant)
-                && dynamic_call_is_formed(judge, constant)
-                && dynamic_call_is_bound(judge, constant)
+                && dynamic_call_is_formed(subject, constant)
+                && dynamic_call_is_bound(subject, constant)
         }
         Constant::Utf8(_)
         | Constant::Integer(_)
@@ -57,23 +52,23 @@ fn constant_keeps(judge: &Judge, constant: &Constant) -> bool
     }
 }
 
-fn slot_keeps(judge: &Judge, slot: &Slot) -> bool
-    ensures { result ≡ in_slot (constant_keeps judge.now.class.now) slot.now }
+fn slot_keeps(subject: &Subject, slot: &Slot) -> bool
+    ensures { result ≡ in_slot (constant_keeps subject.now.class.now) slot.now }
 {
     match slot {
-        Slot::Usable(constant) => constant_keeps(judge, constant),
+        Slot::Usable(constant) => constant_keeps(subject, constant),
         Slot::Unusable => true,
     }
 }
 
-fn slots_keep(judge: &Judge) -> bool
-    ensures { result ≡ list_all (in_slot (constant_keeps judge.now.class.now)) judge.now.class.now.slots }
+fn slots_keep(subject: &Subject) -> bool
+    ensures { result ≡ list_all (in_slot (constant_keeps subject.now.class.now)) subject.now.class.now.slots }
 {
-    judge
+    subject
         .class
         .slots()
         .iter()
-        .all(|slot| slot_keeps(judge, slot))
+        .all(|slot| slot_keeps(subject, slot))
 }
 
 #[tactic(auto, unfolding(crate::specs::Kept::this_keeps, crate::specs::Fault::this_rule))]
@@ -111,90 +106,85 @@ fn interfaces_keep(class: &Class) -> bool
 
 /// Whether a field keeps all rules but that no other is the same.
 #[tactic(auto, unfolding(crate::specs::Kept::field_keeps))]
-fn field_keeps(judge: &Judge, field: &Member) -> bool
-    ensures { result ≡ field_keeps judge.now.class.now field.now }
+fn field_keeps(subject: &Subject, field: &Member) -> bool
+    ensures { result ≡ field_keeps subject.now.class.now field.now }
 {
-    let class = judge.class;
-    names_texts(class, field)
-        && field_is_named(judge, field)
-        && field_flags_agree(class, field.flags)
+    let class = subject.class;
+    names_utf8s(class, field)
+        && field_is_named(subject, field)
+        && field_flags_agree(class.flags(), field.flags)
         && field_attributes_are_right(class, field)
 }
 
-fn fields_keep(judge: &Judge) -> bool
-    ensures { result ≡ list_all (field_keeps judge.now.class.now) judge.now.class.now.fields }
+fn fields_keep(subject: &Subject) -> bool
+    ensures { result ≡ list_all (field_keeps subject.now.class.now) subject.now.class.now.fields }
 {
-    judge
+    subject
         .class
         .fields()
         .iter()
-        .all(|field| field_keeps(judge, field))
+        .all(|field| field_keeps(subject, field))
 }
 
 /// Whether a method keeps all rules but that no other is the same.
 #[tactic(auto, unfolding(crate::specs::Kept::method_keeps))]
-fn method_keeps(judge: &Judge, method: &Member) -> bool
-    ensures { result ≡ method_keeps judge.now.class.now method.now }
+fn method_keeps(subject: &Subject, method: &Member) -> bool
+    ensures { result ≡ method_keeps subject.now.class.now method.now }
 {
-    let class = judge.class;
-    names_texts(class, method)
-        && method_is_named(judge, method)
-        && units_fit(judge, method)
-        && method_flags_agree(class, method)
+    let class = subject.class;
+    names_utf8s(class, method)
+        && method_is_named(subject, method)
+        && units_fit(subject, method)
+        && flags_fit_method(class, method)
         && code_count_is_right(class, method)
         && code_has_form(class, method)
         && method_attributes_are_right(class, method)
 }
 
-fn methods_keep(judge: &Judge) -> bool
-    ensures { result ≡ list_all (method_keeps judge.now.class.now) judge.now.class.now.methods }
+fn methods_keep(subject: &Subject) -> bool
+    ensures { result ≡ list_all (method_keeps subject.now.class.now) subject.now.class.now.methods }
 {
-    judge
+    subject
         .class
         .methods()
         .iter()
-        .all(|method| method_keeps(judge, method))
+        .all(|method| method_keeps(subject, method))
 }
 
 #[tactic(auto, unfolding(crate::specs::Kept::attribute_keeps, crate::specs::Fault::attribute_rule))]
-fn attribute_keeps(judge: &Judge, place: usize, attribute: &Attribute) -> bool
-    ensures { result ≡ attribute_keeps judge.now.class.now place attribute.now }
+fn attribute_keeps(class: &Class, place: usize, attribute: &Attribute) -> bool
+    ensures { result ≡ attribute_keeps class.now place attribute.now }
 {
-    judge.class.names(attribute.name, Kind::Utf8)
-        && class_attribute_is_right(judge, place, attribute)
-        && bootstrap_attribute_is_right(judge, place, attribute)
+    class.names(attribute.name, Kind::Utf8)
+        && class_attribute_is_right(class, place, attribute)
+        && bootstrap_attribute_is_right(class, place, attribute)
 }
 
-fn attributes_keep(judge: &Judge) -> bool
-    ensures { result ≡ true → first_failing (attribute_keeps judge.now.class.now) 0 judge.now.class.now.attributes ≡ None }
+fn attributes_keep(class: &Class) -> bool
+    ensures { result ≡ true → first_failing (attribute_keeps class.now) 0 class.now.attributes ≡ None }
 {
-    for (place, item) in judge.class.attributes().iter().enumerate() {
-        if !attribute_keeps(judge, place, item) {
+    for (place, item) in class.attributes().iter().enumerate() {
+        if !attribute_keeps(class, place, item) {
             return false;
         }
     }
     true
 }
 
-/// Whether each part of the class keeps all rules, but for members that are the same.
-#[tactic(auto, using(crate::proofs::KeptRules::no_fault))]
-fn parts_keep(judge: &Judge) -> bool
-    ensures { result ≡ true → Differ judge.now.class.now judge.now.class.now.fields
-        → Differ judge.now.class.now judge.now.class.now.methods → fault judge.now.class.now ≡ None }
-{
-    judge.texts_have_form()
-        && slots_keep(judge)
-        && this_keeps(judge.class)
-        && super_keeps(judge.class)
-        && interfaces_keep(judge.class)
-        && fields_keep(judge)
-        && methods_keep(judge)
-        && attributes_keep(judge)
-}
-
 /// Whether the class is seen to keep all rules.
-pub(crate) fn keeps_rules(alloc: Global, judge: &Judge) -> Result<bool, AllocError>
-    ensures { IfOk result (λ keeps. keeps ≡ true → fault judge.now.class.now ≡ None) }
+#[tactic(auto, using(crate::proofs::KeptRules::no_fault))]
+pub(crate) fn keeps_rules(findings: &Findings) -> bool
+    ensures { result ≡ true → fault findings.now.class.now ≡ None }
 {
-    Ok(parts_keep(judge) && members_differ(alloc, judge.class)?)
+    let subject = &findings.subject;
+    subject.utf8s_have_form()
+        && slots_keep(subject)
+        && this_keeps(subject.class)
+        && super_keeps(subject.class)
+        && interfaces_keep(subject.class)
+        && fields_keep(subject)
+        && methods_keep(subject)
+        && attributes_keep(subject.class)
+        && findings.duplicate_field.is_none()
+        && findings.duplicate_method.is_none()
 }

@@ -2,21 +2,10 @@
 //! whose shape is right.
 #![tactic(auto)]
 
-mod apart;
-mod attribute_rules;
-mod class_rules;
-mod contents;
 mod fault;
-mod firsts;
-mod flags;
-mod judge;
-mod judgement;
+mod findings;
 mod keeps;
 mod laws;
-mod member_rules;
-mod numbers;
-mod places;
-mod pool_rules;
 mod read;
 mod rule;
 mod rules;
@@ -26,6 +15,3 @@ pub use fault::ClassFault;
 pub use laws::fault_is_the_first;
 pub use read::{first_fault, read_class};
 pub use rule::{Broken, Rule, Spot};
-
-#[cfg(test)]
-mod tests;

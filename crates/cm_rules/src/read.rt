@@ -6,7 +6,7 @@ ghost use Rattle.cm_class.specs.Shape.{IsSpelling};
 ghost use Rattle.cm_rules.specs.Answer.{IsRight, IsWrong, IsReading, IsUnlessRefused, class_fault_of};
 
 use crate::fault::ClassFault;
-use crate::judge::Judge;
+use crate::findings::Findings;
 use crate::keeps::keeps_rules;
 use crate::rule::{Broken, Rule};
 use crate::search::broken_spot;
@@ -42,11 +42,11 @@ const RULES: [Rule; 24] = [
 ];
 
 /// The first of the rules that the class breaks, with the first spot.
-fn first_of(judge: &Judge, rules: &[Rule]) -> Option<Broken>
-    ensures { result ≡ first_of judge.now.class.now rules.now }
+fn first_of(findings: &Findings, rules: &[Rule]) -> Option<Broken>
+    ensures { result ≡ first_of findings.now.class.now rules.now }
 {
     for rule in rules {
-        match broken_spot(judge, *rule) {
+        match broken_spot(findings, *rule) {
             Some(spot) => return Some(Broken { rule: *rule, spot }),
             None => {}
         }
@@ -55,18 +55,18 @@ fn first_of(judge: &Judge, rules: &[Rule]) -> Option<Broken>
 }
 
 /// The first rule that a class breaks, with the first spot where it does; `None` where it keeps them
-/// all. Each text is judged once, however many entries and members name it. Only where one pass finds
+/// all. Each Utf8 is judged once, however many
+/// constants and members name it. Only where one pass finds
 /// that the class breaks some rule is the first of them looked for.
 #[tactic(auto, unfolding(crate::specs::Fault::fault))]
 pub fn first_fault(alloc: Global, class: &Class) -> Result<Option<Broken>, AllocError>
     ensures { IfOk result (λ found. found ≡ fault class.now) }
 {
-    let judge = Judge::new(alloc, class)?;
-    if keeps_rules(alloc, &judge)? {
+    let findings = Findings::new(alloc, class)?;
+    if keeps_rules(&findings) {
         return Ok(None);
     }
-    let judge = judge.with_firsts(alloc)?;
-    Ok(first_of(&judge, &RULES))
+    Ok(first_of(&findings, &RULES))
 }
 
 fn class_fault(fault: ShapeFault) -> ClassFault

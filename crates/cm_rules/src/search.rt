@@ -2,64 +2,84 @@
 ghost use Rattle.std.specs.Prelude.{◌≡◌, ◌+◌, ◌<◌, ◌^◌, false, true, IfSome};
 ghost use Rattle.cm_class.specs.declared.class_file.ClassFile.{ClassFile};
 ghost use Rattle.cm_class.specs.declared.constant.Constant.{Constant};
-ghost use Rattle.cm_rules.specs.Fault.{slot_failing, interface_failing, field_failing, method_failing, attribute_failing, item_spot, own_spot, found_spot, broken_spot, fault, pool_rule};
+ghost use Rattle.cm_duplicates.specs.Duplicates.{first_failing};
+ghost use Rattle.cm_rules.specs.Fault.{field_constraint, method_constraint, slot_failing, interface_failing, field_failing, method_failing, attribute_failing, item_spot, own_spot, found_spot, broken_spot, fault, pool_rule};
 
-use crate::judge::Judge;
+use crate::findings::Findings;
 use crate::rule::{Rule, Spot};
 use crate::rules::{
-    attribute_rule, field_rule, interface_rule, method_rule, slot_rule, super_rule, this_rule,
+    attribute_rule, field_constraint, interface_rule, method_constraint, slot_rule, super_rule,
+    this_rule,
 };
 
-fn first_slot(judge: &Judge, rule: Rule) -> Option<u16>
-    ensures place { result ≡ slot_failing judge.now.class.now rule }
+fn first_slot(findings: &Findings, rule: Rule) -> Option<u16>
+    ensures place { result ≡ slot_failing findings.now.class.now rule }
     ensures within { IfSome result (λ place. place + 1 < 2 ^ 16) }
 {
-    for (place, item) in judge.class.slots().iter().enumerate() {
-        if !slot_rule(judge, rule, item) {
+    for (place, item) in findings.class.slots().iter().enumerate() {
+        if !slot_rule(findings, rule, item) {
             return Some(place as u16);
         }
     }
     None
 }
 
-fn first_interface(judge: &Judge, rule: Rule) -> Option<u16>
-    ensures { result ≡ interface_failing judge.now.class.now rule }
+fn first_interface(findings: &Findings, rule: Rule) -> Option<u16>
+    ensures { result ≡ interface_failing findings.now.class.now rule }
 {
-    for (place, item) in judge.class.interfaces().iter().enumerate() {
-        if !interface_rule(judge, rule, *item) {
+    for (place, item) in findings.class.interfaces().iter().enumerate() {
+        if !interface_rule(findings, rule, *item) {
             return Some(place as u16);
         }
     }
     None
 }
 
-fn first_field(judge: &Judge, rule: Rule) -> Option<u16>
-    ensures { result ≡ field_failing judge.now.class.now rule }
+fn first_field_by_itself(findings: &Findings, rule: Rule) -> Option<u16>
+    ensures { result ≡ first_failing (λ _ m. field_constraint rule findings.now.class.now m) 0 findings.now.class.now.fields }
 {
-    for (place, item) in judge.class.fields().iter().enumerate() {
-        if !field_rule(judge, rule, place, item) {
+    for (place, item) in findings.class.fields().iter().enumerate() {
+        if !field_constraint(findings, rule, item) {
             return Some(place as u16);
         }
     }
     None
 }
 
-fn first_method(judge: &Judge, rule: Rule) -> Option<u16>
-    ensures { result ≡ method_failing judge.now.class.now rule }
+fn first_field(findings: &Findings, rule: Rule) -> Option<u16>
+    ensures { result ≡ field_failing findings.now.class.now rule }
 {
-    for (place, item) in judge.class.methods().iter().enumerate() {
-        if !method_rule(judge, rule, place, item) {
+    match rule {
+        Rule::FieldTwice => findings.duplicate_field,
+        _ => first_field_by_itself(findings, rule),
+    }
+}
+
+fn first_method_by_itself(findings: &Findings, rule: Rule) -> Option<u16>
+    ensures { result ≡ first_failing (λ _ m. method_constraint rule findings.now.class.now m) 0 findings.now.class.now.methods }
+{
+    for (place, item) in findings.class.methods().iter().enumerate() {
+        if !method_constraint(findings, rule, item) {
             return Some(place as u16);
         }
     }
     None
 }
 
-fn first_attribute(judge: &Judge, rule: Rule) -> Option<u16>
-    ensures { result ≡ attribute_failing judge.now.class.now rule }
+fn first_method(findings: &Findings, rule: Rule) -> Option<u16>
+    ensures { result ≡ method_failing findings.now.class.now rule }
 {
-    for (place, item) in judge.class.attributes().iter().enumerate() {
-        if !attribute_rule(judge, rule, place, item) {
+    match rule {
+        Rule::MethodTwice => findings.duplicate_method,
+        _ => first_method_by_itself(findings, rule),
+    }
+}
+
+fn first_attribute(findings: &Findings, rule: Rule) -> Option<u16>
+    ensures { result ≡ attribute_failing findings.now.class.now rule }
+{
+    for (place, item) in findings.class.attributes().iter().enumerate() {
+        if !attribute_rule(findings, rule, place, item) {
             return Some(place as u16);
         }
     }
@@ -68,30 +88,30 @@ fn first_attribute(judge: &Judge, rule: Rule) -> Option<u16>
 
 /// The first interface, field, method or attribute where the class breaks the rule.
 #[tactic(auto, unfolding(crate::specs::Fault::item_spot))]
-fn item_spot(judge: &Judge, rule: Rule) -> Option<Spot>
-    ensures { result ≡ item_spot judge.now.class.now rule }
+fn item_spot(findings: &Findings, rule: Rule) -> Option<Spot>
+    ensures { result ≡ item_spot findings.now.class.now rule }
 {
-    if let Some(place) = first_interface(judge, rule) {
+    if let Some(place) = first_interface(findings, rule) {
         return Some(Spot::Interface(place));
     }
-    if let Some(place) = first_field(judge, rule) {
+    if let Some(place) = first_field(findings, rule) {
         return Some(Spot::Field(place));
     }
-    if let Some(place) = first_method(judge, rule) {
+    if let Some(place) = first_method(findings, rule) {
         return Some(Spot::Method(place));
     }
-    let place = first_attribute(judge, rule)?;
+    let place = first_attribute(findings, rule)?;
     Some(Spot::Attribute(place))
 }
 
 #[tactic(auto, unfolding(crate::specs::Fault::own_spot))]
-fn own_spot(judge: &Judge, rule: Rule) -> Option<Spot>
-    ensures { result ≡ own_spot judge.now.class.now rule }
+fn own_spot(findings: &Findings, rule: Rule) -> Option<Spot>
+    ensures { result ≡ own_spot findings.now.class.now rule }
 {
-    if !this_rule(judge, rule) {
+    if !this_rule(findings, rule) {
         return Some(Spot::This);
     }
-    if !super_rule(judge, rule) {
+    if !super_rule(findings, rule) {
         return Some(Spot::Super);
     }
     None
@@ -118,32 +138,32 @@ fn speaks_of_pool(rule: Rule) -> bool
 }
 
 /// The place of the first constant that breaks the rule. Pools are long, so most rules look at none.
-fn pool_place(judge: &Judge, rule: Rule) -> Option<u16>
-    ensures place { result ≡ slot_failing judge.now.class.now rule }
+fn pool_place(findings: &Findings, rule: Rule) -> Option<u16>
+    ensures place { result ≡ slot_failing findings.now.class.now rule }
     ensures within { IfSome result (λ place. place + 1 < 2 ^ 16) }
 {
     if speaks_of_pool(rule) {
-        first_slot(judge, rule)
+        first_slot(findings, rule)
     } else {
         None
     }
 }
 
-fn found_spot(judge: &Judge, rule: Rule) -> Option<Spot>
-    ensures { result ≡ found_spot judge.now.class.now rule }
+fn found_spot(findings: &Findings, rule: Rule) -> Option<Spot>
+    ensures { result ≡ found_spot findings.now.class.now rule }
 {
-    if let Some(place) = pool_place(judge, rule) {
+    if let Some(place) = pool_place(findings, rule) {
         return Some(Spot::Pool(place + 1));
     }
-    if let Some(spot) = own_spot(judge, rule) {
+    if let Some(spot) = own_spot(findings, rule) {
         return Some(spot);
     }
-    item_spot(judge, rule)
+    item_spot(findings, rule)
 }
 
 /// The first spot where the class breaks the rule.
-pub(crate) fn broken_spot(judge: &Judge, rule: Rule) -> Option<Spot>
-    ensures { result ≡ broken_spot judge.now.class.now rule }
+pub(crate) fn broken_spot(findings: &Findings, rule: Rule) -> Option<Spot>
+    ensures { result ≡ broken_spot findings.now.class.now rule }
 {
-    found_spot(judge, rule)
+    found_spot(findings, rule)
 }

@@ -1,0 +1,4 @@
+pub mod Counted
+pub mod PartsInOrder
+pub mod Exact
+pub mod ExactContents

@@ -1,0 +1,15 @@
+//! The attributes of class files that are looked into, and which bytes are their contents (JVMS SE 8, 4.7).
+#![tactic(auto)]
+
+mod bootstrap;
+mod code;
+mod contents;
+mod known;
+mod laws;
+mod numbers;
+mod part;
+
+pub use bootstrap::bootstrap_count;
+pub use contents::{is_content, is_value_of};
+pub use known::{Known, count, first_place, is_known};
+pub use laws::content_is_its_parts;

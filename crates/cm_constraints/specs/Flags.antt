@@ -1,0 +1,119 @@
+-- The access flags, and which of them agree (JVMS SE 8, tables 4.1-A, 4.5-A and 4.6-A).
+use Rattle.std.specs.Prelude.{ℕ, ◌+◌, Bool, not, ◌&&◌, ◌||◌, ◌==◌, nat_le, bit_and, if◌then◌else◌}
+
+abbrev pub acc_public : ℕ
+acc_public = 0x0001
+
+abbrev pub acc_private : ℕ
+acc_private = 0x0002
+
+abbrev pub acc_protected : ℕ
+acc_protected = 0x0004
+
+abbrev pub acc_static : ℕ
+acc_static = 0x0008
+
+abbrev pub acc_final : ℕ
+acc_final = 0x0010
+
+-- of a class
+abbrev pub acc_super : ℕ
+acc_super = 0x0020
+
+-- of a method
+abbrev pub acc_synchronized : ℕ
+acc_synchronized = 0x0020
+
+-- of a field
+abbrev pub acc_volatile : ℕ
+acc_volatile = 0x0040
+
+-- of a method
+abbrev pub acc_bridge : ℕ
+acc_bridge = 0x0040
+
+-- of a field
+abbrev pub acc_transient : ℕ
+acc_transient = 0x0080
+
+abbrev pub acc_native : ℕ
+acc_native = 0x0100
+
+abbrev pub acc_interface : ℕ
+acc_interface = 0x0200
+
+abbrev pub acc_abstract : ℕ
+acc_abstract = 0x0400
+
+abbrev pub acc_strict : ℕ
+acc_strict = 0x0800
+
+abbrev pub acc_annotation : ℕ
+acc_annotation = 0x2000
+
+abbrev pub acc_enum : ℕ
+acc_enum = 0x4000
+
+-- a flag is set, or of several, which are added up, at least one
+abbrev pub has : ℕ → ℕ → Bool
+has some flags = not (bit_and flags some == 0)
+
+-- both, or the first doesn't hold
+abbrev pub implies : Bool → Bool → Bool
+implies a b = not a || b
+
+abbrev pub one_if : Bool → ℕ
+one_if b = if b then 1 else 0
+
+-- how many of public, private and protected
+abbrev pub visibilities : ℕ → ℕ
+visibilities flags = one_if (has acc_public flags) + one_if (has acc_private flags) + one_if (has acc_protected flags)
+
+-- ---- of a class (JVMS 4.1)
+
+abbrev pub not_of_interface : ℕ
+not_of_interface = acc_final + acc_super + acc_enum
+
+unfoldable pub class_flags_agree : ℕ → Bool
+class_flags_agree flags =
+    if has acc_interface flags
+    then has acc_abstract flags && not (has not_of_interface flags)
+    else not (has acc_annotation flags) && not (has acc_final flags && has acc_abstract flags)
+
+-- ---- of a field (JVMS 4.5)
+
+abbrev pub not_of_interface_field : ℕ
+not_of_interface_field = acc_private + acc_protected + acc_volatile + acc_transient + acc_enum
+
+unfoldable pub interface_field_agrees : ℕ → Bool
+interface_field_agrees flags =
+    has acc_public flags && has acc_static flags && has acc_final flags && not (has not_of_interface_field flags)
+
+-- in a class of these flags
+unfoldable pub field_flags_agree : ℕ → ℕ → Bool
+field_flags_agree of_class flags =
+    nat_le (visibilities flags) 1 && not (has acc_final flags && has acc_volatile flags)
+    && implies (has acc_interface of_class) (interface_field_agrees flags)
+
+-- ---- of a method (JVMS 4.6)
+
+abbrev pub not_with_abstract : ℕ
+not_with_abstract = acc_private + acc_static + acc_final + acc_synchronized + acc_native + acc_strict
+
+abbrev pub not_of_interface_method : ℕ
+not_of_interface_method = acc_protected + acc_final + acc_synchronized + acc_native
+
+abbrev pub not_of_constructor : ℕ
+not_of_constructor = acc_static + acc_final + acc_synchronized + acc_bridge + acc_native + acc_abstract
+
+unfoldable pub interface_method_agrees : ℕ → Bool
+interface_method_agrees flags =
+    one_if (has acc_public flags) + one_if (has acc_private flags) == 1 && not (has not_of_interface_method flags)
+
+-- in a class of these flags, of a constructor or of another method
+unfoldable pub method_flags_agree : ℕ → Bool → ℕ → Bool
+method_flags_agree of_class is_constructor flags =
+    nat_le (visibilities flags) 1
+    && implies (has acc_abstract flags) (not (has not_with_abstract flags))
+    && implies (has acc_interface of_class) (interface_method_agrees flags)
+    && implies is_constructor (not (has not_of_constructor flags))

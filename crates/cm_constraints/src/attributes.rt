@@ -1,0 +1,124 @@
+//! What is asked of the attributes of fields, methods and the class.
+ghost use Rattle.std.specs.Prelude.{◌≡◌};
+ghost use Rattle.std.specs.List.{list_all};
+ghost use Rattle.cm_constraints.specs.Attributes.{has_content_of, are_values_of, values_agree, field_attributes_are_right, method_attributes_are_right, is_first_of, class_attribute_is_right, bootstrap_attribute_is_right};
+
+use crate::flags::{ACC_STATIC, has};
+use cm_attributes::{Known, count, first_place, is_content, is_known, is_value_of};
+use cm_class::{Attribute, Class, Member};
+
+const OF_FIELD: [Known; 4] = [
+    Known::ConstantValue,
+    Known::Signature,
+    Known::Synthetic,
+    Known::Deprecated,
+];
+
+const OF_METHOD: [Known; 4] = [
+    Known::Exceptions,
+    Known::Signature,
+    Known::Synthetic,
+    Known::Deprecated,
+];
+
+const ONCE_IN_CLASS: [Known; 3] = [
+    Known::SourceFile,
+    Known::EnclosingMethod,
+    Known::InnerClasses,
+];
+
+const OF_CLASS: [Known; 6] = [
+    Known::SourceFile,
+    Known::EnclosingMethod,
+    Known::InnerClasses,
+    Known::Signature,
+    Known::Synthetic,
+    Known::Deprecated,
+];
+
+/// Whether an attribute that is one of these by its name has that one's content.
+fn has_content_of(class: &Class, among: &[Known], attribute: &Attribute) -> bool
+    ensures { result ≡ has_content_of class.now among.now attribute.now }
+{
+    among.iter().all(|known| {
+        !is_known(class, *known, attribute) || is_content(class, *known, attribute.bytes.as_slice())
+    })
+}
+
+fn have_content_of(class: &Class, among: &[Known], attributes: &[Attribute]) -> bool
+    ensures { result ≡ list_all (has_content_of class.now among.now) attributes.now }
+{
+    attributes
+        .iter()
+        .all(|attribute| has_content_of(class, among, attribute))
+}
+
+/// Whether each ConstantValue among the attributes is a value of this descriptor's type.
+fn are_values_of(class: &Class, descriptor: &[u8], attributes: &[Attribute]) -> bool
+    ensures { result ≡ are_values_of class.now descriptor.now attributes.now }
+{
+    attributes
+        .iter()
+        .filter(|attribute| is_known(class, Known::ConstantValue, attribute))
+        .all(|attribute| is_value_of(class, descriptor, attribute.bytes.as_slice()))
+}
+
+/// Whether the value of a static field is one of its type (JVMS 4.7.2).
+fn values_agree(class: &Class, field: &Member) -> bool
+    ensures { result ≡ values_agree class.now field.now }
+{
+    !has(ACC_STATIC, field.flags)
+        || are_values_of(
+            class,
+            class.utf8(field.descriptor),
+            field.attributes.as_slice(),
+        )
+}
+
+/// Whether a field's attributes have their contents, with at most one ConstantValue, which is of the
+/// field's type where the field is static (JVMS 4.7.2, 4.7.8, 4.7.9, 4.7.15).
+pub fn field_attributes_are_right(class: &Class, field: &Member) -> bool
+    ensures { result ≡ field_attributes_are_right class.now field.now }
+{
+    let attributes = field.attributes.as_slice();
+    count(class, Known::ConstantValue, attributes) <= 1
+        && have_content_of(class, &OF_FIELD, attributes)
+        && values_agree(class, field)
+}
+
+/// Whether a method's attributes but its code have their contents, with at most one Exceptions (JVMS
+/// 4.7.5, 4.7.8, 4.7.9, 4.7.15).
+pub fn method_attributes_are_right(class: &Class, method: &Member) -> bool
+    ensures { result ≡ method_attributes_are_right class.now method.now }
+{
+    let attributes = method.attributes.as_slice();
+    count(class, Known::Exceptions, attributes) <= 1
+        && have_content_of(class, &OF_METHOD, attributes)
+}
+
+/// Whether an attribute of the class at a place is none of these, or the first of its name. The places
+/// are looked through for an attribute of such a name alone, of which a second one ends the search.
+fn is_first_of(class: &Class, among: &[Known], place: usize, attribute: &Attribute) -> bool
+    ensures { result ≡ is_first_of class.now among.now place attribute.now }
+{
+    among.iter().all(|known| !is_known(class, *known, attribute)
+        || place <= first_place(class, *known))
+}
+
+/// Whether an attribute of the class at a place has its content, and no attribute of its name before it
+/// where a class has at most one (JVMS 4.7.6 to 4.7.10, 4.7.15).
+pub fn class_attribute_is_right(class: &Class, place: usize, attribute: &Attribute) -> bool
+    ensures { result ≡ class_attribute_is_right class.now place attribute.now }
+{
+    is_first_of(class, &ONCE_IN_CLASS, place, attribute)
+        && has_content_of(class, &OF_CLASS, attribute)
+}
+
+/// Whether an attribute of the class at a place isn't BootstrapMethods, or the first one and has the
+/// content of one (JVMS 4.7.23).
+pub fn bootstrap_attribute_is_right(class: &Class, place: usize, attribute: &Attribute) -> bool
+    ensures { result ≡ bootstrap_attribute_is_right class.now place attribute.now }
+{
+    is_first_of(class, &[Known::BootstrapMethods], place, attribute)
+        && has_content_of(class, &[Known::BootstrapMethods], attribute)
+}

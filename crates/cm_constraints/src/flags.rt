@@ -1,0 +1,132 @@
+//! The access flags, and which of them agree (JVMS 4.1, 4.5 and 4.6).
+ghost use Rattle.std.specs.Prelude.{◌≡◌};
+ghost use Rattle.cm_constraints.specs.Flags.{has, one_if, visibilities, class_flags_agree, interface_field_agrees, field_flags_agree, interface_method_agrees, method_flags_agree};
+
+const ACC_PUBLIC: u16 = 0x0001;
+
+const ACC_PRIVATE: u16 = 0x0002;
+
+const ACC_PROTECTED: u16 = 0x0004;
+
+pub(crate) const ACC_STATIC: u16 = 0x0008;
+
+const ACC_FINAL: u16 = 0x0010;
+/// Of a class.
+const ACC_SUPER: u16 = 0x0020;
+/// Of a method.
+const ACC_SYNCHRONIZED: u16 = 0x0020;
+/// Of a field.
+const ACC_VOLATILE: u16 = 0x0040;
+/// Of a method.
+const ACC_BRIDGE: u16 = 0x0040;
+/// Of a field.
+const ACC_TRANSIENT: u16 = 0x0080;
+
+pub(crate) const ACC_NATIVE: u16 = 0x0100;
+
+pub(crate) const ACC_INTERFACE: u16 = 0x0200;
+
+pub(crate) const ACC_ABSTRACT: u16 = 0x0400;
+
+const ACC_STRICT: u16 = 0x0800;
+
+const ACC_ANNOTATION: u16 = 0x2000;
+
+const ACC_ENUM: u16 = 0x4000;
+
+const NOT_OF_INTERFACE: u16 = ACC_FINAL | ACC_SUPER | ACC_ENUM;
+
+const NOT_OF_INTERFACE_FIELD: u16 = ACC_PRIVATE
+    | ACC_PROTECTED
+    | ACC_VOLATILE
+    | ACC_TRANSIENT
+    | ACC_ENUM;
+
+const NOT_WITH_ABSTRACT: u16 = ACC_PRIVATE
+    | ACC_STATIC
+    | ACC_FINAL
+    | ACC_SYNCHRONIZED
+    | ACC_NATIVE
+    | ACC_STRICT;
+
+const NOT_OF_INTERFACE_METHOD: u16 = ACC_PROTECTED | ACC_FINAL | ACC_SYNCHRONIZED | ACC_NATIVE;
+
+const NOT_OF_CONSTRUCTOR: u16 = ACC_STATIC
+    | ACC_FINAL
+    | ACC_SYNCHRONIZED
+    | ACC_BRIDGE
+    | ACC_NATIVE
+    | ACC_ABSTRACT;
+
+/// Whether a flag is set, or one of several.
+pub(crate) fn has(some: u16, flags: u16) -> bool
+    ensures { result ≡ has some flags }
+{
+    flags & some != 0
+}
+
+fn one_if(holds: bool) -> u8
+    ensures { result ≡ one_if holds }
+{
+    if holds { 1 } else { 0 }
+}
+
+/// How many of public, private and protected.
+fn visibilities(flags: u16) -> u8
+    ensures { result ≡ visibilities flags }
+{
+    one_if(has(ACC_PUBLIC, flags))
+        + one_if(has(ACC_PRIVATE, flags))
+        + one_if(has(ACC_PROTECTED, flags))
+}
+
+/// Whether the flags of a class agree (JVMS 4.1).
+#[tactic(auto, unfolding(crate::specs::Flags::class_flags_agree))]
+pub fn class_flags_agree(flags: u16) -> bool
+    ensures { result ≡ class_flags_agree flags }
+{
+    if has(ACC_INTERFACE, flags) {
+        has(ACC_ABSTRACT, flags) && !has(NOT_OF_INTERFACE, flags)
+    } else {
+        !has(ACC_ANNOTATION, flags) && !(has(ACC_FINAL, flags) && has(ACC_ABSTRACT, flags))
+    }
+}
+
+#[tactic(auto, unfolding(crate::specs::Flags::interface_field_agrees))]
+fn interface_field_agrees(flags: u16) -> bool
+    ensures { result ≡ interface_field_agrees flags }
+{
+    has(ACC_PUBLIC, flags)
+        && has(ACC_STATIC, flags)
+        && has(ACC_FINAL, flags)
+        && !has(NOT_OF_INTERFACE_FIELD, flags)
+}
+
+/// Whether a field's flags agree, in a class of these flags (JVMS 4.5).
+#[tactic(auto, unfolding(crate::specs::Flags::field_flags_agree))]
+pub fn field_flags_agree(of_class: u16, flags: u16) -> bool
+    ensures { result ≡ field_flags_agree of_class flags }
+{
+    visibilities(flags) <= 1
+        && !(has(ACC_FINAL, flags) && has(ACC_VOLATILE, flags))
+        && (!has(ACC_INTERFACE, of_class) || interface_field_agrees(flags))
+}
+
+#[tactic(auto, unfolding(crate::specs::Flags::interface_method_agrees))]
+fn interface_method_agrees(flags: u16) -> bool
+    ensures { result ≡ interface_method_agrees flags }
+{
+    one_if(has(ACC_PUBLIC, flags)) + one_if(has(ACC_PRIVATE, flags)) == 1
+        && !has(NOT_OF_INTERFACE_METHOD, flags)
+}
+
+/// Whether the flags agree of a constructor or of another method, in a class of these flags (JVMS 4.6).
+#[tactic(auto, unfolding(crate::specs::Flags::method_flags_agree))]
+pub(crate) fn method_flags_agree(of_class: u16, is_constructor: bool, flags: u16) -> bool
+    ensures { result ≡ method_flags_agree of_class is_constructor flags }
+{
+    visibilities(flags) <= 1
+        && (!has(ACC_ABSTRACT, flags) || !has(NOT_WITH_ABSTRACT, flags))
+        && (!has(ACC_INTERFACE, of_class) || interface_method_agrees(flags))
+        && (!is_constructor || !has(NOT_OF_CONSTRUCTOR, flags))
+}
