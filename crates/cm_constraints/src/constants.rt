@@ -29,9 +29,9 @@ pub fn names_kinds(class: &Class, constant: &Constant) -> bool
     ensures { result ≡ names_kinds class.now constant.now }
 {
     match constant {
-        Constant::Class { name: text }
-        | Constant::String { text }
-        | Constant::MethodType { descriptor: text } => class.names(*text, Kind::Utf8),
+        Constant::Class { name: utf8 }
+        | Constant::String { text: utf8 }
+        | Constant::MethodType { descriptor: utf8 } => class.names(*utf8, Kind::Utf8),
         Constant::Fieldref {
             class: of,
             name_and_type,

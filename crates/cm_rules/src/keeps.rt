@@ -18,7 +18,7 @@ use cm_constraints::{
     method_type_is_formed, names_kinds, names_utf8s, super_is_right, this_is_no_array, units_fit,
 };
 
-/// Whether a constant keeps all rules but that on the form of texts.
+/// Whether a constant keeps all rules but that on the form of Utf8s.
 #[tactic(auto, unfolding(crate::specs::Kept::constant_keeps, crate::specs::Fault::pool_rule))]
 fn constant_keeps(subject: &Subject, constant: &Constant) -> bool
     ensures { result ≡ constant_keeps subject.now.class.now constant.now }

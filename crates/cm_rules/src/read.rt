@@ -55,8 +55,7 @@ fn first_of(findings: &Findings, rules: &[Rule]) -> Option<Broken>
 }
 
 /// The first rule that a class breaks, with the first spot where it does; `None` where it keeps them
-/// all. Each Utf8 is judged once, however many
-/// constants and members name it. Only where one pass finds
+/// all. Each Utf8 is judged once, however many constants and members name it. Only where one pass finds
 /// that the class breaks some rule is the first of them looked for.
 #[tactic(auto, unfolding(crate::specs::Fault::fault))]
 pub fn first_fault(alloc: Global, class: &Class) -> Result<Option<Broken>, AllocError>
@@ -80,7 +79,7 @@ fn class_fault(fault: ShapeFault) -> ClassFault
     }
 }
 
-fn judged(alloc: Global, bytes: &[u8]) -> Result<Class, ClassFault>
+fn read_and_judge(alloc: Global, bytes: &[u8]) -> Result<Class, ClassFault>
     ensures { IsUnlessRefused bytes.now result }
 {
     match read_shape(alloc, bytes) {
@@ -106,5 +105,5 @@ pub fn read_class(alloc: Global, bytes: &[u8]) -> Result<Class, ClassFault>
     ensures only { (answer : Result ClassFile ClassFault) → IsReading bytes.now answer
         → (result ≡ answer) ⊎ ((result ≡ Err ClassFault.NoMemory) × IsSpelling bytes.now) }
 {
-    judged(alloc, bytes)
+    read_and_judge(alloc, bytes)
 }

@@ -3,13 +3,13 @@ ghost use Rattle.std.specs.Prelude.{◌≡◌};
 /// The rules, in the order in which they are judged. A rule is read only where all before it hold.
 #[derive(Clone, Copy, Debug, PartialEq, Eq)]
 pub enum Rule {
-    /// Each text has the form of JVMS 4.4.7.
+    /// Each Utf8 has its form (JVMS 4.4.7).
     TextForm,
-    /// Each index names an entry of the kind that it has to name (JVMS 4.4, 4.1, 4.5, 4.6, 4.7).
+    /// Each index names a constant of the kind that it has to name (JVMS 4.4, 4.1, 4.5, 4.6, 4.7).
     EntryKinds,
     /// A method handle's kind is 1 to 9, and names a reference of its sort (JVMS 4.4.8).
     HandleKind,
-    /// A class entry holds a class name or an array descriptor (JVMS 4.4.1).
+    /// A Class holds a class name or an array descriptor (JVMS 4.4.1).
     ClassName,
     /// A field reference has a field's name and descriptor (JVMS 4.4.2).
     FieldReference,
