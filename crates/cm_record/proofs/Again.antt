@@ -12,10 +12,10 @@ use Rattle.cm_class.specs.declared.class_file.Member.{Member}
 use Rattle.cm_class.specs.Spelling.{is_wide, IsU2, ConstantFits, SlotsFit, AttributeFits, MemberFits}
 use Rattle.cm_record.specs.declared.entry.Entry.{Entry}
 use Rattle.cm_record.specs.declared.entry.Entry.TheVariants as entry
-use Rattle.cm_record.specs.Packing.{joined}
-use Rattle.cm_record.specs.Layout.{constant_words, constant_run, directory, text_runs, members, member_attributes, attributes, attribute_run, attribute_runs}
+use Rattle.cm_record.specs.Packing.{four_numbers}
+use Rattle.cm_record.specs.Layout.{constant_words, constant_run, directory, utf8_runs, members, member_attributes, attributes, attribute_run, attribute_runs}
 use Rattle.cm_record.specs.Reading.{candidate, entry_word, entry_of, whole_word, constant_at, slots_at, run_at, interfaces_from, attribute_at, attributes_from, member_at, members_from, first_of, second_of, third_of, fourth_of, upper_of}
-use Rattle.cm_record.proofs.Digits.{first-attribute, upper-attribute, long_back, double_back, text_back, integer_back, float_back, class_back, string_back, method_type_back, fieldref_back, methodref_back, interface_methodref_back, name_and_type_back, invoke_dynamic_back, method_handle_back, first-joined, second-joined, third-joined, fourth-joined}
+use Rattle.cm_record.proofs.Digits.{first-attribute, upper-attribute, long_back, double_back, utf8_back, integer_back, float_back, class_back, string_back, method_type_back, fieldref_back, methodref_back, interface_methodref_back, name_and_type_back, invoke_dynamic_back, method_handle_back, first-four_numbers, second-four_numbers, third-four_numbers, fourth-four_numbers}
 use Rattle.cm_record.proofs.Runs.{run_again}
 use Rattle.cm_record.proofs.Lengths.{attributes_append, attribute_runs_append, attributes_len}
 
@@ -37,7 +37,7 @@ pub constant_again : (total at : ℕ) (c : Constant) (main runs : List ℕ) → 
     → constant_at total (constant_words at c ++ main) (constant_run c ++ runs) ≡ Some (c, main, runs)
 unfolding constant_at
 constant_again total at (constant.Utf8 bytes) main runs fits e =
-    let found = entry_found at (1 + 2 ^ 16 * length bytes + 2 ^ 32 * at) (entry.Text (length bytes)) (text_back (length bytes) at fits.0) refl in
+    let found = entry_found at (1 + 2 ^ 16 * length bytes + 2 ^ 32 * at) (entry.Utf8 (length bytes)) (utf8_back (length bytes) at fits.0) refl in
     rw (← e, found, run_again bytes runs fits.1) refl
 constant_again total at (constant.Integer bits) main runs fits e = whole_again total (3 + 2 ^ 32 * bits) (constant.Integer bits) main runs (integer_back bits fits) refl
 constant_again total at (constant.Float bits) main runs fits e = whole_again total (4 + 2 ^ 32 * bits) (constant.Float bits) main runs (float_back bits fits) refl
@@ -57,8 +57,8 @@ constant_again total at (constant.MethodHandle a b) main runs fits e = whole_aga
 constant_again total at (constant.MethodType descriptor) main runs fits e = whole_again total (16 + 2 ^ 32 * descriptor) (constant.MethodType descriptor) main runs (method_type_back descriptor fits) refl
 constant_again total at (constant.InvokeDynamic a b) main runs fits e = whole_again total (18 + 2 ^ 32 * a + 2 ^ 48 * b) (constant.InvokeDynamic a b) main runs (invoke_dynamic_back a b fits.0 fits.1) refl
 
-pub slots_again : (total at : ℕ) (second : Bool) (slots : List Slot) (main runs : List ℕ) → SlotsFit second slots → at + length (text_runs slots ++ runs) ≡ total
-    → slots_at total second (length slots) (directory at slots ++ main) (text_runs slots ++ runs) ≡ Some (slots, main, runs)
+pub slots_again : (total at : ℕ) (second : Bool) (slots : List Slot) (main runs : List ℕ) → SlotsFit second slots → at + length (utf8_runs slots ++ runs) ≡ total
+    → slots_at total second (length slots) (directory at slots ++ main) (utf8_runs slots ++ runs) ≡ Some (slots, main, runs)
 unfolding slots_at
 slots_again total at true [] main runs fits e = absurd fits
 slots_again total at true (Unusable ∷ slots) main runs fits e = rw (slots_again total at false slots main runs fits e) refl
@@ -68,10 +68,10 @@ slots_again total at false (Unusable ∷ slots) main runs fits e = absurd fits
 slots_again total at false (Usable c ∷ slots) main runs fits e =
     let next = at + length (constant_run c) in
     let front : constant_words at c ++ directory next slots ++ main ≡ constant_words at c ++ (directory next slots ++ main) = append_assoc (constant_words at c) (directory next slots) main in
-    let back : constant_run c ++ text_runs slots ++ runs ≡ constant_run c ++ (text_runs slots ++ runs) = append_assoc (constant_run c) (text_runs slots) runs in
-    let size = ap length back ∙ length-append (constant_run c) (text_runs slots ++ runs) in
-    let here : at ≡ total - length (constant_run c ++ (text_runs slots ++ runs)) = omega (arith, e, size, length-append (constant_run c) (text_runs slots ++ runs)) in
-    let one = constant_again total at c (directory next slots ++ main) (text_runs slots ++ runs) fits.0 here in
+    let back : constant_run c ++ utf8_runs slots ++ runs ≡ constant_run c ++ (utf8_runs slots ++ runs) = append_assoc (constant_run c) (utf8_runs slots) runs in
+    let size = ap length back ∙ length-append (constant_run c) (utf8_runs slots ++ runs) in
+    let here : at ≡ total - length (constant_run c ++ (utf8_runs slots ++ runs)) = omega (arith, e, size, length-append (constant_run c) (utf8_runs slots ++ runs)) in
+    let one = constant_again total at c (directory next slots ++ main) (utf8_runs slots ++ runs) fits.0 here in
     let others = slots_again total next (is_wide c) slots main runs fits.1 (omega (arith, e, size)) in
     rw (front, back, one, others) refl
 
@@ -109,15 +109,15 @@ attributes_again total at (a ∷ these) attrs runs fits e =
 
 pub member_again : (total at run_at : ℕ) (m : Member) (main attrs runs : List ℕ) → MemberFits m → at ≡ total - length (attributes run_at m.attributes ++ attrs)
     → run_at + length (attribute_runs m.attributes ++ runs) ≡ total
-    → member_at total (joined m.flags m.name m.descriptor (length m.attributes) ∷ at ∷ main) (attributes run_at m.attributes ++ attrs) (attribute_runs m.attributes ++ runs) ≡ Some (m, main, attrs, runs)
+    → member_at total (four_numbers m.flags m.name m.descriptor (length m.attributes) ∷ at ∷ main) (attributes run_at m.attributes ++ attrs) (attribute_runs m.attributes ++ runs) ≡ Some (m, main, attrs, runs)
 unfolding member_at
 member_again total at run_at m main attrs runs fits e er =
     let count = length m.attributes in
-    let word = joined m.flags m.name m.descriptor count in
-    let flags : first_of word ≡ m.flags = first-joined m.flags m.name m.descriptor count fits.flags fits.name fits.descriptor fits.attributes.0 in
-    let name : second_of word ≡ m.name = second-joined m.flags m.name m.descriptor count fits.flags fits.name fits.descriptor fits.attributes.0 in
-    let descriptor : third_of word ≡ m.descriptor = third-joined m.flags m.name m.descriptor count fits.flags fits.name fits.descriptor fits.attributes.0 in
-    let many : fourth_of word ≡ count = fourth-joined m.flags m.name m.descriptor count fits.flags fits.name fits.descriptor fits.attributes.0 in
+    let word = four_numbers m.flags m.name m.descriptor count in
+    let flags : first_of word ≡ m.flags = first-four_numbers m.flags m.name m.descriptor count fits.flags fits.name fits.descriptor fits.attributes.0 in
+    let name : second_of word ≡ m.name = second-four_numbers m.flags m.name m.descriptor count fits.flags fits.name fits.descriptor fits.attributes.0 in
+    let descriptor : third_of word ≡ m.descriptor = third-four_numbers m.flags m.name m.descriptor count fits.flags fits.name fits.descriptor fits.attributes.0 in
+    let many : fourth_of word ≡ count = fourth-four_numbers m.flags m.name m.descriptor count fits.flags fits.name fits.descriptor fits.attributes.0 in
     let here : (at == total - length (attributes run_at m.attributes ++ attrs)) ≡ true = eq-eqb at (total - length (attributes run_at m.attributes ++ attrs)) e in
     rw (flags, name, descriptor, many, same_number word, here, attributes_again total run_at m.attributes attrs runs fits.attributes.1 er) refl
 

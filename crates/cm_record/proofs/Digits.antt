@@ -3,29 +3,29 @@ use Rattle.std.proofs.Common.{◌≡◌, ◌<◌, ◌+◌, ◌*◌, ◌/◌, ◌
 use Rattle.std.specs.Prelude.{◌==◌}
 use Rattle.std.proofs.lemmas.Bool.{eq-eqb}
 use Rattle.cm_class.specs.declared.constant.Constant.TheVariants as constant
-use Rattle.cm_record.specs.Packing.{joined}
+use Rattle.cm_record.specs.Packing.{four_numbers}
 use Rattle.cm_record.specs.declared.entry.Entry.TheVariants as entry
 use Rattle.cm_record.specs.Reading.{first_of, second_of, third_of, fourth_of, upper_of, candidate}
 
 module _ (a b c d : ℕ) (ha : a < 2 ^ 16) (hb : b < 2 ^ 16) (hc : c < 2 ^ 16) (hd : d < 2 ^ 16) where
-  pub first-joined : first_of (joined a b c d) ≡ a
-  first-joined = omega arith
+  pub first-four_numbers : first_of (four_numbers a b c d) ≡ a
+  first-four_numbers = omega arith
 
-  pub second-joined : second_of (joined a b c d) ≡ b
-  second-joined = omega arith
+  pub second-four_numbers : second_of (four_numbers a b c d) ≡ b
+  second-four_numbers = omega arith
 
-  pub third-joined : third_of (joined a b c d) ≡ c
-  third-joined = omega arith
+  pub third-four_numbers : third_of (four_numbers a b c d) ≡ c
+  third-four_numbers = omega arith
 
-  pub fourth-joined : fourth_of (joined a b c d) ≡ d
-  fourth-joined = omega arith
+  pub fourth-four_numbers : fourth_of (four_numbers a b c d) ≡ d
+  fourth-four_numbers = omega arith
 
-pub joined_parts : (w : ℕ) → w < 2 ^ 64 → joined (first_of w) (second_of w) (third_of w) (fourth_of w) ≡ w
-joined_parts w h = omega arith
+pub four_numbers_parts : (w : ℕ) → w < 2 ^ 64 → four_numbers (first_of w) (second_of w) (third_of w) (fourth_of w) ≡ w
+four_numbers_parts w h = omega arith
 
-pub text_back : (n at : ℕ) → n < 2 ^ 16 → candidate (1 + 2 ^ 16 * n + 2 ^ 32 * at) ≡ Some (entry.Text n)
+pub utf8_back : (n at : ℕ) → n < 2 ^ 16 → candidate (1 + 2 ^ 16 * n + 2 ^ 32 * at) ≡ Some (entry.Utf8 n)
 unfolding candidate
-text_back n at h =
+utf8_back n at h =
     let w = 1 + 2 ^ 16 * n + 2 ^ 32 * at in
     let tag : first_of w ≡ 1 = omega arith in
     let len : second_of w ≡ n = omega arith in
@@ -140,5 +140,5 @@ module _ (name count : ℕ) (hn : name < 2 ^ 16) (hc : count < 2 ^ 32) where
   pub upper-attribute : upper_of (name + 2 ^ 32 * count) ≡ count
   upper-attribute = omega arith
 
-pub joined_test : (w : ℕ) → w < 2 ^ 64 → (joined (first_of w) (second_of w) (third_of w) (fourth_of w) == w) ≡ true
-joined_test w h = eq-eqb (joined (first_of w) (second_of w) (third_of w) (fourth_of w)) w (joined_parts w h)
+pub four_numbers_test : (w : ℕ) → w < 2 ^ 64 → (four_numbers (first_of w) (second_of w) (third_of w) (fourth_of w) == w) ≡ true
+four_numbers_test w h = eq-eqb (four_numbers (first_of w) (second_of w) (third_of w) (fourth_of w)) w (four_numbers_parts w h)

@@ -9,8 +9,8 @@ use Rattle.cm_class.specs.Spelling.{is_wide, SlotsFit, HasSpelling}
 use Rattle.cm_class.specs.declared.class_file.Attribute.{Attribute}
 use Rattle.cm_class.specs.declared.class_file.Member.{Member}
 use Rattle.cm_class.specs.declared.class_file.ClassFile.{ClassFile}
-use Rattle.cm_record.specs.Packing.{joined}
-use Rattle.cm_record.specs.Layout.{constant_words, constant_run, directory, head, lay, attributes_at, runs_at, attribute_runs_at, members, member_attributes, attributes, attribute_run, attribute_runs, text_runs, all_members, all_attributes, record_len}
+use Rattle.cm_record.specs.Packing.{four_numbers}
+use Rattle.cm_record.specs.Layout.{constant_words, constant_run, directory, head, lay, attributes_at, runs_at, attribute_runs_at, members, member_attributes, attributes, attribute_run, attribute_runs, utf8_runs, all_members, all_attributes, record_len}
 
 pub attribute_runs_append : (xs ys : List Attribute) → attribute_runs (xs ++ ys) ≡ attribute_runs xs ++ attribute_runs ys
 attribute_runs_append [] ys = refl
@@ -45,7 +45,7 @@ pub members_append : (at : ℕ) (xs ys : List Member) → members at (xs ++ ys) 
 members_append at [] ys = ap (λ n. members n ys) (omega arith)
 members_append at (x ∷ xs) ys =
     let same : at + 2 * length x.attributes + 2 * length (member_attributes xs) ≡ at + 2 * length (x.attributes ++ member_attributes xs) = omega (arith, length-append x.attributes (member_attributes xs)) in
-    ap (λ w. joined x.flags x.name x.descriptor (length x.attributes) ∷ at ∷ w)
+    ap (λ w. four_numbers x.flags x.name x.descriptor (length x.attributes) ∷ at ∷ w)
     (members_append (at + 2 * length x.attributes) xs ys ∙ ap (λ n. members (at + 2 * length x.attributes) xs ++ members n ys) same)
 
 -- one slot more
@@ -101,7 +101,7 @@ lay_len c spelled =
     let i = c.interfaces in
     let m = members (attributes_at c) (all_members c) in
     let a = attributes (attribute_runs_at c) (all_attributes c) in
-    let t = text_runs c.slots in
+    let t = utf8_runs c.slots in
     let r = attribute_runs (all_attributes c) in
     omega (
       arith,

@@ -10,4 +10,6 @@ pub mod Turns
 pub mod Taken
 pub mod TakenRecord
 pub mod Skips
-pub mod Worked
+pub mod Constants
+pub mod RunPlaces
+pub mod WorkedExamples

@@ -13,8 +13,8 @@ use Rattle.cm_class.specs.declared.class_file.Member.{Member}
 use Rattle.cm_class.specs.Spelling.{is_wide, IsU2, AreBytes, ConstantFits, SlotsFit, AttributeFits, MemberFits}
 use Rattle.cm_record.specs.declared.entry.Entry.{Entry}
 use Rattle.cm_record.specs.declared.entry.Entry.TheVariants as entry
-use Rattle.cm_record.specs.Packing.{word_from, bytes_of, packed, run_words, joined}
-use Rattle.cm_record.specs.Layout.{constant_words, constant_run, directory, text_runs, members, member_attributes, attributes, attribute_run, attribute_runs}
+use Rattle.cm_record.specs.Packing.{word_from, bytes_of, packed, run_words, four_numbers}
+use Rattle.cm_record.specs.Layout.{constant_words, constant_run, directory, utf8_runs, members, member_attributes, attributes, attribute_run, attribute_runs}
 use Rattle.cm_record.specs.Reading.{◌>>=◌, only_if, front_of, run_from, run_at, candidate, entry_word, entry_of, whole_word, wide_from, constant_from, constant_at, slots_at, interfaces_from, attribute_word, attribute_at, attributes_from, member_at, members_from, first_of, second_of, third_of, fourth_of, upper_of}
 use Rattle.cm_record.proofs.Packed.{packed_more, word_same, length-bytes_of}
 use Rattle.cm_record.proofs.Lengths.{attributes_append, attribute_runs_append, attributes_len}
@@ -100,7 +100,7 @@ record IsPlain (c : Constant) : Type 0 where
 
 abbrev EntryFits : Option Entry → Type 0
 EntryFits None = Unit {0}
-EntryFits (Some (entry.Text count)) = count < 2 ^ 16
+EntryFits (Some (entry.Utf8 count)) = count < 2 ^ 16
 EntryFits (Some entry.Long) = Unit {0}
 EntryFits (Some entry.Double) = Unit {0}
 EntryFits (Some (entry.Whole c)) = IsPlain c
@@ -154,8 +154,8 @@ candidate_fits word =
     let p3 : IsPlain (constant.Integer (upper_of word)) = record { narrow = refl; no_run = refl; word = λ at. refl; fits = upper } in
     let o3 : Option Entry = if first_of word == 3 then Some (entry.Whole (constant.Integer (upper_of word))) else o4 in
     let f3 : EntryFits o3 = chosen (first_of word == 3) (Some (entry.Whole (constant.Integer (upper_of word)))) o4 p3 f4 in
-    let o1 : Option Entry = if first_of word == 1 then Some (entry.Text (second_of word)) else o3 in
-    let f1 : EntryFits o1 = chosen (first_of word == 1) (Some (entry.Text (second_of word))) o3 second f3 in
+    let o1 : Option Entry = if first_of word == 1 then Some (entry.Utf8 (second_of word)) else o3 in
+    let f1 : EntryFits o1 = chosen (first_of word == 1) (Some (entry.Utf8 (second_of word))) o3 second f3 in
     f1
 
 record EntryTaken (at word : ℕ) (e : Entry) : Type 0 where
@@ -186,7 +186,7 @@ wide_taken make (bits ∷ main) runs x e =
     (bits, main, refl, ltb-true bits (2 ^ 64) tested.0, some_same (make bits, main, runs) x tested.1)
 
 from_entry : (at word : ℕ) (e : Entry) (main runs : List ℕ) (x : Constant × List ℕ × List ℕ) → EntryTaken at word e → constant_from e main runs ≡ Some x → ConstantTaken at (word ∷ main) runs x
-from_entry at word (entry.Text count) main runs x taken read =
+from_entry at word (entry.Utf8 count) main runs x taken read =
     let text = bind_some (run_at count runs) _ x read in
     let run = run_taken count runs text.0 text.1 in
     subst (ConstantTaken at (word ∷ main) runs) (some_same (constant.Utf8 text.0.0, main, text.0.1) x text.2) (record {
@@ -227,7 +227,7 @@ pub record SlotsTaken (at : ℕ) (second : Bool) (n : ℕ) (main runs : List ℕ
   pub fits : SlotsFit second x.0
   pub many : length x.0 ≡ n
   pub main_split : main ≡ directory at x.0 ++ x.1
-  pub run_split : runs ≡ text_runs x.0 ++ x.2
+  pub run_split : runs ≡ utf8_runs x.0 ++ x.2
 
 pub slots_taken : (total at : ℕ) (second : Bool) (n : ℕ) (main runs : List ℕ) (x : List Slot × List ℕ × List ℕ) → at + length runs ≡ total → slots_at total second n main runs ≡ Some x → SlotsTaken at second n main runs x
 unfolding slots_at
@@ -255,7 +255,7 @@ slots_taken total at false (suc n) main runs x place e =
       fits = (taken.fits, rest.fits);
       many = ap suc rest.many;
       main_split = taken.main_split ∙ (ap (λ w. constant_words at c ++ w) rest.main_split ∙ sym (append_assoc (constant_words at c) (directory next others.0.0) others.0.1));
-      run_split = taken.run_split ∙ (ap (λ w. constant_run c ++ w) rest.run_split ∙ sym (append_assoc (constant_run c) (text_runs others.0.0) others.0.2));
+      run_split = taken.run_split ∙ (ap (λ w. constant_run c ++ w) rest.run_split ∙ sym (append_assoc (constant_run c) (utf8_runs others.0.0) others.0.2));
     })
 
 -- ---- interfaces, attributes and members
@@ -340,7 +340,7 @@ next_places total at run_at attrs runs own attrs' runs' place run_place split ru
 
 record MemberTaken (at run_at : ℕ) (main attrs runs : List ℕ) (x : Member × List ℕ × List ℕ × List ℕ) : Type 0 where
   pub fits : MemberFits x.0
-  pub main_split : main ≡ joined x.0.flags x.0.name x.0.descriptor (length x.0.attributes) ∷ at ∷ x.1
+  pub main_split : main ≡ four_numbers x.0.flags x.0.name x.0.descriptor (length x.0.attributes) ∷ at ∷ x.1
   pub split : attrs ≡ attributes run_at x.0.attributes ++ x.2
   pub run_split : runs ≡ attribute_runs x.0.attributes ++ x.3
 
@@ -350,7 +350,7 @@ unfolding member_at
 member_taken total run_at [] attrs runs x place e = absurd (cc)
 member_taken total run_at (word ∷ []) attrs runs x place e = absurd (cc)
 member_taken total run_at (word ∷ at ∷ main) attrs runs x place e =
-    let parts = joined (first_of word) (second_of word) (third_of word) (fourth_of word) in
+    let parts = four_numbers (first_of word) (second_of word) (third_of word) (fourth_of word) in
     let flags : first_of word < 2 ^ 16 = omega arith in
     let name : second_of word < 2 ^ 16 = omega arith in
     let descriptor : third_of word < 2 ^ 16 = omega arith in
@@ -364,8 +364,8 @@ member_taken total run_at (word ∷ at ∷ main) attrs runs x place e =
     let made : Member = record { flags = first_of word; name = second_of word; descriptor = third_of word; attributes = own.0.0 } in
     subst (MemberTaken (total - length attrs) run_at (word ∷ at ∷ main) attrs runs) (some_same (made, main, own.0.1, own.0.2) x own.2) (record {
       fits = record { flags = flags; name = name; descriptor = descriptor; attributes = (omega (arith, taken.many, many), taken.fits) };
-      main_split = ap (λ w. w ∷ at ∷ main) (sym same ∙ ap (λ n. joined (first_of word) (second_of word) (third_of word) n) (sym taken.many))
-          ∙ ap (λ k. joined (first_of word) (second_of word) (third_of word) (length own.0.0) ∷ k ∷ main) here;
+      main_split = ap (λ w. w ∷ at ∷ main) (sym same ∙ ap (λ n. four_numbers (first_of word) (second_of word) (third_of word) n) (sym taken.many))
+          ∙ ap (λ k. four_numbers (first_of word) (second_of word) (third_of word) (length own.0.0) ∷ k ∷ main) here;
       split = taken.split;
       run_split = taken.run_split;
     })
@@ -397,7 +397,7 @@ members_taken total at run_at (suc n) main attrs runs x place run_place e =
     subst (MembersTaken at run_at (suc n) main attrs runs) (some_same (m ∷ these, others.0.1, others.0.2, others.0.3) x others.2) (record {
       fits = (taken.fits, rest.fits);
       many = ap suc rest.many;
-      main_split = taken.main_split ∙ ap (λ w. joined m.flags m.name m.descriptor (length own) ∷ at ∷ w) rest.main_split;
+      main_split = taken.main_split ∙ ap (λ w. four_numbers m.flags m.name m.descriptor (length own) ∷ at ∷ w) rest.main_split;
       split = taken.split ∙ (ap (λ w. attributes run_at own ++ w) rest.split ∙ (sym (append_assoc (attributes run_at own) (attributes run_next (member_attributes these)) others.0.2)
           ∙ ap (λ w. w ++ others.0.2) (sym (attributes_append run_at own (member_attributes these)))));
       run_split = taken.run_split ∙ (ap (λ w. attribute_runs own ++ w) rest.run_split ∙ (sym (append_assoc (attribute_runs own) (attribute_runs (member_attributes these)) others.0.3)

@@ -8,10 +8,10 @@ use Rattle.cm_class.specs.declared.class_file.Attribute.{Attribute}
 use Rattle.cm_class.specs.declared.class_file.Member.{Member}
 use Rattle.cm_class.specs.declared.class_file.ClassFile.{ClassFile}
 use Rattle.cm_class.specs.Spelling.{HasSpelling}
-use Rattle.cm_record.specs.Packing.{joined}
-use Rattle.cm_record.specs.Layout.{lay, limit, directory, text_runs, members, member_attributes, attributes, attribute_runs, attributes_at, runs_at, record_len, IsRecord}
+use Rattle.cm_record.specs.Packing.{four_numbers}
+use Rattle.cm_record.specs.Layout.{lay, limit, directory, utf8_runs, members, member_attributes, attributes, attribute_runs, attributes_at, runs_at, record_len, IsRecord}
 use Rattle.cm_record.specs.Reading.{first_of, second_of, third_of, fourth_of, slots_at, interfaces_from, attributes_from, members_from, head_is_right, sections_end, pool_from, body_from, pool_of, body_of, class_at}
-use Rattle.cm_record.proofs.Digits.{joined_parts}
+use Rattle.cm_record.proofs.Digits.{four_numbers_parts}
 use Rattle.cm_record.proofs.Lengths.{attributes_len, all_attributes_len, all_members_len, all_runs_len, lay_len}
 use Rattle.cm_record.proofs.Taken.{bind_some, only_if_some, some_same, SlotsTaken, InterfacesTaken, MembersTaken, AttributesTaken, slots_taken, interfaces_taken, members_taken, attributes_taken}
 use Rattle.cm_record.proofs.WholeRecord.{class_again, main_tail, main_there, word_0, word_1, word_2, word_3, word_4, word_5, word_6, word_7, word_8}
@@ -95,8 +95,8 @@ same_nine : (a b c d e f g h i a' b' c' d' e' f' g' h' i' : ℕ) (t t' : List �
     → a ∷ b ∷ c ∷ d ∷ e ∷ f ∷ g ∷ h ∷ i ∷ t ≡ a' ∷ b' ∷ c' ∷ d' ∷ e' ∷ f' ∷ g' ∷ h' ∷ i' ∷ t'
 same_nine a b c d e f g h i a' b' c' d' e' f' g' h' i' t t' ea eb ec ed ee ef eg eh ei et = cc
 
-joined_same : (a b c d a' b' c' d' : ℕ) → a ≡ a' → b ≡ b' → c ≡ c' → d ≡ d' → joined a b c d ≡ joined a' b' c' d'
-joined_same a b c d a' b' c' d' ea eb ec ed = omega (arith, ea, eb, ec, ed)
+four_numbers_same : (a b c d a' b' c' d' : ℕ) → a ≡ a' → b ≡ b' → c ≡ c' → d ≡ d' → four_numbers a b c d ≡ four_numbers a' b' c' d'
+four_numbers_same a b c d a' b' c' d' ea eb ec ed = omega (arith, ea, eb, ec, ed)
 
 regroup_4 : (a b c d t : List ℕ) → a ++ (b ++ (c ++ (d ++ t))) ≡ (a ++ b ++ c ++ d) ++ t
 regroup_4 a b c d t = simp append_assoc
@@ -109,9 +109,9 @@ module _ (w : List ℕ) (c : ClassFile) (m1 m2 m3 m4 a1 a2 a3 r1 r2 r3 r4 : List
     (flags : first_of (get_or w 1 0) ≡ c.flags) (this : second_of (get_or w 1 0) ≡ c.this_class) (super : third_of (get_or w 1 0) ≡ c.super_class)
     (slots : SlotsTaken (get_or w 7 0) false (first_of (get_or w 2 0) - 1) (drop 9 w) (drop (get_or w 7 0) w) (c.slots, m1, r1))
     (interfaces : InterfacesTaken (fourth_of (get_or w 1 0)) m1 (c.interfaces, m2))
-    (fields : MembersTaken (get_or w 6 0) (get_or w 7 0 + length (text_runs c.slots)) (second_of (get_or w 2 0)) m2 (drop (get_or w 6 0) w) r1 (c.fields, m3, a1, r2))
-    (methods : MembersTaken (get_or w 6 0 + 2 * length (member_attributes c.fields)) (get_or w 7 0 + length (text_runs c.slots) + length (attribute_runs (member_attributes c.fields))) (third_of (get_or w 2 0)) m3 a1 r2 (c.methods, m4, a2, r3))
-    (own : AttributesTaken (get_or w 7 0 + length (text_runs c.slots) + length (attribute_runs (member_attributes c.fields)) + length (attribute_runs (member_attributes c.methods))) (fourth_of (get_or w 2 0)) a2 r3 (c.attributes, a3, r4))
+    (fields : MembersTaken (get_or w 6 0) (get_or w 7 0 + length (utf8_runs c.slots)) (second_of (get_or w 2 0)) m2 (drop (get_or w 6 0) w) r1 (c.fields, m3, a1, r2))
+    (methods : MembersTaken (get_or w 6 0 + 2 * length (member_attributes c.fields)) (get_or w 7 0 + length (utf8_runs c.slots) + length (attribute_runs (member_attributes c.fields))) (third_of (get_or w 2 0)) m3 a1 r2 (c.methods, m4, a2, r3))
+    (own : AttributesTaken (get_or w 7 0 + length (utf8_runs c.slots) + length (attribute_runs (member_attributes c.fields)) + length (attribute_runs (member_attributes c.methods))) (fourth_of (get_or w 2 0)) a2 r3 (c.attributes, a3, r4))
     (ends : IsEnd w m4 a3 r4) (small_1 : get_or w 1 0 < 2 ^ 64) (small_2 : get_or w 2 0 < 2 ^ 64) where
   pub spelled : HasSpelling c
   spelled = record {
@@ -128,7 +128,7 @@ module _ (w : List ℕ) (c : ClassFile) (m1 m2 m3 m4 a1 a2 a3 r1 r2 r3 r4 : List
 
   -- where the runs of the attributes of fields begin, and those that follow
   abbrev field_runs_at : ℕ
-  field_runs_at = get_or w 7 0 + length (text_runs c.slots)
+  field_runs_at = get_or w 7 0 + length (utf8_runs c.slots)
 
   abbrev next_runs_at : ℕ
   next_runs_at = field_runs_at + length (attribute_runs (member_attributes c.fields))
@@ -163,8 +163,8 @@ module _ (w : List ℕ) (c : ClassFile) (m1 m2 m3 m4 a1 a2 a3 r1 r2 r3 r4 : List
   attribute_parts : drop (get_or w 6 0) w ≡ AF ++ (AM ++ (AO ++ a3))
   attribute_parts = fields.split ∙ ap (λ x. AF ++ x) (methods.split ∙ ap (λ x. AM ++ x) own.split)
 
-  run_parts : drop (get_or w 7 0) w ≡ text_runs c.slots ++ (attribute_runs (member_attributes c.fields) ++ (attribute_runs (member_attributes c.methods) ++ (attribute_runs c.attributes ++ [])))
-  run_parts = slots.run_split ∙ ap (λ x. text_runs c.slots ++ x) (fields.run_split ∙ ap (λ x. attribute_runs (member_attributes c.fields) ++ x)
+  run_parts : drop (get_or w 7 0) w ≡ utf8_runs c.slots ++ (attribute_runs (member_attributes c.fields) ++ (attribute_runs (member_attributes c.methods) ++ (attribute_runs c.attributes ++ [])))
+  run_parts = slots.run_split ∙ ap (λ x. utf8_runs c.slots ++ x) (fields.run_split ∙ ap (λ x. attribute_runs (member_attributes c.fields) ++ x)
       (methods.run_split ∙ ap (λ x. attribute_runs (member_attributes c.methods) ++ x) (own.run_split ∙ ap (λ x. attribute_runs c.attributes ++ x) (none_left r4 ends.runs_end))))
 
   -- the members end where the attributes begin, and these where the runs begin
@@ -207,7 +207,7 @@ module _ (w : List ℕ) (c : ClassFile) (m1 m2 m3 m4 a1 a2 a3 r1 r2 r3 r4 : List
         head.runs_in,
         ap length run_parts,
         length-drop (get_or w 7 0) w,
-        length-append (text_runs c.slots) (tf ++ (tm ++ to)),
+        length-append (utf8_runs c.slots) (tf ++ (tm ++ to)),
         length-append tf (tm ++ to),
         length-append tm to,
         length-append (attribute_runs c.attributes) [],
@@ -222,10 +222,10 @@ module _ (w : List ℕ) (c : ClassFile) (m1 m2 m3 m4 a1 a2 a3 r1 r2 r3 r4 : List
   pub laid : w ≡ lay c
   laid =
       let long : 9 ≤ length (lay c) = omega (arith, ap length (main_there c spelled), length-drop 9 (lay c), lay_len c spelled) in
-      let numbers : get_or w 1 0 ≡ joined c.flags c.this_class c.super_class (length c.interfaces) =
-      sym (joined_parts (get_or w 1 0) small_1) ∙ joined_same _ _ _ _ _ _ _ _ flags this super (sym interfaces.many) in
-      let counts : get_or w 2 0 ≡ joined (length c.slots + 1) (length c.fields) (length c.methods) (length c.attributes) =
-      sym (joined_parts (get_or w 2 0) small_2) ∙ joined_same _ _ _ _ _ _ _ _ (omega (arith, slots.many, head.count)) (sym fields.many) (sym methods.many) (sym own.many) in
+      let numbers : get_or w 1 0 ≡ four_numbers c.flags c.this_class c.super_class (length c.interfaces) =
+      sym (four_numbers_parts (get_or w 1 0) small_1) ∙ four_numbers_same _ _ _ _ _ _ _ _ flags this super (sym interfaces.many) in
+      let counts : get_or w 2 0 ≡ four_numbers (length c.slots + 1) (length c.fields) (length c.methods) (length c.attributes) =
+      sym (four_numbers_parts (get_or w 2 0) small_2) ∙ four_numbers_same _ _ _ _ _ _ _ _ (omega (arith, slots.many, head.count)) (sym fields.many) (sym methods.many) (sym own.many) in
       nine w head.long
       ∙ (same_nine _ _ _ _ _ _ _ _ _ _ _ _ _ _ _ _ _ _ _ _
       (head.total ∙ (size ∙ sym (word_0 c)))
@@ -294,7 +294,7 @@ class_taken w c small_1 small_2 e =
     let s6 = only_if_some (sections_end w body.0.3 body.0.4 body.0.5) (Some made) c body.2 in
     let same : made ≡ c = some_same made c s6.1 in
     let ends = end_facts w body.0.3 body.0.4 body.0.5 s6.0 in
-    let text = text_runs pool.0.0 in
+    let text = utf8_runs pool.0.0 in
     let of_fields = attribute_runs (member_attributes body.0.0) in
     let of_methods = attribute_runs (member_attributes body.0.1) in
     let p1 : w7 + length (drop w7 w) ≡ total = omega (arith, length-drop w7 w, head.runs_in) in

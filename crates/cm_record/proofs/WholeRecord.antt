@@ -5,10 +5,10 @@ use Rattle.std.proofs.lemmas.Bool.{eq-eqb, le-leb, and_from}
 use Rattle.cm_class.specs.declared.class_file.Attribute.{Attribute}
 use Rattle.cm_class.specs.declared.class_file.ClassFile.{ClassFile}
 use Rattle.cm_class.specs.Spelling.{HasSpelling}
-use Rattle.cm_record.specs.Packing.{joined}
-use Rattle.cm_record.specs.Layout.{head, lay, directory, text_runs, members, member_attributes, attributes, attribute_runs, all_members, all_attributes, interfaces_at, members_at, attributes_at, runs_at, attribute_runs_at, record_len, IsRecordOf, IsRecord}
+use Rattle.cm_record.specs.Packing.{four_numbers}
+use Rattle.cm_record.specs.Layout.{head, lay, directory, utf8_runs, members, member_attributes, attributes, attribute_runs, all_members, all_attributes, interfaces_at, members_at, attributes_at, runs_at, attribute_runs_at, record_len, limit, IsRecordOf, IsRecord}
 use Rattle.cm_record.specs.Reading.{first_of, second_of, third_of, fourth_of, slots_at, interfaces_from, attributes_from, members_from, head_is_right, sections_end, pool_from, body_from, class_at}
-use Rattle.cm_record.proofs.Digits.{first-joined, second-joined, third-joined, fourth-joined}
+use Rattle.cm_record.proofs.Digits.{first-four_numbers, second-four_numbers, third-four_numbers, fourth-four_numbers}
 use Rattle.cm_record.proofs.Lengths.{attributes_append, attribute_runs_append, members_append, all_runs, all_members_len, attributes_len, members_len, directory_len, lay_len}
 use Rattle.cm_record.proofs.Again.{slots_again, interfaces_again, members_again, attributes_again}
 
@@ -37,7 +37,7 @@ module _ (c : ClassFile) where
 
   -- the record from the runs on, from the attributes on, from slot 1 on
   abbrev pub runs_tail : List ℕ
-  runs_tail = text_runs c.slots ++ (attribute_runs of_fields ++ (attribute_runs of_methods ++ (attribute_runs c.attributes ++ [])))
+  runs_tail = utf8_runs c.slots ++ (attribute_runs of_fields ++ (attribute_runs of_methods ++ (attribute_runs c.attributes ++ [])))
 
   abbrev pub attributes_tail : List ℕ
   attributes_tail = attributes (attribute_runs_at c) of_fields ++ (attributes method_runs_at of_methods ++ (attributes own_runs_at c.attributes ++ runs_tail))
@@ -52,7 +52,7 @@ module _ (c : ClassFile) where
       attributes_append (attribute_runs_at c) (of_fields ++ of_methods) c.attributes
       ∙ rw (place, attributes_append (attribute_runs_at c) of_fields of_methods) refl
 
-  tail_joined : attributes (attribute_runs_at c) (all_attributes c) ++ text_runs c.slots ++ attribute_runs (all_attributes c) ≡ attributes_tail
+  tail_joined : attributes (attribute_runs_at c) (all_attributes c) ++ utf8_runs c.slots ++ attribute_runs (all_attributes c) ≡ attributes_tail
   tail_joined = rw (attributes_split, all_runs c) (simp (append_assoc, append-nil))
 
   abbrev front : List ℕ
@@ -62,7 +62,7 @@ module _ (c : ClassFile) where
   unfolding lay
   lay_split =
       let A = attributes (attribute_runs_at c) (all_attributes c) in
-      let T = text_runs c.slots in
+      let T = utf8_runs c.slots in
       let R = attribute_runs (all_attributes c) in
       append_assoc (front ++ A) T R ∙ (append_assoc front A (T ++ R) ∙ ap (λ w. front ++ w) (sym (append_assoc A T R) ∙ tail_joined))
 
@@ -80,10 +80,10 @@ module _ (c : ClassFile) where
           members_len (attributes_at c) (all_members c),
         )
 
-    attributes_there : drop (attributes_at c) (lay c) ≡ attributes_tail
+    pub attributes_there : drop (attributes_at c) (lay c) ≡ attributes_tail
     attributes_there = ap (drop (attributes_at c)) lay_split ∙ drop_at front attributes_tail (attributes_at c) front_len
 
-    attributes_tail_len : length attributes_tail + attributes_at c ≡ length (lay c)
+    pub attributes_tail_len : length attributes_tail + attributes_at c ≡ length (lay c)
     attributes_tail_len = omega (arith, ap length lay_split, length-append front attributes_tail, front_len)
 
     -- the attributes without the runs
@@ -96,10 +96,10 @@ module _ (c : ClassFile) where
     runs_split : lay c ≡ (front ++ middle) ++ runs_tail
     runs_split = lay_split ∙ regroup_tail front (attributes (attribute_runs_at c) of_fields) (attributes method_runs_at of_methods) (attributes own_runs_at c.attributes) runs_tail
 
-    runs_there : drop (runs_at c) (lay c) ≡ runs_tail
+    pub runs_there : drop (runs_at c) (lay c) ≡ runs_tail
     runs_there = ap (drop (runs_at c)) runs_split ∙ drop_at (front ++ middle) runs_tail (runs_at c) (omega (arith, length-append front middle, front_len, middle_len))
 
-    runs_tail_len : length runs_tail + runs_at c ≡ length (lay c)
+    pub runs_tail_len : length runs_tail + runs_at c ≡ length (lay c)
     runs_tail_len = omega (arith, ap length runs_split, length-append (front ++ middle) runs_tail, length-append front middle, front_len, middle_len)
 
     pub main_there : drop 9 (lay c) ≡ main_tail
@@ -147,11 +147,11 @@ module _ (c : ClassFile) where
   unfolding lay
   word_0 = refl
 
-  pub word_1 : get_or (lay c) 1 0 ≡ joined c.flags c.this_class c.super_class (length c.interfaces)
+  pub word_1 : get_or (lay c) 1 0 ≡ four_numbers c.flags c.this_class c.super_class (length c.interfaces)
   unfolding lay
   word_1 = refl
 
-  pub word_2 : get_or (lay c) 2 0 ≡ joined (length c.slots + 1) (length c.fields) (length c.methods) (length c.attributes)
+  pub word_2 : get_or (lay c) 2 0 ≡ four_numbers (length c.slots + 1) (length c.fields) (length c.methods) (length c.attributes)
   unfolding lay
   word_2 = refl
 
@@ -180,29 +180,29 @@ module _ (c : ClassFile) where
   word_8 = refl
 
   module _ (spelled : HasSpelling c) where
-    flags_there : first_of (get_or (lay c) 1 0) ≡ c.flags
-    flags_there = ap first_of word_1 ∙ first-joined c.flags c.this_class c.super_class (length c.interfaces) spelled.flags spelled.this_class spelled.super_class spelled.interfaces.0
+    pub flags_there : first_of (get_or (lay c) 1 0) ≡ c.flags
+    flags_there = ap first_of word_1 ∙ first-four_numbers c.flags c.this_class c.super_class (length c.interfaces) spelled.flags spelled.this_class spelled.super_class spelled.interfaces.0
 
-    this_there : second_of (get_or (lay c) 1 0) ≡ c.this_class
-    this_there = ap second_of word_1 ∙ second-joined c.flags c.this_class c.super_class (length c.interfaces) spelled.flags spelled.this_class spelled.super_class spelled.interfaces.0
+    pub this_there : second_of (get_or (lay c) 1 0) ≡ c.this_class
+    this_there = ap second_of word_1 ∙ second-four_numbers c.flags c.this_class c.super_class (length c.interfaces) spelled.flags spelled.this_class spelled.super_class spelled.interfaces.0
 
-    super_there : third_of (get_or (lay c) 1 0) ≡ c.super_class
-    super_there = ap third_of word_1 ∙ third-joined c.flags c.this_class c.super_class (length c.interfaces) spelled.flags spelled.this_class spelled.super_class spelled.interfaces.0
+    pub super_there : third_of (get_or (lay c) 1 0) ≡ c.super_class
+    super_there = ap third_of word_1 ∙ third-four_numbers c.flags c.this_class c.super_class (length c.interfaces) spelled.flags spelled.this_class spelled.super_class spelled.interfaces.0
 
-    interfaces_there : fourth_of (get_or (lay c) 1 0) ≡ length c.interfaces
-    interfaces_there = ap fourth_of word_1 ∙ fourth-joined c.flags c.this_class c.super_class (length c.interfaces) spelled.flags spelled.this_class spelled.super_class spelled.interfaces.0
+    pub interfaces_there : fourth_of (get_or (lay c) 1 0) ≡ length c.interfaces
+    interfaces_there = ap fourth_of word_1 ∙ fourth-four_numbers c.flags c.this_class c.super_class (length c.interfaces) spelled.flags spelled.this_class spelled.super_class spelled.interfaces.0
 
-    count_there : first_of (get_or (lay c) 2 0) ≡ length c.slots + 1
-    count_there = ap first_of word_2 ∙ first-joined (length c.slots + 1) (length c.fields) (length c.methods) (length c.attributes) spelled.count spelled.fields.0 spelled.methods.0 spelled.attributes.0
+    pub count_there : first_of (get_or (lay c) 2 0) ≡ length c.slots + 1
+    count_there = ap first_of word_2 ∙ first-four_numbers (length c.slots + 1) (length c.fields) (length c.methods) (length c.attributes) spelled.count spelled.fields.0 spelled.methods.0 spelled.attributes.0
 
-    fields_there : second_of (get_or (lay c) 2 0) ≡ length c.fields
-    fields_there = ap second_of word_2 ∙ second-joined (length c.slots + 1) (length c.fields) (length c.methods) (length c.attributes) spelled.count spelled.fields.0 spelled.methods.0 spelled.attributes.0
+    pub fields_there : second_of (get_or (lay c) 2 0) ≡ length c.fields
+    fields_there = ap second_of word_2 ∙ second-four_numbers (length c.slots + 1) (length c.fields) (length c.methods) (length c.attributes) spelled.count spelled.fields.0 spelled.methods.0 spelled.attributes.0
 
-    methods_there : third_of (get_or (lay c) 2 0) ≡ length c.methods
-    methods_there = ap third_of word_2 ∙ third-joined (length c.slots + 1) (length c.fields) (length c.methods) (length c.attributes) spelled.count spelled.fields.0 spelled.methods.0 spelled.attributes.0
+    pub methods_there : third_of (get_or (lay c) 2 0) ≡ length c.methods
+    methods_there = ap third_of word_2 ∙ third-four_numbers (length c.slots + 1) (length c.fields) (length c.methods) (length c.attributes) spelled.count spelled.fields.0 spelled.methods.0 spelled.attributes.0
 
-    own_there : fourth_of (get_or (lay c) 2 0) ≡ length c.attributes
-    own_there = ap fourth_of word_2 ∙ fourth-joined (length c.slots + 1) (length c.fields) (length c.methods) (length c.attributes) spelled.count spelled.fields.0 spelled.methods.0 spelled.attributes.0
+    pub own_there : fourth_of (get_or (lay c) 2 0) ≡ length c.attributes
+    own_there = ap fourth_of word_2 ∙ fourth-four_numbers (length c.slots + 1) (length c.fields) (length c.methods) (length c.attributes) spelled.count spelled.fields.0 spelled.methods.0 spelled.attributes.0
 
     head_there : head_is_right (lay c) ≡ true
     head_there =
@@ -224,7 +224,7 @@ module _ (c : ClassFile) where
         let r1 = attribute_runs (of_fields c) ++ r2 in
         let runs_size = runs_tail_len c spelled in
         let attributes_size = attributes_tail_len c spelled in
-        let t_len = length-append (text_runs c.slots) r1 in
+        let t_len = length-append (utf8_runs c.slots) r1 in
         let r1_len = length-append (attribute_runs (of_fields c)) r2 in
         let r2_len = length-append (attribute_runs (of_methods c)) r3 in
         let a0_len = length-append (attributes (attribute_runs_at c) (of_fields c)) a1 in
@@ -270,3 +270,11 @@ record_long words (d, is) = omega (arith, ap length is.laid, lay_len d is.spelle
 
 pub flags_read : (c : ClassFile) (words : List ℕ) → IsRecordOf c words → first_of (get_or words 1 0) ≡ c.flags
 flags_read c words is = ap (λ w. first_of (get_or w 1 0)) is.laid ∙ flags_there c is.spelled
+
+-- the directory lies within the record
+pub directory_within : (words : List ℕ) → IsRecord words → 8 + first_of (get_or words 2 0) ≤ length words
+directory_within words (d, is) = subst (λ (w : List ℕ). 8 + first_of (get_or w 2 0) ≤ length w) (sym is.laid) (omega (arith, count_there d is.spelled, lay_len d is.spelled))
+
+-- the layout of a record's class isn't too long
+pub lay_short : (c : ClassFile) (words : List ℕ) → IsRecordOf c words → length (lay c) ≤ limit
+lay_short c words is = omega (arith, ap length is.laid, is.short)

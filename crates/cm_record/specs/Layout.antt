@@ -10,7 +10,7 @@ use Rattle.cm_class.specs.declared.class_file.Attribute.{Attribute}
 use Rattle.cm_class.specs.declared.class_file.Member.{Member}
 use Rattle.cm_class.specs.declared.class_file.ClassFile.{ClassFile}
 use Rattle.cm_class.specs.Spelling.{HasSpelling}
-use Rattle.cm_record.specs.Packing.{packed, joined}
+use Rattle.cm_record.specs.Packing.{packed, four_numbers}
 
 -- ---- the constant pool
 
@@ -47,15 +47,15 @@ directory at [] = []
 directory at (Usable c ∷ slots) = constant_words at c ++ directory (at + length (constant_run c)) slots
 directory at (Unusable ∷ slots) = directory at slots
 
-abbrev pub text_runs : List Slot → List ℕ
-text_runs slots = flat_map slot_run slots
+abbrev pub utf8_runs : List Slot → List ℕ
+utf8_runs slots = flat_map slot_run slots
 
 -- ---- members and attributes
 
 -- two words each: the numbers, and where its attributes begin
 abbrev pub members : ℕ → List Member → List ℕ
 members at [] = []
-members at (m ∷ rest) = joined m.flags m.name m.descriptor (length m.attributes) ∷ at ∷ members (at + 2 * length m.attributes) rest
+members at (m ∷ rest) = four_numbers m.flags m.name m.descriptor (length m.attributes) ∷ at ∷ members (at + 2 * length m.attributes) rest
 
 abbrev pub member_attributes : List Member → List Attribute
 member_attributes those = flat_map (λ m. m.attributes) those
@@ -94,7 +94,7 @@ abbrev pub runs_at : ClassFile → ℕ
 runs_at c = attributes_at c + 2 * length (all_attributes c)
 
 abbrev pub attribute_runs_at : ClassFile → ℕ
-attribute_runs_at c = runs_at c + length (text_runs c.slots)
+attribute_runs_at c = runs_at c + length (utf8_runs c.slots)
 
 -- how many words the record has
 abbrev pub record_len : ClassFile → ℕ
@@ -104,8 +104,8 @@ record_len c = attribute_runs_at c + length (attribute_runs (all_attributes c))
 abbrev pub head : ClassFile → List ℕ
 head c =
     record_len c
-    ∷ joined c.flags c.this_class c.super_class (length c.interfaces)
-    ∷ joined (length c.slots + 1) (length c.fields) (length c.methods) (length c.attributes)
+    ∷ four_numbers c.flags c.this_class c.super_class (length c.interfaces)
+    ∷ four_numbers (length c.slots + 1) (length c.fields) (length c.methods) (length c.attributes)
     ∷ 8 ∷ interfaces_at c ∷ members_at c ∷ attributes_at c ∷ runs_at c ∷ []
 
 -- Behind the head: the directory, whose slot 0 is 0, the interfaces, the members, the attributes, and the
@@ -117,7 +117,7 @@ lay c =
     ++ c.interfaces
     ++ members (attributes_at c) (all_members c)
     ++ attributes (attribute_runs_at c) (all_attributes c)
-    ++ text_runs c.slots
+    ++ utf8_runs c.slots
     ++ attribute_runs (all_attributes c)
 
 -- a record's greatest number of words, 2^19

@@ -3,3 +3,5 @@ pub mod Layout
 pub mod Places
 pub mod Reading
 pub mod Names
+pub mod Constants
+pub mod Runs

@@ -29,5 +29,5 @@ abbrev pub word_bytes : List ℕ → List ℕ
 word_bytes words = flat_map bytes_of words
 
 -- four numbers of 16 bits in one word, the first of them lowest
-abbrev pub joined : ℕ → ℕ → ℕ → ℕ → ℕ
-joined first second third fourth = first + 2 ^ 16 * second + 2 ^ 32 * third + 2 ^ 48 * fourth
+abbrev pub four_numbers : ℕ → ℕ → ℕ → ℕ → ℕ
+four_numbers first second third fourth = first + 2 ^ 16 * second + 2 ^ 32 * third + 2 ^ 48 * fourth

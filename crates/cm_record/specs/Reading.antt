@@ -15,7 +15,7 @@ use Rattle.cm_record.specs.declared.entry.Entry.TheVariants as entry
 use Rattle.cm_record.specs.declared.refusal.RecordFault.{RecordFault}
 use Rattle.cm_record.specs.declared.refusal.RecordFault.TheVariants.{NotARecord, NoMemory}
 use Rattle.cm_record.specs.Layout.{constant_words}
-use Rattle.cm_record.specs.Packing.{word_from, bytes_of, run_words, joined}
+use Rattle.cm_record.specs.Packing.{word_from, bytes_of, run_words, four_numbers}
 
 infixl 10 ◌>>=◌
 abbrev pub ◌>>=◌ : {A B : Type 0} → Option A → (A → Option B) → Option B
@@ -77,7 +77,7 @@ upper_of word = word / 2 ^ 32 % 2 ^ 32
 -- what a directory word may stand for, by its tag
 unfoldable pub candidate : ℕ → Option Entry
 candidate word =
-    if first_of word == 1 then Some (entry.Text (second_of word))
+    if first_of word == 1 then Some (entry.Utf8 (second_of word))
     else if first_of word == 3 then Some (entry.Whole (constant.Integer (upper_of word)))
     else if first_of word == 4 then Some (entry.Whole (constant.Float (upper_of word)))
     else if first_of word == 5 then Some entry.Long
@@ -100,7 +100,7 @@ whole_word c = get_or (constant_words 0 c) 0 0
 
 -- the directory word of an entry whose run would begin at `at`
 abbrev pub entry_word : ℕ → Entry → ℕ
-entry_word at (entry.Text count) = 1 + 2 ^ 16 * count + 2 ^ 32 * at
+entry_word at (entry.Utf8 count) = 1 + 2 ^ 16 * count + 2 ^ 32 * at
 entry_word at entry.Long = 5
 entry_word at entry.Double = 6
 entry_word at (entry.Whole c) = whole_word c
@@ -117,7 +117,7 @@ wide_from make [] runs = None
 wide_from make (bits ∷ main) runs = only_if (nat_lt bits (2 ^ 64)) (Some (make bits, main, runs))
 
 abbrev pub constant_from : Entry → List ℕ → List ℕ → Option (Constant × List ℕ × List ℕ)
-constant_from (entry.Text count) main runs = do
+constant_from (entry.Utf8 count) main runs = do
   text ← run_at count runs
   Some (constant.Utf8 text.0, main, text.1)
 constant_from entry.Long main runs = wide_from constant.Long main runs
@@ -175,7 +175,7 @@ attributes_from total (suc n) attrs runs = do
 -- a member, from the members, the attributes and the runs
 unfoldable pub member_at : ℕ → List ℕ → List ℕ → List ℕ → Option (Member × List ℕ × List ℕ × List ℕ)
 member_at total (word ∷ at ∷ main) attrs runs =
-    only_if (joined (first_of word) (second_of word) (third_of word) (fourth_of word) == word) (only_if (at == total - length attrs) (do
+    only_if (four_numbers (first_of word) (second_of word) (third_of word) (fourth_of word) == word) (only_if (at == total - length attrs) (do
       own ← attributes_from total (fourth_of word) attrs runs
       Some (record { flags = first_of word; name = second_of word; descriptor = third_of word; attributes = own.0 }, main, own.1, own.2)))
 member_at total _ attrs runs = None

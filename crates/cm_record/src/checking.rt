@@ -47,7 +47,7 @@ fn skip_constant<'a, 'b>(
     };
     let at = (total - runs.len()) as u64;
     match entry_at(at, *word)? {
-        Entry::Text(count) => {
+        Entry::Utf8(count) => {
             let runs = skip_run(count as usize, runs)?;
             Some((false, main, runs))
         }
@@ -161,7 +161,7 @@ fn skip_attributes<'a, 'b>(
 }
 
 /// What is left behind a member.
-#[tactic(auto, using(crate::proofs::Digits::joined_test), unfolding(crate::specs::Reading::member_at))]
+#[tactic(auto, using(crate::proofs::Digits::four_numbers_test), unfolding(crate::specs::Reading::member_at))]
 fn skip_member<'a, 'b, 'c>(
     total: usize,
     main: &'a [u64],

@@ -12,7 +12,7 @@ use cm_class::Constant;
 /// whole constant.
 #[derive(Debug, Drop)]
 pub(crate) enum Entry {
-    Text(u16),
+    Utf8(u16),
     Long,
     Double,
     Whole(Constant),
@@ -57,7 +57,7 @@ fn candidate(word: u64) -> Option<Entry>
 {
     let (one, two) = (third(word), fourth(word));
     let whole = match first(word) {
-        1 => return Some(Entry::Text(second(word))),
+        1 => return Some(Entry::Utf8(second(word))),
         3 => Constant::Integer(upper(word)),
         4 => Constant::Float(upper(word)),
         5 => return Some(Entry::Long),
@@ -150,7 +150,7 @@ fn entry_word(at: u64, entry: &Entry) -> u64
     ensures { result ≡ entry_word_of at entry.now }
 {
     match entry {
-        Entry::Text(count) => 1 + SECOND * u64::from(*count) + THIRD * at,
+        Entry::Utf8(count) => 1 + SECOND * u64::from(*count) + THIRD * at,
         Entry::Long => 5,
         Entry::Double => 6,
         Entry::Whole(constant) => whole_word(constant),

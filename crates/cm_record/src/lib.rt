@@ -3,6 +3,7 @@
 #![tactic(auto)]
 
 mod checking;
+mod constant;
 mod entry;
 mod laws;
 mod names;
@@ -15,6 +16,7 @@ mod refusal;
 mod sections;
 mod whole;
 
+pub use constant::Constant;
 pub use laws::layout_determines_class;
 pub use record::{Record, build};
 pub use refusal::{RecordFault, RecordRefusal};

@@ -1,6 +1,6 @@
 //! Bytes in words, and small numbers side by side in a word.
 ghost use Rattle.std.specs.Prelude.{◌≡◌, ◌<◌, ◌≤◌, ◌+◌, ◌*◌, ◌++◌, ℕ, length, take, drop, slice_index, IfOk, OnOk};
-ghost use Rattle.cm_record.specs.Packing.{word_from, bytes_of as word_bytes_of, packed, packed_into, word_bytes, run_words as words_of_run, joined as joined_of};
+ghost use Rattle.cm_record.specs.Packing.{word_from, bytes_of as word_bytes_of, packed, packed_into, word_bytes, run_words as words_of_run, four_numbers as four_numbers_of};
 
 use std::alloc::AllocError;
 
@@ -12,8 +12,8 @@ pub(crate) const THIRD: u64 = 1 << 32;
 pub(crate) const FOURTH: u64 = 1 << 48;
 
 /// Four numbers in one word, the first of them lowest.
-pub(crate) fn joined(first: u16, second: u16, third: u16, fourth: u16) -> u64
-    ensures { result ≡ joined_of first second third fourth }
+pub(crate) fn four_numbers(first: u16, second: u16, third: u16, fourth: u16) -> u64
+    ensures { result ≡ four_numbers_of first second third fourth }
 {
     u64::from(first)
         + SECOND * u64::from(second)
@@ -22,7 +22,7 @@ pub(crate) fn joined(first: u16, second: u16, third: u16, fourth: u16) -> u64
 }
 
 /// The first bytes of fewer than eight, with zeros behind them.
-fn filled_up(bytes: &[u8]) -> [u8; 8]
+fn pad_to_eight(bytes: &[u8]) -> [u8; 8]
     ensures { (k : ℕ) → k < 8 → slice_index result k ≡ slice_index bytes.now k }
 {
     let mut eight = [0u8; 8];
@@ -38,7 +38,7 @@ fn first_eight(bytes: &[u8]) -> [u8; 8]
     // Most words of a run are whole ones.
     match bytes.first_chunk::<8>() {
         Some(eight) => *eight,
-        None => filled_up(bytes),
+        None => pad_to_eight(bytes),
     }
 }
 

@@ -1,13 +1,13 @@
 //! The parts of a class's record, each made of sections.
 ghost use Rattle.std.specs.Prelude.{◌≡◌, ◌≤◌, ◌+◌, ◌++◌, ◌∷◌, length, OnOk, IfOk};
-ghost use Rattle.cm_record.specs.Layout.{head, directory, members, member_attributes, attributes, attribute_runs, text_runs, all_members, all_attributes, attributes_at, runs_at, attribute_runs_at, record_len, limit};
+ghost use Rattle.cm_record.specs.Layout.{head, directory, members, member_attributes, attributes, attribute_runs, utf8_runs, all_members, all_attributes, attributes_at, runs_at, attribute_runs_at, record_len, limit};
 ghost use Rattle.cm_record.specs.Places.{ArePlaces};
 
-use crate::packing::joined;
+use crate::packing::four_numbers;
 use crate::places::Places;
 use crate::sections::{
     push_attribute_runs, push_attributes, push_directory, push_interfaces, push_members,
-    push_text_runs,
+    push_utf8_runs,
 };
 use cm_class::{Class, Member};
 use std::alloc::AllocError;
@@ -56,13 +56,13 @@ pub(crate) fn push_head(
     );
     words.extend_from_slice(&[
         places.len,
-        joined(
+        four_numbers(
             class.flags(),
             class.this_class(),
             class.super_class(),
             counts.0 as u16,
         ),
-        joined(
+        four_numbers(
             counts.1 as u16,
             counts.2 as u16,
             class.methods().len() as u16,
@@ -105,12 +105,12 @@ pub(crate) fn push_attributes_and_runs(
     requires places { ArePlaces class.now places.now }
     requires short { record_len class.now ≤ limit }
     ensures { OnOk result (words.new.items ≡ words.old.items ++ attributes (attribute_runs_at class.now) (all_attributes class.now)
-        ++ text_runs class.now.slots ++ attribute_runs (all_attributes class.now)) }
+        ++ utf8_runs class.now.slots ++ attribute_runs (all_attributes class.now)) }
 {
     let next = push_member_attributes(words, places.attribute_runs, class.fields())?;
     let next = push_member_attributes(words, next, class.methods())?;
     push_attributes(words, next, class.attributes())?;
-    push_text_runs(words, class.slots())?;
+    push_utf8_runs(words, class.slots())?;
     push_member_runs(words, class.fields())?;
     push_member_runs(words, class.methods())?;
     push_attribute_runs(words, class.attributes())

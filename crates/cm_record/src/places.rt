@@ -1,7 +1,7 @@
 //! Where the sections of a class's record lie.
 ghost use Rattle.std.specs.Prelude.{◌≡◌, ◌<◌, ◌≤◌, ◌+◌, ◌-◌, ◌*◌, ◌^◌, length, min, IsNone, IfSome};
 ghost use Rattle.cm_class.specs.Spelling.{HasSpelling};
-ghost use Rattle.cm_record.specs.Layout.{text_runs, member_attributes, attribute_runs, record_len, lay, limit};
+ghost use Rattle.cm_record.specs.Layout.{utf8_runs, member_attributes, attribute_runs, record_len, lay, limit};
 
 use crate::sections::{attribute_run_words, slot_run_words};
 use cm_class::{Attribute, Class, Member, Slot};
@@ -10,8 +10,8 @@ use cm_class::{Attribute, Class, Member, Slot};
 pub(crate) const MAX_WORDS: u64 = 524_288;
 
 /// How many words the runs of the pool take; the greatest u64 stands for more.
-fn text_words(slots: &[Slot]) -> u64
-    ensures { result ≡ min (length (text_runs slots.now)) (2 ^ 64 - 1) }
+fn utf8_words(slots: &[Slot]) -> u64
+    ensures { result ≡ min (length (utf8_runs slots.now)) (2 ^ 64 - 1) }
 {
     let mut total: u64 = 0;
     for slot in slots {
@@ -77,7 +77,7 @@ fn words_of(class: &Class) -> u64
     let _spelled = class.flags();
     let counted = 9 + class.slots().len() as u64 + class.interfaces().len() as u64;
     counted
-        .saturating_add(text_words(class.slots()))
+        .saturating_add(utf8_words(class.slots()))
         .saturating_add(member_words(class.fields()))
         .saturating_add(member_words(class.methods()))
         .saturating_add(attribute_words(class.attributes()))
@@ -105,7 +105,7 @@ impl Places {
         let own = class.attributes().len() as u64;
         let count = attribute_count(class.fields()) + attribute_count(class.methods()) + own;
         let runs = attributes + 2 * count;
-        let attribute_runs = runs + text_words(class.slots());
+        let attribute_runs = runs + utf8_words(class.slots());
         Some(Places {
             interfaces,
             members,

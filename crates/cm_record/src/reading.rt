@@ -11,7 +11,7 @@ use cm_class::{Attribute, Constant, Items, Member, Slot};
 use std::alloc::Global;
 
 /// A run of so many bytes, and the words behind it.
-fn read_run<'a>(
+pub(crate) fn read_run<'a>(
     alloc: Global,
     count: usize,
     words: &'a [u64],
@@ -56,7 +56,7 @@ fn read_constant<'a, 'b>(
     };
     let at = (total - runs.len()) as u64;
     match entry_at(at, *word).ok_or(RecordFault::NotARecord)? {
-        Entry::Text(count) => {
+        Entry::Utf8(count) => {
             let (bytes, runs) = read_run(alloc, count as usize, runs)?;
             Ok((Constant::Utf8(Items::from_vec(bytes)), main, runs))
         }
@@ -181,7 +181,7 @@ pub(crate) fn read_attributes<'a, 'b>(
 }
 
 /// A member, from the members, the attributes and the runs.
-#[tactic(auto, using(crate::proofs::Digits::joined_test), unfolding(crate::specs::Reading::member_at))]
+#[tactic(auto, using(crate::proofs::Digits::four_numbers_test), unfolding(crate::specs::Reading::member_at))]
 fn read_member<'a, 'b, 'c>(
     alloc: Global,
     total: usize,

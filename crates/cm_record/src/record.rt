@@ -1,16 +1,19 @@
 //! The record of a class.
-ghost use Rattle.std.specs.Prelude.{◌≡◌, ◌≤◌, ◌<◌, ◌↔◌, ◌*◌, length, IfOk, OnOk, IsErrOf, option_map};
+ghost use Rattle.std.specs.Prelude.{◌≡◌, ◌≤◌, ◌<◌, ◌↔◌, ◌+◌, ◌*◌, length, get_or, IfOk, OnOk, IsErrOf, IsTrue, option_map};
 ghost use Rattle.cm_record.specs.declared.refusal.RecordRefusal.TheVariants as refusal;
 ghost use Rattle.cm_record.specs.declared.refusal.RecordFault.TheVariants as fault;
 ghost use Rattle.cm_class.specs.declared.class_file.ClassFile.{ClassFile};
 ghost use Rattle.cm_record.specs.Packing.{word_bytes, packed_into};
 ghost use Rattle.cm_record.specs.Names.{class_name_of, super_name_of};
 ghost use Rattle.cm_record.specs.Layout.{lay, record_len, limit, IsRecord, IsRecordOf};
+ghost use Rattle.cm_record.specs.Constants.{constant_kept};
 ghost use Rattle.cm_record.specs.Places.{ArePlaces};
+ghost use Rattle.cm_record.specs.Reading.{first_of};
 
 use crate::checking::is_record;
-use crate::entry::first;
-use crate::names::name_at;
+use crate::constant::{Constant, constant_at_index};
+use crate::entry::{first, second, third};
+use crate::names::{is_same_run, name_run, run_bytes};
 use crate::packing::write_words;
 use crate::parts::{push_attributes_and_runs, push_head, push_pool_and_members};
 use crate::places::Places;
@@ -63,6 +66,15 @@ pub fn build(alloc: Global, class: &Class) -> Result<Record, RecordRefusal>
 }
 
 impl Record {
+    /// Its words.
+    fn as_slice(&self) -> &[u64]
+        ensures words { result.now ≡ self.now }
+        ensures record { IsRecord result.now }
+        ensures directory { 8 + first_of (get_or result.now 2 0) ≤ length result.now }
+    {
+        self.words.as_slice()
+    }
+
     /// The record of these words. `NotARecord` comes exactly where no class has them as its record, so `NoMemory`
     /// is only told of the words of a record.
     pub fn read(alloc: Global, words: &[u64]) -> Result<Record, RecordFault>
@@ -102,7 +114,15 @@ impl Record {
     pub fn flags(&self) -> u16
         ensures { (c : ClassFile) → IsRecordOf c self.now → result ≡ c.flags }
     {
-        first(self.words[1])
+        first(self.as_slice()[1])
+    }
+
+    /// The constant at an index of the pool, which counts from 1; none at 0, at the second index of a Long or a Double,
+    /// and behind the pool.
+    pub fn constant(&self, index: u16) -> Option<Constant>
+        ensures { (c : ClassFile) → IsRecordOf c self.now → result ≡ constant_kept c index }
+    {
+        constant_at_index(self.as_slice(), index)
     }
 
     /// Its class.
@@ -120,8 +140,8 @@ impl Record {
     pub fn class_name(&self, alloc: Global) -> Result<Vec<u8>, AllocError>
         ensures { (c : ClassFile) → IsRecordOf c self.now → IfOk result (λ name. name.items ≡ class_name_of c) }
     {
-        let class = self.to_class(alloc)?;
-        Vec::from_slice(alloc, name_at(class.slots(), class.this_class()))
+        let words = self.as_slice();
+        run_bytes(alloc, words, name_run(words, second(words[1])))
     }
 
     /// The name of the super class, as that of the class; none where there is no super class.
@@ -129,11 +149,21 @@ impl Record {
         ensures { (c : ClassFile) → IsRecordOf c self.now
             → IfOk result (λ name. option_map (λ bytes. bytes.items) name ≡ super_name_of c) }
     {
-        let class = self.to_class(alloc)?;
-        let index = class.super_class();
+        let words = self.as_slice();
+        let index = third(words[1]);
         if index == 0 {
             return Ok(None);
         }
-        Ok(Some(Vec::from_slice(alloc, name_at(class.slots(), index))?))
+        Ok(Some(run_bytes(alloc, words, name_run(words, index))?))
+    }
+
+    /// Whether the class of another record has the same name.
+    pub fn same_name(&self, other: &Record) -> bool
+        ensures { (c d : ClassFile) → IsRecordOf c self.now → IsRecordOf d other.now
+            → IsTrue result ↔ (class_name_of c ≡ class_name_of d) }
+    {
+        let (words, others) = (self.as_slice(), other.as_slice());
+        let name = name_run(words, second(words[1]));
+        is_same_run(words, name, others, name_run(others, second(others[1])))
     }
 }

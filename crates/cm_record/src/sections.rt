@@ -3,15 +3,15 @@ ghost use Rattle.std.specs.Prelude.{◌≡◌, ◌≤◌, ◌<◌, ◌+◌, ◌*
 ghost use Rattle.std.specs.List.{AllByRecursion};
 ghost use Rattle.cm_class.specs.Spelling.{MemberFits};
 ghost use Rattle.cm_record.specs.Packing.{run_words as run_words_of};
-ghost use Rattle.cm_record.specs.Layout.{constant_words, constant_run, slot_run, directory, text_runs, members, member_attributes, attributes, attribute_run, attribute_runs, limit};
+ghost use Rattle.cm_record.specs.Layout.{constant_words, constant_run, slot_run, directory, utf8_runs, members, member_attributes, attributes, attribute_run, attribute_runs, limit};
 
 use crate::entry::whole_word;
-use crate::packing::{SECOND, THIRD, joined, push_run, run_words};
+use crate::packing::{SECOND, THIRD, four_numbers, push_run, run_words};
 use cm_class::{Attribute, Constant, Member, Slot};
 use std::alloc::AllocError;
 
 /// The word of a Utf8 whose run begins at `at`.
-fn text_word(at: u64, bytes: &[u8]) -> u64
+fn utf8_word(at: u64, bytes: &[u8]) -> u64
     requires { at + run_words_of (length bytes.now) ≤ limit }
     ensures { result ≡ 1 + 2 ^ 16 * length bytes.now + 2 ^ 32 * at }
 {
@@ -24,7 +24,7 @@ fn push_constant(words: &mut Vec<u64>, at: u64, constant: &Constant) -> Result<(
     ensures { OnOk result (words.new.items ≡ words.old.items ++ constant_words at constant.now) }
 {
     match constant {
-        Constant::Utf8(bytes) => words.push(text_word(at, bytes.as_slice()))?,
+        Constant::Utf8(bytes) => words.push(utf8_word(at, bytes.as_slice()))?,
         Constant::Long(bits) | Constant::Double(bits) => {
             words.push(whole_word(constant))?;
             words.push(*bits)?;
@@ -60,7 +60,7 @@ pub(crate) fn push_directory(
     at: u64,
     slots: &[Slot],
 ) -> Result<(), AllocError>
-    requires { at + length (text_runs slots.now) ≤ limit }
+    requires { at + length (utf8_runs slots.now) ≤ limit }
     ensures { OnOk result (words.new.items ≡ words.old.items ++ directory at slots.now) }
 {
     let mut at = at;
@@ -74,8 +74,8 @@ pub(crate) fn push_directory(
 }
 
 /// Adds the runs of the constant pool.
-pub(crate) fn push_text_runs(words: &mut Vec<u64>, slots: &[Slot]) -> Result<(), AllocError>
-    ensures { OnOk result (words.new.items ≡ words.old.items ++ text_runs slots.now) }
+pub(crate) fn push_utf8_runs(words: &mut Vec<u64>, slots: &[Slot]) -> Result<(), AllocError>
+    ensures { OnOk result (words.new.items ≡ words.old.items ++ utf8_runs slots.now) }
 {
     for slot in slots {
         if let Slot::Usable(Constant::Utf8(bytes)) = slot {
@@ -109,7 +109,7 @@ pub(crate) fn push_members(
     let mut at = at;
     for member in these {
         let count = member.attributes.as_slice().len();
-        words.push(joined(member.flags, member.name, member.descriptor, count as u16))?;
+        words.push(four_numbers(member.flags, member.name, member.descriptor, count as u16))?;
         words.push(at)?;
         at += 2 * count as u64;
     }

@@ -2,8 +2,8 @@ use Rattle.std.proofs.Common.{ap, length, arith}
 use Rattle.cm_record.proofs.Packed.{packed_len}
 use Rattle.cm_record.proofs.sections.push_constant.Goals as goal
 
-pub text_word-requires : goal.text_word-requires
-text_word-requires c =
+pub utf8_word-requires : goal.utf8_word-requires
+utf8_word-requires c =
     let here = rw c.in-Utf8.is at c.requires in
     let same = ap length c.as_slice.ensures in
     omega (arith, here, same, packed_len c.in-Utf8.bytes)

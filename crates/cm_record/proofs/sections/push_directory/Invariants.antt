@@ -1,9 +1,9 @@
 use Rattle.std.proofs.Common.{◌≡◌, ◌≤◌, ◌+◌, ◌++◌, length, drop}
-use Rattle.cm_record.specs.Layout.{directory, text_runs, limit}
+use Rattle.cm_record.specs.Layout.{directory, utf8_runs, limit}
 use Rattle.cm_record.proofs.sections.push_directory.Given as goal
 
 abbrev pub invariant-loop-slot : goal.invariant-loop-slot
 invariant-loop-slot l = record {
   added : l.words.items ++ directory l.at (drop l.slot-index l.slots) ≡ l.fn.words.items ++ directory l.fn.at l.slots;
-  room : l.at + length (text_runs (drop l.slot-index l.slots)) ≤ limit;
+  room : l.at + length (utf8_runs (drop l.slot-index l.slots)) ≤ limit;
 }

@@ -1,12 +1,18 @@
-use Rattle.std.proofs.Common.{◌≡◌, ◌∙◌, ap}
-use Rattle.std.proofs.lemmas.Result.{IfOk-weaker}
-use Rattle.cm_record.specs.Names.{name_at, class_name_of}
-use Rattle.cm_record.proofs.WholeRecord.{same_class}
+use Rattle.std.proofs.Common.{◌∙◌, ap, sym, subst, List, ℕ}
+use Rattle.cm_record.specs.Layout.{IsRecordOf}
+use Rattle.cm_record.specs.Names.{class_name_of}
+use Rattle.cm_record.specs.Runs.{IsRunOf, name_run}
+use Rattle.cm_record.proofs.RunPlaces.{own_name}
 use Rattle.cm_record.proofs.record.Record.class_name.Goals as goal
+
+pub run_bytes-requires : goal.run_bytes-requires
+run_bytes-requires c =
+    let words = c.as_slice-words.result.now in
+    let is = c.as_slice-words.ensures.record in
+    (class_name_of is.0, subst (λ (r : ℕ × ℕ). IsRunOf words r (class_name_of is.0)) (sym (c.name_run.ensures ∙ ap (name_run words) c.second.ensures)) (own_name is.0 words is.1))
 
 pub returns : goal.returns
 returns c = λ d is.
-    let class = c.in_ok-class.class in
-    let name : c.name_at.result.now ≡ class_name_of class = c.name_at.ensures ∙ (ap (λ xs. name_at xs c.this_class.result) c.slots.ensures ∙ ap (name_at class.slots) c.this_class.ensures) in
-    let same : class ≡ d = same_class class d c.args.self.now c.in_ok-class.ensures is in
-    IfOk-weaker c.from_slice.result _ _ (λ v items. items ∙ (name ∙ ap class_name_of same)) c.from_slice.ensures.items
+    let words = c.as_slice-words.result.now in
+    let of : IsRecordOf d words = subst (IsRecordOf d) (sym c.as_slice-words.ensures.words) is in
+    c.run_bytes.ensures (class_name_of d) (subst (λ (r : ℕ × ℕ). IsRunOf words r (class_name_of d)) (sym (c.name_run.ensures ∙ ap (name_run words) c.second.ensures)) (own_name d words of))

@@ -1,0 +1,74 @@
+-- The constants of a pool, as a record keeps them.
+use Rattle.std.specs.Prelude.{ℕ, zero, suc, ◌+◌, ◌-◌, ◌*◌, ◌/◌, ◌%◌, ◌^◌, Bool, true, false, not, ◌&&◌, ◌||◌, List, length, take, get_or, Option, Some, None, option_map, nat_le, ◌==◌, if◌then◌else◌}
+use Rattle.cm_class.specs.declared.constant.Constant.{Constant as Spelled}
+use Rattle.cm_class.specs.declared.constant.Constant.TheVariants as constant
+use Rattle.cm_class.specs.declared.class_file.ClassFile.{ClassFile}
+use Rattle.cm_class.specs.Names.{constant_named}
+use Rattle.cm_record.specs.declared.constant.Constant.{Constant}
+use Rattle.cm_record.specs.declared.constant.Constant.TheVariants as kept
+use Rattle.cm_record.specs.Layout.{utf8_runs, runs_at}
+use Rattle.cm_record.specs.Reading.{first_of, second_of, third_of, fourth_of, upper_of}
+
+-- a constant, whose run begins at the word `at`: a Utf8 by where its bytes lie, any other by its numbers
+abbrev pub kept_constant : ℕ → Spelled → Constant
+kept_constant at (constant.Utf8 bytes) = kept.Utf8 (8 * at) (length bytes)
+kept_constant at (constant.Integer bits) = kept.Integer bits
+kept_constant at (constant.Float bits) = kept.Float bits
+kept_constant at (constant.Long bits) = kept.Long bits
+kept_constant at (constant.Double bits) = kept.Double bits
+kept_constant at (constant.Class name) = kept.Class name
+kept_constant at (constant.String text) = kept.String text
+kept_constant at (constant.Fieldref class name_and_type) = kept.Fieldref class name_and_type
+kept_constant at (constant.Methodref class name_and_type) = kept.Methodref class name_and_type
+kept_constant at (constant.InterfaceMethodref class name_and_type) = kept.InterfaceMethodref class name_and_type
+kept_constant at (constant.NameAndType name descriptor) = kept.NameAndType name descriptor
+kept_constant at (constant.MethodHandle kind reference) = kept.MethodHandle kind reference
+kept_constant at (constant.MethodType descriptor) = kept.MethodType descriptor
+kept_constant at (constant.InvokeDynamic bootstrap_method name_and_type) = kept.InvokeDynamic bootstrap_method name_and_type
+
+-- the word at which the run of the constant at an index begins, in the record of the class
+abbrev pub utf8_at : ClassFile → ℕ → ℕ
+utf8_at c index = runs_at c + length (utf8_runs (take (index - 1) c.slots))
+
+-- the constant at an index of the class's pool, as its record keeps it; none at 0, at the second index of a Long or a
+-- Double, and behind the pool
+abbrev pub constant_kept : ClassFile → ℕ → Option Constant
+constant_kept c index = option_map (kept_constant (utf8_at c index)) (constant_named c index)
+
+-- ---- the same from the words
+
+-- the directory word of a Long or a Double
+abbrev pub is_wide_word : ℕ → Bool
+is_wide_word word = (word == 5) || (word == 6)
+
+-- Word k is the second of a Long or a Double, where word 0 isn't: the word before it is that of one, and isn't the
+-- second of another.
+abbrev pub is_second_word : List ℕ → ℕ → Bool
+is_second_word words zero = false
+is_second_word words (suc k) = is_wide_word (get_or words k 0) && not (is_second_word words k)
+
+-- a constant, by its directory word and the one behind it
+unfoldable pub word_kept : ℕ → ℕ → Option Constant
+word_kept word next =
+    if first_of word == 1 then Some (kept.Utf8 (upper_of word * 8 % 2 ^ 32) (second_of word))
+    else if first_of word == 3 then Some (kept.Integer (upper_of word))
+    else if first_of word == 4 then Some (kept.Float (upper_of word))
+    else if first_of word == 5 then Some (kept.Long next)
+    else if first_of word == 6 then Some (kept.Double next)
+    else if first_of word == 7 then Some (kept.Class (third_of word))
+    else if first_of word == 8 then Some (kept.String (third_of word))
+    else if first_of word == 9 then Some (kept.Fieldref (third_of word) (fourth_of word))
+    else if first_of word == 10 then Some (kept.Methodref (third_of word) (fourth_of word))
+    else if first_of word == 11 then Some (kept.InterfaceMethodref (third_of word) (fourth_of word))
+    else if first_of word == 12 then Some (kept.NameAndType (third_of word) (fourth_of word))
+    else if first_of word == 15 then Some (kept.MethodHandle (word / 2 ^ 32 % 2 ^ 8) (fourth_of word))
+    else if first_of word == 16 then Some (kept.MethodType (third_of word))
+    else if first_of word == 18 then Some (kept.InvokeDynamic (third_of word) (fourth_of word))
+    else None
+
+abbrev pub constant_at_index : List ℕ → ℕ → Option Constant
+constant_at_index words index =
+    if index == 0 then None
+    else if nat_le (first_of (get_or words 2 0)) index then None
+    else if is_second_word words (8 + index) then None
+    else word_kept (get_or words (8 + index) 0) (get_or words (9 + index) 0)

@@ -1,0 +1,154 @@
+//! The constants of a record, one look at the directory each.
+ghost use Rattle.std.specs.Prelude.{◌≡◌, ◌≤◌, ◌+◌, length, get_or};
+ghost use Rattle.cm_record.specs.Reading.{first_of};
+ghost use Rattle.cm_record.specs.Constants.{is_wide_word as is_wide_word_of, is_second_word as is_second_word_of, word_kept as word_kept_of, constant_at_index as constant_at_index_of};
+
+use crate::entry::{first, fourth, second, third, upper};
+use crate::packing::THIRD;
+
+/// A constant of the pool (JVMS 4.4), as a record keeps it. Each index is one of the pool, from 1 on.
+#[derive(Clone, Copy, Debug, PartialEq, Eq)]
+pub enum Constant {
+    /// Tag 1: where its bytes begin, counted in bytes from the record's first, and how many there are.
+    Utf8 {
+        at: u32,
+        len: u16,
+    },
+    /// Tag 3: the number's bits.
+    Integer(u32),
+    /// Tag 4: the number's bits.
+    Float(u32),
+    /// Tag 5: the number's bits.
+    Long(u64),
+    /// Tag 6: the number's bits.
+    Double(u64),
+    /// Tag 7.
+    Class {
+        name: u16,
+    },
+    /// Tag 8.
+    String {
+        text: u16,
+    },
+    /// Tag 9.
+    Fieldref {
+        class: u16,
+        name_and_type: u16,
+    },
+    /// Tag 10.
+    Methodref {
+        class: u16,
+        name_and_type: u16,
+    },
+    /// Tag 11.
+    InterfaceMethodref {
+        class: u16,
+        name_and_type: u16,
+    },
+    /// Tag 12.
+    NameAndType {
+        name: u16,
+        descriptor: u16,
+    },
+    /// Tag 15: the kind says what the reference names.
+    MethodHandle {
+        kind: u8,
+        reference: u16,
+    },
+    /// Tag 16.
+    MethodType {
+        descriptor: u16,
+    },
+    /// Tag 18: the first is an index of the bootstrap methods, from 0 on, and not of the pool.
+    InvokeDynamic {
+        bootstrap_method: u16,
+        name_and_type: u16,
+    },
+}
+
+/// A constant, by its directory word and the one behind it.
+#[tactic(auto, unfolding(crate::specs::Constants::word_kept))]
+fn word_kept(word: u64, next: u64) -> Option<Constant>
+    ensures { result ≡ word_kept_of word next }
+{
+    let (one, two) = (third(word), fourth(word));
+    let constant = match first(word) {
+        1 => Constant::Utf8 {
+            // A record has fewer than 2^29 words.
+            at: (u64::from(upper(word)) * 8 % THIRD) as u32,
+            len: second(word),
+        },
+        3 => Constant::Integer(upper(word)),
+        4 => Constant::Float(upper(word)),
+        5 => Constant::Long(next),
+        6 => Constant::Double(next),
+        7 => Constant::Class { name: one },
+        8 => Constant::String { text: one },
+        9 => Constant::Fieldref {
+            class: one,
+            name_and_type: two,
+        },
+        10 => Constant::Methodref {
+            class: one,
+            name_and_type: two,
+        },
+        11 => Constant::InterfaceMethodref {
+            class: one,
+            name_and_type: two,
+        },
+        12 => Constant::NameAndType {
+            name: one,
+            descriptor: two,
+        },
+        15 => Constant::MethodHandle {
+            kind: (word / THIRD % 256) as u8,
+            reference: two,
+        },
+        16 => Constant::MethodType { descriptor: one },
+        18 => Constant::InvokeDynamic {
+            bootstrap_method: one,
+            name_and_type: two,
+        },
+        _ => return None,
+    };
+    Some(constant)
+}
+
+/// The directory word of a Long or a Double.
+fn is_wide_word(word: u64) -> bool
+    ensures { result ≡ is_wide_word_of word }
+{
+    word == 5 || word == 6
+}
+
+/// Whether a word of the directory is the second of a Long or a Double. It goes back over the words that could be
+/// those of Longs and Doubles, and in most classes there is none.
+fn is_second_word(words: &[u64], place: usize) -> bool
+    requires { place ≤ length words.now }
+    ensures { result ≡ is_second_word_of words.now place }
+{
+    let mut second = false;
+    let mut place = place;
+    while place > 0 && is_wide_word(words[place - 1]) {
+        second = !second;
+        place -= 1;
+    }
+    second
+}
+
+/// The constant at an index of the pool.
+pub(crate) fn constant_at_index(words: &[u64], index: u16) -> Option<Constant>
+    requires { 8 + first_of (get_or words.now 2 0) ≤ length words.now }
+    ensures { result ≡ constant_at_index_of words.now index }
+{
+    let place = 8 + index as usize;
+    if index == 0 || index >= first(words[2]) || is_second_word(words, place) {
+        return None;
+    }
+    let next = if place + 1 < words.len() {
+        words[place + 1]
+    } else {
+        0
+    };
+    word_kept(words[place], next)
+}
