@@ -12,4 +12,6 @@ pub mod TakenRecord
 pub mod Skips
 pub mod Constants
 pub mod RunPlaces
+pub mod RunTests
+pub mod MemberPlaces
 pub mod WorkedExamples

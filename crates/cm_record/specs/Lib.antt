@@ -5,3 +5,4 @@ pub mod Reading
 pub mod Names
 pub mod Constants
 pub mod Runs
+pub mod Members

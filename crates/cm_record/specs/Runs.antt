@@ -22,6 +22,11 @@ abbrev pub constant_run_place : Option Constant → ℕ × ℕ
 constant_run_place (Some (kept.Utf8 at count)) = (at / 8, count)
 constant_run_place _ = (0, 0)
 
+-- the run of a Utf8, where it is one
+abbrev pub utf8_place : Option Constant → Option (ℕ × ℕ)
+utf8_place (Some (kept.Utf8 at count)) = Some (at / 8, count)
+utf8_place _ = None
+
 abbrev pub utf8_run : List ℕ → ℕ → ℕ × ℕ
 utf8_run words index = constant_run_place (constant_at_index words index)
 

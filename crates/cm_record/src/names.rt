@@ -67,7 +67,7 @@ pub(crate) fn run_bytes(
 }
 
 /// The words of a run.
-fn run_slice(words: &[u64], run: (usize, usize)) -> &[u64]
+pub(crate) fn run_slice(words: &[u64], run: (usize, usize)) -> &[u64]
     requires { HasRun words.now run }
     ensures { (bytes : List ℕ) → IsRunOf words.now run bytes → result.now ≡ packed bytes }
 {

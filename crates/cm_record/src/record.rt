@@ -1,5 +1,5 @@
 //! The record of a class.
-ghost use Rattle.std.specs.Prelude.{◌≡◌, ◌≤◌, ◌<◌, ◌↔◌, ◌+◌, ◌*◌, length, get_or, IfOk, OnOk, IsErrOf, IsTrue, option_map};
+ghost use Rattle.std.specs.Prelude.{◌≡◌, ◌≤◌, ◌<◌, ◌↔◌, ◌+◌, ◌*◌, length, get_or, IfOk, OnOk, IsErrOf, IsTrue, true, false, option_map};
 ghost use Rattle.cm_record.specs.declared.refusal.RecordRefusal.TheVariants as refusal;
 ghost use Rattle.cm_record.specs.declared.refusal.RecordFault.TheVariants as fault;
 ghost use Rattle.cm_class.specs.declared.class_file.ClassFile.{ClassFile};
@@ -7,12 +7,14 @@ ghost use Rattle.cm_record.specs.Packing.{word_bytes, packed_into};
 ghost use Rattle.cm_record.specs.Names.{class_name_of, super_name_of};
 ghost use Rattle.cm_record.specs.Layout.{lay, record_len, limit, IsRecord, IsRecordOf};
 ghost use Rattle.cm_record.specs.Constants.{constant_kept};
+ghost use Rattle.cm_record.specs.Members.{FindsMember};
 ghost use Rattle.cm_record.specs.Places.{ArePlaces};
 ghost use Rattle.cm_record.specs.Reading.{first_of};
 
 use crate::checking::is_record;
 use crate::constant::{Constant, constant_at_index};
 use crate::entry::{first, second, third};
+use crate::member::{Member, find_member, member_at};
 use crate::names::{is_same_run, name_run, run_bytes};
 use crate::packing::write_words;
 use crate::parts::{push_attributes_and_runs, push_head, push_pool_and_members};
@@ -155,6 +157,31 @@ impl Record {
             return Ok(None);
         }
         Ok(Some(run_bytes(alloc, words, name_run(words, index))?))
+    }
+
+    /// The least field that has this name and this descriptor.
+    pub fn field(&self, name: &[u8], descriptor: &[u8]) -> Option<Member>
+        ensures { (c : ClassFile) → IsRecordOf c self.now → FindsMember c c.fields false name.now descriptor.now result }
+    {
+        let words = self.as_slice();
+        let (at, count) = (words[5] as usize, second(words[2]) as usize);
+        let Some(index) = find_member(words, at, count, name, descriptor) else {
+            return None;
+        };
+        Some(member_at(words, at, index, false))
+    }
+
+    /// The least method that has this name and this descriptor.
+    pub fn method(&self, name: &[u8], descriptor: &[u8]) -> Option<Member>
+        ensures { (c : ClassFile) → IsRecordOf c self.now → FindsMember c c.methods true name.now descriptor.now result }
+    {
+        let words = self.as_slice();
+        let fields = second(words[2]) as usize;
+        let (at, count) = (words[5] as usize + 2 * fields, third(words[2]) as usize);
+        let Some(index) = find_member(words, at, count, name, descriptor) else {
+            return None;
+        };
+        Some(member_at(words, at, index, true))
     }
 
     /// Whether the class of another record has the same name.

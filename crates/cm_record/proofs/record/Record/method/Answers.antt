@@ -1,0 +1,32 @@
+use Rattle.std.proofs.Common.{◌∙◌, ◌+◌, ◌*◌, sym, subst, true, refl, arith, get_or}
+use Rattle.cm_record.specs.Layout.{IsRecordOf}
+use Rattle.cm_record.specs.Members.{IsLeastMember}
+use Rattle.cm_record.proofs.MemberPlaces.{methods_have, methods_count, members_fit, none_found, least_found}
+use Rattle.cm_record.proofs.record.Record.method.Goals as goal
+
+pub overflow_add-at : goal.overflow_add-at
+overflow_add-at c =
+    let words = c.as_slice-words.result.now in
+    record { fits = omega (arith, c.second-fields.ensures, members_fit c.as_slice-words.ensures.record.0 words c.as_slice-words.ensures.record.1, c.as_slice-words.ensures.record.1.short) }
+
+pub find_member-requires-clause-within : goal.find_member-requires-clause-within
+find_member-requires-clause-within c =
+    let words = c.as_slice-words.result.now in
+    omega (arith, c.second-fields.ensures, c.third.ensures, members_fit c.as_slice-words.ensures.record.0 words c.as_slice-words.ensures.record.1)
+
+pub returns-in_default : goal.returns-in_default
+returns-in_default c = λ d is.
+    let words = c.as_slice-words.result.now in
+    let at = get_or words 5 0 + 2 * c.second-fields.result in
+    let of : IsRecordOf d words = subst (IsRecordOf d) (sym c.as_slice-words.ensures.words) is in
+    none_found d words at c.third.result d.methods c.args.name.now c.args.descriptor.now (methods_have d words of at c.second-fields.result refl c.second-fields.ensures) (c.third.ensures ∙ methods_count d words of)
+    (c.in_default.ensures.none d of refl)
+
+pub returns : goal.returns
+returns c = λ d is.
+    let words = c.as_slice-words.result.now in
+    let at = get_or words 5 0 + 2 * c.second-fields.result in
+    let of : IsRecordOf d words = subst (IsRecordOf d) (sym c.as_slice-words.ensures.words) is in
+    subst (IsLeastMember d d.methods true c.args.name.now c.args.descriptor.now) (sym c.member_at.ensures)
+    (least_found d words at c.third.result d.methods c.args.name.now c.args.descriptor.now (methods_have d words of at c.second-fields.result refl c.second-fields.ensures) (c.third.ensures ∙ methods_count d words of)
+    true c.in-Some.index (c.in-Some.ensures.some d of))

@@ -1,0 +1,73 @@
+//! The fields and methods of a record, by name and descriptor.
+ghost use Rattle.std.specs.Prelude.{◌≡◌, ◌≤◌, ◌<◌, ◌+◌, ◌*◌, ◌^◌, ℕ, false, length, get_or, IsNone, IfSome};
+ghost use Rattle.cm_class.specs.declared.class_file.ClassFile.{ClassFile};
+ghost use Rattle.cm_record.specs.Layout.{IsRecord, IsRecordOf};
+ghost use Rattle.cm_record.specs.Reading.{first_of, second_of, third_of, fourth_of};
+ghost use Rattle.cm_record.specs.Members.{leads_to, IsFirst};
+
+use crate::entry::{first, fourth, second, third};
+use crate::utf8::is_utf8_of;
+
+/// A field or a method, as a record names it (JVMS 4.5, 4.6).
+#[derive(Clone, Copy, Debug, PartialEq, Eq)]
+pub struct Member {
+    /// A method, and not a field.
+    pub is_method: bool,
+    /// How many fields, or methods, stand before it.
+    pub index: u16,
+    pub flags: u16,
+    /// How many attributes it has.
+    pub attributes: u16,
+}
+
+/// Whether the word of a member leads to this name and this descriptor.
+fn is_word_of(words: &[u64], word: u64, name: &[u8], descriptor: &[u8]) -> bool
+    requires { IsRecord words.now }
+    ensures { (c : ClassFile) → IsRecordOf c words.now
+        → result ≡ leads_to c name.now descriptor.now (second_of word) (third_of word) }
+{
+    is_utf8_of(words, second(word), name) && is_utf8_of(words, third(word), descriptor)
+}
+
+/// The least of so many members, whose words begin at `at`, that has this name and this descriptor.
+pub(crate) fn find_member(
+    words: &[u64],
+    at: usize,
+    count: usize,
+    name: &[u8],
+    descriptor: &[u8],
+) -> Option<usize>
+    requires record { IsRecord words.now }
+    requires within { at + 2 * count ≤ length words.now }
+    ensures none { (c : ClassFile) → IsRecordOf c words.now → IsNone result → (k : ℕ) → k < count
+        → leads_to c name.now descriptor.now (second_of (get_or words.now (at + 2 * k) 0)) (third_of (get_or words.now (at + 2 * k) 0)) ≡ false }
+    ensures some { (c : ClassFile) → IsRecordOf c words.now → IfSome result (IsFirst
+        (λ k. leads_to c name.now descriptor.now (second_of (get_or words.now (at + 2 * k) 0)) (third_of (get_or words.now (at + 2 * k) 0))) count) }
+{
+    for index in 0..count {
+        if is_word_of(words, words[at + 2 * index], name, descriptor) {
+            return Some(index);
+        }
+    }
+    None
+}
+
+/// A member, from its word, which is the first of two at its place behind the word `at`.
+pub(crate) fn member_at(words: &[u64], at: usize, index: usize, is_method: bool) -> Member
+    requires within { at + 2 * index < length words.now }
+    requires small { index < 2 ^ 16 }
+    ensures { result ≡ record {
+      is_method = is_method;
+      index = index;
+      flags = first_of (get_or words.now (at + 2 * index) 0);
+      attributes = fourth_of (get_or words.now (at + 2 * index) 0);
+    } }
+{
+    let word = words[at + 2 * index];
+    Member {
+        is_method,
+        index: index as u16,
+        flags: first(word),
+        attributes: fourth(word),
+    }
+}

@@ -1,0 +1,66 @@
+//! Whether an index of a record's pool leads to given bytes.
+ghost use Rattle.std.specs.Prelude.{◌≡◌, ◌≤◌, ◌↔◌, ℕ, List, length, drop, min, IsTrue};
+ghost use Rattle.cm_class.specs.declared.class_file.ClassFile.{ClassFile};
+ghost use Rattle.cm_class.specs.Names.{names_utf8};
+ghost use Rattle.cm_record.specs.Packing.{packed};
+ghost use Rattle.cm_record.specs.Layout.{IsRecord, IsRecordOf};
+ghost use Rattle.cm_record.specs.Runs.{IsRunOf, HasRun, utf8_place as utf8_place_of};
+
+use crate::constant::{Constant, constant_at_index};
+use crate::names::run_slice;
+use crate::packing::word_of;
+
+/// The bytes behind the first eight.
+#[tactic(auto, using(std::proofs::lemmas::List::take_rest))]
+fn behind_eight(bytes: &[u8]) -> &[u8]
+    ensures { result.now ≡ drop (min (length bytes.now) 8) bytes.now }
+{
+    &bytes[bytes.len().min(8)..]
+}
+
+/// Whether the words are the run of these bytes.
+fn is_run(words: &[u64], bytes: &[u8]) -> bool
+    ensures { IsTrue result ↔ (words.now ≡ packed bytes.now) }
+{
+    let (mut rest, mut left) = (words, bytes);
+    while !left.is_empty() {
+        let [word, behind @ ..] = rest else {
+            return false;
+        };
+        if word_of(left) != *word {
+            return false;
+        }
+        rest = behind;
+        left = behind_eight(left);
+    }
+    rest.is_empty()
+}
+
+/// Whether a run has these bytes.
+fn is_run_of(words: &[u64], run: (usize, usize), bytes: &[u8]) -> bool
+    requires { HasRun words.now run }
+    ensures { (xs : List ℕ) → IsRunOf words.now run xs → IsTrue result ↔ (xs ≡ bytes.now) }
+{
+    run.1 == bytes.len() && is_run(run_slice(words, run), bytes)
+}
+
+/// The run of a Utf8; none of anything else.
+fn utf8_place(constant: Option<Constant>) -> Option<(usize, usize)>
+    ensures { result ≡ utf8_place_of constant }
+{
+    match constant {
+        Some(Constant::Utf8 { at, len }) => Some((at as usize / 8, len as usize)),
+        _ => None,
+    }
+}
+
+/// Whether a Utf8 of these bytes stands at an index of the pool.
+pub(crate) fn is_utf8_of(words: &[u64], index: u16, bytes: &[u8]) -> bool
+    requires { IsRecord words.now }
+    ensures { (c : ClassFile) → IsRecordOf c words.now → result ≡ names_utf8 c index bytes.now }
+{
+    let Some(run) = utf8_place(constant_at_index(words, index)) else {
+        return false;
+    };
+    is_run_of(words, run, bytes)
+}
