@@ -12,6 +12,8 @@ pub mod TakenRecord
 pub mod Skips
 pub mod Constants
 pub mod RunPlaces
+pub mod RunBytes
 pub mod RunTests
 pub mod MemberPlaces
+pub mod AttributePlaces
 pub mod WorkedExamples

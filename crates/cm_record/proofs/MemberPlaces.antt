@@ -13,7 +13,7 @@ use Rattle.cm_record.proofs.Digits.{first-four_numbers, second-four_numbers, thi
 use Rattle.cm_record.proofs.Lengths.{all_members_len, members_len, directory_len, lay_len}
 use Rattle.cm_record.proofs.WholeRecord.{main_there, methods_at, attributes_tail, of_fields, word_5, fields_there, methods_there}
 
-twice_more : (k j : ℕ) → k ≡ 2 * suc j → (i : ℕ) × (k ≡ suc (suc i)) × (i ≡ 2 * j)
+pub twice_more : (k j : ℕ) → k ≡ 2 * suc j → (i : ℕ) × (k ≡ suc (suc i)) × (i ≡ 2 * j)
 twice_more zero j e = absurd (omega arith)
 twice_more (suc zero) j e = absurd (omega arith)
 twice_more (suc (suc i)) j e = (i, refl, omega arith)
@@ -30,7 +30,7 @@ member_word at (x ∷ these) tail k (suc j) m ek e =
     let more = twice_more k j ek in
     ap (λ n. get_or (members at (x ∷ these) ++ tail) n 0) more.1 ∙ member_word (at + 2 * length x.attributes) these tail more.0 j m more.2 e
 
-fits_there : (these : List ClassMember) (j : ℕ) (m : ClassMember) → AllByRecursion MemberFits these → slice_get these j ≡ Some m → MemberFits m
+pub fits_there : (these : List ClassMember) (j : ℕ) (m : ClassMember) → AllByRecursion MemberFits these → slice_get these j ≡ Some m → MemberFits m
 fits_there [] j m fits e = absurd (cc)
 fits_there (x ∷ these) zero m fits e = let same : x ≡ m = cc in subst MemberFits same fits.0
 fits_there (x ∷ these) (suc j) m fits e = fits_there these j m fits.1 e

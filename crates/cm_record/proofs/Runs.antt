@@ -50,7 +50,7 @@ padded_small bytes are i = elim (cases_lt i 8) [
 ]
 
 -- a word holds its bytes
-front_back : (bytes : List ℕ) → AreBytes bytes → take (length bytes) (bytes_of (word_from bytes)) ≡ take 8 bytes
+pub front_back : (bytes : List ℕ) → AreBytes bytes → take (length bytes) (bytes_of (word_from bytes)) ≡ take 8 bytes
 unfolding bytes_of padded
 front_back bytes are =
     let same : from_le_bytes w64 (padded bytes) ≡ word_from bytes = word_same (padded bytes) bytes (padded_at bytes) in

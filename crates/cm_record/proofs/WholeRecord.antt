@@ -52,7 +52,7 @@ module _ (c : ClassFile) where
       attributes_append (attribute_runs_at c) (of_fields ++ of_methods) c.attributes
       ∙ rw (place, attributes_append (attribute_runs_at c) of_fields of_methods) refl
 
-  tail_joined : attributes (attribute_runs_at c) (all_attributes c) ++ utf8_runs c.slots ++ attribute_runs (all_attributes c) ≡ attributes_tail
+  pub tail_joined : attributes (attribute_runs_at c) (all_attributes c) ++ utf8_runs c.slots ++ attribute_runs (all_attributes c) ≡ attributes_tail
   tail_joined = rw (attributes_split, all_runs c) (simp (append_assoc, append-nil))
 
   abbrev front : List ℕ

@@ -6,3 +6,4 @@ pub mod Names
 pub mod Constants
 pub mod Runs
 pub mod Members
+pub mod Code

@@ -3,6 +3,7 @@
 #![tactic(auto)]
 
 mod checking;
+mod code;
 mod constant;
 mod entry;
 mod laws;
@@ -18,6 +19,7 @@ mod sections;
 mod utf8;
 mod whole;
 
+pub use code::Code;
 pub use constant::Constant;
 pub use laws::layout_determines_class;
 pub use member::Member;

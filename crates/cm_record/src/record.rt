@@ -1,5 +1,5 @@
 //! The record of a class.
-ghost use Rattle.std.specs.Prelude.{◌≡◌, ◌≤◌, ◌<◌, ◌↔◌, ◌+◌, ◌*◌, length, get_or, IfOk, OnOk, IsErrOf, IsTrue, true, false, option_map};
+ghost use Rattle.std.specs.Prelude.{◌≡◌, ◌≤◌, ◌<◌, ◌↔◌, ◌+◌, ◌*◌, length, get_or, IfOk, OnOk, IsErrOf, IsTrue, ℕ, None, true, false, option_map};
 ghost use Rattle.cm_record.specs.declared.refusal.RecordRefusal.TheVariants as refusal;
 ghost use Rattle.cm_record.specs.declared.refusal.RecordFault.TheVariants as fault;
 ghost use Rattle.cm_class.specs.declared.class_file.ClassFile.{ClassFile};
@@ -8,10 +8,14 @@ ghost use Rattle.cm_record.specs.Names.{class_name_of, super_name_of};
 ghost use Rattle.cm_record.specs.Layout.{lay, record_len, limit, IsRecord, IsRecordOf};
 ghost use Rattle.cm_record.specs.Constants.{constant_kept};
 ghost use Rattle.cm_record.specs.Members.{FindsMember};
+ghost use Rattle.cm_record.specs.Code.{HasCode, HasNoCode, code_in, run_place};
+ghost use Rattle.cm_class.specs.declared.class_file.Member.{Member as ClassMember};
+ghost use Rattle.cm_class.specs.declared.class_file.Attribute.{Attribute};
 ghost use Rattle.cm_record.specs.Places.{ArePlaces};
 ghost use Rattle.cm_record.specs.Reading.{first_of};
 
 use crate::checking::is_record;
+use crate::code::{Code, attribute_run, code_in_run, find_code, method_attributes};
 use crate::constant::{Constant, constant_at_index};
 use crate::entry::{first, second, third};
 use crate::member::{Member, find_member, member_at};
@@ -182,6 +186,27 @@ impl Record {
             return None;
         };
         Some(member_at(words, at, index, true))
+    }
+
+    /// Where the code of a method lies; none of a field, where there is no such method, where it has no attribute Code, and
+    /// where the first one ends before its lengths, its code or its handlers do. It reads the method with that index.
+    pub fn code(&self, member: &Member) -> Option<Code>
+        ensures code { (c : ClassFile) (own : ClassMember) (j : ℕ) (a : Attribute) → IsRecordOf c self.now
+            → HasCode c member.now own j a → result ≡ code_in (8 * run_place c member.now.index own j) a.bytes }
+        ensures none { (c : ClassFile) → IsRecordOf c self.now → HasNoCode c member.now → result ≡ None }
+    {
+        if !member.is_method {
+            return None;
+        }
+        let words = self.as_slice();
+        if member.index >= third(words[2]) {
+            return None;
+        }
+        let (at, count) = method_attributes(words, member.index as usize);
+        let Some(found) = find_code(words, at, count) else {
+            return None;
+        };
+        code_in_run(words, attribute_run(words, at + 2 * found))
     }
 
     /// Whether the class of another record has the same name.

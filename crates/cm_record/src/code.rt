@@ -1,0 +1,126 @@
+//! The code of a method, found among the words of a record.
+ghost use Rattle.std.specs.Prelude.{◌≡◌, ◌≤◌, ◌<◌, ◌+◌, ◌*◌, ◌/◌, ◌%◌, ◌^◌, ℕ, List, Some, slice_get, false, length, get_or, IsNone, IfSome};
+ghost use Rattle.cm_class.specs.declared.class_file.ClassFile.{ClassFile};
+ghost use Rattle.cm_class.specs.declared.class_file.Member.{Member as ClassMember};
+ghost use Rattle.cm_class.specs.Names.{names_utf8};
+ghost use Rattle.cm_record.specs.Packing.{bytes_of as word_bytes_of};
+ghost use Rattle.cm_record.specs.Layout.{IsRecord, IsRecordOf, limit};
+ghost use Rattle.cm_record.specs.Reading.{first_of, third_of, upper_of};
+ghost use Rattle.cm_record.specs.Runs.{IsRunOf, HasRun};
+ghost use Rattle.cm_record.specs.Members.{IsFirst};
+ghost use Rattle.cm_record.specs.Code.{code_name, code_in, u2_at, u4_at, attributes_place};
+
+use crate::entry::{first, fourth, second, upper};
+use crate::packing::bytes_of;
+use crate::utf8::is_utf8_of;
+
+/// Where the code of a method lies (JVMS 4.7.3). Places count bytes from the record's first one; a byte is the number
+/// of eight bits there in its word, the lowest first.
+#[derive(Clone, Copy, Debug, PartialEq, Eq)]
+pub struct Code {
+    pub max_stack: u16,
+    pub max_locals: u16,
+    pub code_at: u32,
+    pub code_len: u32,
+    /// Eight bytes each: start, end, handler and the index of a Class.
+    pub handlers_at: u32,
+    pub handlers: u16,
+}
+
+/// The name of the attribute.
+const CODE: [u8; 4] = *b"Code";
+
+/// A byte of the run that begins at a word.
+fn byte_at(words: &[u64], at: usize, i: usize) -> u8
+    requires there { at + i / 8 < length words.now }
+    requires small { at + i < 2 ^ 63 }
+    ensures { result ≡ get_or (word_bytes_of (get_or words.now (at + i / 8) 0)) (i % 8) 0 }
+{
+    bytes_of(words[at + i / 8])[i % 8]
+}
+
+/// A number of two bytes in a run, the highest first.
+fn u2(words: &[u64], run: (usize, usize), i: usize) -> u16
+    requires run { HasRun words.now run }
+    requires within { i + 1 < run.1 }
+    requires short { length words.now ≤ limit }
+    ensures { (bytes : List ℕ) → IsRunOf words.now run bytes → result ≡ u2_at bytes i }
+{
+    256 * u16::from(byte_at(words, run.0, i)) + u16::from(byte_at(words, run.0, i + 1))
+}
+
+/// A number of four bytes in a run, the highest first.
+fn u4(words: &[u64], run: (usize, usize), i: usize) -> u32
+    requires run { HasRun words.now run }
+    requires within { i + 3 < run.1 }
+    requires short { length words.now ≤ limit }
+    ensures { (bytes : List ℕ) → IsRunOf words.now run bytes → result ≡ u4_at bytes i }
+{
+    65_536 * u32::from(u2(words, run, i)) + u32::from(u2(words, run, i + 2))
+}
+
+/// The code in a run; none where the run ends before its lengths, its code or its handlers do.
+pub(crate) fn code_in_run(words: &[u64], run: (usize, usize)) -> Option<Code>
+    requires run { HasRun words.now run }
+    requires short { length words.now ≤ limit }
+    ensures { (bytes : List ℕ) → IsRunOf words.now run bytes → result ≡ code_in (8 * run.0) bytes }
+{
+    if run.1 < 8 {
+        return None;
+    }
+    let code_len = u4(words, run, 4);
+    let before = 10 + code_len as usize;
+    if run.1 < before {
+        return None;
+    }
+    let handlers = u2(words, run, before - 2);
+    if run.1 < before + 8 * handlers as usize {
+        return None;
+    }
+    let at = 8 * run.0 as u32;
+    Some(Code {
+        max_stack: u2(words, run, 0),
+        max_locals: u2(words, run, 2),
+        code_at: at + 8,
+        code_len,
+        handlers_at: at + 10 + code_len,
+        handlers,
+    })
+}
+
+/// Which of so many attributes, whose words begin at `at`, is the first Code.
+pub(crate) fn find_code(words: &[u64], at: usize, count: usize) -> Option<usize>
+    requires record { IsRecord words.now }
+    requires within { at + 2 * count ≤ length words.now }
+    ensures none { (c : ClassFile) → IsRecordOf c words.now → IsNone result → (k : ℕ) → k < count
+        → names_utf8 c (first_of (get_or words.now (at + 2 * k) 0)) code_name ≡ false }
+    ensures some { (c : ClassFile) → IsRecordOf c words.now → IfSome result (IsFirst
+        (λ k. names_utf8 c (first_of (get_or words.now (at + 2 * k) 0)) code_name) count) }
+{
+    for index in 0..count {
+        if is_utf8_of(words, first(words[at + 2 * index]), &CODE) {
+            return Some(index);
+        }
+    }
+    None
+}
+
+/// The word at which the attributes of a method begin, and how many there are.
+pub(crate) fn method_attributes(words: &[u64], index: usize) -> (usize, usize)
+    requires record { IsRecord words.now }
+    requires there { index < third_of (get_or words.now 2 0) }
+    ensures attributes { (c : ClassFile) (own : ClassMember) → IsRecordOf c words.now → slice_get c.methods index ≡ Some own
+        → result ≡ (attributes_place c index, length own.attributes) }
+    ensures within { result.0 + 2 * result.1 ≤ length words.now }
+{
+    let place = words[5] as usize + 2 * (second(words[2]) as usize + index);
+    (words[place + 1] as usize, fourth(words[place]) as usize)
+}
+
+/// The run of an attribute, from its two words.
+pub(crate) fn attribute_run(words: &[u64], at: usize) -> (usize, usize)
+    requires { at + 1 < length words.now }
+    ensures { result ≡ (get_or words.now (at + 1) 0, upper_of (get_or words.now at 0)) }
+{
+    (words[at + 1] as usize, upper(words[at]) as usize)
+}
