@@ -4,7 +4,7 @@
 #     bench/run.sh [PASSES]
 #
 # It builds cm_bench, runs it over ordinary class files (version 52.0, from jars of Debian packages) and over hostile
-# ones (examples/bench_classes.py says what they are), and lets mature libraries (ASM, Javassist, BCEL) read the same
+# ones (bench/bench_classes.py says what they are), and lets mature libraries (ASM, Javassist, BCEL) read the same
 # ordinary files whole. Each row has the best of PASSES passes (20; of hostile files 3). "ratio" is the time for each byte
 # of class file, compared with the same step on ordinary files.
 set -eu
@@ -16,7 +16,9 @@ trap 'rm -rf "$work"' EXIT
 packages=(libasm-java libbcel-java libjavassist-java libcommons-io-java libcommons-lang3-java libguava-java)
 libraries=(ASM Javassist BCEL)
 jars=(/usr/share/java/{asm,asm-analysis,asm-commons,asm-tree,asm-util,commons-io,commons-lang3,guava}.jar)
-hostile=(fields fields-equal methods methods-equal references dimensions dynamic length)
+hostile=(fields fields-equal fields-few fields-middle fields-middle-twice fields-middle-bootstrap fields-meeting
+    methods methods-equal methods-middle methods-middle-twice methods-middle-bootstrap methods-meeting
+    references dimensions dynamic length)
 
 fetch() {
     dpkg -s "${packages[@]}" >/dev/null 2>&1 && return
@@ -44,9 +46,9 @@ read_by_libraries() {
 
 fetch
 build
-"$top/examples/bench_classes.py" --only-52 "${jars[@]}" >"$work/ordinary.bin"
+"$top/bench/bench_classes.py" --only-52 "${jars[@]}" >"$work/ordinary.bin"
 for kind in "${hostile[@]}"; do
-    "$top/examples/bench_classes.py" --hostile "$kind" >"$work/$kind.bin"
+    "$top/bench/bench_classes.py" --hostile "$kind" >"$work/$kind.bin"
 done
 
 {
@@ -64,10 +66,10 @@ done
         step = $2 ~ /^(ASM|Javassist|BCEL)$/ ? "" : $2
         ratio = "-"
         if (step && $6) ratio = sprintf("%.2f", each / base[step])
-        printf "%-14s %-17s %11d bytes %6d faults %13d ns %8s MB/s  ratio %s\n", $1, $2, $6, $8, $10, $12, ratio
+        printf "%-24s %-17s %11d bytes %6d faults %13d ns %8s MB/s  ratio %s\n", $1, $2, $6, $8, $10, $12, ratio
         if ($1 == "ordinary" && !step) library[$2] = each
         if ($1 == "ordinary" && $2 == "read_class+build")
             for (name in library)
-                printf "%-14s time of read_class+build for each byte, to that of %s: %.2f\n", "", name, each / library[name]
+                printf "%-24s time of read_class+build for each byte, to that of %s: %.2f\n", "", name, each / library[name]
     }'
 echo "load of the machine at the end: $(cut -d' ' -f1 /proc/loadavg) on $(nproc) cores"

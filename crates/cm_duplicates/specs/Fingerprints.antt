@@ -1,6 +1,6 @@
 -- Numbers that depend on bytes alone: where they differ, the bytes do.
-use Rattle.std.specs.Prelude.{◌≡◌, ℕ, ◌<◌, List, length, bit_xor, slice_index}
-use Rattle.std.specs.List.{Contains}
+use Rattle.std.specs.Prelude.{◌≡◌, ℕ, ◌+◌, ◌<◌, List, map, length, bit_xor, slice_index}
+use Rattle.std.specs.List.{Contains, range_with_len}
 use Rattle.std.specs.Int.{w64, rotate_left}
 use Rattle.std.specs.Hash.FoldHasher.{initial, write, finish}
 use Rattle.cm_class.specs.declared.class_file.ClassFile.{ClassFile}
@@ -11,6 +11,10 @@ use Rattle.cm_class.specs.Names.{utf8}
 unfoldable pub fingerprint : List ℕ → ℕ
 fingerprint bytes = finish (write initial bytes)
 
+-- of each index of the pool, from 0 on
+abbrev pub utf8_fingerprints : ClassFile → List ℕ
+utf8_fingerprints c = map (λ i. fingerprint (utf8 c i)) (range_with_len 0 (length c.slots + 1))
+
 -- of a name and a descriptor
 unfoldable pub joined : ℕ → ℕ → ℕ
 joined name descriptor = bit_xor name (rotate_left w64 descriptor 32)
@@ -18,6 +22,11 @@ joined name descriptor = bit_xor name (rotate_left w64 descriptor 32)
 -- of a member
 abbrev pub member_fingerprint : ClassFile → Member → ℕ
 member_fingerprint c m = joined (fingerprint (utf8 c m.name)) (fingerprint (utf8 c m.descriptor))
+
+-- each number of a sorted list that is the same as the next is among the repeated ones
+abbrev pub HasRepeatedNeighbours : List ℕ → List ℕ → Type 0
+HasRepeatedNeighbours sorted repeated =
+    (k : ℕ) → k + 1 < length sorted → slice_index sorted k ≡ slice_index sorted (k + 1) → Contains repeated (slice_index sorted k)
 
 -- each number that stands at two places is among the repeated ones
 abbrev pub HasRepeated : List ℕ → List ℕ → Type 0

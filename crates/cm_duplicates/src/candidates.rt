@@ -10,8 +10,8 @@ use cm_class::{Class, Member};
 use std::alloc::{AllocError, Global};
 use std::collections::BTreeSet;
 
-/// The first duplicate. Only members whose fingerprint is a repeated one are looked at, and of their
-/// Utf8s each is compared once with the others, however many members name it.
+/// The first duplicate. Only members whose fingerprint is a repeated one are looked at, and each of
+/// their Utf8s is compared once with the others, however many members name it.
 pub(crate) fn first_among_repeated(
     alloc: Global,
     class: &Class,

@@ -1,8 +1,7 @@
 //! Members by numbers that depend on their names and descriptors alone.
-ghost use Rattle.std.specs.Prelude.{◌≡◌, ◌+◌, map, length, unwrap_or, slice_get, IfOk};
-ghost use Rattle.std.specs.List.{range_with_len};
+ghost use Rattle.std.specs.Prelude.{◌≡◌, map, IfOk};
 ghost use Rattle.cm_class.specs.Names.{utf8};
-ghost use Rattle.cm_duplicates.specs.Fingerprints.{fingerprint, joined, member_fingerprint};
+ghost use Rattle.cm_duplicates.specs.Fingerprints.{fingerprint, utf8_fingerprints, joined, member_fingerprint};
 
 use cm_class::{Class, Member};
 use std::alloc::{AllocError, Global};
@@ -18,10 +17,10 @@ fn fingerprint(bytes: &[u8]) -> u64
     hasher.finish()
 }
 
-/// Of each index of the pool, from 0 on, so that a Utf8 is walked once however many members name it.
+/// Of each index of the pool, from 0 on, so that a Utf8 is walked once, however many members name
+/// it.
 fn utf8_fingerprints(alloc: Global, class: &Class) -> Result<Vec<u64>, AllocError>
-    ensures { IfOk result (λ v. v.items
-        ≡ map (λ i. fingerprint (utf8 class.now i)) (range_with_len 0 (length class.now.slots + 1))) }
+    ensures { IfOk result (λ v. v.items ≡ utf8_fingerprints class.now) }
 {
     let _spelled = class.flags(); // brings the class's invariant into the proof's scope
     let count = class.slots().len() as u16 + 1;
@@ -34,8 +33,7 @@ fn utf8_fingerprints(alloc: Global, class: &Class) -> Result<Vec<u64>, AllocErro
 
 /// At an index. Past the pool there are no bytes.
 fn fingerprint_at(class: &Class, fingerprints: &[u64], index: u16) -> u64
-    requires { fingerprints.now
-        ≡ map (λ i. fingerprint (utf8 class.now i)) (range_with_len 0 (length class.now.slots + 1)) }
+    requires { fingerprints.now ≡ utf8_fingerprints class.now }
     ensures { result ≡ fingerprint (utf8 class.now index) }
 {
     match fingerprints.get(usize::from(index)) {

@@ -1,4 +1,5 @@
-//! Utf8s by one index for each, so that long ones are compared once, however many members name them.
+//! Utf8s by one index for each, so that long ones are compared once, however many members name
+//! them.
 ghost use Rattle.std.specs.Prelude.{◌≡◌, ℕ, List, Some, IfOk, OnOk, OnErr, unwrap_or, bytes_eq, if◌then◌else◌};
 ghost use Rattle.cm_class.specs.Names.{utf8};
 ghost use Rattle.cm_duplicates.specs.Interned.{interned, NamesWhatItStandsFor, KnowsIndexes, KeepsInterned};
@@ -76,7 +77,8 @@ impl<'a> Interner<'a> {
     pub(crate) fn key_for(&mut self, member: &Member) -> Result<(u16, u16), AllocError>
         ensures class { self.new.class.now ≡ self.old.class.now }
         ensures name { IfOk result
-            (λ key. interned self.new.interned (utf8 self.old.class.now member.now.name) ≡ Some key.0) }
+            (λ key. interned self.new.interned (utf8 self.old.class.now member.now.name)
+            ≡ Some key.0) }
         ensures descriptor { IfOk result
             (λ key. interned self.new.interned (utf8 self.old.class.now member.now.descriptor)
             ≡ Some key.1) }

@@ -1,17 +1,15 @@
 //! Which numbers stand at more than one place.
-ghost use Rattle.std.specs.Prelude.{◌≡◌, ◌↔◌, ℕ, ◌+◌, ◌<◌, IsTrue, IfOk, length, slice_index};
+ghost use Rattle.std.specs.Prelude.{◌↔◌, IsTrue, IfOk};
 ghost use Rattle.std.specs.List.{Contains};
 ghost use Rattle.std.specs.List.Sorted.{IsNonDecreasing};
-ghost use Rattle.cm_duplicates.specs.Fingerprints.{HasRepeated};
+ghost use Rattle.cm_duplicates.specs.Fingerprints.{HasRepeated, HasRepeatedNeighbours};
 
 use std::alloc::{AllocError, Global};
 
 /// The numbers of a sorted list that are the same as the one before them.
 fn repeated_in(alloc: Global, sorted: &[u64]) -> Result<Vec<u64>, AllocError>
     requires { IsNonDecreasing sorted.now }
-    ensures all { IfOk result
-        (λ r. (k : ℕ) → k + 1 < length sorted.now → slice_index sorted.now k ≡ slice_index sorted.now (k + 1)
-        → Contains r.items (slice_index sorted.now k)) }
+    ensures all { IfOk result (λ r. HasRepeatedNeighbours sorted.now r.items) }
     ensures order { IfOk result (λ r. IsNonDecreasing r.items) }
 {
     let mut repeated = Vec::new(alloc);

@@ -1,4 +1,5 @@
-//! What holds of the definitions themselves. Each law is the contract of a function with an empty body.
+//! What holds of the definitions themselves. Each law is the contract of a function with an empty
+//! body.
 ghost use Rattle.std.specs.Prelude.{◌≡◌, ◌↔◌, ℕ, List, Some, IsTrue};
 ghost use Rattle.cm_names.specs.Text.{is_text, is_class_name, is_field_descriptor, is_method_descriptor, method_units};
 ghost use Rattle.cm_names.specs.Characters.{AreCharacters};
@@ -20,9 +21,11 @@ pub fn field_descriptor_spells_a_type()
     ensures { (bytes : List ℕ) → IsTrue (is_field_descriptor bytes) ↔ SpellsFieldType bytes }
 {}
 
-/// A method descriptor is exactly the spelling of the types of parameters and of what is returned (JVMS
-/// 4.3.3), and its units are those of the parameters.
+/// A method descriptor is exactly the spelling of the types of parameters and of what is returned
+/// (JVMS 4.3.3), and its units are those of the parameters.
 pub fn method_descriptor_spells_types()
-    ensures form { (bytes : List ℕ) → IsTrue (is_method_descriptor bytes) ↔ (n : ℕ) × SpellsMethodType bytes n }
-    ensures units { (bytes : List ℕ) (n : ℕ) → method_units bytes ≡ Some n ↔ SpellsMethodType bytes n }
+    ensures form { (bytes : List ℕ) →
+        IsTrue (is_method_descriptor bytes) ↔ (n : ℕ) × SpellsMethodType bytes n }
+    ensures units { (bytes : List ℕ) (n : ℕ) →
+        method_units bytes ≡ Some n ↔ SpellsMethodType bytes n }
 {}

@@ -1,13 +1,14 @@
 #!/usr/bin/env python3
 """Writes class files for `cm_bench` to standard output, each behind its length (four bytes, big-endian).
 
-    examples/bench_classes.py [--only-52] PATH..
-    examples/bench_classes.py --hostile KIND
+    bench/bench_classes.py [--only-52] PATH..
+    bench/bench_classes.py --hostile KIND
 
-A PATH is a .class file, a folder that is searched for them, or a jar, as for define_lines.py. With --only-52, files of
+A PATH is a .class file, a folder that is searched for them, or a jar, as for examples/define_lines.py. With --only-52, files of
 other versions than 52.0 are left out.
 
-A hostile stream is one that would make careless code slow. Each class keeps all of the rules, but for `length`:
+A hostile stream is one that would make careless code slow. Each class keeps all of the rules, but for `length` and those
+whose names end in -twice or -bootstrap:
 
     fields         as many fields as the pool has room for (65,529), all named by one Utf8 of 65,535 bytes; their
                    descriptors differ, each in a slot of its own. Whoever compares fields pair by pair, or their names
@@ -16,6 +17,17 @@ A hostile stream is one that would make careless code slow. Each class keeps all
                    them in turn: that two slots are different ones says nothing of their texts
     methods        the same as fields, with methods (native, no code)
     methods-equal  the same as fields-equal, with methods
+    fields-few     32 fields, so few that they are compared pair by pair, all named by one of two Utf8s of 65,535 equal
+                   bytes: whoever compares the bytes of one slot with themselves is slow
+    fields-middle  65,535 fields, as many as there may be: pairs of 300 short names and 300 short descriptors, and two
+                   names of 65,535 bytes that differ in the middle alone. Whoever tells long names apart by their ends,
+                   and compares all where that doesn't do, is slow
+    fields-middle-twice      the same, but the last field has the first one's name and descriptor again (refused)
+    fields-middle-bootstrap  the same, but for a BootstrapMethods with a byte too many (refused by the last rule, so
+                   whoever looks for a fault rule by rule looks through all of them)
+    fields-meeting 65,535 fields: pairs of 256 names and 256 descriptors, chosen so that all of them have one
+                   fingerprint. Whoever takes that for a duplicate is wrong, whoever compares pair by pair is slow
+    methods-middle, methods-middle-twice, methods-middle-bootstrap, methods-meeting      the same with methods
     references     a pool full of references (65,527), by turns Methodref and InterfaceMethodref, to one NameAndType
                    whose name and whose descriptor have 65,535 bytes each: whoever judges a text once for each
                    reference is slow
@@ -30,12 +42,15 @@ import pathlib
 import struct
 import sys
 
-from define_lines import class_files
+sys.path.insert(0, str(pathlib.Path(__file__).resolve().parent.parent / "examples"))
+from define_lines import class_files  # noqa: E402 (the examples stand beside)
 
 VERSION_52 = bytes.fromhex("cafebabe00000034")
 LONG = 65_535
 LAST_INDEX = 65_534
 EQUAL_SLOTS = 20
+MOST_MEMBERS = 65_535
+FEW_MEMBERS = 32
 
 PUBLIC, SUPER = 0x0001, 0x0020
 STATIC, NATIVE = 0x0008, 0x0100
@@ -121,6 +136,87 @@ def many_methods(name_slots):
     return [made.bytes()]
 
 
+def few_fields():
+    made = ClassFile()
+    names = [made.utf8(b"a" * LONG) for _ in range(2)]
+    for i in range(FEW_MEMBERS):
+        made.fields.append(member(PUBLIC, names[i % 2], made.utf8(b"L" + letters(i) + b";")))
+    return [made.bytes()]
+
+
+def indexes(made, texts):
+    return [made.utf8(text) for text in texts]
+
+
+def pairs(names, descriptors):
+    """Pairs of indexes, the first name with each of the descriptors first."""
+    return [(name, descriptor) for name in names for descriptor in descriptors]
+
+
+def members_of(made, of_methods, names_and_descriptors):
+    members = made.methods if of_methods else made.fields
+    flags = PUBLIC | STATIC | NATIVE if of_methods else PUBLIC
+    members += [member(flags, name, descriptor) for name, descriptor in names_and_descriptors]
+
+
+def differ_in_the_middle(of_methods, twice=False, ill_formed=False):
+    made = ClassFile()
+    form = b"(L%s;)V" if of_methods else b"L%s;"
+    names = indexes(made, [letters(i) for i in range(300)])
+    descriptors = indexes(made, [form % letters(i) for i in range(300)])
+    middle = LONG // 2
+    long_names = indexes(made, [b"a" * middle + last + b"a" * (LONG - middle - 1) for last in (b"a", b"b")])
+    short = pairs(names, descriptors)[: MOST_MEMBERS - 2]
+    last = short[0] if twice else short[-1]
+    members_of(made, of_methods, pairs(long_names, descriptors[:1]) + short[:-1] + [last])
+    if ill_formed:
+        made.attributes.append(u2(made.utf8(b"BootstrapMethods")) + u4(3) + u2(0) + b"\0")
+    return [made.bytes()]
+
+
+# The hasher of Rattle's std, as far as names of 32 bytes need it: it multiplies sixteen bytes at a time, so that eight of
+# them that are the state so far make the product zero, whatever the other eight are.
+MASK = 2**64 - 1
+MULTIPLIER = 0x9E3779B97F4A7C15
+INITIAL = 0x243F6A8885A308D3
+BLOCK = 16
+NO_NAME = b"\0./;[<>"
+
+
+def folded(a, b):
+    product = a * b
+    return product & MASK ^ product >> 64
+
+
+def state_behind(block, length):
+    """The hasher's state behind the first sixteen bytes of so many."""
+    low, high = struct.unpack("<QQ", block)
+    return folded(low ^ (INITIAL + length & MASK), high ^ MULTIPLIER)
+
+
+def is_plain(text):
+    return all(byte < 0x80 and byte not in NO_NAME for byte in text)
+
+
+def meeting(first, last, count):
+    """Texts of 32 bytes that begin and end so, and all have the fingerprint 0."""
+    for number in range(100_000):
+        block = first + (b"%d" % number).rjust(BLOCK - len(first), b"a")
+        state = struct.pack("<Q", state_behind(block, 2 * BLOCK))
+        if is_plain(state):
+            return [block + state + letters(i).rjust(8 - len(last), b"_") + last for i in range(count)]
+    raise ValueError("no block makes the state a name")
+
+
+def one_fingerprint(of_methods):
+    made = ClassFile()
+    first, last = (b"(L", b";)V") if of_methods else (b"L", b";")
+    names = indexes(made, meeting(b"", b"", 256))
+    descriptors = indexes(made, meeting(first, last, 256))
+    members_of(made, of_methods, pairs(names, descriptors)[:MOST_MEMBERS])
+    return [made.bytes()]
+
+
 def references():
     made = ClassFile()
     descriptor = b"(L" + b"a" * (LONG - 5) + b";)V"
@@ -168,6 +264,15 @@ HOSTILE = {
     "fields-equal": lambda: many_fields(EQUAL_SLOTS),
     "methods": lambda: many_methods(1),
     "methods-equal": lambda: many_methods(EQUAL_SLOTS),
+    "fields-few": few_fields,
+    "fields-middle": lambda: differ_in_the_middle(False),
+    "fields-middle-twice": lambda: differ_in_the_middle(False, twice=True),
+    "fields-middle-bootstrap": lambda: differ_in_the_middle(False, ill_formed=True),
+    "fields-meeting": lambda: one_fingerprint(False),
+    "methods-middle": lambda: differ_in_the_middle(True),
+    "methods-middle-twice": lambda: differ_in_the_middle(True, twice=True),
+    "methods-middle-bootstrap": lambda: differ_in_the_middle(True, ill_formed=True),
+    "methods-meeting": lambda: one_fingerprint(True),
     "references": references,
     "dimensions": dimensions,
     "dynamic": dynamic,
