@@ -1,42 +1,53 @@
 #!/usr/bin/env python3
-"""Writes class files for `cm_bench` to standard output, each behind its length (four bytes, big-endian).
+"""Writes class files for `cm_bench` to standard output, each behind its length (four bytes,
+big-endian).
 
     bench/bench_classes.py [--only-52] PATH..
     bench/bench_classes.py --hostile KIND
 
-A PATH is a .class file, a folder that is searched for them, or a jar, as for examples/define_lines.py. With --only-52, files of
-other versions than 52.0 are left out.
+A PATH is a .class file, a folder that is searched for them, or a jar, as for
+examples/define_lines.py. With --only-52, files of other versions than 52.0 are left out.
 
-A hostile stream is one that would make careless code slow. Each class keeps all of the rules, but for `length` and those
-whose names end in -twice or -bootstrap:
+A hostile stream is one that would make careless code slow. Each class keeps all of the rules, but
+for `length` and those whose names end in -twice or -bootstrap:
 
-    fields         as many fields as the pool has room for (65,529), all named by one Utf8 of 65,535 bytes; their
-                   descriptors differ, each in a slot of its own. Whoever compares fields pair by pair, or their names
-                   byte by byte, is slow
-    fields-equal   the same, but the name stands in twenty slots, byte for byte the same in each, and the fields take
-                   them in turn: that two slots are different ones says nothing of their texts
-    methods        the same as fields, with methods (native, no code)
-    methods-equal  the same as fields-equal, with methods
-    fields-few     32 fields, so few that they are compared pair by pair, all named by one of two Utf8s of 65,535 equal
-                   bytes: whoever compares the bytes of one slot with themselves is slow
-    fields-middle  65,535 fields, as many as there may be: pairs of 300 short names and 300 short descriptors, and two
-                   names of 65,535 bytes that differ in the middle alone. Whoever tells long names apart by their ends,
-                   and compares all where that doesn't do, is slow
-    fields-middle-twice      the same, but the last field has the first one's name and descriptor again (refused)
-    fields-middle-bootstrap  the same, but for a BootstrapMethods with a byte too many (refused by the last rule, so
-                   whoever looks for a fault rule by rule looks through all of them)
-    fields-meeting 65,535 fields: pairs of 256 names and 256 descriptors, chosen so that all of them have one
-                   fingerprint. Whoever takes that for a duplicate is wrong, whoever compares pair by pair is slow
-    methods-middle, methods-middle-twice, methods-middle-bootstrap, methods-meeting      the same with methods
-    references     a pool full of references (65,527), by turns Methodref and InterfaceMethodref, to one NameAndType
-                   whose name and whose descriptor have 65,535 bytes each: whoever judges a text once for each
-                   reference is slow
-    dimensions     4,000 fields whose descriptors have 255 dimensions, and 30 methods with 255 such parameters each:
-                   whoever counts dimensions or parameters again for each of them is slow
-    dynamic        a pool full of InvokeDynamic entries (65,523), and 65,535 bootstrap methods, the last of which all
-                   of them name: whoever looks through the bootstrap methods for each of them is slow
-    length         1,000 small classes, each with an attribute whose length says FFFFFFFF: whoever asks for that much
-                   memory is refused it. The files are truncated
+    fields         as many fields as the pool has room for (65,529), all named by one Utf8 of
+                   65,535 bytes; their descriptors differ, each in a slot of its own. Whoever
+                   compares fields pair by pair, or their names byte by byte, is slow
+    fields-equal   the same, but the name stands in twenty slots, byte for byte the same in each,
+                   and the fields take them in turn: that two slots are different ones says nothing
+                   of their bytes
+    fields-few     32 fields, so few that they are compared pair by pair, all named by one of two
+                   Utf8s of 65,535 equal bytes: whoever compares the bytes of one slot with
+                   themselves is slow
+    fields-middle  65,535 fields, as many as there may be: pairs of 300 short names and 300 short
+                   descriptors, and two names of 65,535 bytes that differ in the middle alone.
+                   Whoever tells long names apart by their ends, and compares all where that
+                   doesn't do, is slow
+    fields-middle-twice
+                   the same, but the last field has the name and the descriptor of the first short
+                   one again (refused)
+    fields-middle-bootstrap
+                   the same, but for a BootstrapMethods with a byte too many (refused by the last
+                   rule, so whoever looks for a fault rule by rule looks through all of them)
+    fields-meeting
+                   65,535 fields: pairs of 256 names and 256 descriptors, chosen so that all of
+                   them have one fingerprint. Whoever takes that for a duplicate is wrong, whoever
+                   compares pair by pair is slow
+    methods, methods-equal, methods-middle, methods-middle-twice, methods-middle-bootstrap,
+    methods-meeting
+                   the same with methods (native, no code)
+    references     a pool full of references (65,527), by turns Methodref and InterfaceMethodref, to
+                   one NameAndType whose name and whose descriptor have 65,535 bytes each: whoever
+                   judges a Utf8 once for each reference is slow
+    dimensions     4,000 fields whose descriptors have 255 dimensions, and 30 methods with 255 such
+                   parameters each: whoever counts dimensions or parameters again for each of them
+                   is slow
+    dynamic        a pool full of InvokeDynamic entries (65,523), and 65,535 bootstrap methods, the
+                   last of which all of them name: whoever looks through the bootstrap methods for
+                   each of them is slow
+    length         1,000 small classes, each with an attribute whose length says FFFFFFFF: whoever
+                   asks for that much memory is refused it. The files are truncated
 """
 import pathlib
 import struct
@@ -65,7 +76,7 @@ def u4(number):
 
 
 class ClassFile:
-    """A class A that extends java/lang/Object, to which constants, members and attributes are added."""
+    """A class A that extends java/lang/Object, to which constants, members and attributes come."""
 
     def __init__(self):
         self.constants = []
@@ -165,7 +176,8 @@ def differ_in_the_middle(of_methods, twice=False, ill_formed=False):
     names = indexes(made, [letters(i) for i in range(300)])
     descriptors = indexes(made, [form % letters(i) for i in range(300)])
     middle = LONG // 2
-    long_names = indexes(made, [b"a" * middle + last + b"a" * (LONG - middle - 1) for last in (b"a", b"b")])
+    long_names = indexes(
+        made, [b"a" * middle + byte + b"a" * (LONG - middle - 1) for byte in (b"a", b"b")])
     short = pairs(names, descriptors)[: MOST_MEMBERS - 2]
     last = short[0] if twice else short[-1]
     members_of(made, of_methods, pairs(long_names, descriptors[:1]) + short[:-1] + [last])
@@ -174,8 +186,9 @@ def differ_in_the_middle(of_methods, twice=False, ill_formed=False):
     return [made.bytes()]
 
 
-# The hasher of Rattle's std, as far as names of 32 bytes need it: it multiplies sixteen bytes at a time, so that eight of
-# them that are the state so far make the product zero, whatever the other eight are.
+# The hasher of Rattle's std, as far as names of 32 bytes need it: it multiplies sixteen bytes at a
+# time, so that eight of them that are the state so far make the product zero, whatever the other
+# eight are.
 MASK = 2**64 - 1
 MULTIPLIER = 0x9E3779B97F4A7C15
 INITIAL = 0x243F6A8885A308D3
@@ -204,7 +217,8 @@ def meeting(first, last, count):
         block = first + (b"%d" % number).rjust(BLOCK - len(first), b"a")
         state = struct.pack("<Q", state_behind(block, 2 * BLOCK))
         if is_plain(state):
-            return [block + state + letters(i).rjust(8 - len(last), b"_") + last for i in range(count)]
+            ends = [letters(i).rjust(8 - len(last), b"_") + last for i in range(count)]
+            return [block + state + end for end in ends]
     raise ValueError("no block makes the state a name")
 
 

@@ -1,10 +1,10 @@
--- A Utf8 has its form exactly where it is a row of characters.
+-- A Utf8 has its form exactly where it is a sequence of characters.
 use Rattle.std.proofs.Common.{◌≡◌, ℕ, zero, suc, ◌<◌, Bool, true, false, cond, List, [], ◌∷◌, ◌++◌, length, Some, None, refl, sym, ap, ◌∙◌, arith, IsTrue, ◌↔◌}
 use Rattle.std.specs.Prelude.{nat_le}
 use Rattle.std.specs.List.{flat_map, AllByRecursion}
 use Rattle.std.specs.Option.{option_map_or}
 use Rattle.std.proofs.lemmas.Bool.{leb-true, le-leb, lt-leb, and_parts, and_from, and_right, eqb-true}
-use Rattle.cm_names.specs.Text.{is_within, owed_after, is_text, is_text_after}
+use Rattle.cm_names.specs.Forms.{is_within, owed_after, has_utf8_form, has_utf8_form_after}
 use Rattle.cm_names.specs.Characters.{Character, OneByte, TwoBytes, ThreeBytes, IsBetween, Continues, IsCharacter, character_bytes, AreCharacters}
 
 between : (low high b : ℕ) → is_within low high b ≡ true → IsBetween low high b
@@ -60,20 +60,20 @@ continued n b bytes is on = record {
   joined = ap (λ l. b ∷ l) on.joined;
 }
 
-characters_after : (owed : ℕ) (bytes : List ℕ) → is_text_after owed bytes ≡ true → Continue owed bytes
-unfolding is_text_after
+characters_after : (owed : ℕ) (bytes : List ℕ) → has_utf8_form_after owed bytes ≡ true → Continue owed bytes
+unfolding has_utf8_form_after
 characters_after owed [] h = let none : owed ≡ 0 = eqb-true owed 0 h in rw none (settled [] ([], tt, refl))
 characters_after (suc n) (b ∷ bytes) h = by_test (is_within 0x80 0xBF b) refl (characters_after n bytes)
   where
-    by_test : (t : Bool) → t ≡ is_within 0x80 0xBF b → (is_text_after n bytes ≡ true → Continue n bytes) → Continue (suc n) (b ∷ bytes)
-    by_test true e on = continued n b bytes (between 0x80 0xBF b (sym e)) (on (ap (λ t. option_map_or (λ k. is_text_after k bytes) (cond t (Some n) None) false) e ∙ h))
-    by_test false e on = absurd (cc (ap (λ t. option_map_or (λ k. is_text_after k bytes) (cond t (Some n) None) false) e ∙ h))
+    by_test : (t : Bool) → t ≡ is_within 0x80 0xBF b → (has_utf8_form_after n bytes ≡ true → Continue n bytes) → Continue (suc n) (b ∷ bytes)
+    by_test true e on = continued n b bytes (between 0x80 0xBF b (sym e)) (on (ap (λ t. option_map_or (λ k. has_utf8_form_after k bytes) (cond t (Some n) None) false) e ∙ h))
+    by_test false e on = absurd (cc (ap (λ t. option_map_or (λ k. has_utf8_form_after k bytes) (cond t (Some n) None) false) e ∙ h))
 characters_after zero (b ∷ bytes) h =
     settled (b ∷ bytes) (by_tests (is_within 0x01 0x7F b) (is_within 0xC0 0xDF b) (is_within 0xE0 0xEF b) refl refl refl h (characters_after 0 bytes) (characters_after 1 bytes) (characters_after 2 bytes))
   where
     by_tests : (x y z : Bool) → x ≡ is_within 0x01 0x7F b → y ≡ is_within 0xC0 0xDF b → z ≡ is_within 0xE0 0xEF b
-        → option_map_or (λ k. is_text_after k bytes) (cond x (Some 0) (cond y (Some 1) (cond z (Some 2) None))) false ≡ true
-        → (is_text_after 0 bytes ≡ true → Continue 0 bytes) → (is_text_after 1 bytes ≡ true → Continue 1 bytes) → (is_text_after 2 bytes ≡ true → Continue 2 bytes)
+        → option_map_or (λ k. has_utf8_form_after k bytes) (cond x (Some 0) (cond y (Some 1) (cond z (Some 2) None))) false ≡ true
+        → (has_utf8_form_after 0 bytes ≡ true → Continue 0 bytes) → (has_utf8_form_after 1 bytes ≡ true → Continue 1 bytes) → (has_utf8_form_after 2 bytes ≡ true → Continue 2 bytes)
         → AreCharacters (b ∷ bytes)
     by_tests true y z ex ey ez h by_one by_two by_three = let on = by_one h in of_one b bytes on.front on.rest (between 0x01 0x7F b (sym ex)) on.as_many on.characters on.joined
     by_tests false true z ex ey ez h by_one by_two by_three = let on = by_two h in of_two b bytes on.front on.rest (between 0xC0 0xDF b (sym ey)) on.as_many on.continuing on.characters on.joined
@@ -94,30 +94,30 @@ begins_two b is = rw (above 0x01 0x7F b (omega (arith, is.0)), within 0xC0 0xDF 
 begins_three : (b : ℕ) → IsBetween 0xE0 0xEF b → owed_after 0 b ≡ Some 2
 begins_three b is = rw (above 0x01 0x7F b (omega (arith, is.0)), above 0xC0 0xDF b (omega (arith, is.0)), within 0xE0 0xEF b is) refl
 
-text_step : (owed b n : ℕ) (bytes : List ℕ) → owed_after owed b ≡ Some n → is_text_after owed (b ∷ bytes) ≡ is_text_after n bytes
-unfolding is_text_after
-text_step owed b n bytes e = ap (λ o. option_map_or (λ k. is_text_after k bytes) o false) e
+utf8_step : (owed b n : ℕ) (bytes : List ℕ) → owed_after owed b ≡ Some n → has_utf8_form_after owed (b ∷ bytes) ≡ has_utf8_form_after n bytes
+unfolding has_utf8_form_after
+utf8_step owed b n bytes e = ap (λ o. option_map_or (λ k. has_utf8_form_after k bytes) o false) e
 
-character_passes : (character : Character) (bytes : List ℕ) → IsCharacter character → is_text_after 0 (character_bytes character ++ bytes) ≡ is_text_after 0 bytes
-character_passes (OneByte a) bytes is = text_step 0 a 0 bytes (begins_one a is)
-character_passes (TwoBytes a b) bytes is = text_step 0 a 1 (b ∷ bytes) (begins_two a is.0) ∙ text_step 1 b 0 bytes (continues 0 b is.1)
-character_passes (ThreeBytes a b c) bytes is = text_step 0 a 2 (b ∷ c ∷ bytes) (begins_three a is.0) ∙ text_step 2 b 1 (c ∷ bytes) (continues 1 b is.1) ∙ text_step 1 c 0 bytes (continues 0 c is.2)
+character_passes : (character : Character) (bytes : List ℕ) → IsCharacter character → has_utf8_form_after 0 (character_bytes character ++ bytes) ≡ has_utf8_form_after 0 bytes
+character_passes (OneByte a) bytes is = utf8_step 0 a 0 bytes (begins_one a is)
+character_passes (TwoBytes a b) bytes is = utf8_step 0 a 1 (b ∷ bytes) (begins_two a is.0) ∙ utf8_step 1 b 0 bytes (continues 0 b is.1)
+character_passes (ThreeBytes a b c) bytes is = utf8_step 0 a 2 (b ∷ c ∷ bytes) (begins_three a is.0) ∙ utf8_step 2 b 1 (c ∷ bytes) (continues 1 b is.1) ∙ utf8_step 1 c 0 bytes (continues 0 c is.2)
 
-characters_pass : (characters : List Character) → AllByRecursion IsCharacter characters → is_text_after 0 (flat_map character_bytes characters) ≡ true
-unfolding is_text_after
+characters_pass : (characters : List Character) → AllByRecursion IsCharacter characters → has_utf8_form_after 0 (flat_map character_bytes characters) ≡ true
+unfolding has_utf8_form_after
 characters_pass [] are = refl
 characters_pass (character ∷ characters) are = character_passes character (flat_map character_bytes characters) are.0 ∙ characters_pass characters are.1
 
-pub is_characters : (bytes : List ℕ) → IsTrue (is_text bytes) ↔ AreCharacters bytes
-unfolding is_text
+pub is_characters : (bytes : List ℕ) → IsTrue (has_utf8_form bytes) ↔ AreCharacters bytes
+unfolding has_utf8_form
 is_characters bytes = (forth, back)
   where
-    forth : is_text_after 0 bytes ≡ true → AreCharacters bytes
+    forth : has_utf8_form_after 0 bytes ≡ true → AreCharacters bytes
     forth h = let on = characters_after 0 bytes h in whole on.front on.rest on.as_many on.characters on.joined
       where
         whole : (front rest : List ℕ) → length front ≡ 0 → AreCharacters rest → front ++ rest ≡ bytes → AreCharacters bytes
         whole [] rest n are e = rw (sym e) are
         whole (c ∷ front) rest n are e = absurd (omega (arith, n))
 
-    back : AreCharacters bytes → is_text_after 0 bytes ≡ true
+    back : AreCharacters bytes → has_utf8_form_after 0 bytes ≡ true
     back are = rw (sym are.2) (characters_pass are.0 are.1)

@@ -3,9 +3,9 @@ use Rattle.std.proofs.Common.{◌≡◌, ◌≢◌, ℕ, Bool, true, false, not,
 use Rattle.std.specs.List.{list_all, join_with_byte, AllByRecursion}
 use Rattle.std.specs.Option.{option_map_or}
 use Rattle.std.proofs.lemmas.Bool.{and_parts, and_from, eqb-true, ne_eqb}
-use Rattle.cm_names.specs.Text.{slash, is_empty, is_name_byte, is_unqualified_name, name_after, is_class_name, is_class_name_from}
+use Rattle.cm_names.specs.Forms.{slash, is_empty, is_name_byte, is_unqualified_name, name_after, is_class_name, is_class_name_from}
 use Rattle.cm_names.specs.ClassNames.{AreJoinedNames}
-use Rattle.cm_names.proofs.TextLoops.{name_step}
+use Rattle.cm_names.proofs.FormLoops.{name_step}
 
 -- bytes that begin inside a name, or, where a name may begin, at one
 pub record Joined (begins : Bool) (bytes : List ℕ) : Type 0 where

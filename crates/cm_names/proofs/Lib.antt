@@ -1,8 +1,8 @@
+pub mod ByMarks
 pub mod CharacterLaws
 pub mod ClassNameLaws
-pub mod Joining
-pub mod Judging
-pub mod Marking
-pub mod Stopping
-pub mod TextLoops
+pub mod FirstStop
+pub mod FormLoops
+pub mod JoinedNames
+pub mod MarksOf
 pub mod TypeLaws

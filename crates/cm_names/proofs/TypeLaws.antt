@@ -6,7 +6,7 @@ use Rattle.std.specs.Option.{option_map_or, option_and_then}
 use Rattle.std.specs.Cmp.Lexicographic.{bytes_decides}
 use Rattle.std.proofs.lemmas.Bool.{or_cases, or_right, and_parts, and_from, leb-true, le-leb, eqb-true, ne_eqb}
 use Rattle.std.proofs.lemmas.List.{append-nil, append_assoc, length-append}
-use Rattle.cm_names.specs.Text.{semicolon, bracket, is_empty, name_after, is_class_name, is_class_name_from, is_base_type, after_class, after_field, is_field_descriptor, units_of_first, parameters, is_return_descriptor, method_units, is_method_descriptor}
+use Rattle.cm_names.specs.Forms.{semicolon, bracket, is_empty, name_after, is_class_name, is_class_name_from, is_base_type, after_class, after_field, is_field_descriptor, units_of_first, parameters, is_return_descriptor, method_units, is_method_descriptor}
 use Rattle.cm_names.specs.Types.{BaseType, Byte, Char, Double, Float, Int, Long, Short, Boolean, letter, FieldType, Base, Class, Array, field_descriptor, dimensions, NamesClasses, IsFieldType, SpellsFieldType, MethodType, return_descriptor, method_descriptor, units, all_units, IsMethodType, SpellsMethodType}
 
 -- ---- base types

@@ -1,7 +1,7 @@
 -- Class names are unqualified names joined by `/` (JVMS SE 8, section 4.2.1).
 use Rattle.std.specs.Prelude.{◌≡◌, ◌≢◌, ℕ, IsTrue, List, []}
 use Rattle.std.specs.List.{join_with_byte, AllByRecursion}
-use Rattle.cm_names.specs.Text.{is_unqualified_name, slash}
+use Rattle.cm_names.specs.Forms.{is_unqualified_name, slash}
 
 -- some unqualified names, at least one, joined by slashes are these bytes
 abbrev pub AreJoinedNames : List ℕ → Type 0

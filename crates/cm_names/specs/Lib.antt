@@ -1,5 +1,6 @@
 pub mod Characters
 pub mod ClassNames
-pub mod Judged
-pub mod Text
+pub mod Forms
+pub mod Judgement
+pub mod Marks
 pub mod Types

@@ -1,7 +1,7 @@
 -- Types of fields and methods, and the descriptors that spell them (JVMS SE 8, section 4.3).
 use Rattle.std.specs.Prelude.{◌≡◌, ℕ, ◌+◌, ◌≤◌, IsTrue, List, [], ◌∷◌, ◌++◌, Option, Some, None, IfSome}
 use Rattle.std.specs.List.{flat_map, AllByRecursion}
-use Rattle.cm_names.specs.Text.{is_class_name, semicolon, bracket}
+use Rattle.cm_names.specs.Forms.{is_class_name, semicolon, bracket}
 
 pub data BaseType : Type 0 where
   Byte : BaseType

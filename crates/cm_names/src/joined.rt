@@ -1,10 +1,10 @@
 //! Whether names joined by `/` are a class name, told of many bytes at a time.
 ghost use Rattle.std.specs.Prelude.{◌≡◌, ◌+◌, ◌≤◌, true, length, take, drop};
 ghost use Rattle.std.specs.List.{list_all};
-ghost use Rattle.cm_names.specs.Text.{is_class_name};
-ghost use Rattle.cm_names.specs.Judged.{is_no_stop, are_apart, neighbours};
+ghost use Rattle.cm_names.specs.Forms.{is_class_name};
+ghost use Rattle.cm_names.specs.Marks.{is_no_stop, are_apart, neighbours};
 
-use crate::text::are_joined_names;
+use crate::names::are_joined_names;
 use std::simd::prelude::*;
 
 const LANES: usize = 16;

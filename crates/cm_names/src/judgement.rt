@@ -1,17 +1,19 @@
-//! What a text of a class is, found out all at once.
+//! What a Utf8 is, found out all at once.
 ghost use Rattle.std.specs.Prelude.{◌≡◌};
-ghost use Rattle.cm_names.specs.Text.{is_text, is_class_name, is_unqualified_name, is_method_name, is_field_descriptor};
-ghost use Rattle.cm_names.specs.Judged.{judgement, marks_of, is_special_name};
+ghost use Rattle.cm_names.specs.Forms.{has_utf8_form, is_class_name, is_unqualified_name, is_method_name, is_field_descriptor};
+ghost use Rattle.cm_names.specs.Judgement.{judgement, is_special_name};
+ghost use Rattle.cm_names.specs.Marks.{marks_of};
 
+use crate::descriptors::{is_field_descriptor, method_units};
 use crate::joined::are_names;
 use crate::marks::{Marks, marks_of};
-use crate::text::{are_characters, is_field_descriptor, method_units};
+use crate::utf8::are_characters;
 
-/// What is found out of a text once, however many entries and members name it.
+/// What is found out of a Utf8 once, however many entries and members name it.
 #[derive(Clone, Copy, Debug, PartialEq, Eq)]
 pub struct Judgement {
-    /// Whether it has the form of a text (JVMS 4.4.7).
-    pub text: bool,
+    /// Whether it has the form of a Utf8 (JVMS 4.4.7).
+    pub utf8: bool,
     /// Whether it is a class name (JVMS 4.2.1).
     pub class_name: bool,
     /// Whether it is an unqualified name (JVMS 4.2.2).
@@ -24,29 +26,29 @@ pub struct Judgement {
     pub method_units: Option<u8>,
 }
 
-/// Told by the marks: most texts are plain.
-fn is_marked_text(bytes: &[u8], marks: Marks) -> bool
+/// By the marks: most Utf8s are plain.
+fn has_utf8_form_by_marks(bytes: &[u8], marks: Marks) -> bool
     requires { marks ≡ marks_of bytes.now }
-    ensures { result ≡ is_text bytes.now }
+    ensures { result ≡ has_utf8_form bytes.now }
 {
     marks.plain || are_characters(bytes)
 }
 
-/// Told by the marks alone.
-#[tactic(auto, using(crate::proofs::Judging::unqualified_by_marks))]
-fn is_marked_unqualified_name(bytes: &[u8], marks: Marks) -> bool
+/// By the marks alone.
+#[tactic(auto, using(crate::proofs::ByMarks::unqualified_by_marks))]
+fn is_unqualified_name_by_marks(bytes: &[u8], marks: Marks) -> bool
     requires { marks ≡ marks_of bytes.now }
     ensures { result ≡ is_unqualified_name bytes.now }
 {
     !bytes.is_empty() & marks.no_stop & marks.no_slash
 }
 
-/// Told by the marks: most class names are unqualified names, and none has a stop.
-fn is_marked_class_name(bytes: &[u8], marks: Marks) -> bool
+/// By the marks: most class names are unqualified names, and none has a stop.
+fn is_class_name_by_marks(bytes: &[u8], marks: Marks) -> bool
     requires { marks ≡ marks_of bytes.now }
     ensures { result ≡ is_class_name bytes.now }
 {
-    marks.no_stop && (is_marked_unqualified_name(bytes, marks) || are_names(bytes))
+    marks.no_stop && (is_unqualified_name_by_marks(bytes, marks) || are_names(bytes))
 }
 
 /// The two method names that have angles.
@@ -56,16 +58,16 @@ fn is_special_name(bytes: &[u8]) -> bool
     bytes == b"<init>".as_slice() || bytes == b"<clinit>".as_slice()
 }
 
-/// Told by the marks, and by comparing where there are angles.
-fn is_marked_method_name(bytes: &[u8], marks: Marks) -> bool
+/// By the marks, and by comparing where there are angles.
+fn is_method_name_by_marks(bytes: &[u8], marks: Marks) -> bool
     requires { marks ≡ marks_of bytes.now }
     ensures { result ≡ is_method_name bytes.now }
 {
-    is_marked_unqualified_name(bytes, marks) && (marks.no_angle || is_special_name(bytes))
+    is_unqualified_name_by_marks(bytes, marks) && (marks.no_angle || is_special_name(bytes))
 }
 
-/// Told by the marks: without a `;` or a `[` it is one byte.
-fn is_marked_field_descriptor(bytes: &[u8], marks: Marks) -> bool
+/// By the marks: without a `;` or a `[` it is one byte.
+fn is_field_descriptor_by_marks(bytes: &[u8], marks: Marks) -> bool
     requires { marks ≡ marks_of bytes.now }
     ensures { result ≡ is_field_descriptor bytes.now }
 {
@@ -76,17 +78,17 @@ fn is_marked_field_descriptor(bytes: &[u8], marks: Marks) -> bool
 }
 
 /// What the bytes are. Which kinds of bytes they have tells most of it.
-#[tactic(auto, unfolding(crate::specs::Judged::judgement))]
+#[tactic(auto, unfolding(crate::specs::Judgement::judgement))]
 pub fn judge(bytes: &[u8]) -> Judgement
     ensures { result ≡ judgement bytes.now }
 {
     let marks = marks_of(bytes);
     Judgement {
-        text: is_marked_text(bytes, marks),
-        class_name: is_marked_class_name(bytes, marks),
-        unqualified_name: is_marked_unqualified_name(bytes, marks),
-        method_name: is_marked_method_name(bytes, marks),
-        field_descriptor: is_marked_field_descriptor(bytes, marks),
+        utf8: has_utf8_form_by_marks(bytes, marks),
+        class_name: is_class_name_by_marks(bytes, marks),
+        unqualified_name: is_unqualified_name_by_marks(bytes, marks),
+        method_name: is_method_name_by_marks(bytes, marks),
+        field_descriptor: is_field_descriptor_by_marks(bytes, marks),
         method_units: method_units(bytes),
     }
 }

@@ -1,14 +1,14 @@
 //! What holds of the definitions themselves. Each law is the contract of a function with an empty
 //! body.
 ghost use Rattle.std.specs.Prelude.{◌≡◌, ◌↔◌, ℕ, List, Some, IsTrue};
-ghost use Rattle.cm_names.specs.Text.{is_text, is_class_name, is_field_descriptor, is_method_descriptor, method_units};
+ghost use Rattle.cm_names.specs.Forms.{has_utf8_form, is_class_name, is_field_descriptor, is_method_descriptor, method_units};
 ghost use Rattle.cm_names.specs.Characters.{AreCharacters};
 ghost use Rattle.cm_names.specs.ClassNames.{AreJoinedNames};
 ghost use Rattle.cm_names.specs.Types.{SpellsFieldType, SpellsMethodType};
 
-/// A Utf8 has its form exactly where it is a row of characters (JVMS 4.4.7).
+/// A Utf8 has its form exactly where it is a sequence of characters (JVMS 4.4.7).
 pub fn utf8_is_characters()
-    ensures { (bytes : List ℕ) → IsTrue (is_text bytes) ↔ AreCharacters bytes }
+    ensures { (bytes : List ℕ) → IsTrue (has_utf8_form bytes) ↔ AreCharacters bytes }
 {}
 
 /// A class name is exactly unqualified names joined by `/` (JVMS 4.2.1).

@@ -1,6 +1,6 @@
 //! Which kinds of bytes are among some, many bytes at a time.
 ghost use Rattle.std.specs.Prelude.{◌≡◌, ◌+◌, ◌≤◌, [], ◌∷◌, length, take, drop};
-ghost use Rattle.cm_names.specs.Judged.{marks_of, both_marks};
+ghost use Rattle.cm_names.specs.Marks.{marks_of, both_marks};
 
 use std::simd::prelude::*;
 
@@ -23,7 +23,7 @@ pub(crate) struct Marks {
 impl Marks {
     /// Of these bytes and of others.
     #[inline(always)]
-    #[tactic(auto, unfolding(crate::specs::Judged::both_marks))]
+    #[tactic(auto, unfolding(crate::specs::Marks::both_marks))]
     fn and(self, other: Marks) -> Marks
         ensures { result ≡ both_marks self other }
     {
@@ -38,7 +38,7 @@ impl Marks {
 
 /// Of the sixteen bytes from a place.
 #[inline(always)]
-#[tactic(auto, unfolding(crate::specs::Judged::marks_of))]
+#[tactic(auto, unfolding(crate::specs::Marks::marks_of))]
 fn marks_of_sixteen(bytes: &[u8], at: usize) -> Marks
     requires { at + LANES ≤ length bytes.now }
     ensures { result ≡ marks_of (take 16 (drop at bytes.now)) }
@@ -60,7 +60,7 @@ fn marks_of_sixteen(bytes: &[u8], at: usize) -> Marks
 
 /// Of the eight bytes from a place.
 #[inline(always)]
-#[tactic(auto, unfolding(crate::specs::Judged::marks_of))]
+#[tactic(auto, unfolding(crate::specs::Marks::marks_of))]
 fn marks_of_eight(bytes: &[u8], at: usize) -> Marks
     requires { at + HALF_LANES ≤ length bytes.now }
     ensures { result ≡ marks_of (take 8 (drop at bytes.now)) }
@@ -80,7 +80,7 @@ fn marks_of_eight(bytes: &[u8], at: usize) -> Marks
     }
 }
 
-#[tactic(auto, unfolding(crate::specs::Judged::marks_of))]
+#[tactic(auto, unfolding(crate::specs::Marks::marks_of))]
 fn marks_of_byte(byte: u8) -> Marks
     ensures { result ≡ marks_of (byte ∷ []) }
 {

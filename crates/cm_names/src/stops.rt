@@ -1,7 +1,7 @@
 //! The first byte that ends a name, looked for in many bytes at a time.
 ghost use Rattle.std.specs.Prelude.{◌≡◌, ◌+◌, ◌≤◌, not, length, take, drop};
 ghost use Rattle.std.specs.List.{prefix_len};
-ghost use Rattle.cm_names.specs.Judged.{is_no_stop, first_set};
+ghost use Rattle.cm_names.specs.Marks.{is_no_stop, first_set};
 
 use std::simd::prelude::*;
 

@@ -2,7 +2,7 @@ use super::*;
 use std::test::*;
 
 #[test]
-fn texts(rt: HostRuntime) {
+fn utf8_forms(rt: HostRuntime) {
     let rows: [(&[u8], bool); 12] = [
         (b"", true),
         (b"\x01\x7f", true),
@@ -18,7 +18,7 @@ fn texts(rt: HostRuntime) {
         (b"\xf0\x80\x80\x80", false),
     ];
     for (bytes, expected) in rows {
-        assert_eq!(rt; is_text(bytes), expected, "at {bytes:?}");
+        assert_eq!(rt; has_utf8_form(bytes), expected, "at {bytes:?}");
     }
 }
 
@@ -88,7 +88,7 @@ fn method_descriptors(rt: HostRuntime) {
     assert_eq!(rt; first(b"ab"), Some((b'a', b"b".as_slice())));
 }
 
-/// A judgement of texts that are characters throughout.
+/// A judgement of Utf8s that are characters throughout.
 const fn judgement(
     class_name: bool,
     unqualified_name: bool,
@@ -97,7 +97,7 @@ const fn judgement(
     method_units: Option<u8>,
 ) -> Judgement {
     Judgement {
-        text: true,
+        utf8: true,
         class_name,
         unqualified_name,
         method_name,
@@ -214,7 +214,7 @@ fn judgements_of_no_characters(rt: HostRuntime) {
     ];
     for (bytes, letters) in rows {
         let expected = Judgement {
-            text: false,
+            utf8: false,
             ..letters
         };
         assert_eq!(rt; judge(bytes), expected, "at {bytes:?}");

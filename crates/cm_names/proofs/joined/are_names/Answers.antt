@@ -1,5 +1,5 @@
 use Rattle.std.proofs.Common.{arith}
-use Rattle.cm_names.proofs.Joining.{names_by_neighbours}
+use Rattle.cm_names.proofs.JoinedNames.{names_by_neighbours}
 use Rattle.cm_names.proofs.joined.are_names.Goals as goal
 
 pub returns : goal.returns

@@ -1,7 +1,7 @@
 use Rattle.std.proofs.Common.{◌≡◌, ◌≤◌, ◌+◌, ◌*◌, ◌-◌, ◌&&◌, length, take, drop, ap, ap₂, ◌∙◌, arith}
 use Rattle.std.specs.List.{list_all}
-use Rattle.cm_names.specs.Judged.{are_apart, neighbours}
-use Rattle.cm_names.proofs.Joining.{last_apart, more_apart, all_apart}
+use Rattle.cm_names.specs.Marks.{are_apart, neighbours}
+use Rattle.cm_names.proofs.JoinedNames.{last_apart, more_apart, all_apart}
 use Rattle.cm_names.proofs.joined.many_are_apart.Goals as goal
 
 pub loop-place-init : goal.loop-place-init

@@ -1,6 +1,6 @@
 use Rattle.std.proofs.Common.{◌≡◌, ◌*◌, ◌-◌, ◌&&◌, take, drop, length}
 use Rattle.std.specs.List.{list_all}
-use Rattle.cm_names.specs.Judged.{are_apart, neighbours}
+use Rattle.cm_names.specs.Marks.{are_apart, neighbours}
 use Rattle.cm_names.proofs.joined.many_are_apart.Given as goal
 
 abbrev pub invariant-loop-place : goal.invariant-loop-place

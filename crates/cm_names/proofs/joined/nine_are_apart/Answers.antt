@@ -1,6 +1,6 @@
 use Rattle.std.proofs.Common.{◌+◌, refl, arith}
 use Rattle.std.proofs.lemmas.Simd.{length-chunk, zip2_splat}
-use Rattle.cm_names.proofs.Joining.{none_both}
+use Rattle.cm_names.proofs.JoinedNames.{none_both}
 use lib.Lanes.{chunk}
 use Rattle.cm_names.proofs.joined.nine_are_apart.Goals as goal
 

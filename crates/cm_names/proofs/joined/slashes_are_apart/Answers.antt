@@ -1,4 +1,4 @@
-use Rattle.cm_names.proofs.Joining.{few_apart}
+use Rattle.cm_names.proofs.JoinedNames.{few_apart}
 use Rattle.cm_names.proofs.joined.slashes_are_apart.Goals as goal
 
 pub returns-else-bytes-ge-SPAN : goal.returns-else-bytes-ge-SPAN

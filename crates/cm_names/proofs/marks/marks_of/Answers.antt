@@ -1,6 +1,6 @@
 use Rattle.std.proofs.Common.{◌≤◌, ◌-◌, length, ap, ap₂, ◌∙◌, arith}
-use Rattle.cm_names.specs.Judged.{marks_of, both_marks}
-use Rattle.cm_names.proofs.Marking.{last_bytes, covered_marks}
+use Rattle.cm_names.specs.Marks.{marks_of, both_marks}
+use Rattle.cm_names.proofs.MarksOf.{last_bytes, covered_marks}
 use Rattle.cm_names.proofs.marks.marks_of.Goals as goal
 
 pub returns-then-bytes-ge-HALF_LANES : goal.returns-then-bytes-ge-HALF_LANES

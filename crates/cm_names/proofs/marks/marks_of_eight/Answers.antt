@@ -1,7 +1,7 @@
 use Rattle.std.proofs.Common.{ltb, cond, refl, arith}
 use Rattle.std.proofs.lemmas.Simd.{length-chunk, zip2_splat}
-use Rattle.cm_names.specs.Judged.{marks_of, is_plain, is_no_slash, is_no_stop, is_no_angle}
-use Rattle.cm_names.proofs.Marking.{joined, splat_is, itself, none_set, same_marks}
+use Rattle.cm_names.specs.Marks.{marks_of, is_plain, is_no_slash, is_no_stop, is_no_angle}
+use Rattle.cm_names.proofs.MarksOf.{joined, splat_is, itself, none_set, same_marks}
 use lib.Lanes.{chunk}
 use Rattle.cm_names.proofs.marks.marks_of_eight.Goals as goal
 

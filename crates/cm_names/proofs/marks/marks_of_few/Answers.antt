@@ -1,7 +1,7 @@
 use Rattle.std.proofs.Common.{ap, sym, ◌∙◌}
 use Rattle.std.proofs.lemmas.List.{drop_all}
-use Rattle.cm_names.specs.Judged.{marks_of, both_marks}
-use Rattle.cm_names.proofs.Marking.{nothing_both, both_nothing, one_byte}
+use Rattle.cm_names.specs.Marks.{marks_of, both_marks}
+use Rattle.cm_names.proofs.MarksOf.{nothing_both, both_nothing, one_byte}
 use Rattle.cm_names.proofs.marks.marks_of_few.Goals as goal
 
 pub loop-byte-init : goal.loop-byte-init

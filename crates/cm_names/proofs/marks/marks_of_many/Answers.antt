@@ -1,6 +1,6 @@
 use Rattle.std.proofs.Common.{◌≡◌, ◌≤◌, ◌*◌, ◌-◌, ◌+◌, length, take, drop, ap, sym, ◌∙◌, arith}
-use Rattle.cm_names.specs.Judged.{marks_of, both_marks}
-use Rattle.cm_names.proofs.Marking.{both_nothing, both_comm, last_bytes, more_bytes, covered_marks}
+use Rattle.cm_names.specs.Marks.{marks_of, both_marks}
+use Rattle.cm_names.proofs.MarksOf.{both_nothing, both_comm, last_bytes, more_bytes, covered_marks}
 use Rattle.cm_names.proofs.marks.marks_of_many.Goals as goal
 
 pub loop-place-init : goal.loop-place-init

@@ -1,5 +1,5 @@
 use Rattle.std.proofs.Common.{◌≡◌, ◌*◌, ◌-◌, take, drop, length}
-use Rattle.cm_names.specs.Judged.{marks_of, both_marks}
+use Rattle.cm_names.specs.Marks.{marks_of, both_marks}
 use Rattle.cm_names.proofs.marks.marks_of_many.Given as goal
 
 abbrev pub invariant-loop-place : goal.invariant-loop-place

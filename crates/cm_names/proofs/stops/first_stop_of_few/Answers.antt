@@ -1,6 +1,6 @@
 use Rattle.std.proofs.Common.{not, sym, ap, ◌∙◌}
-use Rattle.cm_names.specs.Judged.{is_no_stop}
-use Rattle.cm_names.proofs.Stopping.{passes_on, stops_at, all_passed}
+use Rattle.cm_names.specs.Marks.{is_no_stop}
+use Rattle.cm_names.proofs.FirstStop.{passes_on, stops_at, all_passed}
 use Rattle.cm_names.proofs.stops.first_stop_of_few.Goals as goal
 
 pub returns-then-is_stop : goal.returns-then-is_stop

@@ -1,8 +1,8 @@
 use Rattle.std.proofs.Common.{◌≡◌, ◌*◌, ◌-◌, length, take, drop, ap, arith}
 use Rattle.std.specs.List.{prefix_len}
-use Rattle.cm_names.specs.Judged.{is_no_stop}
-use Rattle.cm_names.proofs.Marking.{last_bytes}
-use Rattle.cm_names.proofs.Stopping.{skipped, within, beyond, run_bound}
+use Rattle.cm_names.specs.Marks.{is_no_stop}
+use Rattle.cm_names.proofs.MarksOf.{last_bytes}
+use Rattle.cm_names.proofs.FirstStop.{skipped, within, beyond, run_bound}
 use Rattle.cm_names.proofs.stops.first_stop_of_many.Goals as goal
 
 pub returns-then-run-lt-LANES : goal.returns-then-run-lt-LANES

@@ -1,8 +1,8 @@
 use Rattle.std.proofs.Common.{refl, ◌∙◌, arith}
 use Rattle.std.proofs.lemmas.Simd.{length-chunk, zip2_splat}
-use Rattle.cm_names.specs.Judged.{is_no_stop}
-use Rattle.cm_names.proofs.Marking.{joined}
-use Rattle.cm_names.proofs.Stopping.{run_is}
+use Rattle.cm_names.specs.Marks.{is_no_stop}
+use Rattle.cm_names.proofs.MarksOf.{joined}
+use Rattle.cm_names.proofs.FirstStop.{run_is}
 use lib.Lanes.{chunk}
 use Rattle.cm_names.proofs.stops.run_of_sixteen.Goals as goal
 
