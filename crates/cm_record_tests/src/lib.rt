@@ -8,4 +8,6 @@ mod names;
 #[cfg(test)]
 mod not_records;
 #[cfg(test)]
+mod parts;
+#[cfg(test)]
 mod samples;
