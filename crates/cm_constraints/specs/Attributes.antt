@@ -29,7 +29,7 @@ are_values_of c descriptor attributes = list_all (λ a. is_value_of c descriptor
 
 -- that of a static field is one of the field's
 abbrev pub values_agree : ClassFile → Member → Bool
-values_agree c m = not (has acc_static m.flags) || are_values_of c (utf8 c m.descriptor) m.attributes
+values_agree c m = not (has m.flags acc_static) || are_values_of c (utf8 c m.descriptor) m.attributes
 
 abbrev pub field_attributes_are_right : ClassFile → Member → Bool
 field_attributes_are_right c m =

@@ -56,7 +56,7 @@ acc_enum = 0x4000
 
 -- a flag is set, or of several, which are added up, at least one
 abbrev pub has : ℕ → ℕ → Bool
-has some flags = not (bit_and flags some == 0)
+has flags some = not (bit_and flags some == 0)
 
 -- both, or the first doesn't hold
 abbrev pub implies : Bool → Bool → Bool
@@ -67,7 +67,7 @@ one_if b = if b then 1 else 0
 
 -- how many of public, private and protected
 abbrev pub visibilities : ℕ → ℕ
-visibilities flags = one_if (has acc_public flags) + one_if (has acc_private flags) + one_if (has acc_protected flags)
+visibilities flags = one_if (has flags acc_public) + one_if (has flags acc_private) + one_if (has flags acc_protected)
 
 -- ---- of a class (JVMS 4.1)
 
@@ -76,9 +76,9 @@ not_of_interface = acc_final + acc_super + acc_enum
 
 unfoldable pub class_flags_agree : ℕ → Bool
 class_flags_agree flags =
-    if has acc_interface flags
-    then has acc_abstract flags && not (has not_of_interface flags)
-    else not (has acc_annotation flags) && not (has acc_final flags && has acc_abstract flags)
+    if has flags acc_interface
+    then has flags acc_abstract && not (has flags not_of_interface)
+    else not (has flags acc_annotation) && not (has flags acc_final && has flags acc_abstract)
 
 -- ---- of a field (JVMS 4.5)
 
@@ -87,13 +87,13 @@ not_of_interface_field = acc_private + acc_protected + acc_volatile + acc_transi
 
 unfoldable pub interface_field_agrees : ℕ → Bool
 interface_field_agrees flags =
-    has acc_public flags && has acc_static flags && has acc_final flags && not (has not_of_interface_field flags)
+    has flags acc_public && has flags acc_static && has flags acc_final && not (has flags not_of_interface_field)
 
 -- in a class of these flags
 unfoldable pub field_flags_agree : ℕ → ℕ → Bool
 field_flags_agree of_class flags =
-    nat_le (visibilities flags) 1 && not (has acc_final flags && has acc_volatile flags)
-    && implies (has acc_interface of_class) (interface_field_agrees flags)
+    nat_le (visibilities flags) 1 && not (has flags acc_final && has flags acc_volatile)
+    && implies (has of_class acc_interface) (interface_field_agrees flags)
 
 -- ---- of a method (JVMS 4.6)
 
@@ -108,12 +108,12 @@ not_of_constructor = acc_static + acc_final + acc_synchronized + acc_bridge + ac
 
 unfoldable pub interface_method_agrees : ℕ → Bool
 interface_method_agrees flags =
-    one_if (has acc_public flags) + one_if (has acc_private flags) == 1 && not (has not_of_interface_method flags)
+    one_if (has flags acc_public) + one_if (has flags acc_private) == 1 && not (has flags not_of_interface_method)
 
 -- in a class of these flags, of a constructor or of another method
 unfoldable pub method_flags_agree : ℕ → Bool → ℕ → Bool
 method_flags_agree of_class is_constructor flags =
     nat_le (visibilities flags) 1
-    && implies (has acc_abstract flags) (not (has not_with_abstract flags))
-    && implies (has acc_interface of_class) (interface_method_agrees flags)
-    && implies is_constructor (not (has not_of_constructor flags))
+    && implies (has flags acc_abstract) (not (has flags not_with_abstract))
+    && implies (has of_class acc_interface) (interface_method_agrees flags)
+    && implies is_constructor (not (has flags not_of_constructor))

@@ -13,6 +13,6 @@ object = codes "java/lang/Object"
 
 abbrev pub super_is_right : ClassFile → Bool
 super_is_right c =
-    (if has acc_interface c.flags
+    (if has c.flags acc_interface
     then bytes_eq (class_name c c.super_class) object
     else not (c.super_class == 0) || bytes_eq (class_name_of c) object)

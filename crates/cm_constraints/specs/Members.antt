@@ -33,7 +33,7 @@ is_init c m = bytes_eq (utf8 c m.name) init
 
 -- with its receiver a method takes at most 255 units (JVMS 4.3.3)
 abbrev pub units_fit : ClassFile → Member → Bool
-units_fit c m = has acc_static m.flags || is_clinit c m || option_map_or (λ n. nat_le n 254) (method_units (utf8 c m.descriptor)) false
+units_fit c m = has m.flags acc_static || is_clinit c m || option_map_or (λ n. nat_le n 254) (method_units (utf8 c m.descriptor)) false
 
 abbrev pub flags_fit_method : ClassFile → Member → Bool
 flags_fit_method c m = is_clinit c m || method_flags_agree c.flags (is_init c m) m.flags
@@ -42,7 +42,7 @@ flags_fit_method c m = is_clinit c m || method_flags_agree c.flags (is_init c m)
 abbrev pub code_count_is_right : ClassFile → Member → Bool
 code_count_is_right c m =
     (if is_clinit c m then nat_le (count_of c known.Code m.attributes) 1
-    else if has (acc_native + acc_abstract) m.flags then count_of c known.Code m.attributes == 0
+    else if has m.flags (acc_native + acc_abstract) then count_of c known.Code m.attributes == 0
     else count_of c known.Code m.attributes == 1)
 
 abbrev pub code_has_form : ClassFile → Member → Bool

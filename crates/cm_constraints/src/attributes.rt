@@ -67,7 +67,7 @@ fn are_values_of(class: &Class, descriptor: &[u8], attributes: &[Attribute]) -> 
 fn values_agree(class: &Class, field: &Member) -> bool
     ensures { result ≡ values_agree class.now field.now }
 {
-    !has(ACC_STATIC, field.flags)
+    !has(field.flags, ACC_STATIC)
         || are_values_of(
             class,
             class.utf8(field.descriptor),

@@ -59,8 +59,8 @@ const NOT_OF_CONSTRUCTOR: u16 = ACC_STATIC
     | ACC_ABSTRACT;
 
 /// Whether a flag is set, or one of several.
-pub(crate) fn has(some: u16, flags: u16) -> bool
-    ensures { result ≡ has some flags }
+pub(crate) fn has(flags: u16, some: u16) -> bool
+    ensures { result ≡ has flags some }
 {
     flags & some != 0
 }
@@ -75,9 +75,9 @@ fn one_if(holds: bool) -> u8
 fn visibilities(flags: u16) -> u8
     ensures { result ≡ visibilities flags }
 {
-    one_if(has(ACC_PUBLIC, flags))
-        + one_if(has(ACC_PRIVATE, flags))
-        + one_if(has(ACC_PROTECTED, flags))
+    one_if(has(flags, ACC_PUBLIC))
+        + one_if(has(flags, ACC_PRIVATE))
+        + one_if(has(flags, ACC_PROTECTED))
 }
 
 /// Whether the flags of a class agree (JVMS 4.1).
@@ -85,10 +85,10 @@ fn visibilities(flags: u16) -> u8
 pub fn class_flags_agree(flags: u16) -> bool
     ensures { result ≡ class_flags_agree flags }
 {
-    if has(ACC_INTERFACE, flags) {
-        has(ACC_ABSTRACT, flags) && !has(NOT_OF_INTERFACE, flags)
+    if has(flags, ACC_INTERFACE) {
+        has(flags, ACC_ABSTRACT) && !has(flags, NOT_OF_INTERFACE)
     } else {
-        !has(ACC_ANNOTATION, flags) && !(has(ACC_FINAL, flags) && has(ACC_ABSTRACT, flags))
+        !has(flags, ACC_ANNOTATION) && !(has(flags, ACC_FINAL) && has(flags, ACC_ABSTRACT))
     }
 }
 
@@ -96,10 +96,10 @@ pub fn class_flags_agree(flags: u16) -> bool
 fn interface_field_agrees(flags: u16) -> bool
     ensures { result ≡ interface_field_agrees flags }
 {
-    has(ACC_PUBLIC, flags)
-        && has(ACC_STATIC, flags)
-        && has(ACC_FINAL, flags)
-        && !has(NOT_OF_INTERFACE_FIELD, flags)
+    has(flags, ACC_PUBLIC)
+        && has(flags, ACC_STATIC)
+        && has(flags, ACC_FINAL)
+        && !has(flags, NOT_OF_INTERFACE_FIELD)
 }
 
 /// Whether a field's flags agree, in a class of these flags (JVMS 4.5).
@@ -108,16 +108,16 @@ pub fn field_flags_agree(of_class: u16, flags: u16) -> bool
     ensures { result ≡ field_flags_agree of_class flags }
 {
     visibilities(flags) <= 1
-        && !(has(ACC_FINAL, flags) && has(ACC_VOLATILE, flags))
-        && (!has(ACC_INTERFACE, of_class) || interface_field_agrees(flags))
+        && !(has(flags, ACC_FINAL) && has(flags, ACC_VOLATILE))
+        && (!has(of_class, ACC_INTERFACE) || interface_field_agrees(flags))
 }
 
 #[tactic(auto, unfolding(crate::specs::Flags::interface_method_agrees))]
 fn interface_method_agrees(flags: u16) -> bool
     ensures { result ≡ interface_method_agrees flags }
 {
-    one_if(has(ACC_PUBLIC, flags)) + one_if(has(ACC_PRIVATE, flags)) == 1
-        && !has(NOT_OF_INTERFACE_METHOD, flags)
+    one_if(has(flags, ACC_PUBLIC)) + one_if(has(flags, ACC_PRIVATE)) == 1
+        && !has(flags, NOT_OF_INTERFACE_METHOD)
 }
 
 /// Whether the flags agree of a constructor or of another method, in a class of these flags (JVMS 4.6).
@@ -126,7 +126,7 @@ pub(crate) fn method_flags_agree(of_class: u16, is_constructor: bool, flags: u16
     ensures { result ≡ method_flags_agree of_class is_constructor flags }
 {
     visibilities(flags) <= 1
-        && (!has(ACC_ABSTRACT, flags) || !has(NOT_WITH_ABSTRACT, flags))
-        && (!has(ACC_INTERFACE, of_class) || interface_method_agrees(flags))
-        && (!is_constructor || !has(NOT_OF_CONSTRUCTOR, flags))
+        && (!has(flags, ACC_ABSTRACT) || !has(flags, NOT_WITH_ABSTRACT))
+        && (!has(of_class, ACC_INTERFACE) || interface_method_agrees(flags))
+        && (!is_constructor || !has(flags, NOT_OF_CONSTRUCTOR))
 }

@@ -20,7 +20,7 @@ pub fn this_is_no_array(class: &Class) -> bool
 pub fn super_is_right(class: &Class) -> bool
     ensures { result ≡ super_is_right class.now }
 {
-    if has(ACC_INTERFACE, class.flags()) {
+    if has(class.flags(), ACC_INTERFACE) {
         class.class_name(class.super_class()) == OBJECT
     } else {
         class.super_class() != 0 || class.class_name(class.this_class()) == OBJECT

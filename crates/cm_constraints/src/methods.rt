@@ -30,7 +30,7 @@ fn is_init(class: &Class, method: &Member) -> bool
 pub fn units_fit(subject: &Subject, method: &Member) -> bool
     ensures { result ≡ units_fit subject.now.class.now method.now }
 {
-    if has(ACC_STATIC, method.flags) || is_clinit(subject.class, method) {
+    if has(method.flags, ACC_STATIC) || is_clinit(subject.class, method) {
         return true;
     }
     match subject.method_units(method.descriptor) {
@@ -55,7 +55,7 @@ pub fn code_count_is_right(class: &Class, method: &Member) -> bool
     let codes = count(class, Known::Code, method.attributes.as_slice());
     if is_clinit(class, method) {
         codes <= 1
-    } else if has(ACC_NATIVE | ACC_ABSTRACT, method.flags) {
+    } else if has(method.flags, ACC_NATIVE | ACC_ABSTRACT) {
         codes == 0
     } else {
         codes == 1
