@@ -1,5 +1,6 @@
 pub mod Packed
 pub mod Lengths
+pub mod Room
 pub mod Steps
 pub mod Digits
 pub mod Runs

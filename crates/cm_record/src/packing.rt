@@ -1,8 +1,8 @@
 //! Bytes in words, and small numbers side by side in a word.
-ghost use Rattle.std.specs.Prelude.{◌≡◌, ◌<◌, ◌≤◌, ◌+◌, ◌*◌, ◌++◌, ℕ, length, take, drop, slice_index, IfOk, OnOk};
+ghost use Rattle.std.specs.Prelude.{◌≡◌, ◌<◌, ◌≤◌, ◌+◌, ◌*◌, ◌++◌, ℕ, length, take, drop, slice_index};
 ghost use Rattle.cm_record.specs.Packing.{word_from, bytes_of as word_bytes_of, packed, packed_into, word_bytes, run_words as words_of_run, four_numbers as four_numbers_of};
 
-use std::alloc::AllocError;
+use cm_words::WordBuf;
 
 /// What one more of 16 bits is worth, from the second number of a word on.
 pub(crate) const SECOND: u64 = 1 << 16;
@@ -57,28 +57,42 @@ pub(crate) fn run_words(count: usize) -> u64
     count / 8 + u64::from(count % 8 != 0)
 }
 
+/// Adds these words.
+pub(crate) fn push_words(words: &mut WordBuf, more: &[u64])
+    requires { length words.old.words + length more.now ≤ words.old.capacity }
+    ensures words { words.new.words ≡ words.old.words ++ more.now }
+    ensures capacity { words.new.capacity ≡ words.old.capacity }
+{
+    for word in more {
+        words.push(*word);
+    }
+}
+
 /// Adds the words of whole eights of bytes. It gives the bytes behind them.
-fn push_eights<'a>(words: &mut Vec<u64>, bytes: &'a [u8]) -> Result<&'a [u8], AllocError>
-    ensures words { IfOk result (λ rest. words.new.items ++ packed rest.now ≡ words.old.items ++ packed bytes.now) }
-    ensures few { IfOk result (λ rest. length rest.now < 8) }
+fn push_eights<'a>(words: &mut WordBuf, bytes: &'a [u8]) -> &'a [u8]
+    requires { length words.old.words + length (packed bytes.now) ≤ words.old.capacity }
+    ensures words { words.new.words ++ packed result.now ≡ words.old.words ++ packed bytes.now }
+    ensures capacity { words.new.capacity ≡ words.old.capacity }
+    ensures few { length result.now < 8 }
 {
     let mut rest = bytes;
     while let Some((eight, behind)) = rest.split_first_chunk::<8>() {
-        words.push(u64::from_le_bytes(*eight))?;
+        words.push(u64::from_le_bytes(*eight));
         rest = behind;
     }
-    Ok(rest)
+    rest
 }
 
 /// Adds the run of these bytes.
-pub(crate) fn push_run(words: &mut Vec<u64>, bytes: &[u8]) -> Result<(), AllocError>
-    ensures { OnOk result (words.new.items ≡ words.old.items ++ packed bytes.now) }
+pub(crate) fn push_run(words: &mut WordBuf, bytes: &[u8])
+    requires { length words.old.words + length (packed bytes.now) ≤ words.old.capacity }
+    ensures words { words.new.words ≡ words.old.words ++ packed bytes.now }
+    ensures capacity { words.new.capacity ≡ words.old.capacity }
 {
-    let rest = push_eights(words, bytes)?;
+    let rest = push_eights(words, bytes);
     if !rest.is_empty() {
-        words.push(word_of(rest))?;
+        words.push(word_of(rest));
     }
-    Ok(())
 }
 
 /// A word's eight bytes, the lowest first.

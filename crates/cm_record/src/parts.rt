@@ -1,52 +1,49 @@
 //! The parts of a class's record, each made of sections.
-ghost use Rattle.std.specs.Prelude.{◌≡◌, ◌≤◌, ◌+◌, ◌++◌, ◌∷◌, length, OnOk, IfOk};
+ghost use Rattle.std.specs.Prelude.{◌≡◌, ◌≤◌, ◌+◌, ◌++◌, ◌∷◌, length};
 ghost use Rattle.cm_record.specs.Layout.{head, directory, members, member_attributes, attributes, attribute_runs, utf8_runs, all_members, all_attributes, attributes_at, runs_at, attribute_runs_at, record_len, limit};
 ghost use Rattle.cm_record.specs.Places.{ArePlaces};
 
-use crate::packing::four_numbers;
+use crate::packing::{four_numbers, push_words};
 use crate::places::Places;
 use crate::sections::{
     push_attribute_runs, push_attributes, push_directory, push_interfaces, push_members,
     push_utf8_runs,
 };
 use cm_class::{Class, Member};
-use std::alloc::AllocError;
+use cm_words::WordBuf;
 
 /// Adds the attributes of members. It gives where the run of the next would begin.
-fn push_member_attributes(
-    words: &mut Vec<u64>,
-    at: u64,
-    these: &[Member],
-) -> Result<u64, AllocError>
-    requires { at + length (attribute_runs (member_attributes these.now)) ≤ limit }
-    ensures { IfOk result (λ next. (words.new.items ≡ words.old.items ++ attributes at (member_attributes these.now))
-        × (next ≡ at + length (attribute_runs (member_attributes these.now)))) }
+fn push_member_attributes(words: &mut WordBuf, at: u64, these: &[Member]) -> u64
+    requires short { at + length (attribute_runs (member_attributes these.now)) ≤ limit }
+    requires room { length words.old.words + length (attributes at (member_attributes these.now)) ≤ words.old.capacity }
+    ensures words { words.new.words ≡ words.old.words ++ attributes at (member_attributes these.now) }
+    ensures capacity { words.new.capacity ≡ words.old.capacity }
+    ensures next { result ≡ at + length (attribute_runs (member_attributes these.now)) }
 {
     let mut at = at;
     for member in these {
-        at = push_attributes(words, at, member.attributes.as_slice())?;
+        at = push_attributes(words, at, member.attributes.as_slice());
     }
-    Ok(at)
+    at
 }
 
 /// Adds the runs of the attributes of members.
-fn push_member_runs(words: &mut Vec<u64>, these: &[Member]) -> Result<(), AllocError>
-    ensures { OnOk result (words.new.items ≡ words.old.items ++ attribute_runs (member_attributes these.now)) }
+fn push_member_runs(words: &mut WordBuf, these: &[Member])
+    requires { length words.old.words + length (attribute_runs (member_attributes these.now)) ≤ words.old.capacity }
+    ensures words { words.new.words ≡ words.old.words ++ attribute_runs (member_attributes these.now) }
+    ensures capacity { words.new.capacity ≡ words.old.capacity }
 {
     for member in these {
-        push_attribute_runs(words, member.attributes.as_slice())?;
+        push_attribute_runs(words, member.attributes.as_slice());
     }
-    Ok(())
 }
 
 /// Adds the first eight words.
-pub(crate) fn push_head(
-    words: &mut Vec<u64>,
-    class: &Class,
-    places: &Places,
-) -> Result<(), AllocError>
+pub(crate) fn push_head(words: &mut WordBuf, class: &Class, places: &Places)
     requires places { ArePlaces class.now places.now }
-    ensures { OnOk result (words.new.items ≡ words.old.items ++ head class.now) }
+    requires room { length words.old.words + length (head class.now) ≤ words.old.capacity }
+    ensures words { words.new.words ≡ words.old.words ++ head class.now }
+    ensures capacity { words.new.capacity ≡ words.old.capacity }
 {
     let _spelled = class.flags();
     let counts = (
@@ -54,64 +51,64 @@ pub(crate) fn push_head(
         class.slots().len() + 1,
         class.fields().len(),
     );
-    words.extend_from_slice(&[
-        places.len,
-        four_numbers(
-            class.flags(),
-            class.this_class(),
-            class.super_class(),
-            counts.0 as u16,
-        ),
-        four_numbers(
-            counts.1 as u16,
-            counts.2 as u16,
-            class.methods().len() as u16,
-            class.attributes().len() as u16,
-        ),
-        8,
-        places.interfaces,
-        places.members,
-        places.attributes,
-        places.runs,
-    ])
+    push_words(
+        words,
+        &[
+            places.len,
+            four_numbers(
+                class.flags(),
+                class.this_class(),
+                class.super_class(),
+                counts.0 as u16,
+            ),
+            four_numbers(
+                counts.1 as u16,
+                counts.2 as u16,
+                class.methods().len() as u16,
+                class.attributes().len() as u16,
+            ),
+            8,
+            places.interfaces,
+            places.members,
+            places.attributes,
+            places.runs,
+        ],
+    );
 }
 
 /// Adds the directory, the interfaces and the members.
-pub(crate) fn push_pool_and_members(
-    words: &mut Vec<u64>,
-    class: &Class,
-    places: &Places,
-) -> Result<(), AllocError>
+pub(crate) fn push_pool_and_members(words: &mut WordBuf, class: &Class, places: &Places)
     requires places { ArePlaces class.now places.now }
     requires short { record_len class.now ≤ limit }
-    ensures { OnOk result (words.new.items ≡ words.old.items ++ (0 ∷ directory (runs_at class.now) class.now.slots)
-        ++ class.now.interfaces ++ members (attributes_at class.now) (all_members class.now)) }
+    requires room { length words.old.words + length ((0 ∷ directory (runs_at class.now) class.now.slots)
+        ++ class.now.interfaces ++ members (attributes_at class.now) (all_members class.now)) ≤ words.old.capacity }
+    ensures words { words.new.words ≡ words.old.words ++ (0 ∷ directory (runs_at class.now) class.now.slots)
+        ++ class.now.interfaces ++ members (attributes_at class.now) (all_members class.now) }
+    ensures capacity { words.new.capacity ≡ words.old.capacity }
 {
     let _spelled = class.flags();
-    words.push(0)?;
-    push_directory(words, places.runs, class.slots())?;
-    push_interfaces(words, class.interfaces())?;
-    let next = push_members(words, places.attributes, class.fields())?;
-    push_members(words, next, class.methods())?;
-    Ok(())
+    words.push(0);
+    push_directory(words, places.runs, class.slots());
+    push_interfaces(words, class.interfaces());
+    let next = push_members(words, places.attributes, class.fields());
+    push_members(words, next, class.methods());
 }
 
 /// Adds the attributes and the runs.
-pub(crate) fn push_attributes_and_runs(
-    words: &mut Vec<u64>,
-    class: &Class,
-    places: &Places,
-) -> Result<(), AllocError>
+pub(crate) fn push_attributes_and_runs(words: &mut WordBuf, class: &Class, places: &Places)
     requires places { ArePlaces class.now places.now }
     requires short { record_len class.now ≤ limit }
-    ensures { OnOk result (words.new.items ≡ words.old.items ++ attributes (attribute_runs_at class.now) (all_attributes class.now)
-        ++ utf8_runs class.now.slots ++ attribute_runs (all_attributes class.now)) }
+    requires room { length words.old.words + length (attributes (attribute_runs_at class.now) (all_attributes class.now)
+        ++ utf8_runs class.now.slots ++ attribute_runs (all_attributes class.now)) ≤ words.old.capacity }
+    ensures words { words.new.words ≡ words.old.words ++ attributes (attribute_runs_at class.now) (all_attributes class.now)
+        ++ utf8_runs class.now.slots ++ attribute_runs (all_attributes class.now) }
+    ensures capacity { words.new.capacity ≡ words.old.capacity }
 {
-    let next = push_member_attributes(words, places.attribute_runs, class.fields())?;
-    let next = push_member_attributes(words, next, class.methods())?;
-    push_attributes(words, next, class.attributes())?;
-    push_utf8_runs(words, class.slots())?;
-    push_member_runs(words, class.fields())?;
-    push_member_runs(words, class.methods())?;
-    push_attribute_runs(words, class.attributes())
+    let next = push_member_attributes(words, places.attribute_runs, class.fields());
+    let next = push_member_attributes(words, next, class.methods());
+    push_attributes(words, next, class.attributes());
+    push_utf8_runs(words, class.slots());
+    push_member_runs(words, class.fields());
+    push_member_runs(words, class.methods());
+    push_attribute_runs(words, class.attributes());
 }

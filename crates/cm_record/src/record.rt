@@ -3,6 +3,7 @@ ghost use Rattle.std.specs.Prelude.{◌≡◌, ◌≤◌, ◌<◌, ◌↔◌, �
 ghost use Rattle.cm_record.specs.declared.refusal.RecordRefusal.TheVariants as refusal;
 ghost use Rattle.cm_record.specs.declared.refusal.RecordFault.TheVariants as fault;
 ghost use Rattle.cm_class.specs.declared.class_file.ClassFile.{ClassFile};
+ghost use Rattle.cm_class.specs.Spelling.{HasSpelling};
 ghost use Rattle.cm_record.specs.Packing.{word_bytes, packed_into};
 ghost use Rattle.cm_record.specs.Names.{class_name_of, super_name_of};
 ghost use Rattle.cm_record.specs.Layout.{lay, record_len, limit, IsRecord, IsRecordOf};
@@ -20,19 +21,20 @@ use crate::constant::{Constant, constant_at_index};
 use crate::entry::{first, second, third};
 use crate::member::{Member, find_member, member_at};
 use crate::names::{is_same_run, name_run, run_bytes};
-use crate::packing::write_words;
+use crate::packing::{push_words, write_words};
 use crate::parts::{push_attributes_and_runs, push_head, push_pool_and_members};
 use crate::places::Places;
 use crate::refusal::{RecordFault, RecordRefusal};
 use crate::whole::read_class;
 use cm_class::Class;
+use cm_words::WordBuf;
 use std::alloc::{AllocError, Global};
 use std::marker::Model;
 
 /// A class as words. Contracts see the list of its words, which are the layout of one class.
 #[derive(Debug, Drop)]
 pub struct Record {
-    words: Vec<u64>,
+    words: WordBuf,
 }
 
 impl Model for Record {
@@ -41,22 +43,32 @@ impl Model for Record {
 
     ghost Value = { List ℕ };
 
-    ghost view = { λ r. r.words.items };
+    ghost view = { λ r. r.words.words };
 
-    ghost invariant = { λ r. IsRecord r.words.items };
+    ghost invariant = { λ r. IsRecord r.words.words };
 }
 
-/// The words of a class's layout.
-fn laid(alloc: Global, class: &Class, places: &Places) -> Result<Vec<u64>, AllocError>
+/// The words of a class's layout. All the room for them is taken at once.
+fn words_of_class(alloc: Global, class: &Class, places: &Places) -> Result<WordBuf, AllocError>
     requires places { ArePlaces class.now places.now }
+    requires spelled { HasSpelling class.now }
     requires short { record_len class.now ≤ limit }
-    ensures { IfOk result (λ words. words.items ≡ lay class.now) }
+    ensures { IfOk result (λ words. words.words ≡ lay class.now) }
 {
-    let mut words = Vec::with_capacity(alloc, places.len as usize)?;
-    push_head(&mut words, class, places)?;
-    push_pool_and_members(&mut words, class, places)?;
-    push_attributes_and_runs(&mut words, class, places)?;
+    let mut words = WordBuf::with_capacity(alloc, places.len as usize)?;
+    push_head(&mut words, class, places);
+    push_pool_and_members(&mut words, class, places);
+    push_attributes_and_runs(&mut words, class, places);
     Ok(words)
+}
+
+/// The same words in a buffer of their own.
+fn copy_words(alloc: Global, words: &[u64]) -> Result<WordBuf, AllocError>
+    ensures { IfOk result (λ copy. copy.words ≡ words.now) }
+{
+    let mut copy = WordBuf::with_capacity(alloc, words.len())?;
+    push_words(&mut copy, words);
+    Ok(copy)
 }
 
 /// The class's record. `TooLong` comes exactly where its layout has more than 524,288 words.
@@ -67,7 +79,7 @@ pub fn build(alloc: Global, class: &Class) -> Result<Record, RecordRefusal>
     let Some(places) = Places::of(class) else {
         return Err(RecordRefusal::TooLong);
     };
-    let words = laid(alloc, class, &places)?;
+    let words = words_of_class(alloc, class, &places)?;
     Ok(Record { words })
 }
 
@@ -92,7 +104,7 @@ impl Record {
         if !is_record(words) {
             return Err(RecordFault::NotARecord);
         }
-        let words = Vec::from_slice(alloc, words)?;
+        let words = copy_words(alloc, words)?;
         Ok(Record { words })
     }
 
@@ -113,7 +125,7 @@ impl Record {
         // The bytes tell the words.
         ensures words { packed_into (length self.now) out.new ≡ self.now }
     {
-        write_words(self.words.as_slice(), out)
+        write_words(self.as_slice(), out)
     }
 
     /// The access flags of its class.
@@ -135,7 +147,7 @@ impl Record {
     pub fn to_class(&self, alloc: Global) -> Result<Class, AllocError>
         ensures { IfOk result (λ c. IsRecordOf c self.now) }
     {
-        match read_class(alloc, self.words.as_slice()) {
+        match read_class(alloc, self.as_slice()) {
             Ok(file) => Ok(Class::from_file(file)),
             Err(RecordFault::NoMemory) => Err(AllocError),
             Err(RecordFault::NotARecord) => unreachable!(),

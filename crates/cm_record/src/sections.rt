@@ -1,5 +1,5 @@
 //! The sections of a record, each added behind the words so far.
-ghost use Rattle.std.specs.Prelude.{◌≡◌, ◌≤◌, ◌<◌, ◌+◌, ◌*◌, ◌^◌, ◌++◌, length, OnOk, IfOk};
+ghost use Rattle.std.specs.Prelude.{◌≡◌, ◌≤◌, ◌<◌, ◌+◌, ◌*◌, ◌^◌, ◌++◌, length};
 ghost use Rattle.std.specs.List.{AllByRecursion};
 ghost use Rattle.cm_class.specs.Spelling.{MemberFits};
 ghost use Rattle.cm_record.specs.Packing.{run_words as run_words_of};
@@ -8,7 +8,7 @@ ghost use Rattle.cm_record.specs.Layout.{constant_words, constant_run, slot_run,
 use crate::entry::whole_word;
 use crate::packing::{SECOND, THIRD, four_numbers, push_run, run_words};
 use cm_class::{Attribute, Constant, Member, Slot};
-use std::alloc::AllocError;
+use cm_words::WordBuf;
 
 /// The word of a Utf8 whose run begins at `at`.
 fn utf8_word(at: u64, bytes: &[u8]) -> u64
@@ -19,19 +19,20 @@ fn utf8_word(at: u64, bytes: &[u8]) -> u64
 }
 
 /// Adds a constant's words in the directory, where its run begins at `at`.
-fn push_constant(words: &mut Vec<u64>, at: u64, constant: &Constant) -> Result<(), AllocError>
-    requires { at + length (constant_run constant.now) ≤ limit }
-    ensures { OnOk result (words.new.items ≡ words.old.items ++ constant_words at constant.now) }
+fn push_constant(words: &mut WordBuf, at: u64, constant: &Constant)
+    requires short { at + length (constant_run constant.now) ≤ limit }
+    requires room { length words.old.words + length (constant_words at constant.now) ≤ words.old.capacity }
+    ensures words { words.new.words ≡ words.old.words ++ constant_words at constant.now }
+    ensures capacity { words.new.capacity ≡ words.old.capacity }
 {
     match constant {
-        Constant::Utf8(bytes) => words.push(utf8_word(at, bytes.as_slice()))?,
+        Constant::Utf8(bytes) => words.push(utf8_word(at, bytes.as_slice())),
         Constant::Long(bits) | Constant::Double(bits) => {
-            words.push(whole_word(constant))?;
-            words.push(*bits)?;
+            words.push(whole_word(constant));
+            words.push(*bits);
         }
-        _ => words.push(whole_word(constant))?,
+        _ => words.push(whole_word(constant)),
     }
-    Ok(())
 }
 
 /// How many words a constant's run takes.
@@ -55,65 +56,62 @@ pub(crate) fn slot_run_words(slot: &Slot) -> u64
 }
 
 /// Adds the slots' words in the directory, where the first run begins at `at`.
-pub(crate) fn push_directory(
-    words: &mut Vec<u64>,
-    at: u64,
-    slots: &[Slot],
-) -> Result<(), AllocError>
-    requires { at + length (utf8_runs slots.now) ≤ limit }
-    ensures { OnOk result (words.new.items ≡ words.old.items ++ directory at slots.now) }
+pub(crate) fn push_directory(words: &mut WordBuf, at: u64, slots: &[Slot])
+    requires short { at + length (utf8_runs slots.now) ≤ limit }
+    requires room { length words.old.words + length (directory at slots.now) ≤ words.old.capacity }
+    ensures words { words.new.words ≡ words.old.words ++ directory at slots.now }
+    ensures capacity { words.new.capacity ≡ words.old.capacity }
 {
     let mut at = at;
     for slot in slots {
         if let Slot::Usable(constant) = slot {
-            push_constant(words, at, constant)?;
+            push_constant(words, at, constant);
             at += constant_run_words(constant);
         }
     }
-    Ok(())
 }
 
 /// Adds the runs of the constant pool.
-pub(crate) fn push_utf8_runs(words: &mut Vec<u64>, slots: &[Slot]) -> Result<(), AllocError>
-    ensures { OnOk result (words.new.items ≡ words.old.items ++ utf8_runs slots.now) }
+pub(crate) fn push_utf8_runs(words: &mut WordBuf, slots: &[Slot])
+    requires { length words.old.words + length (utf8_runs slots.now) ≤ words.old.capacity }
+    ensures words { words.new.words ≡ words.old.words ++ utf8_runs slots.now }
+    ensures capacity { words.new.capacity ≡ words.old.capacity }
 {
     for slot in slots {
         if let Slot::Usable(Constant::Utf8(bytes)) = slot {
-            push_run(words, bytes.as_slice())?;
+            push_run(words, bytes.as_slice());
         }
     }
-    Ok(())
 }
 
 /// Adds the interfaces, a word each.
-pub(crate) fn push_interfaces(words: &mut Vec<u64>, interfaces: &[u16]) -> Result<(), AllocError>
-    ensures { OnOk result (words.new.items ≡ words.old.items ++ interfaces.now) }
+pub(crate) fn push_interfaces(words: &mut WordBuf, interfaces: &[u16])
+    requires { length words.old.words + length interfaces.now ≤ words.old.capacity }
+    ensures words { words.new.words ≡ words.old.words ++ interfaces.now }
+    ensures capacity { words.new.capacity ≡ words.old.capacity }
 {
     for interface in interfaces {
-        words.push(u64::from(*interface))?;
+        words.push(u64::from(*interface));
     }
-    Ok(())
 }
 
 /// Adds members, where the attributes of the first begin at `at`. It gives where those of the next would.
-pub(crate) fn push_members(
-    words: &mut Vec<u64>,
-    at: u64,
-    these: &[Member],
-) -> Result<u64, AllocError>
+pub(crate) fn push_members(words: &mut WordBuf, at: u64, these: &[Member]) -> u64
     requires fit { AllByRecursion MemberFits these.now }
-    requires room { at + 2 * length (member_attributes these.now) ≤ limit }
-    ensures { IfOk result (λ next. (words.new.items ≡ words.old.items ++ members at these.now)
-        × (next ≡ at + 2 * length (member_attributes these.now))) }
+    requires short { at + 2 * length (member_attributes these.now) ≤ limit }
+    requires room { length words.old.words + length (members at these.now) ≤ words.old.capacity }
+    ensures words { words.new.words ≡ words.old.words ++ members at these.now }
+    ensures capacity { words.new.capacity ≡ words.old.capacity }
+    ensures next { result ≡ at + 2 * length (member_attributes these.now) }
 {
     let mut at = at;
     for member in these {
         let count = member.attributes.as_slice().len();
-        words.push(four_numbers(member.flags, member.name, member.descriptor, count as u16))?;
-        words.push(at)?;
+        words.push(four_numbers(member.flags, member.name, member.descriptor, count as u16));
+        words.push(at);
         at += 2 * count as u64;
     }
-    Ok(at)
+    at
 }
 
 /// How many words an attribute's run takes.
@@ -134,33 +132,29 @@ fn attribute_word(attribute: &Attribute) -> u64
 }
 
 /// Adds attributes, where the run of the first begins at `at`. It gives where that of the next would.
-pub(crate) fn push_attributes(
-    words: &mut Vec<u64>,
-    at: u64,
-    these: &[Attribute],
-) -> Result<u64, AllocError>
-    requires { at + length (attribute_runs these.now) ≤ limit }
-    ensures { IfOk result (λ next. (words.new.items ≡ words.old.items ++ attributes at these.now)
-        × (next ≡ at + length (attribute_runs these.now))) }
+pub(crate) fn push_attributes(words: &mut WordBuf, at: u64, these: &[Attribute]) -> u64
+    requires short { at + length (attribute_runs these.now) ≤ limit }
+    requires room { length words.old.words + length (attributes at these.now) ≤ words.old.capacity }
+    ensures words { words.new.words ≡ words.old.words ++ attributes at these.now }
+    ensures capacity { words.new.capacity ≡ words.old.capacity }
+    ensures next { result ≡ at + length (attribute_runs these.now) }
 {
     let mut at = at;
     for attribute in these {
-        words.push(attribute_word(attribute))?;
-        words.push(at)?;
+        words.push(attribute_word(attribute));
+        words.push(at);
         at += attribute_run_words(attribute);
     }
-    Ok(at)
+    at
 }
 
 /// Adds the runs of attributes.
-pub(crate) fn push_attribute_runs(
-    words: &mut Vec<u64>,
-    these: &[Attribute],
-) -> Result<(), AllocError>
-    ensures { OnOk result (words.new.items ≡ words.old.items ++ attribute_runs these.now) }
+pub(crate) fn push_attribute_runs(words: &mut WordBuf, these: &[Attribute])
+    requires { length words.old.words + length (attribute_runs these.now) ≤ words.old.capacity }
+    ensures words { words.new.words ≡ words.old.words ++ attribute_runs these.now }
+    ensures capacity { words.new.capacity ≡ words.old.capacity }
 {
     for attribute in these {
-        push_run(words, attribute.bytes.as_slice())?;
+        push_run(words, attribute.bytes.as_slice());
     }
-    Ok(())
 }

@@ -4,6 +4,6 @@ use Rattle.cm_record.proofs.sections.push_constant.Goals as goal
 
 pub utf8_word-requires : goal.utf8_word-requires
 utf8_word-requires c =
-    let here = rw c.in-Utf8.is at c.requires in
+    let here = rw c.in-Utf8.is at c.requires.short in
     let same = ap length c.as_slice.ensures in
     omega (arith, here, same, packed_len c.in-Utf8.bytes)

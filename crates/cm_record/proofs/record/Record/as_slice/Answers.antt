@@ -4,10 +4,10 @@ use Rattle.cm_record.proofs.WholeRecord.{directory_within}
 use Rattle.cm_record.proofs.record.Record.as_slice.Goals as goal
 
 pub returns-clause-words : goal.returns-clause-words
-returns-clause-words c = c.as_slice.ensures.value ∙ c.self.view_is
+returns-clause-words c = c.as_slice.ensures ∙ c.self.view_is
 
 pub returns-clause-record : goal.returns-clause-record
-returns-clause-record c = subst IsRecord (sym c.as_slice.ensures.value) c.self.invariant
+returns-clause-record c = subst IsRecord (sym c.as_slice.ensures) c.self.invariant
 
 pub returns-clause-directory : goal.returns-clause-directory
-returns-clause-directory c = directory_within c.as_slice.result.now (subst IsRecord (sym c.as_slice.ensures.value) c.self.invariant)
+returns-clause-directory c = directory_within c.as_slice.result.now (subst IsRecord (sym c.as_slice.ensures) c.self.invariant)
