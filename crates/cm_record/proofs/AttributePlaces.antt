@@ -1,5 +1,5 @@
 -- The attributes of methods and their runs, found in the words of a record.
-use Rattle.std.proofs.Common.{◌≡◌, ◌<◌, ◌≤◌, ◌+◌, ◌-◌, ◌*◌, ◌^◌, ℕ, zero, suc, List, [], ◌∷◌, ◌++◌, length, take, drop, get_or, slice_get, Bool, true, false, ◌⊎◌, inl, inr, Some, None, refl, sym, ◌∙◌, ap, subst, arith, length-append, append_assoc, get_or-drop, drop-drop}
+use Rattle.std.proofs.Common.{◌≡◌, ◌<◌, ◌≤◌, ◌+◌, ◌*◌, ◌^◌, ℕ, zero, suc, List, [], ◌∷◌, ◌++◌, length, take, drop, get_or, slice_get, Bool, true, false, ◌⊎◌, inl, inr, Some, refl, sym, ◌∙◌, ap, subst, arith, length-append, append_assoc, get_or-drop, drop-drop}
 use Rattle.std.specs.List.{AllByRecursion}
 use Rattle.std.proofs.lemmas.List.{drop_at, append-nil, length-take-le}
 use Rattle.cm_class.specs.declared.class_file.Attribute.{Attribute}
@@ -15,7 +15,7 @@ use Rattle.cm_record.specs.Runs.{IsRunOf}
 use Rattle.cm_record.specs.Code.{code_name, attributes_before, attributes_place, run_place}
 use Rattle.cm_record.proofs.Digits.{first-attribute, upper-attribute}
 use Rattle.cm_record.proofs.Lengths.{all_attributes_len, attributes_append, attribute_runs_append, attributes_len, all_runs, lay_len}
-use Rattle.cm_record.proofs.WholeRecord.{methods_at, attributes_tail, attributes_there, tail_joined, runs_tail, runs_there, of_fields, of_methods}
+use Rattle.cm_record.proofs.WholeRecord.{methods_at, attributes_tail, attributes_there, tail_joined, runs_there, of_fields, of_methods}
 use Rattle.cm_record.proofs.MemberPlaces.{item_there, twice_more, fits_there, methods_on, methods_have, fields_place, fields_count}
 
 member_attributes_append : (xs ys : List ClassMember) → member_attributes (xs ++ ys) ≡ member_attributes xs ++ member_attributes ys

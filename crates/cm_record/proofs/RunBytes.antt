@@ -1,5 +1,5 @@
 -- The bytes of a run, one by one.
-use Rattle.std.proofs.Common.{◌≡◌, ◌<◌, ◌≤◌, ◌+◌, ◌-◌, ◌*◌, ◌/◌, ◌%◌, ℕ, zero, suc, List, [], ◌∷◌, ◌++◌, length, take, drop, get_or, refl, sym, ◌∙◌, ap, arith, length-append, length-drop, drop-drop, get_or-take, get_or-drop}
+use Rattle.std.proofs.Common.{◌≡◌, ◌<◌, ◌≤◌, ◌+◌, ◌*◌, ◌/◌, ◌%◌, ℕ, zero, suc, List, length, drop, get_or, refl, sym, ◌∙◌, ap, arith, length-drop, drop-drop, get_or-take, get_or-drop}
 use Rattle.std.proofs.lemmas.List.{get_or_append_left}
 use Rattle.cm_class.specs.Spelling.{AreBytes}
 use Rattle.cm_record.specs.Packing.{bytes_of, word_from, packed_into, packed, run_words}

@@ -1,5 +1,5 @@
 -- The runs of a class's Utf8, found in the words of its record.
-use Rattle.std.proofs.Common.{false, ◌≡◌, ◌<◌, ◌≤◌, ◌+◌, ◌-◌, ◌*◌, ◌/◌, ◌^◌, ℕ, zero, suc, List, [], ◌∷◌, ◌++◌, length, take, drop, get_or, slice_get, Option, Some, None, refl, sym, ◌∙◌, ap, subst, arith, length-append, append_assoc, drop-drop}
+use Rattle.std.proofs.Common.{false, ◌≡◌, ◌≤◌, ◌-◌, ◌*◌, ◌/◌, ℕ, zero, suc, List, [], ◌∷◌, ◌++◌, length, take, drop, get_or, slice_get, Option, Some, None, refl, sym, ◌∙◌, ap, subst, arith, length-append, append_assoc, drop-drop}
 use Rattle.std.specs.Prelude.{option_map, option_and_then}
 use Rattle.std.specs.Option.{option_map_or}
 use Rattle.std.proofs.lemmas.List.{drop_at, take_at}
@@ -12,7 +12,7 @@ use Rattle.cm_class.specs.Spelling.{AreBytes, HasSpelling}
 use Rattle.cm_class.specs.Names.{constant_in, constant_named, utf8, utf8_in, class_name, class_name_index, class_name_of}
 use Rattle.cm_record.specs.Packing.{packed, run_words}
 use Rattle.cm_record.specs.Layout.{lay, slot_run, utf8_runs, runs_at, limit, IsRecordOf}
-use Rattle.cm_record.specs.Constants.{kept_constant, constant_at_index, constant_kept, utf8_at}
+use Rattle.cm_record.specs.Constants.{kept_constant, constant_at_index, utf8_at}
 use Rattle.cm_record.specs.Runs.{IsRunOf, constant_run_place, utf8_run, class_link, name_run}
 use Rattle.cm_record.specs.Reading.{run_at, second_of, third_of}
 use Rattle.cm_record.proofs.Runs.{run_again}

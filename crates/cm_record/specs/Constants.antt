@@ -1,5 +1,5 @@
 -- The constants of a pool, as a record keeps them.
-use Rattle.std.specs.Prelude.{ℕ, zero, suc, ◌+◌, ◌-◌, ◌*◌, ◌/◌, ◌%◌, ◌^◌, Bool, true, false, not, ◌&&◌, ◌||◌, List, length, take, get_or, Option, Some, None, option_map, nat_le, ◌==◌, if◌then◌else◌}
+use Rattle.std.specs.Prelude.{ℕ, zero, suc, ◌+◌, ◌-◌, ◌*◌, ◌/◌, ◌%◌, ◌^◌, Bool, false, not, ◌&&◌, ◌||◌, List, length, take, get_or, Option, Some, None, option_map, nat_le, ◌==◌, if◌then◌else◌}
 use Rattle.cm_class.specs.declared.constant.Constant.{Constant as Spelled}
 use Rattle.cm_class.specs.declared.constant.Constant.TheVariants as constant
 use Rattle.cm_class.specs.declared.class_file.ClassFile.{ClassFile}

@@ -1,5 +1,4 @@
-use Rattle.std.proofs.Common.{◌≡◌, ◌∙◌, ◌+◌, ◌*◌, ◌<◌, ◌≤◌, get_or, length, refl, sym, ap, subst, arith, ℕ}
-use Rattle.cm_record.specs.Reading.{second_of, fourth_of}
+use Rattle.std.proofs.Common.{◌∙◌, ◌+◌, ◌*◌, get_or, ap, arith}
 use Rattle.cm_record.proofs.WholeRecord.{record_long}
 use Rattle.cm_record.proofs.MemberPlaces.{members_fit, methods_count, item_there}
 use Rattle.cm_record.proofs.AttributePlaces.{attributes_found, attributes_counted, attributes_inside}

@@ -1,4 +1,4 @@
-use Rattle.std.proofs.Common.{◌∙◌, ap, arith, take, length, subst, sym, List, ℕ, ◌≤◌}
+use Rattle.std.proofs.Common.{◌∙◌, ap, arith, take, length}
 use Rattle.cm_record.proofs.RunPlaces.{run_words_there}
 use Rattle.cm_record.proofs.names.run_slice.Goals as goal
 

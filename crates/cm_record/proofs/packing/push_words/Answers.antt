@@ -1,4 +1,4 @@
-use Rattle.std.proofs.Common.{◌≤◌, length, drop, length-drop, arith}
+use Rattle.std.proofs.Common.{drop, length-drop, arith}
 use Rattle.cm_record.proofs.Room.{room_left}
 use Rattle.cm_record.proofs.packing.push_words.Goals as goal
 

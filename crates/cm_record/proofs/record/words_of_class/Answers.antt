@@ -1,4 +1,4 @@
-use Rattle.std.proofs.Common.{◌∙◌, ◌++◌, ap, length, arith, length-append}
+use Rattle.std.proofs.Common.{ap, length, arith, length-append}
 use Rattle.cm_words.specs.Words.{Words}
 use Rattle.cm_record.specs.Layout.{lay, head, runs_at, attributes_at, attribute_runs_at}
 use Rattle.cm_record.proofs.Lengths.{directory_len, all_members_len, all_attributes_len, all_runs_len}

@@ -1,4 +1,4 @@
-use Rattle.std.proofs.Common.{◌≡◌, ◌≤◌, ◌+◌, [], ◌∷◌, length, drop, length-drop, length-append, ap, arith}
+use Rattle.std.proofs.Common.{[], ◌∷◌, length, drop, length-drop, length-append, ap, arith}
 use Rattle.cm_words.specs.Words.{Words}
 use Rattle.cm_record.specs.Layout.{attributes}
 use Rattle.cm_record.proofs.Lengths.{attributes_len}

@@ -1,5 +1,4 @@
 use Rattle.std.proofs.Common.{◌≡◌, false, true, length, sym, ◌∙◌}
-use Rattle.std.specs.Prelude.{◌==◌}
 use Rattle.std.proofs.lemmas.Bool.{eq-eqb}
 use Rattle.cm_record.proofs.RunTests.{too_few_words, other_word, goes_on, goes_back}
 use Rattle.cm_record.proofs.utf8.is_run.Goals as goal

@@ -1,4 +1,4 @@
-use Rattle.std.proofs.Common.{◌∙◌, ap, sym, subst, List, ℕ}
+use Rattle.std.proofs.Common.{◌∙◌, ap, sym, subst, ℕ}
 use Rattle.cm_record.specs.Layout.{IsRecordOf}
 use Rattle.cm_record.specs.Names.{class_name_of}
 use Rattle.cm_record.specs.Runs.{IsRunOf, name_run}

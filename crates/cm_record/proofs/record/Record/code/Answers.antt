@@ -2,7 +2,6 @@ use Rattle.std.proofs.Common.{◌≡◌, ◌∙◌, ◌*◌, ◌+◌, get_or, ap
 use Rattle.cm_record.specs.Layout.{IsRecordOf}
 use Rattle.cm_record.specs.Reading.{upper_of}
 use Rattle.cm_record.specs.Code.{code_in}
-use Rattle.cm_record.specs.Runs.{IsRunOf}
 use Rattle.cm_record.proofs.MemberPlaces.{index_there, item_there, methods_count}
 use Rattle.cm_record.proofs.AttributePlaces.{none_named, code_there, found_run, found_place, found_is}
 use Rattle.cm_record.proofs.record.Record.code.Goals as goal

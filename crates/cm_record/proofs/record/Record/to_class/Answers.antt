@@ -1,4 +1,4 @@
-use Rattle.std.proofs.Common.{◌∙◌, ap, sym, subst, List, ℕ}
+use Rattle.std.proofs.Common.{subst, List, ℕ}
 use Rattle.cm_record.specs.Layout.{IsRecordOf}
 use Rattle.cm_record.proofs.WholeRecord.{read_class_is, always_read}
 use Rattle.cm_record.proofs.record.Record.to_class.Goals as goal
