@@ -10,8 +10,8 @@ use Rattle.cm_class.specs.declared.constant.Slot.TheVariants.{Usable, Unusable}
 use Rattle.cm_class.specs.declared.class_file.ClassFile.{ClassFile}
 use Rattle.cm_names.specs.declared.judgement.Judgement.{Judgement}
 use Rattle.cm_class.specs.Names.{constant_in, utf8, utf8_in}
-use Rattle.cm_names.specs.Judged.{judgement}
-use Rattle.cm_names.specs.Text.{is_text, is_text_after}
+use Rattle.cm_names.specs.Judgement.{judgement}
+use Rattle.cm_names.specs.Forms.{has_utf8_form, has_utf8_form_after}
 use Rattle.cm_constraints.specs.Subject.{judgement_in}
 use Rattle.cm_constraints.specs.Constants.{in_slot}
 use Rattle.cm_constraints.specs.Constants.{utf8_has_form}
@@ -35,12 +35,12 @@ at_zero c = refl
 
 -- ---- the form of Utf8s; no bytes have it too
 
-utf8_in_slot : (slot : Slot) → (judgement_in slot).text ≡ in_slot utf8_has_form slot
-unfolding judgement is_text is_text_after
+utf8_in_slot : (slot : Slot) → (judgement_in slot).utf8 ≡ in_slot utf8_has_form slot
+unfolding judgement has_utf8_form has_utf8_form_after
 utf8_in_slot Unusable = refl
 utf8_in_slot (Usable c) = of c
   where
-    of : (c : Constant) → (judgement_in (Usable c)).text ≡ in_slot utf8_has_form (Usable c)
+    of : (c : Constant) → (judgement_in (Usable c)).utf8 ≡ in_slot utf8_has_form (Usable c)
     of (constant.Utf8 bytes) = refl
     of (constant.Integer n) = refl
     of (constant.Float n) = refl
@@ -56,6 +56,6 @@ utf8_in_slot (Usable c) = of c
     of (constant.MethodType n) = refl
     of (constant.InvokeDynamic n m) = refl
 
-pub utf8s_in_table : (slots : List Slot) → list_all (λ found. found.text) (map judgement_in slots) ≡ list_all (in_slot utf8_has_form) slots
+pub utf8s_in_table : (slots : List Slot) → list_all (λ found. found.utf8) (map judgement_in slots) ≡ list_all (in_slot utf8_has_form) slots
 utf8s_in_table [] = refl
 utf8s_in_table (slot ∷ slots) = (λ i. utf8_in_slot slot i && utf8s_in_table slots i)

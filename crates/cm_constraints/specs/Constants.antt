@@ -6,7 +6,7 @@ use Rattle.cm_class.specs.declared.constant.Constant.TheVariants as constant
 use Rattle.cm_class.specs.declared.constant.Slot.{Slot}
 use Rattle.cm_class.specs.declared.class_file.ClassFile.{ClassFile}
 use Rattle.cm_attributes.specs.Contents.{bootstrap_count}
-use Rattle.cm_names.specs.Text.{is_within, is_text, is_unqualified_name, is_method_name, is_class_name, is_field_descriptor, is_array_descriptor, is_method_descriptor, begins_with, ends_in_void, init, clinit, less}
+use Rattle.cm_names.specs.Forms.{is_within, has_utf8_form, is_unqualified_name, is_method_name, is_class_name, is_field_descriptor, is_array_descriptor, is_method_descriptor, begins_with, ends_in_void, init, clinit, less}
 use Rattle.cm_class.specs.declared.kind.Kind.TheVariants as kinds
 use Rattle.std.specs.Option.{option_map_or}
 use Rattle.cm_class.specs.Names.{constant_in, is_kind, names, names_such, pair_descriptor, pair_name, reference_name, utf8}
@@ -17,7 +17,7 @@ in_slot test slot = option_map_or test (constant_in slot) true
 
 -- a Utf8 has its form (JVMS 4.4.7)
 abbrev pub utf8_has_form : Constant → Bool
-utf8_has_form (constant.Utf8 bytes) = is_text bytes
+utf8_has_form (constant.Utf8 bytes) = has_utf8_form bytes
 utf8_has_form _ = true
 
 -- a reference to a member names a class, and a name with a descriptor

@@ -7,7 +7,7 @@ use Rattle.cm_class.specs.Names.{names, utf8}
 use Rattle.cm_class.specs.declared.kind.Kind.TheVariants as kinds
 use Rattle.cm_class.specs.declared.class_file.Member.{Member}
 use Rattle.cm_class.specs.declared.class_file.ClassFile.{ClassFile}
-use Rattle.cm_names.specs.Text.{is_unqualified_name, is_method_name, is_field_descriptor, is_method_descriptor, method_units, init, clinit}
+use Rattle.cm_names.specs.Forms.{is_unqualified_name, is_method_name, is_field_descriptor, is_method_descriptor, method_units, init, clinit}
 use Rattle.cm_attributes.specs.declared.known.Known.TheVariants as known
 use Rattle.cm_attributes.specs.Names.{count_of, with_name}
 use Rattle.cm_attributes.specs.Contents.{is_content}

@@ -4,7 +4,7 @@ use Rattle.cm_class.specs.declared.constant.Slot.{Slot}
 use Rattle.cm_class.specs.declared.constant.Slot.TheVariants.{Usable, Unusable}
 use Rattle.cm_class.specs.Names.{utf8_in}
 use Rattle.cm_names.specs.declared.judgement.Judgement.{Judgement}
-use Rattle.cm_names.specs.Judged.{judgement}
+use Rattle.cm_names.specs.Judgement.{judgement}
 
 abbrev pub slot_utf8 : Slot → List ℕ
 slot_utf8 (Usable c) = utf8_in c

@@ -4,14 +4,14 @@ ghost use Rattle.cm_constraints.specs.Constants.{utf8_has_form, names_member, na
 
 use crate::subject::Subject;
 use cm_class::{Class, Constant, Kind};
-use cm_names::{begins_with, ends_in_void, is_text};
+use cm_names::{begins_with, ends_in_void, has_utf8_form};
 
 /// Whether a Utf8 has its form (JVMS 4.4.7).
 pub fn utf8_has_form(constant: &Constant) -> bool
     ensures { result ≡ utf8_has_form constant.now }
 {
     match constant {
-        Constant::Utf8(bytes) => is_text(bytes.as_slice()),
+        Constant::Utf8(bytes) => has_utf8_form(bytes.as_slice()),
         _ => true,
     }
 }

@@ -1,8 +1,8 @@
 ghost use Rattle.std.specs.Prelude.{◌≡◌, map, slice_get, IfOk};
 ghost use Rattle.std.specs.List.{list_all};
 ghost use Rattle.cm_class.specs.Names.{constant_in, utf8};
-ghost use Rattle.cm_names.specs.Text.{is_class_name, is_unqualified_name, is_method_name, is_field_descriptor, is_array_descriptor, is_method_descriptor, method_units};
-ghost use Rattle.cm_names.specs.Judged.{judgement};
+ghost use Rattle.cm_names.specs.Forms.{is_class_name, is_unqualified_name, is_method_name, is_field_descriptor, is_array_descriptor, is_method_descriptor, method_units};
+ghost use Rattle.cm_names.specs.Judgement.{judgement};
 ghost use Rattle.cm_attributes.specs.Contents.{bootstrap_count as bootstrap_count_of};
 ghost use Rattle.cm_constraints.specs.Constants.{utf8_has_form, in_slot};
 ghost use Rattle.cm_constraints.specs.Subject.{judgement_in};
@@ -20,9 +20,9 @@ fn judgement_at(table: &[Judgement], place: usize) -> Option<Judgement>
 }
 
 fn all_have_form(table: &[Judgement]) -> bool
-    ensures { result ≡ list_all (λ found. found.text) table.now }
+    ensures { result ≡ list_all (λ found. found.utf8) table.now }
 {
-    table.iter().all(|found| found.text)
+    table.iter().all(|found| found.utf8)
 }
 
 /// A class, with what was found out of each of its Utf8s, so that none is walked twice however many
@@ -79,7 +79,7 @@ impl<'a> Subject<'a> {
     }
 
     /// Whether the Utf8 at an index is a class name.
-    #[tactic(auto, unfolding(cm_names::specs::Judged::judgement))]
+    #[tactic(auto, unfolding(cm_names::specs::Judgement::judgement))]
     pub(crate) fn names_class_name(&self, index: u16) -> bool
         ensures { result ≡ is_class_name (utf8 self.now.class.now index) }
     {
@@ -87,7 +87,7 @@ impl<'a> Subject<'a> {
     }
 
     /// Whether it is an unqualified name.
-    #[tactic(auto, unfolding(cm_names::specs::Judged::judgement))]
+    #[tactic(auto, unfolding(cm_names::specs::Judgement::judgement))]
     pub(crate) fn names_unqualified_name(&self, index: u16) -> bool
         ensures { result ≡ is_unqualified_name (utf8 self.now.class.now index) }
     {
@@ -95,7 +95,7 @@ impl<'a> Subject<'a> {
     }
 
     /// Whether it is a method's name.
-    #[tactic(auto, unfolding(cm_names::specs::Judged::judgement))]
+    #[tactic(auto, unfolding(cm_names::specs::Judgement::judgement))]
     pub(crate) fn names_method_name(&self, index: u16) -> bool
         ensures { result ≡ is_method_name (utf8 self.now.class.now index) }
     {
@@ -103,7 +103,7 @@ impl<'a> Subject<'a> {
     }
 
     /// Whether it is a field descriptor.
-    #[tactic(auto, unfolding(cm_names::specs::Judged::judgement))]
+    #[tactic(auto, unfolding(cm_names::specs::Judgement::judgement))]
     pub(crate) fn names_field_descriptor(&self, index: u16) -> bool
         ensures { result ≡ is_field_descriptor (utf8 self.now.class.now index) }
     {
@@ -111,7 +111,7 @@ impl<'a> Subject<'a> {
     }
 
     /// The units of the method descriptor at an index.
-    #[tactic(auto, unfolding(cm_names::specs::Judged::judgement))]
+    #[tactic(auto, unfolding(cm_names::specs::Judgement::judgement))]
     pub(crate) fn method_units(&self, index: u16) -> Option<u8>
         ensures { result ≡ method_units (utf8 self.now.class.now index) }
     {

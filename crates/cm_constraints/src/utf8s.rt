@@ -1,6 +1,6 @@
 //! What is found out of the Utf8s of a class.
 ghost use Rattle.std.specs.Prelude.{◌≡◌, [], map, IfOk};
-ghost use Rattle.cm_names.specs.Judged.{judgement};
+ghost use Rattle.cm_names.specs.Judgement.{judgement};
 ghost use Rattle.cm_constraints.specs.Subject.{judgement_in};
 
 use cm_class::{Class, Constant, Slot};
@@ -12,7 +12,7 @@ pub(crate) fn judge_nothing() -> Judgement
     ensures { result ≡ judgement [] }
 {
     Judgement {
-        text: true,
+        utf8: true,
         class_name: false,
         unqualified_name: false,
         method_name: false,
