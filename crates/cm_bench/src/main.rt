@@ -5,6 +5,7 @@
 #![tactic(auto)]
 
 mod command;
+mod lookups;
 mod report;
 mod samples;
 mod step;
@@ -13,7 +14,8 @@ mod stream;
 mod tests;
 
 use crate::command::{Request, read_words};
-use crate::report::report;
+use crate::lookups::{Lookup, subjects};
+use crate::report::{report, report_lookup};
 use crate::samples::Samples;
 use crate::step::Step;
 use crate::stream::classes_in;
@@ -61,6 +63,10 @@ fn bench(rt: &(impl Clock + Input + Print + AllocGlobal), passes: Option<u32>) -
     let samples = Samples::new(alloc, classes_in(alloc, &bytes)?)?;
     for step in STEPS {
         report(rt, step, &samples, passes)?;
+    }
+    let subjects = subjects(alloc, &samples.recorded)?;
+    for lookup in Lookup::ALL {
+        report_lookup(rt, lookup, &subjects, passes)?;
     }
     Ok(())
 }

@@ -1,5 +1,6 @@
 //! What is printed of a step.
 
+use crate::lookups::{Lookup, Subject};
 use crate::samples::Samples;
 use crate::step::Step;
 use anyhow::Result;
@@ -54,6 +55,33 @@ pub fn report(
         let (nanos, rate) = (best.as_nanos(), rate(bytes, best));
         let (whole, tenths) = (rate / 10, rate % 10);
         print!(rt; " best {nanos} ns {whole}.{tenths} MB/s")?;
+    }
+    println!(rt;)?;
+    Ok(())
+}
+
+/// Makes the calls of a look-up once, and then in so many timed passes, and prints its line.
+pub fn report_lookup(
+    rt: &(impl Clock + Print + AllocGlobal),
+    lookup: Lookup,
+    subjects: &[Subject],
+    passes: Option<u32>,
+) -> Result<()> {
+    let alloc = rt.alloc();
+    let name = lookup.name();
+    let tally = lookup.run(alloc, subjects)?;
+    let (calls, found) = (tally.calls, tally.found);
+    print!(rt; "{name} calls {calls} found {found}")?;
+    if let Some(passes) = passes {
+        let mut best = Duration::MAX;
+        for _ in 0..passes {
+            let start = Instant::now(rt)?;
+            lookup.run(alloc, subjects)?;
+            best = best.min(start.elapsed(rt)?);
+        }
+        let nanos = best.as_nanos();
+        let each = nanos / (calls as u128).max(1);
+        print!(rt; " best {nanos} ns {each} ns a call")?;
     }
     println!(rt;)?;
     Ok(())
