@@ -2,10 +2,10 @@
 use Rattle.std.proofs.Common.{◌≡◌, ℕ, ◌≤◌, List, [], ◌++◌, length, take, drop, map, sym, ap, subst, ◌∙◌, append_assoc, arith}
 use Rattle.std.specs.List.{AllByRecursion}
 use Rattle.std.proofs.lemmas.List.{length-append, length-take, length-drop, take_at, drop_at, take-append-drop, drop-drop}
-use Rattle.cm_layout.specs.Slots.{half_head_bytes}
-use Rattle.cm_layout.specs.Superblock.{superblock_bytes}
-use Rattle.cm_layout.specs.Region.{IsEnd, HoldsRow, groups_bytes}
-use Rattle.cm_layout.specs.State.{Row, entries_of, framed}
+use Rattle.cm_narrow.specs.Slots.{half_head_bytes}
+use Rattle.cm_narrow.specs.Superblock.{superblock_bytes}
+use Rattle.cm_narrow.specs.Region.{IsEnd, HoldsRow, groups_bytes}
+use Rattle.cm_narrow.specs.State.{Row, entries_of, framed}
 use Rattle.cm_store.specs.Listed.{Listed}
 use Rattle.cm_store.specs.Narrow.{first_head, singles, IsNarrow}
 use Rattle.cm_store.specs.Store.{IsOpen, RowsFollow, default_sizes}

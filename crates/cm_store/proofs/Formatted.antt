@@ -6,10 +6,10 @@ use Rattle.std.specs.Cmp.Lexicographic.{slice_cmp}
 use Rattle.std.specs.Option.{is_some, option_and_then}
 use Rattle.std.proofs.lemmas.List.{length-append, replicate_more}
 use Rattle.cm_disk.specs.Calls.{overwritten}
-use Rattle.cm_layout.specs.Slots.{half_head_bytes}
-use Rattle.cm_layout.specs.Superblock.{superblock_front, blank}
-use Rattle.cm_layout.specs.Region.{IsEnd}
-use Rattle.cm_layout.specs.State.{ByName}
+use Rattle.cm_narrow.specs.Slots.{half_head_bytes}
+use Rattle.cm_narrow.specs.Superblock.{superblock_front, blank}
+use Rattle.cm_narrow.specs.Region.{IsEnd}
+use Rattle.cm_narrow.specs.State.{ByName}
 use Rattle.cm_store.specs.Narrow.{first_head}
 use Rattle.cm_store.specs.Store.{IsOpen, Lists, default_sizes, IsFormattedText}
 use Rattle.cm_store.proofs.Written.{written_behind, written_first}

@@ -7,14 +7,14 @@ use Rattle.cm_pool.specs.declared.chunk.Chunk.{Chunk}
 use Rattle.cm_pool.specs.Chunks.{chunk_size, Meets, IsChunk}
 use Rattle.cm_class.specs.declared.class_file.ClassFile.{ClassFile}
 use Rattle.cm_record.specs.Layout.{lay}
-use Rattle.cm_layout.specs.declared.entry.LoaderEntry.{LoaderEntry}
-use Rattle.cm_layout.specs.declared.entry.DefineEntry.{DefineEntry}
-use Rattle.cm_layout.specs.declared.entry.Entry.{Entry}
-use Rattle.cm_layout.specs.declared.entry.Entry.TheVariants.{Loader, Define}
-use Rattle.cm_layout.specs.Slots.{FitsEntry}
-use Rattle.cm_layout.specs.Rows.{classes_in, DefineKeepsRules, EntryKeepsRules, GroupsKeepRules, rows_after_all}
-use Rattle.cm_layout.specs.Region.{Frames, groups_bytes, IsGoodHalf, Half, half_bytes}
-use Rattle.cm_layout.specs.State.{Row, LoaderRow, ClassRow, entry_of, entries_of, framed}
+use Rattle.cm_narrow.specs.declared.entry.LoaderEntry.{LoaderEntry}
+use Rattle.cm_narrow.specs.declared.entry.DefineEntry.{DefineEntry}
+use Rattle.cm_narrow.specs.declared.entry.Entry.{Entry}
+use Rattle.cm_narrow.specs.declared.entry.Entry.TheVariants.{Loader, Define}
+use Rattle.cm_narrow.specs.Slots.{FitsEntry}
+use Rattle.cm_narrow.specs.Rows.{classes_in, DefineKeepsRules, EntryKeepsRules, GroupsKeepRules, rows_after_all}
+use Rattle.cm_narrow.specs.Region.{Frames, groups_bytes, IsGoodHalf, Half, half_bytes}
+use Rattle.cm_narrow.specs.State.{Row, LoaderRow, ClassRow, entry_of, entries_of, framed}
 use Rattle.cm_store.specs.Listed.{Listed}
 use Rattle.cm_store.specs.Narrow.{first_head, singles}
 use Rattle.cm_store.specs.Store.{LoaderFollows, ClassFollows, RowsFollow, IsOpen, default_sizes}

@@ -1,10 +1,10 @@
 -- A group of one entry, as two slots.
 use Rattle.std.proofs.Common.{◌≡◌, ◌≢◌, ℕ, ◌+◌, ◌<◌, List, [], ◌∷◌, ◌++◌, length, take, drop, Result, Ok, Err, OnOk, IfErr, refl, sym, ap, ◌∙◌, arith}
 use Rattle.std.proofs.lemmas.List.{length-drop, take_at, drop_at, append-nil, take_all, take-append-drop}
-use Rattle.cm_layout.specs.declared.entry.Entry.{Entry}
-use Rattle.cm_layout.specs.Slots.{entry_bytes, group_head_bytes, FitsEntry}
-use Rattle.cm_layout.specs.Region.{group_bytes}
-use Rattle.cm_layout.specs.State.{Row, LoaderRow, ClassRow, entry_of}
+use Rattle.cm_narrow.specs.declared.entry.Entry.{Entry}
+use Rattle.cm_narrow.specs.Slots.{entry_bytes, group_head_bytes, FitsEntry}
+use Rattle.cm_narrow.specs.Region.{group_bytes}
+use Rattle.cm_narrow.specs.State.{Row, LoaderRow, ClassRow, entry_of}
 use Rattle.cm_store.specs.declared.fault.OpenFault.{OpenFault}
 use Rattle.cm_store.specs.declared.fault.OpenFault.TheVariants.{NotACache}
 use Rattle.cm_store.specs.Store.{RowFollows, RowsFollow, default_sizes}

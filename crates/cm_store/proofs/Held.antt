@@ -7,10 +7,10 @@ use Rattle.cm_pool.specs.Geometry.{Sizes}
 use Rattle.cm_class.specs.declared.class_file.ClassFile.{ClassFile}
 use Rattle.cm_record.specs.Layout.{lay}
 use Rattle.cm_record.specs.Packing.{packed_into}
-use Rattle.cm_layout.specs.declared.entry.DefineEntry.{DefineEntry}
-use Rattle.cm_layout.specs.Rows.{classes_in}
-use Rattle.cm_layout.specs.Region.{root_bytes, place_of, HoldsRecord, HoldsRow}
-use Rattle.cm_layout.specs.State.{Row, LoaderRow, ClassRow, entries_of, framed}
+use Rattle.cm_narrow.specs.declared.entry.DefineEntry.{DefineEntry}
+use Rattle.cm_narrow.specs.Rows.{classes_in}
+use Rattle.cm_narrow.specs.Region.{root_bytes, place_of, HoldsRecord, HoldsRow}
+use Rattle.cm_narrow.specs.State.{Row, LoaderRow, ClassRow, entries_of, framed}
 use Rattle.cm_store.specs.Store.{ClassFollows, RowsFollow}
 use Rattle.cm_store.proofs.RowLemmas.{classes_in-append, entries_of-append}
 

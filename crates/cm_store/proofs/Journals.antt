@@ -3,10 +3,10 @@
 use Rattle.std.proofs.Common.{◌≡◌, ◌≢◌, ℕ, zero, suc, ◌+◌, ◌*◌, ◌<◌, ◌≤◌, List, [], ◌∷◌, ◌++◌, length, take, drop, get_or, map, refl, sym, ap, subst, ◌∙◌, append_assoc, arith}
 use Rattle.std.specs.List.{AllByRecursion}
 use Rattle.std.proofs.lemmas.List.{length-append, length-drop, length-map, take_at, drop_at, take-append-drop, drop-drop, drop_more}
-use Rattle.cm_layout.specs.declared.entry.Entry.{Entry}
-use Rattle.cm_layout.specs.Slots.{FitsEntry}
-use Rattle.cm_layout.specs.Region.{IsEnd, HoldsRow, group_bytes, groups_bytes}
-use Rattle.cm_layout.specs.State.{Row, entry_of, entries_of, framed}
+use Rattle.cm_narrow.specs.declared.entry.Entry.{Entry}
+use Rattle.cm_narrow.specs.Slots.{FitsEntry}
+use Rattle.cm_narrow.specs.Region.{IsEnd, HoldsRow, group_bytes, groups_bytes}
+use Rattle.cm_narrow.specs.State.{Row, entry_of, entries_of, framed}
 use Rattle.cm_store.specs.Narrow.{singles}
 use Rattle.cm_store.specs.Store.{RowFollows, RowsFollow, default_sizes}
 use Rattle.cm_store.specs.Replay.{ReplayValue, IsReplay, IsGroupOf, IsJournal}

@@ -12,11 +12,11 @@ use Rattle.cm_pool.specs.Geometry.{Sizes}
 use Rattle.cm_class.specs.declared.class_file.ClassFile.{ClassFile}
 use Rattle.cm_record.specs.Layout.{lay}
 use Rattle.cm_record.specs.Names.{class_name_of}
-use Rattle.cm_layout.specs.declared.entry.LoaderEntry.{LoaderEntry}
-use Rattle.cm_layout.specs.declared.entry.DefineEntry.{DefineEntry}
-use Rattle.cm_layout.specs.declared.entry.Entry.TheVariants.{Loader, Define}
-use Rattle.cm_layout.specs.Rows.{number_of}
-use Rattle.cm_layout.specs.State.{ByName, Row, LoaderRow, ClassRow, entries_of, class_at, class_in}
+use Rattle.cm_narrow.specs.declared.entry.LoaderEntry.{LoaderEntry}
+use Rattle.cm_narrow.specs.declared.entry.DefineEntry.{DefineEntry}
+use Rattle.cm_narrow.specs.declared.entry.Entry.TheVariants.{Loader, Define}
+use Rattle.cm_narrow.specs.Rows.{number_of}
+use Rattle.cm_narrow.specs.State.{ByName, Row, LoaderRow, ClassRow, entries_of, class_at, class_in}
 use Rattle.cm_store.specs.Listed.{Listed}
 use Rattle.cm_store.specs.Store.{LoaderFollows, RowsFollow, Lists, words_at}
 use Rattle.cm_store.proofs.RowLemmas.{differ, number_of-append, class_at-append, entries_of-append, or_none, one_name, class_to_come}

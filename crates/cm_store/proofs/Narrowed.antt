@@ -4,11 +4,11 @@ use Rattle.std.proofs.lemmas.List.{length-append, length-replicate, length-drop,
 use Rattle.std.specs.List.{AllByRecursion}
 use Rattle.cm_disk.specs.Calls.{overwritten}
 use Rattle.cm_pool.specs.Geometry.{Sizes}
-use Rattle.cm_layout.specs.declared.entry.Entry.{Entry}
-use Rattle.cm_layout.specs.declared.entry.Entry.TheVariants.{Loader, Define}
-use Rattle.cm_layout.specs.Slots.{entry_bytes, FitsEntry, half_head_bytes}
-use Rattle.cm_layout.specs.Superblock.{superblock_bytes, superblock_front, blank}
-use Rattle.cm_layout.specs.Region.{IsEnd, group_bytes, groups_bytes, half_bytes}
+use Rattle.cm_narrow.specs.declared.entry.Entry.{Entry}
+use Rattle.cm_narrow.specs.declared.entry.Entry.TheVariants.{Loader, Define}
+use Rattle.cm_narrow.specs.Slots.{entry_bytes, FitsEntry, half_head_bytes}
+use Rattle.cm_narrow.specs.Superblock.{superblock_bytes, superblock_front, blank}
+use Rattle.cm_narrow.specs.Region.{IsEnd, group_bytes, groups_bytes, half_bytes}
 use Rattle.cm_store.specs.Narrow.{first_head, singles, slot_at, roots_at, IsNarrow}
 use Rattle.cm_store.proofs.Written.{gate_opened, written_behind}
 

@@ -9,14 +9,14 @@ use Rattle.cm_class.specs.declared.class_file.ClassFile.{ClassFile}
 use Rattle.cm_class.specs.Spelling.{HasSpelling}
 use Rattle.cm_record.specs.Layout.{lay}
 use Rattle.cm_record.specs.Packing.{packed_into}
-use Rattle.cm_layout.specs.declared.entry.LoaderEntry.{LoaderEntry}
-use Rattle.cm_layout.specs.declared.entry.DefineEntry.{DefineEntry}
-use Rattle.cm_layout.specs.declared.entry.Entry.TheVariants.{Loader, Define}
-use Rattle.cm_layout.specs.Slots.{FitsEntry}
-use Rattle.cm_layout.specs.Rows.{classes_in}
-use Rattle.cm_layout.specs.Region.{IsEnd, HoldsRow, place_of, group_bytes, groups_bytes}
-use Rattle.cm_layout.specs.State.{ByName, Row, LoaderRow, ClassRow, entry_of, entries_of, framed}
-use Rattle.cm_layout.proofs.OneSlot.{same_entry}
+use Rattle.cm_narrow.specs.declared.entry.LoaderEntry.{LoaderEntry}
+use Rattle.cm_narrow.specs.declared.entry.DefineEntry.{DefineEntry}
+use Rattle.cm_narrow.specs.declared.entry.Entry.TheVariants.{Loader, Define}
+use Rattle.cm_narrow.specs.Slots.{FitsEntry}
+use Rattle.cm_narrow.specs.Rows.{classes_in}
+use Rattle.cm_narrow.specs.Region.{IsEnd, HoldsRow, place_of, group_bytes, groups_bytes}
+use Rattle.cm_narrow.specs.State.{ByName, Row, LoaderRow, ClassRow, entry_of, entries_of, framed}
+use Rattle.cm_narrow.proofs.OneSlot.{same_entry}
 use Rattle.cm_store.specs.Listed.{Listed}
 use Rattle.cm_store.specs.Narrow.{singles}
 use Rattle.cm_store.specs.Store.{RowFollows, RowsFollow, Lists, IsOpen, default_sizes}

@@ -11,14 +11,14 @@ use Rattle.cm_record.specs.Names.{class_name_of}
 use Rattle.std.specs.Option.{option_map, option_and_then, is_some}
 use Rattle.cm_record.specs.Layout.{lay}
 use Rattle.cm_record.specs.Packing.{word_bytes, bytes_of, packed_into}
-use Rattle.cm_layout.specs.declared.entry.LoaderEntry.{LoaderEntry}
-use Rattle.cm_layout.specs.declared.entry.DefineEntry.{DefineEntry}
-use Rattle.cm_layout.specs.declared.entry.Entry.{Entry}
-use Rattle.cm_layout.specs.declared.entry.Entry.TheVariants.{Loader, Define}
-use Rattle.cm_layout.specs.Slots.{FitsEntry, FitsLoader, FitsDefine}
-use Rattle.cm_layout.specs.Rows.{number_of, classes_in, IsLoaderName}
-use Rattle.cm_layout.specs.Region.{root_bytes, place_of, HoldsRecord, HoldsRow, IsEnd, group_bytes}
-use Rattle.cm_layout.specs.State.{Row, LoaderRow, ClassRow, entry_of, entries_of, framed, class_at, class_in}
+use Rattle.cm_narrow.specs.declared.entry.LoaderEntry.{LoaderEntry}
+use Rattle.cm_narrow.specs.declared.entry.DefineEntry.{DefineEntry}
+use Rattle.cm_narrow.specs.declared.entry.Entry.{Entry}
+use Rattle.cm_narrow.specs.declared.entry.Entry.TheVariants.{Loader, Define}
+use Rattle.cm_narrow.specs.Slots.{FitsEntry, FitsLoader, FitsDefine}
+use Rattle.cm_narrow.specs.Rows.{number_of, classes_in, IsLoaderName}
+use Rattle.cm_narrow.specs.Region.{root_bytes, place_of, HoldsRecord, HoldsRow, IsEnd, group_bytes}
+use Rattle.cm_narrow.specs.State.{Row, LoaderRow, ClassRow, entry_of, entries_of, framed, class_at, class_in}
 use Rattle.cm_store.specs.Listed.{Listed}
 use Rattle.cm_store.specs.Narrow.{IsNarrow, IsGroupText, slot_at, roots_at, with_group, with_root}
 use Rattle.cm_store.specs.Store.{LoaderFollows, ClassFollows, KeepsRules, Lists, IsOpen}

@@ -3,9 +3,9 @@ use Rattle.std.proofs.Common.{◌≡◌, ℕ, ◌+◌, ◌*◌, ◌^◌, ◌<◌
 use Rattle.std.specs.Option.{is_some}
 use Rattle.std.specs.List.{list_all}
 use Rattle.std.proofs.lemmas.List.Elements.{All-nil, All-cons}
-use Rattle.cm_layout.specs.Rows.{IsLoaderName}
+use Rattle.cm_narrow.specs.Rows.{IsLoaderName}
 use Rattle.std.specs.FinMap.{get}
-use Rattle.cm_layout.specs.State.{class_in}
+use Rattle.cm_narrow.specs.State.{class_in}
 use Rattle.cm_store.specs.Store.{StoreValue, is_visible, is_loader_name, is_full, loader_refusal, define_refusal}
 
 pub none_of : {A : Type 0} (o : Option A) → is_some o ≡ false → o ≡ None

@@ -13,12 +13,12 @@ use Rattle.cm_class.specs.declared.class_file.ClassFile.{ClassFile}
 use Rattle.cm_record.specs.Layout.{lay, IsRecordOf}
 use Rattle.cm_record.specs.Names.{class_name_of}
 use Rattle.cm_record.specs.Packing.{packed_into}
-use Rattle.cm_layout.specs.declared.entry.LoaderEntry.{LoaderEntry}
-use Rattle.cm_layout.specs.declared.entry.DefineEntry.{DefineEntry}
-use Rattle.cm_layout.specs.declared.entry.Entry.TheVariants.{Loader, Define}
-use Rattle.cm_layout.specs.Rows.{name_of, number_of, IsLoaderName}
-use Rattle.cm_layout.specs.Region.{HoldsRecord, place_of}
-use Rattle.cm_layout.specs.State.{Row, LoaderRow, ClassRow, entries_of, class_at, class_in}
+use Rattle.cm_narrow.specs.declared.entry.LoaderEntry.{LoaderEntry}
+use Rattle.cm_narrow.specs.declared.entry.DefineEntry.{DefineEntry}
+use Rattle.cm_narrow.specs.declared.entry.Entry.TheVariants.{Loader, Define}
+use Rattle.cm_narrow.specs.Rows.{name_of, number_of, IsLoaderName}
+use Rattle.cm_narrow.specs.Region.{HoldsRecord, place_of}
+use Rattle.cm_narrow.specs.State.{Row, LoaderRow, ClassRow, entries_of, class_at, class_in}
 use Rattle.cm_store.specs.Store.{LoaderFollows, ClassFollows, RowsFollow, KeepsRules, default_sizes, is_visible, is_loader_name}
 use Rattle.cm_store.specs.Replay.{roots_of, row_name, name_at, HasNextRoot, ReplayValue, IsReplay}
 use Rattle.cm_store.proofs.RowLemmas.{branch, differ, entries_of-append, number_of-append, name_between, follows-append}

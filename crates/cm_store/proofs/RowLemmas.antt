@@ -7,10 +7,10 @@ use Rattle.std.proofs.lemmas.List.{length-append}
 use Rattle.std.proofs.lemmas.Bool.Decides.{eqb_tells}
 use Rattle.cm_pool.specs.Geometry.{Sizes}
 use Rattle.cm_record.specs.Names.{class_name_of}
-use Rattle.cm_layout.specs.declared.entry.Entry.{Entry}
-use Rattle.cm_layout.specs.declared.entry.Entry.TheVariants.{Loader, Define}
-use Rattle.cm_layout.specs.Rows.{name_of, number_of, classes_in}
-use Rattle.cm_layout.specs.State.{Row, LoaderRow, ClassRow, entry_of, entries_of, class_at}
+use Rattle.cm_narrow.specs.declared.entry.Entry.{Entry}
+use Rattle.cm_narrow.specs.declared.entry.Entry.TheVariants.{Loader, Define}
+use Rattle.cm_narrow.specs.Rows.{name_of, number_of, classes_in}
+use Rattle.cm_narrow.specs.State.{Row, LoaderRow, ClassRow, entry_of, entries_of, class_at}
 use Rattle.cm_store.specs.Store.{RowFollows, RowsFollow}
 
 cond_or : {A : Type 0} (b : Bool) (x : Option A) (y z : Option A) → cond b (option_or x z) (option_or y z) ≡ option_or (cond b x y) z

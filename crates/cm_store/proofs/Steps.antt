@@ -8,8 +8,8 @@ use Rattle.std.specs.FinMap.{get, insert, empty, get-empty}
 use Rattle.cm_class.specs.declared.class_file.ClassFile.{ClassFile}
 use Rattle.cm_record.specs.Layout.{lay}
 use Rattle.cm_record.specs.Names.{class_name_of}
-use Rattle.cm_layout.specs.State.{ByName, CacheState, class_in}
-use Rattle.cm_layout.specs.Step.{Cause, BadName, NumbersSpent, LoaderExists, NoLoader, ClassExists, JournalFull, RecordTooLong, with_loader, with_class, is_name, is_full}
+use Rattle.cm_narrow.specs.State.{ByName, CacheState, class_in}
+use Rattle.cm_narrow.specs.Step.{Cause, BadName, NumbersSpent, LoaderExists, NoLoader, ClassExists, JournalFull, RecordTooLong, with_loader, with_class, is_name, is_full}
 use Rattle.cm_store.specs.Listed.{Listed}
 use Rattle.cm_store.specs.declared.refusal.Refusal.{Refusal}
 use Rattle.cm_store.specs.declared.refusal.Refusal.TheVariants as refusal

@@ -2,7 +2,7 @@
 use Rattle.std.specs.Prelude.{ℕ, List, refl}
 use Rattle.std.specs.Coded.{Coded, code_by, coded×, coded_ℕ, coded_list}
 use Rattle.std.specs.FinMap as map
-use Rattle.cm_layout.specs.State.{ByName}
+use Rattle.cm_narrow.specs.State.{ByName}
 
 pub record Listed : Type 0 where
   pub numbers : ByName ℕ

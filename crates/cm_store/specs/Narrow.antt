@@ -4,10 +4,10 @@ use Rattle.std.specs.Prelude.{◌≡◌, ◌<◌, ◌≤◌, ◌⊎◌, ℕ, ◌
 use Rattle.std.specs.List.{AllByRecursion}
 use Rattle.cm_disk.specs.Calls.{overwritten}
 use Rattle.cm_pool.specs.Geometry.{Sizes}
-use Rattle.cm_layout.specs.declared.heads.HalfHead.{HalfHead}
-use Rattle.cm_layout.specs.declared.entry.Entry.{Entry}
-use Rattle.cm_layout.specs.Slots.{FitsEntry}
-use Rattle.cm_layout.specs.Region.{IsEnd, group_bytes, half_bytes, region_bytes}
+use Rattle.cm_narrow.specs.declared.heads.HalfHead.{HalfHead}
+use Rattle.cm_narrow.specs.declared.entry.Entry.{Entry}
+use Rattle.cm_narrow.specs.Slots.{FitsEntry}
+use Rattle.cm_narrow.specs.Region.{IsEnd, group_bytes, half_bytes, region_bytes}
 
 -- the head of the half in a file that was just made
 abbrev pub first_head : HalfHead

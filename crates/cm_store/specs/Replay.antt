@@ -3,12 +3,12 @@
 use Rattle.std.specs.Prelude.{◌≡◌, ℕ, ◌+◌, ◌-◌, ◌*◌, ◌<◌, ◌≤◌, ◌==◌, if◌then◌else◌, refl, List, slice_get, option_and_then, [], ◌∷◌, ◌++◌, length, take, drop, map, Option, Some, None}
 use Rattle.std.specs.List.{AllByRecursion}
 use Rattle.std.specs.Coded.{Coded, code_by, coded×, coded_ℕ, coded_list, coded_option}
-use Rattle.cm_layout.specs.declared.entry.DefineEntry.{DefineEntry}
-use Rattle.cm_layout.specs.Slots.{FitsEntry, half_head_bytes}
-use Rattle.cm_layout.specs.Superblock.{superblock_bytes}
-use Rattle.cm_layout.specs.Rows.{classes_in}
-use Rattle.cm_layout.specs.Region.{IsEnd, HoldsRow, group_bytes, groups_bytes, root_bytes}
-use Rattle.cm_layout.specs.State.{Row, LoaderRow, ClassRow, entry_of, entries_of, framed}
+use Rattle.cm_narrow.specs.declared.entry.DefineEntry.{DefineEntry}
+use Rattle.cm_narrow.specs.Slots.{FitsEntry, half_head_bytes}
+use Rattle.cm_narrow.specs.Superblock.{superblock_bytes}
+use Rattle.cm_narrow.specs.Rows.{classes_in}
+use Rattle.cm_narrow.specs.Region.{IsEnd, HoldsRow, group_bytes, groups_bytes, root_bytes}
+use Rattle.cm_narrow.specs.State.{Row, LoaderRow, ClassRow, entry_of, entries_of, framed}
 use Rattle.cm_store.specs.Listed.{Listed, listed_code}
 use Rattle.cm_store.specs.Narrow.{first_head, singles}
 use Rattle.cm_store.specs.Store.{RowFollows, RowsFollow, Lists, IsOpen, default_sizes}

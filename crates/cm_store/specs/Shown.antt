@@ -5,9 +5,9 @@ use Rattle.std.specs.FinMap as map
 use Rattle.cm_record.specs.Layout.{lay}
 use Rattle.cm_class.specs.declared.class_file.ClassFile.{ClassFile}
 use Rattle.cm_record.specs.Names.{class_name_of}
-use Rattle.cm_layout.specs.State.{CacheState, class_in}
-use Rattle.cm_layout.specs.Step.{Cause, AddLoader, Define, step, is_full, with_loader, with_class}
-use Rattle.cm_layout.specs.Step.{BadName, NumbersSpent, LoaderExists, NoLoader, ClassExists, RecordTooLong}
+use Rattle.cm_narrow.specs.State.{CacheState, class_in}
+use Rattle.cm_narrow.specs.Step.{Cause, AddLoader, Define, step, is_full, with_loader, with_class}
+use Rattle.cm_narrow.specs.Step.{BadName, NumbersSpent, LoaderExists, NoLoader, ClassExists, RecordTooLong}
 use Rattle.cm_store.specs.declared.refusal.Refusal.{Refusal}
 use Rattle.cm_store.specs.declared.refusal.Refusal.TheVariants as refusal
 use Rattle.cm_store.specs.Store.{StoreValue, loader_refusal, define_refusal, AddsLoader, AddsClass, default_sizes}

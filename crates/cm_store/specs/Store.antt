@@ -10,18 +10,18 @@ use Rattle.cm_class.specs.Spelling.{HasSpelling}
 use Rattle.cm_record.specs.Layout.{lay, limit}
 use Rattle.cm_rules.specs.Fault.{fault as first_fault}
 use Rattle.cm_record.specs.Names.{class_name_of}
-use Rattle.cm_layout.specs.declared.entry.LoaderEntry.{LoaderEntry}
-use Rattle.cm_layout.specs.declared.entry.DefineEntry.{DefineEntry}
-use Rattle.cm_layout.specs.Rows.{name_of, number_of, classes_in, IsLoaderName}
-use Rattle.cm_layout.specs.Region.{root_bytes, HoldsRow}
-use Rattle.cm_layout.specs.State.{Row, LoaderRow, ClassRow, entries_of, framed, class_at, class_in}
+use Rattle.cm_narrow.specs.declared.entry.LoaderEntry.{LoaderEntry}
+use Rattle.cm_narrow.specs.declared.entry.DefineEntry.{DefineEntry}
+use Rattle.cm_narrow.specs.Rows.{name_of, number_of, classes_in, IsLoaderName}
+use Rattle.cm_narrow.specs.Region.{root_bytes, HoldsRow}
+use Rattle.cm_narrow.specs.State.{Row, LoaderRow, ClassRow, entries_of, framed, class_at, class_in}
 use Rattle.std.specs.List.{list_all}
 use Rattle.std.specs.Coded.{Coded, code_by, coded×, coded_ℕ, coded_list, coded_bool}
 use Rattle.cm_store.specs.Listed.{Listed, listed_code}
 use Rattle.cm_store.specs.declared.refusal.Refusal.{Refusal}
 use Rattle.cm_store.specs.declared.refusal.Refusal.TheVariants as refusal
-use Rattle.cm_layout.specs.Slots.{half_head_bytes}
-use Rattle.cm_layout.specs.Superblock.{superblock_front, blank}
+use Rattle.cm_narrow.specs.Slots.{half_head_bytes}
+use Rattle.cm_narrow.specs.Superblock.{superblock_front, blank}
 use Rattle.cm_store.specs.declared.fault.OpenFault.{OpenFault}
 use Rattle.cm_store.specs.declared.fault.OpenFault.TheVariants as fault
 use Rattle.cm_store.specs.Narrow.{first_head, IsNarrow}

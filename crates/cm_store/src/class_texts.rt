@@ -8,7 +8,7 @@ ghost use Rattle.cm_store.specs.Narrow.{with_group};
 use crate::narrow::{group_text, write_class};
 use crate::store::{ROOT_BYTES, SLOTS};
 use cm_disk::{DeviceFault, Disk};
-use cm_layout::{DefineEntry, Entry};
+use cm_narrow::{DefineEntry, Entry};
 use cm_record::Record;
 use std::alloc::{AllocError, Global};
 
@@ -23,7 +23,7 @@ pub(crate) struct ClassTexts {
 
 impl ClassTexts {
     ghost use Rattle.cm_store.specs.Narrow.{IsGroupText, with_root};
-    ghost use Rattle.cm_layout.specs.declared.entry.Entry.TheVariants.{Define};
+    ghost use Rattle.cm_narrow.specs.declared.entry.Entry.TheVariants.{Define};
     ghost use Rattle.cm_record.specs.Packing.{word_bytes, packed_into};
 
     pub(crate) fn new(

@@ -19,7 +19,7 @@ pub struct Classes {
 impl Model for Classes {
     ghost use Rattle.std.specs.Prelude.{ℕ, List, map as mapped};
     ghost use Rattle.std.specs.FinMap as map;
-    ghost use Rattle.cm_layout.specs.State.{ByName};
+    ghost use Rattle.cm_narrow.specs.State.{ByName};
     ghost use Rattle.cm_store.specs.Listed.{classes_code};
 
     ghost Value = { ByName (List ℕ) };

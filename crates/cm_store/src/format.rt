@@ -3,12 +3,12 @@
 ghost use Rattle.std.specs.Prelude.{◌≡◌, ◌++◌, ◌<◌, ◌^◌, [], ◌∷◌, length, IfOk, IfErr, OnOk, ◌≢◌};
 ghost use Rattle.cm_disk.specs.Calls.{overwritten, HasCause};
 ghost use Rattle.cm_disk.specs.Disk.{IsSettled};
-ghost use Rattle.cm_layout.specs.Superblock.{blank};
+ghost use Rattle.cm_narrow.specs.Superblock.{blank};
 ghost use Rattle.cm_store.specs.Store.{IsOpen, default_sizes, nothing_listed, IsFormattedText, HasOpenCause};
 
 use crate::fault::OpenFault;
 use cm_disk::{DeviceFault, Disk};
-use cm_layout::{HalfHead, OPEN_GATE, encode_front};
+use cm_narrow::{HalfHead, OPEN_GATE, encode_front};
 use cm_pool::Geometry;
 use std::alloc::{AllocError, Global};
 

@@ -6,8 +6,8 @@ ghost use Rattle.cm_store.specs.Store.{IsOpen, Lists, RowsFollow, StoreValue, de
 ghost use Rattle.cm_store.specs.Shown.{Shows, LoaderSteps, ClassSteps};
 ghost use Rattle.cm_class.specs.declared.class_file.ClassFile.{ClassFile};
 ghost use Rattle.std.specs.FinMap as map;
-ghost use Rattle.cm_layout.specs.Region.{Frames};
-ghost use Rattle.cm_layout.specs.State.{Row, CacheState, framed};
+ghost use Rattle.cm_narrow.specs.Region.{Frames};
+ghost use Rattle.cm_narrow.specs.State.{Row, CacheState, framed};
 
 use cm_record::layout_determines_class;
 

@@ -3,13 +3,13 @@
 ghost use Rattle.std.specs.Prelude.{◌≡◌, ◌≤◌, ◌+◌, ◌*◌, ◌^◌, ◌<◌, [], ◌∷◌, ◌++◌, List, ℕ, length, drop, max, IfOk, OnOk};
 ghost use Rattle.cm_disk.specs.Calls.{overwritten, HasCause};
 ghost use Rattle.cm_disk.specs.Disk.{IsSettled};
-ghost use Rattle.cm_layout.specs.declared.entry.Entry.{Entry as AnEntry};
-ghost use Rattle.cm_layout.specs.Slots.{FitsEntry};
-ghost use Rattle.cm_layout.specs.Region.{group_bytes, IsEnd};
+ghost use Rattle.cm_narrow.specs.declared.entry.Entry.{Entry as AnEntry};
+ghost use Rattle.cm_narrow.specs.Slots.{FitsEntry};
+ghost use Rattle.cm_narrow.specs.Region.{group_bytes, IsEnd};
 ghost use Rattle.cm_store.specs.Narrow.{IsNarrow, slot_at, IsGroupText, with_group, with_root};
 
 use cm_disk::{DeviceFault, Disk};
-use cm_layout::{Entry, GroupHead, OPEN_GATE, SLOT_BYTES};
+use cm_narrow::{Entry, GroupHead, OPEN_GATE, SLOT_BYTES};
 use std::alloc::{AllocError, Global};
 
 /// The bytes of a group of one entry, its gate open, and a slot of zeros behind it where the half has one more.

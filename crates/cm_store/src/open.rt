@@ -12,7 +12,7 @@ use crate::records::read_bytes;
 use crate::replay::{JOURNAL_BYTES, replayed};
 use crate::store::ROOTS_AT;
 use cm_disk::Disk;
-use cm_layout::{HalfHead, OPEN_GATE, SLOT_BYTES, SUPERBLOCK_BYTES, encode_front};
+use cm_narrow::{HalfHead, OPEN_GATE, SLOT_BYTES, SUPERBLOCK_BYTES, encode_front};
 use std::alloc::{AllocError, Global};
 
 /// How many bytes stand in front of the journal: the superblock and the head of half 0.

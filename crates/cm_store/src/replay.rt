@@ -1,12 +1,12 @@
 //! The journal, read again: one group a command, each taken behind those before it.
 
 ghost use Rattle.std.specs.Prelude.{◌≡◌, ◌≢◌, ◌≤◌, ◌<◌, ◌+◌, ◌*◌, ◌↔◌, [], ◌∷◌, ◌++◌, ℕ, List, Option, true, false, length, take, drop, map, IfOk, IfErr, OnOk, IsTrue, Err};
-ghost use Rattle.cm_layout.specs.declared.entry.LoaderEntry.{LoaderEntry as ALoaderEntry};
-ghost use Rattle.cm_layout.specs.declared.entry.DefineEntry.{DefineEntry as ADefineEntry};
+ghost use Rattle.cm_narrow.specs.declared.entry.LoaderEntry.{LoaderEntry as ALoaderEntry};
+ghost use Rattle.cm_narrow.specs.declared.entry.DefineEntry.{DefineEntry as ADefineEntry};
 ghost use Rattle.cm_class.specs.declared.class_file.ClassFile.{ClassFile};
 ghost use Rattle.cm_record.specs.Layout.{lay};
-ghost use Rattle.cm_layout.specs.Region.{HoldsRecord};
-ghost use Rattle.cm_layout.specs.State.{Row, LoaderRow, ClassRow};
+ghost use Rattle.cm_narrow.specs.Region.{HoldsRecord};
+ghost use Rattle.cm_narrow.specs.State.{Row, LoaderRow, ClassRow};
 ghost use Rattle.cm_store.specs.Store.{HasOpenCause, LoaderFollows, ClassFollows, RowsFollow, default_sizes};
 ghost use Rattle.cm_store.specs.Replay.{roots_of, IsReplay, IsGroupOf, IsJournal, HasNextRoot};
 
@@ -16,7 +16,7 @@ use crate::loader_names::LoaderNames;
 use crate::records::{kept_name, read_record};
 use crate::store::{ROOT_BYTES, ROOT_WORDS, ROOTS, ROOTS_AT, TOP, is_name};
 use cm_disk::Disk;
-use cm_layout::{DefineEntry, Entry, GroupHead, LoaderEntry, OPEN_GATE, SLOT_BYTES, is_same_slot};
+use cm_narrow::{DefineEntry, Entry, GroupHead, LoaderEntry, OPEN_GATE, SLOT_BYTES, is_same_slot};
 use cm_pool::Chunk;
 use std::alloc::Global;
 use std::marker::Model;

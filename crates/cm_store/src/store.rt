@@ -9,7 +9,7 @@ ghost use Rattle.cm_store.specs.Store.{StoreValue, IsReady, loader_refusal, defi
 ghost use Rattle.cm_store.specs.Replay.{Stands};
 ghost use Rattle.cm_store.specs.Commands.{refusal_of, Carries};
 ghost use Rattle.std.specs.Option.{option_copied};
-ghost use Rattle.cm_layout.specs.State.{class_in};
+ghost use Rattle.cm_narrow.specs.State.{class_in};
 ghost use Rattle.std.specs.List.{list_all};
 
 use crate::class_texts::ClassTexts;
@@ -22,7 +22,7 @@ use crate::open::{Opened, read_cache};
 use crate::prepared::Prepared;
 use crate::refusal::Refusal;
 use cm_disk::{DeviceFault, Disk};
-use cm_layout::{DefineEntry, Entry, LoaderEntry, SlotName};
+use cm_narrow::{DefineEntry, Entry, LoaderEntry, SlotName};
 use cm_pool::Chunk;
 use cm_record::Record;
 use std::alloc::{AllocError, Global};

@@ -4,7 +4,7 @@ use Rattle.hex.specs.Hex.{decode_of}
 use Rattle.hex.specs.declared.error.FromHexError.{FromHexError}
 use Rattle.cm_record.specs.Layout.{lay}
 use Rattle.cm_record.specs.Names.{class_name_of}
-use Rattle.cm_layout.specs.State.{class_in}
+use Rattle.cm_narrow.specs.State.{class_in}
 use Rattle.cm_store.specs.declared.refusal.Refusal.{Refusal}
 use Rattle.cm_store.specs.declared.refusal.Refusal.TheVariants.{BadName, LoaderExists, NoLoader, ClassExists, RecordTooLong, RegionFull, JournalFull, NoMemory, Broken, NumbersSpent, Unsure}
 use Rattle.cm_store.specs.Store.{StoreValue, loader_refusal, define_refusal}

@@ -7,7 +7,7 @@ use Rattle.cm_class.specs.declared.class_file.ClassFile.{ClassFile}
 use Rattle.cm_record.specs.Layout.{lay, limit, IsRecordOf}
 use Rattle.cm_record.specs.Names.{class_name_of}
 use Rattle.cm_rules.specs.Answer.{IsRight}
-use Rattle.cm_layout.specs.State.{class_in}
+use Rattle.cm_narrow.specs.State.{class_in}
 use Rattle.cm_store.specs.declared.refusal.Refusal.{Refusal}
 use Rattle.cm_store.specs.declared.refusal.Refusal.TheVariants as refusal
 use Rattle.cm_store.specs.declared.prepare.PrepareFault.{PrepareFault}

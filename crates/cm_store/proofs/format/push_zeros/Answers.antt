@@ -1,6 +1,6 @@
 use Rattle.std.proofs.Common.{ℕ, List, [], ◌∷◌, ◌++◌, ap, sym, ◌∙◌, append_assoc}
 use Rattle.std.proofs.lemmas.List.{append-nil}
-use Rattle.cm_layout.specs.Superblock.{blank}
+use Rattle.cm_narrow.specs.Superblock.{blank}
 use Rattle.cm_store.proofs.Formatted.{blank-next, blank-none}
 use Rattle.cm_store.proofs.format.push_zeros.Goals as goal
 

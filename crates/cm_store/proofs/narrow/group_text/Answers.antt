@@ -1,8 +1,8 @@
 use Rattle.std.proofs.Common.{◌≡◌, ◌+◌, [], ◌∷◌, ◌++◌, List, ℕ, replicate, inl, inr, refl, sym, ap, ◌∙◌, arith}
 use Rattle.std.proofs.lemmas.List.{append-nil}
-use Rattle.cm_layout.specs.declared.entry.Entry.{Entry}
-use Rattle.cm_layout.specs.Slots.{entry_bytes, group_head_bytes}
-use Rattle.cm_layout.specs.Region.{group_bytes}
+use Rattle.cm_narrow.specs.declared.entry.Entry.{Entry}
+use Rattle.cm_narrow.specs.Slots.{entry_bytes, group_head_bytes}
+use Rattle.cm_narrow.specs.Region.{group_bytes}
 use Rattle.cm_store.proofs.narrow.group_text.Goals as goal
 
 group_is : (n : ℕ) (e : Entry) → group_bytes n (e ∷ []) ≡ group_head_bytes (record { count = 1; first = n + 1 }) ++ entry_bytes e

@@ -2,7 +2,7 @@ use Rattle.std.proofs.Common.{◌≡◌, ◌≢◌, ◌∙◌, ◌+◌, ◌≤�
 use Rattle.std.specs.Cmp.Lexicographic.{bytes_decides}
 use Rattle.std.proofs.lemmas.Bool.Decides.{eqb_tells}
 use Rattle.std.proofs.lemmas.List.{drop_more}
-use Rattle.cm_layout.specs.Region.{IsEnd}
+use Rattle.cm_narrow.specs.Region.{IsEnd}
 use Rattle.cm_store.specs.Replay.{front_bytes}
 use Rattle.cm_store.proofs.Journals.{end_of_first, first_of_end}
 use Rattle.cm_store.proofs.RowLemmas.{differ}

@@ -1,5 +1,5 @@
 use Rattle.std.proofs.Common.{◌≡◌, ◌≢◌, ◌∙◌, ◌∷◌, [], ◌++◌, ◌+◌, ◌-◌, ◌*◌, ◌≤◌, List, ℕ, take, drop, get_or, Result, Ok, Err, OnOk, ap, sym, subst, arith}
-use Rattle.cm_layout.specs.State.{Row}
+use Rattle.cm_narrow.specs.State.{Row}
 use Rattle.cm_store.specs.declared.fault.OpenFault.{OpenFault}
 use Rattle.cm_store.specs.Store.{HasOpenCause}
 use Rattle.cm_store.specs.Replay.{IsReplay, IsGroupOf, roots_of}

@@ -1,5 +1,5 @@
 use Rattle.std.proofs.Common.{◌≡◌, ◌≤◌, List, []}
-use Rattle.cm_layout.specs.State.{Row}
+use Rattle.cm_narrow.specs.State.{Row}
 use Rattle.cm_store.specs.Store.{RowsFollow, default_sizes}
 use Rattle.cm_store.specs.Replay.{roots_of, IsJournal}
 use Rattle.cm_store.proofs.Journals.{Reading, Left}

@@ -1,5 +1,5 @@
 use Rattle.std.proofs.Common.{◌≡◌, Some, length, sym, ap, subst, ◌∙◌}
-use Rattle.cm_layout.specs.State.{class_in}
+use Rattle.cm_narrow.specs.State.{class_in}
 use Rattle.std.specs.Prelude.{IfOk}
 use Rattle.cm_class.specs.declared.class_file.ClassFile.{ClassFile}
 use Rattle.cm_record.specs.Layout.{IsRecordOf}

@@ -4,7 +4,7 @@ use Rattle.std.specs.Option.{option_map, unwrap_or}
 use Rattle.std.specs.FinMap.{get, insert, empty}
 use Rattle.std.proofs.lemmas.Result.{on_ok_weaker, on_err_weaker}
 use Rattle.cm_store.specs.Listed.{Listed}
-use Rattle.cm_layout.specs.State.{ByName}
+use Rattle.cm_narrow.specs.State.{ByName}
 use Rattle.cm_store.specs.declared.directory.Loader.{Loader}
 use Rattle.cm_store.proofs.Named.{Sets, inserted, insert_had, get_named}
 use Rattle.cm_store.proofs.directory.Directory.add_class.Goals as goal

@@ -4,8 +4,8 @@ use Rattle.std.specs.FinMap.{get}
 use Rattle.cm_record.specs.Layout.{lay, IsRecordOf}
 use Rattle.cm_record.specs.Names.{class_name_of}
 use Rattle.cm_record.proofs.Packed.{length-packed_into}
-use Rattle.cm_layout.specs.Rows.{name_of}
-use Rattle.cm_layout.specs.State.{ClassRow, entries_of, class_in}
+use Rattle.cm_narrow.specs.Rows.{name_of}
+use Rattle.cm_narrow.specs.State.{ClassRow, entries_of, class_in}
 use Rattle.cm_store.specs.declared.fault.OpenFault.{OpenFault}
 use Rattle.cm_store.specs.declared.fault.OpenFault.TheVariants.{NotACache}
 use Rattle.cm_store.specs.Store.{default_sizes}

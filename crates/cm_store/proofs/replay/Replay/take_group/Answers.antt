@@ -1,8 +1,8 @@
 use Rattle.std.proofs.Common.{◌≡◌, ◌∙◌, ◌∷◌, [], ◌++◌, List, ℕ, length, take, drop, Some, None, ap, sym, subst, refl, arith, IsTrue}
-use Rattle.cm_layout.specs.declared.entry.Entry.TheVariants.{Loader, Define}
-use Rattle.cm_layout.specs.declared.entry.LoaderEntry.{LoaderEntry}
-use Rattle.cm_layout.specs.Slots.{entry_bytes}
-use Rattle.cm_layout.specs.State.{Row, LoaderRow, ClassRow, entry_of}
+use Rattle.cm_narrow.specs.declared.entry.Entry.TheVariants.{Loader, Define}
+use Rattle.cm_narrow.specs.declared.entry.LoaderEntry.{LoaderEntry}
+use Rattle.cm_narrow.specs.Slots.{entry_bytes}
+use Rattle.cm_narrow.specs.State.{Row, LoaderRow, ClassRow, entry_of}
 use Rattle.cm_store.specs.Store.{LoaderFollows}
 use Rattle.cm_store.specs.Replay.{ReplayValue, IsReplay, IsGroupOf, roots_of}
 use Rattle.cm_store.proofs.Replayed.{length-names}

@@ -1,7 +1,7 @@
 use Rattle.std.proofs.Common.{◌≡◌, ◌∙◌, ◌∷◌, [], ◌++◌, Some, true, false, ap, sym, subst, refl, arith, IsTrue}
 use Rattle.std.specs.Option.{is_some}
 use Rattle.std.specs.FinMap.{get, insert, empty}
-use Rattle.cm_layout.specs.State.{LoaderRow}
+use Rattle.cm_narrow.specs.State.{LoaderRow}
 use Rattle.cm_store.specs.Store.{LoaderFollows, is_loader_name}
 use Rattle.cm_store.specs.Replay.{ReplayValue, IsReplay}
 use Rattle.cm_store.proofs.Refusals.{loader_name, none_of}

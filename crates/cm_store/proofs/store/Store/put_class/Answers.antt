@@ -5,10 +5,10 @@ use Rattle.cm_disk.specs.Calls.{overwritten}
 use Rattle.cm_record.specs.Layout.{lay}
 use Rattle.cm_record.specs.Names.{class_name_of}
 use Rattle.cm_record.specs.Packing.{word_bytes, packed_into}
-use Rattle.cm_layout.specs.declared.entry.DefineEntry.{DefineEntry}
-use Rattle.cm_layout.specs.declared.entry.Entry.TheVariants.{Define}
-use Rattle.cm_layout.specs.Slots.{FitsDefine}
-use Rattle.cm_layout.specs.State.{class_in}
+use Rattle.cm_narrow.specs.declared.entry.DefineEntry.{DefineEntry}
+use Rattle.cm_narrow.specs.declared.entry.Entry.TheVariants.{Define}
+use Rattle.cm_narrow.specs.Slots.{FitsDefine}
+use Rattle.cm_narrow.specs.State.{class_in}
 use Rattle.cm_store.specs.Listed.{Listed}
 use Rattle.cm_store.specs.Narrow.{slot_at, roots_at, with_group, with_root}
 use Rattle.cm_store.specs.Store.{StoreValue, default_sizes, IsOpen}

@@ -1,9 +1,9 @@
 -- After the group is written, the text has the loader that the directory lists.
 use Rattle.std.proofs.Common.{◌≡◌, ◌≤◌, ◌+◌, ◌*◌, true, List, ℕ, length, None, sym, ap, subst, ◌∙◌, refl, arith}
 use Rattle.std.specs.FinMap.{get, insert, empty}
-use Rattle.cm_layout.specs.declared.entry.LoaderEntry.{LoaderEntry}
-use Rattle.cm_layout.specs.declared.entry.Entry.TheVariants.{Loader}
-use Rattle.cm_layout.specs.Slots.{FitsLoader}
+use Rattle.cm_narrow.specs.declared.entry.LoaderEntry.{LoaderEntry}
+use Rattle.cm_narrow.specs.declared.entry.Entry.TheVariants.{Loader}
+use Rattle.cm_narrow.specs.Slots.{FitsLoader}
 use Rattle.cm_store.specs.Listed.{Listed}
 use Rattle.cm_store.specs.Narrow.{slot_at, with_group}
 use Rattle.cm_store.specs.Store.{StoreValue, default_sizes, is_loader_name, IsOpen}

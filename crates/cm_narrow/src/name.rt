@@ -1,0 +1,58 @@
+//! Names as a slot has room for them.
+
+ghost use Rattle.std.specs.Prelude.{◌≡◌, ◌≤◌, ◌-◌, ◌↔◌, ◌++◌, length, replicate, IsSome, IfSome};
+
+use std::marker::Model;
+
+/// How many bytes of a name a slot has room for.
+pub const NAME_BYTES: usize = 48;
+
+/// A name of at most 48 bytes, kept in place.
+#[derive(Debug, Drop)]
+pub struct SlotName {
+    bytes: [u8; NAME_BYTES],
+    len: usize,
+}
+
+impl Model for SlotName {
+    ghost use Rattle.std.specs.Prelude.{◌≡◌, ◌≤◌, ◌-◌, ◌++◌, List, ℕ, take, replicate};
+
+    ghost Value = { List ℕ };
+
+    ghost view = { λ n. take n.len n.bytes };
+
+    ghost invariant = { λ n. (n.len ≤ 48) × (n.bytes ≡ take n.len n.bytes ++ replicate (48 - n.len) 0) };
+}
+
+impl SlotName {
+    /// The name of these bytes, or `None` where there are more than 48.
+    pub fn new(bytes: &[u8]) -> Option<SlotName>
+        ensures fits { IsSome result ↔ (length bytes.now ≤ 48) }
+        ensures value { IfSome result (λ n. n ≡ bytes.now) }
+    {
+        if bytes.len() > NAME_BYTES {
+            return None;
+        }
+        let mut kept = [0; NAME_BYTES];
+        kept[..bytes.len()].copy_from_slice(bytes);
+        Some(SlotName {
+            bytes: kept,
+            len: bytes.len(),
+        })
+    }
+
+    /// The name's bytes.
+    pub fn as_bytes(&self) -> &[u8]
+        ensures value { result.now ≡ self.now }
+        ensures fits { length self.now ≤ 48 }
+    {
+        &self.bytes[..self.len]
+    }
+
+    /// The name's bytes with zeros behind them.
+    pub fn padded(&self) -> [u8; NAME_BYTES]
+        ensures { result ≡ self.now ++ replicate (48 - length self.now) 0 }
+    {
+        self.bytes
+    }
+}
