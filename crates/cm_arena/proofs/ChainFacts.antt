@@ -4,26 +4,27 @@ use Rattle.std.specs.List.{AllByRecursion}
 use Rattle.std.proofs.lemmas.List.{drop_more}
 use Rattle.std.proofs.lemmas.Bool.{eq-eqb, eqb-true, and_parts}
 use Rattle.cm_pool.specs.declared.chunk.Chunk.{Chunk}
-use Rattle.cm_arena.specs.declared.place.Place.{Place}
+use Rattle.cm_pool.specs.declared.place.Place.{Place}
+use Rattle.cm_pool.specs.Chunks.{same_chunk}
 use Rattle.cm_arena.specs.Placing.{next_offset, with_place}
-use Rattle.cm_arena.specs.Chains.{Filled, chunks_of, chain_of, last_of, with_more, is_same, used_of, IsFilled}
+use Rattle.cm_arena.specs.Chains.{Filled, chunks_of, chain_of, last_of, with_more, used_of, IsFilled}
 
 pub chunks-chain_of : (cs : List Chunk) (us : List ℕ) → length cs ≡ length us → chunks_of (chain_of cs us) ≡ cs
 chunks-chain_of [] us h = refl
 chunks-chain_of (c ∷ cs) [] h = absurd (omega arith)
 chunks-chain_of (c ∷ cs) (n ∷ us) h = ap (λ ds. c ∷ ds) (chunks-chain_of cs us (omega arith))
 
-pub is_same-refl : (c : Chunk) → is_same c c ≡ true
-is_same-refl c = rw (eq-eqb c.root c.root refl, eq-eqb c.order c.order refl, eq-eqb c.at c.at refl)
+pub same_chunk-refl : (c : Chunk) → same_chunk c c ≡ true
+same_chunk-refl c = rw (eq-eqb c.root c.root refl, eq-eqb c.order c.order refl, eq-eqb c.at c.at refl)
 
-pub is_same-eq : (a b : Chunk) → is_same a b ≡ true → a ≡ b
-is_same-eq a b h =
+pub same_chunk-eq : (a b : Chunk) → same_chunk a b ≡ true → a ≡ b
+same_chunk-eq a b h =
     let first = and_parts (eqb a.root b.root) _ h in
     let second = and_parts (eqb a.order b.order) _ first.1 in
     λ i. record { root = eqb-true a.root b.root first.0 i; order = eqb-true a.order b.order second.0 i; at = eqb-true a.at b.at second.1 i }
 
 -- the first chunk that is left, and the others
-pub used_of-drop : (cs : List Chunk) (us : List ℕ) (at : ℕ) (d c : Chunk) (e : ℕ) → length cs ≡ length us → at < length cs → used_of (chain_of (drop at cs) (drop at us)) c ≡ cond (is_same (get_or cs at d) c) (Some (get_or us at e)) (used_of (chain_of (drop (at + 1) cs) (drop (at + 1) us)) c)
+pub used_of-drop : (cs : List Chunk) (us : List ℕ) (at : ℕ) (d c : Chunk) (e : ℕ) → length cs ≡ length us → at < length cs → used_of (chain_of (drop at cs) (drop at us)) c ≡ cond (same_chunk (get_or cs at d) c) (Some (get_or us at e)) (used_of (chain_of (drop (at + 1) cs) (drop (at + 1) us)) c)
 used_of-drop cs us at d c e same lt =
     let also : at < length us = omega arith in
     rw (drop_more cs at d lt, drop_more us at e also) refl
@@ -81,7 +82,7 @@ length-chain_of (c ∷ cs) [] same = absurd (omega arith)
 length-chain_of (c ∷ cs) (n ∷ us) same = omega (arith, length-chain_of cs us (omega arith))
 
 -- where the next words go, by the last chunk
-pub next-chain_of : (cs : List Chunk) (us : List ℕ) (k : ℕ) (d c : Chunk) (e : ℕ) → length cs ≡ length us → length cs ≡ suc k → next_offset (chain_of cs us) c ≡ cond (is_same (get_or cs k d) c) (get_or us k e) 0
+pub next-chain_of : (cs : List Chunk) (us : List ℕ) (k : ℕ) (d c : Chunk) (e : ℕ) → length cs ≡ length us → length cs ≡ suc k → next_offset (chain_of cs us) c ≡ cond (same_chunk (get_or cs k d) c) (get_or us k e) 0
 next-chain_of [] us k d c e same len = absurd (omega arith)
 next-chain_of (b ∷ cs) [] k d c e same len = absurd (omega arith)
 next-chain_of (b ∷ []) (n ∷ us) zero d c e same len = refl
@@ -94,7 +95,7 @@ next-chain_of (b ∷ a ∷ cs) (n ∷ m ∷ us) (suc k) d c e same len = next-ch
 pub place-in_new : (chain : List Filled) (place : Place) → AllByRecursion IsFilled chain → next_offset chain place.chunk ≡ 0 → with_place chain place ≡ chain ++ record { chunk = place.chunk; used = place.words } ∷ []
 place-in_new [] place h e = refl
 place-in_new (f ∷ []) place h e =
-    elim (is_same f.chunk place.chunk) as (λ b. cond b f.used 0 ≡ 0 → cond b (record { chunk = f.chunk; used = f.used + place.words } ∷ []) (f ∷ record { chunk = place.chunk; used = place.words } ∷ []) ≡ f ∷ record { chunk = place.chunk; used = place.words } ∷ []) [
+    elim (same_chunk f.chunk place.chunk) as (λ b. cond b f.used 0 ≡ 0 → cond b (record { chunk = f.chunk; used = f.used + place.words } ∷ []) (f ∷ record { chunk = place.chunk; used = place.words } ∷ []) ≡ f ∷ record { chunk = place.chunk; used = place.words } ∷ []) [
       | true ↦ λ none. absurd (omega (arith, h.0.some, none))
       | false ↦ λ _. refl
     ] e
@@ -103,7 +104,7 @@ place-in_new (f ∷ g ∷ rest) place h e = ap (λ more. f ∷ more) (place-in_n
 pub place-on_top : (chain : List Filled) (place : Place) → 0 < next_offset chain place.chunk → with_place chain place ≡ with_more chain place.words
 place-on_top [] place h = absurd (omega (arith, h))
 place-on_top (f ∷ []) place h =
-    elim (is_same f.chunk place.chunk) as (λ b. 0 < cond b f.used 0 → cond b (record { chunk = f.chunk; used = f.used + place.words } ∷ []) (f ∷ record { chunk = place.chunk; used = place.words } ∷ []) ≡ record { chunk = f.chunk; used = f.used + place.words } ∷ []) [
+    elim (same_chunk f.chunk place.chunk) as (λ b. 0 < cond b f.used 0 → cond b (record { chunk = f.chunk; used = f.used + place.words } ∷ []) (f ∷ record { chunk = place.chunk; used = place.words } ∷ []) ≡ record { chunk = f.chunk; used = f.used + place.words } ∷ []) [
       | true ↦ λ _. refl
       | false ↦ λ none. absurd (omega (arith, none))
     ] h

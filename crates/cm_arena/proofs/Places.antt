@@ -7,9 +7,10 @@ use Rattle.cm_pool.specs.Lists.{Among}
 use Rattle.cm_pool.specs.Held.{AreHeld, NoneIsLost}
 use Rattle.cm_pool.proofs.NoneLost.{none_lost-put, none_lost-with_root}
 use Rattle.cm_pool.proofs.HeldFacts.{held-put, held-with_root}
-use Rattle.cm_arena.specs.declared.place.Place.{Place}
+use Rattle.cm_pool.specs.declared.place.Place.{Place}
 use Rattle.cm_arena.specs.Chains.{Filled, chunks_of, last_of, with_more, IsFilled}
-use Rattle.cm_arena.specs.Placing.{Fetches, Places, IsInside, order_wanted}
+use Rattle.cm_pool.specs.Places.{IsInside}
+use Rattle.cm_arena.specs.Placing.{Fetches, Places, order_wanted}
 use Rattle.cm_arena.proofs.Fetching.{fetched-small}
 
 -- filling the last chunk further changes no chunk

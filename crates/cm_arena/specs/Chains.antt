@@ -1,10 +1,10 @@
 -- What an arena is seen as: a chain of chunks, each with how many of its words are used.
 -- As in OpenJDK JEP 387 the metadata of one loader lie in such a chain, and only the last chunk's top moves; the numbers are this project's own.
-use Rattle.std.specs.Prelude.{◌≡◌, ℕ, ◌+◌, ◌≤◌, ◌==◌, ◌&&◌, Bool, List, [], ◌∷◌, map, Option, Some, None, if◌then◌else◌, length, refl}
+use Rattle.std.specs.Prelude.{◌≡◌, ℕ, ◌+◌, ◌≤◌, List, [], ◌∷◌, map, Option, Some, None, if◌then◌else◌, length, refl}
 use Rattle.std.specs.List.{AllByRecursion}
 use Rattle.std.specs.Coded.{Coded, code_by, coded×, coded_ℕ, coded_list}
 use Rattle.cm_pool.specs.declared.chunk.Chunk.{Chunk}
-use Rattle.cm_pool.specs.Chunks.{chunk_size}
+use Rattle.cm_pool.specs.Chunks.{chunk_size, same_chunk}
 
 -- a chunk of the chain, and how many words at its front are used
 pub record Filled : Type 0 where
@@ -27,14 +27,10 @@ with_more [] words = []
 with_more (f ∷ []) words = record { chunk = f.chunk; used = f.used + words } ∷ []
 with_more (f ∷ g ∷ rest) words = f ∷ with_more (g ∷ rest) words
 
--- the two are one chunk
-abbrev pub is_same : Chunk → Chunk → Bool
-is_same a b = (a.root == b.root) && ((a.order == b.order) && (a.at == b.at))
-
 -- how many words of a chunk are used, if it is in the chain
 abbrev pub used_of : List Filled → Chunk → Option ℕ
 used_of [] c = None
-used_of (f ∷ rest) c = if is_same f.chunk c then Some f.used else used_of rest c
+used_of (f ∷ rest) c = if same_chunk f.chunk c then Some f.used else used_of rest c
 
 -- what is true of each chunk of a chain
 pub record IsFilled (f : Filled) : Type 0 where

@@ -1,10 +1,11 @@
 -- Where the words of a record go.
 use Rattle.std.specs.Prelude.{◌≡◌, ℕ, ◌+◌, ◌<◌, ◌≤◌, ◌⊎◌, min, max, List, [], ◌∷◌, ◌++◌, length, IsSomeAnd, Some, if◌then◌else◌}
 use Rattle.cm_pool.specs.declared.chunk.Chunk.{Chunk}
-use Rattle.cm_pool.specs.Chunks.{chunk_size}
+use Rattle.cm_pool.specs.Chunks.{chunk_size, same_chunk}
 use Rattle.cm_pool.specs.FreeSpace.{FreeSpace, HasFree, IsFirstFree, without, with_root}
-use Rattle.cm_arena.specs.declared.place.Place.{Place}
-use Rattle.cm_arena.specs.Chains.{Filled, last_of, with_more, is_same}
+use Rattle.cm_pool.specs.declared.place.Place.{Place}
+use Rattle.cm_pool.specs.Places.{IsInside}
+use Rattle.cm_arena.specs.Chains.{Filled, last_of, with_more}
 
 -- the least order whose chunks hold the words
 pub record IsNeed (words need : ℕ) : Type 0 where
@@ -74,22 +75,16 @@ pub record IsFull (chain : List Filled) (pool : FreeSpace) (words : ℕ) : Type 
   pub none_free : ¬ HasFree pool need
   pub no_root : pool.geometry.roots ≤ pool.roots
 
--- the place is some words inside its chunk
-pub record IsInside (place : Place) : Type 0 where
-  pub small : place.chunk.order ≤ 12
-  pub some : 1 ≤ place.words
-  pub within : place.offset + place.words ≤ chunk_size place.chunk.order
-
 -- where the next words in a chunk go: behind the used ones of the last chunk, and to the front of another
 abbrev pub next_offset : List Filled → Chunk → ℕ
 next_offset [] c = 0
-next_offset (f ∷ []) c = if is_same f.chunk c then f.used else 0
+next_offset (f ∷ []) c = if same_chunk f.chunk c then f.used else 0
 next_offset (f ∷ g ∷ rest) c = next_offset (g ∷ rest) c
 
 -- the chain with the words of a place that goes on there
 abbrev pub with_place : List Filled → Place → List Filled
 with_place [] place = record { chunk = place.chunk; used = place.words } ∷ []
-with_place (f ∷ []) place = if is_same f.chunk place.chunk then record { chunk = f.chunk; used = f.used + place.words } ∷ [] else f ∷ record { chunk = place.chunk; used = place.words } ∷ []
+with_place (f ∷ []) place = if same_chunk f.chunk place.chunk then record { chunk = f.chunk; used = f.used + place.words } ∷ [] else f ∷ record { chunk = place.chunk; used = place.words } ∷ []
 with_place (f ∷ g ∷ rest) place = f ∷ with_place (g ∷ rest) place
 
 -- a place that was found again can be the next one

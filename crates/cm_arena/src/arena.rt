@@ -5,9 +5,8 @@ ghost use Rattle.cm_arena.specs.Chains.{used_of, chain_of, IsArena};
 ghost use Rattle.cm_arena.specs.Placing.{IsOnTop, HasRoom, next_offset as next_offset_of};
 
 use crate::fetch::{fetch, order_for};
-use crate::place::Place;
 use crate::refusal::Refusal;
-use cm_pool::{Chunk, Pool};
+use cm_pool::{Chunk, Place, Pool};
 use std::alloc::{AllocError, Global};
 use std::marker::Model;
 
@@ -35,7 +34,8 @@ impl Model for Arena {
 
 impl Arena {
     ghost use Rattle.cm_arena.specs.Chains.{chunks_of, used_of};
-    ghost use Rattle.cm_arena.specs.Placing.{Places, IsFull, HasRoom, IsInside, IsNext, with_place};
+    ghost use Rattle.cm_pool.specs.Places.{IsInside};
+    ghost use Rattle.cm_arena.specs.Placing.{Places, IsFull, HasRoom, IsNext, with_place};
     ghost use Rattle.cm_pool.specs.declared.chunk.Chunk.{Chunk};
     ghost use Rattle.cm_pool.specs.Lists.{Among};
     ghost use Rattle.cm_pool.specs.Held.{AreHeld, NoneIsLost};

@@ -3,11 +3,9 @@
 
 mod arena;
 mod fetch;
-mod place;
 mod refusal;
 
 pub use arena::Arena;
-pub use place::Place;
 pub use refusal::Refusal;
 
 #[cfg(test)]

@@ -2,9 +2,8 @@
 ghost use Rattle.std.specs.Prelude.{◌≤◌};
 
 use crate::arena::Arena;
-use crate::place::Place;
 use crate::refusal::Refusal;
-use cm_pool::{Chunk, Geometry, Pool};
+use cm_pool::{Chunk, Geometry, Place, Pool};
 use std::alloc::Global;
 use std::test::Fail;
 

@@ -1,12 +1,16 @@
 -- Chunks: which words a chunk stands for, and which chunks a region has.
 -- Chunks have power-of-two sizes and lie at multiples of their size, as in OpenJDK JEP 387; the sizes are this project's own.
-use Rattle.std.specs.Prelude.{◌≡◌, ℕ, ◌+◌, ◌*◌, ◌%◌, ◌^◌, ◌<◌, ◌≤◌}
+use Rattle.std.specs.Prelude.{◌≡◌, ℕ, ◌+◌, ◌*◌, ◌%◌, ◌^◌, ◌<◌, ◌≤◌, Bool, ◌==◌, ◌&&◌}
 use Rattle.cm_pool.specs.declared.chunk.Chunk.{Chunk}
 use Rattle.cm_pool.specs.Geometry.{Sizes}
 
 -- how many words a chunk of an order has
 abbrev pub chunk_size : ℕ → ℕ
 chunk_size order = 128 * 2 ^ order
+
+-- the two are one chunk
+abbrev pub same_chunk : Chunk → Chunk → Bool
+same_chunk a b = (a.root == b.root) && ((a.order == b.order) && (a.at == b.at))
 
 -- a word of a root is one of the chunk's
 pub record Covers (c : Chunk) (root word : ℕ) : Type 0 where

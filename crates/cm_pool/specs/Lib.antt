@@ -5,3 +5,4 @@ pub mod Lists
 pub mod Held
 pub mod Blocks
 pub mod Laws
+pub mod Places

@@ -6,11 +6,13 @@ mod chunk;
 mod free_list;
 mod geometry;
 mod laws;
+mod place;
 mod pool;
 
 pub use chunk::Chunk;
 pub use geometry::Geometry;
 pub use laws::{giving_back_restores, halves_make_whole, nested_or_apart, one_list_of_largest};
+pub use place::Place;
 pub use pool::Pool;
 
 #[cfg(test)]

@@ -1,7 +1,7 @@
 // Where the words of a record lie.
 ghost use Rattle.std.specs.Prelude.{◌↔◌, IsTrue};
 
-use cm_pool::Chunk;
+use crate::chunk::Chunk;
 
 /// The `words` words of a chunk from its `offset`-th on.
 #[derive(Clone, Copy, Debug, PartialEq, Eq)]
@@ -12,7 +12,7 @@ pub struct Place {
 }
 
 impl Place {
-    ghost use Rattle.cm_arena.specs.Placing.{IsInside};
+    ghost use Rattle.cm_pool.specs.Places.{IsInside};
 
     /// Whether these are words inside the chunk, at least one. A place that was read from a file may have any numbers.
     pub fn is_inside(&self) -> bool
