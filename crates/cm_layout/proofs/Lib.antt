@@ -1,2 +1,1 @@
 pub mod OneSlot
-pub mod Folds

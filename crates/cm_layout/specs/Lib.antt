@@ -1,6 +1,7 @@
+pub mod Offsets
+pub mod Names
 pub mod Slots
 pub mod Superblock
 pub mod Rows
-pub mod Region
-pub mod State
-pub mod Step
+pub mod Rules
+pub mod Frames

@@ -2,48 +2,81 @@
 -- it is A5; byte 0 of an entry is 00. Byte 1 says what the slot is. All bytes that aren't named are 00.
 use Rattle.std.specs.Prelude.{ℕ, ◌<◌, ◌≤◌, ◌-◌, ◌^◌, List, ◌∷◌, ◌++◌, length, replicate}
 use Rattle.std.specs.Int.{w16, w32, w64, to_le_bytes}
+use Rattle.cm_pool.specs.declared.chunk.Chunk.{Chunk}
 use Rattle.cm_layout.specs.declared.heads.HalfHead.{HalfHead}
 use Rattle.cm_layout.specs.declared.heads.GroupHead.{GroupHead}
-use Rattle.cm_layout.specs.declared.entry.LoaderEntry.{LoaderEntry}
-use Rattle.cm_layout.specs.declared.entry.DefineEntry.{DefineEntry}
+use Rattle.cm_layout.specs.declared.loader_row.LoaderRow.{LoaderRow}
+use Rattle.cm_layout.specs.declared.class_row.ClassRow.{ClassRow}
+use Rattle.cm_layout.specs.declared.unload.Unload.{Unload}
+use Rattle.cm_layout.specs.declared.relocation.Move.{Move}
+use Rattle.cm_layout.specs.declared.row.Row.{Row}
+use Rattle.cm_layout.specs.declared.row.Row.TheVariants.{Loader, Class}
 use Rattle.cm_layout.specs.declared.entry.Entry.{Entry}
-use Rattle.cm_layout.specs.declared.entry.Entry.TheVariants.{Loader, Define}
+use Rattle.cm_layout.specs.declared.entry.Entry.TheVariants as entry
+use Rattle.cm_layout.specs.Names.{name_limit}
 
 -- n bytes 00
 abbrev pub zeros : ℕ → List ℕ
 zeros n = replicate n 0
 
+-- ---- heads
+
 -- a half's head behind its gate: kind, entry version, live rows, epoch, base
 abbrev pub half_head_rest : HalfHead → List ℕ
-half_head_rest h = (1 ∷ to_le_bytes w16 1) ++ to_le_bytes w32 h.live ++ to_le_bytes w64 h.epoch ++ to_le_bytes w64 h.base ++ zeros 40
+half_head_rest h = (1 ∷ to_le_bytes w16 h.version) ++ to_le_bytes w32 h.live ++ to_le_bytes w64 h.epoch ++ to_le_bytes w64 h.base ++ zeros 40
 
 -- a group's head behind its gate: kind, number of entries, the first entry's number
 abbrev pub group_head_rest : GroupHead → List ℕ
 group_head_rest h = (2 ∷ to_le_bytes w16 h.count) ++ zeros 4 ++ to_le_bytes w64 h.first ++ zeros 48
 
 -- open heads
-abbrev pub half_head_bytes : HalfHead → List ℕ
-half_head_bytes h = 165 ∷ half_head_rest h
+abbrev pub half_head_slot : HalfHead → List ℕ
+half_head_slot h = 165 ∷ half_head_rest h
 
-abbrev pub group_head_bytes : GroupHead → List ℕ
-group_head_bytes h = 165 ∷ group_head_rest h
+abbrev pub group_head_slot : GroupHead → List ℕ
+group_head_slot h = 165 ∷ group_head_rest h
+
+-- ---- rows and entries
 
 -- a loader: its name's length, its number, its name
-abbrev pub loader_bytes : LoaderEntry → List ℕ
-loader_bytes e = (0 ∷ 17 ∷ length e.name ∷ zeros 5) ++ to_le_bytes w64 e.number ++ (e.name ++ zeros (48 - length e.name))
+abbrev pub loader_slot : LoaderRow → List ℕ
+loader_slot r = (0 ∷ 17 ∷ length r.name ∷ zeros 5) ++ to_le_bytes w64 r.number ++ (r.name ++ zeros (48 - length r.name))
+
+-- a chunk: root, order and place
+abbrev pub chunk_bytes : Chunk → List ℕ
+chunk_bytes c = to_le_bytes w32 c.root ++ to_le_bytes w32 c.order ++ to_le_bytes w32 c.at
 
 -- a class: its record's words, its loader's number, its chunk, where in the chunk its record begins
-abbrev pub define_bytes : DefineEntry → List ℕ
-define_bytes e =
-    (0 ∷ 18 ∷ zeros 2) ++ to_le_bytes w32 e.words ++ to_le_bytes w64 e.loader ++ to_le_bytes w32 e.chunk.root ++ to_le_bytes w32 e.chunk.order
-    ++ to_le_bytes w32 e.chunk.at ++ to_le_bytes w32 e.offset ++ zeros 32
+abbrev pub class_slot : ClassRow → List ℕ
+class_slot r =
+    (0 ∷ 18 ∷ zeros 2) ++ to_le_bytes w32 r.place.words ++ to_le_bytes w64 r.loader
+    ++ to_le_bytes w32 r.place.chunk.root ++ to_le_bytes w32 r.place.chunk.order ++ to_le_bytes w32 r.place.chunk.at
+    ++ to_le_bytes w32 r.place.offset ++ zeros 32
 
-abbrev pub entry_bytes : Entry → List ℕ
-entry_bytes (Loader e) = loader_bytes e
-entry_bytes (Define e) = define_bytes e
+-- a loader that is unloaded, by its number
+abbrev pub unload_slot : Unload → List ℕ
+unload_slot e = (0 ∷ 19 ∷ zeros 6) ++ to_le_bytes w64 e.loader ++ zeros 48
 
--- what has an encoding: each number fits its field, and a name its 48 bytes
+-- a loader whose last chunk's records move: its number, the old chunk, the new one
+abbrev pub move_slot : Move → List ℕ
+move_slot e =
+    (0 ∷ 20 ∷ zeros 6) ++ to_le_bytes w64 e.loader
+    ++ to_le_bytes w32 e.from.root ++ to_le_bytes w32 e.from.order ++ to_le_bytes w32 e.from.at
+    ++ to_le_bytes w32 e.to.root ++ to_le_bytes w32 e.to.order ++ to_le_bytes w32 e.to.at ++ zeros 24
+
+abbrev pub row_slot : {P : Type 0} → Row P → List ℕ
+row_slot (Loader r) = loader_slot r
+row_slot (Class r p) = class_slot r
+
+abbrev pub entry_slot : {P : Type 0} → Entry P → List ℕ
+entry_slot (entry.Live r) = row_slot r
+entry_slot (entry.Unload e) = unload_slot e
+entry_slot (entry.Move e) = move_slot e
+
+-- ---- what has an encoding: each number fits its field, and a name its 48 bytes
+
 pub record FitsHalfHead (h : HalfHead) : Type 0 where
+  pub version : h.version < 2 ^ 16
   pub live : h.live < 2 ^ 32
   pub epoch : h.epoch < 2 ^ 64
   pub base : h.base < 2 ^ 64
@@ -52,18 +85,34 @@ pub record FitsGroupHead (h : GroupHead) : Type 0 where
   pub count : h.count < 2 ^ 16
   pub first : h.first < 2 ^ 64
 
-pub record FitsLoader (e : LoaderEntry) : Type 0 where
-  pub number : e.number < 2 ^ 64
-  pub name : length e.name ≤ 48
+pub record FitsChunk (c : Chunk) : Type 0 where
+  pub root : c.root < 2 ^ 32
+  pub order : c.order < 2 ^ 32
+  pub at : c.at < 2 ^ 32
 
-pub record FitsDefine (e : DefineEntry) : Type 0 where
-  pub words : e.words < 2 ^ 32
+pub record FitsLoader (r : LoaderRow) : Type 0 where
+  pub number : r.number < 2 ^ 64
+  pub name : length r.name ≤ name_limit
+
+pub record FitsClass (r : ClassRow) : Type 0 where
+  pub words : r.place.words < 2 ^ 32
+  pub loader : r.loader < 2 ^ 64
+  pub chunk : FitsChunk r.place.chunk
+  pub offset : r.place.offset < 2 ^ 32
+
+pub record FitsUnload (e : Unload) : Type 0 where
   pub loader : e.loader < 2 ^ 64
-  pub root : e.chunk.root < 2 ^ 32
-  pub order : e.chunk.order < 2 ^ 32
-  pub at : e.chunk.at < 2 ^ 32
-  pub offset : e.offset < 2 ^ 32
 
-abbrev pub FitsEntry : Entry → Type 0
-FitsEntry (Loader e) = FitsLoader e
-FitsEntry (Define e) = FitsDefine e
+pub record FitsMove (e : Move) : Type 0 where
+  pub loader : e.loader < 2 ^ 64
+  pub from : FitsChunk e.from
+  pub to : FitsChunk e.to
+
+abbrev pub FitsRow : {P : Type 0} → Row P → Type 0
+FitsRow (Loader r) = FitsLoader r
+FitsRow (Class r p) = FitsClass r
+
+abbrev pub FitsEntry : {P : Type 0} → Entry P → Type 0
+FitsEntry (entry.Live r) = FitsRow r
+FitsEntry (entry.Unload e) = FitsUnload e
+FitsEntry (entry.Move e) = FitsMove e

@@ -1,20 +1,15 @@
 //! The heads of halves and groups.
 
-ghost use Rattle.std.specs.Prelude.{◌≡◌, ◌↔◌, IsTrue, IfSome, Some};
+ghost use Rattle.std.specs.Prelude.{◌≡◌, IfSome, Some};
 
-/// The byte that opens a gate. Any other byte closes it.
-pub const OPEN_GATE: u8 = 0xA5;
-
-/// The length of a slot in bytes.
-pub const SLOT_BYTES: usize = 64;
-
-/// The version of the entries in a half.
-const ENTRY_VERSION: u16 = 1;
+use crate::slot::{OPEN_GATE, SLOT_BYTES, is_same_slot};
 
 /// The head of a half of the journal, its slot 0.
 #[derive(Clone, Copy, Debug, PartialEq, Eq)]
 pub struct HalfHead {
-    /// How many live rows stand behind it, one a slot.
+    /// The version of the half's entries.
+    pub version: u16,
+    /// How many slots the live rows behind it take.
     pub live: u32,
     /// The open half of greater epoch is the one that counts.
     pub epoch: u64,
@@ -25,20 +20,20 @@ pub struct HalfHead {
 /// The head of a group of entries.
 #[derive(Clone, Copy, Debug, PartialEq, Eq)]
 pub struct GroupHead {
-    /// How many entries stand behind it, one a slot.
+    /// How many slots the entries behind it take.
     pub count: u16,
     /// The number of its first entry.
     pub first: u64,
 }
 
 impl HalfHead {
-    ghost use Rattle.cm_layout.specs.Slots.{half_head_bytes, FitsHalfHead};
+    ghost use Rattle.cm_layout.specs.Slots.{half_head_slot, FitsHalfHead};
 
     /// The slot of this head with an open gate.
     pub fn encode(&self) -> [u8; SLOT_BYTES]
-        ensures { result ≡ half_head_bytes self.now }
+        ensures { result ≡ half_head_slot self.now }
     {
-        let v = ENTRY_VERSION.to_le_bytes();
+        let v = self.version.to_le_bytes();
         let l = self.live.to_le_bytes();
         let e = self.epoch.to_le_bytes();
         let b = self.base.to_le_bytes();
@@ -52,8 +47,8 @@ impl HalfHead {
 
     /// The head that a slot with an open gate spells, if it does.
     pub fn decode(slot: &[u8; SLOT_BYTES]) -> Option<HalfHead>
-        ensures found { IfSome result (λ h. slot.now ≡ half_head_bytes h) }
-        ensures only { (h : _) → FitsHalfHead h → slot.now ≡ half_head_bytes h → result ≡ Some h }
+        ensures found { IfSome result (λ h. slot.now ≡ half_head_slot h) }
+        ensures only { (h : _) → FitsHalfHead h → slot.now ≡ half_head_slot h → result ≡ Some h }
     {
         let head = HalfHead::at_its_places(slot);
         if is_same_slot(&head.encode(), slot) {
@@ -65,9 +60,10 @@ impl HalfHead {
 
     // What stands where a head has its fields. Only writing it again tells whether it is one.
     fn at_its_places(slot: &[u8; SLOT_BYTES]) -> HalfHead
-        ensures { (h : _) → FitsHalfHead h → slot.now ≡ half_head_bytes h → result ≡ h }
+        ensures { (h : _) → FitsHalfHead h → slot.now ≡ half_head_slot h → result ≡ h }
     {
         HalfHead {
+            version: u16::from_le_bytes([slot[2], slot[3]]),
             live: u32::from_le_bytes([slot[4], slot[5], slot[6], slot[7]]),
             epoch: u64::from_le_bytes([
                 slot[8], slot[9], slot[10], slot[11], slot[12], slot[13], slot[14], slot[15],
@@ -80,11 +76,11 @@ impl HalfHead {
 }
 
 impl GroupHead {
-    ghost use Rattle.cm_layout.specs.Slots.{group_head_bytes, FitsGroupHead};
+    ghost use Rattle.cm_layout.specs.Slots.{group_head_slot, FitsGroupHead};
 
     /// The slot of this head with an open gate.
     pub fn encode(&self) -> [u8; SLOT_BYTES]
-        ensures { result ≡ group_head_bytes self.now }
+        ensures { result ≡ group_head_slot self.now }
     {
         let c = self.count.to_le_bytes();
         let f = self.first.to_le_bytes();
@@ -97,8 +93,8 @@ impl GroupHead {
 
     /// The head that a slot with an open gate spells, if it does.
     pub fn decode(slot: &[u8; SLOT_BYTES]) -> Option<GroupHead>
-        ensures found { IfSome result (λ h. slot.now ≡ group_head_bytes h) }
-        ensures only { (h : _) → FitsGroupHead h → slot.now ≡ group_head_bytes h → result ≡ Some h }
+        ensures found { IfSome result (λ h. slot.now ≡ group_head_slot h) }
+        ensures only { (h : _) → FitsGroupHead h → slot.now ≡ group_head_slot h → result ≡ Some h }
     {
         let head = GroupHead::at_its_places(slot);
         if is_same_slot(&head.encode(), slot) {
@@ -110,7 +106,7 @@ impl GroupHead {
 
     // What stands where a head has its fields. Only writing it again tells whether it is one.
     fn at_its_places(slot: &[u8; SLOT_BYTES]) -> GroupHead
-        ensures { (h : _) → FitsGroupHead h → slot.now ≡ group_head_bytes h → result ≡ h }
+        ensures { (h : _) → FitsGroupHead h → slot.now ≡ group_head_slot h → result ≡ h }
     {
         GroupHead {
             count: u16::from_le_bytes([slot[2], slot[3]]),
@@ -119,11 +115,4 @@ impl GroupHead {
             ]),
         }
     }
-}
-
-/// Whether two slots have the same bytes.
-pub fn is_same_slot(a: &[u8; SLOT_BYTES], b: &[u8; SLOT_BYTES]) -> bool
-    ensures { IsTrue result ↔ (a.now ≡ b.now) }
-{
-    a == b
 }

@@ -1,17 +1,35 @@
-//! The region file: its slots and heads, and which file contents are a cache.
+//! The region file: where its parts lie, its slots, its rows, and which file contents frame which rows.
 #![tactic(auto)]
 
+mod class_row;
 mod entry;
+mod entry_rule;
+mod half;
 mod heads;
 mod laws;
+mod loader_row;
 mod name;
+mod offsets;
+mod relocation;
+mod row;
+mod slot;
 mod superblock;
+mod unload;
 
-pub use entry::{DefineEntry, Entry, LoaderEntry};
-pub use heads::{GroupHead, HalfHead, OPEN_GATE, SLOT_BYTES, is_same_slot};
-pub use laws::{changes_go_on, slot_determines_entry, slot_determines_head};
-pub use name::{NAME_BYTES, SlotName};
-pub use superblock::{FRONT_BYTES, SUPERBLOCK_BYTES, encode_front};
+pub use class_row::ClassRow;
+pub use entry::Entry;
+pub use entry_rule::EntryRule;
+pub use half::Half;
+pub use heads::{GroupHead, HalfHead};
+pub use laws::{slot_determines_entry, slot_determines_head};
+pub use loader_row::LoaderRow;
+pub use name::{NAME_BYTES, SlotName, is_loader_name};
+pub use offsets::{half_at, record_at, root_at, root_bytes, roots_at, slot_at};
+pub use relocation::Move;
+pub use row::Row;
+pub use slot::{OPEN_GATE, SLOT_BYTES, SUPERBLOCK_BYTES};
+pub use superblock::{FRONT_BYTES, encode_front};
+pub use unload::Unload;
 
 #[cfg(test)]
 mod tests;

@@ -1,6 +1,8 @@
-//! Names as a slot has room for them.
+//! Names of loaders, and names as a slot has room for them.
 
 ghost use Rattle.std.specs.Prelude.{◌≡◌, ◌≤◌, ◌-◌, ◌↔◌, ◌++◌, length, replicate, IsSome, IfSome};
+ghost use Rattle.std.specs.List.{list_all};
+ghost use Rattle.cm_layout.specs.Names.{is_loader_name, is_visible};
 
 use std::marker::Model;
 
@@ -55,4 +57,18 @@ impl SlotName {
     {
         self.bytes
     }
+}
+
+/// Whether each byte is a visible character of ASCII.
+fn are_visible(bytes: &[u8]) -> bool
+    ensures { result ≡ list_all is_visible bytes.now }
+{
+    bytes.iter().all(|byte| *byte >= 0x21 && *byte <= 0x7E)
+}
+
+/// Whether these bytes are a loader's name: 1 to 48 of them, each from 21 to 7E (hexadecimal).
+pub fn is_loader_name(name: &[u8]) -> bool
+    ensures { result ≡ is_loader_name name.now }
+{
+    !name.is_empty() && name.len() <= NAME_BYTES && are_visible(name)
 }

@@ -6,9 +6,6 @@ ghost use Rattle.cm_layout.specs.Superblock.{superblock_front};
 
 use cm_pool::Geometry;
 
-/// The length of a superblock in bytes. Its last one is its gate.
-pub const SUPERBLOCK_BYTES: usize = 4096;
-
 /// How many bytes of a superblock aren't zeros, but for the gate.
 pub const FRONT_BYTES: usize = 24;
 

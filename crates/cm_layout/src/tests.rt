@@ -1,13 +1,25 @@
-use crate::entry::{DefineEntry, Entry, LoaderEntry};
+use crate::class_row::ClassRow;
+use crate::entry::Entry;
+use crate::half::Half;
 use crate::heads::{GroupHead, HalfHead};
-use crate::name::SlotName;
+use crate::loader_row::LoaderRow;
+use crate::name::{SlotName, is_loader_name};
+use crate::offsets::{record_at, root_at, slot_at};
+use crate::relocation::Move;
+use crate::row::Row;
 use crate::superblock::encode_front;
-use cm_pool::{Chunk, Geometry};
+use crate::unload::Unload;
+use cm_pool::{Chunk, Geometry, Place};
 use std::test::*;
+
+fn chunk(root: u32, order: u32, at: u32) -> Chunk {
+    Chunk { root, order, at }
+}
 
 #[test]
 fn heads_are_written_and_read(rt: HostRuntime) {
     let head = HalfHead {
+        version: 1,
         live: 3,
         epoch: 2,
         base: 127,
@@ -29,30 +41,57 @@ fn heads_are_written_and_read(rt: HostRuntime) {
 }
 
 #[test]
-fn entries_are_written_and_read(rt: HostRuntime) -> Result<(), Fail> {
-    let class = DefineEntry {
+fn rows_are_written_and_read(rt: HostRuntime) -> Result<(), Fail> {
+    let class = ClassRow {
         loader: 1,
-        chunk: Chunk {
-            root: 2,
-            order: 8,
-            at: 0,
+        place: Place {
+            chunk: chunk(2, 8, 0),
+            offset: 0,
+            words: 16,
         },
-        offset: 0,
-        words: 16,
     };
     let slot = class.encode();
     assert_eq!(rt; slot[1], 0x12);
     assert_eq!(rt; slot[4], 16);
     assert_eq!(rt; slot[16], 2);
-    assert_eq!(rt; DefineEntry::decode(&slot), Some(class));
-    assert!(rt; LoaderEntry::decode(&slot).is_none());
+    assert_eq!(rt; ClassRow::decode(&slot), Some(class));
+    assert!(rt; LoaderRow::decode(&slot).is_none());
 
     let name = SlotName::new(b"app").ok_or("three bytes fit")?;
-    let slot = Entry::Loader(LoaderEntry { number: 9, name }).encode();
+    let loader: Row<()> = Row::Loader(LoaderRow { number: 9, name });
+    let slot = Entry::Live(loader).encode();
     assert_eq!(rt; &slot[..3], [0, 0x11, 3].as_slice());
     assert_eq!(rt; &slot[16..20], b"app\0".as_slice());
-    assert!(rt; matches!(Entry::decode(&slot), Some(Entry::Loader(_))));
+    assert!(rt; matches!(Entry::decode(&slot), Some(Entry::Live(Row::Loader(_)))));
     Ok(())
+}
+
+#[test]
+fn other_entries_are_written_and_read(rt: HostRuntime) {
+    let unload = Unload { loader: 258 };
+    let slot = unload.encode();
+    assert_eq!(rt; &slot[..2], [0, 0x13].as_slice());
+    assert_eq!(rt; &slot[8..11], [2, 1, 0].as_slice());
+    assert_eq!(rt; Unload::decode(&slot), Some(unload));
+    assert!(rt; matches!(Entry::decode(&slot), Some(Entry::Unload(_))));
+
+    let moved = Move {
+        loader: 1,
+        from: chunk(0, 1, 256),
+        to: chunk(0, 0, 128),
+    };
+    let slot = moved.encode();
+    assert_eq!(rt; &slot[..2], [0, 0x14].as_slice());
+    assert_eq!(rt;
+        &slot[16..28],
+        [0, 0, 0, 0, 1, 0, 0, 0, 0, 1, 0, 0].as_slice()
+    );
+    assert_eq!(rt;
+        &slot[28..40],
+        [0, 0, 0, 0, 0, 0, 0, 0, 128, 0, 0, 0].as_slice()
+    );
+    assert_eq!(rt; Move::decode(&slot), Some(moved));
+    assert!(rt; matches!(Entry::decode(&slot), Some(Entry::Move(_))));
 }
 
 #[test]
@@ -66,6 +105,17 @@ fn a_byte_that_has_to_be_0_counts(rt: HostRuntime) {
 fn names_of_49_bytes_are_refused(rt: HostRuntime) {
     assert!(rt; SlotName::new(&[b'a'; 48]).is_some());
     assert!(rt; SlotName::new(&[b'a'; 49]).is_none());
+    let cases: [(&[u8], bool); 6] = [
+        (b"app", true),
+        (b"", false),
+        (&[b'~'; 48], true),
+        (&[b'!'; 49], false),
+        (b"my app", false),
+        (b"caf\xc3\xa9", false),
+    ];
+    for (name, expected) in cases {
+        assert_eq!(rt; is_loader_name(name), expected);
+    }
 }
 
 #[test]
@@ -77,5 +127,21 @@ fn the_superblock_begins_with_its_magic(rt: HostRuntime) -> Result<(), Fail> {
         &front[8..],
         [1, 0, 0, 0, 8, 0, 0, 0, 64, 0, 0, 0, 0, 16, 0, 0].as_slice()
     );
+    Ok(())
+}
+
+#[test]
+fn parts_lie_where_the_sizes_say(rt: HostRuntime) -> Result<(), Fail> {
+    let geometry = Geometry::new(8, 64, 4096).ok_or("within the limits")?;
+    assert_eq!(rt; slot_at(geometry, Half::Zero, 1), 4_160);
+    assert_eq!(rt; slot_at(geometry, Half::One, 0), 266_240);
+    assert_eq!(rt; root_at(geometry, 0), 528_384);
+    assert_eq!(rt; root_at(geometry, 1), 790_528);
+    let place = Place {
+        chunk: chunk(0, 1, 256),
+        offset: 16,
+        words: 20,
+    };
+    assert_eq!(rt; record_at(geometry, place), 528_384 + 8 * 272);
     Ok(())
 }

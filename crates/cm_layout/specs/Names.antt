@@ -1,0 +1,14 @@
+-- Names of loaders.
+use Rattle.std.specs.Prelude.{ℕ, Bool, ◌&&◌, nat_le, List, length}
+use Rattle.std.specs.List.{list_all}
+
+-- the most bytes that a loader's name has, which a slot has room for
+abbrev pub name_limit : ℕ
+name_limit = 48
+
+-- a byte from 21 to 7E, in hexadecimal: a visible character of ASCII
+abbrev pub is_visible : ℕ → Bool
+is_visible b = nat_le 33 b && nat_le b 126
+
+abbrev pub is_loader_name : List ℕ → Bool
+is_loader_name name = nat_le 1 (length name) && nat_le (length name) name_limit && list_all is_visible name
