@@ -3,3 +3,4 @@ pub mod Least
 pub mod Kept
 pub mod Answer
 pub mod Sizes
+pub mod Keeps

@@ -1,0 +1,5 @@
+pub mod State
+pub mod Step
+pub mod Fold
+pub mod Stands
+pub mod Laws

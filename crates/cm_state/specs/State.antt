@@ -1,0 +1,62 @@
+-- The cache's state: a finite map from each loader's name to a finite map from class names to classes.
+use Rattle.std.specs.Prelude.{ℕ, ◌+◌, ◌==◌, if◌then◌else◌, List, [], ◌∷◌, length, Option}
+use Rattle.std.specs.Ordering.{nat_cmp}
+use Rattle.std.specs.Cmp.Lexicographic.{slice_cmp}
+use Rattle.std.specs.Option.{option_and_then}
+use Rattle.std.specs.FinMap as map
+use Rattle.cm_class.specs.declared.class_file.ClassFile.{ClassFile}
+use Rattle.cm_class.specs.Names.{class_name_of}
+use Rattle.cm_record.specs.Layout.{lay}
+use Rattle.cm_layout.specs.declared.row.Row.{Row}
+use Rattle.cm_layout.specs.declared.row.Row.TheVariants.{Loader, Class}
+
+-- a finite map from names, which are bytes, in their order
+abbrev pub ByName : Type 0 → Type 0
+ByName A = map.FinMap {K = List ℕ} (slice_cmp nat_cmp) A
+
+-- loaders, each with what it keeps of its classes
+abbrev pub Loaders : Type 0 → Type 0
+Loaders A = ByName (ByName A)
+
+-- What a class shows, whatever is kept of it: its name, and how many words its record has.
+pub record Shows (A : Type 0) : Type 0 where
+  pub name : A → List ℕ
+  pub words : A → ℕ
+
+-- a class itself
+abbrev pub class_shows : Shows ClassFile
+class_shows = record { name = class_name_of; words = λ c. length (lay c) }
+
+-- the state of a cache
+abbrev pub CacheState : Type 0
+CacheState = Loaders ClassFile
+
+-- the class of a name in a loader
+abbrev pub class_in : {A : Type 0} → Loaders A → List ℕ → List ℕ → Option A
+class_in m loader name = option_and_then (λ classes. map.get classes name) (map.get m loader)
+
+-- loaders and classes together
+abbrev pub total : {A : Type 0} → List (List ℕ × ByName A) → ℕ
+total [] = 0
+total (loader ∷ loaders) = 1 + map.len loader.1 + total loaders
+
+abbrev pub size : {A : Type 0} → Loaders A → ℕ
+size m = total (map.entries m)
+
+-- ---- of rows
+
+-- the classes of the loader of a number, by name
+abbrev pub classes_of : {A : Type 0} → Shows A → ℕ → List (Row A) → ByName A
+classes_of shows u [] = map.empty
+classes_of shows u (Loader r ∷ rows) = classes_of shows u rows
+classes_of shows u (Class r c ∷ rows) = if r.loader == u then map.insert (classes_of shows u rows) (shows.name c) c else classes_of shows u rows
+
+-- of each loader among some rows its classes among all of them
+abbrev pub loaders_among : {A : Type 0} → Shows A → List (Row A) → List (Row A) → Loaders A
+loaders_among shows all [] = map.empty
+loaders_among shows all (Loader r ∷ rows) = map.insert (loaders_among shows all rows) r.name (classes_of shows r.number all)
+loaders_among shows all (Class r c ∷ rows) = loaders_among shows all rows
+
+-- the map of rows: each loader's name, to its classes by name
+abbrev pub state_of : {A : Type 0} → Shows A → List (Row A) → Loaders A
+state_of shows rows = loaders_among shows rows rows

@@ -1,0 +1,69 @@
+-- One step of the cache: what a change makes of its state, or the first cause against it. Only what the cache holds is spoken
+-- of, no chunks, journal or offsets; and of a class only what it shows, so that one definition serves classes and records.
+use Rattle.std.specs.Prelude.{ℕ, ◌^◌, ◌==◌, Bool, not, nat_lt, nat_le, if◌then◌else◌, List, is_some, unwrap_or, Result, Ok, Err}
+use Rattle.std.specs.FinMap as map
+use Rattle.cm_pool.specs.Geometry.{Sizes}
+use Rattle.cm_pool.specs.Chunks.{chunk_size}
+use Rattle.cm_layout.specs.Names.{is_loader_name}
+use Rattle.cm_layout.specs.Rules.{row_limit}
+use Rattle.cm_state.specs.State.{Loaders, Shows, class_in, size}
+
+-- a change that is asked for, of the loader of a name
+pub data Change (A : Type 0) : Type 0 where
+  AddLoader : List ℕ → Change A
+  Define : List ℕ → A → Change A
+  Unload : List ℕ → Change A
+  Tighten : List ℕ → Change A
+
+-- why it isn't made
+pub data Cause : Type 0 where
+  BadName : Cause
+  NumbersSpent : Cause
+  LoaderExists : Cause
+  NoLoader : Cause
+  ClassExists : Cause
+  RecordTooLong : Cause
+  JournalFull : Cause
+
+-- the last number that a command may have
+abbrev pub last_number : ℕ
+last_number = 2 ^ 63
+
+-- half of a half's slots are for what lives
+abbrev pub is_full : {A : Type 0} → Sizes → Loaders A → Bool
+is_full sizes m = nat_le (row_limit sizes) (size m)
+
+-- a loader without classes more
+abbrev pub with_loader : {A : Type 0} → Loaders A → List ℕ → Loaders A
+with_loader m x = map.insert m x map.empty
+
+-- a class more, under its name
+abbrev pub with_class : {A : Type 0} → Shows A → Loaders A → List ℕ → A → Loaders A
+with_class shows m x c = map.insert m x (map.insert (unwrap_or (map.get m x) map.empty) (shows.name c) c)
+
+-- the first cause that applies, or the next state; n is the number of the last change
+abbrev pub step : {A : Type 0} → Shows A → Sizes → Loaders A → ℕ → Change A → Result (Loaders A) Cause
+step shows sizes m n (AddLoader x) =
+    if not (is_loader_name x) then Err BadName
+    else if n == last_number then Err NumbersSpent
+    else if is_some (map.get m x) then Err LoaderExists
+    else if is_full sizes m then Err JournalFull
+    else Ok (with_loader m x)
+step shows sizes m n (Define x c) =
+    if not (is_loader_name x) then Err BadName
+    else if n == last_number then Err NumbersSpent
+    else if not (is_some (map.get m x)) then Err NoLoader
+    else if is_some (class_in m x (shows.name c)) then Err ClassExists
+    else if nat_lt (chunk_size sizes.top) (shows.words c) then Err RecordTooLong
+    else if is_full sizes m then Err JournalFull
+    else Ok (with_class shows m x c)
+step shows sizes m n (Unload x) =
+    if not (is_loader_name x) then Err BadName
+    else if n == last_number then Err NumbersSpent
+    else if not (is_some (map.get m x)) then Err NoLoader
+    else Ok (map.remove m x)
+step shows sizes m n (Tighten x) =
+    if not (is_loader_name x) then Err BadName
+    else if n == last_number then Err NumbersSpent
+    else if not (is_some (map.get m x)) then Err NoLoader
+    else Ok m

@@ -1,0 +1,6 @@
+//! The cache without chunks, journal or offsets: its state, its steps, and which contents stand for which state.
+#![tactic(auto)]
+
+mod laws;
+
+pub use laws::changes_go_on;
