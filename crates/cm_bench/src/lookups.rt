@@ -55,6 +55,10 @@ impl Tally {
     }
 }
 
+/// Of how many members of a class each is looked for, at most. A look-up goes over the members before it, so that of
+/// 65,535 fields would take minutes.
+const MOST_MEMBERS: usize = 1_000;
+
 /// The signatures of members.
 fn signatures(
     alloc: Global,
@@ -62,7 +66,7 @@ fn signatures(
     members: &[ClassMember],
 ) -> Result<Vec<Signature>, AllocError> {
     let mut all = Vec::new(alloc);
-    for member in members {
+    for member in members.iter().take(MOST_MEMBERS) {
         all.push(Signature {
             name: class.utf8(member.name).to_vec(alloc)?,
             descriptor: class.utf8(member.descriptor).to_vec(alloc)?,

@@ -14,6 +14,7 @@ pub mod Skips
 pub mod Constants
 pub mod RunPlaces
 pub mod RunBytes
+pub mod Orders
 pub mod RunTests
 pub mod MemberPlaces
 pub mod AttributePlaces

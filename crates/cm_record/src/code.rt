@@ -31,7 +31,7 @@ pub struct Code {
 const CODE: [u8; 4] = *b"Code";
 
 /// A byte of the run that begins at a word.
-fn byte_at(words: &[u64], at: usize, i: usize) -> u8
+pub(crate) fn byte_at(words: &[u64], at: usize, i: usize) -> u8
     requires there { at + i / 8 < length words.now }
     requires small { at + i < 2 ^ 63 }
     ensures { result ≡ get_or (word_bytes_of (get_or words.now (at + i / 8) 0)) (i % 8) 0 }

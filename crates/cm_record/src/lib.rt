@@ -9,6 +9,7 @@ mod entry;
 mod laws;
 mod member;
 mod names;
+mod order;
 mod packing;
 mod parts;
 mod places;

@@ -7,6 +7,8 @@ ghost use Rattle.cm_class.specs.Spelling.{HasSpelling};
 ghost use Rattle.cm_record.specs.Packing.{word_bytes, packed_into};
 ghost use Rattle.cm_record.specs.Names.{class_name_of, super_name_of};
 ghost use Rattle.cm_record.specs.Layout.{lay, record_len, limit, IsRecord, IsRecordOf};
+ghost use Rattle.std.specs.Ordering.{nat_cmp};
+ghost use Rattle.std.specs.Cmp.Lexicographic.{slice_cmp};
 ghost use Rattle.cm_record.specs.Constants.{constant_kept};
 ghost use Rattle.cm_record.specs.Members.{FindsMember};
 ghost use Rattle.cm_record.specs.Code.{HasCode, HasNoCode, code_in, run_place};
@@ -21,6 +23,7 @@ use crate::constant::{Constant, constant_at_index};
 use crate::entry::{first, second, third};
 use crate::member::{Member, find_member, member_at};
 use crate::names::{is_same_run, name_run, run_bytes};
+use crate::order::{cmp_run_to, cmp_runs};
 use crate::packing::{push_words, write_words};
 use crate::parts::{push_attributes_and_runs, push_head, push_pool_and_members};
 use crate::places::Places;
@@ -29,6 +32,7 @@ use crate::whole::read_class;
 use cm_class::Class;
 use cm_words::WordBuf;
 use std::alloc::{AllocError, Global};
+use std::cmp::Ordering;
 use std::marker::Model;
 
 /// A class as words. Contracts see the list of its words, which are the layout of one class.
@@ -219,6 +223,24 @@ impl Record {
             return None;
         };
         code_in_run(words, attribute_run(words, at + 2 * found))
+    }
+
+    /// The order of its class's name and of that of another record's class, by their bytes.
+    pub fn cmp_name(&self, other: &Record) -> Ordering
+        ensures { (c d : ClassFile) → IsRecordOf c self.now → IsRecordOf d other.now
+            → result ≡ slice_cmp nat_cmp (class_name_of c) (class_name_of d) }
+    {
+        let (words, others) = (self.as_slice(), other.as_slice());
+        let name = name_run(words, second(words[1]));
+        cmp_runs(words, name, others, name_run(others, second(others[1])))
+    }
+
+    /// The order of its class's name and of these bytes.
+    pub fn cmp_name_to(&self, name: &[u8]) -> Ordering
+        ensures { (c : ClassFile) → IsRecordOf c self.now → result ≡ slice_cmp nat_cmp (class_name_of c) name.now }
+    {
+        let words = self.as_slice();
+        cmp_run_to(words, name_run(words, second(words[1])), name)
     }
 
     /// Whether the class of another record has the same name.

@@ -2,6 +2,7 @@
 use crate::samples::{ALL_TAGS, CLASS_A, POOL_END, record_bytes, record_of};
 use cm_record::{Code, Constant, Member, Record};
 use std::alloc::Global;
+use std::cmp::Ordering;
 use std::test::Fail;
 
 // The constants of the class with all tags, by their indexes; its first run begins at word 39.
@@ -220,5 +221,40 @@ fn names_are_compared(rt: HostRuntime) -> Result<(), Fail> {
         bytes[42] = this_class;
         assert_eq!(rt; one.same_name(&record_of(alloc, &bytes)?), same);
     }
+    Ok(())
+}
+
+// Class A with another letter as its name.
+fn with_name(alloc: Global, letter: u8) -> Result<Record, Fail> {
+    let mut bytes = CLASS_A;
+    bytes[16] = letter;
+    record_of(alloc, &bytes)
+}
+
+#[test]
+fn names_are_ordered_by_their_bytes(rt: HostRuntime) -> Result<(), Fail> {
+    let alloc = rt.alloc();
+    let (one, two) = (with_name(alloc, b'B')?, with_name(alloc, 0xc3)?);
+    assert_eq!(rt; one.cmp_name(&two), Ordering::Less);
+    assert_eq!(rt; two.cmp_name(&one), Ordering::Greater);
+    assert_eq!(rt; one.cmp_name(&with_name(alloc, b'B')?), Ordering::Equal);
+    let names = [
+        (b"A".as_slice(), Ordering::Greater),
+        (b"", Ordering::Greater),
+        (b"B", Ordering::Equal),
+        (b"BA", Ordering::Less),
+        (b"C", Ordering::Less),
+    ];
+    for (name, order) in names {
+        assert_eq!(rt; one.cmp_name_to(name), order);
+    }
+    let record = record_of(alloc, &ALL_TAGS)?;
+    let nine = [1, 2, 3, 4, 5, 6, 7, 8, 9];
+    assert_eq!(rt; record.cmp_name_to(&nine), Ordering::Equal);
+    assert_eq!(rt; record.cmp_name_to(&nine[..8]), Ordering::Greater);
+    assert_eq!(rt;
+        record.cmp_name_to(&[1, 2, 3, 4, 5, 6, 7, 8, 10]),
+        Ordering::Less
+    );
     Ok(())
 }
