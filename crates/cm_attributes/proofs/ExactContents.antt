@@ -2,10 +2,12 @@
 use Rattle.std.proofs.Common.{◌≡◌, ◌⊎◌, inl, inr, ℕ, ◌<◌, ◌≤◌, Bool, true, false, cond, List, [], ◌∷◌, ◌++◌, length, take, drop, Option, Some, None, refl, sym, ap, subst, ◌∙◌, append_assoc, eq-eqb, arith}
 use Rattle.std.specs.Prelude.{if◌then◌else◌, nat_lt, nat_le, ◌&&◌, ◌||◌, ◌==◌}
 use Rattle.std.specs.List.{flat_map}
+use Rattle.std.specs.Option.{option_map_or}
 use Rattle.std.proofs.lemmas.Bool.{eqb-true, ltb-true, ltb-false, lt-ltb, le-ltb, leb-true, le-leb}
 use Rattle.std.proofs.lemmas.List.{append-nil, drop_at, take-append-drop, length-append, length-take}
 use Rattle.cm_class.specs.Spelling.{u2, u4, IsU2, IsU4, AreBytes}
 use Rattle.cm_class.specs.Names.{names}
+use Rattle.cm_class.specs.declared.kind.Kind.{Kind}
 use Rattle.cm_class.specs.declared.kind.Kind.TheVariants as kinds
 use Rattle.cm_class.specs.declared.class_file.ClassFile.{ClassFile}
 use Rattle.cm_attributes.specs.declared.known.Known.{Known}
@@ -13,8 +15,8 @@ use Rattle.cm_attributes.specs.declared.known.Known.TheVariants as known
 use Rattle.cm_attributes.specs.declared.part.Part.{Part}
 use Rattle.cm_attributes.specs.declared.part.Part.TheVariants.{Any, Names, ZeroOr, Loadable}
 use Rattle.cm_attributes.specs.declared.code.Handler.{Handler}
-use Rattle.cm_attributes.specs.Contents.{◌>>=◌, u2_of, u4_of, past, passes, past_parts, past_counted, handler_of, is_handler, past_handler, past_attribute, code_of, past_code, past_bootstrap_method, is_content, one_utf8, exception, enclosing_method, inner_class}
-use Rattle.cm_attributes.specs.Parts.{Pass, IsRow, AreCounted, IsHandler, IsAttribute, IsCode, IsBootstrapMethod, IsContent}
+use Rattle.cm_attributes.specs.Contents.{◌>>=◌, u2_of, u4_of, past, passes, past_parts, past_counted, handler_of, is_handler, past_handler, past_attribute, code_of, past_code, past_bootstrap_method, is_content, one_utf8, exception, enclosing_method, inner_class, is_row, value_kind, is_value_of}
+use Rattle.cm_attributes.specs.Parts.{Pass, IsRow, AreCounted, IsHandler, IsAttribute, IsCode, IsBootstrapMethod, IsContent, IsValueOf}
 use Rattle.cm_attributes.proofs.Exact.{Exact, bound, tested, are_rest, Both, exact_both, exact_as, whole_found, whole_again, u2_found, u2_again, u4_found, u4_again, exact_row, exact_counted}
 
 -- ---- tests
@@ -72,6 +74,16 @@ record Handles (bytes : List ℕ) (x : Handler × List ℕ) : Type 0 where
 abbrev made : ℕ → ℕ → ℕ → ℕ × List ℕ → Handler × List ℕ
 made start end handler catch = (record { start = start; end = end; handler = handler; catch = catch.0 }, catch.1)
 
+-- four numbers, each in front of what is left
+four_parts : (a b c d : ℕ) (bytes p q r rest : List ℕ) → bytes ≡ u2 a ++ p → p ≡ u2 b ++ q → q ≡ u2 c ++ r → r ≡ u2 d ++ rest
+    → bytes ≡ u2 a ++ (u2 b ++ (u2 c ++ (u2 d ++ rest)))
+four_parts a b c d bytes p q r rest e f g h =
+    e ∙ ap (λ (l : List ℕ). u2 a ++ l) (f ∙ ap (λ (l : List ℕ). u2 b ++ l) (g ∙ ap (λ (l : List ℕ). u2 c ++ l) h))
+
+handles : (bytes : List ℕ) (start end handler : ℕ) (catch : ℕ × List ℕ) (x : Handler × List ℕ) → made start end handler catch ≡ x → IsU2 start × IsU2 end × IsU2 handler × IsU2 catch.0
+    → bytes ≡ u2 start ++ (u2 end ++ (u2 handler ++ (u2 catch.0 ++ catch.1))) → Handles bytes x
+handles bytes start end handler catch x same fits parts = subst (λ (y : Handler × List ℕ). Handles bytes y) same (record { fits = fits; parts = parts })
+
 handler_found : (bytes : List ℕ) (x : Handler × List ℕ) → AreBytes bytes → handler_of bytes ≡ Some x → Handles bytes x
 handler_found bytes x are e =
     let a = bound (u2_of bytes) (λ start. u2_of start.1 >>= λ end. u2_of end.1 >>= λ handler. u2_of handler.1 >>= λ catch. Some (made start.0 end.0 handler.0 catch)) x e in
@@ -86,9 +98,8 @@ handler_found bytes x are e =
     let d = bound (u2_of c.value.1) (λ catch. Some (made a.value.0 b.value.0 c.value.0 catch)) x c.next in
     let catch = u2_found c.value.1 d.value are_c d.first in
     let same : made a.value.0 b.value.0 c.value.0 d.value ≡ x = cc in
-    let parts : bytes ≡ u2 a.value.0 ++ (u2 b.value.0 ++ (u2 c.value.0 ++ (u2 d.value.0 ++ d.value.1))) =
-    start.1 ∙ ap (λ (l : List ℕ). u2 a.value.0 ++ l) (end.1 ∙ ap (λ (l : List ℕ). u2 b.value.0 ++ l) (handler.1 ∙ ap (λ (l : List ℕ). u2 c.value.0 ++ l) catch.1)) in
-    subst (λ (y : Handler × List ℕ). Handles bytes y) same (record { fits = (start.0, end.0, handler.0, catch.0); parts = parts })
+    handles bytes a.value.0 b.value.0 c.value.0 d.value x same (start.0, end.0, handler.0, catch.0)
+    (four_parts a.value.0 b.value.0 c.value.0 d.value.0 bytes a.value.1 b.value.1 c.value.1 d.value.1 start.1 end.1 handler.1 catch.1)
 
 handler_again : (start end handler catch : ℕ) (rest : List ℕ) → IsU2 start → IsU2 end → IsU2 handler → IsU2 catch
     → handler_of (u2 start ++ (u2 end ++ (u2 handler ++ (u2 catch ++ rest)))) ≡ Some (made start end handler (catch, rest))
@@ -373,3 +384,17 @@ module _ (c : ClassFile) where
   parts_are_content known.InnerClasses = whole_again (past_counted (past_parts c inner_class)) (AreCounted (IsRow c inner_class)) (exact_rows inner_class)
   parts_are_content known.BootstrapMethods =
       whole_again (past_counted (past_bootstrap_method c)) (AreCounted (IsBootstrapMethod c)) (exact_counted (past_bootstrap_method c) (IsBootstrapMethod c) exact_bootstrap_method)
+
+  -- ---- values
+
+  pub value_has_part : (descriptor bytes : List ℕ) → AreBytes bytes → is_value_of c descriptor bytes ≡ true → IsValueOf c descriptor bytes
+  value_has_part descriptor bytes are e = of (value_kind descriptor) refl e
+    where
+      of : (found : Option Kind) → value_kind descriptor ≡ found → option_map_or (λ kind. is_row c (Names kind ∷ []) bytes) found false ≡ true → IsValueOf c descriptor bytes
+      of None is f = absurd cc
+      of (Some kind) is f = (kind, is, whole_found (past_parts c (Names kind ∷ [])) (IsRow c (Names kind ∷ [])) (exact_row c (Names kind ∷ [])) bytes are f)
+
+  pub part_is_value : (descriptor bytes : List ℕ) → IsValueOf c descriptor bytes → is_value_of c descriptor bytes ≡ true
+  part_is_value descriptor bytes h =
+      ap (λ (o : Option Kind). option_map_or (λ kind. is_row c (Names kind ∷ []) bytes) o false) h.1
+      ∙ whole_again (past_parts c (Names h.0 ∷ [])) (IsRow c (Names h.0 ∷ [])) (exact_row c (Names h.0 ∷ [])) bytes h.2

@@ -1,16 +1,17 @@
 -- What the content of each attribute is, as JVMS SE 8, section 4.7, lists it: numbers one behind the other,
 -- and rows behind their count.
-use Rattle.std.specs.Prelude.{◌≡◌, ◌⊎◌, ℕ, ◌<◌, ◌≤◌, true, List, [], ◌∷◌, ◌++◌, length}
+use Rattle.std.specs.Prelude.{◌≡◌, ◌⊎◌, ℕ, ◌<◌, ◌≤◌, true, List, [], ◌∷◌, ◌++◌, length, Some}
 use Rattle.std.specs.List.{flat_map, AllByRecursion}
 use Rattle.cm_class.specs.Spelling.{u2, u4, IsU2, IsU4, counted}
 use Rattle.cm_class.specs.Names.{names}
+use Rattle.cm_class.specs.declared.kind.Kind.{Kind}
 use Rattle.cm_class.specs.declared.kind.Kind.TheVariants as kinds
 use Rattle.cm_class.specs.declared.class_file.ClassFile.{ClassFile}
 use Rattle.cm_attributes.specs.declared.known.Known.{Known}
 use Rattle.cm_attributes.specs.declared.known.Known.TheVariants as known
 use Rattle.cm_attributes.specs.declared.part.Part.{Part}
 use Rattle.cm_attributes.specs.declared.part.Part.TheVariants.{Any, Names, Loadable}
-use Rattle.cm_attributes.specs.Contents.{passes, one_utf8, exception, enclosing_method, inner_class}
+use Rattle.cm_attributes.specs.Contents.{passes, value_kind, one_utf8, exception, enclosing_method, inner_class}
 
 -- there is one number for each part, and it passes the part's test
 abbrev pub Pass : ClassFile → List Part → List ℕ → Type 0
@@ -88,3 +89,7 @@ IsContent c known.SourceFile bytes = IsRow c one_utf8 bytes
 IsContent c known.EnclosingMethod bytes = IsRow c enclosing_method bytes
 IsContent c known.InnerClasses bytes = AreCounted (IsRow c inner_class) bytes
 IsContent c known.BootstrapMethods bytes = AreCounted (IsBootstrapMethod c) bytes
+
+-- the index of a constant of the kind that a field of this descriptor may have (JVMS 4.7.2)
+abbrev pub IsValueOf : ClassFile → List ℕ → List ℕ → Type 0
+IsValueOf c descriptor bytes = (kind : Kind) × (value_kind descriptor ≡ Some kind) × IsRow c (Names kind ∷ []) bytes

@@ -3,13 +3,23 @@ ghost use Rattle.std.specs.Prelude.{◌≡◌, ℕ, List, true};
 ghost use Rattle.cm_class.specs.declared.class_file.ClassFile.{ClassFile};
 ghost use Rattle.cm_class.specs.Spelling.{AreBytes};
 ghost use Rattle.cm_attributes.specs.declared.known.Known.{Known};
-ghost use Rattle.cm_attributes.specs.Contents.{is_content};
-ghost use Rattle.cm_attributes.specs.Parts.{IsContent};
+ghost use Rattle.cm_attributes.specs.Contents.{is_content, is_value_of};
+ghost use Rattle.cm_attributes.specs.Parts.{IsContent, IsValueOf};
 
 /// The bytes that are taken for an attribute's content are the listed parts, one behind the other, each
 /// of which passes its test, and nothing else; and all such bytes are taken.
 pub fn content_is_its_parts()
     ensures parts { (c : ClassFile) (which : Known) (bytes : List ℕ) → AreBytes bytes
         → is_content c which bytes ≡ true → IsContent c which bytes }
-    ensures all { (c : ClassFile) (which : Known) (bytes : List ℕ) → IsContent c which bytes → is_content c which bytes ≡ true }
+    ensures all { (c : ClassFile) (which : Known) (bytes : List ℕ)
+        → IsContent c which bytes → is_content c which bytes ≡ true }
+{}
+
+/// The bytes that are taken for the value of a field of a descriptor are the index of a constant of its
+/// kind, and nothing else; and all such bytes are taken.
+pub fn value_is_its_part()
+    ensures part { (c : ClassFile) (descriptor bytes : List ℕ) → AreBytes bytes
+        → is_value_of c descriptor bytes ≡ true → IsValueOf c descriptor bytes }
+    ensures all { (c : ClassFile) (descriptor bytes : List ℕ)
+        → IsValueOf c descriptor bytes → is_value_of c descriptor bytes ≡ true }
 {}

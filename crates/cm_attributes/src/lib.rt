@@ -12,4 +12,4 @@ mod part;
 pub use bootstrap::bootstrap_count;
 pub use contents::{is_content, is_value_of};
 pub use known::{Known, count, first_place, is_known};
-pub use laws::content_is_its_parts;
+pub use laws::{content_is_its_parts, value_is_its_part};
