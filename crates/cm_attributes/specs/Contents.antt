@@ -1,5 +1,6 @@
--- The contents of attributes (JVMS SE 8, section 4.7), as far as they are looked into: each is a list of
--- parts. What that says of all of the bytes is a law above these definitions (`specs/Parts.antt`).
+-- The contents of attributes (JVMS SE 8, section 4.7), as far as they are looked into: each is a
+-- list of parts. What that says of all of the bytes is a law above these definitions
+-- (`specs/Parts.antt`).
 use Rattle.std.specs.Prelude.{ℕ, zero, suc, ◌+◌, ◌*◌, Bool, true, false, ◌&&◌, ◌||◌, List, [], ◌∷◌, length, drop, Option, Some, None, option_and_then, slice_get, nat_lt, nat_le, ◌==◌, if◌then◌else◌, bytes_eq, codes}
 use Rattle.std.specs.Option.{option_map_or}
 use Rattle.cm_class.specs.Names.{names, names_such}
@@ -109,27 +110,34 @@ value_kind descriptor =
     if bytes_eq descriptor (codes "J") then Some kinds.Long
     else if bytes_eq descriptor (codes "F") then Some kinds.Float
     else if bytes_eq descriptor (codes "D") then Some kinds.Double
-    else if bytes_eq descriptor (codes "I") || bytes_eq descriptor (codes "S") || bytes_eq descriptor (codes "C") || bytes_eq descriptor (codes "B") || bytes_eq descriptor (codes "Z") then Some kinds.Integer
+    else if bytes_eq descriptor (codes "I") || bytes_eq descriptor (codes "S")
+    || bytes_eq descriptor (codes "C") || bytes_eq descriptor (codes "B") || bytes_eq descriptor (codes "Z")
+    then Some kinds.Integer
     else if bytes_eq descriptor (codes "Ljava/lang/String;") then Some kinds.String
     else None
 
 -- the index of a constant that a field of this descriptor may have
 abbrev pub is_value_of : ClassFile → List ℕ → List ℕ → Bool
-is_value_of c descriptor bytes = option_map_or (λ kind. is_row c (Names kind ∷ []) bytes) (value_kind descriptor) false
+is_value_of c descriptor bytes =
+    option_map_or (λ kind. is_row c (Names kind ∷ []) bytes) (value_kind descriptor) false
 
 -- ---- Code (JVMS 4.7.3)
 
 abbrev pub handler_of : List ℕ → Option (Handler × List ℕ)
 handler_of bytes =
-    u2_of bytes >>= λ start. u2_of start.1 >>= λ end. u2_of end.1 >>= λ handler. u2_of handler.1 >>= λ catch.
+    u2_of bytes >>= λ start. u2_of start.1 >>= λ end.
+    u2_of end.1 >>= λ handler. u2_of handler.1 >>= λ catch.
     Some (record { start = start.0; end = end.0; handler = handler.0; catch = catch.0 }, catch.1)
 
--- in a code of so many bytes: it guards some of them, it lies in them, and it catches a class or all
+-- in a code of so many bytes: it guards some of them, lies in them, and catches a class or all
 abbrev pub is_handler : ClassFile → ℕ → Handler → Bool
-is_handler c size h = nat_lt h.start h.end && nat_le h.end size && nat_lt h.handler size && passes c (ZeroOr kinds.Class) h.catch
+is_handler c size h =
+    nat_lt h.start h.end && nat_le h.end size && nat_lt h.handler size
+    && passes c (ZeroOr kinds.Class) h.catch
 
 abbrev pub past_handler : ClassFile → ℕ → List ℕ → Option (List ℕ)
-past_handler c size bytes = handler_of bytes >>= λ h. if is_handler c size h.0 then Some h.1 else None
+past_handler c size bytes =
+    handler_of bytes >>= λ h. if is_handler c size h.0 then Some h.1 else None
 
 -- the index of a Utf8, a length and that many bytes
 abbrev pub past_attribute : ClassFile → List ℕ → Option (List ℕ)
@@ -138,7 +146,9 @@ past_attribute c bytes = past_parts c one_utf8 bytes >>= λ rest. u4_of rest >>=
 -- the code's bytes, 1 to 65,535 of them, and how many
 unfoldable pub code_of : List ℕ → Option (ℕ × List ℕ)
 code_of bytes =
-    u4_of bytes >>= λ size. if nat_lt 0 size.0 && nat_le size.0 65535 then (past size.0 size.1 >>= λ rest. Some (size.0, rest)) else None
+    u4_of bytes >>= λ size.
+    if nat_lt 0 size.0 && nat_le size.0 65535
+    then (past size.0 size.1 >>= λ rest. Some (size.0, rest)) else None
 
 -- stack, locals, code, handlers and attributes
 abbrev pub past_code : ClassFile → List ℕ → Option (List ℕ)
@@ -150,7 +160,9 @@ past_code c bytes =
 
 -- a method handle, a count and that many arguments
 abbrev pub past_bootstrap_method : ClassFile → List ℕ → Option (List ℕ)
-past_bootstrap_method c bytes = past_parts c (Names kinds.MethodHandle ∷ []) bytes >>= λ rest. past_counted (past_parts c (Loadable ∷ [])) rest
+past_bootstrap_method c bytes =
+    past_parts c (Names kinds.MethodHandle ∷ []) bytes
+    >>= λ rest. past_counted (past_parts c (Loadable ∷ [])) rest
 
 -- ---- contents
 
@@ -168,8 +180,11 @@ is_content c known.BootstrapMethods bytes = is_whole (past_counted (past_bootstr
 
 -- how many bootstrap methods the content tells; none, where it isn't one
 abbrev pub told_count : ClassFile → Attribute → ℕ
-told_count c a = if is_content c known.BootstrapMethods a.bytes then option_map_or (λ n. n.0) (u2_of a.bytes) 0 else 0
+told_count c a =
+    if is_content c known.BootstrapMethods a.bytes
+    then option_map_or (λ n. n.0) (u2_of a.bytes) 0 else 0
 
 -- of the first such attribute of the class
 unfoldable pub bootstrap_count : ClassFile → ℕ
-bootstrap_count c = option_map_or (told_count c) (slice_get c.attributes (first_place c known.BootstrapMethods)) 0
+bootstrap_count c =
+    option_map_or (told_count c) (slice_get c.attributes (first_place c known.BootstrapMethods)) 0

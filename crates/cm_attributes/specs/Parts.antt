@@ -1,5 +1,5 @@
--- What the content of each attribute is, as JVMS SE 8, section 4.7, lists it: numbers one behind the other,
--- and rows behind their count.
+-- What the content of each attribute is, as JVMS SE 8, section 4.7, lists it: numbers one behind
+-- the other, and rows behind their count.
 use Rattle.std.specs.Prelude.{◌≡◌, ◌⊎◌, ℕ, ◌<◌, ◌≤◌, true, List, [], ◌∷◌, ◌++◌, length, Some}
 use Rattle.std.specs.List.{flat_map, AllByRecursion}
 use Rattle.cm_class.specs.Spelling.{u2, u4, IsU2, IsU4, counted}
@@ -65,7 +65,8 @@ pub record IsCode (c : ClassFile) (bytes : List ℕ) : Type 0 where
   pub most : length code ≤ 65535
   pub are_handlers : AreCounted (IsHandler c (length code)) handlers
   pub are_attributes : AreCounted (IsAttribute c) attributes
-  pub spelled : bytes ≡ u2 stack ++ (u2 locals ++ (u4 (length code) ++ (code ++ (handlers ++ attributes))))
+  pub spelled :
+      bytes ≡ u2 stack ++ (u2 locals ++ (u4 (length code) ++ (code ++ (handlers ++ attributes))))
 
 -- ---- BootstrapMethods (JVMS 4.7.23)
 
@@ -92,4 +93,5 @@ IsContent c known.BootstrapMethods bytes = AreCounted (IsBootstrapMethod c) byte
 
 -- the index of a constant of the kind that a field of this descriptor may have (JVMS 4.7.2)
 abbrev pub IsValueOf : ClassFile → List ℕ → List ℕ → Type 0
-IsValueOf c descriptor bytes = (kind : Kind) × (value_kind descriptor ≡ Some kind) × IsRow c (Names kind ∷ []) bytes
+IsValueOf c descriptor bytes =
+    (kind : Kind) × (value_kind descriptor ≡ Some kind) × IsRow c (Names kind ∷ []) bytes

@@ -40,8 +40,8 @@ fn told_count(class: &Class, attribute: &Attribute) -> u16
     }
 }
 
-/// How many bootstrap methods the class has: those of its first such attribute; none, where its content
-/// is none.
+/// How many bootstrap methods the class has: those of its first such attribute; none, where its
+/// content is none.
 #[tactic(auto, unfolding(crate::specs::Contents::bootstrap_count))]
 pub fn bootstrap_count(class: &Class) -> u16
     ensures { result ≡ bootstrap_count class.now }

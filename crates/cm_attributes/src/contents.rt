@@ -26,8 +26,8 @@ const INNER_CLASS: [Part; 4] = [
     Part::Any,
 ];
 
-/// Whether the bytes are a content of this attribute, and nothing else. Of a ConstantValue it isn't asked
-/// which constant it names.
+/// Whether the bytes are a content of this attribute, and nothing else. Of a ConstantValue it isn't
+/// asked which constant it names.
 #[tactic(auto, unfolding(crate::specs::Contents::is_content))]
 pub fn is_content(class: &Class, known: Known, bytes: &[u8]) -> bool
     ensures { result ≡ is_content class.now known bytes.now }
@@ -69,8 +69,8 @@ fn value_kind(descriptor: &[u8]) -> Option<Kind>
     }
 }
 
-/// Whether the bytes are the index of a constant that a field of this descriptor may have, and nothing
-/// else (JVMS 4.7.2).
+/// Whether the bytes are the index of a constant that a field of this descriptor may have, and
+/// nothing else (JVMS 4.7.2).
 pub fn is_value_of(class: &Class, descriptor: &[u8], bytes: &[u8]) -> bool
     ensures { result ≡ is_value_of class.now descriptor.now bytes.now }
 {

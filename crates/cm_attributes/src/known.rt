@@ -68,8 +68,8 @@ fn position_of(class: &Class, known: Known) -> Option<usize>
         .position(|attribute| is_known(class, known, attribute))
 }
 
-/// The first place among the attributes of the class itself where this one stands; their number, where
-/// it stands at none.
+/// The first place among the attributes of the class itself where this one stands; their number,
+/// where it stands at none.
 #[tactic(auto, unfolding(crate::specs::Names::first_place))]
 pub fn first_place(class: &Class, known: Known) -> usize
     ensures { result ≡ first_place class.now known }

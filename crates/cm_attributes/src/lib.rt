@@ -1,4 +1,5 @@
-//! The attributes of class files that are looked into, and which bytes are their contents (JVMS SE 8, 4.7).
+//! The attributes of class files that are looked into, and which bytes are their contents (JVMS SE
+//! 8, 4.7).
 #![tactic(auto)]
 
 mod bootstrap;

@@ -36,8 +36,8 @@ impl Class {
     ghost use Rattle.std.specs.Option.{option_map_or};
     ghost use Rattle.cm_class.specs.Names.{constant_named, names, utf8, names_utf8, class_name_index, class_name, name_index_at, descriptor_index_at, pair_index, reference_name};
 
-    /// The constant that an index of the pool names; none at 0, behind a Long or a Double, and past the
-    /// pool (JVMS 4.4).
+    /// The constant that an index of the pool names; none at 0, behind a Long or a Double, and past
+    /// the pool (JVMS 4.4).
     pub fn constant(&self, index: u16) -> Option<&Constant>
         ensures { option_copied result ≡ constant_named self.now index }
     {
@@ -87,16 +87,16 @@ impl Class {
         }
     }
 
-    /// The name of the class that an index names: the bytes of the Utf8 that it leads to; none where it
-    /// leads to no Utf8 (JVMS 4.4.1).
+    /// The name of the class that an index names: the bytes of the Utf8 that it leads to; none
+    /// where it leads to no Utf8 (JVMS 4.4.1).
     pub fn class_name(&self, index: u16) -> &[u8]
         ensures { result.now ≡ class_name self.now index }
     {
         self.utf8(self.class_name_index(index))
     }
 
-    /// The indexes of the name and of the descriptor in the NameAndType that an index names; both 0 where
-    /// it names none (JVMS 4.4.6).
+    /// The indexes of the name and of the descriptor in the NameAndType that an index names; both 0
+    /// where it names none (JVMS 4.4.6).
     pub fn name_and_type(&self, index: u16) -> (u16, u16)
         ensures name { result.0 ≡ name_index_at self.now index }
         ensures descriptor { result.1 ≡ descriptor_index_at self.now index }
@@ -121,8 +121,8 @@ impl Class {
         }
     }
 
-    /// The name of the field or method to which the reference at an index refers; no bytes where there
-    /// is none (JVMS 4.4.2).
+    /// The name of the field or method to which the reference at an index refers; no bytes where
+    /// there is none (JVMS 4.4.2).
     pub fn reference_name(&self, index: u16) -> &[u8]
         ensures { result.now ≡ reference_name self.now index }
     {

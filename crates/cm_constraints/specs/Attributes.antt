@@ -13,7 +13,8 @@ use Rattle.cm_constraints.specs.Flags.{acc_static, has, implies}
 
 -- where an attribute is one of these by its name, it has that one's content
 abbrev pub has_content_of : ClassFile → List Known → Attribute → Bool
-has_content_of c among a = list_all (λ which. implies (is_known c which a) (is_content c which a.bytes)) among
+has_content_of c among a =
+    list_all (λ which. implies (is_known c which a) (is_content c which a.bytes)) among
 
 -- ---- of members
 
@@ -25,18 +26,23 @@ of_method = known.Exceptions ∷ known.Signature ∷ known.Synthetic ∷ known.D
 
 -- each ConstantValue is a value of this descriptor's type (JVMS 4.7.2)
 abbrev pub are_values_of : ClassFile → List ℕ → List Attribute → Bool
-are_values_of c descriptor attributes = list_all (λ a. is_value_of c descriptor a.bytes) (with_name c known.ConstantValue attributes)
+are_values_of c descriptor attributes =
+    list_all (λ a. is_value_of c descriptor a.bytes) (with_name c known.ConstantValue attributes)
 
 -- that of a static field is one of the field's
 abbrev pub values_agree : ClassFile → Member → Bool
-values_agree c m = not (has m.flags acc_static) || are_values_of c (utf8 c m.descriptor) m.attributes
+values_agree c m =
+    not (has m.flags acc_static) || are_values_of c (utf8 c m.descriptor) m.attributes
 
 abbrev pub field_attributes_are_right : ClassFile → Member → Bool
 field_attributes_are_right c m =
-    nat_le (count_of c known.ConstantValue m.attributes) 1 && list_all (has_content_of c of_field) m.attributes && values_agree c m
+    nat_le (count_of c known.ConstantValue m.attributes) 1
+    && list_all (has_content_of c of_field) m.attributes && values_agree c m
 
 abbrev pub method_attributes_are_right : ClassFile → Member → Bool
-method_attributes_are_right c m = nat_le (count_of c known.Exceptions m.attributes) 1 && list_all (has_content_of c of_method) m.attributes
+method_attributes_are_right c m =
+    nat_le (count_of c known.Exceptions m.attributes) 1
+    && list_all (has_content_of c of_method) m.attributes
 
 -- ---- of the class
 
@@ -44,14 +50,19 @@ abbrev pub once_in_class : List Known
 once_in_class = known.SourceFile ∷ known.EnclosingMethod ∷ known.InnerClasses ∷ []
 
 abbrev pub of_class : List Known
-of_class = known.SourceFile ∷ known.EnclosingMethod ∷ known.InnerClasses ∷ known.Signature ∷ known.Synthetic ∷ known.Deprecated ∷ []
+of_class =
+    known.SourceFile ∷ known.EnclosingMethod ∷ known.InnerClasses ∷ known.Signature
+    ∷ known.Synthetic ∷ known.Deprecated ∷ []
 
 -- an attribute at a place is none of these, or the first of its name
 abbrev pub is_first_of : ClassFile → List Known → ℕ → Attribute → Bool
-is_first_of c among i a = list_all (λ which. implies (is_known c which a) (nat_le i (first_place c which))) among
+is_first_of c among i a =
+    list_all (λ which. implies (is_known c which a) (nat_le i (first_place c which))) among
 
 abbrev pub class_attribute_is_right : ClassFile → ℕ → Attribute → Bool
 class_attribute_is_right c i a = is_first_of c once_in_class i a && has_content_of c of_class a
 
 abbrev pub bootstrap_attribute_is_right : ClassFile → ℕ → Attribute → Bool
-bootstrap_attribute_is_right c i a = is_first_of c (known.BootstrapMethods ∷ []) i a && has_content_of c (known.BootstrapMethods ∷ []) a
+bootstrap_attribute_is_right c i a =
+    is_first_of c (known.BootstrapMethods ∷ []) i a
+    && has_content_of c (known.BootstrapMethods ∷ []) a

@@ -1,5 +1,5 @@
--- What is asked of one constant of the pool (JVMS SE 8, sections 4.4.1 to 4.4.10). Each is read only where
--- those above it hold.
+-- What is asked of one constant of the pool (JVMS SE 8, sections 4.4.1 to 4.4.10). Each is read
+-- only where those above it hold.
 use Rattle.std.specs.Prelude.{ℕ, Bool, true, ◌&&◌, ◌||◌, not, ◌==◌, if◌then◌else◌, bytes_eq, nat_lt}
 use Rattle.cm_class.specs.declared.constant.Constant.{Constant}
 use Rattle.cm_class.specs.declared.constant.Constant.TheVariants as constant
@@ -22,7 +22,8 @@ utf8_has_form _ = true
 
 -- a reference to a member names a class, and a name with a descriptor
 abbrev pub names_member : ClassFile → ℕ → ℕ → Bool
-names_member c class name_and_type = names kinds.Class c class && names kinds.NameAndType c name_and_type
+names_member c class name_and_type =
+    names kinds.Class c class && names kinds.NameAndType c name_and_type
 
 -- each index names a constant of its kind (of method handles the next speaks)
 abbrev pub names_kinds : ClassFile → Constant → Bool
@@ -32,8 +33,10 @@ names_kinds c (constant.MethodType descriptor) = names kinds.Utf8 c descriptor
 names_kinds c (constant.Fieldref class name_and_type) = names_member c class name_and_type
 names_kinds c (constant.Methodref class name_and_type) = names_member c class name_and_type
 names_kinds c (constant.InterfaceMethodref class name_and_type) = names_member c class name_and_type
-names_kinds c (constant.NameAndType name descriptor) = names kinds.Utf8 c name && names kinds.Utf8 c descriptor
-names_kinds c (constant.InvokeDynamic bootstrap_method name_and_type) = names kinds.NameAndType c name_and_type
+names_kinds c (constant.NameAndType name descriptor) =
+    names kinds.Utf8 c name && names kinds.Utf8 c descriptor
+names_kinds c (constant.InvokeDynamic bootstrap_method name_and_type) =
+    names kinds.NameAndType c name_and_type
 names_kinds c _ = true
 
 -- what a method handle of each kind names (JVMS 4.4.8)
@@ -41,30 +44,38 @@ abbrev pub handle_names : ℕ → Constant → Bool
 handle_names kind target =
     if is_within 1 4 kind then is_kind kinds.Fieldref target
     else if kind == 5 || kind == 8 then is_kind kinds.Methodref target
-    else if kind == 6 || kind == 7 then is_kind kinds.Methodref target || is_kind kinds.InterfaceMethodref target
+    else if kind == 6 || kind == 7
+    then is_kind kinds.Methodref target || is_kind kinds.InterfaceMethodref target
     else kind == 9 && is_kind kinds.InterfaceMethodref target
 
 abbrev pub handle_has_kind : ClassFile → Constant → Bool
-handle_has_kind c (constant.MethodHandle kind reference) = names_such (handle_names kind) c reference
+handle_has_kind c (constant.MethodHandle kind reference) =
+    names_such (handle_names kind) c reference
 handle_has_kind c _ = true
 
 abbrev pub class_has_name : ClassFile → Constant → Bool
-class_has_name c (constant.Class name) = is_class_name (utf8 c name) || is_array_descriptor (utf8 c name)
+class_has_name c (constant.Class name) =
+    is_class_name (utf8 c name) || is_array_descriptor (utf8 c name)
 class_has_name c _ = true
 
 abbrev pub field_reference_is_formed : ClassFile → Constant → Bool
-field_reference_is_formed c (constant.Fieldref class pair) = is_unqualified_name (pair_name c pair) && is_field_descriptor (pair_descriptor c pair)
+field_reference_is_formed c (constant.Fieldref class pair) =
+    is_unqualified_name (pair_name c pair) && is_field_descriptor (pair_descriptor c pair)
 field_reference_is_formed c _ = true
 
 abbrev pub names_method : ClassFile → ℕ → Bool
-names_method c pair = is_method_name (pair_name c pair) && is_method_descriptor (pair_descriptor c pair)
+names_method c pair =
+    is_method_name (pair_name c pair) && is_method_descriptor (pair_descriptor c pair)
 
 -- Of the names that begin with `<` only `<init>` is called, and it returns nothing (JVMS 4.4.2).
 abbrev pub is_callable : ClassFile → ℕ → Bool
-is_callable c pair = not (begins_with less (pair_name c pair)) || (bytes_eq (pair_name c pair) init && ends_in_void (pair_descriptor c pair))
+is_callable c pair =
+    not (begins_with less (pair_name c pair))
+    || (bytes_eq (pair_name c pair) init && ends_in_void (pair_descriptor c pair))
 
 abbrev pub method_reference_is_formed : ClassFile → Constant → Bool
-method_reference_is_formed c (constant.Methodref class pair) = names_method c pair && is_callable c pair
+method_reference_is_formed c (constant.Methodref class pair) =
+    names_method c pair && is_callable c pair
 method_reference_is_formed c (constant.InterfaceMethodref class pair) = names_method c pair
 method_reference_is_formed c _ = true
 
@@ -80,10 +91,12 @@ method_type_is_formed c _ = true
 abbrev pub handle_has_name : ClassFile → Constant → Bool
 handle_has_name c (constant.MethodHandle kind reference) =
     if kind == 8 then bytes_eq (reference_name c reference) init
-    else is_within 1 4 kind || not (bytes_eq (reference_name c reference) init || bytes_eq (reference_name c reference) clinit)
+    else is_within 1 4 kind
+    || not (bytes_eq (reference_name c reference) init || bytes_eq (reference_name c reference) clinit)
 handle_has_name c _ = true
 
 -- a dynamic call names one of the bootstrap methods (JVMS 4.4.10, 4.7.23)
 abbrev pub dynamic_call_is_bound : ClassFile → Constant → Bool
-dynamic_call_is_bound c (constant.InvokeDynamic bootstrap_method name_and_type) = nat_lt bootstrap_method (bootstrap_count c)
+dynamic_call_is_bound c (constant.InvokeDynamic bootstrap_method name_and_type) =
+    nat_lt bootstrap_method (bootstrap_count c)
 dynamic_call_is_bound c _ = true

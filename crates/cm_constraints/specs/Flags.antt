@@ -67,7 +67,8 @@ one_if b = if b then 1 else 0
 
 -- how many of public, private and protected
 abbrev pub visibilities : ℕ → ℕ
-visibilities flags = one_if (has flags acc_public) + one_if (has flags acc_private) + one_if (has flags acc_protected)
+visibilities flags =
+    one_if (has flags acc_public) + one_if (has flags acc_private) + one_if (has flags acc_protected)
 
 -- ---- of a class (JVMS 4.1)
 
@@ -87,7 +88,8 @@ not_of_interface_field = acc_private + acc_protected + acc_volatile + acc_transi
 
 unfoldable pub interface_field_agrees : ℕ → Bool
 interface_field_agrees flags =
-    has flags acc_public && has flags acc_static && has flags acc_final && not (has flags not_of_interface_field)
+    has flags acc_public && has flags acc_static && has flags acc_final
+    && not (has flags not_of_interface_field)
 
 -- in a class of these flags
 unfoldable pub field_flags_agree : ℕ → ℕ → Bool
@@ -98,17 +100,20 @@ field_flags_agree of_class flags =
 -- ---- of a method (JVMS 4.6)
 
 abbrev pub not_with_abstract : ℕ
-not_with_abstract = acc_private + acc_static + acc_final + acc_synchronized + acc_native + acc_strict
+not_with_abstract =
+    acc_private + acc_static + acc_final + acc_synchronized + acc_native + acc_strict
 
 abbrev pub not_of_interface_method : ℕ
 not_of_interface_method = acc_protected + acc_final + acc_synchronized + acc_native
 
 abbrev pub not_of_constructor : ℕ
-not_of_constructor = acc_static + acc_final + acc_synchronized + acc_bridge + acc_native + acc_abstract
+not_of_constructor =
+    acc_static + acc_final + acc_synchronized + acc_bridge + acc_native + acc_abstract
 
 unfoldable pub interface_method_agrees : ℕ → Bool
 interface_method_agrees flags =
-    one_if (has flags acc_public) + one_if (has flags acc_private) == 1 && not (has flags not_of_interface_method)
+    one_if (has flags acc_public) + one_if (has flags acc_private) == 1
+    && not (has flags not_of_interface_method)
 
 -- in a class of these flags, of a constructor or of another method
 unfoldable pub method_flags_agree : ℕ → Bool → ℕ → Bool

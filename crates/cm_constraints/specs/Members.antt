@@ -1,5 +1,5 @@
--- What is asked of one field or method (JVMS SE 8, sections 4.5 and 4.6). Each is read only where those
--- above it hold.
+-- What is asked of one field or method (JVMS SE 8, sections 4.5 and 4.6). Each is read only where
+-- those above it hold.
 use Rattle.std.specs.Prelude.{◌+◌, Bool, false, ◌&&◌, ◌||◌, nat_le, bytes_eq, ◌==◌, if◌then◌else◌}
 use Rattle.std.specs.Option.{option_map_or}
 use Rattle.std.specs.List.{list_all}
@@ -15,10 +15,13 @@ use Rattle.cm_constraints.specs.Flags.{acc_static, acc_native, acc_abstract, has
 
 -- its name, its descriptor and the names of its attributes are Utf8s
 abbrev pub names_utf8s : ClassFile → Member → Bool
-names_utf8s c m = names kinds.Utf8 c m.name && names kinds.Utf8 c m.descriptor && list_all (λ a. names kinds.Utf8 c a.name) m.attributes
+names_utf8s c m =
+    names kinds.Utf8 c m.name && names kinds.Utf8 c m.descriptor
+    && list_all (λ a. names kinds.Utf8 c a.name) m.attributes
 
 abbrev pub field_is_named : ClassFile → Member → Bool
-field_is_named c m = is_unqualified_name (utf8 c m.name) && is_field_descriptor (utf8 c m.descriptor)
+field_is_named c m =
+    is_unqualified_name (utf8 c m.name) && is_field_descriptor (utf8 c m.descriptor)
 
 -- ---- methods
 
@@ -33,7 +36,9 @@ is_init c m = bytes_eq (utf8 c m.name) init
 
 -- with its receiver a method takes at most 255 units (JVMS 4.3.3)
 abbrev pub units_fit : ClassFile → Member → Bool
-units_fit c m = has m.flags acc_static || is_clinit c m || option_map_or (λ n. nat_le n 254) (method_units (utf8 c m.descriptor)) false
+units_fit c m =
+    has m.flags acc_static || is_clinit c m
+    || option_map_or (λ n. nat_le n 254) (method_units (utf8 c m.descriptor)) false
 
 abbrev pub flags_fit_method : ClassFile → Member → Bool
 flags_fit_method c m = is_clinit c m || method_flags_agree c.flags (is_init c m) m.flags
@@ -46,4 +51,5 @@ code_count_is_right c m =
     else count_of c known.Code m.attributes == 1)
 
 abbrev pub code_has_form : ClassFile → Member → Bool
-code_has_form c m = list_all (λ a. is_content c known.Code a.bytes) (with_name c known.Code m.attributes)
+code_has_form c m =
+    list_all (λ a. is_content c known.Code a.bytes) (with_name c known.Code m.attributes)

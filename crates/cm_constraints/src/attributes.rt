@@ -75,8 +75,8 @@ fn values_agree(class: &Class, field: &Member) -> bool
         )
 }
 
-/// Whether a field's attributes have their contents, with at most one ConstantValue, which is of the
-/// field's type where the field is static (JVMS 4.7.2, 4.7.8, 4.7.9, 4.7.15).
+/// Whether a field's attributes have their contents, with at most one ConstantValue, which is of
+/// the field's type where the field is static (JVMS 4.7.2, 4.7.8, 4.7.9, 4.7.15).
 pub fn field_attributes_are_right(class: &Class, field: &Member) -> bool
     ensures { result ≡ field_attributes_are_right class.now field.now }
 {
@@ -86,8 +86,8 @@ pub fn field_attributes_are_right(class: &Class, field: &Member) -> bool
         && values_agree(class, field)
 }
 
-/// Whether a method's attributes but its code have their contents, with at most one Exceptions (JVMS
-/// 4.7.5, 4.7.8, 4.7.9, 4.7.15).
+/// Whether a method's attributes but its code have their contents, with at most one Exceptions
+/// (JVMS 4.7.5, 4.7.8, 4.7.9, 4.7.15).
 pub fn method_attributes_are_right(class: &Class, method: &Member) -> bool
     ensures { result ≡ method_attributes_are_right class.now method.now }
 {
@@ -96,8 +96,9 @@ pub fn method_attributes_are_right(class: &Class, method: &Member) -> bool
         && have_content_of(class, &OF_METHOD, attributes)
 }
 
-/// Whether an attribute of the class at a place is none of these, or the first of its name. The places
-/// are looked through for an attribute of such a name alone, of which a second one ends the search.
+/// Whether an attribute of the class at a place is none of these, or the first of its name. The
+/// places are looked through for an attribute of such a name alone, of which a second one ends the
+/// search.
 fn is_first_of(class: &Class, among: &[Known], place: usize, attribute: &Attribute) -> bool
     ensures { result ≡ is_first_of class.now among.now place attribute.now }
 {
@@ -105,8 +106,8 @@ fn is_first_of(class: &Class, among: &[Known], place: usize, attribute: &Attribu
         || place <= first_place(class, *known))
 }
 
-/// Whether an attribute of the class at a place has its content, and no attribute of its name before it
-/// where a class has at most one (JVMS 4.7.6 to 4.7.10, 4.7.15).
+/// Whether an attribute of the class at a place has its content, and no attribute of its name
+/// before it where a class has at most one (JVMS 4.7.6 to 4.7.10, 4.7.15).
 pub fn class_attribute_is_right(class: &Class, place: usize, attribute: &Attribute) -> bool
     ensures { result ≡ class_attribute_is_right class.now place attribute.now }
 {
@@ -114,8 +115,8 @@ pub fn class_attribute_is_right(class: &Class, place: usize, attribute: &Attribu
         && has_content_of(class, &OF_CLASS, attribute)
 }
 
-/// Whether an attribute of the class at a place isn't BootstrapMethods, or the first one and has the
-/// content of one (JVMS 4.7.23).
+/// Whether an attribute of the class at a place isn't BootstrapMethods, or the first one and has
+/// the content of one (JVMS 4.7.23).
 pub fn bootstrap_attribute_is_right(class: &Class, place: usize, attribute: &Attribute) -> bool
     ensures { result ≡ bootstrap_attribute_is_right class.now place attribute.now }
 {

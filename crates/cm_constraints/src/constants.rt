@@ -23,8 +23,8 @@ fn names_member(class: &Class, of: u16, name_and_type: u16) -> bool
     class.names(of, Kind::Class) && class.names(name_and_type, Kind::NameAndType)
 }
 
-/// Whether each index in a constant names one of the kind that it has to name; of what a method handle
-/// names see `handle_has_kind` (JVMS 4.4).
+/// Whether each index in a constant names one of the kind that it has to name; of what a method
+/// handle names see `handle_has_kind` (JVMS 4.4).
 pub fn names_kinds(class: &Class, constant: &Constant) -> bool
     ensures { result ≡ names_kinds class.now constant.now }
 {
@@ -54,7 +54,8 @@ pub fn names_kinds(class: &Class, constant: &Constant) -> bool
     }
 }
 
-/// Whether a method handle's kind is 1 to 9, and it names a reference of that kind's sort (JVMS 4.4.8).
+/// Whether a method handle's kind is 1 to 9, and it names a reference of that kind's sort (JVMS
+/// 4.4.8).
 pub fn handle_has_kind(class: &Class, constant: &Constant) -> bool
     ensures { result ≡ handle_has_kind class.now constant.now }
 {
@@ -100,8 +101,8 @@ fn names_method(subject: &Subject, name_and_type: u16) -> bool
     subject.names_method_name(name) && subject.names_method_descriptor(descriptor)
 }
 
-/// Whether a pair's name may be called by a reference: of the names that begin with `<` only `<init>`,
-/// which returns nothing.
+/// Whether a pair's name may be called by a reference: of the names that begin with `<` only
+/// `<init>`, which returns nothing.
 fn is_callable(class: &Class, name_and_type: u16) -> bool
     ensures { result ≡ is_callable class.now name_and_type }
 {
@@ -111,8 +112,8 @@ fn is_callable(class: &Class, name_and_type: u16) -> bool
         || (name == b"<init>".as_slice() && ends_in_void(class.utf8(descriptor)))
 }
 
-/// Whether a Methodref or InterfaceMethodref has a method's name and descriptor; of names with `<` a
-/// Methodref has only `<init>`, which returns nothing (JVMS 4.4.2).
+/// Whether a Methodref or InterfaceMethodref has a method's name and descriptor; of names with `<`
+/// a Methodref has only `<init>`, which returns nothing (JVMS 4.4.2).
 pub fn method_reference_is_formed(subject: &Subject, constant: &Constant) -> bool
     ensures { result ≡ method_reference_is_formed subject.now.class.now constant.now }
 {
@@ -145,8 +146,8 @@ pub fn method_type_is_formed(subject: &Subject, constant: &Constant) -> bool
     }
 }
 
-/// Whether a method handle of kind 8 names `<init>`, and one of another kind that calls a method neither
-/// that nor `<clinit>` (JVMS 4.4.8).
+/// Whether a method handle of kind 8 names `<init>`, and one of another kind that calls a method
+/// neither that nor `<clinit>` (JVMS 4.4.8).
 pub fn handle_has_name(class: &Class, constant: &Constant) -> bool
     ensures { result ≡ handle_has_name class.now constant.now }
 {

@@ -16,8 +16,8 @@ fn attributes_name_utf8s(class: &Class, attributes: &[Attribute]) -> bool
         .all(|attribute| class.names(attribute.name, Kind::Utf8))
 }
 
-/// Whether the name and the descriptor of a field or method, and the names of its attributes, are Utf8s
-/// (JVMS 4.5, 4.6, 4.7).
+/// Whether the name and the descriptor of a field or method, and the names of its attributes, are
+/// Utf8s (JVMS 4.5, 4.6, 4.7).
 pub fn names_utf8s(class: &Class, member: &Member) -> bool
     ensures { result ≡ names_utf8s class.now member.now }
 {

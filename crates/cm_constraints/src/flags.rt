@@ -120,7 +120,8 @@ fn interface_method_agrees(flags: u16) -> bool
         && !has(flags, NOT_OF_INTERFACE_METHOD)
 }
 
-/// Whether the flags agree of a constructor or of another method, in a class of these flags (JVMS 4.6).
+/// Whether the flags agree of a constructor or of another method, in a class of these flags (JVMS
+/// 4.6).
 #[tactic(auto, unfolding(crate::specs::Flags::method_flags_agree))]
 pub(crate) fn method_flags_agree(of_class: u16, is_constructor: bool, flags: u16) -> bool
     ensures { result ≡ method_flags_agree of_class is_constructor flags }

@@ -15,8 +15,8 @@ pub fn this_is_no_array(class: &Class) -> bool
     !begins_with(b'[', class.class_name(class.this_class()))
 }
 
-/// Whether an interface's super class is `java/lang/Object`, and any other class but that has one (JVMS
-/// 4.1).
+/// Whether an interface's super class is `java/lang/Object`, and any other class but that has one
+/// (JVMS 4.1).
 pub fn super_is_right(class: &Class) -> bool
     ensures { result ≡ super_is_right class.now }
 {

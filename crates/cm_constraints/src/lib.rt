@@ -1,4 +1,5 @@
-//! What each static constraint of JVMS SE 8, chapter 4, asks of one part of a class whose shape is right.
+//! What each static constraint of JVMS SE 8, chapter 4, asks of one part of a class whose shape is
+//! right.
 #![tactic(auto)]
 
 mod attributes;

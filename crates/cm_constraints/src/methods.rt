@@ -47,8 +47,8 @@ pub fn flags_fit_method(class: &Class, method: &Member) -> bool
         || method_flags_agree(class.flags(), is_init(class, method), method.flags)
 }
 
-/// Whether a native or abstract method has no code, any other exactly one, `<clinit>` at most one (JVMS
-/// 4.7.3).
+/// Whether a native or abstract method has no code, any other exactly one, `<clinit>` at most one
+/// (JVMS 4.7.3).
 pub fn code_count_is_right(class: &Class, method: &Member) -> bool
     ensures { result ≡ code_count_is_right class.now method.now }
 {

@@ -1,5 +1,5 @@
--- The rules in their order, the spots in theirs, and the first rule that a class breaks with the first
--- spot where it does.
+-- The rules in their order, the spots in theirs, and the first rule that a class breaks with the
+-- first spot where it does.
 use Rattle.std.specs.Prelude.{ℕ, ◌+◌, ◌-◌, Bool, true, ◌||◌, not, List, [], ◌∷◌, ◌++◌, length, map, find, Option, Some, None, slice_get, option_map, ◌==◌, if◌then◌else◌}
 use Rattle.std.specs.Option.{option_map_or}
 use Rattle.std.specs.List.{range_with_len}
@@ -49,7 +49,12 @@ number rules.BootstrapMethods = 24
 
 abbrev pub all_rules : List Rule
 all_rules =
-    rules.TextForm ∷ rules.EntryKinds ∷ rules.HandleKind ∷ rules.ClassName ∷ rules.FieldReference ∷ rules.MethodReference ∷ rules.DynamicCall ∷ rules.MethodType ∷ rules.HandleName ∷ rules.ClassFlags ∷ rules.ThisClass ∷ rules.SuperClass ∷ rules.FieldName ∷ rules.FieldFlags ∷ rules.FieldTwice ∷ rules.MethodName ∷ rules.MethodUnits ∷ rules.MethodFlags ∷ rules.MethodTwice ∷ rules.CodeCount ∷ rules.CodeForm ∷ rules.MemberAttributes ∷ rules.ClassAttributes ∷ rules.BootstrapMethods ∷ []
+    rules.TextForm ∷ rules.EntryKinds ∷ rules.HandleKind ∷ rules.ClassName
+    ∷ rules.FieldReference ∷ rules.MethodReference ∷ rules.DynamicCall ∷ rules.MethodType
+    ∷ rules.HandleName ∷ rules.ClassFlags ∷ rules.ThisClass ∷ rules.SuperClass
+    ∷ rules.FieldName ∷ rules.FieldFlags ∷ rules.FieldTwice ∷ rules.MethodName
+    ∷ rules.MethodUnits ∷ rules.MethodFlags ∷ rules.MethodTwice ∷ rules.CodeCount
+    ∷ rules.CodeForm ∷ rules.MemberAttributes ∷ rules.ClassAttributes ∷ rules.BootstrapMethods ∷ []
 
 -- ---- What each rule says, by the sort of spot. It says nothing of sorts that it isn't listed with.
 
@@ -139,8 +144,10 @@ holds rule c (Attribute i) = at_item c.attributes i (attribute_rule rule c i)
 abbrev pub spots : ClassFile → List Spot
 spots c =
     map (λ i. Pool (i + 1)) (range_with_len 0 (length c.slots)) ++ This ∷ Super ∷ []
-    ++ map Interface (range_with_len 0 (length c.interfaces)) ++ map Field (range_with_len 0 (length c.fields))
-    ++ map Method (range_with_len 0 (length c.methods)) ++ map Attribute (range_with_len 0 (length c.attributes))
+    ++ map Interface (range_with_len 0 (length c.interfaces))
+    ++ map Field (range_with_len 0 (length c.fields))
+    ++ map Method (range_with_len 0 (length c.methods))
+    ++ map Attribute (range_with_len 0 (length c.attributes))
 
 -- the first spot where a class breaks a rule
 unfoldable pub broken_spot : ClassFile → Rule → Option Spot
@@ -148,7 +155,8 @@ broken_spot c rule = find (λ spot. not (holds rule c spot)) (spots c)
 
 unfoldable pub first_of : ClassFile → List Rule → Option Broken
 first_of c [] = None
-first_of c (rule ∷ others) = option_map_or (λ spot. Some (record { rule = rule; spot = spot })) (broken_spot c rule) (first_of c others)
+first_of c (rule ∷ others) =
+    option_map_or (λ spot. Some (record { rule = rule; spot = spot })) (broken_spot c rule) (first_of c others)
 
 -- the first rule that a class breaks, with the first spot
 unfoldable pub fault : ClassFile → Option Broken
@@ -182,7 +190,9 @@ item_spot c rule =
     (or_else (option_map Method (method_failing c rule)) (option_map Attribute (attribute_failing c rule))))
 
 unfoldable pub own_spot : ClassFile → Rule → Option Spot
-own_spot c rule = if this_rule rule c then (if super_rule rule c then None else Some Super) else Some This
+own_spot c rule =
+    if this_rule rule c then (if super_rule rule c then None else Some Super) else Some This
 
 abbrev pub found_spot : ClassFile → Rule → Option Spot
-found_spot c rule = or_else (option_map (λ i. Pool (i + 1)) (slot_failing c rule)) (or_else (own_spot c rule) (item_spot c rule))
+found_spot c rule =
+    or_else (option_map (λ i. Pool (i + 1)) (slot_failing c rule)) (or_else (own_spot c rule) (item_spot c rule))

@@ -1,4 +1,5 @@
--- What one pass over a class asks of each of its parts: all that the rules say of a part of its sort.
+-- What one pass over a class asks of each of its parts: all that the rules say of a part of its
+-- sort.
 use Rattle.std.specs.Prelude.{ℕ, Bool, ◌&&◌, List, drop}
 use Rattle.std.specs.List.{list_all}
 use Rattle.cm_class.specs.declared.constant.Constant.{Constant}
@@ -29,7 +30,9 @@ interface_keeps c index = list_all (λ rule. interface_rule rule c index) all_ru
 
 -- of a field, but that no other is the same
 unfoldable pub field_keeps : ClassFile → Member → Bool
-field_keeps c m = names_utf8s c m && (field_is_named c m && (field_flags_agree c.flags m.flags && field_attributes_are_right c m))
+field_keeps c m =
+    names_utf8s c m
+    && (field_is_named c m && (field_flags_agree c.flags m.flags && field_attributes_are_right c m))
 
 -- of a method, but that no other is the same
 unfoldable pub method_keeps : ClassFile → Member → Bool

@@ -18,8 +18,8 @@ KeepsEach c among = AllByRecursion (λ rule. KeepsAt c rule (spots c)) among
 abbrev pub KeepsRules : ClassFile → Type 0
 KeepsRules c = KeepsEach c all_rules
 
--- It breaks this rule at this spot, keeps it at all spots before that, and keeps all rules before it
--- at every spot.
+-- It breaks this rule at this spot, keeps it at all spots before that, and keeps all rules before
+-- it at every spot.
 pub record IsFirstFault (c : ClassFile) (broken : Broken) : Type 0 where
   pub lower_rules : List Rule
   pub higher_rules : List Rule

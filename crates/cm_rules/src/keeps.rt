@@ -1,5 +1,5 @@
-//! Whether a class keeps all rules, found in one pass. Most classes do; of others the first rule that they
-//! break is looked for in order.
+//! Whether a class keeps all rules, found in one pass. Most classes do; of others the first rule
+//! that they break is looked for in order.
 ghost use Rattle.std.specs.Prelude.{◌≡◌, true, None};
 ghost use Rattle.std.specs.List.{list_all};
 ghost use Rattle.cm_duplicates.specs.Duplicates.{first_failing};
@@ -62,7 +62,8 @@ fn slot_keeps(subject: &Subject, slot: &Slot) -> bool
 }
 
 fn slots_keep(subject: &Subject) -> bool
-    ensures { result ≡ list_all (in_slot (constant_keeps subject.now.class.now)) subject.now.class.now.slots }
+    ensures { result
+        ≡ list_all (in_slot (constant_keeps subject.now.class.now)) subject.now.class.now.slots }
 {
     subject
         .class
@@ -161,7 +162,8 @@ fn attribute_keeps(class: &Class, place: usize, attribute: &Attribute) -> bool
 }
 
 fn attributes_keep(class: &Class) -> bool
-    ensures { result ≡ true → first_failing (attribute_keeps class.now) 0 class.now.attributes ≡ None }
+    ensures { result ≡ true
+        → first_failing (attribute_keeps class.now) 0 class.now.attributes ≡ None }
 {
     for (place, item) in class.attributes().iter().enumerate() {
         if !attribute_keeps(class, place, item) {

@@ -54,9 +54,9 @@ fn first_of(findings: &Findings, rules: &[Rule]) -> Option<Broken>
     None
 }
 
-/// The first rule that a class breaks, with the first spot where it does; `None` where it keeps them
-/// all. Each Utf8 is judged once, however many constants and members name it. Only where one pass finds
-/// that the class breaks some rule is the first of them looked for.
+/// The first rule that a class breaks, with the first spot where it does; `None` where it keeps
+/// them all. Each Utf8 is judged once, however many constants and members name it. Only where one
+/// pass finds that the class breaks some rule is the first of them looked for.
 #[tactic(auto, unfolding(crate::specs::Fault::fault))]
 pub fn first_fault(alloc: Global, class: &Class) -> Result<Option<Broken>, AllocError>
     ensures { IfOk result (λ found. found ≡ fault class.now) }
@@ -96,7 +96,8 @@ fn read_and_judge(alloc: Global, bytes: &[u8]) -> Result<Class, ClassFault>
 ///
 /// It is refused exactly where the bytes spell no class file, with the one fault of their shape, or
 /// where the class breaks a rule, with the first such rule and its first spot; or with `NoMemory`,
-/// where they spell a class file and an allocation failed: a fault of their shape is told in any case.
+/// where they spell a class file and an allocation failed: a fault of their shape is told in any
+/// case.
 pub fn read_class(alloc: Global, bytes: &[u8]) -> Result<Class, ClassFault>
     ensures ok { IfOk result (IsRight bytes.now) }
     ensures fault { IfErr result (IsWrong bytes.now) }

@@ -36,7 +36,9 @@ fn first_interface(findings: &Findings, rule: Rule) -> Option<u16>
 }
 
 fn first_field_by_itself(findings: &Findings, rule: Rule) -> Option<u16>
-    ensures { result ≡ first_failing (λ _ m. field_constraint rule findings.now.class.now m) 0 findings.now.class.now.fields }
+    ensures { result
+        ≡ first_failing (λ _ m. field_constraint rule findings.now.class.now m) 0
+        findings.now.class.now.fields }
 {
     for (place, item) in findings.class.fields().iter().enumerate() {
         if !field_constraint(findings, rule, item) {
@@ -56,7 +58,9 @@ fn first_field(findings: &Findings, rule: Rule) -> Option<u16>
 }
 
 fn first_method_by_itself(findings: &Findings, rule: Rule) -> Option<u16>
-    ensures { result ≡ first_failing (λ _ m. method_constraint rule findings.now.class.now m) 0 findings.now.class.now.methods }
+    ensures { result
+        ≡ first_failing (λ _ m. method_constraint rule findings.now.class.now m) 0
+        findings.now.class.now.methods }
 {
     for (place, item) in findings.class.methods().iter().enumerate() {
         if !method_constraint(findings, rule, item) {
@@ -137,7 +141,8 @@ fn speaks_of_pool(rule: Rule) -> bool
     }
 }
 
-/// The place of the first constant that breaks the rule. Pools are long, so most rules look at none.
+/// The place of the first constant that breaks the rule. Pools are long, so most rules look at
+/// none.
 fn pool_place(findings: &Findings, rule: Rule) -> Option<u16>
     ensures place { result ≡ slot_failing findings.now.class.now rule }
     ensures within { IfSome result (λ place. place + 1 < 2 ^ 16) }

@@ -1,4 +1,5 @@
-//! Worked examples for `cm_rules`: of each class, spelled byte by byte, the first rule that it breaks.
+//! Worked examples for `cm_rules`: of each class, spelled byte by byte, the first rule that it
+//! breaks.
 #![tactic(auto)]
 
 #[cfg(test)]

@@ -29,8 +29,8 @@ enum Entry<'a> {
 /// A field or a method: flags, indexes of name and descriptor.
 type Item = (u16, u16, u16);
 
-/// A class. Entries 1 to 4 of its pool are the class A with its name and the class `java/lang/Object`
-/// with its name; its own entries follow.
+/// A class. Entries 1 to 4 of its pool are the class A with its name and the class
+/// `java/lang/Object` with its name; its own entries follow.
 #[derive(Clone, Copy)]
 struct Draft<'a> {
     entries: &'a [Entry<'a>],
@@ -40,8 +40,8 @@ struct Draft<'a> {
     interfaces: &'a [u16],
     fields: &'a [Item],
     methods: &'a [Item],
-    /// The attributes of each field and method, and those of the class: of each the index of its name,
-    /// the number of its bytes, and these.
+    /// The attributes of each field and method, and those of the class: of each the index of its
+    /// name, the number of its bytes, and these.
     parts: &'a [u8],
     attributes: &'a [u8],
 }
