@@ -34,8 +34,12 @@ for `length` and those whose names end in -twice or -bootstrap:
                    65,535 fields: pairs of 256 names and 256 descriptors, chosen so that all of
                    them have one fingerprint. Whoever takes that for a duplicate is wrong, whoever
                    compares pair by pair is slow
+    fields-all-twice
+                   32,767 fields, pairs of one name with descriptors in slots of their own, and all
+                   of them again (refused): whoever looks for all duplicates in place of the first,
+                   or compares pair by pair, is slow
     methods, methods-equal, methods-middle, methods-middle-twice, methods-middle-bootstrap,
-    methods-meeting
+    methods-meeting, methods-all-twice
                    the same with methods (native, no code)
     references     a pool full of references (65,527), by turns Methodref and InterfaceMethodref, to
                    one NameAndType whose name and whose descriptor have 65,535 bytes each: whoever
@@ -186,6 +190,15 @@ def differ_in_the_middle(of_methods, twice=False, ill_formed=False):
     return [made.bytes()]
 
 
+def all_twice(of_methods):
+    made = ClassFile()
+    form = b"(L%s;)V" if of_methods else b"L%s;"
+    name = made.utf8(b"a")
+    descriptors = indexes(made, [form % letters(i) for i in range(MOST_MEMBERS // 2)])
+    members_of(made, of_methods, pairs([name], descriptors) * 2)
+    return [made.bytes()]
+
+
 # The hasher of Rattle's std, as far as names of 32 bytes need it: it multiplies sixteen bytes at a
 # time, so that eight of them that are the state so far make the product zero, whatever the other
 # eight are.
@@ -283,10 +296,12 @@ HOSTILE = {
     "fields-middle-twice": lambda: differ_in_the_middle(False, twice=True),
     "fields-middle-bootstrap": lambda: differ_in_the_middle(False, ill_formed=True),
     "fields-meeting": lambda: one_fingerprint(False),
+    "fields-all-twice": lambda: all_twice(False),
     "methods-middle": lambda: differ_in_the_middle(True),
     "methods-middle-twice": lambda: differ_in_the_middle(True, twice=True),
     "methods-middle-bootstrap": lambda: differ_in_the_middle(True, ill_formed=True),
     "methods-meeting": lambda: one_fingerprint(True),
+    "methods-all-twice": lambda: all_twice(True),
     "references": references,
     "dimensions": dimensions,
     "dynamic": dynamic,

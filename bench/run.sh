@@ -17,7 +17,9 @@ packages=(libasm-java libbcel-java libjavassist-java libcommons-io-java libcommo
 libraries=(ASM Javassist BCEL)
 jars=(/usr/share/java/{asm,asm-analysis,asm-commons,asm-tree,asm-util,commons-io,commons-lang3,guava}.jar)
 hostile=(fields fields-equal fields-few fields-middle fields-middle-twice fields-middle-bootstrap fields-meeting
+    fields-all-twice
     methods methods-equal methods-middle methods-middle-twice methods-middle-bootstrap methods-meeting
+    methods-all-twice
     references dimensions dynamic length)
 
 fetch() {

@@ -13,7 +13,8 @@ use Rattle.cm_class.specs.declared.class_file.Member.{Member}
 use Rattle.cm_class.specs.Names.{utf8}
 use Rattle.cm_duplicates.specs.Duplicates.{is_first, first_duplicate}
 use Rattle.cm_duplicates.specs.First.{Agree}
-use Rattle.cm_duplicates.specs.Fingerprints.{fingerprint, joined, member_fingerprint, HasRepeated}
+use Rattle.cm_duplicates.specs.declared.fingerprints.Strength.{Strength}
+use Rattle.cm_duplicates.specs.Fingerprints.{fingerprint, joined, member_fingerprint, AreNumbers, HasRepeated}
 use Rattle.cm_duplicates.specs.Interned.{Interned, interned, NamesWhatItStandsFor, KeepsInterned}
 use Rattle.cm_duplicates.proofs.FirstDuplicate.{stands_first, stands_again, all_pass}
 
@@ -64,66 +65,63 @@ pub record HasKey (c : ClassFile) (table : Interned) (seen : Keys) (m : Member) 
   pub descriptor : interned table (utf8 c m.descriptor) ≡ Some key.1
   pub was_seen : contains key_cmp seen key ≡ true
 
-pub record SeenBefore (c : ClassFile) (members : List Member) (repeated : List ℕ) (table : Interned) (seen : Keys) (place : ℕ) : Type 0 where
+pub record SeenBefore (c : ClassFile) (members : List Member) (numbers repeated : List ℕ) (table : Interned) (seen : Keys) (place : ℕ) : Type 0 where
   pub earlier : (key : ℕ × ℕ) → contains key_cmp seen key ≡ true → IsEarlier c members place key
-  pub keys : (k : ℕ) (m : Member) → k < place → k < length members → Contains repeated (member_fingerprint c (get_or members k m)) → HasKey c table seen (get_or members k m)
+  pub keys : (k : ℕ) (m : Member) → k < place → k < length members → Contains repeated (get_or numbers k 0) → HasKey c table seen (get_or members k m)
 
-pub nothing_seen : (c : ClassFile) (members : List Member) (repeated : List ℕ) (table : Interned) (seen : Keys) → seen.keys ≡ [] → SeenBefore c members repeated table seen 0
-nothing_seen c members repeated table seen empty = record {
+pub nothing_seen : (c : ClassFile) (members : List Member) (numbers repeated : List ℕ) (table : Interned) (seen : Keys) → seen.keys ≡ [] → SeenBefore c members numbers repeated table seen 0
+nothing_seen c members numbers repeated table seen empty = record {
   earlier = λ key h. let none : contains key_cmp seen key ≡ false = rw empty refl in absurd cc;
   keys = λ k m lt. absurd (omega (arith, lt));
 }
 
 -- ---- members that agree have one fingerprint
 
-same_fingerprint : (c : ClassFile) (m n : Member) → Agree c m n → member_fingerprint c m ≡ member_fingerprint c n
-same_fingerprint c m n h = ap₂ (λ a b. joined (fingerprint a) (fingerprint b)) h.name h.descriptor
+same_fingerprint : (strength : Strength) (c : ClassFile) (m n : Member) → Agree c m n → member_fingerprint strength c m ≡ member_fingerprint strength c n
+same_fingerprint strength c m n h = ap₂ (λ a b. joined (fingerprint strength a) (fingerprint strength b)) h.name h.descriptor
 
-fingerprint_at : (c : ClassFile) (members : List Member) (i : ℕ) (m : Member) → i < length members → get_or (map (member_fingerprint c) members) i 0 ≡ member_fingerprint c (get_or members i m)
-fingerprint_at c members i m lt = at members i lt
+fingerprint_at : (strength : Strength) (c : ClassFile) (members : List Member) (i : ℕ) (m : Member) → i < length members → get_or (map (member_fingerprint strength c) members) i 0 ≡ member_fingerprint strength c (get_or members i m)
+fingerprint_at strength c members i m lt = at members i lt
   where
-    at : (l : List Member) (i : ℕ) → i < length l → get_or (map (member_fingerprint c) l) i 0 ≡ member_fingerprint c (get_or l i m)
+    at : (l : List Member) (i : ℕ) → i < length l → get_or (map (member_fingerprint strength c) l) i 0 ≡ member_fingerprint strength c (get_or l i m)
     at [] i lt = absurd (omega (arith, lt))
     at (x ∷ l) zero lt = refl
     at (x ∷ l) (suc i) lt = at l i (omega (arith, lt))
 
--- the number of a member
-pub fingerprint_of : (c : ClassFile) (members : List Member) (numbers : List ℕ) (i : ℕ) (m : Member) → numbers ≡ map (member_fingerprint c) members → i < length members → m ≡ get_or members i m → get_or numbers i 0 ≡ member_fingerprint c m
-fingerprint_of c members numbers i m e lt is = ap (λ l. get_or l i 0) e ∙ fingerprint_at c members i m lt ∙ ap (member_fingerprint c) (sym is)
-
-pub has_repeated_of : (c : ClassFile) (members : List Member) (numbers repeated : List ℕ) → numbers ≡ map (member_fingerprint c) members → HasRepeated numbers repeated → HasRepeated (map (member_fingerprint c) members) repeated
-has_repeated_of c members numbers repeated e h = let P : List ℕ → Type 0 = λ l. HasRepeated l repeated in subst P e h
+pub are_numbers : (strength : Strength) (c : ClassFile) (members : List Member) (numbers : List ℕ) → numbers ≡ map (member_fingerprint strength c) members → AreNumbers c members numbers
+are_numbers strength c members numbers e = rw e record {
+  as_many = length-map members (member_fingerprint strength c);
+  alike = λ i j m li lj h. fingerprint_at strength c members i m li ∙ same_fingerprint strength c (get_or members i m) (get_or members j m) h ∙ sym (fingerprint_at strength c members j m lj);
+}
 
 pub names_of : (c d : ClassFile) (table : Interned) → d ≡ c → NamesWhatItStandsFor d table → NamesWhatItStandsFor c table
 names_of c d table e h = let P : ClassFile → Type 0 = λ x. NamesWhatItStandsFor x table in subst P e h
 
--- and what a member's number is told by
-pub contains_same : (numbers : List ℕ) (m n : ℕ) → m ≡ n → Contains numbers m → Contains numbers n
-contains_same numbers m n e h = let P : ℕ → Type 0 = λ x. Contains numbers x in subst P e h
+module _ (c : ClassFile) (members : List Member) (numbers repeated : List ℕ) (are : AreNumbers c members numbers) (has : HasRepeated numbers repeated) where
+  one_number : (k i : ℕ) (m x : Member) → k < i → i < length members → m ≡ get_or members i m → Agree c m (get_or members k x) → get_or numbers k 0 ≡ get_or numbers i 0
+  one_number k i m x lt within is agree =
+      let before : k < length members = omega (arith, lt, within) in
+      let here : get_or members k x ≡ get_or members k m = get_or_default members k x m before in
+      let there : Agree c (get_or members i m) (get_or members k m) = let P : Member → Member → Type 0 = λ y z. Agree c y z in let Q : Member → Type 0 = λ y. P y (get_or members k m) in let R : Member → Type 0 = λ z. P m z in subst Q is (subst R here agree) in
+      sym (are.alike i k m within before there)
 
-module _ (c : ClassFile) (members : List Member) (repeated : List ℕ) (has : HasRepeated (map (member_fingerprint c) members) repeated) where
-  -- a member that agrees with one before it has a repeated fingerprint
-  repeats : (k i : ℕ) (m x : Member) → k < i → i < length members → m ≡ get_or members i m → Agree c m (get_or members k x) → Contains repeated (member_fingerprint c m)
-  repeats k i m x lt within is agree =
-      let earlier : get_or (map (member_fingerprint c) members) k 0 ≡ member_fingerprint c (get_or members k x) = fingerprint_at c members k x (omega (arith, lt, within)) in
-      let later : get_or (map (member_fingerprint c) members) i 0 ≡ member_fingerprint c m = fingerprint_at c members i m within ∙ ap (member_fingerprint c) (sym is) in
-      let same : get_or (map (member_fingerprint c) members) k 0 ≡ get_or (map (member_fingerprint c) members) i 0 = earlier ∙ sym (same_fingerprint c m (get_or members k x) agree) ∙ sym later in
-      let within_too : i < length (map (member_fingerprint c) members) = omega (arith, within, length-map members (member_fingerprint c)) in
-      let P : ℕ → Type 0 = λ n. Contains repeated n in subst P later (has k i lt within_too same)
+  -- a member that agrees with one before it has a repeated number
+  repeats : (k i : ℕ) (m x : Member) → k < i → i < length members → m ≡ get_or members i m → Agree c m (get_or members k x) → Contains repeated (get_or numbers i 0)
+  repeats k i m x lt within is agree = has k i lt (omega (arith, within, are.as_many)) (one_number k i m x lt within is agree)
 
   -- without one it stands first
-  pub first_without : (i : ℕ) (m : Member) → i < length members → m ≡ get_or members i m → (Contains repeated (member_fingerprint c m) → ⊥) → is_first c members i m ≡ true
+  pub first_without : (i : ℕ) (m : Member) → i < length members → m ≡ get_or members i m → (Contains repeated (get_or numbers i 0) → ⊥) → is_first c members i m ≡ true
   first_without i m within is lacks = stands_first c members i m (λ k x lt before agree. lacks (repeats k i m x lt within is agree))
 
   -- where none is repeated, there is no duplicate
-  pub none_repeated : repeated ≡ [] → first_duplicate c members ≡ None
+  pub none_repeated : length repeated ≡ 0 → first_duplicate c members ≡ None
   none_repeated empty = all_pass (is_first c members) 0 members (λ i m lt.
       let z : 0 + i ≡ i = omega arith in
-      rw z (first_without i (get_or members i m) lt (get_or_default members i m (get_or members i m) lt) (λ h. absurd (omega (arith, ap length empty, h.1)))))
+      rw z (first_without i (get_or members i m) lt (get_or_default members i m (get_or members i m) lt) (λ h. absurd (omega (arith, empty, h.1)))))
 
   -- ---- the next member
 
-  module _ (table : Interned) (seen : Keys) (i : ℕ) (m : Member) (within : i < length members) (is : m ≡ get_or members i m) (so_far : SeenBefore c members repeated table seen i) where
+  module _ (table : Interned) (seen : Keys) (i : ℕ) (m : Member) (within : i < length members) (is : m ≡ get_or members i m) (so_far : SeenBefore c members numbers repeated table seen i) where
     at_next : (k : ℕ) → k < i + 1 → (k < i) ⊎ (k ≡ i)
     at_next k lt = ⊎_elim inl (λ le. inr (omega (arith, le, lt))) (cases_lt k i)
 
@@ -131,16 +129,14 @@ module _ (c : ClassFile) (members : List Member) (repeated : List ℕ) (has : Ha
     later key e = record { earlier = e.earlier; before = omega (arith, e.before); within = e.within; names = e.names }
 
     -- it isn't looked at
-    pub seen_without : (Contains repeated (member_fingerprint c m) → ⊥) → SeenBefore c members repeated table seen (i + 1)
+    pub seen_without : (Contains repeated (get_or numbers i 0) → ⊥) → SeenBefore c members numbers repeated table seen (i + 1)
     seen_without lacks = record {
       earlier = λ key h. later key (so_far.earlier key h);
-      keys = λ k x lt inside h. ⊎_elim (λ before. so_far.keys k x before inside h) (λ here. absurd (lacks (at_m k x here h))) (at_next k lt);
+      keys = λ k x lt inside h. ⊎_elim (λ before. so_far.keys k x before inside h) (λ here. absurd (lacks (at_m k here h))) (at_next k lt);
     }
       where
-        at_m : (k : ℕ) (x : Member) → k ≡ i → Contains repeated (member_fingerprint c (get_or members k x)) → Contains repeated (member_fingerprint c m)
-        at_m k x here h =
-            let one : get_or members k x ≡ m = ap (λ (j : ℕ). get_or members j x) here ∙ get_or_default members i x m within ∙ sym is in
-            let P : Member → Type 0 = λ y. Contains repeated (member_fingerprint c y) in subst P one h
+        at_m : (k : ℕ) → k ≡ i → Contains repeated (get_or numbers k 0) → Contains repeated (get_or numbers i 0)
+        at_m k here h = let P : ℕ → Type 0 = λ j. Contains repeated (get_or numbers j 0) in subst P here h
 
     module _ (new : Interned) (keeps : KeepsInterned table new) (right : NamesWhatItStandsFor c new) (key : ℕ × ℕ) (name : interned new (utf8 c m.name) ≡ Some key.0) (descriptor : interned new (utf8 c m.descriptor) ≡ Some key.1) where
       names_it : Names c key m
@@ -159,11 +155,11 @@ module _ (c : ClassFile) (members : List Member) (repeated : List ℕ) (has : Ha
           }
 
       -- its key wasn't
-      pub first : Contains repeated (member_fingerprint c m) → contains key_cmp seen key ≡ false → is_first c members i m ≡ true
-      first candidate h = stands_first c members i m (λ k x lt inside agree. lacks k x agree (so_far.keys k x lt inside (candidate_too k x agree)))
+      pub first : Contains repeated (get_or numbers i 0) → contains key_cmp seen key ≡ false → is_first c members i m ≡ true
+      first candidate h = stands_first c members i m (λ k x lt inside agree. lacks k x agree (so_far.keys k x lt inside (candidate_too k x lt agree)))
         where
-          candidate_too : (k : ℕ) (x : Member) → Agree c m (get_or members k x) → Contains repeated (member_fingerprint c (get_or members k x))
-          candidate_too k x agree = let P : ℕ → Type 0 = λ n. Contains repeated n in subst P (same_fingerprint c m (get_or members k x) agree) candidate
+          candidate_too : (k : ℕ) (x : Member) → k < i → Agree c m (get_or members k x) → Contains repeated (get_or numbers k 0)
+          candidate_too k x lt agree = let P : ℕ → Type 0 = λ n. Contains repeated n in subst P (sym (one_number k i m x lt within is agree)) candidate
 
           lacks : (k : ℕ) (x : Member) → Agree c m (get_or members k x) → HasKey c table seen (get_or members k x) → ⊥
           lacks k x agree has_key =
@@ -202,7 +198,7 @@ module _ (c : ClassFile) (members : List Member) (repeated : List ℕ) (has : Ha
             before : is_eq (key_cmp key q) ≡ false → IsEarlier c members (i + 1) q
             before f = later q (so_far.earlier q (sym (ap (λ b. cond b true (contains key_cmp seen q)) f) ∙ sym (added q) ∙ h))
 
-        pub seen_with : SeenBefore c members repeated new after (i + 1)
+        pub seen_with : SeenBefore c members numbers repeated new after (i + 1)
         seen_with = record {
           earlier = earlier_than_next;
           keys = λ k x lt inside h. ⊎_elim (λ before. kept k x (so_far.keys k x before inside h)) (λ here. its k x here) (at_next k lt);

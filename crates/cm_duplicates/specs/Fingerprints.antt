@@ -2,26 +2,38 @@
 use Rattle.std.specs.Prelude.{◌≡◌, ℕ, ◌+◌, ◌<◌, List, map, length, bit_xor, slice_index}
 use Rattle.std.specs.List.{Contains, range_with_len}
 use Rattle.std.specs.Int.{w64, rotate_left}
-use Rattle.std.specs.Hash.FoldHasher.{initial, write, finish}
+use Rattle.std.specs.List.{slice_index_or}
+use Rattle.std.specs.Hash.FoldHasher as folding
+use Rattle.std.specs.Hash.DefaultHasher as sip
 use Rattle.cm_class.specs.declared.class_file.ClassFile.{ClassFile}
 use Rattle.cm_class.specs.declared.class_file.Member.{Member}
 use Rattle.cm_class.specs.Names.{utf8}
+use Rattle.cm_duplicates.specs.declared.fingerprints.Strength.{Strength}
+use Rattle.cm_duplicates.specs.declared.fingerprints.Strength.TheVariants.{Quick, Strong}
+use Rattle.cm_duplicates.specs.First.{Agree}
 
--- what std's hasher makes of them
-unfoldable pub fingerprint : List ℕ → ℕ
-fingerprint bytes = finish (write initial bytes)
+-- what std's two hashers make of them
+unfoldable pub fingerprint : Strength → List ℕ → ℕ
+fingerprint Quick bytes = folding.finish (folding.write folding.initial bytes)
+fingerprint Strong bytes = sip.finish (sip.write sip.initial bytes)
 
 -- of each index of the pool, from 0 on
-abbrev pub utf8_fingerprints : ClassFile → List ℕ
-utf8_fingerprints c = map (λ i. fingerprint (utf8 c i)) (range_with_len 0 (length c.slots + 1))
+abbrev pub utf8_fingerprints : Strength → ClassFile → List ℕ
+utf8_fingerprints strength c = map (λ i. fingerprint strength (utf8 c i)) (range_with_len 0 (length c.slots + 1))
 
 -- of a name and a descriptor
 unfoldable pub joined : ℕ → ℕ → ℕ
 joined name descriptor = bit_xor name (rotate_left w64 descriptor 32)
 
 -- of a member
-abbrev pub member_fingerprint : ClassFile → Member → ℕ
-member_fingerprint c m = joined (fingerprint (utf8 c m.name)) (fingerprint (utf8 c m.descriptor))
+abbrev pub member_fingerprint : Strength → ClassFile → Member → ℕ
+member_fingerprint strength c m = joined (fingerprint strength (utf8 c m.name)) (fingerprint strength (utf8 c m.descriptor))
+
+-- these are numbers of the members, and members that agree have one number
+pub record AreNumbers (c : ClassFile) (members : List Member) (numbers : List ℕ) : Type 0 where
+  pub as_many : length numbers ≡ length members
+  pub alike : (i j : ℕ) (m : Member) → i < length members → j < length members → Agree c (slice_index_or members i m) (slice_index_or members j m)
+      → slice_index numbers i ≡ slice_index numbers j
 
 -- each number of a sorted list that is the same as the next is among the repeated ones
 abbrev pub HasRepeatedNeighbours : List ℕ → List ℕ → Type 0

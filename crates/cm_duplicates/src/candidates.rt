@@ -1,8 +1,8 @@
 //! Members whose fingerprints meet, compared by what stands for their names and descriptors.
-ghost use Rattle.std.specs.Prelude.{◌≡◌, ◌^◌, ◌<◌, map, length, IfOk};
+ghost use Rattle.std.specs.Prelude.{◌≡◌, ◌^◌, ◌<◌, length, IfOk};
 ghost use Rattle.std.specs.List.Sorted.{IsNonDecreasing};
 ghost use Rattle.cm_duplicates.specs.Duplicates.{first_duplicate};
-ghost use Rattle.cm_duplicates.specs.Fingerprints.{HasRepeated, member_fingerprint};
+ghost use Rattle.cm_duplicates.specs.Fingerprints.{HasRepeated, AreNumbers};
 
 use crate::interner::Interner;
 use crate::repeated::is_among;
@@ -21,7 +21,7 @@ pub(crate) fn first_among_repeated(
 ) -> Result<Option<u16>, AllocError>
     requires few { length members.now < 2 ^ 16 }
     requires order { IsNonDecreasing repeated.now }
-    requires of_members { fingerprints.now ≡ map (member_fingerprint class.now) members.now }
+    requires of_members { AreNumbers class.now members.now fingerprints.now }
     requires repeats { HasRepeated fingerprints.now repeated.now }
     ensures { IfOk result (λ found. found ≡ first_duplicate class.now members.now) }
 {

@@ -5,7 +5,7 @@ ghost use Rattle.cm_duplicates.specs.Duplicates.{first_duplicate};
 ghost use Rattle.cm_duplicates.specs.Fingerprints.{HasRepeated, member_fingerprint};
 
 use crate::candidates::first_among_repeated;
-use crate::fingerprints::member_fingerprints;
+use crate::fingerprints::{Strength, member_fingerprints};
 use crate::pairs::first_by_pairs;
 use crate::repeated::repeated;
 use cm_class::{Class, Member};
@@ -25,7 +25,23 @@ fn first_duplicate(
     if members.len() <= FEW {
         return Ok(first_by_pairs(class, members));
     }
-    let fingerprints = member_fingerprints(alloc, class, members)?;
+    let fingerprints = member_fingerprints(alloc, class, members, Strength::Quick)?;
+    if repeated(alloc, &fingerprints)?.is_empty() {
+        return Ok(None);
+    }
+    first_by_strong_fingerprints(alloc, class, members)
+}
+
+/// The first duplicate, where quick fingerprints meet, by chance or by choice.
+fn first_by_strong_fingerprints(
+    alloc: Global,
+    class: &Class,
+    members: &[Member],
+) -> Result<Option<u16>, AllocError>
+    requires { length members.now < 2 ^ 16 }
+    ensures { IfOk result (λ found. found ≡ first_duplicate class.now members.now) }
+{
+    let fingerprints = member_fingerprints(alloc, class, members, Strength::Strong)?;
     let repeated = repeated(alloc, &fingerprints)?;
     if repeated.is_empty() {
         return Ok(None);

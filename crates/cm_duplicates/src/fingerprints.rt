@@ -5,40 +5,62 @@ ghost use Rattle.cm_duplicates.specs.Fingerprints.{fingerprint, utf8_fingerprint
 
 use cm_class::{Class, Member};
 use std::alloc::{AllocError, Global};
-use std::hash::{FoldHasher, Hasher};
+use std::hash::{DefaultHasher, FoldHasher, Hasher};
 
-/// A number that depends on the bytes alone. Whoever picks the bytes can make numbers agree.
+/// How fingerprints are made.
+#[derive(Clone, Copy)]
+pub(crate) enum Strength {
+    /// Sixteen bytes a step. Whoever picks the bytes can make any number of fingerprints meet.
+    Quick,
+    /// Slower, and hard to make meet.
+    Strong,
+}
+
+/// A number that depends on the bytes alone.
 #[tactic(auto, unfolding(crate::specs::Fingerprints::fingerprint))]
-fn fingerprint(bytes: &[u8]) -> u64
-    ensures { result ≡ fingerprint bytes.now }
+fn fingerprint(strength: Strength, bytes: &[u8]) -> u64
+    ensures { result ≡ fingerprint strength bytes.now }
 {
-    let mut hasher = FoldHasher::default();
-    hasher.write(bytes);
-    hasher.finish()
+    match strength {
+        Strength::Quick => {
+            let mut hasher = FoldHasher::default();
+            hasher.write(bytes);
+            hasher.finish()
+        }
+        Strength::Strong => {
+            let mut hasher = DefaultHasher::new();
+            hasher.write(bytes);
+            hasher.finish()
+        }
+    }
 }
 
 /// Of each index of the pool, from 0 on, so that a Utf8 is walked once, however many members name
 /// it.
-fn utf8_fingerprints(alloc: Global, class: &Class) -> Result<Vec<u64>, AllocError>
-    ensures { IfOk result (λ v. v.items ≡ utf8_fingerprints class.now) }
+fn utf8_fingerprints(
+    alloc: Global,
+    class: &Class,
+    strength: Strength,
+) -> Result<Vec<u64>, AllocError>
+    ensures { IfOk result (λ v. v.items ≡ utf8_fingerprints strength class.now) }
 {
     let _spelled = class.flags(); // brings the class's invariant into the proof's scope
     let count = class.slots().len() as u16 + 1;
     let mut fingerprints = Vec::with_capacity(alloc, usize::from(count))?;
     for index in 0..count {
-        fingerprints.push(fingerprint(class.utf8(index)))?;
+        fingerprints.push(fingerprint(strength, class.utf8(index)))?;
     }
     Ok(fingerprints)
 }
 
 /// At an index. Past the pool there are no bytes.
-fn fingerprint_at(class: &Class, fingerprints: &[u64], index: u16) -> u64
-    requires { fingerprints.now ≡ utf8_fingerprints class.now }
-    ensures { result ≡ fingerprint (utf8 class.now index) }
+fn fingerprint_at(class: &Class, fingerprints: &[u64], index: u16, strength: Strength) -> u64
+    requires { fingerprints.now ≡ utf8_fingerprints strength class.now }
+    ensures { result ≡ fingerprint strength (utf8 class.now index) }
 {
     match fingerprints.get(usize::from(index)) {
         Some(number) => *number,
-        None => fingerprint(class.utf8(index)),
+        None => fingerprint(strength, class.utf8(index)),
     }
 }
 
@@ -54,14 +76,15 @@ pub(crate) fn member_fingerprints(
     alloc: Global,
     class: &Class,
     members: &[Member],
+    strength: Strength,
 ) -> Result<Vec<u64>, AllocError>
-    ensures { IfOk result (λ v. v.items ≡ map (member_fingerprint class.now) members.now) }
+    ensures { IfOk result (λ v. v.items ≡ map (member_fingerprint strength class.now) members.now) }
 {
-    let of_utf8s = utf8_fingerprints(alloc, class)?;
+    let of_utf8s = utf8_fingerprints(alloc, class, strength)?;
     let mut fingerprints = Vec::with_capacity(alloc, members.len())?;
     for member in members {
-        let name = fingerprint_at(class, &of_utf8s, member.name);
-        let descriptor = fingerprint_at(class, &of_utf8s, member.descriptor);
+        let name = fingerprint_at(class, &of_utf8s, member.name, strength);
+        let descriptor = fingerprint_at(class, &of_utf8s, member.descriptor, strength);
         fingerprints.push(joined(name, descriptor))?;
     }
     Ok(fingerprints)

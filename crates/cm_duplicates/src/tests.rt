@@ -1,5 +1,5 @@
 use super::*;
-use crate::fingerprints::member_fingerprints;
+use crate::fingerprints::{Strength, member_fingerprints};
 use crate::repeated::repeated;
 use cm_class::{Class, read_shape};
 use std::alloc::Global;
@@ -134,7 +134,7 @@ fn members_that_meet(rt: HostRuntime) -> Result<(), Fail> {
     ];
     let mut members = pairs(alloc)?;
     let class = class_of(alloc, &utf8s, &members, &[])?;
-    let fingerprints = member_fingerprints(alloc, &class, class.fields())?;
+    let fingerprints = member_fingerprints(alloc, &class, class.fields(), Strength::Quick)?;
     assert_eq!(rt; repeated(alloc, &fingerprints)?.len(), 56);
     assert_eq!(rt; first(&rt, &utf8s, &members)?, None);
     members.push((17, 16))?;
