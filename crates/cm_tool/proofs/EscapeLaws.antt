@@ -133,8 +133,8 @@ module _ (text : List ℕ) (behind : (a : Awaited) (name : List ℕ) → spelled
       let x = got.0 in (
         x,
         upper_from-digit 1 d text
-        ∙ ap (λ k. k ∷ upper_from 1 text) (in_upper_case-digit d found.0 found.1 ∙ ap upper_digit (sym got.1))
-        ∙ ap (λ l. upper_digit (x.byte / 16) ∷ l) got.2,
+            ∙ ap (λ k. k ∷ upper_from 1 text) (in_upper_case-digit d found.0 found.1 ∙ ap upper_digit (sym got.1))
+            ∙ ap (λ l. upper_digit (x.byte / 16) ∷ l) got.2,
       )
 
   front_low : (high d : ℕ) (name : List ℕ) → spelled_from (Low high) (d ∷ text) ≡ Some name → Spells (Low high) (d ∷ text) name
@@ -151,8 +151,8 @@ module _ (text : List ℕ) (behind : (a : Awaited) (name : List ℕ) → spelled
         record { byte = 16 * high + v; rest = got.0; name_is = got.2; special = passed.0 },
         over,
         upper_from-digit 0 d text
-        ∙ ap (λ k. k ∷ upper_from 0 text) (in_upper_case-digit d v found.1 ∙ ap upper_digit under)
-        ∙ ap (λ l. upper_digit ((16 * high + v) % 16) ∷ l) (behind Any got.0 got.1),
+            ∙ ap (λ k. k ∷ upper_from 0 text) (in_upper_case-digit d v found.1 ∙ ap upper_digit under)
+            ∙ ap (λ l. upper_digit ((16 * high + v) % 16) ∷ l) (behind Any got.0 got.1),
       )
 
   front : (a : Awaited) (b : ℕ) (name : List ℕ) → spelled_from a (b ∷ text) ≡ Some name → Spells a (b ∷ text) name

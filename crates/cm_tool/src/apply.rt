@@ -37,8 +37,8 @@ pub fn apply_script<R: BufRead, W: Write, D: Disk + Drop>(
         (medium (D.contents disk) (D.failures disk))
         (medium (D.contents result.1) (D.failures result.1))
         (λ old new. IsAnswered
-            (io (R.remaining reader.old) (W.contents writer.old) (W.contents writer.new))
-            old new outcome)) }
+        (io (R.remaining reader.old) (W.contents writer.old) (W.contents writer.new))
+        old new outcome)) }
     ensures err { IfErr result.0 (IsStopped
         (io (R.remaining reader.old) (W.contents writer.old) (W.contents writer.new))
         (medium (D.contents disk) (D.failures disk))

@@ -96,7 +96,7 @@ pub fn run_to_end<R: BufRead, W: Write, D: Disk + Drop>(
 ) -> (Result<Outcome, ToolFault>, D)
     ensures { (new : StoreValue)
         × IsRun (io (R.remaining reader.old) (W.contents writer.old) (W.contents writer.new))
-            store new result.0
+        store new result.0
         × LeavesDisk (medium (D.contents result.1) (D.failures result.1)) new }
 {
     let mut store = store;
