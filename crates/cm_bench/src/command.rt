@@ -12,7 +12,7 @@ pub enum Request {
     /// To run the steps, each in so many timed passes; with none, once and for its counts alone.
     Run(Option<u32>),
     /// Nothing more: the help or a usage text was printed. The status to end with.
-    Told(u8),
+    Printed(u8),
 }
 
 fn whole_command<'a>(alloc: Global) -> Result<Command<'a>> {
@@ -38,7 +38,7 @@ pub fn read_words(rt: &(impl Env + Print + Eprint + AllocGlobal)) -> Result<Requ
         Ok(matches) => Ok(Request::Run(matches.get_one::<u32>("passes"))),
         Err(error) => {
             error.print(rt)?;
-            Ok(Request::Told(if error.exit_code() == 0 { 0 } else { 2 }))
+            Ok(Request::Printed(if error.exit_code() == 0 { 0 } else { 2 }))
         }
     }
 }

@@ -42,7 +42,7 @@ fn main(rt: HostRuntime) -> ExitCode {
 /// Does what the command line asks for, and gives the status.
 fn run(rt: &(impl Clock + Env + Input + Print + Eprint + AllocGlobal)) -> u8 {
     let done = match read_words(rt) {
-        Ok(Request::Told(status)) => return status,
+        Ok(Request::Printed(status)) => return status,
         Ok(Request::Run(passes)) => bench(rt, passes),
         Err(error) => Err(error),
     };

@@ -1,8 +1,9 @@
 -- The superblock of a region file, its first 4,096 bytes: `CMCACHE1`, then the version and the sizes as u32,
 -- little-endian, zeros, and the gate in the last byte.
-use Rattle.std.specs.Prelude.{ℕ, List, [], ◌∷◌, ◌++◌, replicate}
+use Rattle.std.specs.Prelude.{ℕ, List, [], ◌∷◌, ◌++◌}
 use Rattle.std.specs.Int.{w32, to_le_bytes}
 use Rattle.cm_pool.specs.Geometry.{Sizes}
+use Rattle.cm_layout.specs.Slots.{zeros}
 
 -- the ASCII text CMCACHE1
 abbrev pub magic : List ℕ
@@ -14,7 +15,7 @@ superblock_front g = magic ++ to_le_bytes w32 1 ++ to_le_bytes w32 g.top ++ to_l
 
 -- n bytes 00; a name for long rows, which nobody wants to see written out
 unfoldable pub blank : ℕ → List ℕ
-blank n = replicate n 0
+blank n = zeros n
 
 -- the whole superblock, its gate open
 abbrev pub superblock_bytes : Sizes → List ℕ

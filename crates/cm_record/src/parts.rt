@@ -45,7 +45,7 @@ pub(crate) fn push_head(words: &mut WordBuf, class: &Class, places: &Places)
     ensures words { words.new.words ≡ words.old.words ++ head class.now }
     ensures capacity { words.new.capacity ≡ words.old.capacity }
 {
-    let _spelled = class.flags();
+    let _spelled = class.flags(); // brings the class's invariant into the proof's scope
     let counts = (
         class.interfaces().len(),
         class.slots().len() + 1,
@@ -86,7 +86,7 @@ pub(crate) fn push_pool_and_members(words: &mut WordBuf, class: &Class, places: 
         ++ class.now.interfaces ++ members (attributes_at class.now) (all_members class.now) }
     ensures capacity { words.new.capacity ≡ words.old.capacity }
 {
-    let _spelled = class.flags();
+    let _spelled = class.flags(); // brings the class's invariant into the proof's scope
     words.push(0);
     push_directory(words, places.runs, class.slots());
     push_interfaces(words, class.interfaces());

@@ -74,7 +74,7 @@ pub(crate) struct Places {
 fn words_of(class: &Class) -> u64
     ensures { result ≡ min (record_len class.now) (2 ^ 64 - 1) }
 {
-    let _spelled = class.flags();
+    let _spelled = class.flags(); // brings the class's invariant into the proof's scope
     let counted = 9 + class.slots().len() as u64 + class.interfaces().len() as u64;
     counted
         .saturating_add(utf8_words(class.slots()))
@@ -94,7 +94,7 @@ impl Places {
         ensures none { IsNone result → limit < record_len class.now }
         ensures some { IfSome result (λ places. ArePlaces class.now places × (record_len class.now ≤ limit)) }
     {
-        let _spelled = class.flags();
+        let _spelled = class.flags(); // brings the class's invariant into the proof's scope
         let len = words_of(class);
         if len > MAX_WORDS {
             return None;

@@ -37,7 +37,7 @@ impl Prepared {
         ensures words { IfOk result (λ p. p.words ≡ class) }
         ensures of { (c : ClassFile) → KeepsRules c → class ≡ lay c → IfOk result (λ p. IsPreparedOf c p) }
     {
-        let _words = class.words();
+        let _words = class.words(); // brings the record's invariant into the proof's scope
         let name = class.class_name(alloc)?;
         Ok(Prepared {
             name,

@@ -101,7 +101,7 @@ pub fn run_to_end<R: BufRead, W: Write, D: Disk + Drop>(
 {
     let mut store = store;
     let result = run_script(alloc, reader, writer, &mut store);
-    let _is_broken = store.is_broken();
+    let _is_broken = store.is_broken(); // brings what a working store stands for into the proof's scope
     (result, store.into_disk())
 }
 
