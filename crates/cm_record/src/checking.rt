@@ -4,6 +4,7 @@ ghost use Rattle.cm_record.specs.Layout.{limit, IsRecord};
 ghost use Rattle.cm_record.specs.Reading.{Leaves, left1, left2, left3, width_left, run_at, constant_at, slots_at, interfaces_from, attribute_at, attributes_from, member_at, members_from, pool_from, pool_left, body_from, body_left, class_at};
 
 use crate::entry::{Entry, attribute_word, entry_at, first, fourth, is_wide, second, third, upper};
+use crate::names::words_from;
 use crate::packing::{SECOND, bytes_of, word_of};
 use crate::places::MAX_WORDS;
 use crate::whole::{head_is_right, sections_end};
@@ -248,7 +249,7 @@ fn skip_body<'a, 'b, 'c>(
 }
 
 /// Nothing, where each section is there and ends where the next begins.
-#[tactic(auto, using(std::proofs::lemmas::List::take_rest), unfolding(crate::specs::Reading::class_at))]
+#[tactic(auto, unfolding(crate::specs::Reading::class_at))]
 fn sections_fit(words: &[u64]) -> Option<()>
     requires { length words.now ≤ limit }
     ensures { is_some result ≡ is_some (class_at words.now) }
@@ -259,14 +260,14 @@ fn sections_fit(words: &[u64]) -> Option<()>
     let total = words.len();
     let (numbers, counts) = (words[1], words[2]);
     let (count, interfaces) = (first(counts) as usize - 1, fourth(numbers) as usize);
-    let runs = &words[words[7] as usize..];
-    let (main, runs) = skip_pool(total, count, interfaces, &words[9..], runs)?;
+    let runs = words_from(words, words[7] as usize);
+    let (main, runs) = skip_pool(total, count, interfaces, words_from(words, 9), runs)?;
     let members = (
         second(counts) as usize,
         third(counts) as usize,
         fourth(counts) as usize,
     );
-    let attributes = &words[words[6] as usize..];
+    let attributes = words_from(words, words[6] as usize);
     let (main, attributes, runs) = skip_body(total, members, main, attributes, runs)?;
     if sections_end(words, main, attributes, runs) {
         Some(())

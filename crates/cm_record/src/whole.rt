@@ -4,6 +4,7 @@ ghost use Rattle.cm_record.specs.Layout.{limit};
 ghost use Rattle.cm_record.specs.Reading.{Gives, first_of, head_is_right as head_is_right_of, sections_end as sections_end_of, pool_from, body_from, class_at};
 
 use crate::entry::{first, fourth, second, third};
+use crate::names::words_from;
 use crate::reading::{read_attributes, read_interfaces, read_members, read_slots};
 use crate::refusal::RecordFault;
 use cm_class::{Attribute, ClassFile, Items, Member, Slot};
@@ -111,7 +112,7 @@ fn read_body<'a, 'b, 'c>(
 }
 
 /// The class whose layout the words are.
-#[tactic(auto, using(std::proofs::lemmas::List::take_rest), unfolding(crate::specs::Reading::class_at))]
+#[tactic(auto, unfolding(crate::specs::Reading::class_at))]
 pub(crate) fn read_class(alloc: Global, words: &[u64]) -> Result<ClassFile, RecordFault>
     requires { length words.now ≤ limit }
     ensures { Gives (λ c. c) result (class_at words.now) }
@@ -121,13 +122,13 @@ pub(crate) fn read_class(alloc: Global, words: &[u64]) -> Result<ClassFile, Reco
     }
     let total = words.len();
     let (numbers, counts) = (words[1], words[2]);
-    let runs = &words[words[7] as usize..];
+    let runs = words_from(words, words[7] as usize);
     let (slots, interfaces, main, runs) = read_pool(
         alloc,
         total,
         first(counts) as usize - 1,
         fourth(numbers) as usize,
-        &words[9..],
+        words_from(words, 9),
         runs,
     )?;
     let members = (
@@ -135,7 +136,7 @@ pub(crate) fn read_class(alloc: Global, words: &[u64]) -> Result<ClassFile, Reco
         third(counts) as usize,
         fourth(counts) as usize,
     );
-    let attributes = &words[words[6] as usize..];
+    let attributes = words_from(words, words[6] as usize);
     let body = read_body(alloc, total, members, main, attributes, runs)?;
     if !sections_end(words, body.main, body.attributes, body.runs) {
         return Err(RecordFault::NotARecord);
