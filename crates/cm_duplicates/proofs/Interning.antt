@@ -1,5 +1,5 @@
 -- A table of Utf8s after one more.
-use Rattle.std.proofs.Common.{◌≡◌, ⊎_elim, ℕ, ◌<◌, true, false, cond, List, length, get_or, Option, Some, None, refl, sym, ap, ◌∙◌, unwrap_or, bytes_eq, get_or-set_same, get_or-set_other}
+use Rattle.std.proofs.Common.{◌≡◌, ⊎_elim, ℕ, ◌<◌, Bool, true, false, cond, List, length, get_or, Option, Some, None, refl, sym, ap, ◌∙◌, unwrap_or, bytes_eq, get_or-set_same, get_or-set_other}
 use Rattle.std.specs.List.{slice_set}
 use Rattle.std.specs.Cmp.Lexicographic.{bytes_decides}
 use Rattle.std.proofs.lemmas.Bool.{cases_Bool, cases_eq}
@@ -66,3 +66,13 @@ knows_more c m known place i within found knows index j h = ⊎_elim here (λ ne
         let at_place : get_or (slice_set known place (Some i)) place None ≡ Some j = rw e at h in
         let is : i ≡ j = same (rw get_or-set_same at at_place) in
         ap (λ (k : ℕ). interned m (utf8 c k)) e ∙ found ∙ ap (λ (k : ℕ). Some k) is
+
+-- what stood for bytes is put back
+pub put_back : (old between new : Interned) (bytes : List ℕ) (index before : ℕ) → interned new bytes ≡ Some before
+    → ((q : List ℕ) → interned between q ≡ cond (bytes_eq bytes q) (Some index) (interned old q)) → ((q : List ℕ) → interned new q ≡ cond (bytes_eq bytes q) (Some before) (interned between q))
+    → (q : List ℕ) → interned new q ≡ cond (bytes_eq bytes q) (interned new bytes) (interned old q)
+put_back old between new bytes index before back put puts q = by_test (bytes_eq bytes q) (put q) (puts q)
+  where
+    by_test : (t : Bool) → interned between q ≡ cond t (Some index) (interned old q) → interned new q ≡ cond t (Some before) (interned between q) → interned new q ≡ cond t (interned new bytes) (interned old q)
+    by_test true a b = b ∙ sym back
+    by_test false a b = b ∙ a

@@ -33,11 +33,12 @@ fn intern<'a>(
         ≡ (if bytes_eq bytes.now q then interned table.new bytes.now else interned table.old q)) }
     ensures err { OnErr result ((q : List ℕ) → interned table.new q ≡ interned table.old q) }
 {
-    if let Some(before) = table.get(&bytes) {
-        return Ok(*before);
-    }
-    table.insert(bytes, index)?;
-    Ok(index)
+    // Most bytes are new, so they are put in first, and what stood for them before is put back.
+    let Some(before) = table.insert(bytes, index)? else {
+        return Ok(index);
+    };
+    table.insert(bytes, before)?;
+    Ok(before)
 }
 
 impl<'a> Interner<'a> {
