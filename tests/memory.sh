@@ -39,13 +39,13 @@ sweep cm_pool tests::a_failed_allocation_leaves_the_pool_as_it_was 1
 sweep cm_arena tests::places_words 3
 sweep cm_arena tests::takes_larger_chunks_in_a_longer_chain 7
 sweep cm_class tests::a_fault_behind_a_refusal 11
-sweep cm_store_tests stores::a_refused_growth_leaves_the_store_as_it_was 37
+sweep cm_store_tests stores::a_refused_growth_leaves_the_store_as_it_was 33
 
 # The program's own, on a script with commands that are done, refused, and looked up.
 a=cafebabe000000340005070002010001410700040100106a6176612f6c616e672f4f626a6563740021000100030000000000000000
 "$program" --help >"$work/log" 2>&1 # builds it where it is missing
 printf 'loader app\ndefine app %s\nfind app A\nloader app\n' "$a" |
-    tests/refused_memory.py "$top/crates/cmcache/out/cmcache" "$library" 114
+    tests/refused_memory.py "$top/crates/cmcache/out/cmcache" "$library" 107
 check_last "the program with a refused allocation"
 
 # asks NAME HEX: reading, judging and recording this class asks for no more than 4,096 bytes at once, though it claims more.
