@@ -1,1 +1,2 @@
 pub mod OneSlot
+pub mod Apart

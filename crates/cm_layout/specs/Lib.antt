@@ -5,3 +5,4 @@ pub mod Superblock
 pub mod Rows
 pub mod Rules
 pub mod Frames
+pub mod Laws

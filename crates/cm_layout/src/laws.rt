@@ -4,6 +4,7 @@ ghost use Rattle.std.specs.Prelude.{◌≡◌};
 ghost use Rattle.cm_layout.specs.declared.entry.Entry.{Entry};
 ghost use Rattle.cm_layout.specs.declared.heads.HalfHead.{HalfHead};
 ghost use Rattle.cm_layout.specs.declared.heads.GroupHead.{GroupHead};
+ghost use Rattle.cm_layout.specs.Laws.{RowsAreApart};
 ghost use Rattle.cm_layout.specs.Slots.{entry_slot, FitsEntry, half_head_slot, FitsHalfHead, group_head_slot, FitsGroupHead};
 
 /// A slot tells its entry: no two entries that fit have one slot.
@@ -17,4 +18,10 @@ pub fn slot_determines_head()
         → half_head_slot h ≡ half_head_slot g → h ≡ g }
     ensures groups { (h g : GroupHead) → FitsGroupHead h → FitsGroupHead g
         → group_head_slot h ≡ group_head_slot g → h ≡ g }
+{}
+
+/// Rows that keep the rules, and entries that do, leave chunks apart: those that differ share no word,
+/// and none has two loaders.
+pub fn rows_are_apart()
+    ensures { RowsAreApart }
 {}
