@@ -1,7 +1,6 @@
 use Rattle.std.proofs.Common.{◌≡◌, suc, true, false, cond, length, get_or, sym, ap, ◌∙◌, arith}
 use Rattle.cm_pool.specs.declared.chunk.Chunk.{Chunk}
 use Rattle.cm_pool.specs.Chunks.{same_chunk}
-use Rattle.cm_arena.specs.Chains.{same_chunk}
 use Rattle.cm_arena.proofs.ChainFacts.{next-chain_of}
 use Rattle.cm_arena.proofs.arena.next_offset.Goals as goal
 
