@@ -1,7 +1,9 @@
 -- The contents of attributes (JVMS SE 8, section 4.7), as far as they are looked into: each is a
 -- list of parts. What that says of all of the bytes is a law above these definitions
 -- (`specs/Parts.antt`).
-use Rattle.std.specs.Prelude.{ℕ, zero, suc, ◌+◌, ◌*◌, Bool, true, false, ◌&&◌, ◌||◌, List, [], ◌∷◌, length, drop, Option, Some, None, option_and_then, slice_get, nat_lt, nat_le, ◌==◌, if◌then◌else◌, bytes_eq, codes}
+use Rattle.std.specs.Prelude.{ℕ, zero, suc, ◌+◌, ◌*◌, Bool, true, false, ◌&&◌, ◌||◌, List, [], ◌∷◌}
+use Rattle.std.specs.Prelude.{length, drop, Option, Some, None, option_and_then, slice_get, nat_lt}
+use Rattle.std.specs.Prelude.{nat_le, ◌==◌, if◌then◌else◌, bytes_eq, codes}
 use Rattle.std.specs.Option.{option_map_or}
 use Rattle.cm_class.specs.Names.{names, names_such}
 use Rattle.cm_class.specs.declared.kind.Kind.{Kind}
@@ -111,7 +113,8 @@ value_kind descriptor =
     else if bytes_eq descriptor (codes "F") then Some kinds.Float
     else if bytes_eq descriptor (codes "D") then Some kinds.Double
     else if bytes_eq descriptor (codes "I") || bytes_eq descriptor (codes "S")
-    || bytes_eq descriptor (codes "C") || bytes_eq descriptor (codes "B") || bytes_eq descriptor (codes "Z")
+    || bytes_eq descriptor (codes "C") || bytes_eq descriptor (codes "B")
+    || bytes_eq descriptor (codes "Z")
     then Some kinds.Integer
     else if bytes_eq descriptor (codes "Ljava/lang/String;") then Some kinds.String
     else None

@@ -11,7 +11,8 @@ use Rattle.cm_attributes.specs.declared.known.Known.{Known}
 use Rattle.cm_attributes.specs.declared.known.Known.TheVariants as known
 use Rattle.cm_attributes.specs.declared.part.Part.{Part}
 use Rattle.cm_attributes.specs.declared.part.Part.TheVariants.{Any, Names, Loadable}
-use Rattle.cm_attributes.specs.Contents.{passes, value_kind, one_utf8, exception, enclosing_method, inner_class}
+use Rattle.cm_attributes.specs.Contents.{passes, value_kind, one_utf8, exception, enclosing_method}
+use Rattle.cm_attributes.specs.Contents.{inner_class}
 
 -- there is one number for each part, and it passes the part's test
 abbrev pub Pass : ClassFile → List Part → List ℕ → Type 0

@@ -1,6 +1,7 @@
 //! The content of BootstrapMethods (JVMS 4.7.23).
 ghost use Rattle.std.specs.Prelude.{◌≡◌, option_copied};
-ghost use Rattle.cm_attributes.specs.Contents.{past_counted, past_bootstrap_method, told_count, bootstrap_count};
+ghost use Rattle.cm_attributes.specs.Contents.{past_counted, past_bootstrap_method, told_count};
+ghost use Rattle.cm_attributes.specs.Contents.{bootstrap_count};
 
 use crate::contents::is_content;
 use crate::known::{Known, first_place};

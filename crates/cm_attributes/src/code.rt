@@ -1,6 +1,7 @@
 //! The content of a Code (JVMS 4.7.3).
 ghost use Rattle.std.specs.Prelude.{◌≡◌, option_copied, option_map};
-ghost use Rattle.cm_attributes.specs.Contents.{handler_of, is_handler, past_handler, past_attribute, past_counted, code_of, past_code};
+ghost use Rattle.cm_attributes.specs.Contents.{handler_of, is_handler, past_handler};
+ghost use Rattle.cm_attributes.specs.Contents.{past_attribute, past_counted, code_of, past_code};
 
 use crate::numbers::{past, read_u2, read_u4};
 use crate::part::{Part, passes, past_parts};

@@ -1,7 +1,8 @@
 //! The parts of contents: numbers of two bytes.
 ghost use Rattle.std.specs.Prelude.{◌≡◌, option_copied};
 ghost use Rattle.cm_class.specs.Names.{names_such};
-ghost use Rattle.cm_attributes.specs.Contents.{is_loadable, passes, past_part, past_parts, past_counted, is_row, are_rows};
+ghost use Rattle.cm_attributes.specs.Contents.{is_loadable, passes, past_part, past_parts};
+ghost use Rattle.cm_attributes.specs.Contents.{past_counted, is_row, are_rows};
 
 use crate::numbers::{is_whole, read_u2};
 use cm_class::{Class, Constant, Kind};

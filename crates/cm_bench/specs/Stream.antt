@@ -1,5 +1,6 @@
 -- Class files one behind another, each behind its length.
-use Rattle.std.specs.Prelude.{◌≡◌, ℕ, ◌+◌, ◌^◌, ◌<◌, ◌≤◌, List, ◌++◌, length, take, drop, Option, Some, None, option_and_then, nat_lt, if◌then◌else◌, Result, Ok, Err}
+use Rattle.std.specs.Prelude.{◌≡◌, ℕ, ◌+◌, ◌^◌, ◌<◌, ◌≤◌, List, ◌++◌, length, take, drop, Option}
+use Rattle.std.specs.Prelude.{Some, None, option_and_then, nat_lt, if◌then◌else◌, Result, Ok, Err}
 use Rattle.std.specs.List.{flat_map, AllByRecursion}
 use Rattle.std.specs.Int.{Width, w32, byte_len, to_be_bytes, from_be_bytes}
 use Rattle.cm_bench.specs.declared.stream.StreamFault.{StreamFault}
@@ -24,7 +25,8 @@ AllFit classes = AllByRecursion Fits classes
 abbrev pub EndsInLength : List ℕ → Type 0
 EndsInLength rest = (0 < length rest) × (length rest < 4)
 
--- what is behind the last whole class ends inside a class: there is a length, and fewer bytes than it says
+-- what is behind the last whole class ends inside a class: there is a length, and fewer bytes than
+-- it says
 abbrev pub EndsInClass : List ℕ → Type 0
 EndsInClass rest = (4 ≤ length rest) × (length rest < 4 + from_be_bytes w32 (take 4 rest))
 
@@ -44,13 +46,16 @@ IsFault bytes (InClass at) = EndsEarly bytes at EndsInClass
 IsFault bytes NoMemory = Unit {0}
 
 -- the answer for a stream of these classes, unless memory is refused
-abbrev pub Answers : {X : Type 0} → (X → List (List ℕ)) → List (List ℕ) → Result X StreamFault → Type 0
+abbrev pub Answers : {X : Type 0} → (X → List (List ℕ)) → List (List ℕ) → Result X StreamFault
+    → Type 0
 Answers view classes (Ok found) = view found ≡ classes
 Answers view classes (Err fault) = fault ≡ NoMemory
 
 -- a number at the front of bytes, and what is behind it
 abbrev pub number_at : Width → List ℕ → Option (ℕ × List ℕ)
-number_at w bytes = if nat_lt (length bytes) (byte_len w) then None else Some (from_be_bytes w (take (byte_len w) bytes), drop (byte_len w) bytes)
+number_at w bytes =
+    if nat_lt (length bytes) (byte_len w) then None
+    else Some (from_be_bytes w (take (byte_len w) bytes), drop (byte_len w) bytes)
 
 -- the first bytes, so many as a number says, and what is behind them
 abbrev pub piece_at : ℕ × List ℕ → Option (List ℕ × List ℕ)

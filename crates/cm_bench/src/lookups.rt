@@ -55,8 +55,8 @@ impl Tally {
     }
 }
 
-/// Of how many members of a class each is looked for, at most. A look-up goes over the members before it, so that of
-/// 65,535 fields would take minutes.
+/// Of how many members of a class each is looked for, at most. A look-up goes over the members
+/// before it, so that of 65,535 fields would take minutes.
 const MOST_MEMBERS: usize = 1_000;
 
 /// The signatures of members.

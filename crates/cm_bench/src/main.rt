@@ -1,7 +1,7 @@
 //! `cm_bench`: what reading, judging and recording class files costs.
 //!
-//! It reads class files from standard input, each behind its length in four bytes, and runs the reader,
-//! the rules and the records over them. Without `--passes` it prints counts alone.
+//! It reads class files from standard input, each behind its length in four bytes, and runs the
+//! reader, the rules and the records over them. Without `--passes` it prints counts alone.
 #![tactic(auto)]
 
 mod command;

@@ -1,6 +1,7 @@
 //! Class files one behind another, each behind its length.
 ghost use Rattle.std.specs.Prelude.{◌≡◌, ◌≤◌, ◌<◌, List, ℕ, length, map, option_map, IfOk, IfErr};
-ghost use Rattle.cm_bench.specs.Stream.{stream_of, AllFit, IsFault, Answers, EndsInLength, EndsInClass, first_at};
+ghost use Rattle.cm_bench.specs.Stream.{stream_of, AllFit, IsFault, Answers, EndsInLength};
+ghost use Rattle.cm_bench.specs.Stream.{EndsInClass, first_at};
 ghost use Rattle.cm_bench.specs.declared.stream.StreamFault.TheVariants.{NoMemory};
 
 use byteorder::{BigEndian, ByteOrder};
@@ -40,7 +41,8 @@ impl<T: Drop> From<AllocFailed<T>> for StreamFault {
     }
 }
 
-/// The class at the front of a stream, and what is behind it; none where the stream ends before it does.
+/// The class at the front of a stream, and what is behind it; none where the stream ends before it
+/// does.
 #[tactic(auto, unfolding(crate::specs::Stream::first_at))]
 fn first_class(bytes: &[u8]) -> Option<(&[u8], &[u8])>
     ensures { option_map (λ x. (x.0.now, x.1.now)) result ≡ first_at bytes.now }
@@ -70,7 +72,9 @@ fn fault_at(at: usize, left: usize) -> StreamFault
 
 /// The classes of a stream, one after another from its front.
 fn split(alloc: Global, bytes: &[u8]) -> Result<Vec<&[u8]>, StreamFault>
-    ensures ok { IfOk result (λ v. AllFit (map (λ class. class.now) v.items) × (bytes.now ≡ stream_of (map (λ class. class.now) v.items))) }
+    ensures ok { IfOk result
+        (λ v. AllFit (map (λ class. class.now) v.items)
+        × (bytes.now ≡ stream_of (map (λ class. class.now) v.items))) }
     ensures fault { IfErr result (IsFault bytes.now) }
 {
     let mut classes = Vec::new(alloc);
@@ -85,12 +89,15 @@ fn split(alloc: Global, bytes: &[u8]) -> Result<Vec<&[u8]>, StreamFault>
     Ok(classes)
 }
 
-/// The class files of a stream, each of which stands behind its length (four bytes, big-endian). They are
-/// not copied, so a false length asks for no memory.
+/// The class files of a stream, each of which stands behind its length (four bytes, big-endian).
+/// They are not copied, so a false length asks for no memory.
 ///
-/// It is refused exactly where the stream ends inside a length or inside a class, or with `NoMemory`.
+/// It is refused exactly where the stream ends inside a length or inside a class, or with
+/// `NoMemory`.
 pub fn classes_in(alloc: Global, bytes: &[u8]) -> Result<Vec<&[u8]>, StreamFault>
-    ensures ok { IfOk result (λ v. AllFit (map (λ class. class.now) v.items) × (bytes.now ≡ stream_of (map (λ class. class.now) v.items))) }
+    ensures ok { IfOk result
+        (λ v. AllFit (map (λ class. class.now) v.items)
+        × (bytes.now ≡ stream_of (map (λ class. class.now) v.items))) }
     ensures fault { IfErr result (IsFault bytes.now) }
 
     // The stream of any classes is answered with these, unless an allocation failed.

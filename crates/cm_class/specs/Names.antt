@@ -1,7 +1,8 @@
 -- What an index of the constant pool names (JVMS SE 8, section 4.4). Index 0 and the second index
 -- of a Long or a Double name nothing. Where an index names nothing of the kind that is asked for,
 -- its bytes are none and its indexes 0.
-use Rattle.std.specs.Prelude.{ℕ, zero, suc, Bool, true, false, ◌&&◌, List, [], Option, Some, None, option_and_then, slice_get, bytes_eq, ◌==◌, if◌then◌else◌}
+use Rattle.std.specs.Prelude.{ℕ, zero, suc, Bool, true, false, ◌&&◌, List, [], Option, Some, None}
+use Rattle.std.specs.Prelude.{option_and_then, slice_get, bytes_eq, ◌==◌, if◌then◌else◌}
 use Rattle.std.specs.Option.{option_map_or}
 use Rattle.cm_class.specs.declared.constant.Constant.{Constant}
 use Rattle.cm_class.specs.declared.constant.Constant.TheVariants as constant

@@ -1,6 +1,9 @@
--- Reading bytes from left to right, as a function of lists: the value and the rest, or where it stops.
--- What it has to do with spellings is proved above it, in `read_shape` and the laws of this crate.
-use Rattle.std.specs.Prelude.{◌≡◌, ◌⊎◌, ℕ, zero, suc, ◌+◌, ◌-◌, Bool, true, false, List, [], ◌∷◌, length, take, drop, Option, Some, None, Result, Ok, Err, nat_lt, ◌==◌, ◌&&◌, if◌then◌else◌}
+-- Reading bytes from left to right, as a function of lists: the value and the rest, or where it
+-- stops. What it has to do with spellings is proved above it, in `read_shape` and the laws of this
+-- crate.
+use Rattle.std.specs.Prelude.{◌≡◌, ◌⊎◌, ℕ, zero, suc, ◌+◌, ◌-◌, Bool, true, false, List, [], ◌∷◌}
+use Rattle.std.specs.Prelude.{length, take, drop, Option, Some, None, Result, Ok, Err, nat_lt, ◌==◌}
+use Rattle.std.specs.Prelude.{◌&&◌, if◌then◌else◌}
 use Rattle.byteorder.specs.Endian.{big_number}
 use Rattle.cm_class.specs.declared.stop.Stop.{Stop}
 use Rattle.cm_class.specs.declared.stop.Stop.TheVariants.{Short, Bad, NoMemory}
@@ -45,14 +48,16 @@ rest_of (Err e) = Err e
 -- ---- putting readers together
 
 -- one reader behind another
-abbrev pub both_at : {A B : Type 0} → (List ℕ → Result (A × List ℕ) Stop) → (List ℕ → Result (B × List ℕ) Stop) → List ℕ → Result ((A × B) × List ℕ) Stop
+abbrev pub both_at : {A B : Type 0} → (List ℕ → Result (A × List ℕ) Stop)
+    → (List ℕ → Result (B × List ℕ) Stop) → List ℕ → Result ((A × B) × List ℕ) Stop
 both_at one two bytes = do
   a ← one bytes
   b ← two a.1
   Ok ((a.0, b.0), b.1)
 
 -- what is made of the value that was read
-abbrev pub made_at : {A B : Type 0} → (A → B) → (List ℕ → Result (A × List ℕ) Stop) → List ℕ → Result (B × List ℕ) Stop
+abbrev pub made_at : {A B : Type 0} → (A → B) → (List ℕ → Result (A × List ℕ) Stop) → List ℕ
+    → Result (B × List ℕ) Stop
 made_at make one bytes = do
   a ← one bytes
   Ok (make a.0, a.1)
@@ -61,7 +66,8 @@ made_at make one bytes = do
 
 -- a number of so many bytes
 abbrev pub number_at : ℕ → List ℕ → Result (ℕ × List ℕ) Stop
-number_at n bytes = if nat_lt (length bytes) n then Err Short else Ok (big_number n bytes, drop n bytes)
+number_at n bytes =
+    if nat_lt (length bytes) n then Err Short else Ok (big_number n bytes, drop n bytes)
 
 abbrev pub byte_at : List ℕ → Result (ℕ × List ℕ) Stop
 byte_at [] = Err Short
@@ -92,7 +98,8 @@ count_at bytes = do
 -- ---- lists
 
 -- so many items
-unfoldable pub many_at : {A : Type 0} → (List ℕ → Result (A × List ℕ) Stop) → ℕ → List ℕ → Result (List A × List ℕ) Stop
+unfoldable pub many_at : {A : Type 0} → (List ℕ → Result (A × List ℕ) Stop) → ℕ → List ℕ
+    → Result (List A × List ℕ) Stop
 many_at item zero bytes = Ok ([], bytes)
 many_at item (suc n) bytes = do
   first ← item bytes
@@ -100,7 +107,8 @@ many_at item (suc n) bytes = do
   Ok (first.0 ∷ others.0, others.1)
 
 -- a count, and that many items
-unfoldable pub counted_at : {A : Type 0} → (List ℕ → Result (A × List ℕ) Stop) → List ℕ → Result (List A × List ℕ) Stop
+unfoldable pub counted_at : {A : Type 0} → (List ℕ → Result (A × List ℕ) Stop) → List ℕ
+    → Result (List A × List ℕ) Stop
 counted_at item bytes = do
   n ← number_at 2 bytes
   many_at item n.0 n.1
@@ -134,7 +142,8 @@ takes_two _ = false
 -- the tag of a constant that has so many slots left; a wide one takes two of them
 abbrev pub tag_found : ℕ → Option Kind → List ℕ → Result (Kind × List ℕ) Stop
 tag_found left None bytes = Err (Bad (length bytes + 1))
-tag_found left (Some t) bytes = if takes_two t && nat_lt left 2 then Err (Bad (length bytes + 1)) else Ok (t, bytes)
+tag_found left (Some t) bytes =
+    if takes_two t && nat_lt left 2 then Err (Bad (length bytes + 1)) else Ok (t, bytes)
 
 unfoldable pub tag_at : ℕ → List ℕ → Result (Kind × List ℕ) Stop
 tag_at left [] = Err Short
@@ -151,7 +160,8 @@ unfoldable pub one_at : (ℕ → Constant) → ℕ → List ℕ → Result (Cons
 one_at make n bytes = made_at make (number_at n) bytes
 
 -- two numbers, the second of two bytes, made into a constant
-unfoldable pub two_at : (ℕ → ℕ → Constant) → (List ℕ → Result (ℕ × List ℕ) Stop) → List ℕ → Result (Constant × List ℕ) Stop
+unfoldable pub two_at : (ℕ → ℕ → Constant) → (List ℕ → Result (ℕ × List ℕ) Stop) → List ℕ
+    → Result (Constant × List ℕ) Stop
 two_at make first bytes = made_at (λ x. make x.0 x.1) (both_at first (number_at 2)) bytes
 
 unfoldable pub text_at : List ℕ → Result (Constant × List ℕ) Stop
@@ -193,12 +203,14 @@ slots_at false (suc left) bytes = do
 -- ---- members and classes
 
 unfoldable pub attribute_at : List ℕ → Result (Attribute × List ℕ) Stop
-attribute_at bytes = made_at (λ x. record { name = x.0; bytes = x.1 }) (both_at (number_at 2) (sized_at 4)) bytes
+attribute_at bytes =
+    made_at (λ x. record { name = x.0; bytes = x.1 }) (both_at (number_at 2) (sized_at 4)) bytes
 
 unfoldable pub member_at : List ℕ → Result (Member × List ℕ) Stop
 member_at bytes =
     made_at (λ x. record { flags = x.0; name = x.1.0; descriptor = x.1.1.0; attributes = x.1.1.1 })
-    (both_at (number_at 2) (both_at (number_at 2) (both_at (number_at 2) (counted_at attribute_at)))) bytes
+    (both_at (number_at 2)
+    (both_at (number_at 2) (both_at (number_at 2) (counted_at attribute_at)))) bytes
 
 -- the heading, the pool's count and its slots
 unfoldable pub pool_at : List ℕ → Result (List Slot × List ℕ) Stop
@@ -213,8 +225,10 @@ Body = ℕ × (ℕ × (ℕ × (List ℕ × (List Member × (List Member × List 
 
 abbrev pub body_at : List ℕ → Result (Body × List ℕ) Stop
 body_at bytes =
-    both_at (number_at 2) (both_at (number_at 2) (both_at (number_at 2) (both_at (counted_at (number_at 2))
-    (both_at (counted_at member_at) (both_at (counted_at member_at) (counted_at attribute_at)))))) bytes
+    both_at (number_at 2)
+    (both_at (number_at 2) (both_at (number_at 2) (both_at (counted_at (number_at 2))
+    (both_at (counted_at member_at) (both_at (counted_at member_at) (counted_at attribute_at))))))
+    bytes
 
 unfoldable pub class_at : List ℕ → Result (ClassFile × List ℕ) Stop
 class_at bytes =
@@ -234,11 +248,13 @@ class_at bytes =
 
 -- what a reading of a class file says of all of the bytes
 abbrev pub answer_of : List ℕ → Result (ClassFile × List ℕ) Stop → Result ClassFile ShapeFault
-answer_of bytes (Ok x) = if length x.1 == 0 then Ok x.0 else Err (faults.Trailing (length bytes - length x.1))
+answer_of bytes (Ok x) =
+    if length x.1 == 0 then Ok x.0 else Err (faults.Trailing (length bytes - length x.1))
 answer_of bytes (Err Short) = Err faults.Truncated
 answer_of bytes (Err (Bad left)) = Err (faults.Malformed (length bytes - left))
 answer_of bytes (Err NoMemory) = Err faults.NoMemory
 
 -- it is this answer; or an allocation failed, where the answer is a class file
 abbrev pub IsUnlessRefused : Result ClassFile ShapeFault → Result ClassFile ShapeFault → Type 0
-IsUnlessRefused answer result = (result ≡ answer) ⊎ ((result ≡ Err faults.NoMemory) × ((c : ClassFile) × (answer ≡ Ok c)))
+IsUnlessRefused answer result =
+    (result ≡ answer) ⊎ ((result ≡ Err faults.NoMemory) × ((c : ClassFile) × (answer ≡ Ok c)))

@@ -1,9 +1,10 @@
--- What is said of bytes: which class file they spell, or how they stand to the spellings of all class
--- files. Nothing here speaks of a reader.
+-- What is said of bytes: which class file they spell, or how they stand to the spellings of all
+-- class files. Nothing here speaks of a reader.
 use Rattle.std.specs.Prelude.{◌≡◌, ℕ, ◌<◌, ◌≤◌, List, ◌++◌, length, take, Result, Ok, Err}
 use Rattle.cm_class.specs.declared.class_file.ClassFile.{ClassFile}
 use Rattle.cm_class.specs.declared.fault.ShapeFault.{ShapeFault}
-use Rattle.cm_class.specs.declared.fault.ShapeFault.TheVariants.{Truncated, Trailing, Malformed, NoMemory}
+use Rattle.cm_class.specs.declared.fault.ShapeFault.TheVariants.{Truncated, Trailing, Malformed}
+use Rattle.cm_class.specs.declared.fault.ShapeFault.TheVariants.{NoMemory}
 use Rattle.cm_class.specs.Spelling.{spell, HasSpelling}
 
 -- the bytes are this class file's spelling
@@ -24,13 +25,16 @@ IsTruncated bytes = (c : ClassFile) × HasSpelling c × IsProperBeginning bytes 
 
 -- some spelling, of this length, is a proper beginning of them
 abbrev pub IsTrailing : List ℕ → ℕ → Type 0
-IsTrailing bytes at = (c : ClassFile) × HasSpelling c × IsProperBeginning (spell c) bytes × (at ≡ length (spell c))
+IsTrailing bytes at =
+    (c : ClassFile) × HasSpelling c × IsProperBeginning (spell c) bytes × (at ≡ length (spell c))
 
 -- some spelling begins with the first n of them
 abbrev pub BeginsSpelling : List ℕ → ℕ → Type 0
-BeginsSpelling bytes n = (c : ClassFile) × HasSpelling c × (rest : List ℕ) × (spell c ≡ take n bytes ++ rest)
+BeginsSpelling bytes n =
+    (c : ClassFile) × HasSpelling c × (rest : List ℕ) × (spell c ≡ take n bytes ++ rest)
 
--- no spelling, none of the above, and `at` of them is the longest beginning with which a spelling begins
+-- no spelling, none of the above, and `at` of them is the longest beginning with which a spelling
+-- begins
 pub record IsMalformed (bytes : List ℕ) (at : ℕ) : Type 0 where
   pub no_spelling : IsSpelling bytes → ⊥
   pub not_truncated : IsTruncated bytes → ⊥
@@ -47,7 +51,8 @@ IsAnswer bytes (Err (Trailing at)) = IsTrailing bytes at
 IsAnswer bytes (Err (Malformed at)) = IsMalformed bytes at
 IsAnswer bytes (Err NoMemory) = ⊥
 
--- the same of a fault alone; that an allocation failed is told only of bytes that spell a class file
+-- the same of a fault alone; that an allocation failed is told only of bytes that spell a class
+-- file
 abbrev pub IsFault : List ℕ → ShapeFault → Type 0
 IsFault bytes Truncated = IsTruncated bytes
 IsFault bytes (Trailing at) = IsTrailing bytes at

@@ -1,5 +1,5 @@
--- How a class file of version 52.0 is spelled in bytes (JVMS SE 8, sections 4.1 to 4.7). Numbers are
--- big-endian. A spelling is read beside the tables there, field by field.
+-- How a class file of version 52.0 is spelled in bytes (JVMS SE 8, sections 4.1 to 4.7). Numbers
+-- are big-endian. A spelling is read beside the tables there, field by field.
 use Rattle.std.specs.Prelude.{ℕ, ◌+◌, ◌<◌, ◌^◌, Bool, true, false, List, [], ◌∷◌, ◌++◌, length}
 use Rattle.std.specs.List.{flat_map, AllByRecursion}
 use Rattle.std.specs.Int.{w16, w32, w64, to_be_bytes}
@@ -55,7 +55,8 @@ info (constant.InterfaceMethodref class name_and_type) = u2 class ++ u2 name_and
 info (constant.NameAndType name descriptor) = u2 name ++ u2 descriptor
 info (constant.MethodHandle kind reference) = u1 kind ++ u2 reference
 info (constant.MethodType descriptor) = u2 descriptor
-info (constant.InvokeDynamic bootstrap_method name_and_type) = u2 bootstrap_method ++ u2 name_and_type
+info (constant.InvokeDynamic bootstrap_method name_and_type) =
+    u2 bootstrap_method ++ u2 name_and_type
 
 abbrev pub constant_bytes : Constant → List ℕ
 constant_bytes c = u1 (tag c) ++ info c
@@ -128,7 +129,8 @@ ConstantFits (constant.InterfaceMethodref class name_and_type) = IsU2 class × I
 ConstantFits (constant.NameAndType name descriptor) = IsU2 name × IsU2 descriptor
 ConstantFits (constant.MethodHandle kind reference) = IsU1 kind × IsU2 reference
 ConstantFits (constant.MethodType descriptor) = IsU2 descriptor
-ConstantFits (constant.InvokeDynamic bootstrap_method name_and_type) = IsU2 bootstrap_method × IsU2 name_and_type
+ConstantFits (constant.InvokeDynamic bootstrap_method name_and_type) =
+    IsU2 bootstrap_method × IsU2 name_and_type
 
 -- The slots from one on, where `second` says whether it is the second index of the constant before
 -- it: exactly those indexes are unusable.

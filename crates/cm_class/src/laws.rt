@@ -1,4 +1,5 @@
-//! What holds of the definitions themselves. Each law is the contract of a function with an empty body.
+//! What holds of the definitions themselves. Each law is the contract of a function with an empty
+//! body.
 ghost use Rattle.std.specs.Prelude.{◌≡◌, List, ℕ, Result};
 ghost use Rattle.cm_class.specs.declared.class_file.ClassFile.{ClassFile};
 ghost use Rattle.cm_class.specs.declared.fault.ShapeFault.{ShapeFault};
@@ -7,7 +8,8 @@ ghost use Rattle.cm_class.specs.Shape.{IsProperBeginning, IsAnswer};
 
 /// No spelling is a proper beginning of another.
 pub fn no_spelling_begins_another()
-    ensures { (c d : ClassFile) → HasSpelling c → HasSpelling d → IsProperBeginning (spell c) (spell d) → ⊥ }
+    ensures { (c d : ClassFile) → HasSpelling c → HasSpelling d
+        → IsProperBeginning (spell c) (spell d) → ⊥ }
 {}
 
 /// One spelling is that of one class file.
@@ -17,6 +19,8 @@ pub fn one_class_for_one_spelling()
 
 /// Bytes spell a class file or have one of the three faults, and not two of these.
 pub fn each_text_has_one_answer()
-    ensures some { (bytes : List ℕ) → AreBytes bytes → (answer : Result ClassFile ShapeFault) × IsAnswer bytes answer }
-    ensures one { (bytes : List ℕ) (a b : Result ClassFile ShapeFault) → IsAnswer bytes a → IsAnswer bytes b → a ≡ b }
+    ensures some { (bytes : List ℕ) → AreBytes bytes
+        → (answer : Result ClassFile ShapeFault) × IsAnswer bytes answer }
+    ensures one { (bytes : List ℕ) (a b : Result ClassFile ShapeFault) → IsAnswer bytes a
+        → IsAnswer bytes b → a ≡ b }
 {}

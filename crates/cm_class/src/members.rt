@@ -1,6 +1,7 @@
 //! Readers of attributes, interfaces, fields and methods.
 ghost use Rattle.std.specs.Prelude.{◌≡◌};
-ghost use Rattle.cm_class.specs.Reading.{Gives, number_at, many_at, counted_at, attribute_at, member_at};
+ghost use Rattle.cm_class.specs.Reading.{Gives, number_at, many_at, counted_at, attribute_at};
+ghost use Rattle.cm_class.specs.Reading.{member_at};
 
 use crate::class_file::{Attribute, Member};
 use crate::items::Items;

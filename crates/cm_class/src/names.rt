@@ -34,7 +34,9 @@ impl Constant {
 impl Class {
     ghost use Rattle.std.specs.Prelude.{◌≡◌, option_copied};
     ghost use Rattle.std.specs.Option.{option_map_or};
-    ghost use Rattle.cm_class.specs.Names.{constant_named, names, utf8, names_utf8, class_name_index, class_name, name_index_at, descriptor_index_at, pair_index, reference_name};
+    ghost use Rattle.cm_class.specs.Names.{constant_named, names, utf8, names_utf8};
+    ghost use Rattle.cm_class.specs.Names.{class_name_index, class_name, name_index_at};
+    ghost use Rattle.cm_class.specs.Names.{descriptor_index_at, pair_index, reference_name};
 
     /// The constant that an index of the pool names; none at 0, behind a Long or a Double, and past
     /// the pool (JVMS 4.4).

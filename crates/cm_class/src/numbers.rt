@@ -1,8 +1,9 @@
-//! Readers of numbers and of lists of bytes, big-endian. Each answers what it read and the bytes that
-//! are left.
+//! Readers of numbers and of lists of bytes, big-endian. Each answers what it read and the bytes
+//! that are left.
 ghost use Rattle.std.specs.Prelude.{◌≡◌, ◌<◌, ◌≤◌, ◌*◌, ℕ, length, IfOk};
 ghost use Rattle.cm_class.specs.Spelling.{heading};
-ghost use Rattle.cm_class.specs.Reading.{GivesExactly, number_at, byte_at, bytes_at, sized_at, literal_at, expected_at, count_at};
+ghost use Rattle.cm_class.specs.Reading.{GivesExactly, number_at, byte_at, bytes_at, sized_at};
+ghost use Rattle.cm_class.specs.Reading.{literal_at, expected_at, count_at};
 
 use crate::items::Items;
 use crate::stop::Stop;
@@ -48,8 +49,8 @@ pub(crate) fn read_u64(bytes: &[u8]) -> Result<(u64, &[u8]), Stop>
     Ok((BigEndian::read_u64(bytes), &bytes[8..]))
 }
 
-/// How many items to make room for, where a count is told and each item takes at least so many bytes: no
-/// more of them than the bytes can spell, so that a false count asks for no memory.
+/// How many items to make room for, where a count is told and each item takes at least so many
+/// bytes: no more of them than the bytes can spell, so that a false count asks for no memory.
 pub(crate) fn room_for(count: u16, least: usize, bytes: &[u8]) -> usize
     requires { 0 < least }
     ensures told { result ≤ count }

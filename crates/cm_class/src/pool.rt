@@ -1,6 +1,7 @@
 //! Readers of the constant pool.
 ghost use Rattle.std.specs.Prelude.{◌≡◌, false};
-ghost use Rattle.cm_class.specs.Reading.{Gives, GivesExactly, tag_at, info_at, constant_at, slots_at, pool_at, both_at, number_at};
+ghost use Rattle.cm_class.specs.Reading.{Gives, GivesExactly, tag_at, info_at, constant_at};
+ghost use Rattle.cm_class.specs.Reading.{slots_at, pool_at, both_at, number_at};
 
 use crate::constant::{Constant, Slot};
 use crate::items::Items;
@@ -27,7 +28,8 @@ pub(crate) fn tag(left: u16, bytes: &[u8]) -> Result<(Kind, &[u8]), Stop>
 
 /// The two numbers of a constant.
 pub(crate) fn two(bytes: &[u8]) -> Result<(u16, u16, &[u8]), Stop>
-    ensures { GivesExactly (λ x. ((x.0, x.1), x.2.now)) result (both_at (number_at 2) (number_at 2) bytes.now) }
+    ensures { GivesExactly (λ x. ((x.0, x.1), x.2.now)) result
+        (both_at (number_at 2) (number_at 2) bytes.now) }
 {
     let (first, rest) = read_u16(bytes)?;
     let (second, rest) = read_u16(rest)?;

@@ -3,7 +3,8 @@ ghost use Rattle.std.specs.Prelude.{◌≡◌, ◌⊎◌, IfOk, IfErr, Result};
 ghost use Rattle.cm_class.specs.declared.class_file.ClassFile.{ClassFile};
 ghost use Rattle.cm_class.specs.declared.fault.ShapeFault.{ShapeFault};
 ghost use Rattle.cm_class.specs.Shape.{Spells, IsSpelling, IsFault, IsAnswer};
-ghost use Rattle.cm_class.specs.Reading.{Gives, GivesExactly, rest_of, class_at, answer_of, IsUnlessRefused};
+ghost use Rattle.cm_class.specs.Reading.{Gives, GivesExactly, rest_of, class_at, answer_of};
+ghost use Rattle.cm_class.specs.Reading.{IsUnlessRefused};
 
 use crate::class::Class;
 use crate::class_file::ClassFile;
@@ -40,8 +41,8 @@ fn class_file(alloc: Global, bytes: &[u8]) -> Result<(ClassFile, &[u8]), Stop>
     Ok((file, rest))
 }
 
-/// What refuses bytes of which reading a class file leaves this, or stops there. Where nothing is left
-/// they spell one, and an allocation failed.
+/// What refuses bytes of which reading a class file leaves this, or stops there. Where nothing is
+/// left they spell one, and an allocation failed.
 fn refusal(bytes: &[u8], left: Result<&[u8], Stop>) -> ShapeFault
     requires { GivesExactly (λ x. x.now) left (rest_of (class_at bytes.now)) }
     ensures { IsUnlessRefused (answer_of bytes.now (class_at bytes.now)) (Err result) }
@@ -71,9 +72,9 @@ fn whole(alloc: Global, bytes: &[u8]) -> Result<Class, ShapeFault>
 /// Reads a class file of version 52.0 (JVMS 4.1) from all of the bytes, in one pass.
 ///
 /// It is refused exactly where the bytes are no spelling of a class file, with the one fault that
-/// they have; or with `NoMemory`, only where they are one and an allocation failed. It reserves memory
-/// only for bytes that are there, whatever the counts and lengths in the file say. Where memory was
-/// refused, and only there, a second pass, which takes none, looks for a fault.
+/// they have; or with `NoMemory`, only where they are one and an allocation failed. It reserves
+/// memory only for bytes that are there, whatever the counts and lengths in the file say. Where
+/// memory was refused, and only there, a second pass, which takes none, looks for a fault.
 pub fn read_shape(alloc: Global, bytes: &[u8]) -> Result<Class, ShapeFault>
     ensures ok { IfOk result (Spells bytes.now) }
     ensures fault { IfErr result (IsFault bytes.now) }

@@ -17,8 +17,8 @@ const POOL: [u8; 79] = [
     0xff, 0, 13, 11, 0, 8, 0, 13, 12, 0, 1, 0, 2, 15, 6, 0, 11, 16, 0, 1, 18, 0, 0, 0, 13,
 ];
 
-/// What stands behind the pool: an interface, a field with an attribute of two bytes, a method, and an
-/// attribute with none.
+/// What stands behind the pool: an interface, a field with an attribute of two bytes, a method, and
+/// an attribute with none.
 const BODY: [u8; 46] = [
     2, 0, 0, 8, 0, 0, 0, 1, 0, 8, 0, 1, 0, 0x19, 0, 1, 0, 1, 0, 1, 0, 1, 0, 0, 0, 2, 0xab, 0xcd, 0,
     1, 4, 1, 0, 2, 0, 3, 0, 0, 0, 1, 0, 5, 0, 0, 0, 0,
@@ -240,8 +240,9 @@ fn the_walk_ends_behind_a_class(rt: HostRuntime) -> Result<(), Fail> {
     Ok(())
 }
 
-/// A fault is answered though an allocation failed to what stands before it, and a class is asked for
-/// again: so under `rt try --test --fail-alloc`, whichever allocation of these reads is refused.
+/// A fault is answered though an allocation failed to what stands before it, and a class is asked
+/// for again: so under `rt try --test --fail-alloc`, whichever allocation of these reads is
+/// refused.
 #[test]
 fn a_fault_behind_a_refusal(rt: HostRuntime) -> Result<(), Fail> {
     let mut trailing = [0; 54];

@@ -1,8 +1,10 @@
-//! Where a class file ends in bytes, told without taking memory. Each function stands beside a reader:
-//! it answers what that one leaves or where it stops, and never that an allocation failed.
+//! Where a class file ends in bytes, told without taking memory. Each function stands beside a
+//! reader: it answers what that one leaves or where it stops, and never that an allocation failed.
 ghost use Rattle.std.specs.Prelude.{◌≡◌, false};
 ghost use Rattle.cm_class.specs.Spelling.{is_wide};
-ghost use Rattle.cm_class.specs.Reading.{GivesExactly, rest_of, made_at, number_at, info_at, constant_at, slots_at, pool_at, many_at, counted_at, attribute_at, member_at, class_at};
+ghost use Rattle.cm_class.specs.Reading.{GivesExactly, rest_of, made_at, number_at, info_at};
+ghost use Rattle.cm_class.specs.Reading.{constant_at, slots_at, pool_at, many_at, counted_at};
+ghost use Rattle.cm_class.specs.Reading.{attribute_at, member_at, class_at};
 
 use crate::kind::Kind;
 use crate::numbers::{
@@ -52,7 +54,8 @@ fn after_info(kind: Kind, bytes: &[u8]) -> Result<&[u8], Stop>
 /// Whether a constant is wide, and what follows it, where so many slots are left.
 #[tactic(auto, unfolding(crate::specs::Reading::constant_at))]
 fn after_constant(left: u16, bytes: &[u8]) -> Result<(bool, &[u8]), Stop>
-    ensures { GivesExactly (λ x. (x.0, x.1.now)) result (made_at is_wide (constant_at left) bytes.now) }
+    ensures { GivesExactly (λ x. (x.0, x.1.now)) result
+        (made_at is_wide (constant_at left) bytes.now) }
 {
     let (tag, rest) = tag(left, bytes)?;
     let rest = after_info(tag, rest)?;

@@ -16,19 +16,23 @@ use Rattle.cm_constraints.specs.Subject.{judgement_in}
 use Rattle.cm_constraints.specs.Constants.{in_slot}
 use Rattle.cm_constraints.specs.Constants.{utf8_has_form}
 
-look_up : (slots : List Slot) (i : ℕ) → unwrap_or (slice_get (map judgement_in slots) i) (judgement []) ≡ judgement (option_map_or utf8_in (option_and_then constant_in (slice_get slots i)) [])
+look_up : (slots : List Slot) (i : ℕ)
+    → unwrap_or (slice_get (map judgement_in slots) i) (judgement [])
+    ≡ judgement (option_map_or utf8_in (option_and_then constant_in (slice_get slots i)) [])
 look_up [] i = refl
 look_up (Usable c ∷ slots) zero = refl
 look_up (Unusable ∷ slots) zero = refl
 look_up (slot ∷ slots) (suc i) = look_up slots i
 
 -- at an index that isn't 0
-pub at_index : (c : ClassFile) (table : List Judgement) (index : ℕ) → table ≡ map judgement_in c.slots → (index ≡ 0 → ⊥)
+pub at_index : (c : ClassFile) (table : List Judgement) (index : ℕ)
+    → table ≡ map judgement_in c.slots → (index ≡ 0 → ⊥)
     → unwrap_or (slice_get table (index - 1)) (judgement []) ≡ judgement (utf8 c index)
 at_index c table zero is nonzero = absurd (nonzero refl)
 at_index c table (suc i) is nonzero =
     let place : suc i - 1 ≡ i = omega arith in
-    ap (λ (k : ℕ). unwrap_or (slice_get table k) (judgement [])) place ∙ ap (λ (t : List Judgement). unwrap_or (slice_get t i) (judgement [])) is ∙ look_up c.slots i
+    ap (λ (k : ℕ). unwrap_or (slice_get table k) (judgement [])) place ∙ ap
+    (λ (t : List Judgement). unwrap_or (slice_get t i) (judgement [])) is ∙ look_up c.slots i
 
 pub at_zero : (c : ClassFile) → judgement [] ≡ judgement (utf8 c 0)
 at_zero c = refl
@@ -56,6 +60,8 @@ utf8_in_slot (Usable c) = of c
     of (constant.MethodType n) = refl
     of (constant.InvokeDynamic n m) = refl
 
-pub utf8s_in_table : (slots : List Slot) → list_all (λ found. found.utf8) (map judgement_in slots) ≡ list_all (in_slot utf8_has_form) slots
+pub utf8s_in_table : (slots : List Slot)
+    → list_all (λ found. found.utf8) (map judgement_in slots)
+    ≡ list_all (in_slot utf8_has_form) slots
 utf8s_in_table [] = refl
 utf8s_in_table (slot ∷ slots) = (λ i. utf8_in_slot slot i && utf8s_in_table slots i)

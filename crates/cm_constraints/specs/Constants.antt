@@ -6,10 +6,14 @@ use Rattle.cm_class.specs.declared.constant.Constant.TheVariants as constant
 use Rattle.cm_class.specs.declared.constant.Slot.{Slot}
 use Rattle.cm_class.specs.declared.class_file.ClassFile.{ClassFile}
 use Rattle.cm_attributes.specs.Contents.{bootstrap_count}
-use Rattle.cm_names.specs.Forms.{is_within, has_utf8_form, is_unqualified_name, is_method_name, is_class_name, is_field_descriptor, is_array_descriptor, is_method_descriptor, begins_with, ends_in_void, init, clinit, less}
+use Rattle.cm_names.specs.Forms.{is_within, has_utf8_form, is_unqualified_name, is_method_name}
+use Rattle.cm_names.specs.Forms.{is_class_name, is_field_descriptor, is_array_descriptor}
+use Rattle.cm_names.specs.Forms.{is_method_descriptor, begins_with, ends_in_void, init, clinit}
+use Rattle.cm_names.specs.Forms.{less}
 use Rattle.cm_class.specs.declared.kind.Kind.TheVariants as kinds
 use Rattle.std.specs.Option.{option_map_or}
-use Rattle.cm_class.specs.Names.{constant_in, is_kind, names, names_such, pair_descriptor, pair_name, reference_name, utf8}
+use Rattle.cm_class.specs.Names.{constant_in, is_kind, names, names_such, pair_descriptor}
+use Rattle.cm_class.specs.Names.{pair_name, reference_name, utf8}
 
 -- a test of what stands in a slot; the second slot of a constant has nothing
 abbrev pub in_slot : (Constant → Bool) → Slot → Bool
@@ -92,7 +96,8 @@ abbrev pub handle_has_name : ClassFile → Constant → Bool
 handle_has_name c (constant.MethodHandle kind reference) =
     if kind == 8 then bytes_eq (reference_name c reference) init
     else is_within 1 4 kind
-    || not (bytes_eq (reference_name c reference) init || bytes_eq (reference_name c reference) clinit)
+    || not (bytes_eq (reference_name c reference) init
+    || bytes_eq (reference_name c reference) clinit)
 handle_has_name c _ = true
 
 -- a dynamic call names one of the bootstrap methods (JVMS 4.4.10, 4.7.23)

@@ -68,7 +68,8 @@ one_if b = if b then 1 else 0
 -- how many of public, private and protected
 abbrev pub visibilities : ℕ → ℕ
 visibilities flags =
-    one_if (has flags acc_public) + one_if (has flags acc_private) + one_if (has flags acc_protected)
+    one_if (has flags acc_public) + one_if (has flags acc_private) + one_if
+    (has flags acc_protected)
 
 -- ---- of a class (JVMS 4.1)
 

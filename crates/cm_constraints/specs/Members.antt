@@ -7,11 +7,13 @@ use Rattle.cm_class.specs.Names.{names, utf8}
 use Rattle.cm_class.specs.declared.kind.Kind.TheVariants as kinds
 use Rattle.cm_class.specs.declared.class_file.Member.{Member}
 use Rattle.cm_class.specs.declared.class_file.ClassFile.{ClassFile}
-use Rattle.cm_names.specs.Forms.{is_unqualified_name, is_method_name, is_field_descriptor, is_method_descriptor, method_units, init, clinit}
+use Rattle.cm_names.specs.Forms.{is_unqualified_name, is_method_name, is_field_descriptor}
+use Rattle.cm_names.specs.Forms.{is_method_descriptor, method_units, init, clinit}
 use Rattle.cm_attributes.specs.declared.known.Known.TheVariants as known
 use Rattle.cm_attributes.specs.Names.{count_of, with_name}
 use Rattle.cm_attributes.specs.Contents.{is_content}
-use Rattle.cm_constraints.specs.Flags.{acc_static, acc_native, acc_abstract, has, method_flags_agree}
+use Rattle.cm_constraints.specs.Flags.{acc_static, acc_native, acc_abstract, has}
+use Rattle.cm_constraints.specs.Flags.{method_flags_agree}
 
 -- its name, its descriptor and the names of its attributes are Utf8s
 abbrev pub names_utf8s : ClassFile → Member → Bool

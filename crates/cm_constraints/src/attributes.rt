@@ -1,7 +1,11 @@
 //! What is asked of the attributes of fields, methods and the class.
 ghost use Rattle.std.specs.Prelude.{◌≡◌};
 ghost use Rattle.std.specs.List.{list_all};
-ghost use Rattle.cm_constraints.specs.Attributes.{has_content_of, are_values_of, values_agree, field_attributes_are_right, method_attributes_are_right, is_first_of, class_attribute_is_right, bootstrap_attribute_is_right};
+ghost use Rattle.cm_constraints.specs.Attributes.{has_content_of, are_values_of, values_agree};
+ghost use Rattle.cm_constraints.specs.Attributes.{field_attributes_are_right};
+ghost use Rattle.cm_constraints.specs.Attributes.{method_attributes_are_right, is_first_of};
+ghost use Rattle.cm_constraints.specs.Attributes.{class_attribute_is_right};
+ghost use Rattle.cm_constraints.specs.Attributes.{bootstrap_attribute_is_right};
 
 use crate::flags::{ACC_STATIC, has};
 use cm_attributes::{Known, count, first_place, is_content, is_known, is_value_of};

@@ -1,6 +1,11 @@
 //! What is asked of one constant of the pool.
 ghost use Rattle.std.specs.Prelude.{◌≡◌};
-ghost use Rattle.cm_constraints.specs.Constants.{utf8_has_form, names_member, names_kinds, handle_names, handle_has_kind, class_has_name, field_reference_is_formed, names_method, is_callable, method_reference_is_formed, dynamic_call_is_formed, method_type_is_formed, handle_has_name, dynamic_call_is_bound};
+ghost use Rattle.cm_constraints.specs.Constants.{utf8_has_form, names_member, names_kinds};
+ghost use Rattle.cm_constraints.specs.Constants.{handle_names, handle_has_kind, class_has_name};
+ghost use Rattle.cm_constraints.specs.Constants.{field_reference_is_formed, names_method};
+ghost use Rattle.cm_constraints.specs.Constants.{is_callable, method_reference_is_formed};
+ghost use Rattle.cm_constraints.specs.Constants.{dynamic_call_is_formed, method_type_is_formed};
+ghost use Rattle.cm_constraints.specs.Constants.{handle_has_name, dynamic_call_is_bound};
 
 use crate::subject::Subject;
 use cm_class::{Class, Constant, Kind};

@@ -1,6 +1,8 @@
 //! The access flags, and which of them agree (JVMS 4.1, 4.5 and 4.6).
 ghost use Rattle.std.specs.Prelude.{◌≡◌};
-ghost use Rattle.cm_constraints.specs.Flags.{has, one_if, visibilities, class_flags_agree, interface_field_agrees, field_flags_agree, interface_method_agrees, method_flags_agree};
+ghost use Rattle.cm_constraints.specs.Flags.{has, one_if, visibilities, class_flags_agree};
+ghost use Rattle.cm_constraints.specs.Flags.{interface_field_agrees, field_flags_agree};
+ghost use Rattle.cm_constraints.specs.Flags.{interface_method_agrees, method_flags_agree};
 
 const ACC_PUBLIC: u16 = 0x0001;
 

@@ -1,6 +1,8 @@
 //! What is asked of one method.
 ghost use Rattle.std.specs.Prelude.{◌≡◌};
-ghost use Rattle.cm_constraints.specs.Members.{method_is_named, is_clinit, is_init, units_fit, flags_fit_method, code_count_is_right, code_has_form};
+ghost use Rattle.cm_constraints.specs.Members.{method_is_named, is_clinit, is_init, units_fit};
+ghost use Rattle.cm_constraints.specs.Members.{flags_fit_method, code_count_is_right};
+ghost use Rattle.cm_constraints.specs.Members.{code_has_form};
 
 use crate::flags::{ACC_ABSTRACT, ACC_NATIVE, ACC_STATIC, has, method_flags_agree};
 use crate::subject::Subject;

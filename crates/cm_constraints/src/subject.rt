@@ -1,7 +1,9 @@
 ghost use Rattle.std.specs.Prelude.{◌≡◌, map, slice_get, IfOk};
 ghost use Rattle.std.specs.List.{list_all};
 ghost use Rattle.cm_class.specs.Names.{constant_in, utf8};
-ghost use Rattle.cm_names.specs.Forms.{is_class_name, is_unqualified_name, is_method_name, is_field_descriptor, is_array_descriptor, is_method_descriptor, method_units};
+ghost use Rattle.cm_names.specs.Forms.{is_class_name, is_unqualified_name, is_method_name};
+ghost use Rattle.cm_names.specs.Forms.{is_field_descriptor, is_array_descriptor};
+ghost use Rattle.cm_names.specs.Forms.{is_method_descriptor, method_units};
 ghost use Rattle.cm_names.specs.Judgement.{judgement};
 ghost use Rattle.cm_attributes.specs.Contents.{bootstrap_count as bootstrap_count_of};
 ghost use Rattle.cm_constraints.specs.Constants.{utf8_has_form, in_slot};

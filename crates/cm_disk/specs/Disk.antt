@@ -1,9 +1,10 @@
--- The disk model: what a disk holds now, what of it is not surely stored, and what a crash may leave.
--- Source: the project's own model of a disk, docs/CRASH.md.
-use Rattle.std.specs.Prelude.{◌≡◌, ◌≤◌, ◌<◌, ◌+◌, ◌^◌, ℕ, Bool, true, false, ◌&&◌, ◌||◌, nat_lt, nat_le, min, max, List, length, get_or}
+-- The disk model: what a disk holds now, what of it is not surely stored, and what a crash may
+-- leave. Source: the project's own model of a disk, docs/CRASH.md.
+use Rattle.std.specs.Prelude.{◌≡◌, ◌≤◌, ◌<◌, ◌+◌, ◌^◌, ℕ, Bool, true, false, ◌&&◌, ◌||◌, nat_lt}
+use Rattle.std.specs.Prelude.{nat_le, min, max, List, length, get_or}
 
--- What is not surely stored: the positions that were opened since the last sync that succeeded, and the
--- least and the greatest length that the disk had since then.
+-- What is not surely stored: the positions that were opened since the last sync that succeeded, and
+-- the least and the greatest length that the disk had since then.
 pub record Unsynced : Type 0 where
   pub is_open : ℕ → Bool
   pub least : ℕ
@@ -12,13 +13,14 @@ pub record Unsynced : Type 0 where
 abbrev pub IsBytes : List ℕ → Type 0
 IsBytes xs = (i : ℕ) → i < length xs → get_or xs i 0 < 256
 
--- A crash may leave the image. Its length is one that the disk may have. A byte at an open position, or at
--- or past the least length, is any byte; all others are those of the contents.
+-- A crash may leave the image. Its length is one that the disk may have. A byte at an open
+-- position, or at or past the least length, is any byte; all others are those of the contents.
 pub record IsImage (contents : List ℕ) (unsynced : Unsynced) (image : List ℕ) : Type 0 where
   pub no_shorter : unsynced.least ≤ length image
   pub no_longer : length image ≤ unsynced.greatest
   pub bytes : IsBytes image
-  pub same : (i : ℕ) → i < unsynced.least → unsynced.is_open i ≡ false → get_or image i 0 ≡ get_or contents i 0
+  pub same : (i : ℕ) → i < unsynced.least → unsynced.is_open i ≡ false
+      → get_or image i 0 ≡ get_or contents i 0
 
 -- Everything is stored: nothing is open, and there is one length.
 pub record IsSettled (contents : List ℕ) (unsynced : Unsynced) : Type 0 where

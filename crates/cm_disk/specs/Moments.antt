@@ -1,5 +1,6 @@
 -- What a disk in memory stands for, with the moments that it has had.
-use Rattle.std.specs.Prelude.{◌≡◌, ◌⊎◌, ◌-◌, ◌&&◌, nat_lt, nat_le, ℕ, zero, suc, Bool, List, [], ◌∷◌, length, take}
+use Rattle.std.specs.Prelude.{◌≡◌, ◌⊎◌, ◌-◌, ◌&&◌, nat_lt, nat_le, ℕ, zero, suc, Bool, List, []}
+use Rattle.std.specs.Prelude.{◌∷◌, length, take}
 use Rattle.std.specs.List.{list_any}
 use mathlib.Core.Logic.{inl, inr}
 use Rattle.std.proofs.Common.{arith}
@@ -25,7 +26,8 @@ pub record Moment : Type 0 where
   pub greatest : ℕ
 
 abbrev pub MayLeave : Moment → List ℕ → Type 0
-MayLeave moment image = IsImage moment.bytes (unsynced_of moment.ranges moment.least moment.greatest) image
+MayLeave moment image =
+    IsImage moment.bytes (unsynced_of moment.ranges moment.least moment.greatest) image
 
 -- a crash at one of these moments may have left the image
 abbrev pub LeftAtOne : List Moment → List ℕ → Type 0
@@ -36,11 +38,14 @@ LeftAtOne (moment ∷ moments) image = MayLeave moment image ⊎ LeftAtOne momen
 abbrev pub noted_since : ℕ → List Moment → List Moment
 noted_since t moments = take (length moments - t) moments
 
-none_noted : (moments : List Moment) (k : ℕ) (image : List ℕ) → k ≡ 0 → LeftAtOne (take k moments) image → ⊥
+none_noted : (moments : List Moment) (k : ℕ) (image : List ℕ) → k ≡ 0
+    → LeftAtOne (take k moments) image → ⊥
 none_noted moments zero image e left = left
 none_noted moments (suc k) image e left = absurd (omega arith)
 
 -- since the last of them there is none
-pub none_since_now : {P : Type 0} (moments : List Moment) (image : List ℕ) → P ⊎ LeftAtOne (noted_since (length moments) moments) image → P
+pub none_since_now : {P : Type 0} (moments : List Moment) (image : List ℕ) → P
+    ⊎ LeftAtOne (noted_since (length moments) moments) image → P
 none_since_now moments image (inl now) = now
-none_since_now moments image (inr left) = absurd (none_noted moments (length moments - length moments) image (omega arith) left)
+none_since_now moments image (inr left) =
+    absurd (none_noted moments (length moments - length moments) image (omega arith) left)

@@ -19,7 +19,9 @@ sim_moment disk = length disk.history.moments
 
 -- what a crash may leave now, or might have left at a moment since t
 abbrev pub sim_left_since : SimDisk → ℕ → List ℕ → Type 0
-sim_left_since disk t image = IsImage (sim_contents disk) (sim_unsynced disk) image ⊎ LeftAtOne (noted_since t disk.history.moments) image
+sim_left_since disk t image =
+    IsImage (sim_contents disk) (sim_unsynced disk) image
+    ⊎ LeftAtOne (noted_since t disk.history.moments) image
 
 -- the syncs that have succeeded
 abbrev pub sim_syncs : SimDisk → ℕ

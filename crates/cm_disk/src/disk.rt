@@ -1,6 +1,8 @@
 //! The trait of all disks, with the whole disk model in each of its calls.
-ghost use Rattle.std.specs.Prelude.{◌≡◌, ◌≤◌, ◌+◌, ◌^◌, List, ℕ, length, take, drop, IfOk, OnOk, OnErr};
-ghost use Rattle.cm_disk.specs.Disk.{Unsynced, IsImage, IsSettled, IsSound, IsWithin, widened, shortened};
+ghost use Rattle.std.specs.Prelude.{◌≡◌, ◌≤◌, ◌+◌, ◌^◌, List, ℕ, length, take, drop, IfOk, OnOk};
+ghost use Rattle.std.specs.Prelude.{OnErr};
+ghost use Rattle.cm_disk.specs.Disk.{Unsynced, IsImage, IsSettled, IsSound, IsWithin, widened};
+ghost use Rattle.cm_disk.specs.Disk.{shortened};
 ghost use Rattle.cm_disk.specs.Calls.{overwritten, IsTorn, IsCut, Elapses, HasCause};
 
 use thiserror::Error;
@@ -12,8 +14,9 @@ pub struct DeviceFault;
 
 /// A disk: one row of bytes that is read, written, cut and synced.
 ///
-/// Until a sync succeeds, a crash may leave any bytes where something was written, and any of the lengths
-/// that the disk had since. A write is one range; places and lengths count bytes, and none passes 2^40.
+/// Until a sync succeeds, a crash may leave any bytes where something was written, and any of the
+/// lengths that the disk had since. A write is one range; places and lengths count bytes, and none
+/// passes 2^40.
 pub trait Disk {
     /// The bytes that a read gives now.
     ghost contents: { Self → List ℕ };
@@ -35,29 +38,37 @@ pub trait Disk {
         ensures len { IfOk result (λ n. n ≡ length (contents self.old)) }
         ensures contents { contents self.new ≡ contents self.old }
         ensures unsynced { unsynced self.new ≡ unsynced self.old }
-        ensures time { Elapses (moment self.old) (moment self.new) (left_since self.old) (left_since self.new)
+        ensures time { Elapses (moment self.old) (moment self.new) (left_since self.old)
+            (left_since self.new)
             (IsImage (contents self.old) (unsynced self.old)) }
         ensures cause { HasCause (failures self.old) (failures self.new) result };
 
-    /// Reads as many bytes as `out` takes, from `at` on. After an `Err` there are any bytes in `out`.
+    /// Reads as many bytes as `out` takes, from `at` on. After an `Err` there are any bytes in
+    /// `out`.
     fn read(&mut self, at: u64, out: &mut [u8]) -> Result<(), DeviceFault>
         requires { at + length out.old ≤ length (contents self.old) }
-        ensures bytes { OnOk result (out.new ≡ take (length out.old) (drop at (contents self.old))) }
+        ensures bytes { OnOk result
+            (out.new ≡ take (length out.old) (drop at (contents self.old))) }
         ensures contents { contents self.new ≡ contents self.old }
         ensures unsynced { unsynced self.new ≡ unsynced self.old }
-        ensures time { Elapses (moment self.old) (moment self.new) (left_since self.old) (left_since self.new)
+        ensures time { Elapses (moment self.old) (moment self.new) (left_since self.old)
+            (left_since self.new)
             (IsImage (contents self.old) (unsynced self.old)) }
         ensures cause { HasCause (failures self.old) (failures self.new) result };
 
-    /// Writes over what is there, and past the end. After an `Err` there are any bytes in the range, and any
-    /// length from the old one to the one that the write makes.
+    /// Writes over what is there, and past the end. After an `Err` there are any bytes in the
+    /// range, and any length from the old one to the one that the write makes.
     fn write_at(&mut self, at: u64, bytes: &[u8]) -> Result<(), DeviceFault>
         requires starts_within { at ≤ length (contents self.old) }
         requires within_limit { at + length bytes.now ≤ 2 ^ 40 }
-        ensures written { OnOk result (contents self.new ≡ overwritten at bytes.now (contents self.old)) }
-        ensures torn { OnErr result (IsTorn at (length bytes.now) (contents self.old) (contents self.new)) }
-        ensures unsynced { IsWithin (widened at (length bytes.now) (unsynced self.old)) (unsynced self.new) }
-        ensures time { Elapses (moment self.old) (moment self.new) (left_since self.old) (left_since self.new)
+        ensures written { OnOk result
+            (contents self.new ≡ overwritten at bytes.now (contents self.old)) }
+        ensures torn { OnErr result
+            (IsTorn at (length bytes.now) (contents self.old) (contents self.new)) }
+        ensures unsynced { IsWithin (widened at (length bytes.now) (unsynced self.old))
+            (unsynced self.new) }
+        ensures time { Elapses (moment self.old) (moment self.new) (left_since self.old)
+            (left_since self.new)
             (IsImage (contents self.old) (widened at (length bytes.now) (unsynced self.old))) }
         ensures cause { HasCause (failures self.old) (failures self.new) result };
 
@@ -67,7 +78,8 @@ pub trait Disk {
         ensures cut { OnOk result (contents self.new ≡ take len (contents self.old)) }
         ensures between { OnErr result (IsCut len (contents self.old) (contents self.new)) }
         ensures unsynced { IsWithin (shortened len (unsynced self.old)) (unsynced self.new) }
-        ensures time { Elapses (moment self.old) (moment self.new) (left_since self.old) (left_since self.new)
+        ensures time { Elapses (moment self.old) (moment self.new) (left_since self.old)
+            (left_since self.new)
             (IsImage (contents self.old) (shortened len (unsynced self.old))) }
         ensures cause { HasCause (failures self.old) (failures self.new) result };
 
@@ -76,7 +88,8 @@ pub trait Disk {
         ensures settled { OnOk result (IsSettled (contents self.new) (unsynced self.new)) }
         ensures not_settled { OnErr result (unsynced self.new ≡ unsynced self.old) }
         ensures contents { contents self.new ≡ contents self.old }
-        ensures time { Elapses (moment self.old) (moment self.new) (left_since self.old) (left_since self.new)
+        ensures time { Elapses (moment self.old) (moment self.new) (left_since self.old)
+            (left_since self.new)
             (IsImage (contents self.old) (unsynced self.old)) }
         ensures cause { HasCause (failures self.old) (failures self.new) result };
 

@@ -1,5 +1,5 @@
-//! A disk as a crash-safe store sees it: what it holds now, what of that is surely stored, and what a
-//! crash may leave. The trait [`Disk`] carries the whole model; [`SimDisk`] is a disk in memory.
+//! A disk as a crash-safe store sees it: what it holds now, what of that is surely stored, and what
+//! a crash may leave. The trait [`Disk`] carries the whole model; [`SimDisk`] is a disk in memory.
 #![tactic(auto)]
 
 mod disk;

@@ -1,5 +1,7 @@
-//! The bytes of a disk in memory, with the ranges that are open and the lengths that a crash may leave.
-ghost use Rattle.std.specs.Prelude.{◌≡◌, ◌≤◌, ◌+◌, ◌^◌, [], ◌∷◌, ◌++◌, length, take, min, max, OnOk, OnErr};
+//! The bytes of a disk in memory, with the ranges that are open and the lengths that a crash may
+//! leave.
+ghost use Rattle.std.specs.Prelude.{◌≡◌, ◌≤◌, ◌+◌, ◌^◌, [], ◌∷◌, ◌++◌, length, take, min, max};
+ghost use Rattle.std.specs.Prelude.{OnOk, OnErr};
 ghost use Rattle.cm_disk.specs.Disk.{IsSound};
 ghost use Rattle.cm_disk.specs.Calls.{overwritten};
 ghost use Rattle.cm_disk.specs.Moments.{unsynced_of};
@@ -63,7 +65,9 @@ impl Medium {
         requires { at + count ≤ 2 ^ 40 }
         ensures bytes { self.new.bytes.items ≡ self.old.bytes.items }
         ensures least { self.new.least ≡ self.old.least }
-        ensures ranges { OnOk result (self.new.ranges.items ≡ self.old.ranges.items ++ record { start = at; end = at + count } ∷ []) }
+        ensures ranges { OnOk result
+            (self.new.ranges.items ≡ self.old.ranges.items
+            ++ record { start = at; end = at + count } ∷ []) }
         ensures greatest { OnOk result (self.new.greatest ≡ max self.old.greatest (at + count)) }
         ensures ranges_stay { OnErr result (self.new.ranges.items ≡ self.old.ranges.items) }
         ensures greatest_stays { OnErr result (self.new.greatest ≡ self.old.greatest) }
@@ -78,7 +82,8 @@ impl Medium {
     pub(crate) fn write(&mut self, at: u64, written: &[u8]) -> Result<(), AllocError>
         requires starts_within { at ≤ length self.old.bytes.items }
         requires was_opened { at + length written.now ≤ self.old.greatest }
-        ensures ok { OnOk result (self.new.bytes.items ≡ overwritten at written.now self.old.bytes.items) }
+        ensures ok { OnOk result
+            (self.new.bytes.items ≡ overwritten at written.now self.old.bytes.items) }
         ensures err { OnErr result (self.new.bytes.items ≡ self.old.bytes.items) }
         ensures ranges { self.new.ranges.items ≡ self.old.ranges.items }
         ensures least { self.new.least ≡ self.old.least }

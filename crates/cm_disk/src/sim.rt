@@ -1,5 +1,6 @@
 //! A disk in memory.
-ghost use Rattle.std.specs.Prelude.{◌≡◌, ◌≤◌, ◌⊎◌, [], length, take, drop, min, ◌+◌, ◌-◌, ◌^◌, IsOk, IfOk, OnOk, OnErr};
+ghost use Rattle.std.specs.Prelude.{◌≡◌, ◌≤◌, ◌⊎◌, [], length, take, drop, min, ◌+◌, ◌-◌, ◌^◌};
+ghost use Rattle.std.specs.Prelude.{IsOk, IfOk, OnOk, OnErr};
 ghost use Rattle.cm_disk.specs.Calls.{Elapses, HasCause, IsCut};
 ghost use Rattle.std.proofs.Common.{inl};
 ghost use Rattle.cm_disk.specs.Disk.{IsImage, IsSettled, IsWithin, shortened};
@@ -46,7 +47,8 @@ impl SimDisk {
 }
 
 impl Disk for SimDisk {
-    ghost use Rattle.cm_disk.specs.Sim.{sim_contents, sim_unsynced, sim_failures, sim_moment, sim_left_since, sim_syncs};
+    ghost use Rattle.cm_disk.specs.Sim.{sim_contents, sim_unsynced, sim_failures, sim_moment};
+    ghost use Rattle.cm_disk.specs.Sim.{sim_left_since, sim_syncs};
 
     ghost contents = { sim_contents };
 
@@ -69,7 +71,8 @@ impl Disk for SimDisk {
         ensures len { IfOk result (λ n. n ≡ length (sim_contents self.old)) }
         ensures contents { sim_contents self.new ≡ sim_contents self.old }
         ensures unsynced { sim_unsynced self.new ≡ sim_unsynced self.old }
-        ensures time { Elapses (sim_moment self.old) (sim_moment self.new) (sim_left_since self.old) (sim_left_since self.new)
+        ensures time { Elapses (sim_moment self.old) (sim_moment self.new) (sim_left_since self.old)
+            (sim_left_since self.new)
             (IsImage (sim_contents self.old) (sim_unsynced self.old)) }
         ensures cause { HasCause (sim_failures self.old) (sim_failures self.new) result }
         ensures never_fails { IsOk result }
@@ -80,10 +83,12 @@ impl Disk for SimDisk {
     // The trait's clauses again, and that it doesn't fail.
     fn read(&mut self, at: u64, out: &mut [u8]) -> Result<(), DeviceFault>
         requires { at + length out.old ≤ length (sim_contents self.old) }
-        ensures bytes { OnOk result (out.new ≡ take (length out.old) (drop at (sim_contents self.old))) }
+        ensures bytes { OnOk result
+            (out.new ≡ take (length out.old) (drop at (sim_contents self.old))) }
         ensures contents { sim_contents self.new ≡ sim_contents self.old }
         ensures unsynced { sim_unsynced self.new ≡ sim_unsynced self.old }
-        ensures time { Elapses (sim_moment self.old) (sim_moment self.new) (sim_left_since self.old) (sim_left_since self.new)
+        ensures time { Elapses (sim_moment self.old) (sim_moment self.new) (sim_left_since self.old)
+            (sim_left_since self.new)
             (IsImage (sim_contents self.old) (sim_unsynced self.old)) }
         ensures cause { HasCause (sim_failures self.old) (sim_failures self.new) result }
         ensures never_fails { IsOk result }
@@ -111,8 +116,10 @@ impl Disk for SimDisk {
         requires { len ≤ length (sim_contents self.old) }
         ensures cut { OnOk result (sim_contents self.new ≡ take len (sim_contents self.old)) }
         ensures between { OnErr result (IsCut len (sim_contents self.old) (sim_contents self.new)) }
-        ensures unsynced { IsWithin (shortened len (sim_unsynced self.old)) (sim_unsynced self.new) }
-        ensures time { Elapses (sim_moment self.old) (sim_moment self.new) (sim_left_since self.old) (sim_left_since self.new)
+        ensures unsynced { IsWithin (shortened len (sim_unsynced self.old))
+            (sim_unsynced self.new) }
+        ensures time { Elapses (sim_moment self.old) (sim_moment self.new) (sim_left_since self.old)
+            (sim_left_since self.new)
             (IsImage (sim_contents self.old) (shortened len (sim_unsynced self.old))) }
         ensures cause { HasCause (sim_failures self.old) (sim_failures self.new) result }
         ensures never_fails { IsOk result }
@@ -128,11 +135,13 @@ impl Disk for SimDisk {
         ensures settled { OnOk result (IsSettled (sim_contents self.new) (sim_unsynced self.new)) }
         ensures not_settled { OnErr result (sim_unsynced self.new ≡ sim_unsynced self.old) }
         ensures contents { sim_contents self.new ≡ sim_contents self.old }
-        ensures time { Elapses (sim_moment self.old) (sim_moment self.new) (sim_left_since self.old) (sim_left_since self.new)
+        ensures time { Elapses (sim_moment self.old) (sim_moment self.new) (sim_left_since self.old)
+            (sim_left_since self.new)
             (IsImage (sim_contents self.old) (sim_unsynced self.old)) }
         ensures cause { HasCause (sim_failures self.old) (sim_failures self.new) result }
         ensures never_fails { IsOk result }
-        ensures counted { OnOk result (sim_syncs self.new ≡ min (sim_syncs self.old + 1) (2 ^ 64 - 1)) }
+        ensures counted { OnOk result
+            (sim_syncs self.new ≡ min (sim_syncs self.old + 1) (2 ^ 64 - 1)) }
     {
         self.syncs = self.syncs.saturating_add(1);
         self.history.note(&self.medium);

@@ -1,5 +1,7 @@
 -- Members that were looked at, by what stands for their names and descriptors.
-use Rattle.std.proofs.Common.{◌≡◌, ⊎_elim, inl, inr, ◌⊎◌, ℕ, zero, suc, ◌+◌, ◌<◌, Bool, true, false, cond, eqb, List, [], ◌∷◌, length, map, get_or, Option, Some, None, refl, sym, ap, ap₂, subst, ◌∙◌, arith}
+use Rattle.std.proofs.Common.{◌≡◌, ⊎_elim, inl, inr, ◌⊎◌, ℕ, zero, suc, ◌+◌, ◌<◌, Bool, true, false}
+use Rattle.std.proofs.Common.{cond, eqb, List, [], ◌∷◌, length, map, get_or, Option, Some, None}
+use Rattle.std.proofs.Common.{refl, sym, ap, ap₂, subst, ◌∙◌, arith}
 use Rattle.std.specs.Prelude.{◌&&◌}
 use Rattle.std.specs.List.{Contains}
 use Rattle.std.specs.Ordering.{nat_cmp, ordering_then, is_eq}
@@ -14,7 +16,8 @@ use Rattle.cm_class.specs.Names.{utf8}
 use Rattle.cm_duplicates.specs.Duplicates.{is_first, first_duplicate}
 use Rattle.cm_duplicates.specs.First.{Agree}
 use Rattle.cm_duplicates.specs.declared.fingerprints.Strength.{Strength}
-use Rattle.cm_duplicates.specs.Fingerprints.{fingerprint, joined, member_fingerprint, AreNumbers, HasRepeated}
+use Rattle.cm_duplicates.specs.Fingerprints.{fingerprint, joined, member_fingerprint, AreNumbers}
+use Rattle.cm_duplicates.specs.Fingerprints.{HasRepeated}
 use Rattle.cm_duplicates.specs.Interned.{Interned, interned, NamesWhatItStandsFor, KeepsInterned}
 use Rattle.cm_duplicates.proofs.FirstDuplicate.{stands_first, stands_again, all_pass}
 
@@ -52,7 +55,8 @@ abbrev pub Names : ClassFile → ℕ × ℕ → Member → Type 0
 Names c key m = (utf8 c key.0 ≡ utf8 c m.name) × (utf8 c key.1 ≡ utf8 c m.descriptor)
 
 -- it is that of a member before a place
-pub record IsEarlier (c : ClassFile) (members : List Member) (place : ℕ) (key : ℕ × ℕ) : Type 0 where
+pub record IsEarlier (c : ClassFile) (members : List Member) (place : ℕ)
+    (key : ℕ × ℕ) : Type 0 where
   pub earlier : ℕ
   pub before : earlier < place
   pub within : earlier < length members
@@ -65,11 +69,15 @@ pub record HasKey (c : ClassFile) (table : Interned) (seen : Keys) (m : Member) 
   pub descriptor : interned table (utf8 c m.descriptor) ≡ Some key.1
   pub was_seen : contains key_cmp seen key ≡ true
 
-pub record SeenBefore (c : ClassFile) (members : List Member) (numbers repeated : List ℕ) (table : Interned) (seen : Keys) (place : ℕ) : Type 0 where
+pub record SeenBefore (c : ClassFile) (members : List Member) (numbers repeated : List ℕ)
+    (table : Interned) (seen : Keys) (place : ℕ) : Type 0 where
   pub earlier : (key : ℕ × ℕ) → contains key_cmp seen key ≡ true → IsEarlier c members place key
-  pub keys : (k : ℕ) (m : Member) → k < place → k < length members → Contains repeated (get_or numbers k 0) → HasKey c table seen (get_or members k m)
+  pub keys : (k : ℕ) (m : Member) → k < place → k < length members
+      → Contains repeated (get_or numbers k 0) → HasKey c table seen (get_or members k m)
 
-pub nothing_seen : (c : ClassFile) (members : List Member) (numbers repeated : List ℕ) (table : Interned) (seen : Keys) → seen.keys ≡ [] → SeenBefore c members numbers repeated table seen 0
+pub nothing_seen : (c : ClassFile) (members : List Member) (numbers repeated : List ℕ)
+    (table : Interned) (seen : Keys) → seen.keys ≡ []
+    → SeenBefore c members numbers repeated table seen 0
 nothing_seen c members numbers repeated table seen empty = record {
   earlier = λ key h. let none : contains key_cmp seen key ≡ false = rw empty refl in absurd cc;
   keys = λ k m lt. absurd (omega (arith, lt));
@@ -77,68 +85,108 @@ nothing_seen c members numbers repeated table seen empty = record {
 
 -- ---- members that agree have one fingerprint
 
-same_fingerprint : (strength : Strength) (c : ClassFile) (m n : Member) → Agree c m n → member_fingerprint strength c m ≡ member_fingerprint strength c n
-same_fingerprint strength c m n h = ap₂ (λ a b. joined (fingerprint strength a) (fingerprint strength b)) h.name h.descriptor
+same_fingerprint : (strength : Strength) (c : ClassFile) (m n : Member) → Agree c m n
+    → member_fingerprint strength c m ≡ member_fingerprint strength c n
+same_fingerprint strength c m n h =
+    ap₂ (λ a b. joined (fingerprint strength a) (fingerprint strength b)) h.name h.descriptor
 
-fingerprint_at : (strength : Strength) (c : ClassFile) (members : List Member) (i : ℕ) (m : Member) → i < length members → get_or (map (member_fingerprint strength c) members) i 0 ≡ member_fingerprint strength c (get_or members i m)
+fingerprint_at : (strength : Strength) (c : ClassFile) (members : List Member) (i : ℕ) (m : Member)
+    → i < length members
+    → get_or (map (member_fingerprint strength c) members) i 0
+    ≡ member_fingerprint strength c (get_or members i m)
 fingerprint_at strength c members i m lt = at members i lt
   where
-    at : (l : List Member) (i : ℕ) → i < length l → get_or (map (member_fingerprint strength c) l) i 0 ≡ member_fingerprint strength c (get_or l i m)
+    at : (l : List Member) (i : ℕ) → i < length l
+        → get_or (map (member_fingerprint strength c) l) i 0
+        ≡ member_fingerprint strength c (get_or l i m)
     at [] i lt = absurd (omega (arith, lt))
     at (x ∷ l) zero lt = refl
     at (x ∷ l) (suc i) lt = at l i (omega (arith, lt))
 
-pub are_numbers : (strength : Strength) (c : ClassFile) (members : List Member) (numbers : List ℕ) → numbers ≡ map (member_fingerprint strength c) members → AreNumbers c members numbers
+pub are_numbers : (strength : Strength) (c : ClassFile) (members : List Member) (numbers : List ℕ)
+    → numbers ≡ map (member_fingerprint strength c) members → AreNumbers c members numbers
 are_numbers strength c members numbers e = rw e record {
   as_many = length-map members (member_fingerprint strength c);
-  alike = λ i j m li lj h. fingerprint_at strength c members i m li ∙ same_fingerprint strength c (get_or members i m) (get_or members j m) h ∙ sym (fingerprint_at strength c members j m lj);
+  alike = λ i j m li lj h.
+      fingerprint_at strength c members i m li ∙ same_fingerprint strength c (get_or members i m)
+      (get_or members j m) h ∙ sym (fingerprint_at strength c members j m lj);
 }
 
-pub names_of : (c d : ClassFile) (table : Interned) → d ≡ c → NamesWhatItStandsFor d table → NamesWhatItStandsFor c table
-names_of c d table e h = let P : ClassFile → Type 0 = λ x. NamesWhatItStandsFor x table in subst P e h
+pub names_of : (c d : ClassFile) (table : Interned) → d ≡ c → NamesWhatItStandsFor d table
+    → NamesWhatItStandsFor c table
+names_of c d table e h =
+    let P : ClassFile → Type 0 = λ x. NamesWhatItStandsFor x table in subst P e h
 
-module _ (c : ClassFile) (members : List Member) (numbers repeated : List ℕ) (are : AreNumbers c members numbers) (has : HasRepeated numbers repeated) where
-  one_number : (k i : ℕ) (m x : Member) → k < i → i < length members → m ≡ get_or members i m → Agree c m (get_or members k x) → get_or numbers k 0 ≡ get_or numbers i 0
+module _ (c : ClassFile) (members : List Member) (numbers repeated : List ℕ)
+    (are : AreNumbers c members numbers) (has : HasRepeated numbers repeated) where
+  one_number : (k i : ℕ) (m x : Member) → k < i → i < length members → m ≡ get_or members i m
+      → Agree c m (get_or members k x) → get_or numbers k 0 ≡ get_or numbers i 0
   one_number k i m x lt within is agree =
       let before : k < length members = omega (arith, lt, within) in
       let here : get_or members k x ≡ get_or members k m = get_or_default members k x m before in
-      let there : Agree c (get_or members i m) (get_or members k m) = let P : Member → Member → Type 0 = λ y z. Agree c y z in let Q : Member → Type 0 = λ y. P y (get_or members k m) in let R : Member → Type 0 = λ z. P m z in subst Q is (subst R here agree) in
+      let there : Agree c (get_or members i m) (get_or members k m) =
+      let P : Member → Member → Type 0 =
+      λ y z. Agree c y z in let Q : Member → Type 0 =
+      λ y. P y (get_or members k m) in let R : Member → Type 0 =
+      λ z. P m z in subst Q is (subst R here agree) in
       sym (are.alike i k m within before there)
 
   -- a member that agrees with one before it has a repeated number
-  repeats : (k i : ℕ) (m x : Member) → k < i → i < length members → m ≡ get_or members i m → Agree c m (get_or members k x) → Contains repeated (get_or numbers i 0)
-  repeats k i m x lt within is agree = has k i lt (omega (arith, within, are.as_many)) (one_number k i m x lt within is agree)
+  repeats : (k i : ℕ) (m x : Member) → k < i → i < length members → m ≡ get_or members i m
+      → Agree c m (get_or members k x) → Contains repeated (get_or numbers i 0)
+  repeats k i m x lt within is agree =
+      has k i lt (omega (arith, within, are.as_many)) (one_number k i m x lt within is agree)
 
   -- without one it stands first
-  pub first_without : (i : ℕ) (m : Member) → i < length members → m ≡ get_or members i m → (Contains repeated (get_or numbers i 0) → ⊥) → is_first c members i m ≡ true
-  first_without i m within is lacks = stands_first c members i m (λ k x lt before agree. lacks (repeats k i m x lt within is agree))
+  pub first_without : (i : ℕ) (m : Member) → i < length members → m ≡ get_or members i m
+      → (Contains repeated (get_or numbers i 0) → ⊥) → is_first c members i m ≡ true
+  first_without i m within is lacks =
+      stands_first c members i m (λ k x lt before agree. lacks (repeats k i m x lt within is agree))
 
   -- where none is repeated, there is no duplicate
   pub none_repeated : length repeated ≡ 0 → first_duplicate c members ≡ None
   none_repeated empty = all_pass (is_first c members) 0 members (λ i m lt.
       let z : 0 + i ≡ i = omega arith in
-      rw z (first_without i (get_or members i m) lt (get_or_default members i m (get_or members i m) lt) (λ h. absurd (omega (arith, empty, h.1)))))
+      rw z (first_without i (get_or members i m) lt
+      (get_or_default members i m (get_or members i m) lt)
+      (λ h. absurd (omega (arith, empty, h.1)))))
 
   -- ---- the next member
 
-  module _ (table : Interned) (seen : Keys) (i : ℕ) (m : Member) (within : i < length members) (is : m ≡ get_or members i m) (so_far : SeenBefore c members numbers repeated table seen i) where
+  module _ (table : Interned) (seen : Keys) (i : ℕ) (m : Member) (within : i < length members)
+      (is : m ≡ get_or members i m)
+      (so_far : SeenBefore c members numbers repeated table seen i) where
     at_next : (k : ℕ) → k < i + 1 → (k < i) ⊎ (k ≡ i)
     at_next k lt = ⊎_elim inl (λ le. inr (omega (arith, le, lt))) (cases_lt k i)
 
     later : (key : ℕ × ℕ) → IsEarlier c members i key → IsEarlier c members (i + 1) key
-    later key e = record { earlier = e.earlier; before = omega (arith, e.before); within = e.within; names = e.names }
+    later key e =
+        record {
+          earlier =
+              e.earlier;
+          before = omega (arith, e.before);
+          within = e.within;
+          names = e.names;
+        }
 
     -- it isn't looked at
-    pub seen_without : (Contains repeated (get_or numbers i 0) → ⊥) → SeenBefore c members numbers repeated table seen (i + 1)
+    pub seen_without : (Contains repeated (get_or numbers i 0) → ⊥)
+        → SeenBefore c members numbers repeated table seen (i + 1)
     seen_without lacks = record {
       earlier = λ key h. later key (so_far.earlier key h);
-      keys = λ k x lt inside h. ⊎_elim (λ before. so_far.keys k x before inside h) (λ here. absurd (lacks (at_m k here h))) (at_next k lt);
+      keys = λ k x lt inside h.
+          ⊎_elim (λ before. so_far.keys k x before inside h)
+          (λ here. absurd (lacks (at_m k here h))) (at_next k lt);
     }
       where
-        at_m : (k : ℕ) → k ≡ i → Contains repeated (get_or numbers k 0) → Contains repeated (get_or numbers i 0)
-        at_m k here h = let P : ℕ → Type 0 = λ j. Contains repeated (get_or numbers j 0) in subst P here h
+        at_m : (k : ℕ) → k ≡ i → Contains repeated (get_or numbers k 0)
+            → Contains repeated (get_or numbers i 0)
+        at_m k here h =
+            let P : ℕ → Type 0 = λ j. Contains repeated (get_or numbers j 0) in subst P here h
 
-    module _ (new : Interned) (keeps : KeepsInterned table new) (right : NamesWhatItStandsFor c new) (key : ℕ × ℕ) (name : interned new (utf8 c m.name) ≡ Some key.0) (descriptor : interned new (utf8 c m.descriptor) ≡ Some key.1) where
+    module _ (new : Interned) (keeps : KeepsInterned table new) (right : NamesWhatItStandsFor c new)
+        (key : ℕ × ℕ) (name : interned new (utf8 c m.name) ≡ Some key.0)
+        (descriptor : interned new (utf8 c m.descriptor) ≡ Some key.1) where
       names_it : Names c key m
       names_it = (right (utf8 c m.name) key.0 name, right (utf8 c m.descriptor) key.1 descriptor)
 
@@ -155,33 +203,56 @@ module _ (c : ClassFile) (members : List Member) (numbers repeated : List ℕ) (
           }
 
       -- its key wasn't
-      pub first : Contains repeated (get_or numbers i 0) → contains key_cmp seen key ≡ false → is_first c members i m ≡ true
-      first candidate h = stands_first c members i m (λ k x lt inside agree. lacks k x agree (so_far.keys k x lt inside (candidate_too k x lt agree)))
+      pub first : Contains repeated (get_or numbers i 0) → contains key_cmp seen key ≡ false
+          → is_first c members i m ≡ true
+      first candidate h =
+          stands_first c members i m
+          (λ k x lt inside agree.
+          lacks k x agree (so_far.keys k x lt inside (candidate_too k x lt agree)))
         where
-          candidate_too : (k : ℕ) (x : Member) → k < i → Agree c m (get_or members k x) → Contains repeated (get_or numbers k 0)
-          candidate_too k x lt agree = let P : ℕ → Type 0 = λ n. Contains repeated n in subst P (sym (one_number k i m x lt within is agree)) candidate
+          candidate_too : (k : ℕ) (x : Member) → k < i → Agree c m (get_or members k x)
+              → Contains repeated (get_or numbers k 0)
+          candidate_too k x lt agree =
+              let P : ℕ → Type 0 =
+              λ n. Contains repeated n in
+              subst P (sym (one_number k i m x lt within is agree)) candidate
 
-          lacks : (k : ℕ) (x : Member) → Agree c m (get_or members k x) → HasKey c table seen (get_or members k x) → ⊥
+          lacks : (k : ℕ) (x : Member) → Agree c m (get_or members k x)
+              → HasKey c table seen (get_or members k x) → ⊥
           lacks k x agree has_key =
               let other = has_key.key in
-              let same_name : other.0 ≡ key.0 = some_is other.0 key.0 (sym (keeps (utf8 c (get_or members k x).name) other.0 has_key.name) ∙ ap (interned new) (sym agree.name) ∙ name) in
-              let same_descriptor : other.1 ≡ key.1 = some_is other.1 key.1 (sym (keeps (utf8 c (get_or members k x).descriptor) other.1 has_key.descriptor) ∙ ap (interned new) (sym agree.descriptor) ∙ descriptor) in
-              let one : other ≡ key = pair_is other.0 other.1 key.0 key.1 same_name same_descriptor in
-              let t : contains key_cmp seen key ≡ true = ap (contains key_cmp seen) (sym one) ∙ has_key.was_seen in
+              let same_name : other.0 ≡ key.0 =
+              some_is other.0 key.0
+              (sym (keeps (utf8 c (get_or members k x).name) other.0 has_key.name) ∙ ap
+              (interned new) (sym agree.name) ∙ name) in
+              let same_descriptor : other.1 ≡ key.1 =
+              some_is other.1 key.1
+              (sym (keeps (utf8 c (get_or members k x).descriptor) other.1 has_key.descriptor) ∙
+              ap (interned new) (sym agree.descriptor) ∙ descriptor) in
+              let one : other ≡ key =
+              pair_is other.0 other.1 key.0 key.1 same_name same_descriptor in
+              let t : contains key_cmp seen key ≡ true =
+              ap (contains key_cmp seen) (sym one) ∙ has_key.was_seen in
               cc
 
-      module _ (after : Keys) (added : (q : ℕ × ℕ) → contains key_cmp after q ≡ cond (is_eq (key_cmp key q)) true (contains key_cmp seen q)) where
+      module _ (after : Keys)
+          (added : (q : ℕ × ℕ)
+          → contains key_cmp after q
+          ≡ cond (is_eq (key_cmp key q)) true (contains key_cmp seen q)) where
         at_key : contains key_cmp after key ≡ true
-        at_key = added key ∙ ap (λ b. cond b true (contains key_cmp seen key)) (key_is key key ∙ is_same_key key key refl)
+        at_key = added key ∙ ap (λ b. cond b true (contains key_cmp seen key))
+            (key_is key key ∙ is_same_key key key refl)
 
         still : (q : ℕ × ℕ) → contains key_cmp seen q ≡ true → contains key_cmp after q ≡ true
-        still q h = added q ∙ ap (λ b. cond (is_eq (key_cmp key q)) true b) h ∙ both (is_eq (key_cmp key q))
+        still q h = added q ∙ ap (λ b. cond (is_eq (key_cmp key q)) true b) h ∙ both
+            (is_eq (key_cmp key q))
           where
             both : (b : Bool) → cond b true true ≡ true
             both true = refl
             both false = refl
 
-        earlier_than_next : (q : ℕ × ℕ) → contains key_cmp after q ≡ true → IsEarlier c members (i + 1) q
+        earlier_than_next : (q : ℕ × ℕ) → contains key_cmp after q ≡ true
+            → IsEarlier c members (i + 1) q
         earlier_than_next q h = ⊎_elim here before (cases_Bool (is_eq (key_cmp key q)))
           where
             here : is_eq (key_cmp key q) ≡ true → IsEarlier c members (i + 1) q
@@ -192,28 +263,44 @@ module _ (c : ClassFile) (members : List Member) (numbers repeated : List ℕ) (
                   earlier = i;
                   before = omega arith;
                   within = within;
-                  names = λ x. let at : m ≡ get_or members i x = is ∙ get_or_default members i m x within in let Q : Member → Type 0 = λ y. Names c key y in subst Q at names_it;
+                  names = λ x. let at : m ≡ get_or members i x =
+                      is ∙ get_or_default members i m x within in let Q : Member → Type 0 =
+                      λ y. Names c key y in subst Q at names_it;
                 }
 
             before : is_eq (key_cmp key q) ≡ false → IsEarlier c members (i + 1) q
-            before f = later q (so_far.earlier q (sym (ap (λ b. cond b true (contains key_cmp seen q)) f) ∙ sym (added q) ∙ h))
+            before f = later q
+                (so_far.earlier q
+                (sym (ap (λ b. cond b true (contains key_cmp seen q)) f) ∙ sym (added q) ∙ h))
 
         pub seen_with : SeenBefore c members numbers repeated new after (i + 1)
         seen_with = record {
           earlier = earlier_than_next;
-          keys = λ k x lt inside h. ⊎_elim (λ before. kept k x (so_far.keys k x before inside h)) (λ here. its k x here) (at_next k lt);
+          keys = λ k x lt inside h.
+              ⊎_elim (λ before. kept k x (so_far.keys k x before inside h)) (λ here. its k x here)
+              (at_next k lt);
         }
           where
-            kept : (k : ℕ) (x : Member) → HasKey c table seen (get_or members k x) → HasKey c new after (get_or members k x)
+            kept : (k : ℕ) (x : Member) → HasKey c table seen (get_or members k x)
+                → HasKey c new after (get_or members k x)
             kept k x has_key = record {
               key = has_key.key;
               name = keeps (utf8 c (get_or members k x).name) has_key.key.0 has_key.name;
-              descriptor = keeps (utf8 c (get_or members k x).descriptor) has_key.key.1 has_key.descriptor;
+              descriptor =
+                  keeps (utf8 c (get_or members k x).descriptor) has_key.key.1 has_key.descriptor;
               was_seen = still has_key.key has_key.was_seen;
             }
 
             its : (k : ℕ) (x : Member) → k ≡ i → HasKey c new after (get_or members k x)
             its k x here =
-                let one : m ≡ get_or members k x = is ∙ get_or_default members i m x within ∙ ap (λ (j : ℕ). get_or members j x) (sym here) in
+                let one : m ≡ get_or members k x =
+                is ∙ get_or_default members i m x within ∙ ap (λ (j : ℕ). get_or members j x)
+                (sym here) in
                 let P : Member → Type 0 = λ y. HasKey c new after y in
-                subst P one record { key = key; name = name; descriptor = descriptor; was_seen = at_key }
+                subst P one record {
+                  key =
+                      key;
+                  name = name;
+                  descriptor = descriptor;
+                  was_seen = at_key;
+                }

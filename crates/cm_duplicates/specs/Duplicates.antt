@@ -1,6 +1,7 @@
--- Fields and methods with the name and the descriptor of one before them. A class may have none (JVMS SE
--- 8, sections 4.5 and 4.6).
-use Rattle.std.specs.Prelude.{ℕ, ◌+◌, Bool, ◌&&◌, not, List, [], ◌∷◌, take, Option, Some, None, bytes_eq, if◌then◌else◌}
+-- Fields and methods with the name and the descriptor of one before them. A class may have none
+-- (JVMS SE 8, sections 4.5 and 4.6).
+use Rattle.std.specs.Prelude.{ℕ, ◌+◌, Bool, ◌&&◌, not, List, [], ◌∷◌, take, Option, Some, None}
+use Rattle.std.specs.Prelude.{bytes_eq, if◌then◌else◌}
 use Rattle.std.specs.List.{list_any}
 use Rattle.cm_class.specs.declared.class_file.ClassFile.{ClassFile}
 use Rattle.cm_class.specs.declared.class_file.Member.{Member}
@@ -8,7 +9,8 @@ use Rattle.cm_class.specs.Names.{utf8}
 
 -- the same name, and the same descriptor
 abbrev pub same_member : ClassFile → Member → Member → Bool
-same_member c m n = bytes_eq (utf8 c m.name) (utf8 c n.name) && bytes_eq (utf8 c m.descriptor) (utf8 c n.descriptor)
+same_member c m n =
+    bytes_eq (utf8 c m.name) (utf8 c n.name) && bytes_eq (utf8 c m.descriptor) (utf8 c n.descriptor)
 
 -- no member before this place is the same
 abbrev pub is_first : ClassFile → List Member → ℕ → Member → Bool

@@ -19,7 +19,8 @@ fingerprint Strong bytes = sip.finish (sip.write sip.initial bytes)
 
 -- of each index of the pool, from 0 on
 abbrev pub utf8_fingerprints : Strength → ClassFile → List ℕ
-utf8_fingerprints strength c = map (λ i. fingerprint strength (utf8 c i)) (range_with_len 0 (length c.slots + 1))
+utf8_fingerprints strength c =
+    map (λ i. fingerprint strength (utf8 c i)) (range_with_len 0 (length c.slots + 1))
 
 -- of a name and a descriptor
 unfoldable pub joined : ℕ → ℕ → ℕ
@@ -27,20 +28,24 @@ joined name descriptor = bit_xor name (rotate_left w64 descriptor 32)
 
 -- of a member
 abbrev pub member_fingerprint : Strength → ClassFile → Member → ℕ
-member_fingerprint strength c m = joined (fingerprint strength (utf8 c m.name)) (fingerprint strength (utf8 c m.descriptor))
+member_fingerprint strength c m =
+    joined (fingerprint strength (utf8 c m.name)) (fingerprint strength (utf8 c m.descriptor))
 
 -- these are numbers of the members, and members that agree have one number
 pub record AreNumbers (c : ClassFile) (members : List Member) (numbers : List ℕ) : Type 0 where
   pub as_many : length numbers ≡ length members
-  pub alike : (i j : ℕ) (m : Member) → i < length members → j < length members → Agree c (slice_index_or members i m) (slice_index_or members j m)
+  pub alike : (i j : ℕ) (m : Member) → i < length members → j < length members
+      → Agree c (slice_index_or members i m) (slice_index_or members j m)
       → slice_index numbers i ≡ slice_index numbers j
 
 -- each number of a sorted list that is the same as the next is among the repeated ones
 abbrev pub HasRepeatedNeighbours : List ℕ → List ℕ → Type 0
 HasRepeatedNeighbours sorted repeated =
-    (k : ℕ) → k + 1 < length sorted → slice_index sorted k ≡ slice_index sorted (k + 1) → Contains repeated (slice_index sorted k)
+    (k : ℕ) → k + 1 < length sorted → slice_index sorted k ≡ slice_index sorted (k + 1)
+    → Contains repeated (slice_index sorted k)
 
 -- each number that stands at two places is among the repeated ones
 abbrev pub HasRepeated : List ℕ → List ℕ → Type 0
 HasRepeated numbers repeated =
-    (i j : ℕ) → i < j → j < length numbers → slice_index numbers i ≡ slice_index numbers j → Contains repeated (slice_index numbers j)
+    (i j : ℕ) → i < j → j < length numbers → slice_index numbers i ≡ slice_index numbers j
+    → Contains repeated (slice_index numbers j)

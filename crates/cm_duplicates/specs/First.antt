@@ -15,7 +15,8 @@ pub record IsDuplicate (c : ClassFile) (members : List Member) (place : ℕ) : T
   pub within : place < length members
   pub earlier : ℕ
   pub before : earlier < place
-  pub agree : (m : Member) → Agree c (slice_index_or members place m) (slice_index_or members earlier m)
+  pub agree : (m : Member)
+      → Agree c (slice_index_or members place m) (slice_index_or members earlier m)
 
 -- and no place before it has a duplicate
 pub record IsFirstDuplicate (c : ClassFile) (members : List Member) (place : ℕ) : Type 0 where

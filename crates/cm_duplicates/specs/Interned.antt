@@ -20,8 +20,10 @@ NamesWhatItStandsFor c m = (bytes : List ℕ) (i : ℕ) → interned m bytes ≡
 
 -- what is known of an index is what stands for its Utf8
 abbrev pub KnowsIndexes : ClassFile → Interned → List (Option ℕ) → Type 0
-KnowsIndexes c m known = (index i : ℕ) → slice_index_or known index None ≡ Some i → interned m (utf8 c index) ≡ Some i
+KnowsIndexes c m known =
+    (index i : ℕ) → slice_index_or known index None ≡ Some i → interned m (utf8 c index) ≡ Some i
 
 -- nothing that stood for bytes is another now
 abbrev pub KeepsInterned : Interned → Interned → Type 0
-KeepsInterned old new = (bytes : List ℕ) (i : ℕ) → interned old bytes ≡ Some i → interned new bytes ≡ Some i
+KeepsInterned old new =
+    (bytes : List ℕ) (i : ℕ) → interned old bytes ≡ Some i → interned new bytes ≡ Some i

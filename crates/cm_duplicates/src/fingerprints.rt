@@ -1,7 +1,8 @@
 //! Members by numbers that depend on their names and descriptors alone.
 ghost use Rattle.std.specs.Prelude.{◌≡◌, map, IfOk};
 ghost use Rattle.cm_class.specs.Names.{utf8};
-ghost use Rattle.cm_duplicates.specs.Fingerprints.{fingerprint, utf8_fingerprints, joined, member_fingerprint};
+ghost use Rattle.cm_duplicates.specs.Fingerprints.{fingerprint, utf8_fingerprints, joined};
+ghost use Rattle.cm_duplicates.specs.Fingerprints.{member_fingerprint};
 
 use cm_class::{Class, Member};
 use std::alloc::{AllocError, Global};

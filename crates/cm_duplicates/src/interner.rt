@@ -1,8 +1,10 @@
 //! Utf8s by one index for each, so that long ones are compared once, however many members name
 //! them.
-ghost use Rattle.std.specs.Prelude.{◌≡◌, ℕ, List, Some, IfOk, OnOk, OnErr, unwrap_or, bytes_eq, if◌then◌else◌};
+ghost use Rattle.std.specs.Prelude.{◌≡◌, ℕ, List, Some, IfOk, OnOk, OnErr, unwrap_or, bytes_eq};
+ghost use Rattle.std.specs.Prelude.{if◌then◌else◌};
 ghost use Rattle.cm_class.specs.Names.{utf8};
-ghost use Rattle.cm_duplicates.specs.Interned.{interned, NamesWhatItStandsFor, KnowsIndexes, KeepsInterned};
+ghost use Rattle.cm_duplicates.specs.Interned.{interned, NamesWhatItStandsFor, KnowsIndexes};
+ghost use Rattle.cm_duplicates.specs.Interned.{KeepsInterned};
 
 use cm_class::{Class, Member};
 use std::alloc::{AllocError, Global};

@@ -1,7 +1,9 @@
--- The region file as a whole: which contents frame which rows and which number. They are the superblock, two halves of the
--- journal and the roots; the half that counts, the open one of greater epoch, says which rows live; each row of a class
--- says where in the roots its record stands.
-use Rattle.std.specs.Prelude.{◌≡◌, ◌≢◌, ℕ, ◌+◌, ◌*◌, ◌^◌, ◌<◌, ◌≤◌, ◌⊎◌, List, [], ◌∷◌, ◌++◌, length, take, drop, None}
+-- The region file as a whole: which contents frame which rows and which number. They are the
+-- superblock, two halves of the journal and the roots; the half that counts, the open one of
+-- greater epoch, says which rows live; each row of a class says where in the roots its record
+-- stands.
+use Rattle.std.specs.Prelude.{◌≡◌, ◌≢◌, ℕ, ◌+◌, ◌*◌, ◌^◌, ◌<◌, ◌≤◌, ◌⊎◌, List, [], ◌∷◌, ◌++◌}
+use Rattle.std.specs.Prelude.{length, take, drop, None}
 use Rattle.std.specs.List.{flat_map, AllByRecursion}
 use Rattle.cm_record.specs.Packing.{packed_into}
 use Rattle.cm_pool.specs.Geometry.{Sizes, IsGeometry}
@@ -13,9 +15,11 @@ use Rattle.cm_layout.specs.declared.row.Row.{Row}
 use Rattle.cm_layout.specs.declared.row.Row.TheVariants.{Loader, Class}
 use Rattle.cm_layout.specs.declared.entry.Entry.{Entry}
 use Rattle.cm_layout.specs.Offsets.{half_size, root_size, record_in_roots}
-use Rattle.cm_layout.specs.Slots.{half_head_slot, group_head_slot, row_slot, entry_slot, FitsHalfHead, FitsRow, FitsEntry}
+use Rattle.cm_layout.specs.Slots.{half_head_slot, group_head_slot, row_slot, entry_slot}
+use Rattle.cm_layout.specs.Slots.{FitsHalfHead, FitsRow, FitsEntry}
 use Rattle.cm_layout.specs.Superblock.{superblock_bytes}
-use Rattle.cm_layout.specs.Rows.{slots_of_rows, slots_of_entries, classes_in, rows_after, rows_after_all, bare}
+use Rattle.cm_layout.specs.Rows.{slots_of_rows, slots_of_entries, classes_in, rows_after}
+use Rattle.cm_layout.specs.Rows.{rows_after_all, bare}
 use Rattle.cm_layout.specs.Rules.{row_limit, broken_rule, broken_live_rule}
 
 -- with nothing kept of a class, as in the journal
@@ -30,15 +34,20 @@ BareEntry = Entry (Unit {0})
 -- live rows, each after those before it
 abbrev pub LiveRowsKeep : Sizes → ℕ → List BareRow → List BareRow → Type 0
 LiveRowsKeep sizes base rows [] = Unit {0}
-LiveRowsKeep sizes base rows (row ∷ live) = FitsRow row × (broken_live_rule sizes base rows row ≡ None) × LiveRowsKeep sizes base (rows ++ row ∷ []) live
+LiveRowsKeep sizes base rows (row ∷ live) =
+    FitsRow row × (broken_live_rule sizes base rows row ≡ None)
+    × LiveRowsKeep sizes base (rows ++ row ∷ []) live
 
 -- the entries of a group; the number of the first is the one after n
 abbrev pub EntriesKeep : Sizes → List BareRow → ℕ → List BareEntry → Type 0
 EntriesKeep sizes rows n [] = Unit {0}
-EntriesKeep sizes rows n (e ∷ entries) = FitsEntry e × (broken_rule sizes rows (n + 1) e ≡ None) × EntriesKeep sizes (rows_after rows e) (n + 1) entries
+EntriesKeep sizes rows n (e ∷ entries) =
+    FitsEntry e × (broken_rule sizes rows (n + 1) e ≡ None)
+    × EntriesKeep sizes (rows_after rows e) (n + 1) entries
 
 -- a group of 1 to 64 slots
-pub record GroupKeeps (sizes : Sizes) (rows : List BareRow) (n : ℕ) (group : List BareEntry) : Type 0 where
+pub record GroupKeeps (sizes : Sizes) (rows : List BareRow) (n : ℕ)
+    (group : List BareEntry) : Type 0 where
   pub some : 1 ≤ slots_of_entries group
   pub few : slots_of_entries group ≤ 64
   pub numbers : n + length group ≤ 2 ^ 63
@@ -46,13 +55,17 @@ pub record GroupKeeps (sizes : Sizes) (rows : List BareRow) (n : ℕ) (group : L
 
 abbrev pub GroupsKeep : Sizes → List BareRow → ℕ → List (List BareEntry) → Type 0
 GroupsKeep sizes rows n [] = Unit {0}
-GroupsKeep sizes rows n (group ∷ groups) = GroupKeeps sizes rows n group × GroupsKeep sizes (rows_after_all rows group) (n + length group) groups
+GroupsKeep sizes rows n (group ∷ groups) =
+    GroupKeeps sizes rows n group
+    × GroupsKeep sizes (rows_after_all rows group) (n + length group) groups
 
 -- ---- a half of the journal
 
 -- a head and its entries
 abbrev pub group_slots : ℕ → List BareEntry → List ℕ
-group_slots n group = group_head_slot (record { count = slots_of_entries group; first = n + 1 }) ++ flat_map entry_slot group
+group_slots n group =
+    group_head_slot (record { count = slots_of_entries group; first = n + 1 })
+    ++ flat_map entry_slot group
 
 abbrev pub groups_slots : ℕ → List (List BareEntry) → List ℕ
 groups_slots n [] = []
@@ -83,7 +96,9 @@ pub record OpenHalf : Type 0 where
   pub behind : List ℕ
 
 abbrev pub half_bytes : OpenHalf → List ℕ
-half_bytes h = half_head_slot h.head ++ (flat_map row_slot h.live ++ (groups_slots h.head.base h.groups ++ h.behind))
+half_bytes h =
+    half_head_slot h.head
+    ++ (flat_map row_slot h.live ++ (groups_slots h.head.base h.groups ++ h.behind))
 
 pub record IsGoodHalf (sizes : Sizes) (h : OpenHalf) : Type 0 where
   pub head : IsGoodHead sizes h.head
@@ -104,10 +119,13 @@ number_at_end h = h.head.base + length (entries_of h)
 
 -- The other half is shut, or has a good head of lower epoch.
 abbrev pub IsOlder : Sizes → ℕ → List ℕ → Type 0
-IsOlder sizes epoch bytes = IsEnd bytes ⊎ ((head : HalfHead) × (rest : List ℕ) × (bytes ≡ half_head_slot head ++ rest) × IsGoodHead sizes head × (head.epoch < epoch))
+IsOlder sizes epoch bytes =
+    IsEnd bytes ⊎ ((head : HalfHead) × (rest : List ℕ) × (bytes ≡ half_head_slot head ++ rest)
+    × IsGoodHead sizes head × (head.epoch < epoch))
 
 -- one half counts, with these rows and this number, and the other doesn't
-pub record Counts (sizes : Sizes) (counting other : List ℕ) (rows : List BareRow) (number : ℕ) : Type 0 where
+pub record Counts (sizes : Sizes) (counting other : List ℕ) (rows : List BareRow)
+    (number : ℕ) : Type 0 where
   pub half : OpenHalf
   pub bytes : counting ≡ half_bytes half
   pub good : IsGoodHalf sizes half
@@ -118,10 +136,12 @@ pub record Counts (sizes : Sizes) (counting other : List ℕ) (rows : List BareR
 -- ---- records in the roots
 
 -- the record of a row stands in its place, in a whole root
-pub record HoldsRecord (sizes : Sizes) (roots : List ℕ) (r : ClassRow) (words : List ℕ) : Type 0 where
+pub record HoldsRecord (sizes : Sizes) (roots : List ℕ) (r : ClassRow)
+    (words : List ℕ) : Type 0 where
   pub count : length words ≡ r.place.words
   pub whole : (r.place.chunk.root + 1) * root_size sizes ≤ length roots
-  pub held : packed_into r.place.words (take (8 * r.place.words) (drop (record_in_roots sizes r.place) roots)) ≡ words
+  pub held : packed_into r.place.words
+      (take (8 * r.place.words) (drop (record_in_roots sizes r.place) roots)) ≡ words
 
 abbrev pub HoldsRow : Sizes → List ℕ → Row (List ℕ) → Type 0
 HoldsRow sizes roots (Loader r) = Unit {0}
@@ -129,7 +149,9 @@ HoldsRow sizes roots (Class r words) = HoldsRecord sizes roots r words
 
 -- chunks that differ share no word, and none has two loaders
 abbrev pub AreApart : List ClassRow → Type 0
-AreApart classes = (r s : ClassRow) → Among r classes → Among s classes → Meets r.place.chunk s.place.chunk → (r.place.chunk ≡ s.place.chunk) × (r.loader ≡ s.loader)
+AreApart classes =
+    (r s : ClassRow) → Among r classes → Among s classes → Meets r.place.chunk s.place.chunk
+    → (r.place.chunk ≡ s.place.chunk) × (r.loader ≡ s.loader)
 
 -- ---- the contents
 
@@ -142,13 +164,16 @@ pub record Region : Type 0 where
 abbrev pub region_bytes : Sizes → Region → List ℕ
 region_bytes sizes r = superblock_bytes sizes ++ (r.half_0 ++ (r.half_1 ++ r.roots))
 
--- The contents frame the rows, each class with the words of its record, and the number of the last command.
-pub record Frames (sizes : Sizes) (contents : List ℕ) (rows : List (Row (List ℕ))) (number : ℕ) : Type 0 where
+-- The contents frame the rows, each class with the words of its record, and the number of the last
+-- command.
+pub record Frames (sizes : Sizes) (contents : List ℕ) (rows : List (Row (List ℕ)))
+    (number : ℕ) : Type 0 where
   pub lawful : IsGeometry sizes
   pub region : Region
   pub bytes : contents ≡ region_bytes sizes region
   pub half_0 : length region.half_0 ≡ half_size sizes
   pub half_1 : length region.half_1 ≡ half_size sizes
-  pub counts : Counts sizes region.half_0 region.half_1 (bare rows) number ⊎ Counts sizes region.half_1 region.half_0 (bare rows) number
+  pub counts : Counts sizes region.half_0 region.half_1 (bare rows) number
+      ⊎ Counts sizes region.half_1 region.half_0 (bare rows) number
   pub records : AllByRecursion (HoldsRow sizes region.roots) rows
   pub apart : AreApart (classes_in rows)

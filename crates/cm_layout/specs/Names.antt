@@ -11,4 +11,5 @@ abbrev pub is_visible : ℕ → Bool
 is_visible b = nat_le 33 b && nat_le b 126
 
 abbrev pub is_loader_name : List ℕ → Bool
-is_loader_name name = nat_le 1 (length name) && nat_le (length name) name_limit && list_all is_visible name
+is_loader_name name =
+    nat_le 1 (length name) && nat_le (length name) name_limit && list_all is_visible name

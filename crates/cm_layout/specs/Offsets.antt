@@ -1,4 +1,5 @@
--- Where the parts of a region file lie, in bytes from its beginning: the superblock, two halves of slots, and the roots.
+-- Where the parts of a region file lie, in bytes from its beginning: the superblock, two halves of
+-- slots, and the roots.
 use Rattle.std.specs.Prelude.{ℕ, ◌+◌, ◌*◌}
 use Rattle.cm_pool.specs.Geometry.{Sizes}
 use Rattle.cm_pool.specs.Chunks.{chunk_size}
@@ -36,7 +37,8 @@ root_at sizes root = roots_at sizes + root * root_size sizes
 
 -- a record, behind the beginning of the roots and from the file's beginning
 abbrev pub record_in_roots : Sizes → Place → ℕ
-record_in_roots sizes place = place.chunk.root * root_size sizes + 8 * (place.chunk.at + place.offset)
+record_in_roots sizes place =
+    place.chunk.root * root_size sizes + 8 * (place.chunk.at + place.offset)
 
 abbrev pub record_at : Sizes → Place → ℕ
 record_at sizes place = roots_at sizes + record_in_roots sizes place

@@ -1,6 +1,8 @@
--- Rows: the loaders and classes that live, in the order of the entries that made them, each class with what is kept of it
--- (nothing, its record's words, its class); and what an entry makes of them.
-use Rattle.std.specs.Prelude.{ℕ, ◌+◌, Bool, not, ◌==◌, if◌then◌else◌, List, [], ◌∷◌, ◌++◌, sum, map, filter, Option, Some, None}
+-- Rows: the loaders and classes that live, in the order of the entries that made them, each class
+-- with what is kept of it (nothing, its record's words, its class); and what an entry makes of
+-- them.
+use Rattle.std.specs.Prelude.{ℕ, ◌+◌, Bool, not, ◌==◌, if◌then◌else◌, List, [], ◌∷◌, ◌++◌, sum, map}
+use Rattle.std.specs.Prelude.{filter, Option, Some, None}
 use Rattle.std.specs.Str.{bytes_eq}
 use Rattle.cm_pool.specs.declared.chunk.Chunk.{Chunk}
 use Rattle.cm_pool.specs.Chunks.{same_chunk}
@@ -58,12 +60,15 @@ slots_of_entries (e ∷ entries) = slots_of e + slots_of_entries entries
 
 -- how many words of a chunk records take
 abbrev pub used_words : {P : Type 0} → Chunk → List (Row P) → ℕ
-used_words c rows = sum (map (λ r. r.place.words) (filter (λ r. same_chunk r.place.chunk c) (classes_in rows)))
+used_words c rows =
+    sum (map (λ r. r.place.words) (filter (λ r. same_chunk r.place.chunk c) (classes_in rows)))
 
 -- the chunk of a loader's last class
 abbrev pub last_chunk : ℕ → List ClassRow → Option Chunk
 last_chunk u [] = None
-last_chunk u (r ∷ rows) = elim (last_chunk u rows) [ Some c ↦ Some c | None ↦ if r.loader == u then Some r.place.chunk else None ]
+last_chunk u (r ∷ rows) =
+    elim (last_chunk u rows)
+    [ Some c ↦ Some c | None ↦ if r.loader == u then Some r.place.chunk else None ]
 
 -- ---- what an entry makes of them
 
@@ -78,7 +83,9 @@ without_loader u rows = filter (λ row. not (is_of u row)) rows
 -- a record on the old chunk lies on the new one, at the same offset
 abbrev pub moved_row : {P : Type 0} → Chunk → Chunk → Row P → Row P
 moved_row from to (Loader r) = Loader r
-moved_row from to (Class r p) = if same_chunk r.place.chunk from then Class (record r { place = record r.place { chunk = to } }) p else Class r p
+moved_row from to (Class r p) =
+    if same_chunk r.place.chunk from
+    then Class (record r { place = record r.place { chunk = to } }) p else Class r p
 
 abbrev pub moved : {P : Type 0} → Chunk → Chunk → List (Row P) → List (Row P)
 moved from to rows = map (moved_row from to) rows

@@ -1,6 +1,8 @@
--- The rules that entries and live rows keep, where these rows live before them. Each rule is one on rows (loaders, names,
--- numbers, how many rows there are) or one on chunks (chunks, offsets, sizes), so that the first that is broken has a sort.
-use Rattle.std.specs.Prelude.{ℕ, ◌+◌, ◌/◌, ◌%◌, ◌==◌, Bool, false, not, ◌&&◌, ◌||◌, nat_lt, nat_le, min, max, if◌then◌else◌, List, Option, Some, None, is_some, is_none}
+-- The rules that entries and live rows keep, where these rows live before them. Each rule is one on
+-- rows (loaders, names, numbers, how many rows there are) or one on chunks (chunks, offsets,
+-- sizes), so that the first that is broken has a sort.
+use Rattle.std.specs.Prelude.{ℕ, ◌+◌, ◌/◌, ◌%◌, ◌==◌, Bool, false, not, ◌&&◌, ◌||◌, nat_lt, nat_le}
+use Rattle.std.specs.Prelude.{min, max, if◌then◌else◌, List, Option, Some, None, is_some, is_none}
 use Rattle.std.specs.List.{list_all, list_any}
 use Rattle.std.specs.Option.{option_map_or}
 use Rattle.cm_pool.specs.declared.chunk.Chunk.{Chunk}
@@ -16,7 +18,8 @@ use Rattle.cm_layout.specs.declared.entry.Entry.TheVariants as entry
 use Rattle.cm_layout.specs.declared.entry_rule.EntryRule.{EntryRule}
 use Rattle.cm_layout.specs.declared.entry_rule.EntryRule.TheVariants.{OnRows, OnChunks}
 use Rattle.cm_layout.specs.Names.{is_loader_name}
-use Rattle.cm_layout.specs.Rows.{slots_of_row, slots_of_rows, name_of, number_of, numbers_in, classes_in, chunks_in, used_words, last_chunk}
+use Rattle.cm_layout.specs.Rows.{slots_of_row, slots_of_rows, name_of, number_of, numbers_in}
+use Rattle.cm_layout.specs.Rows.{classes_in, chunks_in, used_words, last_chunk}
 
 -- ---- rules on rows
 
@@ -32,7 +35,8 @@ is_live u rows = is_some (name_of u rows)
 
 -- a loader with a name of its own
 abbrev pub is_new_loader : {P : Type 0} → Sizes → List (Row P) → LoaderRow → Bool
-is_new_loader sizes rows r = is_loader_name r.name && is_none (number_of r.name rows) && has_room sizes rows (Loader r)
+is_new_loader sizes rows r =
+    is_loader_name r.name && is_none (number_of r.name rows) && has_room sizes rows (Loader r)
 
 -- ---- rules on chunks
 
@@ -44,16 +48,19 @@ is_chunk sizes c =
 
 -- the two chunks share a word
 abbrev pub meets : Chunk → Chunk → Bool
-meets a b = (a.root == b.root) && nat_lt (max a.at b.at) (min (a.at + chunk_size a.order) (b.at + chunk_size b.order))
+meets a b = (a.root == b.root)
+    && nat_lt (max a.at b.at) (min (a.at + chunk_size a.order) (b.at + chunk_size b.order))
 
 -- the chunk can be had: the region has it, and it meets no chunk of any row
 abbrev pub is_unused : {P : Type 0} → Chunk → List (Row P) → Bool
 is_unused c rows = not (list_any (meets c) (chunks_in rows))
 
 abbrev pub is_last_chunk : {P : Type 0} → ℕ → Chunk → List (Row P) → Bool
-is_last_chunk u c rows = option_map_or (λ last. same_chunk last c) (last_chunk u (classes_in rows)) false
+is_last_chunk u c rows =
+    option_map_or (λ last. same_chunk last c) (last_chunk u (classes_in rows)) false
 
--- a record lies behind the last one in its loader's last chunk, or first in a chunk that meets none in use
+-- a record lies behind the last one in its loader's last chunk, or first in a chunk that meets none
+-- in use
 abbrev pub has_place : {P : Type 0} → List (Row P) → ClassRow → Bool
 has_place rows r =
     (is_last_chunk r.loader r.place.chunk rows && (r.place.offset == used_words r.place.chunk rows))
@@ -73,18 +80,25 @@ move_fits sizes rows e =
 -- ---- the first rule that is broken
 
 abbrev pub broken_of : Bool → Bool → Option EntryRule
-broken_of on_rows on_chunks = if on_rows then (if on_chunks then None else Some OnChunks) else Some OnRows
+broken_of on_rows on_chunks =
+    if on_rows then (if on_chunks then None else Some OnChunks) else Some OnRows
 
 -- by an entry of a group, which has this number
 abbrev pub broken_rule : {P : Type 0} → Sizes → List (Row P) → ℕ → Entry P → Option EntryRule
-broken_rule sizes rows number (entry.Live (Loader r)) = if (r.number == number) && is_new_loader sizes rows r then None else Some OnRows
-broken_rule sizes rows number (entry.Live (Class r p)) = broken_of (is_live r.loader rows && has_room sizes rows (Class r p)) (class_fits sizes rows r)
+broken_rule sizes rows number (entry.Live (Loader r)) =
+    if (r.number == number) && is_new_loader sizes rows r then None else Some OnRows
+broken_rule sizes rows number (entry.Live (Class r p)) =
+    broken_of (is_live r.loader rows && has_room sizes rows (Class r p)) (class_fits sizes rows r)
 broken_rule sizes rows number (entry.Unload e) = if is_live e.loader rows then None else Some OnRows
-broken_rule sizes rows number (entry.Move e) = if move_fits sizes rows e then None else Some OnChunks
+broken_rule sizes rows number (entry.Move e) =
+    if move_fits sizes rows e then None else Some OnChunks
 
--- by a live row behind a half's head: a loader's number is one of the past, and above those before it
+-- by a live row behind a half's head: a loader's number is one of the past, and above those before
+-- it
 abbrev pub broken_live_rule : {P : Type 0} → Sizes → ℕ → List (Row P) → Row P → Option EntryRule
 broken_live_rule sizes base rows (Loader r) =
-    if nat_le 1 r.number && nat_le r.number base && list_all (λ u. nat_lt u r.number) (numbers_in rows) && is_new_loader sizes rows r
+    if nat_le 1 r.number && nat_le r.number base
+    && list_all (λ u. nat_lt u r.number) (numbers_in rows) && is_new_loader sizes rows r
     then None else Some OnRows
-broken_live_rule sizes base rows (Class r p) = broken_of (is_live r.loader rows && has_room sizes rows (Class r p)) (class_fits sizes rows r)
+broken_live_rule sizes base rows (Class r p) =
+    broken_of (is_live r.loader rows && has_room sizes rows (Class r p)) (class_fits sizes rows r)

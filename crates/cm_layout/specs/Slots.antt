@@ -1,5 +1,6 @@
--- The slots of a region file: 64 bytes each, numbers little-endian. Byte 0 of a head is its gate, open exactly where
--- it is A5; byte 0 of an entry is 00. Byte 1 says what the slot is. All bytes that aren't named are 00.
+-- The slots of a region file: 64 bytes each, numbers little-endian. Byte 0 of a head is its gate,
+-- open exactly where it is A5; byte 0 of an entry is 00. Byte 1 says what the slot is. All bytes
+-- that aren't named are 00.
 use Rattle.std.specs.Prelude.{ℕ, ◌<◌, ◌≤◌, ◌-◌, ◌^◌, List, ◌∷◌, ◌++◌, length, replicate}
 use Rattle.std.specs.Int.{w16, w32, w64, to_le_bytes}
 use Rattle.cm_pool.specs.declared.chunk.Chunk.{Chunk}
@@ -23,7 +24,9 @@ zeros n = replicate n 0
 
 -- a half's head behind its gate: kind, entry version, live rows, epoch, base
 abbrev pub half_head_rest : HalfHead → List ℕ
-half_head_rest h = (1 ∷ to_le_bytes w16 h.version) ++ to_le_bytes w32 h.live ++ to_le_bytes w64 h.epoch ++ to_le_bytes w64 h.base ++ zeros 40
+half_head_rest h =
+    (1 ∷ to_le_bytes w16 h.version) ++ to_le_bytes w32 h.live ++ to_le_bytes w64 h.epoch
+    ++ to_le_bytes w64 h.base ++ zeros 40
 
 -- a group's head behind its gate: kind, number of entries, the first entry's number
 abbrev pub group_head_rest : GroupHead → List ℕ
@@ -40,7 +43,9 @@ group_head_slot h = 165 ∷ group_head_rest h
 
 -- a loader: its name's length, its number, its name
 abbrev pub loader_slot : LoaderRow → List ℕ
-loader_slot r = (0 ∷ 17 ∷ length r.name ∷ zeros 5) ++ to_le_bytes w64 r.number ++ (r.name ++ zeros (48 - length r.name))
+loader_slot r =
+    (0 ∷ 17 ∷ length r.name ∷ zeros 5) ++ to_le_bytes w64 r.number
+    ++ (r.name ++ zeros (48 - length r.name))
 
 -- a chunk: root, order and place
 abbrev pub chunk_bytes : Chunk → List ℕ
@@ -50,7 +55,8 @@ chunk_bytes c = to_le_bytes w32 c.root ++ to_le_bytes w32 c.order ++ to_le_bytes
 abbrev pub class_slot : ClassRow → List ℕ
 class_slot r =
     (0 ∷ 18 ∷ zeros 2) ++ to_le_bytes w32 r.place.words ++ to_le_bytes w64 r.loader
-    ++ to_le_bytes w32 r.place.chunk.root ++ to_le_bytes w32 r.place.chunk.order ++ to_le_bytes w32 r.place.chunk.at
+    ++ to_le_bytes w32 r.place.chunk.root ++ to_le_bytes w32 r.place.chunk.order
+    ++ to_le_bytes w32 r.place.chunk.at
     ++ to_le_bytes w32 r.place.offset ++ zeros 32
 
 -- a loader that is unloaded, by its number
@@ -62,7 +68,8 @@ abbrev pub move_slot : Move → List ℕ
 move_slot e =
     (0 ∷ 20 ∷ zeros 6) ++ to_le_bytes w64 e.loader
     ++ to_le_bytes w32 e.from.root ++ to_le_bytes w32 e.from.order ++ to_le_bytes w32 e.from.at
-    ++ to_le_bytes w32 e.to.root ++ to_le_bytes w32 e.to.order ++ to_le_bytes w32 e.to.at ++ zeros 24
+    ++ to_le_bytes w32 e.to.root ++ to_le_bytes w32 e.to.order ++ to_le_bytes w32 e.to.at
+    ++ zeros 24
 
 abbrev pub row_slot : {P : Type 0} → Row P → List ℕ
 row_slot (Loader r) = loader_slot r

@@ -1,5 +1,5 @@
--- The superblock of a region file, its first 4,096 bytes: `CMCACHE1`, then the version and the sizes as u32,
--- little-endian, zeros, and the gate in the last byte.
+-- The superblock of a region file, its first 4,096 bytes: `CMCACHE1`, then the version and the
+-- sizes as u32, little-endian, zeros, and the gate in the last byte.
 use Rattle.std.specs.Prelude.{ℕ, List, [], ◌∷◌, ◌++◌}
 use Rattle.std.specs.Int.{w32, to_le_bytes}
 use Rattle.cm_pool.specs.Geometry.{Sizes}
@@ -11,7 +11,9 @@ magic = 67 ∷ 77 ∷ 67 ∷ 65 ∷ 67 ∷ 72 ∷ 69 ∷ 49 ∷ []
 
 -- the bytes in front of the zeros
 abbrev pub superblock_front : Sizes → List ℕ
-superblock_front g = magic ++ to_le_bytes w32 1 ++ to_le_bytes w32 g.top ++ to_le_bytes w32 g.roots ++ to_le_bytes w32 g.slots
+superblock_front g =
+    magic ++ to_le_bytes w32 1 ++ to_le_bytes w32 g.top ++ to_le_bytes w32 g.roots
+    ++ to_le_bytes w32 g.slots
 
 -- n bytes 00; a name for long rows, which nobody wants to see written out
 unfoldable pub blank : ℕ → List ℕ

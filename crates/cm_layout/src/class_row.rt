@@ -47,7 +47,8 @@ impl ClassRow {
         }
     }
 
-    // What stands where a class's slot has its fields. Only writing it again tells whether it is one.
+    // What stands where a class's slot has its fields. Only writing it again tells whether it is
+    // one.
     fn at_its_places(slot: &[u8; SLOT_BYTES]) -> ClassRow
         ensures { (row : _) → FitsClass row → slot.now ≡ class_slot row → result ≡ row }
     {

@@ -40,7 +40,8 @@ impl Entry<()> {
     /// The entry that a slot spells, if it does.
     pub fn decode(slot: &[u8; SLOT_BYTES]) -> Option<Entry<()>>
         ensures found { IfSome result (λ entry. slot.now ≡ entry_slot entry) }
-        ensures only { (entry : _) → FitsEntry entry → slot.now ≡ entry_slot entry → result ≡ Some entry }
+        ensures only { (entry : _) → FitsEntry entry → slot.now ≡ entry_slot entry
+            → result ≡ Some entry }
     {
         if let Some(row) = LoaderRow::decode(slot) {
             return Some(Entry::Live(Row::Loader(row)));

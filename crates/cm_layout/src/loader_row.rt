@@ -44,7 +44,8 @@ impl LoaderRow {
         }
     }
 
-    // What stands where a loader's slot has its fields. Only writing it again tells whether it is one.
+    // What stands where a loader's slot has its fields. Only writing it again tells whether it is
+    // one.
     fn at_its_places(slot: &[u8; SLOT_BYTES]) -> Option<LoaderRow>
         ensures { (row : _) → FitsLoader row → slot.now ≡ loader_slot row → result ≡ Some row }
     {

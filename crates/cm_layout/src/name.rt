@@ -23,7 +23,8 @@ impl Model for SlotName {
 
     ghost view = { λ n. take n.len n.bytes };
 
-    ghost invariant = { λ n. (n.len ≤ 48) × (n.bytes ≡ take n.len n.bytes ++ replicate (48 - n.len) 0) };
+    ghost invariant = { λ n. (n.len ≤ 48)
+        × (n.bytes ≡ take n.len n.bytes ++ replicate (48 - n.len) 0) };
 }
 
 impl SlotName {

@@ -1,7 +1,9 @@
 //! Where the parts of a region file lie.
 
 ghost use Rattle.std.specs.Prelude.{◌≡◌, ◌*◌};
-ghost use Rattle.cm_layout.specs.Offsets.{half_at as half_at_of, slot_at as slot_at_of, roots_at as roots_at_of, root_size, root_at as root_at_of, record_at as record_at_of};
+ghost use Rattle.cm_layout.specs.Offsets.{half_at as half_at_of, slot_at as slot_at_of};
+ghost use Rattle.cm_layout.specs.Offsets.{roots_at as roots_at_of, root_size};
+ghost use Rattle.cm_layout.specs.Offsets.{root_at as root_at_of, record_at as record_at_of};
 
 use crate::half::Half;
 use crate::slot::{SLOT_BYTES, SUPERBLOCK_BYTES};

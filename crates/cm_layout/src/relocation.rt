@@ -39,7 +39,8 @@ impl Move {
     /// The entry that a slot spells, if it spells a move.
     pub fn decode(slot: &[u8; SLOT_BYTES]) -> Option<Move>
         ensures found { IfSome result (λ entry. slot.now ≡ move_slot entry) }
-        ensures only { (entry : _) → FitsMove entry → slot.now ≡ move_slot entry → result ≡ Some entry }
+        ensures only { (entry : _) → FitsMove entry → slot.now ≡ move_slot entry
+            → result ≡ Some entry }
     {
         let entry = Move::at_its_places(slot);
         if is_same_slot(&entry.encode(), slot) {
@@ -49,7 +50,8 @@ impl Move {
         }
     }
 
-    // What stands where a move's slot has its fields. Only writing it again tells whether it is one.
+    // What stands where a move's slot has its fields. Only writing it again tells whether it is
+    // one.
     fn at_its_places(slot: &[u8; SLOT_BYTES]) -> Move
         ensures { (entry : _) → FitsMove entry → slot.now ≡ move_slot entry → result ≡ entry }
     {

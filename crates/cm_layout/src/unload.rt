@@ -29,7 +29,8 @@ impl Unload {
     /// The entry that a slot spells, if it spells the unloading of a loader.
     pub fn decode(slot: &[u8; SLOT_BYTES]) -> Option<Unload>
         ensures found { IfSome result (λ entry. slot.now ≡ unload_slot entry) }
-        ensures only { (entry : _) → FitsUnload entry → slot.now ≡ unload_slot entry → result ≡ Some entry }
+        ensures only { (entry : _) → FitsUnload entry → slot.now ≡ unload_slot entry
+            → result ≡ Some entry }
     {
         let entry = Unload::at_its_places(slot);
         if is_same_slot(&entry.encode(), slot) {

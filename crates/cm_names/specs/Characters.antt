@@ -29,4 +29,5 @@ character_bytes (ThreeBytes a b c) = a ∷ b ∷ c ∷ []
 -- some characters, one behind the other, are these bytes
 abbrev pub AreCharacters : List ℕ → Type 0
 AreCharacters bytes =
-    (characters : List Character) × AllByRecursion IsCharacter characters × (flat_map character_bytes characters ≡ bytes)
+    (characters : List Character) × AllByRecursion IsCharacter characters
+    × (flat_map character_bytes characters ≡ bytes)

@@ -6,4 +6,6 @@ use Rattle.cm_names.specs.Forms.{is_unqualified_name, slash}
 -- some unqualified names, at least one, joined by slashes are these bytes
 abbrev pub AreJoinedNames : List ℕ → Type 0
 AreJoinedNames bytes =
-    (names : List (List ℕ)) × (names ≢ []) × AllByRecursion (λ name. IsTrue (is_unqualified_name name)) names × (join_with_byte slash names ≡ bytes)
+    (names : List (List ℕ)) × (names ≢ [])
+    × AllByRecursion (λ name. IsTrue (is_unqualified_name name)) names
+    × (join_with_byte slash names ≡ bytes)

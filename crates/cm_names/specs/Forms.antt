@@ -1,6 +1,8 @@
 -- The form of Utf8s, names and descriptors, on their bytes (JVMS SE 8, sections 4.2, 4.3 and
 -- 4.4.7).
-use Rattle.std.specs.Prelude.{◌-◌, slice_get, ℕ, zero, suc, ◌+◌, Bool, true, false, not, ◌&&◌, ◌||◌, List, [], ◌∷◌, Option, Some, None, option_and_then, nat_le, ◌==◌, if◌then◌else◌, length, bytes_eq, codes}
+use Rattle.std.specs.Prelude.{◌-◌, slice_get, ℕ, zero, suc, ◌+◌, Bool, true, false, not, ◌&&◌, ◌||◌}
+use Rattle.std.specs.Prelude.{List, [], ◌∷◌, Option, Some, None, option_and_then, nat_le, ◌==◌}
+use Rattle.std.specs.Prelude.{if◌then◌else◌, length, bytes_eq, codes}
 use Rattle.std.specs.Option.{option_map_or}
 use Rattle.std.specs.List.{list_all}
 
@@ -9,8 +11,8 @@ is_within low high b = nat_le low b && nat_le b high
 
 -- ---- the form of a Utf8 (JVMS 4.4.7, where the shortest form isn't demanded)
 
--- How many bytes a character lacks behind a byte, where it lacked so many before it: a character is one
--- byte from 01 to 7F, or C0 to DF with one byte from 80 to BF, or E0 to EF with two.
+-- How many bytes a character lacks behind a byte, where it lacked so many before it: a character is
+-- one byte from 01 to 7F, or C0 to DF with one byte from 80 to BF, or E0 to EF with two.
 abbrev pub owed_after : ℕ → ℕ → Option ℕ
 owed_after (suc n) b = if is_within 0x80 0xBF b then Some n else None
 owed_after zero b =
@@ -22,7 +24,8 @@ owed_after zero b =
 -- a sequence of characters, of which the first lacks so many bytes
 unfoldable pub has_utf8_form_after : ℕ → List ℕ → Bool
 has_utf8_form_after owed [] = owed == 0
-has_utf8_form_after owed (b ∷ bytes) = option_map_or (λ n. has_utf8_form_after n bytes) (owed_after owed b) false
+has_utf8_form_after owed (b ∷ bytes) =
+    option_map_or (λ n. has_utf8_form_after n bytes) (owed_after owed b) false
 
 unfoldable pub has_utf8_form : List ℕ → Bool
 has_utf8_form bytes = has_utf8_form_after 0 bytes
@@ -68,7 +71,8 @@ is_method_name bytes =
     (is_unqualified_name bytes && list_all (λ b. not (b == less) && not (b == greater)) bytes)
     || bytes_eq bytes init || bytes_eq bytes clinit
 
--- Whether a name begins behind a byte of unqualified names joined by `/`, where one may begin at it.
+-- Whether a name begins behind a byte of unqualified names joined by `/`, where one may begin at
+-- it.
 unfoldable pub name_after : Bool → ℕ → Option Bool
 name_after begins b =
     if b == slash then (if begins then None else Some true)
@@ -77,7 +81,8 @@ name_after begins b =
 
 unfoldable pub is_class_name_from : Bool → List ℕ → Bool
 is_class_name_from begins [] = not begins
-is_class_name_from begins (b ∷ bytes) = option_map_or (λ after. is_class_name_from after bytes) (name_after begins b) false
+is_class_name_from begins (b ∷ bytes) =
+    option_map_or (λ after. is_class_name_from after bytes) (name_after begins b) false
 
 unfoldable pub is_class_name : List ℕ → Bool
 is_class_name bytes = is_class_name_from true bytes
@@ -86,7 +91,8 @@ is_class_name bytes = is_class_name_from true bytes
 
 -- B C D F I J S Z
 abbrev pub is_base_type : ℕ → Bool
-is_base_type b = b == 66 || b == 67 || b == 68 || b == 70 || b == 73 || b == 74 || b == 83 || b == 90
+is_base_type b =
+    b == 66 || b == 67 || b == 68 || b == 70 || b == 73 || b == 74 || b == 83 || b == 90
 
 -- what stands behind a class name and its `;`
 unfoldable pub after_class : Bool → List ℕ → Option (List ℕ)
@@ -129,7 +135,9 @@ parameters zero bytes = None
 parameters (suc n) [] = None
 parameters (suc n) (b ∷ bytes) =
     if b == 41 then Some (0, bytes)
-    else option_and_then (λ rest. option_and_then (λ others. Some (units_of_first (b ∷ bytes) + others.0, others.1)) (parameters n rest)) (after_field 255 (b ∷ bytes))
+    else option_and_then
+    (λ rest. option_and_then (λ others. Some (units_of_first (b ∷ bytes) + others.0, others.1))
+    (parameters n rest)) (after_field 255 (b ∷ bytes))
 
 -- `V`, which is 86, or a field descriptor, and nothing behind it
 abbrev pub is_return_descriptor : List ℕ → Bool
@@ -140,7 +148,9 @@ unfoldable pub method_units : List ℕ → Option ℕ
 method_units [] = None
 method_units (b ∷ bytes) =
     if b == 40
-    then option_and_then (λ p. if is_return_descriptor p.1 && nat_le p.0 255 then Some p.0 else None) (parameters (length bytes) bytes)
+    then option_and_then
+    (λ p. if is_return_descriptor p.1 && nat_le p.0 255 then Some p.0 else None)
+    (parameters (length bytes) bytes)
     else None
 
 abbrev pub is_method_descriptor : List ℕ → Bool

@@ -1,7 +1,8 @@
 -- What is found out of a Utf8 once.
 use Rattle.std.specs.Prelude.{ℕ, Bool, List, ◌||◌, bytes_eq}
 use Rattle.cm_names.specs.declared.judgement.Judgement.{Judgement}
-use Rattle.cm_names.specs.Forms.{init, clinit, has_utf8_form, is_unqualified_name, is_method_name, is_class_name, is_field_descriptor, method_units}
+use Rattle.cm_names.specs.Forms.{init, clinit, has_utf8_form, is_unqualified_name, is_method_name}
+use Rattle.cm_names.specs.Forms.{is_class_name, is_field_descriptor, method_units}
 
 unfoldable pub judgement : List ℕ → Judgement
 judgement bytes = record {

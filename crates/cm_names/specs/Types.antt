@@ -1,5 +1,6 @@
 -- Types of fields and methods, and the descriptors that spell them (JVMS SE 8, section 4.3).
-use Rattle.std.specs.Prelude.{◌≡◌, ℕ, ◌+◌, ◌≤◌, IsTrue, List, [], ◌∷◌, ◌++◌, Option, Some, None, IfSome}
+use Rattle.std.specs.Prelude.{◌≡◌, ℕ, ◌+◌, ◌≤◌, IsTrue, List, [], ◌∷◌, ◌++◌, Option, Some, None}
+use Rattle.std.specs.Prelude.{IfSome}
 use Rattle.std.specs.List.{flat_map, AllByRecursion}
 use Rattle.cm_names.specs.Forms.{is_class_name, semicolon, bracket}
 
@@ -67,7 +68,8 @@ return_descriptor (Some type) = field_descriptor type
 
 -- `(` and `)`, which are 40 and 41, around the parameters, and behind them what is returned
 abbrev pub method_descriptor : MethodType → List ℕ
-method_descriptor method = 40 ∷ flat_map field_descriptor method.parameters ++ 41 ∷ return_descriptor method.returned
+method_descriptor method =
+    40 ∷ flat_map field_descriptor method.parameters ++ 41 ∷ return_descriptor method.returned
 
 -- a long and a double take two (JVMS 4.3.3)
 abbrev pub units : FieldType → ℕ
@@ -87,4 +89,5 @@ pub record IsMethodType (method : MethodType) : Type 0 where
 -- the bytes spell the type of a method whose parameters take so many units
 abbrev pub SpellsMethodType : List ℕ → ℕ → Type 0
 SpellsMethodType bytes n =
-    (method : MethodType) × IsMethodType method × (method_descriptor method ≡ bytes) × (all_units method.parameters ≡ n)
+    (method : MethodType) × IsMethodType method × (method_descriptor method ≡ bytes)
+    × (all_units method.parameters ≡ n)

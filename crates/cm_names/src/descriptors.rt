@@ -1,6 +1,9 @@
 //! Descriptors of fields and methods.
-ghost use Rattle.std.specs.Prelude.{◌≡◌, true, [], ◌∷◌, IfSome, IfNone, length, option_copied, option_map};
-ghost use Rattle.cm_names.specs.Forms.{is_base_type, after_class, after_field, is_field_descriptor, begins_with, units_of_first, parameters, is_return_descriptor, method_units, ends_in_void};
+ghost use Rattle.std.specs.Prelude.{◌≡◌, true, [], ◌∷◌, IfSome, IfNone, length, option_copied};
+ghost use Rattle.std.specs.Prelude.{option_map};
+ghost use Rattle.cm_names.specs.Forms.{is_base_type, after_class, after_field, is_field_descriptor};
+ghost use Rattle.cm_names.specs.Forms.{begins_with, units_of_first, parameters};
+ghost use Rattle.cm_names.specs.Forms.{is_return_descriptor, method_units, ends_in_void};
 
 use crate::joined::are_names;
 use crate::stops::first_stop;
@@ -124,8 +127,8 @@ fn is_return_descriptor(bytes: &[u8]) -> bool
     bytes == b"V".as_slice() || is_field_descriptor(bytes)
 }
 
-/// The units of a method descriptor's parameters (JVMS 4.3.3), at most 255; `None` where the bytes are
-/// no method descriptor.
+/// The units of a method descriptor's parameters (JVMS 4.3.3), at most 255; `None` where the bytes
+/// are no method descriptor.
 #[tactic(auto, unfolding(crate::specs::Forms::method_units))]
 pub fn method_units(bytes: &[u8]) -> Option<u8>
     ensures { result ≡ method_units bytes.now }

@@ -37,8 +37,8 @@ fn nine_are_apart(bytes: &[u8], at: usize) -> bool
     (slashes & behind).to_bitmask() == 0
 }
 
-/// Whether no two slashes stand side by side in seventeen bytes or more. The last seventeen may overlap
-/// with others.
+/// Whether no two slashes stand side by side in seventeen bytes or more. The last seventeen may
+/// overlap with others.
 fn many_are_apart(bytes: &[u8]) -> bool
     requires { SPAN ≤ length bytes.now }
     ensures { result ≡ list_all are_apart (neighbours bytes.now) }
@@ -62,8 +62,8 @@ fn slashes_are_apart(bytes: &[u8]) -> bool
     }
 }
 
-/// Whether bytes with no `.`, `;` or `[` are a class name: a slash is neither the first nor the last of
-/// them, and no two stand side by side.
+/// Whether bytes with no `.`, `;` or `[` are a class name: a slash is neither the first nor the
+/// last of them, and no two stand side by side.
 pub(crate) fn are_names(bytes: &[u8]) -> bool
     requires { list_all is_no_stop bytes.now ≡ true }
     ensures { result ≡ is_class_name bytes.now }

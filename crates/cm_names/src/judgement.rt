@@ -1,6 +1,7 @@
 //! What a Utf8 is, found out all at once.
 ghost use Rattle.std.specs.Prelude.{◌≡◌};
-ghost use Rattle.cm_names.specs.Forms.{has_utf8_form, is_class_name, is_unqualified_name, is_method_name, is_field_descriptor};
+ghost use Rattle.cm_names.specs.Forms.{has_utf8_form, is_class_name, is_unqualified_name};
+ghost use Rattle.cm_names.specs.Forms.{is_method_name, is_field_descriptor};
 ghost use Rattle.cm_names.specs.Judgement.{judgement, is_special_name};
 ghost use Rattle.cm_names.specs.Marks.{marks_of};
 

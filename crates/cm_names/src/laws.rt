@@ -1,7 +1,8 @@
 //! What holds of the definitions themselves. Each law is the contract of a function with an empty
 //! body.
 ghost use Rattle.std.specs.Prelude.{◌≡◌, ◌↔◌, ℕ, List, Some, IsTrue};
-ghost use Rattle.cm_names.specs.Forms.{has_utf8_form, is_class_name, is_field_descriptor, is_method_descriptor, method_units};
+ghost use Rattle.cm_names.specs.Forms.{has_utf8_form, is_class_name, is_field_descriptor};
+ghost use Rattle.cm_names.specs.Forms.{is_method_descriptor, method_units};
 ghost use Rattle.cm_names.specs.Characters.{AreCharacters};
 ghost use Rattle.cm_names.specs.ClassNames.{AreJoinedNames};
 ghost use Rattle.cm_names.specs.Types.{SpellsFieldType, SpellsMethodType};

@@ -1,7 +1,8 @@
 //! Names of fields, methods and classes.
 ghost use Rattle.std.specs.Prelude.{◌≡◌, ◌&&◌, ◌==◌, not};
 ghost use Rattle.std.specs.List.{list_all};
-ghost use Rattle.cm_names.specs.Forms.{less, greater, is_name_byte, is_unqualified_name, is_method_name, is_class_name, name_after};
+ghost use Rattle.cm_names.specs.Forms.{less, greater, is_name_byte, is_unqualified_name};
+ghost use Rattle.cm_names.specs.Forms.{is_method_name, is_class_name, name_after};
 
 fn is_name_byte(byte: u8) -> bool
     ensures { result ≡ is_name_byte byte }

@@ -32,7 +32,8 @@ fn run_of_sixteen(bytes: &[u8], at: usize) -> usize
     first_set(stop.to_bitmask(), LANES)
 }
 
-/// The place of the first stop among sixteen bytes or more. The last sixteen may overlap with others.
+/// The place of the first stop among sixteen bytes or more. The last sixteen may overlap with
+/// others.
 fn first_stop_of_many(bytes: &[u8]) -> usize
     requires { LANES ≤ length bytes.now }
     ensures { result ≡ prefix_len is_no_stop bytes.now }

@@ -28,7 +28,8 @@ fn are_plain(bytes: &[u8]) -> bool
     all
 }
 
-/// Whether the bytes have the form of a Utf8: a sequence of characters (JVMS 4.4.7). Most are plain.
+/// Whether the bytes have the form of a Utf8: a sequence of characters (JVMS 4.4.7). Most are
+/// plain.
 #[tactic(auto, using(crate::proofs::FormLoops::plain_has_form))]
 pub fn has_utf8_form(bytes: &[u8]) -> bool
     ensures { result ≡ has_utf8_form bytes.now }

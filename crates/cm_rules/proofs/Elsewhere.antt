@@ -5,10 +5,12 @@ use Rattle.cm_class.specs.declared.class_file.ClassFile.{ClassFile}
 use Rattle.cm_duplicates.specs.Duplicates.{first_duplicate, first_failing}
 use Rattle.cm_rules.specs.declared.rule.Rule.{Rule}
 use Rattle.cm_rules.specs.declared.rule.Rule.TheVariants as rules
-use Rattle.cm_rules.specs.Fault.{field_constraint, field_rule, field_failing, method_constraint, method_rule, method_failing}
+use Rattle.cm_rules.specs.Fault.{field_constraint, field_rule, field_failing, method_constraint}
+use Rattle.cm_rules.specs.Fault.{method_rule, method_failing}
 
 module _ (c : ClassFile) where
-  field_anywhere : (rule : Rule) → (rule ≡ rules.FieldTwice → ⊥) → (i : ℕ) (m : Member) → field_constraint rule c m ≡ field_rule rule c i m
+  field_anywhere : (rule : Rule) → (rule ≡ rules.FieldTwice → ⊥) → (i : ℕ) (m : Member)
+      → field_constraint rule c m ≡ field_rule rule c i m
   unfolding field_rule
   field_anywhere rules.TextForm other i m = refl
   field_anywhere rules.EntryKinds other i m = refl
@@ -35,10 +37,13 @@ module _ (c : ClassFile) where
   field_anywhere rules.ClassAttributes other i m = refl
   field_anywhere rules.BootstrapMethods other i m = refl
 
-  pub field_elsewhere : (rule : Rule) → (rule ≡ rules.FieldTwice → ⊥) → first_failing (λ _ m. field_constraint rule c m) 0 c.fields ≡ field_failing c rule
-  field_elsewhere rule other = (λ k. first_failing (λ i m. field_anywhere rule other i m k) 0 c.fields)
+  pub field_elsewhere : (rule : Rule) → (rule ≡ rules.FieldTwice → ⊥)
+      → first_failing (λ _ m. field_constraint rule c m) 0 c.fields ≡ field_failing c rule
+  field_elsewhere rule other =
+      (λ k. first_failing (λ i m. field_anywhere rule other i m k) 0 c.fields)
 
-  method_anywhere : (rule : Rule) → (rule ≡ rules.MethodTwice → ⊥) → (i : ℕ) (m : Member) → method_constraint rule c m ≡ method_rule rule c i m
+  method_anywhere : (rule : Rule) → (rule ≡ rules.MethodTwice → ⊥) → (i : ℕ) (m : Member)
+      → method_constraint rule c m ≡ method_rule rule c i m
   unfolding method_rule
   method_anywhere rules.TextForm other i m = refl
   method_anywhere rules.EntryKinds other i m = refl
@@ -65,13 +70,17 @@ module _ (c : ClassFile) where
   method_anywhere rules.ClassAttributes other i m = refl
   method_anywhere rules.BootstrapMethods other i m = refl
 
-  pub method_elsewhere : (rule : Rule) → (rule ≡ rules.MethodTwice → ⊥) → first_failing (λ _ m. method_constraint rule c m) 0 c.methods ≡ method_failing c rule
-  method_elsewhere rule other = (λ k. first_failing (λ i m. method_anywhere rule other i m k) 0 c.methods)
+  pub method_elsewhere : (rule : Rule) → (rule ≡ rules.MethodTwice → ⊥)
+      → first_failing (λ _ m. method_constraint rule c m) 0 c.methods ≡ method_failing c rule
+  method_elsewhere rule other =
+      (λ k. first_failing (λ i m. method_anywhere rule other i m k) 0 c.methods)
 
-  pub field_twice : (rule : Rule) → rule ≡ rules.FieldTwice → first_duplicate c c.fields ≡ field_failing c rule
+  pub field_twice : (rule : Rule) → rule ≡ rules.FieldTwice
+      → first_duplicate c c.fields ≡ field_failing c rule
   unfolding field_rule
   field_twice rule is = rw is refl
 
-  pub method_twice : (rule : Rule) → rule ≡ rules.MethodTwice → first_duplicate c c.methods ≡ method_failing c rule
+  pub method_twice : (rule : Rule) → rule ≡ rules.MethodTwice
+      → first_duplicate c c.methods ≡ method_failing c rule
   unfolding method_rule
   method_twice rule is = rw is refl

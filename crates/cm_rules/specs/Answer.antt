@@ -6,7 +6,8 @@ use Rattle.cm_class.specs.declared.fault.ShapeFault.TheVariants as shapes
 use Rattle.cm_class.specs.Shape.{Spells, IsSpelling, IsTruncated, IsTrailing, IsMalformed}
 use Rattle.cm_rules.specs.declared.rule.Broken.{Broken}
 use Rattle.cm_rules.specs.declared.fault.ClassFault.{ClassFault}
-use Rattle.cm_rules.specs.declared.fault.ClassFault.TheVariants.{Truncated, Trailing, Malformed, Rule, NoMemory}
+use Rattle.cm_rules.specs.declared.fault.ClassFault.TheVariants.{Truncated, Trailing, Malformed}
+use Rattle.cm_rules.specs.declared.fault.ClassFault.TheVariants.{Rule, NoMemory}
 use Rattle.cm_rules.specs.Fault.{fault}
 
 -- the bytes are the spelling of this class, which keeps the rules

@@ -1,6 +1,7 @@
 -- The rules in their order, the spots in theirs, and the first rule that a class breaks with the
 -- first spot where it does.
-use Rattle.std.specs.Prelude.{ℕ, ◌+◌, ◌-◌, Bool, true, ◌||◌, not, List, [], ◌∷◌, ◌++◌, length, map, find, Option, Some, None, slice_get, option_map, ◌==◌, if◌then◌else◌}
+use Rattle.std.specs.Prelude.{ℕ, ◌+◌, ◌-◌, Bool, true, ◌||◌, not, List, [], ◌∷◌, ◌++◌, length, map}
+use Rattle.std.specs.Prelude.{find, Option, Some, None, slice_get, option_map, ◌==◌, if◌then◌else◌}
 use Rattle.std.specs.Option.{option_map_or}
 use Rattle.std.specs.List.{range_with_len}
 use Rattle.cm_class.specs.declared.constant.Constant.{Constant}
@@ -10,16 +11,23 @@ use Rattle.cm_class.specs.declared.class_file.ClassFile.{ClassFile}
 use Rattle.cm_rules.specs.declared.rule.Rule.{Rule}
 use Rattle.cm_rules.specs.declared.rule.Rule.TheVariants as rules
 use Rattle.cm_rules.specs.declared.rule.Spot.{Spot}
-use Rattle.cm_rules.specs.declared.rule.Spot.TheVariants.{Pool, This, Super, Interface, Field, Method, Attribute}
+use Rattle.cm_rules.specs.declared.rule.Spot.TheVariants.{Pool, This, Super, Interface, Field}
+use Rattle.cm_rules.specs.declared.rule.Spot.TheVariants.{Method, Attribute}
 use Rattle.cm_rules.specs.declared.rule.Broken.{Broken}
 use Rattle.cm_class.specs.declared.kind.Kind.TheVariants as kinds
 use Rattle.cm_class.specs.Names.{names}
 use Rattle.cm_duplicates.specs.Duplicates.{is_first, first_failing}
 use Rattle.cm_constraints.specs.Flags.{class_flags_agree, field_flags_agree}
-use Rattle.cm_constraints.specs.Constants.{in_slot, utf8_has_form, names_kinds, handle_has_kind, class_has_name, field_reference_is_formed, method_reference_is_formed, dynamic_call_is_formed, method_type_is_formed, handle_has_name, dynamic_call_is_bound}
+use Rattle.cm_constraints.specs.Constants.{in_slot, utf8_has_form, names_kinds, handle_has_kind}
+use Rattle.cm_constraints.specs.Constants.{class_has_name, field_reference_is_formed}
+use Rattle.cm_constraints.specs.Constants.{method_reference_is_formed, dynamic_call_is_formed}
+use Rattle.cm_constraints.specs.Constants.{method_type_is_formed, handle_has_name}
+use Rattle.cm_constraints.specs.Constants.{dynamic_call_is_bound}
 use Rattle.cm_constraints.specs.Itself.{this_is_no_array, super_is_right}
-use Rattle.cm_constraints.specs.Members.{names_utf8s, field_is_named, method_is_named, units_fit, flags_fit_method, code_count_is_right, code_has_form}
-use Rattle.cm_constraints.specs.Attributes.{field_attributes_are_right, method_attributes_are_right, class_attribute_is_right, bootstrap_attribute_is_right}
+use Rattle.cm_constraints.specs.Members.{names_utf8s, field_is_named, method_is_named, units_fit}
+use Rattle.cm_constraints.specs.Members.{flags_fit_method, code_count_is_right, code_has_form}
+use Rattle.cm_constraints.specs.Attributes.{field_attributes_are_right, method_attributes_are_right}
+use Rattle.cm_constraints.specs.Attributes.{class_attribute_is_right, bootstrap_attribute_is_right}
 
 abbrev pub number : Rule → ℕ
 number rules.TextForm = 1
@@ -56,7 +64,7 @@ all_rules =
     ∷ rules.MethodUnits ∷ rules.MethodFlags ∷ rules.MethodTwice ∷ rules.CodeCount
     ∷ rules.CodeForm ∷ rules.MemberAttributes ∷ rules.ClassAttributes ∷ rules.BootstrapMethods ∷ []
 
--- ---- What each rule says, by the sort of spot. It says nothing of sorts that it isn't listed with.
+-- ---- What each rule says, by the sort of spot. It says nothing of sorts that aren't listed.
 
 -- of a constant
 unfoldable pub pool_rule : Rule → ClassFile → Constant → Bool
@@ -156,7 +164,8 @@ broken_spot c rule = find (λ spot. not (holds rule c spot)) (spots c)
 unfoldable pub first_of : ClassFile → List Rule → Option Broken
 first_of c [] = None
 first_of c (rule ∷ others) =
-    option_map_or (λ spot. Some (record { rule = rule; spot = spot })) (broken_spot c rule) (first_of c others)
+    option_map_or (λ spot. Some (record { rule = rule; spot = spot })) (broken_spot c rule)
+    (first_of c others)
 
 -- the first rule that a class breaks, with the first spot
 unfoldable pub fault : ClassFile → Option Broken
@@ -186,8 +195,10 @@ or_else (Some x) other = Some x
 
 unfoldable pub item_spot : ClassFile → Rule → Option Spot
 item_spot c rule =
-    or_else (option_map Interface (interface_failing c rule)) (or_else (option_map Field (field_failing c rule))
-    (or_else (option_map Method (method_failing c rule)) (option_map Attribute (attribute_failing c rule))))
+    or_else (option_map Interface (interface_failing c rule))
+    (or_else (option_map Field (field_failing c rule))
+    (or_else (option_map Method (method_failing c rule))
+    (option_map Attribute (attribute_failing c rule))))
 
 unfoldable pub own_spot : ClassFile → Rule → Option Spot
 own_spot c rule =
@@ -195,4 +206,5 @@ own_spot c rule =
 
 abbrev pub found_spot : ClassFile → Rule → Option Spot
 found_spot c rule =
-    or_else (option_map (λ i. Pool (i + 1)) (slot_failing c rule)) (or_else (own_spot c rule) (item_spot c rule))
+    or_else (option_map (λ i. Pool (i + 1)) (slot_failing c rule))
+    (or_else (own_spot c rule) (item_spot c rule))

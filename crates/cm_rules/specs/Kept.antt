@@ -7,9 +7,11 @@ use Rattle.cm_class.specs.declared.class_file.Attribute.{Attribute}
 use Rattle.cm_class.specs.declared.class_file.Member.{Member}
 use Rattle.cm_class.specs.declared.class_file.ClassFile.{ClassFile}
 use Rattle.cm_rules.specs.declared.rule.Rule.{Rule}
-use Rattle.cm_rules.specs.Fault.{all_rules, pool_rule, this_rule, super_rule, interface_rule, attribute_rule}
+use Rattle.cm_rules.specs.Fault.{all_rules, pool_rule, this_rule, super_rule, interface_rule}
+use Rattle.cm_rules.specs.Fault.{attribute_rule}
 use Rattle.cm_constraints.specs.Flags.{field_flags_agree}
-use Rattle.cm_constraints.specs.Members.{names_utf8s, field_is_named, method_is_named, units_fit, flags_fit_method, code_count_is_right, code_has_form}
+use Rattle.cm_constraints.specs.Members.{names_utf8s, field_is_named, method_is_named, units_fit}
+use Rattle.cm_constraints.specs.Members.{flags_fit_method, code_count_is_right, code_has_form}
 use Rattle.cm_constraints.specs.Attributes.{field_attributes_are_right, method_attributes_are_right}
 
 -- all but the first, which speaks of Utf8s alone

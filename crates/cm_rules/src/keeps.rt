@@ -5,7 +5,8 @@ ghost use Rattle.std.specs.List.{list_all};
 ghost use Rattle.cm_duplicates.specs.Duplicates.{first_failing};
 ghost use Rattle.cm_constraints.specs.Constants.{in_slot};
 ghost use Rattle.cm_rules.specs.Fault.{fault};
-ghost use Rattle.cm_rules.specs.Kept.{constant_keeps, this_keeps, super_keeps, interface_keeps, field_keeps, method_keeps, attribute_keeps};
+ghost use Rattle.cm_rules.specs.Kept.{constant_keeps, this_keeps, super_keeps, interface_keeps};
+ghost use Rattle.cm_rules.specs.Kept.{field_keeps, method_keeps, attribute_keeps};
 
 use crate::findings::Findings;
 use cm_class::{Attribute, Class, Constant, Kind, Member, Slot};

@@ -3,7 +3,8 @@ ghost use Rattle.cm_class.specs.declared.class_file.ClassFile.{ClassFile};
 ghost use Rattle.cm_rules.specs.declared.fault.ClassFault.{ClassFault};
 ghost use Rattle.cm_rules.specs.Fault.{fault, first_of, all_rules};
 ghost use Rattle.cm_class.specs.Shape.{IsSpelling};
-ghost use Rattle.cm_rules.specs.Answer.{IsRight, IsWrong, IsReading, IsUnlessRefused, class_fault_of};
+ghost use Rattle.cm_rules.specs.Answer.{IsRight, IsWrong, IsReading, IsUnlessRefused};
+ghost use Rattle.cm_rules.specs.Answer.{class_fault_of};
 
 use crate::fault::ClassFault;
 use crate::findings::Findings;

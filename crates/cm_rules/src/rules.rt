@@ -1,7 +1,8 @@
 //! Each rule by the sort of spot that it speaks of.
 ghost use Rattle.std.specs.Prelude.{◌≡◌};
 ghost use Rattle.cm_constraints.specs.Constants.{in_slot};
-ghost use Rattle.cm_rules.specs.Fault.{pool_rule, this_rule, super_rule, interface_rule, field_constraint, method_constraint, attribute_rule};
+ghost use Rattle.cm_rules.specs.Fault.{pool_rule, this_rule, super_rule, interface_rule};
+ghost use Rattle.cm_rules.specs.Fault.{field_constraint, method_constraint, attribute_rule};
 
 use crate::findings::Findings;
 use crate::rule::Rule;

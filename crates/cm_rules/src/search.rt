@@ -3,7 +3,10 @@ ghost use Rattle.std.specs.Prelude.{◌≡◌, ◌+◌, ◌<◌, ◌^◌, false,
 ghost use Rattle.cm_class.specs.declared.class_file.ClassFile.{ClassFile};
 ghost use Rattle.cm_class.specs.declared.constant.Constant.{Constant};
 ghost use Rattle.cm_duplicates.specs.Duplicates.{first_failing};
-ghost use Rattle.cm_rules.specs.Fault.{field_constraint, method_constraint, slot_failing, interface_failing, field_failing, method_failing, attribute_failing, item_spot, own_spot, found_spot, broken_spot, fault, pool_rule};
+ghost use Rattle.cm_rules.specs.Fault.{field_constraint, method_constraint, slot_failing};
+ghost use Rattle.cm_rules.specs.Fault.{interface_failing, field_failing, method_failing};
+ghost use Rattle.cm_rules.specs.Fault.{attribute_failing, item_spot, own_spot, found_spot};
+ghost use Rattle.cm_rules.specs.Fault.{broken_spot, fault, pool_rule};
 
 use crate::findings::Findings;
 use crate::rule::{Rule, Spot};

@@ -11,9 +11,12 @@ use Rattle.cm_state.specs.Fold.{fold}
 abbrev pub ChangesGoOn : Type 0
 ChangesGoOn = (sizes : Sizes) (m : CacheState) (n : ℕ) (front behind : List (Change ClassFile))
     → fold class_shows sizes m n (front ++ behind)
-    ≡ option_and_then (λ (p : CacheState × ℕ). fold class_shows sizes p.0 p.1 behind) (fold class_shows sizes m n front)
+    ≡ option_and_then (λ (p : CacheState × ℕ). fold class_shows sizes p.0 p.1 behind)
+    (fold class_shows sizes m n front)
 
 -- Each change has the number after the one before.
 abbrev pub NumbersFollow : Type 0
-NumbersFollow = (sizes : Sizes) (m : CacheState) (n : ℕ) (changes : List (Change ClassFile)) (last : CacheState) (number : ℕ)
+NumbersFollow =
+    (sizes : Sizes) (m : CacheState) (n : ℕ) (changes : List (Change ClassFile)) (last : CacheState)
+    (number : ℕ)
     → fold class_shows sizes m n changes ≡ Some (last, number) → number ≡ n + length changes

@@ -1,6 +1,8 @@
--- Which contents stand for which cache: they frame rows whose records are those of classes that keep the class rules, none of
--- them twice in a loader; the state is the map of these rows, and each loader's arena has the chunks of its rows.
-use Rattle.std.specs.Prelude.{◌≡◌, ℕ, ◌==◌, ◌&&◌, ◌||◌, Bool, false, filter, List, [], ◌∷◌, map as map_list}
+-- Which contents stand for which cache: they frame rows whose records are those of classes that
+-- keep the class rules, none of them twice in a loader; the state is the map of these rows, and
+-- each loader's arena has the chunks of its rows.
+use Rattle.std.specs.Prelude.{◌≡◌, ℕ, ◌==◌, ◌&&◌, ◌||◌, Bool, false, filter, List, [], ◌∷◌}
+use Rattle.std.specs.Prelude.{map as map_list}
 use Rattle.std.specs.Str.{bytes_eq}
 use Rattle.std.specs.FinMap as map
 use Rattle.cm_class.specs.declared.class_file.ClassFile.{ClassFile}
@@ -26,17 +28,20 @@ EachKeepsRules (Class r c ∷ rows) = KeepsRules c × EachKeepsRules rows
 abbrev pub has_class : ℕ → List ℕ → List (Row ClassFile) → Bool
 has_class u name [] = false
 has_class u name (Loader r ∷ rows) = has_class u name rows
-has_class u name (Class r c ∷ rows) = ((r.loader == u) && bytes_eq (class_name_of c) name) || has_class u name rows
+has_class u name (Class r c ∷ rows) =
+    ((r.loader == u) && bytes_eq (class_name_of c) name) || has_class u name rows
 
 -- no class name stands twice in a loader
 abbrev pub NamesDiffer : List (Row ClassFile) → Type 0
 NamesDiffer [] = Unit {0}
 NamesDiffer (Loader r ∷ rows) = NamesDiffer rows
-NamesDiffer (Class r c ∷ rows) = (has_class r.loader (class_name_of c) rows ≡ false) × NamesDiffer rows
+NamesDiffer (Class r c ∷ rows) =
+    (has_class r.loader (class_name_of c) rows ≡ false) × NamesDiffer rows
 
 -- a loader's chunks, in the order of their first records
 abbrev pub chunks_of : ℕ → List ClassRow → List Chunk
-chunks_of u rows = map_list (λ r. r.place.chunk) (filter (λ r. (r.loader == u) && (r.place.offset == 0)) rows)
+chunks_of u rows =
+    map_list (λ r. r.place.chunk) (filter (λ r. (r.loader == u) && (r.place.offset == 0)) rows)
 
 -- each loader's name, to its chunks
 abbrev pub Arenas : Type 0
@@ -44,11 +49,13 @@ Arenas = ByName (List Chunk)
 
 abbrev pub arenas_among : List ClassRow → List (Row ClassFile) → Arenas
 arenas_among classes [] = map.empty
-arenas_among classes (Loader r ∷ rows) = map.insert (arenas_among classes rows) r.name (chunks_of r.number classes)
+arenas_among classes (Loader r ∷ rows) =
+    map.insert (arenas_among classes rows) r.name (chunks_of r.number classes)
 arenas_among classes (Class r c ∷ rows) = arenas_among classes rows
 
 -- The contents stand for this state, these arenas and this number.
-pub record Stands (sizes : Sizes) (contents : List ℕ) (m : CacheState) (arenas : Arenas) (n : ℕ) : Type 0 where
+pub record Stands (sizes : Sizes) (contents : List ℕ) (m : CacheState) (arenas : Arenas)
+    (n : ℕ) : Type 0 where
   pub rows : List (Row ClassFile)
   pub framed : Frames sizes contents (rows_with lay rows) n
   pub kept : EachKeepsRules rows

@@ -1,4 +1,5 @@
--- The cache's state: a finite map from each loader's name to a finite map from class names to classes.
+-- The cache's state: a finite map from each loader's name to a finite map from class names to
+-- classes.
 use Rattle.std.specs.Prelude.{ℕ, ◌+◌, ◌==◌, if◌then◌else◌, List, [], ◌∷◌, length, Option}
 use Rattle.std.specs.Ordering.{nat_cmp}
 use Rattle.std.specs.Cmp.Lexicographic.{slice_cmp}
@@ -49,12 +50,15 @@ size m = total (map.entries m)
 abbrev pub classes_of : {A : Type 0} → Shows A → ℕ → List (Row A) → ByName A
 classes_of shows u [] = map.empty
 classes_of shows u (Loader r ∷ rows) = classes_of shows u rows
-classes_of shows u (Class r c ∷ rows) = if r.loader == u then map.insert (classes_of shows u rows) (shows.name c) c else classes_of shows u rows
+classes_of shows u (Class r c ∷ rows) =
+    if r.loader == u then map.insert (classes_of shows u rows) (shows.name c) c
+    else classes_of shows u rows
 
 -- of each loader among some rows its classes among all of them
 abbrev pub loaders_among : {A : Type 0} → Shows A → List (Row A) → List (Row A) → Loaders A
 loaders_among shows all [] = map.empty
-loaders_among shows all (Loader r ∷ rows) = map.insert (loaders_among shows all rows) r.name (classes_of shows r.number all)
+loaders_among shows all (Loader r ∷ rows) =
+    map.insert (loaders_among shows all rows) r.name (classes_of shows r.number all)
 loaders_among shows all (Class r c ∷ rows) = loaders_among shows all rows
 
 -- the map of rows: each loader's name, to its classes by name

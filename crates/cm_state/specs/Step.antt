@@ -1,6 +1,8 @@
--- One step of the cache: what a change makes of its state, or the first cause against it. Only what the cache holds is spoken
--- of, no chunks, journal or offsets; and of a class only what it shows, so that one definition serves classes and records.
-use Rattle.std.specs.Prelude.{ℕ, ◌^◌, ◌==◌, Bool, not, nat_lt, nat_le, if◌then◌else◌, List, is_some, unwrap_or, Result, Ok, Err}
+-- One step of the cache: what a change makes of its state, or the first cause against it. Only what
+-- the cache holds is spoken of, no chunks, journal or offsets; and of a class only what it shows,
+-- so that one definition serves classes and records.
+use Rattle.std.specs.Prelude.{ℕ, ◌^◌, ◌==◌, Bool, not, nat_lt, nat_le, if◌then◌else◌, List, is_some}
+use Rattle.std.specs.Prelude.{unwrap_or, Result, Ok, Err}
 use Rattle.std.specs.FinMap as map
 use Rattle.cm_pool.specs.Geometry.{Sizes}
 use Rattle.cm_pool.specs.Chunks.{chunk_size}
@@ -39,10 +41,12 @@ with_loader m x = map.insert m x map.empty
 
 -- a class more, under its name
 abbrev pub with_class : {A : Type 0} → Shows A → Loaders A → List ℕ → A → Loaders A
-with_class shows m x c = map.insert m x (map.insert (unwrap_or (map.get m x) map.empty) (shows.name c) c)
+with_class shows m x c =
+    map.insert m x (map.insert (unwrap_or (map.get m x) map.empty) (shows.name c) c)
 
 -- the first cause that applies, or the next state; n is the number of the last change
-abbrev pub step : {A : Type 0} → Shows A → Sizes → Loaders A → ℕ → Change A → Result (Loaders A) Cause
+abbrev pub step : {A : Type 0} → Shows A → Sizes → Loaders A → ℕ → Change A
+    → Result (Loaders A) Cause
 step shows sizes m n (AddLoader x) =
     if not (is_loader_name x) then Err BadName
     else if n == last_number then Err NumbersSpent

@@ -1,4 +1,5 @@
-//! The cache without chunks, journal or offsets: its state, its steps, and which contents stand for which state.
+//! The cache without chunks, journal or offsets: its state, its steps, and which contents stand for
+//! which state.
 #![tactic(auto)]
 
 mod laws;

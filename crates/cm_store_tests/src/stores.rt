@@ -189,8 +189,8 @@ fn empty_store(alloc: Global) -> Result<Store<SimDisk>, Fail> {
     }
 }
 
-/// Where memory is refused to a command, the store is as it was: the command can be asked for again, and its number is
-/// the one that was due.
+/// Where memory is refused to a command, the store is as it was: the command can be asked for
+/// again, and its number is the one that was due.
 #[test]
 fn a_refused_growth_leaves_the_store_as_it_was(rt: HostRuntime) -> Result<(), Fail> {
     let alloc = rt.alloc();
@@ -209,7 +209,8 @@ fn a_refused_growth_leaves_the_store_as_it_was(rt: HostRuntime) -> Result<(), Fa
     Ok(())
 }
 
-/// The class `A` with one attribute of so many bytes: its record has 20 words, and those of the bytes.
+/// The class `A` with one attribute of so many bytes: its record has 20 words, and those of the
+/// bytes.
 fn class_of_bytes(alloc: Global, count: u32) -> Result<Vec<u8>, Fail> {
     let front =
         b"cafebabe000000340006070002010001410700040100106a6176612f6c616e672f4f626a65637401000158";

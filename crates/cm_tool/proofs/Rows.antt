@@ -11,11 +11,13 @@ use Rattle.cm_store.specs.declared.refusal.Refusal.TheVariants as refusal
 use Rattle.cm_store.specs.declared.prepare.PrepareFault.TheVariants as fault
 use Rattle.cm_tool.specs.Escapes.{unescaped}
 use Rattle.cm_tool.specs.Lines.{asked, lines_of, AsksLoader, AsksDefine, AsksFind}
-use Rattle.cm_tool.specs.Texts.{number_reply, defined_reply, none_reply, class_reply, bad_line_reply, refusal_reply, fault_reply}
+use Rattle.cm_tool.specs.Texts.{number_reply, defined_reply, none_reply, class_reply}
+use Rattle.cm_tool.specs.Texts.{bad_line_reply, refusal_reply, fault_reply}
 
 abbrev class_a : ClassFile
 class_a = record {
-  slots = Usable (constant.Class 2) ∷ Usable (constant.Utf8 (codes "A")) ∷ Usable (constant.Class 4) ∷ Usable (constant.Utf8 (codes "java/lang/Object")) ∷ [];
+  slots = Usable (constant.Class 2) ∷ Usable (constant.Utf8 (codes "A")) ∷ Usable (constant.Class 4)
+      ∷ Usable (constant.Utf8 (codes "java/lang/Object")) ∷ [];
   flags = 0x21;
   this_class = 1;
   super_class = 3;
@@ -39,11 +41,14 @@ a_defined : (defined_reply 2 (codes "A")).text ≡ codes "ok 2 A"
 unfolding digits
 a_defined = refl
 
-a_found : (class_reply (codes "A") class_a 16).text ≡ codes "class A flags 0021 super java/lang/Object words 16"
+a_found : (class_reply (codes "A") class_a 16).text
+    ≡ codes "class A flags 0021 super java/lang/Object words 16"
 unfolding digits
 a_found = refl
 
-object_found : (class_reply (codes "java/lang/Object") (record class_a { super_class = 0; flags = 0xB7AF }) 8209).text ≡ codes "class java/lang/Object flags b7af super - words 8209"
+object_found : (class_reply (codes "java/lang/Object")
+    (record class_a { super_class = 0; flags = 0xB7AF }) 8209).text
+    ≡ codes "class java/lang/Object flags b7af super - words 8209"
 unfolding digits
 object_found = refl
 
@@ -86,15 +91,20 @@ malformed_5 : (fault_reply (fault.Malformed 5)).text ≡ codes "refused 14 malfo
 unfolding digits
 malformed_5 = refl
 
-this_is_no_class : (fault_reply (fault.Rule (record { rule = rules.EntryKinds; spot = spot.This }))).text ≡ codes "refused 14 V2 this"
+this_is_no_class : (fault_reply
+    (fault.Rule (record { rule = rules.EntryKinds; spot = spot.This }))).text
+    ≡ codes "refused 14 V2 this"
 unfolding digits
 this_is_no_class = refl
 
-fifth_text : (fault_reply (fault.Rule (record { rule = rules.TextForm; spot = spot.Pool 5 }))).text ≡ codes "refused 14 V1 pool 5"
+fifth_text : (fault_reply (fault.Rule (record { rule = rules.TextForm; spot = spot.Pool 5 }))).text
+    ≡ codes "refused 14 V1 pool 5"
 unfolding digits
 fifth_text = refl
 
-first_method : (fault_reply (fault.Rule (record { rule = rules.MethodUnits; spot = spot.Method 0 }))).text ≡ codes "refused 14 V17 method 0"
+first_method : (fault_reply
+    (fault.Rule (record { rule = rules.MethodUnits; spot = spot.Method 0 }))).text
+    ≡ codes "refused 14 V17 method 0"
 unfolding digits
 first_method = refl
 
@@ -107,7 +117,8 @@ too_long = refl
 asks_loader : asked (codes "loader app") ≡ Some (AsksLoader (codes "app"))
 asks_loader = refl
 
-asks_define : asked (codes "define app cafebabe") ≡ Some (AsksDefine (codes "app") (codes "cafebabe"))
+asks_define : asked (codes "define app cafebabe")
+    ≡ Some (AsksDefine (codes "app") (codes "cafebabe"))
 asks_define = refl
 
 asks_find : asked (codes "find app %c3%a9") ≡ Some (AsksFind (codes "app") (codes "%c3%a9"))
@@ -148,10 +159,12 @@ no_lines = refl
 newline_alone : lines_of (10 ∷ []) ≡ [] ∷ []
 newline_alone = refl
 
-two_lines : lines_of (codes "loader a" ++ 10 ∷ codes "loader b") ≡ codes "loader a" ∷ codes "loader b" ∷ []
+two_lines : lines_of (codes "loader a" ++ 10 ∷ codes "loader b")
+    ≡ codes "loader a" ∷ codes "loader b" ∷ []
 two_lines = refl
 
-two_lines_with_newlines : lines_of (codes "loader a" ++ 10 ∷ codes "loader b" ++ 10 ∷ []) ≡ codes "loader a" ∷ codes "loader b" ∷ []
+two_lines_with_newlines : lines_of (codes "loader a" ++ 10 ∷ codes "loader b" ++ 10 ∷ [])
+    ≡ codes "loader a" ∷ codes "loader b" ∷ []
 two_lines_with_newlines = refl
 
 line_between : lines_of (codes "a" ++ 10 ∷ 10 ∷ codes "b") ≡ codes "a" ∷ [] ∷ codes "b" ∷ []

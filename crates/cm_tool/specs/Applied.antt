@@ -14,7 +14,8 @@ pub record IsOpened (bytes : List ℕ) (old : StoreValue) : Type 0 where
   pub working : old.broken ≡ false
 
 -- A run from the opened store on, and the disk that it leaves.
-pub record RunsFromOpened (disk left : Medium) (Came : StoreValue → StoreValue → Type 0) : Type 0 where
+pub record RunsFromOpened (disk left : Medium)
+    (Came : StoreValue → StoreValue → Type 0) : Type 0 where
   pub old : StoreValue
   pub new : StoreValue
   pub opened : IsOpened disk.bytes old
@@ -31,4 +32,5 @@ pub record IsUntouched (io : Io) (disk left : Medium) (f : OpenFault) : Type 0 w
 -- why a run isn't there, or ended early
 abbrev pub IsStopped : Io → Medium → Medium → ApplyFault → Type 0
 IsStopped io disk left (apply.Open f) = IsUntouched io disk left f
-IsStopped io disk left (apply.Script e) = RunsFromOpened disk left (λ old new. EndsEarly io old new e)
+IsStopped io disk left (apply.Script e) =
+    RunsFromOpened disk left (λ old new. EndsEarly io old new e)

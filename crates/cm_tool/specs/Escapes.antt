@@ -1,6 +1,9 @@
--- Class names in scripts: a byte from 21 to 7E other than `%` stands for itself; every other byte is `%` and two
--- hexadecimal digits, written upper case and read in either case. So each name has one spelling, but for that case.
-use Rattle.std.specs.Prelude.{◌<◌, ℕ, zero, suc, ◌+◌, ◌-◌, ◌*◌, ◌/◌, ◌%◌, Bool, not, ◌&&◌, ◌==◌, nat_le, nat_lt, if◌then◌else◌, List, [], ◌∷◌, ◌++◌, Option, Some, None, Result, Ok, Err}
+-- Class names in scripts: a byte from 21 to 7E other than `%` stands for itself; every other byte
+-- is `%` and two hexadecimal digits, written upper case and read in either case. So each name has
+-- one spelling, but for that case.
+use Rattle.std.specs.Prelude.{◌<◌, ℕ, zero, suc, ◌+◌, ◌-◌, ◌*◌, ◌/◌, ◌%◌, Bool, not, ◌&&◌, ◌==◌}
+use Rattle.std.specs.Prelude.{nat_le, nat_lt, if◌then◌else◌, List, [], ◌∷◌, ◌++◌, Option, Some}
+use Rattle.std.specs.Prelude.{None, Result, Ok, Err}
 use Rattle.std.specs.Option.{option_map, option_and_then}
 use Rattle.std.specs.List.{flat_map}
 use Rattle.cm_tool.specs.declared.escape.Awaited.{Awaited}
@@ -23,7 +26,8 @@ digit_value d =
     else None
 
 abbrev pub escaped_byte : ℕ → List ℕ
-escaped_byte b = if is_plain b then b ∷ [] else 37 ∷ upper_digit (b / 16) ∷ upper_digit (b % 16) ∷ []
+escaped_byte b =
+    if is_plain b then b ∷ [] else 37 ∷ upper_digit (b / 16) ∷ upper_digit (b % 16) ∷ []
 
 abbrev pub escaped : List ℕ → List ℕ
 escaped name = flat_map escaped_byte name
@@ -31,12 +35,16 @@ escaped name = flat_map escaped_byte name
 -- the name that a text spells from there on
 abbrev pub spelled_from : Awaited → List ℕ → Option (List ℕ)
 spelled_from Any [] = Some []
-spelled_from Any (b ∷ text) = if is_plain b then option_map (λ n. b ∷ n) (spelled_from Any text) else (if b == 37 then spelled_from High text else None)
+spelled_from Any (b ∷ text) =
+    if is_plain b then option_map (λ n. b ∷ n) (spelled_from Any text)
+    else (if b == 37 then spelled_from High text else None)
 spelled_from High [] = None
 spelled_from High (d ∷ text) = option_and_then (λ v. spelled_from (Low v) text) (digit_value d)
 spelled_from (Low high) [] = None
 spelled_from (Low high) (d ∷ text) =
-    option_and_then (λ v. if is_plain (16 * high + v) then None else option_map (λ n. (16 * high + v) ∷ n) (spelled_from Any text)) (digit_value d)
+    option_and_then
+    (λ v. if is_plain (16 * high + v) then None
+    else option_map (λ n. (16 * high + v) ∷ n) (spelled_from Any text)) (digit_value d)
 
 -- the name that a text spells
 abbrev pub unescaped : List ℕ → Option (List ℕ)

@@ -1,5 +1,6 @@
 -- What holds of the definitions themselves.
-use Rattle.std.specs.Prelude.{◌≡◌, ◌≢◌, ◌<◌, ◌⊎◌, ◌↔◌, ℕ, true, ◌++◌, List, [], ◌∷◌, length, codes, Some}
+use Rattle.std.specs.Prelude.{◌≡◌, ◌≢◌, ◌<◌, ◌⊎◌, ◌↔◌, ℕ, true, ◌++◌, List, [], ◌∷◌, length, codes}
+use Rattle.std.specs.Prelude.{Some}
 use Rattle.std.specs.List.{All, flat_map}
 use Rattle.cm_store.specs.Store.{StoreValue}
 use Rattle.cm_tool.specs.Escapes.{escaped, unescaped, with_upper_digits}
@@ -13,9 +14,14 @@ use Rattle.cm_tool.specs.Answers.{AnswersLine, is_refused, is_unsure}
 abbrev pub put_together : List (List ℕ) → List ℕ
 put_together lines = flat_map (λ line. line ++ 10 ∷ []) lines
 
--- No line has a newline, and put together they are the script, or the script with a newline behind it.
+-- No line has a newline, and put together they are the script, or the script with a newline behind
+-- it.
 abbrev pub LinesMakeScript : Type 0
-LinesMakeScript = (script : List ℕ) → All (λ line. All (λ b. b ≢ 10) line) (lines_of script) × ((put_together (lines_of script) ≡ script) ⊎ (put_together (lines_of script) ≡ script ++ 10 ∷ []))
+LinesMakeScript =
+    (script : List ℕ)
+    → All (λ line. All (λ b. b ≢ 10) line) (lines_of script)
+    × ((put_together (lines_of script) ≡ script)
+    ⊎ (put_together (lines_of script) ≡ script ++ 10 ∷ []))
 
 abbrev pub IsWord : List ℕ → Type 0
 IsWord text = (0 < length text) × All (λ b. b ≢ 32) text
@@ -32,17 +38,23 @@ spelled (AsksFind loader name) = codes "find " ++ (loader ++ 32 ∷ name)
 
 -- A line asks for something exactly where it is spelled so, in words.
 abbrev pub OneSpelling : Type 0
-OneSpelling = (line : List ℕ) (question : Asked) → (asked line ≡ Some question) ↔ ((line ≡ spelled question) × AreWords question)
+OneSpelling =
+    (line : List ℕ) (question : Asked) → (asked line ≡ Some question)
+    ↔ ((line ≡ spelled question) × AreWords question)
 
 -- ---- answers
 
 -- An unsure reply comes only where the device failed in this line, and then the cache is broken.
 abbrev pub UnsureIsLost : Type 0
-UnsureIsLost = (line : List ℕ) (old new : StoreValue) (given : ReplyText) → AnswersLine line old given new → is_unsure given.kind ≡ true → (old.failures < new.failures) × (new.broken ≡ true)
+UnsureIsLost =
+    (line : List ℕ) (old new : StoreValue) (given : ReplyText) → AnswersLine line old given new
+    → is_unsure given.kind ≡ true → (old.failures < new.failures) × (new.broken ≡ true)
 
 -- A refused line changes nothing.
 abbrev pub RefusedIsSame : Type 0
-RefusedIsSame = (line : List ℕ) (old new : StoreValue) (given : ReplyText) → AnswersLine line old given new → is_refused given.kind ≡ true → new ≡ old
+RefusedIsSame =
+    (line : List ℕ) (old new : StoreValue) (given : ReplyText) → AnswersLine line old given new
+    → is_refused given.kind ≡ true → new ≡ old
 
 -- ---- names
 
@@ -52,4 +64,5 @@ UnescapingUndoes = (name : List ℕ) → All (λ b. b < 256) name → unescaped 
 
 -- What spells a name is its spelling, but for the case of the digits.
 abbrev pub SpellingIsOne : Type 0
-SpellingIsOne = (word name : List ℕ) → unescaped word ≡ Some name → with_upper_digits word ≡ escaped name
+SpellingIsOne =
+    (word name : List ℕ) → unescaped word ≡ Some name → with_upper_digits word ≡ escaped name

@@ -1,5 +1,6 @@
 -- How a script is cut into lines, and which line asks for what.
-use Rattle.std.specs.Prelude.{ℕ, Bool, ◌&&◌, ◌==◌, nat_lt, if◌then◌else◌, List, [], ◌∷◌, length, codes, Option, Some, None}
+use Rattle.std.specs.Prelude.{ℕ, Bool, ◌&&◌, ◌==◌, nat_lt, if◌then◌else◌, List, [], ◌∷◌, length}
+use Rattle.std.specs.Prelude.{codes, Option, Some, None}
 use Rattle.std.specs.List.{slice_split}
 use Rattle.std.specs.Str.{bytes_eq}
 
@@ -37,10 +38,13 @@ is_word text = nat_lt 0 (length text)
 abbrev pub asked_by : List (List ℕ) → Option Asked
 asked_by [] = None
 asked_by (verb ∷ []) = None
-asked_by (verb ∷ name ∷ []) = if bytes_eq verb (codes "loader") && is_word name then Some (AsksLoader name) else None
+asked_by (verb ∷ name ∷ []) =
+    if bytes_eq verb (codes "loader") && is_word name then Some (AsksLoader name) else None
 asked_by (verb ∷ name ∷ last ∷ []) =
-    if bytes_eq verb (codes "define") && (is_word name && is_word last) then Some (AsksDefine name last)
-    else if bytes_eq verb (codes "find") && (is_word name && is_word last) then Some (AsksFind name last)
+    if bytes_eq verb (codes "define") && (is_word name && is_word last)
+    then Some (AsksDefine name last)
+    else if bytes_eq verb (codes "find") && (is_word name && is_word last)
+    then Some (AsksFind name last)
     else None
 asked_by (verb ∷ name ∷ last ∷ further ∷ more) = None
 

@@ -1,5 +1,7 @@
--- What a run of a script takes from its reader and gives to its writer, where those tell their bytes.
-use Rattle.std.specs.Prelude.{◌≡◌, ◌≢◌, ◌<◌, ◌≤◌, ◌⊎◌, ℕ, ◌++◌, Bool, true, false, List, [], ◌∷◌, length, Option, Some, None, IfSome, OnSome, Result, Ok, Err}
+-- What a run of a script takes from its reader and gives to its writer, where those tell their
+-- bytes.
+use Rattle.std.specs.Prelude.{◌≡◌, ◌≢◌, ◌<◌, ◌≤◌, ◌⊎◌, ℕ, ◌++◌, Bool, true, false, List, [], ◌∷◌}
+use Rattle.std.specs.Prelude.{length, Option, Some, None, IfSome, OnSome, Result, Ok, Err}
 use Rattle.std.specs.List.{All, list_any}
 use Rattle.std.specs.Io.KnownBytes.{Consumes, IsAtEnd, Appends, Keeps}
 use Rattle.cm_store.specs.Store.{StoreValue, IsOpen, default_sizes}
@@ -12,11 +14,13 @@ use Rattle.cm_tool.specs.declared.script.ToolFault.{ToolFault}
 use Rattle.cm_tool.specs.declared.script.ToolFault.TheVariants as fault
 use Rattle.cm_tool.specs.Lines.{lines_of, line_limit}
 use Rattle.cm_tool.specs.Texts.{ReplyText}
-use Rattle.cm_tool.specs.Answers.{AnswersLine, AnswersEach, Answers, is_refused, is_unsure, reply_line, reply_lines}
+use Rattle.cm_tool.specs.Answers.{AnswersLine, AnswersEach, Answers, is_refused, is_unsure}
+use Rattle.cm_tool.specs.Answers.{reply_line, reply_lines}
 
 -- ---- what goes in and out
 
--- The script that a reader still gives, and what a writer holds before a run and after it; nothing where they don't tell.
+-- The script that a reader still gives, and what a writer holds before a run and after it; nothing
+-- where they don't tell.
 pub record Io : Type 0 where
   pub script : Option (List ℕ)
   pub before : Option (List ℕ)
@@ -77,7 +81,8 @@ pub record WritesPart (held holds : Option (List ℕ)) (text : List ℕ) : Type 
 -- ---- one line
 
 -- a line was read, run and answered
-pub record Turned (script rest held holds : Option (List ℕ)) (old new : StoreValue) (k : Kind) : Type 0 where
+pub record Turned (script rest held holds : Option (List ℕ)) (old new : StoreValue)
+    (k : Kind) : Type 0 where
   pub line : List ℕ
   pub given : ReplyText
   pub taken : TakesLines script rest (line ∷ [])
@@ -92,7 +97,8 @@ pub record HasEnded (script held holds : Option (List ℕ)) (old new : StoreValu
 
 -- the script's lines begin with these
 abbrev pub Begins : Option (List ℕ) → List (List ℕ) → Type 0
-Begins known lines = IfSome known (λ script. (more : List (List ℕ)) × (lines_of script ≡ lines ++ more))
+Begins known lines =
+    IfSome known (λ script. (more : List (List ℕ)) × (lines_of script ≡ lines ++ more))
 
 -- the next line was run, and a part of its reply was written, or nothing
 pub record BreaksIn (script held holds : Option (List ℕ)) (old new : StoreValue) : Type 0 where
@@ -107,23 +113,28 @@ pub record BreaksBefore (held holds : Option (List ℕ)) (old new : StoreValue) 
   pub same : new ≡ old
   pub nothing : Keeps held holds
 
--- A failing reader breaks before a line, a failing writer in one, and a failed allocation before it, or in it with nothing of
--- its reply written.
-abbrev pub Breaks : ToolFault → Option (List ℕ) → Option (List ℕ) → Option (List ℕ) → StoreValue → StoreValue → Type 0
+-- A failing reader breaks before a line, a failing writer in one, and a failed allocation before
+-- it, or in it with nothing of its reply written.
+abbrev pub Breaks : ToolFault → Option (List ℕ) → Option (List ℕ) → Option (List ℕ) → StoreValue
+    → StoreValue → Type 0
 Breaks fault.Input script held holds old new = BreaksBefore held holds old new
 Breaks fault.Output script held holds old new = BreaksIn script held holds old new
-Breaks fault.Memory script held holds old new = BreaksBefore held holds old new ⊎ ((b : BreaksIn script held holds old new) × (b.written.part ≡ []))
+Breaks fault.Memory script held holds old new =
+    BreaksBefore held holds old new
+    ⊎ ((b : BreaksIn script held holds old new) × (b.written.part ≡ []))
 
 -- what the reader gives behind the line comes first
-abbrev pub Turns : Option (List ℕ) → Io → StoreValue → StoreValue → Result (Option Kind) ToolFault → Type 0
+abbrev pub Turns : Option (List ℕ) → Io → StoreValue → StoreValue → Result (Option Kind) ToolFault
+    → Type 0
 Turns rest io old new (Ok (Some k)) = Turned io.script rest io.before io.after old new k
 Turns rest io old new (Ok None) = HasEnded io.script io.before io.after old new
 Turns rest io old new (Err e) = Breaks e io.script io.before io.after old new
 
 -- ---- a whole script
 
--- Where the reader tells its script, the lines are that script's; the replies are answers to them, and they are what is
--- written. The outcome tells whether some reply is a refusal, and whether one is unsure.
+-- Where the reader tells its script, the lines are that script's; the replies are answers to them,
+-- and they are what is written. The outcome tells whether some reply is a refusal, and whether one
+-- is unsure.
 pub record IsAnswered (io : Io) (old new : StoreValue) (outcome : Outcome) : Type 0 where
   pub lines : List (List ℕ)
   pub lines_are : IfSome io.script (λ script. lines ≡ lines_of script)
@@ -134,12 +145,14 @@ pub record IsAnswered (io : Io) (old new : StoreValue) (outcome : Outcome) : Typ
   pub unsure : outcome.unsure ≡ list_any (λ given. is_unsure given.kind) replies
 
 -- nothing more was run, and nothing more is written
-pub record EndsBefore (held holds : Option (List ℕ)) (replies : List ReplyText) (between new : StoreValue) : Type 0 where
+pub record EndsBefore (held holds : Option (List ℕ)) (replies : List ReplyText)
+    (between new : StoreValue) : Type 0 where
   pub same : new ≡ between
   pub written : Appends held holds (reply_lines replies)
 
 -- the next line was run too, and a part of its reply is written, or nothing of it
-pub record EndsIn (script : Option (List ℕ)) (lines : List (List ℕ)) (held holds : Option (List ℕ)) (replies : List ReplyText) (between new : StoreValue) : Type 0 where
+pub record EndsIn (script : Option (List ℕ)) (lines : List (List ℕ)) (held holds : Option (List ℕ))
+    (replies : List ReplyText) (between new : StoreValue) : Type 0 where
   pub line : List ℕ
   pub begins : Begins script (lines ++ line ∷ [])
   pub given : ReplyText
@@ -149,14 +162,19 @@ pub record EndsIn (script : Option (List ℕ)) (lines : List (List ℕ)) (held h
   pub whole : reply_line given ≡ part ++ rest
   pub written : Appends held holds (reply_lines replies ++ part)
 
-abbrev pub Ends : ToolFault → Option (List ℕ) → List (List ℕ) → Option (List ℕ) → Option (List ℕ) → List ReplyText → StoreValue → StoreValue → Type 0
-Ends fault.Input script lines held holds replies between new = EndsBefore held holds replies between new
-Ends fault.Output script lines held holds replies between new = EndsIn script lines held holds replies between new
-Ends fault.Memory script lines held holds replies between new = EndsBefore held holds replies between new ⊎ ((e : EndsIn script lines held holds replies between new) × (e.part ≡ []))
+abbrev pub Ends : ToolFault → Option (List ℕ) → List (List ℕ) → Option (List ℕ) → Option (List ℕ)
+    → List ReplyText → StoreValue → StoreValue → Type 0
+Ends fault.Input script lines held holds replies between new =
+    EndsBefore held holds replies between new
+Ends fault.Output script lines held holds replies between new =
+    EndsIn script lines held holds replies between new
+Ends fault.Memory script lines held holds replies between new =
+    EndsBefore held holds replies between new
+    ⊎ ((e : EndsIn script lines held holds replies between new) × (e.part ≡ []))
 
--- The script's first lines were answered, each reply is written, and none is unsure. Then the run broke: by a failing reader
--- before the next line was run, by a failing writer in it, and by a failed allocation before it, or in it with nothing of its
--- reply written.
+-- The script's first lines were answered, each reply is written, and none is unsure. Then the run
+-- broke: by a failing reader before the next line was run, by a failing writer in it, and by a
+-- failed allocation before it, or in it with nothing of its reply written.
 pub record EndsEarly (io : Io) (old new : StoreValue) (e : ToolFault) : Type 0 where
   pub lines : List (List ℕ)
   pub begins : Begins io.script lines
@@ -177,8 +195,10 @@ pub record Medium : Type 0 where
 abbrev pub medium : List ℕ → ℕ → Medium
 medium bytes failures = record { bytes = bytes; failures = failures }
 
--- The disk of a store that ran a script: its bytes are the cache that the store lists, unless the device failed.
+-- The disk of a store that ran a script: its bytes are the cache that the store lists, unless the
+-- device failed.
 pub record LeavesDisk (left : Medium) (new : StoreValue) : Type 0 where
   pub bytes_are : left.bytes ≡ new.text
   pub failures_are : left.failures ≡ new.failures
-  pub stands : new.broken ≡ false → IsOpen default_sizes left.bytes new.listed new.number new.classes
+  pub stands : new.broken ≡ false
+      → IsOpen default_sizes left.bytes new.listed new.number new.classes

@@ -1,5 +1,6 @@
 -- The texts of replies, without their newlines, and what each tells of its command.
-use Rattle.std.specs.Prelude.{ℕ, ◌+◌, ◌-◌, ◌/◌, ◌%◌, nat_lt, if◌then◌else◌, List, [], ◌∷◌, ◌++◌, codes, Option, Some, None}
+use Rattle.std.specs.Prelude.{ℕ, ◌+◌, ◌-◌, ◌/◌, ◌%◌, nat_lt, if◌then◌else◌, List, [], ◌∷◌, ◌++◌}
+use Rattle.std.specs.Prelude.{codes, Option, Some, None}
 use Rattle.std.specs.Fmt.{decimal}
 use Rattle.cm_class.specs.declared.class_file.ClassFile.{ClassFile}
 use Rattle.cm_record.specs.Names.{super_name_of}
@@ -27,7 +28,8 @@ abbrev pub number_reply : ℕ → ReplyText
 number_reply n = record { kind = kind.Done; text = codes "ok " ++ decimal n }
 
 abbrev pub defined_reply : ℕ → List ℕ → ReplyText
-defined_reply n name = record { kind = kind.Done; text = codes "ok " ++ decimal n ++ codes " " ++ escaped name }
+defined_reply n name =
+    record { kind = kind.Done; text = codes "ok " ++ decimal n ++ codes " " ++ escaped name }
 
 abbrev pub none_reply : ReplyText
 none_reply = record { kind = kind.Done; text = codes "none" }
@@ -37,7 +39,9 @@ lower_digit v = if nat_lt v 10 then 48 + v else 97 + (v - 10)
 
 -- flags, in four hexadecimal digits
 abbrev pub flags_text : ℕ → List ℕ
-flags_text flags = lower_digit (flags / 4096) ∷ lower_digit (flags / 256 % 16) ∷ lower_digit (flags / 16 % 16) ∷ lower_digit (flags % 16) ∷ []
+flags_text flags =
+    lower_digit (flags / 4096) ∷ lower_digit (flags / 256 % 16) ∷ lower_digit (flags / 16 % 16)
+    ∷ lower_digit (flags % 16) ∷ []
 
 abbrev pub super_text : Option (List ℕ) → List ℕ
 super_text None = codes "-"
@@ -46,12 +50,19 @@ super_text (Some name) = escaped name
 -- a class that is found under a name, with a record of so many words
 abbrev pub class_reply : List ℕ → ClassFile → ℕ → ReplyText
 class_reply name c words =
-    record { kind = kind.Done; text = codes "class " ++ escaped name ++ codes " flags " ++ flags_text c.flags ++ codes " super " ++ super_text (super_name_of c) ++ codes " words " ++ decimal words }
+    record {
+      kind =
+          kind.Done;
+      text =
+          codes "class " ++ escaped name ++ codes " flags " ++ flags_text c.flags ++ codes " super "
+          ++ super_text (super_name_of c) ++ codes " words " ++ decimal words;
+    }
 
 -- ---- of commands that aren't done
 
 abbrev pub refused_reply : ℕ → List ℕ → ReplyText
-refused_reply k why = record { kind = kind.Refused; text = codes "refused " ++ decimal k ++ codes " " ++ why }
+refused_reply k why =
+    record { kind = kind.Refused; text = codes "refused " ++ decimal k ++ codes " " ++ why }
 
 abbrev pub unsure_reply : ℕ → ReplyText
 unsure_reply n = record { kind = kind.Unsure; text = codes "unsure " ++ decimal n }

@@ -17,7 +17,8 @@ use cm_store::store::Store;
 use hex::FromHexError;
 use std::alloc::{AllocError, Global};
 
-/// Runs a line, and makes its reply. An `Err` says that an allocation failed for the reply, or before anything was done.
+/// Runs a line, and makes its reply. An `Err` says that an allocation failed for the reply, or
+/// before anything was done.
 pub fn answer<D: Disk + Drop>(
     alloc: Global,
     store: &mut Store<D>,

@@ -23,10 +23,11 @@ pub enum ApplyFault {
     Script(ToolFault),
 }
 
-/// Opens the cache on a disk, and runs a script on it: reads its lines, and writes the reply to each as soon as it is there.
+/// Opens the cache on a disk, and runs a script on it: reads its lines, and writes the reply to
+/// each as soon as it is there.
 ///
-/// The disk is handed back in any case. After `Open` it has the bytes that it had; after `Script` what was acknowledged
-/// stays.
+/// The disk is handed back in any case. After `Open` it has the bytes that it had; after `Script`
+/// what was acknowledged stays.
 pub fn apply_script<R: BufRead, W: Write, D: Disk + Drop>(
     alloc: Global,
     reader: &mut R,

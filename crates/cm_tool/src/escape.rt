@@ -1,7 +1,11 @@
-//! Class names in scripts: bytes 21 to 7E but `%` as they are, and each other byte as `%` and two hexadecimal digits.
+//! Class names in scripts: bytes 21 to 7E but `%` as they are, and each other byte as `%` and two
+//! hexadecimal digits.
 
-ghost use Rattle.std.specs.Prelude.{◌≡◌, ◌++◌, ◌<◌, OnOk, ◌∷◌, ℕ, List, IfOk, IfErr, IfSome, IsErrOf, Some, None};
-ghost use Rattle.cm_tool.specs.Escapes.{named_by, IsDigitAwaited, IsDigitRead, spelled_from, spelled_after, is_plain, escaped, unescaped, escaped_byte, digit_value, upper_digit};
+ghost use Rattle.std.specs.Prelude.{◌≡◌, ◌++◌, ◌<◌, OnOk, ◌∷◌, ℕ, List, IfOk, IfErr, IfSome};
+ghost use Rattle.std.specs.Prelude.{IsErrOf, Some, None};
+ghost use Rattle.cm_tool.specs.Escapes.{named_by, IsDigitAwaited, IsDigitRead, spelled_from};
+ghost use Rattle.cm_tool.specs.Escapes.{spelled_after, is_plain, escaped, unescaped, escaped_byte};
+ghost use Rattle.cm_tool.specs.Escapes.{digit_value, upper_digit};
 
 use std::alloc::{AllocError, Global};
 
@@ -100,9 +104,13 @@ pub fn unescape(alloc: Global, word: &[u8]) -> Result<Vec<u8>, NameFault>
 
 fn advance(name: &mut Vec<u8>, awaited: Awaited, byte: u8) -> Result<Awaited, NameFault>
     requires { IsDigitAwaited awaited }
-    ensures spelled { IfOk result (λ next. (text : List ℕ) → named_by name.new.items (spelled_from next text) ≡ named_by name.old.items (spelled_from awaited (byte ∷ text))) }
+    ensures spelled { IfOk result
+        (λ next. (text : List ℕ)
+        → named_by name.new.items (spelled_from next text)
+        ≡ named_by name.old.items (spelled_from awaited (byte ∷ text))) }
     ensures digit { IfOk result IsDigitAwaited }
-    ensures bad { IsErrOf result NameFault.BadEscape → (text : List ℕ) → spelled_from awaited (byte ∷ text) ≡ None }
+    ensures bad { IsErrOf result NameFault.BadEscape → (text : List ℕ)
+        → spelled_from awaited (byte ∷ text) ≡ None }
 {
     match read_byte(awaited, byte) {
         Ok(Read::Awaits(next)) => Ok(next),
@@ -122,7 +130,8 @@ enum Read {
 
 fn read_byte(awaited: Awaited, byte: u8) -> Result<Read, NameFault>
     requires { IsDigitAwaited awaited }
-    ensures spelled { (text : List ℕ) → spelled_from awaited (byte ∷ text) ≡ spelled_after result text }
+    ensures spelled { (text : List ℕ)
+        → spelled_from awaited (byte ∷ text) ≡ spelled_after result text }
     ensures digit { IfOk result IsDigitRead }
     ensures refused { IfErr result (λ e. e ≡ NameFault.BadEscape) }
 {

@@ -23,7 +23,8 @@ enum Piece {
 ///
 /// `Input` comes where the reader fails, `Memory` where a growth is refused.
 pub fn read_line<R: BufRead>(reader: &mut R, line: &mut LineBuffer) -> Result<bool, ToolFault>
-    ensures read { IfOk result (ReadsLine (R.remaining reader.old) (R.remaining reader.new) line.new) }
+    ensures read { IfOk result
+        (ReadsLine (R.remaining reader.old) (R.remaining reader.new) line.new) }
     ensures fault { IfErr result (λ e. e ≢ ToolFault.Output) }
 {
     line.clear();

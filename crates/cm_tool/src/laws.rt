@@ -1,7 +1,8 @@
 //! What holds of the definitions themselves. Each law is the contract of a function with an empty
 //! body.
 
-ghost use Rattle.cm_tool.specs.Laws.{LinesMakeScript, OneSpelling, UnsureIsLost, RefusedIsSame, UnescapingUndoes, SpellingIsOne};
+ghost use Rattle.cm_tool.specs.Laws.{LinesMakeScript, OneSpelling, UnsureIsLost, RefusedIsSame};
+ghost use Rattle.cm_tool.specs.Laws.{UnescapingUndoes, SpellingIsOne};
 
 /// The lines of a script have no newlines, and put together they are the script.
 pub fn lines_make_the_script()

@@ -31,7 +31,8 @@ pub fn cut(text: &[u8], at: u8) -> Option<(&[u8], &[u8])>
     None
 }
 
-/// What a line asks for, if it has one of the known forms: words with one space between, none empty.
+/// What a line asks for, if it has one of the known forms: words with one space between, none
+/// empty.
 pub fn parse(line: &[u8]) -> Option<Line<'_>>
     ensures { option_map seen result ≡ asked line.now }
 {

@@ -8,8 +8,8 @@ use std::alloc::{AllocError, Global};
 /// How many bytes a line may have, without its newline.
 const LINE_LIMIT: usize = 16_777_216;
 
-/// A line that is read: its bytes, or that it has more of them than a line may have. It keeps no more
-/// bytes than a line may have.
+/// A line that is read: its bytes, or that it has more of them than a line may have. It keeps no
+/// more bytes than a line may have.
 #[derive(Drop)]
 pub struct LineBuffer {
     pub bytes: Vec<u8>,

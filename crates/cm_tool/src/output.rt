@@ -8,10 +8,13 @@ use crate::reply::Reply;
 use crate::script::ToolFault;
 use std::io::{ErrorKind, Write};
 
-/// Writes a reply, and has it passed on. After an `Err`, `Output`, a beginning of it is written, or all of it.
+/// Writes a reply, and has it passed on. After an `Err`, `Output`, a beginning of it is written, or
+/// all of it.
 pub fn write_reply<W: Write>(writer: &mut W, reply: &Reply) -> Result<(), ToolFault>
-    ensures ok { OnOk result (Appends (W.contents writer.old) (W.contents writer.new) reply.now.line.items) }
-    ensures err { OnErr result (WritesPart (W.contents writer.old) (W.contents writer.new) reply.now.line.items) }
+    ensures ok { OnOk result
+        (Appends (W.contents writer.old) (W.contents writer.new) reply.now.line.items) }
+    ensures err { OnErr result
+        (WritesPart (W.contents writer.old) (W.contents writer.new) reply.now.line.items) }
     ensures fault { IfErr result (λ e. e ≡ ToolFault.Output) }
 {
     write_whole(writer, &reply.line)?;
@@ -24,7 +27,8 @@ pub fn write_reply<W: Write>(writer: &mut W, reply: &Reply) -> Result<(), ToolFa
 /// `write_all`, which also says what is written where it fails.
 fn write_whole<W: Write>(writer: &mut W, text: &[u8]) -> Result<(), ToolFault>
     ensures ok { OnOk result (Appends (W.contents writer.old) (W.contents writer.new) text.now) }
-    ensures err { OnErr result (WritesPart (W.contents writer.old) (W.contents writer.new) text.now) }
+    ensures err { OnErr result
+        (WritesPart (W.contents writer.old) (W.contents writer.new) text.now) }
     ensures fault { IfErr result (λ e. e ≡ ToolFault.Output) }
 {
     let mut rest = text;
@@ -42,7 +46,8 @@ fn write_whole<W: Write>(writer: &mut W, text: &[u8]) -> Result<(), ToolFault>
 /// Writes a beginning of the text, none of it where a signal came in between.
 fn write_some<W: Write>(writer: &mut W, text: &[u8]) -> Result<usize, ToolFault>
     ensures within { IfOk result (λ count. count ≤ length text.now) }
-    ensures ok { IfOk result (λ count. Appends (W.contents writer.old) (W.contents writer.new) (take count text.now)) }
+    ensures ok { IfOk result
+        (λ count. Appends (W.contents writer.old) (W.contents writer.new) (take count text.now)) }
     ensures err { OnErr result (Appends (W.contents writer.old) (W.contents writer.new) []) }
     ensures fault { IfErr result (λ e. e ≡ ToolFault.Output) }
 {

@@ -4,7 +4,10 @@ ghost use Rattle.std.specs.Prelude.{◌≡◌, ◌<◌, ◌++◌, [], ◌∷◌,
 ghost use Rattle.std.specs.Fmt.{decimal};
 ghost use Rattle.cm_class.specs.declared.class_file.ClassFile.{ClassFile};
 ghost use Rattle.cm_record.specs.Layout.{IsRecord, IsRecordOf};
-ghost use Rattle.cm_tool.specs.Texts.{number_reply, defined_reply, none_reply, class_reply, refused_reply, unsure_reply, bad_line_reply, refusal_reply, fault_reply, refusal_text, fault_text, broken_text, spot_text, flags_text, lower_digit};
+ghost use Rattle.cm_tool.specs.Texts.{number_reply, defined_reply, none_reply, class_reply};
+ghost use Rattle.cm_tool.specs.Texts.{refused_reply, unsure_reply, bad_line_reply, refusal_reply};
+ghost use Rattle.cm_tool.specs.Texts.{fault_reply, refusal_text, fault_text, broken_text};
+ghost use Rattle.cm_tool.specs.Texts.{spot_text, flags_text, lower_digit};
 ghost use Rattle.cm_tool.specs.Seen.{IsReply};
 
 use crate::escape::escape_into;
@@ -91,7 +94,8 @@ fn unsure(alloc: Global, number: u64) -> Result<Reply, AllocError>
     end(Kind::Unsure, numbered(alloc, b"unsure ", number)?)
 }
 
-/// `refused K TEXT` for a class that isn't prepared. The text of a broken rule is `V` and its number, and the spot.
+/// `refused K TEXT` for a class that isn't prepared. The text of a broken rule is `V` and its
+/// number, and the spot.
 pub fn unprepared(alloc: Global, fault: PrepareFault) -> Result<Reply, AllocError>
     ensures { IfOk result (IsReply (fault_reply fault)) }
 {

@@ -3,7 +3,8 @@
 ghost use Rattle.std.specs.Prelude.{◌≡◌, ◌||◌, ℕ, List, IfOk, IfErr};
 ghost use Rattle.cm_store.specs.Store.{StoreValue};
 ghost use Rattle.cm_tool.specs.Answers.{is_refused, is_unsure};
-ghost use Rattle.cm_tool.specs.Runs.{io, medium, Holds, Turns, IsAnswered, EndsEarly, IsRun, LeavesDisk};
+ghost use Rattle.cm_tool.specs.Runs.{io, medium, Holds, Turns, IsAnswered, EndsEarly, IsRun};
+ghost use Rattle.cm_tool.specs.Runs.{LeavesDisk};
 ghost use Rattle.cm_tool.specs.Seen.{RepliesTo};
 
 use crate::answer::answer;
@@ -52,8 +53,9 @@ impl Outcome {
 
 /// Runs a script on a store: reads its lines, and writes the reply to each as soon as it is there.
 ///
-/// A line ends at a newline; a rest that isn't empty is a line too. After an `Err` what was acknowledged stays: `Input`
-/// where the reader fails, `Output` where the writer does, `Memory` where a growth is refused for a line or a reply.
+/// A line ends at a newline; a rest that isn't empty is a line too. After an `Err` what was
+/// acknowledged stays: `Input` where the reader fails, `Output` where the writer does, `Memory`
+/// where a growth is refused for a line or a reply.
 pub fn run_script<R: BufRead, W: Write, D: Disk + Drop>(
     alloc: Global,
     reader: &mut R,

@@ -63,8 +63,8 @@ fn words(rt: &(impl Env + AllocGlobal)) -> Result<Option<Vec<String>>, WordsFaul
     }
 }
 
-/// Prints the help or what is wrong with the words, and gives the status: of wrong words it is 2, though
-/// their text may not reach anyone.
+/// Prints the help or what is wrong with the words, and gives the status: of wrong words it is 2,
+/// though their text may not reach anyone.
 fn print_text(rt: &(impl Print + Eprint), text: &Error) -> Result<Request, WordsFault> {
     if text.kind() == ErrorKind::OutOfMemory {
         return Err(WordsFault::NoMemory);

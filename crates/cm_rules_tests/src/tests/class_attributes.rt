@@ -98,8 +98,8 @@ fn inner_classes(rt: HostRuntime) -> Result<(), Fail> {
     Ok(())
 }
 
-/// Entries 5 to 17. Index 9 is a method handle, 10 to 17 are numbers, a String and a MethodType; 13 and
-/// 15 are the second indexes of a Long and of a Double.
+/// Entries 5 to 17. Index 9 is a method handle, 10 to 17 are numbers, a String and a MethodType; 13
+/// and 15 are the second indexes of a Long and of a Double.
 const BOOTSTRAPS: [Entry<'static>; 11] = [
     Entry::Text(b"BootstrapMethods"),
     Entry::Text(b"()V"),
@@ -148,8 +148,8 @@ fn bootstrap_methods(rt: HostRuntime) -> Result<(), Fail> {
     Ok(())
 }
 
-/// Entry 18 is a call of the bootstrap method at the row's place. An attribute with one bootstrap method
-/// is `5, 6, 0, 1, 0, 9, 0, 0`, and `5, 2, 0, 0` is one with none.
+/// Entry 18 is a call of the bootstrap method at the row's place. An attribute with one bootstrap
+/// method is `5, 6, 0, 1, 0, 9, 0, 0`, and `5, 2, 0, 0` is one with none.
 #[test]
 fn calls(rt: HostRuntime) -> Result<(), Fail> {
     let two: &[u8] = &[5, 10, 0, 2, 0, 9, 0, 0, 0, 9, 0, 0];

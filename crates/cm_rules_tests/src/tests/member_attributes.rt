@@ -1,8 +1,8 @@
 //! The rule on attributes of fields and methods. A draft's own entries begin at index 5.
 use super::*;
 
-/// Entries 5 to 17: the names of attributes, then constants, the Long on 12 and 13, the Double on 15
-/// and 16.
+/// Entries 5 to 17: the names of attributes, then constants, the Long on 12 and 13, the Double on
+/// 15 and 16.
 const ENTRIES: [Entry<'static>; 11] = [
     Entry::Text(b"ConstantValue"),
     Entry::Text(b"Exceptions"),

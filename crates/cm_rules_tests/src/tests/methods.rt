@@ -263,7 +263,8 @@ fn of_code(rt: &HostRuntime, bytes: &[u8]) -> Result<Found, Fail> {
     found_in(rt, &class)
 }
 
-/// The heads of codes: stack, locals, the number of bytes; then the bytes, and no handler or attribute.
+/// The heads of codes: stack, locals, the number of bytes; then the bytes, and no handler or
+/// attribute.
 #[test]
 fn codes(rt: HostRuntime) -> Result<(), Fail> {
     let rows: [(&[u8], bool); 9] = [

@@ -3,4 +3,6 @@ use Rattle.std.proofs.Common.{map}
 use Rattle.cm_bench.proofs.stream.classes_in.Goals as goal
 
 pub returns-clause-only : goal.returns-clause-only
-returns-clause-only c = answered (λ v. map (λ class. class.now) v.items) c.args.bytes.now c.split.result c.split.ensures.ok c.split.ensures.fault
+returns-clause-only c =
+    answered (λ v. map (λ class. class.now) v.items) c.args.bytes.now c.split.result
+    c.split.ensures.ok c.split.ensures.fault

@@ -4,4 +4,6 @@ use Rattle.cm_class.proofs.Loops.{with_front}
 use Rattle.cm_class.proofs.pool.slots.Given as goal
 
 abbrev pub invariant-loop-index : goal.invariant-loop-index
-invariant-loop-index l = with_front l.slots.items (slots_at l.second (l.count - l.index) l.rest) ≡ slots_at false l.count l.bytes
+invariant-loop-index l =
+    with_front l.slots.items (slots_at l.second (l.count - l.index) l.rest)
+    ≡ slots_at false l.count l.bytes

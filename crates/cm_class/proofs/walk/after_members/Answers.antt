@@ -5,11 +5,19 @@ use Rattle.cm_class.proofs.walk.after_members.Goals as goal
 
 pub returns-in_err-rest : goal.returns-in_err-rest
 returns-in_err-rest c =
-    let p = err_from_is_err_and c.from_residual-in_err-rest.result c.from_residual-in_err-rest.ensures.1 in
-    rw (p.1, p.2) (walk_stops member_at c.in_err-rest.field-0.0 c.in_ok-count.count c.loop.counter c.loop.rest.now (rest_of (counted_at member_at c.args.bytes.now)) c.loop-test.true c.in_err-rest.ensures c.loop.invariant)
+    let p = err_from_is_err_and c.from_residual-in_err-rest.result
+    c.from_residual-in_err-rest.ensures.1 in
+    rw (p.1, p.2)
+    (walk_stops member_at c.in_err-rest.field-0.0 c.in_ok-count.count c.loop.counter
+    c.loop.rest.now (rest_of (counted_at member_at c.args.bytes.now)) c.loop-test.true
+    c.in_err-rest.ensures c.loop.invariant)
 
 pub loop-preserved : goal.loop-preserved
-loop-preserved c = walk_on member_at c.in_ok-count.count c.loop.counter c.loop.rest.now c.in_ok-rest.rest.now (rest_of (counted_at member_at c.args.bytes.now)) c.loop-test.true c.in_ok-rest.ensures c.loop.invariant
+loop-preserved c =
+    walk_on member_at c.in_ok-count.count c.loop.counter c.loop.rest.now c.in_ok-rest.rest.now
+    (rest_of (counted_at member_at c.args.bytes.now)) c.loop-test.true c.in_ok-rest.ensures
+    c.loop.invariant
 
 pub returns : goal.returns
-returns c = walk_done member_at c.in_ok-count.count c.loop.counter c.loop.rest.now (rest_of (counted_at member_at c.args.bytes.now)) c.loop-test.false c.loop.invariant
+returns c = walk_done member_at c.in_ok-count.count c.loop.counter c.loop.rest.now
+    (rest_of (counted_at member_at c.args.bytes.now)) c.loop-test.false c.loop.invariant

@@ -7,5 +7,6 @@ abbrev pub invariant-loop-place : goal.invariant-loop-place
 invariant-loop-place l = record {
   class : l.interner.class.now ≡ l.class;
   seen : SeenBefore l.class l.members l.fingerprints l.repeated l.interner.interned l.seen l.place;
-  so_far : first_failing (is_first l.class l.members) l.place (drop l.place l.members) ≡ first_duplicate l.class l.members;
+  so_far : first_failing (is_first l.class l.members) l.place (drop l.place l.members)
+      ≡ first_duplicate l.class l.members;
 }

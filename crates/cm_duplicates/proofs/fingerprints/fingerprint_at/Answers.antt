@@ -10,5 +10,12 @@ returns-in-Some c =
     let i = c.args.index in
     let n = length class.slots + 1 in
     let found = rw c.from.ensures at c.in-Some.ensures.lookup.3 in
-    let within : i < n = omega (arith, found.0, ap length c.requires, length-map-range_with_len (λ k. fingerprint c.args.strength (utf8 class k)) 0 n) in
-    found.1 0 ∙ ap (λ l. get_or l i 0) c.requires ∙ get_or-map-range_with_len (λ k. fingerprint c.args.strength (utf8 class k)) 0 n i i 0 within (zero-add i)
+    let within : i < n =
+    omega (
+      arith,
+      found.0,
+      ap length c.requires,
+      length-map-range_with_len (λ k. fingerprint c.args.strength (utf8 class k)) 0 n,
+    ) in
+    found.1 0 ∙ ap (λ l. get_or l i 0) c.requires ∙ get_or-map-range_with_len
+    (λ k. fingerprint c.args.strength (utf8 class k)) 0 n i i 0 within (zero-add i)

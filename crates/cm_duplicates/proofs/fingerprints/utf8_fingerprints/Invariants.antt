@@ -5,4 +5,6 @@ use Rattle.cm_duplicates.specs.Fingerprints.{fingerprint}
 use Rattle.cm_duplicates.proofs.fingerprints.utf8_fingerprints.Given as goal
 
 abbrev pub invariant-loop-index : goal.invariant-loop-index
-invariant-loop-index l = l.fingerprints.items ≡ map (λ i. fingerprint l.strength (utf8 l.class i)) (range_with_len 0 l.index)
+invariant-loop-index l =
+    l.fingerprints.items
+    ≡ map (λ i. fingerprint l.strength (utf8 l.class i)) (range_with_len 0 l.index)

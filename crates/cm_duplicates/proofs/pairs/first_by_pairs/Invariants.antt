@@ -3,4 +3,6 @@ use Rattle.cm_duplicates.specs.Duplicates.{is_first, first_failing, first_duplic
 use Rattle.cm_duplicates.proofs.pairs.first_by_pairs.Given as goal
 
 abbrev pub invariant-loop-place : goal.invariant-loop-place
-invariant-loop-place l = first_failing (is_first l.class l.members) l.place (drop l.place l.members) ≡ first_duplicate l.class l.members
+invariant-loop-place l =
+    first_failing (is_first l.class l.members) l.place (drop l.place l.members)
+    ≡ first_duplicate l.class l.members

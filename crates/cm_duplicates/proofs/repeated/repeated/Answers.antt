@@ -8,7 +8,10 @@ use Rattle.cm_duplicates.proofs.Repeating.{has_repeated}
 use Rattle.cm_duplicates.proofs.repeated.repeated.Goals as goal
 
 pub repeated_in-requires : goal.repeated_in-requires
-repeated_in-requires c = rw c.deref.ensures.value (IsNonDecreasingBy-from_sort (λ n. n) c.sort_unstable.new.self.items c.sort_unstable.ensures.sorted)
+repeated_in-requires c =
+    rw c.deref.ensures.value
+    (IsNonDecreasingBy-from_sort (λ n. n) c.sort_unstable.new.self.items
+    c.sort_unstable.ensures.sorted)
 
 pub returns-clause-all : goal.returns-clause-all
 returns-clause-all c =
@@ -16,5 +19,8 @@ returns-clause-all c =
     let sorted : List ℕ = c.sort_unstable.new.self.items in
     let same : c.in_ok-sorted.sorted.items ≡ numbers = search (rules, same_from_all_zip) in
     let permuted : IsPermutation numbers sorted = rw same at c.sort_unstable.ensures.permutation in
-    let up : IsNonDecreasing sorted = IsNonDecreasingBy-from_sort (λ n. n) sorted c.sort_unstable.ensures.sorted in
-    IfOk-weaker c.repeated_in.result _ (λ r. HasRepeated numbers r.items) (λ r h. has_repeated sorted r.items up (rw c.deref.ensures.value at h) numbers permuted) c.repeated_in.ensures.all
+    let up : IsNonDecreasing sorted =
+    IsNonDecreasingBy-from_sort (λ n. n) sorted c.sort_unstable.ensures.sorted in
+    IfOk-weaker c.repeated_in.result _ (λ r. HasRepeated numbers r.items)
+    (λ r h. has_repeated sorted r.items up (rw c.deref.ensures.value at h) numbers permuted)
+    c.repeated_in.ensures.all

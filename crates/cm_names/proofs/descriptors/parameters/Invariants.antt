@@ -6,5 +6,6 @@ use Rattle.cm_names.proofs.descriptors.parameters.Given as goal
 abbrev pub invariant-loop : goal.invariant-loop
 invariant-loop l = record {
   small : l.units ≤ 2 * l.counter;
-  read : with_units l.units (parameters (length l.bytes - l.counter) l.rest) ≡ parameters (length l.bytes) l.bytes;
+  read : with_units l.units (parameters (length l.bytes - l.counter) l.rest)
+      ≡ parameters (length l.bytes) l.bytes;
 }

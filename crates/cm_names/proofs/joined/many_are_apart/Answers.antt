@@ -1,4 +1,5 @@
-use Rattle.std.proofs.Common.{◌≡◌, ◌≤◌, ◌+◌, ◌*◌, ◌-◌, ◌&&◌, length, take, drop, ap, ap₂, ◌∙◌, arith}
+use Rattle.std.proofs.Common.{◌≡◌, ◌≤◌, ◌+◌, ◌*◌, ◌-◌, ◌&&◌, length, take, drop, ap, ap₂, ◌∙◌}
+use Rattle.std.proofs.Common.{arith}
 use Rattle.std.specs.List.{list_all}
 use Rattle.cm_names.specs.Marks.{are_apart, neighbours}
 use Rattle.cm_names.proofs.JoinedNames.{last_apart, more_apart, all_apart}
@@ -13,9 +14,12 @@ loop-place-preserved c =
     let last = list_all are_apart (drop (length c.args.bytes.now - 17) ps) in
     let at = 16 * c.loop-place.place in
     let more : at + 16 ≡ 16 * (c.loop-place.place + 1) = omega arith in
-    ap₂ (λ a b. a && b) c.loop-place.invariant c.seventeen_are_apart-apart-in-loop-place.ensures ∙ more_apart last ps at ∙ ap (λ k. last && list_all are_apart (take k ps)) more
+    ap₂ (λ a b. a && b) c.loop-place.invariant c.seventeen_are_apart-apart-in-loop-place.ensures ∙
+    more_apart last ps at ∙ ap (λ k. last && list_all are_apart (take k ps)) more
 
 pub returns : goal.returns
 returns c =
-    let reached : length c.args.bytes.now - 17 ≤ 16 * c.loop-place.place = omega (arith, c.loop-place-test.false, c.requires) in
-    all_apart c.args.bytes.now _ (16 * c.loop-place.place) (length c.args.bytes.now - 17) reached c.loop-place.invariant
+    let reached : length c.args.bytes.now - 17 ≤ 16 * c.loop-place.place =
+    omega (arith, c.loop-place-test.false, c.requires) in
+    all_apart c.args.bytes.now _ (16 * c.loop-place.place) (length c.args.bytes.now - 17) reached
+    c.loop-place.invariant

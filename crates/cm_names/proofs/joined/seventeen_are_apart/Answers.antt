@@ -10,4 +10,5 @@ returns c =
     let at = c.args.at in
     none_both _ refl refl refl refl 16 (omega arith) d at c.requires
     (zip2_splat _ (chunk at 16 d) 16 47 (length-chunk at 16 d (omega (arith, c.requires))))
-    (zip2_splat _ (chunk (at + 1) 16 d) 16 47 (length-chunk (at + 1) 16 d (omega (arith, c.requires))))
+    (zip2_splat _ (chunk (at + 1) 16 d) 16 47
+    (length-chunk (at + 1) 16 d (omega (arith, c.requires))))

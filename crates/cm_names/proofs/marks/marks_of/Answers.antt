@@ -7,5 +7,7 @@ pub returns-then-bytes-ge-HALF_LANES : goal.returns-then-bytes-ge-HALF_LANES
 returns-then-bytes-ge-HALF_LANES c =
     let xs = c.args.bytes.now in
     let few : length xs - 8 ≤ 8 = omega (arith, c.if-bytes-ge-LANES.false) in
-    c.and.ensures ∙ ap₂ both_marks c.marks_of_eight.ensures (c.marks_of_eight-then-bytes-ge-HALF_LANES.ensures ∙ ap marks_of (last_bytes xs 8 c.if-bytes-ge-HALF_LANES.true))
+    c.and.ensures ∙ ap₂ both_marks c.marks_of_eight.ensures
+    (c.marks_of_eight-then-bytes-ge-HALF_LANES.ensures ∙ ap marks_of
+    (last_bytes xs 8 c.if-bytes-ge-HALF_LANES.true))
     ∙ covered_marks xs 8 (length xs - 8) few

@@ -8,9 +8,13 @@ pub loop-byte-init : goal.loop-byte-init
 loop-byte-init c = nothing_both (marks_of c.args.bytes.now)
 
 pub loop-byte-preserved : goal.loop-byte-preserved
-loop-byte-preserved c = rw (c.and-marks.ensures, c.marks_of_byte.ensures) (one_byte c.loop-byte.marks c.args.bytes.now c.loop-byte.byte-index c.loop-byte-test.true ∙ c.loop-byte.invariant)
+loop-byte-preserved c =
+    rw (c.and-marks.ensures, c.marks_of_byte.ensures)
+    (one_byte c.loop-byte.marks c.args.bytes.now c.loop-byte.byte-index c.loop-byte-test.true ∙
+    c.loop-byte.invariant)
 
 pub returns : goal.returns
 returns c =
     let rest = drop_all c.loop-byte.byte-index c.args.bytes.now c.loop-byte-test.false in
-    sym (both_nothing c.loop-byte.marks) ∙ ap (λ xs. both_marks c.loop-byte.marks (marks_of xs)) (sym rest) ∙ c.loop-byte.invariant
+    sym (both_nothing c.loop-byte.marks) ∙ ap (λ xs. both_marks c.loop-byte.marks (marks_of xs))
+    (sym rest) ∙ c.loop-byte.invariant

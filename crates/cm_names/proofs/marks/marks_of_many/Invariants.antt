@@ -3,4 +3,6 @@ use Rattle.cm_names.specs.Marks.{marks_of, both_marks}
 use Rattle.cm_names.proofs.marks.marks_of_many.Given as goal
 
 abbrev pub invariant-loop-place : goal.invariant-loop-place
-invariant-loop-place l = l.marks ≡ both_marks (marks_of (drop (length l.bytes - 16) l.bytes)) (marks_of (take (16 * l.place) l.bytes))
+invariant-loop-place l =
+    l.marks ≡ both_marks (marks_of (drop (length l.bytes - 16) l.bytes))
+    (marks_of (take (16 * l.place) l.bytes))

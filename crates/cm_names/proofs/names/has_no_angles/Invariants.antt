@@ -4,4 +4,6 @@ use Rattle.cm_names.specs.Forms.{less, greater}
 use Rattle.cm_names.proofs.names.has_no_angles.Given as goal
 
 abbrev pub invariant-loop-byte : goal.invariant-loop-byte
-invariant-loop-byte l = l.all && list_all (λ b. not (b == less) && not (b == greater)) (drop l.byte-index l.bytes) ≡ list_all (λ b. not (b == less) && not (b == greater)) l.bytes
+invariant-loop-byte l =
+    l.all && list_all (λ b. not (b == less) && not (b == greater)) (drop l.byte-index l.bytes)
+    ≡ list_all (λ b. not (b == less) && not (b == greater)) l.bytes

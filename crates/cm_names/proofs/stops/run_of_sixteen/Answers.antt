@@ -10,4 +10,7 @@ pub returns : goal.returns
 returns c =
     let v = chunk c.args.at 16 c.args.bytes.now in
     let long = length-chunk c.args.at 16 c.args.bytes.now c.requires in
-    c.first_set.ensures ∙ run_is is_no_stop c.args.bytes.now c.args.at 16 c.requires (omega arith) c.type_inv.bytes _ (joined _ _ _ v (joined _ _ _ v (zip2_splat _ v 16 46 long) (zip2_splat _ v 16 59 long)) (zip2_splat _ v 16 91 long)) refl
+    c.first_set.ensures ∙ run_is is_no_stop c.args.bytes.now c.args.at 16 c.requires (omega arith)
+    c.type_inv.bytes _
+    (joined _ _ _ v (joined _ _ _ v (zip2_splat _ v 16 46 long) (zip2_splat _ v 16 59 long))
+    (zip2_splat _ v 16 91 long)) refl

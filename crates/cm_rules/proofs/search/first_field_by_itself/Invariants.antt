@@ -6,5 +6,8 @@ use Rattle.cm_rules.proofs.search.first_field_by_itself.Given as goal
 abbrev pub invariant-loop-place : goal.invariant-loop-place
 invariant-loop-place l = record {
   same : l.item-items ≡ l.findings.class.now.fields;
-  so_far : first_failing (λ _ m. field_constraint l.rule l.findings.class.now m) l.place (drop l.place l.item-items) ≡ first_failing (λ _ m. field_constraint l.rule l.findings.class.now m) 0 l.findings.class.now.fields;
+  so_far : first_failing (λ _ m. field_constraint l.rule l.findings.class.now m) l.place
+      (drop l.place l.item-items)
+      ≡ first_failing (λ _ m. field_constraint l.rule l.findings.class.now m) 0
+      l.findings.class.now.fields;
 }

@@ -16,5 +16,7 @@ returns-in-Some g c =
     let listed : class_in old.listed.classes loader c.in-Ok.name.items ≡ Some words =
     sym (c.in-Some.ensures ∙ ap (class_in old.listed.classes loader) c.deref.ensures.value) in
     let says = λ (f : ClassFile) (laid : IsRecordOf f words).
-    subst (λ n. IfOk c.found.result (IsReply (class_reply n f (length words)))) c.deref-in-Some.ensures.value (c.found.ensures.given f laid) in
-    replies_found loader c.args.class.now c.in-Ok.name.items words old c.found.result c.in-Ok.ensures.name listed says c.found.ensures.laid
+    subst (λ n. IfOk c.found.result (IsReply (class_reply n f (length words))))
+    c.deref-in-Some.ensures.value (c.found.ensures.given f laid) in
+    replies_found loader c.args.class.now c.in-Ok.name.items words old c.found.result
+    c.in-Ok.ensures.name listed says c.found.ensures.laid

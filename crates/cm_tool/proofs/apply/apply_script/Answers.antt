@@ -9,7 +9,10 @@ returns-in-Ok-default-clause-ok g c =
       old = c.in-Ok.store;
       new = run.0;
       opened = record { stands = c.in-Ok.ensures.stands; working = c.in-Ok.ensures.working };
-      came = subst (IsRun (io (g.R.Read.remaining c.args.reader.now) (g.W.Write.contents c.args.writer.now) (g.W.Write.contents c.run_to_end.new.writer)) c.in-Ok.store run.0) c.in-Ok-default.is-0 run.1;
+      came = subst
+          (IsRun (io (g.R.Read.remaining c.args.reader.now) (g.W.Write.contents c.args.writer.now)
+          (g.W.Write.contents c.run_to_end.new.writer)) c.in-Ok.store run.0) c.in-Ok-default.is-0
+          run.1;
       leaves = run.2;
     }
 
@@ -20,6 +23,9 @@ returns-in-Err-default-clause-err g c =
       old = c.in-Ok.store;
       new = run.0;
       opened = record { stands = c.in-Ok.ensures.stands; working = c.in-Ok.ensures.working };
-      came = subst (IsRun (io (g.R.Read.remaining c.args.reader.now) (g.W.Write.contents c.args.writer.now) (g.W.Write.contents c.run_to_end.new.writer)) c.in-Ok.store run.0) c.in-Err-default.is-0 run.1;
+      came = subst
+          (IsRun (io (g.R.Read.remaining c.args.reader.now) (g.W.Write.contents c.args.writer.now)
+          (g.W.Write.contents c.run_to_end.new.writer)) c.in-Ok.store run.0) c.in-Err-default.is-0
+          run.1;
       leaves = run.2;
     }

@@ -11,5 +11,6 @@ returns-in-Err-clause-bad c bad =
     let same : c.in-Err.fault ≡ BadEscape = (cc) in
     let none = c.in-Err.ensures.bad (ap Err same) (drop (i + 1) word) in
     sym c.loop-byte.invariant.spelled
-    ∙ ap (λ text. named_by c.loop-byte.name.items (spelled_from c.loop-byte.awaited text)) (drop_more word i 0 (omega arith))
+    ∙ ap (λ text. named_by c.loop-byte.name.items (spelled_from c.loop-byte.awaited text))
+    (drop_more word i 0 (omega arith))
     ∙ ap (named_by c.loop-byte.name.items) none

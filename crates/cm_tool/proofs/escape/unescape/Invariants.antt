@@ -5,6 +5,7 @@ use Rattle.cm_tool.proofs.escape.unescape.Given as goal
 -- the name so far and what is left spell the name
 abbrev pub invariant-loop-byte : goal.invariant-loop-byte
 invariant-loop-byte l = record {
-  spelled : named_by l.name.items (spelled_from l.awaited (drop l.byte-index l.word)) ≡ unescaped l.word;
+  spelled : named_by l.name.items (spelled_from l.awaited (drop l.byte-index l.word))
+      ≡ unescaped l.word;
   digit : IsDigitAwaited l.awaited;
 }

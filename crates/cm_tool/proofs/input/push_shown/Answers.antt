@@ -5,7 +5,8 @@ pub returns-in_ok-push-in-Some-clause-piece : goal.returns-in_ok-push-in-Some-cl
 returns-in_ok-push-in-Some-clause-piece c = (
   c.in-Some.front.now,
   record {
-    taken = take_through_cut c.args.shown.now c.in-Some.front.now c.in-Some.field-0-1.now c.in-Some.ensures.found;
+    taken = take_through_cut c.args.shown.now c.in-Some.front.now c.in-Some.field-0-1.now
+        c.in-Some.ensures.found;
     inside = c.in-Some.ensures.first;
     end = λ e. (cc);
   },

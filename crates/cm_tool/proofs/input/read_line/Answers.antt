@@ -8,7 +8,8 @@ pieces-preserved g c =
     let p = c.in_ok-take_piece.ensures.piece in
     let before = g.R.Read.remaining c.pieces.reader in
     let after = g.R.Read.remaining c.take_piece.new.reader in
-    line_more (g.R.Read.remaining c.args.reader.now) before after c.pieces.line c.take_piece.new.line p.0 c.pieces.invariant
+    line_more (g.R.Read.remaining c.args.reader.now) before after c.pieces.line
+    c.take_piece.new.line p.0 c.pieces.invariant
     (subst (λ k. TakesPiece before after k p.0) c.in-More.is p.1) p.2
 
 pub returns-in-Newline-clause-read : goal.returns-in-Newline-clause-read
@@ -16,7 +17,8 @@ returns-in-Newline-clause-read g c =
     let p = c.in_ok-take_piece.ensures.piece in
     let before = g.R.Read.remaining c.pieces.reader in
     let after = g.R.Read.remaining c.take_piece.new.reader in
-    line_whole (g.R.Read.remaining c.args.reader.now) before after c.pieces.line c.take_piece.new.line p.0 c.pieces.invariant
+    line_whole (g.R.Read.remaining c.args.reader.now) before after c.pieces.line
+    c.take_piece.new.line p.0 c.pieces.invariant
     (subst (λ k. TakesPiece before after k p.0) c.in-Newline.is p.1) p.2
 
 pub returns-in-End-clause-read : goal.returns-in-End-clause-read
@@ -24,5 +26,6 @@ returns-in-End-clause-read g c =
     let p = c.in_ok-take_piece.ensures.piece in
     let before = g.R.Read.remaining c.pieces.reader in
     let after = g.R.Read.remaining c.take_piece.new.reader in
-    line_end (g.R.Read.remaining c.args.reader.now) before after c.pieces.line c.take_piece.new.line p.0 c.has_bytes.result c.pieces.invariant
+    line_end (g.R.Read.remaining c.args.reader.now) before after c.pieces.line c.take_piece.new.line
+    p.0 c.has_bytes.result c.pieces.invariant
     (subst (λ k. TakesPiece before after k p.0) c.in-End.is p.1) p.2 c.has_bytes.ensures

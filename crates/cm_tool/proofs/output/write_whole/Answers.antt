@@ -7,4 +7,5 @@ writes-preserved g c =
     let first = g.W.Write.contents c.args.writer.now in
     let last = g.W.Write.contents c.write_some.new.writer in
     subst (WrittenBut first last c.args.text.now) (sym c.split_at.ensures.back)
-    (written_more first (g.W.Write.contents c.writes.writer) last c.args.text.now c.writes.rest.now c.in_ok-count.count c.writes.invariant c.in_ok-count.ensures.ok)
+    (written_more first (g.W.Write.contents c.writes.writer) last c.args.text.now c.writes.rest.now
+    c.in_ok-count.count c.writes.invariant c.in_ok-count.ensures.ok)

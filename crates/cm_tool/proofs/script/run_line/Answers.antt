@@ -9,4 +9,5 @@ returns-in-Err-answer_line g c =
     let b = g.R.Read.remaining c.read_line.new.reader in
     let buffer = c.read_line.new.line in
     let read = subst (ReadsLine a b buffer) c.in-Ok-true.field-0-test c.in-Ok-true.ensures.read in
-    line_unmade a b (g.W.Write.contents c.args.writer.now) c.args.store.now c.answer_line.new.store buffer c.in-Err-answer_line.field-0 read c.in-Err-answer_line.ensures
+    line_unmade a b (g.W.Write.contents c.args.writer.now) c.args.store.now c.answer_line.new.store
+    buffer c.in-Err-answer_line.field-0 read c.in-Err-answer_line.ensures

@@ -9,10 +9,13 @@ pub returns-in-Some : goal.returns-in-Some
 returns-in-Some c =
     let read = rw (c.deref.ensures.value, c.from.ensures) at c.judgement_at.ensures in
     ap (λ (o : Option Judgement). unwrap_or o (judgement [])) (sym c.in-Some.is ∙ read)
-    ∙ at_index c.args.self.now.class.now c.args.self.now.table.items c.args.index c.args.self.now.of_class c.if-index-eq0.false
+    ∙ at_index c.args.self.now.class.now c.args.self.now.table.items c.args.index
+    c.args.self.now.of_class c.if-index-eq0.false
 
 pub returns-in-None : goal.returns-in-None
 returns-in-None c =
     let read = rw (c.deref.ensures.value, c.from.ensures) at c.judgement_at.ensures in
-    c.judge_nothing-in-None.ensures ∙ ap (λ (o : Option Judgement). unwrap_or o (judgement [])) (sym c.in-None.is ∙ read)
-    ∙ at_index c.args.self.now.class.now c.args.self.now.table.items c.args.index c.args.self.now.of_class c.if-index-eq0.false
+    c.judge_nothing-in-None.ensures ∙ ap (λ (o : Option Judgement). unwrap_or o (judgement []))
+    (sym c.in-None.is ∙ read)
+    ∙ at_index c.args.self.now.class.now c.args.self.now.table.items c.args.index
+    c.args.self.now.of_class c.if-index-eq0.false

@@ -6,6 +6,8 @@ use Rattle.cm_disk.proofs.sim.SimDiskDisk.cut.Goals as goal
 pub returns-clause-time : goal.returns-clause-time
 returns-clause-time c =
     let old = c.args.self.now.medium in
-    elapses_cut c.args.len old.bytes.items c.cut.new.self.bytes.items (medium_unsynced old) (medium_unsynced c.cut.new.self)
-    c.args.self.now.history.moments c.note.new.self.moments (moment_of c.begin_cut.new.self) c.note.ensures c.begin_cut.ensures.bytes
+    elapses_cut c.args.len old.bytes.items c.cut.new.self.bytes.items (medium_unsynced old)
+    (medium_unsynced c.cut.new.self)
+    c.args.self.now.history.moments c.note.new.self.moments (moment_of c.begin_cut.new.self)
+    c.note.ensures c.begin_cut.ensures.bytes
     (search rules) (search rules) (search rules) (search rules)

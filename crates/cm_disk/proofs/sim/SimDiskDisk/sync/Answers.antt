@@ -6,5 +6,7 @@ use Rattle.cm_disk.proofs.sim.SimDiskDisk.sync.Goals as goal
 pub returns-clause-time : goal.returns-clause-time
 returns-clause-time c =
     let old = c.args.self.now.medium in
-    elapses_sync old.bytes.items c.settle.new.self.bytes.items (medium_unsynced old) (medium_unsynced c.settle.new.self)
-    c.args.self.now.history.moments c.note.new.self.moments (moment_of old) c.note.ensures refl refl c.settle.ensures.bytes (search rules)
+    elapses_sync old.bytes.items c.settle.new.self.bytes.items (medium_unsynced old)
+    (medium_unsynced c.settle.new.self)
+    c.args.self.now.history.moments c.note.new.self.moments (moment_of old) c.note.ensures refl refl
+    c.settle.ensures.bytes (search rules)

@@ -5,4 +5,5 @@ use Rattle.cm_duplicates.proofs.interner.Interner.key_for.Goals as goal
 
 pub returns-clause-descriptor : goal.returns-clause-descriptor
 returns-clause-descriptor c =
-    ap (λ class. interned c.index_for-2.new.self.interned (utf8 class c.args.member.now.descriptor)) (sym c.in_ok-name.ensures.class) ∙ c.in_ok-descriptor.ensures.found
+    ap (λ class. interned c.index_for-2.new.self.interned (utf8 class c.args.member.now.descriptor))
+    (sym c.in_ok-name.ensures.class) ∙ c.in_ok-descriptor.ensures.found
