@@ -1,2 +1,3 @@
 pub mod OneSlot
 pub mod Apart
+pub mod OneReading

@@ -1,8 +1,19 @@
 -- What holds of the definitions themselves.
+use Rattle.std.specs.Prelude.{◌≡◌, ℕ, List}
 use Rattle.cm_pool.specs.Geometry.{Sizes}
+use Rattle.cm_layout.specs.declared.row.Row.{Row}
 use Rattle.cm_layout.specs.Rows.{classes_in}
-use Rattle.cm_layout.specs.Frames.{OpenHalf, IsGoodHalf, AreApart, rows_of}
+use Rattle.cm_layout.specs.Frames.{OpenHalf, IsGoodHalf, AreApart, rows_of, Frames}
 
--- After rows and entries that keep the rules, chunks that differ share no word, and none has two loaders.
+-- After rows and entries that keep the rules, chunks that differ share no word, and none has two
+-- loaders.
 abbrev pub RowsAreApart : Type 0
-RowsAreApart = (sizes : Sizes) (h : OpenHalf) → IsGoodHalf sizes h → AreApart (classes_in (rows_of h))
+RowsAreApart =
+    (sizes : Sizes) (h : OpenHalf) → IsGoodHalf sizes h → AreApart (classes_in (rows_of h))
+
+-- Contents frame at most one thing: sizes, rows with their words, and number.
+abbrev pub FramesAreOne : Type 0
+FramesAreOne =
+    (s t : Sizes) (contents : List ℕ) (rows more : List (Row (List ℕ))) (n m : ℕ)
+    → Frames s contents rows n → Frames t contents more m
+    → (s ≡ t) × ((rows ≡ more) × (n ≡ m))

@@ -4,12 +4,14 @@ ghost use Rattle.std.specs.Prelude.{◌≡◌};
 ghost use Rattle.cm_layout.specs.declared.entry.Entry.{Entry};
 ghost use Rattle.cm_layout.specs.declared.heads.HalfHead.{HalfHead};
 ghost use Rattle.cm_layout.specs.declared.heads.GroupHead.{GroupHead};
-ghost use Rattle.cm_layout.specs.Laws.{RowsAreApart};
-ghost use Rattle.cm_layout.specs.Slots.{entry_slot, FitsEntry, half_head_slot, FitsHalfHead, group_head_slot, FitsGroupHead};
+ghost use Rattle.cm_layout.specs.Laws.{FramesAreOne, RowsAreApart};
+ghost use Rattle.cm_layout.specs.Slots.{entry_slot, FitsEntry, half_head_slot, FitsHalfHead};
+ghost use Rattle.cm_layout.specs.Slots.{group_head_slot, FitsGroupHead};
 
 /// A slot tells its entry: no two entries that fit have one slot.
 pub fn slot_determines_entry()
-    ensures { (e d : Entry (Unit {0})) → FitsEntry e → FitsEntry d → entry_slot e ≡ entry_slot d → e ≡ d }
+    ensures { (e d : Entry (Unit {0})) → FitsEntry e → FitsEntry d → entry_slot e ≡ entry_slot d
+        → e ≡ d }
 {}
 
 /// A slot tells the head of its half, and a group's head.
@@ -20,8 +22,14 @@ pub fn slot_determines_head()
         → group_head_slot h ≡ group_head_slot g → h ≡ g }
 {}
 
-/// Rows that keep the rules, and entries that do, leave chunks apart: those that differ share no word,
-/// and none has two loaders.
+/// Rows that keep the rules, and entries that do, leave chunks apart: those that differ share no
+/// word, and none has two loaders.
 pub fn rows_are_apart()
     ensures { RowsAreApart }
+{}
+
+/// A file's contents tell what they frame: its sizes, its rows with the words of their records, and
+/// the number of the last command.
+pub fn contents_determine_rows()
+    ensures { FramesAreOne }
 {}

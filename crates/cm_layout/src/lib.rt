@@ -1,4 +1,5 @@
-//! The region file: where its parts lie, its slots, its rows, and which file contents frame which rows.
+//! The region file: where its parts lie, its slots, its rows, and which file contents frame which
+//! rows.
 #![tactic(auto)]
 
 mod class_row;
@@ -21,7 +22,9 @@ pub use entry::Entry;
 pub use entry_rule::EntryRule;
 pub use half::Half;
 pub use heads::{GroupHead, HalfHead};
-pub use laws::{rows_are_apart, slot_determines_entry, slot_determines_head};
+pub use laws::{
+    contents_determine_rows, rows_are_apart, slot_determines_entry, slot_determines_head,
+};
 pub use loader_row::LoaderRow;
 pub use name::{NAME_BYTES, SlotName, is_loader_name};
 pub use offsets::{half_at, record_at, root_at, root_bytes, roots_at, slot_at};
