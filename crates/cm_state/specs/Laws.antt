@@ -6,6 +6,7 @@ use Rattle.cm_pool.specs.Geometry.{Sizes}
 use Rattle.cm_state.specs.State.{CacheState, class_shows}
 use Rattle.cm_state.specs.Step.{Change}
 use Rattle.cm_state.specs.Fold.{fold}
+use Rattle.cm_state.specs.Stands.{Arenas, Stands}
 
 -- Changes behind others go on from what those came to.
 abbrev pub ChangesGoOn : Type 0
@@ -20,3 +21,10 @@ NumbersFollow =
     (sizes : Sizes) (m : CacheState) (n : ℕ) (changes : List (Change ClassFile)) (last : CacheState)
     (number : ℕ)
     → fold class_shows sizes m n changes ≡ Some (last, number) → number ≡ n + length changes
+
+-- Contents stand for at most one cache: sizes, state, arenas and number.
+abbrev pub StandForOne : Type 0
+StandForOne =
+    (s t : Sizes) (contents : List ℕ) (m k : CacheState) (a b : Arenas) (n l : ℕ)
+    → Stands s contents m a n → Stands t contents k b l
+    → (s ≡ t) × ((m ≡ k) × ((a ≡ b) × (n ≡ l)))

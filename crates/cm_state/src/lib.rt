@@ -4,4 +4,4 @@
 
 mod laws;
 
-pub use laws::changes_go_on;
+pub use laws::{changes_go_on, contents_determine_cache};
