@@ -1,3 +1,5 @@
 pub mod OneSlot
 pub mod Apart
 pub mod OneReading
+pub mod Joining
+pub mod Superblocks

@@ -6,3 +6,4 @@ pub mod Rows
 pub mod Rules
 pub mod Frames
 pub mod Laws
+pub mod Groups

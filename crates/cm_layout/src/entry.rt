@@ -20,6 +20,16 @@ pub enum Entry<P> {
 
 impl<P> Entry<P> {
     ghost use Rattle.cm_layout.specs.Slots.{entry_slot};
+    ghost use Rattle.cm_layout.specs.Rows.{slots_of};
+
+    /// How many slots it takes in its group.
+    pub fn slots(&self) -> usize
+        ensures { result ≡ slots_of self.now }
+    {
+        match self {
+            Entry::Live(_) | Entry::Unload(_) | Entry::Move(_) => 1,
+        }
+    }
 
     /// The slot of this entry. What is kept of a class beside its place has no part in it.
     pub fn encode(&self) -> [u8; SLOT_BYTES]

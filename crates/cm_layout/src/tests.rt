@@ -1,5 +1,7 @@
+use crate::carried::CarriedEntry;
 use crate::class_row::ClassRow;
 use crate::entry::Entry;
+use crate::group::Group;
 use crate::half::Half;
 use crate::heads::{GroupHead, HalfHead};
 use crate::loader_row::LoaderRow;
@@ -7,9 +9,10 @@ use crate::name::{SlotName, is_loader_name};
 use crate::offsets::{record_at, root_at, slot_at};
 use crate::relocation::Move;
 use crate::row::Row;
-use crate::superblock::encode_front;
+use crate::superblock::Superblock;
 use crate::unload::Unload;
 use cm_pool::{Chunk, Geometry, Place};
+use std::alloc::{AllocError, Global};
 use std::test::*;
 
 fn chunk(root: u32, order: u32, at: u32) -> Chunk {
@@ -119,14 +122,43 @@ fn names_of_49_bytes_are_refused(rt: HostRuntime) {
 }
 
 #[test]
-fn the_superblock_begins_with_its_magic(rt: HostRuntime) -> Result<(), Fail> {
+fn a_superblock_is_its_front_zeros_and_an_open_gate(rt: HostRuntime) -> Result<(), Fail> {
     let geometry = Geometry::new(8, 64, 4096).ok_or("within the limits")?;
-    let front = encode_front(geometry);
-    assert_eq!(rt; &front[..8], b"CMCACHE1".as_slice());
+    let bytes = Superblock { geometry }.encode(rt.alloc())?;
+    assert_eq!(rt; bytes.len(), 4_096);
+    assert_eq!(rt; &bytes[..8], b"CMCACHE1".as_slice());
     assert_eq!(rt;
-        &front[8..],
+        &bytes[8..24],
         [1, 0, 0, 0, 8, 0, 0, 0, 64, 0, 0, 0, 0, 16, 0, 0].as_slice()
     );
+    assert_eq!(rt; bytes[24..4_095].iter().all(|b| *b == 0), true);
+    assert_eq!(rt; bytes[4_095], 0xA5);
+    assert_eq!(rt; Superblock::decode(&bytes), Some(Superblock { geometry }));
+    Ok(())
+}
+
+#[test]
+fn a_superblock_has_no_other_spelling(rt: HostRuntime) -> Result<(), Fail> {
+    let geometry = Geometry::new(3, 1, 256).ok_or("within the limits")?;
+    let bytes = Superblock { geometry }.encode(rt.alloc())?;
+    // magic, version, a top of 2, no root, 257 slots' high byte, a byte among the zeros, the gate
+    for (at, byte) in [
+        (0, 0),
+        (8, 2),
+        (12, 2),
+        (16, 0),
+        (22, 1),
+        (2_000, 1),
+        (4_095, 0),
+    ] {
+        let mut changed = bytes.clone()?;
+        if let Some(there) = changed.get_mut(at) {
+            *there = byte;
+        }
+        assert_eq!(rt; Superblock::decode(&changed), None);
+    }
+    let (_, shorter) = bytes.split_last().ok_or("4,096 bytes")?;
+    assert_eq!(rt; Superblock::decode(shorter), None);
     Ok(())
 }
 
@@ -143,5 +175,64 @@ fn parts_lie_where_the_sizes_say(rt: HostRuntime) -> Result<(), Fail> {
         words: 20,
     };
     assert_eq!(rt; record_at(geometry, place), 528_384 + 8 * 272);
+    Ok(())
+}
+
+/// So many entries, the first of which has this number.
+fn group_of(alloc: Global, first: u64, count: u64) -> Result<Group, Fail> {
+    if first == 0 || first > 1_000 {
+        return Err("a first number from 1 to 1000".into());
+    }
+    let mut group = Group::new(alloc, first, unloading(alloc, 1))?;
+    for _ in 1..count {
+        push_one(alloc, &mut group);
+    }
+    Ok(group)
+}
+
+fn push_one(alloc: Global, group: &mut Group) -> bool {
+    let next = group.first() + group.count() as u64;
+    next <= 1 << 63 && group.push(unloading(alloc, 1)).is_ok()
+}
+
+fn unloading(alloc: Global, loader: u64) -> CarriedEntry {
+    CarriedEntry::unload(alloc, Unload { loader })
+}
+
+#[test]
+fn a_group_takes_64_entries_and_no_more(rt: HostRuntime) -> Result<(), Fail> {
+    let mut group = group_of(rt.alloc(), 5, 64)?;
+    assert_eq!(rt; group.count(), 64);
+    assert_eq!(rt; group.first(), 5);
+    assert_eq!(rt; group.learnt(), 0);
+    assert_eq!(rt; push_one(rt.alloc(), &mut group), false);
+    assert_eq!(rt; group.count(), 64);
+    Ok(())
+}
+
+#[test]
+fn groups_join_where_one_goes_on(rt: HostRuntime) -> Result<(), Fail> {
+    let alloc = rt.alloc();
+    // first number and length of two groups, what the second has learnt, and whether they join
+    let cases = [
+        (5, 3, 8, 2, 4, true),
+        (5, 3, 9, 2, 4, false),
+        (5, 3, 7, 2, 4, false),
+        (5, 3, 8, 2, 5, false),
+        (5, 32, 37, 32, 0, true),
+        (5, 32, 37, 33, 0, false),
+    ];
+    for (first, count, next, more, learnt, joins) in cases {
+        let mut group = group_of(alloc, first, count)?;
+        let mut other = group_of(alloc, next, more)?;
+        if learnt < other.first() {
+            other.set_learnt(learnt);
+        }
+        assert_eq!(rt; group.add(other).is_ok(), joins);
+        let entries = if joins { count + more } else { count };
+        assert_eq!(rt; group.count() as u64, entries);
+        assert_eq!(rt; group.first(), first);
+        assert_eq!(rt; group.learnt(), if joins { learnt } else { 0 });
+    }
     Ok(())
 }

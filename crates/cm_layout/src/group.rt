@@ -1,0 +1,132 @@
+//! Groups: what is handed from the accepted cache to its disk at once.
+
+ghost use Rattle.std.specs.Prelude.{◌≡◌, ◌+◌, ◌^◌, ◌<◌, ◌≤◌, ◌↔◌, ◌++◌, ◌∷◌, [], ℕ, List, length, IsOk, IfOk, IfErr, OnOk, OnErr, IsTrue};
+ghost use Rattle.cm_layout.specs.Groups.{IsGroup, GoesOn, joined, group_limit, slots_taken, next_number};
+
+use crate::carried::CarriedEntry;
+use std::alloc::{AllocError, Global};
+use std::marker::Model;
+
+/// How many slots a group's entries may take.
+pub const GROUP_SLOTS: usize = 64;
+
+/// Entries of one to 64 slots with numbers one behind another, each with the records that it writes:
+/// what the accepted cache hands to its disk at once. It has room for 64 entries from the start.
+#[derive(Drop)]
+pub struct Group {
+    first: u64,
+    learnt: u64,
+    slots: usize,
+    entries: Vec<CarriedEntry>,
+}
+
+impl Model for Group {
+    ghost use Rattle.std.specs.Prelude.{vec_capacity};
+    ghost use Rattle.cm_layout.specs.Groups.{Handed, KeepsGroup};
+
+    ghost Value = { Handed };
+
+    ghost view = { λ g. record { first = g.first; learnt = g.learnt; entries = g.entries.items } };
+
+    ghost invariant = { λ g. KeepsGroup (vec_capacity g.entries) g.slots
+        (record { first = g.first; learnt = g.learnt; entries = g.entries.items }) };
+}
+
+impl Group {
+    /// A group of one entry, which has this number. Nothing is learnt yet.
+    pub fn new(alloc: Global, number: u64, entry: CarriedEntry) -> Result<Group, AllocError>
+        requires from { 1 ≤ number }
+        requires to { number ≤ 2 ^ 63 }
+        ensures { IfOk result (λ g. g ≡ record { first = number; learnt = 0; entries = entry ∷ [] }) }
+    {
+        let mut entries = Vec::with_capacity(alloc, GROUP_SLOTS)?;
+        let slots = entry.slots();
+        entries.push(entry)?;
+        Ok(Group {
+            first: number,
+            learnt: 0,
+            slots,
+            entries,
+        })
+    }
+
+    /// The number of the first entry.
+    pub fn first(&self) -> u64
+        ensures value { result ≡ self.now.first }
+        ensures lawful { IsGroup self.now }
+    {
+        self.first
+    }
+
+    /// How many entries there are.
+    pub fn count(&self) -> usize
+        ensures { result ≡ length self.now.entries }
+    {
+        self.entries.len()
+    }
+
+    /// What the cache had learnt to be stored when it handed the group out.
+    pub fn learnt(&self) -> u64
+        ensures value { result ≡ self.now.learnt }
+        ensures below { result < self.now.first }
+    {
+        self.learnt
+    }
+
+    /// The entries in order.
+    pub fn entries(&self) -> &[CarriedEntry]
+        ensures { result.now ≡ self.now.entries }
+    {
+        &self.entries
+    }
+
+    /// One entry more, with the next number. It is handed back, and nothing is changed, exactly where
+    /// the group has no slots for it. Takes no memory.
+    pub fn push(&mut self, entry: CarriedEntry) -> Result<(), CarriedEntry>
+        requires number { next_number self.old ≤ 2 ^ 63 }
+        ensures room { IsOk result ↔ (slots_taken (self.old.entries ++ entry ∷ []) ≤ group_limit) }
+        ensures ok { OnOk result (self.new ≡ record { first = self.old.first; learnt = self.old.learnt; entries = self.old.entries ++ entry ∷ [] }) }
+        ensures err { IfErr result (λ back. (back ≡ entry) × (self.new ≡ self.old)) }
+    {
+        if self.slots + entry.slots() > GROUP_SLOTS {
+            return Err(entry);
+        }
+        self.slots += entry.slots();
+        self.entries.push(entry).unwrap();
+        Ok(())
+    }
+
+    /// The group as it is handed out, with what the cache has learnt by then.
+    pub fn set_learnt(&mut self, learnt: u64)
+        requires { learnt < self.old.first }
+        ensures { self.new ≡ record { first = self.old.first; learnt = learnt; entries = self.old.entries } }
+    {
+        self.learnt = learnt;
+    }
+
+    /// Joins another group to this one. It is handed back, and nothing is changed, where it doesn't
+    /// begin one past this group's last number, where what it knows to be stored isn't below this
+    /// group's first number, and where both have more than 64 slots. Takes no memory.
+    pub fn add(&mut self, mut other: Group) -> Result<(), Group>
+        ensures goes_on { IsOk result ↔ GoesOn self.old other }
+        ensures ok { OnOk result (self.new ≡ joined self.old other) }
+        ensures err { IfErr result (λ back. (back ≡ other) × (self.new ≡ self.old)) }
+    {
+        if !self.goes_on(&other) {
+            return Err(other);
+        }
+        self.learnt = self.learnt.max(other.learnt);
+        self.slots += other.slots;
+        self.entries.append(&mut other.entries).unwrap();
+        Ok(())
+    }
+
+    /// Whether another group goes on where this one ends, and one group holds both.
+    fn goes_on(&self, other: &Group) -> bool
+        ensures { IsTrue result ↔ GoesOn self.now other.now }
+    {
+        self.first + self.entries.len() as u64 == other.first
+            && other.learnt < self.first
+            && self.slots + other.slots <= GROUP_SLOTS
+    }
+}
