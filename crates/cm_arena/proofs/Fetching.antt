@@ -2,7 +2,7 @@
 use Rattle.std.proofs.Common.{◌≡◌, ℕ, ◌≤◌, inl, inr, ◌⊎◌, arith}
 use Rattle.cm_pool.specs.declared.chunk.Chunk.{Chunk}
 use Rattle.cm_pool.specs.FreeSpace.{FreeSpace, IsFreeChunk, HasFree, without}
-use Rattle.cm_pool.proofs.FreeWords.{has_free-smaller}
+use Rattle.cm_pool.proofs.SpaceLaws.{large_has_small}
 use Rattle.cm_arena.specs.Placing.{IsWanted, IsNeeded, Fetches}
 
 abbrev pub IsTaken : FreeSpace → ℕ → ℕ → Chunk → FreeSpace → Type 0
@@ -17,7 +17,7 @@ taken-left old new wanted need c (inl h) = h.left
 taken-left old new wanted need c (inr h) = h.left
 
 pub taken-has_free : (old new : FreeSpace) (wanted need : ℕ) (c : Chunk) → need ≤ wanted → IsTaken old wanted need c new → HasFree old need
-taken-has_free old new wanted need c le (inl h) = has_free-smaller old need wanted le (c, h.first.of_order, h.first.free)
+taken-has_free old new wanted need c le (inl h) = large_has_small old need wanted le (c, h.first.of_order, h.first.free)
 taken-has_free old new wanted need c le (inr h) = (c, h.first.of_order, h.first.free)
 
 -- a chunk that was fetched is of the order wanted or of the order needed, and has few words

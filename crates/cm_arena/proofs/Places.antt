@@ -5,8 +5,7 @@ use Rattle.cm_pool.specs.declared.chunk.Chunk.{Chunk}
 use Rattle.cm_pool.specs.FreeSpace.{FreeSpace, with_root}
 use Rattle.cm_pool.specs.Lists.{Among}
 use Rattle.cm_pool.specs.Held.{AreHeld, NoneIsLost}
-use Rattle.cm_pool.proofs.NoneLost.{none_lost-put, none_lost-with_root}
-use Rattle.cm_pool.proofs.HeldFacts.{held-put, held-with_root}
+use Rattle.cm_pool.proofs.SpaceLaws.{taken_is_held, roots_keep_held, taking_loses_none, roots_lose_none}
 use Rattle.cm_pool.specs.declared.place.Place.{Place}
 use Rattle.cm_arena.specs.Chains.{Filled, chunks_of, last_of, with_more, IsFilled}
 use Rattle.cm_pool.specs.Places.{IsInside}
@@ -53,10 +52,10 @@ place-inside chain new pool left words place filled some small (inr h) = (
 
 -- a fetched chunk is held with those that were
 fetched-held : (pool left : FreeSpace) (wanted need : ℕ) (c : Chunk) (mine others : List Chunk) → Fetches pool wanted need c left → AreHeld pool (mine ++ others) → AreHeld left (mine ++ c ∷ others)
-fetched-held pool left wanted need c mine others (inl h) held = subst (λ (p : FreeSpace). AreHeld p (mine ++ c ∷ others)) (sym h.left) (held-put pool mine c others held h.first.free)
-fetched-held pool left wanted need c mine others (inr (inl h)) held = subst (λ (p : FreeSpace). AreHeld p (mine ++ c ∷ others)) (sym h.left) (held-put pool mine c others held h.first.free)
+fetched-held pool left wanted need c mine others (inl h) held = subst (λ (p : FreeSpace). AreHeld p (mine ++ c ∷ others)) (sym h.left) (taken_is_held pool mine c others held h.first.free)
+fetched-held pool left wanted need c mine others (inr (inl h)) held = subst (λ (p : FreeSpace). AreHeld p (mine ++ c ∷ others)) (sym h.left) (taken_is_held pool mine c others held h.first.free)
 fetched-held pool left wanted need c mine others (inr (inr h)) held =
-    subst (λ (p : FreeSpace). AreHeld p (mine ++ c ∷ others)) (sym h.left) (held-put (with_root pool) mine c others (held-with_root pool (mine ++ others) held) h.first.free)
+    subst (λ (p : FreeSpace). AreHeld p (mine ++ c ∷ others)) (sym h.left) (taken_is_held (with_root pool) mine c others (roots_keep_held pool (mine ++ others) held) h.first.free)
 
 pub place-held : (chain new : List Filled) (pool left : FreeSpace) (words : ℕ) (place : Place) (others : List Chunk) → Places chain pool words place new left → AreHeld pool (chunks_of chain ++ others) → AreHeld left (chunks_of new ++ others)
 place-held chain new pool left words place others (inl (on, same)) held =
@@ -70,10 +69,10 @@ place-held chain new pool left words place others (inr h) held =
 
 -- and no word is lost
 fetched-none_lost : (pool left : FreeSpace) (wanted need : ℕ) (c : Chunk) (mine others : List Chunk) → Fetches pool wanted need c left → NoneIsLost pool (mine ++ others) → NoneIsLost left (mine ++ c ∷ others)
-fetched-none_lost pool left wanted need c mine others (inl h) kept = subst (λ (p : FreeSpace). NoneIsLost p (mine ++ c ∷ others)) (sym h.left) (none_lost-put pool mine c others kept h.first.free)
-fetched-none_lost pool left wanted need c mine others (inr (inl h)) kept = subst (λ (p : FreeSpace). NoneIsLost p (mine ++ c ∷ others)) (sym h.left) (none_lost-put pool mine c others kept h.first.free)
+fetched-none_lost pool left wanted need c mine others (inl h) kept = subst (λ (p : FreeSpace). NoneIsLost p (mine ++ c ∷ others)) (sym h.left) (taking_loses_none pool mine c others kept h.first.free)
+fetched-none_lost pool left wanted need c mine others (inr (inl h)) kept = subst (λ (p : FreeSpace). NoneIsLost p (mine ++ c ∷ others)) (sym h.left) (taking_loses_none pool mine c others kept h.first.free)
 fetched-none_lost pool left wanted need c mine others (inr (inr h)) kept =
-    subst (λ (p : FreeSpace). NoneIsLost p (mine ++ c ∷ others)) (sym h.left) (none_lost-put (with_root pool) mine c others (none_lost-with_root pool (mine ++ others) kept) h.first.free)
+    subst (λ (p : FreeSpace). NoneIsLost p (mine ++ c ∷ others)) (sym h.left) (taking_loses_none (with_root pool) mine c others (roots_lose_none pool (mine ++ others) kept) h.first.free)
 
 pub place-none_lost : (chain new : List Filled) (pool left : FreeSpace) (words : ℕ) (place : Place) (others : List Chunk) → Places chain pool words place new left → NoneIsLost pool (chunks_of chain ++ others) → NoneIsLost left (chunks_of new ++ others)
 place-none_lost chain new pool left words place others (inl (on, same)) kept =

@@ -11,3 +11,4 @@ pub mod ChunkLaws
 pub mod HeldFacts
 pub mod Largest
 pub mod NoneLost
+pub mod SpaceLaws

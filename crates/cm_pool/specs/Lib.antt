@@ -6,3 +6,4 @@ pub mod Held
 pub mod Blocks
 pub mod Laws
 pub mod Places
+pub mod SpaceLaws

@@ -1,5 +1,6 @@
 // What all of a pool rests on, as laws of the definitions that its contracts cite.
 ghost use Rattle.cm_pool.specs.Laws.{NestedOrApart, HalvesMakeWhole, GivingBackRestores, OneListOfLargest};
+ghost use Rattle.cm_pool.specs.SpaceLaws.{TakenIsUsed, TakenIsHeld, HeldIsGiven, RootsKeepHeld, TakingLosesNone, RootsLoseNone, RootsAreFree, LargeHasSmall};
 
 /// Of two chunks of a region one is a part of the other, or they share no word.
 pub fn nested_or_apart()
@@ -19,4 +20,28 @@ pub fn giving_back_restores()
 /// Whatever words are free, there is exactly one list of the largest free chunks.
 pub fn one_list_of_largest()
     ensures { OneListOfLargest }
+{}
+
+/// What is taken is used, and can be held with what was held before; what is held can be given back.
+pub fn held_chunks_come_and_go()
+    ensures used { TakenIsUsed }
+    ensures held { TakenIsHeld }
+    ensures given { HeldIsGiven }
+{}
+
+/// No word is lost where a chunk is taken and kept.
+pub fn taking_loses_none()
+    ensures { TakingLosesNone }
+{}
+
+/// A new root has free chunks of each order. What was held stays held, and no word is lost.
+pub fn roots_are_free()
+    ensures free { RootsAreFree }
+    ensures held { RootsKeepHeld }
+    ensures none_lost { RootsLoseNone }
+{}
+
+/// Where a chunk is free, there are free ones of each smaller order.
+pub fn large_has_small()
+    ensures { LargeHasSmall }
 {}

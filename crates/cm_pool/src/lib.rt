@@ -1,4 +1,5 @@
-//! The chunks of a class metadata cache's region, and the pool that hands them out (the buddy scheme of OpenJDK JEP 387).
+//! The chunks of a class metadata cache's region, and the pool that hands them out (the buddy scheme
+//! of OpenJDK JEP 387).
 #![tactic(auto)]
 
 mod block;
@@ -11,7 +12,10 @@ mod pool;
 
 pub use chunk::Chunk;
 pub use geometry::Geometry;
-pub use laws::{giving_back_restores, halves_make_whole, nested_or_apart, one_list_of_largest};
+pub use laws::{
+    giving_back_restores, halves_make_whole, held_chunks_come_and_go, large_has_small,
+    nested_or_apart, one_list_of_largest, roots_are_free, taking_loses_none,
+};
 pub use place::Place;
 pub use pool::Pool;
 

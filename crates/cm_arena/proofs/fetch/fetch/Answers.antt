@@ -2,7 +2,7 @@ use Rattle.std.proofs.Common.{◌≡◌, ◌≤◌, sym, ap, ◌∙◌, subst, c
 use Rattle.std.specs.Option.{is_some}
 use Rattle.std.proofs.lemmas.Bool.{true_from_ne_false}
 use Rattle.cm_pool.specs.FreeSpace.{FreeSpace, IsUsedChunk, HasFree, with_chunk, with_root}
-use Rattle.cm_pool.proofs.FreeWords.{used-without, restores, root-has_free}
+use Rattle.cm_pool.proofs.SpaceLaws.{taken_is_used, giving_back_restores, roots_are_free}
 use Rattle.cm_arena.proofs.Fetching.{taken-free, taken-left, taken-has_free}
 use Rattle.cm_arena.proofs.fetch.fetch.Goals as goal
 
@@ -12,7 +12,7 @@ give-requires c =
     let chunk = c.in-Some.chunk in
     let taken = c.in-Some.ensures.some in
     subst (λ (p : FreeSpace). IsUsedChunk p chunk) (sym (taken-left old c.first_of.new.pool c.args.wanted c.args.need chunk taken))
-    (used-without old chunk (taken-free old c.first_of.new.pool c.args.wanted c.args.need chunk taken))
+    (taken_is_used old chunk (taken-free old c.first_of.new.pool c.args.wanted c.args.need chunk taken))
 
 pub returns-then-not-keeps-clause-full : goal.returns-then-not-keeps-clause-full
 returns-then-not-keeps-clause-full c = (
@@ -27,7 +27,7 @@ returns-then-not-keeps-clause-err c =
     let taken = c.in-Some.ensures.some in
     c.give.ensures
     ∙ ap (λ p. with_chunk p chunk) (taken-left old c.first_of.new.pool c.args.wanted c.args.need chunk taken)
-    ∙ restores old chunk (taken-free old c.first_of.new.pool c.args.wanted c.args.need chunk taken)
+    ∙ giving_back_restores old chunk (taken-free old c.first_of.new.pool c.args.wanted c.args.need chunk taken)
 
 pub returns-in-Some-clause-full : goal.returns-in-Some-clause-full
 returns-in-Some-clause-full c = (
@@ -41,5 +41,5 @@ unwrap-requires c =
     let grown : c.add_root.new.self ≡ with_root before = c.in-Ok-true.ensures.left ∙ ap (λ b. cond b (with_root before) before) c.in-Ok-true.field-0-test in
     let same : before ≡ c.args.pool.now = c.in_default.ensures.none.2 in
     let wanted : c.args.wanted ≤ before.geometry.top = subst (λ (p : FreeSpace). c.args.wanted ≤ p.geometry.top) (sym same) c.requires.wanted in
-    let has = subst (λ (p : FreeSpace). HasFree p c.args.wanted) (sym grown) (root-has_free before c.args.wanted wanted) in
+    let has = subst (λ (p : FreeSpace). HasFree p c.args.wanted) (sym grown) (roots_are_free before c.args.wanted wanted) in
     true_from_ne_false (is_some c.alloc.result) (λ e. c.alloc.ensures.none.0 e has)

@@ -1,7 +1,6 @@
-use Rattle.std.proofs.Common.{◌≡◌, ℕ, ◌^◌, ◌≤◌, List, [], ◌∷◌, ◌++◌, length, refl, sym, ap, ◌∙◌, subst, inl, inr, arith, length-append}
+use Rattle.std.proofs.Common.{◌≡◌, ℕ, ◌*◌, ◌%◌, ◌^◌, ◌<◌, ◌≤◌, List, [], ◌∷◌, ◌++◌, length, refl, sym, ap, ◌∙◌, subst, inl, inr, arith, length-append}
 use Rattle.std.specs.List.{AllByRecursion}
-use Rattle.std.proofs.Math.Nat.{pow-le-pow_right}
-use Rattle.cm_pool.proofs.Places.{size-fits}
+use Rattle.std.proofs.Math.Nat.{pow-le-pow_right, mod-eq_of_lt}
 use Rattle.cm_pool.specs.declared.chunk.Chunk.{Chunk}
 use Rattle.cm_pool.specs.Geometry.{Sizes}
 use Rattle.cm_pool.specs.Chunks.{chunk_size}
@@ -17,7 +16,8 @@ pub order_for-need-requires : goal.order_for-need-requires
 order_for-need-requires c =
     let small : c.top-top.result ≤ 12 = omega (arith, c.top-top.ensures.value, c.top-top.ensures.within.top_to) in
     let size : 2 ^ c.top-top.result ≤ 2 ^ 12 = pow-le-pow_right {n = 2} (omega arith) small in
-    omega (arith, size-fits c.top-top.result small)
+    let fits : 128 * 2 ^ c.top-top.result % 2 ^ 32 ≡ 128 * 2 ^ c.top-top.result = mod-eq_of_lt (omega arith) in
+    omega arith
 
 chunks : (c : After-append) → c.append.new.chunks.items ≡ c.self.inside.chunks.items ++ c.in_ok-chunk.chunk ∷ []
 chunks c = c.append.ensures.chunks ∙ ap (λ (cs : List Chunk). cs ++ c.in_ok-chunk.chunk ∷ []) c.reserve_one-keeps.ensures.chunks
