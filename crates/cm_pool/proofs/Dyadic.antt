@@ -1,11 +1,11 @@
 -- Blocks of the tree of halves: where they start and stop, their halves, and what lies inside what.
-use Rattle.std.proofs.Common.{◌≡◌, ℕ, suc, ◌+◌, ◌-◌, ◌*◌, ◌/◌, ◌^◌, ◌<◌, ◌≤◌, true, ◌||◌, eqb, refl, sym, ap, ◌∙◌, subst, inl, inr, ◌⊎◌, arith}
+use Rattle.std.proofs.Common.{◌≡◌, ℕ, suc, ◌+◌, ◌-◌, ◌*◌, ◌/◌, ◌%◌, ◌^◌, ◌<◌, ◌≤◌, Bool, true, false, cond, ◌||◌, eqb, refl, sym, ap, ◌∙◌, subst, inl, inr, ◌⊎◌, arith}
 use Rattle.std.proofs.lemmas.Nat.{pow_pos, shr-shr}
-use Rattle.std.proofs.lemmas.Bool.{eqb-true, eq-eqb, cases_eq}
+use Rattle.std.proofs.lemmas.Bool.{eqb-true, eq-eqb, ne_eqb, cases_eq, or_left, or_right}
 use Rattle.std.proofs.lemmas.Bool.Decides.{nat_tests}
-use Rattle.std.proofs.Math.Nat.{div-mul-le_self, lt-div-mul-add, div-eq_of_lt-le, two-pow-succ}
+use Rattle.std.proofs.Math.Nat.{div-mul-le_self, lt-div-mul-add, div-eq_of_lt-le, two-pow-succ, mul-le-mul_left}
 use Rattle.cm_pool.specs.declared.block.Block.{Block}
-use Rattle.cm_pool.specs.Blocks.{is_in, start, stop, Inside, AreHalves, left_half, right_half, block_above}
+use Rattle.cm_pool.specs.Blocks.{is_in, start, stop, Inside, left_half, right_half, other_half, block_above}
 
 pub is_in-bounds : (b : Block) (g : ℕ) → is_in b g ≡ true → (start b ≤ g) × (g < stop b)
 is_in-bounds b g h =
@@ -77,7 +77,7 @@ inside-from_shared w b g le in_w in_b =
       same_part = ap (λ x. x / 2 ^ (b.order - w.order)) (sym part) ∙ shr-shr g w.order (b.order - w.order) ∙ ap (λ k. g / 2 ^ k) (sym order) ∙ whole;
     }
 
-same_block : (a b : Block) → a.index ≡ b.index → a.order ≡ b.order → a ≡ b
+pub same_block : (a b : Block) → a.index ≡ b.index → a.order ≡ b.order → a ≡ b
 same_block a b e f = λ i. record { index = e i; order = f i }
 
 pub inside-same_order : (w b : Block) → Inside w b → w.order ≡ b.order → w ≡ b
@@ -99,48 +99,108 @@ inside-half w b h lt =
       | inr n ↦ inr (record { smaller = omega arith; same_part = omega arith })
     ]
 
--- halves touch
-pub halves-touch : (a b : Block) → AreHalves a b → stop a ≡ start b
-halves-touch a b h =
-    let order : 2 ^ a.order ≡ 2 ^ b.order = ap (λ k. 2 ^ k) h.same_order in
-    let touch : stop a ≡ (a.index + 1) * 2 ^ a.order = omega arith in
-    touch ∙ (λ i. (sym h.right) i * order i)
+-- the other half
+pub other-order : (b : Block) → (other_half b).order ≡ b.order
+unfolding other_half
+other-order b = refl
 
--- the block above two halves is both of them
-pub is_in-block_above : (a b : Block) (g : ℕ) → AreHalves a b → is_in (block_above a) g ≡ (is_in a g || is_in b g)
+pub other-index : (b : Block) → ((b.index % 2 ≡ 0) × ((other_half b).index ≡ b.index + 1)) ⊎ ((b.index % 2 ≡ 1) × ((other_half b).index + 1 ≡ b.index))
+unfolding other_half
+other-index b =
+    elim (cases_eq (b.index % 2) 0) [
+      | inl even ↦ inl (even, ap (λ t. cond t (b.index + 1) (b.index - 1)) (eq-eqb (b.index % 2) 0 even))
+      | inr odd ↦
+          let one : b.index % 2 ≡ 1 = omega arith in
+          let before : b.index - 1 + 1 ≡ b.index = omega arith in
+          inr (one, ap (λ t. cond t (b.index + 1) (b.index - 1) + 1) (ne_eqb (b.index % 2) 0 odd) ∙ before)
+    ]
+
+pub other-other : (b : Block) → other_half (other_half b) ≡ b
+other-other b =
+    same_block (other_half (other_half b)) b
+    (elim (other-index b) [
+      | inl (even, next) ↦ elim (other-index (other_half b)) [
+        | inl (parity, after) ↦ absurd (omega arith)
+        | inr (parity, after) ↦ omega arith
+      ]
+      | inr (odd, before) ↦ elim (other-index (other_half b)) [
+        | inl (parity, after) ↦ omega arith
+        | inr (parity, after) ↦ absurd (omega arith)
+      ]
+    ])
+    (other-order (other_half b) ∙ other-order b)
+
+or_turned : (a b : Bool) → (a || b) ≡ (b || a)
+or_turned true true = refl
+or_turned true false = refl
+or_turned false true = refl
+or_turned false false = refl
+
+-- the block above is both halves
+pub in-above : (b : Block) (g : ℕ) → is_in (block_above b) g ≡ (is_in b g || is_in (other_half b) g)
 unfolding block_above
-is_in-block_above a b g h =
-    let left : 2 * (a.index / 2) ≡ a.index = omega (arith, h.left) in
-    let right : 2 * (a.index / 2) + 1 ≡ b.index = omega (arith, h.left, h.right) in
-    ap (λ x. eqb x (a.index / 2)) (sym (shr-shr g a.order 1))
-    ∙ half_eq (g / 2 ^ a.order) (a.index / 2)
-    ∙ (λ i. eqb (g / 2 ^ a.order) (left i) || eqb (g / 2 ^ (h.same_order i)) (right i))
+in-above b g =
+    let part = g / 2 ^ b.order in
+    let both : eqb (g / 2 ^ (b.order + 1)) (b.index / 2) ≡ (eqb part (2 * (b.index / 2)) || eqb part (2 * (b.index / 2) + 1)) =
+    ap (λ x. eqb x (b.index / 2)) (sym (shr-shr g b.order 1)) ∙ half_eq part (b.index / 2)
+    in
+    let order : eqb (g / 2 ^ (other_half b).order) (other_half b).index ≡ eqb part (other_half b).index = ap (λ k. eqb (g / 2 ^ k) (other_half b).index) (other-order b) in
+    elim (other-index b) [
+      | inl (even, next) ↦
+          let here : 2 * (b.index / 2) ≡ b.index = omega arith in
+          let there : 2 * (b.index / 2) + 1 ≡ (other_half b).index = omega arith in
+          both ∙ (λ i. eqb part (here i) || eqb part (there i)) ∙ ap (λ t. eqb part b.index || t) (sym order)
+      | inr (odd, before) ↦
+          let here : 2 * (b.index / 2) + 1 ≡ b.index = omega arith in
+          let there : 2 * (b.index / 2) ≡ (other_half b).index = omega arith in
+          both ∙ (λ i. eqb part (there i) || eqb part (here i)) ∙ or_turned (eqb part (other_half b).index) (eqb part b.index)
+          ∙ ap (λ t. eqb part b.index || t) (sym order)
+    ]
 
-pub above-halves : (a b : Block) → AreHalves a b → block_above b ≡ block_above a
-unfolding block_above
-above-halves a b h = same_block (block_above b) (block_above a) (omega (arith, h.left, h.right)) (omega (arith, h.same_order))
+pub apart-other : (b : Block) (g : ℕ) → is_in b g ≡ true → is_in (other_half b) g ≡ true → ⊥
+apart-other b g here there =
+    let mine : g / 2 ^ b.order ≡ b.index = eqb-true _ _ here in
+    let its : g / 2 ^ b.order ≡ (other_half b).index = ap (λ k. g / 2 ^ k) (sym (other-order b)) ∙ eqb-true _ _ there in
+    elim (other-index b) [
+      | inl (even, next) ↦ absurd (omega arith)
+      | inr (odd, before) ↦ absurd (omega arith)
+    ]
 
-pub start-block_above : (a b : Block) → AreHalves a b → start (block_above a) ≡ start a
-unfolding block_above
-start-block_above a b h =
-    let left : 2 * (a.index / 2) ≡ a.index = omega (arith, h.left) in
-    let size : 2 ^ (a.order + 1) ≡ 2 ^ a.order + 2 ^ a.order = ap (λ k. 2 ^ k) (omega arith) ∙ two-pow-succ a.order in
-    omega (arith, ap (λ s. a.index / 2 * s) size, ap (λ i. i * 2 ^ a.order) left)
+pub other-left : (b : Block) → other_half (left_half b) ≡ right_half b
+unfolding left_half right_half other_half
+other-left b =
+    let even : 2 * b.index % 2 ≡ 0 = omega arith in
+    same_block _ _ (ap (λ t. cond t (2 * b.index + 1) (2 * b.index - 1)) (eq-eqb (2 * b.index % 2) 0 even)) refl
 
-pub stop-block_above : (a b : Block) → AreHalves a b → stop (block_above a) ≡ stop b
-unfolding block_above
-stop-block_above a b h =
-    let size : 2 ^ (a.order + 1) ≡ 2 ^ a.order + 2 ^ a.order = ap (λ k. 2 ^ k) (omega arith) ∙ two-pow-succ a.order in
-    let order : 2 ^ a.order ≡ 2 ^ b.order = ap (λ k. 2 ^ k) h.same_order in
-    omega (arith, start-block_above a b h, halves-touch a b h, size, order)
+pub other-right : (b : Block) → other_half (right_half b) ≡ left_half b
+unfolding left_half right_half other_half
+other-right b =
+    let odd : (2 * b.index + 1) % 2 ≡ 0 → ⊥ = λ e. absurd (omega arith) in
+    let before : 2 * b.index + 1 - 1 ≡ 2 * b.index = omega arith in
+    same_block _ _ (ap (λ t. cond t (2 * b.index + 1 + 1) (2 * b.index + 1 - 1)) (ne_eqb ((2 * b.index + 1) % 2) 0 odd) ∙ before) refl
 
--- what is as long as a half of b, and lies in b, with the block above it, is no more than b
-pub inside-above : (b c : Block) → Inside (left_half b) c → b.order ≤ c.order → 0 < b.order → Inside b c
+pub order-left : (b : Block) → (left_half b).order ≡ b.order - 1
 unfolding left_half
-inside-above b c h le pos =
-    inside-from_shared b c (start b) le (is_in-start b)
-    (inside-is_in (left_half b) c (start b) h (subst (λ g. is_in (left_half b) g ≡ true) (start-left_half b pos) (is_in-start (left_half b))))
+order-left b = refl
+
+pub order-right : (b : Block) → (right_half b).order ≡ b.order - 1
+unfolding right_half
+order-right b = refl
 
 pub order-block_above : (b : Block) → (block_above b).order ≡ b.order + 1
 unfolding block_above
 order-block_above b = refl
+
+-- what holds one half and is longer holds the block above
+pub inside-above : (b c : Block) → Inside b c → b.order < c.order → Inside (block_above b) c
+inside-above b c h lt =
+    inside-from_shared (block_above b) c (start b) (omega (arith, order-block_above b))
+    (in-above b (start b) ∙ or_left (is_in b (start b)) _ (is_in-start b)) (inside-is_in b c (start b) h (is_in-start b))
+
+pub inside-other : (b c : Block) → Inside b c → b.order < c.order → (g : ℕ) → is_in (other_half b) g ≡ true → is_in c g ≡ true
+inside-other b c h lt g e =
+    inside-is_in (block_above b) c g (inside-above b c h lt) (in-above b g ∙ or_right (is_in b g) _ e)
+
+-- a block that lies low has a low index
+pub index-below : (b : Block) (limit : ℕ) → start b < limit → b.index < limit
+index-below b limit h = omega (arith, mul-le-mul_left b.index (pow_pos b.order))

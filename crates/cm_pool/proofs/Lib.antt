@@ -1,12 +1,13 @@
 pub mod Lists
 pub mod Dyadic
-pub mod FreeLists
-pub mod Holes
-pub mod Joins
+pub mod Marks
+pub mod Trees
 pub mod FreeWords
 pub mod Spaces
 pub mod Places
 pub mod Pools
+pub mod Emptiness
+pub mod Firsts
 pub mod ChunkLaws
 pub mod HeldFacts
 pub mod Largest

@@ -1,22 +1,14 @@
--- How the pool keeps its free words: a list of blocks in order, as large as they can be.
--- No public contract speaks of these; they are the invariant behind `Pool`.
-use Rattle.std.specs.Prelude.{◌≡◌, ℕ, ◌+◌, ◌-◌, ◌*◌, ◌/◌, ◌%◌, ◌^◌, ◌<◌, ◌≤◌, ◌==◌, Bool, true, List, ◌++◌, ◌⊎◌, length, slice_index_or}
-use Rattle.std.specs.List.{AllByRecursion, list_any, range_with_len, flat_map}
-use Rattle.std.specs.FinSet.{from_list}
+-- Blocks of the tree of halves over all roots, counted in granules of 128 words.
+-- No public contract speaks of them.
+use Rattle.std.specs.Prelude.{◌≡◌, ℕ, ◌+◌, ◌-◌, ◌*◌, ◌/◌, ◌%◌, ◌^◌, ◌≤◌, ◌==◌, Bool, if◌then◌else◌}
 use Rattle.cm_pool.specs.declared.block.Block.{Block}
 use Rattle.cm_pool.specs.declared.chunk.Chunk.{Chunk}
-use Rattle.cm_pool.specs.Geometry.{Sizes, IsGeometry}
 use Rattle.cm_pool.specs.Chunks.{chunk_size}
-use Rattle.cm_pool.specs.FreeSpace.{FreeSpace, word_number}
-use Rattle.cm_pool.specs.Lists.{Pairwise}
+use Rattle.cm_pool.specs.FreeSpace.{word_number}
 
 -- the granule g is one of the block's
 abbrev pub is_in : Block → ℕ → Bool
 is_in b g = (g / 2 ^ b.order) == b.index
-
--- the granule g is in one of the blocks
-abbrev pub is_covered : List Block → ℕ → Bool
-is_covered bs g = list_any (λ b. is_in b g) bs
 
 -- the block's first granule, and the one behind its last
 abbrev pub start : Block → ℕ
@@ -30,12 +22,6 @@ pub record Inside (w b : Block) : Type 0 where
   pub smaller : w.order ≤ b.order
   pub same_part : w.index / 2 ^ (b.order - w.order) ≡ b.index
 
--- a and b are the left and the right half of one block
-pub record AreHalves (a b : Block) : Type 0 where
-  pub same_order : a.order ≡ b.order
-  pub left : a.index % 2 ≡ 0
-  pub right : b.index ≡ a.index + 1
-
 -- the halves of a block, and the block whose half this is
 unfoldable pub left_half : Block → Block
 left_half b = record { index = 2 * b.index; order = b.order - 1 }
@@ -46,48 +32,9 @@ right_half b = record { index = 2 * b.index + 1; order = b.order - 1 }
 unfoldable pub block_above : Block → Block
 block_above b = record { index = b.index / 2; order = b.order + 1 }
 
--- a lies before b, and where they are the halves of a block of order at most top, that one would stand in their place
-pub record Apart (top : ℕ) (a b : Block) : Type 0 where
-  pub before : stop a ≤ start b
-  pub unjoined : a.order < top → ¬ AreHalves a b
-
--- blocks of order at most top, in order, none of which could be larger
-pub record IsFreeList (top : ℕ) (bs : List Block) : Type 0 where
-  pub apart : Pairwise (Apart top) bs
-  pub small : AllByRecursion (λ b. b.order ≤ top) bs
-
--- such a list, front ++ back, from which a block between the two was taken
-pub record IsHole (top : ℕ) (front : List Block) (b : Block) (back : List Block) : Type 0 where
-  pub rest : IsFreeList top (front ++ back)
-  pub small : b.order ≤ top
-  pub before : AllByRecursion (λ x. stop x ≤ start b) front
-  pub behind : AllByRecursion (λ x. stop b ≤ start x) back
-
--- the half of b stands at k, beside the place `at` of b
-pub record IsHalfBeside (bs : List Block) (k at : ℕ) (b : Block) : Type 0 where
-  pub within : k < length bs
-  pub halves : ((k + 1 ≡ at) × AreHalves (slice_index_or bs k b) b) ⊎ ((k ≡ at) × AreHalves b (slice_index_or bs k b))
-
--- none of the two blocks beside the place `at` is a half of b
-pub record HasNoHalfBeside (bs : List Block) (at : ℕ) (b : Block) : Type 0 where
-  pub left : 0 < at → ¬ AreHalves (slice_index_or bs (at - 1) b) b
-  pub right : at < length bs → ¬ AreHalves b (slice_index_or bs at b)
-
--- the numbers of the block's words
-abbrev pub block_words : Block → List ℕ
-block_words b = range_with_len (b.index * chunk_size b.order) (chunk_size b.order)
-
--- what a pool of these sizes, with these roots and blocks, is seen as
-abbrev pub space_of : Sizes → ℕ → List Block → FreeSpace
-space_of sizes roots bs = record { geometry = sizes; roots = roots; free = from_list (flat_map block_words bs) }
-
--- what a pool keeps
-pub record IsPool (sizes : Sizes) (roots capacity : ℕ) (bs : List Block) : Type 0 where
-  pub sizes_ok : IsGeometry sizes
-  pub few_roots : roots ≤ sizes.roots
-  pub listed : IsFreeList sizes.top bs
-  pub present : (g : ℕ) → is_covered bs g ≡ true → g < roots * 2 ^ sizes.top
-  pub room : sizes.roots * 2 ^ sizes.top ≤ 2 * capacity
+-- the other half of that one: the block's buddy
+unfoldable pub other_half : Block → Block
+other_half b = record { index = if b.index % 2 == 0 then b.index + 1 else b.index - 1; order = b.order }
 
 -- the block has the chunk's words
 pub record IsSame (top : ℕ) (c : Chunk) (b : Block) : Type 0 where

@@ -4,6 +4,7 @@ pub mod FreeSpace
 pub mod Lists
 pub mod Held
 pub mod Blocks
+pub mod Rows
 pub mod Laws
 pub mod Places
 pub mod SpaceLaws

@@ -13,7 +13,7 @@ pub struct Block {
 
 impl Block {
     ghost use Rattle.cm_pool.specs.Chunks.{IsBlock};
-    ghost use Rattle.cm_pool.specs.Blocks.{start, stop, IsSame, Inside, AreHalves, left_half, right_half, block_above};
+    ghost use Rattle.cm_pool.specs.Blocks.{start, stop, IsSame, Inside, left_half, right_half, other_half, block_above};
 
     /// The block's first granule.
     pub fn start(self) -> u64
@@ -64,11 +64,33 @@ impl Block {
         }
     }
 
-    /// Whether the two are the left and the right half of one block.
-    pub fn are_halves(left: Block, right: Block) -> bool
-        ensures { IsTrue result ↔ AreHalves left right }
+    /// The other half of the block above.
+    #[tactic(auto, unfolding(crate::specs::Blocks::other_half))]
+    pub fn other_half(self) -> Block
+        ensures { result ≡ other_half self }
     {
-        left.order == right.order && left.index % 2 == 0 && left.index + 1 == right.index
+        let index = if self.index % 2 == 0 {
+            self.index + 1
+        } else {
+            self.index - 1
+        };
+        Block {
+            index,
+            order: self.order,
+        }
+    }
+
+    /// The block of a larger order that this one lies in.
+    pub fn around(self, order: u32) -> Block
+        requires within { self.order ≤ order }
+        requires small { order ≤ 12 }
+        ensures order { result.order ≡ order }
+        ensures inside { Inside self result }
+    {
+        Block {
+            index: self.index >> (order - self.order),
+            order,
+        }
     }
 
     /// The first block of an order in this one.

@@ -4,11 +4,11 @@
 
 mod block;
 mod chunk;
-mod free_list;
 mod geometry;
 mod laws;
 mod place;
 mod pool;
+mod rows;
 
 pub use chunk::Chunk;
 pub use geometry::Geometry;
@@ -18,6 +18,3 @@ pub use laws::{
 };
 pub use place::Place;
 pub use pool::Pool;
-
-#[cfg(test)]
-mod tests;

@@ -4,8 +4,9 @@ ghost use Rattle.std.specs.FinSet as set;
 
 use crate::block::Block;
 use crate::chunk::Chunk;
-use crate::free_list::{first_of_order, give_back, holder_of, take_at};
 use crate::geometry::Geometry;
+use crate::rows::{empty_rows, first_of_order, give_back, holder_of, mark, take_out};
+use cm_bits::Row;
 use std::alloc::{AllocError, Global};
 use std::marker::Model;
 
@@ -18,21 +19,20 @@ use std::marker::Model;
 pub struct Pool {
     geometry: Geometry,
     roots: u32,
-    free: Vec<Block>,
+    rows: Vec<Row>,
 }
 
 impl Model for Pool {
-    ghost use Rattle.std.specs.Prelude.{vec_capacity};
     ghost use Rattle.cm_pool.specs.FreeSpace.{FreeSpace, free_space_code};
-    ghost use Rattle.cm_pool.specs.Blocks.{space_of, IsPool};
+    ghost use Rattle.cm_pool.specs.Rows.{space_of, IsPool};
 
     ghost Value = { FreeSpace };
 
     ghost coded = { free_space_code };
 
-    ghost view = { λ p. space_of p.geometry p.roots p.free.items };
+    ghost view = { λ p. space_of p.geometry p.roots p.rows.items };
 
-    ghost invariant = { λ p. IsPool p.geometry p.roots (vec_capacity p.free) p.free.items };
+    ghost invariant = { λ p. IsPool p.geometry p.roots p.rows.items };
 }
 
 impl Pool {
@@ -42,12 +42,11 @@ impl Pool {
     pub fn new(alloc: Global, geometry: Geometry) -> Result<Pool, AllocError>
         ensures { IfOk result (λ p. p ≡ record { geometry = geometry; roots = 0; free = set.empty }) }
     {
-        let room = (geometry.roots() as usize) << (geometry.top() - 1);
-        let free = Vec::with_capacity(alloc, room)?;
+        let rows = empty_rows(alloc, geometry)?;
         Ok(Pool {
             geometry,
             roots: 0,
-            free,
+            rows,
         })
     }
 
@@ -80,7 +79,7 @@ impl Pool {
             index: self.roots,
             order: self.geometry.top(),
         };
-        self.free.push(root)?;
+        mark(&mut self.rows, root);
         self.roots += 1;
         Ok(true)
     }
@@ -94,9 +93,9 @@ impl Pool {
         ensures left { MatchOption result (self.new ≡ self.old) (λ chunk. self.new ≡ without self.old chunk) }
     {
         let top = self.geometry.top();
-        let at = first_of_order(&self.free, order)?;
-        let wanted = self.free[at].first(order);
-        take_at(&mut self.free, at, wanted);
+        let from = first_of_order(&self.rows, order)?;
+        let wanted = from.first(order);
+        take_out(&mut self.rows, from, wanted);
         Some(wanted.to_chunk(top))
     }
 
@@ -110,10 +109,10 @@ impl Pool {
             return false;
         }
         let wanted = Block::of_chunk(chunk, self.geometry.top());
-        let Some(at) = holder_of(&self.free, wanted) else {
+        let Some(from) = holder_of(&self.rows, wanted) else {
             return false;
         };
-        take_at(&mut self.free, at, wanted);
+        take_out(&mut self.rows, from, wanted);
         true
     }
 
@@ -124,6 +123,6 @@ impl Pool {
     {
         let top = self.geometry.top();
         let block = Block::of_chunk(&chunk, top);
-        give_back(&mut self.free, top, block);
+        give_back(&mut self.rows, top, block);
     }
 }

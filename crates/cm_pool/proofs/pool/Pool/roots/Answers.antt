@@ -1,5 +1,4 @@
 use Rattle.std.proofs.Common.{ap, subst}
-use Rattle.std.specs.Vec.{vec_capacity}
 use Rattle.cm_pool.specs.FreeSpace.{FreeSpace, IsFreeSpace}
 use Rattle.cm_pool.proofs.Pools.{lawful}
 use Rattle.cm_pool.proofs.pool.Pool.roots.Goals as goal
@@ -10,4 +9,4 @@ returns-clause-value c = ap (λ (p : FreeSpace). p.roots) c.self.view_is
 pub returns-clause-lawful : goal.returns-clause-lawful
 returns-clause-lawful c =
     let a = c.self.inside in
-    subst IsFreeSpace c.self.view_is (lawful a.geometry a.roots (vec_capacity a.free) a.free.items c.self.invariant)
+    subst IsFreeSpace c.self.view_is (lawful a.geometry a.roots a.rows.items c.self.invariant)
