@@ -49,7 +49,7 @@ pub struct Tally {
 }
 
 impl Tally {
-    fn add(&mut self, found: bool) {
+    pub fn add(&mut self, found: bool) {
         self.calls = self.calls.saturating_add(1);
         self.found = self.found.saturating_add(usize::from(found));
     }

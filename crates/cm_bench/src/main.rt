@@ -1,11 +1,14 @@
-//! `cm_bench`: what reading, judging and recording class files costs.
+//! `cm_bench`: what reading, judging and recording class files costs, and what a crowded pool
+//! does.
 //!
 //! It reads class files from standard input, each behind its length in four bytes, and runs the
-//! reader, the rules and the records over them. Without `--passes` it prints counts alone.
+//! reader, the rules and the records over them, and then both bodies of a pool. Without `--passes`
+//! it prints counts alone.
 #![tactic(auto)]
 
 mod command;
 mod lookups;
+mod pools;
 mod report;
 mod samples;
 mod step;
@@ -15,7 +18,8 @@ mod tests;
 
 use crate::command::{Request, read_words};
 use crate::lookups::{Lookup, subjects};
-use crate::report::{report, report_lookup};
+use crate::pools::Crowd;
+use crate::report::{report, report_lookup, report_pools};
 use crate::samples::Samples;
 use crate::step::Step;
 use crate::stream::classes_in;
@@ -67,6 +71,9 @@ fn bench(rt: &(impl Clock + Input + Print + AllocGlobal), passes: Option<u32>) -
     let subjects = subjects(alloc, &samples.recorded)?;
     for lookup in Lookup::ALL {
         report_lookup(rt, lookup, &subjects, passes)?;
+    }
+    for crowd in Crowd::ALL {
+        report_pools(rt, crowd, passes)?;
     }
     Ok(())
 }

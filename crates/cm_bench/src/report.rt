@@ -1,6 +1,7 @@
 //! What is printed of a step.
 
 use crate::lookups::{Lookup, Subject};
+use crate::pools::{Body, Crowd, Pools};
 use crate::samples::Samples;
 use crate::step::Step;
 use anyhow::Result;
@@ -84,5 +85,36 @@ pub fn report_lookup(
         print!(rt; " best {nanos} ns {each} ns a call")?;
     }
     println!(rt;)?;
+    Ok(())
+}
+
+/// Takes a block of a crowded pool and gives it back, many times in each pass, and prints a line for each
+/// body.
+pub fn report_pools(
+    rt: &(impl Clock + Print + AllocGlobal),
+    crowd: Crowd,
+    passes: Option<u32>,
+) -> Result<()> {
+    let Some(mut pools) = Pools::new(rt.alloc(), crowd)? else {
+        return Ok(());
+    };
+    for body in Body::ALL {
+        let (crowd, body_name) = (crowd.name(), body.name());
+        let tally = pools.run(body);
+        let (calls, found) = (tally.calls, tally.found);
+        print!(rt; "{crowd}, {body_name} calls {calls} found {found}")?;
+        if let Some(passes) = passes {
+            let mut best = Duration::MAX;
+            for _ in 0..passes {
+                let start = Instant::now(rt)?;
+                let _tally = pools.run(body);
+                best = best.min(start.elapsed(rt)?);
+            }
+            let nanos = best.as_nanos();
+            let each = nanos / (calls as u128).max(1);
+            print!(rt; " best {nanos} ns {each} ns to take and give back")?;
+        }
+        println!(rt;)?;
+    }
     Ok(())
 }
