@@ -6,16 +6,15 @@ use Rattle.cm_class.specs.declared.class_file.Attribute.{Attribute}
 use Rattle.cm_class.specs.declared.class_file.Member.{Member as ClassMember}
 use Rattle.cm_class.specs.declared.class_file.ClassFile.{ClassFile}
 use Rattle.cm_class.specs.Spelling.{HasSpelling, AttributeFits, MemberFits}
-use Rattle.cm_record.specs.Packing.{packed}
-use Rattle.cm_record.specs.Layout.{lay, members, member_attributes, attributes, attribute_run, attribute_runs, all_attributes, utf8_runs, members_at, attributes_at, runs_at, attribute_runs_at, IsRecordOf}
-use Rattle.cm_record.specs.Reading.{first_of, second_of, fourth_of, upper_of}
+use Rattle.cm_record_layout.specs.Packing.{packed, first_of, second_of, fourth_of, upper_of}
+use Rattle.cm_record_layout.specs.Layout.{lay, members, member_attributes, attributes, attribute_run, attribute_runs, all_attributes, utf8_runs, members_at, attributes_at, runs_at, attribute_runs_at, IsRecordOf}
 use Rattle.cm_class.specs.Names.{names_utf8}
 use Rattle.cm_record.specs.Members.{IsFirst}
 use Rattle.cm_record.specs.Runs.{IsRunOf}
 use Rattle.cm_record.specs.Code.{code_name, attributes_before, attributes_place, run_place}
-use Rattle.cm_record.proofs.Digits.{first-attribute, upper-attribute}
-use Rattle.cm_record.proofs.Lengths.{all_attributes_len, attributes_append, attribute_runs_append, attributes_len, all_runs, lay_len}
-use Rattle.cm_record.proofs.WholeRecord.{methods_at, attributes_tail, attributes_there, tail_joined, runs_there, of_fields, of_methods}
+use Rattle.cm_record_layout.proofs.Digits.{first-attribute, upper-attribute}
+use Rattle.cm_record_layout.proofs.Lengths.{all_attributes_len, attributes_append, attribute_runs_append, attributes_len, all_runs, lay_len}
+use Rattle.cm_record_layout.proofs.Sections.{methods_at, attributes_tail, attributes_there, tail_joined, runs_there, of_fields, of_methods}
 use Rattle.cm_record.proofs.MemberPlaces.{item_there, twice_more, fits_there, methods_on, methods_have, fields_place, fields_count}
 
 member_attributes_append : (xs ys : List ClassMember) → member_attributes (xs ++ ys) ≡ member_attributes xs ++ member_attributes ys

@@ -10,11 +10,11 @@ use Rattle.cm_class.specs.declared.constant.Slot.{Slot}
 use Rattle.cm_class.specs.declared.constant.Slot.TheVariants.{Usable, Unusable}
 use Rattle.cm_class.specs.declared.class_file.ClassFile.{ClassFile}
 use Rattle.cm_class.specs.Spelling.{is_wide, ConstantFits, SlotsFit, HasSpelling}
-use Rattle.cm_record.specs.Layout.{lay, constant_words, constant_run, slot_run, directory, utf8_runs, members, runs_at, attributes_at, limit}
-use Rattle.cm_record.specs.Reading.{first_of, second_of, third_of, fourth_of, upper_of}
+use Rattle.cm_record_layout.specs.Layout.{lay, constant_words, constant_run, slot_run, directory, utf8_runs, members, runs_at, attributes_at, limit}
+use Rattle.cm_record_layout.specs.Packing.{first_of, second_of, third_of, fourth_of, upper_of}
 use Rattle.cm_record.specs.Constants.{kept_constant, is_wide_word, is_second_word, word_kept, constant_at_index, constant_kept, utf8_at}
-use Rattle.cm_record.proofs.WholeRecord.{main_there, methods_at, attributes_tail, word_8, count_there}
-use Rattle.cm_record.proofs.Lengths.{lay_len}
+use Rattle.cm_record_layout.proofs.Sections.{main_there, methods_at, attributes_tail, word_8, count_there}
+use Rattle.cm_record_layout.proofs.Lengths.{lay_len}
 use Rattle.cm_class.specs.Names.{constant_in, constant_named}
 
 -- ---- a constant from its words

@@ -1,16 +1,3 @@
-pub mod Packed
-pub mod Lengths
-pub mod Room
-pub mod Steps
-pub mod Digits
-pub mod Runs
-pub mod Again
-pub mod WholeRecord
-pub mod Fronts
-pub mod Turns
-pub mod Taken
-pub mod TakenRecord
-pub mod Skips
 pub mod Constants
 pub mod RunPlaces
 pub mod RunBytes
@@ -18,4 +5,4 @@ pub mod Orders
 pub mod RunTests
 pub mod MemberPlaces
 pub mod AttributePlaces
-pub mod WorkedExamples
+pub use Rattle.cm_record_layout.proofs.Packed

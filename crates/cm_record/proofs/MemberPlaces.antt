@@ -5,13 +5,12 @@ use Rattle.cm_class.specs.declared.class_file.Member.{Member as ClassMember}
 use Rattle.cm_class.specs.declared.class_file.ClassFile.{ClassFile}
 use Rattle.std.specs.List.{AllByRecursion}
 use Rattle.cm_class.specs.Spelling.{HasSpelling, MemberFits}
-use Rattle.cm_record.specs.Packing.{four_numbers}
-use Rattle.cm_record.specs.Layout.{lay, directory, members, members_at, attributes_at, runs_at, IsRecordOf}
+use Rattle.cm_record_layout.specs.Packing.{four_numbers, first_of, second_of, third_of, fourth_of}
+use Rattle.cm_record_layout.specs.Layout.{lay, directory, members, members_at, attributes_at, runs_at, IsRecordOf}
 use Rattle.cm_record.specs.Members.{leads_to, has_both, IsFirst, IsLeastMember}
-use Rattle.cm_record.specs.Reading.{first_of, second_of, third_of, fourth_of}
-use Rattle.cm_record.proofs.Digits.{first-four_numbers, second-four_numbers, third-four_numbers, fourth-four_numbers}
-use Rattle.cm_record.proofs.Lengths.{all_members_len, members_len, directory_len, lay_len}
-use Rattle.cm_record.proofs.WholeRecord.{main_there, methods_at, attributes_tail, word_5, fields_there, methods_there}
+use Rattle.cm_record_layout.proofs.Digits.{first-four_numbers, second-four_numbers, third-four_numbers, fourth-four_numbers}
+use Rattle.cm_record_layout.proofs.Lengths.{all_members_len, members_len, directory_len, lay_len}
+use Rattle.cm_record_layout.proofs.Sections.{main_there, methods_at, attributes_tail, word_5, fields_there, methods_there}
 
 pub twice_more : (k j : ℕ) → k ≡ 2 * suc j → (i : ℕ) × (k ≡ suc (suc i)) × (i ≡ 2 * j)
 twice_more zero j e = absurd (omega arith)

@@ -2,10 +2,10 @@
 use Rattle.std.proofs.Common.{◌≡◌, ◌<◌, ◌≤◌, ◌+◌, ◌*◌, ◌/◌, ◌%◌, ℕ, zero, suc, List, length, drop, get_or, refl, sym, ◌∙◌, ap, arith, length-drop, drop-drop, get_or-take, get_or-drop}
 use Rattle.std.proofs.lemmas.List.{get_or_append_left}
 use Rattle.cm_class.specs.Spelling.{AreBytes}
-use Rattle.cm_record.specs.Packing.{bytes_of, word_from, packed_into, packed, run_words}
+use Rattle.cm_record_layout.specs.Packing.{bytes_of, word_from, packed_into, packed, run_words}
 use Rattle.cm_record.specs.Runs.{IsRunOf}
-use Rattle.cm_record.proofs.Packed.{packed_len}
-use Rattle.cm_record.proofs.Runs.{byte_at, bytes_from, front_back}
+use Rattle.cm_record_layout.proofs.Packed.{packed_len}
+use Rattle.cm_record_layout.proofs.Runs.{byte_at, bytes_from, front_back}
 use Rattle.cm_record.proofs.RunPlaces.{run_words_there}
 
 packed_at : (n k : ℕ) (bytes : List ℕ) → k < n → get_or (packed_into n bytes) k 0 ≡ word_from (drop (8 * k) bytes)

@@ -10,15 +10,15 @@ use Rattle.cm_class.specs.declared.constant.Slot.TheVariants.{Usable, Unusable}
 use Rattle.cm_class.specs.declared.class_file.ClassFile.{ClassFile}
 use Rattle.cm_class.specs.Spelling.{AreBytes, HasSpelling}
 use Rattle.cm_class.specs.Names.{constant_in, constant_named, utf8, utf8_in, class_name, class_name_index, class_name_of}
-use Rattle.cm_record.specs.Packing.{packed, run_words}
-use Rattle.cm_record.specs.Layout.{lay, slot_run, utf8_runs, runs_at, limit, IsRecordOf}
+use Rattle.cm_record_layout.specs.Packing.{packed, run_words, second_of, third_of}
+use Rattle.cm_record_layout.specs.Layout.{lay, slot_run, utf8_runs, runs_at, limit, IsRecordOf}
 use Rattle.cm_record.specs.Constants.{kept_constant, constant_at_index, utf8_at}
 use Rattle.cm_record.specs.Runs.{IsRunOf, constant_run_place, utf8_run, class_link, name_run}
-use Rattle.cm_record.specs.Reading.{run_at, second_of, third_of}
-use Rattle.cm_record.proofs.Runs.{run_again}
-use Rattle.cm_record.proofs.WholeRecord.{runs_tail, runs_there, lay_short, this_there, super_there}
-use Rattle.cm_record.proofs.Packed.{packed_len}
-use Rattle.cm_record.proofs.Taken.{some_same}
+use Rattle.cm_record_reading.specs.Reading.{run_at}
+use Rattle.cm_record_reading.proofs.RunsBack.{run_again}
+use Rattle.cm_record_layout.proofs.Sections.{runs_tail, runs_there, lay_short, this_there, super_there}
+use Rattle.cm_record_layout.proofs.Packed.{packed_len}
+use Rattle.cm_record_reading.proofs.Taken.{some_same}
 use Rattle.cm_record.proofs.Constants.{constant_is, words_at, words_within, fits_at}
 
 -- what a Utf8's run is, among those of all slots

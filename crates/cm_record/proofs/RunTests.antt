@@ -10,12 +10,12 @@ use Rattle.cm_class.specs.declared.constant.Constant.TheVariants as constant
 use Rattle.cm_class.specs.declared.kind.Kind.TheVariants as kinds
 use Rattle.cm_class.specs.declared.class_file.ClassFile.{ClassFile}
 use Rattle.cm_class.specs.Names.{is_kind, names_utf8, utf8, constant_named}
-use Rattle.cm_record.specs.Packing.{packed, word_from}
-use Rattle.cm_record.specs.Layout.{IsRecordOf}
+use Rattle.cm_record_layout.specs.Packing.{packed, word_from}
+use Rattle.cm_record_layout.specs.Layout.{IsRecordOf}
 use Rattle.cm_record.specs.Constants.{kept_constant, constant_at_index, constant_kept, utf8_at}
 use Rattle.cm_record.specs.Runs.{IsRunOf, constant_run_place, utf8_place, utf8_run}
-use Rattle.cm_record.proofs.Packed.{packed_more}
-use Rattle.cm_record.proofs.WholeRecord.{lay_short}
+use Rattle.cm_record_layout.proofs.Packed.{packed_more}
+use Rattle.cm_record_layout.proofs.Sections.{lay_short}
 use Rattle.cm_record.proofs.Constants.{constant_is}
 use Rattle.cm_record.proofs.RunPlaces.{utf8_run_is}
 

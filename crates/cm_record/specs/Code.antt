@@ -6,7 +6,7 @@ use Rattle.cm_class.specs.declared.class_file.ClassFile.{ClassFile}
 use Rattle.cm_class.specs.Names.{names_utf8}
 use Rattle.cm_record.specs.declared.member.Member.{Member}
 use Rattle.cm_record.specs.declared.code.Code.{Code}
-use Rattle.cm_record.specs.Layout.{member_attributes, attribute_runs, attributes_at, attribute_runs_at}
+use Rattle.cm_record_layout.specs.Layout.{member_attributes, attribute_runs, attributes_at, attribute_runs_at}
 
 -- `Code`
 abbrev pub code_name : List ℕ

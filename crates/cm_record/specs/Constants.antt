@@ -6,8 +6,8 @@ use Rattle.cm_class.specs.declared.class_file.ClassFile.{ClassFile}
 use Rattle.cm_class.specs.Names.{constant_named}
 use Rattle.cm_record.specs.declared.constant.Constant.{Constant}
 use Rattle.cm_record.specs.declared.constant.Constant.TheVariants as kept
-use Rattle.cm_record.specs.Layout.{utf8_runs, runs_at}
-use Rattle.cm_record.specs.Reading.{first_of, second_of, third_of, fourth_of, upper_of}
+use Rattle.cm_record_layout.specs.Layout.{utf8_runs, runs_at}
+use Rattle.cm_record_layout.specs.Packing.{first_of, second_of, third_of, fourth_of, upper_of}
 
 -- a constant, whose run begins at the word `at`: a Utf8 by where its bytes lie, any other by its numbers
 abbrev pub kept_constant : ℕ → Spelled → Constant

@@ -1,9 +1,7 @@
-pub mod Packing
-pub mod Layout
-pub mod Places
-pub mod Reading
 pub mod Names
 pub mod Constants
 pub mod Runs
 pub mod Members
 pub mod Code
+pub use Rattle.cm_record_layout.specs.Packing
+pub use Rattle.cm_record_layout.specs.Layout

@@ -3,7 +3,7 @@ use Rattle.std.specs.Prelude.{◌≡◌, ◌≤◌, ℕ, ◌/◌, List, ◌++◌
 use Rattle.cm_class.specs.Spelling.{AreBytes}
 use Rattle.cm_record.specs.declared.constant.Constant.{Constant}
 use Rattle.cm_record.specs.declared.constant.Constant.TheVariants as kept
-use Rattle.cm_record.specs.Packing.{packed}
+use Rattle.cm_record_layout.specs.Packing.{packed}
 use Rattle.cm_record.specs.Constants.{constant_at_index}
 
 -- the words from the word run.0 on begin with the run of these bytes, run.1 of them

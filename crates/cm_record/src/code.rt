@@ -3,16 +3,14 @@ ghost use Rattle.std.specs.Prelude.{◌≡◌, ◌≤◌, ◌<◌, ◌+◌, ◌*
 ghost use Rattle.cm_class.specs.declared.class_file.ClassFile.{ClassFile};
 ghost use Rattle.cm_class.specs.declared.class_file.Member.{Member as ClassMember};
 ghost use Rattle.cm_class.specs.Names.{names_utf8};
-ghost use Rattle.cm_record.specs.Packing.{bytes_of as word_bytes_of};
-ghost use Rattle.cm_record.specs.Layout.{IsRecord, IsRecordOf, limit};
-ghost use Rattle.cm_record.specs.Reading.{first_of, third_of, upper_of};
+ghost use Rattle.cm_record_layout.specs.Packing.{bytes_of as word_bytes_of, first_of, third_of, upper_of};
+ghost use Rattle.cm_record_layout.specs.Layout.{IsRecord, IsRecordOf, limit};
 ghost use Rattle.cm_record.specs.Runs.{IsRunOf, HasRun};
 ghost use Rattle.cm_record.specs.Members.{IsFirst};
 ghost use Rattle.cm_record.specs.Code.{code_name, code_in, u2_at, u4_at, attributes_place};
 
-use crate::entry::{first, fourth, second, upper};
-use crate::packing::bytes_of;
 use crate::utf8::is_utf8_of;
+use cm_record_layout::{bytes_of, first, fourth, second, upper};
 
 /// Where the code of a method lies (JVMS 4.7.3). Places count bytes from the record's first one; a byte is the number
 /// of eight bits there in its word, the lowest first.

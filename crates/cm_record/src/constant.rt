@@ -1,10 +1,9 @@
 //! The constants of a record, one look at the directory each.
 ghost use Rattle.std.specs.Prelude.{◌≡◌, ◌≤◌, ◌+◌, length, get_or};
-ghost use Rattle.cm_record.specs.Reading.{first_of};
+ghost use Rattle.cm_record_layout.specs.Packing.{first_of};
 ghost use Rattle.cm_record.specs.Constants.{is_wide_word as is_wide_word_of, is_second_word as is_second_word_of, word_kept as word_kept_of, constant_at_index as constant_at_index_of};
 
-use crate::entry::{first, fourth, second, third, upper};
-use crate::packing::THIRD;
+use cm_record_layout::{THIRD, first, fourth, second, third, upper};
 
 /// A constant of the pool (JVMS 4.4), as a record keeps it. Each index is one of the pool, from 1 on.
 #[derive(Clone, Copy, Debug, PartialEq, Eq)]

@@ -1,12 +1,12 @@
 //! The fields and methods of a record, by name and descriptor.
 ghost use Rattle.std.specs.Prelude.{◌≡◌, ◌≤◌, ◌<◌, ◌+◌, ◌*◌, ◌^◌, ℕ, false, length, get_or, IsNone, IfSome};
 ghost use Rattle.cm_class.specs.declared.class_file.ClassFile.{ClassFile};
-ghost use Rattle.cm_record.specs.Layout.{IsRecord, IsRecordOf};
-ghost use Rattle.cm_record.specs.Reading.{first_of, second_of, third_of, fourth_of};
+ghost use Rattle.cm_record_layout.specs.Layout.{IsRecord, IsRecordOf};
+ghost use Rattle.cm_record_layout.specs.Packing.{first_of, second_of, third_of, fourth_of};
 ghost use Rattle.cm_record.specs.Members.{leads_to, IsFirst};
 
-use crate::entry::{first, fourth, second, third};
 use crate::utf8::is_utf8_of;
+use cm_record_layout::{first, fourth, second, third};
 
 /// A field or a method, as a record names it (JVMS 4.5, 4.6).
 #[derive(Clone, Copy, Debug, PartialEq, Eq)]

@@ -1,13 +1,11 @@
 //! The names of a class and of its super class, where they lie in its record.
 ghost use Rattle.std.specs.Prelude.{◌≡◌, ◌≤◌, ◌+◌, ◌↔◌, ℕ, List, length, take, drop, get_or, IfOk, IsTrue};
-ghost use Rattle.cm_record.specs.Packing.{packed};
-ghost use Rattle.cm_record.specs.Reading.{first_of};
+ghost use Rattle.cm_record_layout.specs.Packing.{packed, first_of};
 ghost use Rattle.cm_record.specs.Runs.{IsRunOf, HasRun, utf8_run as utf8_run_of, name_run as name_run_of};
 
 use crate::constant::{Constant, constant_at_index};
-use crate::packing::run_words;
-use crate::reading::read_run;
-use crate::refusal::RecordFault;
+use cm_record_layout::{run_words, words_from};
+use cm_record_reading::{RecordFault, read_run};
 use std::alloc::{AllocError, Global};
 
 /// The word at which the bytes of the Utf8 at an index begin, and how many there are; none where it is no Utf8.
@@ -31,15 +29,6 @@ pub(crate) fn name_run(words: &[u64], index: u16) -> (usize, usize)
         _ => 0,
     };
     utf8_run(words, name)
-}
-
-/// The words from a place on.
-#[tactic(auto, using(std::proofs::lemmas::List::take_rest))]
-pub(crate) fn words_from(words: &[u64], at: usize) -> &[u64]
-    requires { at ≤ length words.now }
-    ensures { result.now ≡ drop at words.now }
-{
-    &words[at..]
 }
 
 /// The first words.

@@ -2,7 +2,7 @@
 ghost use Rattle.std.specs.Prelude.{◌≡◌, ◌≤◌, ℕ, List, length};
 ghost use Rattle.std.specs.Ordering.{nat_cmp};
 ghost use Rattle.std.specs.Cmp.Lexicographic.{slice_cmp};
-ghost use Rattle.cm_record.specs.Layout.{limit};
+ghost use Rattle.cm_record_layout.specs.Layout.{limit};
 ghost use Rattle.cm_record.specs.Runs.{IsRunOf, HasRun};
 
 use crate::code::byte_at;

@@ -1,12 +1,11 @@
 //! The record of a class.
 ghost use Rattle.std.specs.Prelude.{◌≡◌, ◌≤◌, ◌<◌, ◌↔◌, ◌+◌, ◌*◌, length, get_or, IfOk, OnOk, IsErrOf, IsTrue, ℕ, None, true, false, option_map};
-ghost use Rattle.cm_record.specs.declared.refusal.RecordRefusal.TheVariants as refusal;
-ghost use Rattle.cm_record.specs.declared.refusal.RecordFault.TheVariants as fault;
+ghost use Rattle.cm_record_writing.specs.declared.refusal.RecordRefusal.TheVariants as refusal;
+ghost use Rattle.cm_record_reading.specs.declared.fault.RecordFault.TheVariants as fault;
 ghost use Rattle.cm_class.specs.declared.class_file.ClassFile.{ClassFile};
-ghost use Rattle.cm_class.specs.Spelling.{HasSpelling};
-ghost use Rattle.cm_record.specs.Packing.{word_bytes, packed_into};
+ghost use Rattle.cm_record_layout.specs.Packing.{word_bytes, packed_into, first_of};
 ghost use Rattle.cm_record.specs.Names.{class_name_of, super_name_of};
-ghost use Rattle.cm_record.specs.Layout.{lay, record_len, limit, IsRecord, IsRecordOf};
+ghost use Rattle.cm_record_layout.specs.Layout.{lay, limit, IsRecord, IsRecordOf};
 ghost use Rattle.std.specs.Ordering.{nat_cmp};
 ghost use Rattle.std.specs.Cmp.Lexicographic.{slice_cmp};
 ghost use Rattle.cm_record.specs.Constants.{constant_kept};
@@ -14,22 +13,17 @@ ghost use Rattle.cm_record.specs.Members.{FindsMember};
 ghost use Rattle.cm_record.specs.Code.{HasCode, HasNoCode, code_in, run_place};
 ghost use Rattle.cm_class.specs.declared.class_file.Member.{Member as ClassMember};
 ghost use Rattle.cm_class.specs.declared.class_file.Attribute.{Attribute};
-ghost use Rattle.cm_record.specs.Places.{ArePlaces};
-ghost use Rattle.cm_record.specs.Reading.{first_of};
 
-use crate::checking::is_record;
+use crate::bytes::write_words;
 use crate::code::{Code, attribute_run, code_in_run, find_code, method_attributes};
 use crate::constant::{Constant, constant_at_index};
-use crate::entry::{first, second, third};
 use crate::member::{Member, find_member, member_at};
 use crate::names::{is_same_run, name_run, run_bytes};
 use crate::order::{cmp_run_to, cmp_runs};
-use crate::packing::{push_words, write_words};
-use crate::parts::{push_attributes_and_runs, push_head, push_pool_and_members};
-use crate::places::Places;
-use crate::refusal::{RecordFault, RecordRefusal};
-use crate::whole::read_class;
 use cm_class::Class;
+use cm_record_layout::{first, second, third};
+use cm_record_reading::{RecordFault, is_record, read_class};
+use cm_record_writing::{RecordRefusal, push_words, write_class};
 use cm_words::WordBuf;
 use std::alloc::{AllocError, Global};
 use std::cmp::Ordering;
@@ -43,27 +37,13 @@ pub struct Record {
 
 impl Model for Record {
     ghost use Rattle.std.specs.Prelude.{List, ℕ};
-    ghost use Rattle.cm_record.specs.Layout.{IsRecord};
+    ghost use Rattle.cm_record_layout.specs.Layout.{IsRecord};
 
     ghost Value = { List ℕ };
 
     ghost view = { λ r. r.words.words };
 
     ghost invariant = { λ r. IsRecord r.words.words };
-}
-
-/// The words of a class's layout. All the room for them is taken at once.
-fn words_of_class(alloc: Global, class: &Class, places: &Places) -> Result<WordBuf, AllocError>
-    requires places { ArePlaces class.now places.now }
-    requires spelled { HasSpelling class.now }
-    requires short { record_len class.now ≤ limit }
-    ensures { IfOk result (λ words. words.words ≡ lay class.now) }
-{
-    let mut words = WordBuf::with_capacity(alloc, places.len as usize)?;
-    push_head(&mut words, class, places);
-    push_pool_and_members(&mut words, class, places);
-    push_attributes_and_runs(&mut words, class, places);
-    Ok(words)
 }
 
 /// The same words in a buffer of their own.
@@ -80,10 +60,7 @@ pub fn build(alloc: Global, class: &Class) -> Result<Record, RecordRefusal>
     ensures ok { IfOk result (λ r. r ≡ lay class.now) }
     ensures too_long { IsErrOf result RecordRefusal.TooLong ↔ (limit < length (lay class.now)) }
 {
-    let Some(places) = Places::of(class) else {
-        return Err(RecordRefusal::TooLong);
-    };
-    let words = words_of_class(alloc, class, &places)?;
+    let words = write_class(alloc, class)?;
     Ok(Record { words })
 }
 

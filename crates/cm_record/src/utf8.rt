@@ -2,13 +2,13 @@
 ghost use Rattle.std.specs.Prelude.{◌≡◌, ◌≤◌, ◌↔◌, ℕ, List, length, drop, min, IsTrue};
 ghost use Rattle.cm_class.specs.declared.class_file.ClassFile.{ClassFile};
 ghost use Rattle.cm_class.specs.Names.{names_utf8};
-ghost use Rattle.cm_record.specs.Packing.{packed};
-ghost use Rattle.cm_record.specs.Layout.{IsRecord, IsRecordOf};
+ghost use Rattle.cm_record_layout.specs.Packing.{packed};
+ghost use Rattle.cm_record_layout.specs.Layout.{IsRecord, IsRecordOf};
 ghost use Rattle.cm_record.specs.Runs.{IsRunOf, HasRun, utf8_place as utf8_place_of};
 
 use crate::constant::{Constant, constant_at_index};
 use crate::names::run_slice;
-use crate::packing::word_of;
+use cm_record_layout::word_of;
 
 /// The bytes behind the first eight.
 #[tactic(auto, using(std::proofs::lemmas::List::take_rest))]

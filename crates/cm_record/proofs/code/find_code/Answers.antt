@@ -1,7 +1,7 @@
 use Rattle.std.proofs.Common.{◌≡◌, ◌∙◌, ◌+◌, ◌*◌, ℕ, false, get_or, sym, ap, subst, inl, inr, arith}
 use Rattle.std.proofs.Math.Nat.{eq-or-lt_of_le}
 use Rattle.cm_class.specs.Names.{names_utf8}
-use Rattle.cm_record.specs.Reading.{first_of}
+use Rattle.cm_record_layout.specs.Packing.{first_of}
 use Rattle.cm_record.specs.Code.{code_name}
 use Rattle.cm_record.proofs.code.find_code.Goals as goal
 

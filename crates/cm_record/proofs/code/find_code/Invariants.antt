@@ -1,7 +1,7 @@
 use Rattle.std.proofs.Common.{◌≡◌, ◌<◌, ◌+◌, ◌*◌, ℕ, false, get_or}
 use Rattle.cm_class.specs.declared.class_file.ClassFile.{ClassFile}
-use Rattle.cm_record.specs.Layout.{IsRecordOf}
-use Rattle.cm_record.specs.Reading.{first_of}
+use Rattle.cm_record_layout.specs.Layout.{IsRecordOf}
+use Rattle.cm_record_layout.specs.Packing.{first_of}
 use Rattle.cm_class.specs.Names.{names_utf8}
 use Rattle.cm_record.specs.Code.{code_name}
 use Rattle.cm_record.proofs.code.find_code.Given as goal

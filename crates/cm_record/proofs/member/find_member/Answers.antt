@@ -1,6 +1,6 @@
 use Rattle.std.proofs.Common.{◌≡◌, ◌∙◌, ◌+◌, ◌*◌, ℕ, false, get_or, sym, subst, inl, inr, arith}
 use Rattle.std.proofs.Math.Nat.{eq-or-lt_of_le}
-use Rattle.cm_record.specs.Reading.{second_of, third_of}
+use Rattle.cm_record_layout.specs.Packing.{second_of, third_of}
 use Rattle.cm_record.specs.Members.{leads_to}
 use Rattle.cm_record.proofs.member.find_member.Goals as goal
 

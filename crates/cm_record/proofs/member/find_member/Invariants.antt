@@ -1,7 +1,7 @@
 use Rattle.std.proofs.Common.{◌≡◌, ◌<◌, ◌+◌, ◌*◌, ℕ, false, get_or}
 use Rattle.cm_class.specs.declared.class_file.ClassFile.{ClassFile}
-use Rattle.cm_record.specs.Layout.{IsRecordOf}
-use Rattle.cm_record.specs.Reading.{second_of, third_of}
+use Rattle.cm_record_layout.specs.Layout.{IsRecordOf}
+use Rattle.cm_record_layout.specs.Packing.{second_of, third_of}
 use Rattle.cm_record.specs.Members.{leads_to}
 use Rattle.cm_record.proofs.member.find_member.Given as goal
 

@@ -1,7 +1,7 @@
 use Rattle.std.proofs.Common.{◌∙◌, ap, sym}
 use Rattle.std.proofs.lemmas.Bool.Decides.{Decides-eqb}
 use Rattle.std.proofs.lemmas.Slice.Eq.{slice_eq-Decides}
-use Rattle.cm_record.specs.Packing.{packed}
+use Rattle.cm_record_layout.specs.Packing.{packed}
 use Rattle.cm_record.proofs.RunPlaces.{packed_same}
 use Rattle.cm_record.proofs.names.is_same_run.Goals as goal
 

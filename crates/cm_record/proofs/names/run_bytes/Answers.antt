@@ -1,7 +1,7 @@
 use Rattle.std.proofs.Common.{◌≡◌, ◌∙◌, ap, sym, None, Some, List, ℕ}
-use Rattle.cm_record.specs.Reading.{run_at}
+use Rattle.cm_record_reading.specs.Reading.{run_at}
 use Rattle.cm_record.proofs.RunPlaces.{run_read}
-use Rattle.cm_record.proofs.Taken.{some_same}
+use Rattle.cm_record_reading.proofs.Taken.{some_same}
 use Rattle.cm_record.proofs.names.run_bytes.Goals as goal
 
 pub words_from-requires : goal.words_from-requires

@@ -1,5 +1,5 @@
 use Rattle.std.proofs.Common.{◌≡◌, length}
-use Rattle.cm_record.specs.Packing.{packed}
+use Rattle.cm_record_layout.specs.Packing.{packed}
 use Rattle.cm_record.proofs.utf8.is_run.Given as goal
 
 abbrev pub invariant-loop-left : goal.invariant-loop-left

@@ -1,7 +1,7 @@
 use Rattle.std.proofs.Common.{◌∙◌, ap}
 use Rattle.cm_class.specs.Names.{utf8}
 use Rattle.cm_record.specs.Runs.{utf8_place}
-use Rattle.cm_record.proofs.WholeRecord.{directory_within}
+use Rattle.cm_record_layout.proofs.Sections.{directory_within}
 use Rattle.cm_record.proofs.RunTests.{no_utf8, utf8_there, utf8_compared}
 use Rattle.cm_record.proofs.utf8.is_utf8_of.Goals as goal
 

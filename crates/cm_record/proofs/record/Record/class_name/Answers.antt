@@ -1,5 +1,5 @@
 use Rattle.std.proofs.Common.{◌∙◌, ap, sym, subst, ℕ}
-use Rattle.cm_record.specs.Layout.{IsRecordOf}
+use Rattle.cm_record_layout.specs.Layout.{IsRecordOf}
 use Rattle.cm_record.specs.Names.{class_name_of}
 use Rattle.cm_record.specs.Runs.{IsRunOf, name_run}
 use Rattle.cm_record.proofs.RunPlaces.{own_name}

@@ -1,6 +1,6 @@
 use Rattle.std.proofs.Common.{◌≡◌, ◌∙◌, ◌*◌, ◌+◌, get_or, ap, sym, subst, refl, arith, true, false, ℕ}
-use Rattle.cm_record.specs.Layout.{IsRecordOf}
-use Rattle.cm_record.specs.Reading.{upper_of}
+use Rattle.cm_record_layout.specs.Layout.{IsRecordOf}
+use Rattle.cm_record_layout.specs.Packing.{upper_of}
 use Rattle.cm_record.specs.Code.{code_in}
 use Rattle.cm_record.proofs.MemberPlaces.{index_there, item_there, methods_count}
 use Rattle.cm_record.proofs.AttributePlaces.{none_named, code_there, found_run, found_place, found_is}

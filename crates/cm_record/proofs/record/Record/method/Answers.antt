@@ -1,5 +1,5 @@
 use Rattle.std.proofs.Common.{◌∙◌, ◌+◌, ◌*◌, sym, subst, true, refl, arith, get_or}
-use Rattle.cm_record.specs.Layout.{IsRecordOf}
+use Rattle.cm_record_layout.specs.Layout.{IsRecordOf}
 use Rattle.cm_record.specs.Members.{IsLeastMember}
 use Rattle.cm_record.proofs.MemberPlaces.{methods_have, methods_count, members_fit, none_found, least_found}
 use Rattle.cm_record.proofs.record.Record.method.Goals as goal

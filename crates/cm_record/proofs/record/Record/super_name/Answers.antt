@@ -2,7 +2,7 @@ use Rattle.std.proofs.Common.{◌≡◌, ◌∙◌, ap, sym, subst, ℕ, Some, N
 use Rattle.std.specs.Prelude.{◌==◌, if◌then◌else◌}
 use Rattle.std.proofs.lemmas.Bool.{eq-eqb, ne_eqb}
 use Rattle.cm_class.specs.Names.{class_name}
-use Rattle.cm_record.specs.Layout.{IsRecordOf}
+use Rattle.cm_record_layout.specs.Layout.{IsRecordOf}
 use Rattle.cm_record.specs.Runs.{IsRunOf}
 use Rattle.cm_record.proofs.RunPlaces.{name_at, super_read}
 use Rattle.cm_record.proofs.record.Record.super_name.Goals as goal

@@ -1,0 +1,185 @@
+-- Where the sections of a class stand in its record.
+use Rattle.std.proofs.Common.{◌≡◌, ◌≤◌, ◌+◌, ◌*◌, ℕ, List, [], ◌∷◌, ◌++◌, length, get_or, drop, refl, sym, ◌∙◌, ap, subst, arith, append_assoc, length-append}
+use Rattle.std.proofs.lemmas.List.{append-nil, drop_at}
+use Rattle.cm_class.specs.declared.class_file.Attribute.{Attribute}
+use Rattle.cm_class.specs.declared.class_file.ClassFile.{ClassFile}
+use Rattle.cm_class.specs.Spelling.{HasSpelling}
+use Rattle.cm_record_layout.specs.Packing.{four_numbers, first_of, second_of, third_of, fourth_of}
+use Rattle.cm_record_layout.specs.Layout.{head, lay, directory, utf8_runs, members, member_attributes, attributes, attribute_runs, all_members, all_attributes, interfaces_at, members_at, attributes_at, runs_at, attribute_runs_at, record_len, limit, IsRecordOf, IsRecord}
+use Rattle.cm_record_layout.proofs.Digits.{first-four_numbers, second-four_numbers, third-four_numbers, fourth-four_numbers}
+use Rattle.cm_record_layout.proofs.Lengths.{attributes_append, attribute_runs_append, members_append, all_runs, attributes_len, members_len, directory_len, lay_len}
+
+regroup_tail : (f a b c t : List ℕ) → f ++ (a ++ (b ++ (c ++ t))) ≡ (f ++ (a ++ b ++ c)) ++ t
+regroup_tail f a b c t = simp append_assoc
+
+regroup_main : (d i m n t : List ℕ) → d ++ i ++ (m ++ n) ++ t ≡ d ++ (i ++ (m ++ (n ++ t)))
+regroup_main d i m n t = simp append_assoc
+
+module _ (c : ClassFile) where
+  abbrev pub of_fields : List Attribute
+  of_fields = member_attributes c.fields
+
+  abbrev pub of_methods : List Attribute
+  of_methods = member_attributes c.methods
+
+  -- where the runs of the attributes of methods, and of the class, begin
+  abbrev pub method_runs_at : ℕ
+  method_runs_at = attribute_runs_at c + length (attribute_runs of_fields)
+
+  abbrev pub own_runs_at : ℕ
+  own_runs_at = method_runs_at + length (attribute_runs of_methods)
+
+  abbrev pub methods_at : ℕ
+  methods_at = attributes_at c + 2 * length of_fields
+
+  -- the record from the runs on, from the attributes on, from slot 1 on
+  abbrev pub runs_tail : List ℕ
+  runs_tail = utf8_runs c.slots ++ (attribute_runs of_fields ++ (attribute_runs of_methods ++ (attribute_runs c.attributes ++ [])))
+
+  abbrev pub attributes_tail : List ℕ
+  attributes_tail = attributes (attribute_runs_at c) of_fields ++ (attributes method_runs_at of_methods ++ (attributes own_runs_at c.attributes ++ runs_tail))
+
+  abbrev pub main_tail : List ℕ
+  main_tail = directory (runs_at c) c.slots ++ (c.interfaces ++ (members (attributes_at c) c.fields ++ (members methods_at c.methods ++ attributes_tail)))
+
+  attributes_split : attributes (attribute_runs_at c) (all_attributes c) ≡ attributes (attribute_runs_at c) of_fields ++ attributes method_runs_at of_methods ++ attributes own_runs_at c.attributes
+  attributes_split =
+      let place : attribute_runs_at c + length (attribute_runs (of_fields ++ of_methods)) ≡ own_runs_at =
+      omega (arith, ap length (attribute_runs_append of_fields of_methods), length-append (attribute_runs of_fields) (attribute_runs of_methods)) in
+      attributes_append (attribute_runs_at c) (of_fields ++ of_methods) c.attributes
+      ∙ rw (place, attributes_append (attribute_runs_at c) of_fields of_methods) refl
+
+  pub tail_joined : attributes (attribute_runs_at c) (all_attributes c) ++ utf8_runs c.slots ++ attribute_runs (all_attributes c) ≡ attributes_tail
+  tail_joined = rw (attributes_split, all_runs c) (simp (append_assoc, append-nil))
+
+  abbrev front : List ℕ
+  front = head c ++ (0 ∷ directory (runs_at c) c.slots) ++ c.interfaces ++ members (attributes_at c) (all_members c)
+
+  lay_split : lay c ≡ front ++ attributes_tail
+  unfolding lay
+  lay_split =
+      let A = attributes (attribute_runs_at c) (all_attributes c) in
+      let T = utf8_runs c.slots in
+      let R = attribute_runs (all_attributes c) in
+      append_assoc (front ++ A) T R ∙ (append_assoc front A (T ++ R) ∙ ap (λ w. front ++ w) (sym (append_assoc A T R) ∙ tail_joined))
+
+  module _ (spelled : HasSpelling c) where
+    front_len : length front ≡ attributes_at c
+    front_len =
+        let d = 0 ∷ directory (runs_at c) c.slots in
+        let m = members (attributes_at c) (all_members c) in
+        omega (
+          arith,
+          length-append (head c ++ d ++ c.interfaces) m,
+          length-append (head c ++ d) c.interfaces,
+          length-append (head c) d,
+          directory_len (runs_at c) c.slots spelled.slots,
+          members_len (attributes_at c) (all_members c),
+        )
+
+    pub attributes_there : drop (attributes_at c) (lay c) ≡ attributes_tail
+    attributes_there = ap (drop (attributes_at c)) lay_split ∙ drop_at front attributes_tail (attributes_at c) front_len
+
+    pub attributes_tail_len : length attributes_tail + attributes_at c ≡ length (lay c)
+    attributes_tail_len = omega (arith, ap length lay_split, length-append front attributes_tail, front_len)
+
+    -- the attributes without the runs
+    abbrev middle : List ℕ
+    middle = attributes (attribute_runs_at c) of_fields ++ attributes method_runs_at of_methods ++ attributes own_runs_at c.attributes
+
+    middle_len : length middle ≡ 2 * length (all_attributes c)
+    middle_len = sym (ap length attributes_split) ∙ attributes_len (attribute_runs_at c) (all_attributes c)
+
+    runs_split : lay c ≡ (front ++ middle) ++ runs_tail
+    runs_split = lay_split ∙ regroup_tail front (attributes (attribute_runs_at c) of_fields) (attributes method_runs_at of_methods) (attributes own_runs_at c.attributes) runs_tail
+
+    pub runs_there : drop (runs_at c) (lay c) ≡ runs_tail
+    runs_there = ap (drop (runs_at c)) runs_split ∙ drop_at (front ++ middle) runs_tail (runs_at c) (omega (arith, length-append front middle, front_len, middle_len))
+
+    pub runs_tail_len : length runs_tail + runs_at c ≡ length (lay c)
+    runs_tail_len = omega (arith, ap length runs_split, length-append (front ++ middle) runs_tail, length-append front middle, front_len, middle_len)
+
+    pub main_there : drop 9 (lay c) ≡ main_tail
+    main_there =
+        let d = directory (runs_at c) c.slots in
+        ap (drop 9) lay_split ∙ (ap (λ w. d ++ c.interfaces ++ w ++ attributes_tail) (members_append (attributes_at c) c.fields c.methods)
+        ∙ regroup_main d c.interfaces (members (attributes_at c) c.fields) (members methods_at c.methods) attributes_tail)
+
+-- the first words of a record
+module _ (c : ClassFile) where
+  pub word_0 : get_or (lay c) 0 0 ≡ record_len c
+  unfolding lay
+  word_0 = refl
+
+  pub word_1 : get_or (lay c) 1 0 ≡ four_numbers c.flags c.this_class c.super_class (length c.interfaces)
+  unfolding lay
+  word_1 = refl
+
+  pub word_2 : get_or (lay c) 2 0 ≡ four_numbers (length c.slots + 1) (length c.fields) (length c.methods) (length c.attributes)
+  unfolding lay
+  word_2 = refl
+
+  pub word_3 : get_or (lay c) 3 0 ≡ 8
+  unfolding lay
+  word_3 = refl
+
+  pub word_4 : get_or (lay c) 4 0 ≡ interfaces_at c
+  unfolding lay
+  word_4 = refl
+
+  pub word_5 : get_or (lay c) 5 0 ≡ members_at c
+  unfolding lay
+  word_5 = refl
+
+  pub word_6 : get_or (lay c) 6 0 ≡ attributes_at c
+  unfolding lay
+  word_6 = refl
+
+  pub word_7 : get_or (lay c) 7 0 ≡ runs_at c
+  unfolding lay
+  word_7 = refl
+
+  pub word_8 : get_or (lay c) 8 0 ≡ 0
+  unfolding lay
+  word_8 = refl
+
+  module _ (spelled : HasSpelling c) where
+    pub flags_there : first_of (get_or (lay c) 1 0) ≡ c.flags
+    flags_there = ap first_of word_1 ∙ first-four_numbers c.flags c.this_class c.super_class (length c.interfaces) spelled.flags spelled.this_class spelled.super_class spelled.interfaces.0
+
+    pub this_there : second_of (get_or (lay c) 1 0) ≡ c.this_class
+    this_there = ap second_of word_1 ∙ second-four_numbers c.flags c.this_class c.super_class (length c.interfaces) spelled.flags spelled.this_class spelled.super_class spelled.interfaces.0
+
+    pub super_there : third_of (get_or (lay c) 1 0) ≡ c.super_class
+    super_there = ap third_of word_1 ∙ third-four_numbers c.flags c.this_class c.super_class (length c.interfaces) spelled.flags spelled.this_class spelled.super_class spelled.interfaces.0
+
+    pub interfaces_there : fourth_of (get_or (lay c) 1 0) ≡ length c.interfaces
+    interfaces_there = ap fourth_of word_1 ∙ fourth-four_numbers c.flags c.this_class c.super_class (length c.interfaces) spelled.flags spelled.this_class spelled.super_class spelled.interfaces.0
+
+    pub count_there : first_of (get_or (lay c) 2 0) ≡ length c.slots + 1
+    count_there = ap first_of word_2 ∙ first-four_numbers (length c.slots + 1) (length c.fields) (length c.methods) (length c.attributes) spelled.count spelled.fields.0 spelled.methods.0 spelled.attributes.0
+
+    pub fields_there : second_of (get_or (lay c) 2 0) ≡ length c.fields
+    fields_there = ap second_of word_2 ∙ second-four_numbers (length c.slots + 1) (length c.fields) (length c.methods) (length c.attributes) spelled.count spelled.fields.0 spelled.methods.0 spelled.attributes.0
+
+    pub methods_there : third_of (get_or (lay c) 2 0) ≡ length c.methods
+    methods_there = ap third_of word_2 ∙ third-four_numbers (length c.slots + 1) (length c.fields) (length c.methods) (length c.attributes) spelled.count spelled.fields.0 spelled.methods.0 spelled.attributes.0
+
+    pub own_there : fourth_of (get_or (lay c) 2 0) ≡ length c.attributes
+    own_there = ap fourth_of word_2 ∙ fourth-four_numbers (length c.slots + 1) (length c.fields) (length c.methods) (length c.attributes) spelled.count spelled.fields.0 spelled.methods.0 spelled.attributes.0
+
+-- ---- what a record tells of its class
+
+pub record_long : (words : List ℕ) → IsRecord words → 9 ≤ length words
+record_long words (d, is) = omega (arith, ap length is.laid, lay_len d is.spelled)
+
+pub flags_read : (c : ClassFile) (words : List ℕ) → IsRecordOf c words → first_of (get_or words 1 0) ≡ c.flags
+flags_read c words is = ap (λ w. first_of (get_or w 1 0)) is.laid ∙ flags_there c is.spelled
+
+-- the directory lies within the record
+pub directory_within : (words : List ℕ) → IsRecord words → 8 + first_of (get_or words 2 0) ≤ length words
+directory_within words (d, is) = subst (λ (w : List ℕ). 8 + first_of (get_or w 2 0) ≤ length w) (sym is.laid) (omega (arith, count_there d is.spelled, lay_len d is.spelled))
+
+-- the layout of a record's class isn't too long
+pub lay_short : (c : ClassFile) (words : List ℕ) → IsRecordOf c words → length (lay c) ≤ limit
+lay_short c words is = omega (arith, ap length is.laid, is.short)

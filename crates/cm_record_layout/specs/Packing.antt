@@ -1,0 +1,50 @@
+-- Bytes in words, and small numbers side by side in a word.
+use Rattle.std.specs.Prelude.{ℕ, zero, suc, ◌+◌, ◌*◌, ◌/◌, ◌%◌, ◌^◌, List, [], ◌∷◌, length, drop}
+use Rattle.std.specs.List.{flat_map}
+use Rattle.std.specs.Int.{w64, to_le_bytes, from_le_bytes}
+
+-- the word of the first eight bytes, the first of them lowest; where there are fewer, the rest is 0
+unfoldable pub word_from : List ℕ → ℕ
+word_from bytes = from_le_bytes w64 bytes
+
+-- a word's eight bytes, the lowest first
+unfoldable pub bytes_of : ℕ → List ℕ
+bytes_of word = to_le_bytes w64 word
+
+-- so many words: byte j is bits 8 * (j mod 8) and up of word j div 8, and what is left of the last word is 0
+abbrev pub packed_into : ℕ → List ℕ → List ℕ
+packed_into zero bytes = []
+packed_into (suc n) bytes = word_from bytes ∷ packed_into n (drop 8 bytes)
+
+-- as many words as a run of so many bytes takes
+abbrev pub run_words : ℕ → ℕ
+run_words count = (count + 7) / 8
+
+-- a run: eight bytes to a word, the first of them lowest
+abbrev pub packed : List ℕ → List ℕ
+packed bytes = packed_into (run_words (length bytes)) bytes
+
+-- each word as its eight bytes, the lowest first
+abbrev pub word_bytes : List ℕ → List ℕ
+word_bytes words = flat_map bytes_of words
+
+-- four numbers of 16 bits in one word, the first of them lowest
+abbrev pub four_numbers : ℕ → ℕ → ℕ → ℕ → ℕ
+four_numbers first second third fourth = first + 2 ^ 16 * second + 2 ^ 32 * third + 2 ^ 48 * fourth
+
+-- the numbers of 16 bits in a word
+abbrev pub first_of : ℕ → ℕ
+first_of word = word % 2 ^ 16
+
+abbrev pub second_of : ℕ → ℕ
+second_of word = word / 2 ^ 16 % 2 ^ 16
+
+abbrev pub third_of : ℕ → ℕ
+third_of word = word / 2 ^ 32 % 2 ^ 16
+
+abbrev pub fourth_of : ℕ → ℕ
+fourth_of word = word / 2 ^ 48 % 2 ^ 16
+
+-- the upper half of a word
+abbrev pub upper_of : ℕ → ℕ
+upper_of word = word / 2 ^ 32 % 2 ^ 32

@@ -1,0 +1,12 @@
+//! How a class is laid out as words that can lie anywhere: the definition, and bytes and small numbers in words.
+#![tactic(auto)]
+
+mod directory;
+mod numbers;
+mod packing;
+mod slices;
+
+pub use directory::whole_word;
+pub use numbers::{first, fourth, second, third, upper};
+pub use packing::{FOURTH, MAX_WORDS, SECOND, THIRD, bytes_of, four_numbers, run_words, word_of};
+pub use slices::words_from;

@@ -1,0 +1,9 @@
+pub mod Candidates
+pub mod RunsBack
+pub mod Again
+pub mod WholeRecord
+pub mod Fronts
+pub mod Turns
+pub mod Taken
+pub mod TakenRecord
+pub mod Skips

@@ -1,0 +1,269 @@
+-- Reading a class from the words of a record, as a function of lists: what is read, and what is left; none
+-- where the words are no record. What it has to do with layouts is proved above it, in the law of this crate
+-- and in `Record::read`.
+use Rattle.std.specs.Prelude.{◌≡◌, ℕ, zero, suc, ◌+◌, ◌-◌, ◌*◌, ◌/◌, ◌%◌, ◌^◌, Bool, true, false, List, [], ◌∷◌, ◌++◌, length, take, drop, get_or, Option, Some, None, Result, Ok, Err, nat_lt, nat_le, ◌==◌, ◌&&◌, if◌then◌else◌}
+use Rattle.cm_class.specs.declared.constant.Constant.{Constant}
+use Rattle.cm_class.specs.declared.constant.Constant.TheVariants as constant
+use Rattle.cm_class.specs.declared.constant.Slot.{Slot}
+use Rattle.cm_class.specs.declared.constant.Slot.TheVariants.{Usable, Unusable}
+use Rattle.cm_class.specs.declared.class_file.Attribute.{Attribute}
+use Rattle.cm_class.specs.declared.class_file.Member.{Member}
+use Rattle.cm_class.specs.declared.class_file.ClassFile.{ClassFile}
+use Rattle.cm_class.specs.Spelling.{is_wide}
+use Rattle.cm_record_reading.specs.declared.entry.Entry.{Entry}
+use Rattle.cm_record_reading.specs.declared.entry.Entry.TheVariants as entry
+use Rattle.cm_record_reading.specs.declared.fault.RecordFault.{RecordFault}
+use Rattle.cm_record_reading.specs.declared.fault.RecordFault.TheVariants.{NotARecord, NoMemory}
+use Rattle.cm_record_layout.specs.Layout.{whole_word}
+use Rattle.cm_record_layout.specs.Packing.{word_from, bytes_of, run_words, four_numbers, first_of, second_of, third_of, fourth_of, upper_of}
+
+infixl 10 ◌>>=◌
+abbrev pub ◌>>=◌ : {A B : Type 0} → Option A → (A → Option B) → Option B
+None >>= f = None
+(Some x) >>= f = f x
+
+-- What a function returned, seen by view, is what reading gives, unless an allocation failed.
+abbrev pub Fails : {Y : Type 0} → RecordFault → Option Y → Type 0
+Fails NoMemory read = Unit {0}
+Fails NotARecord read = read ≡ None
+
+abbrev pub Gives : {X Y : Type 0} → (X → Y) → Result X RecordFault → Option Y → Type 0
+Gives view (Ok x) read = read ≡ Some (view x)
+Gives view (Err e) read = Fails e read
+
+-- goes on where the test holds
+abbrev pub only_if : {A : Type 0} → Bool → Option A → Option A
+only_if true go_on = go_on
+only_if false go_on = None
+
+-- ---- runs
+
+-- so many bytes of one word, behind which it has only zeros; at most eight
+abbrev pub front_of : ℕ → ℕ → Option (List ℕ)
+front_of count word = only_if (word_from (take count (bytes_of word)) == word) (Some (take count (bytes_of word)))
+
+-- so many bytes in so many words
+unfoldable pub run_from : ℕ → ℕ → List ℕ → Option (List ℕ × List ℕ)
+run_from zero count words = Some ([], words)
+run_from (suc n) count [] = None
+run_from (suc n) count (word ∷ words) = do
+  front ← front_of count word
+  others ← run_from n (count - 8) words
+  Some (front ++ others.0, others.1)
+
+-- a run of so many bytes
+abbrev pub run_at : ℕ → List ℕ → Option (List ℕ × List ℕ)
+run_at count words = run_from (run_words count) count words
+
+-- ---- the constant pool
+
+-- what a directory word may stand for, by its tag
+unfoldable pub candidate : ℕ → Option Entry
+candidate word =
+    if first_of word == 1 then Some (entry.Utf8 (second_of word))
+    else if first_of word == 3 then Some (entry.Whole (constant.Integer (upper_of word)))
+    else if first_of word == 4 then Some (entry.Whole (constant.Float (upper_of word)))
+    else if first_of word == 5 then Some entry.Long
+    else if first_of word == 6 then Some entry.Double
+    else if first_of word == 7 then Some (entry.Whole (constant.Class (third_of word)))
+    else if first_of word == 8 then Some (entry.Whole (constant.String (third_of word)))
+    else if first_of word == 9 then Some (entry.Whole (constant.Fieldref (third_of word) (fourth_of word)))
+    else if first_of word == 10 then Some (entry.Whole (constant.Methodref (third_of word) (fourth_of word)))
+    else if first_of word == 11 then Some (entry.Whole (constant.InterfaceMethodref (third_of word) (fourth_of word)))
+    else if first_of word == 12 then Some (entry.Whole (constant.NameAndType (third_of word) (fourth_of word)))
+    else if first_of word == 15 then Some (entry.Whole (constant.MethodHandle (word / 2 ^ 32 % 2 ^ 8) (fourth_of word)))
+    else if first_of word == 16 then Some (entry.Whole (constant.MethodType (third_of word)))
+    else if first_of word == 18 then Some (entry.Whole (constant.InvokeDynamic (third_of word) (fourth_of word)))
+    else None
+
+-- the directory word of an entry whose run would begin at `at`
+abbrev pub entry_word : ℕ → Entry → ℕ
+entry_word at (entry.Utf8 count) = 1 + 2 ^ 16 * count + 2 ^ 32 * at
+entry_word at entry.Long = 5
+entry_word at entry.Double = 6
+entry_word at (entry.Whole c) = whole_word c
+
+-- what a directory word stands for, where its run would begin at `at`
+unfoldable pub entry_of : ℕ → ℕ → Option Entry
+entry_of at word = do
+  e ← candidate word
+  only_if (entry_word at e == word) (Some e)
+
+-- a Long or a Double, which has a word of its own
+abbrev pub wide_from : (ℕ → Constant) → List ℕ → List ℕ → Option (Constant × List ℕ × List ℕ)
+wide_from make [] runs = None
+wide_from make (bits ∷ main) runs = only_if (nat_lt bits (2 ^ 64)) (Some (make bits, main, runs))
+
+abbrev pub constant_from : Entry → List ℕ → List ℕ → Option (Constant × List ℕ × List ℕ)
+constant_from (entry.Utf8 count) main runs = do
+  text ← run_at count runs
+  Some (constant.Utf8 text.0, main, text.1)
+constant_from entry.Long main runs = wide_from constant.Long main runs
+constant_from entry.Double main runs = wide_from constant.Double main runs
+constant_from (entry.Whole c) main runs = Some (c, main, runs)
+
+-- A constant, from the directory and the runs: what is left of each says where in the record, which has
+-- `total` words, it begins.
+unfoldable pub constant_at : ℕ → List ℕ → List ℕ → Option (Constant × List ℕ × List ℕ)
+constant_at total [] runs = None
+constant_at total (word ∷ main) runs = do
+  e ← entry_of (total - length runs) word
+  constant_from e main runs
+
+-- so many slots, the first of which may be the second of a wide constant
+unfoldable pub slots_at : ℕ → Bool → ℕ → List ℕ → List ℕ → Option (List Slot × List ℕ × List ℕ)
+slots_at total true zero main runs = None
+slots_at total false zero main runs = Some ([], main, runs)
+slots_at total true (suc n) main runs = do
+  others ← slots_at total false n main runs
+  Some (Unusable ∷ others.0, others.1, others.2)
+slots_at total false (suc n) main runs = do
+  c ← constant_at total main runs
+  others ← slots_at total (is_wide c.0) n c.1 c.2
+  Some (Usable c.0 ∷ others.0, others.1, others.2)
+
+-- ---- interfaces, attributes and members
+
+-- so many interfaces
+unfoldable pub interfaces_from : ℕ → List ℕ → Option (List ℕ × List ℕ)
+interfaces_from zero main = Some ([], main)
+interfaces_from (suc n) [] = None
+interfaces_from (suc n) (word ∷ main) = only_if (nat_lt word (2 ^ 16)) (do
+  others ← interfaces_from n main
+  Some (word ∷ others.0, others.1))
+
+abbrev pub attribute_word : ℕ → ℕ → ℕ
+attribute_word name count = name + 2 ^ 32 * count
+
+-- an attribute, from the attributes and the runs
+unfoldable pub attribute_at : ℕ → List ℕ → List ℕ → Option (Attribute × List ℕ × List ℕ)
+attribute_at total (word ∷ at ∷ rest) runs = only_if (attribute_word (first_of word) (upper_of word) == word) (only_if (at == total - length runs) (do
+  run ← run_at (upper_of word) runs
+  Some (record { name = first_of word; bytes = run.0 }, rest, run.1)))
+attribute_at total _ runs = None
+
+-- so many attributes
+unfoldable pub attributes_from : ℕ → ℕ → List ℕ → List ℕ → Option (List Attribute × List ℕ × List ℕ)
+attributes_from total zero attrs runs = Some ([], attrs, runs)
+attributes_from total (suc n) attrs runs = do
+  a ← attribute_at total attrs runs
+  others ← attributes_from total n a.1 a.2
+  Some (a.0 ∷ others.0, others.1, others.2)
+
+-- a member, from the members, the attributes and the runs
+unfoldable pub member_at : ℕ → List ℕ → List ℕ → List ℕ → Option (Member × List ℕ × List ℕ × List ℕ)
+member_at total (word ∷ at ∷ main) attrs runs =
+    only_if (four_numbers (first_of word) (second_of word) (third_of word) (fourth_of word) == word) (only_if (at == total - length attrs) (do
+      own ← attributes_from total (fourth_of word) attrs runs
+      Some (record { flags = first_of word; name = second_of word; descriptor = third_of word; attributes = own.0 }, main, own.1, own.2)))
+member_at total _ attrs runs = None
+
+-- so many members
+unfoldable pub members_from : ℕ → ℕ → List ℕ → List ℕ → List ℕ → Option (List Member × List ℕ × List ℕ × List ℕ)
+members_from total zero main attrs runs = Some ([], main, attrs, runs)
+members_from total (suc n) main attrs runs = do
+  m ← member_at total main attrs runs
+  others ← members_from total n m.1 m.2 m.3
+  Some (m.0 ∷ others.0, others.1, others.2, others.3)
+
+-- ---- the whole record
+
+-- the numbers of classes, and where the sections begin, fit together
+abbrev pub head_is_right : List ℕ → Bool
+head_is_right words =
+    nat_le 9 (length words) && get_or words 0 0 == length words && get_or words 3 0 == 8 && get_or words 8 0 == 0
+    && nat_le 1 (first_of (get_or words 2 0))
+    && get_or words 4 0 == 8 + first_of (get_or words 2 0)
+    && get_or words 5 0 == get_or words 4 0 + fourth_of (get_or words 1 0)
+    && get_or words 6 0 == get_or words 5 0 + 2 * (second_of (get_or words 2 0) + third_of (get_or words 2 0))
+    && nat_le (get_or words 6 0) (length words) && nat_le (get_or words 7 0) (length words)
+
+-- each section ended where the next began
+abbrev pub sections_end : List ℕ → List ℕ → List ℕ → List ℕ → Bool
+sections_end words main attrs runs =
+    length main + get_or words 6 0 == length words && length attrs + get_or words 7 0 == length words && length runs == 0
+
+-- the slots of the pool and the interfaces, and what is left behind them
+unfoldable pub pool_from : ℕ → ℕ → ℕ → List ℕ → List ℕ → Option (List Slot × List ℕ × List ℕ × List ℕ)
+pool_from total count interfaces main runs = do
+  slots ← slots_at total false count main runs
+  those ← interfaces_from interfaces slots.1
+  Some (slots.0, those.0, those.1, slots.2)
+
+-- the fields, the methods and the class's own attributes, and what is left behind them
+unfoldable pub body_from : ℕ → ℕ → ℕ → ℕ → List ℕ → List ℕ → List ℕ → Option (List Member × List Member × List Attribute × List ℕ × List ℕ × List ℕ)
+body_from total fields methods own main attrs runs = do
+  f ← members_from total fields main attrs runs
+  m ← members_from total methods f.1 f.2 f.3
+  a ← attributes_from total own m.2 m.3
+  Some (f.0, m.0, a.0, m.1, a.1, a.2)
+
+-- the pool and the interfaces, from where the head says that they are
+abbrev pub pool_of : List ℕ → Option (List Slot × List ℕ × List ℕ × List ℕ)
+pool_of words = pool_from (length words) (first_of (get_or words 2 0) - 1) (fourth_of (get_or words 1 0)) (drop 9 words) (drop (get_or words 7 0) words)
+
+-- what stands behind them, from what they leave
+abbrev pub body_of : List ℕ → List ℕ → List ℕ → Option (List Member × List Member × List Attribute × List ℕ × List ℕ × List ℕ)
+body_of words main runs = body_from (length words) (second_of (get_or words 2 0)) (third_of (get_or words 2 0)) (fourth_of (get_or words 2 0)) main (drop (get_or words 6 0) words) runs
+
+unfoldable pub class_at : List ℕ → Option ClassFile
+class_at words = only_if (head_is_right words) (do
+  pool ← pool_of words
+  body ← body_of words pool.2 pool.3
+  only_if (sections_end words body.3 body.4 body.5) (Some (record {
+    slots = pool.0;
+    flags = first_of (get_or words 1 0);
+    this_class = second_of (get_or words 1 0);
+    super_class = third_of (get_or words 1 0);
+    interfaces = pool.1;
+    fields = body.0;
+    methods = body.1;
+    attributes = body.2;
+  })))
+
+-- ---- what was read before what is left is read
+
+abbrev pub with_front : {A B : Type 0} → List A → Option (List A × B) → Option (List A × B)
+with_front front None = None
+with_front front (Some read) = Some (front ++ read.0, read.1)
+
+abbrev pub with_front3 : {A B C : Type 0} → List A → Option (List A × B × C) → Option (List A × B × C)
+with_front3 front None = None
+with_front3 front (Some read) = Some (front ++ read.0, read.1, read.2)
+
+abbrev pub with_front4 : {A B C D : Type 0} → List A → Option (List A × B × C × D) → Option (List A × B × C × D)
+with_front4 front None = None
+with_front4 front (Some read) = Some (front ++ read.0, read.1, read.2, read.3)
+
+-- ---- what is left, where nothing is kept of what is read
+
+abbrev pub left1 : {A B : Type 0} → Option (A × B) → Option B
+left1 None = None
+left1 (Some read) = Some read.1
+
+abbrev pub left2 : {A B C : Type 0} → Option (A × B × C) → Option (B × C)
+left2 None = None
+left2 (Some read) = Some (read.1, read.2)
+
+abbrev pub left3 : {A B C D : Type 0} → Option (A × B × C × D) → Option (B × C × D)
+left3 None = None
+left3 (Some read) = Some (read.1, read.2, read.3)
+
+-- what is left behind a pool, and behind a body
+abbrev pub pool_left : Option (List Slot × List ℕ × List ℕ × List ℕ) → Option (List ℕ × List ℕ)
+pool_left None = None
+pool_left (Some read) = Some (read.2, read.3)
+
+abbrev pub body_left : Option (List Member × List Member × List Attribute × List ℕ × List ℕ × List ℕ) → Option (List ℕ × List ℕ × List ℕ)
+body_left None = None
+body_left (Some read) = Some (read.3, read.4, read.5)
+
+-- whether a constant is wide, and what is left
+abbrev pub width_left : Option (Constant × List ℕ × List ℕ) → Option (Bool × List ℕ × List ℕ)
+width_left None = None
+width_left (Some read) = Some (is_wide read.0, read.1, read.2)
+
+-- What a function returned, seen by view, is what is left.
+abbrev pub Leaves : {X Y : Type 0} → (X → Y) → Option X → Option Y → Type 0
+Leaves view (Some x) left = left ≡ Some (view x)
+Leaves view None left = left ≡ None

@@ -1,0 +1,284 @@
+//! Telling whether words are a record, without memory: the walk of `reading`, which keeps nothing.
+ghost use Rattle.std.specs.Prelude.{◌≡◌, ◌≤◌, length, false, ◌↔◌, IfSome, IsTrue, is_some};
+ghost use Rattle.cm_record_layout.specs.Layout.{limit, IsRecord};
+ghost use Rattle.cm_record_reading.specs.Reading.{Leaves, left1, left2, left3, width_left, run_at, constant_at, slots_at, interfaces_from, attribute_at, attributes_from, member_at, members_from, pool_from, pool_left, body_from, body_left, class_at};
+
+use crate::entry::{Entry, attribute_word, entry_at, is_wide};
+use crate::whole::{head_is_right, sections_end};
+use cm_record_layout::{
+    MAX_WORDS, SECOND, bytes_of, first, fourth, second, third, upper, word_of, words_from,
+};
+
+/// The words behind a run of so many bytes.
+fn skip_run(count: usize, words: &[u64]) -> Option<&[u64]>
+    ensures left { Leaves (λ x. x.now) result (left1 (run_at count words.now)) }
+    ensures suffix { IfSome result (λ x. length x.now ≤ length words.now) }
+{
+    let mut left = count;
+    let mut rest = words;
+    while left > 0 {
+        let [word, behind @ ..] = rest else {
+            return None;
+        };
+        let eight = bytes_of(*word);
+        let front = &eight[..left.min(8)];
+        if word_of(front) != *word {
+            return None;
+        }
+        left -= front.len();
+        rest = behind;
+    }
+    Some(rest)
+}
+
+/// Whether a constant is wide, and what is left behind it.
+#[tactic(auto, unfolding(crate::specs::Reading::constant_at))]
+fn skip_constant<'a, 'b>(
+    total: usize,
+    main: &'a [u64],
+    runs: &'b [u64],
+) -> Option<(bool, &'a [u64], &'b [u64])>
+    requires short { total ≤ limit }
+    requires suffix { length runs.now ≤ total }
+    ensures left { Leaves (λ x. (x.0, x.1.now, x.2.now)) result (width_left (constant_at total main.now runs.now)) }
+    ensures suffix { IfSome result (λ x. length x.2.now ≤ length runs.now) }
+{
+    let [word, main @ ..] = main else {
+        return None;
+    };
+    let at = (total - runs.len()) as u64;
+    match entry_at(at, *word)? {
+        Entry::Utf8(count) => {
+            let runs = skip_run(count as usize, runs)?;
+            Some((false, main, runs))
+        }
+        Entry::Long => {
+            let [bits, main @ ..] = main else {
+                return None;
+            };
+            // Any 64 bits are such a number.
+            let _bits = *bits;
+            Some((true, main, runs))
+        }
+        Entry::Double => {
+            let [bits, main @ ..] = main else {
+                return None;
+            };
+            // Any 64 bits are such a number.
+            let _bits = *bits;
+            Some((true, main, runs))
+        }
+        Entry::Whole(constant) => Some((is_wide(&constant), main, runs)),
+    }
+}
+
+/// What is left behind so many slots.
+fn skip_slots<'a, 'b>(
+    total: usize,
+    count: usize,
+    main: &'a [u64],
+    runs: &'b [u64],
+) -> Option<(&'a [u64], &'b [u64])>
+    requires short { total ≤ limit }
+    requires suffix { length runs.now ≤ total }
+    ensures left { Leaves (λ x. (x.0.now, x.1.now)) result (left2 (slots_at total false count main.now runs.now)) }
+    ensures suffix { IfSome result (λ x. length x.1.now ≤ length runs.now) }
+{
+    let mut second = false;
+    let (mut main, mut runs) = (main, runs);
+    for _ in 0..count {
+        if second {
+            second = false;
+            continue;
+        }
+        let (wide, main_behind, runs_behind) = skip_constant(total, main, runs)?;
+        second = wide;
+        main = main_behind;
+        runs = runs_behind;
+    }
+    if second {
+        return None;
+    }
+    Some((main, runs))
+}
+
+/// What is left behind so many interfaces.
+fn skip_interfaces(count: usize, words: &[u64]) -> Option<&[u64]>
+    ensures { Leaves (λ x. x.now) result (left1 (interfaces_from count words.now)) }
+{
+    let mut rest = words;
+    for _ in 0..count {
+        let [word, behind @ ..] = rest else {
+            return None;
+        };
+        if *word >= SECOND {
+            return None;
+        }
+        rest = behind;
+    }
+    Some(rest)
+}
+
+/// What is left behind an attribute.
+#[tactic(auto, unfolding(crate::specs::Reading::attribute_at))]
+fn skip_attribute<'a, 'b>(
+    total: usize,
+    attributes: &'a [u64],
+    runs: &'b [u64],
+) -> Option<(&'a [u64], &'b [u64])>
+    requires { length runs.now ≤ total }
+    ensures left { Leaves (λ x. (x.0.now, x.1.now)) result (left2 (attribute_at total attributes.now runs.now)) }
+    ensures suffixes { IfSome result (λ x. (length x.0.now ≤ length attributes.now) × (length x.1.now ≤ length runs.now)) }
+{
+    let [word, at, behind @ ..] = attributes else {
+        return None;
+    };
+    let (name, count) = (first(*word), upper(*word));
+    if attribute_word(name, count) != *word || *at != (total - runs.len()) as u64 {
+        return None;
+    }
+    let runs = skip_run(count as usize, runs)?;
+    Some((behind, runs))
+}
+
+/// What is left behind so many attributes.
+fn skip_attributes<'a, 'b>(
+    total: usize,
+    count: usize,
+    attributes: &'a [u64],
+    runs: &'b [u64],
+) -> Option<(&'a [u64], &'b [u64])>
+    requires { length runs.now ≤ total }
+    ensures left { Leaves (λ x. (x.0.now, x.1.now)) result (left2 (attributes_from total count attributes.now runs.now)) }
+    ensures suffixes { IfSome result (λ x. (length x.0.now ≤ length attributes.now) × (length x.1.now ≤ length runs.now)) }
+{
+    let (mut attributes, mut runs) = (attributes, runs);
+    for _ in 0..count {
+        let (behind, runs_behind) = skip_attribute(total, attributes, runs)?;
+        attributes = behind;
+        runs = runs_behind;
+    }
+    Some((attributes, runs))
+}
+
+/// What is left behind a member.
+#[tactic(auto, using(cm_record_layout::proofs::Digits::four_numbers_test), unfolding(crate::specs::Reading::member_at))]
+fn skip_member<'a, 'b, 'c>(
+    total: usize,
+    main: &'a [u64],
+    attributes: &'b [u64],
+    runs: &'c [u64],
+) -> Option<(&'a [u64], &'b [u64], &'c [u64])>
+    requires attributes { length attributes.now ≤ total }
+    requires runs { length runs.now ≤ total }
+    ensures left { Leaves (λ x. (x.0.now, x.1.now, x.2.now)) result (left3 (member_at total main.now attributes.now runs.now)) }
+    ensures suffixes { IfSome result (λ x. (length x.1.now ≤ length attributes.now) × (length x.2.now ≤ length runs.now)) }
+{
+    let [word, at, behind @ ..] = main else {
+        return None;
+    };
+    if *at != (total - attributes.len()) as u64 {
+        return None;
+    }
+    let count = fourth(*word) as usize;
+    let (attributes, runs) = skip_attributes(total, count, attributes, runs)?;
+    Some((behind, attributes, runs))
+}
+
+/// What is left behind so many members.
+fn skip_members<'a, 'b, 'c>(
+    total: usize,
+    count: usize,
+    main: &'a [u64],
+    attributes: &'b [u64],
+    runs: &'c [u64],
+) -> Option<(&'a [u64], &'b [u64], &'c [u64])>
+    requires attributes { length attributes.now ≤ total }
+    requires runs { length runs.now ≤ total }
+    ensures left { Leaves (λ x. (x.0.now, x.1.now, x.2.now)) result (left3 (members_from total count main.now attributes.now runs.now)) }
+    ensures suffixes { IfSome result (λ x. (length x.1.now ≤ length attributes.now) × (length x.2.now ≤ length runs.now)) }
+{
+    let (mut main, mut attributes, mut runs) = (main, attributes, runs);
+    for _ in 0..count {
+        let (behind, attributes_behind, runs_behind) = skip_member(total, main, attributes, runs)?;
+        main = behind;
+        attributes = attributes_behind;
+        runs = runs_behind;
+    }
+    Some((main, attributes, runs))
+}
+
+/// What is left behind the slots of the pool and the interfaces.
+#[tactic(auto, unfolding(crate::specs::Reading::pool_from))]
+fn skip_pool<'a, 'b>(
+    total: usize,
+    count: usize,
+    interfaces: usize,
+    main: &'a [u64],
+    runs: &'b [u64],
+) -> Option<(&'a [u64], &'b [u64])>
+    requires short { total ≤ limit }
+    requires suffix { length runs.now ≤ total }
+    ensures left { Leaves (λ x. (x.0.now, x.1.now)) result
+        (pool_left (pool_from total count interfaces main.now runs.now)) }
+    ensures suffix { IfSome result (λ x. length x.1.now ≤ length runs.now) }
+{
+    let (main, runs) = skip_slots(total, count, main, runs)?;
+    let main = skip_interfaces(interfaces, main)?;
+    Some((main, runs))
+}
+
+/// What is left behind so many fields, methods and attributes of the class.
+#[tactic(auto, unfolding(crate::specs::Reading::body_from))]
+fn skip_body<'a, 'b, 'c>(
+    total: usize,
+    counts: (usize, usize, usize),
+    main: &'a [u64],
+    attributes: &'b [u64],
+    runs: &'c [u64],
+) -> Option<(&'a [u64], &'b [u64], &'c [u64])>
+    requires attributes { length attributes.now ≤ total }
+    requires runs { length runs.now ≤ total }
+    ensures { Leaves (λ x. (x.0.now, x.1.now, x.2.now)) result
+        (body_left (body_from total counts.0 counts.1 counts.2 main.now attributes.now runs.now)) }
+{
+    let (main, attributes, runs) = skip_members(total, counts.0, main, attributes, runs)?;
+    let (main, attributes, runs) = skip_members(total, counts.1, main, attributes, runs)?;
+    let (attributes, runs) = skip_attributes(total, counts.2, attributes, runs)?;
+    Some((main, attributes, runs))
+}
+
+/// Nothing, where each section is there and ends where the next begins.
+#[tactic(auto, unfolding(crate::specs::Reading::class_at))]
+fn sections_fit(words: &[u64]) -> Option<()>
+    requires { length words.now ≤ limit }
+    ensures { is_some result ≡ is_some (class_at words.now) }
+{
+    if !head_is_right(words) {
+        return None;
+    }
+    let total = words.len();
+    let (numbers, counts) = (words[1], words[2]);
+    let (count, interfaces) = (first(counts) as usize - 1, fourth(numbers) as usize);
+    let runs = words_from(words, words[7] as usize);
+    let (main, runs) = skip_pool(total, count, interfaces, words_from(words, 9), runs)?;
+    let members = (
+        second(counts) as usize,
+        third(counts) as usize,
+        fourth(counts) as usize,
+    );
+    let attributes = words_from(words, words[6] as usize);
+    let (main, attributes, runs) = skip_body(total, members, main, attributes, runs)?;
+    if sections_end(words, main, attributes, runs) {
+        Some(())
+    } else {
+        None
+    }
+}
+
+/// Whether some class has these words as its record.
+pub fn is_record(words: &[u64]) -> bool
+    ensures { IsTrue result ↔ IsRecord words.now }
+{
+    words.len() <= MAX_WORDS as usize && sections_fit(words).is_some()
+}

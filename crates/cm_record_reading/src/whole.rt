@@ -1,0 +1,164 @@
+//! Reading a whole record.
+ghost use Rattle.std.specs.Prelude.{◌≡◌, ◌≤◌, ◌+◌, ◌↔◌, length, slice_index, IsTrue, IfOk, IsErrOf};
+ghost use Rattle.cm_record_layout.specs.Layout.{limit, IsRecord, IsRecordOf};
+ghost use Rattle.cm_record_reading.specs.Reading.{Gives, head_is_right as head_is_right_of, sections_end as sections_end_of, pool_from, body_from, class_at};
+ghost use Rattle.cm_record_layout.specs.Packing.{first_of};
+
+use crate::fault::RecordFault;
+use crate::reading::{read_attributes, read_interfaces, read_members, read_slots};
+use cm_class::{Attribute, ClassFile, Items, Member, Slot};
+use cm_record_layout::{first, fourth, second, third, words_from};
+use std::alloc::Global;
+
+/// The numbers in the first words, and where the sections begin, fit together.
+pub(crate) fn head_is_right(words: &[u64]) -> bool
+    ensures test { result ≡ head_is_right_of words.now }
+    ensures long { IsTrue result → 9 ≤ length words.now }
+    ensures slots { IsTrue result → 1 ≤ first_of (slice_index words.now 2) }
+    ensures attributes { IsTrue result → slice_index words.now 6 ≤ length words.now }
+    ensures runs { IsTrue result → slice_index words.now 7 ≤ length words.now }
+{
+    if words.len() < 9 {
+        return false;
+    }
+    let total = words.len() as u64;
+    let (numbers, counts) = (words[1], words[2]);
+    let members = u64::from(second(counts)) + u64::from(third(counts));
+    words[0] == total
+        && words[3] == 8
+        && words[8] == 0
+        && first(counts) >= 1
+        && words[4] == 8 + u64::from(first(counts))
+        && words[5] == words[4] + u64::from(fourth(numbers))
+        && words[6] == words[5] + 2 * members
+        && words[6] <= total
+        && words[7] <= total
+}
+
+/// Each section ended where the next began.
+pub(crate) fn sections_end(words: &[u64], main: &[u64], attributes: &[u64], runs: &[u64]) -> bool
+    requires long { 9 ≤ length words.now }
+    requires attributes { slice_index words.now 6 ≤ length words.now }
+    requires runs { slice_index words.now 7 ≤ length words.now }
+    ensures { result ≡ sections_end_of words.now main.now attributes.now runs.now }
+{
+    main.len() == words.len() - words[6] as usize
+        && attributes.len() == words.len() - words[7] as usize
+        && runs.is_empty()
+}
+
+/// The slots of the pool and the interfaces, and what is left behind them.
+#[tactic(auto, unfolding(crate::specs::Reading::pool_from))]
+fn read_pool<'a, 'b>(
+    alloc: Global,
+    total: usize,
+    count: usize,
+    interfaces: usize,
+    main: &'a [u64],
+    runs: &'b [u64],
+) -> Result<(Vec<Slot>, Vec<u16>, &'a [u64], &'b [u64]), RecordFault>
+    requires short { total ≤ limit }
+    requires suffix { length runs.now ≤ total }
+    ensures read { Gives (λ x. (x.0.items, x.1.items, x.2.now, x.3.now)) result
+        (pool_from total count interfaces main.now runs.now) }
+    ensures suffix { IfOk result (λ x. length x.3.now ≤ length runs.now) }
+{
+    let (slots, main, runs) = read_slots(alloc, total, count, main, runs)?;
+    let (interfaces, main) = read_interfaces(alloc, interfaces, main)?;
+    Ok((slots, interfaces, main, runs))
+}
+
+/// What stands behind the pool and the interfaces, and what is left behind each section.
+#[derive(Drop)]
+struct Body<'a, 'b, 'c> {
+    fields: Vec<Member>,
+    methods: Vec<Member>,
+    own: Vec<Attribute>,
+    main: &'a [u64],
+    attributes: &'b [u64],
+    runs: &'c [u64],
+}
+
+/// So many fields, methods and attributes of the class.
+#[tactic(auto, unfolding(crate::specs::Reading::body_from))]
+fn read_body<'a, 'b, 'c>(
+    alloc: Global,
+    total: usize,
+    counts: (usize, usize, usize),
+    main: &'a [u64],
+    attributes: &'b [u64],
+    runs: &'c [u64],
+) -> Result<Body<'a, 'b, 'c>, RecordFault>
+    requires attributes { length attributes.now ≤ total }
+    requires runs { length runs.now ≤ total }
+    ensures { Gives (λ x. (x.fields.items, x.methods.items, x.own.items, x.main.now, x.attributes.now, x.runs.now)) result
+        (body_from total counts.0 counts.1 counts.2 main.now attributes.now runs.now) }
+{
+    let (fields, main, attributes, runs) = read_members(
+        alloc, total, counts.0, main, attributes, runs,
+    )?;
+    let (methods, main, attributes, runs) = read_members(
+        alloc, total, counts.1, main, attributes, runs,
+    )?;
+    let (own, attributes, runs) = read_attributes(alloc, total, counts.2, attributes, runs)?;
+    Ok(Body {
+        fields,
+        methods,
+        own,
+        main,
+        attributes,
+        runs,
+    })
+}
+
+/// The class whose layout the words are.
+#[tactic(auto, unfolding(crate::specs::Reading::class_at))]
+fn class_of_words(alloc: Global, words: &[u64]) -> Result<ClassFile, RecordFault>
+    requires { length words.now ≤ limit }
+    ensures { Gives (λ c. c) result (class_at words.now) }
+{
+    if !head_is_right(words) {
+        return Err(RecordFault::NotARecord);
+    }
+    let total = words.len();
+    let (numbers, counts) = (words[1], words[2]);
+    let runs = words_from(words, words[7] as usize);
+    let (slots, interfaces, main, runs) = read_pool(
+        alloc,
+        total,
+        first(counts) as usize - 1,
+        fourth(numbers) as usize,
+        words_from(words, 9),
+        runs,
+    )?;
+    let members = (
+        second(counts) as usize,
+        third(counts) as usize,
+        fourth(counts) as usize,
+    );
+    let attributes = words_from(words, words[6] as usize);
+    let body = read_body(alloc, total, members, main, attributes, runs)?;
+    if !sections_end(words, body.main, body.attributes, body.runs) {
+        return Err(RecordFault::NotARecord);
+    }
+    Ok(ClassFile {
+        slots: Items::from_vec(slots),
+        flags: first(numbers),
+        this_class: second(numbers),
+        super_class: third(numbers),
+        interfaces: Items::from_vec(interfaces),
+        fields: Items::from_vec(body.fields),
+        methods: Items::from_vec(body.methods),
+        attributes: Items::from_vec(body.own),
+    })
+}
+
+/// The class that has these words as its record. `NotARecord` comes only where no class has, `NoMemory` only where an
+/// allocation failed.
+pub fn read_class(alloc: Global, words: &[u64]) -> Result<ClassFile, RecordFault>
+    requires { length words.now ≤ limit }
+    ensures ok { IfOk result (λ c. IsRecordOf c words.now) }
+    ensures not_a_record { IsErrOf result RecordFault.NotARecord → IsRecord words.now → ⊥ }
+{
+    class_of_words(alloc, words)
+}

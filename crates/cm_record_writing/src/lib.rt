@@ -1,0 +1,13 @@
+//! A class written as the words of its record.
+#![tactic(auto)]
+
+mod parts;
+mod places;
+mod refusal;
+mod runs;
+mod sections;
+mod writing;
+
+pub use refusal::RecordRefusal;
+pub use runs::push_words;
+pub use writing::write_class;

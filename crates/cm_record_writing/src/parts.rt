@@ -1,0 +1,115 @@
+//! The parts of a class's record, each made of sections.
+ghost use Rattle.std.specs.Prelude.{◌≡◌, ◌≤◌, ◌+◌, ◌++◌, ◌∷◌, length};
+ghost use Rattle.cm_record_layout.specs.Layout.{head, directory, members, member_attributes, attributes, attribute_runs, utf8_runs, all_members, all_attributes, attributes_at, runs_at, attribute_runs_at, record_len, limit};
+ghost use Rattle.cm_record_writing.specs.Places.{ArePlaces};
+
+use crate::places::Places;
+use crate::runs::push_words;
+use crate::sections::{
+    push_attribute_runs, push_attributes, push_directory, push_interfaces, push_members,
+    push_utf8_runs,
+};
+use cm_class::{Class, Member};
+use cm_record_layout::four_numbers;
+use cm_words::WordBuf;
+
+/// Adds the attributes of members. It gives where the run of the next would begin.
+fn push_member_attributes(words: &mut WordBuf, at: u64, these: &[Member]) -> u64
+    requires short { at + length (attribute_runs (member_attributes these.now)) ≤ limit }
+    requires room { length words.old.words + length (attributes at (member_attributes these.now)) ≤ words.old.capacity }
+    ensures words { words.new.words ≡ words.old.words ++ attributes at (member_attributes these.now) }
+    ensures capacity { words.new.capacity ≡ words.old.capacity }
+    ensures next { result ≡ at + length (attribute_runs (member_attributes these.now)) }
+{
+    let mut at = at;
+    for member in these {
+        at = push_attributes(words, at, member.attributes.as_slice());
+    }
+    at
+}
+
+/// Adds the runs of the attributes of members.
+fn push_member_runs(words: &mut WordBuf, these: &[Member])
+    requires { length words.old.words + length (attribute_runs (member_attributes these.now)) ≤ words.old.capacity }
+    ensures words { words.new.words ≡ words.old.words ++ attribute_runs (member_attributes these.now) }
+    ensures capacity { words.new.capacity ≡ words.old.capacity }
+{
+    for member in these {
+        push_attribute_runs(words, member.attributes.as_slice());
+    }
+}
+
+/// Adds the first eight words.
+pub(crate) fn push_head(words: &mut WordBuf, class: &Class, places: &Places)
+    requires places { ArePlaces class.now places.now }
+    requires room { length words.old.words + length (head class.now) ≤ words.old.capacity }
+    ensures words { words.new.words ≡ words.old.words ++ head class.now }
+    ensures capacity { words.new.capacity ≡ words.old.capacity }
+{
+    let _spelled = class.flags(); // brings the class's invariant into the proof's scope
+    let counts = (
+        class.interfaces().len(),
+        class.slots().len() + 1,
+        class.fields().len(),
+    );
+    push_words(
+        words,
+        &[
+            places.len,
+            four_numbers(
+                class.flags(),
+                class.this_class(),
+                class.super_class(),
+                counts.0 as u16,
+            ),
+            four_numbers(
+                counts.1 as u16,
+                counts.2 as u16,
+                class.methods().len() as u16,
+                class.attributes().len() as u16,
+            ),
+            8,
+            places.interfaces,
+            places.members,
+            places.attributes,
+            places.runs,
+        ],
+    );
+}
+
+/// Adds the directory, the interfaces and the members.
+pub(crate) fn push_pool_and_members(words: &mut WordBuf, class: &Class, places: &Places)
+    requires places { ArePlaces class.now places.now }
+    requires short { record_len class.now ≤ limit }
+    requires room { length words.old.words + length ((0 ∷ directory (runs_at class.now) class.now.slots)
+        ++ class.now.interfaces ++ members (attributes_at class.now) (all_members class.now)) ≤ words.old.capacity }
+    ensures words { words.new.words ≡ words.old.words ++ (0 ∷ directory (runs_at class.now) class.now.slots)
+        ++ class.now.interfaces ++ members (attributes_at class.now) (all_members class.now) }
+    ensures capacity { words.new.capacity ≡ words.old.capacity }
+{
+    let _spelled = class.flags(); // brings the class's invariant into the proof's scope
+    words.push(0);
+    push_directory(words, places.runs, class.slots());
+    push_interfaces(words, class.interfaces());
+    let next = push_members(words, places.attributes, class.fields());
+    push_members(words, next, class.methods());
+}
+
+/// Adds the attributes and the runs.
+pub(crate) fn push_attributes_and_runs(words: &mut WordBuf, class: &Class, places: &Places)
+    requires places { ArePlaces class.now places.now }
+    requires short { record_len class.now ≤ limit }
+    requires room { length words.old.words + length (attributes (attribute_runs_at class.now) (all_attributes class.now)
+        ++ utf8_runs class.now.slots ++ attribute_runs (all_attributes class.now)) ≤ words.old.capacity }
+    ensures words { words.new.words ≡ words.old.words ++ attributes (attribute_runs_at class.now) (all_attributes class.now)
+        ++ utf8_runs class.now.slots ++ attribute_runs (all_attributes class.now) }
+    ensures capacity { words.new.capacity ≡ words.old.capacity }
+{
+    let next = push_member_attributes(words, places.attribute_runs, class.fields());
+    let next = push_member_attributes(words, next, class.methods());
+    push_attributes(words, next, class.attributes());
+    push_utf8_runs(words, class.slots());
+    push_member_runs(words, class.fields());
+    push_member_runs(words, class.methods());
+    push_attribute_runs(words, class.attributes());
+}
