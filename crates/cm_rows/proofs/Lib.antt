@@ -1,0 +1,10 @@
+pub mod Lists
+pub mod Chunks
+pub mod Classes
+pub mod Loaders
+pub mod Holding
+pub mod RowFacts
+pub mod Changes
+pub mod Giving
+pub mod Verdicts
+pub mod Books

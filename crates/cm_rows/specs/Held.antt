@@ -1,0 +1,51 @@
+-- How the chunks of rows are held in a pool with all roots of a region.
+use Rattle.std.specs.Prelude.{◌≡◌, ◌≤◌, ◌==◌, ◌&&◌, ℕ, List, filter, map, Option, Some, None, ◌⊎◌, if◌then◌else◌}
+use Rattle.cm_pool.specs.declared.chunk.Chunk.{Chunk}
+use Rattle.cm_pool.specs.Geometry.{Sizes}
+use Rattle.cm_pool.specs.FreeSpace.{FreeSpace, IsFreeChunk, without}
+use Rattle.cm_pool.specs.declared.place.Place.{Place}
+use Rattle.cm_pool.specs.Held.{AreHeld, NoneIsLost}
+use Rattle.cm_pool.specs.Lists.{Among}
+use Rattle.cm_layout.specs.declared.class_row.ClassRow.{ClassRow}
+use Rattle.cm_layout.specs.declared.row.Row.TheVariants.{Loader, Class}
+use Rattle.cm_layout.specs.Frames.{BareRow}
+use Rattle.cm_rows.specs.declared.live_loader.LastChunk.{LastChunk}
+
+-- the pool has all roots, and its free words are those of no chunk of these
+pub record Holds (sizes : Sizes) (pool : FreeSpace) (chunks : List Chunk) : Type 0 where
+  pub geometry : pool.geometry ≡ sizes
+  pub roots : pool.roots ≡ sizes.roots
+  pub held : AreHeld pool chunks
+  pub none_lost : NoneIsLost pool chunks
+
+-- the chunks of classes, each once: where its first record lies
+abbrev pub first_chunks : List ClassRow → List Chunk
+first_chunks classes = map (λ r. r.place.chunk) (filter (λ r. r.place.offset == 0) classes)
+
+-- the chunk of a row of this loader that is the first on it
+abbrev pub first_of : ℕ → BareRow → Option Chunk
+first_of u (Loader r) = None
+first_of u (Class r p) = if (r.loader == u) && (r.place.offset == 0) then Some r.place.chunk else None
+
+-- each record has words, each chunk a first record, and each chunk one loader
+pub record AreFounded (classes : List ClassRow) : Type 0 where
+  pub words : (r : ClassRow) → Among r classes → 1 ≤ r.place.words
+  pub first : (r : ClassRow) → Among r classes → Among r.place.chunk (first_chunks classes)
+  pub owner : (r s : ClassRow) → Among r classes → Among s classes → r.place.chunk ≡ s.place.chunk → r.loader ≡ s.loader
+
+-- a record's place is on the top of a loader's last chunk, or at the front of a free one, which is taken then
+pub record IsTop (last : Option LastChunk) (place : Place) : Type 0 where
+  pub is_top : last ≡ Some (record { chunk = place.chunk; used = place.offset })
+
+pub record IsFront (place : Place) (pool : FreeSpace) : Type 0 where
+  pub front : place.offset ≡ 0
+  pub free : IsFreeChunk pool place.chunk
+
+abbrev pub TakesPlace : Option LastChunk → Place → FreeSpace → FreeSpace → Type 0
+TakesPlace last place old new = (IsTop last place × (new ≡ old)) ⊎ (IsFront place old × (new ≡ without old place.chunk))
+
+-- it is neither
+pub record HasNoPlace (last : Option LastChunk) (place : Place) (old new : FreeSpace) : Type 0 where
+  pub not_top : ¬ IsTop last place
+  pub not_front : ¬ IsFront place old
+  pub stays : new ≡ old

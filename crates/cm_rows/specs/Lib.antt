@@ -1,0 +1,4 @@
+pub mod Rows
+pub mod Loaders
+pub mod Held
+pub mod Book

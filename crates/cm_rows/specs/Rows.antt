@@ -1,0 +1,22 @@
+-- Live rows as a value: what a book is seen as, and what is asked of it.
+use Rattle.std.specs.Prelude.{◌<◌, ℕ, List, Option}
+use Rattle.std.specs.List.{AllByRecursion}
+use Rattle.std.specs.Option.{option_map}
+use Rattle.cm_pool.specs.Geometry.{Sizes}
+use Rattle.cm_layout.specs.declared.row.Row.{Row}
+use Rattle.cm_layout.specs.Frames.{BareRow}
+use Rattle.cm_layout.specs.Rows.{numbers_in, classes_in, used_words, last_chunk}
+use Rattle.cm_rows.specs.declared.live_loader.LastChunk.{LastChunk}
+
+-- the sizes of a region, and the rows that live, with nothing kept of a class
+pub record LiveRows : Type 0 where
+  pub sizes : Sizes
+  pub rows : List BareRow
+
+-- the number is above that of each live loader
+abbrev pub IsAbove : {P : Type 0} → ℕ → List (Row P) → Type 0
+IsAbove n rows = AllByRecursion (λ u. u < n) (numbers_in rows)
+
+-- the chunk of a loader's last class, and how many of its words records take
+abbrev pub last_of : {P : Type 0} → ℕ → List (Row P) → Option LastChunk
+last_of u rows = option_map (λ c. record { chunk = c; used = used_words c rows }) (last_chunk u (classes_in rows))

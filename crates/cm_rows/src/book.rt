@@ -1,0 +1,204 @@
+//! The book of live rows.
+
+ghost use Rattle.std.specs.Prelude.{◌≡◌, ◌<◌, IfOk, IfSome, IfNone, [], ◌∷◌, ◌++◌, Some, None, is_none, length, nat_lt, if◌then◌else◌};
+ghost use Rattle.std.specs.List.{list_all};
+
+use crate::live_loader::{LastChunk, LiveLoader, find, push_loader, set_last};
+use crate::place_rules::{has_room, is_inside, row_limit, take_place};
+use crate::rows::{
+    copy_loader, give_chunks, is_new, move_rows, number_of, push_row, remove_loader,
+};
+use crate::whole_pool::whole_pool;
+use cm_layout::{ClassRow, Entry, EntryRule, LoaderRow, Move, Row};
+use cm_pool::{Geometry, Pool};
+use std::alloc::{AllocError, Global};
+use std::marker::Model;
+
+/// The rows that live, in the order of the entries that made them, with nothing kept of a class.
+///
+/// Contracts see a book as the sizes of its region and these rows. Beside the rows it keeps what answers questions on
+/// them: the loaders by number, each with its last chunk, and a pool that holds all chunks of rows.
+#[derive(Drop)]
+pub struct Book {
+    geometry: Geometry,
+    rows: Vec<Row<()>>,
+    loaders: Vec<LiveLoader>,
+    pool: Pool,
+}
+
+impl Model for Book {
+    ghost use Rattle.std.specs.Prelude.{vec_capacity};
+    ghost use Rattle.cm_rows.specs.Rows.{LiveRows};
+    ghost use Rattle.cm_rows.specs.Book.{IsBook};
+
+    ghost Value = { LiveRows };
+
+    ghost view = { λ b. record { sizes = b.geometry; rows = b.rows.items } };
+
+    ghost invariant = { λ b. IsBook b.geometry b.rows.items (vec_capacity b.rows) b.loaders.items (vec_capacity b.loaders) b.pool };
+}
+
+impl Book {
+    ghost use Rattle.cm_layout.specs.declared.entry_rule.EntryRule.TheVariants.{OnRows, OnChunks};
+    ghost use Rattle.cm_layout.specs.declared.row.Row.TheVariants.{Loader, Class};
+    ghost use Rattle.cm_layout.specs.Rows.{rows_after, without_loader, moved, numbers_in, number_of as number_of_name};
+    ghost use Rattle.cm_layout.specs.Rules.{broken_rule, broken_live_rule, is_new_loader, is_live, move_fits};
+    ghost use Rattle.cm_rows.specs.Rows.{IsAbove, last_of};
+
+    /// A book with no rows. All memory that it will ever need is taken here.
+    pub fn new(alloc: Global, geometry: Geometry) -> Result<Book, AllocError>
+        ensures { IfOk result (λ book. book ≡ record { sizes = geometry; rows = [] }) }
+    {
+        let limit = row_limit(geometry);
+        let rows = Vec::with_capacity(alloc, limit)?;
+        let loaders = Vec::with_capacity(alloc, limit)?;
+        let pool = whole_pool(alloc, geometry)?;
+        Ok(Book {
+            geometry,
+            rows,
+            loaders,
+            pool,
+        })
+    }
+
+    /// The first rule that an entry of this number breaks. Where it breaks none, the rows are those after it; else
+    /// nothing is changed. A group's numbers go on from those before, so the number is above all live loaders'.
+    pub fn apply(&mut self, number: u64, entry: &Entry<()>) -> Option<EntryRule>
+        requires { IsAbove number self.old.rows }
+        ensures broken { result ≡ broken_rule self.old.sizes self.old.rows number entry.now }
+        ensures left { self.new ≡ (if is_none result then record self.old { rows = rows_after self.old.rows entry.now } else self.old) }
+    {
+        match entry {
+            Entry::Live(Row::Loader(row)) => {
+                if row.number != number {
+                    return Some(EntryRule::OnRows);
+                }
+                self.add_loader(row)
+            }
+            Entry::Live(Row::Class(row, _)) => self.define(row),
+            Entry::Unload(entry) => self.unload(entry.loader),
+            Entry::Move(entry) => self.relocate(entry),
+        }
+    }
+
+    /// The first rule that a live row breaks behind a half's head with this base. Where it breaks none, it stands
+    /// behind the others; else nothing is changed.
+    pub fn apply_live(&mut self, base: u64, row: &Row<()>) -> Option<EntryRule>
+        ensures broken { result ≡ broken_live_rule self.old.sizes base self.old.rows row.now }
+        ensures left { self.new ≡ (if is_none result then record self.old { rows = self.old.rows ++ row.now ∷ [] } else self.old) }
+    {
+        match row {
+            Row::Loader(row) => {
+                if row.number < 1 || row.number > base || !self.is_next(row.number) {
+                    return Some(EntryRule::OnRows);
+                }
+                self.add_loader(row)
+            }
+            Row::Class(row, _) => self.define(row),
+        }
+    }
+
+    /// The number of the live loader of a name.
+    pub fn loader(&self, name: &[u8]) -> Option<u64>
+        ensures { result ≡ number_of_name name.now self.now.rows }
+    {
+        number_of(&self.rows, name)
+    }
+
+    /// Whether a loader of this number lives.
+    pub fn is_live(&self, number: u64) -> bool
+        ensures { result ≡ is_live number self.now.rows }
+    {
+        find(&self.loaders, number).is_some()
+    }
+
+    /// The chunk of a loader's last class, with its used words, if the loader has a class.
+    pub fn last(&self, number: u64) -> Option<LastChunk>
+        ensures { result ≡ last_of number self.now.rows }
+    {
+        let at = find(&self.loaders, number)?;
+        self.loaders[at].last
+    }
+
+    /// How many rows there are.
+    pub fn len(&self) -> usize
+        ensures { result ≡ length self.now.rows }
+    {
+        self.rows.len()
+    }
+
+    // Whether a number is above those of all loaders.
+    fn is_next(&self, number: u64) -> bool
+        ensures { result ≡ list_all (λ u. nat_lt u number) (numbers_in self.now.rows) }
+    {
+        let count = self.loaders.len();
+        count == 0 || self.loaders[count - 1].number < number
+    }
+
+    fn add_loader(&mut self, row: &LoaderRow) -> Option<EntryRule>
+        requires { IsAbove row.now.number self.old.rows }
+        ensures broken { result ≡ (if is_new_loader self.old.sizes self.old.rows row.now then None else Some OnRows) }
+        ensures left { self.new ≡ (if is_none result then record self.old { rows = self.old.rows ++ Loader row.now ∷ [] } else self.old) }
+    {
+        if !is_new(&self.rows, row_limit(self.geometry), row.name.as_bytes()) {
+            return Some(EntryRule::OnRows);
+        }
+        push_row(&mut self.rows, Row::Loader(copy_loader(row)));
+        push_loader(&mut self.loaders, row.number);
+        None
+    }
+
+    fn define(&mut self, row: &ClassRow) -> Option<EntryRule>
+        ensures broken { result ≡ broken_live_rule self.old.sizes 0 self.old.rows (Class row.now tt) }
+        ensures left { self.new ≡ (if is_none result then record self.old { rows = self.old.rows ++ Class row.now tt ∷ [] } else self.old) }
+    {
+        let Some(at) = find(&self.loaders, row.loader) else {
+            return Some(EntryRule::OnRows);
+        };
+        if self.rows.len() >= row_limit(self.geometry) {
+            return Some(EntryRule::OnRows);
+        }
+        if !is_inside(self.geometry, &row.place) {
+            return Some(EntryRule::OnChunks);
+        }
+        if !take_place(self.loaders[at].last, &row.place, &mut self.pool) {
+            return Some(EntryRule::OnChunks);
+        }
+        let used = row.place.offset + row.place.words;
+        set_last(&mut self.loaders, at, row.loader, row.place.chunk, used);
+        push_row(&mut self.rows, Row::Class(*row, ()));
+        None
+    }
+
+    fn unload(&mut self, number: u64) -> Option<EntryRule>
+        ensures broken { result ≡ (if is_live number self.old.rows then None else Some OnRows) }
+        ensures left { self.new ≡ (if is_none result then record self.old { rows = without_loader number self.old.rows } else self.old) }
+    {
+        let Some(at) = find(&self.loaders, number) else {
+            return Some(EntryRule::OnRows);
+        };
+        give_chunks(&self.rows, number, &mut self.pool);
+        remove_loader(&mut self.rows, number);
+        let _unloaded = self.loaders.remove(at);
+        None
+    }
+
+    fn relocate(&mut self, entry: &Move) -> Option<EntryRule>
+        ensures broken { result ≡ (if move_fits self.old.sizes self.old.rows entry.now then None else Some OnChunks) }
+        ensures left { self.new ≡ (if is_none result then record self.old { rows = moved entry.now.from entry.now.to self.old.rows } else self.old) }
+    {
+        let Some(at) = find(&self.loaders, entry.loader) else {
+            return Some(EntryRule::OnChunks);
+        };
+        let Some(last) = self.loaders[at].last else {
+            return Some(EntryRule::OnChunks);
+        };
+        if !has_room(self.geometry, last, entry) || !self.pool.take(&entry.to) {
+            return Some(EntryRule::OnChunks);
+        }
+        self.pool.give(entry.from);
+        move_rows(&mut self.rows, entry.from, entry.to);
+        set_last(&mut self.loaders, at, entry.loader, entry.to, last.used);
+        None
+    }
+}

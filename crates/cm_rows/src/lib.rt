@@ -1,0 +1,11 @@
+//! The live rows of a cache, with the rules that entries keep: no command looks at all rows, and none but `new` takes memory.
+#![tactic(auto)]
+
+mod book;
+mod live_loader;
+mod place_rules;
+mod rows;
+mod whole_pool;
+
+pub use book::Book;
+pub use live_loader::LastChunk;

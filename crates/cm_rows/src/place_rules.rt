@@ -1,0 +1,59 @@
+//! The rules on the place of a class's record that other rows have no part in, or one alone.
+
+ghost use Rattle.std.specs.Prelude.{◌≡◌, ◌+◌, ◌&&◌, ◌↔◌, IsTrue, Some, MatchBool, nat_le};
+ghost use Rattle.cm_pool.specs.Chunks.{chunk_size, same_chunk};
+ghost use Rattle.cm_layout.specs.Rules.{is_chunk, row_limit as row_limit_of};
+ghost use Rattle.cm_rows.specs.Held.{TakesPlace, HasNoPlace};
+
+use crate::live_loader::LastChunk;
+use cm_layout::Move;
+use cm_pool::{Chunk, Geometry, Place, Pool};
+
+/// How many rows can live: half of a half's slots.
+pub fn row_limit(geometry: Geometry) -> usize
+    ensures { result ≡ row_limit_of geometry }
+{
+    geometry.slots() as usize / 2
+}
+
+/// Whether a region of these sizes can have the chunk.
+pub fn is_chunk(geometry: Geometry, chunk: &Chunk) -> bool
+    ensures { result ≡ is_chunk geometry chunk.now }
+{
+    chunk.is_within(geometry)
+}
+
+/// Whether the words are inside a chunk that the region can have, at least one.
+pub fn is_inside(geometry: Geometry, place: &Place) -> bool
+    ensures { result ≡ (is_chunk geometry place.now.chunk && nat_le 1 place.now.words && nat_le (place.now.offset + place.now.words) (chunk_size place.now.chunk.order)) }
+{
+    is_chunk(geometry, &place.chunk) && place.is_inside()
+}
+
+/// Takes the place of a class's record: on the top of its loader's last chunk, or at the front of a free chunk. False,
+/// and nothing is changed, where it is neither.
+pub fn take_place(last: Option<LastChunk>, place: &Place, pool: &mut Pool) -> bool
+    ensures { MatchBool result (TakesPlace last place.now pool.old pool.new) (HasNoPlace last place.now pool.old pool.new) }
+{
+    if is_on_top(last, place) {
+        return true;
+    }
+    place.offset == 0 && pool.take(&place.chunk)
+}
+
+// Whether the place is the next one on a loader's last chunk.
+fn is_on_top(last: Option<LastChunk>, place: &Place) -> bool
+    ensures { IsTrue result ↔ (last ≡ Some (record { chunk = place.now.chunk; used = place.now.offset })) }
+{
+    match last {
+        Some(last) => last.chunk == place.chunk && last.used == place.offset,
+        None => false,
+    }
+}
+
+/// Whether the records on a loader's last chunk are those of a move, and have room on its new chunk.
+pub fn has_room(geometry: Geometry, last: LastChunk, entry: &Move) -> bool
+    ensures { result ≡ (same_chunk last.chunk entry.now.from && is_chunk geometry entry.now.to && nat_le last.used (chunk_size entry.now.to.order)) }
+{
+    last.chunk == entry.from && is_chunk(geometry, &entry.to) && last.used <= entry.to.size()
+}
