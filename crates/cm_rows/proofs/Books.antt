@@ -246,3 +246,21 @@ relocated sizes rows rc ls lc p e i m l h at is last room free =
     let same : last_of e.loader rows ≡ Some l = last-at rows ls e.loader i m h.loaders at is ∙ last in
     let from : last_of e.loader rows ≡ Some (record { chunk = e.from; used = l.used }) = same ∙ ap (λ (c : Chunk). Some (record { chunk = c; used = l.used })) (room-from sizes l e room) in
     relocate sizes rows rc ls lc p e.loader i l.used e.from e.to h at from free
+
+-- ---- another's rows
+
+pub copied : (sizes : Sizes) (rows : List BareRow) (rc more : ℕ) (ls : List LiveLoader) (lc most : ℕ) (p q : FreeSpace)
+    → IsBook sizes rows rc ls lc p → row_limit sizes ≤ more → row_limit sizes ≤ most → Holds sizes q (first_chunks (classes_in rows)) → IsBook sizes rows more ls most q
+copied sizes rows rc more ls lc most p q h room also holds =
+    record {
+      lawful = h.lawful;
+      few = h.few;
+      room = room;
+      loaders_room = also;
+      loaders = h.loaders;
+      live = record { holds = holds; founded = h.live.founded; owned = h.live.owned };
+    }
+
+pub loaders-at_most : (sizes : Sizes) (rows : List BareRow) (rc : ℕ) (ls : List LiveLoader) (lc : ℕ) (p : FreeSpace) → IsBook sizes rows rc ls lc p → length ls ≤ row_limit sizes
+loaders-at_most sizes rows rc ls lc p h =
+    omega (arith, h.few, length-map ls (λ (l : LiveLoader). l.number), ap length h.loaders.numbers, numbers-few rows)

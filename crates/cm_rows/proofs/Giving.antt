@@ -1,17 +1,22 @@
 -- Rows gone over one by one: a loader's chunks are given back, and a chunk's records are moved.
-use Rattle.std.proofs.Common.{◌≡◌, ℕ, zero, suc, add-one, ◌+◌, ◌<◌, Bool, true, false, cond, eqb, List, [], ◌∷◌, ◌++◌, map, length, take, drop, get_or, set, Some, None, refl, sym, ◌∙◌, ap, subst, arith, append_assoc, append-nil}
+use Rattle.std.proofs.Common.{◌≡◌, ℕ, zero, suc, add-one, ◌+◌, ◌<◌, Bool, true, false, cond, eqb, List, [], ◌∷◌, ◌++◌, map, length, take, drop, get_or, set, Some, None, refl, sym, ◌∙◌, ap, subst, arith, append_assoc, append-nil, inl, inr}
 use Rattle.std.specs.Prelude.{not, filter, ◌&&◌}
 use Rattle.std.proofs.lemmas.List.{take_more, drop_more, map-append, set-get_or}
+use Rattle.std.specs.List.{AllByRecursion}
+use Rattle.cm_pool.specs.Chunks.{Meets, IsChunk}
+use Rattle.cm_pool.specs.Lists.{Among, Pairwise}
 use Rattle.std.proofs.lemmas.List.Elements.{filter-append}
 use Rattle.cm_pool.specs.declared.chunk.Chunk.{Chunk}
 use Rattle.cm_pool.specs.Geometry.{Sizes}
-use Rattle.cm_pool.specs.FreeSpace.{FreeSpace, IsUsedChunk, with_chunk}
+use Rattle.cm_pool.specs.FreeSpace.{FreeSpace, IsFreeChunk, IsUsedChunk, without, with_chunk}
 use Rattle.cm_layout.specs.declared.class_row.ClassRow.{ClassRow}
 use Rattle.cm_layout.specs.declared.row.Row.TheVariants.{Loader, Class}
 use Rattle.cm_layout.specs.Rows.{classes_in, is_of, without_loader, moved_row, moved}
 use Rattle.cm_layout.specs.Frames.{BareRow}
-use Rattle.cm_rows.specs.Held.{Holds, first_chunks, first_of}
-use Rattle.cm_rows.proofs.Holding.{give-back}
+use Rattle.cm_rows.specs.Held.{Holds, CanBeHeld, first_chunks, first_of, own_chunk}
+use Rattle.cm_rows.proofs.Lists.{among-right}
+use Rattle.cm_rows.proofs.Chunks.{meets-turned}
+use Rattle.cm_rows.proofs.Holding.{each-among, free-is, take-push, give-back}
 
 pub classes-append : (rows more : List BareRow) → classes_in (rows ++ more) ≡ classes_in rows ++ classes_in more
 classes-append [] more = refl
@@ -115,3 +120,71 @@ pub moved-kept : (from to : Chunk) (rows items : List BareRow) (i : ℕ) (row : 
     → items ≡ half_moved from to rows (i + 1)
 moved-kept from to rows items i row lt e is put =
     sym (set-get_or items i row) ∙ ap (λ (x : BareRow). set items i x) (sym is) ∙ moved-put from to rows items i row row lt e is put
+
+-- ---- all chunks, given back and taken
+
+firsts-some : (x : BareRow) (rest : List BareRow) (c : Chunk) → own_chunk x ≡ Some c → firsts (x ∷ rest) ≡ c ∷ firsts rest
+firsts-some (Loader r) rest c h = absurd (cc)
+firsts-some (Class r p) rest c h = by_test (eqb r.place.offset 0) refl h
+  where
+    by_test : (t : Bool) → eqb r.place.offset 0 ≡ t → cond t (Some r.place.chunk) None ≡ Some c → firsts (Class r p ∷ rest) ≡ c ∷ firsts rest
+    by_test true e h = let is : r.place.chunk ≡ c = cc in rw (e) (ap (λ (d : Chunk). d ∷ firsts rest) is)
+    by_test false e h = absurd (cc)
+
+firsts-none : (x : BareRow) (rest : List BareRow) → own_chunk x ≡ None → firsts (x ∷ rest) ≡ firsts rest
+firsts-none (Loader r) rest h = refl
+firsts-none (Class r p) rest h = by_test (eqb r.place.offset 0) refl h
+  where
+    by_test : (t : Bool) → eqb r.place.offset 0 ≡ t → cond t (Some r.place.chunk) None ≡ None → firsts (Class r p ∷ rest) ≡ firsts rest
+    by_test true e h = absurd (cc)
+    by_test false e h = rw (e) refl
+
+pub given-more : (sizes : Sizes) (p : FreeSpace) (rows : List BareRow) (i : ℕ) (d : BareRow) (c : Chunk) → i < length rows → own_chunk (get_or rows i d) ≡ Some c
+    → Holds sizes p (firsts (drop i rows)) → Holds sizes (with_chunk p c) (firsts (drop (i + 1) rows))
+given-more sizes p rows i d c lt some h =
+    let now = subst (λ (l : List Chunk). Holds sizes p l) (ap firsts (drop_more rows i d lt) ∙ firsts-some (get_or rows i d) (drop (i + 1) rows) c some) h in
+    (give-back sizes p [] c (firsts (drop (i + 1) rows)) now).1
+
+pub left-more : (sizes : Sizes) (p : FreeSpace) (rows : List BareRow) (i : ℕ) (d : BareRow) → i < length rows → own_chunk (get_or rows i d) ≡ None
+    → Holds sizes p (firsts (drop i rows)) → Holds sizes p (firsts (drop (i + 1) rows))
+left-more sizes p rows i d lt none h = subst (λ (l : List Chunk). Holds sizes p l) (ap firsts (drop_more rows i d lt) ∙ firsts-none (get_or rows i d) (drop (i + 1) rows) none) h
+
+-- what is before c in a list has R with it
+pair-before : (R : Chunk → Chunk → Type 0) (xs : List Chunk) (c : Chunk) (ys : List Chunk) (d : Chunk) → Pairwise R (xs ++ c ∷ ys) → Among d xs → R d c
+pair-before R [] c ys d h none = absurd none
+pair-before R (x ∷ xs) c ys d h (inl e) = subst (λ (y : Chunk). R y c) (sym e) (each-among (R x) (xs ++ c ∷ ys) c h.0 (among-right c xs (c ∷ ys) (inl refl)))
+pair-before R (x ∷ xs) c ys d h (inr m) = pair-before R xs c ys d h.1 m
+
+firsts-more : (rows : List BareRow) (i : ℕ) (d : BareRow) → i < length rows → firsts (take (i + 1) rows) ≡ firsts (take i rows) ++ firsts (get_or rows i d ∷ [])
+firsts-more rows i d lt =
+    ap firsts (take_more rows i d lt) ∙ ap first_chunks (classes-append (take i rows) (get_or rows i d ∷ []))
+    ∙ first-append (classes_in (take i rows)) (classes_in (get_or rows i d ∷ []))
+
+split-at : (i : ℕ) (rows : List BareRow) → take i rows ++ drop i rows ≡ rows
+split-at zero rows = refl
+split-at (suc i) [] = refl
+split-at (suc i) (x ∷ rows) = ap (λ l. x ∷ l) (split-at i rows)
+
+firsts-parts : (rows : List BareRow) (i : ℕ) (d : BareRow) (c : Chunk) → i < length rows → own_chunk (get_or rows i d) ≡ Some c → firsts rows ≡ firsts (take i rows) ++ c ∷ firsts (drop (i + 1) rows)
+firsts-parts rows i d c lt some =
+    ap firsts (sym (split-at i rows))
+    ∙ ap first_chunks (classes-append (take i rows) (drop i rows))
+    ∙ first-append (classes_in (take i rows)) (classes_in (drop i rows))
+    ∙ ap (λ l. firsts (take i rows) ++ l) (ap firsts (drop_more rows i d lt) ∙ firsts-some (get_or rows i d) (drop (i + 1) rows) c some)
+
+pub taken-more : (sizes : Sizes) (p : FreeSpace) (rows : List BareRow) (i : ℕ) (d : BareRow) (c : Chunk) → i < length rows → own_chunk (get_or rows i d) ≡ Some c → CanBeHeld sizes (firsts rows)
+    → Holds sizes p (firsts (take i rows)) → IsFreeChunk p c × Holds sizes (without p c) (firsts (take (i + 1) rows))
+taken-more sizes p rows i d c lt some can h =
+    let parts = firsts-parts rows i d c lt some in
+    let each : AllByRecursion (IsChunk sizes) (firsts (take i rows) ++ c ∷ firsts (drop (i + 1) rows)) = subst (AllByRecursion (IsChunk sizes)) parts can.each in
+    let apart : Pairwise (λ a b. ¬ Meets a b) (firsts (take i rows) ++ c ∷ firsts (drop (i + 1) rows)) = subst (Pairwise (λ a b. ¬ Meets a b)) parts can.apart in
+    let chunk = each-among (IsChunk sizes) (firsts (take i rows) ++ c ∷ firsts (drop (i + 1) rows)) c each (among-right c (firsts (take i rows)) (c ∷ firsts (drop (i + 1) rows)) (inl refl)) in
+    let free = (free-is sizes p (firsts (take i rows)) c h).1 (chunk, λ x m meet. pair-before (λ a b. ¬ Meets a b) (firsts (take i rows)) c (firsts (drop (i + 1) rows)) x apart m (meets-turned c x meet)) in
+    let more : firsts (take (i + 1) rows) ≡ firsts (take i rows) ++ c ∷ [] = firsts-more rows i d lt ∙ ap (λ l. firsts (take i rows) ++ l) (firsts-some (get_or rows i d) [] c some) in
+    (free, subst (λ (l : List Chunk). Holds sizes (without p c) l) (sym more) (take-push sizes p (firsts (take i rows)) c h free))
+
+pub passed-more : (sizes : Sizes) (p : FreeSpace) (rows : List BareRow) (i : ℕ) (d : BareRow) → i < length rows → own_chunk (get_or rows i d) ≡ None
+    → Holds sizes p (firsts (take i rows)) → Holds sizes p (firsts (take (i + 1) rows))
+passed-more sizes p rows i d lt none h =
+    subst (λ (l : List Chunk). Holds sizes p l)
+    (sym (firsts-more rows i d lt ∙ ap (λ l. firsts (take i rows) ++ l) (firsts-none (get_or rows i d) [] none) ∙ append-nil (firsts (take i rows)))) h

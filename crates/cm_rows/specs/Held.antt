@@ -5,7 +5,9 @@ use Rattle.cm_pool.specs.Geometry.{Sizes}
 use Rattle.cm_pool.specs.FreeSpace.{FreeSpace, IsFreeChunk, without}
 use Rattle.cm_pool.specs.declared.place.Place.{Place}
 use Rattle.cm_pool.specs.Held.{AreHeld, NoneIsLost}
-use Rattle.cm_pool.specs.Lists.{Among}
+use Rattle.cm_pool.specs.Lists.{Among, Pairwise}
+use Rattle.cm_pool.specs.Chunks.{IsChunk, Meets}
+use Rattle.std.specs.List.{AllByRecursion}
 use Rattle.cm_layout.specs.declared.class_row.ClassRow.{ClassRow}
 use Rattle.cm_layout.specs.declared.row.Row.TheVariants.{Loader, Class}
 use Rattle.cm_layout.specs.Frames.{BareRow}
@@ -18,9 +20,19 @@ pub record Holds (sizes : Sizes) (pool : FreeSpace) (chunks : List Chunk) : Type
   pub held : AreHeld pool chunks
   pub none_lost : NoneIsLost pool chunks
 
+-- a region has the chunks, and no two share a word
+pub record CanBeHeld (sizes : Sizes) (chunks : List Chunk) : Type 0 where
+  pub each : AllByRecursion (IsChunk sizes) chunks
+  pub apart : Pairwise (λ a b. ¬ Meets a b) chunks
+
 -- the chunks of classes, each once: where its first record lies
 abbrev pub first_chunks : List ClassRow → List Chunk
 first_chunks classes = map (λ r. r.place.chunk) (filter (λ r. r.place.offset == 0) classes)
+
+-- the chunk of a row that is the first on it
+abbrev pub own_chunk : BareRow → Option Chunk
+own_chunk (Loader r) = None
+own_chunk (Class r p) = if r.place.offset == 0 then Some r.place.chunk else None
 
 -- the chunk of a row of this loader that is the first on it
 abbrev pub first_of : ℕ → BareRow → Option Chunk

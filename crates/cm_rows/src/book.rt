@@ -3,11 +3,13 @@
 ghost use Rattle.std.specs.Prelude.{◌≡◌, ◌<◌, IfOk, IfSome, IfNone, [], ◌∷◌, ◌++◌, Some, None, is_none, length, nat_lt, if◌then◌else◌};
 ghost use Rattle.std.specs.List.{list_all};
 
-use crate::live_loader::{LastChunk, LiveLoader, find, push_loader, set_last};
+use crate::live_loader::{LastChunk, LiveLoader, copy_loaders, find, push_loader, set_last};
 use crate::place_rules::{has_room, is_inside, row_limit, take_place};
 use crate::rows::{
-    copy_loader, give_chunks, is_new, move_rows, number_of, push_row, remove_loader,
+    copy_loader, copy_rows, give_all, give_chunks, is_new, move_rows, number_of, push_row,
+    remove_loader, take_all,
 };
+use crate::walk::Walk;
 use crate::whole_pool::whole_pool;
 use cm_layout::{ClassRow, Entry, EntryRule, LoaderRow, Move, Row};
 use cm_pool::{Geometry, Pool};
@@ -118,6 +120,33 @@ impl Book {
     {
         let at = find(&self.loaders, number)?;
         self.loaders[at].last
+    }
+
+    /// Takes over the rows of another book of the same sizes.
+    pub fn copy_from(&mut self, other: &Book)
+        requires { self.old.sizes ≡ other.now.sizes }
+        ensures { self.new ≡ other.now }
+    {
+        give_all(&self.rows, &mut self.pool);
+        take_all(&other.rows, &mut self.pool);
+        copy_rows(&mut self.rows, &other.rows);
+        copy_loaders(&mut self.loaders, &other.loaders);
+    }
+
+    /// Leaves no row.
+    pub fn clear(&mut self)
+        ensures { self.new ≡ record self.old { rows = [] } }
+    {
+        give_all(&self.rows, &mut self.pool);
+        self.rows.clear();
+        self.loaders.clear();
+    }
+
+    /// The rows, one after another.
+    pub fn walk(&self) -> Walk<'_>
+        ensures { result ≡ self.now.rows }
+    {
+        Walk::over(&self.rows)
     }
 
     /// How many rows there are.

@@ -5,7 +5,9 @@ mod book;
 mod live_loader;
 mod place_rules;
 mod rows;
+mod walk;
 mod whole_pool;
 
 pub use book::Book;
 pub use live_loader::LastChunk;
+pub use walk::Walk;

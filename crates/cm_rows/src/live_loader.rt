@@ -1,6 +1,6 @@
 //! The live loaders, rising by number, each with its last chunk.
 
-ghost use Rattle.std.specs.Prelude.{◌≡◌, ◌<◌, ◌≤◌, IfSome, IfNone, Some, None, [], ◌∷◌, ◌++◌, slice_set, vec_len, vec_capacity};
+ghost use Rattle.std.specs.Prelude.{◌≡◌, ◌<◌, ◌≤◌, IfSome, IfNone, Some, None, [], ◌∷◌, ◌++◌, length, slice_set, vec_len, vec_capacity};
 ghost use Rattle.cm_rows.specs.Loaders.{Rises, IsAt, IsAbsent};
 
 use cm_pool::Chunk;
@@ -51,4 +51,14 @@ pub fn set_last(loaders: &mut Vec<LiveLoader>, at: usize, number: u64, chunk: Ch
         number,
         last: Some(LastChunk { chunk, used }),
     };
+}
+
+/// Puts others in the place of the loaders, where there is room for them.
+pub fn copy_loaders(loaders: &mut Vec<LiveLoader>, others: &[LiveLoader])
+    requires { length others.now ≤ vec_capacity loaders.old }
+    ensures loaders { loaders.new.items ≡ others.now }
+    ensures capacity { vec_capacity loaders.old ≤ vec_capacity loaders.new }
+{
+    loaders.clear();
+    loaders.extend_from_slice(others).unwrap();
 }

@@ -4,7 +4,7 @@ ghost use Rattle.std.specs.Prelude.{◌≡◌, ◌<◌, ◌≤◌, ◌&&◌, [],
 ghost use Rattle.cm_layout.specs.declared.row.Row.TheVariants.{Class};
 ghost use Rattle.cm_layout.specs.Rows.{classes_in, is_of, without_loader, moved_row, moved, number_of};
 ghost use Rattle.cm_layout.specs.Names.{is_loader_name};
-ghost use Rattle.cm_rows.specs.Held.{Holds, first_chunks, first_of};
+ghost use Rattle.cm_rows.specs.Held.{Holds, CanBeHeld, first_chunks, first_of, own_chunk};
 
 use cm_layout::{ClassRow, LoaderRow, Row, SlotName, is_loader_name};
 use cm_pool::{Chunk, Pool};
@@ -16,6 +16,27 @@ pub fn copy_loader(row: &LoaderRow) -> LoaderRow
     LoaderRow {
         number: row.number,
         name: SlotName::new(row.name.as_bytes()).unwrap(),
+    }
+}
+
+fn copy_row(row: &Row<()>) -> Row<()>
+    ensures { result ≡ row.now }
+{
+    match row {
+        Row::Loader(row) => Row::Loader(copy_loader(row)),
+        Row::Class(row, _) => Row::Class(*row, ()),
+    }
+}
+
+/// Puts others in the place of the rows, where there is room for them.
+pub fn copy_rows(rows: &mut Vec<Row<()>>, others: &[Row<()>])
+    requires { length others.now ≤ vec_capacity rows.old }
+    ensures rows { rows.new.items ≡ others.now }
+    ensures capacity { vec_capacity rows.old ≤ vec_capacity rows.new }
+{
+    rows.clear();
+    for row in others {
+        push_row(rows, copy_row(row));
     }
 }
 
@@ -59,6 +80,41 @@ pub fn give_chunks(rows: &[Row<()>], loader: u64, pool: &mut Pool)
         if let Some(chunk) = first_chunk(row, loader) {
             pool.give(chunk);
         }
+    }
+}
+
+/// Gives the chunks of all rows back to the pool.
+pub fn give_all(rows: &[Row<()>], pool: &mut Pool)
+    requires { Holds pool.old.geometry pool.old (first_chunks (classes_in rows.now)) }
+    ensures { Holds pool.old.geometry pool.new [] }
+{
+    for row in rows {
+        if let Some(chunk) = own_chunk(row) {
+            pool.give(chunk);
+        }
+    }
+}
+
+/// Takes the chunks of rows out of a pool that holds none.
+pub fn take_all(rows: &[Row<()>], pool: &mut Pool)
+    requires none { Holds pool.old.geometry pool.old [] }
+    requires apart { CanBeHeld pool.old.geometry (first_chunks (classes_in rows.now)) }
+    ensures { Holds pool.old.geometry pool.new (first_chunks (classes_in rows.now)) }
+{
+    for row in rows {
+        if let Some(chunk) = own_chunk(row) {
+            let _taken = pool.take(&chunk);
+        }
+    }
+}
+
+// The chunk whose first record is this row's.
+fn own_chunk(row: &Row<()>) -> Option<Chunk>
+    ensures { result ≡ own_chunk row.now }
+{
+    match row {
+        Row::Class(row, _) if row.place.offset == 0 => Some(row.place.chunk),
+        _ => None,
     }
 }
 
