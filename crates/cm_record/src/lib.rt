@@ -2,7 +2,6 @@
 //! them count from their first word.
 #![tactic(auto)]
 
-mod bytes;
 mod code;
 mod constant;
 mod member;

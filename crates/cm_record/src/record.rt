@@ -14,16 +14,15 @@ ghost use Rattle.cm_record.specs.Code.{HasCode, HasNoCode, code_in, run_place};
 ghost use Rattle.cm_class.specs.declared.class_file.Member.{Member as ClassMember};
 ghost use Rattle.cm_class.specs.declared.class_file.Attribute.{Attribute};
 
-use crate::bytes::write_words;
 use crate::code::{Code, attribute_run, code_in_run, find_code, method_attributes};
 use crate::constant::{Constant, constant_at_index};
 use crate::member::{Member, find_member, member_at};
 use crate::names::{is_same_run, name_run, run_bytes};
 use crate::order::{cmp_run_to, cmp_runs};
 use cm_class::Class;
-use cm_record_layout::{first, second, third};
+use cm_record_layout::{bytes_tell_words, first, second, third};
 use cm_record_reading::{RecordFault, is_record, read_class};
-use cm_record_writing::{RecordRefusal, push_words, write_class};
+use cm_record_writing::{RecordRefusal, write_class};
 use cm_words::WordBuf;
 use std::alloc::{AllocError, Global};
 use std::cmp::Ordering;
@@ -44,15 +43,6 @@ impl Model for Record {
     ghost view = { λ r. r.words.words };
 
     ghost invariant = { λ r. IsRecord r.words.words };
-}
-
-/// The same words in a buffer of their own.
-fn copy_words(alloc: Global, words: &[u64]) -> Result<WordBuf, AllocError>
-    ensures { IfOk result (λ copy. copy.words ≡ words.now) }
-{
-    let mut copy = WordBuf::with_capacity(alloc, words.len())?;
-    push_words(&mut copy, words);
-    Ok(copy)
 }
 
 /// The class's record. `TooLong` comes exactly where its layout has more than 524,288 words.
@@ -85,7 +75,7 @@ impl Record {
         if !is_record(words) {
             return Err(RecordFault::NotARecord);
         }
-        let words = copy_words(alloc, words)?;
+        let words = WordBuf::from_slice(alloc, words)?;
         Ok(Record { words })
     }
 
@@ -106,7 +96,8 @@ impl Record {
         // The bytes tell the words.
         ensures words { packed_into (length self.now) out.new ≡ self.now }
     {
-        write_words(self.as_slice(), out)
+        self.words.bytes_into(0, out);
+        bytes_tell_words(self.as_slice());
     }
 
     /// The access flags of its class.

@@ -1,10 +1,8 @@
 -- Runs, word by word.
-use Rattle.std.proofs.Common.{◌≡◌, ◌<◌, ◌+◌, ◌*◌, ◌^◌, ℕ, zero, suc, List, [], ◌∷◌, ◌++◌, length, get_or, take, drop, min, refl, sym, ◌∙◌, ap, subst, inl, inr, arith}
-use Rattle.std.proofs.Math.Nat.{eq-or-lt_of_le}
+use Rattle.std.proofs.Common.{◌≡◌, ◌<◌, ◌^◌, ℕ, zero, suc, List, [], ◌∷◌, ◌++◌, length, get_or, drop, min, refl, ◌∙◌, ap, arith}
 use Rattle.std.specs.Int.{w64, from_le_bytes}
 use Rattle.std.proofs.lemmas.Nat.{from_le_bytes-to_le_bytes_8}
-use Rattle.std.proofs.lemmas.List.{length-drop, drop_min, length-append, length-take-le, take_at, drop_at, drop-drop, take_more, append-nil}
-use Rattle.std.proofs.lemmas.Grind.{flat_map-append}
+use Rattle.std.proofs.lemmas.List.{length-drop, drop_min}
 use Rattle.cm_record_layout.specs.Packing.{bytes_of, word_bytes, word_from, packed_into, packed, run_words}
 
 pub length-packed_into : (n : ℕ) (bytes : List ℕ) → length (packed_into n bytes) ≡ n
@@ -31,24 +29,6 @@ pub length-bytes_of : (word : ℕ) → length (bytes_of word) ≡ 8
 unfolding bytes_of
 length-bytes_of word = refl
 
-length-word_bytes : (words : List ℕ) → length (word_bytes words) ≡ 8 * length words
-length-word_bytes [] = refl
-length-word_bytes (w ∷ words) = omega (arith, length-append (bytes_of w) (word_bytes words), length-bytes_of w, length-word_bytes words)
-
--- one word more is written
-pub write_step : (out start words : List ℕ) (i word : ℕ) → out ≡ word_bytes (take i words) ++ drop (8 * i) start → i < length words → word ≡ get_or words i 0
-    → take (8 * i) out ++ bytes_of word ++ drop (8 * i + 8) out ≡ word_bytes (take (i + 1) words) ++ drop (8 * (i + 1)) start
-write_step out start words i word e lt ew =
-    let done = word_bytes (take i words) in
-    let rest = drop (8 * i) start in
-    let size : length done ≡ 8 * i = length-word_bytes (take i words) ∙ ap (λ n. 8 * n) (length-take-le i words (omega (arith, lt))) in
-    let front : take (8 * i) out ≡ done = ap (take (8 * i)) e ∙ take_at done rest (8 * i) size in
-    let back : drop (8 * i + 8) out ≡ drop (8 * (i + 1)) start =
-    sym (drop-drop 8 (8 * i) out) ∙ (ap (drop 8) (ap (drop (8 * i)) e ∙ drop_at done rest (8 * i) size) ∙ (drop-drop 8 (8 * i) start ∙ ap (λ n. drop n start) (omega arith))) in
-    let more : word_bytes (take (i + 1) words) ≡ done ++ bytes_of word =
-    ap word_bytes (take_more words i 0 lt ∙ ap (λ w. take i words ++ w ∷ []) (sym ew)) ∙ (flat_map-append bytes_of (take i words) (word ∷ []) ∙ ap (λ w. done ++ w) (append-nil (bytes_of word))) in
-    rw (front, back, more) refl
-
 -- ---- words from their bytes again
 
 pub word_back : (word : ℕ) → word < 2 ^ 64 → word_from (bytes_of word) ≡ word
@@ -69,12 +49,3 @@ words_back [] back = refl
 words_back (w ∷ words) back =
     (λ i. (word_in_front w (word_bytes words) ∙ back 0 (omega arith)) i ∷ packed_into (length words) (rest_behind w (word_bytes words) i))
     ∙ ap (λ ws. w ∷ ws) (words_back words (λ j small. back (suc j) (omega arith)))
-
--- one more of them
-pub one_more_back : (words : List ℕ) (i : ℕ) → ((j : ℕ) → j < i → word_from (bytes_of (get_or words j 0)) ≡ get_or words j 0) → word_from (bytes_of (get_or words i 0)) ≡ get_or words i 0
-    → (j : ℕ) → j < i + 1 → word_from (bytes_of (get_or words j 0)) ≡ get_or words j 0
-one_more_back words i before last j small =
-    elim (eq-or-lt_of_le {n = j} {m = i} (omega arith)) [
-      | inl same ↦ subst (λ k. word_from (bytes_of (get_or words k 0)) ≡ get_or words k 0) (sym same) last
-      | inr less ↦ before j less
-    ]

@@ -1,15 +1,13 @@
 -- Bytes in words, and small numbers side by side in a word.
 use Rattle.std.specs.Prelude.{ℕ, zero, suc, ◌+◌, ◌*◌, ◌/◌, ◌%◌, ◌^◌, List, [], ◌∷◌, length, drop}
-use Rattle.std.specs.List.{flat_map}
-use Rattle.std.specs.Int.{w64, to_le_bytes, from_le_bytes}
+use Rattle.std.specs.Int.{w64, from_le_bytes}
+-- a word's eight bytes, and each word as these
+unfoldable pub use Rattle.cm_words.specs.Bytes.{bytes_of}
+pub use Rattle.cm_words.specs.Bytes.{word_bytes}
 
 -- the word of the first eight bytes, the first of them lowest; where there are fewer, the rest is 0
 unfoldable pub word_from : List ℕ → ℕ
 word_from bytes = from_le_bytes w64 bytes
-
--- a word's eight bytes, the lowest first
-unfoldable pub bytes_of : ℕ → List ℕ
-bytes_of word = to_le_bytes w64 word
 
 -- so many words: byte j is bits 8 * (j mod 8) and up of word j div 8, and what is left of the last word is 0
 abbrev pub packed_into : ℕ → List ℕ → List ℕ
@@ -23,10 +21,6 @@ run_words count = (count + 7) / 8
 -- a run: eight bytes to a word, the first of them lowest
 abbrev pub packed : List ℕ → List ℕ
 packed bytes = packed_into (run_words (length bytes)) bytes
-
--- each word as its eight bytes, the lowest first
-abbrev pub word_bytes : List ℕ → List ℕ
-word_bytes words = flat_map bytes_of words
 
 -- four numbers of 16 bits in one word, the first of them lowest
 abbrev pub four_numbers : ℕ → ℕ → ℕ → ℕ → ℕ

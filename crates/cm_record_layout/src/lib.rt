@@ -2,11 +2,13 @@
 #![tactic(auto)]
 
 mod directory;
+mod laws;
 mod numbers;
 mod packing;
 mod slices;
 
 pub use directory::whole_word;
+pub use laws::bytes_tell_words;
 pub use numbers::{first, fourth, second, third, upper};
 pub use packing::{FOURTH, MAX_WORDS, SECOND, THIRD, bytes_of, four_numbers, run_words, word_of};
 pub use slices::words_from;

@@ -9,5 +9,4 @@ mod sections;
 mod writing;
 
 pub use refusal::RecordRefusal;
-pub use runs::push_words;
 pub use writing::write_class;

@@ -4,7 +4,6 @@ ghost use Rattle.cm_record_layout.specs.Layout.{head, directory, members, member
 ghost use Rattle.cm_record_writing.specs.Places.{ArePlaces};
 
 use crate::places::Places;
-use crate::runs::push_words;
 use crate::sections::{
     push_attribute_runs, push_attributes, push_directory, push_interfaces, push_members,
     push_utf8_runs,
@@ -52,29 +51,26 @@ pub(crate) fn push_head(words: &mut WordBuf, class: &Class, places: &Places)
         class.slots().len() + 1,
         class.fields().len(),
     );
-    push_words(
-        words,
-        &[
-            places.len,
-            four_numbers(
-                class.flags(),
-                class.this_class(),
-                class.super_class(),
-                counts.0 as u16,
-            ),
-            four_numbers(
-                counts.1 as u16,
-                counts.2 as u16,
-                class.methods().len() as u16,
-                class.attributes().len() as u16,
-            ),
-            8,
-            places.interfaces,
-            places.members,
-            places.attributes,
-            places.runs,
-        ],
-    );
+    words.extend_from_slice(&[
+        places.len,
+        four_numbers(
+            class.flags(),
+            class.this_class(),
+            class.super_class(),
+            counts.0 as u16,
+        ),
+        four_numbers(
+            counts.1 as u16,
+            counts.2 as u16,
+            class.methods().len() as u16,
+            class.attributes().len() as u16,
+        ),
+        8,
+        places.interfaces,
+        places.members,
+        places.attributes,
+        places.runs,
+    ]);
 }
 
 /// Adds the directory, the interfaces and the members.

@@ -1,20 +1,9 @@
-//! Words and runs of bytes, added to a buffer.
+//! Runs of bytes, added to a buffer.
 ghost use Rattle.std.specs.Prelude.{◌≡◌, ◌<◌, ◌≤◌, ◌+◌, ◌++◌, length};
 ghost use Rattle.cm_record_layout.specs.Packing.{packed};
 
 use cm_record_layout::word_of;
 use cm_words::WordBuf;
-
-/// Adds these words.
-pub fn push_words(words: &mut WordBuf, more: &[u64])
-    requires { length words.old.words + length more.now ≤ words.old.capacity }
-    ensures words { words.new.words ≡ words.old.words ++ more.now }
-    ensures capacity { words.new.capacity ≡ words.old.capacity }
-{
-    for word in more {
-        words.push(*word);
-    }
-}
 
 /// Adds the words of whole eights of bytes. It gives the bytes behind them.
 fn push_eights<'a>(words: &mut WordBuf, bytes: &'a [u8]) -> &'a [u8]

@@ -1,6 +1,6 @@
 //! The block of a buffer: places side by side, each empty or holding a value. Nothing outside this module
 //! holds a pointer.
-ghost use Rattle.std.specs.Prelude.{◌≡◌, ℕ, ◌<◌, List, Option, Some, None, map, length, take, drop, replicate, slice_set, IfOk, ⊤};
+ghost use Rattle.std.specs.Prelude.{◌≡◌, ℕ, ◌<◌, ◌≤◌, ◌+◌, ◌^◌, ◌++◌, List, Option, Some, None, map, length, take, drop, replicate, slice_set, IfOk, ⊤};
 ghost use Rattle.std.specs.Vec.Ownership.{FitsInBlock};
 ghost use base.Fml.{ftrue};
 ghost use denote.RawPtr.{Ptr};
@@ -116,6 +116,21 @@ impl<T> Cells<T> {
         ensures { (self.new.at ≡ self.old.at) × (self.new.slots ≡ slice_set self.old.slots index (Some item)) }
     {
         unsafe { base.ptr.add(index).write(item) }
+    }
+
+    /// Puts values into the places from `from` on, one after another. What these held is forgotten, and not dropped.
+    pub(crate) fn write_all(&mut self, base: Base<T>, from: usize, items: &[T])
+    where
+        T: Copy,
+        requires place { base.ptr ≡ self.old.at }
+        requires within { from + length items.now ≤ length self.old.slots }
+        requires small { from + length items.now < 2 ^ 63 }
+        ensures place { self.new.at ≡ self.old.at }
+        ensures slots { self.new.slots ≡ take from self.old.slots ++ map Some items.now ++ drop (from + length items.now) self.old.slots }
+    {
+        for (i, item) in items.iter().enumerate() {
+            self.write(base, from + i, *item);
+        }
     }
 
     /// The `len` values from `from` on.

@@ -29,6 +29,23 @@ fn words_are_kept(rt: HostRuntime) -> Result<(), Fail> {
 }
 
 #[test]
+fn slices_are_copied_whole(rt: HostRuntime) -> Result<(), Fail> {
+    let mut words = WordBuf::from_slice(rt.alloc(), &[5, u64::MAX, 0])?;
+    assert_eq!(rt; words.as_slice(), [5, u64::MAX, 0].as_slice());
+    assert_eq!(rt; words.room(), 0);
+    words.extend_from_slice(&[]);
+    assert_eq!(rt; words.len(), 3);
+    let mut words = three_words(rt.alloc())?;
+    assert_eq!(rt; words.room(), 1);
+    words.extend_from_slice(&[9]);
+    assert_eq!(rt;
+        words.as_slice(),
+        [0x0807_0605_0403_0201, 7, u64::MAX, 9].as_slice()
+    );
+    Ok(())
+}
+
+#[test]
 fn bytes_are_the_words_lowest_first(rt: HostRuntime) -> Result<(), Fail> {
     let words = three_words(rt.alloc())?;
     assert_eq!(rt; words.len(), 3);

@@ -1,4 +1,4 @@
-//! The buffer: its eight calls, and the words as a slice. Nothing here holds a pointer.
+//! The buffer and its calls. Nothing here holds a pointer.
 ghost use Rattle.std.specs.Prelude.{◌≡◌, ◌≤◌, ◌<◌, ◌+◌, ◌-◌, ◌*◌, ◌/◌, ◌%◌, [], ◌∷◌, ◌++◌, length, slice_index, slice_set, slice_range, IfOk};
 
 use crate::block::{Base, Cells, Deed, allocate, deallocate};
@@ -56,6 +56,15 @@ impl WordBuf {
         })
     }
 
+    /// A buffer of these words, with room for no more.
+    pub fn from_slice(alloc: Global, words: &[u64]) -> Result<WordBuf, AllocError>
+        ensures { IfOk result (λ b. b ≡ words_of words.now (length words.now)) }
+    {
+        let mut copy = WordBuf::with_capacity(alloc, words.len())?;
+        copy.extend_from_slice(words);
+        Ok(copy)
+    }
+
     /// How many words there are.
     pub fn len(&self) -> usize
         ensures { result ≡ length self.now.words }
@@ -77,6 +86,15 @@ impl WordBuf {
     {
         self.cells.write(self.base, self.len, word);
         self.len += 1;
+    }
+
+    /// Adds words behind the others, all at once.
+    pub fn extend_from_slice(&mut self, words: &[u64])
+        requires { length self.old.words + length words.now ≤ self.old.capacity }
+        ensures { self.new ≡ words_of (self.old.words ++ words.now) self.old.capacity }
+    {
+        self.cells.write_all(self.base, self.len, words);
+        self.len += words.len();
     }
 
     /// Puts another word in the place of one.

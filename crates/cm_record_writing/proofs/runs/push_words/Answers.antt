@@ -1,9 +1,0 @@
-use Rattle.std.proofs.Common.{drop, length-drop, arith}
-use Rattle.cm_record_writing.proofs.Room.{room_left}
-use Rattle.cm_record_writing.proofs.runs.push_words.Goals as goal
-
-pub push-requires : goal.push-requires
-push-requires c =
-    let l = c.loop-word in
-    let rest = drop l.word-index c.args.more.now in
-    omega (arith, room_left l.words.words rest c.args.words.now.words c.args.more.now l.words.capacity c.args.words.now.capacity l.invariant.added l.invariant.capacity c.requires, length-drop l.word-index c.args.more.now)
