@@ -311,7 +311,7 @@ HOSTILE = {
 
 def found(only_52, paths):
     for path in paths:
-        for data in class_files(pathlib.Path(path)):
+        for _name, data in class_files(pathlib.Path(path)):
             if not only_52 or data.startswith(VERSION_52):
                 yield data
 

@@ -1,8 +1,8 @@
 #!/usr/bin/env bash
 # Classes that the machine's Java compiler writes for version 52.0 are taken, and found again with the flags and the super
-# class that the JDK's own disassembler tells. The same classes with single bytes changed get the replies that
-# tests/oracle.py works out, which shares no code with the program; it gives those of tests/vectors too. Needs a JDK (javac,
-# javap) and Python 3.
+# class that the JDK's own disassembler tells; their records tell each method's max stack, max locals and code length as it
+# does. The same classes with single bytes changed get the replies that tests/oracle.py works out, which shares no code
+# with the program; it gives those of tests/vectors too. Needs a JDK (javac, javap) and Python 3.
 set -u
 cd "$(dirname "$0")/.." || exit 1
 . tests/lib.sh
@@ -42,6 +42,37 @@ run apply --memory
 # The record's length isn't the disassembler's to tell.
 sed -E -i 's/^(class .*) words [0-9]+$/\1/' "$work/got"
 check "${#names[@]} compiled classes" 0
+
+# What the disassembler says of each method: class, name, descriptor, and of its code max stack, max locals and the length,
+# which is where the last instruction ends.
+told_methods() {
+    javap -v -p "$1" | awk '
+        function size(mnemonic) {
+            if (mnemonic ~ /^(.?return|athrow)$/) return 1
+            return mnemonic == "goto" ? 3 : mnemonic == "goto_w" ? 5 : "an end that this script does not know"
+        }
+        function tell() {
+            if (method) print class, method, descriptor, (stack == "" ? "none" : stack " " locals " " at + size(last))
+            method = stack = ""
+        }
+        /^  this_class: / { class = dotted = $NF; gsub("/", ".", dotted) }
+        /^\{/ { inside = 1 }
+        !inside { next }
+        /^  [^ ].*;$/ { tell() }
+        /^\}/ { tell(); inside = 0 }
+        /^  static \{\};$/ { method = "<clinit>" }
+        /^  [^ ].*\(.*;$/ { sub(/\(.*/, ""); method = $NF == dotted ? "<init>" : $NF }
+        /^    descriptor: / { descriptor = $2 }
+        /^      stack=/ { split($0, part, /[=,]/); stack = part[2]; locals = part[4] }
+        /^ *[0-9]+: [a-z]/ { at = $1 + 0; last = $2 }'
+}
+
+# The records of these classes tell the same.
+(cd crates/cm_bench && rt run </dev/null) >"$work/errors" 2>&1 || cat "$work/errors"
+for name in "${names[@]}"; do told_methods "$work/classes/$name.class"; done >"$work/want"
+bench/bench_classes.py "$work/classes" | crates/cm_bench/out/cm_bench --methods >"$work/got"
+status=$?
+check "the code of $(wc -l <"$work/want") compiled methods" 0
 
 # Every seventh byte of each class, changed in three ways.
 mkdir "$work/changed"

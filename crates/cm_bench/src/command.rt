@@ -11,6 +11,8 @@ use std::rt::Env;
 pub enum Request {
     /// To run the steps, each in so many timed passes; with none, once and for its counts alone.
     Run(Option<u32>),
+    /// To print what the records say of methods.
+    Methods,
     /// Nothing more: the help or a usage text was printed. The status to end with.
     Printed(u8),
 }
@@ -22,11 +24,16 @@ fn whole_command<'a>(alloc: Global) -> Result<Command<'a>> {
         .help("Run each step N times, and print the best time too")
         .action(ArgAction::Set)
         .value_parser(value_parser!(u32).range(1..));
+    let methods = Arg::new(alloc, "methods")
+        .long("methods")
+        .help("Print each method's max stack, max locals and code length instead")
+        .action(ArgAction::SetTrue);
     let command = Command::new(alloc, "cm_bench")
         .about(
             "Reads class files from standard input, each behind its length (4 bytes, big-endian)",
         )
-        .arg(passes)?;
+        .arg(passes)?
+        .arg(methods)?;
     Ok(command)
 }
 
@@ -35,6 +42,7 @@ pub fn read_words(rt: &(impl Env + Print + Eprint + AllocGlobal)) -> Result<Requ
     let alloc = rt.alloc();
     let words: Vec<String> = env::args(rt)?.collect(alloc)?;
     match whole_command(alloc)?.try_get_matches_from(words.as_slice()) {
+        Ok(matches) if matches.get_flag("methods") => Ok(Request::Methods),
         Ok(matches) => Ok(Request::Run(matches.get_one::<u32>("passes"))),
         Err(error) => {
             error.print(rt)?;

@@ -8,6 +8,7 @@
 
 mod command;
 mod lookups;
+mod methods;
 mod pools;
 mod report;
 mod samples;
@@ -18,6 +19,7 @@ mod tests;
 
 use crate::command::{Request, read_words};
 use crate::lookups::{Lookup, subjects};
+use crate::methods::print_methods;
 use crate::pools::Crowd;
 use crate::report::{report, report_lookup, report_pools};
 use crate::samples::Samples;
@@ -48,6 +50,7 @@ fn run(rt: &(impl Clock + Env + Input + Print + Eprint + AllocGlobal)) -> u8 {
     let done = match read_words(rt) {
         Ok(Request::Printed(status)) => return status,
         Ok(Request::Run(passes)) => bench(rt, passes),
+        Ok(Request::Methods) => list_methods(rt),
         Err(error) => Err(error),
     };
     match done {
@@ -59,11 +62,23 @@ fn run(rt: &(impl Clock + Env + Input + Print + Eprint + AllocGlobal)) -> u8 {
     }
 }
 
+/// The bytes on standard input.
+fn read_input(rt: &(impl Input + AllocGlobal)) -> Result<Vec<u8>> {
+    let mut bytes = Vec::new(rt.alloc());
+    rt.reader().read_to_end(&mut bytes)?;
+    Ok(bytes)
+}
+
+/// Prints the methods of the classes on standard input.
+fn list_methods(rt: &(impl Input + Print + AllocGlobal)) -> Result<()> {
+    let bytes = read_input(rt)?;
+    print_methods(rt, &classes_in(rt.alloc(), &bytes)?)
+}
+
 /// Runs each step over the classes on standard input.
 fn bench(rt: &(impl Clock + Input + Print + AllocGlobal), passes: Option<u32>) -> Result<()> {
     let alloc = rt.alloc();
-    let mut bytes = Vec::new(alloc);
-    rt.reader().read_to_end(&mut bytes)?;
+    let bytes = read_input(rt)?;
     let samples = Samples::new(alloc, classes_in(alloc, &bytes)?)?;
     for step in STEPS {
         report(rt, step, &samples, passes)?;
