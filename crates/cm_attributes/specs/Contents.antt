@@ -182,12 +182,12 @@ is_content c known.InnerClasses bytes = are_rows c inner_class bytes
 is_content c known.BootstrapMethods bytes = is_whole (past_counted (past_bootstrap_method c) bytes)
 
 -- how many bootstrap methods the content tells; none, where it isn't one
-abbrev pub told_count : ClassFile → Attribute → ℕ
-told_count c a =
+abbrev pub stated_count : ClassFile → Attribute → ℕ
+stated_count c a =
     if is_content c known.BootstrapMethods a.bytes
     then option_map_or (λ n. n.0) (u2_of a.bytes) 0 else 0
 
 -- of the first such attribute of the class
 unfoldable pub bootstrap_count : ClassFile → ℕ
 bootstrap_count c =
-    option_map_or (told_count c) (slice_get c.attributes (first_place c known.BootstrapMethods)) 0
+    option_map_or (stated_count c) (slice_get c.attributes (first_place c known.BootstrapMethods)) 0

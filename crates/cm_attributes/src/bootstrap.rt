@@ -1,6 +1,6 @@
 //! The content of BootstrapMethods (JVMS 4.7.23).
 ghost use Rattle.std.specs.Prelude.{◌≡◌, option_copied};
-ghost use Rattle.cm_attributes.specs.Contents.{past_counted, past_bootstrap_method, told_count};
+ghost use Rattle.cm_attributes.specs.Contents.{past_counted, past_bootstrap_method, stated_count};
 ghost use Rattle.cm_attributes.specs.Contents.{bootstrap_count};
 
 use crate::contents::is_content;
@@ -28,8 +28,8 @@ pub(crate) fn past_bootstrap_methods<'b>(class: &Class, bytes: &'b [u8]) -> Opti
     Some(rest)
 }
 
-fn told_count(class: &Class, attribute: &Attribute) -> u16
-    ensures { result ≡ told_count class.now attribute.now }
+fn stated_count(class: &Class, attribute: &Attribute) -> u16
+    ensures { result ≡ stated_count class.now attribute.now }
 {
     let bytes = attribute.bytes.as_slice();
     if !is_content(class, Known::BootstrapMethods, bytes) {
@@ -51,7 +51,7 @@ pub fn bootstrap_count(class: &Class) -> u16
         .attributes()
         .get(first_place(class, Known::BootstrapMethods))
     {
-        Some(attribute) => told_count(class, attribute),
+        Some(attribute) => stated_count(class, attribute),
         None => 0,
     }
 }

@@ -49,11 +49,11 @@ pub(crate) fn read_u64(bytes: &[u8]) -> Result<(u64, &[u8]), Stop>
     Ok((BigEndian::read_u64(bytes), &bytes[8..]))
 }
 
-/// How many items to make room for, where a count is told and each item takes at least so many
+/// How many items to make room for, where a count is given and each item takes at least so many
 /// bytes: no more of them than the bytes can spell, so that a false count asks for no memory.
 pub(crate) fn room_for(count: u16, least: usize, bytes: &[u8]) -> usize
     requires { 0 < least }
-    ensures told { result ≤ count }
+    ensures within { result ≤ count }
     ensures there { result * least ≤ length bytes.now }
     ensures all { (n : ℕ) → n ≤ count → n * least ≤ length bytes.now → n ≤ result }
 {

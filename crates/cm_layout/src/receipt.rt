@@ -1,4 +1,4 @@
-//! What is told once a group is surely stored.
+//! What says that a group is surely stored.
 
 /// All commands up to this number are stored: whatever a crash leaves, they are there when the file
 /// is opened again.

@@ -14,7 +14,7 @@ use Rattle.cm_store.specs.declared.refusal.Refusal.TheVariants.{Broken, NumbersS
 use Rattle.cm_store.specs.Store.{StoreValue, loader_refusal, define_refusal}
 use Rattle.cm_tool.specs.declared.reply.Kind.TheVariants as kind
 use Rattle.cm_tool.specs.Escapes.{unescaped}
-use Rattle.cm_tool.specs.Lines.{Asked, AsksLoader, AsksDefine, AsksFind, asked, line_limit}
+use Rattle.cm_tool.specs.Lines.{Asked, AsksLoader, AsksDefine, AsksFind, question_in, line_limit}
 use Rattle.cm_tool.specs.Texts.{ReplyText, refusal_reply}
 use Rattle.cm_tool.specs.Answers.{AnswersCommand, AnswersDefine, AnswersFind, AnswersAsked}
 use Rattle.cm_tool.specs.Answers.{IsBadLine, TellsClass, is_refused, is_unsure}
@@ -116,8 +116,8 @@ question (Some (AsksFind loader name)) old new given h =
 
 pub unsure_is_lost : UnsureIsLost
 unsure_is_lost line old new given h =
-    (question (cond (ltb line_limit (length line)) None (asked line)) old new given h).lost
+    (question (cond (ltb line_limit (length line)) None (question_in line)) old new given h).lost
 
 pub refused_is_same : RefusedIsSame
 refused_is_same line old new given h =
-    (question (cond (ltb line_limit (length line)) None (asked line)) old new given h).same
+    (question (cond (ltb line_limit (length line)) None (question_in line)) old new given h).same

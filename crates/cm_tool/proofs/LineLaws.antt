@@ -10,7 +10,7 @@ use Rattle.std.proofs.lemmas.List.Elements.{All-nil, All-cons, All-from_recursio
 use Rattle.std.proofs.lemmas.List.Splits.{join_with_byte-slice_split}
 use Rattle.std.proofs.lemmas.Slice.Eq.{bytes_eq-Decides}
 use Rattle.cm_tool.specs.Lines.{Asked, AsksLoader, AsksDefine, AsksFind, pieces, without_empty_rest}
-use Rattle.cm_tool.specs.Lines.{lines_of, is_word, asked, asked_by}
+use Rattle.cm_tool.specs.Lines.{lines_of, is_word, question_in, question_of_words}
 use Rattle.cm_tool.specs.Laws.{put_together, LinesMakeScript, IsWord, AreWords, spelled}
 use Rattle.cm_tool.specs.Laws.{OneSpelling}
 use Rattle.cm_tool.proofs.Cuts.{pieces_cut, pieces_none}
@@ -146,7 +146,7 @@ finds verb loader name =
 
 of_pieces : (parts : List (List ℕ)) (line : List ℕ) (question : Asked)
     → join_with_byte 32 parts ≡ line → AllByRecursion (All (λ b. b ≢ 32)) parts
-    → asked_by parts ≡ Some question → IsSpelled line question
+    → question_of_words parts ≡ Some question → IsSpelled line question
 of_pieces [] line question joined clean e = absurd (cc)
 of_pieces (verb ∷ []) line question joined clean e = absurd (cc)
 of_pieces (verb ∷ name ∷ []) line question joined clean e =
@@ -177,19 +177,19 @@ of_pieces (verb ∷ name ∷ last ∷ further ∷ more) line question joined cle
 is_some_word : (text : List ℕ) → IsWord text → is_word text ≡ true
 is_some_word text w = lt-ltb 0 (length text) w.0
 
-asks : (question : Asked) → AreWords question → asked (spelled question) ≡ Some question
+asks : (question : Asked) → AreWords question → question_in (spelled question) ≡ Some question
 asks (AsksLoader name) words =
-    ap (λ l. asked_by (codes "loader" ∷ l)) (pieces_none 32 name words.1) ∙ ap
+    ap (λ l. question_of_words (codes "loader" ∷ l)) (pieces_none 32 name words.1) ∙ ap
     (λ t. cond t (Some (AsksLoader name)) None) (is_some_word name words)
 asks (AsksDefine loader digits) words =
-    ap (λ l. asked_by (codes "define" ∷ l))
+    ap (λ l. question_of_words (codes "define" ∷ l))
     (pieces_cut 32 (loader ++ 32 ∷ digits) loader digits refl words.0.1 ∙ ap (λ l. loader ∷ l)
     (pieces_none 32 digits words.1.1))
     ∙ ap (λ t. cond (t && is_word digits) (Some (AsksDefine loader digits)) None)
     (is_some_word loader words.0) ∙ ap (λ t. cond t (Some (AsksDefine loader digits)) None)
     (is_some_word digits words.1)
 asks (AsksFind loader name) words =
-    ap (λ l. asked_by (codes "find" ∷ l))
+    ap (λ l. question_of_words (codes "find" ∷ l))
     (pieces_cut 32 (loader ++ 32 ∷ name) loader name refl words.0.1 ∙ ap (λ l. loader ∷ l)
     (pieces_none 32 name words.1.1))
     ∙ ap (λ t. cond (t && is_word name) (Some (AsksFind loader name)) None)
@@ -201,5 +201,5 @@ unfolding IsSpelled
 one_spelling line question = (
   λ e. of_pieces (pieces 32 line) line question (join_with_byte-slice_split 32 line)
       (pieces_clean 32 line) e,
-  λ h. ap asked h.0 ∙ asks question h.1,
+  λ h. ap question_in h.0 ∙ asks question h.1,
 )

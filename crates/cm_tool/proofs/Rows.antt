@@ -10,7 +10,7 @@ use Rattle.cm_rules.specs.declared.rule.Spot.TheVariants as spot
 use Rattle.cm_store.specs.declared.refusal.Refusal.TheVariants as refusal
 use Rattle.cm_store.specs.declared.prepare.PrepareFault.TheVariants as fault
 use Rattle.cm_tool.specs.Escapes.{unescaped}
-use Rattle.cm_tool.specs.Lines.{asked, lines_of, AsksLoader, AsksDefine, AsksFind}
+use Rattle.cm_tool.specs.Lines.{question_in, lines_of, AsksLoader, AsksDefine, AsksFind}
 use Rattle.cm_tool.specs.Texts.{number_reply, defined_reply, none_reply, class_reply}
 use Rattle.cm_tool.specs.Texts.{bad_line_reply, refusal_reply, fault_reply}
 
@@ -114,41 +114,41 @@ too_long = refl
 
 -- ---- lines
 
-asks_loader : asked (codes "loader app") ≡ Some (AsksLoader (codes "app"))
+asks_loader : question_in (codes "loader app") ≡ Some (AsksLoader (codes "app"))
 asks_loader = refl
 
-asks_define : asked (codes "define app cafebabe")
+asks_define : question_in (codes "define app cafebabe")
     ≡ Some (AsksDefine (codes "app") (codes "cafebabe"))
 asks_define = refl
 
-asks_find : asked (codes "find app %c3%a9") ≡ Some (AsksFind (codes "app") (codes "%c3%a9"))
+asks_find : question_in (codes "find app %c3%a9") ≡ Some (AsksFind (codes "app") (codes "%c3%a9"))
 asks_find = refl
 
 name_of_two_bytes : unescaped (codes "%c3%a9") ≡ Some (0xC3 ∷ 0xA9 ∷ [])
 name_of_two_bytes = refl
 
-two_words : asked (codes "define app") ≡ None
+two_words : question_in (codes "define app") ≡ None
 two_words = refl
 
-no_name : asked (codes "loader ") ≡ None
+no_name : question_in (codes "loader ") ≡ None
 no_name = refl
 
-two_spaces : asked (codes "loader  app") ≡ None
+two_spaces : question_in (codes "loader  app") ≡ None
 two_spaces = refl
 
-space_behind : asked (codes "loader app ") ≡ None
+space_behind : question_in (codes "loader app ") ≡ None
 space_behind = refl
 
-space_in_front : asked (codes " loader app") ≡ None
+space_in_front : question_in (codes " loader app") ≡ None
 space_in_front = refl
 
-four_words : asked (codes "find app A B") ≡ None
+four_words : question_in (codes "find app A B") ≡ None
 four_words = refl
 
-upper_case : asked (codes "Loader app") ≡ None
+upper_case : question_in (codes "Loader app") ≡ None
 upper_case = refl
 
-nothing_asked : asked [] ≡ None
+nothing_asked : question_in [] ≡ None
 nothing_asked = refl
 
 -- ---- scripts

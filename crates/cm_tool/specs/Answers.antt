@@ -19,7 +19,7 @@ use Rattle.cm_store.specs.Store.{StoreValue, loader_refusal, define_refusal, Add
 use Rattle.cm_tool.specs.declared.reply.Kind.{Kind}
 use Rattle.cm_tool.specs.declared.reply.Kind.TheVariants as kind
 use Rattle.cm_tool.specs.Escapes.{unescaped}
-use Rattle.cm_tool.specs.Lines.{Asked, AsksLoader, AsksDefine, AsksFind, asked, line_limit}
+use Rattle.cm_tool.specs.Lines.{Asked, AsksLoader, AsksDefine, AsksFind, question_in, line_limit}
 use Rattle.cm_tool.specs.Texts.{ReplyText, number_reply, defined_reply, none_reply, class_reply}
 use Rattle.cm_tool.specs.Texts.{refusal_reply, fault_reply, bad_line_reply}
 
@@ -102,7 +102,7 @@ AnswersAsked (Some (AsksFind loader name)) old given new =
 -- A line that is too long asks for nothing, whatever it says.
 abbrev pub AnswersLine : List ℕ → StoreValue → ReplyText → StoreValue → Type 0
 AnswersLine line old given new =
-    AnswersAsked (if nat_lt line_limit (length line) then None else asked line) old given new
+    AnswersAsked (if nat_lt line_limit (length line) then None else question_in line) old given new
 
 -- ---- a script
 

@@ -4,7 +4,7 @@ use Rattle.std.specs.Prelude.{Some}
 use Rattle.std.specs.List.{All, flat_map}
 use Rattle.cm_store.specs.Store.{StoreValue}
 use Rattle.cm_tool.specs.Escapes.{escaped, unescaped, with_upper_digits}
-use Rattle.cm_tool.specs.Lines.{Asked, AsksLoader, AsksDefine, AsksFind, asked, lines_of}
+use Rattle.cm_tool.specs.Lines.{Asked, AsksLoader, AsksDefine, AsksFind, question_in, lines_of}
 use Rattle.cm_tool.specs.Texts.{ReplyText}
 use Rattle.cm_tool.specs.Answers.{AnswersLine, is_refused, is_unsure}
 
@@ -39,7 +39,7 @@ spelled (AsksFind loader name) = codes "find " ++ (loader ++ 32 ∷ name)
 -- A line asks for something exactly where it is spelled so, in words.
 abbrev pub OneSpelling : Type 0
 OneSpelling =
-    (line : List ℕ) (question : Asked) → (asked line ≡ Some question)
+    (line : List ℕ) (question : Asked) → (question_in line ≡ Some question)
     ↔ ((line ≡ spelled question) × AreWords question)
 
 -- ---- answers

@@ -35,19 +35,19 @@ abbrev pub is_word : List ℕ → Bool
 is_word text = nat_lt 0 (length text)
 
 -- of the words that the line consists of
-abbrev pub asked_by : List (List ℕ) → Option Asked
-asked_by [] = None
-asked_by (verb ∷ []) = None
-asked_by (verb ∷ name ∷ []) =
+abbrev pub question_of_words : List (List ℕ) → Option Asked
+question_of_words [] = None
+question_of_words (verb ∷ []) = None
+question_of_words (verb ∷ name ∷ []) =
     if bytes_eq verb (codes "loader") && is_word name then Some (AsksLoader name) else None
-asked_by (verb ∷ name ∷ last ∷ []) =
+question_of_words (verb ∷ name ∷ last ∷ []) =
     if bytes_eq verb (codes "define") && (is_word name && is_word last)
     then Some (AsksDefine name last)
     else if bytes_eq verb (codes "find") && (is_word name && is_word last)
     then Some (AsksFind name last)
     else None
-asked_by (verb ∷ name ∷ last ∷ further ∷ more) = None
+question_of_words (verb ∷ name ∷ last ∷ further ∷ more) = None
 
 -- Words are separated by exactly one space, and none is empty.
-abbrev pub asked : List ℕ → Option Asked
-asked line = asked_by (pieces 32 line)
+abbrev pub question_in : List ℕ → Option Asked
+question_in line = question_of_words (pieces 32 line)

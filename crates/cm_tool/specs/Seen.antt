@@ -7,7 +7,7 @@ use Rattle.cm_tool.specs.declared.reply.Reply.{Reply}
 use Rattle.cm_tool.specs.Texts.{ReplyText}
 use Rattle.cm_store.specs.Store.{StoreValue}
 use Rattle.cm_tool.specs.Answers.{AnswersAsked, AnswersFault, AnswersClass}
-use Rattle.cm_tool.specs.Lines.{Asked, AsksLoader, AsksDefine, AsksFind, asked, line_limit}
+use Rattle.cm_tool.specs.Lines.{Asked, AsksLoader, AsksDefine, AsksFind, question_in, line_limit}
 
 abbrev pub seen : Line → Asked
 seen (line.Loader name) = AsksLoader name.now
@@ -40,4 +40,4 @@ AnswersBytes loader bytes old new (Err e) =
 -- the same of a whole line
 abbrev pub RepliesTo : {E : Type 0} → List ℕ → StoreValue → StoreValue → Result Reply E → Type 0
 RepliesTo line old new result =
-    Replies (if nat_lt line_limit (length line) then None else asked line) old new result
+    Replies (if nat_lt line_limit (length line) then None else question_in line) old new result

@@ -4,7 +4,7 @@ ghost use Rattle.std.specs.Prelude.{ℕ, List, Some};
 ghost use Rattle.cm_class.specs.declared.class_file.ClassFile.{ClassFile};
 ghost use Rattle.cm_rules.specs.Answer.{IsRight};
 ghost use Rattle.cm_store.specs.Store.{IsPreparedOf};
-ghost use Rattle.cm_tool.specs.Lines.{asked, AsksLoader, AsksDefine, AsksFind};
+ghost use Rattle.cm_tool.specs.Lines.{question_in, AsksLoader, AsksDefine, AsksFind};
 ghost use Rattle.cm_tool.specs.Seen.{Replies, AnswersBytes};
 
 use crate::escape::{NameFault, unescape};
@@ -24,7 +24,7 @@ pub fn answer<D: Disk + Drop>(
     store: &mut Store<D>,
     line: &[u8],
 ) -> Result<Reply, AllocError>
-    ensures { Replies (asked line.now) store.old store.new result }
+    ensures { Replies (question_in line.now) store.old store.new result }
 {
     match parse(line) {
         Some(Line::Loader(name)) => add_loader(alloc, store, name),

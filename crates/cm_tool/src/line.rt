@@ -3,7 +3,7 @@
 ghost use Rattle.std.specs.Prelude.{◌≡◌, ◌≢◌, [], ◌∷◌, ◌++◌, IfSome, IfNone};
 ghost use Rattle.std.specs.List.{All};
 ghost use Rattle.std.specs.Option.{option_map};
-ghost use Rattle.cm_tool.specs.Lines.{asked, asked_by};
+ghost use Rattle.cm_tool.specs.Lines.{question_in, question_of_words};
 ghost use Rattle.cm_tool.specs.Seen.{seen};
 
 /// What a line asks for.
@@ -34,7 +34,7 @@ pub fn cut(text: &[u8], at: u8) -> Option<(&[u8], &[u8])>
 /// What a line asks for, if it has one of the known forms: words with one space between, none
 /// empty.
 pub fn parse(line: &[u8]) -> Option<Line<'_>>
-    ensures { option_map seen result ≡ asked line.now }
+    ensures { option_map seen result ≡ question_in line.now }
 {
     let (verb, rest) = cut(line, b' ')?;
     match cut(rest, b' ') {
@@ -47,7 +47,7 @@ pub fn parse(line: &[u8]) -> Option<Line<'_>>
 }
 
 fn of_one_name<'a>(verb: &[u8], name: &'a [u8]) -> Option<Line<'a>>
-    ensures { option_map seen result ≡ asked_by (verb.now ∷ name.now ∷ []) }
+    ensures { option_map seen result ≡ question_of_words (verb.now ∷ name.now ∷ []) }
 {
     if verb == b"loader".as_slice() && !name.is_empty() {
         Some(Line::Loader(name))
@@ -57,7 +57,7 @@ fn of_one_name<'a>(verb: &[u8], name: &'a [u8]) -> Option<Line<'a>>
 }
 
 fn of_two_names<'a>(verb: &[u8], name: &'a [u8], last: &'a [u8]) -> Option<Line<'a>>
-    ensures { option_map seen result ≡ asked_by (verb.now ∷ name.now ∷ last.now ∷ []) }
+    ensures { option_map seen result ≡ question_of_words (verb.now ∷ name.now ∷ last.now ∷ []) }
 {
     if name.is_empty() || last.is_empty() {
         None

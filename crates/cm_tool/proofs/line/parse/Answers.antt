@@ -1,12 +1,12 @@
 use Rattle.std.proofs.Common.{◌≡◌, ◌∷◌, sym, ap, ◌∙◌}
-use Rattle.cm_tool.specs.Lines.{asked_by, pieces}
+use Rattle.cm_tool.specs.Lines.{question_of_words, pieces}
 use Rattle.cm_tool.proofs.Cuts.{pieces_cut, pieces_none, pieces_some}
 use Rattle.cm_tool.proofs.line.parse.Goals as goal
 
 pub returns-in_err-verb : goal.returns-in_err-verb
 returns-in_err-verb c =
     rw c.from_residual.ensures
-    (sym (ap asked_by (pieces_none 32 c.args.line.now c.in_err-verb.ensures.none)))
+    (sym (ap question_of_words (pieces_none 32 c.args.line.now c.in_err-verb.ensures.none)))
 
 pub returns-in-None : goal.returns-in-None
 returns-in-None c =
@@ -15,7 +15,7 @@ returns-in-None c =
     let words = pieces_cut 32 c.args.line.now verb rest c.in_ok-verb.ensures.found
     c.in_ok-verb.ensures.first in
     let end = pieces_none 32 rest c.in-None.ensures.none in
-    c.of_one_name.ensures ∙ sym (ap asked_by (words ∙ ap (λ more. verb ∷ more) end))
+    c.of_one_name.ensures ∙ sym (ap question_of_words (words ∙ ap (λ more. verb ∷ more) end))
 
 pub returns-in-None-cut : goal.returns-in-None-cut
 returns-in-None-cut c =
@@ -28,7 +28,8 @@ returns-in-None-cut c =
     let more = pieces_cut 32 rest name last c.in-Some.ensures.found c.in-Some.ensures.first in
     let end = pieces_none 32 last c.in-None-cut.ensures.none in
     c.of_two_names.ensures ∙ sym
-    (ap asked_by (words ∙ ap (λ those. verb ∷ those) (more ∙ ap (λ those. name ∷ those) end)))
+    (ap question_of_words (words ∙ ap (λ those. verb ∷ those) (more ∙ ap
+    (λ those. name ∷ those) end)))
 
 pub returns-in-Some-cut : goal.returns-in-Some-cut
 returns-in-Some-cut c =
@@ -47,4 +48,4 @@ returns-in-Some-cut c =
     let all : pieces 32 c.args.line.now ≡ verb ∷ name ∷ third ∷ end.0 ∷ end.1 =
     words ∙ ap (λ some. verb ∷ some)
     (more ∙ ap (λ some. name ∷ some) (those ∙ ap (λ some. third ∷ some) end.2)) in
-    sym (ap asked_by all)
+    sym (ap question_of_words all)
