@@ -1,6 +1,8 @@
 -- What an arena is seen as: a chain of chunks, each with how many of its words are used.
--- As in OpenJDK JEP 387 the metadata of one loader lie in such a chain, and only the last chunk's top moves; the numbers are this project's own.
-use Rattle.std.specs.Prelude.{◌≡◌, ℕ, ◌+◌, ◌≤◌, List, [], ◌∷◌, map, Option, Some, None, if◌then◌else◌, length, refl}
+-- As in OpenJDK JEP 387 the metadata of one loader lie in such a chain, and only the last chunk's
+-- top moves; the numbers are this project's own.
+use Rattle.std.specs.Prelude.{◌≡◌, ℕ, ◌+◌, ◌≤◌, List, [], ◌∷◌, map, Option, Some, None}
+use Rattle.std.specs.Prelude.{if◌then◌else◌, length, refl}
 use Rattle.std.specs.List.{AllByRecursion}
 use Rattle.std.specs.Coded.{Coded, code_by, coded×, coded_ℕ, coded_list}
 use Rattle.cm_pool.specs.declared.chunk.Chunk.{Chunk}
@@ -52,6 +54,8 @@ pub record IsArena (chunks : List Chunk) (used : List ℕ) : Type 0 where
 -- a chain as data
 abbrev pub chain_code : Coded (List Filled)
 chain_code =
-    coded_list (code_by (ℕ × (ℕ × (ℕ × ℕ))) (coded× coded_ℕ (coded× coded_ℕ (coded× coded_ℕ coded_ℕ)))
+    coded_list (code_by (ℕ × (ℕ × (ℕ
+    × ℕ))) (coded× coded_ℕ (coded× coded_ℕ (coded× coded_ℕ coded_ℕ)))
     (λ f. (f.chunk.root, (f.chunk.order, (f.chunk.at, f.used))))
-    (λ t. record { chunk = record { root = t.0; order = t.1.0; at = t.1.1.0 }; used = t.1.1.1 }) (λ _. refl))
+    (λ t. record { chunk = record { root = t.0; order = t.1.0; at = t.1.1.0 }; used = t.1.1.1 })
+    (λ _. refl))

@@ -1,5 +1,6 @@
 -- Where the words of a record go.
-use Rattle.std.specs.Prelude.{◌≡◌, ℕ, ◌+◌, ◌<◌, ◌≤◌, ◌⊎◌, min, max, List, [], ◌∷◌, ◌++◌, length, IsSomeAnd, Some, if◌then◌else◌}
+use Rattle.std.specs.Prelude.{◌≡◌, ℕ, ◌+◌, ◌<◌, ◌≤◌, ◌⊎◌, min, max, List, [], ◌∷◌, ◌++◌, length}
+use Rattle.std.specs.Prelude.{IsSomeAnd, Some, if◌then◌else◌}
 use Rattle.cm_pool.specs.declared.chunk.Chunk.{Chunk}
 use Rattle.cm_pool.specs.Chunks.{chunk_size, same_chunk}
 use Rattle.cm_pool.specs.FreeSpace.{FreeSpace, HasFree, IsFirstFree, without, with_root}
@@ -34,7 +35,8 @@ pub record IsInNew (chain : List Filled) (words : ℕ) (place : Place) (new : Li
   pub amount : place.words ≡ words
   pub after : new ≡ chain ++ record { chunk = place.chunk; used = words } ∷ []
 
--- the chunk comes out of the pool: of the order wanted, else of the one needed, else of the one wanted out of a new root
+-- the chunk comes out of the pool: of the order wanted, else of the one needed, else of the one
+-- wanted out of a new root
 pub record IsWanted (old : FreeSpace) (wanted : ℕ) (c : Chunk) (new : FreeSpace) : Type 0 where
   pub first : IsFirstFree old wanted c
   pub left : new ≡ without old c
@@ -52,7 +54,8 @@ pub record IsOfNewRoot (old : FreeSpace) (wanted need : ℕ) (c : Chunk) (new : 
   pub left : new ≡ without (with_root old) c
 
 abbrev pub Fetches : FreeSpace → ℕ → ℕ → Chunk → FreeSpace → Type 0
-Fetches old wanted need c new = IsWanted old wanted c new ⊎ (IsNeeded old wanted need c new ⊎ IsOfNewRoot old wanted need c new)
+Fetches old wanted need c new = IsWanted old wanted c new ⊎ (IsNeeded old wanted need c new
+    ⊎ IsOfNewRoot old wanted need c new)
 
 -- a new chunk is fetched, and the words lie at its front
 pub record IsFetched (chain : List Filled) (pool : FreeSpace) (words : ℕ) (place : Place) (new : List Filled) (left : FreeSpace) : Type 0 where
@@ -64,7 +67,8 @@ pub record IsFetched (chain : List Filled) (pool : FreeSpace) (words : ℕ) (pla
 
 -- where the words go, and what chain and pool are then
 abbrev pub Places : List Filled → FreeSpace → ℕ → Place → List Filled → FreeSpace → Type 0
-Places chain pool words place new left = (IsOnTop chain words place new × (left ≡ pool)) ⊎ IsFetched chain pool words place new left
+Places chain pool words place new left = (IsOnTop chain words place new × (left ≡ pool))
+    ⊎ IsFetched chain pool words place new left
 
 -- the region is full for so many words
 pub record IsFull (chain : List Filled) (pool : FreeSpace) (words : ℕ) : Type 0 where
@@ -75,7 +79,8 @@ pub record IsFull (chain : List Filled) (pool : FreeSpace) (words : ℕ) : Type 
   pub none_free : ¬ HasFree pool need
   pub no_root : pool.geometry.roots ≤ pool.roots
 
--- where the next words in a chunk go: behind the used ones of the last chunk, and to the front of another
+-- where the next words in a chunk go: behind the used ones of the last chunk, and to the front of
+-- another
 abbrev pub next_offset : List Filled → Chunk → ℕ
 next_offset [] c = 0
 next_offset (f ∷ []) c = if same_chunk f.chunk c then f.used else 0

@@ -1,5 +1,7 @@
 // An arena.
-ghost use Rattle.std.specs.Prelude.{List, ◌≡◌, ◌<◌, ◌≤◌, ◌↔◌, [], ◌∷◌, ◌++◌, length, vec_len, vec_capacity, IsTrue, IfOk, IfSome, IfNone, OnSome, OnErr, IsErrOf, MatchResult, if◌then◌else◌};
+ghost use Rattle.std.specs.Prelude.{List, ◌≡◌, ◌<◌, ◌≤◌, ◌↔◌, [], ◌∷◌, ◌++◌, length, vec_len};
+ghost use Rattle.std.specs.Prelude.{vec_capacity, IsTrue, IfOk, IfSome, IfNone, OnSome, OnErr};
+ghost use Rattle.std.specs.Prelude.{IsErrOf, MatchResult, if◌then◌else◌};
 ghost use Rattle.cm_pool.specs.Chunks.{chunk_size};
 ghost use Rattle.cm_arena.specs.Chains.{used_of, chain_of, IsArena};
 ghost use Rattle.cm_arena.specs.Placing.{IsOnTop, HasRoom, next_offset as next_offset_of};
@@ -10,7 +12,8 @@ use cm_pool::{Chunk, Place, Pool};
 use std::alloc::{AllocError, Global};
 use std::marker::Model;
 
-/// The chunks of one loader, in the order in which they were taken, each with how many words at its front are used.
+/// The chunks of one loader, in the order in which they were taken, each with how many words at its
+/// front are used.
 ///
 /// Contracts see an arena as that chain. Only the last chunk is filled further.
 #[derive(Drop)]
@@ -64,24 +67,30 @@ impl Arena {
         used_in(&self.chunks, &self.used, chunk)
     }
 
-    /// Finds a place for the words of a record: on the top of the last chunk where that has room, and else at the
-    /// front of a new one. The new one is of the order that the words need or, in a longer chain, of a larger one, up
-    /// to order 4; where no chunk of the larger order is free, of the order needed; and where none of that order is
-    /// free either, it comes out of a new root.
+    /// Finds a place for the words of a record: on the top of the last chunk where that has room,
+    /// and else at the front of a new one. The new one is of the order that the words need or, in a
+    /// longer chain, of a larger one, up to order 4; where no chunk of the larger order is free, of
+    /// the order needed; and where none of that order is free either, it comes out of a new root.
     ///
-    /// The refusal is `RecordTooLong` where a root chunk doesn't hold the words, and else `RegionFull` where the last
-    /// chunk has no room, no chunk of the order needed is free, and all roots are present. `NoMemory` comes only
-    /// where neither does and the last chunk has no room. After a refusal arena and pool are as they were.
+    /// The refusal is `RecordTooLong` where a root chunk doesn't hold the words, and else
+    /// `RegionFull` where the last chunk has no room, no chunk of the order needed is free, and all
+    /// roots are present. `NoMemory` comes only where neither does and the last chunk has no room.
+    /// After a refusal arena and pool are as they were.
     pub fn place(&mut self, words: u32, pool: &mut Pool) -> Result<Place, Refusal>
         requires { 1 ≤ words }
         ensures ok { IfOk result (λ place. Places self.old pool.old words place self.new pool.new) }
-        // The words lie inside a chunk of this arena. What it has and others have of the pool stays theirs alone, and
-        // no word of the pool is lost.
-        ensures inside { IfOk result (λ place. IsInside place × Among place.chunk (chunks_of self.new)) }
-        ensures alone { (others : List Chunk) → AreHeld pool.old (chunks_of self.old ++ others) → AreHeld pool.new (chunks_of self.new ++ others) }
-        ensures none_lost { (others : List Chunk) → NoneIsLost pool.old (chunks_of self.old ++ others) → NoneIsLost pool.new (chunks_of self.new ++ others) }
+        // The words lie inside a chunk of this arena. What it has and others have of the pool stays
+        // theirs alone, and no word of the pool is lost.
+        ensures inside { IfOk result (λ place. IsInside place
+            × Among place.chunk (chunks_of self.new)) }
+        ensures alone { (others : List Chunk) → AreHeld pool.old (chunks_of self.old ++ others)
+            → AreHeld pool.new (chunks_of self.new ++ others) }
+        ensures none_lost { (others : List Chunk)
+            → NoneIsLost pool.old (chunks_of self.old ++ others)
+            → NoneIsLost pool.new (chunks_of self.new ++ others) }
 
-        ensures too_long { IsErrOf result Refusal.RecordTooLong ↔ (chunk_size pool.old.geometry.top < words) }
+        ensures too_long { IsErrOf result Refusal.RecordTooLong
+            ↔ (chunk_size pool.old.geometry.top < words) }
         ensures full { IsErrOf result Refusal.RegionFull ↔ IsFull self.old pool.old words }
         ensures memory { IsErrOf result Refusal.NoMemory → ¬ HasRoom self.old words }
         ensures err { OnErr result ((self.new ≡ self.old) × (pool.new ≡ pool.old)) }
@@ -105,13 +114,17 @@ impl Arena {
         })
     }
 
-    /// Takes over a place that was found again. It has to be the next one: inside its chunk, and behind the used words
-    /// of the last chunk, or at the front of another one. False, and nothing is changed, where it isn't.
+    /// Takes over a place that was found again. It has to be the next one: inside its chunk, and
+    /// behind the used words of the last chunk, or at the front of another one. False, and nothing
+    /// is changed, where it isn't.
     ///
-    /// That another chunk shares no word with those that are in use is for the caller to see, as by [`Pool::take`].
+    /// That another chunk shares no word with those that are in use is for the caller to see, as by
+    /// [`Pool::take`].
     pub fn adopt(&mut self, place: Place) -> Result<bool, AllocError>
         ensures next { IfOk result (λ taken. IsTrue taken ↔ IsNext self.old place) }
-        ensures left { MatchResult result (λ taken. self.new ≡ (if taken then with_place self.old place else self.old)) (λ _. self.new ≡ self.old) }
+        ensures left { MatchResult result
+            (λ taken. self.new ≡ (if taken then with_place self.old place else self.old))
+            (λ _. self.new ≡ self.old) }
         ensures memory { OnErr result (IsNext self.old place) }
     {
         let offset = next_offset(&self.chunks, &self.used, &place.chunk);
@@ -155,9 +168,11 @@ fn used_in(chunks: &[Chunk], used: &[u32], chunk: &Chunk) -> Option<u32>
 // Uses so many words more of the last chunk, where it has room for them.
 fn place_on_top(chunks: &[Chunk], used: &mut Vec<u32>, words: u32) -> Option<Place>
     requires { IsArena chunks.now used.old.items }
-    ensures some { IfSome result (λ place. IsOnTop (chain_of chunks.now used.old.items) words place (chain_of chunks.now used.new.items)) }
+    ensures some { IfSome result
+        (λ place. IsOnTop (chain_of chunks.now used.old.items) words place (chain_of chunks.now used.new.items)) }
     ensures kept { OnSome result (1 ≤ words → IsArena chunks.now used.new.items) }
-    ensures none { IfNone result ((¬ HasRoom (chain_of chunks.now used.old.items) words) × (used.new.items ≡ used.old.items)) }
+    ensures none { IfNone result ((¬ HasRoom (chain_of chunks.now used.old.items) words)
+        × (used.new.items ≡ used.old.items)) }
 {
     let last = chunks.len().checked_sub(1)?;
     let chunk = chunks[last];
@@ -194,7 +209,8 @@ fn append(chunks: &mut Vec<Chunk>, used: &mut Vec<u32>, chunk: Chunk, words: u32
     used.push(words).unwrap();
 }
 
-// Where the next words in a chunk go: behind the used ones of the last chunk, and to the front of another.
+// Where the next words in a chunk go: behind the used ones of the last chunk, and to the front of
+// another.
 fn next_offset(chunks: &[Chunk], used: &[u32], chunk: &Chunk) -> u32
     requires { length chunks.now ≡ length used.now }
     ensures { result ≡ next_offset_of (chain_of chunks.now used.now) chunk.now }

@@ -1,5 +1,6 @@
 // Which chunk an arena takes from a pool.
-ghost use Rattle.std.specs.Prelude.{◌≡◌, ◌≢◌, ℕ, ◌≤◌, ◌⊎◌, ◌↔◌, IsTrue, IfOk, IfSome, IfNone, OnOk, OnErr, IsErrOf};
+ghost use Rattle.std.specs.Prelude.{◌≡◌, ◌≢◌, ℕ, ◌≤◌, ◌⊎◌, ◌↔◌, IsTrue, IfOk, IfSome, IfNone, OnOk};
+ghost use Rattle.std.specs.Prelude.{OnErr, IsErrOf};
 ghost use Rattle.cm_pool.specs.Chunks.{chunk_size};
 ghost use Rattle.cm_pool.specs.FreeSpace.{HasFree};
 ghost use Rattle.cm_arena.specs.Placing.{IsNeed, IsWanted, IsNeeded, Fetches};
@@ -24,8 +25,10 @@ pub fn order_for(words: u32) -> u32
 fn first_of(pool: &mut Pool, wanted: u32, need: u32) -> Option<Chunk>
     requires needed { need ≤ wanted }
     requires wanted { wanted ≤ pool.old.geometry.top }
-    ensures some { IfSome result (λ chunk. IsWanted pool.old wanted chunk pool.new ⊎ IsNeeded pool.old wanted need chunk pool.new) }
-    ensures none { IfNone result ((¬ HasFree pool.old wanted) × (¬ HasFree pool.old need) × (pool.new ≡ pool.old)) }
+    ensures some { IfSome result (λ chunk. IsWanted pool.old wanted chunk pool.new
+        ⊎ IsNeeded pool.old wanted need chunk pool.new) }
+    ensures none { IfNone result ((¬ HasFree pool.old wanted) × (¬ HasFree pool.old need)
+        × (pool.new ≡ pool.old)) }
 {
     if let Some(chunk) = pool.alloc(wanted) {
         return Some(chunk);
@@ -33,14 +36,15 @@ fn first_of(pool: &mut Pool, wanted: u32, need: u32) -> Option<Chunk>
     pool.alloc(need)
 }
 
-/// A chunk of the order wanted, or else of the one needed, or else of the one wanted out of a new root. The caller
-/// says whether it can keep one.
+/// A chunk of the order wanted, or else of the one needed, or else of the one wanted out of a new
+/// root. The caller says whether it can keep one.
 pub fn fetch(pool: &mut Pool, wanted: u32, need: u32, keeps: bool) -> Result<Chunk, Refusal>
     requires needed { need ≤ wanted }
     requires wanted { wanted ≤ pool.old.geometry.top }
     ensures ok { IfOk result (λ chunk. Fetches pool.old wanted need chunk pool.new) }
     ensures kept { OnOk result (IsTrue keeps) }
-    ensures full { IsErrOf result Refusal.RegionFull ↔ ((¬ HasFree pool.old need) × (pool.old.geometry.roots ≤ pool.old.roots)) }
+    ensures full { IsErrOf result Refusal.RegionFull ↔ ((¬ HasFree pool.old need)
+        × (pool.old.geometry.roots ≤ pool.old.roots)) }
     ensures not_long { result ≢ Err Refusal.RecordTooLong }
     ensures err { OnErr result (pool.new ≡ pool.old) }
 {

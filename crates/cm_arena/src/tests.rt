@@ -20,7 +20,8 @@ fn empty_pool(alloc: Global, top: u32, roots: u32) -> Result<Pool, Fail> {
     }
 }
 
-// Asks again where an allocation failed: arena and pool are as they were, so the answer is the one that was due.
+// Asks again where an allocation failed: arena and pool are as they were, so the answer is the one
+// that was due.
 fn place(arena: &mut Arena, words: u32, pool: &mut Pool) -> Result<Place, Refusal>
     requires { 1 ≤ words }
 {
@@ -73,7 +74,8 @@ fn places_words(rt: HostRuntime) -> Result<(), Fail> {
 fn takes_larger_chunks_in_a_longer_chain(rt: HostRuntime) -> Result<(), Fail> {
     let mut pool = empty_pool(rt.alloc(), 5, 2)?;
     let mut arena = Arena::new(rt.alloc());
-    // Each of these fills a chunk: of order 0, 1, 2, 3, then of order 4 and no larger, out of a second root.
+    // Each of these fills a chunk: of order 0, 1, 2, 3, then of order 4 and no larger, out of a
+    // second root.
     let cases = [
         (128, chunk(0, 0, 0)),
         (256, chunk(0, 1, 256)),

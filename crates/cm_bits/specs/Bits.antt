@@ -1,5 +1,6 @@
 -- Bits in words of 64, and what a row keeps above them.
-use Rattle.std.specs.Prelude.{◌≡◌, ℕ, ◌*◌, ◌/◌, ◌%◌, ◌^◌, ◌<◌, ◌≤◌, Bool, true, false, not, ◌==◌, List, length, set, slice_index_or, bit_and, bit_or}
+use Rattle.std.specs.Prelude.{◌≡◌, ℕ, ◌*◌, ◌/◌, ◌%◌, ◌^◌, ◌<◌, ◌≤◌, Bool, true, false, not, ◌==◌}
+use Rattle.std.specs.Prelude.{List, length, set, slice_index_or, bit_and, bit_or}
 use Rattle.std.specs.Int.{bit_at, bit_not, w64}
 
 -- the k-th word; 0 behind the last

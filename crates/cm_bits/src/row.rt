@@ -1,5 +1,6 @@
 // A row of bits, with a summary above it.
-ghost use Rattle.std.specs.Prelude.{◌≡◌, ℕ, ◌*◌, ◌<◌, ◌≤◌, List, false, length, replicate, IfOk, IfSome, IfNone};
+ghost use Rattle.std.specs.Prelude.{◌≡◌, ℕ, ◌*◌, ◌<◌, ◌≤◌, List, false, length, replicate, IfOk};
+ghost use Rattle.std.specs.Prelude.{IfSome, IfNone};
 ghost use Rattle.cm_bits.specs.Bits.{bit, with_bit, without_bit, IsFirstBit};
 
 use crate::words::{clear_bit, first_word, has_bit, lowest_bit, set_bit};

@@ -1,5 +1,6 @@
 -- Chunks: which words a chunk stands for, and which chunks a region has.
--- Chunks have power-of-two sizes and lie at multiples of their size, as in OpenJDK JEP 387; the sizes are this project's own.
+-- Chunks have power-of-two sizes and lie at multiples of their size, as in OpenJDK JEP 387; the
+-- sizes are this project's own.
 use Rattle.std.specs.Prelude.{◌≡◌, ℕ, ◌+◌, ◌*◌, ◌%◌, ◌^◌, ◌<◌, ◌≤◌, Bool, ◌==◌, ◌&&◌}
 use Rattle.cm_pool.specs.declared.chunk.Chunk.{Chunk}
 use Rattle.cm_pool.specs.Geometry.{Sizes}

@@ -1,6 +1,7 @@
 -- What a pool is seen as: its geometry, how many roots are present, and which words are free.
--- The words of a root are numbered on from those of the root before, and the free ones are a set of such numbers. It is read by
--- `IsFreeWord` alone: two pools of one geometry with as many roots and the same free words are equal (`same_space`, in FreeSpaceLaws).
+-- The words of a root are numbered on from those of the root before, and the free ones are a set of
+-- such numbers. It is read by `IsFreeWord` alone: two pools of one geometry with as many roots and
+-- the same free words are equal (`same_space`, in FreeSpaceLaws).
 use Rattle.std.specs.Prelude.{◌≡◌, ℕ, ◌+◌, ◌*◌, ◌<◌, ◌≤◌, ◌⊎◌, IsTrue, refl}
 use Rattle.std.specs.List.{range_with_len}
 use Rattle.std.specs.Ordering.{nat_cmp}
@@ -32,7 +33,8 @@ pub record IsFreeChunk (p : FreeSpace) (c : Chunk) : Type 0 where
 -- the chunk is one of a present root, and none of its words is free
 pub record IsUsedChunk (p : FreeSpace) (c : Chunk) : Type 0 where
   pub block : IsBlock p.geometry.top p.roots c
-  pub words : (word : ℕ) → c.at ≤ word → word < c.at + chunk_size c.order → ¬ IsFreeWord p c.root word
+  pub words : (word : ℕ) → c.at ≤ word → word < c.at + chunk_size c.order
+      → ¬ IsFreeWord p c.root word
 
 -- a lies before b: in an earlier root, or in the same root and further to the front
 abbrev pub LiesBefore : Chunk → Chunk → Type 0
@@ -66,7 +68,8 @@ with_chunk p c = record p { free = union p.free (words p.geometry.top c) }
 abbrev pub with_root : FreeSpace → FreeSpace
 with_root p = record p { roots = p.roots + 1; free = union p.free (words p.geometry.top (next_root p)) }
 
--- what is true of each pool: the sizes are within their limits, there are not too many roots, and each free word lies in a present root
+-- what is true of each pool: the sizes are within their limits, there are not too many roots, and
+-- each free word lies in a present root
 pub record IsFreeSpace (p : FreeSpace) : Type 0 where
   pub geometry : IsGeometry p.geometry
   pub roots : p.roots ≤ p.geometry.roots

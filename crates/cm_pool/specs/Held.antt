@@ -17,4 +17,5 @@ IsHeldWord cs root word = (c : Chunk) × Among c cs × Covers c root word
 
 -- each word of a present root is free, or one of some chunk's
 pub record NoneIsLost (p : FreeSpace) (cs : List Chunk) : Type 0 where
-  pub each : (root word : ℕ) → root < p.roots → word < chunk_size p.geometry.top → IsFreeWord p root word ⊎ IsHeldWord cs root word
+  pub each : (root word : ℕ) → root < p.roots → word < chunk_size p.geometry.top
+      → IsFreeWord p root word ⊎ IsHeldWord cs root word

@@ -1,5 +1,7 @@
--- What all of a pool rests on: how chunks lie to one another, and that the free words determine the largest free chunks.
-use Rattle.std.specs.Prelude.{◌≡◌, ℕ, ◌+◌, ◌-◌, ◌*◌, ◌/◌, ◌%◌, ◌<◌, ◌==◌, ◌⊎◌, ◌↔◌, List, if◌then◌else◌}
+-- What all of a pool rests on: how chunks lie to one another, and that the free words determine the
+-- largest free chunks.
+use Rattle.std.specs.Prelude.{◌≡◌, ℕ, ◌+◌, ◌-◌, ◌*◌, ◌/◌, ◌%◌, ◌<◌, ◌==◌, ◌⊎◌, ◌↔◌, List}
+use Rattle.std.specs.Prelude.{if◌then◌else◌}
 use Rattle.std.specs.List.{AllByRecursion}
 use Rattle.cm_pool.specs.declared.chunk.Chunk.{Chunk}
 use Rattle.cm_pool.specs.Chunks.{chunk_size, Covers, Meets, IsBlock}
@@ -12,7 +14,8 @@ IsPartOf a b = (root word : ℕ) → Covers a root word → Covers b root word
 
 -- Of two chunks one is a part of the other, or they share no word.
 abbrev pub NestedOrApart : Type 0
-NestedOrApart = (top roots : ℕ) (a b : Chunk) → IsBlock top roots a → IsBlock top roots b → IsPartOf a b ⊎ (IsPartOf b a ⊎ (¬ Meets a b))
+NestedOrApart = (top roots : ℕ) (a b : Chunk) → IsBlock top roots a → IsBlock top roots b
+    → IsPartOf a b ⊎ (IsPartOf b a ⊎ (¬ Meets a b))
 
 -- the chunk of the next order that a chunk is a half of, and the other half
 abbrev pub chunk_above : Chunk → Chunk
@@ -23,7 +26,8 @@ buddy c = record c { at = if (c.at / chunk_size c.order) % 2 == 0 then c.at + ch
 
 -- A chunk and its buddy make the chunk above.
 abbrev pub HalvesMakeWhole : Type 0
-HalvesMakeWhole = (top roots : ℕ) (c : Chunk) → IsBlock top roots c → (root word : ℕ) → Covers (chunk_above c) root word ↔ (Covers c root word ⊎ Covers (buddy c) root word)
+HalvesMakeWhole = (top roots : ℕ) (c : Chunk) → IsBlock top roots c → (root word : ℕ)
+    → Covers (chunk_above c) root word ↔ (Covers c root word ⊎ Covers (buddy c) root word)
 
 -- Giving back what was taken restores the pool.
 abbrev pub GivingBackRestores : Type 0
@@ -42,4 +46,5 @@ pub record AreLargestFree (p : FreeSpace) (cs : List Chunk) : Type 0 where
 
 -- There is exactly one list of them, whatever words are free.
 abbrev pub OneListOfLargest : Type 0
-OneListOfLargest = (p : FreeSpace) → ((cs : List Chunk) × AreLargestFree p cs) × ((cs ds : List Chunk) → AreLargestFree p cs → AreLargestFree p ds → cs ≡ ds)
+OneListOfLargest = (p : FreeSpace) → ((cs : List Chunk) × AreLargestFree p cs)
+    × ((cs ds : List Chunk) → AreLargestFree p cs → AreLargestFree p ds → cs ≡ ds)

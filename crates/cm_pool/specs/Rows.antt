@@ -1,6 +1,8 @@
 -- How the pool keeps its free words: a row of bits for each order.
 -- No public contract speaks of these; they are the invariant behind `Pool`.
-use Rattle.std.specs.Prelude.{◌≡◌, ℕ, ◌+◌, ◌*◌, ◌/◌, ◌^◌, ◌<◌, ◌≤◌, ◌↔◌, Bool, true, false, ◌||◌, List, [], ◌∷◌, ◌++◌, length, set, slice_index_or, Option, Some, None, if◌then◌else◌, zero, suc}
+use Rattle.std.specs.Prelude.{◌≡◌, ℕ, ◌+◌, ◌*◌, ◌/◌, ◌^◌, ◌<◌, ◌≤◌, ◌↔◌, Bool, true, false, ◌||◌}
+use Rattle.std.specs.Prelude.{List, [], ◌∷◌, ◌++◌, length, set, slice_index_or, Option, Some, None}
+use Rattle.std.specs.Prelude.{if◌then◌else◌, zero, suc}
 use Rattle.std.specs.List.{range_with_len, flat_map}
 use Rattle.std.specs.FinSet.{from_list}
 use Rattle.cm_bits.specs.Bits.{bit, with_bit, without_bit}
@@ -42,11 +44,13 @@ IsWhole rows b = (g : ℕ) → is_in b g ≡ true → is_covered rows g ≡ true
 abbrev pub IsLargest : ℕ → List (List ℕ) → Block → Type 0
 IsLargest top rows b = IsWhole rows b × (b.order < top → ¬ IsWhole rows (other_half b))
 
--- rows of the orders up to `top`, with a bit for each block that begins below `limit`; none behind it is set
+-- rows of the orders up to `top`, with a bit for each block that begins below `limit`; none behind
+-- it is set
 pub record IsKept (top limit : ℕ) (rows : List (List ℕ)) : Type 0 where
   pub orders : length rows ≡ top + 1
   pub meaning : (b : Block) → b.order ≤ top → (is_marked rows b ≡ true) ↔ IsLargest top rows b
-  pub room : (b : Block) → b.order ≤ top → start b < limit → b.index < 64 * length (row rows b.order)
+  pub room : (b : Block) → b.order ≤ top → start b < limit
+      → b.index < 64 * length (row rows b.order)
   pub below : (g : ℕ) → is_covered rows g ≡ true → g < limit
   pub small : limit ≤ 2 ^ 20
 
@@ -55,17 +59,20 @@ pub record AreEmpty (sizes : Sizes) (rows : List (List ℕ)) : Type 0 where
   pub sizes_ok : IsGeometry sizes
   pub orders : length rows ≡ sizes.top + 1
   pub none : (b : Block) → is_marked rows b ≡ false
-  pub room : (b : Block) → b.order ≤ sizes.top → start b < sizes.roots * 2 ^ sizes.top → b.index < 64 * length (row rows b.order)
+  pub room : (b : Block) → b.order ≤ sizes.top → start b < sizes.roots * 2 ^ sizes.top
+      → b.index < 64 * length (row rows b.order)
 
 -- of the blocks of orders from `low` to below `high` whose bits are set, the one that begins first
 pub record IsFirst (rows : List (List ℕ)) (low high : ℕ) (b : Block) : Type 0 where
   pub is_set : is_marked rows b ≡ true
   pub from : low ≤ b.order
   pub to : b.order < high
-  pub first : (c : Block) → low ≤ c.order → c.order < high → is_marked rows c ≡ true → start b ≤ start c
+  pub first : (c : Block) → low ≤ c.order → c.order < high → is_marked rows c ≡ true
+      → start b ≤ start c
 
 abbrev pub IsFirstFrom : List (List ℕ) → ℕ → ℕ → Option Block → Type 0
-IsFirstFrom rows low high None = (b : Block) → low ≤ b.order → b.order < high → is_marked rows b ≡ false
+IsFirstFrom rows low high None = (b : Block) → low ≤ b.order → b.order < high
+    → is_marked rows b ≡ false
 IsFirstFrom rows low high (Some b) = IsFirst rows low high b
 
 -- the numbers of the bits below n that are set
@@ -76,7 +83,8 @@ marked r (suc n) = if bit r n then n ∷ marked r n else marked r n
 -- the granules that are covered, and their words
 abbrev pub granules : List (List ℕ) → List ℕ
 granules [] = []
-granules (r ∷ rows) = marked r (64 * length r) ++ flat_map (λ half. (2 * half) ∷ (2 * half + 1) ∷ []) (granules rows)
+granules (r ∷ rows) = marked r (64 * length r) ++ flat_map
+    (λ half. (2 * half) ∷ (2 * half + 1) ∷ []) (granules rows)
 
 abbrev pub granule_words : ℕ → List ℕ
 granule_words g = range_with_len (128 * g) 128

@@ -1,7 +1,9 @@
--- What whoever holds chunks of a pool relies on, in words of free words alone: nothing here speaks of how a pool keeps them.
+-- What whoever holds chunks of a pool relies on, in words of free words alone: nothing here speaks
+-- of how a pool keeps them.
 use Rattle.std.specs.Prelude.{◌≤◌, ℕ, List, ◌∷◌, ◌++◌}
 use Rattle.cm_pool.specs.declared.chunk.Chunk.{Chunk}
-use Rattle.cm_pool.specs.FreeSpace.{FreeSpace, IsFreeChunk, IsUsedChunk, HasFree, without, with_chunk, with_root}
+use Rattle.cm_pool.specs.FreeSpace.{FreeSpace, IsFreeChunk, IsUsedChunk, HasFree, without}
+use Rattle.cm_pool.specs.FreeSpace.{with_chunk, with_root}
 use Rattle.cm_pool.specs.Held.{AreHeld, NoneIsLost}
 
 -- A chunk that was free is used once it was taken.

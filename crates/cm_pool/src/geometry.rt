@@ -26,11 +26,13 @@ impl Model for Geometry {
 impl Geometry {
     ghost use Rattle.cm_pool.specs.Geometry.{Sizes, IsGeometry};
 
-    /// The geometry of these sizes, or `None` where one of them is outside its limits: `top` is 3 to 12, `roots` 1 to
-    /// 256, and `slots` 256 to 65,536.
+    /// The geometry of these sizes, or `None` where one of them is outside its limits: `top` is 3
+    /// to 12, `roots` 1 to 256, and `slots` 256 to 65,536.
     pub fn new(top: u32, roots: u32, slots: u32) -> Option<Geometry>
-        ensures within { IsSome result ↔ IsGeometry (record { top = top; roots = roots; slots = slots }) }
-        ensures sizes { IfSome result (λ g. g ≡ record { top = top; roots = roots; slots = slots }) }
+        ensures within { IsSome result
+            ↔ IsGeometry (record { top = top; roots = roots; slots = slots }) }
+        ensures sizes { IfSome result
+            (λ g. g ≡ record { top = top; roots = roots; slots = slots }) }
     {
         let within = (3..=12).contains(&top)
             && (1..=256).contains(&roots)

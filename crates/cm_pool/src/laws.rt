@@ -1,6 +1,9 @@
 // What all of a pool rests on, as laws of the definitions that its contracts cite.
-ghost use Rattle.cm_pool.specs.Laws.{NestedOrApart, HalvesMakeWhole, GivingBackRestores, OneListOfLargest};
-ghost use Rattle.cm_pool.specs.SpaceLaws.{TakenIsUsed, TakenIsHeld, HeldIsGiven, RootsKeepHeld, TakingLosesNone, RootsLoseNone, RootsAreFree, LargeHasSmall};
+ghost use Rattle.cm_pool.specs.Laws.{NestedOrApart, HalvesMakeWhole, GivingBackRestores};
+ghost use Rattle.cm_pool.specs.Laws.{OneListOfLargest};
+ghost use Rattle.cm_pool.specs.SpaceLaws.{TakenIsUsed, TakenIsHeld, HeldIsGiven, RootsKeepHeld};
+ghost use Rattle.cm_pool.specs.SpaceLaws.{TakingLosesNone, RootsLoseNone, RootsAreFree};
+ghost use Rattle.cm_pool.specs.SpaceLaws.{LargeHasSmall};
 
 /// Of two chunks of a region one is a part of the other, or they share no word.
 pub fn nested_or_apart()
@@ -22,7 +25,8 @@ pub fn one_list_of_largest()
     ensures { OneListOfLargest }
 {}
 
-/// What is taken is used, and can be held with what was held before; what is held can be given back.
+/// What is taken is used, and can be held with what was held before; what is held can be given
+/// back.
 pub fn held_chunks_come_and_go()
     ensures used { TakenIsUsed }
     ensures held { TakenIsHeld }

@@ -14,7 +14,8 @@ pub struct Place {
 impl Place {
     ghost use Rattle.cm_pool.specs.Places.{IsInside};
 
-    /// Whether these are words inside the chunk, at least one. A place that was read from a file may have any numbers.
+    /// Whether these are words inside the chunk, at least one. A place that was read from a file
+    /// may have any numbers.
     pub fn is_inside(&self) -> bool
         ensures { IsTrue result ↔ IsInside self.now }
     {

@@ -1,8 +1,10 @@
-// The pool's rows of bits, one for each order. In the row of an order stands a bit for each block of
-// that order, set where the block is free and the other half of the block above isn't wholly so.
-ghost use Rattle.std.specs.Prelude.{◌≡◌, ℕ, ◌+◌, ◌<◌, ◌≤◌, ◌&&◌, ◌||◌, ◌⊎◌, ◌↔◌, IsTrue, true, false, not, length, vec_len, IfOk, IfSome, IfNone};
+// The pool's rows of bits, one for each order. In the row of an order stands a bit for each block
+// of that order, set where the block is free and the other half of the block above isn't wholly so.
+ghost use Rattle.std.specs.Prelude.{◌≡◌, ℕ, ◌+◌, ◌<◌, ◌≤◌, ◌&&◌, ◌||◌, ◌⊎◌, ◌↔◌, IsTrue, true};
+ghost use Rattle.std.specs.Prelude.{false, not, length, vec_len, IfOk, IfSome, IfNone};
 ghost use Rattle.cm_pool.specs.Blocks.{is_in, start, Inside, other_half};
-ghost use Rattle.cm_pool.specs.Rows.{is_marked as is_marked_in, is_covered, with_mark, without_mark, HasPlace, IsKept, AreEmpty, IsFirstFrom};
+ghost use Rattle.cm_pool.specs.Rows.{is_marked as is_marked_in, is_covered, with_mark};
+ghost use Rattle.cm_pool.specs.Rows.{without_mark, HasPlace, IsKept, AreEmpty, IsFirstFrom};
 
 use crate::block::Block;
 use crate::geometry::Geometry;
@@ -99,14 +101,17 @@ pub fn holder_of(rows: &[Row], part: Block) -> Option<Block>
     None
 }
 
-/// Takes `wanted` out of the block `from`, which it lies in. The rest of that block stays, in halves.
+/// Takes `wanted` out of the block `from`, which it lies in. The rest of that block stays, in
+/// halves.
 pub fn take_out(rows: &mut Vec<Row>, from: Block, wanted: Block)
     requires kept { (top : ℕ) × (limit : ℕ) × IsKept top limit rows.old.items }
     requires orders { vec_len rows.old ≤ 13 }
     requires from { is_marked_in rows.old.items from ≡ true }
     requires inside { Inside wanted from }
-    ensures kept { (top limit : ℕ) → IsKept top limit rows.old.items → IsKept top limit rows.new.items }
-    ensures covered { (g : ℕ) → is_covered rows.new.items g ≡ (is_covered rows.old.items g && not (is_in wanted g)) }
+    ensures kept { (top limit : ℕ) → IsKept top limit rows.old.items
+        → IsKept top limit rows.new.items }
+    ensures covered { (g : ℕ)
+        → is_covered rows.new.items g ≡ (is_covered rows.old.items g && not (is_in wanted g)) }
 {
     unmark(rows, from);
     let mut block = from;
@@ -124,19 +129,23 @@ pub fn take_out(rows: &mut Vec<Row>, from: Block, wanted: Block)
 
 // Whether the other half of a block is free, so that a larger one can be made of the two.
 fn joins(rows: &[Row], block: Block, top: u32) -> bool
-    ensures { IsTrue result ↔ ((block.order < top) × (is_marked_in rows.now (other_half block) ≡ true)) }
+    ensures { IsTrue result ↔ ((block.order < top)
+        × (is_marked_in rows.now (other_half block) ≡ true)) }
 {
     block.order < top && is_marked(rows, block.other_half())
 }
 
 /// Puts a block back of which nothing is free, joined with its other half as long as that is free.
 pub fn give_back(rows: &mut Vec<Row>, top: u32, given: Block)
-    requires kept { (limit : ℕ) × IsKept top limit rows.old.items × ((g : ℕ) → is_in given g ≡ true → g < limit) }
+    requires kept { (limit : ℕ) × IsKept top limit rows.old.items × ((g : ℕ)
+        → is_in given g ≡ true → g < limit) }
     requires top { top ≤ 12 }
     requires order { given.order ≤ top }
     requires taken { (g : ℕ) → is_in given g ≡ true → is_covered rows.old.items g ≡ false }
-    ensures kept { (limit : ℕ) → IsKept top limit rows.old.items → ((g : ℕ) → is_in given g ≡ true → g < limit) → IsKept top limit rows.new.items }
-    ensures covered { (g : ℕ) → is_covered rows.new.items g ≡ (is_in given g || is_covered rows.old.items g) }
+    ensures kept { (limit : ℕ) → IsKept top limit rows.old.items → ((g : ℕ)
+        → is_in given g ≡ true → g < limit) → IsKept top limit rows.new.items }
+    ensures covered { (g : ℕ)
+        → is_covered rows.new.items g ≡ (is_in given g || is_covered rows.old.items g) }
 {
     let mut block = given;
     while joins(rows, block, top) {
