@@ -8,25 +8,30 @@ use Rattle.cm_arena.specs.Placing.{IsWanted, IsNeeded, Fetches}
 abbrev pub IsTaken : FreeSpace → ℕ → ℕ → Chunk → FreeSpace → Type 0
 IsTaken old wanted need c new = IsWanted old wanted c new ⊎ IsNeeded old wanted need c new
 
-pub taken-free : (old new : FreeSpace) (wanted need : ℕ) (c : Chunk) → IsTaken old wanted need c new → IsFreeChunk old c
+pub taken-free : (old new : FreeSpace) (wanted need : ℕ) (c : Chunk)
+    → IsTaken old wanted need c new → IsFreeChunk old c
 taken-free old new wanted need c (inl h) = h.first.free
 taken-free old new wanted need c (inr h) = h.first.free
 
-pub taken-left : (old new : FreeSpace) (wanted need : ℕ) (c : Chunk) → IsTaken old wanted need c new → new ≡ without old c
+pub taken-left : (old new : FreeSpace) (wanted need : ℕ) (c : Chunk)
+    → IsTaken old wanted need c new → new ≡ without old c
 taken-left old new wanted need c (inl h) = h.left
 taken-left old new wanted need c (inr h) = h.left
 
-pub taken-has_free : (old new : FreeSpace) (wanted need : ℕ) (c : Chunk) → need ≤ wanted → IsTaken old wanted need c new → HasFree old need
+pub taken-has_free : (old new : FreeSpace) (wanted need : ℕ) (c : Chunk) → need ≤ wanted
+    → IsTaken old wanted need c new → HasFree old need
 taken-has_free old new wanted need c le (inl h) = large_has_small old need wanted le (c, h.first.of_order, h.first.free)
 taken-has_free old new wanted need c le (inr h) = (c, h.first.of_order, h.first.free)
 
 -- a chunk that was fetched is of the order wanted or of the order needed, and has few words
-pub fetched-order : (old new : FreeSpace) (wanted need : ℕ) (c : Chunk) → need ≤ wanted → Fetches old wanted need c new → need ≤ c.order
+pub fetched-order : (old new : FreeSpace) (wanted need : ℕ) (c : Chunk) → need ≤ wanted
+    → Fetches old wanted need c new → need ≤ c.order
 fetched-order old new wanted need c le (inl h) = omega (arith, h.first.of_order)
 fetched-order old new wanted need c le (inr (inl h)) = omega (arith, h.first.of_order)
 fetched-order old new wanted need c le (inr (inr h)) = omega (arith, h.first.of_order)
 
-pub fetched-small : (old new : FreeSpace) (wanted need : ℕ) (c : Chunk) → Fetches old wanted need c new → c.order ≤ old.geometry.top
+pub fetched-small : (old new : FreeSpace) (wanted need : ℕ) (c : Chunk)
+    → Fetches old wanted need c new → c.order ≤ old.geometry.top
 fetched-small old new wanted need c (inl h) = h.first.free.block.within_top
 fetched-small old new wanted need c (inr (inl h)) = h.first.free.block.within_top
 fetched-small old new wanted need c (inr (inr h)) = h.first.free.block.within_top

@@ -1,11 +1,13 @@
 -- What holds of each place that an arena gives.
-use Rattle.std.proofs.Common.{◌≡◌, ℕ, ◌≤◌, List, [], ◌∷◌, ◌++◌, Some, length, refl, sym, ap, ◌∙◌, subst, inl, inr, arith, append_assoc}
+use Rattle.std.proofs.Common.{◌≡◌, ℕ, ◌≤◌, List, [], ◌∷◌, ◌++◌, Some, length, refl, sym, ap, ◌∙◌}
+use Rattle.std.proofs.Common.{subst, inl, inr, arith, append_assoc}
 use Rattle.std.specs.List.{AllByRecursion}
 use Rattle.cm_pool.specs.declared.chunk.Chunk.{Chunk}
 use Rattle.cm_pool.specs.FreeSpace.{FreeSpace, with_root}
 use Rattle.cm_pool.specs.Lists.{Among}
 use Rattle.cm_pool.specs.Held.{AreHeld, NoneIsLost}
-use Rattle.cm_pool.proofs.SpaceLaws.{taken_is_held, roots_keep_held, taking_loses_none, roots_lose_none}
+use Rattle.cm_pool.proofs.SpaceLaws.{taken_is_held, roots_keep_held, taking_loses_none}
+use Rattle.cm_pool.proofs.SpaceLaws.{roots_lose_none}
 use Rattle.cm_pool.specs.declared.place.Place.{Place}
 use Rattle.cm_arena.specs.Chains.{Filled, chunks_of, last_of, with_more, IsFilled}
 use Rattle.cm_pool.specs.Places.{IsInside}
@@ -13,16 +15,19 @@ use Rattle.cm_arena.specs.Placing.{Fetches, Places, order_wanted}
 use Rattle.cm_arena.proofs.Fetching.{fetched-small}
 
 -- filling the last chunk further changes no chunk
-chunks-with_more : (chain : List Filled) (words : ℕ) → chunks_of (with_more chain words) ≡ chunks_of chain
+chunks-with_more : (chain : List Filled) (words : ℕ)
+    → chunks_of (with_more chain words) ≡ chunks_of chain
 chunks-with_more [] words = refl
 chunks-with_more (f ∷ []) words = refl
 chunks-with_more (f ∷ g ∷ rest) words = ap (λ cs. f.chunk ∷ cs) (chunks-with_more (g ∷ rest) words)
 
-chunks-push : (chain : List Filled) (f : Filled) → chunks_of (chain ++ f ∷ []) ≡ chunks_of chain ++ f.chunk ∷ []
+chunks-push : (chain : List Filled) (f : Filled)
+    → chunks_of (chain ++ f ∷ []) ≡ chunks_of chain ++ f.chunk ∷ []
 chunks-push [] f = refl
 chunks-push (g ∷ rest) f = ap (λ cs. g.chunk ∷ cs) (chunks-push rest f)
 
-among-last : (chain : List Filled) (f : Filled) → last_of chain ≡ Some f → Among f.chunk (chunks_of chain)
+among-last : (chain : List Filled) (f : Filled) → last_of chain ≡ Some f
+    → Among f.chunk (chunks_of chain)
 among-last [] f e = cc
 among-last (g ∷ []) f e = let same : g ≡ f = cc in inl (ap (λ (h : Filled). h.chunk) (sym same))
 among-last (g ∷ h ∷ rest) f e = inr (among-last (h ∷ rest) f e)
@@ -31,12 +36,15 @@ among-push : (cs : List Chunk) (c : Chunk) → Among c (cs ++ c ∷ [])
 among-push [] c = inl refl
 among-push (d ∷ cs) c = inr (among-push cs c)
 
-filled-last : (chain : List Filled) (f : Filled) → AllByRecursion IsFilled chain → last_of chain ≡ Some f → IsFilled f
+filled-last : (chain : List Filled) (f : Filled) → AllByRecursion IsFilled chain
+    → last_of chain ≡ Some f → IsFilled f
 filled-last [] f h e = cc
 filled-last (g ∷ []) f h e = let same : g ≡ f = cc in subst IsFilled same h.0
 filled-last (g ∷ k ∷ rest) f h e = filled-last (k ∷ rest) f h.1 e
 
-pub place-inside : (chain new : List Filled) (pool left : FreeSpace) (words : ℕ) (place : Place) → AllByRecursion IsFilled chain → 1 ≤ words → pool.geometry.top ≤ 12 → Places chain pool words place new left → IsInside place × Among place.chunk (chunks_of new)
+pub place-inside : (chain new : List Filled) (pool left : FreeSpace) (words : ℕ) (place : Place)
+    → AllByRecursion IsFilled chain → 1 ≤ words → pool.geometry.top ≤ 12
+    → Places chain pool words place new left → IsInside place × Among place.chunk (chunks_of new)
 place-inside chain new pool left words place filled some small (inl (on, same)) = (
   record { small = (filled-last chain _ filled on.last).small; some = omega (arith, on.amount); within = omega (arith, on.room, on.amount) },
   subst (Among place.chunk) (sym (ap chunks_of on.after ∙ chunks-with_more chain words)) (among-last chain _ on.last),
@@ -51,9 +59,13 @@ place-inside chain new pool left words place filled some small (inr h) = (
 )
 
 -- a fetched chunk is held with those that were
-fetched-held : (pool left : FreeSpace) (wanted need : ℕ) (c : Chunk) (mine others : List Chunk) → Fetches pool wanted need c left → AreHeld pool (mine ++ others) → AreHeld left (mine ++ c ∷ others)
-fetched-held pool left wanted need c mine others (inl h) held = subst (λ (p : FreeSpace). AreHeld p (mine ++ c ∷ others)) (sym h.left) (taken_is_held pool mine c others held h.first.free)
-fetched-held pool left wanted need c mine others (inr (inl h)) held = subst (λ (p : FreeSpace). AreHeld p (mine ++ c ∷ others)) (sym h.left) (taken_is_held pool mine c others held h.first.free)
+fetched-held : (pool left : FreeSpace) (wanted need : ℕ) (c : Chunk) (mine others : List Chunk)
+    → Fetches pool wanted need c left → AreHeld pool (mine ++ others)
+    → AreHeld left (mine ++ c ∷ others)
+fetched-held pool left wanted need c mine others (inl h) held = subst
+    (λ (p : FreeSpace). AreHeld p (mine ++ c ∷ others)) (sym h.left) (taken_is_held pool mine c others held h.first.free)
+fetched-held pool left wanted need c mine others (inr (inl h)) held = subst
+    (λ (p : FreeSpace). AreHeld p (mine ++ c ∷ others)) (sym h.left) (taken_is_held pool mine c others held h.first.free)
 fetched-held pool left wanted need c mine others (inr (inr h)) held =
     subst (λ (p : FreeSpace). AreHeld p (mine ++ c ∷ others)) (sym h.left) (taken_is_held (with_root pool) mine c others (roots_keep_held pool (mine ++ others) held) h.first.free)
 
@@ -69,8 +81,10 @@ place-held chain new pool left words place others (inr h) held =
 
 -- and no word is lost
 fetched-none_lost : (pool left : FreeSpace) (wanted need : ℕ) (c : Chunk) (mine others : List Chunk) → Fetches pool wanted need c left → NoneIsLost pool (mine ++ others) → NoneIsLost left (mine ++ c ∷ others)
-fetched-none_lost pool left wanted need c mine others (inl h) kept = subst (λ (p : FreeSpace). NoneIsLost p (mine ++ c ∷ others)) (sym h.left) (taking_loses_none pool mine c others kept h.first.free)
-fetched-none_lost pool left wanted need c mine others (inr (inl h)) kept = subst (λ (p : FreeSpace). NoneIsLost p (mine ++ c ∷ others)) (sym h.left) (taking_loses_none pool mine c others kept h.first.free)
+fetched-none_lost pool left wanted need c mine others (inl h) kept = subst
+    (λ (p : FreeSpace). NoneIsLost p (mine ++ c ∷ others)) (sym h.left) (taking_loses_none pool mine c others kept h.first.free)
+fetched-none_lost pool left wanted need c mine others (inr (inl h)) kept = subst
+    (λ (p : FreeSpace). NoneIsLost p (mine ++ c ∷ others)) (sym h.left) (taking_loses_none pool mine c others kept h.first.free)
 fetched-none_lost pool left wanted need c mine others (inr (inr h)) kept =
     subst (λ (p : FreeSpace). NoneIsLost p (mine ++ c ∷ others)) (sym h.left) (taking_loses_none (with_root pool) mine c others (roots_lose_none pool (mine ++ others) kept) h.first.free)
 

@@ -11,8 +11,8 @@ fn code_of(record: &Record, name: &[u8], descriptor: &[u8]) -> Option<Code> {
     record.code(&member)
 }
 
-/// Prints a line for each method of a record: class, name, descriptor, and of its code max stack, max locals and how many
-/// bytes it has; or `none`.
+/// Prints a line for each method of a record: class, name, descriptor, and of its code max stack,
+/// max locals and how many bytes it has; or `none`.
 fn print_methods_of(rt: &(impl Print + AllocGlobal), record: &Record) -> Result<()> {
     let alloc = rt.alloc();
     let class_name = record.class_name(alloc)?;

@@ -1,5 +1,5 @@
-//! What it costs to take a block of a crowded pool and to give it back, by rows of bits and by a sorted
-//! list.
+//! What it costs to take a block of a crowded pool and to give it back, by rows of bits and by a
+//! sorted list.
 ghost use Rattle.std.specs.Prelude.{◌≡◌};
 
 use crate::lookups::Tally;

@@ -88,8 +88,8 @@ pub fn report_lookup(
     Ok(())
 }
 
-/// Takes a block of a crowded pool and gives it back, many times in each pass, and prints a line for each
-/// body.
+/// Takes a block of a crowded pool and gives it back, many times in each pass, and prints a line
+/// for each body.
 pub fn report_pools(
     rt: &(impl Clock + Print + AllocGlobal),
     crowd: Crowd,

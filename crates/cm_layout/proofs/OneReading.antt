@@ -166,7 +166,8 @@ same_groups sizes rows n (g ∷ gs) (h ∷ hs) x y kg kh ex ey e =
 
 -- ---- halves
 
-same_heads : (sizes : Sizes) (h g : HalfHead) (x y : List ℕ) → IsGoodHead sizes h → IsGoodHead sizes g
+same_heads : (sizes : Sizes) (h g : HalfHead) (x y : List ℕ) → IsGoodHead sizes h
+    → IsGoodHead sizes g
     → half_head_slot h ++ x ≡ half_head_slot g ++ y → (h ≡ g) × (x ≡ y)
 same_heads sizes h g x y kh kg e =
     (same_half_head h g kh.fits kg.fits (ap (take 64) e), ap (drop 64) e)
@@ -200,7 +201,8 @@ same_half sizes h g kh kg e =
     )
 
 -- a half that counts doesn't let the other count
-newer : (sizes : Sizes) (a b : OpenHalf) (bytes : List ℕ) → IsGoodHalf sizes b → bytes ≡ half_bytes b
+newer : (sizes : Sizes) (a b : OpenHalf) (bytes : List ℕ) → IsGoodHalf sizes b
+    → bytes ≡ half_bytes b
     → IsOlder sizes a.head.epoch bytes → b.head.epoch < a.head.epoch
 newer sizes a b bytes kb is (inl shut) = absurd (subst IsEnd is shut refl)
 newer sizes a b bytes kb is (inr old) =

@@ -20,8 +20,8 @@ use std::marker::Model;
 use std::sync::Arc;
 
 /// An entry with the records that it writes, each of a class that keeps the class rules: a class's
-/// own for its row, those on the old chunk for a move, none for any other. Records are shared, never
-/// copied.
+/// own for its row, those on the old chunk for a move, none for any other. Records are shared,
+/// never copied.
 #[derive(Drop)]
 pub struct CarriedEntry {
     entry: Entry<()>,

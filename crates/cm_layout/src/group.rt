@@ -1,7 +1,9 @@
 //! Groups: what is handed from the accepted cache to its disk at once.
 
-ghost use Rattle.std.specs.Prelude.{◌≡◌, ◌+◌, ◌^◌, ◌<◌, ◌≤◌, ◌↔◌, ◌++◌, ◌∷◌, [], ℕ, List, length, IsOk, IfOk, IfErr, OnOk, OnErr, IsTrue};
-ghost use Rattle.cm_layout.specs.Groups.{IsGroup, GoesOn, joined, group_limit, slots_taken, next_number};
+ghost use Rattle.std.specs.Prelude.{◌≡◌, ◌+◌, ◌^◌, ◌<◌, ◌≤◌, ◌↔◌, ◌++◌, ◌∷◌, [], ℕ, List, length};
+ghost use Rattle.std.specs.Prelude.{IsOk, IfOk, IfErr, OnOk, OnErr, IsTrue};
+ghost use Rattle.cm_layout.specs.Groups.{IsGroup, GoesOn, joined, group_limit, slots_taken};
+ghost use Rattle.cm_layout.specs.Groups.{next_number};
 
 use crate::carried::CarriedEntry;
 use std::alloc::{AllocError, Global};
@@ -10,8 +12,9 @@ use std::marker::Model;
 /// How many slots a group's entries may take.
 pub const GROUP_SLOTS: usize = 64;
 
-/// Entries of one to 64 slots with numbers one behind another, each with the records that it writes:
-/// what the accepted cache hands to its disk at once. It has room for 64 entries from the start.
+/// Entries of one to 64 slots with numbers one behind another, each with the records that it
+/// writes: what the accepted cache hands to its disk at once. It has room for 64 entries from the
+/// start.
 #[derive(Drop)]
 pub struct Group {
     first: u64,
@@ -37,7 +40,8 @@ impl Group {
     pub fn new(alloc: Global, number: u64, entry: CarriedEntry) -> Result<Group, AllocError>
         requires from { 1 ≤ number }
         requires to { number ≤ 2 ^ 63 }
-        ensures { IfOk result (λ g. g ≡ record { first = number; learnt = 0; entries = entry ∷ [] }) }
+        ensures { IfOk result
+            (λ g. g ≡ record { first = number; learnt = 0; entries = entry ∷ [] }) }
     {
         let mut entries = Vec::with_capacity(alloc, GROUP_SLOTS)?;
         let slots = entry.slots();
@@ -80,8 +84,8 @@ impl Group {
         &self.entries
     }
 
-    /// One entry more, with the next number. It is handed back, and nothing is changed, exactly where
-    /// the group has no slots for it. Takes no memory.
+    /// One entry more, with the next number. It is handed back, and nothing is changed, exactly
+    /// where the group has no slots for it. Takes no memory.
     pub fn push(&mut self, entry: CarriedEntry) -> Result<(), CarriedEntry>
         requires number { next_number self.old ≤ 2 ^ 63 }
         ensures room { IsOk result ↔ (slots_taken (self.old.entries ++ entry ∷ []) ≤ group_limit) }

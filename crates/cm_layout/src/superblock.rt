@@ -49,8 +49,8 @@ impl Superblock {
     }
 }
 
-// What stands where a superblock has its sizes, where these are within their limits. Only writing it
-// again tells whether it is one.
+// What stands where a superblock has its sizes, where these are within their limits. Only writing
+// it again tells whether it is one.
 fn sizes_at_their_places(front: &[u8; FRONT_BYTES]) -> Option<Geometry>
     ensures { (sizes : Sizes) → IsGeometry sizes → front.now ≡ superblock_front sizes
         → IsSomeAnd result (λ g. g ≡ sizes) }

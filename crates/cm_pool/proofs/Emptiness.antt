@@ -1,5 +1,6 @@
 -- Rows with no bit set, made one after the other.
-use Rattle.std.proofs.Common.{◌≡◌, ℕ, zero, suc, ◌+◌, ◌-◌, ◌*◌, ◌^◌, ◌<◌, ◌≤◌, List, [], ◌∷◌, ◌++◌, length, replicate, refl, sym, ap, ◌∙◌, inl, inr, arith, length-append}
+use Rattle.std.proofs.Common.{◌≡◌, ℕ, zero, suc, ◌+◌, ◌-◌, ◌*◌, ◌^◌, ◌<◌, ◌≤◌, List, [], ◌∷◌, ◌++◌}
+use Rattle.std.proofs.Common.{length, replicate, refl, sym, ap, ◌∙◌, inl, inr, arith, length-append}
 use Rattle.std.proofs.lemmas.List.{get_or_push, length-replicate}
 use Rattle.std.proofs.lemmas.Bool.{cases_lt, cases_eq}
 use Rattle.std.proofs.lemmas.Nat.{pow-add}
@@ -19,15 +20,19 @@ pub record AreZeros (sizes : Sizes) (count : ℕ) (rows : List (List ℕ)) : Typ
 pub none-yet : (sizes : Sizes) → AreZeros sizes 0 []
 none-yet sizes = record { orders = refl; zeros = λ o lt. absurd (omega arith); room = λ o lt. absurd (omega arith) }
 
-at-end : (rows : List (List ℕ)) (r : List ℕ) (count : ℕ) → length rows ≡ count → row (rows ++ r ∷ []) count ≡ r
+at-end : (rows : List (List ℕ)) (r : List ℕ) (count : ℕ) → length rows ≡ count
+    → row (rows ++ r ∷ []) count ≡ r
 at-end rows r count e = get_or_push rows r [] count e
 
-before-end : (rows : List (List ℕ)) (r : List ℕ) (o : ℕ) → o < length rows → row (rows ++ r ∷ []) o ≡ row rows o
+before-end : (rows : List (List ℕ)) (r : List ℕ) (o : ℕ) → o < length rows
+    → row (rows ++ r ∷ []) o ≡ row rows o
 before-end [] r o lt = absurd (omega arith)
 before-end (x ∷ rows) r zero lt = refl
 before-end (x ∷ rows) r (suc o) lt = before-end rows r o (omega arith)
 
-pub one-more : (sizes : Sizes) (count words : ℕ) (rows : List (List ℕ)) → AreZeros sizes count rows → sizes.roots * 2 ^ (sizes.top - count) ≤ 64 * words → AreZeros sizes (count + 1) (rows ++ replicate words 0 ∷ [])
+pub one-more : (sizes : Sizes) (count words : ℕ) (rows : List (List ℕ))
+    → AreZeros sizes count rows → sizes.roots * 2 ^ (sizes.top - count) ≤ 64 * words
+    → AreZeros sizes (count + 1) (rows ++ replicate words 0 ∷ [])
 one-more sizes count words rows h enough =
     let new : List ℕ = replicate words 0 in
     let last : row (rows ++ new ∷ []) count ≡ new = at-end rows new count h.orders in
@@ -41,7 +46,8 @@ one-more sizes count words rows h enough =
             here ∙ ap (λ n. replicate {A = ℕ} n 0) len
         | inr other ↦
             let before : row (rows ++ new ∷ []) o ≡ row rows o = before-end rows new o (omega (arith, h.orders)) in
-            before ∙ h.zeros o (omega arith) ∙ ap (λ (r : List ℕ). replicate {A = ℕ} (length r) 0) (sym before)
+            before ∙ h.zeros o (omega arith) ∙ ap
+            (λ (r : List ℕ). replicate {A = ℕ} (length r) 0) (sym before)
       ];
       room = λ o lt. elim (cases_eq o count) [
         | inl e ↦
@@ -54,13 +60,15 @@ one-more sizes count words rows h enough =
       ];
     }
 
-pub all-empty : (sizes : Sizes) (rows : List (List ℕ)) → IsGeometry sizes → AreZeros sizes (sizes.top + 1) rows → AreEmpty sizes rows
+pub all-empty : (sizes : Sizes) (rows : List (List ℕ)) → IsGeometry sizes
+    → AreZeros sizes (sizes.top + 1) rows → AreEmpty sizes rows
 all-empty sizes rows sizes_ok h =
     record {
       sizes_ok = sizes_ok;
       orders = h.orders;
       none = λ b. elim (cases_lt b.order (length rows)) [
-        | inl lt ↦ ap (λ r. bit r b.index) (h.zeros b.order (omega (arith, h.orders))) ∙ bit-replicate (length (row rows b.order)) b.index
+        | inl lt ↦ ap
+            (λ r. bit r b.index) (h.zeros b.order (omega (arith, h.orders))) ∙ bit-replicate (length (row rows b.order)) b.index
         | inr ge ↦ no-mark_past rows b ge
       ];
       room = λ b le lt.

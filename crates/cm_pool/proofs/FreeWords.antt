@@ -1,18 +1,25 @@
 -- What is free after a change, and that what is free determines a pool's value.
-use Rattle.std.proofs.Common.{◌≡◌, ℕ, zero, suc, ◌+◌, ◌-◌, ◌*◌, ◌/◌, ◌%◌, ◌^◌, ◌<◌, ◌≤◌, Bool, true, false, ◌||◌, ◌&&◌, not, eqb, refl, sym, ap, ◌∙◌, subst, inl, inr, ◌⊎◌, ◌↔◌, arith, Decides}
+use Rattle.std.proofs.Common.{◌≡◌, ℕ, zero, suc, ◌+◌, ◌-◌, ◌*◌, ◌/◌, ◌%◌, ◌^◌, ◌<◌, ◌≤◌, Bool, true}
+use Rattle.std.proofs.Common.{false, ◌||◌, ◌&&◌, not, eqb, refl, sym, ap, ◌∙◌, subst, inl, inr, ◌⊎◌}
+use Rattle.std.proofs.Common.{◌↔◌, arith, Decides}
 use Rattle.std.specs.List.{list_any, range_with_len}
 use Rattle.std.specs.Prelude.{nat_eq}
 use Rattle.std.specs.Ordering.{nat_cmp}
 use Rattle.std.specs.Cmp.{nat_cmp_total}
-use Rattle.std.specs.FinSet.{from_list, contains, union, difference, contains-from_list_nat, contains-union, contains-difference, same_set, nat_cmp-IsAntisymmetric}
+use Rattle.std.specs.FinSet.{from_list, contains, union, difference, contains-from_list_nat}
+use Rattle.std.specs.FinSet.{contains-union, contains-difference, same_set, nat_cmp-IsAntisymmetric}
 use Rattle.std.proofs.lemmas.Nat.{pow_pos, pow-add, div-add-mod'}
-use Rattle.std.proofs.lemmas.Bool.{cases_eq, cases_order, or_cases, or_left, or_right, and_from, and_parts, both_ways, eqb-true, eq-eqb, not-true, not_from_false, false_from_ne_true}
+use Rattle.std.proofs.lemmas.Bool.{cases_eq, cases_order, or_cases, or_left, or_right, and_from}
+use Rattle.std.proofs.lemmas.Bool.{and_parts, both_ways, eqb-true, eq-eqb, not-true, not_from_false}
+use Rattle.std.proofs.lemmas.Bool.{false_from_ne_true}
 use Rattle.std.proofs.lemmas.Bool.Decides.{same_from_decides, Decides-at, Decides-like}
-use Rattle.std.proofs.Math.Nat.{pow-le-pow_right, zero-mod, div-add-mod, mul-mod_left, mul-le-mul_right, mod-lt}
+use Rattle.std.proofs.Math.Nat.{pow-le-pow_right, zero-mod, div-add-mod, mul-mod_left}
+use Rattle.std.proofs.Math.Nat.{mul-le-mul_right, mod-lt}
 use Rattle.cm_pool.specs.declared.chunk.Chunk.{Chunk}
 use Rattle.cm_pool.specs.Geometry.{Sizes}
 use Rattle.cm_pool.specs.Chunks.{chunk_size, Covers, Meets}
-use Rattle.cm_pool.specs.FreeSpace.{FreeSpace, word_number, IsFreeWord, IsFreeChunk, IsUsedChunk, HasFree, words, without, with_chunk, with_root, next_root}
+use Rattle.cm_pool.specs.FreeSpace.{FreeSpace, word_number, IsFreeWord, IsFreeChunk, IsUsedChunk}
+use Rattle.cm_pool.specs.FreeSpace.{HasFree, words, without, with_chunk, with_root, next_root}
 
 -- a word's number tells its root
 pub number-order : (size a b v w : ℕ) → a < b → v < size → a * size + v < b * size + w
@@ -20,11 +27,16 @@ number-order size a b v w lt h =
     let more : (a + 1) * size ≤ b * size = mul-le-mul_right size (omega arith) in
     omega arith
 
-pub covers-number : (top : ℕ) (c : Chunk) (root word : ℕ) → c.at + chunk_size c.order ≤ chunk_size top → word < chunk_size top → word_number top c.root c.at ≤ word_number top root word → word_number top root word < word_number top c.root c.at + chunk_size c.order → Covers c root word
+pub covers-number : (top : ℕ) (c : Chunk) (root word : ℕ)
+    → c.at + chunk_size c.order ≤ chunk_size top → word < chunk_size top
+    → word_number top c.root c.at ≤ word_number top root word
+    → word_number top root word < word_number top c.root c.at + chunk_size c.order
+    → Covers c root word
 covers-number top c root word inside within low high =
     elim (cases_order root c.root) [
       | inl e ↦
-          let same : root * chunk_size top ≡ c.root * chunk_size top = ap (λ r. r * chunk_size top) e in
+          let same : root * chunk_size top ≡ c.root * chunk_size top = ap
+          (λ r. r * chunk_size top) e in
           record { same_root = e; from = omega (arith, low, same); to = omega (arith, high, same) }
       | inr (inl lt) ↦ absurd (omega (arith, low, number-order (chunk_size top) root c.root word c.at lt within))
       | inr (inr gt) ↦
@@ -32,14 +44,19 @@ covers-number top c root word inside within low high =
           absurd (omega (arith, high, inside, more))
     ]
 
-pub number-covers : (top : ℕ) (c : Chunk) (root word : ℕ) → Covers c root word → (word_number top c.root c.at ≤ word_number top root word) × (word_number top root word < word_number top c.root c.at + chunk_size c.order)
+pub number-covers : (top : ℕ) (c : Chunk) (root word : ℕ) → Covers c root word
+    → (word_number top c.root c.at ≤ word_number top root word)
+    × (word_number top root word < word_number top c.root c.at + chunk_size c.order)
 number-covers top c root word h =
-    let same : root * chunk_size top ≡ c.root * chunk_size top = ap (λ r. r * chunk_size top) h.same_root in
+    let same : root * chunk_size top ≡ c.root * chunk_size top = ap
+    (λ r. r * chunk_size top) h.same_root in
     (omega (arith, h.from, same), omega (arith, h.to, same))
 
 -- which numbers a chunk has
-pub range-decides : (a n q : ℕ) → Decides (list_any (λ y. nat_eq y q) (range_with_len a n)) ((a ≤ q) × (q < a + n))
-range-decides a zero q = (λ e. absurd (both_ways false refl e), λ h. absurd (omega (arith, h.0, h.1)))
+pub range-decides : (a n q : ℕ) → Decides (list_any
+    (λ y. nat_eq y q) (range_with_len a n)) ((a ≤ q) × (q < a + n))
+range-decides a zero q =
+    (λ e. absurd (both_ways false refl e), λ h. absurd (omega (arith, h.0, h.1)))
 range-decides a (suc n) q = (
   λ e. elim (or_cases (eqb a q) _ e) [
     | inl same ↦ let is : a ≡ q = eqb-true a q same in (omega arith, omega arith)
@@ -51,20 +68,28 @@ range-decides a (suc n) q = (
   ],
 )
 
-pub words-decides : (top : ℕ) (c : Chunk) (q : ℕ) → Decides (contains (words top c) q) ((word_number top c.root c.at ≤ q) × (q < word_number top c.root c.at + chunk_size c.order))
+pub words-decides : (top : ℕ) (c : Chunk) (q : ℕ)
+    → Decides (contains (words top c) q) ((word_number top c.root c.at ≤ q)
+    × (q < word_number top c.root c.at + chunk_size c.order))
 unfolding words
 words-decides top c q = Decides-at _ _ (contains-from_list_nat _ q) (range-decides (word_number top c.root c.at) (chunk_size c.order) q)
 
-pub range-set-decides : (a n q : ℕ) → Decides (contains (from_list {R = nat_cmp} (range_with_len a n)) q) ((a ≤ q) × (q < a + n))
+pub range-set-decides : (a n q : ℕ)
+    → Decides (contains (from_list {R = nat_cmp} (range_with_len a n)) q) ((a ≤ q) × (q < a + n))
 range-set-decides a n q = Decides-at _ _ (contains-from_list_nat _ q) (range-decides a n q)
 
 -- a chunk inside its root has a word of a root exactly where it covers it
-pub words-covers : (top : ℕ) (c : Chunk) (root word : ℕ) → c.at + chunk_size c.order ≤ chunk_size top → word < chunk_size top → Decides (contains (words top c) (word_number top root word)) (Covers c root word)
+pub words-covers : (top : ℕ) (c : Chunk) (root word : ℕ)
+    → c.at + chunk_size c.order ≤ chunk_size top → word < chunk_size top
+    → Decides (contains (words top c) (word_number top root word)) (Covers c root word)
 words-covers top c root word inside within =
-    Decides-like _ (λ h. covers-number top c root word inside within h.0 h.1) (number-covers top c root word) (words-decides top c (word_number top root word))
+    Decides-like _
+    (λ h. covers-number top c root word inside within h.0 h.1) (number-covers top c root word) (words-decides top c (word_number top root word))
 
 -- what is free once a chunk was taken
-pub free-without : (p : FreeSpace) (c : Chunk) (root word : ℕ) → c.at + chunk_size c.order ≤ chunk_size p.geometry.top → IsFreeWord (without p c) root word ↔ (IsFreeWord p root word × (¬ Covers c root word))
+pub free-without : (p : FreeSpace) (c : Chunk) (root word : ℕ)
+    → c.at + chunk_size c.order ≤ chunk_size p.geometry.top → IsFreeWord (without p c) root word
+    ↔ (IsFreeWord p root word × (¬ Covers c root word))
 free-without p c root word inside =
     let n = word_number p.geometry.top root word in
     let is = contains-difference nat_cmp_total p.free (words p.geometry.top c) n in (
@@ -74,12 +99,15 @@ free-without p c root word inside =
       ),
       λ h. record {
         within = h.0.within;
-        is_free = is ∙ and_from _ _ h.0.is_free (not_from_false _ (false_from_ne_true _ (λ e. h.1 ((words-covers p.geometry.top c root word inside h.0.within).0 e))));
+        is_free = is ∙ and_from _ _ h.0.is_free (not_from_false _ (false_from_ne_true _
+            (λ e. h.1 ((words-covers p.geometry.top c root word inside h.0.within).0 e))));
       },
     )
 
 -- what is free once a chunk came back
-pub free-with_chunk : (p : FreeSpace) (c : Chunk) (root word : ℕ) → c.at + chunk_size c.order ≤ chunk_size p.geometry.top → IsFreeWord (with_chunk p c) root word ↔ (IsFreeWord p root word ⊎ Covers c root word)
+pub free-with_chunk : (p : FreeSpace) (c : Chunk) (root word : ℕ)
+    → c.at + chunk_size c.order ≤ chunk_size p.geometry.top
+    → IsFreeWord (with_chunk p c) root word ↔ (IsFreeWord p root word ⊎ Covers c root word)
 free-with_chunk p c root word inside =
     let n = word_number p.geometry.top root word in
     let is = contains-union nat_cmp_total p.free (words p.geometry.top c) n in (
@@ -96,7 +124,8 @@ free-with_chunk p c root word inside =
     )
 
 -- what is free once there is one root more
-pub free-with_root : (p : FreeSpace) (root word : ℕ) → IsFreeWord (with_root p) root word ↔ (IsFreeWord p root word ⊎ ((root ≡ p.roots) × (word < chunk_size p.geometry.top)))
+pub free-with_root : (p : FreeSpace) (root word : ℕ) → IsFreeWord (with_root p) root word
+    ↔ (IsFreeWord p root word ⊎ ((root ≡ p.roots) × (word < chunk_size p.geometry.top)))
 free-with_root p root word =
     let more = free-with_chunk p (next_root p) root word (omega arith) in (
       λ h. elim (more.0 (record { within = h.within; is_free = h.is_free })) [
@@ -111,23 +140,29 @@ free-with_root p root word =
       ],
     )
 
-same_parts : (p q : FreeSpace) → p.geometry ≡ q.geometry → p.roots ≡ q.roots → p.free ≡ q.free → p ≡ q
+same_parts : (p q : FreeSpace) → p.geometry ≡ q.geometry → p.roots ≡ q.roots → p.free ≡ q.free
+    → p ≡ q
 same_parts p q a b c = λ i. record { geometry = a i; roots = b i; free = c i }
 
-pub same_numbers : (p q : FreeSpace) → p.geometry ≡ q.geometry → p.roots ≡ q.roots → ((n : ℕ) → contains p.free n ≡ contains q.free n) → p ≡ q
+pub same_numbers : (p q : FreeSpace) → p.geometry ≡ q.geometry → p.roots ≡ q.roots → ((n : ℕ)
+    → contains p.free n ≡ contains q.free n) → p ≡ q
 same_numbers p q a b h = same_parts p q a b (same_set nat_cmp_total nat_cmp-IsAntisymmetric p.free q.free h)
 
 -- Two pools of one geometry, with as many roots and the same free words, are one value.
-pub same_space : (p q : FreeSpace) → p.geometry ≡ q.geometry → p.roots ≡ q.roots → ((root word : ℕ) → IsFreeWord p root word ↔ IsFreeWord q root word) → p ≡ q
+pub same_space : (p q : FreeSpace) → p.geometry ≡ q.geometry → p.roots ≡ q.roots
+    → ((root word : ℕ) → IsFreeWord p root word ↔ IsFreeWord q root word) → p ≡ q
 same_space p q a b h =
     let size = chunk_size p.geometry.top in
-    let sizes : chunk_size p.geometry.top ≡ chunk_size q.geometry.top = ap (λ (g : Sizes). chunk_size g.top) a in
+    let sizes : chunk_size p.geometry.top ≡ chunk_size q.geometry.top = ap
+    (λ (g : Sizes). chunk_size g.top) a in
     let pos : 0 < size = omega (arith, pow_pos p.geometry.top) in
     same_numbers p q a b (λ n.
     let within : n % size < size = mod-lt n pos in
     let number : word_number p.geometry.top (n / size) (n % size) ≡ n = div-add-mod' n size in
-    let number_q : word_number q.geometry.top (n / size) (n % size) ≡ n = ap (λ s. n / size * s + n % size) (sym sizes) ∙ number in
-    same_from_decides {P = contains p.free n ≡ true} (contains p.free n) (contains q.free n) (λ e. e, λ e. e) (
+    let number_q : word_number q.geometry.top (n / size) (n % size) ≡ n = ap
+    (λ s. n / size * s + n % size) (sym sizes) ∙ number in
+    same_from_decides {P = contains p.free n ≡ true} (contains p.free n) (contains q.free n)
+    (λ e. e, λ e. e) (
       λ e. let free = (h (n / size) (n % size)).1 (record { within = omega (arith, within, sizes); is_free = ap (contains q.free) number_q ∙ e }) in
           ap (contains p.free) (sym number) ∙ free.is_free,
       λ e. let free = (h (n / size) (n % size)).0 (record { within = within; is_free = ap (contains p.free) number ∙ e }) in
@@ -135,7 +170,8 @@ same_space p q a b h =
     ))
 
 -- a number of a chunk is that of one of its words
-pub chunk-word : (top : ℕ) (c : Chunk) (n : ℕ) → contains (words top c) n ≡ true → (word : ℕ) × (word_number top c.root word ≡ n) × (c.at ≤ word) × (word < c.at + chunk_size c.order)
+pub chunk-word : (top : ℕ) (c : Chunk) (n : ℕ) → contains (words top c) n ≡ true → (word : ℕ)
+    × (word_number top c.root word ≡ n) × (c.at ≤ word) × (word < c.at + chunk_size c.order)
 chunk-word top c n e =
     let h = (words-decides top c n).0 e in
     (n - c.root * chunk_size top, omega (arith, h.0), omega (arith, h.0), omega (arith, h.0, h.1))
@@ -164,7 +200,8 @@ takes_back p c h =
     ∙ ap (λ b. b && not (contains (words p.geometry.top c) n)) (contains-union nat_cmp_total p.free (words p.geometry.top c) n)
     ∙ taken (contains p.free n) (contains (words p.geometry.top c) n)
     (λ e. let at = chunk-word p.geometry.top c n e in
-    false_from_ne_true _ (λ f. h.words at.0 at.2 at.3 (record { within = omega (arith, at.3, h.block.inside); is_free = ap (contains p.free) at.1 ∙ f }))))
+    false_from_ne_true _
+    (λ f. h.words at.0 at.2 at.3 (record { within = omega (arith, at.3, h.block.inside); is_free = ap (contains p.free) at.1 ∙ f }))))
   where
     taken : (f w : Bool) → (w ≡ true → f ≡ false) → ((f || w) && not w) ≡ f
     taken true true k = sym (k refl)
@@ -187,7 +224,8 @@ free-apart p c d free used (root, word, in_c, in_d) =
     used.words word in_d.from in_d.to (subst (λ r. IsFreeWord p r word) (sym in_c.same_root ∙ in_d.same_root) is_free)
 
 -- A chunk that shares no word with one that is taken stays as it is.
-pub free-elsewhere : (p : FreeSpace) (c d : Chunk) → IsFreeChunk p c → IsFreeChunk p d → ¬ Meets c d → IsFreeChunk (without p c) d
+pub free-elsewhere : (p : FreeSpace) (c d : Chunk) → IsFreeChunk p c → IsFreeChunk p d
+    → ¬ Meets c d → IsFreeChunk (without p c) d
 free-elsewhere p c d taken h apart =
     record {
       block = h.block;
@@ -198,7 +236,8 @@ free-elsewhere p c d taken h apart =
           );
     }
 
-pub used-elsewhere : (p : FreeSpace) (c d : Chunk) → IsFreeChunk p c → IsUsedChunk p d → IsUsedChunk (without p c) d
+pub used-elsewhere : (p : FreeSpace) (c d : Chunk) → IsFreeChunk p c → IsUsedChunk p d
+    → IsUsedChunk (without p c) d
 used-elsewhere p c d taken h =
     record {
       block = h.block;
@@ -206,7 +245,8 @@ used-elsewhere p c d taken h =
     }
 
 -- A new root has free chunks of each order.
-pub root-has_free : (p : FreeSpace) (order : ℕ) → order ≤ p.geometry.top → HasFree (with_root p) order
+pub root-has_free : (p : FreeSpace) (order : ℕ) → order ≤ p.geometry.top
+    → HasFree (with_root p) order
 root-has_free p order le =
     let c : Chunk = record { root = p.roots; order = order; at = 0 } in
     let size : 2 ^ order ≤ 2 ^ p.geometry.top = pow-le-pow_right {n = 2} (omega arith) le in (
@@ -219,12 +259,14 @@ root-has_free p order le =
     )
 
 -- Where a chunk is free, there are free ones of each smaller order.
-pub has_free-smaller : (p : FreeSpace) (small large : ℕ) → small ≤ large → HasFree p large → HasFree p small
+pub has_free-smaller : (p : FreeSpace) (small large : ℕ) → small ≤ large → HasFree p large
+    → HasFree p small
 has_free-smaller p small large le (c, of_order, free) =
     let d : Chunk = record { root = c.root; order = small; at = c.at } in
     let step = 2 ^ (c.order - small) in
     let order : c.order ≡ (c.order - small) + small = omega arith in
-    let size : 2 ^ c.order ≡ step * 2 ^ small = ap (λ k. 2 ^ k) order ∙ pow-add 2 (c.order - small) small in
+    let size : 2 ^ c.order ≡ step * 2 ^ small = ap
+    (λ k. 2 ^ k) order ∙ pow-add 2 (c.order - small) small in
     let parts : chunk_size c.order * (c.at / chunk_size c.order) + c.at % chunk_size c.order ≡ c.at = div-add-mod c.at (chunk_size c.order) in
     let whole : c.at ≡ (c.at / chunk_size c.order) * step * chunk_size small =
     omega (arith, parts, free.block.aligned, ap (λ s. 128 * s * (c.at / chunk_size c.order)) size)
@@ -237,7 +279,8 @@ has_free-smaller p small large le (c, of_order, free) =
         block = record {
           within_top = omega (arith, free.block.within_top);
           in_a_root = free.block.in_a_root;
-          aligned = ap (λ n. n % chunk_size small) whole ∙ mul-mod_left ((c.at / chunk_size c.order) * step) (chunk_size small);
+          aligned = ap
+              (λ n. n % chunk_size small) whole ∙ mul-mod_left ((c.at / chunk_size c.order) * step) (chunk_size small);
           inside = omega (arith, free.block.inside, shorter);
         };
         words = λ word low high. free.words word low (omega (arith, high, shorter));

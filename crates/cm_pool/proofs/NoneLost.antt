@@ -1,15 +1,18 @@
 -- No word is lost where chunks are taken, given back, and roots added.
-use Rattle.std.proofs.Common.{◌≡◌, ℕ, ◌+◌, ◌<◌, ◌≤◌, true, false, List, [], ◌∷◌, ◌++◌, refl, subst, inl, inr, ◌⊎◌, arith}
+use Rattle.std.proofs.Common.{◌≡◌, ℕ, ◌+◌, ◌<◌, ◌≤◌, true, false, List, [], ◌∷◌, ◌++◌, refl, subst}
+use Rattle.std.proofs.Common.{inl, inr, ◌⊎◌, arith}
 use Rattle.std.specs.FinSet.{contains}
 use Rattle.std.proofs.lemmas.Bool.{cases_lt, both_ways}
 use Rattle.cm_pool.specs.declared.chunk.Chunk.{Chunk}
 use Rattle.cm_pool.specs.Chunks.{chunk_size, Covers}
-use Rattle.cm_pool.specs.FreeSpace.{FreeSpace, IsFreeChunk, IsUsedChunk, word_number, words, without, with_chunk, with_root}
+use Rattle.cm_pool.specs.FreeSpace.{FreeSpace, IsFreeChunk, IsUsedChunk, word_number, words}
+use Rattle.cm_pool.specs.FreeSpace.{without, with_chunk, with_root}
 use Rattle.cm_pool.specs.Lists.{Among}
 use Rattle.cm_pool.specs.Held.{NoneIsLost}
 use Rattle.cm_pool.proofs.FreeWords.{words-covers, free-without, free-with_chunk, free-with_root}
 
-among-put : (xs : List Chunk) (c : Chunk) (ys : List Chunk) (d : Chunk) → Among d (xs ++ ys) → Among d (xs ++ c ∷ ys)
+among-put : (xs : List Chunk) (c : Chunk) (ys : List Chunk) (d : Chunk) → Among d (xs ++ ys)
+    → Among d (xs ++ c ∷ ys)
 among-put [] c ys d m = inr m
 among-put (x ∷ xs) c ys d (inl e) = inl e
 among-put (x ∷ xs) c ys d (inr m) = inr (among-put xs c ys d m)
@@ -18,22 +21,27 @@ among-here : (xs : List Chunk) (c : Chunk) (ys : List Chunk) → Among c (xs ++ 
 among-here [] c ys = inl refl
 among-here (x ∷ xs) c ys = inr (among-here xs c ys)
 
-among-without : (xs : List Chunk) (c : Chunk) (ys : List Chunk) (d : Chunk) → Among d (xs ++ c ∷ ys) → (d ≡ c) ⊎ Among d (xs ++ ys)
+among-without : (xs : List Chunk) (c : Chunk) (ys : List Chunk) (d : Chunk)
+    → Among d (xs ++ c ∷ ys) → (d ≡ c) ⊎ Among d (xs ++ ys)
 among-without [] c ys d m = m
 among-without (x ∷ xs) c ys d (inl e) = inr (inl e)
 among-without (x ∷ xs) c ys d (inr m) = elim (among-without xs c ys d m) [ inl e ↦ inl e | inr n ↦ inr (inr n) ]
 
 -- a word is the chunk's, or it isn't
-covers-or_not : (p : FreeSpace) (c : Chunk) (root word : ℕ) → c.at + chunk_size c.order ≤ chunk_size p.geometry.top → word < chunk_size p.geometry.top → Covers c root word ⊎ (¬ Covers c root word)
+covers-or_not : (p : FreeSpace) (c : Chunk) (root word : ℕ)
+    → c.at + chunk_size c.order ≤ chunk_size p.geometry.top → word < chunk_size p.geometry.top
+    → Covers c root word ⊎ (¬ Covers c root word)
 covers-or_not p c root word inside within =
     let decides = words-covers p.geometry.top c root word inside within in
     let n = word_number p.geometry.top root word in
-    elim (contains (words p.geometry.top c) n) as (λ b. contains (words p.geometry.top c) n ≡ b → Covers c root word ⊎ (¬ Covers c root word)) [
+    elim (contains (words p.geometry.top c) n) as (λ b. contains (words p.geometry.top c) n ≡ b
+    → Covers c root word ⊎ (¬ Covers c root word)) [
       | true ↦ λ e. inl (decides.0 e)
       | false ↦ λ e. inr (λ covers. both_ways _ e (decides.1 covers))
     ] refl
 
-pub none_lost-put : (p : FreeSpace) (xs : List Chunk) (c : Chunk) (ys : List Chunk) → NoneIsLost p (xs ++ ys) → IsFreeChunk p c → NoneIsLost (without p c) (xs ++ c ∷ ys)
+pub none_lost-put : (p : FreeSpace) (xs : List Chunk) (c : Chunk) (ys : List Chunk)
+    → NoneIsLost p (xs ++ ys) → IsFreeChunk p c → NoneIsLost (without p c) (xs ++ c ∷ ys)
 none_lost-put p xs c ys h free =
     record {
       each = λ root word present within.
@@ -47,7 +55,8 @@ none_lost-put p xs c ys h free =
           ];
     }
 
-pub none_lost-given : (p : FreeSpace) (xs : List Chunk) (c : Chunk) (ys : List Chunk) → NoneIsLost p (xs ++ c ∷ ys) → IsUsedChunk p c → NoneIsLost (with_chunk p c) (xs ++ ys)
+pub none_lost-given : (p : FreeSpace) (xs : List Chunk) (c : Chunk) (ys : List Chunk)
+    → NoneIsLost p (xs ++ c ∷ ys) → IsUsedChunk p c → NoneIsLost (with_chunk p c) (xs ++ ys)
 none_lost-given p xs c ys h used =
     record {
       each = λ root word present within.
@@ -55,13 +64,15 @@ none_lost-given p xs c ys h used =
             | inl was ↦ inl ((free-with_chunk p c root word used.block.inside).1 (inl was))
             | inr held ↦
                 elim (among-without xs c ys held.0 held.1) [
-                  | inl e ↦ inl ((free-with_chunk p c root word used.block.inside).1 (inr (subst (λ d. Covers d root word) e held.2)))
+                  | inl e ↦ inl ((free-with_chunk p c root word used.block.inside).1 (inr (subst
+                      (λ d. Covers d root word) e held.2)))
                   | inr m ↦ inr (held.0, m, held.2)
                 ]
           ];
     }
 
-pub none_lost-with_root : (p : FreeSpace) (cs : List Chunk) → NoneIsLost p cs → NoneIsLost (with_root p) cs
+pub none_lost-with_root : (p : FreeSpace) (cs : List Chunk) → NoneIsLost p cs
+    → NoneIsLost (with_root p) cs
 none_lost-with_root p cs h =
     record {
       each = λ root word present within.

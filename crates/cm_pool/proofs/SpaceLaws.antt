@@ -1,5 +1,7 @@
--- The laws on held chunks and free words, for the crates above: what they cite of this crate's proofs is this file.
-use Rattle.cm_pool.specs.SpaceLaws.{TakenIsUsed, TakenIsHeld, HeldIsGiven, RootsKeepHeld, TakingLosesNone, RootsLoseNone, RootsAreFree, LargeHasSmall}
+-- The laws on held chunks and free words, for the crates above: what they cite of this crate's
+-- proofs is this file.
+use Rattle.cm_pool.specs.SpaceLaws.{TakenIsUsed, TakenIsHeld, HeldIsGiven, RootsKeepHeld}
+use Rattle.cm_pool.specs.SpaceLaws.{TakingLosesNone, RootsLoseNone, RootsAreFree, LargeHasSmall}
 use Rattle.cm_pool.specs.Laws.{GivingBackRestores}
 use Rattle.cm_pool.proofs.FreeWords.{used-without, restores, root-has_free, has_free-smaller}
 use Rattle.cm_pool.proofs.HeldFacts.{held-put, held-given, held-with_root}

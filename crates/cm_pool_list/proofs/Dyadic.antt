@@ -1,11 +1,13 @@
 -- Blocks of the tree of halves: where they start and stop, their halves, and what lies inside what.
-use Rattle.std.proofs.Common.{◌≡◌, ℕ, suc, ◌+◌, ◌-◌, ◌*◌, ◌/◌, ◌^◌, ◌<◌, ◌≤◌, true, ◌||◌, eqb, refl, sym, ap, ◌∙◌, subst, inl, inr, ◌⊎◌, arith}
+use Rattle.std.proofs.Common.{◌≡◌, ℕ, suc, ◌+◌, ◌-◌, ◌*◌, ◌/◌, ◌^◌, ◌<◌, ◌≤◌, true, ◌||◌, eqb, refl}
+use Rattle.std.proofs.Common.{sym, ap, ◌∙◌, subst, inl, inr, ◌⊎◌, arith}
 use Rattle.std.proofs.lemmas.Nat.{pow_pos, shr-shr}
 use Rattle.std.proofs.lemmas.Bool.{eqb-true, eq-eqb, cases_eq}
 use Rattle.std.proofs.lemmas.Bool.Decides.{nat_tests}
 use Rattle.std.proofs.Math.Nat.{div-mul-le_self, lt-div-mul-add, div-eq_of_lt-le, two-pow-succ}
 use Rattle.cm_pool_list.specs.declared.block.Block.{Block}
-use Rattle.cm_pool_list.specs.Blocks.{is_in, start, stop, Inside, AreHalves, left_half, right_half, block_above}
+use Rattle.cm_pool_list.specs.Blocks.{is_in, start, stop, Inside, AreHalves, left_half, right_half}
+use Rattle.cm_pool_list.specs.Blocks.{block_above}
 
 pub is_in-bounds : (b : Block) (g : ℕ) → is_in b g ≡ true → (start b ≤ g) × (g < stop b)
 is_in-bounds b g h =
@@ -31,7 +33,8 @@ half_eq x i = grind (arith, nat_tests)
 pub twice : (o : ℕ) → 0 < o → 2 ^ o ≡ 2 ^ (o - 1) + 2 ^ (o - 1)
 twice o h = let e : o ≡ suc (o - 1) = omega arith in ap (λ k. 2 ^ k) e ∙ two-pow-succ (o - 1)
 
-pub is_in-halves : (b : Block) (g : ℕ) → 0 < b.order → is_in b g ≡ (is_in (left_half b) g || is_in (right_half b) g)
+pub is_in-halves : (b : Block) (g : ℕ) → 0 < b.order
+    → is_in b g ≡ (is_in (left_half b) g || is_in (right_half b) g)
 unfolding left_half right_half
 is_in-halves b g h =
     let order : b.order ≡ b.order - 1 + 1 = omega arith in
@@ -56,7 +59,8 @@ pub inside-is_in : (w b : Block) (g : ℕ) → Inside w b → is_in w g ≡ true
 inside-is_in w b g h in_w =
     let order : b.order ≡ w.order + (b.order - w.order) = omega (arith, h.smaller) in
     let part : g / 2 ^ w.order ≡ w.index = eqb-true _ _ in_w in
-    eq-eqb _ _ (ap (λ k. g / 2 ^ k) order ∙ sym (shr-shr g w.order (b.order - w.order)) ∙ ap (λ x. x / 2 ^ (b.order - w.order)) part ∙ h.same_part)
+    eq-eqb _ _ (ap (λ k. g / 2 ^ k) order ∙ sym (shr-shr g w.order (b.order - w.order)) ∙ ap
+    (λ x. x / 2 ^ (b.order - w.order)) part ∙ h.same_part)
 
 pub inside-start : (w b : Block) → Inside w b → start b ≤ start w
 inside-start w b h = (is_in-bounds b (start w) (inside-is_in w b (start w) h (is_in-start w))).0
@@ -67,14 +71,16 @@ inside-stop w b h =
     omega (arith, last.1, pow_pos w.order)
 
 -- two blocks that share a granule are nested
-pub inside-from_shared : (w b : Block) (g : ℕ) → w.order ≤ b.order → is_in w g ≡ true → is_in b g ≡ true → Inside w b
+pub inside-from_shared : (w b : Block) (g : ℕ) → w.order ≤ b.order → is_in w g ≡ true
+    → is_in b g ≡ true → Inside w b
 inside-from_shared w b g le in_w in_b =
     let order : b.order ≡ w.order + (b.order - w.order) = omega arith in
     let part : g / 2 ^ w.order ≡ w.index = eqb-true _ _ in_w in
     let whole : g / 2 ^ b.order ≡ b.index = eqb-true _ _ in_b in
     record {
       smaller = le;
-      same_part = ap (λ x. x / 2 ^ (b.order - w.order)) (sym part) ∙ shr-shr g w.order (b.order - w.order) ∙ ap (λ k. g / 2 ^ k) (sym order) ∙ whole;
+      same_part = ap
+          (λ x. x / 2 ^ (b.order - w.order)) (sym part) ∙ shr-shr g w.order (b.order - w.order) ∙ ap (λ k. g / 2 ^ k) (sym order) ∙ whole;
     }
 
 same_block : (a b : Block) → a.index ≡ b.index → a.order ≡ b.order → a ≡ b
@@ -87,7 +93,8 @@ inside-same_order w b h e =
     same_block w b (sym whole ∙ ap (λ k. w.index / 2 ^ k) (sym none) ∙ h.same_part) e
 
 -- what is smaller lies in a half
-pub inside-half : (w b : Block) → Inside w b → w.order < b.order → Inside w (left_half b) ⊎ Inside w (right_half b)
+pub inside-half : (w b : Block) → Inside w b → w.order < b.order → Inside w (left_half b)
+    ⊎ Inside w (right_half b)
 unfolding left_half right_half
 inside-half w b h lt =
     let order : b.order - w.order ≡ b.order - 1 - w.order + 1 = omega arith in
@@ -107,7 +114,8 @@ halves-touch a b h =
     touch ∙ (λ i. (sym h.right) i * order i)
 
 -- the block above two halves is both of them
-pub is_in-block_above : (a b : Block) (g : ℕ) → AreHalves a b → is_in (block_above a) g ≡ (is_in a g || is_in b g)
+pub is_in-block_above : (a b : Block) (g : ℕ) → AreHalves a b
+    → is_in (block_above a) g ≡ (is_in a g || is_in b g)
 unfolding block_above
 is_in-block_above a b g h =
     let left : 2 * (a.index / 2) ≡ a.index = omega (arith, h.left) in
@@ -124,22 +132,26 @@ pub start-block_above : (a b : Block) → AreHalves a b → start (block_above a
 unfolding block_above
 start-block_above a b h =
     let left : 2 * (a.index / 2) ≡ a.index = omega (arith, h.left) in
-    let size : 2 ^ (a.order + 1) ≡ 2 ^ a.order + 2 ^ a.order = ap (λ k. 2 ^ k) (omega arith) ∙ two-pow-succ a.order in
+    let size : 2 ^ (a.order + 1) ≡ 2 ^ a.order + 2 ^ a.order = ap
+    (λ k. 2 ^ k) (omega arith) ∙ two-pow-succ a.order in
     omega (arith, ap (λ s. a.index / 2 * s) size, ap (λ i. i * 2 ^ a.order) left)
 
 pub stop-block_above : (a b : Block) → AreHalves a b → stop (block_above a) ≡ stop b
 unfolding block_above
 stop-block_above a b h =
-    let size : 2 ^ (a.order + 1) ≡ 2 ^ a.order + 2 ^ a.order = ap (λ k. 2 ^ k) (omega arith) ∙ two-pow-succ a.order in
+    let size : 2 ^ (a.order + 1) ≡ 2 ^ a.order + 2 ^ a.order = ap
+    (λ k. 2 ^ k) (omega arith) ∙ two-pow-succ a.order in
     let order : 2 ^ a.order ≡ 2 ^ b.order = ap (λ k. 2 ^ k) h.same_order in
     omega (arith, start-block_above a b h, halves-touch a b h, size, order)
 
 -- what is as long as a half of b, and lies in b, with the block above it, is no more than b
-pub inside-above : (b c : Block) → Inside (left_half b) c → b.order ≤ c.order → 0 < b.order → Inside b c
+pub inside-above : (b c : Block) → Inside (left_half b) c → b.order ≤ c.order → 0 < b.order
+    → Inside b c
 unfolding left_half
 inside-above b c h le pos =
     inside-from_shared b c (start b) le (is_in-start b)
-    (inside-is_in (left_half b) c (start b) h (subst (λ g. is_in (left_half b) g ≡ true) (start-left_half b pos) (is_in-start (left_half b))))
+    (inside-is_in (left_half b) c (start b) h (subst
+    (λ g. is_in (left_half b) g ≡ true) (start-left_half b pos) (is_in-start (left_half b))))
 
 pub order-block_above : (b : Block) → (block_above b).order ≡ b.order + 1
 unfolding block_above

@@ -1,6 +1,7 @@
 -- How the pool keeps its free words: a list of blocks in order, as large as they can be.
 -- No public contract speaks of these; they are the invariant behind `Pool`.
-use Rattle.std.specs.Prelude.{◌≡◌, ℕ, ◌+◌, ◌-◌, ◌*◌, ◌/◌, ◌%◌, ◌^◌, ◌<◌, ◌≤◌, ◌==◌, Bool, true, List, ◌++◌, ◌⊎◌, length, slice_index_or}
+use Rattle.std.specs.Prelude.{◌≡◌, ℕ, ◌+◌, ◌-◌, ◌*◌, ◌/◌, ◌%◌, ◌^◌, ◌<◌, ◌≤◌, ◌==◌, Bool, true}
+use Rattle.std.specs.Prelude.{List, ◌++◌, ◌⊎◌, length, slice_index_or}
 use Rattle.std.specs.List.{AllByRecursion, list_any, range_with_len, flat_map}
 use Rattle.std.specs.FinSet.{from_list}
 use Rattle.cm_pool_list.specs.declared.block.Block.{Block}
@@ -46,7 +47,8 @@ right_half b = record { index = 2 * b.index + 1; order = b.order - 1 }
 unfoldable pub block_above : Block → Block
 block_above b = record { index = b.index / 2; order = b.order + 1 }
 
--- a lies before b, and where they are the halves of a block of order at most top, that one would stand in their place
+-- a lies before b, and where they are the halves of a block of order at most top, that one would
+-- stand in their place
 pub record Apart (top : ℕ) (a b : Block) : Type 0 where
   pub before : stop a ≤ start b
   pub unjoined : a.order < top → ¬ AreHalves a b
@@ -66,7 +68,8 @@ pub record IsHole (top : ℕ) (front : List Block) (b : Block) (back : List Bloc
 -- the half of b stands at k, beside the place `at` of b
 pub record IsHalfBeside (bs : List Block) (k at : ℕ) (b : Block) : Type 0 where
   pub within : k < length bs
-  pub halves : ((k + 1 ≡ at) × AreHalves (slice_index_or bs k b) b) ⊎ ((k ≡ at) × AreHalves b (slice_index_or bs k b))
+  pub halves : ((k + 1 ≡ at) × AreHalves (slice_index_or bs k b) b) ⊎ ((k ≡ at)
+      × AreHalves b (slice_index_or bs k b))
 
 -- none of the two blocks beside the place `at` is a half of b
 pub record HasNoHalfBeside (bs : List Block) (at : ℕ) (b : Block) : Type 0 where

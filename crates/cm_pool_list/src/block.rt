@@ -3,8 +3,8 @@ ghost use Rattle.std.specs.Prelude.{◌≡◌, ◌+◌, ◌-◌, ◌*◌, ◌/�
 
 use cm_pool::Chunk;
 
-/// The `index`-th block of its order, counted through the roots in granules of 128 words: the granules from
-/// `index * 2^order` up to the next block.
+/// The `index`-th block of its order, counted through the roots in granules of 128 words: the
+/// granules from `index * 2^order` up to the next block.
 #[derive(Clone, Copy, Debug, PartialEq, Eq)]
 pub struct Block {
     pub index: u32,
@@ -13,7 +13,8 @@ pub struct Block {
 
 impl Block {
     ghost use Rattle.cm_pool.specs.Chunks.{IsBlock};
-    ghost use Rattle.cm_pool_list.specs.Blocks.{start, stop, IsSame, Inside, AreHalves, left_half, right_half, block_above};
+    ghost use Rattle.cm_pool_list.specs.Blocks.{start, stop, IsSame, Inside, AreHalves, left_half};
+    ghost use Rattle.cm_pool_list.specs.Blocks.{right_half, block_above};
 
     /// The block's first granule.
     pub fn start(self) -> u64

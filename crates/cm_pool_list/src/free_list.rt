@@ -1,13 +1,17 @@
 // The pool's list of free blocks: in order, and each as large as it can be.
-ghost use Rattle.std.specs.Prelude.{◌≡◌, ℕ, ◌+◌, ◌-◌, ◌*◌, ◌^◌, ◌<◌, ◌≤◌, ◌&&◌, ◌||◌, Bool, true, false, not, length, take, drop, slice_index_or, vec_len, vec_capacity, IfSome, OnSome, IfNone, IsSome, MatchOption};
+ghost use Rattle.std.specs.Prelude.{◌≡◌, ℕ, ◌+◌, ◌-◌, ◌*◌, ◌^◌, ◌<◌, ◌≤◌, ◌&&◌, ◌||◌, Bool, true};
+ghost use Rattle.std.specs.Prelude.{false, not, length, take, drop, slice_index_or, vec_len};
+ghost use Rattle.std.specs.Prelude.{vec_capacity, IfSome, OnSome, IfNone, IsSome, MatchOption};
 ghost use Rattle.std.specs.List.{AllByRecursion, insert, position};
-ghost use Rattle.cm_pool_list.specs.Blocks.{is_in, is_covered, start, stop, Inside, IsFreeList, IsHole, IsHalfBeside, HasNoHalfBeside, AreHalves};
+ghost use Rattle.cm_pool_list.specs.Blocks.{is_in, is_covered, start, stop, Inside, IsFreeList};
+ghost use Rattle.cm_pool_list.specs.Blocks.{IsHole, IsHalfBeside, HasNoHalfBeside, AreHalves};
 
 use crate::block::Block;
 
 /// Where the first block of at least this order stands.
 pub fn first_of_order(free: &[Block], order: u32) -> Option<usize>
-    ensures some { IfSome result (λ at. (at < length free.now) × ((d : _) → order ≤ (slice_index_or free.now at d).order)) }
+    ensures some { IfSome result (λ at. (at < length free.now) × ((d : _)
+        → order ≤ (slice_index_or free.now at d).order)) }
     ensures first { IfSome result (λ at. AllByRecursion (λ b. b.order < order) (take at free.now)) }
     ensures none { IfNone result (AllByRecursion (λ b. b.order < order) free.now) }
 {
@@ -22,7 +26,8 @@ pub fn first_of_order(free: &[Block], order: u32) -> Option<usize>
 /// Where the block stands that `part` is in.
 pub fn holder_of(free: &[Block], part: Block) -> Option<usize>
     requires { AllByRecursion (λ b. b.order ≤ 12) free.now }
-    ensures some { IfSome result (λ at. (at < length free.now) × Inside part (slice_index_or free.now at part)) }
+    ensures some { IfSome result (λ at. (at < length free.now)
+        × Inside part (slice_index_or free.now at part)) }
     ensures none { IfNone result (AllByRecursion (λ b. ¬ Inside part b) free.now) }
 {
     for (at, block) in free.iter().enumerate() {
@@ -39,7 +44,8 @@ pub fn place_of(free: &[Block], block: Block) -> usize
     requires order { block.order ≤ 12 }
     ensures within { result ≤ length free.now }
     ensures front { AllByRecursion (λ b. start b ≤ start block) (take result free.now) }
-    ensures next { result < length free.now → start block < start (slice_index_or free.now result block) }
+    ensures next { result < length free.now
+        → start block < start (slice_index_or free.now result block) }
 {
     for (at, other) in free.iter().enumerate() {
         if other.start() > block.start() {
@@ -59,14 +65,17 @@ fn put(free: &mut Vec<Block>, at: usize, block: Block)
     free.insert(at, block).unwrap();
 }
 
-/// Takes `wanted` out of the block at `from`, which it lies in. The rest of that block stays in the list, in halves.
+/// Takes `wanted` out of the block at `from`, which it lies in. The rest of that block stays in the
+/// list, in halves.
 pub fn take_at(free: &mut Vec<Block>, from: usize, wanted: Block)
     requires listed { (top : ℕ) × (3 ≤ top) × (top ≤ 12) × IsFreeList top free.old.items }
     requires from { from < vec_len free.old }
     requires inside { Inside wanted (slice_index_or free.old.items from wanted) }
-    requires room { (g : ℕ) → is_covered free.old.items g ≡ true → (g < 2 * vec_capacity free.old) × (g < 2 ^ 20) }
+    requires room { (g : ℕ) → is_covered free.old.items g ≡ true
+        → (g < 2 * vec_capacity free.old) × (g < 2 ^ 20) }
     ensures listed { (top : ℕ) → IsFreeList top free.old.items → IsFreeList top free.new.items }
-    ensures covered { (g : ℕ) → is_covered free.new.items g ≡ (is_covered free.old.items g && not (is_in wanted g)) }
+    ensures covered { (g : ℕ)
+        → is_covered free.new.items g ≡ (is_covered free.old.items g && not (is_in wanted g)) }
     ensures capacity { vec_capacity free.old ≤ vec_capacity free.new }
 {
     let mut at = from;
@@ -84,7 +93,8 @@ pub fn take_at(free: &mut Vec<Block>, from: usize, wanted: Block)
     }
 }
 
-// Where the other half of `block` stands, beside its place, if a block of a larger order can be made of the two.
+// Where the other half of `block` stands, beside its place, if a block of a larger order can be
+// made of the two.
 fn half_beside(free: &[Block], at: usize, block: Block, top: u32) -> Option<usize>
     requires { at ≤ length free.now }
     ensures some { IfSome result (λ k. IsHalfBeside free.now k at block) }
@@ -103,15 +113,18 @@ fn half_beside(free: &[Block], at: usize, block: Block, top: u32) -> Option<usiz
     None
 }
 
-/// Puts a block back that shares nothing with the list, joined with its other half as long as that is free.
+/// Puts a block back that shares nothing with the list, joined with its other half as long as that
+/// is free.
 pub fn give_back(free: &mut Vec<Block>, top: u32, given: Block)
     requires listed { IsFreeList top free.old.items }
     requires top { (3 ≤ top) × (top ≤ 12) }
     requires order { given.order ≤ top }
     requires taken { (g : ℕ) → is_in given g ≡ true → is_covered free.old.items g ≡ false }
-    requires room { (g : ℕ) → (is_in given g || is_covered free.old.items g) ≡ true → g < 2 * vec_capacity free.old }
+    requires room { (g : ℕ) → (is_in given g || is_covered free.old.items g) ≡ true
+        → g < 2 * vec_capacity free.old }
     ensures listed { IsFreeList top free.new.items }
-    ensures covered { (g : ℕ) → is_covered free.new.items g ≡ (is_in given g || is_covered free.old.items g) }
+    ensures covered { (g : ℕ)
+        → is_covered free.new.items g ≡ (is_in given g || is_covered free.old.items g) }
     ensures capacity { vec_capacity free.old ≤ vec_capacity free.new }
 {
     let mut at = place_of(free, given);

@@ -1,5 +1,6 @@
 // A pool of free chunks.
-ghost use Rattle.std.specs.Prelude.{◌≡◌, ◌<◌, ◌≤◌, ◌↔◌, IsTrue, IsNone, IfOk, IfSome, OnErr, MatchOption, MatchResult, if◌then◌else◌};
+ghost use Rattle.std.specs.Prelude.{◌≡◌, ◌<◌, ◌≤◌, ◌↔◌, IsTrue, IsNone, IfOk, IfSome, OnErr};
+ghost use Rattle.std.specs.Prelude.{MatchOption, MatchResult, if◌then◌else◌};
 ghost use Rattle.std.specs.FinSet as set;
 
 use crate::block::Block;
@@ -33,11 +34,13 @@ impl Model for ListPool {
 }
 
 impl ListPool {
-    ghost use Rattle.cm_pool.specs.FreeSpace.{FreeSpace, IsFreeSpace, IsFreeChunk, IsUsedChunk, IsFirstFree, HasFree, without, with_chunk, with_root};
+    ghost use Rattle.cm_pool.specs.FreeSpace.{FreeSpace, IsFreeSpace, IsFreeChunk, IsUsedChunk};
+    ghost use Rattle.cm_pool.specs.FreeSpace.{IsFirstFree, HasFree, without, with_chunk, with_root};
 
     /// A pool with no roots. The memory that it will ever need is taken here.
     pub fn new(alloc: Global, geometry: Geometry) -> Result<ListPool, AllocError>
-        ensures { IfOk result (λ p. p ≡ record { geometry = geometry; roots = 0; free = set.empty }) }
+        ensures { IfOk result
+            (λ p. p ≡ record { geometry = geometry; roots = 0; free = set.empty }) }
     {
         let room = (geometry.roots() as usize) << (geometry.top() - 1);
         let free = Vec::with_capacity(alloc, room)?;
@@ -63,10 +66,14 @@ impl ListPool {
         self.roots
     }
 
-    /// Makes one root more present, all of it free. False, and nothing is changed, where all roots are present.
+    /// Makes one root more present, all of it free. False, and nothing is changed, where all roots
+    /// are present.
     pub fn add_root(&mut self) -> Result<bool, AllocError>
-        ensures added { IfOk result (λ added. IsTrue added ↔ (self.old.roots < self.old.geometry.roots)) }
-        ensures left { MatchResult result (λ added. self.new ≡ (if added then with_root self.old else self.old)) (λ _. self.new ≡ self.old) }
+        ensures added { IfOk result (λ added. IsTrue added
+            ↔ (self.old.roots < self.old.geometry.roots)) }
+        ensures left { MatchResult result
+            (λ added. self.new ≡ (if added then with_root self.old else self.old))
+            (λ _. self.new ≡ self.old) }
         // A pool that could not have another root never asks for memory.
         ensures memory { OnErr result (self.old.roots < self.old.geometry.roots) }
     {
@@ -82,13 +89,15 @@ impl ListPool {
         Ok(true)
     }
 
-    /// Takes the first free chunk of an order: the one in the first root that has one, and there the one furthest to
-    /// the front. `None`, and nothing is changed, where no chunk of that order is free.
+    /// Takes the first free chunk of an order: the one in the first root that has one, and there
+    /// the one furthest to the front. `None`, and nothing is changed, where no chunk of that order
+    /// is free.
     pub fn alloc(&mut self, order: u32) -> Option<Chunk>
         requires { order ≤ self.old.geometry.top }
         ensures none { IsNone result ↔ ¬ HasFree self.old order }
         ensures first { IfSome result (IsFirstFree self.old order) }
-        ensures left { MatchOption result (self.new ≡ self.old) (λ chunk. self.new ≡ without self.old chunk) }
+        ensures left { MatchOption result (self.new ≡ self.old)
+            (λ chunk. self.new ≡ without self.old chunk) }
     {
         let top = self.geometry.top();
         let at = first_of_order(&self.free, order)?;
@@ -97,8 +106,8 @@ impl ListPool {
         Some(wanted.to_chunk(top))
     }
 
-    /// Takes this chunk. False, and nothing is changed, where it isn't a chunk of a present root or one of its words
-    /// isn't free.
+    /// Takes this chunk. False, and nothing is changed, where it isn't a chunk of a present root or
+    /// one of its words isn't free.
     pub fn take(&mut self, chunk: &Chunk) -> bool
         ensures free { IsTrue result ↔ IsFreeChunk self.old chunk.now }
         ensures left { self.new ≡ (if result then without self.old chunk.now else self.old) }

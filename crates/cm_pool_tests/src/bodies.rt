@@ -86,7 +86,8 @@ fn both_hand_out_the_first_chunk(rt: HostRuntime) -> Result<(), Fail> {
     Ok(())
 }
 
-// Allocates 2,000 times, and gives back every third chunk: how many of these calls both answer alike.
+// Allocates 2,000 times, and gives back every third chunk: how many of these calls both answer
+// alike.
 fn equal_answers(alloc: Global, top: u32, roots: u32) -> Result<u32, Fail>
     requires { top ≤ 12 }
 {

@@ -13,8 +13,8 @@ pub fn changes_go_on()
     ensures numbers { NumbersFollow }
 {}
 
-/// A file's contents stand for at most one cache: its sizes, its state, the chunks of each loader, and
-/// the number of the last change.
+/// A file's contents stand for at most one cache: its sizes, its state, the chunks of each loader,
+/// and the number of the last change.
 pub fn contents_determine_cache()
     ensures { StandForOne }
 {

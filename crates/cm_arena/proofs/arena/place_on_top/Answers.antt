@@ -1,4 +1,5 @@
-use Rattle.std.proofs.Common.{◌≡◌, suc, ◌+◌, ◌<◌, ◌≤◌, length, get_or, set, Some, IsSomeAnd, refl, sym, ap, ◌∙◌, subst, arith, length-set}
+use Rattle.std.proofs.Common.{◌≡◌, suc, ◌+◌, ◌<◌, ◌≤◌, length, get_or, set, Some, IsSomeAnd, refl}
+use Rattle.std.proofs.Common.{sym, ap, ◌∙◌, subst, arith, length-set}
 use Rattle.cm_pool.specs.declared.chunk.Chunk.{Chunk}
 use Rattle.cm_pool.specs.Chunks.{chunk_size}
 use Rattle.cm_arena.specs.Chains.{Filled, chain_of, last_of, IsFilled}
@@ -12,13 +13,15 @@ nowhere = record { root = 0; order = 0; at = 0 }
 last_len : (c : After-index-offset) → length c.args.chunks.now ≡ suc c.in_ok-last.last
 last_len c = omega (arith, c.in_ok-last.ensures.0, c.in_ok-last.ensures.1)
 
-filled : (c : After-index-offset) → IsFilled (record { chunk = get_or c.args.chunks.now c.in_ok-last.last nowhere; used = c.index-offset.result.now })
+filled : (c : After-index-offset)
+    → IsFilled (record { chunk = get_or c.args.chunks.now c.in_ok-last.last nowhere; used = c.index-offset.result.now })
 filled c =
     let within : c.in_ok-last.last < length c.args.chunks.now = omega (arith, last_len c) in
     subst (λ n. IsFilled (record { chunk = get_or c.args.chunks.now c.in_ok-last.last nowhere; used = n })) (sym c.index-offset.ensures)
     (filled-at c.args.chunks.now c.args.used.now.items c.in_ok-last.last nowhere c.index-offset.result.now c.requires.pairs within c.requires.each)
 
-last_is : (c : After-index-offset) → last_of (chain_of c.args.chunks.now c.args.used.now.items) ≡ Some (record { chunk = get_or c.args.chunks.now c.in_ok-last.last nowhere; used = c.index-offset.result.now })
+last_is : (c : After-index-offset)
+    → last_of (chain_of c.args.chunks.now c.args.used.now.items) ≡ Some (record { chunk = get_or c.args.chunks.now c.in_ok-last.last nowhere; used = c.index-offset.result.now })
 last_is c =
     last-chain_of c.args.chunks.now c.args.used.now.items c.in_ok-last.last nowhere c.index-offset.result.now c.requires.pairs (last_len c)
     ∙ ap (λ n. Some (record { chunk = get_or c.args.chunks.now c.in_ok-last.last nowhere; used = n })) (sym c.index-offset.ensures)
@@ -33,7 +36,8 @@ pub returns-then-words-size-clause-none : goal.returns-then-words-size-clause-no
 returns-then-words-size-clause-none c =
     let last = last_is (goal.at.returns-then-words-size-clause-none c).After-index-offset in (
       λ room.
-          let fits = subst (λ o. IsSomeAnd o (λ (f : Filled). f.used + c.args.words ≤ chunk_size f.chunk.order)) last room in
+          let fits = subst (λ o. IsSomeAnd o
+          (λ (f : Filled). f.used + c.args.words ≤ chunk_size f.chunk.order)) last room in
           absurd (omega (arith, fits, c.size.ensures)),
       refl,
     )

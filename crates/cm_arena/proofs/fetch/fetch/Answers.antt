@@ -38,8 +38,11 @@ returns-in-Some-clause-full c = (
 pub unwrap-requires : goal.unwrap-requires
 unwrap-requires c =
     let before = c.first_of.new.pool in
-    let grown : c.add_root.new.self ≡ with_root before = c.in-Ok-true.ensures.left ∙ ap (λ b. cond b (with_root before) before) c.in-Ok-true.field-0-test in
+    let grown : c.add_root.new.self ≡ with_root before = c.in-Ok-true.ensures.left ∙ ap
+    (λ b. cond b (with_root before) before) c.in-Ok-true.field-0-test in
     let same : before ≡ c.args.pool.now = c.in_default.ensures.none.2 in
-    let wanted : c.args.wanted ≤ before.geometry.top = subst (λ (p : FreeSpace). c.args.wanted ≤ p.geometry.top) (sym same) c.requires.wanted in
-    let has = subst (λ (p : FreeSpace). HasFree p c.args.wanted) (sym grown) (roots_are_free before c.args.wanted wanted) in
+    let wanted : c.args.wanted ≤ before.geometry.top = subst
+    (λ (p : FreeSpace). c.args.wanted ≤ p.geometry.top) (sym same) c.requires.wanted in
+    let has = subst
+    (λ (p : FreeSpace). HasFree p c.args.wanted) (sym grown) (roots_are_free before c.args.wanted wanted) in
     true_from_ne_false (is_some c.alloc.result) (λ e. c.alloc.ensures.none.0 e has)

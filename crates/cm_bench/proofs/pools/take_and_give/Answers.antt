@@ -13,4 +13,5 @@ pub returns : goal.returns
 returns c =
     let old = c.args.pool.now in
     let chunk = c.in-Some.chunk in
-    c.give.ensures ∙ ap (λ p. with_chunk p chunk) c.in-Some.ensures.left ∙ giving_back_restores old chunk c.in-Some.ensures.first.free
+    c.give.ensures ∙ ap
+    (λ p. with_chunk p chunk) c.in-Some.ensures.left ∙ giving_back_restores old chunk c.in-Some.ensures.first.free

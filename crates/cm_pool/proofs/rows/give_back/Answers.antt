@@ -1,4 +1,5 @@
-use Rattle.std.proofs.Common.{◌≡◌, ℕ, ◌<◌, ◌||◌, true, false, List, refl, sym, ap, ◌∙◌, subst, arith}
+use Rattle.std.proofs.Common.{◌≡◌, ℕ, ◌<◌, ◌||◌, true, false, List, refl, sym, ap, ◌∙◌, subst}
+use Rattle.std.proofs.Common.{arith}
 use Rattle.std.proofs.lemmas.Bool.{both_ways, false_from_ne_true}
 use Rattle.cm_pool.specs.Blocks.{is_in, other_half}
 use Rattle.cm_pool.specs.Rows.{is_marked, is_covered, without_mark, HasPlace, IsKept}
@@ -13,15 +14,23 @@ loop-rows-init c = record {
   covered = λ g. refl;
 }
 
-joined : (c : After-joins) → c.joins.result ≡ true → (c.loop-rows.block.order < c.args.top) × (is_marked c.loop-rows.rows.items (other_half c.loop-rows.block) ≡ true)
+joined : (c : After-joins) → c.joins.result ≡ true → (c.loop-rows.block.order < c.args.top)
+    × (is_marked c.loop-rows.rows.items (other_half c.loop-rows.block) ≡ true)
 joined c e =
-    subst (λ (rows : List (List ℕ)). (c.loop-rows.block.order < c.args.top) × (is_marked rows (other_half c.loop-rows.block) ≡ true)) c.deref.ensures.value (c.joins.ensures.0 e)
+    subst (λ (rows : List (List ℕ)). (c.loop-rows.block.order < c.args.top)
+    × (is_marked rows (other_half c.loop-rows.block) ≡ true)) c.deref.ensures.value (c.joins.ensures.0 e)
 
-alone : (c : After-joins) → c.joins.result ≡ false → c.loop-rows.block.order < c.args.top → is_marked c.loop-rows.rows.items (other_half c.loop-rows.block) ≡ false
+alone : (c : After-joins) → c.joins.result ≡ false → c.loop-rows.block.order < c.args.top
+    → is_marked c.loop-rows.rows.items (other_half c.loop-rows.block) ≡ false
 alone c e lt = false_from_ne_true _ (λ set.
-    both_ways _ e (c.joins.ensures.1 (lt, subst (λ (rows : List (List ℕ)). is_marked rows (other_half c.loop-rows.block) ≡ true) (sym c.deref.ensures.value) set)))
+    both_ways _ e (c.joins.ensures.1 (
+      lt,
+      subst
+          (λ (rows : List (List ℕ)). is_marked rows (other_half c.loop-rows.block) ≡ true) (sym c.deref.ensures.value) set,
+    )))
 
-hole : (c : After-joins) → IsHole c.args.top c.requires.kept.0 c.loop-rows.rows.items c.loop-rows.block
+hole : (c : After-joins)
+    → IsHole c.args.top c.requires.kept.0 c.loop-rows.rows.items c.loop-rows.block
 hole c = c.loop-rows.invariant.hole c.requires.kept.0 c.requires.kept.1 c.requires.kept.2
 
 pub above-block-requires : goal.above-block-requires
@@ -40,9 +49,11 @@ loop-rows-preserved c =
     let above = c.above-block.ensures.above in
     let new : c.unmark.new.rows.items ≡ without_mark rows (other_half b) = c.unmark.ensures ∙ ap (without_mark rows) c.other_half.ensures in
     record {
-      hole = λ limit kept low. subst (λ (rs : List (List ℕ)). IsHole c.args.top limit rs c.above-block.result) (sym new)
+      hole = λ limit kept low. subst
+          (λ (rs : List (List ℕ)). IsHole c.args.top limit rs c.above-block.result) (sym new)
           (subst (IsHole c.args.top limit (without_mark rows (other_half b))) (sym above) (hole-join c.args.top limit rows b (c.loop-rows.invariant.hole limit kept low) join.0 join.1));
-      covered = λ g. (λ i. is_in (above i) g || is_covered (new i) g) ∙ covered-join rows b g join.1 ∙ c.loop-rows.invariant.covered g;
+      covered = λ g.
+          (λ i. is_in (above i) g || is_covered (new i) g) ∙ covered-join rows b g join.1 ∙ c.loop-rows.invariant.covered g;
     }
 
 pub loop-rows-smaller : goal.loop-rows-smaller

@@ -7,8 +7,10 @@ use Rattle.cm_pool.proofs.rows.give_back.Given as goal
 abbrev pub invariant-loop-rows : goal.invariant-loop-rows
 invariant-loop-rows l =
     record {
-      hole : (limit : ℕ) → IsKept l.fn.top limit l.fn.rows.items → ((g : ℕ) → is_in l.fn.given g ≡ true → g < limit) → IsHole l.fn.top limit l.rows.items l.block;
-      covered : (g : ℕ) → (is_in l.block g || is_covered l.rows.items g) ≡ (is_in l.fn.given g || is_covered l.fn.rows.items g);
+      hole : (limit : ℕ) → IsKept l.fn.top limit l.fn.rows.items → ((g : ℕ)
+          → is_in l.fn.given g ≡ true → g < limit) → IsHole l.fn.top limit l.rows.items l.block;
+      covered : (g : ℕ)
+          → (is_in l.block g || is_covered l.rows.items g) ≡ (is_in l.fn.given g || is_covered l.fn.rows.items g);
     }
 
 abbrev pub decreases-loop-rows : goal.decreases-loop-rows

@@ -1,9 +1,11 @@
-use Rattle.std.proofs.Common.{◌≡◌, ℕ, ◌^◌, ◌<◌, ◌||◌, ◌&&◌, not, List, sym, ap, ◌∙◌, subst, inl, inr, arith}
+use Rattle.std.proofs.Common.{◌≡◌, ℕ, ◌^◌, ◌<◌, ◌||◌, ◌&&◌, not, List, sym, ap, ◌∙◌, subst, inl}
+use Rattle.std.proofs.Common.{inr, arith}
 use Rattle.std.proofs.lemmas.Bool.{both_ways}
 use Rattle.cm_pool.specs.Blocks.{is_in, start, Inside, left_half, right_half}
 use Rattle.cm_pool.specs.Rows.{is_covered, with_mark, HasPlace}
 use Rattle.cm_pool.proofs.Dyadic.{is_in-start, inside-half, inside-same_order, index-below}
-use Rattle.cm_pool.proofs.Trees.{IsHole, hole-out, hole-left, hole-right, place-left, place-right, covered-out, covered-left, covered-right, without_part}
+use Rattle.cm_pool.proofs.Trees.{IsHole, hole-out, hole-left, hole-right, place-left, place-right}
+use Rattle.cm_pool.proofs.Trees.{covered-out, covered-left, covered-right, without_part}
 use Rattle.cm_pool.proofs.rows.take_out.Goals as goal
 use Rattle.cm_pool.proofs.rows.take_out.Goals.{In-loop-block}
 
@@ -11,12 +13,15 @@ pub loop-block-init : goal.loop-block-init
 loop-block-init c =
     let rows = c.args.rows.now.items in
     record {
-      hole = λ top limit kept. subst (λ (new : List (List ℕ)). IsHole top limit new c.args.from) (sym c.unmark.ensures) (hole-out top limit rows c.args.from kept c.requires.from);
+      hole = λ top limit kept. subst
+          (λ (new : List (List ℕ)). IsHole top limit new c.args.from) (sym c.unmark.ensures) (hole-out top limit rows c.args.from kept c.requires.from);
       inside = c.requires.inside;
-      covered = λ g. ap (λ (new : List (List ℕ)). is_in c.args.from g || is_covered new g) c.unmark.ensures ∙ covered-out rows c.args.from g c.requires.from;
+      covered = λ g. ap
+          (λ (new : List (List ℕ)). is_in c.args.from g || is_covered new g) c.unmark.ensures ∙ covered-out rows c.args.from g c.requires.from;
     }
 
-hole : (c : In-loop-block) → IsHole c.requires.kept.0 c.requires.kept.1 c.loop-block.rows.items c.loop-block.block
+hole : (c : In-loop-block)
+    → IsHole c.requires.kept.0 c.requires.kept.1 c.loop-block.rows.items c.loop-block.block
 hole c = c.loop-block.invariant.hole c.requires.kept.0 c.requires.kept.1 c.requires.kept.2
 
 pub halves-requires-clause-fits : goal.halves-requires-clause-fits
@@ -50,10 +55,12 @@ loop-block-preserved-then-holds c =
     let place = place-right c.requires.kept.0 c.requires.kept.1 rows b h pos in
     let new : c.mark.new.rows.items ≡ with_mark rows (right_half b) = c.mark.ensures ∙ ap (with_mark rows) c.halves.ensures.right in
     record {
-      hole = λ top limit kept. subst (λ (rs : List (List ℕ)). IsHole top limit rs c.halves.result.0) (sym new)
+      hole = λ top limit kept. subst
+          (λ (rs : List (List ℕ)). IsHole top limit rs c.halves.result.0) (sym new)
           (subst (IsHole top limit (with_mark rows (right_half b))) (sym left) (hole-left top limit rows b (c.loop-block.invariant.hole top limit kept) pos));
       inside = c.holds.ensures.0 c.if-holds.true;
-      covered = λ g. (λ i. is_in (left i) g || is_covered (new i) g) ∙ covered-left rows b g place pos ∙ c.loop-block.invariant.covered g;
+      covered = λ g.
+          (λ i. is_in (left i) g || is_covered (new i) g) ∙ covered-left rows b g place pos ∙ c.loop-block.invariant.covered g;
     }
 
 pub loop-block-preserved : goal.loop-block-preserved
@@ -66,14 +73,16 @@ loop-block-preserved c =
     let place = place-left c.requires.kept.0 c.requires.kept.1 rows b h pos in
     let new : c.mark-else-holds.new.rows.items ≡ with_mark rows (left_half b) = c.mark-else-holds.ensures ∙ ap (with_mark rows) c.halves.ensures.left in
     record {
-      hole = λ top limit kept. subst (λ (rs : List (List ℕ)). IsHole top limit rs c.halves.result.1) (sym new)
+      hole = λ top limit kept. subst
+          (λ (rs : List (List ℕ)). IsHole top limit rs c.halves.result.1) (sym new)
           (subst (IsHole top limit (with_mark rows (left_half b))) (sym right) (hole-right top limit rows b (c.loop-block.invariant.hole top limit kept) pos));
       inside =
           elim (inside-half c.args.wanted b c.loop-block.invariant.inside c.loop-block-test.true) [
             | inl in_left ↦ absurd (both_ways _ c.if-holds.false (c.holds.ensures.1 (subst (Inside c.args.wanted) (sym c.halves.ensures.left) in_left)))
             | inr in_right ↦ subst (Inside c.args.wanted) (sym right) in_right
           ];
-      covered = λ g. (λ i. is_in (right i) g || is_covered (new i) g) ∙ covered-right rows b g place pos ∙ c.loop-block.invariant.covered g;
+      covered = λ g.
+          (λ i. is_in (right i) g || is_covered (new i) g) ∙ covered-right rows b g place pos ∙ c.loop-block.invariant.covered g;
     }
 
 pub returns-clause-kept : goal.returns-clause-kept

@@ -7,9 +7,11 @@ use Rattle.cm_pool.proofs.rows.take_out.Given as goal
 abbrev pub invariant-loop-block : goal.invariant-loop-block
 invariant-loop-block l =
     record {
-      hole : (top limit : ℕ) → IsKept top limit l.fn.rows.items → IsHole top limit l.rows.items l.block;
+      hole : (top limit : ℕ) → IsKept top limit l.fn.rows.items
+          → IsHole top limit l.rows.items l.block;
       inside : Inside l.wanted l.block;
-      covered : (g : ℕ) → (is_in l.block g || is_covered l.rows.items g) ≡ is_covered l.fn.rows.items g;
+      covered : (g : ℕ)
+          → (is_in l.block g || is_covered l.rows.items g) ≡ is_covered l.fn.rows.items g;
     }
 
 abbrev pub decreases-loop-block : goal.decreases-loop-block

@@ -1,12 +1,17 @@
-use Rattle.std.proofs.Common.{◌≡◌, ℕ, ◌+◌, ◌*◌, ◌<◌, ◌≤◌, ◌^◌, ◌||◌, ◌&&◌, not, true, length, take, drop, get_or, vec_capacity, refl, sym, ap, ◌∙◌, subst, inl, inr, arith}
+use Rattle.std.proofs.Common.{◌≡◌, ℕ, ◌+◌, ◌*◌, ◌<◌, ◌≤◌, ◌^◌, ◌||◌, ◌&&◌, not, true, length, take}
+use Rattle.std.proofs.Common.{drop, get_or, vec_capacity, refl, sym, ap, ◌∙◌, subst, inl, inr}
+use Rattle.std.proofs.Common.{arith}
 use Rattle.std.specs.List.{insert}
 use Rattle.std.proofs.lemmas.List.{get_or_default}
 use Rattle.std.proofs.lemmas.List.Edits.{length-insert, length-remove}
 use Rattle.std.proofs.lemmas.Bool.{or_left, or_right, both_ways}
-use Rattle.cm_pool_list.specs.Blocks.{is_in, is_covered, start, Inside, IsHole, left_half, right_half}
+use Rattle.cm_pool_list.specs.Blocks.{is_in, is_covered, start, Inside, IsHole, left_half}
+use Rattle.cm_pool_list.specs.Blocks.{right_half}
 use Rattle.cm_pool_list.proofs.Dyadic.{is_in-start, inside-half, inside-same_order}
 use Rattle.cm_pool_list.proofs.FreeLists.{length-below}
-use Rattle.cm_pool_list.proofs.Holes.{hole-remove, hole-rest, hole-apart, hole-put_left, hole-put_right, covered-put_left, covered-put_right, covered-remove, index-below, without_part}
+use Rattle.cm_pool_list.proofs.Holes.{hole-remove, hole-rest, hole-apart, hole-put_left}
+use Rattle.cm_pool_list.proofs.Holes.{hole-put_right, covered-put_left, covered-put_right}
+use Rattle.cm_pool_list.proofs.Holes.{covered-remove, index-below, without_part}
 use Rattle.cm_pool_list.proofs.free_list.take_at.Goals as goal
 use Rattle.cm_pool_list.proofs.free_list.take_at.Goals.{In-loop-block}
 
@@ -18,14 +23,18 @@ loop-block-init c =
     let here : block ≡ get_or xs c.args.from block = c.remove-block.ensures.value in
     let ys = c.remove-block.new.self.items in
     record {
-      hole = λ top listed. subst (λ b. IsHole top (take c.args.from ys) b (drop c.args.from ys)) (sym here) (hole-remove top xs ys c.args.from block within listed c.remove-block.ensures.items);
+      hole = λ top listed. subst
+          (λ b. IsHole top (take c.args.from ys) b (drop c.args.from ys)) (sym here) (hole-remove top xs ys c.args.from block within listed c.remove-block.ensures.items);
       within = omega (arith, ap length c.remove-block.ensures.items, length-remove xs c.args.from within);
       inside = subst (Inside c.args.wanted) (get_or_default xs c.args.from c.args.wanted block within ∙ sym here) c.requires.inside;
-      covered = λ n. ap (λ b. is_in b n || is_covered ys n) here ∙ ap (λ zs. is_in (get_or xs c.args.from block) n || is_covered zs n) c.remove-block.ensures.items ∙ sym (covered-remove xs c.args.from block n within);
+      covered = λ n. ap (λ b. is_in b n || is_covered ys n) here ∙ ap
+          (λ zs. is_in (get_or xs c.args.from block) n || is_covered zs n) c.remove-block.ensures.items ∙ sym (covered-remove xs c.args.from block n within);
       capacity = omega (arith, c.remove-block.ensures.capacity);
     }
 
-low : (c : In-loop-block) (n : ℕ) → (is_in c.loop-block.block n || is_covered c.loop-block.free.items n) ≡ true → (n < 2 * vec_capacity c.args.free.now) × (n < 2 ^ 20)
+low : (c : In-loop-block) (n : ℕ)
+    → (is_in c.loop-block.block n || is_covered c.loop-block.free.items n) ≡ true
+    → (n < 2 * vec_capacity c.args.free.now) × (n < 2 ^ 20)
 low c n h = c.requires.room n (sym (c.loop-block.invariant.covered n) ∙ h)
 
 pub halves-requires-clause-fits : goal.halves-requires-clause-fits
@@ -76,10 +85,12 @@ loop-block-preserved-then-holds c =
     let left = c.halves.ensures.left in
     let put : ys ≡ insert xs at (right_half b) = c.put.ensures.items ∙ ap (insert xs at) c.halves.ensures.right in
     record {
-      hole = λ top listed. subst (λ x. IsHole top (take at ys) x (drop at ys)) (sym left) (hole-put_right top xs ys at b c.loop-block.invariant.within (omega arith) (c.loop-block.invariant.hole top listed) put);
+      hole = λ top listed. subst
+          (λ x. IsHole top (take at ys) x (drop at ys)) (sym left) (hole-put_right top xs ys at b c.loop-block.invariant.within (omega arith) (c.loop-block.invariant.hole top listed) put);
       within = omega (arith, ap length put, length-insert xs at (right_half b) c.loop-block.invariant.within);
       inside = c.holds.ensures.0 c.if-holds.true;
-      covered = λ n. ap (λ x. is_in x n || is_covered ys n) left ∙ ap (λ zs. is_in (left_half b) n || is_covered zs n) put ∙ covered-put_right xs at b n (omega arith) ∙ c.loop-block.invariant.covered n;
+      covered = λ n. ap (λ x. is_in x n || is_covered ys n) left ∙ ap
+          (λ zs. is_in (left_half b) n || is_covered zs n) put ∙ covered-put_right xs at b n (omega arith) ∙ c.loop-block.invariant.covered n;
       capacity = omega arith;
     }
 
@@ -92,14 +103,16 @@ loop-block-preserved c =
     let right = c.halves.ensures.right in
     let put : ys ≡ insert xs at (left_half b) = c.put-else-holds.ensures.items ∙ ap (insert xs at) c.halves.ensures.left in
     record {
-      hole = λ top listed. subst (λ x. IsHole top (take (at + 1) ys) x (drop (at + 1) ys)) (sym right) (hole-put_left top xs ys at b c.loop-block.invariant.within (omega arith) (c.loop-block.invariant.hole top listed) put);
+      hole = λ top listed. subst
+          (λ x. IsHole top (take (at + 1) ys) x (drop (at + 1) ys)) (sym right) (hole-put_left top xs ys at b c.loop-block.invariant.within (omega arith) (c.loop-block.invariant.hole top listed) put);
       within = omega (arith, ap length put, length-insert xs at (left_half b) c.loop-block.invariant.within);
       inside =
           elim (inside-half c.args.wanted b c.loop-block.invariant.inside c.loop-block-test.true) [
             | inl in_left ↦ absurd (both_ways _ c.if-holds.false (c.holds.ensures.1 (subst (Inside c.args.wanted) (sym c.halves.ensures.left) in_left)))
             | inr in_right ↦ subst (Inside c.args.wanted) (sym right) in_right
           ];
-      covered = λ n. ap (λ x. is_in x n || is_covered ys n) right ∙ ap (λ zs. is_in (right_half b) n || is_covered zs n) put ∙ covered-put_left xs at b n (omega arith) ∙ c.loop-block.invariant.covered n;
+      covered = λ n. ap (λ x. is_in x n || is_covered ys n) right ∙ ap
+          (λ zs. is_in (right_half b) n || is_covered zs n) put ∙ covered-put_left xs at b n (omega arith) ∙ c.loop-block.invariant.covered n;
       capacity = omega arith;
     }
 

@@ -1,4 +1,5 @@
-use Rattle.std.proofs.Common.{◌≡◌, suc, ◌<◌, ◌∷◌, ◌++◌, length, take, drop, sym, ap, ◌∙◌, subst, arith}
+use Rattle.std.proofs.Common.{◌≡◌, suc, ◌<◌, ◌∷◌, ◌++◌, length, take, drop, sym, ap, ◌∙◌, subst}
+use Rattle.std.proofs.Common.{arith}
 use Rattle.cm_pool.specs.FreeSpace.{FreeSpace, IsUsedChunk, with_chunk}
 use Rattle.cm_pool.specs.Held.{AreHeld}
 use Rattle.cm_pool.proofs.SpaceLaws.{held_is_given}
@@ -6,14 +7,16 @@ use Rattle.cm_pool_tests.proofs.Splits.{split_at}
 use Rattle.cm_pool_tests.proofs.held.give_held.Goals as goal
 use Rattle.cm_pool_tests.proofs.held.give_held.Goals.{After-remove-chunk}
 
-split : (c : After-remove-chunk) → IsUsedChunk c.args.pool.now c.remove-chunk.result × AreHeld (with_chunk c.args.pool.now c.remove-chunk.result) (take c.args.at c.args.held.now.items ++ drop (suc c.args.at) c.args.held.now.items)
+split : (c : After-remove-chunk) → IsUsedChunk c.args.pool.now c.remove-chunk.result
+    × AreHeld (with_chunk c.args.pool.now c.remove-chunk.result) (take c.args.at c.args.held.now.items ++ drop (suc c.args.at) c.args.held.now.items)
 split c =
     let cs = c.args.held.now.items in
     let at = c.args.at in
     let chunk = c.remove-chunk.result in
     let within : at < length cs = omega (arith, c.requires.at, c.args.held.now.ok.0) in
     let parts : cs ≡ take at cs ++ chunk ∷ drop (suc at) cs =
-    split_at cs at chunk within ∙ ap (λ x. take at cs ++ x ∷ drop (suc at) cs) (sym c.remove-chunk.ensures.value)
+    split_at cs at chunk within ∙ ap
+    (λ x. take at cs ++ x ∷ drop (suc at) cs) (sym c.remove-chunk.ensures.value)
     in
     held_is_given c.args.pool.now (take at cs) chunk (drop (suc at) cs) (subst (AreHeld c.args.pool.now) parts c.requires.held)
 

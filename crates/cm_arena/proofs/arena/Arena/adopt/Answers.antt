@@ -1,15 +1,21 @@
-use Rattle.std.proofs.Common.{◌≡◌, ℕ, suc, ◌+◌, ◌-◌, ◌<◌, true, false, Bool, cond, List, [], ◌∷◌, ◌++◌, length, get_or, set, refl, sym, ap, ◌∙◌, subst, arith, length-set, length-append}
+use Rattle.std.proofs.Common.{◌≡◌, ℕ, suc, ◌+◌, ◌-◌, ◌<◌, true, false, Bool, cond, List, [], ◌∷◌}
+use Rattle.std.proofs.Common.{◌++◌, length, get_or, set, refl, sym, ap, ◌∙◌, subst, arith}
+use Rattle.std.proofs.Common.{length-set, length-append}
 use Rattle.std.specs.List.{AllByRecursion}
 use Rattle.cm_pool.specs.declared.chunk.Chunk.{Chunk}
 use Rattle.cm_pool.specs.Chunks.{same_chunk}
 use Rattle.cm_arena.specs.Chains.{Filled, chain_of, IsFilled, IsArena}
 use Rattle.cm_arena.specs.Placing.{next_offset, with_place}
-use Rattle.cm_arena.proofs.ChainFacts.{next-chain_of, same_chunk-eq, more-chain_of, filled-set, filled-push, chain_of-push, place-on_top, place-in_new}
+use Rattle.cm_arena.proofs.ChainFacts.{next-chain_of, same_chunk-eq, more-chain_of, filled-set}
+use Rattle.cm_arena.proofs.ChainFacts.{filled-push, chain_of-push, place-on_top, place-in_new}
 use Rattle.cm_arena.proofs.arena.Arena.adopt.Goals as goal
-use Rattle.cm_arena.proofs.arena.Arena.adopt.Goals.{After-next_offset-offset, After-len-last, After-append}
+use Rattle.cm_arena.proofs.arena.Arena.adopt.Goals.{After-next_offset-offset, After-len-last}
+use Rattle.cm_arena.proofs.arena.Arena.adopt.Goals.{After-append}
 
-offset : (c : After-next_offset-offset) → c.next_offset-offset.result ≡ next_offset (chain_of c.self.inside.chunks.items c.self.inside.used.items) c.args.place.chunk
-offset c = c.next_offset-offset.ensures ∙ (λ i. next_offset (chain_of (c.deref.ensures.value i) (c.deref-2.ensures.value i)) c.args.place.chunk)
+offset : (c : After-next_offset-offset)
+    → c.next_offset-offset.result ≡ next_offset (chain_of c.self.inside.chunks.items c.self.inside.used.items) c.args.place.chunk
+offset c = c.next_offset-offset.ensures ∙
+    (λ i. next_offset (chain_of (c.deref.ensures.value i) (c.deref-2.ensures.value i)) c.args.place.chunk)
 
 -- what is known where the chunk is the last one
 record IsLastOne (cs : List Chunk) (us : List ℕ) (k : ℕ) (c : Chunk) (n : ℕ) : Type 0 where
@@ -17,11 +23,14 @@ record IsLastOne (cs : List Chunk) (us : List ℕ) (k : ℕ) (c : Chunk) (n : �
   chunk : get_or cs k c ≡ c
   used : get_or us k 0 ≡ n
 
-last_one : (b : Bool) (cs : List Chunk) (us : List ℕ) (k : ℕ) (c : Chunk) (n : ℕ) → length cs ≡ suc k → same_chunk (get_or cs k c) c ≡ b → n ≡ cond b (get_or us k 0) 0 → 0 < n → IsLastOne cs us k c n
+last_one : (b : Bool) (cs : List Chunk) (us : List ℕ) (k : ℕ) (c : Chunk) (n : ℕ)
+    → length cs ≡ suc k → same_chunk (get_or cs k c) c ≡ b → n ≡ cond b (get_or us k 0) 0 → 0 < n
+    → IsLastOne cs us k c n
 last_one true cs us k c n len same e pos = record { len = len; chunk = same_chunk-eq _ _ same; used = sym e }
 last_one false cs us k c n len same e pos = absurd (omega arith)
 
-at_last : (c : After-len-last) → 0 < c.next_offset-offset.result → c.next_offset-offset.result ≡ next_offset (chain_of c.self.inside.chunks.items c.self.inside.used.items) c.args.place.chunk → length c.self.inside.chunks.items ≡ suc (c.len-last.result - 1) → IsLastOne c.self.inside.chunks.items c.self.inside.used.items (c.len-last.result - 1) c.args.place.chunk c.next_offset-offset.result
+at_last : (c : After-len-last) → 0 < c.next_offset-offset.result
+    → c.next_offset-offset.result ≡ next_offset (chain_of c.self.inside.chunks.items c.self.inside.used.items) c.args.place.chunk → length c.self.inside.chunks.items ≡ suc (c.len-last.result - 1) → IsLastOne c.self.inside.chunks.items c.self.inside.used.items (c.len-last.result - 1) c.args.place.chunk c.next_offset-offset.result
 at_last c pos e len =
     let cs = c.self.inside.chunks.items in
     let us = c.self.inside.used.items in
@@ -29,7 +38,8 @@ at_last c pos e len =
     last_one (same_chunk (get_or cs k c.args.place.chunk) c.args.place.chunk) cs us k c.args.place.chunk c.next_offset-offset.result len refl
     (e ∙ next-chain_of cs us k c.args.place.chunk c.args.place.chunk 0 c.self.invariant.pairs len) pos
 
-some : (cs : List Chunk) (us : List ℕ) (c : Chunk) → 0 < next_offset (chain_of cs us) c → 0 < length cs
+some : (cs : List Chunk) (us : List ℕ) (c : Chunk) → 0 < next_offset (chain_of cs us) c
+    → 0 < length cs
 some [] us c h = absurd (omega arith)
 some (b ∷ cs) us c h = omega arith
 
@@ -69,8 +79,10 @@ returns-then-offset-gt0-clause-left c =
     ∙ sym (place-on_top (chain_of cs us) c.args.place pos)
     ∙ ap (λ (chain : List Filled). with_place chain c.args.place) c.self.view_is
 
-chunks : (c : After-append) → c.append.new.chunks.items ≡ c.self.inside.chunks.items ++ c.args.place.chunk ∷ []
-chunks c = c.append.ensures.chunks ∙ ap (λ (cs : List Chunk). cs ++ c.args.place.chunk ∷ []) c.reserve_one.ensures.chunks
+chunks : (c : After-append)
+    → c.append.new.chunks.items ≡ c.self.inside.chunks.items ++ c.args.place.chunk ∷ []
+chunks c = c.append.ensures.chunks ∙ ap
+    (λ (cs : List Chunk). cs ++ c.args.place.chunk ∷ []) c.reserve_one.ensures.chunks
 
 used : (c : After-append) → c.append.new.used.items ≡ c.self.inside.used.items ++ c.args.place.words ∷ []
 used c = c.append.ensures.used ∙ ap (λ (us : List ℕ). us ++ c.args.place.words ∷ []) c.reserve_one.ensures.used

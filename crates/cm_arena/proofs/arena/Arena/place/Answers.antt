@@ -1,4 +1,5 @@
-use Rattle.std.proofs.Common.{◌≡◌, ℕ, ◌*◌, ◌%◌, ◌^◌, ◌<◌, ◌≤◌, List, [], ◌∷◌, ◌++◌, length, refl, sym, ap, ◌∙◌, subst, inl, inr, arith, length-append}
+use Rattle.std.proofs.Common.{◌≡◌, ℕ, ◌*◌, ◌%◌, ◌^◌, ◌<◌, ◌≤◌, List, [], ◌∷◌, ◌++◌, length, refl}
+use Rattle.std.proofs.Common.{sym, ap, ◌∙◌, subst, inl, inr, arith, length-append}
 use Rattle.std.specs.List.{AllByRecursion}
 use Rattle.std.proofs.Math.Nat.{pow-le-pow_right, mod-eq_of_lt}
 use Rattle.cm_pool.specs.declared.chunk.Chunk.{Chunk}
@@ -19,8 +20,10 @@ order_for-need-requires c =
     let fits : 128 * 2 ^ c.top-top.result % 2 ^ 32 ≡ 128 * 2 ^ c.top-top.result = mod-eq_of_lt (omega arith) in
     omega arith
 
-chunks : (c : After-append) → c.append.new.chunks.items ≡ c.self.inside.chunks.items ++ c.in_ok-chunk.chunk ∷ []
-chunks c = c.append.ensures.chunks ∙ ap (λ (cs : List Chunk). cs ++ c.in_ok-chunk.chunk ∷ []) c.reserve_one-keeps.ensures.chunks
+chunks : (c : After-append)
+    → c.append.new.chunks.items ≡ c.self.inside.chunks.items ++ c.in_ok-chunk.chunk ∷ []
+chunks c = c.append.ensures.chunks ∙ ap
+    (λ (cs : List Chunk). cs ++ c.in_ok-chunk.chunk ∷ []) c.reserve_one-keeps.ensures.chunks
 
 used : (c : After-append) → c.append.new.used.items ≡ c.self.inside.used.items ++ c.args.words ∷ []
 used c = c.append.ensures.used ∙ ap (λ (us : List ℕ). us ++ c.args.words ∷ []) (c.reserve_one-keeps.ensures.used ∙ c.in_default.ensures.none.1)
@@ -32,13 +35,16 @@ len c =
     let chain : length (chain_of c.self.inside.chunks.items c.self.inside.used.items) ≡ length c.args.self.now = ap length c.self.view_is in
     omega (arith, c.len.ensures, reserved.ok.0, items, chain, length-chain_of c.self.inside.chunks.items c.self.inside.used.items c.self.invariant.pairs)
 
-wanted : (c : After-append) → c.max-wanted.result ≡ order_wanted c.order_for-need.result (length c.args.self.now) c.args.pool.now.geometry.top
+wanted : (c : After-append)
+    → c.max-wanted.result ≡ order_wanted c.order_for-need.result (length c.args.self.now) c.args.pool.now.geometry.top
 wanted c =
-    let top : c.top-top.result ≡ c.args.pool.now.geometry.top = c.top-top.ensures.value ∙ ap (λ (g : Sizes). g.top) c.geometry.ensures.value in
+    let top : c.top-top.result ≡ c.args.pool.now.geometry.top = c.top-top.ensures.value ∙ ap
+    (λ (g : Sizes). g.top) c.geometry.ensures.value in
     omega (arith, len c, top, c.max-wanted.ensures, c.min.ensures, c.min-2.ensures)
 
 -- the chunk is large enough
-room : (c : After-append) → (c.args.words ≤ chunk_size c.in_ok-chunk.chunk.order) × (c.in_ok-chunk.chunk.order ≤ 12)
+room : (c : After-append) → (c.args.words ≤ chunk_size c.in_ok-chunk.chunk.order)
+    × (c.in_ok-chunk.chunk.order ≤ 12)
 room c =
     let order : c.order_for-need.result ≤ c.in_ok-chunk.chunk.order =
     fetched-order c.args.pool.now c.fetch.new.pool c.max-wanted.result c.order_for-need.result c.in_ok-chunk.chunk (omega (arith, c.max-wanted.ensures)) c.in_ok-chunk.ensures.ok
@@ -70,10 +76,12 @@ returns-clause-ok c =
     let pairs = c.self.invariant.pairs in
     let view : chain_of cs us ≡ c.args.self.now = c.self.view_is in
     inr (record {
-      no_room = subst (λ chain. ¬ HasRoom chain c.args.words) view (subst (λ (ds : List Chunk). ¬ HasRoom (chain_of ds us) c.args.words) c.deref.ensures.value c.in_default.ensures.none.0);
+      no_room = subst (λ chain. ¬ HasRoom chain c.args.words) view (subst
+          (λ (ds : List Chunk). ¬ HasRoom (chain_of ds us) c.args.words) c.deref.ensures.value c.in_default.ensures.none.0);
       need = c.order_for-need.result;
       is_need = c.order_for-need.ensures.need;
-      fetches = subst (λ w. Fetches c.args.pool.now w c.order_for-need.result c.in_ok-chunk.chunk c.fetch.new.pool) (wanted at) c.in_ok-chunk.ensures.ok;
+      fetches = subst
+          (λ w. Fetches c.args.pool.now w c.order_for-need.result c.in_ok-chunk.chunk c.fetch.new.pool) (wanted at) c.in_ok-chunk.ensures.ok;
       in_new = record {
         front = refl;
         room = (room at).0;
@@ -85,11 +93,13 @@ returns-clause-ok c =
     })
 
 -- what is known where the last chunk had room
-on_top : (c : In-Some) → Places c.args.self.now c.args.pool.now c.args.words c.in-Some.place (chain_of c.self.inside.chunks.items c.place_on_top.new.used.items) c.args.pool.now
+on_top : (c : In-Some)
+    → Places c.args.self.now c.args.pool.now c.args.words c.in-Some.place (chain_of c.self.inside.chunks.items c.place_on_top.new.used.items) c.args.pool.now
 on_top c =
     let us = c.self.inside.used.items in
     let new = c.place_on_top.new.used.items in
-    let top = subst (λ (ds : List Chunk). IsOnTop (chain_of ds us) c.args.words c.in-Some.place (chain_of ds new)) c.deref.ensures.value c.in-Some.ensures.some in
+    let top = subst
+    (λ (ds : List Chunk). IsOnTop (chain_of ds us) c.args.words c.in-Some.place (chain_of ds new)) c.deref.ensures.value c.in-Some.ensures.some in
     inl (subst (λ (chain : List Filled). IsOnTop chain c.args.words c.in-Some.place (chain_of c.self.inside.chunks.items new)) c.self.view_is top, refl)
 
 small : (c : After-top-top) → c.args.pool.now.geometry.top ≤ 12

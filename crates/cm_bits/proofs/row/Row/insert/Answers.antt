@@ -1,4 +1,5 @@
-use Rattle.std.proofs.Common.{◌≡◌, ◌*◌, ◌/◌, ◌<◌, ◌≤◌, List, length, sym, ap, ◌∙◌, subst, arith, length-set, ℕ}
+use Rattle.std.proofs.Common.{◌≡◌, ◌*◌, ◌/◌, ◌<◌, ◌≤◌, List, length, sym, ap, ◌∙◌, subst, arith}
+use Rattle.std.proofs.Common.{length-set, ℕ}
 use Rattle.cm_bits.specs.Bits.{with_bit, IsRow}
 use Rattle.cm_bits.proofs.BitFacts.{row-with}
 use Rattle.cm_bits.proofs.row.Row.insert.Goals as goal
@@ -6,6 +7,7 @@ use Rattle.cm_bits.proofs.row.Row.insert.Goals as goal
 pub invariant_of-self : goal.invariant_of-self
 invariant_of-self c =
     let a = c.self.inside in
-    let within : c.args.at < 64 * length a.words.items = subst (λ (ws : List ℕ). c.args.at < 64 * length ws) (sym c.self.view_is) c.requires in
+    let within : c.args.at < 64 * length a.words.items = subst
+    (λ (ws : List ℕ). c.args.at < 64 * length ws) (sym c.self.view_is) c.requires in
     rw (c.set_bit.ensures, c.set_bit-2.ensures, c.set_bit-3.ensures)
     (row-with a.words.items a.groups.items a.heads.items c.args.at c.self.invariant within)

@@ -1,4 +1,5 @@
-use Rattle.std.proofs.Common.{◌≡◌, ◌≢◌, ℕ, ◌*◌, ◌/◌, ◌<◌, List, length, sym, ap, ◌∙◌, subst, true, false, eqb}
+use Rattle.std.proofs.Common.{◌≡◌, ◌≢◌, ℕ, ◌*◌, ◌/◌, ◌<◌, List, length, sym, ap, ◌∙◌, subst, true}
+use Rattle.std.proofs.Common.{false, eqb}
 use Rattle.std.proofs.lemmas.Bool.{eqb-true, eq-eqb, both_ways}
 use Rattle.cm_bits.specs.Bits.{word, without_bit}
 use Rattle.cm_bits.proofs.BitFacts.{row-without, row-without_group, row-without_word}
@@ -32,4 +33,5 @@ invariant_of-self-else-clear_bit c =
     let at = (goal.at.invariant_of-self-else-clear_bit c).After-clear_bit in
     rw c.clear_bit.ensures.cleared
     (row-without_word a.words.items a.groups.items a.heads.items c.args.at c.self.invariant (within at)
-    (λ e. both_ways _ (sym c.clear_bit.ensures.none_left ∙ c.if-clear_bit.false) (eq-eqb _ 0 (ap (λ (ws : List ℕ). word ws (c.args.at / 64)) c.clear_bit.ensures.cleared ∙ e))))
+    (λ e. both_ways _ (sym c.clear_bit.ensures.none_left ∙ c.if-clear_bit.false) (eq-eqb _ 0 (ap
+    (λ (ws : List ℕ). word ws (c.args.at / 64)) c.clear_bit.ensures.cleared ∙ e))))

@@ -9,13 +9,15 @@ use Rattle.cm_pool.proofs.pool.Pool.add_root.Goals.{Else-self-roots, After-top}
 below : (c : Else-self-roots) → c.self.inside.roots < c.self.inside.geometry.roots
 below c = omega (arith, c.roots.ensures.value)
 
-place : (c : Else-self-roots) → HasPlace c.self.inside.rows.items (root_block c.self.inside.geometry c.self.inside.roots)
+place : (c : Else-self-roots)
+    → HasPlace c.self.inside.rows.items (root_block c.self.inside.geometry c.self.inside.roots)
 place c =
     let a = c.self.inside in
     hole-place a.geometry.top _ a.rows.items (root_block a.geometry a.roots) (root-hole a.geometry a.roots a.rows.items c.self.invariant (below c))
 
 -- the code's block
-is_root : (c : After-top) → record { index = c.self.inside.roots; order = c.top.result } ≡ root_block c.self.inside.geometry c.self.inside.roots
+is_root : (c : After-top)
+    → record { index = c.self.inside.roots; order = c.top.result } ≡ root_block c.self.inside.geometry c.self.inside.roots
 is_root c = λ i. record { index = c.self.inside.roots; order = c.top.ensures.value i }
 
 pub mark-requires : goal.mark-requires

@@ -1,4 +1,5 @@
-use Rattle.std.proofs.Common.{◌≡◌, ◌*◌, ◌^◌, ◌≤◌, ℕ, true, List, length, sym, ap, ◌∙◌, subst, arith, None}
+use Rattle.std.proofs.Common.{◌≡◌, ◌*◌, ◌^◌, ◌≤◌, ℕ, true, List, length, sym, ap, ◌∙◌, subst, arith}
+use Rattle.std.proofs.Common.{None}
 use Rattle.std.specs.Option.{is_some}
 use Rattle.std.proofs.lemmas.Bool.{true≢false}
 use Rattle.cm_pool.specs.FreeSpace.{FreeSpace, IsFreeChunk, HasFree, without}
@@ -7,20 +8,24 @@ use Rattle.cm_pool.specs.Blocks.{IsSame, start, stop}
 use Rattle.cm_pool.specs.Rows.{is_marked, IsFirst, IsFirstFrom}
 use Rattle.cm_pool.proofs.Dyadic.{inside-stop}
 use Rattle.cm_pool.proofs.Spaces.{space-without}
-use Rattle.cm_pool.proofs.Pools.{none-free, first-start, not-before, held-free, marked-stop, marked-small, pool-taken}
+use Rattle.cm_pool.proofs.Pools.{none-free, first-start, not-before, held-free, marked-stop}
+use Rattle.cm_pool.proofs.Pools.{marked-small, pool-taken}
 use Rattle.cm_pool.proofs.pool.Pool.alloc.Goals as goal
 use Rattle.cm_pool.proofs.pool.Pool.alloc.Goals.{In_ok-from, After-to_chunk}
 
 pub returns-in_err-from-clause-none : goal.returns-in_err-from-clause-none
 returns-in_err-from-clause-none c =
     let a = c.self.inside in
-    let none = subst (λ (rows : List (List ℕ)). IsFirstFrom rows c.args.order (length rows) None) c.deref.ensures.value c.in_err-from.ensures in (
+    let none = subst
+    (λ (rows : List (List ℕ)). IsFirstFrom rows c.args.order (length rows) None) c.deref.ensures.value c.in_err-from.ensures in (
       λ _ has. none-free a.geometry a.roots a.rows.items c.args.order c.self.invariant none (subst (λ (p : FreeSpace). HasFree p c.args.order) (sym c.self.view_is) has),
       λ _. ap is_some c.from_residual.ensures,
     )
 
-first : (c : In_ok-from) → IsFirst c.self.inside.rows.items c.args.order (length c.self.inside.rows.items) c.in_ok-from.from
-first c = subst (λ (rows : List (List ℕ)). IsFirst rows c.args.order (length rows) c.in_ok-from.from) c.deref.ensures.value c.in_ok-from.ensures
+first : (c : In_ok-from)
+    → IsFirst c.self.inside.rows.items c.args.order (length c.self.inside.rows.items) c.in_ok-from.from
+first c = subst
+    (λ (rows : List (List ℕ)). IsFirst rows c.args.order (length rows) c.in_ok-from.from) c.deref.ensures.value c.in_ok-from.ensures
 
 pub first-wanted-requires-clause-fits : goal.first-wanted-requires-clause-fits
 first-wanted-requires-clause-fits c =
@@ -41,19 +46,24 @@ invariant_of-self c =
     pool-taken a.geometry a.roots a.rows.items c.take_out.new.rows.items c.first-wanted.result c.self.invariant
     (c.take_out.ensures.kept a.geometry.top (a.geometry.roots * 2 ^ a.geometry.top) c.self.invariant.kept) c.take_out.ensures.covered
 
-same : (c : After-to_chunk) → IsSame c.self.inside.geometry.top c.to_chunk.result c.first-wanted.result
-same c = subst (λ t. IsSame t c.to_chunk.result c.first-wanted.result) c.top-top.ensures.value c.to_chunk.ensures.same
+same : (c : After-to_chunk)
+    → IsSame c.self.inside.geometry.top c.to_chunk.result c.first-wanted.result
+same c = subst
+    (λ t. IsSame t c.to_chunk.result c.first-wanted.result) c.top-top.ensures.value c.to_chunk.ensures.same
 
-block : (c : After-to_chunk) → is_marked c.self.inside.rows.items c.in_ok-from.from ≡ true → IsBlock c.self.inside.geometry.top c.self.inside.roots c.to_chunk.result
+block : (c : After-to_chunk) → is_marked c.self.inside.rows.items c.in_ok-from.from ≡ true
+    → IsBlock c.self.inside.geometry.top c.self.inside.roots c.to_chunk.result
 block c set =
     let a = c.self.inside in
     let stops : stop c.first-wanted.result ≤ a.roots * 2 ^ a.geometry.top =
     omega (arith, inside-stop c.first-wanted.result c.in_ok-from.from c.first-wanted.ensures.inside, marked-stop a.geometry a.roots a.rows.items c.in_ok-from.from c.self.invariant set)
     in
     subst (λ t. IsBlock t a.roots c.to_chunk.result) c.top-top.ensures.value
-    (c.to_chunk.ensures.within a.roots (subst (λ t. stop c.first-wanted.result ≤ a.roots * 2 ^ t) (sym c.top-top.ensures.value) stops))
+    (c.to_chunk.ensures.within a.roots (subst
+    (λ t. stop c.first-wanted.result ≤ a.roots * 2 ^ t) (sym c.top-top.ensures.value) stops))
 
-free : (c : After-to_chunk) → is_marked c.self.inside.rows.items c.in_ok-from.from ≡ true → IsFreeChunk c.args.self.now c.to_chunk.result
+free : (c : After-to_chunk) → is_marked c.self.inside.rows.items c.in_ok-from.from ≡ true
+    → IsFreeChunk c.args.self.now c.to_chunk.result
 free c set =
     let a = c.self.inside in
     subst (λ (p : FreeSpace). IsFreeChunk p c.to_chunk.result) c.self.view_is

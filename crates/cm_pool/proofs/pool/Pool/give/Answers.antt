@@ -12,8 +12,10 @@ use Rattle.cm_pool.proofs.pool.Pool.give.Goals.{After-top-top, After-of_chunk-bl
 used : (c : After-top-top) → IsUsedChunk (space_of c.self.inside.geometry c.self.inside.roots c.self.inside.rows.items) c.args.chunk
 used c = subst (λ (p : FreeSpace). IsUsedChunk p c.args.chunk) (sym c.self.view_is) c.requires
 
-same : (c : After-of_chunk-block) → IsSame c.self.inside.geometry.top c.args.chunk c.of_chunk-block.result
-same c = subst (λ t. IsSame t c.args.chunk c.of_chunk-block.result) c.top-top.ensures.value c.of_chunk-block.ensures
+same : (c : After-of_chunk-block)
+    → IsSame c.self.inside.geometry.top c.args.chunk c.of_chunk-block.result
+same c = subst
+    (λ t. IsSame t c.args.chunk c.of_chunk-block.result) c.top-top.ensures.value c.of_chunk-block.ensures
 
 pub of_chunk-block-requires-clause-within : goal.of_chunk-block-requires-clause-within
 of_chunk-block-requires-clause-within c =
@@ -25,7 +27,8 @@ pub give_back-requires-clause-order : goal.give_back-requires-clause-order
 give_back-requires-clause-order c =
     omega (arith, c.of_chunk-block.ensures.order, c.top-top.ensures.value, (used (goal.at.give_back-requires-clause-order c).After-top-top).block.within_top)
 
-low : (c : After-of_chunk-block) → IsUsedChunk (space_of c.self.inside.geometry c.self.inside.roots c.self.inside.rows.items) c.args.chunk → (g : ℕ) → is_in c.of_chunk-block.result g ≡ true → g < c.self.inside.geometry.roots * 2 ^ c.self.inside.geometry.top
+low : (c : After-of_chunk-block)
+    → IsUsedChunk (space_of c.self.inside.geometry c.self.inside.roots c.self.inside.rows.items) c.args.chunk → (g : ℕ) → is_in c.of_chunk-block.result g ≡ true → g < c.self.inside.geometry.roots * 2 ^ c.self.inside.geometry.top
 low c is_used g e =
     let a = c.self.inside in
     let b = c.of_chunk-block.result in
@@ -36,8 +39,12 @@ pub give_back-requires-clause-kept : goal.give_back-requires-clause-kept
 give_back-requires-clause-kept c =
     let a = c.self.inside in
     let at = goal.at.give_back-requires-clause-kept c in
-    let limit = a.geometry.roots * 2 ^ a.geometry.top in
-    (limit, subst (λ t. IsKept t limit a.rows.items) (sym c.top-top.ensures.value) c.self.invariant.kept, low at.After-of_chunk-block (used at.After-top-top))
+    let limit = a.geometry.roots * 2 ^ a.geometry.top in (
+      limit,
+      subst
+          (λ t. IsKept t limit a.rows.items) (sym c.top-top.ensures.value) c.self.invariant.kept,
+      low at.After-of_chunk-block (used at.After-top-top),
+    )
 
 pub give_back-requires-clause-taken : goal.give_back-requires-clause-taken
 give_back-requires-clause-taken c =
@@ -54,7 +61,8 @@ invariant_of-self c =
     pool-given a.geometry a.roots a.rows.items c.give_back.new.rows.items b c.self.invariant
     (same-stop a.geometry.top a.roots c.args.chunk b (same at.After-of_chunk-block) (used at.After-top-top).block)
     (subst (λ t. IsKept t limit c.give_back.new.rows.items) c.top-top.ensures.value
-    (c.give_back.ensures.kept limit (subst (λ t. IsKept t limit a.rows.items) (sym c.top-top.ensures.value) c.self.invariant.kept) (low at.After-of_chunk-block (used at.After-top-top))))
+    (c.give_back.ensures.kept limit (subst
+    (λ t. IsKept t limit a.rows.items) (sym c.top-top.ensures.value) c.self.invariant.kept) (low at.After-of_chunk-block (used at.After-top-top))))
     c.give_back.ensures.covered
 
 pub returns : goal.returns

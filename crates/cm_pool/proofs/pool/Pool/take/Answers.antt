@@ -10,19 +10,23 @@ use Rattle.cm_pool.proofs.Pools.{free-held, held-free, pool-taken}
 use Rattle.cm_pool.proofs.pool.Pool.take.Goals as goal
 use Rattle.cm_pool.proofs.pool.Pool.take.Goals.{Else-chunk-self, After-of_chunk-wanted}
 
-block : (c : Else-chunk-self) → IsBlock c.self.inside.geometry.top c.self.inside.roots c.args.chunk.now
+block : (c : Else-chunk-self)
+    → IsBlock c.self.inside.geometry.top c.self.inside.roots c.args.chunk.now
 block c =
     let within = c.is_within.ensures.0 c.if-not-is_within.false in
     record { within_top = within.within_top; in_a_root = c.if-chunk-self.false; aligned = within.aligned; inside = within.inside }
 
-same : (c : After-of_chunk-wanted) → IsSame c.self.inside.geometry.top c.args.chunk.now c.of_chunk-wanted.result
-same c = subst (λ t. IsSame t c.args.chunk.now c.of_chunk-wanted.result) c.top.ensures.value c.of_chunk-wanted.ensures
+same : (c : After-of_chunk-wanted)
+    → IsSame c.self.inside.geometry.top c.args.chunk.now c.of_chunk-wanted.result
+same c = subst
+    (λ t. IsSame t c.args.chunk.now c.of_chunk-wanted.result) c.top.ensures.value c.of_chunk-wanted.ensures
 
 pub returns-in_default-clause-free : goal.returns-in_default-clause-free
 returns-in_default-clause-free c =
     let a = c.self.inside in
     let w = c.of_chunk-wanted.result in
-    let none = subst (λ (rows : List (List ℕ)). (b : Block) → Inside w b → is_marked rows b ≡ false) c.deref.ensures.value c.in_default.ensures.none in (
+    let none = subst (λ (rows : List (List ℕ)). (b : Block) → Inside w b
+    → is_marked rows b ≡ false) c.deref.ensures.value c.in_default.ensures.none in (
       λ e. absurd (false≢true e),
       λ free.
           let held =
@@ -48,7 +52,8 @@ returns-clause-free c =
     let a = c.self.inside in
     let at = goal.at.returns-clause-free c in
     let w = c.of_chunk-wanted.result in
-    let set = subst (λ (rows : List (List ℕ)). is_marked rows c.in-Some.from ≡ true) c.deref.ensures.value c.in-Some.ensures.some.0 in (
+    let set = subst
+    (λ (rows : List (List ℕ)). is_marked rows c.in-Some.from ≡ true) c.deref.ensures.value c.in-Some.ensures.some.0 in (
       λ _. subst (λ (p : FreeSpace). IsFreeChunk p c.args.chunk.now) c.self.view_is
           (held-free a.geometry a.roots a.rows.items c.args.chunk.now w c.in-Some.from (same at.After-of_chunk-wanted) (block at.Else-chunk-self) set c.in-Some.ensures.some.1),
       λ _. refl,

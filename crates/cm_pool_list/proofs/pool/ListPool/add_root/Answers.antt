@@ -1,4 +1,5 @@
-use Rattle.std.proofs.Common.{◌≡◌, ◌<◌, Result, Ok, Err, [], ◌∷◌, ◌++◌, refl, ap, ◌∙◌, subst, arith, OnErr}
+use Rattle.std.proofs.Common.{◌≡◌, ◌<◌, Result, Ok, Err, [], ◌∷◌, ◌++◌, refl, ap, ◌∙◌, subst, arith}
+use Rattle.std.proofs.Common.{OnErr}
 use Rattle.std.specs.Vec.{vec_capacity}
 use Rattle.std.proofs.lemmas.Bool.{false≢true}
 use Rattle.cm_pool.specs.FreeSpace.{FreeSpace, with_root}
@@ -25,7 +26,8 @@ on_err (Err e) p = p
 pub returns-in_err-push-clause-memory : goal.returns-in_err-push-clause-memory
 returns-in_err-push-clause-memory c = on_err c.from_residual.result (below (goal.at.returns-in_err-push-clause-memory c).Else-self-roots)
 
-pushed : (c : In_ok-push) → c.push.new.self.items ≡ c.self.inside.free.items ++ root_block c.self.inside.geometry c.self.inside.roots ∷ []
+pushed : (c : In_ok-push)
+    → c.push.new.self.items ≡ c.self.inside.free.items ++ root_block c.self.inside.geometry c.self.inside.roots ∷ []
 pushed c =
     subst (λ t. c.push.new.self.items ≡ c.self.inside.free.items ++ record { index = c.self.inside.roots; order = t } ∷ []) c.top.ensures.value c.in_ok-push.ensures.items
 

@@ -13,8 +13,10 @@ use Rattle.cm_pool_list.proofs.pool.ListPool.give.Goals.{After-top-top, After-of
 used : (c : After-top-top) → IsUsedChunk (space_of c.self.inside.geometry c.self.inside.roots c.self.inside.free.items) c.args.chunk
 used c = subst (λ (p : FreeSpace). IsUsedChunk p c.args.chunk) (sym c.self.view_is) c.requires
 
-same : (c : After-of_chunk-block) → IsSame c.self.inside.geometry.top c.args.chunk c.of_chunk-block.result
-same c = subst (λ t. IsSame t c.args.chunk c.of_chunk-block.result) c.top-top.ensures.value c.of_chunk-block.ensures
+same : (c : After-of_chunk-block)
+    → IsSame c.self.inside.geometry.top c.args.chunk c.of_chunk-block.result
+same c = subst
+    (λ t. IsSame t c.args.chunk c.of_chunk-block.result) c.top-top.ensures.value c.of_chunk-block.ensures
 
 pub of_chunk-block-requires-clause-within : goal.of_chunk-block-requires-clause-within
 of_chunk-block-requires-clause-within c =

@@ -12,19 +12,23 @@ use Rattle.cm_pool_list.proofs.Pools.{free-held, held-free, listed-room, pool-ta
 use Rattle.cm_pool_list.proofs.pool.ListPool.take.Goals as goal
 use Rattle.cm_pool_list.proofs.pool.ListPool.take.Goals.{Else-chunk-self, After-of_chunk-wanted}
 
-block : (c : Else-chunk-self) → IsBlock c.self.inside.geometry.top c.self.inside.roots c.args.chunk.now
+block : (c : Else-chunk-self)
+    → IsBlock c.self.inside.geometry.top c.self.inside.roots c.args.chunk.now
 block c =
     let within = c.is_within.ensures.0 c.if-not-is_within.false in
     record { within_top = within.within_top; in_a_root = c.if-chunk-self.false; aligned = within.aligned; inside = within.inside }
 
-same : (c : After-of_chunk-wanted) → IsSame c.self.inside.geometry.top c.args.chunk.now c.of_chunk-wanted.result
-same c = subst (λ t. IsSame t c.args.chunk.now c.of_chunk-wanted.result) c.top.ensures.value c.of_chunk-wanted.ensures
+same : (c : After-of_chunk-wanted)
+    → IsSame c.self.inside.geometry.top c.args.chunk.now c.of_chunk-wanted.result
+same c = subst
+    (λ t. IsSame t c.args.chunk.now c.of_chunk-wanted.result) c.top.ensures.value c.of_chunk-wanted.ensures
 
 pub returns-in_default-clause-free : goal.returns-in_default-clause-free
 returns-in_default-clause-free c =
     let a = c.self.inside in
     let w = c.of_chunk-wanted.result in
-    let none = subst (λ (bs : List Block). AllByRecursion (λ b. ¬ Inside w b) bs) c.deref.ensures.value c.in_default.ensures.none in (
+    let none = subst (λ (bs : List Block). AllByRecursion
+    (λ b. ¬ Inside w b) bs) c.deref.ensures.value c.in_default.ensures.none in (
       λ e. absurd (false≢true e),
       λ free.
           let held =
@@ -50,8 +54,10 @@ returns-clause-free c =
     let a = c.self.inside in
     let at = goal.at.returns-clause-free c in
     let w = c.of_chunk-wanted.result in
-    let within = subst (λ (bs : List Block). c.in-Some.at < length bs) c.deref.ensures.value c.in-Some.ensures.some.0 in
-    let inside = subst (λ (bs : List Block). Inside w (get_or bs c.in-Some.at w)) c.deref.ensures.value c.in-Some.ensures.some.1 in (
+    let within = subst
+    (λ (bs : List Block). c.in-Some.at < length bs) c.deref.ensures.value c.in-Some.ensures.some.0 in
+    let inside = subst
+    (λ (bs : List Block). Inside w (get_or bs c.in-Some.at w)) c.deref.ensures.value c.in-Some.ensures.some.1 in (
       λ _. subst (λ (p : FreeSpace). IsFreeChunk p c.args.chunk.now) c.self.view_is
           (held-free a.geometry a.roots a.free.items c.args.chunk.now w (get_or a.free.items c.in-Some.at w) (same at.After-of_chunk-wanted) (block at.Else-chunk-self)
           (among-at a.free.items c.in-Some.at w within) inside),
