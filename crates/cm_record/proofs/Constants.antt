@@ -1,5 +1,8 @@
 -- The constants of a class, found in the words of its record.
-use Rattle.std.proofs.Common.{◌≡◌, ◌<◌, ◌≤◌, ◌+◌, ◌-◌, ◌*◌, ◌/◌, ◌%◌, ◌^◌, ℕ, zero, suc, Bool, true, false, List, [], ◌∷◌, ◌++◌, length, take, drop, get_or, slice_get, Some, None, refl, sym, ◌∙◌, ap, subst, arith, length-append, append_assoc, get_or-drop, drop-drop, inl, inr}
+use Rattle.std.proofs.Common.{◌≡◌, ◌<◌, ◌≤◌, ◌+◌, ◌-◌, ◌*◌, ◌/◌, ◌%◌, ◌^◌, ℕ, zero, suc, Bool, true}
+use Rattle.std.proofs.Common.{false, List, [], ◌∷◌, ◌++◌, length, take, drop, get_or, slice_get}
+use Rattle.std.proofs.Common.{Some, None, refl, sym, ◌∙◌, ap, subst, arith, length-append}
+use Rattle.std.proofs.Common.{append_assoc, get_or-drop, drop-drop, inl, inr}
 use Rattle.std.specs.Prelude.{not, ◌&&◌, ◌==◌, if◌then◌else◌, nat_le, option_map, option_and_then}
 use Rattle.std.proofs.lemmas.Bool.{ne_eqb, le-leb, lt-leb}
 use Rattle.std.proofs.lemmas.Bool.Decides.{leb_tells}
@@ -10,22 +13,30 @@ use Rattle.cm_class.specs.declared.constant.Slot.{Slot}
 use Rattle.cm_class.specs.declared.constant.Slot.TheVariants.{Usable, Unusable}
 use Rattle.cm_class.specs.declared.class_file.ClassFile.{ClassFile}
 use Rattle.cm_class.specs.Spelling.{is_wide, ConstantFits, SlotsFit, HasSpelling}
-use Rattle.cm_record_layout.specs.Layout.{lay, constant_words, constant_run, slot_run, directory, utf8_runs, members, runs_at, attributes_at, limit}
+use Rattle.cm_record_layout.specs.Layout.{lay, constant_words, constant_run, slot_run, directory}
+use Rattle.cm_record_layout.specs.Layout.{utf8_runs, members, runs_at, attributes_at, limit}
 use Rattle.cm_record_layout.specs.Packing.{first_of, second_of, third_of, fourth_of, upper_of}
-use Rattle.cm_record.specs.Constants.{kept_constant, is_wide_word, is_second_word, word_kept, constant_at_index, constant_kept, utf8_at}
-use Rattle.cm_record_layout.proofs.Sections.{main_there, methods_at, attributes_tail, word_8, count_there}
+use Rattle.cm_record.specs.Constants.{kept_constant, is_wide_word, is_second_word, word_kept}
+use Rattle.cm_record.specs.Constants.{constant_at_index, constant_kept, utf8_at}
+use Rattle.cm_record_layout.proofs.Sections.{main_there, methods_at, attributes_tail, word_8}
+use Rattle.cm_record_layout.proofs.Sections.{count_there}
 use Rattle.cm_record_layout.proofs.Lengths.{lay_len}
 use Rattle.cm_class.specs.Names.{constant_in, constant_named}
 
 -- ---- a constant from its words
 
-one_index : (tag n next : ℕ) → tag < 2 ^ 16 → n < 2 ^ 16 → (first_of (tag + 2 ^ 32 * n) ≡ tag) × (third_of (tag + 2 ^ 32 * n) ≡ n)
+one_index : (tag n next : ℕ) → tag < 2 ^ 16 → n < 2 ^ 16 → (first_of (tag + 2 ^ 32 * n) ≡ tag)
+    × (third_of (tag + 2 ^ 32 * n) ≡ n)
 one_index tag n next ht hn = (omega arith, omega arith)
 
-two_indexes : (tag n k : ℕ) → tag < 2 ^ 16 → n < 2 ^ 16 → k < 2 ^ 16 → (first_of (tag + 2 ^ 32 * n + 2 ^ 48 * k) ≡ tag) × (third_of (tag + 2 ^ 32 * n + 2 ^ 48 * k) ≡ n) × (fourth_of (tag + 2 ^ 32 * n + 2 ^ 48 * k) ≡ k)
+two_indexes : (tag n k : ℕ) → tag < 2 ^ 16 → n < 2 ^ 16 → k < 2 ^ 16
+    → (first_of (tag + 2 ^ 32 * n + 2 ^ 48 * k) ≡ tag)
+    × (third_of (tag + 2 ^ 32 * n + 2 ^ 48 * k) ≡ n)
+    × (fourth_of (tag + 2 ^ 32 * n + 2 ^ 48 * k) ≡ k)
 two_indexes tag n k ht hn hk = (omega arith, omega arith, omega arith)
 
-pub kept_of_word : (at : ℕ) (c : Spelled) (rest : List ℕ) → ConstantFits c → at < 2 ^ 29 → word_kept (get_or (constant_words at c) 0 0) (get_or (constant_words at c ++ rest) 1 0) ≡ Some (kept_constant at c)
+pub kept_of_word : (at : ℕ) (c : Spelled) (rest : List ℕ) → ConstantFits c → at < 2 ^ 29
+    → word_kept (get_or (constant_words at c) 0 0) (get_or (constant_words at c ++ rest) 1 0) ≡ Some (kept_constant at c)
 unfolding word_kept
 kept_of_word at (constant.Utf8 bytes) rest fits small =
     let w = 1 + 2 ^ 16 * length bytes + 2 ^ 32 * at in
@@ -68,21 +79,34 @@ kept_of_word at (constant.InvokeDynamic a b) rest fits small = let p = two_index
 narrow : (w : ℕ) → (w ≡ 5 → ⊥) → (w ≡ 6 → ⊥) → is_wide_word w ≡ false
 narrow w five six = let a : (w == 5) ≡ false = ne_eqb w 5 five in let b : (w == 6) ≡ false = ne_eqb w 6 six in rw (a, b) refl
 
-pub wide_by_word : (at : ℕ) (c : Spelled) → is_wide_word (get_or (constant_words at c) 0 0) ≡ is_wide c
-wide_by_word at (constant.Utf8 bytes) = narrow (1 + 2 ^ 16 * length bytes + 2 ^ 32 * at) (λ e. omega arith) (λ e. omega arith)
-wide_by_word at (constant.Integer bits) = narrow (3 + 2 ^ 32 * bits) (λ e. omega arith) (λ e. omega arith)
-wide_by_word at (constant.Float bits) = narrow (4 + 2 ^ 32 * bits) (λ e. omega arith) (λ e. omega arith)
+pub wide_by_word : (at : ℕ) (c : Spelled)
+    → is_wide_word (get_or (constant_words at c) 0 0) ≡ is_wide c
+wide_by_word at (constant.Utf8 bytes) = narrow (1 + 2 ^ 16 * length bytes + 2 ^ 32 * at)
+    (λ e. omega arith) (λ e. omega arith)
+wide_by_word at (constant.Integer bits) = narrow (3 + 2 ^ 32 * bits) (λ e. omega arith)
+    (λ e. omega arith)
+wide_by_word at (constant.Float bits) = narrow (4 + 2 ^ 32 * bits) (λ e. omega arith)
+    (λ e. omega arith)
 wide_by_word at (constant.Long bits) = refl
 wide_by_word at (constant.Double bits) = refl
-wide_by_word at (constant.Class name) = narrow (7 + 2 ^ 32 * name) (λ e. omega arith) (λ e. omega arith)
-wide_by_word at (constant.String text) = narrow (8 + 2 ^ 32 * text) (λ e. omega arith) (λ e. omega arith)
-wide_by_word at (constant.Fieldref a b) = narrow (9 + 2 ^ 32 * a + 2 ^ 48 * b) (λ e. omega arith) (λ e. omega arith)
-wide_by_word at (constant.Methodref a b) = narrow (10 + 2 ^ 32 * a + 2 ^ 48 * b) (λ e. omega arith) (λ e. omega arith)
-wide_by_word at (constant.InterfaceMethodref a b) = narrow (11 + 2 ^ 32 * a + 2 ^ 48 * b) (λ e. omega arith) (λ e. omega arith)
-wide_by_word at (constant.NameAndType a b) = narrow (12 + 2 ^ 32 * a + 2 ^ 48 * b) (λ e. omega arith) (λ e. omega arith)
-wide_by_word at (constant.MethodHandle a b) = narrow (15 + 2 ^ 32 * a + 2 ^ 48 * b) (λ e. omega arith) (λ e. omega arith)
-wide_by_word at (constant.MethodType descriptor) = narrow (16 + 2 ^ 32 * descriptor) (λ e. omega arith) (λ e. omega arith)
-wide_by_word at (constant.InvokeDynamic a b) = narrow (18 + 2 ^ 32 * a + 2 ^ 48 * b) (λ e. omega arith) (λ e. omega arith)
+wide_by_word at (constant.Class name) = narrow (7 + 2 ^ 32 * name) (λ e. omega arith)
+    (λ e. omega arith)
+wide_by_word at (constant.String text) = narrow (8 + 2 ^ 32 * text) (λ e. omega arith)
+    (λ e. omega arith)
+wide_by_word at (constant.Fieldref a b) = narrow (9 + 2 ^ 32 * a + 2 ^ 48 * b)
+    (λ e. omega arith) (λ e. omega arith)
+wide_by_word at (constant.Methodref a b) = narrow (10 + 2 ^ 32 * a + 2 ^ 48 * b)
+    (λ e. omega arith) (λ e. omega arith)
+wide_by_word at (constant.InterfaceMethodref a b) = narrow (11 + 2 ^ 32 * a + 2 ^ 48 * b)
+    (λ e. omega arith) (λ e. omega arith)
+wide_by_word at (constant.NameAndType a b) = narrow (12 + 2 ^ 32 * a + 2 ^ 48 * b)
+    (λ e. omega arith) (λ e. omega arith)
+wide_by_word at (constant.MethodHandle a b) = narrow (15 + 2 ^ 32 * a + 2 ^ 48 * b)
+    (λ e. omega arith) (λ e. omega arith)
+wide_by_word at (constant.MethodType descriptor) = narrow (16 + 2 ^ 32 * descriptor)
+    (λ e. omega arith) (λ e. omega arith)
+wide_by_word at (constant.InvokeDynamic a b) = narrow (18 + 2 ^ 32 * a + 2 ^ 48 * b)
+    (λ e. omega arith) (λ e. omega arith)
 
 -- ---- where the words of a slot stand
 
@@ -91,7 +115,8 @@ abbrev behind : Bool → ℕ → List ℕ → List ℕ
 behind true bits words = bits ∷ words
 behind false bits words = words
 
-words_in_front : (at : ℕ) (c : Spelled) (words : List ℕ) → constant_words at c ++ words ≡ get_or (constant_words at c) 0 0 ∷ behind (is_wide c) (get_or (constant_words at c) 1 0) words
+words_in_front : (at : ℕ) (c : Spelled) (words : List ℕ)
+    → constant_words at c ++ words ≡ get_or (constant_words at c) 0 0 ∷ behind (is_wide c) (get_or (constant_words at c) 1 0) words
 words_in_front at (constant.Utf8 bytes) words = refl
 words_in_front at (constant.Integer bits) words = refl
 words_in_front at (constant.Float bits) words = refl
@@ -107,9 +132,11 @@ words_in_front at (constant.MethodHandle a b) words = refl
 words_in_front at (constant.MethodType descriptor) words = refl
 words_in_front at (constant.InvokeDynamic a b) words = refl
 
--- the words of a usable slot begin at its place, and its run begins behind those of the slots before it
+-- the words of a usable slot begin at its place, and its run begins behind those of the slots
+-- before it
 pub slot_words : (second : Bool) (bits at : ℕ) (slots : List Slot) (tail : List ℕ) (i : ℕ) (c : Spelled) → SlotsFit second slots → slice_get slots i ≡ Some (Usable c)
-    → (rest : List ℕ) × (drop i (behind second bits (directory at slots ++ tail)) ≡ constant_words (at + length (utf8_runs (take i slots))) c ++ rest)
+    → (rest : List ℕ)
+    × (drop i (behind second bits (directory at slots ++ tail)) ≡ constant_words (at + length (utf8_runs (take i slots))) c ++ rest)
 slot_words second bits at [] tail i c fits e = absurd (cc)
 slot_words true bits at (Unusable ∷ slots) tail zero c fits e = absurd (cc)
 slot_words true bits at (Unusable ∷ slots) tail (suc i) c fits e = slot_words false 0 at slots tail i c fits e
@@ -125,7 +152,8 @@ slot_words false bits at (Usable d ∷ slots) tail (suc i) c fits e =
     let place : next + length (utf8_runs (take i slots)) ≡ at + length (constant_run d ++ utf8_runs (take i slots)) = omega (arith, length-append (constant_run d) (utf8_runs (take i slots))) in
     (more.0, ap (drop (suc i)) (append_assoc (constant_words at d) (directory next slots) tail ∙ words_in_front at d (directory next slots ++ tail)) ∙ (more.1 ∙ ap (λ n. constant_words n c ++ more.0) place))
 
-pub fits_at : (second : Bool) (slots : List Slot) (i : ℕ) (c : Spelled) → SlotsFit second slots → slice_get slots i ≡ Some (Usable c) → ConstantFits c
+pub fits_at : (second : Bool) (slots : List Slot) (i : ℕ) (c : Spelled) → SlotsFit second slots
+    → slice_get slots i ≡ Some (Usable c) → ConstantFits c
 fits_at second [] i c fits e = absurd (cc)
 fits_at true (Unusable ∷ slots) zero c fits e = absurd (cc)
 fits_at true (Unusable ∷ slots) (suc i) c fits e = fits_at false slots i c fits e
@@ -144,14 +172,16 @@ abbrev is_wide_slot : Slot → Bool
 is_wide_slot Unusable = false
 is_wide_slot (Usable c) = is_wide c
 
-first_slot : (second : Bool) (slots : List Slot) (s : Slot) → SlotsFit second slots → slice_get slots 0 ≡ Some s → is_unusable s ≡ second
+first_slot : (second : Bool) (slots : List Slot) (s : Slot) → SlotsFit second slots
+    → slice_get slots 0 ≡ Some s → is_unusable s ≡ second
 first_slot second [] s fits e = absurd (cc)
 first_slot true (Unusable ∷ slots) s fits e = let same : Unusable ≡ s = cc in ap is_unusable (sym same)
 first_slot true (Usable d ∷ slots) s fits e = absurd fits
 first_slot false (Unusable ∷ slots) s fits e = absurd fits
 first_slot false (Usable d ∷ slots) s fits e = let same : Usable d ≡ s = cc in ap is_unusable (sym same)
 
-next_slot : (second : Bool) (slots : List Slot) (i : ℕ) (s t : Slot) → SlotsFit second slots → slice_get slots i ≡ Some s → slice_get slots (suc i) ≡ Some t → is_unusable t ≡ is_wide_slot s
+next_slot : (second : Bool) (slots : List Slot) (i : ℕ) (s t : Slot) → SlotsFit second slots
+    → slice_get slots i ≡ Some s → slice_get slots (suc i) ≡ Some t → is_unusable t ≡ is_wide_slot s
 next_slot second [] i s t fits e f = absurd (cc)
 next_slot true (Unusable ∷ slots) zero s t fits e f = let same : Unusable ≡ s = cc in first_slot false slots t fits f ∙ ap is_wide_slot same
 next_slot true (Unusable ∷ slots) (suc i) s t fits e f = next_slot false slots i s t fits e f
@@ -160,7 +190,8 @@ next_slot false (Unusable ∷ slots) i s t fits e f = absurd fits
 next_slot false (Usable d ∷ slots) zero s t fits e f = let same : Usable d ≡ s = cc in first_slot (is_wide d) slots t fits.1 f ∙ ap is_wide_slot same
 next_slot false (Usable d ∷ slots) (suc i) s t fits e f = next_slot (is_wide d) slots i s t fits.1 e f
 
-slot_before : {A : Type 0} (xs : List A) (i : ℕ) (x : A) → slice_get xs (suc i) ≡ Some x → (y : A) × (slice_get xs i ≡ Some y)
+slot_before : {A : Type 0} (xs : List A) (i : ℕ) (x : A) → slice_get xs (suc i) ≡ Some x
+    → (y : A) × (slice_get xs i ≡ Some y)
 slot_before [] i x e = absurd (cc)
 slot_before (y ∷ xs) zero x e = (y, refl)
 slot_before (y ∷ xs) (suc i) x e = slot_before xs i x e
@@ -178,7 +209,8 @@ and_true : (b : Bool) → (b && true) ≡ b
 and_true true = refl
 and_true false = refl
 
-runs_up_to : (slots : List Slot) (i : ℕ) → length (utf8_runs (take i slots)) ≤ length (utf8_runs slots)
+runs_up_to : (slots : List Slot) (i : ℕ)
+    → length (utf8_runs (take i slots)) ≤ length (utf8_runs slots)
 runs_up_to [] zero = omega arith
 runs_up_to [] (suc i) = omega arith
 runs_up_to (s ∷ slots) zero = omega arith
@@ -195,23 +227,31 @@ module _ (c : ClassFile) (spelled : HasSpelling c) where
       → (rest : List ℕ) × (drop k (lay c) ≡ constant_words (words_at i) d ++ rest)
   slot_there i k d ek e =
       let tail = c.interfaces ++ (members (attributes_at c) c.fields ++ (members (methods_at c) c.methods ++ attributes_tail c)) in
-      let found = slot_words false 0 (runs_at c) c.slots tail i d spelled.slots e in
-      (found.0, ap (λ n. drop n (lay c)) ek ∙ (sym (drop-drop i 9 (lay c)) ∙ (ap (drop i) (main_there c spelled) ∙ found.1)))
+      let found = slot_words false 0 (runs_at c) c.slots tail i d spelled.slots e in (
+        found.0,
+        ap
+            (λ n. drop n (lay c)) ek ∙ (sym (drop-drop i 9 (lay c)) ∙ (ap (drop i) (main_there c spelled) ∙ found.1)),
+      )
 
-  slot_word : (i k : ℕ) (d : Spelled) → k ≡ 9 + i → slice_get c.slots i ≡ Some (Usable d) → get_or (lay c) k 0 ≡ get_or (constant_words (words_at i) d) 0 0
+  slot_word : (i k : ℕ) (d : Spelled) → k ≡ 9 + i → slice_get c.slots i ≡ Some (Usable d)
+      → get_or (lay c) k 0 ≡ get_or (constant_words (words_at i) d) 0 0
   slot_word i k d ek e =
       let found = slot_there i k d ek e in
       let here : k ≡ k + 0 = omega arith in
-      ap (λ n. get_or (lay c) n 0) here ∙ (sym (get_or-drop k (lay c) 0 0) ∙ (ap (λ w. get_or w 0 0) (found.1 ∙ words_in_front (words_at i) d found.0)))
+      ap (λ n. get_or (lay c) n 0) here ∙ (sym (get_or-drop k (lay c) 0 0) ∙ (ap
+      (λ w. get_or w 0 0) (found.1 ∙ words_in_front (words_at i) d found.0)))
 
   -- the word of a slot says whether the next slot is its second
-  word_says : (i k : ℕ) (t : Slot) → k ≡ 9 + i → slice_get c.slots i ≡ Some t → is_second_word (lay c) k ≡ is_unusable t
+  word_says : (i k : ℕ) (t : Slot) → k ≡ 9 + i → slice_get c.slots i ≡ Some t
+      → is_second_word (lay c) k ≡ is_unusable t
       → (is_wide_word (get_or (lay c) k 0) && not (is_second_word (lay c) k)) ≡ is_wide_slot t
-  word_says i k Unusable ek there ih = ap (λ b. is_wide_word (get_or (lay c) k 0) && not b) ih ∙ and_false (is_wide_word (get_or (lay c) k 0))
+  word_says i k Unusable ek there ih = ap
+      (λ b. is_wide_word (get_or (lay c) k 0) && not b) ih ∙ and_false (is_wide_word (get_or (lay c) k 0))
   word_says i k (Usable d) ek there ih =
       ap (λ b. is_wide_word (get_or (lay c) k 0) && not b) ih ∙ (and_true (is_wide_word (get_or (lay c) k 0)) ∙ (ap is_wide_word (slot_word i k d ek there) ∙ wide_by_word (words_at i) d))
 
-  pub second_is : (i k : ℕ) (s : Slot) → k ≡ 9 + i → slice_get c.slots i ≡ Some s → is_second_word (lay c) k ≡ is_unusable s
+  pub second_is : (i k : ℕ) (s : Slot) → k ≡ 9 + i → slice_get c.slots i ≡ Some s
+      → is_second_word (lay c) k ≡ is_unusable s
   second_is i zero s ek e = absurd (omega arith)
   second_is zero (suc k) s ek e =
       let same : k ≡ 8 = omega arith in
@@ -229,7 +269,8 @@ module _ (c : ClassFile) (spelled : HasSpelling c) where
     pub word_place_small : (i : ℕ) → words_at i < 2 ^ 29
     word_place_small i = omega (arith, runs_up_to c.slots i, lay_len c spelled, short)
 
-    kept_at : (i k : ℕ) (d : Spelled) → k ≡ 9 + i → slice_get c.slots i ≡ Some (Usable d) → word_kept (get_or (lay c) k 0) (get_or (lay c) (k + 1) 0) ≡ Some (kept_constant (words_at i) d)
+    kept_at : (i k : ℕ) (d : Spelled) → k ≡ 9 + i → slice_get c.slots i ≡ Some (Usable d)
+        → word_kept (get_or (lay c) k 0) (get_or (lay c) (k + 1) 0) ≡ Some (kept_constant (words_at i) d)
     kept_at i k d ek e =
         let found = slot_there i k d ek e in
         let words = constant_words (words_at i) d ++ found.0 in
@@ -249,7 +290,8 @@ module _ (c : ClassFile) (spelled : HasSpelling c) where
         let some : (suc i == 0) ≡ false = ne_eqb (suc i) 0 (λ e. omega arith) in
         elim (leb_tells (length c.slots) i) [
           | inl h ↦ let past = h.1 in let beyond : nat_le (first_of (get_or (lay c) 2 0)) (suc i) ≡ true = le-leb (first_of (get_or (lay c) 2 0)) (suc i) (omega (arith, count)) in
-              rw (some, beyond) (ap (λ o. option_map (kept_constant (utf8_at c (suc i))) (option_and_then constant_in o)) (sym (slice_get_past c.slots i past)))
+              rw (some, beyond) (ap
+              (λ o. option_map (kept_constant (utf8_at c (suc i))) (option_and_then constant_in o)) (sym (slice_get_past c.slots i past)))
           | inr h ↦ let within = h.1 in let inside : nat_le (first_of (get_or (lay c) 2 0)) (suc i) ≡ false = lt-leb (first_of (get_or (lay c) 2 0)) (suc i) (omega (arith, count)) in
               let s = slot_in c.slots i within in
               let place : suc i - 1 ≡ i = omega arith in
@@ -257,5 +299,6 @@ module _ (c : ClassFile) (spelled : HasSpelling c) where
               rw (some, inside) (
               let next : 9 + suc i ≡ 8 + suc i + 1 = omega arith in
               ap (λ n. if is_second_word (lay c) (8 + suc i) then None else word_kept (get_or (lay c) (8 + suc i) 0) (get_or (lay c) n 0)) next
-              ∙ (slot_found i (8 + suc i) s.0 k s.1 ∙ (ap (λ o. option_map (kept_constant (words_at i)) (option_and_then constant_in o)) (sym s.1) ∙ ap (λ n. option_map (kept_constant (words_at n)) (constant_named c (suc i))) (sym place))))
+              ∙ (slot_found i (8 + suc i) s.0 k s.1 ∙ (ap
+              (λ o. option_map (kept_constant (words_at i)) (option_and_then constant_in o)) (sym s.1) ∙ ap (λ n. option_map (kept_constant (words_at n)) (constant_named c (suc i))) (sym place))))
         ]

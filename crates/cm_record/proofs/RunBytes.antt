@@ -1,5 +1,7 @@
 -- The bytes of a run, one by one.
-use Rattle.std.proofs.Common.{◌≡◌, ◌<◌, ◌≤◌, ◌+◌, ◌*◌, ◌/◌, ◌%◌, ℕ, zero, suc, List, length, drop, get_or, refl, sym, ◌∙◌, ap, arith, length-drop, drop-drop, get_or-take, get_or-drop}
+use Rattle.std.proofs.Common.{◌≡◌, ◌<◌, ◌≤◌, ◌+◌, ◌*◌, ◌/◌, ◌%◌, ℕ, zero, suc, List, length, drop}
+use Rattle.std.proofs.Common.{get_or, refl, sym, ◌∙◌, ap, arith, length-drop, drop-drop}
+use Rattle.std.proofs.Common.{get_or-take, get_or-drop}
 use Rattle.std.proofs.lemmas.List.{get_or_append_left}
 use Rattle.cm_class.specs.Spelling.{AreBytes}
 use Rattle.cm_record_layout.specs.Packing.{bytes_of, word_from, packed_into, packed, run_words}
@@ -8,26 +10,33 @@ use Rattle.cm_record_layout.proofs.Packed.{packed_len}
 use Rattle.cm_record_layout.proofs.Runs.{byte_at, bytes_from, front_back}
 use Rattle.cm_record.proofs.RunPlaces.{run_words_there}
 
-packed_at : (n k : ℕ) (bytes : List ℕ) → k < n → get_or (packed_into n bytes) k 0 ≡ word_from (drop (8 * k) bytes)
+packed_at : (n k : ℕ) (bytes : List ℕ) → k < n
+    → get_or (packed_into n bytes) k 0 ≡ word_from (drop (8 * k) bytes)
 packed_at zero k bytes h = absurd (omega arith)
 packed_at (suc n) zero bytes h = refl
 packed_at (suc n) (suc k) bytes h =
     let more : 8 + 8 * k ≡ 8 * suc k = omega arith in
-    packed_at n k (drop 8 bytes) (omega arith) ∙ ap word_from (drop-drop (8 * k) 8 bytes ∙ ap (λ m. drop m bytes) more)
+    packed_at n k (drop 8 bytes) (omega arith) ∙ ap word_from (drop-drop (8 * k) 8 bytes ∙ ap
+    (λ m. drop m bytes) more)
 
-word_byte : (xs : List ℕ) → AreBytes xs → (j : ℕ) → j < 8 → j < length xs → get_or (bytes_of (word_from xs)) j 0 ≡ get_or xs j 0
+word_byte : (xs : List ℕ) → AreBytes xs → (j : ℕ) → j < 8 → j < length xs
+    → get_or (bytes_of (word_from xs)) j 0 ≡ get_or xs j 0
 word_byte xs are j lt within =
-    sym (get_or-take (length xs) (bytes_of (word_from xs)) j 0 within) ∙ (ap (λ l. get_or l j 0) (front_back xs are) ∙ get_or-take 8 xs j 0 lt)
+    sym (get_or-take (length xs) (bytes_of (word_from xs)) j 0 within) ∙ (ap
+    (λ l. get_or l j 0) (front_back xs are) ∙ get_or-take 8 xs j 0 lt)
 
 drop_fits : (n : ℕ) (bytes : List ℕ) → AreBytes bytes → AreBytes (drop n bytes)
-drop_fits n bytes are = bytes_from (drop n bytes) (λ i lt. omega (arith, get_or-drop n bytes i 0, byte_at bytes are (n + i)))
+drop_fits n bytes are = bytes_from (drop n bytes)
+    (λ i lt. omega (arith, get_or-drop n bytes i 0, byte_at bytes are (n + i)))
 
 -- a run ends where its words do
-pub run_fits : (words : List ℕ) (run : ℕ × ℕ) (bytes : List ℕ) → IsRunOf words run bytes → 8 * run.0 + run.1 ≤ 8 * length words
+pub run_fits : (words : List ℕ) (run : ℕ × ℕ) (bytes : List ℕ) → IsRunOf words run bytes
+    → 8 * run.0 + run.1 ≤ 8 * length words
 run_fits words run bytes is = omega (arith, (run_words_there words run bytes is).0, length-drop run.0 words, is.within)
 
 -- byte i of a run
-pub byte_there : (words : List ℕ) (run : ℕ × ℕ) (bytes : List ℕ) → IsRunOf words run bytes → (i : ℕ) → i < run.1
+pub byte_there : (words : List ℕ) (run : ℕ × ℕ) (bytes : List ℕ) → IsRunOf words run bytes
+    → (i : ℕ) → i < run.1
     → get_or (bytes_of (get_or words (run.0 + i / 8) 0)) (i % 8) 0 ≡ get_or bytes i 0
 byte_there words run bytes is i lt =
     let k = i / 8 in
@@ -36,7 +45,8 @@ byte_there words run bytes is i lt =
     let size = packed_len bytes in
     let inside : k < length (packed bytes) = omega (arith, size, is.count) in
     let word : get_or words (run.0 + k) 0 ≡ word_from (drop (8 * k) bytes) =
-    sym (get_or-drop run.0 words k 0) ∙ (ap (λ w. get_or w k 0) is.split ∙ (get_or_append_left (packed bytes) is.rest 0 k inside ∙ packed_at (run_words (length bytes)) k bytes (omega (arith, size)))) in
+    sym (get_or-drop run.0 words k 0) ∙ (ap
+    (λ w. get_or w k 0) is.split ∙ (get_or_append_left (packed bytes) is.rest 0 k inside ∙ packed_at (run_words (length bytes)) k bytes (omega (arith, size)))) in
     ap (λ w. get_or (bytes_of w) j 0) word
     ∙ (word_byte (drop (8 * k) bytes) (drop_fits (8 * k) bytes is.fits) j (omega arith) (omega (arith, length-drop (8 * k) bytes, is.count, whole))
     ∙ (get_or-drop (8 * k) bytes j 0 ∙ ap (λ n. get_or bytes n 0) whole))

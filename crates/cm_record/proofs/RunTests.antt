@@ -1,5 +1,7 @@
 -- Runs compared with bytes, and Utf8 with names.
-use Rattle.std.proofs.Common.{◌≡◌, ◌<◌, ◌≤◌, ◌-◌, ◌*◌, ◌/◌, ℕ, Bool, true, false, List, [], ◌∷◌, length, take, drop, get_or, min, Option, Some, None, refl, sym, ◌∙◌, ap, subst, arith}
+use Rattle.std.proofs.Common.{◌≡◌, ◌<◌, ◌≤◌, ◌-◌, ◌*◌, ◌/◌, ℕ, Bool, true, false, List, [], ◌∷◌}
+use Rattle.std.proofs.Common.{length, take, drop, get_or, min, Option, Some, None, refl, sym, ◌∙◌}
+use Rattle.std.proofs.Common.{ap, subst, arith}
 use Rattle.std.specs.Prelude.{option_map, ◌&&◌, bytes_eq}
 use Rattle.std.specs.Bool.{Decides}
 use Rattle.std.specs.Option.{option_map_or}
@@ -25,28 +27,33 @@ head_rest : (xs : List ℕ) → 1 ≤ length xs → xs ≡ get_or xs 0 0 ∷ dro
 head_rest [] h = absurd (omega arith)
 head_rest (x ∷ xs) h = refl
 
-module _ (words bytes rest left : List ℕ) (onward : words ≡ packed bytes → rest ≡ packed left) (back : rest ≡ packed left → words ≡ packed bytes) (some : (length left ≡ 0) → ⊥) where
+module _ (words bytes rest left : List ℕ) (onward : words ≡ packed bytes
+    → rest ≡ packed left) (back : rest ≡ packed left
+    → words ≡ packed bytes) (some : (length left ≡ 0) → ⊥) where
   first : packed left ≡ word_from left ∷ packed (drop (min (length left) 8) left)
   first = packed_more left (min (length left) 8) refl (omega (arith, some))
 
   pub too_few_words : length rest < 1 → words ≡ packed bytes → ⊥
   too_few_words few e = omega (arith, ap length (onward e), ap length first)
 
-  pub other_word : (word : ℕ) → word ≡ word_from left → (word ≡ get_or rest 0 0 → ⊥) → words ≡ packed bytes → ⊥
+  pub other_word : (word : ℕ) → word ≡ word_from left → (word ≡ get_or rest 0 0 → ⊥)
+      → words ≡ packed bytes → ⊥
   other_word word is differs e = differs (is ∙ sym (ap (λ w. get_or w 0 0) (onward e ∙ first)))
 
   module _ (left' : List ℕ) (shorter : left' ≡ drop (min (length left) 8) left) where
     pub goes_on : words ≡ packed bytes → take (length rest - 1) (drop 1 rest) ≡ packed left'
     goes_on e = take_rest rest 1 ∙ (ap (drop 1) (onward e ∙ first) ∙ ap packed (sym shorter))
 
-    pub goes_back : (word : ℕ) → 1 ≤ length rest → word ≡ word_from left → word ≡ get_or rest 0 0 → take (length rest - 1) (drop 1 rest) ≡ packed left' → words ≡ packed bytes
+    pub goes_back : (word : ℕ) → 1 ≤ length rest → word ≡ word_from left → word ≡ get_or rest 0 0
+        → take (length rest - 1) (drop 1 rest) ≡ packed left' → words ≡ packed bytes
     goes_back word long is same e =
         let behind : drop 1 rest ≡ packed (drop (min (length left) 8) left) = sym (take_rest rest 1) ∙ (e ∙ ap packed shorter) in
         back (head_rest rest long ∙ ((λ i. (sym same ∙ is) i ∷ behind i) ∙ sym first))
 
 -- ---- which constants are Utf8
 
-no_place : (at : ℕ) (o : Option Spelled) → utf8_place (option_map (kept_constant at) o) ≡ None → option_map_or (is_kind kinds.Utf8) o false ≡ false
+no_place : (at : ℕ) (o : Option Spelled) → utf8_place (option_map (kept_constant at) o) ≡ None
+    → option_map_or (is_kind kinds.Utf8) o false ≡ false
 no_place at None e = refl
 no_place at (Some (constant.Utf8 bytes)) e = absurd (cc)
 no_place at (Some (constant.Integer bits)) e = refl
@@ -63,7 +70,10 @@ no_place at (Some (constant.MethodHandle a b)) e = refl
 no_place at (Some (constant.MethodType descriptor)) e = refl
 no_place at (Some (constant.InvokeDynamic a b)) e = refl
 
-a_place : (at : ℕ) (o : Option Spelled) (run : ℕ × ℕ) → utf8_place (option_map (kept_constant at) o) ≡ Some run → (option_map_or (is_kind kinds.Utf8) o false ≡ true) × (constant_run_place (option_map (kept_constant at) o) ≡ run)
+a_place : (at : ℕ) (o : Option Spelled) (run : ℕ × ℕ)
+    → utf8_place (option_map (kept_constant at) o) ≡ Some run
+    → (option_map_or (is_kind kinds.Utf8) o false ≡ true)
+    × (constant_run_place (option_map (kept_constant at) o) ≡ run)
 a_place at None run e = absurd (cc)
 a_place at (Some (constant.Utf8 bytes)) run e = let same : (8 * at / 8, length bytes) ≡ run = cc in (refl, same)
 a_place at (Some (constant.Integer bits)) run e = absurd (cc)
@@ -88,18 +98,23 @@ same_verdict false false a b = refl
 
 module _ (c : ClassFile) (words : List ℕ) (is : IsRecordOf c words) (index : ℕ) (place : Option (ℕ × ℕ)) (found : place ≡ utf8_place (constant_at_index words index)) where
   kept : utf8_place (constant_kept c index) ≡ place
-  kept = ap utf8_place (sym (ap (λ w. constant_at_index w index) is.laid ∙ constant_is c is.spelled (lay_short c words is) index)) ∙ sym found
+  kept = ap utf8_place (sym (ap
+      (λ w. constant_at_index w index) is.laid ∙ constant_is c is.spelled (lay_short c words is) index)) ∙ sym found
 
   pub no_utf8 : place ≡ None → (bytes : List ℕ) → false ≡ names_utf8 c index bytes
-  no_utf8 none bytes = sym (ap (λ b. b && bytes_eq (utf8 c index) bytes) (no_place (utf8_at c index) (constant_named c index) (kept ∙ none)))
+  no_utf8 none bytes = sym (ap
+      (λ b. b && bytes_eq (utf8 c index) bytes) (no_place (utf8_at c index) (constant_named c index) (kept ∙ none)))
 
   pub utf8_there : (run : ℕ × ℕ) → place ≡ Some run → IsRunOf words run (utf8 c index)
   utf8_there run some =
       let at = a_place (utf8_at c index) (constant_named c index) run (kept ∙ some) in
-      let there : utf8_run words index ≡ run = ap (λ w. utf8_run w index) is.laid ∙ (ap constant_run_place (constant_is c is.spelled (lay_short c words is) index) ∙ at.1) in
-      subst (λ (r : ℕ × ℕ). IsRunOf words r (utf8 c index)) there (subst (λ (w : List ℕ). IsRunOf w (utf8_run w index) (utf8 c index)) (sym is.laid) (utf8_run_is c is.spelled (lay_short c words is) index))
+      let there : utf8_run words index ≡ run = ap
+      (λ w. utf8_run w index) is.laid ∙ (ap constant_run_place (constant_is c is.spelled (lay_short c words is) index) ∙ at.1) in
+      subst (λ (r : ℕ × ℕ). IsRunOf words r (utf8 c index)) there (subst
+      (λ (w : List ℕ). IsRunOf w (utf8_run w index) (utf8 c index)) (sym is.laid) (utf8_run_is c is.spelled (lay_short c words is) index))
 
-  pub utf8_compared : (run : ℕ × ℕ) → place ≡ Some run → (bytes : List ℕ) (result : Bool) → Decides result (utf8 c index ≡ bytes) → result ≡ names_utf8 c index bytes
+  pub utf8_compared : (run : ℕ × ℕ) → place ≡ Some run → (bytes : List ℕ) (result : Bool)
+      → Decides result (utf8 c index ≡ bytes) → result ≡ names_utf8 c index bytes
   utf8_compared run some bytes result decides =
       let at = a_place (utf8_at c index) (constant_named c index) run (kept ∙ some) in
       same_verdict result (bytes_eq (utf8 c index) bytes) decides (bytes_eq-Decides (utf8 c index) bytes) ∙ sym (ap (λ b. b && bytes_eq (utf8 c index) bytes) at.0)

@@ -1,12 +1,14 @@
 -- Where the code of a method lies in its record (JVMS 4.7.3).
-use Rattle.std.specs.Prelude.{◌≡◌, ℕ, ◌+◌, ◌*◌, ◌^◌, ◌<◌, true, false, List, [], ◌∷◌, ◌++◌, length, take, get_or, slice_get, Option, Some, None, nat_lt, if◌then◌else◌}
+use Rattle.std.specs.Prelude.{◌≡◌, ℕ, ◌+◌, ◌*◌, ◌^◌, ◌<◌, true, false, List, [], ◌∷◌, ◌++◌, length}
+use Rattle.std.specs.Prelude.{take, get_or, slice_get, Option, Some, None, nat_lt, if◌then◌else◌}
 use Rattle.cm_class.specs.declared.class_file.Attribute.{Attribute}
 use Rattle.cm_class.specs.declared.class_file.Member.{Member as ClassMember}
 use Rattle.cm_class.specs.declared.class_file.ClassFile.{ClassFile}
 use Rattle.cm_class.specs.Names.{names_utf8}
 use Rattle.cm_record.specs.declared.member.Member.{Member}
 use Rattle.cm_record.specs.declared.code.Code.{Code}
-use Rattle.cm_record_layout.specs.Layout.{member_attributes, attribute_runs, attributes_at, attribute_runs_at}
+use Rattle.cm_record_layout.specs.Layout.{member_attributes, attribute_runs, attributes_at}
+use Rattle.cm_record_layout.specs.Layout.{attribute_runs_at}
 
 -- `Code`
 abbrev pub code_name : List ℕ
@@ -19,8 +21,8 @@ u2_at bytes i = 2 ^ 8 * get_or bytes i 0 + get_or bytes (i + 1) 0
 abbrev pub u4_at : List ℕ → ℕ → ℕ
 u4_at bytes i = 2 ^ 16 * u2_at bytes i + u2_at bytes (i + 2)
 
--- Max stack, max locals, the length of the code and the code, the number of handlers and eight bytes each; none where
--- the bytes end before. They begin at the byte `at` of the record.
+-- Max stack, max locals, the length of the code and the code, the number of handlers and eight
+-- bytes each; none where the bytes end before. They begin at the byte `at` of the record.
 abbrev pub code_in : ℕ → List ℕ → Option Code
 code_in at bytes =
     if nat_lt (length bytes) 8 then None
@@ -53,8 +55,11 @@ pub record HasCode (c : ClassFile) (m : Member) (own : ClassMember) (j : ℕ) (a
   pub method : slice_get c.methods m.index ≡ Some own
   pub there : slice_get own.attributes j ≡ Some a
   pub named : names_utf8 c a.name code_name ≡ true
-  pub first : (k : ℕ) (b : Attribute) → k < j → slice_get own.attributes k ≡ Some b → names_utf8 c b.name code_name ≡ false
+  pub first : (k : ℕ) (b : Attribute) → k < j → slice_get own.attributes k ≡ Some b
+      → names_utf8 c b.name code_name ≡ false
 
 -- m names no method, or one without a Code
 abbrev pub HasNoCode : ClassFile → Member → Type 0
-HasNoCode c m = (own : ClassMember) (j : ℕ) (a : Attribute) → m.is_method ≡ true → slice_get c.methods m.index ≡ Some own → slice_get own.attributes j ≡ Some a → names_utf8 c a.name code_name ≡ false
+HasNoCode c m = (own : ClassMember) (j : ℕ) (a : Attribute) → m.is_method ≡ true
+    → slice_get c.methods m.index ≡ Some own → slice_get own.attributes j ≡ Some a
+    → names_utf8 c a.name code_name ≡ false

@@ -1,5 +1,7 @@
 -- The constants of a pool, as a record keeps them.
-use Rattle.std.specs.Prelude.{ℕ, zero, suc, ◌+◌, ◌-◌, ◌*◌, ◌/◌, ◌%◌, ◌^◌, Bool, false, not, ◌&&◌, ◌||◌, List, length, take, get_or, Option, Some, None, option_map, nat_le, ◌==◌, if◌then◌else◌}
+use Rattle.std.specs.Prelude.{ℕ, zero, suc, ◌+◌, ◌-◌, ◌*◌, ◌/◌, ◌%◌, ◌^◌, Bool, false, not, ◌&&◌}
+use Rattle.std.specs.Prelude.{◌||◌, List, length, take, get_or, Option, Some, None, option_map}
+use Rattle.std.specs.Prelude.{nat_le, ◌==◌, if◌then◌else◌}
 use Rattle.cm_class.specs.declared.constant.Constant.{Constant as Spelled}
 use Rattle.cm_class.specs.declared.constant.Constant.TheVariants as constant
 use Rattle.cm_class.specs.declared.class_file.ClassFile.{ClassFile}
@@ -9,7 +11,8 @@ use Rattle.cm_record.specs.declared.constant.Constant.TheVariants as kept
 use Rattle.cm_record_layout.specs.Layout.{utf8_runs, runs_at}
 use Rattle.cm_record_layout.specs.Packing.{first_of, second_of, third_of, fourth_of, upper_of}
 
--- a constant, whose run begins at the word `at`: a Utf8 by where its bytes lie, any other by its numbers
+-- a constant, whose run begins at the word `at`: a Utf8 by where its bytes lie, any other by its
+-- numbers
 abbrev pub kept_constant : ℕ → Spelled → Constant
 kept_constant at (constant.Utf8 bytes) = kept.Utf8 (8 * at) (length bytes)
 kept_constant at (constant.Integer bits) = kept.Integer bits
@@ -30,8 +33,8 @@ kept_constant at (constant.InvokeDynamic bootstrap_method name_and_type) = kept.
 abbrev pub utf8_at : ClassFile → ℕ → ℕ
 utf8_at c index = runs_at c + length (utf8_runs (take (index - 1) c.slots))
 
--- the constant at an index of the class's pool, as its record keeps it; none at 0, at the second index of a Long or a
--- Double, and behind the pool
+-- the constant at an index of the class's pool, as its record keeps it; none at 0, at the second
+-- index of a Long or a Double, and behind the pool
 abbrev pub constant_kept : ClassFile → ℕ → Option Constant
 constant_kept c index = option_map (kept_constant (utf8_at c index)) (constant_named c index)
 
@@ -41,8 +44,8 @@ constant_kept c index = option_map (kept_constant (utf8_at c index)) (constant_n
 abbrev pub is_wide_word : ℕ → Bool
 is_wide_word word = (word == 5) || (word == 6)
 
--- Word k is the second of a Long or a Double, where word 0 isn't: the word before it is that of one, and isn't the
--- second of another.
+-- Word k is the second of a Long or a Double, where word 0 isn't: the word before it is that of
+-- one, and isn't the second of another.
 abbrev pub is_second_word : List ℕ → ℕ → Bool
 is_second_word words zero = false
 is_second_word words (suc k) = is_wide_word (get_or words k 0) && not (is_second_word words k)

@@ -1,5 +1,6 @@
 -- Fields and methods, found by name and descriptor.
-use Rattle.std.specs.Prelude.{◌≡◌, ℕ, ◌<◌, Bool, true, false, ◌&&◌, List, length, slice_get, Option, Some, None}
+use Rattle.std.specs.Prelude.{◌≡◌, ℕ, ◌<◌, Bool, true, false, ◌&&◌, List, length, slice_get, Option}
+use Rattle.std.specs.Prelude.{Some, None}
 use Rattle.cm_class.specs.declared.class_file.Member.{Member as ClassMember}
 use Rattle.cm_class.specs.declared.class_file.ClassFile.{ClassFile}
 use Rattle.cm_class.specs.Names.{names_utf8}
@@ -25,11 +26,14 @@ pub record IsLeastMember (c : ClassFile) (all : List ClassMember) (is_method : B
   pub own : ClassMember
   pub there : slice_get all m.index ≡ Some own
   pub has : has_both c name descriptor own ≡ true
-  pub first : (k : ℕ) (other : ClassMember) → k < m.index → slice_get all k ≡ Some other → has_both c name descriptor other ≡ false
+  pub first : (k : ℕ) (other : ClassMember) → k < m.index → slice_get all k ≡ Some other
+      → has_both c name descriptor other ≡ false
   pub flags : m.flags ≡ own.flags
   pub attributes : m.attributes ≡ length own.attributes
 
 -- what is found among these members: none only where no one has the name and the descriptor
-abbrev pub FindsMember : ClassFile → List ClassMember → Bool → List ℕ → List ℕ → Option Member → Type 0
-FindsMember c all is_method name descriptor None = (k : ℕ) (other : ClassMember) → slice_get all k ≡ Some other → has_both c name descriptor other ≡ false
+abbrev pub FindsMember : ClassFile → List ClassMember → Bool → List ℕ → List ℕ → Option Member
+    → Type 0
+FindsMember c all is_method name descriptor None = (k : ℕ) (other : ClassMember)
+    → slice_get all k ≡ Some other → has_both c name descriptor other ≡ false
 FindsMember c all is_method name descriptor (Some m) = IsLeastMember c all is_method name descriptor m

@@ -1,9 +1,11 @@
 //! The code of a method, found among the words of a record.
-ghost use Rattle.std.specs.Prelude.{◌≡◌, ◌≤◌, ◌<◌, ◌+◌, ◌*◌, ◌/◌, ◌%◌, ◌^◌, ℕ, List, Some, slice_get, false, length, get_or, IsNone, IfSome};
+ghost use Rattle.std.specs.Prelude.{◌≡◌, ◌≤◌, ◌<◌, ◌+◌, ◌*◌, ◌/◌, ◌%◌, ◌^◌, ℕ, List, Some};
+ghost use Rattle.std.specs.Prelude.{slice_get, false, length, get_or, IsNone, IfSome};
 ghost use Rattle.cm_class.specs.declared.class_file.ClassFile.{ClassFile};
 ghost use Rattle.cm_class.specs.declared.class_file.Member.{Member as ClassMember};
 ghost use Rattle.cm_class.specs.Names.{names_utf8};
-ghost use Rattle.cm_record_layout.specs.Packing.{bytes_of as word_bytes_of, first_of, third_of, upper_of};
+ghost use Rattle.cm_record_layout.specs.Packing.{bytes_of as word_bytes_of, first_of, third_of};
+ghost use Rattle.cm_record_layout.specs.Packing.{upper_of};
 ghost use Rattle.cm_record_layout.specs.Layout.{IsRecord, IsRecordOf, limit};
 ghost use Rattle.cm_record.specs.Runs.{IsRunOf, HasRun};
 ghost use Rattle.cm_record.specs.Members.{IsFirst};
@@ -12,8 +14,8 @@ ghost use Rattle.cm_record.specs.Code.{code_name, code_in, u2_at, u4_at, attribu
 use crate::utf8::is_utf8_of;
 use cm_record_layout::{bytes_of, first, fourth, second, upper};
 
-/// Where the code of a method lies (JVMS 4.7.3). Places count bytes from the record's first one; a byte is the number
-/// of eight bits there in its word, the lowest first.
+/// Where the code of a method lies (JVMS 4.7.3). Places count bytes from the record's first one; a
+/// byte is the number of eight bits there in its word, the lowest first.
 #[derive(Clone, Copy, Debug, PartialEq, Eq)]
 pub struct Code {
     pub max_stack: u16,
@@ -107,7 +109,8 @@ pub(crate) fn find_code(words: &[u64], at: usize, count: usize) -> Option<usize>
 pub(crate) fn method_attributes(words: &[u64], index: usize) -> (usize, usize)
     requires record { IsRecord words.now }
     requires there { index < third_of (get_or words.now 2 0) }
-    ensures attributes { (c : ClassFile) (own : ClassMember) → IsRecordOf c words.now → slice_get c.methods index ≡ Some own
+    ensures attributes { (c : ClassFile) (own : ClassMember) → IsRecordOf c words.now
+        → slice_get c.methods index ≡ Some own
         → result ≡ (attributes_place c index, length own.attributes) }
     ensures within { result.0 + 2 * result.1 ≤ length words.now }
 {

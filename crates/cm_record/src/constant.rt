@@ -1,14 +1,19 @@
 //! The constants of a record, one look at the directory each.
 ghost use Rattle.std.specs.Prelude.{◌≡◌, ◌≤◌, ◌+◌, length, get_or};
 ghost use Rattle.cm_record_layout.specs.Packing.{first_of};
-ghost use Rattle.cm_record.specs.Constants.{is_wide_word as is_wide_word_of, is_second_word as is_second_word_of, word_kept as word_kept_of, constant_at_index as constant_at_index_of};
+ghost use Rattle.cm_record.specs.Constants.{is_wide_word as is_wide_word_of};
+ghost use Rattle.cm_record.specs.Constants.{is_second_word as is_second_word_of};
+ghost use Rattle.cm_record.specs.Constants.{word_kept as word_kept_of};
+ghost use Rattle.cm_record.specs.Constants.{constant_at_index as constant_at_index_of};
 
 use cm_record_layout::{THIRD, first, fourth, second, third, upper};
 
-/// A constant of the pool (JVMS 4.4), as a record keeps it. Each index is one of the pool, from 1 on.
+/// A constant of the pool (JVMS 4.4), as a record keeps it. Each index is one of the pool, from 1
+/// on.
 #[derive(Clone, Copy, Debug, PartialEq, Eq)]
 pub enum Constant {
-    /// Tag 1: where its bytes begin, counted in bytes from the record's first, and how many there are.
+    /// Tag 1: where its bytes begin, counted in bytes from the record's first, and how many there
+    /// are.
     Utf8 {
         at: u32,
         len: u16,
@@ -120,8 +125,8 @@ fn is_wide_word(word: u64) -> bool
     word == 5 || word == 6
 }
 
-/// Whether a word of the directory is the second of a Long or a Double. It goes back over the words that could be
-/// those of Longs and Doubles, and in most classes there is none.
+/// Whether a word of the directory is the second of a Long or a Double. It goes back over the words
+/// that could be those of Longs and Doubles, and in most classes there is none.
 fn is_second_word(words: &[u64], place: usize) -> bool
     requires { place ≤ length words.now }
     ensures { result ≡ is_second_word_of words.now place }

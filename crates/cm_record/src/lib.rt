@@ -1,5 +1,5 @@
-//! Classes as records: rows of words that can lie anywhere in memory or in a file, since all places in
-//! them count from their first word.
+//! Classes as records: rows of words that can lie anywhere in memory or in a file, since all places
+//! in them count from their first word.
 #![tactic(auto)]
 
 mod code;

@@ -1,14 +1,17 @@
 //! The names of a class and of its super class, where they lie in its record.
-ghost use Rattle.std.specs.Prelude.{◌≡◌, ◌≤◌, ◌+◌, ◌↔◌, ℕ, List, length, take, drop, get_or, IfOk, IsTrue};
+ghost use Rattle.std.specs.Prelude.{◌≡◌, ◌≤◌, ◌+◌, ◌↔◌, ℕ, List, length, take, drop, get_or, IfOk};
+ghost use Rattle.std.specs.Prelude.{IsTrue};
 ghost use Rattle.cm_record_layout.specs.Packing.{packed, first_of};
-ghost use Rattle.cm_record.specs.Runs.{IsRunOf, HasRun, utf8_run as utf8_run_of, name_run as name_run_of};
+ghost use Rattle.cm_record.specs.Runs.{IsRunOf, HasRun, utf8_run as utf8_run_of};
+ghost use Rattle.cm_record.specs.Runs.{name_run as name_run_of};
 
 use crate::constant::{Constant, constant_at_index};
 use cm_record_layout::{run_words, words_from};
 use cm_record_reading::{RecordFault, read_run};
 use std::alloc::{AllocError, Global};
 
-/// The word at which the bytes of the Utf8 at an index begin, and how many there are; none where it is no Utf8.
+/// The word at which the bytes of the Utf8 at an index begin, and how many there are; none where it
+/// is no Utf8.
 pub(crate) fn utf8_run(words: &[u64], index: u16) -> (usize, usize)
     requires { 8 + first_of (get_or words.now 2 0) ≤ length words.now }
     ensures { result ≡ utf8_run_of words.now index }
@@ -46,7 +49,8 @@ pub(crate) fn run_bytes(
     run: (usize, usize),
 ) -> Result<Vec<u8>, AllocError>
     requires { HasRun words.now run }
-    ensures { (bytes : List ℕ) → IsRunOf words.now run bytes → IfOk result (λ name. name.items ≡ bytes) }
+    ensures { (bytes : List ℕ) → IsRunOf words.now run bytes → IfOk result
+        (λ name. name.items ≡ bytes) }
 {
     match read_run(alloc, run.1, words_from(words, run.0)) {
         Ok((bytes, _)) => Ok(bytes),
@@ -72,7 +76,8 @@ pub(crate) fn is_same_run(
 ) -> bool
     requires one { HasRun words.now run }
     requires two { HasRun others.now other }
-    ensures { (xs ys : List ℕ) → IsRunOf words.now run xs → IsRunOf others.now other ys → IsTrue result ↔ (xs ≡ ys) }
+    ensures { (xs ys : List ℕ) → IsRunOf words.now run xs → IsRunOf others.now other ys
+        → IsTrue result ↔ (xs ≡ ys) }
 {
     run.1 == other.1 && run_slice(words, run) == run_slice(others, other)
 }

@@ -1,5 +1,6 @@
 //! The record of a class.
-ghost use Rattle.std.specs.Prelude.{◌≡◌, ◌≤◌, ◌<◌, ◌↔◌, ◌+◌, ◌*◌, length, get_or, IfOk, OnOk, IsErrOf, IsTrue, ℕ, None, true, false, option_map};
+ghost use Rattle.std.specs.Prelude.{◌≡◌, ◌≤◌, ◌<◌, ◌↔◌, ◌+◌, ◌*◌, length, get_or, IfOk, OnOk};
+ghost use Rattle.std.specs.Prelude.{IsErrOf, IsTrue, ℕ, None, true, false, option_map};
 ghost use Rattle.cm_record_writing.specs.declared.refusal.RecordRefusal.TheVariants as refusal;
 ghost use Rattle.cm_record_reading.specs.declared.fault.RecordFault.TheVariants as fault;
 ghost use Rattle.cm_class.specs.declared.class_file.ClassFile.{ClassFile};
@@ -64,8 +65,8 @@ impl Record {
         self.words.as_slice()
     }
 
-    /// The record of these words. `NotARecord` comes exactly where no class has them as its record, so `NoMemory`
-    /// is only told of the words of a record.
+    /// The record of these words. `NotARecord` comes exactly where no class has them as its record,
+    /// so `NoMemory` is only told of the words of a record.
     pub fn read(alloc: Global, words: &[u64]) -> Result<Record, RecordFault>
         ensures ok { IfOk result (λ r. r ≡ words.now) }
         ensures laid { OnOk result (IsRecord words.now) }
@@ -107,8 +108,8 @@ impl Record {
         first(self.as_slice()[1])
     }
 
-    /// The constant at an index of the pool, which counts from 1; none at 0, at the second index of a Long or a Double,
-    /// and behind the pool.
+    /// The constant at an index of the pool, which counts from 1; none at 0, at the second index of
+    /// a Long or a Double, and behind the pool.
     pub fn constant(&self, index: u16) -> Option<Constant>
         ensures { (c : ClassFile) → IsRecordOf c self.now → result ≡ constant_kept c index }
     {
@@ -126,9 +127,11 @@ impl Record {
         }
     }
 
-    /// The name of its class: the bytes of the Utf8 that this_class leads to; none where it leads to no Utf8.
+    /// The name of its class: the bytes of the Utf8 that this_class leads to; none where it leads
+    /// to no Utf8.
     pub fn class_name(&self, alloc: Global) -> Result<Vec<u8>, AllocError>
-        ensures { (c : ClassFile) → IsRecordOf c self.now → IfOk result (λ name. name.items ≡ class_name_of c) }
+        ensures { (c : ClassFile) → IsRecordOf c self.now → IfOk result
+            (λ name. name.items ≡ class_name_of c) }
     {
         let words = self.as_slice();
         run_bytes(alloc, words, name_run(words, second(words[1])))
@@ -149,7 +152,8 @@ impl Record {
 
     /// The least field that has this name and this descriptor.
     pub fn field(&self, name: &[u8], descriptor: &[u8]) -> Option<Member>
-        ensures { (c : ClassFile) → IsRecordOf c self.now → FindsMember c c.fields false name.now descriptor.now result }
+        ensures { (c : ClassFile) → IsRecordOf c self.now
+            → FindsMember c c.fields false name.now descriptor.now result }
     {
         let words = self.as_slice();
         let (at, count) = (words[5] as usize, second(words[2]) as usize);
@@ -161,7 +165,8 @@ impl Record {
 
     /// The least method that has this name and this descriptor.
     pub fn method(&self, name: &[u8], descriptor: &[u8]) -> Option<Member>
-        ensures { (c : ClassFile) → IsRecordOf c self.now → FindsMember c c.methods true name.now descriptor.now result }
+        ensures { (c : ClassFile) → IsRecordOf c self.now
+            → FindsMember c c.methods true name.now descriptor.now result }
     {
         let words = self.as_slice();
         let fields = second(words[2]) as usize;
@@ -172,12 +177,15 @@ impl Record {
         Some(member_at(words, at, index, true))
     }
 
-    /// Where the code of a method lies; none of a field, where there is no such method, where it has no attribute Code, and
-    /// where the first one ends before its lengths, its code or its handlers do. It reads the method with that index.
+    /// Where the code of a method lies; none of a field, where there is no such method, where it
+    /// has no attribute Code, and where the first one ends before its lengths, its code or its
+    /// handlers do. It reads the method with that index.
     pub fn code(&self, member: &Member) -> Option<Code>
-        ensures code { (c : ClassFile) (own : ClassMember) (j : ℕ) (a : Attribute) → IsRecordOf c self.now
+        ensures code { (c : ClassFile) (own : ClassMember) (j : ℕ) (a : Attribute)
+            → IsRecordOf c self.now
             → HasCode c member.now own j a → result ≡ code_in (8 * run_place c member.now.index own j) a.bytes }
-        ensures none { (c : ClassFile) → IsRecordOf c self.now → HasNoCode c member.now → result ≡ None }
+        ensures none { (c : ClassFile) → IsRecordOf c self.now → HasNoCode c member.now
+            → result ≡ None }
     {
         if !member.is_method {
             return None;
@@ -205,7 +213,8 @@ impl Record {
 
     /// The order of its class's name and of these bytes.
     pub fn cmp_name_to(&self, name: &[u8]) -> Ordering
-        ensures { (c : ClassFile) → IsRecordOf c self.now → result ≡ slice_cmp nat_cmp (class_name_of c) name.now }
+        ensures { (c : ClassFile) → IsRecordOf c self.now
+            → result ≡ slice_cmp nat_cmp (class_name_of c) name.now }
     {
         let words = self.as_slice();
         cmp_run_to(words, name_run(words, second(words[1])), name)

@@ -1,7 +1,10 @@
 -- A word holds the bytes of a run.
-use Rattle.std.proofs.Common.{◌≡◌, ◌<◌, ◌≤◌, ◌-◌, ℕ, zero, suc, List, [], ◌∷◌, ◌++◌, length, get_or, take, replicate, inl, inr, refl, sym, ◌∙◌, ap, arith}
+use Rattle.std.proofs.Common.{◌≡◌, ◌<◌, ◌≤◌, ◌-◌, ℕ, zero, suc, List, [], ◌∷◌, ◌++◌, length, get_or}
+use Rattle.std.proofs.Common.{take, replicate, inl, inr, refl, sym, ◌∙◌, ap, arith}
 use Rattle.std.specs.Int.{w64, from_le_bytes, to_le_bytes}
-use Rattle.std.proofs.lemmas.List.{length-take, length-append, length-replicate, take_all, take_at, get_or-take, get_or-append_right, get_or_append_left, get_or-replicate, get_or_past, append-nil}
+use Rattle.std.proofs.lemmas.List.{length-take, length-append, length-replicate, take_all, take_at}
+use Rattle.std.proofs.lemmas.List.{get_or-take, get_or-append_right, get_or_append_left}
+use Rattle.std.proofs.lemmas.List.{get_or-replicate, get_or_past, append-nil}
 use Rattle.std.proofs.lemmas.Nat.{le_bytes_8}
 use Rattle.std.proofs.lemmas.Bool.{cases_lt}
 use Rattle.cm_class.specs.Spelling.{AreBytes}
@@ -14,7 +17,8 @@ byte_at [] are i = omega arith
 byte_at (b ∷ bytes) are zero = are.0
 byte_at (b ∷ bytes) are (suc i) = byte_at bytes are.1 i
 
-pub bytes_from : (bytes : List ℕ) → ((i : ℕ) → i < length bytes → get_or bytes i 0 < 256) → AreBytes bytes
+pub bytes_from : (bytes : List ℕ) → ((i : ℕ) → i < length bytes → get_or bytes i 0 < 256)
+    → AreBytes bytes
 bytes_from [] h = tt
 bytes_from (b ∷ bytes) h = (h 0 (omega arith), bytes_from bytes (λ i lt. h (suc i) (omega arith)))
 
@@ -48,7 +52,8 @@ padded_small bytes are i = elim (cases_lt i 8) [
 ]
 
 -- a word holds its bytes
-pub front_back : (bytes : List ℕ) → AreBytes bytes → take (length bytes) (bytes_of (word_from bytes)) ≡ take 8 bytes
+pub front_back : (bytes : List ℕ) → AreBytes bytes
+    → take (length bytes) (bytes_of (word_from bytes)) ≡ take 8 bytes
 unfolding bytes_of padded
 front_back bytes are =
     let same : from_le_bytes w64 (padded bytes) ≡ word_from bytes = word_same (padded bytes) bytes (padded_at bytes) in
@@ -58,7 +63,8 @@ front_back bytes are =
           take_at (take 8 bytes) (replicate (8 - length bytes) 0) (length bytes) (ap length all)
       | inr long ↦
           let none : 8 - length bytes ≡ 0 = omega arith in
-          take_all (length bytes) (padded bytes) (omega (arith, padded_len bytes)) ∙ (ap (λ n. take 8 bytes ++ replicate n 0) none ∙ append-nil (take 8 bytes))
+          take_all (length bytes) (padded bytes) (omega (arith, padded_len bytes)) ∙ (ap
+          (λ n. take 8 bytes ++ replicate n 0) none ∙ append-nil (take 8 bytes))
     ]
 
 -- its first eight bytes make the same word

@@ -1,13 +1,21 @@
 -- Where the sections of a class stand in its record.
-use Rattle.std.proofs.Common.{◌≡◌, ◌≤◌, ◌+◌, ◌*◌, ℕ, List, [], ◌∷◌, ◌++◌, length, get_or, drop, refl, sym, ◌∙◌, ap, subst, arith, append_assoc, length-append}
+use Rattle.std.proofs.Common.{◌≡◌, ◌≤◌, ◌+◌, ◌*◌, ℕ, List, [], ◌∷◌, ◌++◌, length, get_or, drop}
+use Rattle.std.proofs.Common.{refl, sym, ◌∙◌, ap, subst, arith, append_assoc, length-append}
 use Rattle.std.proofs.lemmas.List.{append-nil, drop_at}
 use Rattle.cm_class.specs.declared.class_file.Attribute.{Attribute}
 use Rattle.cm_class.specs.declared.class_file.ClassFile.{ClassFile}
 use Rattle.cm_class.specs.Spelling.{HasSpelling}
 use Rattle.cm_record_layout.specs.Packing.{four_numbers, first_of, second_of, third_of, fourth_of}
-use Rattle.cm_record_layout.specs.Layout.{head, lay, directory, utf8_runs, members, member_attributes, attributes, attribute_runs, all_members, all_attributes, interfaces_at, members_at, attributes_at, runs_at, attribute_runs_at, record_len, limit, IsRecordOf, IsRecord}
-use Rattle.cm_record_layout.proofs.Digits.{first-four_numbers, second-four_numbers, third-four_numbers, fourth-four_numbers}
-use Rattle.cm_record_layout.proofs.Lengths.{attributes_append, attribute_runs_append, members_append, all_runs, attributes_len, members_len, directory_len, lay_len}
+use Rattle.cm_record_layout.specs.Layout.{head, lay, directory, utf8_runs, members}
+use Rattle.cm_record_layout.specs.Layout.{member_attributes, attributes, attribute_runs}
+use Rattle.cm_record_layout.specs.Layout.{all_members, all_attributes, interfaces_at, members_at}
+use Rattle.cm_record_layout.specs.Layout.{attributes_at, runs_at, attribute_runs_at, record_len}
+use Rattle.cm_record_layout.specs.Layout.{limit, IsRecordOf, IsRecord}
+use Rattle.cm_record_layout.proofs.Digits.{first-four_numbers, second-four_numbers}
+use Rattle.cm_record_layout.proofs.Digits.{third-four_numbers, fourth-four_numbers}
+use Rattle.cm_record_layout.proofs.Lengths.{attributes_append, attribute_runs_append}
+use Rattle.cm_record_layout.proofs.Lengths.{members_append, all_runs, attributes_len, members_len}
+use Rattle.cm_record_layout.proofs.Lengths.{directory_len, lay_len}
 
 regroup_tail : (f a b c t : List ℕ) → f ++ (a ++ (b ++ (c ++ t))) ≡ (f ++ (a ++ b ++ c)) ++ t
 regroup_tail f a b c t = simp append_assoc
@@ -61,7 +69,8 @@ module _ (c : ClassFile) where
       let A = attributes (attribute_runs_at c) (all_attributes c) in
       let T = utf8_runs c.slots in
       let R = attribute_runs (all_attributes c) in
-      append_assoc (front ++ A) T R ∙ (append_assoc front A (T ++ R) ∙ ap (λ w. front ++ w) (sym (append_assoc A T R) ∙ tail_joined))
+      append_assoc (front ++ A) T R ∙ (append_assoc front A (T ++ R) ∙ ap
+      (λ w. front ++ w) (sym (append_assoc A T R) ∙ tail_joined))
 
   module _ (spelled : HasSpelling c) where
     front_len : length front ≡ attributes_at c
@@ -102,7 +111,8 @@ module _ (c : ClassFile) where
     pub main_there : drop 9 (lay c) ≡ main_tail
     main_there =
         let d = directory (runs_at c) c.slots in
-        ap (drop 9) lay_split ∙ (ap (λ w. d ++ c.interfaces ++ w ++ attributes_tail) (members_append (attributes_at c) c.fields c.methods)
+        ap (drop 9) lay_split ∙ (ap
+        (λ w. d ++ c.interfaces ++ w ++ attributes_tail) (members_append (attributes_at c) c.fields c.methods)
         ∙ regroup_main d c.interfaces (members (attributes_at c) c.fields) (members methods_at c.methods) attributes_tail)
 
 -- the first words of a record
@@ -173,12 +183,15 @@ module _ (c : ClassFile) where
 pub record_long : (words : List ℕ) → IsRecord words → 9 ≤ length words
 record_long words (d, is) = omega (arith, ap length is.laid, lay_len d is.spelled)
 
-pub flags_read : (c : ClassFile) (words : List ℕ) → IsRecordOf c words → first_of (get_or words 1 0) ≡ c.flags
+pub flags_read : (c : ClassFile) (words : List ℕ) → IsRecordOf c words
+    → first_of (get_or words 1 0) ≡ c.flags
 flags_read c words is = ap (λ w. first_of (get_or w 1 0)) is.laid ∙ flags_there c is.spelled
 
 -- the directory lies within the record
-pub directory_within : (words : List ℕ) → IsRecord words → 8 + first_of (get_or words 2 0) ≤ length words
-directory_within words (d, is) = subst (λ (w : List ℕ). 8 + first_of (get_or w 2 0) ≤ length w) (sym is.laid) (omega (arith, count_there d is.spelled, lay_len d is.spelled))
+pub directory_within : (words : List ℕ) → IsRecord words
+    → 8 + first_of (get_or words 2 0) ≤ length words
+directory_within words (d, is) = subst
+    (λ (w : List ℕ). 8 + first_of (get_or w 2 0) ≤ length w) (sym is.laid) (omega (arith, count_there d is.spelled, lay_len d is.spelled))
 
 -- the layout of a record's class isn't too long
 pub lay_short : (c : ClassFile) (words : List ℕ) → IsRecordOf c words → length (lay c) ≤ limit

@@ -1,5 +1,5 @@
--- The record layout: the words in which a class is kept. Offsets count words from the record's first word.
--- Source: this project's own layout, docs/RECORD.md.
+-- The record layout: the words in which a class is kept. Offsets count words from the record's
+-- first word. Source: this project's own layout, docs/RECORD.md.
 use Rattle.std.specs.Prelude.{◌≡◌, ◌≤◌, ℕ, ◌+◌, ◌*◌, ◌^◌, List, [], ◌∷◌, ◌++◌, length, get_or}
 use Rattle.std.specs.List.{flat_map}
 use Rattle.cm_class.specs.declared.constant.Constant.{Constant}
@@ -19,8 +19,8 @@ abbrev pub constant_run : Constant → List ℕ
 constant_run (constant.Utf8 bytes) = packed bytes
 constant_run _ = []
 
--- A constant's words in the directory, where its run begins at `at`. A Long or a Double takes the word of its
--- second slot too.
+-- A constant's words in the directory, where its run begins at `at`. A Long or a Double takes the
+-- word of its second slot too.
 abbrev pub constant_words : ℕ → Constant → List ℕ
 constant_words at (constant.Utf8 bytes) = (1 + 2 ^ 16 * length bytes + 2 ^ 32 * at) ∷ []
 constant_words at (constant.Integer bits) = (3 + 2 ^ 32 * bits) ∷ []
@@ -46,7 +46,8 @@ abbrev pub slot_run : Slot → List ℕ
 slot_run (Usable c) = constant_run c
 slot_run Unusable = []
 
--- the directory behind slot 0, where the first run begins at `at` and each next one behind the one before
+-- the directory behind slot 0, where the first run begins at `at` and each next one behind the one
+-- before
 abbrev pub directory : ℕ → List Slot → List ℕ
 directory at [] = []
 directory at (Usable c ∷ slots) = constant_words at c ++ directory (at + length (constant_run c)) slots
@@ -105,7 +106,8 @@ attribute_runs_at c = runs_at c + length (utf8_runs c.slots)
 abbrev pub record_len : ClassFile → ℕ
 record_len c = attribute_runs_at c + length (attribute_runs (all_attributes c))
 
--- The first eight words: how many words there are, the numbers and counts, and where each section begins.
+-- The first eight words: how many words there are, the numbers and counts, and where each section
+-- begins.
 abbrev pub head : ClassFile → List ℕ
 head c =
     record_len c
@@ -113,8 +115,8 @@ head c =
     ∷ four_numbers (length c.slots + 1) (length c.fields) (length c.methods) (length c.attributes)
     ∷ 8 ∷ interfaces_at c ∷ members_at c ∷ attributes_at c ∷ runs_at c ∷ []
 
--- Behind the head: the directory, whose slot 0 is 0, the interfaces, the members, the attributes, and the
--- runs, first those of the pool.
+-- Behind the head: the directory, whose slot 0 is 0, the interfaces, the members, the attributes,
+-- and the runs, first those of the pool.
 unfoldable pub lay : ClassFile → List ℕ
 lay c =
     head c

@@ -9,7 +9,8 @@ pub use Rattle.cm_words.specs.Bytes.{word_bytes}
 unfoldable pub word_from : List ℕ → ℕ
 word_from bytes = from_le_bytes w64 bytes
 
--- so many words: byte j is bits 8 * (j mod 8) and up of word j div 8, and what is left of the last word is 0
+-- so many words: byte j is bits 8 * (j mod 8) and up of word j div 8, and what is left of the last
+-- word is 0
 abbrev pub packed_into : ℕ → List ℕ → List ℕ
 packed_into zero bytes = []
 packed_into (suc n) bytes = word_from bytes ∷ packed_into n (drop 8 bytes)

@@ -1,4 +1,5 @@
-//! How a class is laid out as words that can lie anywhere: the definition, and bytes and small numbers in words.
+//! How a class is laid out as words that can lie anywhere: the definition, and bytes and small
+//! numbers in words.
 #![tactic(auto)]
 
 mod directory;

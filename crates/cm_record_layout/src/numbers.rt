@@ -1,6 +1,7 @@
 //! The numbers of 16 and of 32 bits in a word.
 ghost use Rattle.std.specs.Prelude.{◌≡◌};
-ghost use Rattle.cm_record_layout.specs.Packing.{first_of, second_of, third_of, fourth_of, upper_of};
+ghost use Rattle.cm_record_layout.specs.Packing.{first_of, second_of, third_of, fourth_of};
+ghost use Rattle.cm_record_layout.specs.Packing.{upper_of};
 
 use crate::packing::{FOURTH, SECOND, THIRD};
 

@@ -1,6 +1,8 @@
 //! Bytes in words, and small numbers side by side in a word.
 ghost use Rattle.std.specs.Prelude.{◌≡◌, ◌<◌, ℕ, slice_index};
-ghost use Rattle.cm_record_layout.specs.Packing.{word_from, bytes_of as word_bytes_of, run_words as words_of_run, four_numbers as four_numbers_of};
+ghost use Rattle.cm_record_layout.specs.Packing.{word_from, bytes_of as word_bytes_of};
+ghost use Rattle.cm_record_layout.specs.Packing.{run_words as words_of_run};
+ghost use Rattle.cm_record_layout.specs.Packing.{four_numbers as four_numbers_of};
 
 /// The greatest number of words that a record has.
 pub const MAX_WORDS: u64 = 524_288;
@@ -45,7 +47,8 @@ fn first_eight(bytes: &[u8]) -> [u8; 8]
     }
 }
 
-/// The word of the first eight bytes, the first of them lowest. Where there are fewer, the rest is 0.
+/// The word of the first eight bytes, the first of them lowest. Where there are fewer, the rest is
+/// 0.
 pub fn word_of(bytes: &[u8]) -> u64
     ensures { result ≡ word_from bytes.now }
 {

@@ -1,5 +1,6 @@
 -- What was laid out is read again, whatever follows it.
-use Rattle.std.proofs.Common.{◌≡◌, ◌+◌, ◌-◌, ◌*◌, ◌^◌, ℕ, Bool, true, false, List, [], ◌∷◌, ◌++◌, length, Some, refl, ◌∙◌, ap, arith, append_assoc, length-append}
+use Rattle.std.proofs.Common.{◌≡◌, ◌+◌, ◌-◌, ◌*◌, ◌^◌, ℕ, Bool, true, false, List, [], ◌∷◌, ◌++◌}
+use Rattle.std.proofs.Common.{length, Some, refl, ◌∙◌, ap, arith, append_assoc, length-append}
 use Rattle.std.specs.Prelude.{◌==◌, nat_lt}
 use Rattle.std.specs.List.{AllByRecursion}
 use Rattle.std.proofs.lemmas.Bool.{eq-eqb, lt-ltb}
@@ -9,32 +10,48 @@ use Rattle.cm_class.specs.declared.constant.Slot.{Slot}
 use Rattle.cm_class.specs.declared.constant.Slot.TheVariants.{Usable, Unusable}
 use Rattle.cm_class.specs.declared.class_file.Attribute.{Attribute}
 use Rattle.cm_class.specs.declared.class_file.Member.{Member}
-use Rattle.cm_class.specs.Spelling.{is_wide, IsU2, ConstantFits, SlotsFit, AttributeFits, MemberFits}
+use Rattle.cm_class.specs.Spelling.{is_wide, IsU2, ConstantFits, SlotsFit, AttributeFits}
+use Rattle.cm_class.specs.Spelling.{MemberFits}
 use Rattle.cm_record_reading.specs.declared.entry.Entry.{Entry}
 use Rattle.cm_record_reading.specs.declared.entry.Entry.TheVariants as entry
-use Rattle.cm_record_layout.specs.Packing.{four_numbers, first_of, second_of, third_of, fourth_of, upper_of}
-use Rattle.cm_record_layout.specs.Layout.{constant_words, constant_run, directory, utf8_runs, members, member_attributes, attributes, attribute_run, attribute_runs, whole_word}
-use Rattle.cm_record_reading.specs.Reading.{candidate, entry_word, entry_of, constant_at, slots_at, run_at, interfaces_from, attribute_at, attributes_from, member_at, members_from}
-use Rattle.cm_record_layout.proofs.Digits.{first-attribute, upper-attribute, first-four_numbers, second-four_numbers, third-four_numbers, fourth-four_numbers}
-use Rattle.cm_record_reading.proofs.Candidates.{long_back, double_back, utf8_back, integer_back, float_back, class_back, string_back, method_type_back, fieldref_back, methodref_back, interface_methodref_back, name_and_type_back, invoke_dynamic_back, method_handle_back}
+use Rattle.cm_record_layout.specs.Packing.{four_numbers, first_of, second_of, third_of, fourth_of}
+use Rattle.cm_record_layout.specs.Packing.{upper_of}
+use Rattle.cm_record_layout.specs.Layout.{constant_words, constant_run, directory, utf8_runs}
+use Rattle.cm_record_layout.specs.Layout.{members, member_attributes, attributes, attribute_run}
+use Rattle.cm_record_layout.specs.Layout.{attribute_runs, whole_word}
+use Rattle.cm_record_reading.specs.Reading.{candidate, entry_word, entry_of, constant_at, slots_at}
+use Rattle.cm_record_reading.specs.Reading.{run_at, interfaces_from, attribute_at, attributes_from}
+use Rattle.cm_record_reading.specs.Reading.{member_at, members_from}
+use Rattle.cm_record_layout.proofs.Digits.{first-attribute, upper-attribute, first-four_numbers}
+use Rattle.cm_record_layout.proofs.Digits.{second-four_numbers, third-four_numbers}
+use Rattle.cm_record_layout.proofs.Digits.{fourth-four_numbers}
+use Rattle.cm_record_reading.proofs.Candidates.{long_back, double_back, utf8_back, integer_back}
+use Rattle.cm_record_reading.proofs.Candidates.{float_back, class_back, string_back}
+use Rattle.cm_record_reading.proofs.Candidates.{method_type_back, fieldref_back, methodref_back}
+use Rattle.cm_record_reading.proofs.Candidates.{interface_methodref_back, name_and_type_back}
+use Rattle.cm_record_reading.proofs.Candidates.{invoke_dynamic_back, method_handle_back}
 use Rattle.cm_record_reading.proofs.RunsBack.{run_again}
-use Rattle.cm_record_layout.proofs.Lengths.{attributes_append, attribute_runs_append, attributes_len}
+use Rattle.cm_record_layout.proofs.Lengths.{attributes_append, attribute_runs_append}
+use Rattle.cm_record_layout.proofs.Lengths.{attributes_len}
 
 same_number : (n : ℕ) → (n == n) ≡ true
 same_number n = eq-eqb n n refl
 
 -- an entry is found at its word
-entry_found : (at word : ℕ) (e : Entry) → candidate word ≡ Some e → entry_word at e ≡ word → entry_of at word ≡ Some e
+entry_found : (at word : ℕ) (e : Entry) → candidate word ≡ Some e → entry_word at e ≡ word
+    → entry_of at word ≡ Some e
 unfolding entry_of
 entry_found at word e found same = let test : (entry_word at e == word) ≡ true = eq-eqb (entry_word at e) word same in rw (found, test) refl
 
 -- a constant of a word of its own
-whole_again : (total word : ℕ) (c : Constant) (main runs : List ℕ) → candidate word ≡ Some (entry.Whole c) → whole_word c ≡ word
+whole_again : (total word : ℕ) (c : Constant) (main runs : List ℕ)
+    → candidate word ≡ Some (entry.Whole c) → whole_word c ≡ word
     → constant_at total (word ∷ main) runs ≡ Some (c, main, runs)
 unfolding constant_at
 whole_again total word c main runs found same = rw (entry_found (total - length runs) word (entry.Whole c) found same) refl
 
-pub constant_again : (total at : ℕ) (c : Constant) (main runs : List ℕ) → ConstantFits c → at ≡ total - length (constant_run c ++ runs)
+pub constant_again : (total at : ℕ) (c : Constant) (main runs : List ℕ) → ConstantFits c
+    → at ≡ total - length (constant_run c ++ runs)
     → constant_at total (constant_words at c ++ main) (constant_run c ++ runs) ≡ Some (c, main, runs)
 unfolding constant_at
 constant_again total at (constant.Utf8 bytes) main runs fits e =
@@ -58,7 +75,8 @@ constant_again total at (constant.MethodHandle a b) main runs fits e = whole_aga
 constant_again total at (constant.MethodType descriptor) main runs fits e = whole_again total (16 + 2 ^ 32 * descriptor) (constant.MethodType descriptor) main runs (method_type_back descriptor fits) refl
 constant_again total at (constant.InvokeDynamic a b) main runs fits e = whole_again total (18 + 2 ^ 32 * a + 2 ^ 48 * b) (constant.InvokeDynamic a b) main runs (invoke_dynamic_back a b fits.0 fits.1) refl
 
-pub slots_again : (total at : ℕ) (second : Bool) (slots : List Slot) (main runs : List ℕ) → SlotsFit second slots → at + length (utf8_runs slots ++ runs) ≡ total
+pub slots_again : (total at : ℕ) (second : Bool) (slots : List Slot) (main runs : List ℕ)
+    → SlotsFit second slots → at + length (utf8_runs slots ++ runs) ≡ total
     → slots_at total second (length slots) (directory at slots ++ main) (utf8_runs slots ++ runs) ≡ Some (slots, main, runs)
 unfolding slots_at
 slots_again total at true [] main runs fits e = absurd fits
@@ -76,7 +94,8 @@ slots_again total at false (Usable c ∷ slots) main runs fits e =
     let others = slots_again total next (is_wide c) slots main runs fits.1 (omega (arith, e, size)) in
     rw (front, back, one, others) refl
 
-pub interfaces_again : (these main : List ℕ) → AllByRecursion IsU2 these → interfaces_from (length these) (these ++ main) ≡ Some (these, main)
+pub interfaces_again : (these main : List ℕ) → AllByRecursion IsU2 these
+    → interfaces_from (length these) (these ++ main) ≡ Some (these, main)
 unfolding interfaces_from
 interfaces_again [] main fits = refl
 interfaces_again (n ∷ these) main fits =
@@ -85,7 +104,8 @@ interfaces_again (n ∷ these) main fits =
 
 -- ---- attributes and members
 
-pub attribute_again : (total at : ℕ) (a : Attribute) (attrs runs : List ℕ) → AttributeFits a → at ≡ total - length (attribute_run a ++ runs)
+pub attribute_again : (total at : ℕ) (a : Attribute) (attrs runs : List ℕ) → AttributeFits a
+    → at ≡ total - length (attribute_run a ++ runs)
     → attribute_at total ((a.name + 2 ^ 32 * length a.bytes) ∷ at ∷ attrs) (attribute_run a ++ runs) ≡ Some (a, attrs, runs)
 unfolding attribute_at
 attribute_again total at a attrs runs fits e =
@@ -95,7 +115,8 @@ attribute_again total at a attrs runs fits e =
     let here : (at == total - length (attribute_run a ++ runs)) ≡ true = eq-eqb at (total - length (attribute_run a ++ runs)) e in
     rw (name, count, same_number word, here, run_again a.bytes runs fits.bytes) refl
 
-pub attributes_again : (total at : ℕ) (these : List Attribute) (attrs runs : List ℕ) → AllByRecursion AttributeFits these → at + length (attribute_runs these ++ runs) ≡ total
+pub attributes_again : (total at : ℕ) (these : List Attribute) (attrs runs : List ℕ)
+    → AllByRecursion AttributeFits these → at + length (attribute_runs these ++ runs) ≡ total
     → attributes_from total (length these) (attributes at these ++ attrs) (attribute_runs these ++ runs) ≡ Some (these, attrs, runs)
 unfolding attributes_from
 attributes_again total at [] attrs runs fits e = refl
@@ -108,7 +129,8 @@ attributes_again total at (a ∷ these) attrs runs fits e =
     let others = attributes_again total next these attrs runs fits.1 (omega (arith, e, size)) in
     rw (back, one, others) refl
 
-pub member_again : (total at run_at : ℕ) (m : Member) (main attrs runs : List ℕ) → MemberFits m → at ≡ total - length (attributes run_at m.attributes ++ attrs)
+pub member_again : (total at run_at : ℕ) (m : Member) (main attrs runs : List ℕ) → MemberFits m
+    → at ≡ total - length (attributes run_at m.attributes ++ attrs)
     → run_at + length (attribute_runs m.attributes ++ runs) ≡ total
     → member_at total (four_numbers m.flags m.name m.descriptor (length m.attributes) ∷ at ∷ main) (attributes run_at m.attributes ++ attrs) (attribute_runs m.attributes ++ runs) ≡ Some (m, main, attrs, runs)
 unfolding member_at
@@ -122,8 +144,10 @@ member_again total at run_at m main attrs runs fits e er =
     let here : (at == total - length (attributes run_at m.attributes ++ attrs)) ≡ true = eq-eqb at (total - length (attributes run_at m.attributes ++ attrs)) e in
     rw (flags, name, descriptor, many, same_number word, here, attributes_again total run_at m.attributes attrs runs fits.attributes.1 er) refl
 
-pub members_again : (total at run_at : ℕ) (these : List Member) (main attrs runs : List ℕ) → AllByRecursion MemberFits these
-    → at + length (attributes run_at (member_attributes these) ++ attrs) ≡ total → run_at + length (attribute_runs (member_attributes these) ++ runs) ≡ total
+pub members_again : (total at run_at : ℕ) (these : List Member) (main attrs runs : List ℕ)
+    → AllByRecursion MemberFits these
+    → at + length (attributes run_at (member_attributes these) ++ attrs) ≡ total
+    → run_at + length (attribute_runs (member_attributes these) ++ runs) ≡ total
     → members_from total (length these) (members at these ++ main) (attributes run_at (member_attributes these) ++ attrs) (attribute_runs (member_attributes these) ++ runs) ≡ Some (these, main, attrs, runs)
 unfolding members_from
 members_again total at run_at [] main attrs runs fits e er = refl

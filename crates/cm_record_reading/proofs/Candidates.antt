@@ -5,7 +5,8 @@ use Rattle.cm_record_layout.specs.Packing.{first_of, second_of, third_of, fourth
 use Rattle.cm_record_reading.specs.declared.entry.Entry.TheVariants as entry
 use Rattle.cm_record_reading.specs.Reading.{candidate}
 
-pub utf8_back : (n at : ℕ) → n < 2 ^ 16 → candidate (1 + 2 ^ 16 * n + 2 ^ 32 * at) ≡ Some (entry.Utf8 n)
+pub utf8_back : (n at : ℕ) → n < 2 ^ 16
+    → candidate (1 + 2 ^ 16 * n + 2 ^ 32 * at) ≡ Some (entry.Utf8 n)
 unfolding candidate
 utf8_back n at h =
     let w = 1 + 2 ^ 16 * n + 2 ^ 32 * at in
@@ -13,7 +14,8 @@ utf8_back n at h =
     let len : second_of w ≡ n = omega arith in
     rw (tag, len) refl
 
-pub integer_back : (n : ℕ) → n < 2 ^ 32 → candidate (3 + 2 ^ 32 * n) ≡ Some (entry.Whole (constant.Integer n))
+pub integer_back : (n : ℕ) → n < 2 ^ 32
+    → candidate (3 + 2 ^ 32 * n) ≡ Some (entry.Whole (constant.Integer n))
 unfolding candidate
 integer_back n h =
     let w = 3 + 2 ^ 32 * n in
@@ -21,7 +23,8 @@ integer_back n h =
     let bits : upper_of w ≡ n = omega arith in
     rw (tag, bits) refl
 
-pub float_back : (n : ℕ) → n < 2 ^ 32 → candidate (4 + 2 ^ 32 * n) ≡ Some (entry.Whole (constant.Float n))
+pub float_back : (n : ℕ) → n < 2 ^ 32
+    → candidate (4 + 2 ^ 32 * n) ≡ Some (entry.Whole (constant.Float n))
 unfolding candidate
 float_back n h =
     let w = 4 + 2 ^ 32 * n in
@@ -29,7 +32,8 @@ float_back n h =
     let bits : upper_of w ≡ n = omega arith in
     rw (tag, bits) refl
 
-pub class_back : (n : ℕ) → n < 2 ^ 16 → candidate (7 + 2 ^ 32 * n) ≡ Some (entry.Whole (constant.Class n))
+pub class_back : (n : ℕ) → n < 2 ^ 16
+    → candidate (7 + 2 ^ 32 * n) ≡ Some (entry.Whole (constant.Class n))
 unfolding candidate
 class_back n h =
     let w = 7 + 2 ^ 32 * n in
@@ -37,7 +41,8 @@ class_back n h =
     let one : third_of w ≡ n = omega arith in
     rw (tag, one) refl
 
-pub string_back : (n : ℕ) → n < 2 ^ 16 → candidate (8 + 2 ^ 32 * n) ≡ Some (entry.Whole (constant.String n))
+pub string_back : (n : ℕ) → n < 2 ^ 16
+    → candidate (8 + 2 ^ 32 * n) ≡ Some (entry.Whole (constant.String n))
 unfolding candidate
 string_back n h =
     let w = 8 + 2 ^ 32 * n in
@@ -45,7 +50,8 @@ string_back n h =
     let one : third_of w ≡ n = omega arith in
     rw (tag, one) refl
 
-pub method_type_back : (n : ℕ) → n < 2 ^ 16 → candidate (16 + 2 ^ 32 * n) ≡ Some (entry.Whole (constant.MethodType n))
+pub method_type_back : (n : ℕ) → n < 2 ^ 16
+    → candidate (16 + 2 ^ 32 * n) ≡ Some (entry.Whole (constant.MethodType n))
 unfolding candidate
 method_type_back n h =
     let w = 16 + 2 ^ 32 * n in
@@ -53,7 +59,8 @@ method_type_back n h =
     let one : third_of w ≡ n = omega arith in
     rw (tag, one) refl
 
-pub fieldref_back : (n k : ℕ) → n < 2 ^ 16 → k < 2 ^ 16 → candidate (9 + 2 ^ 32 * n + 2 ^ 48 * k) ≡ Some (entry.Whole (constant.Fieldref n k))
+pub fieldref_back : (n k : ℕ) → n < 2 ^ 16 → k < 2 ^ 16
+    → candidate (9 + 2 ^ 32 * n + 2 ^ 48 * k) ≡ Some (entry.Whole (constant.Fieldref n k))
 unfolding candidate
 fieldref_back n k hn hk =
     let w = 9 + 2 ^ 32 * n + 2 ^ 48 * k in
@@ -62,7 +69,8 @@ fieldref_back n k hn hk =
     let two : fourth_of w ≡ k = omega arith in
     rw (tag, one, two) refl
 
-pub methodref_back : (n k : ℕ) → n < 2 ^ 16 → k < 2 ^ 16 → candidate (10 + 2 ^ 32 * n + 2 ^ 48 * k) ≡ Some (entry.Whole (constant.Methodref n k))
+pub methodref_back : (n k : ℕ) → n < 2 ^ 16 → k < 2 ^ 16
+    → candidate (10 + 2 ^ 32 * n + 2 ^ 48 * k) ≡ Some (entry.Whole (constant.Methodref n k))
 unfolding candidate
 methodref_back n k hn hk =
     let w = 10 + 2 ^ 32 * n + 2 ^ 48 * k in
@@ -71,7 +79,8 @@ methodref_back n k hn hk =
     let two : fourth_of w ≡ k = omega arith in
     rw (tag, one, two) refl
 
-pub interface_methodref_back : (n k : ℕ) → n < 2 ^ 16 → k < 2 ^ 16 → candidate (11 + 2 ^ 32 * n + 2 ^ 48 * k) ≡ Some (entry.Whole (constant.InterfaceMethodref n k))
+pub interface_methodref_back : (n k : ℕ) → n < 2 ^ 16 → k < 2 ^ 16
+    → candidate (11 + 2 ^ 32 * n + 2 ^ 48 * k) ≡ Some (entry.Whole (constant.InterfaceMethodref n k))
 unfolding candidate
 interface_methodref_back n k hn hk =
     let w = 11 + 2 ^ 32 * n + 2 ^ 48 * k in
@@ -80,7 +89,8 @@ interface_methodref_back n k hn hk =
     let two : fourth_of w ≡ k = omega arith in
     rw (tag, one, two) refl
 
-pub name_and_type_back : (n k : ℕ) → n < 2 ^ 16 → k < 2 ^ 16 → candidate (12 + 2 ^ 32 * n + 2 ^ 48 * k) ≡ Some (entry.Whole (constant.NameAndType n k))
+pub name_and_type_back : (n k : ℕ) → n < 2 ^ 16 → k < 2 ^ 16
+    → candidate (12 + 2 ^ 32 * n + 2 ^ 48 * k) ≡ Some (entry.Whole (constant.NameAndType n k))
 unfolding candidate
 name_and_type_back n k hn hk =
     let w = 12 + 2 ^ 32 * n + 2 ^ 48 * k in
@@ -89,7 +99,8 @@ name_and_type_back n k hn hk =
     let two : fourth_of w ≡ k = omega arith in
     rw (tag, one, two) refl
 
-pub invoke_dynamic_back : (n k : ℕ) → n < 2 ^ 16 → k < 2 ^ 16 → candidate (18 + 2 ^ 32 * n + 2 ^ 48 * k) ≡ Some (entry.Whole (constant.InvokeDynamic n k))
+pub invoke_dynamic_back : (n k : ℕ) → n < 2 ^ 16 → k < 2 ^ 16
+    → candidate (18 + 2 ^ 32 * n + 2 ^ 48 * k) ≡ Some (entry.Whole (constant.InvokeDynamic n k))
 unfolding candidate
 invoke_dynamic_back n k hn hk =
     let w = 18 + 2 ^ 32 * n + 2 ^ 48 * k in
@@ -98,7 +109,8 @@ invoke_dynamic_back n k hn hk =
     let two : fourth_of w ≡ k = omega arith in
     rw (tag, one, two) refl
 
-pub method_handle_back : (n k : ℕ) → n < 2 ^ 8 → k < 2 ^ 16 → candidate (15 + 2 ^ 32 * n + 2 ^ 48 * k) ≡ Some (entry.Whole (constant.MethodHandle n k))
+pub method_handle_back : (n k : ℕ) → n < 2 ^ 8 → k < 2 ^ 16
+    → candidate (15 + 2 ^ 32 * n + 2 ^ 48 * k) ≡ Some (entry.Whole (constant.MethodHandle n k))
 unfolding candidate
 method_handle_back n k hn hk =
     let w = 15 + 2 ^ 32 * n + 2 ^ 48 * k in

@@ -1,5 +1,6 @@
 -- A run is read back.
-use Rattle.std.proofs.Common.{◌≡◌, ◌-◌, ℕ, zero, suc, true, List, [], ◌∷◌, ◌++◌, length, take, drop, Some, refl, sym, ap, arith}
+use Rattle.std.proofs.Common.{◌≡◌, ◌-◌, ℕ, zero, suc, true, List, [], ◌∷◌, ◌++◌, length, take, drop}
+use Rattle.std.proofs.Common.{Some, refl, sym, ap, arith}
 use Rattle.std.specs.Prelude.{◌==◌}
 use Rattle.std.proofs.lemmas.List.{length-drop, take-append-drop}
 use Rattle.std.proofs.lemmas.Bool.{eq-eqb}
@@ -8,7 +9,8 @@ use Rattle.cm_record_layout.specs.Packing.{word_from, packed_into, packed, run_w
 use Rattle.cm_record_layout.proofs.Runs.{front_back, front_word}
 use Rattle.cm_record_reading.specs.Reading.{front_of, run_from, run_at}
 
-pub front_again : (bytes : List ℕ) → AreBytes bytes → front_of (length bytes) (word_from bytes) ≡ Some (take 8 bytes)
+pub front_again : (bytes : List ℕ) → AreBytes bytes
+    → front_of (length bytes) (word_from bytes) ≡ Some (take 8 bytes)
 front_again bytes are =
     let test : (word_from (take 8 bytes) == word_from bytes) ≡ true = eq-eqb (word_from (take 8 bytes)) (word_from bytes) (front_word bytes) in
     rw (front_back bytes are, test) refl
@@ -18,7 +20,8 @@ drop_bytes zero bytes are = are
 drop_bytes (suc n) [] are = tt
 drop_bytes (suc n) (b ∷ bytes) are = drop_bytes n bytes are.1
 
-run_from_again : (n : ℕ) (bytes rest : List ℕ) → run_words (length bytes) ≡ n → AreBytes bytes → run_from n (length bytes) (packed_into n bytes ++ rest) ≡ Some (bytes, rest)
+run_from_again : (n : ℕ) (bytes rest : List ℕ) → run_words (length bytes) ≡ n → AreBytes bytes
+    → run_from n (length bytes) (packed_into n bytes ++ rest) ≡ Some (bytes, rest)
 unfolding run_from
 run_from_again zero [] rest e are = refl
 run_from_again zero (b ∷ bytes) rest e are = absurd (omega arith)
@@ -29,5 +32,6 @@ run_from_again (suc n) bytes rest e are =
     rw (front_again bytes are, size, others) (ap (λ xs. Some (xs, rest)) (take-append-drop 8 bytes))
 
 -- a run is read back, whatever follows it
-pub run_again : (bytes rest : List ℕ) → AreBytes bytes → run_at (length bytes) (packed bytes ++ rest) ≡ Some (bytes, rest)
+pub run_again : (bytes rest : List ℕ) → AreBytes bytes
+    → run_at (length bytes) (packed bytes ++ rest) ≡ Some (bytes, rest)
 run_again bytes rest are = run_from_again (run_words (length bytes)) bytes rest refl are

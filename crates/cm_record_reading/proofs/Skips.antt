@@ -1,5 +1,7 @@
 -- The turns of the loops that keep nothing. `all` is what the whole loop should leave.
-use Rattle.std.proofs.Common.{◌≡◌, ◌<◌, ◌≤◌, ◌+◌, ◌-◌, ◌^◌, ℕ, zero, suc, Bool, true, false, List, [], ◌∷◌, length, take, drop, get_or, min, Option, Some, None, refl, sym, ◌∙◌, ap, arith}
+use Rattle.std.proofs.Common.{◌≡◌, ◌<◌, ◌≤◌, ◌+◌, ◌-◌, ◌^◌, ℕ, zero, suc, Bool, true, false, List}
+use Rattle.std.proofs.Common.{[], ◌∷◌, length, take, drop, get_or, min, Option, Some, None, refl}
+use Rattle.std.proofs.Common.{sym, ◌∙◌, ap, arith}
 use Rattle.std.specs.Prelude.{nat_lt}
 use Rattle.std.proofs.lemmas.List.{take_all, length-take}
 use Rattle.std.proofs.lemmas.Bool.{lt-ltb, le-ltb}
@@ -9,45 +11,63 @@ use Rattle.cm_class.specs.declared.class_file.Attribute.{Attribute}
 use Rattle.cm_class.specs.declared.class_file.Member.{Member}
 use Rattle.cm_class.specs.Spelling.{is_wide}
 use Rattle.cm_record_layout.specs.Packing.{word_from, bytes_of}
-use Rattle.cm_record_reading.specs.Reading.{◌>>=◌, run_from, run_at, interfaces_from, constant_at, slots_at, attribute_at, attributes_from, member_at, members_from, with_front, left1, left2, left3, width_left}
+use Rattle.cm_record_reading.specs.Reading.{◌>>=◌, run_from, run_at, interfaces_from, constant_at}
+use Rattle.cm_record_reading.specs.Reading.{slots_at, attribute_at, attributes_from, member_at}
+use Rattle.cm_record_reading.specs.Reading.{members_from, with_front, left1, left2, left3}
+use Rattle.cm_record_reading.specs.Reading.{width_left}
 use Rattle.cm_record_layout.proofs.Packed.{length-bytes_of}
 use Rattle.cm_record_reading.proofs.Fronts.{run_none, run_bad, run_good}
 
-left1-with_front : {A B : Type 0} (front : List A) (read : Option (List A × B)) → left1 (with_front front read) ≡ left1 read
+left1-with_front : {A B : Type 0} (front : List A) (read : Option (List A × B))
+    → left1 (with_front front read) ≡ left1 read
 left1-with_front front None = refl
 left1-with_front front (Some read) = refl
 
-left1-more : {A B C : Type 0} (f : A → C) (read : Option (A × B)) → left1 (read >>= λ others. Some (f others.0, others.1)) ≡ left1 read
+left1-more : {A B C : Type 0} (f : A → C) (read : Option (A × B))
+    → left1 (read >>= λ others. Some (f others.0, others.1)) ≡ left1 read
 left1-more f None = refl
 left1-more f (Some read) = refl
 
-left2-more : {A B C D : Type 0} (f : A → D) (read : Option (A × B × C)) → left2 (read >>= λ others. Some (f others.0, others.1, others.2)) ≡ left2 read
+left2-more : {A B C D : Type 0} (f : A → D) (read : Option (A × B × C))
+    → left2 (read >>= λ others. Some (f others.0, others.1, others.2)) ≡ left2 read
 left2-more f None = refl
 left2-more f (Some read) = refl
 
-left3-more : {A B C D E : Type 0} (f : A → E) (read : Option (A × B × C × D)) → left3 (read >>= λ others. Some (f others.0, others.1, others.2, others.3)) ≡ left3 read
+left3-more : {A B C D E : Type 0} (f : A → E) (read : Option (A × B × C × D))
+    → left3 (read >>= λ others. Some (f others.0, others.1, others.2, others.3)) ≡ left3 read
 left3-more f None = refl
 left3-more f (Some read) = refl
 
 -- what was read, where this is left
 
-left2_found : {A B C : Type 0} (read : Option (A × B × C)) (x : B × C) → left2 read ≡ Some x → (a : A) × (read ≡ Some (a, x.0, x.1))
+left2_found : {A B C : Type 0} (read : Option (A × B × C)) (x : B × C) → left2 read ≡ Some x
+    → (a : A) × (read ≡ Some (a, x.0, x.1))
 left2_found None x e = absurd (cc)
-left2_found (Some read) x e = let same : (read.1, read.2) ≡ x = cc in (read.0, ap (λ p. Some (read.0, p.0, p.1)) same)
+left2_found (Some read) x e = let same : (read.1, read.2) ≡ x = cc in (
+  read.0,
+  ap
+      (λ p. Some (read.0, p.0, p.1)) same,
+)
 
 pub left2_none : {A B C : Type 0} (read : Option (A × B × C)) → left2 read ≡ None → read ≡ None
 left2_none None e = refl
 left2_none (Some read) e = absurd (cc)
 
-left3_found : {A B C D : Type 0} (read : Option (A × B × C × D)) (x : B × C × D) → left3 read ≡ Some x → (a : A) × (read ≡ Some (a, x.0, x.1, x.2))
+left3_found : {A B C D : Type 0} (read : Option (A × B × C × D)) (x : B × C × D)
+    → left3 read ≡ Some x → (a : A) × (read ≡ Some (a, x.0, x.1, x.2))
 left3_found None x e = absurd (cc)
-left3_found (Some read) x e = let same : (read.1, read.2, read.3) ≡ x = cc in (read.0, ap (λ p. Some (read.0, p.0, p.1, p.2)) same)
+left3_found (Some read) x e = let same : (read.1, read.2, read.3) ≡ x = cc in (
+  read.0,
+  ap
+      (λ p. Some (read.0, p.0, p.1, p.2)) same,
+)
 
 left3_none : {A B C D : Type 0} (read : Option (A × B × C × D)) → left3 read ≡ None → read ≡ None
 left3_none None e = refl
 left3_none (Some read) e = absurd (cc)
 
-width_found : (read : Option (Constant × List ℕ × List ℕ)) (x : Bool × List ℕ × List ℕ) → width_left read ≡ Some x → (c : Constant) × (is_wide c ≡ x.0) × (read ≡ Some (c, x.1, x.2))
+width_found : (read : Option (Constant × List ℕ × List ℕ)) (x : Bool × List ℕ × List ℕ)
+    → width_left read ≡ Some x → (c : Constant) × (is_wide c ≡ x.0) × (read ≡ Some (c, x.1, x.2))
 width_found None x e = absurd (cc)
 width_found (Some read) x e = let same : (is_wide read.0, read.1, read.2) ≡ x = cc in (read.0, ap (λ p. p.0) same, ap (λ p. Some (read.0, p.1, p.2)) same)
 
@@ -57,19 +77,24 @@ width_none (Some read) e = absurd (cc)
 
 -- ---- runs
 
-pub run_short : (rest : List ℕ) (left : ℕ) (all : Option (List ℕ)) → left1 (run_at left rest) ≡ all → 0 < left → length rest < 1 → all ≡ None
+pub run_short : (rest : List ℕ) (left : ℕ) (all : Option (List ℕ))
+    → left1 (run_at left rest) ≡ all → 0 < left → length rest < 1 → all ≡ None
 run_short [] left all kept some short = sym kept ∙ ap left1 (run_none left some)
 run_short (w ∷ rest) left all kept some short = absurd (omega arith)
 
-pub run_wrong : (rest eight : List ℕ) (left n found : ℕ) (all : Option (List ℕ)) → left1 (run_at left rest) ≡ all → 0 < left → 1 ≤ length rest
-    → eight ≡ bytes_of (get_or rest 0 0) → n ≡ min left 8 → found ≡ word_from (take n eight) → (found ≡ get_or rest 0 0 → ⊥) → all ≡ None
+pub run_wrong : (rest eight : List ℕ) (left n found : ℕ) (all : Option (List ℕ))
+    → left1 (run_at left rest) ≡ all → 0 < left → 1 ≤ length rest
+    → eight ≡ bytes_of (get_or rest 0 0) → n ≡ min left 8 → found ≡ word_from (take n eight)
+    → (found ≡ get_or rest 0 0 → ⊥) → all ≡ None
 run_wrong [] eight left n found all kept some long ee en ef other = absurd (omega arith)
 run_wrong (w ∷ rest) eight left n found all kept some long ee en ef other =
     let front : take n eight ≡ take (min left 8) (bytes_of w) = rw (ee, en) refl in
     sym kept ∙ ap left1 (run_bad left w rest (take n eight) some front (λ same. other (ef ∙ same)))
 
-pub run_next : (rest eight : List ℕ) (left n found : ℕ) (all : Option (List ℕ)) → left1 (run_at left rest) ≡ all → 0 < left → 1 ≤ length rest
-    → eight ≡ bytes_of (get_or rest 0 0) → n ≡ min left 8 → found ≡ word_from (take n eight) → found ≡ get_or rest 0 0
+pub run_next : (rest eight : List ℕ) (left n found : ℕ) (all : Option (List ℕ))
+    → left1 (run_at left rest) ≡ all → 0 < left → 1 ≤ length rest
+    → eight ≡ bytes_of (get_or rest 0 0) → n ≡ min left 8 → found ≡ word_from (take n eight)
+    → found ≡ get_or rest 0 0
     → left1 (run_at (left - length (take n eight)) (take (length rest - 1) (drop 1 rest))) ≡ all
 run_next [] eight left n found all kept some long ee en ef same = absurd (omega arith)
 run_next (w ∷ rest) eight left n found all kept some long ee en ef same =
@@ -79,20 +104,24 @@ run_next (w ∷ rest) eight left n found all kept some long ee en ef same =
     rw (size, behind) (sym (left1-with_front (take n eight) (run_at (left - 8) rest))
     ∙ (ap left1 (sym (run_good left w rest (take n eight) some front (sym ef ∙ same))) ∙ kept))
 
-pub run_done : (rest : List ℕ) (left : ℕ) (all : Option (List ℕ)) → left1 (run_at left rest) ≡ all → left ≤ 0 → all ≡ Some rest
+pub run_done : (rest : List ℕ) (left : ℕ) (all : Option (List ℕ))
+    → left1 (run_at left rest) ≡ all → left ≤ 0 → all ≡ Some rest
 unfolding run_from
 run_done rest zero all kept none = sym kept
 run_done rest (suc left) all kept none = absurd (omega arith)
 
 -- ---- interfaces
 
-pub interfaces_short : (rest : List ℕ) (all : Option (List ℕ)) (n : ℕ) → left1 (interfaces_from n rest) ≡ all → 0 < n → length rest < 1 → all ≡ None
+pub interfaces_short : (rest : List ℕ) (all : Option (List ℕ)) (n : ℕ)
+    → left1 (interfaces_from n rest) ≡ all → 0 < n → length rest < 1 → all ≡ None
 unfolding interfaces_from
 interfaces_short rest all zero kept some short = absurd (omega arith)
 interfaces_short [] all (suc n) kept some short = sym kept
 interfaces_short (w ∷ ws) all (suc n) kept some short = absurd (omega arith)
 
-pub interfaces_wrong : (rest : List ℕ) (all : Option (List ℕ)) (n : ℕ) → left1 (interfaces_from n rest) ≡ all → 0 < n → 1 ≤ length rest → 2 ^ 16 ≤ get_or rest 0 0 → all ≡ None
+pub interfaces_wrong : (rest : List ℕ) (all : Option (List ℕ)) (n : ℕ)
+    → left1 (interfaces_from n rest) ≡ all → 0 < n → 1 ≤ length rest → 2 ^ 16 ≤ get_or rest 0 0
+    → all ≡ None
 unfolding interfaces_from
 interfaces_wrong rest all zero kept some long wrong = absurd (omega arith)
 interfaces_wrong [] all (suc n) kept some long wrong = absurd (omega arith)
@@ -100,7 +129,8 @@ interfaces_wrong (w ∷ ws) all (suc n) kept some long wrong =
     let test : nat_lt w (2 ^ 16) ≡ false = le-ltb w (2 ^ 16) wrong in
     sym (rw test at kept)
 
-pub interfaces_next : (rest : List ℕ) (all : Option (List ℕ)) (n m : ℕ) → left1 (interfaces_from n rest) ≡ all → n ≡ m + 1 → 1 ≤ length rest → get_or rest 0 0 < 2 ^ 16
+pub interfaces_next : (rest : List ℕ) (all : Option (List ℕ)) (n m : ℕ)
+    → left1 (interfaces_from n rest) ≡ all → n ≡ m + 1 → 1 ≤ length rest → get_or rest 0 0 < 2 ^ 16
     → left1 (interfaces_from m (take (length rest - 1) (drop 1 rest))) ≡ all
 unfolding interfaces_from
 interfaces_next rest all zero m kept en long small = absurd (omega arith)
@@ -109,9 +139,11 @@ interfaces_next (w ∷ ws) all (suc n) m kept en long small =
     let test : nat_lt w (2 ^ 16) ≡ true = lt-ltb w (2 ^ 16) small in
     let behind : take (length (w ∷ ws) - 1) (drop 1 (w ∷ ws)) ≡ ws = take_all (length (w ∷ ws) - 1) ws (omega arith) in
     let same : m ≡ n = omega arith in
-    rw (same, behind) (sym (left1-more (λ these. w ∷ these) (interfaces_from n ws)) ∙ rw test at kept)
+    rw (same, behind) (sym (left1-more
+    (λ these. w ∷ these) (interfaces_from n ws)) ∙ rw test at kept)
 
-pub interfaces_done : (rest : List ℕ) (all : Option (List ℕ)) (n : ℕ) → left1 (interfaces_from n rest) ≡ all → n ≡ 0 → all ≡ Some rest
+pub interfaces_done : (rest : List ℕ) (all : Option (List ℕ)) (n : ℕ)
+    → left1 (interfaces_from n rest) ≡ all → n ≡ 0 → all ≡ Some rest
 unfolding interfaces_from
 interfaces_done rest all zero kept e = sym kept
 interfaces_done rest all (suc n) kept e = absurd (omega arith)
@@ -119,34 +151,42 @@ interfaces_done rest all (suc n) kept e = absurd (omega arith)
 -- ---- slots
 
 module _ (total : ℕ) (all : Option (List ℕ × List ℕ)) (main runs : List ℕ) (second : Bool) where
-  pub slots_second : (n m : ℕ) → left2 (slots_at total second n main runs) ≡ all → second ≡ true → n ≡ m + 1 → left2 (slots_at total false m main runs) ≡ all
+  pub slots_second : (n m : ℕ) → left2 (slots_at total second n main runs) ≡ all → second ≡ true
+      → n ≡ m + 1 → left2 (slots_at total false m main runs) ≡ all
   unfolding slots_at
   slots_second zero m kept es en = absurd (omega arith)
   slots_second (suc n) m kept es en =
       let same : m ≡ n = omega arith in
-      rw same (sym (left2-more (λ these. Unusable ∷ these) (slots_at total false n main runs)) ∙ rw es at kept)
+      rw same (sym (left2-more
+      (λ these. Unusable ∷ these) (slots_at total false n main runs)) ∙ rw es at kept)
 
-  pub slots_next : (main' runs' : List ℕ) (wide : Bool) (n m : ℕ) → left2 (slots_at total second n main runs) ≡ all → second ≡ false → n ≡ m + 1
-      → width_left (constant_at total main runs) ≡ Some (wide, main', runs') → left2 (slots_at total wide m main' runs') ≡ all
+  pub slots_next : (main' runs' : List ℕ) (wide : Bool) (n m : ℕ)
+      → left2 (slots_at total second n main runs) ≡ all → second ≡ false → n ≡ m + 1
+      → width_left (constant_at total main runs) ≡ Some (wide, main', runs')
+      → left2 (slots_at total wide m main' runs') ≡ all
   unfolding slots_at
   slots_next main' runs' wide zero m kept es en found = absurd (omega arith)
   slots_next main' runs' wide (suc n) m kept es en found =
       let same : m ≡ n = omega arith in
       let read = width_found (constant_at total main runs) (wide, main', runs') found in
       let c : Constant = read.0 in
-      rw (same, ← read.1) (sym (left2-more (λ these. Usable c ∷ these) (slots_at total (is_wide c) n main' runs')) ∙ rw (es, read.2) at kept)
+      rw (same, ← read.1) (sym (left2-more
+      (λ these. Usable c ∷ these) (slots_at total (is_wide c) n main' runs')) ∙ rw (es, read.2) at kept)
 
-  pub slots_wrong : (n : ℕ) → left2 (slots_at total second n main runs) ≡ all → second ≡ false → 0 < n → width_left (constant_at total main runs) ≡ None → all ≡ None
+  pub slots_wrong : (n : ℕ) → left2 (slots_at total second n main runs) ≡ all → second ≡ false
+      → 0 < n → width_left (constant_at total main runs) ≡ None → all ≡ None
   unfolding slots_at
   slots_wrong zero kept es some none = absurd (omega arith)
   slots_wrong (suc n) kept es some none = sym (rw (es, width_none (constant_at total main runs) none) at kept)
 
-  pub slots_cut : (n : ℕ) → left2 (slots_at total second n main runs) ≡ all → second ≡ true → n ≡ 0 → all ≡ None
+  pub slots_cut : (n : ℕ) → left2 (slots_at total second n main runs) ≡ all → second ≡ true
+      → n ≡ 0 → all ≡ None
   unfolding slots_at
   slots_cut zero kept es e = sym (rw es at kept)
   slots_cut (suc n) kept es e = absurd (omega arith)
 
-  pub slots_done : (n : ℕ) → left2 (slots_at total second n main runs) ≡ all → second ≡ false → n ≡ 0 → all ≡ Some (main, runs)
+  pub slots_done : (n : ℕ) → left2 (slots_at total second n main runs) ≡ all → second ≡ false
+      → n ≡ 0 → all ≡ Some (main, runs)
   unfolding slots_at
   slots_done zero kept es e = sym (rw es at kept)
   slots_done (suc n) kept es e = absurd (omega arith)
@@ -154,7 +194,9 @@ module _ (total : ℕ) (all : Option (List ℕ × List ℕ)) (main runs : List �
 -- ---- attributes
 
 module _ (total : ℕ) (all : Option (List ℕ × List ℕ)) (attrs runs : List ℕ) where
-  pub attributes_next : (attrs' runs' : List ℕ) (n m : ℕ) → left2 (attributes_from total n attrs runs) ≡ all → n ≡ m + 1 → left2 (attribute_at total attrs runs) ≡ Some (attrs', runs')
+  pub attributes_next : (attrs' runs' : List ℕ) (n m : ℕ)
+      → left2 (attributes_from total n attrs runs) ≡ all → n ≡ m + 1
+      → left2 (attribute_at total attrs runs) ≡ Some (attrs', runs')
       → left2 (attributes_from total m attrs' runs') ≡ all
   unfolding attributes_from
   attributes_next attrs' runs' zero m kept en found = absurd (omega arith)
@@ -162,14 +204,17 @@ module _ (total : ℕ) (all : Option (List ℕ × List ℕ)) (attrs runs : List 
       let same : m ≡ n = omega arith in
       let read = left2_found (attribute_at total attrs runs) (attrs', runs') found in
       let a : Attribute = read.0 in
-      rw same (sym (left2-more (λ these. a ∷ these) (attributes_from total n attrs' runs')) ∙ rw read.1 at kept)
+      rw same (sym (left2-more
+      (λ these. a ∷ these) (attributes_from total n attrs' runs')) ∙ rw read.1 at kept)
 
-  pub attributes_wrong : (n : ℕ) → left2 (attributes_from total n attrs runs) ≡ all → 0 < n → left2 (attribute_at total attrs runs) ≡ None → all ≡ None
+  pub attributes_wrong : (n : ℕ) → left2 (attributes_from total n attrs runs) ≡ all → 0 < n
+      → left2 (attribute_at total attrs runs) ≡ None → all ≡ None
   unfolding attributes_from
   attributes_wrong zero kept some none = absurd (omega arith)
   attributes_wrong (suc n) kept some none = sym (rw (left2_none (attribute_at total attrs runs) none) at kept)
 
-  pub attributes_done : (n : ℕ) → left2 (attributes_from total n attrs runs) ≡ all → n ≡ 0 → all ≡ Some (attrs, runs)
+  pub attributes_done : (n : ℕ) → left2 (attributes_from total n attrs runs) ≡ all → n ≡ 0
+      → all ≡ Some (attrs, runs)
   unfolding attributes_from
   attributes_done zero kept e = sym kept
   attributes_done (suc n) kept e = absurd (omega arith)
@@ -177,7 +222,9 @@ module _ (total : ℕ) (all : Option (List ℕ × List ℕ)) (attrs runs : List 
 -- ---- members
 
 module _ (total : ℕ) (all : Option (List ℕ × List ℕ × List ℕ)) (main attrs runs : List ℕ) where
-  pub members_next : (main' attrs' runs' : List ℕ) (n m : ℕ) → left3 (members_from total n main attrs runs) ≡ all → n ≡ m + 1 → left3 (member_at total main attrs runs) ≡ Some (main', attrs', runs')
+  pub members_next : (main' attrs' runs' : List ℕ) (n m : ℕ)
+      → left3 (members_from total n main attrs runs) ≡ all → n ≡ m + 1
+      → left3 (member_at total main attrs runs) ≡ Some (main', attrs', runs')
       → left3 (members_from total m main' attrs' runs') ≡ all
   unfolding members_from
   members_next main' attrs' runs' zero m kept en found = absurd (omega arith)
@@ -185,14 +232,17 @@ module _ (total : ℕ) (all : Option (List ℕ × List ℕ × List ℕ)) (main a
       let same : m ≡ n = omega arith in
       let read = left3_found (member_at total main attrs runs) (main', attrs', runs') found in
       let x : Member = read.0 in
-      rw same (sym (left3-more (λ these. x ∷ these) (members_from total n main' attrs' runs')) ∙ rw read.1 at kept)
+      rw same (sym (left3-more
+      (λ these. x ∷ these) (members_from total n main' attrs' runs')) ∙ rw read.1 at kept)
 
-  pub members_wrong : (n : ℕ) → left3 (members_from total n main attrs runs) ≡ all → 0 < n → left3 (member_at total main attrs runs) ≡ None → all ≡ None
+  pub members_wrong : (n : ℕ) → left3 (members_from total n main attrs runs) ≡ all → 0 < n
+      → left3 (member_at total main attrs runs) ≡ None → all ≡ None
   unfolding members_from
   members_wrong zero kept some none = absurd (omega arith)
   members_wrong (suc n) kept some none = sym (rw (left3_none (member_at total main attrs runs) none) at kept)
 
-  pub members_done : (n : ℕ) → left3 (members_from total n main attrs runs) ≡ all → n ≡ 0 → all ≡ Some (main, attrs, runs)
+  pub members_done : (n : ℕ) → left3 (members_from total n main attrs runs) ≡ all → n ≡ 0
+      → all ≡ Some (main, attrs, runs)
   unfolding members_from
   members_done zero kept e = sym kept
   members_done (suc n) kept e = absurd (omega arith)

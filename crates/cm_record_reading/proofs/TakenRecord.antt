@@ -1,5 +1,7 @@
 -- A whole record that is read was laid out so.
-use Rattle.std.proofs.Common.{◌≡◌, ◌<◌, ◌≤◌, ◌+◌, ◌-◌, ◌*◌, ◌^◌, ℕ, true, false, List, [], ◌∷◌, ◌++◌, length, get_or, drop, Option, Some, None, Result, Ok, Err, refl, sym, ◌∙◌, ap, subst, arith, append_assoc, length-append}
+use Rattle.std.proofs.Common.{◌≡◌, ◌<◌, ◌≤◌, ◌+◌, ◌-◌, ◌*◌, ◌^◌, ℕ, true, false, List, [], ◌∷◌}
+use Rattle.std.proofs.Common.{◌++◌, length, get_or, drop, Option, Some, None, Result, Ok, Err, refl}
+use Rattle.std.proofs.Common.{sym, ◌∙◌, ap, subst, arith, append_assoc, length-append}
 use Rattle.std.specs.Prelude.{◌==◌, nat_le, is_some, IfOk, IsErrOf}
 use Rattle.std.proofs.lemmas.List.{drop_at, drop-drop, length-drop}
 use Rattle.std.proofs.lemmas.Bool.{eqb-true, leb-true, and_parts}
@@ -9,18 +11,28 @@ use Rattle.cm_class.specs.declared.class_file.Member.{Member}
 use Rattle.cm_class.specs.declared.class_file.ClassFile.{ClassFile}
 use Rattle.cm_class.specs.Spelling.{HasSpelling}
 use Rattle.cm_record_layout.specs.Packing.{four_numbers, first_of, second_of, third_of, fourth_of}
-use Rattle.cm_record_layout.specs.Layout.{lay, limit, directory, utf8_runs, members, member_attributes, attributes, attribute_runs, attributes_at, runs_at, record_len, IsRecord, IsRecordOf}
-use Rattle.cm_record_reading.specs.Reading.{slots_at, interfaces_from, attributes_from, members_from, head_is_right, sections_end, pool_from, body_from, pool_of, body_of, class_at, Gives}
+use Rattle.cm_record_layout.specs.Layout.{lay, limit, directory, utf8_runs, members}
+use Rattle.cm_record_layout.specs.Layout.{member_attributes, attributes, attribute_runs}
+use Rattle.cm_record_layout.specs.Layout.{attributes_at, runs_at, record_len, IsRecord, IsRecordOf}
+use Rattle.cm_record_reading.specs.Reading.{slots_at, interfaces_from, attributes_from}
+use Rattle.cm_record_reading.specs.Reading.{members_from, head_is_right, sections_end, pool_from}
+use Rattle.cm_record_reading.specs.Reading.{body_from, pool_of, body_of, class_at, Gives}
 use Rattle.cm_record_reading.specs.declared.fault.RecordFault.{RecordFault}
 use Rattle.cm_record_reading.specs.declared.fault.RecordFault.TheVariants.{NotARecord}
 use Rattle.cm_record_layout.proofs.Digits.{four_numbers_parts}
-use Rattle.cm_record_layout.proofs.Lengths.{attributes_len, all_attributes_len, all_members_len, all_runs_len, lay_len}
-use Rattle.cm_record_reading.proofs.Taken.{bind_some, only_if_some, some_same, SlotsTaken, InterfacesTaken, MembersTaken, AttributesTaken, slots_taken, interfaces_taken, members_taken, attributes_taken}
+use Rattle.cm_record_layout.proofs.Lengths.{attributes_len, all_attributes_len, all_members_len}
+use Rattle.cm_record_layout.proofs.Lengths.{all_runs_len, lay_len}
+use Rattle.cm_record_reading.proofs.Taken.{bind_some, only_if_some, some_same, SlotsTaken}
+use Rattle.cm_record_reading.proofs.Taken.{InterfacesTaken, MembersTaken, AttributesTaken}
+use Rattle.cm_record_reading.proofs.Taken.{slots_taken, interfaces_taken, members_taken}
+use Rattle.cm_record_reading.proofs.Taken.{attributes_taken}
 use Rattle.cm_record_reading.proofs.WholeRecord.{class_again, always_read}
-use Rattle.cm_record_layout.proofs.Sections.{main_tail, main_there, word_0, word_1, word_2, word_3, word_4, word_5, word_6, word_7, word_8}
+use Rattle.cm_record_layout.proofs.Sections.{main_tail, main_there, word_0, word_1, word_2, word_3}
+use Rattle.cm_record_layout.proofs.Sections.{word_4, word_5, word_6, word_7, word_8}
 
 -- the first nine words of a list that is long enough
-nine : (w : List ℕ) → 9 ≤ length w → w ≡ get_or w 0 0 ∷ get_or w 1 0 ∷ get_or w 2 0 ∷ get_or w 3 0 ∷ get_or w 4 0 ∷ get_or w 5 0 ∷ get_or w 6 0 ∷ get_or w 7 0 ∷ get_or w 8 0 ∷ drop 9 w
+nine : (w : List ℕ) → 9 ≤ length w
+    → w ≡ get_or w 0 0 ∷ get_or w 1 0 ∷ get_or w 2 0 ∷ get_or w 3 0 ∷ get_or w 4 0 ∷ get_or w 5 0 ∷ get_or w 6 0 ∷ get_or w 7 0 ∷ get_or w 8 0 ∷ drop 9 w
 nine [] h = absurd (omega arith)
 nine (a ∷ []) h = absurd (omega arith)
 nine (a ∷ b ∷ []) h = absurd (omega arith)
@@ -74,7 +86,8 @@ pub record IsEnd (w main attrs runs : List ℕ) : Type 0 where
   pub attributes_end : length attrs + get_or w 7 0 ≡ length w
   pub runs_end : length runs ≡ 0
 
-end_facts : (w main attrs runs : List ℕ) → sections_end w main attrs runs ≡ true → IsEnd w main attrs runs
+end_facts : (w main attrs runs : List ℕ) → sections_end w main attrs runs ≡ true
+    → IsEnd w main attrs runs
 end_facts w main attrs runs e =
     let t2 = and_parts _ (length runs == 0) e in
     let t1 = and_parts (length main + get_or w 6 0 == length w) (length attrs + get_or w 7 0 == length w) t2.0 in
@@ -89,16 +102,19 @@ none_left [] e = refl
 none_left (x ∷ xs) e = absurd (omega arith)
 
 -- what is left behind a part of what is left
-deeper : (k n : ℕ) (w front rest : List ℕ) → drop k w ≡ front ++ rest → length rest + n ≡ length w → k ≤ length w → drop n w ≡ rest
+deeper : (k n : ℕ) (w front rest : List ℕ) → drop k w ≡ front ++ rest
+    → length rest + n ≡ length w → k ≤ length w → drop n w ≡ rest
 deeper k n w front rest e size le =
     let far : n ≡ k + length front = omega (arith, size, le, ap length e, length-append front rest, length-drop k w) in
     ap (λ m. drop m w) far ∙ (sym (drop-drop (length front) k w) ∙ (ap (drop (length front)) e ∙ drop_at front rest (length front) refl))
 
-same_nine : (a b c d e f g h i a' b' c' d' e' f' g' h' i' : ℕ) (t t' : List ℕ) → a ≡ a' → b ≡ b' → c ≡ c' → d ≡ d' → e ≡ e' → f ≡ f' → g ≡ g' → h ≡ h' → i ≡ i' → t ≡ t'
+same_nine : (a b c d e f g h i a' b' c' d' e' f' g' h' i' : ℕ) (t t' : List ℕ) → a ≡ a' → b ≡ b'
+    → c ≡ c' → d ≡ d' → e ≡ e' → f ≡ f' → g ≡ g' → h ≡ h' → i ≡ i' → t ≡ t'
     → a ∷ b ∷ c ∷ d ∷ e ∷ f ∷ g ∷ h ∷ i ∷ t ≡ a' ∷ b' ∷ c' ∷ d' ∷ e' ∷ f' ∷ g' ∷ h' ∷ i' ∷ t'
 same_nine a b c d e f g h i a' b' c' d' e' f' g' h' i' t t' ea eb ec ed ee ef eg eh ei et = cc
 
-four_numbers_same : (a b c d a' b' c' d' : ℕ) → a ≡ a' → b ≡ b' → c ≡ c' → d ≡ d' → four_numbers a b c d ≡ four_numbers a' b' c' d'
+four_numbers_same : (a b c d a' b' c' d' : ℕ) → a ≡ a' → b ≡ b' → c ≡ c' → d ≡ d'
+    → four_numbers a b c d ≡ four_numbers a' b' c' d'
 four_numbers_same a b c d a' b' c' d' ea eb ec ed = omega (arith, ea, eb, ec, ed)
 
 regroup_4 : (a b c d t : List ℕ) → a ++ (b ++ (c ++ (d ++ t))) ≡ (a ++ b ++ c ++ d) ++ t
@@ -161,14 +177,18 @@ module _ (w : List ℕ) (c : ClassFile) (m1 m2 m3 m4 a1 a2 a3 r1 r2 r3 r4 : List
   AO = attributes last_runs_at c.attributes
 
   main_parts : drop 9 w ≡ D ++ (c.interfaces ++ (MF ++ (MM ++ m4)))
-  main_parts = slots.main_split ∙ ap (λ x. D ++ x) (interfaces.split ∙ ap (λ x. c.interfaces ++ x) (fields.main_split ∙ ap (λ x. MF ++ x) methods.main_split))
+  main_parts = slots.main_split ∙ ap (λ x. D ++ x) (interfaces.split ∙ ap
+      (λ x. c.interfaces ++ x) (fields.main_split ∙ ap (λ x. MF ++ x) methods.main_split))
 
   attribute_parts : drop (get_or w 6 0) w ≡ AF ++ (AM ++ (AO ++ a3))
   attribute_parts = fields.split ∙ ap (λ x. AF ++ x) (methods.split ∙ ap (λ x. AM ++ x) own.split)
 
   run_parts : drop (get_or w 7 0) w ≡ utf8_runs c.slots ++ (attribute_runs (member_attributes c.fields) ++ (attribute_runs (member_attributes c.methods) ++ (attribute_runs c.attributes ++ [])))
-  run_parts = slots.run_split ∙ ap (λ x. utf8_runs c.slots ++ x) (fields.run_split ∙ ap (λ x. attribute_runs (member_attributes c.fields) ++ x)
-      (methods.run_split ∙ ap (λ x. attribute_runs (member_attributes c.methods) ++ x) (own.run_split ∙ ap (λ x. attribute_runs c.attributes ++ x) (none_left r4 ends.runs_end))))
+  run_parts = slots.run_split ∙ ap (λ x. utf8_runs c.slots ++ x) (fields.run_split ∙ ap
+      (λ x. attribute_runs (member_attributes c.fields) ++ x)
+      (methods.run_split ∙ ap
+      (λ x. attribute_runs (member_attributes c.methods) ++ x) (own.run_split ∙ ap
+      (λ x. attribute_runs c.attributes ++ x) (none_left r4 ends.runs_end))))
 
   -- the members end where the attributes begin, and these where the runs begin
   members_end : m4 ≡ drop (get_or w 6 0) w
@@ -219,7 +239,9 @@ module _ (w : List ℕ) (c : ClassFile) (m1 m2 m3 m4 a1 a2 a3 r1 r2 r3 r4 : List
 
   tail : drop 9 w ≡ main_tail c
   tail =
-      main_parts ∙ (ap (λ x. D ++ (c.interfaces ++ (MF ++ (MM ++ x)))) (members_end ∙ (attribute_parts ∙ ap (λ x. AF ++ (AM ++ (AO ++ x))) (attributes_end ∙ run_parts)))
+      main_parts ∙ (ap
+      (λ x. D ++ (c.interfaces ++ (MF ++ (MM ++ x)))) (members_end ∙ (attribute_parts ∙ ap
+      (λ x. AF ++ (AM ++ (AO ++ x))) (attributes_end ∙ run_parts)))
       ∙ rw (attributes_place, runs_place) refl)
 
   pub laid : w ≡ lay c
@@ -244,14 +266,18 @@ module _ (w : List ℕ) (c : ClassFile) (m1 m2 m3 m4 a1 a2 a3 r1 r2 r3 r4 : List
       ∙ sym (nine (lay c) long))
 
 -- what was read of the pool and the interfaces, part by part
-pool_parts : (total count n : ℕ) (main runs : List ℕ) (p : List Slot × List ℕ × List ℕ × List ℕ) → pool_from total count n main runs ≡ Some p
-    → (m : List ℕ) × (slots_at total false count main runs ≡ Some (p.0, m, p.3)) × (interfaces_from n m ≡ Some (p.1, p.2))
+pool_parts : (total count n : ℕ) (main runs : List ℕ) (p : List Slot × List ℕ × List ℕ × List ℕ)
+    → pool_from total count n main runs ≡ Some p
+    → (m : List ℕ) × (slots_at total false count main runs ≡ Some (p.0, m, p.3))
+    × (interfaces_from n m ≡ Some (p.1, p.2))
 unfolding pool_from
 pool_parts total count n main runs p e =
     let s = bind_some (slots_at total false count main runs) _ p e in
     let i = bind_some (interfaces_from n s.0.1) _ p s.2 in
     let same : (s.0.0, i.0.0, i.0.1, s.0.2) ≡ p = some_same _ p i.2 in
-    subst (λ (x : List Slot × List ℕ × List ℕ × List ℕ). (m : List ℕ) × (slots_at total false count main runs ≡ Some (x.0, m, x.3)) × (interfaces_from n m ≡ Some (x.1, x.2))) same (s.0.1, s.1, i.1)
+    subst (λ (x : List Slot × List ℕ × List ℕ × List ℕ). (m : List ℕ)
+    × (slots_at total false count main runs ≡ Some (x.0, m, x.3))
+    × (interfaces_from n m ≡ Some (x.1, x.2))) same (s.0.1, s.1, i.1)
 
 -- and of what stands behind them
 record BodyParts (total fields methods own : ℕ) (main attrs runs : List ℕ) (p : List Member × List Member × List Attribute × List ℕ × List ℕ × List ℕ) : Type 0 where
@@ -261,7 +287,9 @@ record BodyParts (total fields methods own : ℕ) (main attrs runs : List ℕ) (
   of_methods : members_from total methods between.0 between.1 between.2 ≡ Some (p.1, p.3, behind.0, behind.1)
   of_class : attributes_from total own behind.0 behind.1 ≡ Some (p.2, p.4, p.5)
 
-body_parts : (total fields methods own : ℕ) (main attrs runs : List ℕ) (p : List Member × List Member × List Attribute × List ℕ × List ℕ × List ℕ) → body_from total fields methods own main attrs runs ≡ Some p
+body_parts : (total fields methods own : ℕ) (main attrs runs : List ℕ) (p : List Member
+    × List Member × List Attribute × List ℕ × List ℕ × List ℕ)
+    → body_from total fields methods own main attrs runs ≡ Some p
     → BodyParts total fields methods own main attrs runs p
 unfolding body_from
 body_parts total fields methods own main attrs runs p e =
@@ -272,7 +300,8 @@ body_parts total fields methods own main attrs runs p e =
     subst (BodyParts total fields methods own main attrs runs) same (record { between = (f.0.1, f.0.2, f.0.3); behind = (m.0.2, m.0.3); of_fields = f.1; of_methods = m.1; of_class = a.1 })
 
 -- where a class is read, the words are its layout
-pub class_taken : (w : List ℕ) (c : ClassFile) → get_or w 1 0 < 2 ^ 64 → get_or w 2 0 < 2 ^ 64 → class_at w ≡ Some c → HasSpelling c × (w ≡ lay c)
+pub class_taken : (w : List ℕ) (c : ClassFile) → get_or w 1 0 < 2 ^ 64 → get_or w 2 0 < 2 ^ 64
+    → class_at w ≡ Some c → HasSpelling c × (w ≡ lay c)
 unfolding class_at
 class_taken w c small_1 small_2 e =
     let total = length w in
@@ -334,11 +363,15 @@ read_of_record w (c, is) = ap is_some (ap class_at is.laid ∙ class_again c is.
 
 -- ---- what reading answers
 
-pub read_is_record : (w : List ℕ) → get_or w 1 0 < 2 ^ 64 → get_or w 2 0 < 2 ^ 64 → length w ≤ limit → (r : Result ClassFile RecordFault) → Gives (λ c. c) r (class_at w) → IfOk r (λ c. IsRecordOf c w)
+pub read_is_record : (w : List ℕ) → get_or w 1 0 < 2 ^ 64 → get_or w 2 0 < 2 ^ 64
+    → length w ≤ limit → (r : Result ClassFile RecordFault) → Gives (λ c. c) r (class_at w)
+    → IfOk r (λ c. IsRecordOf c w)
 read_is_record w small_1 small_2 short (Ok c) read = let taken = class_taken w c small_1 small_2 read in record { spelled = taken.0; laid = taken.1; short = short }
 read_is_record w small_1 small_2 short (Err e) read = tt
 
-pub refused_is_none : (w : List ℕ) (r : Result ClassFile RecordFault) → Gives (λ c. c) r (class_at w) → IsErrOf r NotARecord → IsRecord w → ⊥
+pub refused_is_none : (w : List ℕ) (r : Result ClassFile RecordFault) → Gives
+    (λ c. c) r (class_at w) → IsErrOf r NotARecord → IsRecord w → ⊥
 refused_is_none w r read refused is =
-    let none : class_at w ≡ None = subst (λ (x : Result ClassFile RecordFault). Gives (λ c. c) x (class_at w)) refused read in
+    let none : class_at w ≡ None = subst (λ (x : Result ClassFile RecordFault). Gives
+    (λ c. c) x (class_at w)) refused read in
     always_read w is none

@@ -1,17 +1,31 @@
 -- A whole record is read again.
-use Rattle.std.proofs.Common.{◌≡◌, ◌≤◌, ◌+◌, ◌-◌, ◌*◌, ℕ, true, false, List, [], ◌++◌, length, get_or, drop, Some, None, refl, sym, ◌∙◌, ap, subst, arith, length-append}
+use Rattle.std.proofs.Common.{◌≡◌, ◌≤◌, ◌+◌, ◌-◌, ◌*◌, ℕ, true, false, List, [], ◌++◌, length}
+use Rattle.std.proofs.Common.{get_or, drop, Some, None, refl, sym, ◌∙◌, ap, subst, arith}
+use Rattle.std.proofs.Common.{length-append}
 use Rattle.std.proofs.lemmas.Bool.{eq-eqb, le-leb, and_from}
 use Rattle.cm_class.specs.declared.class_file.ClassFile.{ClassFile}
 use Rattle.cm_class.specs.Spelling.{HasSpelling}
 use Rattle.cm_record_layout.specs.Packing.{first_of, second_of, third_of, fourth_of}
-use Rattle.cm_record_layout.specs.Layout.{lay, utf8_runs, members, attributes, attribute_runs, attributes_at, runs_at, attribute_runs_at, IsRecordOf, IsRecord}
+use Rattle.cm_record_layout.specs.Layout.{lay, utf8_runs, members, attributes, attribute_runs}
+use Rattle.cm_record_layout.specs.Layout.{attributes_at, runs_at, attribute_runs_at, IsRecordOf}
+use Rattle.cm_record_layout.specs.Layout.{IsRecord}
 use Rattle.cm_record_layout.proofs.Lengths.{all_members_len, attributes_len, lay_len}
-use Rattle.cm_record_layout.proofs.Sections.{of_fields, of_methods, method_runs_at, own_runs_at, methods_at, runs_tail, attributes_tail, main_tail, attributes_there, attributes_tail_len, runs_there, runs_tail_len, main_there, word_0, word_3, word_4, word_5, word_6, word_7, word_8, flags_there, this_there, super_there, interfaces_there, count_there, fields_there, methods_there, own_there}
-use Rattle.cm_record_reading.specs.Reading.{slots_at, interfaces_from, attributes_from, members_from, head_is_right, sections_end, pool_from, body_from, class_at}
-use Rattle.cm_record_reading.proofs.Again.{slots_again, interfaces_again, members_again, attributes_again}
+use Rattle.cm_record_layout.proofs.Sections.{of_fields, of_methods, method_runs_at, own_runs_at}
+use Rattle.cm_record_layout.proofs.Sections.{methods_at, runs_tail, attributes_tail, main_tail}
+use Rattle.cm_record_layout.proofs.Sections.{attributes_there, attributes_tail_len, runs_there}
+use Rattle.cm_record_layout.proofs.Sections.{runs_tail_len, main_there, word_0, word_3, word_4}
+use Rattle.cm_record_layout.proofs.Sections.{word_5, word_6, word_7, word_8, flags_there}
+use Rattle.cm_record_layout.proofs.Sections.{this_there, super_there, interfaces_there, count_there}
+use Rattle.cm_record_layout.proofs.Sections.{fields_there, methods_there, own_there}
+use Rattle.cm_record_reading.specs.Reading.{slots_at, interfaces_from, attributes_from}
+use Rattle.cm_record_reading.specs.Reading.{members_from, head_is_right, sections_end, pool_from}
+use Rattle.cm_record_reading.specs.Reading.{body_from, class_at}
+use Rattle.cm_record_reading.proofs.Again.{slots_again, interfaces_again, members_again}
+use Rattle.cm_record_reading.proofs.Again.{attributes_again}
 
 -- the tests of a head, one by one
-pub head_right : (words : List ℕ) → 9 ≤ length words → get_or words 0 0 ≡ length words → get_or words 3 0 ≡ 8 → get_or words 8 0 ≡ 0
+pub head_right : (words : List ℕ) → 9 ≤ length words → get_or words 0 0 ≡ length words
+    → get_or words 3 0 ≡ 8 → get_or words 8 0 ≡ 0
     → 1 ≤ first_of (get_or words 2 0)
     → get_or words 4 0 ≡ 8 + first_of (get_or words 2 0)
     → get_or words 5 0 ≡ get_or words 4 0 + fourth_of (get_or words 1 0)
@@ -25,14 +39,22 @@ head_right words h0 h1 h2 h3 h4 h5 h6 h7 h8 h9 =
     (eq-eqb (get_or words 6 0) (get_or words 5 0 + 2 * (second_of (get_or words 2 0) + third_of (get_or words 2 0))) h7))
     (le-leb (get_or words 6 0) (length words) h8)) (le-leb (get_or words 7 0) (length words) h9)
 
-pub ends_right : (words main attrs runs : List ℕ) → length main + get_or words 6 0 ≡ length words → length attrs + get_or words 7 0 ≡ length words → length runs ≡ 0 → sections_end words main attrs runs ≡ true
+pub ends_right : (words main attrs runs : List ℕ) → length main + get_or words 6 0 ≡ length words
+    → length attrs + get_or words 7 0 ≡ length words → length runs ≡ 0
+    → sections_end words main attrs runs ≡ true
 ends_right words main attrs runs h0 h1 h2 =
     and_from _ _ (and_from _ _ (eq-eqb (length main + get_or words 6 0) (length words) h0) (eq-eqb (length attrs + get_or words 7 0) (length words) h1)) (eq-eqb (length runs) 0 h2)
 
 -- reading step by step
-class_read : (words : List ℕ) (c : ClassFile) (m1 m2 m3 m4 a1 a2 a3 r1 r2 r3 r4 : List ℕ) → head_is_right words ≡ true
-    → first_of (get_or words 1 0) ≡ c.flags → second_of (get_or words 1 0) ≡ c.this_class → third_of (get_or words 1 0) ≡ c.super_class → fourth_of (get_or words 1 0) ≡ length c.interfaces
-    → first_of (get_or words 2 0) - 1 ≡ length c.slots → second_of (get_or words 2 0) ≡ length c.fields → third_of (get_or words 2 0) ≡ length c.methods → fourth_of (get_or words 2 0) ≡ length c.attributes
+class_read : (words : List ℕ) (c : ClassFile) (m1 m2 m3 m4 a1 a2 a3 r1 r2 r3 r4 : List ℕ)
+    → head_is_right words ≡ true
+    → first_of (get_or words 1 0) ≡ c.flags → second_of (get_or words 1 0) ≡ c.this_class
+    → third_of (get_or words 1 0) ≡ c.super_class
+    → fourth_of (get_or words 1 0) ≡ length c.interfaces
+    → first_of (get_or words 2 0) - 1 ≡ length c.slots
+    → second_of (get_or words 2 0) ≡ length c.fields
+    → third_of (get_or words 2 0) ≡ length c.methods
+    → fourth_of (get_or words 2 0) ≡ length c.attributes
     → slots_at (length words) false (length c.slots) (drop 9 words) (drop (get_or words 7 0) words) ≡ Some (c.slots, m1, r1)
     → interfaces_from (length c.interfaces) m1 ≡ Some (c.interfaces, m2)
     → members_from (length words) (length c.fields) m2 (drop (get_or words 6 0) words) r1 ≡ Some (c.fields, m3, a1, r2)
@@ -69,8 +91,10 @@ module _ (c : ClassFile) (spelled : HasSpelling c) where
       let r2_len = length-append (attribute_runs (of_methods c)) r3 in
       let a0_len = length-append (attributes (attribute_runs_at c) (of_fields c)) a1 in
       let main : drop 9 (lay c) ≡ main_tail c = main_there c spelled in
-      let attrs : drop (get_or (lay c) 6 0) (lay c) ≡ attributes_tail c = ap (λ n. drop n (lay c)) (word_6 c) ∙ attributes_there c spelled in
-      let runs : drop (get_or (lay c) 7 0) (lay c) ≡ runs_tail c = ap (λ n. drop n (lay c)) (word_7 c) ∙ runs_there c spelled in
+      let attrs : drop (get_or (lay c) 6 0) (lay c) ≡ attributes_tail c = ap
+      (λ n. drop n (lay c)) (word_6 c) ∙ attributes_there c spelled in
+      let runs : drop (get_or (lay c) 7 0) (lay c) ≡ runs_tail c = ap
+      (λ n. drop n (lay c)) (word_7 c) ∙ runs_there c spelled in
       let s1 : slots_at total false (length c.slots) (drop 9 (lay c)) (drop (get_or (lay c) 7 0) (lay c)) ≡ Some (c.slots, c.interfaces ++ i_tail, r1) =
       rw (main, runs) (slots_again total (runs_at c) false c.slots (c.interfaces ++ i_tail) r1 spelled.slots (omega (arith, runs_size))) in
       let s2 = interfaces_again c.interfaces i_tail spelled.interfaces.1 in
@@ -92,11 +116,13 @@ class_of_record : (c : ClassFile) (words : List ℕ) → IsRecordOf c words → 
 class_of_record c words is = ap class_at is.laid ∙ class_again c is.spelled
 
 -- there is one
-pub same_class : (c d : ClassFile) (words : List ℕ) → IsRecordOf c words → IsRecordOf d words → c ≡ d
+pub same_class : (c d : ClassFile) (words : List ℕ) → IsRecordOf c words → IsRecordOf d words
+    → c ≡ d
 same_class c d words of_c of_d = let both : Some c ≡ Some d = sym (class_of_record c words of_c) ∙ class_of_record d words of_d in cc
 
 -- it is the one that is read
-pub read_class_is : (c : ClassFile) (words : List ℕ) → IsRecord words → class_at words ≡ Some c → IsRecordOf c words
+pub read_class_is : (c : ClassFile) (words : List ℕ) → IsRecord words → class_at words ≡ Some c
+    → IsRecordOf c words
 read_class_is c words (d, is) read =
     let both : Some d ≡ Some c = sym (class_of_record d words is) ∙ read in
     let same : d ≡ c = cc in

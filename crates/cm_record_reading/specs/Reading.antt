@@ -1,7 +1,9 @@
--- Reading a class from the words of a record, as a function of lists: what is read, and what is left; none
--- where the words are no record. What it has to do with layouts is proved above it, in the law of this crate
--- and in `Record::read`.
-use Rattle.std.specs.Prelude.{◌≡◌, ℕ, zero, suc, ◌+◌, ◌-◌, ◌*◌, ◌/◌, ◌%◌, ◌^◌, Bool, true, false, List, [], ◌∷◌, ◌++◌, length, take, drop, get_or, Option, Some, None, Result, Ok, Err, nat_lt, nat_le, ◌==◌, ◌&&◌, if◌then◌else◌}
+-- Reading a class from the words of a record, as a function of lists: what is read, and what is
+-- left; none where the words are no record. What it has to do with layouts is proved above it, in
+-- the law of this crate and in `Record::read`.
+use Rattle.std.specs.Prelude.{◌≡◌, ℕ, zero, suc, ◌+◌, ◌-◌, ◌*◌, ◌/◌, ◌%◌, ◌^◌, Bool, true, false}
+use Rattle.std.specs.Prelude.{List, [], ◌∷◌, ◌++◌, length, take, drop, get_or, Option, Some, None}
+use Rattle.std.specs.Prelude.{Result, Ok, Err, nat_lt, nat_le, ◌==◌, ◌&&◌, if◌then◌else◌}
 use Rattle.cm_class.specs.declared.constant.Constant.{Constant}
 use Rattle.cm_class.specs.declared.constant.Constant.TheVariants as constant
 use Rattle.cm_class.specs.declared.constant.Slot.{Slot}
@@ -15,7 +17,8 @@ use Rattle.cm_record_reading.specs.declared.entry.Entry.TheVariants as entry
 use Rattle.cm_record_reading.specs.declared.fault.RecordFault.{RecordFault}
 use Rattle.cm_record_reading.specs.declared.fault.RecordFault.TheVariants.{NotARecord, NoMemory}
 use Rattle.cm_record_layout.specs.Layout.{whole_word}
-use Rattle.cm_record_layout.specs.Packing.{word_from, bytes_of, run_words, four_numbers, first_of, second_of, third_of, fourth_of, upper_of}
+use Rattle.cm_record_layout.specs.Packing.{word_from, bytes_of, run_words, four_numbers, first_of}
+use Rattle.cm_record_layout.specs.Packing.{second_of, third_of, fourth_of, upper_of}
 
 infixl 10 ◌>>=◌
 abbrev pub ◌>>=◌ : {A B : Type 0} → Option A → (A → Option B) → Option B
@@ -102,8 +105,8 @@ constant_from entry.Long main runs = wide_from constant.Long main runs
 constant_from entry.Double main runs = wide_from constant.Double main runs
 constant_from (entry.Whole c) main runs = Some (c, main, runs)
 
--- A constant, from the directory and the runs: what is left of each says where in the record, which has
--- `total` words, it begins.
+-- A constant, from the directory and the runs: what is left of each says where in the record, which
+-- has `total` words, it begins.
 unfoldable pub constant_at : ℕ → List ℕ → List ℕ → Option (Constant × List ℕ × List ℕ)
 constant_at total [] runs = None
 constant_at total (word ∷ main) runs = do
@@ -159,7 +162,8 @@ member_at total (word ∷ at ∷ main) attrs runs =
 member_at total _ attrs runs = None
 
 -- so many members
-unfoldable pub members_from : ℕ → ℕ → List ℕ → List ℕ → List ℕ → Option (List Member × List ℕ × List ℕ × List ℕ)
+unfoldable pub members_from : ℕ → ℕ → List ℕ → List ℕ → List ℕ → Option (List Member × List ℕ
+    × List ℕ × List ℕ)
 members_from total zero main attrs runs = Some ([], main, attrs, runs)
 members_from total (suc n) main attrs runs = do
   m ← member_at total main attrs runs
@@ -184,14 +188,16 @@ sections_end words main attrs runs =
     length main + get_or words 6 0 == length words && length attrs + get_or words 7 0 == length words && length runs == 0
 
 -- the slots of the pool and the interfaces, and what is left behind them
-unfoldable pub pool_from : ℕ → ℕ → ℕ → List ℕ → List ℕ → Option (List Slot × List ℕ × List ℕ × List ℕ)
+unfoldable pub pool_from : ℕ → ℕ → ℕ → List ℕ → List ℕ → Option (List Slot × List ℕ × List ℕ
+    × List ℕ)
 pool_from total count interfaces main runs = do
   slots ← slots_at total false count main runs
   those ← interfaces_from interfaces slots.1
   Some (slots.0, those.0, those.1, slots.2)
 
 -- the fields, the methods and the class's own attributes, and what is left behind them
-unfoldable pub body_from : ℕ → ℕ → ℕ → ℕ → List ℕ → List ℕ → List ℕ → Option (List Member × List Member × List Attribute × List ℕ × List ℕ × List ℕ)
+unfoldable pub body_from : ℕ → ℕ → ℕ → ℕ → List ℕ → List ℕ → List ℕ → Option (List Member
+    × List Member × List Attribute × List ℕ × List ℕ × List ℕ)
 body_from total fields methods own main attrs runs = do
   f ← members_from total fields main attrs runs
   m ← members_from total methods f.1 f.2 f.3
@@ -203,7 +209,8 @@ abbrev pub pool_of : List ℕ → Option (List Slot × List ℕ × List ℕ × L
 pool_of words = pool_from (length words) (first_of (get_or words 2 0) - 1) (fourth_of (get_or words 1 0)) (drop 9 words) (drop (get_or words 7 0) words)
 
 -- what stands behind them, from what they leave
-abbrev pub body_of : List ℕ → List ℕ → List ℕ → Option (List Member × List Member × List Attribute × List ℕ × List ℕ × List ℕ)
+abbrev pub body_of : List ℕ → List ℕ → List ℕ → Option (List Member × List Member
+    × List Attribute × List ℕ × List ℕ × List ℕ)
 body_of words main runs = body_from (length words) (second_of (get_or words 2 0)) (third_of (get_or words 2 0)) (fourth_of (get_or words 2 0)) main (drop (get_or words 6 0) words) runs
 
 unfoldable pub class_at : List ℕ → Option ClassFile
@@ -227,11 +234,13 @@ abbrev pub with_front : {A B : Type 0} → List A → Option (List A × B) → O
 with_front front None = None
 with_front front (Some read) = Some (front ++ read.0, read.1)
 
-abbrev pub with_front3 : {A B C : Type 0} → List A → Option (List A × B × C) → Option (List A × B × C)
+abbrev pub with_front3 : {A B C : Type 0} → List A → Option (List A × B × C) → Option (List A × B
+    × C)
 with_front3 front None = None
 with_front3 front (Some read) = Some (front ++ read.0, read.1, read.2)
 
-abbrev pub with_front4 : {A B C D : Type 0} → List A → Option (List A × B × C × D) → Option (List A × B × C × D)
+abbrev pub with_front4 : {A B C D : Type 0} → List A → Option (List A × B × C × D)
+    → Option (List A × B × C × D)
 with_front4 front None = None
 with_front4 front (Some read) = Some (front ++ read.0, read.1, read.2, read.3)
 
@@ -254,7 +263,8 @@ abbrev pub pool_left : Option (List Slot × List ℕ × List ℕ × List ℕ) �
 pool_left None = None
 pool_left (Some read) = Some (read.2, read.3)
 
-abbrev pub body_left : Option (List Member × List Member × List Attribute × List ℕ × List ℕ × List ℕ) → Option (List ℕ × List ℕ × List ℕ)
+abbrev pub body_left : Option (List Member × List Member × List Attribute × List ℕ × List ℕ
+    × List ℕ) → Option (List ℕ × List ℕ × List ℕ)
 body_left None = None
 body_left (Some read) = Some (read.3, read.4, read.5)
 

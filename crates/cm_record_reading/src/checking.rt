@@ -1,7 +1,11 @@
 //! Telling whether words are a record, without memory: the walk of `reading`, which keeps nothing.
 ghost use Rattle.std.specs.Prelude.{◌≡◌, ◌≤◌, length, false, ◌↔◌, IfSome, IsTrue, is_some};
 ghost use Rattle.cm_record_layout.specs.Layout.{limit, IsRecord};
-ghost use Rattle.cm_record_reading.specs.Reading.{Leaves, left1, left2, left3, width_left, run_at, constant_at, slots_at, interfaces_from, attribute_at, attributes_from, member_at, members_from, pool_from, pool_left, body_from, body_left, class_at};
+ghost use Rattle.cm_record_reading.specs.Reading.{Leaves, left1, left2, left3, width_left, run_at};
+ghost use Rattle.cm_record_reading.specs.Reading.{constant_at, slots_at, interfaces_from};
+ghost use Rattle.cm_record_reading.specs.Reading.{attribute_at, attributes_from, member_at};
+ghost use Rattle.cm_record_reading.specs.Reading.{members_from, pool_from, pool_left, body_from};
+ghost use Rattle.cm_record_reading.specs.Reading.{body_left, class_at};
 
 use crate::entry::{Entry, attribute_word, entry_at, is_wide};
 use crate::whole::{head_is_right, sections_end};
@@ -40,7 +44,8 @@ fn skip_constant<'a, 'b>(
 ) -> Option<(bool, &'a [u64], &'b [u64])>
     requires short { total ≤ limit }
     requires suffix { length runs.now ≤ total }
-    ensures left { Leaves (λ x. (x.0, x.1.now, x.2.now)) result (width_left (constant_at total main.now runs.now)) }
+    ensures left { Leaves
+        (λ x. (x.0, x.1.now, x.2.now)) result (width_left (constant_at total main.now runs.now)) }
     ensures suffix { IfSome result (λ x. length x.2.now ≤ length runs.now) }
 {
     let [word, main @ ..] = main else {
@@ -81,7 +86,8 @@ fn skip_slots<'a, 'b>(
 ) -> Option<(&'a [u64], &'b [u64])>
     requires short { total ≤ limit }
     requires suffix { length runs.now ≤ total }
-    ensures left { Leaves (λ x. (x.0.now, x.1.now)) result (left2 (slots_at total false count main.now runs.now)) }
+    ensures left { Leaves
+        (λ x. (x.0.now, x.1.now)) result (left2 (slots_at total false count main.now runs.now)) }
     ensures suffix { IfSome result (λ x. length x.1.now ≤ length runs.now) }
 {
     let mut second = false;
@@ -127,8 +133,10 @@ fn skip_attribute<'a, 'b>(
     runs: &'b [u64],
 ) -> Option<(&'a [u64], &'b [u64])>
     requires { length runs.now ≤ total }
-    ensures left { Leaves (λ x. (x.0.now, x.1.now)) result (left2 (attribute_at total attributes.now runs.now)) }
-    ensures suffixes { IfSome result (λ x. (length x.0.now ≤ length attributes.now) × (length x.1.now ≤ length runs.now)) }
+    ensures left { Leaves
+        (λ x. (x.0.now, x.1.now)) result (left2 (attribute_at total attributes.now runs.now)) }
+    ensures suffixes { IfSome result (λ x. (length x.0.now ≤ length attributes.now)
+        × (length x.1.now ≤ length runs.now)) }
 {
     let [word, at, behind @ ..] = attributes else {
         return None;
@@ -149,8 +157,10 @@ fn skip_attributes<'a, 'b>(
     runs: &'b [u64],
 ) -> Option<(&'a [u64], &'b [u64])>
     requires { length runs.now ≤ total }
-    ensures left { Leaves (λ x. (x.0.now, x.1.now)) result (left2 (attributes_from total count attributes.now runs.now)) }
-    ensures suffixes { IfSome result (λ x. (length x.0.now ≤ length attributes.now) × (length x.1.now ≤ length runs.now)) }
+    ensures left { Leaves
+        (λ x. (x.0.now, x.1.now)) result (left2 (attributes_from total count attributes.now runs.now)) }
+    ensures suffixes { IfSome result (λ x. (length x.0.now ≤ length attributes.now)
+        × (length x.1.now ≤ length runs.now)) }
 {
     let (mut attributes, mut runs) = (attributes, runs);
     for _ in 0..count {
@@ -171,8 +181,10 @@ fn skip_member<'a, 'b, 'c>(
 ) -> Option<(&'a [u64], &'b [u64], &'c [u64])>
     requires attributes { length attributes.now ≤ total }
     requires runs { length runs.now ≤ total }
-    ensures left { Leaves (λ x. (x.0.now, x.1.now, x.2.now)) result (left3 (member_at total main.now attributes.now runs.now)) }
-    ensures suffixes { IfSome result (λ x. (length x.1.now ≤ length attributes.now) × (length x.2.now ≤ length runs.now)) }
+    ensures left { Leaves
+        (λ x. (x.0.now, x.1.now, x.2.now)) result (left3 (member_at total main.now attributes.now runs.now)) }
+    ensures suffixes { IfSome result (λ x. (length x.1.now ≤ length attributes.now)
+        × (length x.2.now ≤ length runs.now)) }
 {
     let [word, at, behind @ ..] = main else {
         return None;
@@ -195,8 +207,10 @@ fn skip_members<'a, 'b, 'c>(
 ) -> Option<(&'a [u64], &'b [u64], &'c [u64])>
     requires attributes { length attributes.now ≤ total }
     requires runs { length runs.now ≤ total }
-    ensures left { Leaves (λ x. (x.0.now, x.1.now, x.2.now)) result (left3 (members_from total count main.now attributes.now runs.now)) }
-    ensures suffixes { IfSome result (λ x. (length x.1.now ≤ length attributes.now) × (length x.2.now ≤ length runs.now)) }
+    ensures left { Leaves
+        (λ x. (x.0.now, x.1.now, x.2.now)) result (left3 (members_from total count main.now attributes.now runs.now)) }
+    ensures suffixes { IfSome result (λ x. (length x.1.now ≤ length attributes.now)
+        × (length x.2.now ≤ length runs.now)) }
 {
     let (mut main, mut attributes, mut runs) = (main, attributes, runs);
     for _ in 0..count {

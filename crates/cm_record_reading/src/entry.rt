@@ -2,14 +2,17 @@
 ghost use Rattle.std.specs.Prelude.{◌≡◌, ◌≤◌, ◌<◌, ◌+◌, ◌*◌, ◌^◌};
 ghost use Rattle.cm_class.specs.Spelling.{is_wide as is_wide_of};
 ghost use Rattle.cm_record_layout.specs.Layout.{limit};
-ghost use Rattle.cm_record_layout.specs.Packing.{first_of, second_of, third_of, fourth_of, upper_of};
-ghost use Rattle.cm_record_reading.specs.Reading.{candidate as candidate_of, entry_word as entry_word_of, entry_of, attribute_word as attribute_word_of};
+ghost use Rattle.cm_record_layout.specs.Packing.{first_of, second_of, third_of, fourth_of};
+ghost use Rattle.cm_record_layout.specs.Packing.{upper_of};
+ghost use Rattle.cm_record_reading.specs.Reading.{candidate as candidate_of};
+ghost use Rattle.cm_record_reading.specs.Reading.{entry_word as entry_word_of, entry_of};
+ghost use Rattle.cm_record_reading.specs.Reading.{attribute_word as attribute_word_of};
 
 use cm_class::Constant;
 use cm_record_layout::{SECOND, THIRD, first, fourth, second, third, upper, whole_word};
 
-/// What a word of the directory stands for: a Utf8 with its length, the beginning of a wide constant, or a
-/// whole constant.
+/// What a word of the directory stands for: a Utf8 with its length, the beginning of a wide
+/// constant, or a whole constant.
 #[derive(Debug, Drop)]
 pub(crate) enum Entry {
     Utf8(u16),

@@ -1,8 +1,10 @@
-//! Reading a class from the words of a record. Each function reads from slices that end where the record
-//! ends, so what is left of one says where in the record it begins.
+//! Reading a class from the words of a record. Each function reads from slices that end where the
+//! record ends, so what is left of one says where in the record it begins.
 ghost use Rattle.std.specs.Prelude.{◌≡◌, ◌≤◌, length, false, IfOk};
 ghost use Rattle.cm_record_layout.specs.Layout.{limit};
-ghost use Rattle.cm_record_reading.specs.Reading.{Gives, run_at, constant_at, slots_at, interfaces_from, attribute_at, attributes_from, member_at, members_from};
+ghost use Rattle.cm_record_reading.specs.Reading.{Gives, run_at, constant_at, slots_at};
+ghost use Rattle.cm_record_reading.specs.Reading.{interfaces_from, attribute_at, attributes_from};
+ghost use Rattle.cm_record_reading.specs.Reading.{member_at, members_from};
 
 use crate::entry::{Entry, attribute_word, entry_at, is_wide};
 use crate::fault::RecordFault;
@@ -48,7 +50,8 @@ fn read_constant<'a, 'b>(
 ) -> Result<(Constant, &'a [u64], &'b [u64]), RecordFault>
     requires short { total ≤ limit }
     requires suffix { length runs.now ≤ total }
-    ensures read { Gives (λ x. (x.0, x.1.now, x.2.now)) result (constant_at total main.now runs.now) }
+    ensures read { Gives
+        (λ x. (x.0, x.1.now, x.2.now)) result (constant_at total main.now runs.now) }
     ensures suffix { IfOk result (λ x. length x.2.now ≤ length runs.now) }
 {
     let [word, main @ ..] = main else {
@@ -86,7 +89,8 @@ pub(crate) fn read_slots<'a, 'b>(
 ) -> Result<(Vec<Slot>, &'a [u64], &'b [u64]), RecordFault>
     requires short { total ≤ limit }
     requires suffix { length runs.now ≤ total }
-    ensures read { Gives (λ x. (x.0.items, x.1.now, x.2.now)) result (slots_at total false count main.now runs.now) }
+    ensures read { Gives
+        (λ x. (x.0.items, x.1.now, x.2.now)) result (slots_at total false count main.now runs.now) }
     ensures suffix { IfOk result (λ x. length x.2.now ≤ length runs.now) }
 {
     let mut slots = Vec::new(alloc);
@@ -142,8 +146,10 @@ fn read_attribute<'a, 'b>(
     runs: &'b [u64],
 ) -> Result<(Attribute, &'a [u64], &'b [u64]), RecordFault>
     requires { length runs.now ≤ total }
-    ensures read { Gives (λ x. (x.0, x.1.now, x.2.now)) result (attribute_at total attributes.now runs.now) }
-    ensures suffixes { IfOk result (λ x. (length x.1.now ≤ length attributes.now) × (length x.2.now ≤ length runs.now)) }
+    ensures read { Gives
+        (λ x. (x.0, x.1.now, x.2.now)) result (attribute_at total attributes.now runs.now) }
+    ensures suffixes { IfOk result (λ x. (length x.1.now ≤ length attributes.now)
+        × (length x.2.now ≤ length runs.now)) }
 {
     let [word, at, behind @ ..] = attributes else {
         return Err(RecordFault::NotARecord);
@@ -166,8 +172,10 @@ pub(crate) fn read_attributes<'a, 'b>(
     runs: &'b [u64],
 ) -> Result<(Vec<Attribute>, &'a [u64], &'b [u64]), RecordFault>
     requires { length runs.now ≤ total }
-    ensures read { Gives (λ x. (x.0.items, x.1.now, x.2.now)) result (attributes_from total count attributes.now runs.now) }
-    ensures suffixes { IfOk result (λ x. (length x.1.now ≤ length attributes.now) × (length x.2.now ≤ length runs.now)) }
+    ensures read { Gives
+        (λ x. (x.0.items, x.1.now, x.2.now)) result (attributes_from total count attributes.now runs.now) }
+    ensures suffixes { IfOk result (λ x. (length x.1.now ≤ length attributes.now)
+        × (length x.2.now ≤ length runs.now)) }
 {
     let mut these = Vec::new(alloc);
     let (mut attributes, mut runs) = (attributes, runs);
@@ -191,8 +199,10 @@ fn read_member<'a, 'b, 'c>(
 ) -> Result<(Member, &'a [u64], &'b [u64], &'c [u64]), RecordFault>
     requires attributes { length attributes.now ≤ total }
     requires runs { length runs.now ≤ total }
-    ensures read { Gives (λ x. (x.0, x.1.now, x.2.now, x.3.now)) result (member_at total main.now attributes.now runs.now) }
-    ensures suffixes { IfOk result (λ x. (length x.2.now ≤ length attributes.now) × (length x.3.now ≤ length runs.now)) }
+    ensures read { Gives
+        (λ x. (x.0, x.1.now, x.2.now, x.3.now)) result (member_at total main.now attributes.now runs.now) }
+    ensures suffixes { IfOk result (λ x. (length x.2.now ≤ length attributes.now)
+        × (length x.3.now ≤ length runs.now)) }
 {
     let [word, at, behind @ ..] = main else {
         return Err(RecordFault::NotARecord);
@@ -222,8 +232,10 @@ pub(crate) fn read_members<'a, 'b, 'c>(
 ) -> Result<(Vec<Member>, &'a [u64], &'b [u64], &'c [u64]), RecordFault>
     requires attributes { length attributes.now ≤ total }
     requires runs { length runs.now ≤ total }
-    ensures read { Gives (λ x. (x.0.items, x.1.now, x.2.now, x.3.now)) result (members_from total count main.now attributes.now runs.now) }
-    ensures suffixes { IfOk result (λ x. (length x.2.now ≤ length attributes.now) × (length x.3.now ≤ length runs.now)) }
+    ensures read { Gives
+        (λ x. (x.0.items, x.1.now, x.2.now, x.3.now)) result (members_from total count main.now attributes.now runs.now) }
+    ensures suffixes { IfOk result (λ x. (length x.2.now ≤ length attributes.now)
+        × (length x.3.now ≤ length runs.now)) }
 {
     let mut these = Vec::new(alloc);
     let (mut main, mut attributes, mut runs) = (main, attributes, runs);

@@ -1,7 +1,9 @@
 //! Reading a whole record.
 ghost use Rattle.std.specs.Prelude.{◌≡◌, ◌≤◌, ◌+◌, ◌↔◌, length, slice_index, IsTrue, IfOk, IsErrOf};
 ghost use Rattle.cm_record_layout.specs.Layout.{limit, IsRecord, IsRecordOf};
-ghost use Rattle.cm_record_reading.specs.Reading.{Gives, head_is_right as head_is_right_of, sections_end as sections_end_of, pool_from, body_from, class_at};
+ghost use Rattle.cm_record_reading.specs.Reading.{Gives, head_is_right as head_is_right_of};
+ghost use Rattle.cm_record_reading.specs.Reading.{sections_end as sections_end_of, pool_from};
+ghost use Rattle.cm_record_reading.specs.Reading.{body_from, class_at};
 ghost use Rattle.cm_record_layout.specs.Packing.{first_of};
 
 use crate::fault::RecordFault;
@@ -91,7 +93,8 @@ fn read_body<'a, 'b, 'c>(
 ) -> Result<Body<'a, 'b, 'c>, RecordFault>
     requires attributes { length attributes.now ≤ total }
     requires runs { length runs.now ≤ total }
-    ensures { Gives (λ x. (x.fields.items, x.methods.items, x.own.items, x.main.now, x.attributes.now, x.runs.now)) result
+    ensures { Gives
+        (λ x. (x.fields.items, x.methods.items, x.own.items, x.main.now, x.attributes.now, x.runs.now)) result
         (body_from total counts.0 counts.1 counts.2 main.now attributes.now runs.now) }
 {
     let (fields, main, attributes, runs) = read_members(
@@ -153,8 +156,8 @@ fn class_of_words(alloc: Global, words: &[u64]) -> Result<ClassFile, RecordFault
     })
 }
 
-/// The class that has these words as its record. `NotARecord` comes only where no class has, `NoMemory` only where an
-/// allocation failed.
+/// The class that has these words as its record. `NotARecord` comes only where no class has,
+/// `NoMemory` only where an allocation failed.
 pub fn read_class(alloc: Global, words: &[u64]) -> Result<ClassFile, RecordFault>
     requires { length words.now ≤ limit }
     ensures ok { IfOk result (λ c. IsRecordOf c words.now) }

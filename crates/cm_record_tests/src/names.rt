@@ -22,7 +22,8 @@ fn accessors_give_the_parts_of_the_class(rt: HostRuntime) -> Result<(), Fail> {
     Ok(())
 }
 
-// this_class may lead nowhere, to a Utf8, or, at the second slot of a Long, to bits that look like a Class.
+// this_class may lead nowhere, to a Utf8, or, at the second slot of a Long, to bits that look like
+// a Class.
 #[test]
 fn a_name_that_leads_to_no_utf8_is_empty(rt: HostRuntime) -> Result<(), Fail> {
     let alloc = rt.alloc();

@@ -18,8 +18,8 @@ fn other_words_are_no_record(rt: HostRuntime) -> Result<(), Fail> {
     let fault = Some(RecordFault::NotARecord);
     assert_eq!(rt; Record::read(alloc, &[]).err(), fault);
     assert_eq!(rt; Record::read(alloc, &RECORD_A[..15]).err(), fault);
-    // The place of a word, and what stands there: a number of words, a section's place, slot 0, a tag, a run's
-    // place, an unused half word, bytes behind the end of a run.
+    // The place of a word, and what stands there: a number of words, a section's place, slot 0, a
+    // tag, a run's place, an unused half word, bytes behind the end of a run.
     let wrong = [
         (0, 0x11),
         (2, 4),

@@ -73,7 +73,8 @@ fn constants_stand_at_their_indexes(rt: HostRuntime) -> Result<(), Fail> {
     Ok(())
 }
 
-// Longs whose bits look like the directory words of Longs: each second slot is unusable all the same.
+// Longs whose bits look like the directory words of Longs: each second slot is unusable all the
+// same.
 #[test]
 fn bits_that_look_like_constants_are_none(rt: HostRuntime) -> Result<(), Fail> {
     let alloc = rt.alloc();
@@ -111,8 +112,8 @@ const BODY: [u8; 21] = [
     0, 2, 0, 3, 0, 0, 0, 1, 0xb1, 0, 1, 0, 0, 0, 1, 0, 0, 0, 0, 0, 0,
 ];
 
-// Class A with two fields `m` of I and `()V`, a method `m` of I without attributes, and two methods `m` of `()V`: the
-// first has an attribute `m` and two `Code`, of these bytes and of none.
+// Class A with two fields `m` of I and `()V`, a method `m` of I without attributes, and two methods
+// `m` of `()V`: the first has an attribute `m` and two `Code`, of these bytes and of none.
 fn with_members(alloc: Global, body: &[u8]) -> Result<Record, Fail> {
     let mut bytes = CLASS_A[..POOL_END].to_vec(alloc)?;
     bytes[9] = 9;
@@ -193,7 +194,8 @@ fn code_lies_where_it_says(rt: HostRuntime) -> Result<(), Fail> {
     Ok(())
 }
 
-// Ten bytes are there before the code's end is known, and the handlers begin behind a byte of code and their number.
+// Ten bytes are there before the code's end is known, and the handlers begin behind a byte of code
+// and their number.
 #[test]
 fn a_code_that_ends_early_is_none(rt: HostRuntime) -> Result<(), Fail> {
     let alloc = rt.alloc();

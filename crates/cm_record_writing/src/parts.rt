@@ -1,6 +1,9 @@
 //! The parts of a class's record, each made of sections.
 ghost use Rattle.std.specs.Prelude.{◌≡◌, ◌≤◌, ◌+◌, ◌++◌, ◌∷◌, length};
-ghost use Rattle.cm_record_layout.specs.Layout.{head, directory, members, member_attributes, attributes, attribute_runs, utf8_runs, all_members, all_attributes, attributes_at, runs_at, attribute_runs_at, record_len, limit};
+ghost use Rattle.cm_record_layout.specs.Layout.{head, directory, members, member_attributes};
+ghost use Rattle.cm_record_layout.specs.Layout.{attributes, attribute_runs, utf8_runs, all_members};
+ghost use Rattle.cm_record_layout.specs.Layout.{all_attributes, attributes_at, runs_at};
+ghost use Rattle.cm_record_layout.specs.Layout.{attribute_runs_at, record_len, limit};
 ghost use Rattle.cm_record_writing.specs.Places.{ArePlaces};
 
 use crate::places::Places;

@@ -1,7 +1,8 @@
 //! Where the sections of a class's record lie.
 ghost use Rattle.std.specs.Prelude.{◌≡◌, ◌<◌, ◌≤◌, ◌+◌, ◌-◌, ◌*◌, ◌^◌, length, min, IsNone, IfSome};
 ghost use Rattle.cm_class.specs.Spelling.{HasSpelling};
-ghost use Rattle.cm_record_layout.specs.Layout.{utf8_runs, member_attributes, attribute_runs, record_len, lay, limit};
+ghost use Rattle.cm_record_layout.specs.Layout.{utf8_runs, member_attributes, attribute_runs};
+ghost use Rattle.cm_record_layout.specs.Layout.{record_len, lay, limit};
 
 use crate::sections::{attribute_run_words, slot_run_words};
 use cm_class::{Attribute, Class, Member, Slot};
@@ -31,7 +32,8 @@ fn attribute_words(these: &[Attribute]) -> u64
     total
 }
 
-/// How many words members, their attributes and the runs of these take; the greatest u64 stands for more.
+/// How many words members, their attributes and the runs of these take; the greatest u64 stands for
+/// more.
 fn member_words(these: &[Member]) -> u64
     ensures { result ≡ min (2 * length these.now + 2 * length (member_attributes these.now)
         + length (attribute_runs (member_attributes these.now))) (2 ^ 64 - 1) }
@@ -90,7 +92,8 @@ impl Places {
         ensures spelled { HasSpelling class.now }
         ensures laid { length (lay class.now) ≡ record_len class.now }
         ensures none { IsNone result → limit < record_len class.now }
-        ensures some { IfSome result (λ places. ArePlaces class.now places × (record_len class.now ≤ limit)) }
+        ensures some { IfSome result (λ places. ArePlaces class.now places
+            × (record_len class.now ≤ limit)) }
     {
         let _spelled = class.flags(); // brings the class's invariant into the proof's scope
         let len = words_of(class);

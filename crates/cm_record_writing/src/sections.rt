@@ -3,7 +3,9 @@ ghost use Rattle.std.specs.Prelude.{◌≡◌, ◌≤◌, ◌<◌, ◌+◌, ◌*
 ghost use Rattle.std.specs.List.{AllByRecursion};
 ghost use Rattle.cm_class.specs.Spelling.{MemberFits};
 ghost use Rattle.cm_record_layout.specs.Packing.{run_words as run_words_of};
-ghost use Rattle.cm_record_layout.specs.Layout.{constant_words, constant_run, slot_run, directory, utf8_runs, members, member_attributes, attributes, attribute_run, attribute_runs, limit};
+ghost use Rattle.cm_record_layout.specs.Layout.{constant_words, constant_run, slot_run, directory};
+ghost use Rattle.cm_record_layout.specs.Layout.{utf8_runs, members, member_attributes, attributes};
+ghost use Rattle.cm_record_layout.specs.Layout.{attribute_run, attribute_runs, limit};
 
 use crate::runs::push_run;
 use cm_class::{Attribute, Constant, Member, Slot};
@@ -95,7 +97,8 @@ pub(crate) fn push_interfaces(words: &mut WordBuf, interfaces: &[u16])
     }
 }
 
-/// Adds members, where the attributes of the first begin at `at`. It gives where those of the next would.
+/// Adds members, where the attributes of the first begin at `at`. It gives where those of the next
+/// would.
 pub(crate) fn push_members(words: &mut WordBuf, at: u64, these: &[Member]) -> u64
     requires fit { AllByRecursion MemberFits these.now }
     requires short { at + 2 * length (member_attributes these.now) ≤ limit }
@@ -131,7 +134,8 @@ fn attribute_word(attribute: &Attribute) -> u64
     u64::from(attribute.name) + THIRD * attribute.bytes.as_slice().len() as u64
 }
 
-/// Adds attributes, where the run of the first begins at `at`. It gives where that of the next would.
+/// Adds attributes, where the run of the first begins at `at`. It gives where that of the next
+/// would.
 pub(crate) fn push_attributes(words: &mut WordBuf, at: u64, these: &[Attribute]) -> u64
     requires short { at + length (attribute_runs these.now) ≤ limit }
     requires room { length words.old.words + length (attributes at these.now) ≤ words.old.capacity }

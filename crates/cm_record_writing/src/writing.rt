@@ -25,8 +25,8 @@ fn words_of_class(alloc: Global, class: &Class, places: &Places) -> Result<WordB
     Ok(words)
 }
 
-/// The words of the class's record, in a buffer that has room for no more. `TooLong` comes exactly where there are
-/// more than 524,288.
+/// The words of the class's record, in a buffer that has room for no more. `TooLong` comes exactly
+/// where there are more than 524,288.
 pub fn write_class(alloc: Global, class: &Class) -> Result<WordBuf, RecordRefusal>
     ensures ok { IfOk result (λ words. words.words ≡ lay class.now) }
     ensures record { IfOk result (λ words. IsRecordOf class.now words.words) }

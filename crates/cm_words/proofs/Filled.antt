@@ -1,7 +1,10 @@
 -- Places that begin with values.
-use Rattle.std.proofs.Common.{◌≡◌, ℕ, zero, suc, ◌+◌, ◌-◌, ◌<◌, ◌≤◌, List, [], ◌∷◌, ◌++◌, map, length, take, drop, set, get_or, replicate, Option, Some, None, refl, sym, ap, ◌∙◌, arith, length-append, append_assoc, append-nil, take_at}
+use Rattle.std.proofs.Common.{◌≡◌, ℕ, zero, suc, ◌+◌, ◌-◌, ◌<◌, ◌≤◌, List, [], ◌∷◌, ◌++◌, map}
+use Rattle.std.proofs.Common.{length, take, drop, set, get_or, replicate, Option, Some, None, refl}
+use Rattle.std.proofs.Common.{sym, ap, ◌∙◌, arith, length-append, append_assoc, append-nil, take_at}
 use lib.Seq.{drop-cons}
-use Rattle.std.proofs.lemmas.List.{length-map, length-replicate, length-take, map-append, set_at, take_more, drop-replicate, drop_at, drop-drop}
+use Rattle.std.proofs.lemmas.List.{length-map, length-replicate, length-take, map-append, set_at}
+use Rattle.std.proofs.lemmas.List.{take_more, drop-replicate, drop_at, drop-drop}
 use Rattle.cm_words.specs.Places.{somes, filled}
 
 module _ {X : Type 0} where
@@ -22,7 +25,8 @@ module _ {X : Type 0} where
 
   pub somes-filled : (xs : List X) (n : ℕ) → somes (filled xs n) ≡ xs
   unfolding filled
-  somes-filled xs n = somes_before xs (replicate (n - length xs) None) ∙ ap (λ l. xs ++ l) (somes_none (n - length xs)) ∙ append-nil xs
+  somes-filled xs n = somes_before xs (replicate (n - length xs) None) ∙ ap
+      (λ l. xs ++ l) (somes_none (n - length xs)) ∙ append-nil xs
 
   pub length-filled : (xs : List X) (n : ℕ) → length xs ≤ n → length (filled xs n) ≡ n
   unfolding filled
@@ -30,7 +34,8 @@ module _ {X : Type 0} where
 
   pub filled-empty : (n : ℕ) → filled {X = X} [] n ≡ replicate n None
   unfolding filled
-  filled-empty n = let all : n - 0 ≡ n = omega arith in ap (λ (k : ℕ). replicate {A = Option X} k None) all
+  filled-empty n = let all : n - 0 ≡ n = omega arith in ap
+      (λ (k : ℕ). replicate {A = Option X} k None) all
 
   -- the first places hold the values
   pub take-filled : (xs : List X) (n : ℕ) → take (length xs) (filled xs n) ≡ map Some xs
@@ -39,26 +44,34 @@ module _ {X : Type 0} where
 
   filled-more : (x : X) (xs : List X) (n : ℕ) → filled (x ∷ xs) (suc n) ≡ Some x ∷ filled xs n
   unfolding filled
-  filled-more x xs n = let left : suc n - suc (length xs) ≡ n - length xs = omega arith in ap (λ (k : ℕ). Some x ∷ (map Some xs ++ replicate k None)) left
+  filled-more x xs n = let left : suc n - suc (length xs) ≡ n - length xs = omega arith in ap
+      (λ (k : ℕ). Some x ∷ (map Some xs ++ replicate k None)) left
 
   -- one value more in the first empty place
-  pub set-filled_next : (xs : List X) (n : ℕ) (x : X) → length xs < n → set (filled xs n) (length xs) (Some x) ≡ filled (xs ++ x ∷ []) n
+  pub set-filled_next : (xs : List X) (n : ℕ) (x : X) → length xs < n
+      → set (filled xs n) (length xs) (Some x) ≡ filled (xs ++ x ∷ []) n
   set-filled_next [] zero x h = absurd (omega arith)
-  set-filled_next [] (suc n) x h = ap (λ l. set l 0 (Some x)) (filled-empty (suc n)) ∙ (ap (λ l. Some x ∷ l) (sym (filled-empty n)) ∙ sym (filled-more x [] n))
+  set-filled_next [] (suc n) x h = ap (λ l. set l 0 (Some x)) (filled-empty (suc n)) ∙ (ap
+      (λ l. Some x ∷ l) (sym (filled-empty n)) ∙ sym (filled-more x [] n))
   set-filled_next (y ∷ xs) zero x h = absurd (omega arith)
   set-filled_next (y ∷ xs) (suc n) x h =
-      ap (λ l. set l (suc (length xs)) (Some x)) (filled-more y xs n) ∙ (ap (λ l. Some y ∷ l) (set-filled_next xs n x (omega arith)) ∙ sym (filled-more y (xs ++ x ∷ []) n))
+      ap (λ l. set l (suc (length xs)) (Some x)) (filled-more y xs n) ∙ (ap
+      (λ l. Some y ∷ l) (set-filled_next xs n x (omega arith)) ∙ sym (filled-more y (xs ++ x ∷ []) n))
 
   -- another value in the place of one
-  pub set-filled : (xs : List X) (n i : ℕ) (x : X) → i < length xs → length xs ≤ n → set (filled xs n) i (Some x) ≡ filled (set xs i x) n
+  pub set-filled : (xs : List X) (n i : ℕ) (x : X) → i < length xs → length xs ≤ n
+      → set (filled xs n) i (Some x) ≡ filled (set xs i x) n
   set-filled [] n i x h le = absurd (omega arith)
   set-filled (y ∷ xs) zero i x h le = absurd (omega arith)
-  set-filled (y ∷ xs) (suc n) zero x h le = ap (λ l. set l 0 (Some x)) (filled-more y xs n) ∙ sym (filled-more x xs n)
+  set-filled (y ∷ xs) (suc n) zero x h le = ap
+      (λ l. set l 0 (Some x)) (filled-more y xs n) ∙ sym (filled-more x xs n)
   set-filled (y ∷ xs) (suc n) (suc i) x h le =
-      ap (λ l. set l (suc i) (Some x)) (filled-more y xs n) ∙ (ap (λ l. Some y ∷ l) (set-filled xs n i x (omega arith) (omega arith)) ∙ sym (filled-more y (set xs i x) n))
+      ap (λ l. set l (suc i) (Some x)) (filled-more y xs n) ∙ (ap
+      (λ l. Some y ∷ l) (set-filled xs n i x (omega arith) (omega arith)) ∙ sym (filled-more y (set xs i x) n))
 
   -- one value more in the places from `from` on
-  pub write_step : (start cs : List (Option X)) (xs : List X) (from i : ℕ) (x : X) → cs ≡ take from start ++ map Some (take i xs) ++ drop (from + i) start
+  pub write_step : (start cs : List (Option X)) (xs : List X) (from i : ℕ) (x : X)
+      → cs ≡ take from start ++ map Some (take i xs) ++ drop (from + i) start
       → from + length xs ≤ length start → i < length xs → x ≡ get_or xs i x
       → set cs (from + i) (Some x) ≡ take from start ++ map Some (take (i + 1) xs) ++ drop (from + (i + 1)) start
   write_step start cs xs from i x e within lt is =
@@ -72,7 +85,8 @@ module _ {X : Type 0} where
       ∙ (set_at before (get_or start (from + i) None) behind (Some x) (from + i) size
       ∙ (sym (append_assoc before (Some x ∷ []) behind)
       ∙ ap (λ l. l ++ behind) (append_assoc (take from start) (map Some (take i xs)) (Some x ∷ []))
-      ∙ (ap (λ l. take from start ++ l ++ behind) (sym one) ∙ ap (λ n. take from start ++ map Some (take (i + 1) xs) ++ drop n start) (sym next))))
+      ∙ (ap (λ l. take from start ++ l ++ behind) (sym one) ∙ ap
+      (λ n. take from start ++ map Some (take (i + 1) xs) ++ drop n start) (sym next))))
 
   -- values in the first empty places
   pub filled_behind : (xs ys : List X) (n : ℕ) → length xs + length ys ≤ n

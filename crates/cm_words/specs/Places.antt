@@ -1,5 +1,6 @@
 -- The places of a block, each empty or holding a value.
-use Rattle.std.specs.Prelude.{◌≡◌, ℕ, ◌+◌, ◌-◌, ◌≤◌, List, [], ◌∷◌, ◌++◌, map, length, take, drop, replicate, Option, Some, None}
+use Rattle.std.specs.Prelude.{◌≡◌, ℕ, ◌+◌, ◌-◌, ◌≤◌, List, [], ◌∷◌, ◌++◌, map, length, take, drop}
+use Rattle.std.specs.Prelude.{replicate, Option, Some, None}
 
 module _ {X : Type 0} where
   -- the values that are there, in order
@@ -10,7 +11,8 @@ module _ {X : Type 0} where
 
   -- the len places from the index from on hold values
   abbrev pub IsRun : List (Option X) → ℕ → ℕ → Type 0
-  IsRun cs from len = (from + len ≤ length cs) × ((xs : List X) × (take len (drop from cs) ≡ map Some xs))
+  IsRun cs from len = (from + len ≤ length cs) × ((xs : List X)
+      × (take len (drop from cs) ≡ map Some xs))
 
   -- n places that begin with the values
   unfoldable pub filled : List X → ℕ → List (Option X)

@@ -11,4 +11,5 @@ abbrev pub words_of : List ℕ → ℕ → Words
 words_of words capacity = record { words = words; capacity = capacity }
 
 abbrev pub words_code : Coded Words
-words_code = code_by (List ℕ × ℕ) (coded× (coded_list coded_ℕ) coded_ℕ) (λ b. (b.words, b.capacity)) (λ p. words_of p.0 p.1) (λ _. refl)
+words_code = code_by (List ℕ × ℕ) (coded× (coded_list coded_ℕ) coded_ℕ)
+    (λ b. (b.words, b.capacity)) (λ p. words_of p.0 p.1) (λ _. refl)

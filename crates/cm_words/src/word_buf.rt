@@ -1,5 +1,6 @@
 //! The buffer and its calls. Nothing here holds a pointer.
-ghost use Rattle.std.specs.Prelude.{◌≡◌, ◌≤◌, ◌<◌, ◌+◌, ◌-◌, ◌*◌, ◌/◌, ◌%◌, [], ◌∷◌, ◌++◌, length, slice_index, slice_set, slice_range, IfOk};
+ghost use Rattle.std.specs.Prelude.{◌≡◌, ◌≤◌, ◌<◌, ◌+◌, ◌-◌, ◌*◌, ◌/◌, ◌%◌, [], ◌∷◌, ◌++◌, length};
+ghost use Rattle.std.specs.Prelude.{slice_index, slice_set, slice_range, IfOk};
 
 use crate::block::{Base, Cells, Deed, allocate, deallocate};
 use crate::bytes::write_words;
@@ -8,8 +9,8 @@ use std::fmt;
 use std::fmt::{Debug, Formatter, Write};
 use std::marker::Model;
 
-/// A list of 64-bit words with room for a fixed number of them, in one block of memory. It may move to another
-/// thread, and several may read it.
+/// A list of 64-bit words with room for a fixed number of them, in one block of memory. It may move
+/// to another thread, and several may read it.
 pub struct WordBuf {
     base: Base<u64>,
     cells: Cells<u64>,
@@ -120,7 +121,8 @@ impl WordBuf {
         self.cells.slice(self.base, 0, self.len)
     }
 
-    /// The words from `from` on as bytes, as many as `out` has room for: each as eight bytes, the lowest first.
+    /// The words from `from` on as bytes, as many as `out` has room for: each as eight bytes, the
+    /// lowest first.
     pub fn bytes_into(&self, from: usize, out: &mut [u8])
         requires whole { length out.old % 8 ≡ 0 }
         requires within { from + length out.old / 8 ≤ length self.now.words }

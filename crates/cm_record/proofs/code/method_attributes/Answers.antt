@@ -1,7 +1,8 @@
 use Rattle.std.proofs.Common.{◌∙◌, ◌+◌, ◌*◌, get_or, ap, arith}
 use Rattle.cm_record_layout.proofs.Sections.{record_long}
 use Rattle.cm_record.proofs.MemberPlaces.{members_fit, methods_count, item_there}
-use Rattle.cm_record.proofs.AttributePlaces.{attributes_found, attributes_counted, attributes_inside}
+use Rattle.cm_record.proofs.AttributePlaces.{attributes_found, attributes_counted}
+use Rattle.cm_record.proofs.AttributePlaces.{attributes_inside}
 use Rattle.cm_record.proofs.code.method_attributes.Goals as goal
 
 pub bounds-words-5 : goal.bounds-words-5

@@ -15,7 +15,8 @@ returns-then-one-two c = λ xs of_xs.
     let i = c.loop-i.i in
     let ys = c.args.bytes.now in
     let one : c.byte_at-one.result ≡ get_or xs i 0 = c.byte_at-one.ensures ∙ byte_there c.args.words.now c.args.run xs of_xs i (omega (arith, c.loop-i-test.true, c.min-shared.ensures)) in
-    c.cmp.ensures ∙ (ap (λ n. nat_cmp n (get_or ys i 0)) one ∙ other_byte xs ys i (omega (arith, of_xs.count, c.loop-i-test.true, c.min-shared.ensures)) (omega (arith, c.loop-i-test.true, c.min-shared.ensures))
+    c.cmp.ensures ∙ (ap
+    (λ n. nat_cmp n (get_or ys i 0)) one ∙ other_byte xs ys i (omega (arith, of_xs.count, c.loop-i-test.true, c.min-shared.ensures)) (omega (arith, c.loop-i-test.true, c.min-shared.ensures))
     (λ e. c.if-one-two.true (one ∙ e)) (c.loop-i.invariant xs of_xs))
 
 pub loop-i-preserved : goal.loop-i-preserved
@@ -28,4 +29,5 @@ loop-i-preserved c = λ xs of_xs.
 pub returns : goal.returns
 returns c = λ xs of_xs.
     let i = c.loop-i.i in
-    c.cmp-2.ensures ∙ (ap (λ n. nat_cmp n (length c.args.bytes.now)) of_xs.count ∙ one_ends xs c.args.bytes.now i (omega (arith, of_xs.count, c.loop-i-test.false, c.loop-i.auto.i-end, c.min-shared.ensures)) (c.loop-i.invariant xs of_xs))
+    c.cmp-2.ensures ∙ (ap
+    (λ n. nat_cmp n (length c.args.bytes.now)) of_xs.count ∙ one_ends xs c.args.bytes.now i (omega (arith, of_xs.count, c.loop-i-test.false, c.loop-i.auto.i-end, c.min-shared.ensures)) (c.loop-i.invariant xs of_xs))

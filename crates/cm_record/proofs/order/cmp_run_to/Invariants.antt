@@ -5,4 +5,5 @@ use Rattle.cm_record.specs.Runs.{IsRunOf}
 use Rattle.cm_record.proofs.order.cmp_run_to.Given as goal
 
 abbrev pub invariant-loop-i : goal.invariant-loop-i
-invariant-loop-i l = (xs : List ℕ) → IsRunOf l.words l.run xs → slice_cmp nat_cmp xs l.bytes ≡ slice_cmp nat_cmp (drop l.i xs) (drop l.i l.bytes)
+invariant-loop-i l = (xs : List ℕ) → IsRunOf l.words l.run xs
+    → slice_cmp nat_cmp xs l.bytes ≡ slice_cmp nat_cmp (drop l.i xs) (drop l.i l.bytes)

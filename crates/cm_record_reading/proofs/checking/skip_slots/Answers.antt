@@ -1,6 +1,7 @@
 use Rattle.std.proofs.Common.{◌-◌, ◌+◌, false, arith}
 use Rattle.cm_record_reading.specs.Reading.{left2, slots_at}
-use Rattle.cm_record_reading.proofs.Skips.{slots_second, slots_next, slots_wrong, slots_cut, slots_done}
+use Rattle.cm_record_reading.proofs.Skips.{slots_second, slots_next, slots_wrong, slots_cut}
+use Rattle.cm_record_reading.proofs.Skips.{slots_done}
 use Rattle.cm_record_reading.proofs.checking.skip_slots.Goals as goal
 
 pub loop-preserved-then-second : goal.loop-preserved-then-second

@@ -1,7 +1,8 @@
 use Rattle.std.proofs.Common.{◌-◌, ◌+◌, arith}
 use Rattle.std.proofs.lemmas.Result.{err_from_is_err_and}
 use Rattle.cm_record_reading.specs.Reading.{attribute_at, attributes_from}
-use Rattle.cm_record_reading.proofs.Turns.{attributes_next, attributes_wrong, attributes_done, fails_through}
+use Rattle.cm_record_reading.proofs.Turns.{attributes_next, attributes_wrong, attributes_done}
+use Rattle.cm_record_reading.proofs.Turns.{fails_through}
 use Rattle.cm_record_reading.proofs.reading.read_attributes.Goals as goal
 
 pub returns-in_err-attribute-clause-read : goal.returns-in_err-attribute-clause-read

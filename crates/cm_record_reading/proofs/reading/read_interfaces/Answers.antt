@@ -1,6 +1,7 @@
 use Rattle.std.proofs.Common.{◌-◌, ◌+◌, arith}
 use Rattle.cm_record_reading.specs.Reading.{interfaces_from}
-use Rattle.cm_record_reading.proofs.Turns.{interfaces_short, interfaces_wrong, interfaces_next, interfaces_done}
+use Rattle.cm_record_reading.proofs.Turns.{interfaces_short, interfaces_wrong, interfaces_next}
+use Rattle.cm_record_reading.proofs.Turns.{interfaces_done}
 use Rattle.cm_record_reading.proofs.reading.read_interfaces.Goals as goal
 
 pub returns-in_default : goal.returns-in_default

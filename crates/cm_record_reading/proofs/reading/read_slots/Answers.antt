@@ -1,7 +1,8 @@
 use Rattle.std.proofs.Common.{◌-◌, ◌+◌, false, arith}
 use Rattle.std.proofs.lemmas.Result.{err_from_is_err_and}
 use Rattle.cm_record_reading.specs.Reading.{constant_at, slots_at}
-use Rattle.cm_record_reading.proofs.Turns.{slots_second, slots_next, slots_wrong, slots_cut, slots_done, fails_through}
+use Rattle.cm_record_reading.proofs.Turns.{slots_second, slots_next, slots_wrong, slots_cut}
+use Rattle.cm_record_reading.proofs.Turns.{slots_done, fails_through}
 use Rattle.cm_record_reading.proofs.reading.read_slots.Goals as goal
 
 pub loop-preserved-then-second : goal.loop-preserved-then-second

@@ -1,5 +1,6 @@
 use Rattle.std.proofs.Common.{◌∙◌, ap, ◌++◌, ◌+◌, length, arith}
-use Rattle.cm_record_layout.specs.Layout.{attributes, utf8_runs, member_attributes, attribute_runs, attribute_runs_at}
+use Rattle.cm_record_layout.specs.Layout.{attributes, utf8_runs, member_attributes, attribute_runs}
+use Rattle.cm_record_layout.specs.Layout.{attribute_runs_at}
 use Rattle.cm_record_layout.proofs.Lengths.{attributes_len}
 use Rattle.cm_record_writing.proofs.Room.{grown, grown_attributes, attributes_and_runs_len}
 use Rattle.cm_record_writing.proofs.Steps.{attributes_and_runs}
@@ -133,12 +134,19 @@ returns-clause-words c =
     let n2 = c.push_member_attributes-next-2.result in
     attributes_and_runs c.args.words.now.words w1 w2 w3 w4 w5 w6 c.push_attribute_runs.new.words.words c.args.class.now at n1 n2
     c.requires.places.attribute_runs
-    (c.push_member_attributes-next.ensures.words ∙ ap (λ xs. c.args.words.now.words ++ attributes at (member_attributes xs)) c.fields.ensures)
-    (c.push_member_attributes-next.ensures.next ∙ ap (λ xs. at + length (attribute_runs (member_attributes xs))) c.fields.ensures)
-    (c.push_member_attributes-next-2.ensures.words ∙ ap (λ xs. w1 ++ attributes n1 (member_attributes xs)) c.methods.ensures)
-    (c.push_member_attributes-next-2.ensures.next ∙ ap (λ xs. n1 + length (attribute_runs (member_attributes xs))) c.methods.ensures)
+    (c.push_member_attributes-next.ensures.words ∙ ap
+    (λ xs. c.args.words.now.words ++ attributes at (member_attributes xs)) c.fields.ensures)
+    (c.push_member_attributes-next.ensures.next ∙ ap
+    (λ xs. at + length (attribute_runs (member_attributes xs))) c.fields.ensures)
+    (c.push_member_attributes-next-2.ensures.words ∙ ap
+    (λ xs. w1 ++ attributes n1 (member_attributes xs)) c.methods.ensures)
+    (c.push_member_attributes-next-2.ensures.next ∙ ap
+    (λ xs. n1 + length (attribute_runs (member_attributes xs))) c.methods.ensures)
     (c.push_attributes.ensures.words ∙ ap (λ xs. w2 ++ attributes n2 xs) c.attributes.ensures)
     (c.push_utf8_runs.ensures.words ∙ ap (λ xs. w3 ++ utf8_runs xs) c.slots.ensures)
-    (c.push_member_runs.ensures.words ∙ ap (λ xs. w4 ++ attribute_runs (member_attributes xs)) c.fields-2.ensures)
-    (c.push_member_runs-2.ensures.words ∙ ap (λ xs. w5 ++ attribute_runs (member_attributes xs)) c.methods-2.ensures)
-    (c.push_attribute_runs.ensures.words ∙ ap (λ xs. w6 ++ attribute_runs xs) c.attributes-2.ensures)
+    (c.push_member_runs.ensures.words ∙ ap
+    (λ xs. w4 ++ attribute_runs (member_attributes xs)) c.fields-2.ensures)
+    (c.push_member_runs-2.ensures.words ∙ ap
+    (λ xs. w5 ++ attribute_runs (member_attributes xs)) c.methods-2.ensures)
+    (c.push_attribute_runs.ensures.words ∙ ap
+    (λ xs. w6 ++ attribute_runs xs) c.attributes-2.ensures)

@@ -38,7 +38,8 @@ loop-member-preserved c =
     let slice = c.as_slice.ensures in
     let pushed = c.push_attributes-at in
     let added : pushed.new.words.words ≡ l.words.words ++ attributes at own = pushed.ensures.words ∙ ap (λ xs. l.words.words ++ attributes at xs) slice in
-    let next : pushed.result ≡ at + length (attribute_runs own) = pushed.ensures.next ∙ ap (λ xs. at + length (attribute_runs xs)) slice in
+    let next : pushed.result ≡ at + length (attribute_runs own) = pushed.ensures.next ∙ ap
+    (λ xs. at + length (attribute_runs xs)) slice in
     record {
       capacity = pushed.ensures.capacity ∙ l.invariant.capacity;
       added = attributes_step l.words.words pushed.new.words.words _ at pushed.result all own rest split l.invariant.added added next;

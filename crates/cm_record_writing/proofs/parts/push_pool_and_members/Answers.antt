@@ -1,6 +1,7 @@
 use Rattle.std.proofs.Common.{◌∙◌, [], ◌∷◌, ap, ◌++◌, ◌+◌, ◌*◌, length, arith, length-append}
 use Rattle.cm_words.specs.Words.{Words}
-use Rattle.cm_record_layout.specs.Layout.{directory, members, member_attributes, runs_at, attributes_at}
+use Rattle.cm_record_layout.specs.Layout.{directory, members, member_attributes, runs_at}
+use Rattle.cm_record_layout.specs.Layout.{attributes_at}
 use Rattle.cm_record_layout.proofs.Lengths.{members_len}
 use Rattle.cm_record_writing.proofs.Room.{grown, grown_members, pool_and_members_len}
 use Rattle.cm_record_writing.proofs.Steps.{pool_and_members}
@@ -52,8 +53,13 @@ returns-clause-words c =
     let next = c.push_members-next.result in
     pool_and_members c.args.words.now.words c.push.new.self.words c.push_directory.new.words.words c.push_interfaces.new.words.words c.push_members-next.new.words.words c.push_members.new.words.words
     c.args.class.now c.args.places.now.runs at next c.requires.places.runs c.requires.places.attributes
-    (ap (λ (w : Words). w.words) c.push.ensures) (c.push_directory.ensures.words ∙ ap (λ xs. c.push.new.self.words ++ directory c.args.places.now.runs xs) c.slots.ensures)
-    (c.push_interfaces.ensures.words ∙ ap (λ xs. c.push_directory.new.words.words ++ xs) c.interfaces.ensures)
-    (c.push_members-next.ensures.words ∙ ap (λ xs. c.push_interfaces.new.words.words ++ members at xs) c.fields.ensures)
-    (c.push_members-next.ensures.next ∙ ap (λ xs. at + 2 * length (member_attributes xs)) c.fields.ensures)
-    (c.push_members.ensures.words ∙ ap (λ xs. c.push_members-next.new.words.words ++ members next xs) c.methods.ensures)
+    (ap (λ (w : Words). w.words) c.push.ensures) (c.push_directory.ensures.words ∙ ap
+    (λ xs. c.push.new.self.words ++ directory c.args.places.now.runs xs) c.slots.ensures)
+    (c.push_interfaces.ensures.words ∙ ap
+    (λ xs. c.push_directory.new.words.words ++ xs) c.interfaces.ensures)
+    (c.push_members-next.ensures.words ∙ ap
+    (λ xs. c.push_interfaces.new.words.words ++ members at xs) c.fields.ensures)
+    (c.push_members-next.ensures.next ∙ ap
+    (λ xs. at + 2 * length (member_attributes xs)) c.fields.ensures)
+    (c.push_members.ensures.words ∙ ap
+    (λ xs. c.push_members-next.new.words.words ++ members next xs) c.methods.ensures)

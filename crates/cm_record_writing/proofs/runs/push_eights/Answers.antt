@@ -1,4 +1,5 @@
-use Rattle.std.proofs.Common.{◌≡◌, ◌∙◌, ◌+◌, ap, sym, ◌++◌, ◌∷◌, [], drop, get_or, length, append_assoc, arith}
+use Rattle.std.proofs.Common.{◌≡◌, ◌∙◌, ◌+◌, ap, sym, ◌++◌, ◌∷◌, [], drop, get_or, length}
+use Rattle.std.proofs.Common.{append_assoc, arith}
 use Rattle.std.proofs.lemmas.List.{get_or-take}
 use Rattle.cm_record_layout.specs.Packing.{packed, word_from}
 use Rattle.cm_record_layout.proofs.Packed.{packed_more, word_same}
@@ -14,7 +15,8 @@ loop-eight-preserved c =
     let parts = c.in-Some.ensures.cases in
     let enough : length behind + 8 ≡ length rest = parts.2 in
     let word_is : c.from_le_bytes.result ≡ word_from rest =
-    c.from_le_bytes.ensures ∙ word_same c.in-Some.eight.now rest (λ k lt. ap (λ xs. get_or xs k 0) parts.0 ∙ get_or-take 8 rest k 0 lt) in
+    c.from_le_bytes.ensures ∙ word_same c.in-Some.eight.now rest (λ k lt. ap
+    (λ xs. get_or xs k 0) parts.0 ∙ get_or-take 8 rest k 0 lt) in
     let more : packed rest ≡ word_from rest ∷ packed (drop 8 rest) = packed_more rest 8 (omega (arith, enough)) (omega (arith, enough)) in
     let added = ap (λ (w : Words). w.words ++ packed behind) c.push.ensures
     ∙ append_assoc words (c.from_le_bytes.result ∷ []) (packed behind)

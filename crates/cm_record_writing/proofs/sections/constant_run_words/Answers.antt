@@ -5,4 +5,5 @@ use Rattle.cm_record_writing.proofs.sections.constant_run_words.Goals as goal
 
 pub returns-in-Utf8 : goal.returns-in-Utf8
 returns-in-Utf8 c =
-    rw c.in-Utf8.is (c.run_words.ensures ∙ (ap (λ xs. run_words (length xs)) c.as_slice.ensures ∙ sym (packed_len c.in-Utf8.bytes)))
+    rw c.in-Utf8.is (c.run_words.ensures ∙ (ap
+    (λ xs. run_words (length xs)) c.as_slice.ensures ∙ sym (packed_len c.in-Utf8.bytes)))

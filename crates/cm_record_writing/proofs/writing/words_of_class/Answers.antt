@@ -1,8 +1,10 @@
 use Rattle.std.proofs.Common.{ap, length, arith, length-append}
 use Rattle.cm_words.specs.Words.{Words}
 use Rattle.cm_record_layout.specs.Layout.{lay, head, runs_at, attributes_at, attribute_runs_at}
-use Rattle.cm_record_layout.proofs.Lengths.{directory_len, all_members_len, all_attributes_len, all_runs_len}
-use Rattle.cm_record_writing.proofs.Room.{pool_and_members_len, pool_behind_len, attributes_and_runs_len}
+use Rattle.cm_record_layout.proofs.Lengths.{directory_len, all_members_len, all_attributes_len}
+use Rattle.cm_record_layout.proofs.Lengths.{all_runs_len}
+use Rattle.cm_record_writing.proofs.Room.{pool_and_members_len, pool_behind_len}
+use Rattle.cm_record_writing.proofs.Room.{attributes_and_runs_len}
 use Rattle.cm_record_writing.proofs.writing.words_of_class.Goals as goal
 
 pub push_pool_and_members-requires-clause-room : goal.push_pool_and_members-requires-clause-room

@@ -8,11 +8,15 @@ use Rattle.cm_record.proofs.record.Record.cmp_name_to.Goals as goal
 pub cmp_run_to-requires-clause-run : goal.cmp_run_to-requires-clause-run
 cmp_run_to-requires-clause-run c =
     let words = c.as_slice-words.result.now in
-    let is = c.as_slice-words.ensures.record in
-    (class_name_of is.0, subst (λ (r : ℕ × ℕ). IsRunOf words r (class_name_of is.0)) (sym (c.name_run.ensures ∙ ap (name_run words) c.second.ensures)) (own_name is.0 words is.1))
+    let is = c.as_slice-words.ensures.record in (
+      class_name_of is.0,
+      subst (λ (r : ℕ
+          × ℕ). IsRunOf words r (class_name_of is.0)) (sym (c.name_run.ensures ∙ ap (name_run words) c.second.ensures)) (own_name is.0 words is.1),
+    )
 
 pub returns : goal.returns
 returns c = λ d is.
     let words = c.as_slice-words.result.now in
     let of : IsRecordOf d words = subst (IsRecordOf d) (sym c.as_slice-words.ensures.words) is in
-    c.cmp_run_to.ensures (class_name_of d) (subst (λ (r : ℕ × ℕ). IsRunOf words r (class_name_of d)) (sym (c.name_run.ensures ∙ ap (name_run words) c.second.ensures)) (own_name d words of))
+    c.cmp_run_to.ensures (class_name_of d) (subst (λ (r : ℕ
+    × ℕ). IsRunOf words r (class_name_of d)) (sym (c.name_run.ensures ∙ ap (name_run words) c.second.ensures)) (own_name d words of))

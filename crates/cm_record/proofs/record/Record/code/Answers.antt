@@ -1,9 +1,11 @@
-use Rattle.std.proofs.Common.{◌≡◌, ◌∙◌, ◌*◌, ◌+◌, get_or, ap, sym, subst, refl, arith, true, false, ℕ}
+use Rattle.std.proofs.Common.{◌≡◌, ◌∙◌, ◌*◌, ◌+◌, get_or, ap, sym, subst, refl, arith, true, false}
+use Rattle.std.proofs.Common.{ℕ}
 use Rattle.cm_record_layout.specs.Layout.{IsRecordOf}
 use Rattle.cm_record_layout.specs.Packing.{upper_of}
 use Rattle.cm_record.specs.Code.{code_in}
 use Rattle.cm_record.proofs.MemberPlaces.{index_there, item_there, methods_count}
-use Rattle.cm_record.proofs.AttributePlaces.{none_named, code_there, found_run, found_place, found_is}
+use Rattle.cm_record.proofs.AttributePlaces.{none_named, code_there, found_run, found_place}
+use Rattle.cm_record.proofs.AttributePlaces.{found_is}
 use Rattle.cm_record.proofs.record.Record.code.Goals as goal
 
 pub returns-in_default-clause-code : goal.returns-in_default-clause-code
@@ -23,8 +25,12 @@ code_in_run-requires-clause-run c =
     let those = c.method_attributes-at.ensures.attributes d own.0 of own.1 in
     let at = c.method_attributes-at.result.0 in
     let count = c.method_attributes-at.result.1 in
-    let it = code_there d words of i own.0 own.1 at count (λ n. (those n).0) (λ n. (those n).1) c.in-Some.found (c.in-Some.ensures.some d of) in
-    (it.0.bytes, found_run d words of i own.0 own.1 at count (λ n. (those n).0) (λ n. (those n).1) c.in-Some.found it.0 it.1 c.attribute_run.result c.attribute_run.ensures)
+    let it = code_there d words of i own.0 own.1 at count (λ n. (those n).0)
+    (λ n. (those n).1) c.in-Some.found (c.in-Some.ensures.some d of) in (
+      it.0.bytes,
+      found_run d words of i own.0 own.1 at count (λ n. (those n).0)
+          (λ n. (those n).1) c.in-Some.found it.0 it.1 c.attribute_run.result c.attribute_run.ensures,
+    )
 
 pub returns-clause-code : goal.returns-clause-code
 returns-clause-code c = λ d own j a is has.
@@ -35,11 +41,14 @@ returns-clause-code c = λ d own j a is has.
     let at = c.method_attributes-at.result.0 in
     let count = c.method_attributes-at.result.1 in
     let found = c.in-Some.found in
-    let same : found ≡ j = found_is d words of i own has.method at count (λ n. (those n).0) (λ n. (those n).1) found (c.in-Some.ensures.some d of) j a has.there has.named has.first in
+    let same : found ≡ j = found_is d words of i own has.method at count (λ n. (those n).0)
+    (λ n. (those n).1) found (c.in-Some.ensures.some d of) j a has.there has.named has.first in
     let run = c.attribute_run.result in
     let er : run ≡ (get_or words (at + 2 * j + 1) 0, upper_of (get_or words (at + 2 * j) 0)) = c.attribute_run.ensures ∙ ap (λ (n : ℕ). (get_or words (at + 2 * n + 1) 0, upper_of (get_or words (at + 2 * n) 0))) same in
-    c.code_in_run.ensures a.bytes (found_run d words of i own has.method at count (λ n. (those n).0) (λ n. (those n).1) j a has.there run er)
-    ∙ ap (λ n. code_in (8 * n) a.bytes) (found_place d words of i own has.method at count (λ n. (those n).0) (λ n. (those n).1) j a has.there run er)
+    c.code_in_run.ensures a.bytes (found_run d words of i own has.method at count
+    (λ n. (those n).0) (λ n. (those n).1) j a has.there run er)
+    ∙ ap (λ n. code_in (8 * n) a.bytes) (found_place d words of i own has.method at count
+    (λ n. (those n).0) (λ n. (those n).1) j a has.there run er)
 
 pub returns-clause-none : goal.returns-clause-none
 returns-clause-none c = λ d is no.

@@ -1,7 +1,8 @@
 use Rattle.std.proofs.Common.{◌∙◌, sym, subst, false, refl, arith, get_or}
 use Rattle.cm_record_layout.specs.Layout.{IsRecordOf}
 use Rattle.cm_record.specs.Members.{IsLeastMember}
-use Rattle.cm_record.proofs.MemberPlaces.{fields_have, fields_count, members_fit, none_found, least_found}
+use Rattle.cm_record.proofs.MemberPlaces.{fields_have, fields_count, members_fit, none_found}
+use Rattle.cm_record.proofs.MemberPlaces.{least_found}
 use Rattle.cm_record.proofs.record.Record.field.Goals as goal
 
 pub find_member-requires-clause-within : goal.find_member-requires-clause-within

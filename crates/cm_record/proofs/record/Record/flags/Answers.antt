@@ -4,4 +4,5 @@ use Rattle.cm_record_layout.proofs.Sections.{flags_read}
 use Rattle.cm_record.proofs.record.Record.flags.Goals as goal
 
 pub returns : goal.returns
-returns c = λ d is. c.first.ensures ∙ (ap (λ w. first_of (get_or w 1 0)) c.as_slice.ensures.words ∙ flags_read d c.args.self.now is)
+returns c = λ d is. c.first.ensures ∙ (ap
+    (λ w. first_of (get_or w 1 0)) c.as_slice.ensures.words ∙ flags_read d c.args.self.now is)

@@ -1,7 +1,8 @@
 use Rattle.std.proofs.Common.{◌∙◌, ◌+◌, ◌*◌, sym, subst, true, refl, arith, get_or}
 use Rattle.cm_record_layout.specs.Layout.{IsRecordOf}
 use Rattle.cm_record.specs.Members.{IsLeastMember}
-use Rattle.cm_record.proofs.MemberPlaces.{methods_have, methods_count, members_fit, none_found, least_found}
+use Rattle.cm_record.proofs.MemberPlaces.{methods_have, methods_count, members_fit, none_found}
+use Rattle.cm_record.proofs.MemberPlaces.{least_found}
 use Rattle.cm_record.proofs.record.Record.method.Goals as goal
 
 pub overflow_add-at : goal.overflow_add-at

@@ -17,8 +17,11 @@ pub run_bytes-requires : goal.run_bytes-requires
 run_bytes-requires c =
     let words = c.as_slice-words.result.now in
     let is = c.as_slice-words.ensures.record in
-    let index = c.third-index.result in
-    (class_name is.0 index, subst (λ (r : ℕ × ℕ). IsRunOf words r (class_name is.0 index)) (sym c.name_run.ensures) (name_at is.0 words is.1 index))
+    let index = c.third-index.result in (
+      class_name is.0 index,
+      subst (λ (r : ℕ
+          × ℕ). IsRunOf words r (class_name is.0 index)) (sym c.name_run.ensures) (name_at is.0 words is.1 index),
+    )
 
 pub returns : goal.returns
 returns c = λ d is.
@@ -26,6 +29,9 @@ returns c = λ d is.
     let index = c.third-index.result in
     let of : IsRecordOf d words = subst (IsRecordOf d) (sym c.as_slice-words.ensures.words) is in
     let super : index ≡ d.super_class = c.third-index.ensures ∙ super_read d words of in
-    let test : (d.super_class == 0) ≡ false = ne_eqb d.super_class 0 (λ e. c.if-index-eq0.false (super ∙ e)) in
-    let name = c.in_ok-run_bytes.ensures (class_name d index) (subst (λ (r : ℕ × ℕ). IsRunOf words r (class_name d index)) (sym c.name_run.ensures) (name_at d words of index)) in
-    ap (λ xs. Some xs) (name ∙ ap (class_name d) super) ∙ sym (ap (λ b. if b then None else Some (class_name d d.super_class)) test)
+    let test : (d.super_class == 0) ≡ false = ne_eqb d.super_class 0
+    (λ e. c.if-index-eq0.false (super ∙ e)) in
+    let name = c.in_ok-run_bytes.ensures (class_name d index) (subst (λ (r : ℕ
+    × ℕ). IsRunOf words r (class_name d index)) (sym c.name_run.ensures) (name_at d words of index)) in
+    ap (λ xs. Some xs) (name ∙ ap (class_name d) super) ∙ sym (ap
+    (λ b. if b then None else Some (class_name d d.super_class)) test)

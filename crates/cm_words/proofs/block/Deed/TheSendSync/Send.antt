@@ -4,5 +4,6 @@ use Rattle.std.specs.declared.alloc.Allocator.{Ghosts}
 use Rattle.cm_words.proofs.Crosses.{Deed-send}
 use Rattle.cm_words.specs.contracts.block.Deed.{the_row}
 
-pub send : (R A : RattleType) (g : Ghosts A.Denot) → IsSend A → Frees g g.dealloc_token → IsSend (the_row R A g)
+pub send : (R A : RattleType) (g : Ghosts A.Denot) → IsSend A → Frees g g.dealloc_token
+    → IsSend (the_row R A g)
 send R A g s = Deed-send R A g

@@ -9,13 +9,24 @@ slice-requires c =
     let b = c.self.inside in
     let h = c.self.invariant in
     let words = somes b.cells.slots in
-    let size = ap length h.laid ∙ length-filled words b.capacity (omega (arith, h.count, h.room)) in
-    (sym h.place, (omega (arith, size, h.room), (words, ap (λ n. take n b.cells.slots) h.count ∙ (ap (take (length words)) h.laid ∙ take-filled words b.capacity))))
+    let size = ap length h.laid ∙ length-filled words b.capacity (omega (arith, h.count, h.room)) in (
+      sym h.place,
+      (
+        omega (arith, size, h.room),
+        (
+          words,
+          ap
+              (λ n. take n b.cells.slots) h.count ∙ (ap (take (length words)) h.laid ∙ take-filled words b.capacity),
+        ),
+      ),
+    )
 
 pub returns : goal.returns
 returns c =
     let b = c.self.inside in
     let h = c.self.invariant in
     let words = somes b.cells.slots in
-    let all : take b.len b.cells.slots ≡ map Some words = ap (λ n. take n b.cells.slots) h.count ∙ (ap (take (length words)) h.laid ∙ take-filled words b.capacity) in
-    same_values c.slice.result.now words (sym c.slice.ensures ∙ all) ∙ ap (λ (w : Words). w.words) c.self.view_is
+    let all : take b.len b.cells.slots ≡ map Some words = ap
+    (λ n. take n b.cells.slots) h.count ∙ (ap (take (length words)) h.laid ∙ take-filled words b.capacity) in
+    same_values c.slice.result.now words (sym c.slice.ensures ∙ all) ∙ ap
+    (λ (w : Words). w.words) c.self.view_is

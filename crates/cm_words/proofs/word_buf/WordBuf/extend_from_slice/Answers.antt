@@ -1,4 +1,5 @@
-use Rattle.std.proofs.Common.{◌≡◌, ◌∙◌, ◌+◌, ◌≤◌, ◌++◌, length, map, take, drop, Some, sym, ap, arith, length-append}
+use Rattle.std.proofs.Common.{◌≡◌, ◌∙◌, ◌+◌, ◌≤◌, ◌++◌, length, map, take, drop, Some, sym, ap}
+use Rattle.std.proofs.Common.{arith, length-append}
 use Rattle.cm_words.specs.Places.{somes, filled}
 use Rattle.cm_words.specs.Words.{Words, words_of}
 use Rattle.cm_words.proofs.Filled.{length-filled, filled_behind, somes-filled}
@@ -9,7 +10,15 @@ write_all-requires-clause-within c =
     let b = c.self.inside in
     let h = c.self.invariant in
     let size = ap length h.laid ∙ length-filled (somes b.cells.slots) b.capacity (omega (arith, h.count, h.room)) in
-    omega (arith, size, h.count, ap (λ (w : Words). length w.words) c.self.view_is, ap (λ (w : Words). w.capacity) c.self.view_is, c.requires)
+    omega (
+      arith,
+      size,
+      h.count,
+      ap (λ (w : Words). length w.words) c.self.view_is,
+      ap
+          (λ (w : Words). w.capacity) c.self.view_is,
+      c.requires,
+    )
 
 pub invariant_of-self : goal.invariant_of-self
 invariant_of-self c =
@@ -18,7 +27,14 @@ invariant_of-self c =
     let words = somes b.cells.slots in
     let more = c.args.words.now in
     let after = words ++ more in
-    let few : length words + length more ≤ b.capacity = omega (arith, ap (λ (w : Words). length w.words) c.self.view_is, ap (λ (w : Words). w.capacity) c.self.view_is, c.requires) in
+    let few : length words + length more ≤ b.capacity = omega (
+      arith,
+      ap
+          (λ (w : Words). length w.words) c.self.view_is,
+      ap
+          (λ (w : Words). w.capacity) c.self.view_is,
+      c.requires,
+    ) in
     let laid : c.write_all.new.self.slots ≡ filled after b.capacity =
     c.write_all.ensures.slots ∙ ((λ i. take (h.count i) (h.laid i) ++ map Some more ++ drop (h.count i + length more) (h.laid i)) ∙ filled_behind words more b.capacity few) in
     let kept : somes c.write_all.new.self.slots ≡ after = ap somes laid ∙ somes-filled after b.capacity in
@@ -40,8 +56,16 @@ returns c =
     let words = somes b.cells.slots in
     let more = c.args.words.now in
     let after = words ++ more in
-    let few : length words + length more ≤ b.capacity = omega (arith, ap (λ (w : Words). length w.words) c.self.view_is, ap (λ (w : Words). w.capacity) c.self.view_is, c.requires) in
+    let few : length words + length more ≤ b.capacity = omega (
+      arith,
+      ap
+          (λ (w : Words). length w.words) c.self.view_is,
+      ap
+          (λ (w : Words). w.capacity) c.self.view_is,
+      c.requires,
+    ) in
     let laid : c.write_all.new.self.slots ≡ filled after b.capacity =
     c.write_all.ensures.slots ∙ ((λ i. take (h.count i) (h.laid i) ++ map Some more ++ drop (h.count i + length more) (h.laid i)) ∙ filled_behind words more b.capacity few) in
     let kept : somes c.write_all.new.self.slots ≡ after = ap somes laid ∙ somes-filled after b.capacity in
-    ap (λ l. words_of l b.capacity) kept ∙ ap (λ (w : Words). words_of (w.words ++ more) w.capacity) c.self.view_is
+    ap (λ l. words_of l b.capacity) kept ∙ ap
+    (λ (w : Words). words_of (w.words ++ more) w.capacity) c.self.view_is

@@ -1,4 +1,5 @@
-use Rattle.std.proofs.Common.{◌≡◌, ◌∙◌, ◌<◌, [], ◌∷◌, ◌++◌, length, set, Some, sym, ap, arith, length-append}
+use Rattle.std.proofs.Common.{◌≡◌, ◌∙◌, ◌<◌, [], ◌∷◌, ◌++◌, length, set, Some, sym, ap, arith}
+use Rattle.std.proofs.Common.{length-append}
 use Rattle.cm_words.specs.Places.{somes, filled}
 use Rattle.cm_words.specs.Words.{Words, words_of}
 use Rattle.cm_words.proofs.Filled.{length-filled, set-filled_next, somes-filled}
@@ -9,7 +10,14 @@ write-requires c =
     let b = c.self.inside in
     let h = c.self.invariant in
     let size = ap length h.laid ∙ length-filled (somes b.cells.slots) b.capacity (omega (arith, h.count, h.room)) in
-    let more : length (somes b.cells.slots) < b.capacity = omega (arith, ap (λ (w : Words). length w.words) c.self.view_is, ap (λ (w : Words). w.capacity) c.self.view_is, c.requires) in
+    let more : length (somes b.cells.slots) < b.capacity = omega (
+      arith,
+      ap
+          (λ (w : Words). length w.words) c.self.view_is,
+      ap
+          (λ (w : Words). w.capacity) c.self.view_is,
+      c.requires,
+    ) in
     (sym h.place, omega (arith, size, h.count, more))
 
 -- the places after the call
@@ -19,9 +27,17 @@ written c =
     let h = c.self.invariant in
     let words = somes b.cells.slots in
     let after = words ++ c.args.word ∷ [] in
-    let more : length words < b.capacity = omega (arith, ap (λ (w : Words). length w.words) c.self.view_is, ap (λ (w : Words). w.capacity) c.self.view_is, c.requires) in
+    let more : length words < b.capacity = omega (
+      arith,
+      ap
+          (λ (w : Words). length w.words) c.self.view_is,
+      ap
+          (λ (w : Words). w.capacity) c.self.view_is,
+      c.requires,
+    ) in
     let laid : c.write.new.self.slots ≡ filled after b.capacity =
-    c.write.ensures.1 ∙ (ap (λ i. set b.cells.slots i (Some c.args.word)) h.count ∙ (ap (λ l. set l (length words) (Some c.args.word)) h.laid ∙ set-filled_next words b.capacity c.args.word more)) in
+    c.write.ensures.1 ∙ (ap (λ i. set b.cells.slots i (Some c.args.word)) h.count ∙ (ap
+    (λ l. set l (length words) (Some c.args.word)) h.laid ∙ set-filled_next words b.capacity c.args.word more)) in
     let kept : somes c.write.new.self.slots ≡ after = ap somes laid ∙ somes-filled after b.capacity in
     record {
       place = c.write.ensures.0 ∙ h.place;
@@ -43,8 +59,17 @@ returns c =
     let h = c.self.invariant in
     let words = somes b.cells.slots in
     let after = words ++ c.args.word ∷ [] in
-    let more : length words < b.capacity = omega (arith, ap (λ (w : Words). length w.words) c.self.view_is, ap (λ (w : Words). w.capacity) c.self.view_is, c.requires) in
+    let more : length words < b.capacity = omega (
+      arith,
+      ap
+          (λ (w : Words). length w.words) c.self.view_is,
+      ap
+          (λ (w : Words). w.capacity) c.self.view_is,
+      c.requires,
+    ) in
     let laid : c.write.new.self.slots ≡ filled after b.capacity =
-    c.write.ensures.1 ∙ (ap (λ i. set b.cells.slots i (Some c.args.word)) h.count ∙ (ap (λ l. set l (length words) (Some c.args.word)) h.laid ∙ set-filled_next words b.capacity c.args.word more)) in
+    c.write.ensures.1 ∙ (ap (λ i. set b.cells.slots i (Some c.args.word)) h.count ∙ (ap
+    (λ l. set l (length words) (Some c.args.word)) h.laid ∙ set-filled_next words b.capacity c.args.word more)) in
     let kept : somes c.write.new.self.slots ≡ after = ap somes laid ∙ somes-filled after b.capacity in
-    ap (λ l. words_of l b.capacity) kept ∙ ap (λ (w : Words). words_of (w.words ++ c.args.word ∷ []) w.capacity) c.self.view_is
+    ap (λ l. words_of l b.capacity) kept ∙ ap
+    (λ (w : Words). words_of (w.words ++ c.args.word ∷ []) w.capacity) c.self.view_is

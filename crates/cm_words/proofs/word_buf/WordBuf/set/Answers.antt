@@ -9,7 +9,12 @@ write-requires c =
     let b = c.self.inside in
     let h = c.self.invariant in
     let size = ap length h.laid ∙ length-filled (somes b.cells.slots) b.capacity (omega (arith, h.count, h.room)) in
-    let there : c.args.at < length (somes b.cells.slots) = omega (arith, ap (λ (w : Words). length w.words) c.self.view_is, c.requires) in
+    let there : c.args.at < length (somes b.cells.slots) = omega (
+      arith,
+      ap
+          (λ (w : Words). length w.words) c.self.view_is,
+      c.requires,
+    ) in
     (sym h.place, omega (arith, size, h.count, h.room, there))
 
 pub invariant_of-self : goal.invariant_of-self
@@ -18,9 +23,15 @@ invariant_of-self c =
     let h = c.self.invariant in
     let words = somes b.cells.slots in
     let after = set words c.args.at c.args.word in
-    let there : c.args.at < length words = omega (arith, ap (λ (w : Words). length w.words) c.self.view_is, c.requires) in
+    let there : c.args.at < length words = omega (
+      arith,
+      ap
+          (λ (w : Words). length w.words) c.self.view_is,
+      c.requires,
+    ) in
     let laid : c.write.new.self.slots ≡ filled after b.capacity =
-    c.write.ensures.1 ∙ (ap (λ l. set l c.args.at (Some c.args.word)) h.laid ∙ set-filled words b.capacity c.args.at c.args.word there (omega (arith, h.count, h.room))) in
+    c.write.ensures.1 ∙ (ap
+    (λ l. set l c.args.at (Some c.args.word)) h.laid ∙ set-filled words b.capacity c.args.at c.args.word there (omega (arith, h.count, h.room))) in
     let kept : somes c.write.new.self.slots ≡ after = ap somes laid ∙ somes-filled after b.capacity in
     record {
       place = c.write.ensures.0 ∙ h.place;
@@ -39,7 +50,14 @@ returns c =
     let h = c.self.invariant in
     let words = somes b.cells.slots in
     let after = set words c.args.at c.args.word in
-    let there : c.args.at < length words = omega (arith, ap (λ (w : Words). length w.words) c.self.view_is, c.requires) in
+    let there : c.args.at < length words = omega (
+      arith,
+      ap
+          (λ (w : Words). length w.words) c.self.view_is,
+      c.requires,
+    ) in
     let laid : c.write.new.self.slots ≡ filled after b.capacity =
-    c.write.ensures.1 ∙ (ap (λ l. set l c.args.at (Some c.args.word)) h.laid ∙ set-filled words b.capacity c.args.at c.args.word there (omega (arith, h.count, h.room))) in
-    ap (λ l. words_of l b.capacity) (ap somes laid ∙ somes-filled after b.capacity) ∙ ap (λ (w : Words). words_of (set w.words c.args.at c.args.word) w.capacity) c.self.view_is
+    c.write.ensures.1 ∙ (ap
+    (λ l. set l c.args.at (Some c.args.word)) h.laid ∙ set-filled words b.capacity c.args.at c.args.word there (omega (arith, h.count, h.room))) in
+    ap (λ l. words_of l b.capacity) (ap somes laid ∙ somes-filled after b.capacity) ∙ ap
+    (λ (w : Words). words_of (set w.words c.args.at c.args.word) w.capacity) c.self.view_is
