@@ -18,7 +18,7 @@ use Rattle.cm_layout.specs.Rules.{row_limit, is_chunk, has_place}
 use Rattle.cm_layout.specs.Frames.{BareRow}
 use Rattle.cm_rows.specs.declared.live_loader.LastChunk.{LastChunk}
 use Rattle.cm_rows.specs.declared.live_loader.LiveLoader.{LiveLoader}
-use Rattle.cm_rows.specs.Rows.{last_of, IsAbove}
+use Rattle.cm_rows.specs.Rows.{last_of, is_above}
 use Rattle.cm_rows.specs.Loaders.{IsAt}
 use Rattle.cm_rows.specs.Held.{Holds, first_chunks, AreFounded, TakesPlace, HasNoPlace}
 use Rattle.cm_rows.specs.Book.{AreLoadersOf, AreLiveRows, IsBook}
@@ -28,7 +28,7 @@ use Rattle.cm_rows.proofs.Classes.{used, used-some, moved_class, is_moved, first
 use Rattle.cm_rows.proofs.Loaders.{last_in-set, last_in-remove, last_in-push, numbers-set, rises-set, numbers-remove, rises-remove, numbers-push, rises-push, all-numbers, at-among}
 use Rattle.cm_rows.proofs.Holding.{free-is, take-push, swap}
 use Rattle.cm_rows.proofs.RowFacts.{numbers-few, classes-push_class, numbers-push_class, classes-push_loader, numbers-push_loader, classes-without, numbers-without, length-without, classes-moved, numbers-moved, length-moved}
-use Rattle.cm_rows.proofs.Verdicts.{last-at, has_room_for, room-from, place-top, place-front, place-none}
+use Rattle.cm_rows.proofs.Verdicts.{above-all, last-at, has_room_for, room-from, place-top, place-front, place-none}
 use Rattle.cm_rows.proofs.Changes.{ne-eqb, last_use, last_of-is, use-chunk, Joins, founded-push, last_use-push, joins-top, joins-new, last_use-without, founded-without, last_use-moved, founded-moved}
 
 -- with more room
@@ -120,13 +120,13 @@ define-new sizes rows rc ls lc p r i h few at some zero free =
 -- ---- a loader more
 
 pub add-loader : (sizes : Sizes) (rows : List BareRow) (rc : ℕ) (ls : List LiveLoader) (lc : ℕ) (p : FreeSpace) (r : LoaderRow)
-    → IsBook sizes rows rc ls lc p → length rows < row_limit sizes → IsAbove r.number rows
+    → IsBook sizes rows rc ls lc p → length rows < row_limit sizes → is_above r.number rows ≡ true
     → IsBook sizes (rows ++ Loader r ∷ []) rc (ls ++ record { number = r.number; last = None } ∷ []) lc p
 add-loader sizes rows rc ls lc p r h few above =
     let classes = classes-push_loader rows r in
     let numbers = numbers-push_loader rows r in
     let l : LiveLoader = record { number = r.number; last = None } in
-    let below = all-numbers (λ n. n < r.number) ls (subst (AllByRecursion (λ n. n < r.number)) (sym h.loaders.numbers) above) in
+    let below = all-numbers (λ n. n < r.number) ls (subst (AllByRecursion (λ n. n < r.number)) (sym h.loaders.numbers) (above-all rows r.number above)) in
     record {
       lawful = h.lawful;
       few = omega (arith, length-append rows (Loader r ∷ []));

@@ -21,7 +21,7 @@ use Rattle.cm_layout.specs.declared.entry_rule.EntryRule.TheVariants.{OnRows, On
 use Rattle.cm_layout.specs.Frames.{BareRow}
 use Rattle.cm_rows.specs.declared.live_loader.LastChunk.{LastChunk}
 use Rattle.cm_rows.specs.declared.live_loader.LiveLoader.{LiveLoader}
-use Rattle.cm_rows.specs.Rows.{last_of, IsAbove}
+use Rattle.cm_rows.specs.Rows.{last_of, is_above}
 use Rattle.cm_rows.specs.Loaders.{IsAt, IsAbsent}
 use Rattle.cm_rows.specs.Held.{first_chunks, AreFounded}
 use Rattle.cm_rows.specs.Book.{AreLoadersOf, AreLiveRows}
@@ -324,5 +324,5 @@ all-tested : (n : ℕ) (ns : List ℕ) → list_all (λ u. nat_lt u n) ns ≡ tr
 all-tested n [] h = tt
 all-tested n (u ∷ ns) h = let p = both_true (nat_lt u n) (list_all (λ u. nat_lt u n) ns) h in (ltb-true u n p.0, all-tested n ns p.1)
 
-pub above-tested : (rows : List BareRow) (n : ℕ) → list_all (λ u. nat_lt u n) (numbers_in rows) ≡ true → IsAbove n rows
-above-tested rows n h = all-tested n (numbers_in rows) h
+pub above-all : (rows : List BareRow) (n : ℕ) → is_above n rows ≡ true → AllByRecursion (λ u. u < n) (numbers_in rows)
+above-all rows n h = all-tested n (numbers_in rows) h

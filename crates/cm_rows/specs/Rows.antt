@@ -1,6 +1,6 @@
 -- Live rows as a value: what a book is seen as, and what is asked of it.
-use Rattle.std.specs.Prelude.{◌<◌, ℕ, List, Option}
-use Rattle.std.specs.List.{AllByRecursion}
+use Rattle.std.specs.Prelude.{ℕ, Bool, nat_lt, List, Option}
+use Rattle.std.specs.List.{list_all}
 use Rattle.std.specs.Option.{option_map}
 use Rattle.cm_pool.specs.Geometry.{Sizes}
 use Rattle.cm_layout.specs.declared.row.Row.{Row}
@@ -14,8 +14,8 @@ pub record LiveRows : Type 0 where
   pub rows : List BareRow
 
 -- the number is above that of each live loader
-abbrev pub IsAbove : {P : Type 0} → ℕ → List (Row P) → Type 0
-IsAbove n rows = AllByRecursion (λ u. u < n) (numbers_in rows)
+abbrev pub is_above : {P : Type 0} → ℕ → List (Row P) → Bool
+is_above n rows = list_all (λ u. nat_lt u n) (numbers_in rows)
 
 -- the chunk of a loader's last class, and how many of its words records take
 abbrev pub last_of : {P : Type 0} → ℕ → List (Row P) → Option LastChunk

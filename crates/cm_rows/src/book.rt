@@ -1,7 +1,6 @@
 //! The book of live rows.
 
-ghost use Rattle.std.specs.Prelude.{◌≡◌, ◌<◌, IfOk, IfSome, IfNone, [], ◌∷◌, ◌++◌, Some, None, is_none, length, nat_lt, if◌then◌else◌};
-ghost use Rattle.std.specs.List.{list_all};
+ghost use Rattle.std.specs.Prelude.{◌≡◌, IsTrue, IfOk, [], ◌∷◌, ◌++◌, Some, None, is_none, length, if◌then◌else◌};
 
 use crate::live_loader::{LastChunk, LiveLoader, copy_loaders, find, push_loader, set_last};
 use crate::place_rules::{has_room, is_inside, row_limit, take_place};
@@ -43,9 +42,9 @@ impl Model for Book {
 impl Book {
     ghost use Rattle.cm_layout.specs.declared.entry_rule.EntryRule.TheVariants.{OnRows, OnChunks};
     ghost use Rattle.cm_layout.specs.declared.row.Row.TheVariants.{Loader, Class};
-    ghost use Rattle.cm_layout.specs.Rows.{rows_after, without_loader, moved, numbers_in, number_of as number_of_name};
+    ghost use Rattle.cm_layout.specs.Rows.{rows_after, without_loader, moved, number_of as number_of_name};
     ghost use Rattle.cm_layout.specs.Rules.{broken_rule, broken_live_rule, is_new_loader, is_live, move_fits};
-    ghost use Rattle.cm_rows.specs.Rows.{IsAbove, last_of};
+    ghost use Rattle.cm_rows.specs.Rows.{is_above, last_of};
 
     /// A book with no rows. All memory that it will ever need is taken here.
     pub fn new(alloc: Global, geometry: Geometry) -> Result<Book, AllocError>
@@ -64,9 +63,10 @@ impl Book {
     }
 
     /// The first rule that an entry of this number breaks. Where it breaks none, the rows are those after it; else
-    /// nothing is changed. A group's numbers go on from those before, so the number is above all live loaders'.
+    /// nothing is changed. A group's numbers go on from those before, so the number is above all live
+    /// loaders' ([`Book::is_above`]).
     pub fn apply(&mut self, number: u64, entry: &Entry<()>) -> Option<EntryRule>
-        requires { IsAbove number self.old.rows }
+        requires { IsTrue (is_above number self.old.rows) }
         ensures broken { result ≡ broken_rule self.old.sizes self.old.rows number entry.now }
         ensures left { self.new ≡ (if is_none result then record self.old { rows = rows_after self.old.rows entry.now } else self.old) }
     {
@@ -91,7 +91,7 @@ impl Book {
     {
         match row {
             Row::Loader(row) => {
-                if row.number < 1 || row.number > base || !self.is_next(row.number) {
+                if row.number < 1 || row.number > base || !self.is_above(row.number) {
                     return Some(EntryRule::OnRows);
                 }
                 self.add_loader(row)
@@ -112,6 +112,14 @@ impl Book {
         ensures { result ≡ is_live number self.now.rows }
     {
         find(&self.loaders, number).is_some()
+    }
+
+    /// Whether a number is above those of all live loaders.
+    pub fn is_above(&self, number: u64) -> bool
+        ensures { result ≡ is_above number self.now.rows }
+    {
+        let count = self.loaders.len();
+        count == 0 || self.loaders[count - 1].number < number
     }
 
     /// The chunk of a loader's last class, with its used words, if the loader has a class.
@@ -156,16 +164,8 @@ impl Book {
         self.rows.len()
     }
 
-    // Whether a number is above those of all loaders.
-    fn is_next(&self, number: u64) -> bool
-        ensures { result ≡ list_all (λ u. nat_lt u number) (numbers_in self.now.rows) }
-    {
-        let count = self.loaders.len();
-        count == 0 || self.loaders[count - 1].number < number
-    }
-
     fn add_loader(&mut self, row: &LoaderRow) -> Option<EntryRule>
-        requires { IsAbove row.now.number self.old.rows }
+        requires { IsTrue (is_above row.now.number self.old.rows) }
         ensures broken { result ≡ (if is_new_loader self.old.sizes self.old.rows row.now then None else Some OnRows) }
         ensures left { self.new ≡ (if is_none result then record self.old { rows = self.old.rows ++ Loader row.now ∷ [] } else self.old) }
     {

@@ -11,3 +11,6 @@ mod whole_pool;
 pub use book::Book;
 pub use live_loader::LastChunk;
 pub use walk::Walk;
+
+#[cfg(test)]
+mod tests;

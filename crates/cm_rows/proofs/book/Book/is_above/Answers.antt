@@ -3,7 +3,7 @@ use Rattle.std.specs.Prelude.{nat_lt}
 use Rattle.std.specs.List.{list_all}
 use Rattle.cm_rows.specs.declared.live_loader.LiveLoader.{LiveLoader}
 use Rattle.cm_rows.proofs.Loaders.{below-last}
-use Rattle.cm_rows.proofs.book.Book.is_next.Goals as goal
+use Rattle.cm_rows.proofs.book.Book.is_above.Goals as goal
 
 pub returns-else-count-eq0 : goal.returns-else-count-eq0
 returns-else-count-eq0 c =
