@@ -28,15 +28,15 @@ use Rattle.cm_layout.specs.Laws.{RowsAreApart}
 -- ---- chunks
 
 -- the first test of two, or the second
-both : (a b : Bool) → (a && b) ≡ true → (a ≡ true) × (b ≡ true)
+pub both : (a b : Bool) → (a && b) ≡ true → (a ≡ true) × (b ≡ true)
 both true b h = (refl, h)
 both false b h = absurd (cc)
 
-either : (a b : Bool) → (a || b) ≡ true → (a ≡ true) ⊎ (b ≡ true)
+pub either : (a b : Bool) → (a || b) ≡ true → (a ≡ true) ⊎ (b ≡ true)
 either true b h = inl refl
 either false b h = inr h
 
-same_chunk-true : (a b : Chunk) → same_chunk a b ≡ true → a ≡ b
+pub same_chunk-true : (a b : Chunk) → same_chunk a b ≡ true → a ≡ b
 same_chunk-true a b h =
     let p = both (eqb a.root b.root) (eqb a.order b.order && eqb a.at b.at) h in
     let q = both (eqb a.order b.order) (eqb a.at b.at) p.1 in
@@ -46,7 +46,7 @@ same_chunk-true a b h =
     (λ i. record { root = root i; order = order i; at = at_is i })
 
 -- chunks that share a word pass the test
-meets-true : (a b : Chunk) → Meets a b → meets a b ≡ true
+pub meets-true : (a b : Chunk) → Meets a b → meets a b ≡ true
 meets-true a b m =
     let in_a : Covers a m.0 m.1 = m.2 in
     let in_b : Covers b m.0 m.1 = m.3 in
@@ -54,11 +54,11 @@ meets-true a b m =
     let test : eqb a.root b.root ≡ true = eq-eqb a.root b.root roots in
     rw test (lt-ltb _ _ (omega (arith, in_a.from, in_a.to, in_b.from, in_b.to)))
 
-meets-turned : (a b : Chunk) → Meets a b → Meets b a
+pub meets-turned : (a b : Chunk) → Meets a b → Meets b a
 meets-turned a b m = (m.0, m.1, m.3, m.2)
 
 -- a chunk shares its first word with itself
-meets-itself : (a : Chunk) → Meets a a
+pub meets-itself : (a : Chunk) → Meets a a
 meets-itself a =
     let some : 0 < 2 ^ a.order = pow_pos a.order in
     let first : Covers a a.root a.at =
@@ -67,14 +67,15 @@ meets-itself a =
 
 -- ---- rows of classes
 
-append-among : (xs : List ClassRow) (y x : ClassRow) → Among x (xs ++ y ∷ []) → Among x xs ⊎ (x ≡ y)
+pub append-among : (xs : List ClassRow) (y x : ClassRow) → Among x (xs ++ y ∷ []) → Among x xs
+    ⊎ (x ≡ y)
 append-among [] y x (inl e) = inr e
 append-among [] y x (inr none) = absurd none
 append-among (z ∷ xs) y x (inl e) = inl (inl e)
 append-among (z ∷ xs) y x (inr m) =
     elim (append-among xs y x m) [ inl among ↦ inl (inr among) | inr e ↦ inr e ]
 
-classes_in-append : (rows more : List BareRow)
+pub classes_in-append : (rows more : List BareRow)
     → classes_in (rows ++ more) ≡ classes_in rows ++ classes_in more
 classes_in-append [] more = refl
 classes_in-append (Loader r ∷ rows) more = classes_in-append rows more
@@ -98,7 +99,7 @@ last_chunk-among u (r ∷ rows) c h = by_rest (last_chunk u rows) (last_chunk-am
     by_rest (Some d) later is = let found = later is in (found.0, inr found.1, found.2, found.3)
     by_rest None later is = by_first (eqb r.loader u) refl is
 
-is_last_chunk-among : (u : ℕ) (c : Chunk) (rows : List BareRow) → is_last_chunk u c rows ≡ true
+pub is_last_chunk-among : (u : ℕ) (c : Chunk) (rows : List BareRow) → is_last_chunk u c rows ≡ true
     → (s : ClassRow) × Among s (classes_in rows) × (s.loader ≡ u) × (s.place.chunk ≡ c)
 is_last_chunk-among u c rows h = by_last (last_chunk u (classes_in rows)) refl h
   where
@@ -111,7 +112,7 @@ is_last_chunk-among u c rows h = by_last (last_chunk u (classes_in rows)) refl h
     by_last None e is = absurd (cc)
 
 -- a chunk that no row uses meets none of theirs
-is_unused-apart : (c : Chunk) (classes : List ClassRow) (s : ClassRow)
+pub is_unused-apart : (c : Chunk) (classes : List ClassRow) (s : ClassRow)
     → not (list_any (meets c) (map (λ (r : ClassRow). r.place.chunk) classes)) ≡ true
     → Among s classes → ¬ Meets c s.place.chunk
 is_unused-apart c [] s h none = absurd none
@@ -182,7 +183,7 @@ place-joins rows r apart h s m meet =
           (is_unused-apart r.place.chunk (classes_in rows) s (both front unused new).1 m meet)
     ]
 
-chunks_kept : (on_rows on_chunks : Bool) → broken_of on_rows on_chunks ≡ None → on_chunks ≡ true
+pub chunks_kept : (on_rows on_chunks : Bool) → broken_of on_rows on_chunks ≡ None → on_chunks ≡ true
 chunks_kept true true h = refl
 chunks_kept true false h = absurd (cc)
 chunks_kept false on_chunks h = absurd (cc)
@@ -238,11 +239,11 @@ unload-among u (Class r p ∷ rows) x m = by_test (λ k. unload-among u rows x k
 -- ---- a move
 
 -- the row of a class after a move
-moved_class : Chunk → Chunk → ClassRow → ClassRow
+unfoldable pub moved_class : Chunk → Chunk → ClassRow → ClassRow
 moved_class from to r =
     cond (same_chunk r.place.chunk from) (record r { place = record r.place { chunk = to } }) r
 
-classes_in-moved : (from to : Chunk) (rows : List BareRow)
+pub classes_in-moved : (from to : Chunk) (rows : List BareRow)
     → classes_in (moved from to rows) ≡ map (moved_class from to) (classes_in rows)
 unfolding moved_class
 classes_in-moved from to [] = refl
@@ -328,11 +329,11 @@ move-apart from to classes apart unused x y mx my meet =
 
 -- ---- entries one after another
 
-rule_kept : (t : Bool) (rule : EntryRule) → cond t None (Some rule) ≡ None → t ≡ true
+pub rule_kept : (t : Bool) (rule : EntryRule) → cond t None (Some rule) ≡ None → t ≡ true
 rule_kept true rule h = refl
 rule_kept false rule h = absurd (cc)
 
-live-apart : (sizes : Sizes) (base : ℕ) (rows : List BareRow) (row : BareRow)
+pub live-apart : (sizes : Sizes) (base : ℕ) (rows : List BareRow) (row : BareRow)
     → AreApart (classes_in rows) → broken_live_rule sizes base rows row ≡ None
     → AreApart (classes_in (rows ++ row ∷ []))
 live-apart sizes base rows (Loader r) apart h = loader-apart rows (Loader r) refl apart
@@ -342,7 +343,7 @@ live-apart sizes base rows (Class r p) apart h =
     (chunks_kept (is_live r.loader rows && has_room sizes rows (Class r p))
     (class_fits sizes rows r) h))
 
-entry-apart : (sizes : Sizes) (rows : List BareRow) (n : ℕ) (e : BareEntry)
+pub entry-apart : (sizes : Sizes) (rows : List BareRow) (n : ℕ) (e : BareEntry)
     → AreApart (classes_in rows) → broken_rule sizes rows n e ≡ None
     → AreApart (classes_in (rows_after rows e))
 entry-apart sizes rows n (entry.Live (Loader r)) apart h = loader-apart rows (Loader r) refl apart
@@ -367,7 +368,8 @@ entry-apart sizes rows n (entry.Move e) apart h =
     (move-apart e.from e.to (classes_in rows) apart
     (λ s m. is_unused-apart e.to (classes_in rows) s free m))
 
-live_rows-apart : (sizes : Sizes) (base : ℕ) (rows live : List BareRow) → AreApart (classes_in rows)
+pub live_rows-apart : (sizes : Sizes) (base : ℕ) (rows live : List BareRow)
+    → AreApart (classes_in rows)
     → LiveRowsKeep sizes base rows live → AreApart (classes_in (rows ++ live))
 live_rows-apart sizes base rows [] apart keep =
     subst (λ (l : List BareRow). AreApart (classes_in l)) (sym (append-nil rows)) apart
@@ -376,7 +378,7 @@ live_rows-apart sizes base rows (row ∷ live) apart keep =
     (live_rows-apart sizes base (rows ++ row ∷ []) live
     (live-apart sizes base rows row apart keep.1) keep.2)
 
-entries-apart : (sizes : Sizes) (rows : List BareRow) (n : ℕ) (entries : List BareEntry)
+pub entries-apart : (sizes : Sizes) (rows : List BareRow) (n : ℕ) (entries : List BareEntry)
     → AreApart (classes_in rows) → EntriesKeep sizes rows n entries
     → AreApart (classes_in (rows_after_all rows entries))
 entries-apart sizes rows n [] apart keep = apart
@@ -384,7 +386,7 @@ entries-apart sizes rows n (e ∷ entries) apart keep =
     entries-apart sizes (rows_after rows e) (n + 1) entries
     (entry-apart sizes rows (n + 1) e apart keep.1) keep.2
 
-rows_after_all-append : (rows : List BareRow) (entries more : List BareEntry)
+pub rows_after_all-append : (rows : List BareRow) (entries more : List BareEntry)
     → rows_after_all rows (entries ++ more) ≡ rows_after_all (rows_after_all rows entries) more
 rows_after_all-append rows [] more = refl
 rows_after_all-append rows (e ∷ entries) more =

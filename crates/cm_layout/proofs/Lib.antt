@@ -3,3 +3,4 @@ pub mod Apart
 pub mod OneReading
 pub mod Joining
 pub mod Superblocks
+pub mod StayLive

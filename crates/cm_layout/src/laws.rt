@@ -4,7 +4,7 @@ ghost use Rattle.std.specs.Prelude.{◌≡◌};
 ghost use Rattle.cm_layout.specs.declared.entry.Entry.{Entry};
 ghost use Rattle.cm_layout.specs.declared.heads.HalfHead.{HalfHead};
 ghost use Rattle.cm_layout.specs.declared.heads.GroupHead.{GroupHead};
-ghost use Rattle.cm_layout.specs.Laws.{FramesAreOne, RowsAreApart};
+ghost use Rattle.cm_layout.specs.Laws.{FramesAreOne, RowsAreApart, RowsStayLive};
 ghost use Rattle.cm_layout.specs.Slots.{entry_slot, FitsEntry, half_head_slot, FitsHalfHead};
 ghost use Rattle.cm_layout.specs.Slots.{group_head_slot, FitsGroupHead};
 
@@ -26,6 +26,12 @@ pub fn slot_determines_head()
 /// word, and none has two loaders.
 pub fn rows_are_apart()
     ensures { RowsAreApart }
+{}
+
+/// Rows after groups that keep the rules are live rows that keep theirs, for the number of the last
+/// entry, Unloads and Moves too: a new half can begin with them.
+pub fn rows_stay_live()
+    ensures { RowsStayLive }
 {}
 
 /// A file's contents tell what they frame: its sizes, its rows with the words of their records, and

@@ -28,7 +28,8 @@ pub use group::{GROUP_SLOTS, Group};
 pub use half::Half;
 pub use heads::{GroupHead, HalfHead};
 pub use laws::{
-    contents_determine_rows, rows_are_apart, slot_determines_entry, slot_determines_head,
+    contents_determine_rows, rows_are_apart, rows_stay_live, slot_determines_entry,
+    slot_determines_head,
 };
 pub use loader_row::LoaderRow;
 pub use name::{NAME_BYTES, SlotName, is_loader_name};
