@@ -1,5 +1,7 @@
 -- What one class more, an unloaded loader and a moved chunk do to the rows of classes.
-use Rattle.std.proofs.Common.{◌≡◌, ◌≢◌, ℕ, ◌+◌, ◌≤◌, ◌⊎◌, Bool, true, false, cond, eqb, List, [], ◌∷◌, ◌++◌, map, Option, Some, None, inl, inr, refl, sym, ◌∙◌, ap, subst, arith}
+use Rattle.std.proofs.Common.{◌≡◌, ◌≢◌, ℕ, ◌+◌, ◌≤◌, ◌⊎◌, Bool, true, false, cond, eqb, List, []}
+use Rattle.std.proofs.Common.{◌∷◌, ◌++◌, map, Option, Some, None, inl, inr, refl, sym, ◌∙◌, ap}
+use Rattle.std.proofs.Common.{subst, arith}
 use Rattle.std.specs.Prelude.{not, filter}
 use Rattle.std.specs.Option.{option_map}
 use Rattle.std.proofs.lemmas.Bool.{eqb-true, eq-eqb}
@@ -11,9 +13,13 @@ use Rattle.cm_layout.specs.Frames.{BareRow}
 use Rattle.cm_rows.specs.declared.live_loader.LastChunk.{LastChunk}
 use Rattle.cm_rows.specs.Rows.{last_of}
 use Rattle.cm_rows.specs.Held.{first_chunks, AreFounded}
-use Rattle.cm_rows.proofs.Lists.{among-left, among-right, among-push, among-map, among-map_from, among-filter, among-filter_from}
+use Rattle.cm_rows.proofs.Lists.{among-left, among-right, among-push, among-map, among-map_from}
+use Rattle.cm_rows.proofs.Lists.{among-filter, among-filter_from}
 use Rattle.cm_rows.proofs.Chunks.{same_chunk-itself, same_chunk-false, same_chunk-cases}
-use Rattle.cm_rows.proofs.Classes.{used, used-is, used-append, used-none, used-filter, last-push, last-among, last-none, last-filter, goes, moved_class, IsMoved, is_moved, last-moved, used-elsewhere, used-moved, first-push, first-moved, first-among, among-first}
+use Rattle.cm_rows.proofs.Classes.{used, used-is, used-append, used-none, used-filter, last-push}
+use Rattle.cm_rows.proofs.Classes.{last-among, last-none, last-filter, goes, moved_class, IsMoved}
+use Rattle.cm_rows.proofs.Classes.{is_moved, last-moved, used-elsewhere, used-moved, first-push}
+use Rattle.cm_rows.proofs.Classes.{first-moved, first-among, among-first}
 
 -- a chunk with its used words
 abbrev pub with_used : List ClassRow → Chunk → LastChunk
@@ -29,15 +35,18 @@ last_use u rs = option_map (with_used rs) (last_chunk u rs)
 pub last_of-is : (u : ℕ) (rows : List BareRow) → last_of u rows ≡ last_use u (classes_in rows)
 last_of-is u rows = by_last (last_chunk u (classes_in rows))
   where
-    by_last : (o : Option Chunk) → option_map (with_words rows) o ≡ option_map (with_used (classes_in rows)) o
+    by_last : (o : Option Chunk)
+        → option_map (with_words rows) o ≡ option_map (with_used (classes_in rows)) o
     by_last None = refl
     by_last (Some c) = ap (λ n. Some (record { chunk = c; used = n })) (used-is c rows)
 
 -- the last use says which chunk is last
-pub use-chunk : (u : ℕ) (rs : List ClassRow) (l : LastChunk) → last_use u rs ≡ Some l → (last_chunk u rs ≡ Some l.chunk) × (used l.chunk rs ≡ l.used)
+pub use-chunk : (u : ℕ) (rs : List ClassRow) (l : LastChunk) → last_use u rs ≡ Some l
+    → (last_chunk u rs ≡ Some l.chunk) × (used l.chunk rs ≡ l.used)
 use-chunk u rs l h = by_last (last_chunk u rs) h
   where
-    by_last : (o : Option Chunk) → option_map (with_used rs) o ≡ Some l → (o ≡ Some l.chunk) × (used l.chunk rs ≡ l.used)
+    by_last : (o : Option Chunk) → option_map (with_used rs) o ≡ Some l → (o ≡ Some l.chunk)
+        × (used l.chunk rs ≡ l.used)
     by_last None e = absurd (cc)
     by_last (Some c) e =
         let is : record { chunk = c; used = used c rs } ≡ l = cc in
@@ -61,26 +70,39 @@ pub record Joins (rs : List ClassRow) (r : ClassRow) : Type 0 where
   pub owner : (s : ClassRow) → Among s rs → s.place.chunk ≡ r.place.chunk → s.loader ≡ r.loader
   pub offset : used r.place.chunk rs ≡ r.place.offset
 
-pub founded-push : (rs : List ClassRow) (r : ClassRow) → AreFounded rs → Joins rs r → AreFounded (rs ++ r ∷ [])
+pub founded-push : (rs : List ClassRow) (r : ClassRow) → AreFounded rs → Joins rs r
+    → AreFounded (rs ++ r ∷ [])
 founded-push rs r h j = record { words = words; first = first; owner = owner }
   where
     words : (s : ClassRow) → Among s (rs ++ r ∷ []) → 1 ≤ s.place.words
-    words s m = elim (among-push s r rs m) [ inl a ↦ h.words s a | inr e ↦ subst (λ (x : ClassRow). 1 ≤ x.place.words) (sym e) j.words ]
+    words s m = elim (among-push s r rs m) [
+      | inl a ↦ h.words s a
+      | inr e ↦ subst
+          (λ (x : ClassRow). 1 ≤ x.place.words) (sym e) j.words
+    ]
 
-    first : (s : ClassRow) → Among s (rs ++ r ∷ []) → Among s.place.chunk (first_chunks (rs ++ r ∷ []))
+    first : (s : ClassRow) → Among s (rs ++ r ∷ [])
+        → Among s.place.chunk (first_chunks (rs ++ r ∷ []))
     first s m =
         elim (among-push s r rs m) [
-          | inl a ↦ subst (λ (l : List Chunk). Among s.place.chunk l) (sym (first-push rs r)) (among-left s.place.chunk (first_chunks rs) _ (h.first s a))
-          | inr e ↦ subst (λ (x : ClassRow). Among x.place.chunk (first_chunks (rs ++ r ∷ []))) (sym e) j.first
+          | inl a ↦ subst
+              (λ (l : List Chunk). Among s.place.chunk l) (sym (first-push rs r)) (among-left s.place.chunk (first_chunks rs) _ (h.first s a))
+          | inr e ↦ subst
+              (λ (x : ClassRow). Among x.place.chunk (first_chunks (rs ++ r ∷ []))) (sym e) j.first
         ]
 
-    by_last : (x y : ClassRow) → Among x rs ⊎ (x ≡ r) → Among y rs ⊎ (y ≡ r) → x.place.chunk ≡ y.place.chunk → x.loader ≡ y.loader
+    by_last : (x y : ClassRow) → Among x rs ⊎ (x ≡ r) → Among y rs ⊎ (y ≡ r)
+        → x.place.chunk ≡ y.place.chunk → x.loader ≡ y.loader
     by_last x y (inl a) (inl b) e = h.owner x y a b e
-    by_last x y (inl a) (inr is) e = j.owner x a (e ∙ ap (λ (d : ClassRow). d.place.chunk) is) ∙ ap (λ (d : ClassRow). d.loader) (sym is)
-    by_last x y (inr is) (inl b) e = ap (λ (d : ClassRow). d.loader) is ∙ sym (j.owner y b (sym e ∙ ap (λ (d : ClassRow). d.place.chunk) is))
+    by_last x y (inl a) (inr is) e = j.owner x a (e ∙ ap
+        (λ (d : ClassRow). d.place.chunk) is) ∙ ap (λ (d : ClassRow). d.loader) (sym is)
+    by_last x y (inr is) (inl b) e = ap
+        (λ (d : ClassRow). d.loader) is ∙ sym (j.owner y b (sym e ∙ ap
+        (λ (d : ClassRow). d.place.chunk) is))
     by_last x y (inr is) (inr as_is) e = ap (λ (d : ClassRow). d.loader) (is ∙ sym as_is)
 
-    owner : (x y : ClassRow) → Among x (rs ++ r ∷ []) → Among y (rs ++ r ∷ []) → x.place.chunk ≡ y.place.chunk → x.loader ≡ y.loader
+    owner : (x y : ClassRow) → Among x (rs ++ r ∷ []) → Among y (rs ++ r ∷ [])
+        → x.place.chunk ≡ y.place.chunk → x.loader ≡ y.loader
     owner x y a b e = by_last x y (among-push x r rs a) (among-push y r rs b) e
 
 pub last_use-push : (rs : List ClassRow) (r : ClassRow) (v : ℕ) → Joins rs r
@@ -107,19 +129,23 @@ last_use-push rs r v j =
     by_test false e = others (last_chunk v rs) refl e
 
 -- behind the last record in its loader's last chunk
-pub joins-top : (rs : List ClassRow) (r : ClassRow) → AreFounded rs → 1 ≤ r.place.words → last_use r.loader rs ≡ Some (record { chunk = r.place.chunk; used = r.place.offset }) → Joins rs r
+pub joins-top : (rs : List ClassRow) (r : ClassRow) → AreFounded rs → 1 ≤ r.place.words
+    → last_use r.loader rs ≡ Some (record { chunk = r.place.chunk; used = r.place.offset })
+    → Joins rs r
 joins-top rs r h some last =
     let is = use-chunk r.loader rs (record { chunk = r.place.chunk; used = r.place.offset }) last in
     let t = last-among r.loader rs r.place.chunk is.0 in
     record {
       words = some;
-      first = subst (λ (l : List Chunk). Among r.place.chunk l) (sym (first-push rs r)) (among-left r.place.chunk (first_chunks rs) _ (subst (λ (c : Chunk). Among c (first_chunks rs)) t.3 (h.first t.0 t.1)));
+      first = subst
+          (λ (l : List Chunk). Among r.place.chunk l) (sym (first-push rs r)) (among-left r.place.chunk (first_chunks rs) _ (subst (λ (c : Chunk). Among c (first_chunks rs)) t.3 (h.first t.0 t.1)));
       owner = λ s m e. h.owner s t.0 m t.1 (e ∙ sym t.3) ∙ t.2;
       offset = is.1;
     }
 
 -- first in a chunk where no record is
-pub joins-new : (rs : List ClassRow) (r : ClassRow) → 1 ≤ r.place.words → r.place.offset ≡ 0 → ((s : ClassRow) → Among s rs → s.place.chunk ≢ r.place.chunk) → Joins rs r
+pub joins-new : (rs : List ClassRow) (r : ClassRow) → 1 ≤ r.place.words → r.place.offset ≡ 0
+    → ((s : ClassRow) → Among s rs → s.place.chunk ≢ r.place.chunk) → Joins rs r
 joins-new rs r some zero unused =
     record {
       words = some;
@@ -143,7 +169,8 @@ not-eqb a b h e = let yes = eq-eqb a b e in by_test (eqb a b) yes h
 eqb-not : (a b : ℕ) → a ≢ b → not (eqb a b) ≡ true
 eqb-not a b n = ap not (ne-eqb a b n)
 
-pub last_use-without : (u : ℕ) (rs : List ClassRow) (v : ℕ) → AreFounded rs → last_use v (others_than u rs) ≡ cond (eqb u v) None (last_use v rs)
+pub last_use-without : (u : ℕ) (rs : List ClassRow) (v : ℕ) → AreFounded rs
+    → last_use v (others_than u rs) ≡ cond (eqb u v) None (last_use v rs)
 last_use-without u rs v h = by_test (eqb u v) refl
   where
     others : u ≢ v → (o : Option Chunk) → last_chunk v rs ≡ o
@@ -152,15 +179,19 @@ last_use-without u rs v h = by_test (eqb u v) refl
     others n (Some c) e =
         let s = last-among v rs c e in
         ap (λ k. Some (record { chunk = c; used = k }))
-        (used-filter c (λ (r : ClassRow). not (eqb r.loader u)) rs (λ r m on. eqb-not r.loader u (λ is. n (sym is ∙ h.owner r s.0 m s.1 (on ∙ sym s.3) ∙ s.2))))
+        (used-filter c (λ (r : ClassRow). not (eqb r.loader u)) rs (λ r m on. eqb-not r.loader u
+        (λ is. n (sym is ∙ h.owner r s.0 m s.1 (on ∙ sym s.3) ∙ s.2))))
 
     by_test : (t : Bool) → eqb u v ≡ t → last_use v (others_than u rs) ≡ cond t None (last_use v rs)
     by_test true e =
-        let none = last-none v (others_than u rs) (λ r m is. not-eqb r.loader u (among-filter_from (λ (r : ClassRow). not (eqb r.loader u)) r rs m).1 (is ∙ sym (eqb-true u v e))) in
+        let none = last-none v (others_than u rs)
+        (λ r m is. not-eqb r.loader u (among-filter_from
+        (λ (r : ClassRow). not (eqb r.loader u)) r rs m).1 (is ∙ sym (eqb-true u v e))) in
         ap (λ (o : Option Chunk). option_map (with_used (others_than u rs)) o) none
     by_test false e =
         let differs : u ≢ v = λ is. let yes = eq-eqb u v is in absurd (cc) in
-        let stays = last-filter v (λ (r : ClassRow). not (eqb r.loader u)) rs (λ r m is. eqb-not r.loader u (λ same. differs (sym same ∙ is))) in
+        let stays = last-filter v (λ (r : ClassRow). not (eqb r.loader u)) rs
+        (λ r m is. eqb-not r.loader u (λ same. differs (sym same ∙ is))) in
         ap (λ (o : Option Chunk). option_map (with_used (others_than u rs)) o) stays ∙ others differs (last_chunk v rs) refl
 
 pub founded-without : (u : ℕ) (rs : List ClassRow) → AreFounded rs → AreFounded (others_than u rs)
@@ -174,12 +205,15 @@ founded-without u rs h =
     was : (r : ClassRow) → Among r (others_than u rs) → Among r rs × (not (eqb r.loader u) ≡ true)
     was r m = among-filter_from (λ (r : ClassRow). not (eqb r.loader u)) r rs m
 
-    first : (r : ClassRow) → Among r (others_than u rs) → Among r.place.chunk (first_chunks (others_than u rs))
+    first : (r : ClassRow) → Among r (others_than u rs)
+        → Among r.place.chunk (first_chunks (others_than u rs))
     first r m =
         let old = was r m in
         let f = first-among r.place.chunk rs (h.first r old.0) in
         let same : f.0.loader ≡ r.loader = h.owner f.0 r f.1 old.0 f.2 in
-        let stays : Among f.0 (others_than u rs) = among-filter (λ (r : ClassRow). not (eqb r.loader u)) f.0 rs f.1 (eqb-not f.0.loader u (λ is. not-eqb r.loader u old.1 (sym same ∙ is))) in
+        let stays : Among f.0 (others_than u rs) = among-filter
+        (λ (r : ClassRow). not (eqb r.loader u)) f.0 rs f.1 (eqb-not f.0.loader u
+        (λ is. not-eqb r.loader u old.1 (sym same ∙ is))) in
         subst (λ (c : Chunk). Among c (first_chunks (others_than u rs))) f.2 (among-first f.0 (others_than u rs) stays f.3)
 
 -- ---- a moved chunk
@@ -187,7 +221,8 @@ founded-without u rs h =
 goes-stays : (from to c : Chunk) → c ≢ from → goes from to c ≡ c
 goes-stays from to c n = rw (same_chunk-false c from n) refl
 
-pub last_use-moved : (u : ℕ) (from to : Chunk) (rs : List ClassRow) (v : ℕ) → AreFounded rs → last_chunk u rs ≡ Some from → ((r : ClassRow) → Among r rs → r.place.chunk ≢ to)
+pub last_use-moved : (u : ℕ) (from to : Chunk) (rs : List ClassRow) (v : ℕ) → AreFounded rs
+    → last_chunk u rs ≡ Some from → ((r : ClassRow) → Among r rs → r.place.chunk ≢ to)
     → last_use v (map (moved_class from to) rs) ≡ cond (eqb u v) (Some (record { chunk = to; used = used from rs })) (last_use v rs)
 last_use-moved u from to rs v h last unused =
     ap (λ (o : Option Chunk). option_map (with_used (map (moved_class from to) rs)) o) (last-moved v from to rs) ∙ by_test (eqb u v) refl
@@ -214,7 +249,8 @@ last_use-moved u from to rs v h last unused =
         → option_map (with_used (map (moved_class from to) rs)) (option_map (goes from to) (last_chunk v rs))
         ≡ cond t (Some (record { chunk = to; used = used from rs })) (last_use v rs)
     by_test true e =
-        let is : last_chunk v rs ≡ Some from = subst (λ (n : ℕ). last_chunk n rs ≡ Some from) (eqb-true u v e) last in
+        let is : last_chunk v rs ≡ Some from = subst
+        (λ (n : ℕ). last_chunk n rs ≡ Some from) (eqb-true u v e) last in
         let there : goes from to from ≡ to = rw (same_chunk-itself from) refl in
         ap (λ (o : Option Chunk). option_map (with_used (map (moved_class from to) rs)) (option_map (goes from to) o)) is
         ∙ ap (λ (d : Chunk). Some (record { chunk = d; used = used d (map (moved_class from to) rs) })) there
@@ -234,23 +270,29 @@ goes-one from to a b na nb e =
       ]
     ]
 
-pub founded-moved : (from to : Chunk) (rs : List ClassRow) → AreFounded rs → ((r : ClassRow) → Among r rs → r.place.chunk ≢ to) → AreFounded (map (moved_class from to) rs)
+pub founded-moved : (from to : Chunk) (rs : List ClassRow) → AreFounded rs → ((r : ClassRow)
+    → Among r rs → r.place.chunk ≢ to) → AreFounded (map (moved_class from to) rs)
 founded-moved from to rs h unused = record { words = words; first = first; owner = owner }
   where
-    was : (x : ClassRow) → Among x (map (moved_class from to) rs) → (r : ClassRow) × Among r rs × IsMoved from to r x
+    was : (x : ClassRow) → Among x (map (moved_class from to) rs) → (r : ClassRow) × Among r rs
+        × IsMoved from to r x
     was x m = let found = among-map_from (moved_class from to) x rs m in (found.0, found.1, subst (λ (y : ClassRow). IsMoved from to found.0 y) (sym found.2) (is_moved from to found.0))
 
     words : (x : ClassRow) → Among x (map (moved_class from to) rs) → 1 ≤ x.place.words
     words x m = let r = was x m in omega (arith, h.words r.0 r.1, r.2.words)
 
-    first : (x : ClassRow) → Among x (map (moved_class from to) rs) → Among x.place.chunk (first_chunks (map (moved_class from to) rs))
+    first : (x : ClassRow) → Among x (map (moved_class from to) rs)
+        → Among x.place.chunk (first_chunks (map (moved_class from to) rs))
     first x m =
         let r = was x m in
         let there : Among (goes from to r.0.place.chunk) (map (goes from to) (first_chunks rs)) = among-map (goes from to) r.0.place.chunk (first_chunks rs) (h.first r.0 r.1) in
-        let at_x : Among x.place.chunk (map (goes from to) (first_chunks rs)) = subst (λ (c : Chunk). Among c (map (goes from to) (first_chunks rs))) (sym r.2.chunk) there in
+        let at_x : Among x.place.chunk (map (goes from to) (first_chunks rs)) = subst
+        (λ (c : Chunk). Among c (map (goes from to) (first_chunks rs))) (sym r.2.chunk) there in
         subst (λ (l : List Chunk). Among x.place.chunk l) (sym (first-moved from to rs)) at_x
 
-    owner : (x y : ClassRow) → Among x (map (moved_class from to) rs) → Among y (map (moved_class from to) rs) → x.place.chunk ≡ y.place.chunk → x.loader ≡ y.loader
+    owner : (x y : ClassRow) → Among x (map (moved_class from to) rs)
+        → Among y (map (moved_class from to) rs) → x.place.chunk ≡ y.place.chunk
+        → x.loader ≡ y.loader
     owner x y m n e =
         let r = was x m in
         let s = was y n in

@@ -1,5 +1,6 @@
 -- Chunks: the tests on them and what they mean.
-use Rattle.std.proofs.Common.{◌≡◌, ◌≢◌, ◌^◌, ◌<◌, ◌⊎◌, Bool, true, false, eqb, inl, inr, refl, sym, ◌∙◌, subst, arith}
+use Rattle.std.proofs.Common.{◌≡◌, ◌≢◌, ◌^◌, ◌<◌, ◌⊎◌, Bool, true, false, eqb, inl, inr, refl, sym}
+use Rattle.std.proofs.Common.{◌∙◌, subst, arith}
 use Rattle.std.specs.Prelude.{◌&&◌, ◌||◌}
 use Rattle.std.proofs.lemmas.Bool.{eqb-true, lt-ltb, eq-eqb}
 use Rattle.std.proofs.lemmas.Nat.{pow_pos}
@@ -32,10 +33,12 @@ pub same_chunk-is : (a b : Chunk) → a ≡ b → same_chunk a b ≡ true
 same_chunk-is a b e = subst (λ (c : Chunk). same_chunk a c ≡ true) e (same_chunk-itself a)
 
 -- two chunks are one, or the test says that they differ
-pub same_chunk-cases : (a b : Chunk) → ((same_chunk a b ≡ true) × (a ≡ b)) ⊎ ((same_chunk a b ≡ false) × (a ≢ b))
+pub same_chunk-cases : (a b : Chunk) → ((same_chunk a b ≡ true) × (a ≡ b))
+    ⊎ ((same_chunk a b ≡ false) × (a ≢ b))
 same_chunk-cases a b = by_test (same_chunk a b) refl
   where
-    by_test : (t : Bool) → same_chunk a b ≡ t → ((same_chunk a b ≡ true) × (a ≡ b)) ⊎ ((same_chunk a b ≡ false) × (a ≢ b))
+    by_test : (t : Bool) → same_chunk a b ≡ t → ((same_chunk a b ≡ true) × (a ≡ b))
+        ⊎ ((same_chunk a b ≡ false) × (a ≢ b))
     by_test true e = inl (e, same_chunk-true a b e)
     by_test false e = inr (e, λ is. let yes = same_chunk-is a b is in absurd (cc))
 

@@ -1,5 +1,7 @@
 -- The live loaders: what a search finds, and what a change of one does to what is kept of each.
-use Rattle.std.proofs.Common.{◌≡◌, ◌≢◌, ℕ, zero, suc, ◌<◌, ◌≤◌, ◌⊎◌, Bool, true, false, cond, eqb, List, [], ◌∷◌, ◌++◌, length, get_or, set, Option, None, Result, Ok, Err, IfSome, IfNone, inl, inr, refl, sym, ◌∙◌, ap, subst, arith}
+use Rattle.std.proofs.Common.{◌≡◌, ◌≢◌, ℕ, zero, suc, ◌<◌, ◌≤◌, ◌⊎◌, Bool, true, false, cond, eqb}
+use Rattle.std.proofs.Common.{List, [], ◌∷◌, ◌++◌, length, get_or, set, Option, None, Result, Ok}
+use Rattle.std.proofs.Common.{Err, IfSome, IfNone, inl, inr, refl, sym, ◌∙◌, ap, subst, arith}
 use Rattle.std.specs.Ordering.{nat_cmp, ordering_index}
 use Rattle.std.specs.Result.{result_ok}
 use Rattle.std.specs.List.{remove, list_all, AllByRecursion}
@@ -22,13 +24,15 @@ abbrev number_at : List LiveLoader → ℕ → ℕ
 number_at ls i = (get_or ls i default).number
 
 -- the default doesn't matter inside a list
-inside : (ls : List LiveLoader) (i : ℕ) (d e : LiveLoader) → i < length ls → get_or ls i d ≡ get_or ls i e
+inside : (ls : List LiveLoader) (i : ℕ) (d e : LiveLoader) → i < length ls
+    → get_or ls i d ≡ get_or ls i e
 inside [] i d e h = absurd (omega arith)
 inside (l ∷ ls) zero d e h = refl
 inside (l ∷ ls) (suc i) d e h = inside ls i d e (omega arith)
 
 -- what is known of each stands at each place
-each-at : (P : LiveLoader → Type 0) (ls : List LiveLoader) (i : ℕ) (d : LiveLoader) → AllByRecursion P ls → i < length ls → P (get_or ls i d)
+each-at : (P : LiveLoader → Type 0) (ls : List LiveLoader) (i : ℕ) (d : LiveLoader)
+    → AllByRecursion P ls → i < length ls → P (get_or ls i d)
 each-at P [] i d h lt = absurd (omega arith)
 each-at P (l ∷ ls) zero d h lt = h.0
 each-at P (l ∷ ls) (suc i) d h lt = each-at P ls i d h.1 (omega arith)
@@ -36,25 +40,30 @@ each-at P (l ∷ ls) (suc i) d h lt = each-at P ls i d h.1 (omega arith)
 abbrev Below : LiveLoader → LiveLoader → Type 0
 Below a b = a.number < b.number
 
-pub rises-at : (ls : List LiveLoader) (i j : ℕ) (d : LiveLoader) → Pairwise Below ls → i < j → j < length ls → (get_or ls i d).number < (get_or ls j d).number
+pub rises-at : (ls : List LiveLoader) (i j : ℕ) (d : LiveLoader) → Pairwise Below ls → i < j
+    → j < length ls → (get_or ls i d).number < (get_or ls j d).number
 rises-at [] i j d h lt within = absurd (omega arith)
 rises-at (l ∷ ls) i zero d h lt within = absurd (omega arith)
 rises-at (l ∷ ls) zero (suc j) d h lt within = each-at (Below l) ls j d h.0 (omega arith)
 rises-at (l ∷ ls) (suc i) (suc j) d h lt within = rises-at ls i j d h.1 (omega arith) (omega arith)
 
-rise : (ls : List LiveLoader) (n : ℕ) → Rises ls → IsNonDecreasingBy (λ l. ordering_index (nat_cmp l.number n)) ls
+rise : (ls : List LiveLoader) (n : ℕ) → Rises ls → IsNonDecreasingBy
+    (λ l. ordering_index (nat_cmp l.number n)) ls
 rise ls n h i j d le within =
     elim (cases_lt i j) [
       | inl lt ↦ let rises = rises-at ls i j d h.each lt within in grind (arith, nat_tests)
-      | inr ge ↦ let same : i ≡ j = omega arith in subst (λ (k : ℕ). ordering_index (nat_cmp (get_or ls i d).number n) ≤ ordering_index (nat_cmp (get_or ls k d).number n)) same (omega arith)
+      | inr ge ↦ let same : i ≡ j = omega arith in subst
+          (λ (k : ℕ). ordering_index (nat_cmp (get_or ls i d).number n) ≤ ordering_index (nat_cmp (get_or ls k d).number n)) same (omega arith)
     ]
 
-pub searched : (ls : List LiveLoader) (n : ℕ) (r : Result ℕ ℕ) → Rises ls → IsSearchInRange r (length ls) → IsBinarySearchResult (λ l. nat_cmp l.number n) ls r
+pub searched : (ls : List LiveLoader) (n : ℕ) (r : Result ℕ ℕ) → Rises ls
+    → IsSearchInRange r (length ls) → IsBinarySearchResult (λ l. nat_cmp l.number n) ls r
     → IfSome (result_ok r) (IsAt ls n) × IfNone (result_ok r) (IsAbsent ls n)
 searched ls n (Ok at) h within equal = (record { within = within; number_is = λ d. ranked _ n _ (sym (equal d)) }, tt)
 searched ls n (Err at) h within parted = (tt, record { none = λ k d lt same. elsewhere k d lt (cases_lt k at) same })
   where
-    elsewhere : (k : ℕ) (d : LiveLoader) → k < length ls → (k < at) ⊎ (at ≤ k) → (get_or ls k d).number ≢ n
+    elsewhere : (k : ℕ) (d : LiveLoader) → k < length ls → (k < at) ⊎ (at ≤ k)
+        → (get_or ls k d).number ≢ n
     elsewhere k d lt (inl before) same = let less : (get_or ls k d).number < n = ranked _ n _ (sym ((parted (rise ls n h)).0 k d (omega arith) before)) in omega arith
     elsewhere k d lt (inr behind) same = let more : n < (get_or ls k d).number = ranked _ n _ (sym ((parted (rise ls n h)).1 k d behind lt)) in omega arith
 
@@ -68,22 +77,27 @@ ne-eqb a b n = by_test (eqb a b) refl
     by_test false e = refl
 
 -- a number below all of them is none of theirs
-absent-below : (v : ℕ) (ls : List LiveLoader) → AllByRecursion (λ l. v < l.number) ls → last_in v ls ≡ None
+absent-below : (v : ℕ) (ls : List LiveLoader) → AllByRecursion (λ l. v < l.number) ls
+    → last_in v ls ≡ None
 absent-below v [] h = refl
 absent-below v (l ∷ ls) h = rw (ne-eqb l.number v (λ e. omega (arith, h.0))) (absent-below v ls h.1)
 
-all-below : (ls : List LiveLoader) (l : LiveLoader) (v : ℕ) → l.number ≡ v → AllByRecursion (Below l) ls → AllByRecursion (λ m. v < m.number) ls
+all-below : (ls : List LiveLoader) (l : LiveLoader) (v : ℕ) → l.number ≡ v
+    → AllByRecursion (Below l) ls → AllByRecursion (λ m. v < m.number) ls
 all-below [] l v e h = tt
 all-below (m ∷ ls) l v e h = (omega (arith, h.0), all-below ls l v e h.1)
 
 pub last_in-absent : (v : ℕ) (ls : List LiveLoader) → IsAbsent ls v → last_in v ls ≡ None
 last_in-absent v ls h = by_all ls (λ k d lt. h.none k d lt)
   where
-    by_all : (ls : List LiveLoader) → ((k : ℕ) (d : LiveLoader) → k < length ls → (get_or ls k d).number ≢ v) → last_in v ls ≡ None
+    by_all : (ls : List LiveLoader) → ((k : ℕ) (d : LiveLoader) → k < length ls
+        → (get_or ls k d).number ≢ v) → last_in v ls ≡ None
     by_all [] h = refl
-    by_all (l ∷ ls) h = rw (ne-eqb l.number v (h 0 l (omega arith))) (by_all ls (λ k d lt. h (suc k) d (omega arith)))
+    by_all (l ∷ ls) h = rw (ne-eqb l.number v (h 0 l (omega arith))) (by_all ls
+        (λ k d lt. h (suc k) d (omega arith)))
 
-pub last_in-at : (u : ℕ) (ls : List LiveLoader) (i : ℕ) (d : LiveLoader) → Pairwise Below ls → i < length ls → (get_or ls i d).number ≡ u → last_in u ls ≡ (get_or ls i d).last
+pub last_in-at : (u : ℕ) (ls : List LiveLoader) (i : ℕ) (d : LiveLoader) → Pairwise Below ls
+    → i < length ls → (get_or ls i d).number ≡ u → last_in u ls ≡ (get_or ls i d).last
 last_in-at u [] i d h lt e = absurd (omega arith)
 last_in-at u (l ∷ ls) zero d h lt e = rw (eq-eqb l.number u e) refl
 last_in-at u (l ∷ ls) (suc i) d h lt e =
@@ -93,9 +107,11 @@ last_in-at u (l ∷ ls) (suc i) d h lt e =
 pub last_in-set : (u v : ℕ) (o : Option LastChunk) (ls : List LiveLoader) (i : ℕ) (d : LiveLoader) → Pairwise Below ls → i < length ls → (get_or ls i d).number ≡ u
     → last_in v (set ls i (record { number = u; last = o })) ≡ cond (eqb u v) o (last_in v ls)
 last_in-set u v o [] i d h lt e = absurd (omega arith)
-last_in-set u v o (l ∷ ls) zero d h lt e = by_test (eqb u v) (eqb l.number v) (ap (λ (n : ℕ). eqb n v) e)
+last_in-set u v o (l ∷ ls) zero d h lt e = by_test (eqb u v) (eqb l.number v) (ap
+    (λ (n : ℕ). eqb n v) e)
   where
-    by_test : (t s : Bool) → s ≡ t → cond t o (last_in v ls) ≡ cond t o (cond s l.last (last_in v ls))
+    by_test : (t s : Bool) → s ≡ t
+        → cond t o (last_in v ls) ≡ cond t o (cond s l.last (last_in v ls))
     by_test true s same = refl
     by_test false true same = absurd (cc)
     by_test false false same = refl
@@ -109,18 +125,22 @@ last_in-set u v o (l ∷ ls) (suc i) d h lt e = by_test (last_in-set u v o ls i 
         rw (ne-eqb u v (λ both. omega arith)) refl
     by_test behind false same = behind
 
-pub last_in-remove : (u v : ℕ) (ls : List LiveLoader) (i : ℕ) (d : LiveLoader) → Pairwise Below ls → i < length ls → (get_or ls i d).number ≡ u
+pub last_in-remove : (u v : ℕ) (ls : List LiveLoader) (i : ℕ) (d : LiveLoader)
+    → Pairwise Below ls → i < length ls → (get_or ls i d).number ≡ u
     → last_in v (remove ls i) ≡ cond (eqb u v) None (last_in v ls)
 last_in-remove u v [] i d h lt e = absurd (omega arith)
-last_in-remove u v (l ∷ ls) zero d h lt e = by_test (eqb u v) refl (eqb l.number v) (ap (λ (n : ℕ). eqb n v) e)
+last_in-remove u v (l ∷ ls) zero d h lt e = by_test (eqb u v) refl (eqb l.number v) (ap
+    (λ (n : ℕ). eqb n v) e)
   where
-    by_test : (t : Bool) → eqb u v ≡ t → (s : Bool) → s ≡ eqb u v → last_in v ls ≡ cond t None (cond s l.last (last_in v ls))
+    by_test : (t : Bool) → eqb u v ≡ t → (s : Bool) → s ≡ eqb u v
+        → last_in v ls ≡ cond t None (cond s l.last (last_in v ls))
     by_test true same s e2 = absent-below v ls (all-below ls l v (e ∙ eqb-true u v same) h.0)
     by_test false same true e2 = absurd (cc)
     by_test false same false e2 = refl
 last_in-remove u v (l ∷ ls) (suc i) d h lt e = by_test (last_in-remove u v ls i d h.1 (omega arith) e) (eqb l.number v) refl
   where
-    by_test : last_in v (remove ls i) ≡ cond (eqb u v) None (last_in v ls) → (t : Bool) → eqb l.number v ≡ t
+    by_test : last_in v (remove ls i) ≡ cond (eqb u v) None (last_in v ls) → (t : Bool)
+        → eqb l.number v ≡ t
         → cond t l.last (last_in v (remove ls i)) ≡ cond (eqb u v) None (cond t l.last (last_in v ls))
     by_test behind true same =
         let is : l.number ≡ v = eqb-true l.number v same in
@@ -135,26 +155,40 @@ last_in-push u v [] h = by_test (eqb u v) None
     by_test : (t : Bool) (o : Option LastChunk) → cond t o o ≡ o
     by_test true o = refl
     by_test false o = refl
-last_in-push u v (l ∷ ls) h = ap (λ (o : Option LastChunk). cond (eqb l.number v) l.last o) (last_in-push u v ls h.1)
+last_in-push u v (l ∷ ls) h = ap
+    (λ (o : Option LastChunk). cond (eqb l.number v) l.last o) (last_in-push u v ls h.1)
 
 -- ---- their numbers, and their order
 
-pub numbers-set : (u : ℕ) (o : Option LastChunk) (ls : List LiveLoader) (i : ℕ) (d : LiveLoader) → i < length ls → (get_or ls i d).number ≡ u → numbers_of (set ls i (record { number = u; last = o })) ≡ numbers_of ls
+pub numbers-set : (u : ℕ) (o : Option LastChunk) (ls : List LiveLoader) (i : ℕ) (d : LiveLoader)
+    → i < length ls → (get_or ls i d).number ≡ u
+    → numbers_of (set ls i (record { number = u; last = o })) ≡ numbers_of ls
 numbers-set u o [] i d lt e = refl
 numbers-set u o (l ∷ ls) zero d lt e = ap (λ n. n ∷ numbers_of ls) (sym e)
-numbers-set u o (l ∷ ls) (suc i) d lt e = ap (λ ns. l.number ∷ ns) (numbers-set u o ls i d (omega arith) e)
+numbers-set u o (l ∷ ls) (suc i) d lt e = ap
+    (λ ns. l.number ∷ ns) (numbers-set u o ls i d (omega arith) e)
 
-all-set : (P : ℕ → Type 0) (u : ℕ) (o : Option LastChunk) (ls : List LiveLoader) (i : ℕ) (d : LiveLoader) → (get_or ls i d).number ≡ u → AllByRecursion (λ l. P l.number) ls → AllByRecursion (λ l. P l.number) (set ls i (record { number = u; last = o }))
+all-set : (P : ℕ
+    → Type 0) (u : ℕ) (o : Option LastChunk) (ls : List LiveLoader) (i : ℕ) (d : LiveLoader)
+    → (get_or ls i d).number ≡ u → AllByRecursion (λ l. P l.number) ls → AllByRecursion
+    (λ l. P l.number) (set ls i (record { number = u; last = o }))
 all-set P u o [] i d e h = h
 all-set P u o (l ∷ ls) zero d e h = (subst P e h.0, h.1)
 all-set P u o (l ∷ ls) (suc i) d e h = (h.0, all-set P u o ls i d e h.1)
 
-pub rises-set : (u : ℕ) (o : Option LastChunk) (ls : List LiveLoader) (i : ℕ) (d : LiveLoader) → (get_or ls i d).number ≡ u → Pairwise Below ls → Pairwise Below (set ls i (record { number = u; last = o }))
+pub rises-set : (u : ℕ) (o : Option LastChunk) (ls : List LiveLoader) (i : ℕ) (d : LiveLoader)
+    → (get_or ls i d).number ≡ u → Pairwise Below ls
+    → Pairwise Below (set ls i (record { number = u; last = o }))
 rises-set u o [] i d e h = h
 rises-set u o (l ∷ ls) zero d e h = (all-below ls l u e h.0, h.1)
-rises-set u o (l ∷ ls) (suc i) d e h = (all-set (λ n. l.number < n) u o ls i d e h.0, rises-set u o ls i d e h.1)
+rises-set u o (l ∷ ls) (suc i) d e h = (
+  all-set
+      (λ n. l.number < n) u o ls i d e h.0,
+  rises-set u o ls i d e h.1,
+)
 
-all-remove : (P : LiveLoader → Type 0) (ls : List LiveLoader) (i : ℕ) → AllByRecursion P ls → AllByRecursion P (remove ls i)
+all-remove : (P : LiveLoader → Type 0) (ls : List LiveLoader) (i : ℕ) → AllByRecursion P ls
+    → AllByRecursion P (remove ls i)
 all-remove P [] zero h = h
 all-remove P [] (suc i) h = h
 all-remove P (l ∷ ls) zero h = h.1
@@ -167,36 +201,46 @@ rises-remove (l ∷ ls) zero h = h.1
 rises-remove (l ∷ ls) (suc i) h = (all-remove (Below l) ls i h.0, rises-remove ls i h.1)
 
 -- numbers that differ stay
-none-filtered : (u : ℕ) (ls : List LiveLoader) → AllByRecursion (λ l. u < l.number) ls → filter (λ n. not (eqb n u)) (numbers_of ls) ≡ numbers_of ls
+none-filtered : (u : ℕ) (ls : List LiveLoader) → AllByRecursion (λ l. u < l.number) ls → filter
+    (λ n. not (eqb n u)) (numbers_of ls) ≡ numbers_of ls
 none-filtered u [] h = refl
-none-filtered u (l ∷ ls) h = rw (ne-eqb l.number u (λ e. omega (arith, h.0))) (ap (λ ns. l.number ∷ ns) (none-filtered u ls h.1))
+none-filtered u (l ∷ ls) h = rw (ne-eqb l.number u (λ e. omega (arith, h.0))) (ap
+    (λ ns. l.number ∷ ns) (none-filtered u ls h.1))
 
-pub numbers-remove : (u : ℕ) (ls : List LiveLoader) (i : ℕ) (d : LiveLoader) → Pairwise Below ls → i < length ls → (get_or ls i d).number ≡ u → numbers_of (remove ls i) ≡ filter (λ n. not (eqb n u)) (numbers_of ls)
+pub numbers-remove : (u : ℕ) (ls : List LiveLoader) (i : ℕ) (d : LiveLoader) → Pairwise Below ls
+    → i < length ls → (get_or ls i d).number ≡ u → numbers_of (remove ls i) ≡ filter
+    (λ n. not (eqb n u)) (numbers_of ls)
 numbers-remove u [] i d h lt e = absurd (omega arith)
 numbers-remove u (l ∷ ls) zero d h lt e = rw (eq-eqb l.number u e) (sym (none-filtered u ls (all-below ls l u e h.0)))
 numbers-remove u (l ∷ ls) (suc i) d h lt e =
     let before : l.number < (get_or ls i d).number = each-at (Below l) ls i d h.0 (omega arith) in
-    rw (ne-eqb l.number u (λ same. omega arith)) (ap (λ ns. l.number ∷ ns) (numbers-remove u ls i d h.1 (omega arith) e))
+    rw (ne-eqb l.number u (λ same. omega arith)) (ap
+    (λ ns. l.number ∷ ns) (numbers-remove u ls i d h.1 (omega arith) e))
 
-all-push : (P : LiveLoader → Type 0) (ls : List LiveLoader) (l : LiveLoader) → AllByRecursion P ls → P l → AllByRecursion P (ls ++ l ∷ [])
+all-push : (P : LiveLoader → Type 0) (ls : List LiveLoader) (l : LiveLoader)
+    → AllByRecursion P ls → P l → AllByRecursion P (ls ++ l ∷ [])
 all-push P [] l h p = (p, tt)
 all-push P (m ∷ ls) l h p = (h.0, all-push P ls l h.1 p)
 
-pub rises-push : (ls : List LiveLoader) (l : LiveLoader) → Pairwise Below ls → AllByRecursion (λ m. m.number < l.number) ls → Pairwise Below (ls ++ l ∷ [])
+pub rises-push : (ls : List LiveLoader) (l : LiveLoader) → Pairwise Below ls → AllByRecursion
+    (λ m. m.number < l.number) ls → Pairwise Below (ls ++ l ∷ [])
 rises-push [] l h below = (tt, tt)
 rises-push (m ∷ ls) l h below = (all-push (Below m) ls l h.0 below.0, rises-push ls l h.1 below.1)
 
-pub numbers-push : (ls : List LiveLoader) (l : LiveLoader) → numbers_of (ls ++ l ∷ []) ≡ numbers_of ls ++ l.number ∷ []
+pub numbers-push : (ls : List LiveLoader) (l : LiveLoader)
+    → numbers_of (ls ++ l ∷ []) ≡ numbers_of ls ++ l.number ∷ []
 numbers-push [] l = refl
 numbers-push (m ∷ ls) l = ap (λ ns. m.number ∷ ns) (numbers-push ls l)
 
 -- a fact of each number, of each loader
-pub all-numbers : (P : ℕ → Type 0) (ls : List LiveLoader) → AllByRecursion P (numbers_of ls) → AllByRecursion (λ l. P l.number) ls
+pub all-numbers : (P : ℕ → Type 0) (ls : List LiveLoader) → AllByRecursion P (numbers_of ls)
+    → AllByRecursion (λ l. P l.number) ls
 all-numbers P [] h = tt
 all-numbers P (l ∷ ls) h = (h.0, all-numbers P ls h.1)
 
 -- a loader that is found is one of them, and one that isn't isn't
-pub at-among : (u : ℕ) (ls : List LiveLoader) (i : ℕ) (d : LiveLoader) → i < length ls → (get_or ls i d).number ≡ u → Among u (numbers_of ls)
+pub at-among : (u : ℕ) (ls : List LiveLoader) (i : ℕ) (d : LiveLoader) → i < length ls
+    → (get_or ls i d).number ≡ u → Among u (numbers_of ls)
 at-among u [] i d lt e = absurd (omega arith)
 at-among u (l ∷ ls) zero d lt e = inl (sym e)
 at-among u (l ∷ ls) (suc i) d lt e = inr (at-among u ls i d (omega arith) e)
@@ -204,13 +248,16 @@ at-among u (l ∷ ls) (suc i) d lt e = inr (at-among u ls i d (omega arith) e)
 pub absent-among : (u : ℕ) (ls : List LiveLoader) → IsAbsent ls u → ¬ Among u (numbers_of ls)
 absent-among u ls h m = by_all ls (λ k d lt. h.none k d lt) m
   where
-    by_all : (ls : List LiveLoader) → ((k : ℕ) (d : LiveLoader) → k < length ls → (get_or ls k d).number ≢ u) → ¬ Among u (numbers_of ls)
+    by_all : (ls : List LiveLoader) → ((k : ℕ) (d : LiveLoader) → k < length ls
+        → (get_or ls k d).number ≢ u) → ¬ Among u (numbers_of ls)
     by_all [] h none = none
     by_all (l ∷ ls) h (inl e) = h 0 l (omega arith) (sym e)
     by_all (l ∷ ls) h (inr m) = by_all ls (λ k d lt. h (suc k) d (omega arith)) m
 
 -- all numbers are below one that the last is below
-pub below-last : (n : ℕ) (ls : List LiveLoader) (k : ℕ) (d : LiveLoader) → Pairwise Below ls → length ls ≡ suc k → list_all (λ u. nat_lt u n) (numbers_of ls) ≡ nat_lt (get_or ls k d).number n
+pub below-last : (n : ℕ) (ls : List LiveLoader) (k : ℕ) (d : LiveLoader) → Pairwise Below ls
+    → length ls ≡ suc k → list_all
+    (λ u. nat_lt u n) (numbers_of ls) ≡ nat_lt (get_or ls k d).number n
 below-last n [] k d h e = absurd (omega arith)
 below-last n (l ∷ []) zero d h e = single (nat_lt l.number n)
   where
@@ -223,8 +270,12 @@ below-last n (l ∷ m ∷ ls) (suc k) d h e =
     let before : l.number < (get_or (m ∷ ls) k d).number = each-at (Below l) (m ∷ ls) k d h.0 (omega arith) in
     by_test (below-last n (m ∷ ls) k d h.1 (omega arith)) before (nat_lt (get_or (m ∷ ls) k d).number n) refl
   where
-    by_test : list_all (λ u. nat_lt u n) (numbers_of (m ∷ ls)) ≡ nat_lt (get_or (m ∷ ls) k d).number n → l.number < (get_or (m ∷ ls) k d).number
-        → (t : Bool) → nat_lt (get_or (m ∷ ls) k d).number n ≡ t → (nat_lt l.number n && list_all (λ u. nat_lt u n) (numbers_of (m ∷ ls))) ≡ nat_lt (get_or (m ∷ ls) k d).number n
+    by_test : list_all
+        (λ u. nat_lt u n) (numbers_of (m ∷ ls)) ≡ nat_lt (get_or (m ∷ ls) k d).number n
+        → l.number < (get_or (m ∷ ls) k d).number
+        → (t : Bool) → nat_lt (get_or (m ∷ ls) k d).number n ≡ t
+        → (nat_lt l.number n && list_all
+        (λ u. nat_lt u n) (numbers_of (m ∷ ls))) ≡ nat_lt (get_or (m ∷ ls) k d).number n
     by_test behind before true e =
         let lt : (get_or (m ∷ ls) k d).number < n = ltb-true (get_or (m ∷ ls) k d).number n e in
         let first : nat_lt l.number n ≡ true = lt-ltb l.number n (omega arith) in

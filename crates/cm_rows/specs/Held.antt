@@ -1,5 +1,6 @@
 -- How the chunks of rows are held in a pool with all roots of a region.
-use Rattle.std.specs.Prelude.{◌≡◌, ◌≤◌, ◌==◌, ◌&&◌, ℕ, List, filter, map, Option, Some, None, ◌⊎◌, if◌then◌else◌}
+use Rattle.std.specs.Prelude.{◌≡◌, ◌≤◌, ◌==◌, ◌&&◌, ℕ, List, filter, map, Option, Some, None, ◌⊎◌}
+use Rattle.std.specs.Prelude.{if◌then◌else◌}
 use Rattle.cm_pool.specs.declared.chunk.Chunk.{Chunk}
 use Rattle.cm_pool.specs.Geometry.{Sizes}
 use Rattle.cm_pool.specs.FreeSpace.{FreeSpace, IsFreeChunk, without}
@@ -43,9 +44,11 @@ first_of u (Class r p) = if (r.loader == u) && (r.place.offset == 0) then Some r
 pub record AreFounded (classes : List ClassRow) : Type 0 where
   pub words : (r : ClassRow) → Among r classes → 1 ≤ r.place.words
   pub first : (r : ClassRow) → Among r classes → Among r.place.chunk (first_chunks classes)
-  pub owner : (r s : ClassRow) → Among r classes → Among s classes → r.place.chunk ≡ s.place.chunk → r.loader ≡ s.loader
+  pub owner : (r s : ClassRow) → Among r classes → Among s classes
+      → r.place.chunk ≡ s.place.chunk → r.loader ≡ s.loader
 
--- a record's place is on the top of a loader's last chunk, or at the front of a free one, which is taken then
+-- a record's place is on the top of a loader's last chunk, or at the front of a free one, which is
+-- taken then
 pub record IsTop (last : Option LastChunk) (place : Place) : Type 0 where
   pub is_top : last ≡ Some (record { chunk = place.chunk; used = place.offset })
 
@@ -54,7 +57,8 @@ pub record IsFront (place : Place) (pool : FreeSpace) : Type 0 where
   pub free : IsFreeChunk pool place.chunk
 
 abbrev pub TakesPlace : Option LastChunk → Place → FreeSpace → FreeSpace → Type 0
-TakesPlace last place old new = (IsTop last place × (new ≡ old)) ⊎ (IsFront place old × (new ≡ without old place.chunk))
+TakesPlace last place old new = (IsTop last place × (new ≡ old)) ⊎ (IsFront place old
+    × (new ≡ without old place.chunk))
 
 -- it is neither
 pub record HasNoPlace (last : Option LastChunk) (place : Place) (old new : FreeSpace) : Type 0 where

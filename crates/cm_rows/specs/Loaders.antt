@@ -1,5 +1,6 @@
 -- The live loaders as a list that rises by number.
-use Rattle.std.specs.Prelude.{◌≡◌, ◌≢◌, ◌<◌, ℕ, List, [], ◌∷◌, Option, None, length, map, if◌then◌else◌, ◌==◌}
+use Rattle.std.specs.Prelude.{◌≡◌, ◌≢◌, ◌<◌, ℕ, List, [], ◌∷◌, Option, None, length, map}
+use Rattle.std.specs.Prelude.{if◌then◌else◌, ◌==◌}
 use Rattle.std.specs.List.{All, HoldsAt}
 use Rattle.cm_pool.specs.Lists.{Pairwise}
 use Rattle.cm_rows.specs.declared.live_loader.LastChunk.{LastChunk}

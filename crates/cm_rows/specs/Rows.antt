@@ -19,4 +19,5 @@ is_above n rows = list_all (λ u. nat_lt u n) (numbers_in rows)
 
 -- the chunk of a loader's last class, and how many of its words records take
 abbrev pub last_of : {P : Type 0} → ℕ → List (Row P) → Option LastChunk
-last_of u rows = option_map (λ c. record { chunk = c; used = used_words c rows }) (last_chunk u (classes_in rows))
+last_of u rows = option_map
+    (λ c. record { chunk = c; used = used_words c rows }) (last_chunk u (classes_in rows))

@@ -1,6 +1,7 @@
 //! The book of live rows.
 
-ghost use Rattle.std.specs.Prelude.{◌≡◌, IsTrue, IfOk, [], ◌∷◌, ◌++◌, Some, None, is_none, length, if◌then◌else◌};
+ghost use Rattle.std.specs.Prelude.{◌≡◌, IsTrue, IfOk, [], ◌∷◌, ◌++◌, Some, None, is_none, length};
+ghost use Rattle.std.specs.Prelude.{if◌then◌else◌};
 
 use crate::live_loader::{LastChunk, LiveLoader, copy_loaders, find, push_loader, set_last};
 use crate::place_rules::{has_room, is_inside, row_limit, take_place};
@@ -17,8 +18,9 @@ use std::marker::Model;
 
 /// The rows that live, in the order of the entries that made them, with nothing kept of a class.
 ///
-/// Contracts see a book as the sizes of its region and these rows. Beside the rows it keeps what answers questions on
-/// them: the loaders by number, each with its last chunk, and a pool that holds all chunks of rows.
+/// Contracts see a book as the sizes of its region and these rows. Beside the rows it keeps what
+/// answers questions on them: the loaders by number, each with its last chunk, and a pool that
+/// holds all chunks of rows.
 #[derive(Drop)]
 pub struct Book {
     geometry: Geometry,
@@ -42,8 +44,10 @@ impl Model for Book {
 impl Book {
     ghost use Rattle.cm_layout.specs.declared.entry_rule.EntryRule.TheVariants.{OnRows, OnChunks};
     ghost use Rattle.cm_layout.specs.declared.row.Row.TheVariants.{Loader, Class};
-    ghost use Rattle.cm_layout.specs.Rows.{rows_after, without_loader, moved, number_of as number_of_name};
-    ghost use Rattle.cm_layout.specs.Rules.{broken_rule, broken_live_rule, is_new_loader, is_live, move_fits};
+    ghost use Rattle.cm_layout.specs.Rows.{rows_after, without_loader, moved};
+    ghost use Rattle.cm_layout.specs.Rows.{number_of as number_of_name};
+    ghost use Rattle.cm_layout.specs.Rules.{broken_rule, broken_live_rule, is_new_loader, is_live};
+    ghost use Rattle.cm_layout.specs.Rules.{move_fits};
     ghost use Rattle.cm_rows.specs.Rows.{is_above, last_of};
 
     /// A book with no rows. All memory that it will ever need is taken here.
@@ -62,9 +66,9 @@ impl Book {
         })
     }
 
-    /// The first rule that an entry of this number breaks. Where it breaks none, the rows are those after it; else
-    /// nothing is changed. A group's numbers go on from those before, so the number is above all live
-    /// loaders' ([`Book::is_above`]).
+    /// The first rule that an entry of this number breaks. Where it breaks none, the rows are those
+    /// after it; else nothing is changed. A group's numbers go on from those before, so the number
+    /// is above all live loaders' ([`Book::is_above`]).
     pub fn apply(&mut self, number: u64, entry: &Entry<()>) -> Option<EntryRule>
         requires { IsTrue (is_above number self.old.rows) }
         ensures broken { result ≡ broken_rule self.old.sizes self.old.rows number entry.now }
@@ -83,8 +87,8 @@ impl Book {
         }
     }
 
-    /// The first rule that a live row breaks behind a half's head with this base. Where it breaks none, it stands
-    /// behind the others; else nothing is changed.
+    /// The first rule that a live row breaks behind a half's head with this base. Where it breaks
+    /// none, it stands behind the others; else nothing is changed.
     pub fn apply_live(&mut self, base: u64, row: &Row<()>) -> Option<EntryRule>
         ensures broken { result ≡ broken_live_rule self.old.sizes base self.old.rows row.now }
         ensures left { self.new ≡ (if is_none result then record self.old { rows = self.old.rows ++ row.now ∷ [] } else self.old) }

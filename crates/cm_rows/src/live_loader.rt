@@ -1,6 +1,7 @@
 //! The live loaders, rising by number, each with its last chunk.
 
-ghost use Rattle.std.specs.Prelude.{◌≡◌, ◌<◌, ◌≤◌, IfSome, IfNone, Some, None, [], ◌∷◌, ◌++◌, length, slice_set, vec_len, vec_capacity};
+ghost use Rattle.std.specs.Prelude.{◌≡◌, ◌<◌, ◌≤◌, IfSome, IfNone, Some, None, [], ◌∷◌, ◌++◌};
+ghost use Rattle.std.specs.Prelude.{length, slice_set, vec_len, vec_capacity};
 ghost use Rattle.cm_rows.specs.Loaders.{Rises, IsAt, IsAbsent};
 
 use cm_pool::Chunk;

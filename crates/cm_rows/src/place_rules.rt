@@ -30,8 +30,8 @@ pub fn is_inside(geometry: Geometry, place: &Place) -> bool
     is_chunk(geometry, &place.chunk) && place.is_inside()
 }
 
-/// Takes the place of a class's record: on the top of its loader's last chunk, or at the front of a free chunk. False,
-/// and nothing is changed, where it is neither.
+/// Takes the place of a class's record: on the top of its loader's last chunk, or at the front of a
+/// free chunk. False, and nothing is changed, where it is neither.
 pub fn take_place(last: Option<LastChunk>, place: &Place, pool: &mut Pool) -> bool
     ensures { MatchBool result (TakesPlace last place.now pool.old pool.new) (HasNoPlace last place.now pool.old pool.new) }
 {
@@ -43,7 +43,8 @@ pub fn take_place(last: Option<LastChunk>, place: &Place, pool: &mut Pool) -> bo
 
 // Whether the place is the next one on a loader's last chunk.
 fn is_on_top(last: Option<LastChunk>, place: &Place) -> bool
-    ensures { IsTrue result ↔ (last ≡ Some (record { chunk = place.now.chunk; used = place.now.offset })) }
+    ensures { IsTrue result
+        ↔ (last ≡ Some (record { chunk = place.now.chunk; used = place.now.offset })) }
 {
     match last {
         Some(last) => last.chunk == place.chunk && last.used == place.offset,
@@ -51,7 +52,8 @@ fn is_on_top(last: Option<LastChunk>, place: &Place) -> bool
     }
 }
 
-/// Whether the records on a loader's last chunk are those of a move, and have room on its new chunk.
+/// Whether the records on a loader's last chunk are those of a move, and have room on its new
+/// chunk.
 pub fn has_room(geometry: Geometry, last: LastChunk, entry: &Move) -> bool
     ensures { result ≡ (same_chunk last.chunk entry.now.from && is_chunk geometry entry.now.to && nat_le last.used (chunk_size entry.now.to.order)) }
 {

@@ -1,8 +1,10 @@
 //! What goes over rows.
 
-ghost use Rattle.std.specs.Prelude.{◌≡◌, ◌<◌, ◌≤◌, ◌&&◌, [], ◌∷◌, ◌++◌, vec_len, vec_capacity, length, nat_lt, is_none, MatchOption};
+ghost use Rattle.std.specs.Prelude.{◌≡◌, ◌<◌, ◌≤◌, ◌&&◌, [], ◌∷◌, ◌++◌, vec_len, vec_capacity};
+ghost use Rattle.std.specs.Prelude.{length, nat_lt, is_none, MatchOption};
 ghost use Rattle.cm_layout.specs.declared.row.Row.TheVariants.{Class};
-ghost use Rattle.cm_layout.specs.Rows.{classes_in, is_of, without_loader, moved_row, moved, number_of};
+ghost use Rattle.cm_layout.specs.Rows.{classes_in, is_of, without_loader, moved_row, moved};
+ghost use Rattle.cm_layout.specs.Rows.{number_of};
 ghost use Rattle.cm_layout.specs.Names.{is_loader_name};
 ghost use Rattle.cm_rows.specs.Held.{Holds, CanBeHeld, first_chunks, first_of, own_chunk};
 
@@ -63,8 +65,8 @@ pub fn number_of(rows: &[Row<()>], name: &[u8]) -> Option<u64>
     None
 }
 
-/// Whether a loader of this name can be added to the rows: the name is one, no live loader has it, and fewer than
-/// `limit` rows live.
+/// Whether a loader of this name can be added to the rows: the name is one, no live loader has it,
+/// and fewer than `limit` rows live.
 pub fn is_new(rows: &[Row<()>], limit: usize, name: &[u8]) -> bool
     ensures { result ≡ (is_loader_name name.now && is_none (number_of name.now rows.now) && nat_lt (length rows.now) limit) }
 {
@@ -162,7 +164,8 @@ pub fn move_rows(rows: &mut Vec<Row<()>>, from: Chunk, to: Chunk)
 
 // The row of a class whose record lies on another chunk from now on.
 fn moved_class(row: &Row<()>, from: &Chunk, to: &Chunk) -> Option<ClassRow>
-    ensures { MatchOption result (moved_row from.now to.now row.now ≡ row.now) (λ class. moved_row from.now to.now row.now ≡ Class class tt) }
+    ensures { MatchOption result (moved_row from.now to.now row.now ≡ row.now)
+        (λ class. moved_row from.now to.now row.now ≡ Class class tt) }
 {
     let Row::Class(row, _) = row else {
         return None;

@@ -9,7 +9,8 @@ use cm_pool::{Chunk, Geometry, Place};
 use std::alloc::Global;
 use std::test::*;
 
-// What came of an entry: the first broken rule, or a number that isn't above those of the live loaders.
+// What came of an entry: the first broken rule, or a number that isn't above those of the live
+// loaders.
 fn offer(book: &mut Book, number: u64, entry: &Entry<()>) -> Result<Option<EntryRule>, Fail>
     ensures { book.new.sizes ≡ book.old.sizes }
 {

@@ -6,11 +6,13 @@ use Rattle.cm_rows.proofs.live_loader.find.Goals as goal
 pub returns-clause-found : goal.returns-clause-found
 returns-clause-found c =
     let facts = c.binary_search_by_key.ensures in
-    let by_key = facts.position (λ l. l.number) (answers_always _ _ _ (λ f a r g called. search rules)) in
+    let by_key = facts.position (λ l. l.number) (answers_always _ _ _
+    (λ f a r g called. search rules)) in
     rw c.ok.ensures.value ((searched c.args.loaders.now c.args.number c.binary_search_by_key.result c.requires facts.bound by_key).0)
 
 pub returns-clause-absent : goal.returns-clause-absent
 returns-clause-absent c =
     let facts = c.binary_search_by_key.ensures in
-    let by_key = facts.position (λ l. l.number) (answers_always _ _ _ (λ f a r g called. search rules)) in
+    let by_key = facts.position (λ l. l.number) (answers_always _ _ _
+    (λ f a r g called. search rules)) in
     rw c.ok.ensures.value ((searched c.args.loaders.now c.args.number c.binary_search_by_key.result c.requires facts.bound by_key).1)

@@ -12,7 +12,8 @@ loop-row-preserved c =
     elim c.match-own_chunk.branch [
       | in-Some w ↦
           let taken = taken-more c.args.pool.now.geometry p c.args.rows.now c.loop-row.row-index c.row-item.result w.in-Some.chunk (omega arith) (is ∙ w.in-Some.is) c.requires.apart c.loop-row.invariant in
-          let left = w.take-taken.ensures.left ∙ ap (λ (t : Bool). cond t (without p w.in-Some.chunk) p) (w.take-taken.ensures.free.1 taken.0) in
+          let left = w.take-taken.ensures.left ∙ ap
+          (λ (t : Bool). cond t (without p w.in-Some.chunk) p) (w.take-taken.ensures.free.1 taken.0) in
           rw (w.pool-is, left) taken.1
       | in_default w ↦
           rw (w.pool-is) (passed-more c.args.pool.now.geometry p c.args.rows.now c.loop-row.row-index c.row-item.result (omega arith) (is ∙ w.in_default.is) c.loop-row.invariant)

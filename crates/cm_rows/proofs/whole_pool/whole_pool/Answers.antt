@@ -9,11 +9,20 @@ pub loop-root-preserved : goal.loop-root-preserved
 loop-root-preserved c =
     let old = c.loop-root.pool in
     let h = c.loop-root.invariant in
-    let lt : old.roots < old.geometry.roots = omega (arith, h.roots, ap (λ (s : Sizes). s.roots) h.geometry, c.loop-root-test.true, c.roots-root-end.ensures.value) in
+    let lt : old.roots < old.geometry.roots = omega (
+      arith,
+      h.roots,
+      ap
+          (λ (s : Sizes). s.roots) h.geometry,
+      c.loop-root-test.true,
+      c.roots-root-end.ensures.value,
+    ) in
     let yes = c.in_ok-_added.ensures.added.1 lt in
-    let is : c.add_root.new.self ≡ with_root old = c.in_ok-_added.ensures.left ∙ ap (λ (t : Bool). cond t (with_root old) old) yes in
+    let is : c.add_root.new.self ≡ with_root old = c.in_ok-_added.ensures.left ∙ ap
+    (λ (t : Bool). cond t (with_root old) old) yes in
     record {
       geometry = ap (λ (p : FreeSpace). p.geometry) is ∙ h.geometry;
       roots = ap (λ (p : FreeSpace). p.roots) is ∙ ap (λ (n : ℕ). n + 1) h.roots;
-      none_lost = subst (λ (p : FreeSpace). NoneIsLost p []) (sym is) (none_lost-with_root old [] h.none_lost);
+      none_lost = subst
+          (λ (p : FreeSpace). NoneIsLost p []) (sym is) (none_lost-with_root old [] h.none_lost);
     }

@@ -1,4 +1,5 @@
-use Rattle.std.proofs.Common.{◌≡◌, ◌++◌, ◌∷◌, [], Bool, true, false, cond, vec_capacity, Some, None, refl, sym, ◌∙◌, arith}
+use Rattle.std.proofs.Common.{◌≡◌, ◌++◌, ◌∷◌, [], Bool, true, false, cond, vec_capacity, Some, None}
+use Rattle.std.proofs.Common.{refl, sym, ◌∙◌, arith}
 use Rattle.cm_layout.specs.declared.row.Row.TheVariants.{Loader}
 use Rattle.cm_layout.specs.declared.entry_rule.EntryRule.TheVariants.{OnRows}
 use Rattle.cm_layout.specs.Rules.{is_new_loader}
@@ -7,7 +8,8 @@ use Rattle.cm_rows.proofs.Books.{add-loader, roomier, loaders-few}
 use Rattle.cm_rows.proofs.book.Book.add_loader.Goals as goal
 use Rattle.cm_rows.proofs.book.Book.add_loader.Goals.{After-is_new}
 
-tested : (c : After-is_new) → c.is_new.result ≡ is_new_loader c.self.inside.geometry c.self.inside.rows.items c.args.row.now
+tested : (c : After-is_new)
+    → c.is_new.result ≡ is_new_loader c.self.inside.geometry c.self.inside.rows.items c.args.row.now
 tested c =
     let e = rw (c.as_bytes.ensures.value, c.deref.ensures.value, c.row_limit.ensures) at c.is_new.ensures in
     e ∙ sym (new-is c.self.inside.geometry c.self.inside.rows.items c.args.row.now)

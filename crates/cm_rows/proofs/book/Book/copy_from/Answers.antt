@@ -11,7 +11,9 @@ use Rattle.cm_rows.proofs.book.Book.copy_from.Goals as goal
 pub copy_loaders-requires : goal.copy_loaders-requires
 copy_loaders-requires c =
     let o = c.other.inside in
-    let same : c.self.inside.geometry ≡ o.geometry = ap (λ (v : LiveRows). v.sizes) c.self.view_is ∙ c.requires ∙ sym (ap (λ (v : LiveRows). v.sizes) c.other.view_is) in
+    let same : c.self.inside.geometry ≡ o.geometry = ap
+    (λ (v : LiveRows). v.sizes) c.self.view_is ∙ c.requires ∙ sym (ap
+    (λ (v : LiveRows). v.sizes) c.other.view_is) in
     let few = loaders-at_most o.geometry o.rows.items (vec_capacity o.rows) o.loaders.items (vec_capacity o.loaders) o.pool c.other.invariant in
     rw c.deref-4.ensures.value (omega (arith, few, c.self.invariant.loaders_room, ap row_limit same))
 
@@ -20,7 +22,9 @@ invariant_of-self c =
     let o = c.other.inside in
     let g = c.self.inside.geometry in
     let rows = o.rows.items in
-    let same : g ≡ o.geometry = ap (λ (v : LiveRows). v.sizes) c.self.view_is ∙ c.requires ∙ sym (ap (λ (v : LiveRows). v.sizes) c.other.view_is) in
+    let same : g ≡ o.geometry = ap
+    (λ (v : LiveRows). v.sizes) c.self.view_is ∙ c.requires ∙ sym (ap
+    (λ (v : LiveRows). v.sizes) c.other.view_is) in
     let h : IsBook g rows (vec_capacity o.rows) o.loaders.items (vec_capacity o.loaders) o.pool =
     subst (λ (s : Sizes). IsBook s rows (vec_capacity o.rows) o.loaders.items (vec_capacity o.loaders) o.pool) (sym same) c.other.invariant in
     let taken = rw c.deref-2.ensures.value at c.take_all.ensures in

@@ -1,7 +1,10 @@
-use Rattle.std.proofs.Common.{◌<◌, ◌≤◌, ◌+◌, ◌++◌, ◌∷◌, [], length, vec_capacity, set, Some, sym, ◌∙◌, arith}
+use Rattle.std.proofs.Common.{◌<◌, ◌≤◌, ◌+◌, ◌++◌, ◌∷◌, [], length, vec_capacity, set, Some, sym}
+use Rattle.std.proofs.Common.{◌∙◌, arith}
 use Rattle.cm_layout.specs.declared.row.Row.TheVariants.{Class}
 use Rattle.cm_layout.specs.Rules.{is_live, has_room, class_fits, has_place, row_limit}
-use Rattle.cm_rows.proofs.Verdicts.{live-at, not_live, room-is, no_room-is, is_inside, inside-chunk, on_rows-live, on_rows-room, on_chunks-inside, on_chunks-place, on_none}
+use Rattle.cm_rows.proofs.Verdicts.{live-at, not_live, room-is, no_room-is, is_inside, inside-chunk}
+use Rattle.cm_rows.proofs.Verdicts.{on_rows-live, on_rows-room, on_chunks-inside, on_chunks-place}
+use Rattle.cm_rows.proofs.Verdicts.{on_none}
 use Rattle.cm_rows.proofs.Books.{defined, placed, unplaced, roomier}
 use Rattle.cm_rows.proofs.book.Book.define.Goals as goal
 

@@ -12,4 +12,6 @@ returns-else-count-eq0 c =
     let k = c.len-count.result - 1 in
     let count : length ls ≡ suc k = omega (arith, c.len-count.ensures, c.self.inside.loaders.ok.0, c.if-count-eq0.false) in
     let all = below-last n ls k c.index.result.now c.self.invariant.loaders.rises.each count in
-    rw (← c.self.view_is) (ap (λ (l : LiveLoader). nat_lt l.number n) c.index.ensures ∙ sym all ∙ ap (λ (ns : List ℕ). list_all (λ u. nat_lt u n) ns) c.self.invariant.loaders.numbers)
+    rw (← c.self.view_is) (ap
+    (λ (l : LiveLoader). nat_lt l.number n) c.index.ensures ∙ sym all ∙ ap
+    (λ (ns : List ℕ). list_all (λ u. nat_lt u n) ns) c.self.invariant.loaders.numbers)

@@ -7,7 +7,9 @@ use Rattle.cm_rows.specs.Book.{AreLoadersOf}
 use Rattle.cm_rows.proofs.Verdicts.{live-at, not_live}
 use Rattle.cm_rows.proofs.book.Book.is_live.Goals as goal
 
-by_find : (rows : List BareRow) (ls : List LiveLoader) (u : ℕ) (o : Option ℕ) → AreLoadersOf rows ls → IfSome o (IsAt ls u) → IfNone o (IsAbsent ls u) → is_some o ≡ is_live u rows
+by_find : (rows : List BareRow) (ls : List LiveLoader) (u : ℕ) (o : Option ℕ)
+    → AreLoadersOf rows ls → IfSome o (IsAt ls u) → IfNone o (IsAbsent ls u)
+    → is_some o ≡ is_live u rows
 by_find rows ls u (Some i) h found absent = sym (live-at rows ls u i h found)
 by_find rows ls u None h found absent = sym (not_live rows ls u h absent)
 

@@ -2,10 +2,12 @@ use Rattle.std.proofs.Common.{◌≡◌, ◌≤◌, false, Some, set, vec_capaci
 use Rattle.cm_layout.specs.Rows.{moved}
 use Rattle.cm_layout.specs.Rules.{move_fits}
 use Rattle.cm_pool.specs.FreeSpace.{without, with_chunk}
-use Rattle.cm_rows.proofs.Verdicts.{last-at, last-absent, move-none, move-no_room, move-used, move-fits, on_chunks-unless, none-if}
+use Rattle.cm_rows.proofs.Verdicts.{last-at, last-absent, move-none, move-no_room, move-used}
+use Rattle.cm_rows.proofs.Verdicts.{move-fits, on_chunks-unless, none-if}
 use Rattle.cm_rows.proofs.Books.{relocated, roomier}
 use Rattle.cm_rows.proofs.book.Book.relocate.Goals as goal
-use Rattle.cm_rows.proofs.book.Book.relocate.Goals.{then-not-has_room-via-then-not-has_room, then-not-has_room-via-else-not-has_room+then-not-take}
+use Rattle.cm_rows.proofs.book.Book.relocate.Goals.{then-not-has_room-via-then-not-has_room}
+use Rattle.cm_rows.proofs.book.Book.relocate.Goals.{then-not-has_room-via-else-not-has_room+then-not-take}
 
 pub returns-in_default-clause-broken : goal.returns-in_default-clause-broken
 returns-in_default-clause-broken c =
