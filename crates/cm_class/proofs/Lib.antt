@@ -5,4 +5,5 @@ pub mod PoolLaws
 pub mod Classes
 pub mod Loops
 pub mod Walks
+pub mod Sinks
 pub mod Shapes

@@ -2,16 +2,11 @@
 use Rattle.std.proofs.Common.{◌≡◌, Bool, true, false, ℕ, suc, ◌-◌, ◌+◌, ◌≤◌, ◌<◌, List, ◌∷◌, Result}
 use Rattle.std.proofs.Common.{Ok, Err, refl, sym, ◌∙◌, arith}
 use Rattle.cm_class.specs.declared.stop.Stop.{Stop}
-use Rattle.cm_class.specs.declared.kind.Kind.{Kind}
-use Rattle.cm_class.specs.declared.kind.Kind.TheVariants as kinds
 use Rattle.cm_class.specs.declared.constant.Constant.{Constant}
-use Rattle.cm_class.specs.declared.constant.Constant.TheVariants as constant
 use Rattle.cm_class.specs.declared.constant.Slot.{Slot}
 use Rattle.cm_class.specs.declared.constant.Slot.TheVariants.{Usable, Unusable}
 use Rattle.cm_class.specs.Spelling.{is_wide}
-use Rattle.cm_class.specs.Reading.{◌>>=◌, rest_of, made_at, both_at, number_at, byte_at, sized_at}
-use Rattle.cm_class.specs.Reading.{many_at, takes_two, one_at, two_at, text_at, info_at}
-use Rattle.cm_class.specs.Reading.{constant_at, slots_at}
+use Rattle.cm_class.specs.Reading.{◌>>=◌, rest_of, made_at, many_at, constant_at, slots_at}
 use Rattle.cm_class.proofs.Readers.{Read}
 
 -- what is left, or where reading stops
@@ -63,60 +58,10 @@ module _ {A : Type 0} (item : List ℕ → Read A) where
       let one : rest_of (many_at item (count - i) bytes) ≡ Ok bytes = rw k refl in
       sym so_far ∙ one
 
--- ---- constants
+-- ---- slots
 
 abbrev with_wide : Read Constant → Read Bool
 with_wide read = read >>= λ c. Ok (is_wide c.0, c.1)
-
-abbrev made : {A : Type 0} → (A → Constant) → Read A → Read Constant
-made make read = read >>= λ a. Ok (make a.0, a.1)
-
-wide_made : {A : Type 0} (make : A → Constant) (wide : Bool) (read : Read A) (after : List ℕ)
-    → ((a : A) → is_wide (make a) ≡ wide)
-    → rest_of (made make read) ≡ Ok after → with_wide (made make read) ≡ Ok (wide, after)
-wide_made make wide (Ok x) after all e = let left : x.1 ≡ after = cc in rw (all x.0, left) refl
-wide_made make wide (Err stop) after all e = absurd cc
-
--- a tag says whether its constant is wide
-pub wide_of : (t : Kind) (bytes after : List ℕ) → rest_of (info_at t bytes) ≡ Ok after
-    → made_at is_wide (info_at t) bytes ≡ Ok (takes_two t, after)
-unfolding one_at two_at text_at
-wide_of kinds.Utf8 bytes after e =
-    wide_made constant.Utf8 false (sized_at 2 bytes) after (λ a. refl) e
-wide_of kinds.Integer bytes after e =
-    wide_made constant.Integer false (number_at 4 bytes) after (λ a. refl) e
-wide_of kinds.Float bytes after e =
-    wide_made constant.Float false (number_at 4 bytes) after (λ a. refl) e
-wide_of kinds.Long bytes after e =
-    wide_made constant.Long true (number_at 8 bytes) after (λ a. refl) e
-wide_of kinds.Double bytes after e =
-    wide_made constant.Double true (number_at 8 bytes) after (λ a. refl) e
-wide_of kinds.Class bytes after e =
-    wide_made constant.Class false (number_at 2 bytes) after (λ a. refl) e
-wide_of kinds.String bytes after e =
-    wide_made constant.String false (number_at 2 bytes) after (λ a. refl) e
-wide_of kinds.Fieldref bytes after e =
-    wide_made (λ x. constant.Fieldref x.0 x.1) false (both_at (number_at 2) (number_at 2) bytes)
-    after (λ a. refl) e
-wide_of kinds.Methodref bytes after e =
-    wide_made (λ x. constant.Methodref x.0 x.1) false (both_at (number_at 2) (number_at 2) bytes)
-    after (λ a. refl) e
-wide_of kinds.InterfaceMethodref bytes after e =
-    wide_made (λ x. constant.InterfaceMethodref x.0 x.1) false
-    (both_at (number_at 2) (number_at 2) bytes) after (λ a. refl) e
-wide_of kinds.NameAndType bytes after e =
-    wide_made (λ x. constant.NameAndType x.0 x.1) false (both_at (number_at 2) (number_at 2) bytes)
-    after (λ a. refl) e
-wide_of kinds.MethodHandle bytes after e =
-    wide_made (λ x. constant.MethodHandle x.0 x.1) false (both_at byte_at (number_at 2) bytes) after
-    (λ a. refl) e
-wide_of kinds.MethodType bytes after e =
-    wide_made constant.MethodType false (number_at 2 bytes) after (λ a. refl) e
-wide_of kinds.InvokeDynamic bytes after e =
-    wide_made (λ x. constant.InvokeDynamic x.0 x.1) false
-    (both_at (number_at 2) (number_at 2) bytes) after (λ a. refl) e
-
--- ---- slots
 
 pub walk_second : (count i : ℕ) (bytes : List ℕ) (total : Rest) → i < count
     → rest_of (slots_at true (count - i) bytes) ≡ total

@@ -45,6 +45,13 @@ abbrev pub rest_of : {A : Type 0} → Result (A × List ℕ) Stop → Result (Li
 rest_of (Ok x) = Ok x.1
 rest_of (Err e) = Err e
 
+-- the same of a function that reads into a sink: into one that keeps, unless an allocation failed;
+-- of one that keeps nothing it is said exactly what is left, and nothing of the value
+pub record GivesTo {X Y : Type 0} (keeps : Bool) (view : X → Y × List ℕ) (result : Result X Stop)
+    (read : Result (Y × List ℕ) Stop) : Type 0 where
+  pub kept : keeps ≡ true → Gives view result read
+  pub walked : keeps ≡ false → GivesExactly (λ x. (view x).1) result (rest_of read)
+
 -- ---- putting readers together
 
 -- one reader behind another

@@ -13,8 +13,8 @@ mod names;
 mod numbers;
 mod pool;
 mod shape;
+mod sink;
 mod stop;
-mod walk;
 
 pub use class::Class;
 pub use class_file::{Attribute, ClassFile, Member};

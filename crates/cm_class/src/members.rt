@@ -1,32 +1,37 @@
 //! Readers of attributes, interfaces, fields and methods.
 ghost use Rattle.std.specs.Prelude.{◌≡◌};
-ghost use Rattle.cm_class.specs.Reading.{Gives, number_at, many_at, counted_at, attribute_at};
+ghost use Rattle.cm_class.specs.Reading.{GivesTo, number_at, many_at, counted_at, attribute_at};
 ghost use Rattle.cm_class.specs.Reading.{member_at};
 
 use crate::class_file::{Attribute, Member};
 use crate::items::Items;
-use crate::numbers::{byte_items, content, read_u16, room_for};
+use crate::numbers::{content, read_u16, room_for};
+use crate::sink::Sink;
 use crate::stop::Stop;
-use std::alloc::Global;
 
 #[tactic(auto, unfolding(crate::specs::Reading::attribute_at))]
-fn attribute(alloc: Global, bytes: &[u8]) -> Result<(Attribute, &[u8]), Stop>
-    ensures { Gives (λ x. (x.0, x.1.now)) result (attribute_at bytes.now) }
+fn attribute<S: Sink>(sink: S, bytes: &[u8]) -> Result<(Attribute, &[u8]), Stop>
+    ensures { GivesTo S.keeps (λ x. (x.0, x.1.now)) result (attribute_at bytes.now) }
 {
     let (name, rest) = read_u16(bytes)?;
     let (content, rest) = content(rest)?;
-    let bytes = byte_items(alloc, content)?;
+    let bytes = sink.bytes(content)?;
     Ok((Attribute { name, bytes }, rest))
 }
 
-fn many_attributes(alloc: Global, count: u16, bytes: &[u8]) -> Result<(Vec<Attribute>, &[u8]), Stop>
-    ensures { Gives (λ x. (x.0.items, x.1.now)) result (many_at attribute_at count bytes.now) }
+fn many_attributes<S: Sink>(
+    sink: S,
+    count: u16,
+    bytes: &[u8],
+) -> Result<(Vec<Attribute>, &[u8]), Stop>
+    ensures { GivesTo S.keeps (λ x. (x.0.items, x.1.now)) result
+        (many_at attribute_at count bytes.now) }
 {
-    let mut attributes = Vec::with_capacity(alloc, room_for(count, 6, bytes))?;
+    let mut attributes = sink.room(room_for(count, 6, bytes))?;
     let mut rest = bytes;
     for _ in 0..count {
-        let (item, after) = attribute(alloc, rest)?;
-        attributes.push(item)?;
+        let (item, after) = attribute(sink, rest)?;
+        sink.push(&mut attributes, item)?;
         rest = after;
     }
     Ok((attributes, rest))
@@ -34,22 +39,22 @@ fn many_attributes(alloc: Global, count: u16, bytes: &[u8]) -> Result<(Vec<Attri
 
 /// Attributes behind their count.
 #[tactic(auto, unfolding(crate::specs::Reading::counted_at))]
-pub(crate) fn attributes(alloc: Global, bytes: &[u8]) -> Result<(Items<Attribute>, &[u8]), Stop>
-    ensures { Gives (λ x. (x.0, x.1.now)) result (counted_at attribute_at bytes.now) }
+pub(crate) fn attributes<S: Sink>(sink: S, bytes: &[u8]) -> Result<(Items<Attribute>, &[u8]), Stop>
+    ensures { GivesTo S.keeps (λ x. (x.0, x.1.now)) result (counted_at attribute_at bytes.now) }
 {
     let (count, rest) = read_u16(bytes)?;
-    let (items, rest) = many_attributes(alloc, count, rest)?;
+    let (items, rest) = many_attributes(sink, count, rest)?;
     Ok((Items::from_vec(items), rest))
 }
 
 #[tactic(auto, unfolding(crate::specs::Reading::member_at))]
-fn member(alloc: Global, bytes: &[u8]) -> Result<(Member, &[u8]), Stop>
-    ensures { Gives (λ x. (x.0, x.1.now)) result (member_at bytes.now) }
+fn member<S: Sink>(sink: S, bytes: &[u8]) -> Result<(Member, &[u8]), Stop>
+    ensures { GivesTo S.keeps (λ x. (x.0, x.1.now)) result (member_at bytes.now) }
 {
     let (flags, rest) = read_u16(bytes)?;
     let (name, rest) = read_u16(rest)?;
     let (descriptor, rest) = read_u16(rest)?;
-    let (attributes, rest) = attributes(alloc, rest)?;
+    let (attributes, rest) = attributes(sink, rest)?;
     let member = Member {
         flags,
         name,
@@ -59,14 +64,15 @@ fn member(alloc: Global, bytes: &[u8]) -> Result<(Member, &[u8]), Stop>
     Ok((member, rest))
 }
 
-fn many_members(alloc: Global, count: u16, bytes: &[u8]) -> Result<(Vec<Member>, &[u8]), Stop>
-    ensures { Gives (λ x. (x.0.items, x.1.now)) result (many_at member_at count bytes.now) }
+fn many_members<S: Sink>(sink: S, count: u16, bytes: &[u8]) -> Result<(Vec<Member>, &[u8]), Stop>
+    ensures { GivesTo S.keeps (λ x. (x.0.items, x.1.now)) result
+        (many_at member_at count bytes.now) }
 {
-    let mut members = Vec::with_capacity(alloc, room_for(count, 8, bytes))?;
+    let mut members = sink.room(room_for(count, 8, bytes))?;
     let mut rest = bytes;
     for _ in 0..count {
-        let (item, after) = member(alloc, rest)?;
-        members.push(item)?;
+        let (item, after) = member(sink, rest)?;
+        sink.push(&mut members, item)?;
         rest = after;
     }
     Ok((members, rest))
@@ -74,22 +80,23 @@ fn many_members(alloc: Global, count: u16, bytes: &[u8]) -> Result<(Vec<Member>,
 
 /// Fields or methods behind their count.
 #[tactic(auto, unfolding(crate::specs::Reading::counted_at))]
-pub(crate) fn members(alloc: Global, bytes: &[u8]) -> Result<(Items<Member>, &[u8]), Stop>
-    ensures { Gives (λ x. (x.0, x.1.now)) result (counted_at member_at bytes.now) }
+pub(crate) fn members<S: Sink>(sink: S, bytes: &[u8]) -> Result<(Items<Member>, &[u8]), Stop>
+    ensures { GivesTo S.keeps (λ x. (x.0, x.1.now)) result (counted_at member_at bytes.now) }
 {
     let (count, rest) = read_u16(bytes)?;
-    let (items, rest) = many_members(alloc, count, rest)?;
+    let (items, rest) = many_members(sink, count, rest)?;
     Ok((Items::from_vec(items), rest))
 }
 
-fn many_numbers(alloc: Global, count: u16, bytes: &[u8]) -> Result<(Vec<u16>, &[u8]), Stop>
-    ensures { Gives (λ x. (x.0.items, x.1.now)) result (many_at (number_at 2) count bytes.now) }
+fn many_numbers<S: Sink>(sink: S, count: u16, bytes: &[u8]) -> Result<(Vec<u16>, &[u8]), Stop>
+    ensures { GivesTo S.keeps (λ x. (x.0.items, x.1.now)) result
+        (many_at (number_at 2) count bytes.now) }
 {
-    let mut numbers = Vec::with_capacity(alloc, room_for(count, 2, bytes))?;
+    let mut numbers = sink.room(room_for(count, 2, bytes))?;
     let mut rest = bytes;
     for _ in 0..count {
         let (item, after) = read_u16(rest)?;
-        numbers.push(item)?;
+        sink.push(&mut numbers, item)?;
         rest = after;
     }
     Ok((numbers, rest))
@@ -97,10 +104,10 @@ fn many_numbers(alloc: Global, count: u16, bytes: &[u8]) -> Result<(Vec<u16>, &[
 
 /// Interfaces behind their count.
 #[tactic(auto, unfolding(crate::specs::Reading::counted_at))]
-pub(crate) fn interfaces(alloc: Global, bytes: &[u8]) -> Result<(Items<u16>, &[u8]), Stop>
-    ensures { Gives (λ x. (x.0, x.1.now)) result (counted_at (number_at 2) bytes.now) }
+pub(crate) fn interfaces<S: Sink>(sink: S, bytes: &[u8]) -> Result<(Items<u16>, &[u8]), Stop>
+    ensures { GivesTo S.keeps (λ x. (x.0, x.1.now)) result (counted_at (number_at 2) bytes.now) }
 {
     let (count, rest) = read_u16(bytes)?;
-    let (items, rest) = many_numbers(alloc, count, rest)?;
+    let (items, rest) = many_numbers(sink, count, rest)?;
     Ok((Items::from_vec(items), rest))
 }

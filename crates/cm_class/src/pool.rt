@@ -1,20 +1,21 @@
 //! Readers of the constant pool.
 ghost use Rattle.std.specs.Prelude.{◌≡◌, false};
-ghost use Rattle.cm_class.specs.Reading.{Gives, GivesExactly, tag_at, info_at, constant_at};
-ghost use Rattle.cm_class.specs.Reading.{slots_at, pool_at, both_at, number_at};
+ghost use Rattle.cm_class.specs.Reading.{GivesTo, GivesExactly, tag_at, info_at, constant_at};
+ghost use Rattle.cm_class.specs.Reading.{slots_at, pool_at, both_at, number_at, made_at};
+ghost use Rattle.cm_class.specs.Spelling.{is_wide};
 
 use crate::constant::{Constant, Slot};
 use crate::items::Items;
 use crate::kind::Kind;
 use crate::numbers::{
-    after_heading, byte_items, pool_count, read_u8, read_u16, read_u32, read_u64, room_for, text,
+    after_heading, pool_count, read_u8, read_u16, read_u32, read_u64, room_for, text,
 };
+use crate::sink::Sink;
 use crate::stop::Stop;
-use std::alloc::Global;
 
 /// The tag of a constant that has so many slots left. A wide one takes two of them.
 #[tactic(auto, unfolding(crate::specs::Reading::tag_at))]
-pub(crate) fn tag(left: u16, bytes: &[u8]) -> Result<(Kind, &[u8]), Stop>
+fn tag(left: u16, bytes: &[u8]) -> Result<(Kind, &[u8]), Stop>
     ensures { GivesExactly (λ x. (x.0, x.1.now)) result (tag_at left bytes.now) }
 {
     let [byte, rest @ ..] = bytes else {
@@ -27,7 +28,7 @@ pub(crate) fn tag(left: u16, bytes: &[u8]) -> Result<(Kind, &[u8]), Stop>
 }
 
 /// The two numbers of a constant.
-pub(crate) fn two(bytes: &[u8]) -> Result<(u16, u16, &[u8]), Stop>
+fn two(bytes: &[u8]) -> Result<(u16, u16, &[u8]), Stop>
     ensures { GivesExactly (λ x. ((x.0, x.1), x.2.now)) result
         (both_at (number_at 2) (number_at 2) bytes.now) }
 {
@@ -38,13 +39,15 @@ pub(crate) fn two(bytes: &[u8]) -> Result<(u16, u16, &[u8]), Stop>
 
 /// What stands behind a tag (JVMS 4.4.1 to 4.4.10).
 #[tactic(auto, unfolding(crate::specs::Reading::one_at, crate::specs::Reading::two_at, crate::specs::Reading::text_at))]
-fn info(alloc: Global, kind: Kind, bytes: &[u8]) -> Result<(Constant, &[u8]), Stop>
-    ensures { Gives (λ x. (x.0, x.1.now)) result (info_at kind bytes.now) }
+fn info<S: Sink>(sink: S, kind: Kind, bytes: &[u8]) -> Result<(Constant, &[u8]), Stop>
+    ensures read { GivesTo S.keeps (λ x. (x.0, x.1.now)) result (info_at kind bytes.now) }
+    ensures wide { S.keeps ≡ false → GivesExactly (λ x. (is_wide x.0, x.1.now)) result
+        (made_at is_wide (info_at kind) bytes.now) }
 {
     match kind {
         Kind::Utf8 => {
             let (text, rest) = text(bytes)?;
-            Ok((Constant::Utf8(byte_items(alloc, text)?), rest))
+            Ok((Constant::Utf8(sink.bytes(text)?), rest))
         }
         Kind::Integer => {
             let (bits, rest) = read_u32(bytes)?;
@@ -127,28 +130,30 @@ fn info(alloc: Global, kind: Kind, bytes: &[u8]) -> Result<(Constant, &[u8]), St
 }
 
 #[tactic(auto, unfolding(crate::specs::Reading::constant_at))]
-fn constant(alloc: Global, left: u16, bytes: &[u8]) -> Result<(Constant, &[u8]), Stop>
-    ensures { Gives (λ x. (x.0, x.1.now)) result (constant_at left bytes.now) }
+fn constant<S: Sink>(sink: S, left: u16, bytes: &[u8]) -> Result<(Constant, &[u8]), Stop>
+    ensures read { GivesTo S.keeps (λ x. (x.0, x.1.now)) result (constant_at left bytes.now) }
+    ensures wide { S.keeps ≡ false → GivesExactly (λ x. (is_wide x.0, x.1.now)) result
+        (made_at is_wide (constant_at left) bytes.now) }
 {
     let (tag, rest) = tag(left, bytes)?;
-    info(alloc, tag, rest)
+    info(sink, tag, rest)
 }
 
 /// So many slots, each constant and, behind a wide one, its unusable second index.
-fn slots(alloc: Global, count: u16, bytes: &[u8]) -> Result<(Vec<Slot>, &[u8]), Stop>
-    ensures { Gives (λ x. (x.0.items, x.1.now)) result (slots_at false count bytes.now) }
+fn slots<S: Sink>(sink: S, count: u16, bytes: &[u8]) -> Result<(Vec<Slot>, &[u8]), Stop>
+    ensures { GivesTo S.keeps (λ x. (x.0.items, x.1.now)) result (slots_at false count bytes.now) }
 {
-    let mut slots = Vec::with_capacity(alloc, room_for(count, 3, bytes))?;
+    let mut slots = sink.room(room_for(count, 3, bytes))?;
     let mut rest = bytes;
     let mut second = false;
     for index in 0..count {
         if second {
-            slots.push(Slot::Unusable)?;
+            sink.push(&mut slots, Slot::Unusable)?;
             second = false;
         } else {
-            let (item, after) = constant(alloc, count - index, rest)?;
+            let (item, after) = constant(sink, count - index, rest)?;
             second = item.is_wide();
-            slots.push(Slot::Usable(item))?;
+            sink.push(&mut slots, Slot::Usable(item))?;
             rest = after;
         }
     }
@@ -157,11 +162,11 @@ fn slots(alloc: Global, count: u16, bytes: &[u8]) -> Result<(Vec<Slot>, &[u8]), 
 
 /// The heading, the pool's count and its slots.
 #[tactic(auto, unfolding(crate::specs::Reading::pool_at))]
-pub(crate) fn pool(alloc: Global, bytes: &[u8]) -> Result<(Items<Slot>, &[u8]), Stop>
-    ensures { Gives (λ x. (x.0, x.1.now)) result (pool_at bytes.now) }
+pub(crate) fn pool<S: Sink>(sink: S, bytes: &[u8]) -> Result<(Items<Slot>, &[u8]), Stop>
+    ensures { GivesTo S.keeps (λ x. (x.0, x.1.now)) result (pool_at bytes.now) }
 {
     let rest = after_heading(bytes)?;
     let (count, rest) = pool_count(rest)?;
-    let (items, rest) = slots(alloc, count - 1, rest)?;
+    let (items, rest) = slots(sink, count - 1, rest)?;
     Ok((Items::from_vec(items), rest))
 }

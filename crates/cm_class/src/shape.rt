@@ -3,7 +3,7 @@ ghost use Rattle.std.specs.Prelude.{◌≡◌, ◌⊎◌, IfOk, IfErr, Result};
 ghost use Rattle.cm_class.specs.declared.class_file.ClassFile.{ClassFile};
 ghost use Rattle.cm_class.specs.declared.fault.ShapeFault.{ShapeFault};
 ghost use Rattle.cm_class.specs.Shape.{Spells, IsSpelling, IsFault, IsAnswer};
-ghost use Rattle.cm_class.specs.Reading.{Gives, GivesExactly, rest_of, class_at, answer_of};
+ghost use Rattle.cm_class.specs.Reading.{GivesTo, GivesExactly, rest_of, class_at, answer_of};
 ghost use Rattle.cm_class.specs.Reading.{IsUnlessRefused};
 
 use crate::class::Class;
@@ -12,22 +12,22 @@ use crate::fault::ShapeFault;
 use crate::members::{attributes, interfaces, members};
 use crate::numbers::read_u16;
 use crate::pool::pool;
+use crate::sink::{Nothing, Sink};
 use crate::stop::Stop;
-use crate::walk::after_class_file;
 use std::alloc::Global;
 
 #[tactic(auto, unfolding(crate::specs::Reading::class_at))]
-fn class_file(alloc: Global, bytes: &[u8]) -> Result<(ClassFile, &[u8]), Stop>
-    ensures { Gives (λ x. (x.0, x.1.now)) result (class_at bytes.now) }
+fn class_file<S: Sink>(sink: S, bytes: &[u8]) -> Result<(ClassFile, &[u8]), Stop>
+    ensures { GivesTo S.keeps (λ x. (x.0, x.1.now)) result (class_at bytes.now) }
 {
-    let (slots, rest) = pool(alloc, bytes)?;
+    let (slots, rest) = pool(sink, bytes)?;
     let (flags, rest) = read_u16(rest)?;
     let (this_class, rest) = read_u16(rest)?;
     let (super_class, rest) = read_u16(rest)?;
-    let (interfaces, rest) = interfaces(alloc, rest)?;
-    let (fields, rest) = members(alloc, rest)?;
-    let (methods, rest) = members(alloc, rest)?;
-    let (attributes, rest) = attributes(alloc, rest)?;
+    let (interfaces, rest) = interfaces(sink, rest)?;
+    let (fields, rest) = members(sink, rest)?;
+    let (methods, rest) = members(sink, rest)?;
+    let (attributes, rest) = attributes(sink, rest)?;
     let file = ClassFile {
         slots,
         flags,
@@ -39,6 +39,14 @@ fn class_file(alloc: Global, bytes: &[u8]) -> Result<(ClassFile, &[u8]), Stop>
         attributes,
     };
     Ok((file, rest))
+}
+
+/// What follows a class file, without keeping any of it.
+fn after_class_file(alloc: Global, bytes: &[u8]) -> Result<&[u8], Stop>
+    ensures { GivesExactly (λ x. x.now) result (rest_of (class_at bytes.now)) }
+{
+    let (_, rest) = class_file(Nothing { alloc }, bytes)?;
+    Ok(rest)
 }
 
 /// What refuses bytes of which reading a class file leaves this, or stops there. Where nothing is
@@ -64,7 +72,7 @@ fn whole(alloc: Global, bytes: &[u8]) -> Result<Class, ShapeFault>
         Ok((file, [])) => Ok(Class::from_file(file)),
         Ok((_, rest)) => Err(refusal(bytes, Ok(rest))),
         // The bytes may have a fault behind the place where an allocation failed.
-        Err(Stop::NoMemory) => Err(refusal(bytes, after_class_file(bytes))),
+        Err(Stop::NoMemory) => Err(refusal(bytes, after_class_file(alloc, bytes))),
         Err(stop) => Err(refusal(bytes, Err(stop))),
     }
 }

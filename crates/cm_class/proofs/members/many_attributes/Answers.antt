@@ -1,25 +1,24 @@
+use Rattle.std.proofs.Common.{refl}
 use Rattle.std.proofs.lemmas.Result.{err_from_is_err_and}
-use Rattle.cm_class.specs.Reading.{many_at, attribute_at}
-use Rattle.cm_class.proofs.Loops.{goes_on, ends, is_done}
+use Rattle.cm_class.specs.Reading.{attribute_at}
+use Rattle.cm_class.proofs.Sinks.{fills, stops, is_full}
 use Rattle.cm_class.proofs.members.many_attributes.Goals as goal
 
 pub returns-in_err-item : goal.returns-in_err-item
-returns-in_err-item c =
+returns-in_err-item g c =
     let p = err_from_is_err_and c.from_residual-in_err-item.result
     c.from_residual-in_err-item.ensures.1 in
     rw (p.1, p.2)
-    (ends attribute_at c.in_err-item.field-0.0 c.loop.attributes.items c.args.count
-    c.loop.counter c.loop.rest.now (many_at attribute_at c.args.count c.args.bytes.now)
-    c.loop-test.true c.in_err-item.ensures c.loop.invariant)
+    (stops attribute_at c.args.count c.loop.counter c.loop.rest.now c.loop.invariant
+    c.in_err-item.field-0.0 c.loop-test.true c.in_err-item.ensures)
 
 pub loop-preserved : goal.loop-preserved
-loop-preserved c =
-    let item = c.in_ok-item.item in
-    let e = c.in_ok-push.ensures.items in
-    rw e (goes_on attribute_at c.loop.attributes.items c.args.count c.loop.counter c.loop.rest.now
-    item c.in_ok-item.after.now (many_at attribute_at c.args.count c.args.bytes.now)
-    c.loop-test.true c.in_ok-item.ensures c.loop.invariant)
+loop-preserved g c =
+    fills attribute_at c.args.count c.loop.counter c.loop.rest.now c.loop.invariant
+    (c.in_ok-item.item, c.in_ok-item.after) c.push.new.list.items c.loop-test.true
+    c.in_ok-item.ensures c.in_ok-push.ensures.kept
 
 pub returns : goal.returns
-returns c = is_done attribute_at c.loop.attributes.items c.args.count c.loop.counter c.loop.rest.now
-    (many_at attribute_at c.args.count c.args.bytes.now) c.loop-test.false c.loop.invariant
+returns g c =
+    is_full attribute_at c.args.count c.loop.counter c.loop.rest.now c.loop.invariant
+    (λ x. (x.0.items, x.1.now)) (c.loop.attributes, c.loop.rest) c.loop-test.false refl

@@ -1,26 +1,25 @@
+use Rattle.std.proofs.Common.{refl, Ok, Err}
 use Rattle.std.proofs.lemmas.Result.{err_from_is_err_and}
-use Rattle.cm_class.specs.Reading.{many_at, number_at}
-use Rattle.cm_class.proofs.Loops.{goes_on, ends, is_done, fails_exactly}
+use Rattle.cm_class.specs.Reading.{number_at}
+use Rattle.cm_class.proofs.Sinks.{exactly, fills, stops, is_full}
 use Rattle.cm_class.proofs.members.many_numbers.Goals as goal
 
 pub returns-in_err-item : goal.returns-in_err-item
-returns-in_err-item c =
+returns-in_err-item g c =
     let p = err_from_is_err_and c.from_residual-in_err-item.result
     c.from_residual-in_err-item.ensures.1 in
     rw (p.1, p.2)
-    (ends (number_at 2) c.in_err-item.field-0.0 c.loop.numbers.items c.args.count c.loop.counter
-    c.loop.rest.now (many_at (number_at 2) c.args.count c.args.bytes.now) c.loop-test.true
-    (fails_exactly c.in_err-item.field-0.0 (number_at 2 c.loop.rest.now) c.in_err-item.ensures)
-    c.loop.invariant)
+    (stops (number_at 2) c.args.count c.loop.counter c.loop.rest.now c.loop.invariant
+    c.in_err-item.field-0.0 c.loop-test.true
+    (exactly (Err c.in_err-item.field-0.0) c.in_err-item.ensures))
 
 pub loop-preserved : goal.loop-preserved
-loop-preserved c =
-    let item = c.in_ok-item.item in
-    let e = c.in_ok-push.ensures.items in
-    rw e (goes_on (number_at 2) c.loop.numbers.items c.args.count c.loop.counter c.loop.rest.now
-    item c.in_ok-item.after.now (many_at (number_at 2) c.args.count c.args.bytes.now)
-    c.loop-test.true c.in_ok-item.ensures c.loop.invariant)
+loop-preserved g c =
+    fills (number_at 2) c.args.count c.loop.counter c.loop.rest.now c.loop.invariant
+    (c.in_ok-item.item, c.in_ok-item.after.now) c.push.new.list.items c.loop-test.true
+    (exactly (Ok (c.in_ok-item.item, c.in_ok-item.after.now)) c.in_ok-item.ensures) c.in_ok-push.ensures.kept
 
 pub returns : goal.returns
-returns c = is_done (number_at 2) c.loop.numbers.items c.args.count c.loop.counter c.loop.rest.now
-    (many_at (number_at 2) c.args.count c.args.bytes.now) c.loop-test.false c.loop.invariant
+returns g c =
+    is_full (number_at 2) c.args.count c.loop.counter c.loop.rest.now c.loop.invariant
+    (λ x. (x.0.items, x.1.now)) (c.loop.numbers, c.loop.rest) c.loop-test.false refl

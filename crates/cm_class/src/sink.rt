@@ -1,0 +1,70 @@
+//! What becomes of bytes and items that were read.
+ghost use Rattle.std.specs.Prelude.{◌≡◌, ◌++◌, ◌∷◌, [], Bool, true, false, IfOk, IfErr};
+ghost use Rattle.cm_class.specs.declared.stop.Stop.TheVariants.{NoMemory};
+
+use crate::items::Items;
+use crate::numbers::byte_items;
+use crate::stop::Stop;
+use std::alloc::Global;
+
+/// Where a reader puts what it reads. One that keeps nothing leaves lists empty, and never answers
+/// that an allocation failed.
+pub(crate) trait Sink: Copy {
+    /// Whether what was read is kept.
+    ghost keeps: { Bool };
+
+    /// A copy of bytes.
+    fn bytes(self, bytes: &[u8]) -> Result<Items<u8>, Stop>
+        ensures kept { keeps ≡ true → IfOk result (λ items. items ≡ bytes.now) }
+        ensures refused { IfErr result (λ stop. (stop ≡ NoMemory) × (keeps ≡ true)) };
+
+    /// A list with room for so many items.
+    fn room<T: Drop>(self, room: usize) -> Result<Vec<T>, Stop>
+        ensures empty { IfOk result (λ list. list.items ≡ []) }
+        ensures refused { IfErr result (λ stop. (stop ≡ NoMemory) × (keeps ≡ true)) };
+
+    /// Puts an item behind the others.
+    fn push<T: Drop>(self, list: &mut Vec<T>, item: T) -> Result<(), Stop>
+        ensures kept { keeps ≡ true
+            → IfOk result (λ _. list.new.items ≡ list.old.items ++ item ∷ []) }
+        ensures refused { IfErr result (λ stop. (stop ≡ NoMemory) × (keeps ≡ true)) };
+}
+
+impl Sink for Global {
+    ghost keeps = { true };
+
+    fn bytes(self, bytes: &[u8]) -> Result<Items<u8>, Stop> {
+        Ok(byte_items(self, bytes)?)
+    }
+
+    fn room<T: Drop>(self, room: usize) -> Result<Vec<T>, Stop> {
+        Ok(Vec::with_capacity(self, room)?)
+    }
+
+    fn push<T: Drop>(self, list: &mut Vec<T>, item: T) -> Result<(), Stop> {
+        list.push(item)?;
+        Ok(())
+    }
+}
+
+/// Keeps nothing, and so takes no memory: empty lists take none.
+#[derive(Clone, Copy)]
+pub(crate) struct Nothing {
+    pub(crate) alloc: Global,
+}
+
+impl Sink for Nothing {
+    ghost keeps = { false };
+
+    fn bytes(self, _bytes: &[u8]) -> Result<Items<u8>, Stop> {
+        Ok(Items::from_vec(Vec::new(self.alloc)))
+    }
+
+    fn room<T: Drop>(self, _room: usize) -> Result<Vec<T>, Stop> {
+        Ok(Vec::new(self.alloc))
+    }
+
+    fn push<T: Drop>(self, _list: &mut Vec<T>, _item: T) -> Result<(), Stop> {
+        Ok(())
+    }
+}
