@@ -42,7 +42,7 @@ fn class_file<S: Sink>(sink: S, bytes: &[u8]) -> Result<(ClassFile, &[u8]), Stop
 }
 
 /// What follows a class file, without keeping any of it.
-fn after_class_file(alloc: Global, bytes: &[u8]) -> Result<&[u8], Stop>
+pub(crate) fn after_class_file(alloc: Global, bytes: &[u8]) -> Result<&[u8], Stop>
     ensures { GivesExactly (λ x. x.now) result (rest_of (class_at bytes.now)) }
 {
     let (_, rest) = class_file(Nothing { alloc }, bytes)?;

@@ -1,6 +1,6 @@
 use super::*;
+use crate::shape::after_class_file;
 use crate::stop::Stop;
-use crate::walk::after_class_file;
 use std::test::*;
 
 /// Class A: a public class of the name A, with a super class, and nothing else.
@@ -40,8 +40,8 @@ const WRONG: [(usize, u8, usize); 11] = [
 ];
 
 /// How many bytes the walk leaves behind a class file.
-fn left(bytes: &[u8]) -> Result<usize, Stop> {
-    Ok(after_class_file(bytes)?.len())
+fn left(rt: &HostRuntime, bytes: &[u8]) -> Result<usize, Stop> {
+    Ok(after_class_file(rt.alloc(), bytes)?.len())
 }
 
 fn with_byte(place: usize, byte: u8) -> [u8; 53] {
@@ -194,7 +194,7 @@ fn the_first_wrong_byte(rt: HostRuntime) {
             "at {place}"
         );
         assert_eq!(rt;
-            left(&bytes),
+            left(&rt, &bytes),
             Err(Stop::Bad(bytes.len().saturating_sub(at))),
             "walked, at {place}"
         );
@@ -211,7 +211,7 @@ fn no_second_slot(rt: HostRuntime) {
         assert_eq!(rt; fault(&rt, &bytes), Some(ShapeFault::Malformed(10)));
         assert_eq!(rt; fault(&rt, &bytes[..11]), Some(ShapeFault::Malformed(10)));
         assert_eq!(rt; fault(&rt, &bytes[..10]), Some(ShapeFault::Truncated));
-        assert_eq!(rt; left(&bytes), Err(Stop::Bad(43)));
+        assert_eq!(rt; left(&rt, &bytes), Err(Stop::Bad(43)));
     }
 }
 
@@ -221,22 +221,22 @@ fn a_false_length(rt: HostRuntime) -> Result<(), Fail> {
     let mut bytes = Vec::from_slice(rt.alloc(), &CLASS_A[..51])?;
     bytes.extend_from_slice(&[0, 1, 0, 2, 0xff, 0xff, 0xff, 0xff])?;
     assert_eq!(rt; fault(&rt, &bytes), Some(ShapeFault::Truncated));
-    assert_eq!(rt; left(&bytes), Err(Stop::Short));
+    assert_eq!(rt; left(&rt, &bytes), Err(Stop::Short));
     Ok(())
 }
 
 /// The walk goes over each kind of part, and is cut short wherever the bytes end within one.
 #[test]
 fn the_walk_ends_behind_a_class(rt: HostRuntime) -> Result<(), Fail> {
-    assert_eq!(rt; left(&CLASS_A), Ok(0));
+    assert_eq!(rt; left(&rt, &CLASS_A), Ok(0));
     let mut bytes = Vec::from_slice(rt.alloc(), &POOL)?;
     bytes.extend_from_slice(&BODY)?;
-    assert_eq!(rt; left(&bytes), Ok(0));
+    assert_eq!(rt; left(&rt, &bytes), Ok(0));
     for len in 0..bytes.len() {
-        assert_eq!(rt; left(&bytes[..len]), Err(Stop::Short), "at {len}");
+        assert_eq!(rt; left(&rt, &bytes[..len]), Err(Stop::Short), "at {len}");
     }
     bytes.extend_from_slice(&[0xca, 0xfe, 0xba])?;
-    assert_eq!(rt; left(&bytes), Ok(3));
+    assert_eq!(rt; left(&rt, &bytes), Ok(3));
     Ok(())
 }
 
