@@ -2,8 +2,8 @@
 //! does.
 //!
 //! It reads class files from standard input, each behind its length in four bytes, and runs the
-//! reader, the rules and the records over them, and then both bodies of a pool. Without `--passes`
-//! it prints counts alone.
+//! reader, the rules and the records over them, and with `--passes` then both bodies of a pool.
+//! Without `--passes` it prints counts alone.
 #![tactic(auto)]
 
 mod command;
@@ -75,6 +75,15 @@ fn list_methods(rt: &(impl Input + Print + AllocGlobal)) -> Result<()> {
     print_methods(rt, &classes_in(rt.alloc(), &bytes)?)
 }
 
+/// Takes blocks of crowded pools. Only where times are asked for: counts say nothing here, and the
+/// pools are large.
+fn bench_pools(rt: &(impl Clock + Print + AllocGlobal), passes: Option<u32>) -> Result<()> {
+    for crowd in Crowd::ALL {
+        report_pools(rt, crowd, passes)?;
+    }
+    Ok(())
+}
+
 /// Runs each step over the classes on standard input.
 fn bench(rt: &(impl Clock + Input + Print + AllocGlobal), passes: Option<u32>) -> Result<()> {
     let alloc = rt.alloc();
@@ -87,8 +96,8 @@ fn bench(rt: &(impl Clock + Input + Print + AllocGlobal), passes: Option<u32>) -
     for lookup in Lookup::ALL {
         report_lookup(rt, lookup, &subjects, passes)?;
     }
-    for crowd in Crowd::ALL {
-        report_pools(rt, crowd, passes)?;
+    if passes.is_some() {
+        bench_pools(rt, passes)?;
     }
     Ok(())
 }
