@@ -1,2 +1,15 @@
--- The names of a class and of its super class, as `cm_class` has them.
+-- The names of a class and of its super class, as `cm_class` has them; and the class's name out of
+-- the words of its record.
+use Rattle.std.specs.Prelude.{ℕ, List, [], drop, get_or, Option, Some, None}
+use Rattle.cm_record_layout.specs.Packing.{second_of}
+use Rattle.cm_record_reading.specs.Reading.{run_at}
+use Rattle.cm_record.specs.Runs.{name_run}
 pub use Rattle.cm_class.specs.Names.{class_name_of, super_name_of}
+
+-- the bytes of a run; none where there is no such run
+abbrev pub bytes_in : List ℕ → ℕ × ℕ → List ℕ
+bytes_in words run = elim (run_at run.1 (drop run.0 words)) [ Some r ↦ r.0 | None ↦ [] ]
+
+-- the name of the class whose record these words are
+unfoldable pub class_name_in : List ℕ → List ℕ
+class_name_in words = bytes_in words (name_run words (second_of (get_or words 1 0)))

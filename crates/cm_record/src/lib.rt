@@ -4,6 +4,7 @@
 
 mod code;
 mod constant;
+mod laws;
 mod member;
 mod names;
 mod order;
@@ -14,5 +15,6 @@ pub use cm_record_reading::{RecordFault, layout_determines_class};
 pub use cm_record_writing::RecordRefusal;
 pub use code::Code;
 pub use constant::Constant;
+pub use laws::words_tell_name;
 pub use member::Member;
 pub use record::{Record, build};
