@@ -4,3 +4,4 @@ pub mod OneReading
 pub mod Joining
 pub mod Superblocks
 pub mod StayLive
+pub mod OwnLoaders

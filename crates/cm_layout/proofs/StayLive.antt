@@ -72,15 +72,15 @@ not_same c d differ = by_test (same_chunk c d) refl
 
 -- ---- the rules in parts
 
-record LoaderKeeps (sizes : Sizes) (base : ℕ) (pre : List BareRow) (r : LoaderRow) : Type 0 where
-  from : nat_le 1 r.number ≡ true
-  to : nat_le r.number base ≡ true
-  above : list_all (λ u. nat_lt u r.number) (numbers_in pre) ≡ true
-  name : is_loader_name r.name ≡ true
-  new : is_none (number_of r.name pre) ≡ true
-  room : has_room sizes pre (Loader r) ≡ true
+pub record LoaderKeeps (sizes : Sizes) (base : ℕ) (pre : List BareRow) (r : LoaderRow) : Type 0 where
+  pub from : nat_le 1 r.number ≡ true
+  pub to : nat_le r.number base ≡ true
+  pub above : list_all (λ u. nat_lt u r.number) (numbers_in pre) ≡ true
+  pub name : is_loader_name r.name ≡ true
+  pub new : is_none (number_of r.name pre) ≡ true
+  pub room : has_room sizes pre (Loader r) ≡ true
 
-loader_keeps : (sizes : Sizes) (base : ℕ) (pre : List BareRow) (r : LoaderRow)
+pub loader_keeps : (sizes : Sizes) (base : ℕ) (pre : List BareRow) (r : LoaderRow)
     → broken_live_rule sizes base pre (Loader r) ≡ None → LoaderKeeps sizes base pre r
 loader_keeps sizes base pre r h =
     let some = nat_le 1 r.number in
@@ -116,15 +116,15 @@ keeps_loader sizes base pre r k =
     (and_true (some && past) above (and_true some past k.from k.to) k.above)
     (and_true (name && new) room (and_true name new k.name k.new) k.room))
 
-record ClassKeeps (sizes : Sizes) (pre : List BareRow) (r : ClassRow) : Type 0 where
-  live : is_live r.loader pre ≡ true
-  room : has_room sizes pre (Class r tt) ≡ true
-  chunk : is_chunk sizes r.place.chunk ≡ true
-  words : nat_le 1 r.place.words ≡ true
-  within : nat_le (r.place.offset + r.place.words) (chunk_size r.place.chunk.order) ≡ true
-  place : has_place pre r ≡ true
+pub record ClassKeeps (sizes : Sizes) (pre : List BareRow) (r : ClassRow) : Type 0 where
+  pub live : is_live r.loader pre ≡ true
+  pub room : has_room sizes pre (Class r tt) ≡ true
+  pub chunk : is_chunk sizes r.place.chunk ≡ true
+  pub words : nat_le 1 r.place.words ≡ true
+  pub within : nat_le (r.place.offset + r.place.words) (chunk_size r.place.chunk.order) ≡ true
+  pub place : has_place pre r ≡ true
 
-class_keeps : (sizes : Sizes) (pre : List BareRow) (r : ClassRow)
+pub class_keeps : (sizes : Sizes) (pre : List BareRow) (r : ClassRow)
     → broken_of (is_live r.loader pre && has_room sizes pre (Class r tt)) (class_fits sizes pre r)
     ≡ None
     → ClassKeeps sizes pre r

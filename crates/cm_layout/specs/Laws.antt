@@ -1,10 +1,13 @@
 -- What holds of the definitions themselves.
-use Rattle.std.specs.Prelude.{◌≡◌, ℕ, List, []}
+use Rattle.std.specs.Prelude.{◌≡◌, ℕ, ◌+◌, List, [], ◌∷◌, ◌++◌, None}
 use Rattle.cm_pool.specs.Geometry.{Sizes}
 use Rattle.cm_layout.specs.declared.row.Row.{Row}
-use Rattle.cm_layout.specs.Rows.{classes_in}
-use Rattle.cm_layout.specs.Frames.{OpenHalf, IsGoodHalf, AreApart, LiveRowsKeep, rows_of}
-use Rattle.cm_layout.specs.Frames.{number_at_end, Frames}
+use Rattle.cm_layout.specs.Slots.{FitsRow, FitsEntry}
+use Rattle.cm_layout.specs.Rows.{classes_in, rows_after}
+use Rattle.cm_layout.specs.Rules.{broken_rule, broken_live_rule}
+use Rattle.cm_layout.specs.Loaders.{HasOwnLoaders}
+use Rattle.cm_layout.specs.Frames.{BareRow, BareEntry, OpenHalf, IsGoodHalf, AreApart, LiveRowsKeep}
+use Rattle.cm_layout.specs.Frames.{rows_of, number_at_end, Frames}
 
 -- After rows and entries that keep the rules, chunks that differ share no word, and none has two
 -- loaders.
@@ -18,6 +21,25 @@ abbrev pub RowsStayLive : Type 0
 RowsStayLive =
     (sizes : Sizes) (h : OpenHalf) → IsGoodHalf sizes h
     → LiveRowsKeep sizes (number_at_end h) [] (rows_of h)
+
+-- One entry more that keeps the rules, or one live row more, leaves rows that keep theirs.
+abbrev pub EntriesStayLive : Type 0
+EntriesStayLive =
+    (sizes : Sizes) (rows : List BareRow) (n : ℕ) (e : BareEntry) → AreApart (classes_in rows)
+    → LiveRowsKeep sizes n [] rows → FitsEntry e → broken_rule sizes rows (n + 1) e ≡ None
+    → AreApart (classes_in (rows_after rows e)) × LiveRowsKeep sizes (n + 1) [] (rows_after rows e)
+
+abbrev pub RowsGrow : Type 0
+RowsGrow =
+    (sizes : Sizes) (n : ℕ) (rows : List BareRow) (row : BareRow) → LiveRowsKeep sizes n [] rows
+    → FitsRow row → broken_live_rule sizes n rows row ≡ None
+    → LiveRowsKeep sizes n [] (rows ++ row ∷ [])
+
+-- Loaders of live rows that keep the rules differ, are of the past, and own each class.
+abbrev pub LoadersAreOwn : Type 0
+LoadersAreOwn =
+    (sizes : Sizes) (n : ℕ) (rows : List BareRow) → LiveRowsKeep sizes n [] rows
+    → HasOwnLoaders n rows
 
 -- Contents frame at most one thing: sizes, rows with their words, and number.
 abbrev pub FramesAreOne : Type 0

@@ -3,6 +3,7 @@ pub mod Names
 pub mod Slots
 pub mod Superblock
 pub mod Rows
+pub mod Loaders
 pub mod Rules
 pub mod Frames
 pub mod Laws

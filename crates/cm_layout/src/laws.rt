@@ -5,6 +5,7 @@ ghost use Rattle.cm_layout.specs.declared.entry.Entry.{Entry};
 ghost use Rattle.cm_layout.specs.declared.heads.HalfHead.{HalfHead};
 ghost use Rattle.cm_layout.specs.declared.heads.GroupHead.{GroupHead};
 ghost use Rattle.cm_layout.specs.Laws.{FramesAreOne, RowsAreApart, RowsStayLive};
+ghost use Rattle.cm_layout.specs.Laws.{EntriesStayLive, RowsGrow, LoadersAreOwn};
 ghost use Rattle.cm_layout.specs.Slots.{entry_slot, FitsEntry, half_head_slot, FitsHalfHead};
 ghost use Rattle.cm_layout.specs.Slots.{group_head_slot, FitsGroupHead};
 
@@ -32,6 +33,18 @@ pub fn rows_are_apart()
 /// entry, Unloads and Moves too: a new half can begin with them.
 pub fn rows_stay_live()
     ensures { RowsStayLive }
+{}
+
+/// One entry more that keeps the rules, or one live row more, leaves live rows that keep theirs.
+pub fn live_rows_go_on()
+    ensures entries { EntriesStayLive }
+    ensures rows { RowsGrow }
+{}
+
+/// Loaders of live rows that keep the rules differ in number and name, have numbers of the past,
+/// and each class is one of theirs.
+pub fn loaders_are_own()
+    ensures { LoadersAreOwn }
 {}
 
 /// A file's contents tell what they frame: its sizes, its rows with the words of their records, and
