@@ -12,6 +12,7 @@ use Rattle.cm_pool.specs.Lists.{Among}
 use Rattle.cm_layout.specs.declared.class_row.ClassRow.{ClassRow}
 use Rattle.cm_layout.specs.declared.row.Row.TheVariants.{Loader, Class}
 use Rattle.cm_layout.specs.Rows.{name_of, number_of, numbers_in, classes_in}
+use Rattle.cm_layout.specs.Names.{is_loader_name}
 use Rattle.cm_layout.specs.Rules.{is_live}
 use Rattle.cm_layout.specs.Loaders.{LoadersDiffer, HasOwnLoaders}
 use Rattle.cm_layout.specs.Frames.{BareRow, LiveRowsKeep}
@@ -167,6 +168,22 @@ past sizes n pre (Loader r ∷ rows) k u (inl e) =
 past sizes n pre (Loader r ∷ rows) k u (inr m) = past sizes n (pre ++ Loader r ∷ []) rows k.2 u m
 past sizes n pre (Class r p ∷ rows) k u m = past sizes n (pre ++ Class r p ∷ []) rows k.2 u m
 
+named : (sizes : Sizes) (n : ℕ) (pre rows : List BareRow) → LiveRowsKeep sizes n pre rows
+    → (u : ℕ) (x : List ℕ) → name_of u rows ≡ Some x → is_loader_name x ≡ true
+named sizes n pre [] k u x e = absurd (cc)
+named sizes n pre (Loader r ∷ rows) k u x e =
+    by_test (eqb r.number u) (λ h. named sizes n (pre ++ Loader r ∷ []) rows k.2 u x h) e
+  where
+    own : (o : List ℕ) → Some r.name ≡ Some o → r.name ≡ o
+    own o h = cc
+
+    by_test : (t : Bool) → (name_of u rows ≡ Some x → is_loader_name x ≡ true)
+        → cond t (Some r.name) (name_of u rows) ≡ Some x → is_loader_name x ≡ true
+    by_test true rest h =
+        subst (λ (y : List ℕ). is_loader_name y ≡ true) (own x h) (loader_keeps sizes n pre r k.1).name
+    by_test false rest h = rest h
+named sizes n pre (Class r p ∷ rows) k u x e = named sizes n (pre ++ Class r p ∷ []) rows k.2 u x e
+
 owned : (sizes : Sizes) (n : ℕ) (pre rows : List BareRow) → LiveRowsKeep sizes n pre rows
     → (r : ClassRow) → Among r (classes_in rows) → is_live r.loader (pre ++ rows) ≡ true
 owned sizes n pre [] k r none = absurd none
@@ -185,5 +202,6 @@ pub own_loaders : (sizes : Sizes) (n : ℕ) (rows : List BareRow) → LiveRowsKe
 own_loaders sizes n rows k = record {
   differ = differ sizes n [] rows k;
   past = past sizes n [] rows k;
+  named = named sizes n [] rows k;
   owned = owned sizes n [] rows k;
 }

@@ -1,11 +1,17 @@
 -- What holds of the definitions themselves.
-use Rattle.std.specs.Prelude.{◌≡◌, ℕ, ◌+◌, List, ◌++◌, length, Some}
+use Rattle.std.specs.Prelude.{◌≡◌, ℕ, ◌+◌, ◌^◌, ◌<◌, List, ◌++◌, length, Some, Ok, is_some}
 use Rattle.std.specs.Option.{option_and_then}
+use Rattle.std.specs.FinMap as map
 use Rattle.cm_class.specs.declared.class_file.ClassFile.{ClassFile}
 use Rattle.cm_pool.specs.Geometry.{Sizes}
-use Rattle.cm_state.specs.State.{CacheState, class_shows}
-use Rattle.cm_state.specs.Step.{Change}
+use Rattle.cm_layout.specs.declared.row.Row.{Row}
+use Rattle.cm_layout.specs.declared.entry.Entry.{Entry}
+use Rattle.cm_layout.specs.Rows.{number_of, slots_of_rows, rows_after}
+use Rattle.cm_state.specs.State.{CacheState, Shows, class_shows, class_in, class_among, size}
+use Rattle.cm_state.specs.State.{state_of}
+use Rattle.cm_state.specs.Step.{Change, step}
 use Rattle.cm_state.specs.Fold.{fold}
+use Rattle.cm_state.specs.Entries.{AreCacheRows, MayFollow, change_of}
 use Rattle.cm_state.specs.Stands.{Arenas, Stands}
 
 -- Changes behind others go on from what those came to.
@@ -21,6 +27,40 @@ NumbersFollow =
     (sizes : Sizes) (m : CacheState) (n : ℕ) (changes : List (Change ClassFile)) (last : CacheState)
     (number : ℕ)
     → fold class_shows sizes m n changes ≡ Some (last, number) → number ≡ n + length changes
+
+-- What the state of rows holds is found in the rows: loaders by name, classes by name in a loader;
+-- and its size is that of the rows.
+abbrev pub LoadersAreFound : Type 0 → Type 0
+LoadersAreFound A =
+    (shows : Shows A) (rows : List (Row A)) (name : List ℕ)
+    → is_some (map.get (state_of shows rows) name) ≡ is_some (number_of name rows)
+
+abbrev pub ClassesAreFound : Type 0 → Type 0
+ClassesAreFound A =
+    (shows : Shows A) (rows : List (Row A)) (loader name : List ℕ)
+    → class_in (state_of shows rows) loader name
+    ≡ option_and_then (λ u. class_among shows u name rows) (number_of loader rows)
+
+abbrev pub SizesAgree : Type 0 → Type 0
+SizesAgree A =
+    (shows : Shows A) (sizes : Sizes) (n : ℕ) (rows : List (Row A))
+    → AreCacheRows shows sizes n rows → size (state_of shows rows) ≡ slots_of_rows rows
+
+-- An entry that may follow is a step of the cache: some change that has no cause against it, and the
+-- next state is that of the rows after the entry.
+pub record IsStep {A : Type 0} (shows : Shows A) (sizes : Sizes) (n : ℕ) (rows : List (Row A))
+    (e : Entry A) : Type 0 where
+  pub change : Change A
+  pub change_is : change_of rows e ≡ Some change
+  pub next : step shows sizes (state_of shows rows) n change
+      ≡ Ok (state_of shows (rows_after rows e))
+  pub rows_are : AreCacheRows shows sizes (n + 1) (rows_after rows e)
+
+abbrev pub EntriesAreSteps : Type 0 → Type 0
+EntriesAreSteps A =
+    (shows : Shows A) (sizes : Sizes) (n : ℕ) (rows : List (Row A)) (e : Entry A)
+    → AreCacheRows shows sizes n rows → MayFollow shows sizes n rows e → n < 2 ^ 63
+    → IsStep shows sizes n rows e
 
 -- Contents stand for at most one cache: sizes, state, arenas and number.
 abbrev pub StandForOne : Type 0

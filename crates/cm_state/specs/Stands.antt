@@ -1,12 +1,9 @@
 -- Which contents stand for which cache: they frame rows whose records are those of classes that
 -- keep the class rules, none of them twice in a loader; the state is the map of these rows, and
 -- each loader's arena has the chunks of its rows.
-use Rattle.std.specs.Prelude.{◌≡◌, ℕ, ◌==◌, ◌&&◌, ◌||◌, Bool, false, filter, List, [], ◌∷◌}
-use Rattle.std.specs.Prelude.{map as map_list}
-use Rattle.std.specs.Str.{bytes_eq}
+use Rattle.std.specs.Prelude.{◌≡◌, ℕ, ◌==◌, ◌&&◌, filter, List, [], ◌∷◌, map as map_list}
 use Rattle.std.specs.FinMap as map
 use Rattle.cm_class.specs.declared.class_file.ClassFile.{ClassFile}
-use Rattle.cm_class.specs.Names.{class_name_of}
 use Rattle.cm_record.specs.Layout.{lay}
 use Rattle.cm_pool.specs.Geometry.{Sizes}
 use Rattle.cm_pool.specs.declared.chunk.Chunk.{Chunk}
@@ -16,27 +13,13 @@ use Rattle.cm_layout.specs.declared.row.Row.TheVariants.{Loader, Class}
 use Rattle.cm_layout.specs.Rows.{classes_in, rows_with}
 use Rattle.cm_layout.specs.Frames.{Frames}
 use Rattle.cm_rules.specs.Keeps.{KeepsRules}
-use Rattle.cm_state.specs.State.{ByName, CacheState, class_shows, state_of}
+use Rattle.cm_state.specs.State.{ByName, CacheState, NamesDiffer, class_shows, state_of}
 
 -- each class keeps the rules
 abbrev pub EachKeepsRules : List (Row ClassFile) → Type 0
 EachKeepsRules [] = Unit {0}
 EachKeepsRules (Loader r ∷ rows) = EachKeepsRules rows
 EachKeepsRules (Class r c ∷ rows) = KeepsRules c × EachKeepsRules rows
-
--- the loader of this number has a class of this name
-abbrev pub has_class : ℕ → List ℕ → List (Row ClassFile) → Bool
-has_class u name [] = false
-has_class u name (Loader r ∷ rows) = has_class u name rows
-has_class u name (Class r c ∷ rows) =
-    ((r.loader == u) && bytes_eq (class_name_of c) name) || has_class u name rows
-
--- no class name stands twice in a loader
-abbrev pub NamesDiffer : List (Row ClassFile) → Type 0
-NamesDiffer [] = Unit {0}
-NamesDiffer (Loader r ∷ rows) = NamesDiffer rows
-NamesDiffer (Class r c ∷ rows) =
-    (has_class r.loader (class_name_of c) rows ≡ false) × NamesDiffer rows
 
 -- a loader's chunks, in the order of their first records
 abbrev pub chunks_of : ℕ → List ClassRow → List Chunk
@@ -59,6 +42,6 @@ pub record Stands (sizes : Sizes) (contents : List ℕ) (m : CacheState) (arenas
   pub rows : List (Row ClassFile)
   pub framed : Frames sizes contents (rows_with lay rows) n
   pub kept : EachKeepsRules rows
-  pub differ : NamesDiffer rows
+  pub differ : NamesDiffer class_shows [] rows
   pub state_is : m ≡ state_of class_shows rows
   pub arenas_are : arenas ≡ arenas_among (classes_in rows) rows

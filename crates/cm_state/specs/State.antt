@@ -1,13 +1,16 @@
 -- The cache's state: a finite map from each loader's name to a finite map from class names to
 -- classes.
-use Rattle.std.specs.Prelude.{ℕ, ◌+◌, ◌==◌, if◌then◌else◌, List, [], ◌∷◌, length, Option}
+use Rattle.std.specs.Prelude.{◌≡◌, ℕ, ◌+◌, ◌==◌, ◌&&◌, if◌then◌else◌, List, [], ◌∷◌, ◌++◌, length}
+use Rattle.std.specs.Prelude.{Option, Some, None}
 use Rattle.std.specs.Ordering.{nat_cmp}
+use Rattle.std.specs.Str.{bytes_eq}
 use Rattle.std.specs.Cmp.Lexicographic.{slice_cmp}
 use Rattle.std.specs.Option.{option_and_then}
 use Rattle.std.specs.FinMap as map
 use Rattle.cm_class.specs.declared.class_file.ClassFile.{ClassFile}
 use Rattle.cm_class.specs.Names.{class_name_of}
 use Rattle.cm_record.specs.Layout.{lay}
+use Rattle.cm_record.specs.Names.{class_name_in}
 use Rattle.cm_layout.specs.declared.row.Row.{Row}
 use Rattle.cm_layout.specs.declared.row.Row.TheVariants.{Loader, Class}
 
@@ -24,9 +27,12 @@ pub record Shows (A : Type 0) : Type 0 where
   pub name : A → List ℕ
   pub words : A → ℕ
 
--- a class itself
+-- a class itself, and the words of its record
 abbrev pub class_shows : Shows ClassFile
 class_shows = record { name = class_name_of; words = λ c. length (lay c) }
+
+abbrev pub words_show : Shows (List ℕ)
+words_show = record { name = class_name_in; words = length }
 
 -- the state of a cache
 abbrev pub CacheState : Type 0
@@ -53,6 +59,22 @@ classes_of shows u (Loader r ∷ rows) = classes_of shows u rows
 classes_of shows u (Class r c ∷ rows) =
     if r.loader == u then map.insert (classes_of shows u rows) (shows.name c) c
     else classes_of shows u rows
+
+-- of these the class of a name, the first one
+abbrev pub class_among : {A : Type 0} → Shows A → ℕ → List ℕ → List (Row A) → Option A
+class_among shows u name [] = None
+class_among shows u name (Loader r ∷ rows) = class_among shows u name rows
+class_among shows u name (Class r c ∷ rows) =
+    if (r.loader == u) && bytes_eq (shows.name c) name then Some c
+    else class_among shows u name rows
+
+-- behind these rows no class name stands twice in a loader
+abbrev pub NamesDiffer : {A : Type 0} → Shows A → List (Row A) → List (Row A) → Type 0
+NamesDiffer shows before [] = Unit {0}
+NamesDiffer shows before (Loader r ∷ rows) = NamesDiffer shows (before ++ Loader r ∷ []) rows
+NamesDiffer shows before (Class r c ∷ rows) =
+    (class_among shows r.loader (shows.name c) before ≡ None)
+    × NamesDiffer shows (before ++ Class r c ∷ []) rows
 
 -- of each loader among some rows its classes among all of them
 abbrev pub loaders_among : {A : Type 0} → Shows A → List (Row A) → List (Row A) → Loaders A

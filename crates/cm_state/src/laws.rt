@@ -1,9 +1,13 @@
 //! What holds of the definitions themselves. Each law is the contract of a function with an empty
 //! body.
 
+ghost use Rattle.std.specs.Prelude.{ℕ, List};
+ghost use Rattle.cm_class.specs.declared.class_file.ClassFile.{ClassFile};
 ghost use Rattle.cm_state.specs.Laws.{ChangesGoOn, NumbersFollow, StandForOne};
+ghost use Rattle.cm_state.specs.Laws.{LoadersAreFound, ClassesAreFound, SizesAgree};
+ghost use Rattle.cm_state.specs.Laws.{EntriesAreSteps};
 
-use cm_layout::contents_determine_rows;
+use cm_layout::{contents_determine_rows, live_rows_go_on, loaders_are_own};
 use cm_record::layout_determines_class;
 
 /// Changes behind others go on from what those came to, so each beginning of a list of changes has
@@ -20,4 +24,26 @@ pub fn contents_determine_cache()
 {
     contents_determine_rows();
     layout_determines_class();
+}
+
+/// What the state of rows holds is found in the rows, with classes as well as with the words of
+/// their records: loaders by name, classes by name in a loader; and its size is that of the rows.
+pub fn rows_tell_state()
+    ensures loaders { LoadersAreFound ClassFile × LoadersAreFound (List ℕ) }
+    ensures classes { ClassesAreFound ClassFile × ClassesAreFound (List ℕ) }
+    ensures sizes { SizesAgree ClassFile × SizesAgree (List ℕ) }
+{
+    live_rows_go_on();
+    loaders_are_own();
+}
+
+/// An entry that keeps the entry rules on the rows of a cache, with a class that is new in its
+/// loader, is a step of the cache: the change that it makes has no cause against it, and the next
+/// state is that of the rows after it, which are again rows of a cache.
+pub fn entries_are_steps()
+    ensures classes { EntriesAreSteps ClassFile }
+    ensures words { EntriesAreSteps (List ℕ) }
+{
+    live_rows_go_on();
+    loaders_are_own();
 }

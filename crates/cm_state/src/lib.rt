@@ -4,4 +4,4 @@
 
 mod laws;
 
-pub use laws::{changes_go_on, contents_determine_cache};
+pub use laws::{changes_go_on, contents_determine_cache, entries_are_steps, rows_tell_state};

@@ -1,0 +1,14 @@
+use Rattle.std.specs.Prelude.{ℕ, List}
+use Rattle.cm_class.specs.declared.class_file.ClassFile.{ClassFile}
+use Rattle.cm_state.proofs.EntrySteps.{entries_are_steps}
+use Rattle.cm_state.proofs.laws.entries_are_steps.Goals as goal
+
+pub returns : goal.returns
+returns c =
+    let stay = c.live_rows_go_on.ensures.entries in
+    let grow = c.live_rows_go_on.ensures.rows in
+    let own = c.loaders_are_own.ensures in
+    record {
+      classes = entries_are_steps {A = ClassFile} stay grow own;
+      words = entries_are_steps {A = List ℕ} stay grow own;
+    }

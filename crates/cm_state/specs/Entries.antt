@@ -1,0 +1,44 @@
+-- What an entry of the journal does to the cache: it is a change, by the rows before it.
+use Rattle.std.specs.Prelude.{◌≡◌, ℕ, ◌+◌, List, [], Option, Some, None}
+use Rattle.std.specs.Option.{option_map}
+use Rattle.cm_pool.specs.Geometry.{Sizes}
+use Rattle.cm_layout.specs.declared.row.Row.{Row}
+use Rattle.cm_layout.specs.declared.row.Row.TheVariants.{Loader, Class}
+use Rattle.cm_layout.specs.declared.entry.Entry.{Entry}
+use Rattle.cm_layout.specs.declared.entry.Entry.TheVariants as entry
+use Rattle.cm_layout.specs.Slots.{FitsEntry}
+use Rattle.cm_layout.specs.Rows.{name_of, classes_in, bare}
+use Rattle.cm_layout.specs.Rules.{broken_rule}
+use Rattle.cm_layout.specs.Frames.{AreApart, LiveRowsKeep}
+use Rattle.cm_state.specs.State.{Shows, NamesDiffer, class_among}
+use Rattle.cm_state.specs.Step.{Change, AddLoader, Define, Unload, Tighten}
+
+-- the change that an entry makes, by the names of loaders in the rows before it
+abbrev pub change_of : {A : Type 0} → List (Row A) → Entry A → Option (Change A)
+change_of rows (entry.Live (Loader r)) = Some (AddLoader r.name)
+change_of rows (entry.Live (Class r c)) = option_map (λ x. Define x c) (name_of r.loader rows)
+change_of rows (entry.Unload e) = option_map Unload (name_of e.loader rows)
+change_of rows (entry.Move e) = option_map Tighten (name_of e.loader rows)
+
+-- rows that a cache can have after its n-th command: live rows that keep the rules, with chunks
+-- apart and no class name twice in a loader
+pub record AreCacheRows {A : Type 0} (shows : Shows A) (sizes : Sizes) (n : ℕ)
+    (rows : List (Row A)) : Type 0 where
+  pub live : LiveRowsKeep sizes n [] (bare rows)
+  pub apart : AreApart (classes_in rows)
+  pub differ : NamesDiffer shows [] rows
+
+-- a class is new in its loader, and its row names as many words as its record has
+abbrev pub IsNewClass : {A : Type 0} → Shows A → List (Row A) → Entry A → Type 0
+IsNewClass shows rows (entry.Live (Loader r)) = Unit {0}
+IsNewClass shows rows (entry.Live (Class r c)) =
+    (class_among shows r.loader (shows.name c) rows ≡ None) × (shows.words c ≡ r.place.words)
+IsNewClass shows rows (entry.Unload e) = Unit {0}
+IsNewClass shows rows (entry.Move e) = Unit {0}
+
+-- an entry that may follow the n-th on these rows
+pub record MayFollow {A : Type 0} (shows : Shows A) (sizes : Sizes) (n : ℕ)
+    (rows : List (Row A)) (e : Entry A) : Type 0 where
+  pub fits : FitsEntry e
+  pub keeps : broken_rule sizes rows (n + 1) e ≡ None
+  pub new : IsNewClass shows rows e
