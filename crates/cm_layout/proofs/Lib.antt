@@ -5,3 +5,5 @@ pub mod Joining
 pub mod Superblocks
 pub mod StayLive
 pub mod OwnLoaders
+pub mod Agreement
+pub mod Matched

@@ -1,5 +1,5 @@
 -- What holds of the definitions themselves.
-use Rattle.std.specs.Prelude.{◌≡◌, ℕ, ◌+◌, List, [], ◌∷◌, ◌++◌, None}
+use Rattle.std.specs.Prelude.{◌≡◌, ℕ, ◌+◌, ◌≤◌, List, [], ◌∷◌, ◌++◌, length, None}
 use Rattle.cm_pool.specs.Geometry.{Sizes}
 use Rattle.cm_layout.specs.declared.row.Row.{Row}
 use Rattle.cm_layout.specs.Slots.{FitsRow, FitsEntry}
@@ -8,6 +8,7 @@ use Rattle.cm_layout.specs.Rules.{broken_rule, broken_live_rule}
 use Rattle.cm_layout.specs.Loaders.{HasOwnLoaders}
 use Rattle.cm_layout.specs.Frames.{BareRow, BareEntry, OpenHalf, IsGoodHalf, AreApart, LiveRowsKeep}
 use Rattle.cm_layout.specs.Frames.{rows_of, number_at_end, Frames}
+use Rattle.cm_layout.specs.Framing.{Framing, IsRight, Matches, Agree, guards, needs}
 
 -- After rows and entries that keep the rules, chunks that differ share no word, and none has two
 -- loaders.
@@ -47,3 +48,27 @@ FramesAreOne =
     (s t : Sizes) (contents : List ℕ) (rows more : List (Row (List ℕ))) (n m : ℕ)
     → Frames s contents rows n → Frames t contents more m
     → (s ≡ t) × ((rows ≡ more) × (n ≡ m))
+
+-- Contents frame rows and a number exactly where they match a framing that is right for them.
+pub record IsFramed (sizes : Sizes) (contents : List ℕ) (rows : List (Row (List ℕ)))
+    (number : ℕ) : Type 0 where
+  pub framing : Framing
+  pub right : IsRight sizes framing rows number
+  pub matches : Matches sizes framing rows contents
+
+abbrev pub FramesAreMatched : Type 0
+FramesAreMatched =
+    (sizes : Sizes) (contents : List ℕ) (rows : List (Row (List ℕ))) (n : ℕ)
+    → Frames sizes contents rows n → IsFramed sizes contents rows n
+
+abbrev pub MatchesFrame : Type 0
+MatchesFrame =
+    (sizes : Sizes) (contents : List ℕ) (rows : List (Row (List ℕ))) (n : ℕ)
+    → IsFramed sizes contents rows n → Frames sizes contents rows n
+
+-- Contents that are long enough, and agree on what is guarded with others that match, match too.
+abbrev pub AgreementMatches : Type 0
+AgreementMatches =
+    (sizes : Sizes) (f : Framing) (rows : List (Row (List ℕ))) (a b : List ℕ)
+    → needs sizes rows ≤ length b → Agree (guards sizes f rows) a b → Matches sizes f rows a
+    → Matches sizes f rows b

@@ -6,5 +6,6 @@ pub mod Rows
 pub mod Loaders
 pub mod Rules
 pub mod Frames
+pub mod Framing
 pub mod Laws
 pub mod Groups

@@ -6,6 +6,7 @@ ghost use Rattle.cm_layout.specs.declared.heads.HalfHead.{HalfHead};
 ghost use Rattle.cm_layout.specs.declared.heads.GroupHead.{GroupHead};
 ghost use Rattle.cm_layout.specs.Laws.{FramesAreOne, RowsAreApart, RowsStayLive};
 ghost use Rattle.cm_layout.specs.Laws.{EntriesStayLive, RowsGrow, LoadersAreOwn};
+ghost use Rattle.cm_layout.specs.Laws.{FramesAreMatched, MatchesFrame, AgreementMatches};
 ghost use Rattle.cm_layout.specs.Slots.{entry_slot, FitsEntry, half_head_slot, FitsHalfHead};
 ghost use Rattle.cm_layout.specs.Slots.{group_head_slot, FitsGroupHead};
 
@@ -51,4 +52,18 @@ pub fn loaders_are_own()
 /// the number of the last command.
 pub fn contents_determine_rows()
     ensures { FramesAreOne }
+{}
+
+/// Contents frame rows and a number exactly where they match, range by range, a framing that is
+/// right for these.
+pub fn frames_are_matched()
+    ensures from { FramesAreMatched }
+    ensures to { MatchesFrame }
+{}
+
+/// Contents that are long enough, and agree with others on what is guarded (the superblock, the half
+/// that counts and the byte behind its end, the other half's gate with its head where that is open,
+/// and the records), match the same framing. So they frame the same rows and number.
+pub fn agreement_frames()
+    ensures { AgreementMatches }
 {}
