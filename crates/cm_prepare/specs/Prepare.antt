@@ -1,0 +1,37 @@
+-- What keeps bytes from being prepared as a class.
+use Rattle.std.specs.Prelude.{ℕ, ◌<◌, List, length}
+use Rattle.cm_class.specs.declared.class_file.ClassFile.{ClassFile}
+use Rattle.cm_class.specs.Shape.{IsSpelling, IsTruncated, IsTrailing, IsMalformed}
+use Rattle.cm_record.specs.Layout.{lay, limit}
+use Rattle.cm_rules.specs.declared.fault.ClassFault.{ClassFault}
+use Rattle.cm_rules.specs.declared.fault.ClassFault.TheVariants as class
+use Rattle.cm_rules.specs.Answer.{IsRight, IsBroken}
+use Rattle.cm_prepare.specs.declared.bad_class.BadClass.{BadClass}
+use Rattle.cm_prepare.specs.declared.bad_class.BadClass.TheVariants.{Truncated, Trailing, Malformed}
+use Rattle.cm_prepare.specs.declared.bad_class.BadClass.TheVariants.{Rule}
+use Rattle.cm_prepare.specs.declared.refusal.Refusal.{Refusal}
+use Rattle.cm_prepare.specs.declared.refusal.Refusal.TheVariants as refusal
+
+-- the class is right, but its record is longer than records may be
+abbrev pub IsTooLong : List ℕ → Type 0
+IsTooLong bytes = (c : ClassFile) × IsRight bytes c × (limit < length (lay c))
+
+abbrev pub IsBad : List ℕ → BadClass → Type 0
+IsBad bytes Truncated = IsTruncated bytes
+IsBad bytes (Trailing at) = IsTrailing bytes at
+IsBad bytes (Malformed at) = IsMalformed bytes at
+IsBad bytes (Rule broken) = IsBroken bytes broken
+
+-- that an allocation failed is told only of bytes that spell a class
+abbrev pub IsUnprepared : List ℕ → Refusal → Type 0
+IsUnprepared bytes (refusal.BadClass bad) = IsBad bytes bad
+IsUnprepared bytes refusal.RecordTooLong = IsTooLong bytes
+IsUnprepared bytes refusal.NoMemory = IsSpelling bytes
+IsUnprepared bytes _ = ⊥
+
+abbrev pub refusal_for : ClassFault → Refusal
+refusal_for class.Truncated = refusal.BadClass Truncated
+refusal_for (class.Trailing at) = refusal.BadClass (Trailing at)
+refusal_for (class.Malformed at) = refusal.BadClass (Malformed at)
+refusal_for (class.Rule broken) = refusal.BadClass (Rule broken)
+refusal_for class.NoMemory = refusal.NoMemory

@@ -1,0 +1,14 @@
+//! The commands that change a cache.
+
+use crate::prepared::Prepared;
+
+/// One change of a cache, of the loader of a name.
+#[derive(Debug, Drop)]
+pub enum Command<'a> {
+    /// A loader comes into being, without classes.
+    AddLoader(&'a [u8]),
+    /// A class is defined in a loader.
+    Define(&'a [u8], Prepared),
+    /// A loader goes, with all its classes.
+    Unload(&'a [u8]),
+}

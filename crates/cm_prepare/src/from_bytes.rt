@@ -1,0 +1,50 @@
+//! A class's bytes, made ready to be defined.
+
+ghost use Rattle.std.specs.Prelude.{◌≡◌, IfOk, IfErr};
+ghost use Rattle.cm_class.specs.declared.class_file.ClassFile.{ClassFile};
+ghost use Rattle.cm_record.specs.Layout.{lay};
+ghost use Rattle.cm_rules.specs.Answer.{IsRight};
+ghost use Rattle.cm_prepare.specs.Prepare.{IsUnprepared, refusal_for};
+
+use crate::bad_class::BadClass;
+use crate::prepared::Prepared;
+use crate::refusal::Refusal;
+use cm_record::{RecordRefusal, build};
+use cm_rules::{ClassFault, read_class};
+use std::alloc::Global;
+
+fn of_class(fault: ClassFault) -> Refusal
+    ensures { result ≡ refusal_for fault }
+{
+    match fault {
+        ClassFault::Truncated => Refusal::BadClass(BadClass::Truncated),
+        ClassFault::Trailing(at) => Refusal::BadClass(BadClass::Trailing(at)),
+        ClassFault::Malformed(at) => Refusal::BadClass(BadClass::Malformed(at)),
+        ClassFault::Rule(broken) => Refusal::BadClass(BadClass::Rule(broken)),
+        ClassFault::NoMemory => Refusal::NoMemory,
+    }
+}
+
+/// Reads a class, judges it by the rules and makes its record. No lock is needed for it.
+///
+/// It is refused, in this order, as `BadClass` for the file's shape, as `BadClass` for the first
+/// rule that it breaks, and as `RecordTooLong` where its record is longer than any may be.
+/// `NoMemory` is told only of bytes whose shape has no fault. No other refusal is given.
+pub fn prepare(alloc: Global, bytes: &[u8]) -> Result<Prepared, Refusal>
+    ensures ok { IfOk result (λ p. (c : ClassFile) × IsRight bytes.now c × (p ≡ lay c)) }
+    ensures refused { IfErr result (IsUnprepared bytes.now) }
+{
+    let class = match read_class(alloc, bytes) {
+        Ok(class) => class,
+        Err(fault) => return Err(of_class(fault)),
+    };
+    let record = match build(alloc, &class) {
+        Ok(record) => record,
+        Err(RecordRefusal::TooLong) => return Err(Refusal::RecordTooLong),
+        Err(RecordRefusal::NoMemory) => return Err(Refusal::NoMemory),
+    };
+    match Prepared::of_record(alloc, record) {
+        Ok(prepared) => Ok(prepared),
+        Err(_) => Err(Refusal::NoMemory),
+    }
+}

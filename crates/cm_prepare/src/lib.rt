@@ -1,0 +1,14 @@
+//! Classes that are ready to be defined, the commands that change a cache, and why one is refused.
+#![tactic(auto)]
+
+mod bad_class;
+mod command;
+mod from_bytes;
+mod prepared;
+mod refusal;
+
+pub use bad_class::BadClass;
+pub use command::Command;
+pub use from_bytes::prepare;
+pub use prepared::Prepared;
+pub use refusal::Refusal;

@@ -1,0 +1,82 @@
+//! A class that is ready to be defined.
+
+ghost use Rattle.std.specs.Prelude.{◌≡◌, length, IfOk};
+ghost use Rattle.std.specs.Arc.{arc_value};
+ghost use Rattle.cm_layout.specs.Groups.{IsRightRecord};
+ghost use Rattle.cm_record.specs.Names.{class_name_in};
+
+use cm_record::{Record, words_tell_name};
+use std::alloc::{AllocError, Global};
+use std::marker::Model;
+use std::sync::Arc;
+
+/// A class that keeps the class rules, ready to be defined: its record, which is shared and never
+/// copied. Contracts see it as the record's words.
+#[derive(Debug, Drop)]
+pub struct Prepared {
+    class: Arc<Record, Global>,
+}
+
+impl Model for Prepared {
+    ghost use Rattle.std.specs.Prelude.{List, ℕ};
+    ghost use Rattle.std.specs.Arc.{arc_value};
+    ghost use Rattle.cm_layout.specs.Groups.{IsRightRecord};
+
+    ghost Value = { List ℕ };
+
+    ghost view = { λ p. arc_value p.class };
+
+    ghost invariant = { λ p. IsRightRecord (arc_value p.class) };
+}
+
+impl Prepared {
+    /// The class of a record that is one of a class that keeps the rules.
+    pub fn of_record(alloc: Global, class: Record) -> Result<Prepared, AllocError>
+        requires { IsRightRecord class }
+        ensures { IfOk result (λ p. p ≡ class) }
+    {
+        let class = Arc::new(alloc, class)?;
+        Ok(Prepared { class })
+    }
+
+    /// The same class once more, by the same record.
+    pub fn share(&self) -> Result<Prepared, AllocError>
+        ensures { IfOk result (λ p. p ≡ self.now) }
+    {
+        let class = self.class.clone()?;
+        Ok(Prepared { class })
+    }
+
+    /// The class's name, as its Utf8 has it.
+    pub fn class_name(&self, alloc: Global) -> Result<Vec<u8>, AllocError>
+        ensures { IfOk result (λ name. name.items ≡ class_name_in self.now) }
+    {
+        words_tell_name();
+        let _words = self.class.words(); // brings into the proof's scope that they are a record
+        self.class.class_name(alloc)
+    }
+
+    /// How many words its record has.
+    pub fn words(&self) -> u32
+        ensures words { result ≡ length self.now }
+        ensures right { IsRightRecord self.now }
+    {
+        self.class.words()
+    }
+
+    /// Its record.
+    pub fn record(&self) -> &Arc<Record, Global>
+        ensures { arc_value result.now ≡ self.now }
+    {
+        &self.class
+    }
+
+    /// Its record, given away.
+    pub fn into_record(self) -> Arc<Record, Global>
+        ensures record { arc_value result ≡ self }
+        ensures right { IsRightRecord self }
+    {
+        let Prepared { class } = self;
+        class
+    }
+}
