@@ -17,8 +17,9 @@ use Rattle.cm_layout.specs.declared.row.Row.{Row}
 use Rattle.cm_layout.specs.declared.row.Row.TheVariants.{Loader, Class}
 use Rattle.cm_layout.specs.Offsets.{superblock_size, slot_size, half_size, half_at, roots_at, root_at}
 use Rattle.cm_layout.specs.Offsets.{root_size}
-use Rattle.cm_layout.specs.Slots.{half_head_slot, row_slot}
+use Rattle.cm_layout.specs.Slots.{open_gate, half_head_slot, row_slot}
 use Rattle.cm_layout.specs.Superblock.{superblock_bytes, superblock_front, blank}
+use Rattle.cm_layout.specs.Superblock.{superblock_zeros}
 use Rattle.cm_layout.specs.Rows.{classes_in, bare}
 use Rattle.cm_layout.specs.Frames.{Frames, Region, region_bytes, Counts, OpenHalf, IsGoodHalf, IsEnd}
 use Rattle.cm_layout.specs.Frames.{IsOlder, IsGoodHead, HoldsRow, half_bytes, groups_slots}
@@ -27,10 +28,10 @@ use Rattle.cm_layout.specs.Framing.{used_bytes, used_size, open_half, other_half
 use Rattle.cm_layout.specs.Laws.{IsFramed, FramesAreMatched, MatchesFrame}
 use Rattle.cm_layout.proofs.Superblocks.{length-blank}
 
-length-superblock : (sizes : Sizes) → length (superblock_bytes sizes) ≡ 4096
+length-superblock : (sizes : Sizes) → length (superblock_bytes sizes) ≡ superblock_size
 length-superblock sizes =
-    omega (arith, length-append (superblock_front sizes) (blank 4071 ++ 165 ∷ []),
-    length-append (blank 4071) (165 ∷ []), length-blank 4071)
+    omega (arith, length-append (superblock_front sizes) (blank superblock_zeros ++ open_gate ∷ []),
+    length-append (blank superblock_zeros) (open_gate ∷ []), length-blank superblock_zeros)
 
 -- ---- parts of joined lists
 
@@ -39,9 +40,9 @@ behind_front front rest n e = drop_at front rest n e
 
 -- where each half and the roots lie
 record Lies (sizes : Sizes) (contents half_0 half_1 roots : List ℕ) : Type 0 where
-  front : take 4096 contents ≡ superblock_bytes sizes
-  zero : drop 4096 contents ≡ half_0 ++ (half_1 ++ roots)
-  one : drop (4096 + half_size sizes) contents ≡ half_1 ++ roots
+  front : take superblock_size contents ≡ superblock_bytes sizes
+  zero : drop superblock_size contents ≡ half_0 ++ (half_1 ++ roots)
+  one : drop (superblock_size + half_size sizes) contents ≡ half_1 ++ roots
   behind : drop (roots_at sizes) contents ≡ roots
   long : length contents ≡ roots_at sizes + length roots
 
@@ -52,16 +53,16 @@ lies sizes contents r bytes count_0 count_1 =
     let sb = superblock_bytes sizes in
     let rest = r.half_0 ++ (r.half_1 ++ r.roots) in
     let size = length-superblock sizes in
-    let zero : drop 4096 contents ≡ rest = ap (drop 4096) bytes ∙ drop_at sb rest 4096 size in
-    let one : drop (4096 + half_size sizes) contents ≡ r.half_1 ++ r.roots =
-    ap (λ (n : ℕ). drop n contents) (omega arith) ∙ sym (drop-drop (half_size sizes) 4096 contents)
+    let zero : drop superblock_size contents ≡ rest = ap (drop superblock_size) bytes ∙ drop_at sb rest superblock_size size in
+    let one : drop (superblock_size + half_size sizes) contents ≡ r.half_1 ++ r.roots =
+    ap (λ (n : ℕ). drop n contents) (omega arith) ∙ sym (drop-drop (half_size sizes) superblock_size contents)
     ∙ (ap (drop (half_size sizes)) zero ∙ drop_at r.half_0 (r.half_1 ++ r.roots) (half_size sizes) count_0) in
     record {
-      front = ap (take 4096) bytes ∙ take_at sb rest 4096 size;
+      front = ap (take superblock_size) bytes ∙ take_at sb rest superblock_size size;
       zero = zero;
       one = one;
       behind = ap (λ (n : ℕ). drop n contents) (omega arith)
-          ∙ sym (drop-drop (half_size sizes) (4096 + half_size sizes) contents)
+          ∙ sym (drop-drop (half_size sizes) (superblock_size + half_size sizes) contents)
           ∙ (ap (drop (half_size sizes)) one ∙ drop_at r.half_1 r.roots (half_size sizes) count_1);
       long =
           let a = ap length bytes in
@@ -92,7 +93,7 @@ half_split counting h older =
     ap (λ (l : List ℕ). head ++ l) (sym (append_assoc live groups h.behind))
     ∙ sym (append_assoc head (live ++ groups) h.behind)
 
-first_byte : (bytes : List ℕ) → IsEnd bytes → 0 < length bytes → get_or bytes 0 0 ≢ 165
+first_byte : (bytes : List ℕ) → IsEnd bytes → 0 < length bytes → get_or bytes 0 0 ≢ open_gate
 first_byte [] e some = absurd (omega (arith, some))
 first_byte (b ∷ bytes) e some = e
 
@@ -100,7 +101,7 @@ first_byte (b ∷ bytes) e some = e
 record Found (at : ℕ) (size : ℕ) (f : Framing) (contents : List ℕ) : Type 0 where
   fits : used_size f ≤ size
   used : part at (used_size f) contents ≡ used_bytes f
-  end : used_size f < size → get_or contents (at + used_size f) 0 ≢ 165
+  end : used_size f < size → get_or contents (at + used_size f) 0 ≢ open_gate
 
 found : (at size : ℕ) (f : Framing) (contents half behind rest : List ℕ)
     → drop at contents ≡ half ++ rest → half ≡ used_bytes f ++ behind → length half ≡ size
@@ -145,7 +146,7 @@ older_found sizes epoch at contents other rest (inr h) there some =
     let head = half_head_slot h.0 in
     let whole : drop at contents ≡ head ++ (h.1 ++ rest) =
     there ∙ (ap (λ (l : List ℕ). l ++ rest) h.2 ∙ append_assoc head h.1 rest) in
-    (ap (take 64) whole ∙ take_at head (h.1 ++ rest) 64 refl, (h.3, h.4))
+    (ap (take slot_size) whole ∙ take_at head (h.1 ++ rest) slot_size refl, (h.3, h.4))
 
 needs_long : (sizes : Sizes) (roots contents : List ℕ) (rows : List (Row (List ℕ)))
     → length contents ≡ roots_at sizes + length roots
@@ -230,23 +231,23 @@ frames_are_matched sizes contents rows n f =
 
 region_of : Sizes → List ℕ → Region
 region_of sizes contents = record {
-  half_0 = part 4096 (half_size sizes) contents;
-  half_1 = part (4096 + half_size sizes) (half_size sizes) contents;
+  half_0 = part superblock_size (half_size sizes) contents;
+  half_1 = part (superblock_size + half_size sizes) (half_size sizes) contents;
   roots = drop (roots_at sizes) contents;
 }
 
-joined_parts : (sizes : Sizes) (contents : List ℕ) → take 4096 contents ≡ superblock_bytes sizes
+joined_parts : (sizes : Sizes) (contents : List ℕ) → take superblock_size contents ≡ superblock_bytes sizes
     → contents ≡ region_bytes sizes (region_of sizes contents)
 unfolding region_of
 joined_parts sizes contents front =
     let half = half_size sizes in
-    let one = drop 4096 contents in
-    let two = drop (4096 + half) contents in
+    let one = drop superblock_size contents in
+    let two = drop (superblock_size + half) contents in
     let second : drop half one ≡ two =
-    drop-drop half 4096 contents ∙ ap (λ (n : ℕ). drop n contents) (omega arith) in
+    drop-drop half superblock_size contents ∙ ap (λ (n : ℕ). drop n contents) (omega arith) in
     let third : drop half two ≡ drop (roots_at sizes) contents =
-    drop-drop half (4096 + half) contents ∙ ap (λ (n : ℕ). drop n contents) (omega arith) in
-    sym (take-append-drop 4096 contents)
+    drop-drop half (superblock_size + half) contents ∙ ap (λ (n : ℕ). drop n contents) (omega arith) in
+    sym (take-append-drop superblock_size contents)
     ∙ (ap (λ (l : List ℕ). l ++ one) front
     ∙ ap (λ (l : List ℕ). superblock_bytes sizes ++ l)
     (sym (take-append-drop half one)
@@ -259,7 +260,7 @@ part_long : (at count : ℕ) (contents : List ℕ) → at + count ≤ length con
 part_long at count contents long =
     omega (arith, length-take count (drop at contents), length-drop at contents, long)
 
-end_from : (bytes : List ℕ) → (0 < length bytes → get_or bytes 0 0 ≢ 165) → IsEnd bytes
+end_from : (bytes : List ℕ) → (0 < length bytes → get_or bytes 0 0 ≢ open_gate) → IsEnd bytes
 end_from [] h = tt
 end_from (b ∷ bytes) h = h (omega arith)
 
@@ -267,7 +268,7 @@ end_from (b ∷ bytes) h = h (omega arith)
 half_back : (sizes : Sizes) (f : Framing) (at : ℕ) (contents : List ℕ)
     → at + half_size sizes ≤ length contents → used_size f ≤ half_size sizes
     → part at (used_size f) contents ≡ used_bytes f
-    → (used_size f < half_size sizes → get_or contents (at + used_size f) 0 ≢ 165)
+    → (used_size f < half_size sizes → get_or contents (at + used_size f) 0 ≢ open_gate)
     → (behind : List ℕ) × (part at (half_size sizes) contents ≡ used_bytes f ++ behind)
     × IsEnd behind
 half_back sizes f at contents long fits used end =
@@ -290,7 +291,7 @@ half_back sizes f at contents long fits used end =
     )
 
 older_back : (sizes : Sizes) (epoch at : ℕ) (older : Option HalfHead) (contents : List ℕ)
-    → 64 ≤ half_size sizes → HasOlder at older contents → IsRightOlder sizes epoch older
+    → slot_size ≤ half_size sizes → HasOlder at older contents → IsRightOlder sizes epoch older
     → IsOlder sizes epoch (part at (half_size sizes) contents)
 older_back sizes epoch at None contents some shut right =
     inl (end_from (part at (half_size sizes) contents) (λ there.
@@ -300,12 +301,12 @@ older_back sizes epoch at None contents some shut right =
     λ is_open. shut (sym byte ∙ is_open)))
 older_back sizes epoch at (Some head) contents some there right =
     let half = part at (half_size sizes) contents in
-    let front : take 64 half ≡ half_head_slot head =
-    take-take 64 (half_size sizes) (drop at contents) some ∙ there in
+    let front : take slot_size half ≡ half_head_slot head =
+    take-take slot_size (half_size sizes) (drop at contents) some ∙ there in
     inr (
       head,
-      drop 64 half,
-      sym (take-append-drop 64 half) ∙ ap (λ (l : List ℕ). l ++ drop 64 half) front,
+      drop slot_size half,
+      sym (take-append-drop slot_size half) ∙ ap (λ (l : List ℕ). l ++ drop slot_size half) front,
       right.0,
       right.1,
     )
@@ -344,8 +345,8 @@ matches_frame sizes contents rows n framed =
       lawful = right.lawful;
       region = region_of sizes contents;
       bytes = joined_parts sizes contents m.superblock;
-      half_0 = part_long 4096 (half_size sizes) contents (omega (arith, long));
-      half_1 = part_long (4096 + half_size sizes) (half_size sizes) contents (omega (arith, long));
+      half_0 = part_long superblock_size (half_size sizes) contents (omega (arith, long));
+      half_1 = part_long (superblock_size + half_size sizes) (half_size sizes) contents (omega (arith, long));
       counts = by_half framed.framing right m;
       records = m.records;
       apart = right.apart;
@@ -360,39 +361,39 @@ matches_frame sizes contents rows n framed =
     long : roots_at sizes ≤ length contents
     long = omega (arith, needs_roots sizes rows, m.long)
 
-    slots : 64 ≤ half_size sizes
+    slots : slot_size ≤ half_size sizes
     slots = omega (arith, right.lawful.slots_from)
 
     by_half : (f : Framing) → IsRight sizes f rows n → Matches sizes f rows contents
-        → Counts sizes (part 4096 (half_size sizes) contents)
-        (part (4096 + half_size sizes) (half_size sizes) contents) (bare rows) n
-        ⊎ Counts sizes (part (4096 + half_size sizes) (half_size sizes) contents)
-        (part 4096 (half_size sizes) contents) (bare rows) n
+        → Counts sizes (part superblock_size (half_size sizes) contents)
+        (part (superblock_size + half_size sizes) (half_size sizes) contents) (bare rows) n
+        ⊎ Counts sizes (part (superblock_size + half_size sizes) (half_size sizes) contents)
+        (part superblock_size (half_size sizes) contents) (bare rows) n
     by_half f r k = by_counting f.counting refl
       where
         by_counting : (h : Half) → f.counting ≡ h
-            → Counts sizes (part 4096 (half_size sizes) contents)
-            (part (4096 + half_size sizes) (half_size sizes) contents) (bare rows) n
-            ⊎ Counts sizes (part (4096 + half_size sizes) (half_size sizes) contents)
-            (part 4096 (half_size sizes) contents) (bare rows) n
+            → Counts sizes (part superblock_size (half_size sizes) contents)
+            (part (superblock_size + half_size sizes) (half_size sizes) contents) (bare rows) n
+            ⊎ Counts sizes (part (superblock_size + half_size sizes) (half_size sizes) contents)
+            (part superblock_size (half_size sizes) contents) (bare rows) n
         by_counting Zero is =
-            inl (counts_back sizes f rows n (part 4096 (half_size sizes) contents)
-            (part (4096 + half_size sizes) (half_size sizes) contents) r
-            (half_back sizes f 4096 contents (omega (arith, long)) r.fits
+            inl (counts_back sizes f rows n (part superblock_size (half_size sizes) contents)
+            (part (superblock_size + half_size sizes) (half_size sizes) contents) r
+            (half_back sizes f superblock_size contents (omega (arith, long)) r.fits
             (subst (λ (h : Half). part (half_at sizes h) (used_size f) contents ≡ used_bytes f) is k.used)
             (subst (λ (h : Half). used_size f < half_size sizes
-            → get_or contents (half_at sizes h + used_size f) 0 ≢ 165) is k.end))
-            (older_back sizes f.head.epoch (4096 + half_size sizes) f.older contents slots
+            → get_or contents (half_at sizes h + used_size f) 0 ≢ open_gate) is k.end))
+            (older_back sizes f.head.epoch (superblock_size + half_size sizes) f.older contents slots
             (subst (λ (h : Half). HasOlder (half_at sizes (other_half h)) f.older contents) is k.other)
             r.older))
         by_counting One is =
             inr (counts_back sizes f rows n
-            (part (4096 + half_size sizes) (half_size sizes) contents)
-            (part 4096 (half_size sizes) contents) r
-            (half_back sizes f (4096 + half_size sizes) contents (omega (arith, long)) r.fits
+            (part (superblock_size + half_size sizes) (half_size sizes) contents)
+            (part superblock_size (half_size sizes) contents) r
+            (half_back sizes f (superblock_size + half_size sizes) contents (omega (arith, long)) r.fits
             (subst (λ (h : Half). part (half_at sizes h) (used_size f) contents ≡ used_bytes f) is k.used)
             (subst (λ (h : Half). used_size f < half_size sizes
-            → get_or contents (half_at sizes h + used_size f) 0 ≢ 165) is k.end))
-            (older_back sizes f.head.epoch 4096 f.older contents slots
+            → get_or contents (half_at sizes h + used_size f) 0 ≢ open_gate) is k.end))
+            (older_back sizes f.head.epoch superblock_size f.older contents slots
             (subst (λ (h : Half). HasOlder (half_at sizes (other_half h)) f.older contents) is k.other)
             r.older))

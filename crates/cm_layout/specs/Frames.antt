@@ -15,10 +15,12 @@ use Rattle.cm_layout.specs.declared.row.Row.{Row}
 use Rattle.cm_layout.specs.declared.row.Row.TheVariants.{Loader, Class}
 use Rattle.cm_layout.specs.declared.entry.Entry.{Entry}
 use Rattle.cm_layout.specs.Offsets.{half_size, root_size, record_in_roots}
-use Rattle.cm_layout.specs.Slots.{half_head_slot, group_head_slot, row_slot, entry_slot}
+use Rattle.cm_layout.specs.Slots.{open_gate, half_head_slot, group_head_slot, row_slot}
+use Rattle.cm_layout.specs.Slots.{entry_slot}
 use Rattle.cm_layout.specs.Slots.{FitsHalfHead, FitsRow, FitsEntry}
 use Rattle.cm_layout.specs.Superblock.{superblock_bytes}
-use Rattle.cm_layout.specs.Rows.{slots_of_rows, slots_of_entries, classes_in, rows_after}
+use Rattle.cm_layout.specs.Rows.{slots_of_rows, slots_of_entries, group_limit, classes_in}
+use Rattle.cm_layout.specs.Rows.{rows_after}
 use Rattle.cm_layout.specs.Rows.{rows_after_all, bare}
 use Rattle.cm_layout.specs.Rules.{row_limit, broken_rule, broken_live_rule}
 
@@ -49,7 +51,7 @@ EntriesKeep sizes rows n (e ∷ entries) =
 pub record GroupKeeps (sizes : Sizes) (rows : List BareRow) (n : ℕ)
     (group : List BareEntry) : Type 0 where
   pub some : 1 ≤ slots_of_entries group
-  pub few : slots_of_entries group ≤ 64
+  pub few : slots_of_entries group ≤ group_limit
   pub numbers : n + length group ≤ 2 ^ 63
   pub entries : EntriesKeep sizes rows n group
 
@@ -74,7 +76,7 @@ groups_slots n (group ∷ groups) = group_slots n group ++ groups_slots (n + len
 -- the end of the half, or a byte that opens no gate
 abbrev pub IsEnd : List ℕ → Type 0
 IsEnd [] = Unit {0}
-IsEnd (b ∷ bytes) = b ≢ 165
+IsEnd (b ∷ bytes) = b ≢ open_gate
 
 -- the one version of entries that there is
 abbrev pub entry_version : ℕ

@@ -11,7 +11,7 @@ use Rattle.cm_layout.specs.declared.row.Row.{Row}
 use Rattle.cm_layout.specs.declared.row.Row.TheVariants.{Loader, Class}
 use Rattle.cm_layout.specs.Offsets.{superblock_size, slot_size, half_size, half_at, roots_at, root_at}
 use Rattle.cm_layout.specs.Offsets.{record_at}
-use Rattle.cm_layout.specs.Slots.{half_head_slot, row_slot}
+use Rattle.cm_layout.specs.Slots.{open_gate, half_head_slot, row_slot}
 use Rattle.cm_layout.specs.Superblock.{superblock_bytes}
 use Rattle.cm_layout.specs.Rows.{classes_in, bare}
 use Rattle.cm_layout.specs.Frames.{BareRow, BareEntry, OpenHalf, IsGoodHead, IsGoodHalf, AreApart}
@@ -81,7 +81,7 @@ needs sizes (Class r words ∷ rows) = max (root_at sizes (r.place.chunk.root + 
 
 -- the other half's gate is shut, or its older head stands there
 abbrev pub HasOlder : ℕ → Option HalfHead → List ℕ → Type 0
-HasOlder at None contents = get_or contents at 0 ≢ 165
+HasOlder at None contents = get_or contents at 0 ≢ open_gate
 HasOlder at (Some head) contents = part at slot_size contents ≡ half_head_slot head
 
 pub record Matches (sizes : Sizes) (f : Framing) (rows : List (Row (List ℕ)))
@@ -90,7 +90,7 @@ pub record Matches (sizes : Sizes) (f : Framing) (rows : List (Row (List ℕ)))
   pub superblock : part 0 superblock_size contents ≡ superblock_bytes sizes
   pub used : part (half_at sizes f.counting) (used_size f) contents ≡ used_bytes f
   pub end : used_size f < half_size sizes
-      → get_or contents (half_at sizes f.counting + used_size f) 0 ≢ 165
+      → get_or contents (half_at sizes f.counting + used_size f) 0 ≢ open_gate
   pub other : HasOlder (half_at sizes (other_half f.counting)) f.older contents
   pub records : AllByRecursion (HoldsRow sizes (drop (roots_at sizes) contents)) rows
 

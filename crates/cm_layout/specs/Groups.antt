@@ -6,6 +6,7 @@ use Rattle.cm_class.specs.declared.class_file.ClassFile.{ClassFile}
 use Rattle.cm_rules.specs.Keeps.{KeepsRules}
 use Rattle.cm_record.specs.Layout.{lay}
 use Rattle.cm_layout.specs.Rows.{slots_of_entries}
+pub use Rattle.cm_layout.specs.Rows.{group_limit}
 use Rattle.cm_layout.specs.Frames.{BareEntry}
 
 -- an entry, and the words of each record that it writes: a class's own for its row, those on the
@@ -22,10 +23,6 @@ pub record Handed : Type 0 where
 
 abbrev pub entries_in : List Carried → List BareEntry
 entries_in carried = map (λ c. c.entry) carried
-
--- how many slots a group's entries may take
-abbrev pub group_limit : ℕ
-group_limit = 64
 
 -- the slots that the entries take
 abbrev pub slots_taken : List Carried → ℕ

@@ -58,6 +58,10 @@ abbrev pub slots_of_entries : {P : Type 0} → List (Entry P) → ℕ
 slots_of_entries [] = 0
 slots_of_entries (e ∷ entries) = slots_of e + slots_of_entries entries
 
+-- how many slots a group's entries may take
+abbrev pub group_limit : ℕ
+group_limit = 64
+
 -- how many words of a chunk records take
 abbrev pub used_words : {P : Type 0} → Chunk → List (Row P) → ℕ
 used_words c rows =

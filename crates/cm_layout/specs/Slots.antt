@@ -20,6 +20,10 @@ use Rattle.cm_layout.specs.Names.{name_limit}
 abbrev pub zeros : ℕ → List ℕ
 zeros n = replicate n 0
 
+-- the gate byte of a head that is open
+abbrev pub open_gate : ℕ
+open_gate = 165
+
 -- ---- heads
 
 -- a half's head behind its gate: kind, entry version, live rows, epoch, base
@@ -34,10 +38,10 @@ group_head_rest h = (2 ∷ to_le_bytes w16 h.count) ++ zeros 4 ++ to_le_bytes w6
 
 -- open heads
 abbrev pub half_head_slot : HalfHead → List ℕ
-half_head_slot h = 165 ∷ half_head_rest h
+half_head_slot h = open_gate ∷ half_head_rest h
 
 abbrev pub group_head_slot : GroupHead → List ℕ
-group_head_slot h = 165 ∷ group_head_rest h
+group_head_slot h = open_gate ∷ group_head_rest h
 
 -- ---- rows and entries
 
@@ -45,7 +49,7 @@ group_head_slot h = 165 ∷ group_head_rest h
 abbrev pub loader_slot : LoaderRow → List ℕ
 loader_slot r =
     (0 ∷ 17 ∷ length r.name ∷ zeros 5) ++ to_le_bytes w64 r.number
-    ++ (r.name ++ zeros (48 - length r.name))
+    ++ (r.name ++ zeros (name_limit - length r.name))
 
 -- a chunk: root, order and place
 abbrev pub chunk_bytes : Chunk → List ℕ

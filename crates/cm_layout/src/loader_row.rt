@@ -2,7 +2,7 @@
 
 ghost use Rattle.std.specs.Prelude.{◌≡◌, ◌≤◌, length, IfSome, Some};
 
-use crate::name::SlotName;
+use crate::name::{NAME_BYTES, SlotName};
 use crate::slot::{SLOT_BYTES, is_same_slot};
 
 /// A live loader.
@@ -50,7 +50,7 @@ impl LoaderRow {
         ensures { (row : _) → FitsLoader row → slot.now ≡ loader_slot row → result ≡ Some row }
     {
         let len = usize::from(slot[2]);
-        if len > 48 {
+        if len > NAME_BYTES {
             return None;
         }
         let number = u64::from_le_bytes([

@@ -2,7 +2,7 @@
 
 ghost use Rattle.std.specs.Prelude.{◌≡◌, ◌≤◌, ◌-◌, ◌↔◌, ◌++◌, length, replicate, IsSome, IfSome};
 ghost use Rattle.std.specs.List.{list_all};
-ghost use Rattle.cm_layout.specs.Names.{is_loader_name, is_visible};
+ghost use Rattle.cm_layout.specs.Names.{is_loader_name, is_visible, name_limit};
 
 use std::marker::Model;
 
@@ -18,19 +18,20 @@ pub struct SlotName {
 
 impl Model for SlotName {
     ghost use Rattle.std.specs.Prelude.{◌≡◌, ◌≤◌, ◌-◌, ◌++◌, List, ℕ, take, replicate};
+    ghost use Rattle.cm_layout.specs.Names.{name_limit};
 
     ghost Value = { List ℕ };
 
     ghost view = { λ n. take n.len n.bytes };
 
-    ghost invariant = { λ n. (n.len ≤ 48)
-        × (n.bytes ≡ take n.len n.bytes ++ replicate (48 - n.len) 0) };
+    ghost invariant = { λ n. (n.len ≤ name_limit)
+        × (n.bytes ≡ take n.len n.bytes ++ replicate (name_limit - n.len) 0) };
 }
 
 impl SlotName {
     /// The name of these bytes, or `None` where there are more than 48.
     pub fn new(bytes: &[u8]) -> Option<SlotName>
-        ensures fits { IsSome result ↔ (length bytes.now ≤ 48) }
+        ensures fits { IsSome result ↔ (length bytes.now ≤ name_limit) }
         ensures value { IfSome result (λ n. n ≡ bytes.now) }
     {
         if bytes.len() > NAME_BYTES {
@@ -47,14 +48,14 @@ impl SlotName {
     /// The name's bytes.
     pub fn as_bytes(&self) -> &[u8]
         ensures value { result.now ≡ self.now }
-        ensures fits { length self.now ≤ 48 }
+        ensures fits { length self.now ≤ name_limit }
     {
         &self.bytes[..self.len]
     }
 
     /// The name's bytes with zeros behind them.
     pub fn padded(&self) -> [u8; NAME_BYTES]
-        ensures { result ≡ self.now ++ replicate (48 - length self.now) 0 }
+        ensures { result ≡ self.now ++ replicate (name_limit - length self.now) 0 }
     {
         self.bytes
     }

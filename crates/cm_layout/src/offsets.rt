@@ -1,8 +1,8 @@
 //! Where the parts of a region file lie.
 
-ghost use Rattle.std.specs.Prelude.{◌≡◌, ◌*◌};
+ghost use Rattle.std.specs.Prelude.{◌≡◌};
 ghost use Rattle.cm_layout.specs.Offsets.{half_at as half_at_of, slot_at as slot_at_of};
-ghost use Rattle.cm_layout.specs.Offsets.{roots_at as roots_at_of, root_size};
+ghost use Rattle.cm_layout.specs.Offsets.{half_size, roots_at as roots_at_of, root_size};
 ghost use Rattle.cm_layout.specs.Offsets.{root_at as root_at_of, record_at as record_at_of};
 
 use crate::half::Half;
@@ -11,7 +11,7 @@ use cm_pool::{Geometry, Place};
 
 /// How many bytes a half of the journal has.
 fn half_bytes(geometry: Geometry) -> u64
-    ensures { result ≡ 64 * geometry.slots }
+    ensures { result ≡ half_size geometry }
 {
     SLOT_BYTES as u64 * u64::from(geometry.slots())
 }

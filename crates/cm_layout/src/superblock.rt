@@ -3,7 +3,9 @@
 ghost use Rattle.std.specs.Prelude.{◌≡◌, ◌↔◌, ◌++◌, ◌∷◌, [], List, IfOk, IfSome, IsSomeAnd, IsTrue};
 ghost use Rattle.std.specs.List.{All};
 ghost use Rattle.cm_pool.specs.Geometry.{Sizes, IsGeometry};
+ghost use Rattle.cm_layout.specs.Slots.{open_gate};
 ghost use Rattle.cm_layout.specs.Superblock.{superblock_front, superblock_bytes, blank};
+ghost use Rattle.cm_layout.specs.Superblock.{superblock_zeros};
 
 use crate::slot::{OPEN_GATE, SUPERBLOCK_BYTES};
 use cm_pool::Geometry;
@@ -71,7 +73,7 @@ fn is_front(front: &[u8; FRONT_BYTES], geometry: Geometry) -> bool
 
 // Whether the bytes behind a superblock's sizes are zeros and an open gate.
 fn is_closing(rest: &[u8]) -> bool
-    ensures { IsTrue result ↔ (rest.now ≡ blank 4071 ++ 165 ∷ []) }
+    ensures { IsTrue result ↔ (rest.now ≡ blank superblock_zeros ++ open_gate ∷ []) }
 {
     match rest.split_last() {
         Some((gate, zeros)) => *gate == OPEN_GATE && are_zeros(zeros),
@@ -81,7 +83,7 @@ fn is_closing(rest: &[u8]) -> bool
 
 // Whether the bytes are the zeros of a superblock.
 fn are_zeros(bytes: &[u8]) -> bool
-    ensures { IsTrue result ↔ (bytes.now ≡ blank 4071) }
+    ensures { IsTrue result ↔ (bytes.now ≡ blank superblock_zeros) }
 {
     bytes.len() == SUPERBLOCK_BYTES - 1 - FRONT_BYTES && is_each_zero(bytes)
 }
