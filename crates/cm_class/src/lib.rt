@@ -24,6 +24,3 @@ pub use items::Items;
 pub use kind::Kind;
 pub use laws::{each_text_has_one_answer, no_spelling_begins_another, one_class_for_one_spelling};
 pub use shape::read_shape;
-
-#[cfg(test)]
-mod tests;

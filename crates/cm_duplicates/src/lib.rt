@@ -11,6 +11,3 @@ mod repeated;
 
 pub use duplicates::{first_duplicate_field, first_duplicate_method};
 pub use laws::first_duplicate_is_the_first;
-
-#[cfg(test)]
-mod tests;

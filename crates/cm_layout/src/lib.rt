@@ -39,6 +39,3 @@ pub use row::Row;
 pub use slot::{OPEN_GATE, SLOT_BYTES, SUPERBLOCK_BYTES};
 pub use superblock::Superblock;
 pub use unload::Unload;
-
-#[cfg(test)]
-mod tests;

@@ -1,0 +1,126 @@
+//! Fields and methods with the name and the descriptor of one before them.
+use crate::classes::{Indexes, class_of};
+use cm_class::Class;
+use cm_duplicates::{first_duplicate_field, first_duplicate_method};
+use std::alloc::Global;
+use std::hash::{FoldHasher, Hasher};
+use std::process::Abort;
+use std::test::Fail;
+
+/// The first duplicate field, and the first duplicate method.
+type Found = (Option<u16>, Option<u16>);
+
+fn found_in(alloc: Global, class: &Class) -> Result<Found, Fail> {
+    let field = first_duplicate_field(alloc, class)?;
+    let method = first_duplicate_method(alloc, class)?;
+    Ok((field, method))
+}
+
+/// What is found where the fields are these, and where the methods are.
+fn found(alloc: Global, utf8s: &[&[u8]], members: &[Indexes]) -> Result<(Found, Found), Fail> {
+    let of_fields = found_in(alloc, &class_of(alloc, utf8s, members, &[])?)?;
+    let of_methods = found_in(alloc, &class_of(alloc, utf8s, &[], members)?)?;
+    Ok((of_fields, of_methods))
+}
+
+/// That such a place is found among such members: the same for fields and for methods, and none
+/// among the others.
+fn is_first(
+    rt: &(impl Abort + AllocGlobal),
+    utf8s: &[&[u8]],
+    members: &[Indexes],
+    place: Option<u16>,
+) -> Result<(), Fail> {
+    let found = found(rt.alloc(), utf8s, members)?;
+    assert_eq!(rt; found, ((place, None), (None, place)), "at {members:?}");
+    Ok(())
+}
+
+/// Each of the first eight Utf8s with each of the next eight.
+fn pairs(alloc: Global) -> Result<Vec<Indexes>, Fail> {
+    let mut pairs = Vec::new(alloc);
+    for name in 1..9 {
+        for descriptor in 9..17 {
+            pairs.push((name, descriptor))?;
+        }
+    }
+    Ok(pairs)
+}
+
+#[test]
+fn few_members(rt: HostRuntime) -> Result<(), Fail> {
+    let utf8s: [&[u8]; 5] = [b"a", b"b", b"a", b"I", b"J"];
+    let rows: [(&[Indexes], Option<u16>); 7] = [
+        (&[], None),
+        (&[(1, 4)], None),
+        (&[(1, 4), (2, 4), (1, 5)], None),
+        (&[(1, 4), (2, 4), (1, 4)], Some(2)),
+        (&[(1, 4), (3, 4)], Some(1)),
+        (&[(1, 4), (2, 4), (2, 4), (1, 4)], Some(2)),
+        // Indexes that name nothing have no bytes.
+        (&[(0, 4), (9, 4)], Some(1)),
+    ];
+    for (members, place) in rows {
+        is_first(&rt, &utf8s, members, place)?;
+    }
+    Ok(())
+}
+
+#[test]
+fn many_members(rt: HostRuntime) -> Result<(), Fail> {
+    let utf8s: [&[u8]; 17] = [
+        b"a", b"b", b"c", b"d", b"e", b"f", b"g", b"h", b"B", b"C", b"D", b"F", b"I", b"J", b"S",
+        b"Z", b"c",
+    ];
+    let mut members = pairs(rt.alloc())?;
+    is_first(&rt, &utf8s, &members, None)?;
+    members.push((17, 10))?;
+    is_first(&rt, &utf8s, &members, Some(64))?;
+    members.push((1, 9))?;
+    is_first(&rt, &utf8s, &members, Some(64))
+}
+
+/// Names that one quick fingerprint stands for, descriptors, and the third name again.
+const MEETING: [&[u8]; 17] = [
+    b"aaaaaaaaaaaaaa10oO\x0f$\x14NN]_______a",
+    b"aaaaaaaaaaaaaa10oO\x0f$\x14NN]_______b",
+    b"aaaaaaaaaaaaaa10oO\x0f$\x14NN]_______c",
+    b"aaaaaaaaaaaaaa10oO\x0f$\x14NN]_______d",
+    b"aaaaaaaaaaaaaa10oO\x0f$\x14NN]_______e",
+    b"aaaaaaaaaaaaaa10oO\x0f$\x14NN]_______f",
+    b"aaaaaaaaaaaaaa10oO\x0f$\x14NN]_______g",
+    b"aaaaaaaaaaaaaa10oO\x0f$\x14NN]_______h",
+    b"B",
+    b"C",
+    b"D",
+    b"F",
+    b"I",
+    b"J",
+    b"S",
+    b"Z",
+    b"aaaaaaaaaaaaaa10oO\x0f$\x14NN]_______c",
+];
+
+/// What the crate takes for a quick fingerprint.
+fn fingerprint(bytes: &[u8]) -> u64 {
+    let mut hasher = FoldHasher::default();
+    hasher.write(bytes);
+    hasher.finish()
+}
+
+#[test]
+fn names_meet(rt: HostRuntime) {
+    for name in &MEETING[..8] {
+        assert_eq!(rt; fingerprint(name), fingerprint(MEETING[0]));
+    }
+}
+
+/// Names of one fingerprint differ, and are told apart.
+#[test]
+fn members_that_meet(rt: HostRuntime) -> Result<(), Fail> {
+    let mut members = pairs(rt.alloc())?;
+    is_first(&rt, &MEETING, &members, None)?;
+    members.push((17, 16))?;
+    members.push((1, 9))?;
+    is_first(&rt, &MEETING, &members, Some(64))
+}

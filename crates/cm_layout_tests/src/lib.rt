@@ -1,0 +1,9 @@
+//! Tests of `cm_layout`, over what it makes public.
+#![tactic(auto)]
+
+#[cfg(test)]
+mod groups;
+#[cfg(test)]
+mod regions;
+#[cfg(test)]
+mod slots;
