@@ -1,0 +1,10 @@
+pub mod Lists
+pub mod Alike
+pub mod Giving
+pub mod Arenas
+pub mod Spaces
+pub mod Rooted
+pub mod Owners
+pub mod Adopted
+pub mod Views
+pub mod Learning

@@ -1,0 +1,4 @@
+pub mod Space
+pub mod Ownership
+pub mod Adopting
+pub mod Laws

@@ -1,0 +1,196 @@
+// A space.
+ghost use Rattle.std.specs.Prelude.{◌≡◌, ◌≤◌, ◌<◌, ◌↔◌, IsTrue, IfOk, OnOk, OnErr, IsErrOf};
+ghost use Rattle.std.specs.Prelude.{◌∷◌, ◌++◌, [], option_map, if◌then◌else◌};
+ghost use Rattle.std.specs.List.{AllByRecursion};
+ghost use Rattle.std.specs.FinMap as map;
+ghost use Rattle.cm_pool.specs.Chunks.{chunk_size};
+
+use crate::adopt::adopt_place;
+use crate::waiting::{Waiting, free_due};
+use cm_arena::{Arena, Refusal};
+use cm_pool::{Chunk, Geometry, Place, Pool};
+use std::alloc::{AllocError, Global};
+use std::collections::{BTreeMap, VecDeque};
+use std::marker::Model;
+
+/// The roots of a region: which words are free, which chunks each loader owns, and which chunks
+/// wait until the command that left them is known to be stored.
+///
+/// Contracts see a space as its pool, the loaders' chains by number, and the chunks that wait,
+/// oldest first. Each word of a present root is free, or of one chunk that is owned or waits, and of
+/// one of these only ([`chunks_are_apart`](crate::chunks_are_apart)).
+#[derive(Drop)]
+pub struct Space {
+    alloc: Global,
+    pool: Pool,
+    arenas: BTreeMap<u64, Arena>,
+    waiting: VecDeque<Waiting>,
+}
+
+impl Model for Space {
+    ghost use Rattle.cm_space.specs.Space.{SpaceState, state_of, state_code};
+    ghost use Rattle.cm_space.specs.Ownership.{IsSpace};
+
+    ghost Value = { SpaceState };
+
+    ghost coded = { state_code };
+
+    ghost view = { λ s. state_of s.pool s.arenas.entries s.waiting.items };
+
+    ghost invariant = { λ s. IsSpace (state_of s.pool s.arenas.entries s.waiting.items) };
+}
+
+impl Space {
+    ghost use Rattle.cm_arena.specs.Chains.{chunks_of, used_of};
+    ghost use Rattle.cm_arena.specs.Placing.{Places, IsFull, HasRoom};
+    ghost use Rattle.cm_pool.specs.FreeSpace.{IsFreeSpace};
+    ghost use Rattle.cm_pool.specs.Places.{IsInside};
+    ghost use Rattle.cm_space.specs.Space.{Waits, empty_space, IsKnown, arena_of, with_arena};
+    ghost use Rattle.cm_space.specs.Space.{without_arena, learnt};
+    ghost use Rattle.cm_space.specs.Ownership.{IsSpace, Owns};
+    ghost use Rattle.cm_space.specs.Adopting.{adopted, IsAdoptable, IsOnTheWay};
+
+    /// A space with no roots and no loaders.
+    pub fn new(alloc: Global, geometry: Geometry) -> Result<Space, AllocError>
+        ensures { IfOk result (λ space. space ≡ empty_space geometry) }
+    {
+        let pool = Pool::new(alloc, geometry)?;
+        Ok(Space {
+            alloc,
+            pool,
+            arenas: BTreeMap::new(alloc),
+            waiting: VecDeque::new(alloc),
+        })
+    }
+
+    pub fn geometry(&self) -> Geometry
+        ensures value { result ≡ self.now.pool.geometry }
+        ensures lawful { IsSpace self.now }
+        ensures pool { IsFreeSpace self.now.pool }
+    {
+        self.pool.geometry()
+    }
+
+    /// How many roots are present.
+    pub fn roots(&self) -> u32
+        ensures { result ≡ self.now.pool.roots }
+    {
+        self.pool.roots()
+    }
+
+    /// Whether a loader has an arena.
+    pub fn is_known(&self, loader: u64) -> bool
+        ensures { IsTrue result ↔ IsKnown self.now loader }
+    {
+        self.arenas.contains_key(&loader)
+    }
+
+    /// The chunks of a loader's arena, in order. `None` where it has no arena.
+    pub fn chunks(&self, loader: u64) -> Option<&[Chunk]>
+        ensures { option_map (λ chunks. chunks.now) result
+            ≡ option_map chunks_of (map.get self.now.arenas loader) }
+    {
+        match self.arenas.get(&loader) {
+            Some(arena) => Some(arena.chunks()),
+            None => None,
+        }
+    }
+
+    /// How many words at the front of a chunk are used, if the chunk is one of the loader's arena.
+    pub fn used(&self, loader: u64, chunk: &Chunk) -> Option<u32>
+        ensures { result ≡ used_of (arena_of self.now loader) chunk.now }
+    {
+        self.arenas.get(&loader)?.used(chunk)
+    }
+
+    /// Gives a loader an empty arena. An `Err` changes nothing.
+    pub fn add_loader(&mut self, loader: u64) -> Result<(), AllocError>
+        requires { ¬ IsKnown self.old loader }
+        ensures ok { OnOk result (self.new ≡ with_arena self.old loader []) }
+        ensures err { OnErr result (self.new ≡ self.old) }
+    {
+        self.arenas.insert(loader, Arena::new(self.alloc))?;
+        Ok(())
+    }
+
+    /// Finds a place for the words of a record in a loader's arena, as [`Arena::place`] does: on
+    /// the top of its last chunk, or else at the front of a new one. The other arenas and what waits
+    /// stay as they were.
+    ///
+    /// The refusal is `RecordTooLong` where a root chunk doesn't hold the words, and else
+    /// `RegionFull` where the last chunk has no room, no chunk of the order needed is free, and all
+    /// roots are present. `NoMemory` comes only where neither does and the last chunk has no room.
+    /// A refusal changes nothing.
+    pub fn place(&mut self, loader: u64, words: u32) -> Result<Place, Refusal>
+        requires known { IsKnown self.old loader }
+        requires some { 1 ≤ words }
+        ensures placed { IfOk result (λ place. Places (arena_of self.old loader) self.old.pool words
+            place (arena_of self.new loader) self.new.pool) }
+        ensures others { OnOk result (self.new
+            ≡ record (with_arena self.old loader (arena_of self.new loader)) {
+              pool = self.new.pool;
+            }) }
+        ensures inside { IfOk result (λ place. IsInside place × Owns self.new loader place.chunk) }
+
+        ensures too_long { IsErrOf result Refusal.RecordTooLong
+            ↔ (chunk_size self.old.pool.geometry.top < words) }
+        ensures full { IsErrOf result Refusal.RegionFull
+            ↔ IsFull (arena_of self.old loader) self.old.pool words }
+        ensures memory { IsErrOf result Refusal.NoMemory
+            → ¬ HasRoom (arena_of self.old loader) words }
+        ensures err { OnErr result (self.new ≡ self.old) }
+    {
+        let arena = self.arenas.get_mut(&loader).unwrap();
+        arena.place(words, &mut self.pool)
+    }
+
+    /// Takes over the place of a record that was found again. It has to be the next one of the
+    /// loader's arena: on the top of its last chunk, or at the front of a chunk of the region that
+    /// is free. Roots are added until that chunk's root is present, and the chunk is taken. False,
+    /// and nothing is changed, where the place isn't the next one or the chunk isn't free.
+    ///
+    /// An `Err` leaves the arenas and what waits as they were; of the roots that the place needs,
+    /// some may have been added.
+    pub fn adopt(&mut self, loader: u64, place: Place) -> Result<bool, AllocError>
+        requires { IsKnown self.old loader }
+        ensures next { IfOk result (λ taken. IsTrue taken
+            ↔ IsAdoptable (arena_of self.old loader) self.old.pool place) }
+        ensures left { IfOk result (λ taken. self.new
+            ≡ (if taken then adopted self.old loader place else self.old)) }
+        ensures memory { OnErr result (IsAdoptable (arena_of self.old loader) self.old.pool place) }
+        ensures err { OnErr result (IsOnTheWay self.old.pool place.chunk.root self.new.pool) }
+        ensures others { OnErr result (self.new ≡ record self.old { pool = self.new.pool }) }
+    {
+        adopt_place(self.arenas.get_mut(&loader).unwrap(), &mut self.pool, place)
+    }
+
+    /// Takes a loader's arena away. Its chunks, and no others, wait for the number from then on,
+    /// behind those that wait already; an arena with no chunks leaves an entry with none. An `Err`
+    /// changes nothing.
+    pub fn leave(&mut self, loader: u64, number: u64) -> Result<(), AllocError>
+        requires known { IsKnown self.old loader }
+        requires last { AllByRecursion (λ (w : Waits). w.number ≤ number) self.old.waiting }
+        ensures ok { OnOk result (self.new ≡ record (without_arena self.old loader) {
+          waiting = self.old.waiting
+              ++ record { number = number; chunks = chunks_of (arena_of self.old loader) } ∷ [];
+        }) }
+        ensures err { OnErr result (self.new ≡ self.old) }
+    {
+        self.waiting.reserve(1)?;
+        let arena = self.arenas.remove(&loader).unwrap();
+        self.waiting
+            .push_back(Waiting {
+                number,
+                chunks: arena.release(),
+            })
+            .unwrap();
+        Ok(())
+    }
+
+    /// Makes the chunks free that wait for at most this number. The others wait on.
+    pub fn learn(&mut self, number: u64)
+        ensures { self.new ≡ learnt self.old number }
+    {
+        free_due(&mut self.pool, &mut self.waiting, number);
+    }
+}

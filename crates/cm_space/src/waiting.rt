@@ -1,0 +1,53 @@
+// Chunks that wait for a number.
+ghost use Rattle.std.specs.Prelude.{◌≡◌, ◌≤◌, IfSome, IfNone};
+ghost use Rattle.cm_pool.specs.Held.{AreHeld};
+ghost use Rattle.cm_pool.specs.Lists.{Pairwise};
+ghost use Rattle.cm_space.specs.Space.{Waits, waits_in, waiting_chunks, with_chunks, due};
+ghost use Rattle.cm_space.specs.Space.{not_due, IsOldestDue, IsLater};
+
+use cm_pool::{Chunk, Pool};
+use std::collections::VecDeque;
+
+/// The chunks that a command left, and its number.
+#[derive(Drop)]
+pub struct Waiting {
+    pub number: u64,
+    pub chunks: Vec<Chunk>,
+}
+
+/// Makes the chunks free that wait for at most this number.
+pub fn free_due(pool: &mut Pool, waiting: &mut VecDeque<Waiting>, number: u64)
+    requires held { AreHeld pool.old (waiting_chunks (waits_in waiting.old.items)) }
+    requires rises { Pairwise (λ (v w : Waits). v.number ≤ w.number) (waits_in waiting.old.items) }
+    ensures pool { pool.new
+        ≡ with_chunks pool.old (waiting_chunks (due number (waits_in waiting.old.items))) }
+    ensures waiting { waits_in waiting.new.items ≡ not_due number (waits_in waiting.old.items) }
+{
+    while let Some(chunks) = take_due(waiting, number) {
+        give_all(pool, &chunks);
+    }
+}
+
+// Takes the oldest chunks out, if they wait for at most this number.
+fn take_due(waiting: &mut VecDeque<Waiting>, number: u64) -> Option<Vec<Chunk>>
+    ensures some { IfSome result (λ chunks. IsOldestDue number
+        (waits_in waiting.old.items) chunks.items (waits_in waiting.new.items)) }
+    ensures none { IfNone result (waiting.new.items ≡ waiting.old.items) }
+    ensures later { IfNone result (IsLater number (waits_in waiting.old.items)) }
+{
+    if waiting.front()?.number > number {
+        return None;
+    }
+    let oldest = waiting.pop_front()?;
+    Some(oldest.chunks)
+}
+
+// Makes held chunks free.
+fn give_all(pool: &mut Pool, chunks: &[Chunk])
+    requires { AreHeld pool.old chunks.now }
+    ensures { pool.new ≡ with_chunks pool.old chunks.now }
+{
+    for chunk in chunks {
+        pool.give(*chunk);
+    }
+}
