@@ -1,6 +1,6 @@
 -- What a space is seen as: a pool, the loaders' arenas, and the chunks that wait, each for a
 -- number. Until the command that left a chunk is known to be stored, an open of the file may still
--- find records on the chunk; so it waits for that command's number, and is free then and not before.
+-- find records on the chunk; so it waits for that command's number, and isn't free before.
 use Rattle.std.specs.Prelude.{◌≡◌, ℕ, ◌<◌, ◌≤◌, List, [], ◌∷◌, ◌++◌, IsSome, filter, unwrap_or}
 use Rattle.std.specs.Prelude.{map as mapped, nat_le, nat_lt, refl}
 use Rattle.std.specs.Ordering.{nat_cmp}

@@ -17,8 +17,8 @@ use std::marker::Model;
 /// wait until the command that left them is known to be stored.
 ///
 /// Contracts see a space as its pool, the loaders' chains by number, and the chunks that wait,
-/// oldest first. Each word of a present root is free, or of one chunk that is owned or waits, and of
-/// one of these only ([`chunks_are_apart`](crate::chunks_are_apart)).
+/// oldest first. Each word of a present root is free, or of one chunk that is owned or waits, and
+/// of one of these only ([`chunks_are_apart`](crate::chunks_are_apart)).
 #[derive(Drop)]
 pub struct Space {
     alloc: Global,
@@ -114,8 +114,8 @@ impl Space {
     }
 
     /// Finds a place for the words of a record in a loader's arena, as [`Arena::place`] does: on
-    /// the top of its last chunk, or else at the front of a new one. The other arenas and what waits
-    /// stay as they were.
+    /// the top of its last chunk, or else at the front of a new one. The other arenas and what
+    /// waits stay as they were.
     ///
     /// The refusal is `RecordTooLong` where a root chunk doesn't hold the words, and else
     /// `RegionFull` where the last chunk has no room, no chunk of the order needed is free, and all

@@ -1,5 +1,5 @@
-// The worked cases of a region with one root of 1,024 words, and places that are found again. What a
-// test does with a space stands in a function that borrows it.
+// The worked cases of a region with one root of 1,024 words, and places that are found again.
+// What a test does with a space stands in a function that borrows it.
 ghost use Rattle.std.specs.Prelude.{◌≡◌, ◌≤◌, ℕ, [], IfOk, OnOk};
 ghost use Rattle.std.specs.List.{AllByRecursion};
 ghost use Rattle.cm_space.specs.Space.{Waits};
