@@ -9,30 +9,30 @@ use Rattle.cm_pool.specs.declared.chunk.Chunk.{Chunk}
 use Rattle.cm_pool.specs.Lists.{Among}
 use Rattle.cm_layout.specs.declared.class_row.ClassRow.{ClassRow}
 use Rattle.cm_layout.specs.Rows.{classes_in, last_chunk, used_words}
-use Rattle.cm_layout.specs.Frames.{BareRow}
 use Rattle.cm_rows.specs.declared.live_loader.LastChunk.{LastChunk}
 use Rattle.cm_rows.specs.Rows.{last_of}
 use Rattle.cm_rows.specs.Held.{first_chunks, AreFounded}
-use Rattle.cm_rows.proofs.Lists.{among-left, among-right, among-push, among-map, among-map_from}
-use Rattle.cm_rows.proofs.Lists.{among-filter, among-filter_from}
+use Rattle.cm_index.proofs.Lists.{among-left, among-right, among-push, among-map, among-map_from}
+use Rattle.cm_index.proofs.Lists.{among-filter, among-filter_from}
 use Rattle.cm_rows.proofs.Chunks.{same_chunk-itself, same_chunk-false, same_chunk-cases}
 use Rattle.cm_rows.proofs.Classes.{used, used-is, used-append, used-none, used-filter, last-push}
 use Rattle.cm_rows.proofs.Classes.{last-among, last-none, last-filter, goes, moved_class, IsMoved}
 use Rattle.cm_rows.proofs.Classes.{is_moved, last-moved, used-elsewhere, used-moved, first-push}
 use Rattle.cm_rows.proofs.Classes.{first-moved, first-among, among-first}
+use Rattle.cm_layout.specs.declared.row.Row.{Row}
 
 -- a chunk with its used words
 abbrev pub with_used : List ClassRow → Chunk → LastChunk
 with_used rs c = record { chunk = c; used = used c rs }
 
-abbrev with_words : List BareRow → Chunk → LastChunk
+abbrev with_words : {P : Type 0} → List (Row P) → Chunk → LastChunk
 with_words rows c = record { chunk = c; used = used_words c rows }
 
 -- a loader's last chunk with its used words, by the rows of classes alone
 abbrev pub last_use : ℕ → List ClassRow → Option LastChunk
 last_use u rs = option_map (with_used rs) (last_chunk u rs)
 
-pub last_of-is : (u : ℕ) (rows : List BareRow) → last_of u rows ≡ last_use u (classes_in rows)
+pub last_of-is : {P : Type 0} (u : ℕ) (rows : List (Row P)) → last_of u rows ≡ last_use u (classes_in rows)
 last_of-is u rows = by_last (last_chunk u (classes_in rows))
   where
     by_last : (o : Option Chunk)

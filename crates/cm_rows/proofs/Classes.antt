@@ -11,11 +11,11 @@ use Rattle.cm_pool.specs.Chunks.{same_chunk}
 use Rattle.cm_pool.specs.Lists.{Among}
 use Rattle.cm_layout.specs.declared.class_row.ClassRow.{ClassRow}
 use Rattle.cm_layout.specs.Rows.{classes_in, used_words, last_chunk}
-use Rattle.cm_layout.specs.Frames.{BareRow}
 use Rattle.cm_rows.specs.Held.{first_chunks}
-use Rattle.cm_rows.proofs.Lists.{among-map, among-map_from, among-filter, among-filter_from}
+use Rattle.cm_index.proofs.Lists.{among-map, among-map_from, among-filter, among-filter_from}
 use Rattle.cm_rows.proofs.Chunks.{same_chunk-is, same_chunk-cases, same_chunk-itself}
 use Rattle.cm_rows.proofs.Chunks.{same_chunk-false}
+use Rattle.cm_layout.specs.declared.row.Row.{Row}
 
 -- ---- the words used of a chunk, by recursion
 
@@ -44,7 +44,7 @@ used-sum c (r ∷ rs) = by_test (used-sum c rs) (same_chunk r.place.chunk c)
         (λ (s : ClassRow). s.place.words) rest) ∙ behind)
     by_test behind false = behind
 
-pub used-is : (c : Chunk) (rows : List BareRow) → used_words c rows ≡ used c (classes_in rows)
+pub used-is : {P : Type 0} (c : Chunk) (rows : List (Row P)) → used_words c rows ≡ used c (classes_in rows)
 used-is c rows = used-sum c (classes_in rows)
 
 pub used-append : (c : Chunk) (rs ss : List ClassRow) → used c (rs ++ ss) ≡ used c rs + used c ss

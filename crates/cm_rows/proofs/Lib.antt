@@ -1,4 +1,3 @@
-pub mod Lists
 pub mod Chunks
 pub mod Classes
 pub mod Loaders

@@ -15,6 +15,7 @@ use Rattle.cm_pool.specs.Lists.{Among}
 use Rattle.cm_layout.specs.declared.class_row.ClassRow.{ClassRow}
 use Rattle.cm_layout.specs.declared.loader_row.LoaderRow.{LoaderRow}
 use Rattle.cm_layout.specs.declared.relocation.Move.{Move}
+use Rattle.cm_layout.specs.declared.row.Row.{Row}
 use Rattle.cm_layout.specs.declared.row.Row.TheVariants.{Loader}
 use Rattle.cm_layout.specs.Names.{is_loader_name}
 use Rattle.cm_layout.specs.Rows.{classes_in, numbers_in, chunks_in, number_of, used_words}
@@ -22,7 +23,6 @@ use Rattle.cm_layout.specs.Rows.{last_chunk}
 use Rattle.cm_layout.specs.Rules.{is_chunk, meets, is_unused, is_last_chunk, has_place, move_fits}
 use Rattle.cm_layout.specs.Rules.{has_room, row_limit, broken_of, is_live, is_new_loader}
 use Rattle.cm_layout.specs.declared.entry_rule.EntryRule.TheVariants.{OnRows, OnChunks}
-use Rattle.cm_layout.specs.Frames.{BareRow}
 use Rattle.cm_rows.specs.declared.live_loader.LastChunk.{LastChunk}
 use Rattle.cm_rows.specs.declared.live_loader.LiveLoader.{LiveLoader}
 use Rattle.cm_rows.specs.Rows.{last_of, is_above}
@@ -31,7 +31,7 @@ use Rattle.cm_rows.specs.Held.{first_chunks, AreFounded}
 use Rattle.cm_rows.specs.Book.{AreLoadersOf, AreLiveRows}
 use Rattle.cm_rows.proofs.Chunks.{both_true, either_true, same_chunk-true, same_chunk-is}
 use Rattle.cm_rows.proofs.Chunks.{meets-true}
-use Rattle.cm_rows.proofs.Lists.{among-map, among-map_from}
+use Rattle.cm_index.proofs.Lists.{among-map, among-map_from}
 use Rattle.cm_rows.proofs.Classes.{first-among}
 use Rattle.cm_rows.proofs.Loaders.{at-among, absent-among, last_in-at, last_in-absent}
 use Rattle.cm_rows.proofs.Holding.{free-is}
@@ -62,43 +62,46 @@ turned true false true = refl
 turned true false false = refl
 turned false b c = refl
 
-abbrev with_words : List BareRow → Chunk → LastChunk
-with_words rows c = record { chunk = c; used = used_words c rows }
+module _ {P : Type 0} where
+  abbrev with_words : List (Row P) → Chunk → LastChunk
+  with_words rows c = record { chunk = c; used = used_words c rows }
 
 -- ---- live loaders
 
-pub live-at : (rows : List BareRow) (ls : List LiveLoader) (u i : ℕ) → AreLoadersOf rows ls
-    → IsAt ls u i → is_live u rows ≡ true
-live-at rows ls u i h at =
-    let d : LiveLoader = record { number = 0; last = None } in
-    live-among u rows (subst
-    (λ (ns : List ℕ). Among u ns) h.numbers (at-among u ls i d at.within (at.number_is d)))
+module _ {P : Type 0} where
+  pub live-at : (rows : List (Row P)) (ls : List LiveLoader) (u i : ℕ) → AreLoadersOf rows ls
+      → IsAt ls u i → is_live u rows ≡ true
+  live-at rows ls u i h at =
+      let d : LiveLoader = record { number = 0; last = None } in
+      live-among u rows (subst
+      (λ (ns : List ℕ). Among u ns) h.numbers (at-among u ls i d at.within (at.number_is d)))
 
-pub not_live : (rows : List BareRow) (ls : List LiveLoader) (u : ℕ) → AreLoadersOf rows ls
-    → IsAbsent ls u → is_live u rows ≡ false
-not_live rows ls u h absent = among-live u rows (λ m. absent-among u ls absent (subst
-    (λ (ns : List ℕ). Among u ns) (sym h.numbers) m))
+  pub not_live : (rows : List (Row P)) (ls : List LiveLoader) (u : ℕ) → AreLoadersOf rows ls
+      → IsAbsent ls u → is_live u rows ≡ false
+  not_live rows ls u h absent = among-live u rows (λ m. absent-among u ls absent (subst
+      (λ (ns : List ℕ). Among u ns) (sym h.numbers) m))
 
--- what is kept of a loader that is found
-pub last-at : (rows : List BareRow) (ls : List LiveLoader) (u i : ℕ) (l : LiveLoader)
-    → AreLoadersOf rows ls → IsAt ls u i → l ≡ get_or ls i l → last_of u rows ≡ l.last
-last-at rows ls u i l h at is =
-    sym (h.last u) ∙ last_in-at u ls i l h.rises.each at.within (at.number_is l) ∙ ap
-    (λ (m : LiveLoader). m.last) (sym is)
+  -- what is kept of a loader that is found
+  pub last-at : (rows : List (Row P)) (ls : List LiveLoader) (u i : ℕ) (l : LiveLoader)
+      → AreLoadersOf rows ls → IsAt ls u i → l ≡ get_or ls i l → last_of u rows ≡ l.last
+  last-at rows ls u i l h at is =
+      sym (h.last u) ∙ last_in-at u ls i l h.rises.each at.within (at.number_is l) ∙ ap
+      (λ (m : LiveLoader). m.last) (sym is)
 
-pub last-absent : (rows : List BareRow) (ls : List LiveLoader) (u : ℕ) → AreLoadersOf rows ls
-    → IsAbsent ls u → last_of u rows ≡ None
-last-absent rows ls u h absent = sym (h.last u) ∙ last_in-absent u ls absent
+  pub last-absent : (rows : List (Row P)) (ls : List LiveLoader) (u : ℕ) → AreLoadersOf rows ls
+      → IsAbsent ls u → last_of u rows ≡ None
+  last-absent rows ls u h absent = sym (h.last u) ∙ last_in-absent u ls absent
 
 -- ---- room
 
-pub room-is : (sizes : Sizes) (rows : List BareRow) (row : BareRow)
-    → length rows < row_limit sizes → has_room sizes rows row ≡ true
-room-is sizes rows row lt = let e = slots-length rows in grind (arith, nat_tests)
+module _ {P : Type 0} where
+  pub room-is : (sizes : Sizes) (rows : List (Row P)) (row : Row P)
+      → length rows < row_limit sizes → has_room sizes rows row ≡ true
+  room-is sizes rows row lt = let e = slots-length rows in grind (arith, nat_tests)
 
-pub no_room-is : (sizes : Sizes) (rows : List BareRow) (row : BareRow)
-    → row_limit sizes ≤ length rows → has_room sizes rows row ≡ false
-no_room-is sizes rows row le = let e = slots-length rows in grind (arith, nat_tests)
+  pub no_room-is : (sizes : Sizes) (rows : List (Row P)) (row : Row P)
+      → row_limit sizes ≤ length rows → has_room sizes rows row ≡ false
+  no_room-is sizes rows row le = let e = slots-length rows in grind (arith, nat_tests)
 
 -- ---- chunks
 
@@ -149,80 +152,82 @@ all-false c [] h = refl
 all-false c (x ∷ cs) h = rw (not-true (meets c x)
     (λ yes. h x (inl refl) (meets-means c x yes))) (all-false c cs (λ d m. h d (inr m)))
 
-pub unused-apart : (rows : List BareRow) (c : Chunk) → is_unused c rows ≡ true → (d : Chunk)
-    → Among d (first_chunks (classes_in rows)) → ¬ Meets c d
-unused-apart rows c h d m =
-    let r = first-among d (classes_in rows) m in
-    any-false c (chunks_in rows) d h (subst
-    (λ (x : Chunk). Among x (chunks_in rows)) r.2 (among-map
-    (λ (r : ClassRow). r.place.chunk) r.0 (classes_in rows) r.1))
+module _ {P : Type 0} where
+  pub unused-apart : (rows : List (Row P)) (c : Chunk) → is_unused c rows ≡ true → (d : Chunk)
+      → Among d (first_chunks (classes_in rows)) → ¬ Meets c d
+  unused-apart rows c h d m =
+      let r = first-among d (classes_in rows) m in
+      any-false c (chunks_in rows) d h (subst
+      (λ (x : Chunk). Among x (chunks_in rows)) r.2 (among-map
+      (λ (r : ClassRow). r.place.chunk) r.0 (classes_in rows) r.1))
 
-pub apart-unused : (rows : List BareRow) (c : Chunk) → AreFounded (classes_in rows)
-    → ((d : Chunk) → Among d (first_chunks (classes_in rows)) → ¬ Meets c d)
-    → is_unused c rows ≡ true
-apart-unused rows c h apart =
-    all-false c (chunks_in rows) (λ d m.
-    let r = among-map_from (λ (r : ClassRow). r.place.chunk) d (classes_in rows) m in
-    apart d (subst
-    (λ (x : Chunk). Among x (first_chunks (classes_in rows))) (sym r.2) (h.first r.0 r.1)))
+  pub apart-unused : (rows : List (Row P)) (c : Chunk) → AreFounded (classes_in rows)
+      → ((d : Chunk) → Among d (first_chunks (classes_in rows)) → ¬ Meets c d)
+      → is_unused c rows ≡ true
+  apart-unused rows c h apart =
+      all-false c (chunks_in rows) (λ d m.
+      let r = among-map_from (λ (r : ClassRow). r.place.chunk) d (classes_in rows) m in
+      apart d (subst
+      (λ (x : Chunk). Among x (first_chunks (classes_in rows))) (sym r.2) (h.first r.0 r.1)))
 
--- a chunk is free that the region has and that no row uses
-pub free-unused : (sizes : Sizes) (rows : List BareRow) (p : FreeSpace) (c : Chunk)
-    → AreLiveRows sizes rows p → IsFreeChunk p c ↔ ((is_chunk sizes c ≡ true)
-    × (is_unused c rows ≡ true))
-free-unused sizes rows p c h =
-    let is = free-is sizes p (first_chunks (classes_in rows)) c h.holds in
-    (λ free. let f = is.0 free in ((chunk-is sizes c).1 f.0, apart-unused rows c h.founded f.1), λ (chunk, unused). is.1 ((chunk-is sizes c).0 chunk, unused-apart rows c unused))
+  -- a chunk is free that the region has and that no row uses
+  pub free-unused : (sizes : Sizes) (rows : List (Row P)) (p : FreeSpace) (c : Chunk)
+      → AreLiveRows sizes rows p → IsFreeChunk p c ↔ ((is_chunk sizes c ≡ true)
+      × (is_unused c rows ≡ true))
+  free-unused sizes rows p c h =
+      let is = free-is sizes p (first_chunks (classes_in rows)) c h.holds in
+      (λ free. let f = is.0 free in ((chunk-is sizes c).1 f.0, apart-unused rows c h.founded f.1), λ (chunk, unused). is.1 ((chunk-is sizes c).0 chunk, unused-apart rows c unused))
 
 -- ---- places
 
--- the place behind a loader's last record
-pub top-is : (rows : List BareRow) (u n : ℕ) (c : Chunk)
-    → ((is_last_chunk u c rows && eqb n (used_words c rows)) ≡ true)
-    ↔ (last_of u rows ≡ Some (record { chunk = c; used = n }))
-top-is rows u n c = by_last (last_chunk u (classes_in rows))
-  where
-    by_last : (o : Option Chunk) → ((option_map_or
-        (λ last. same_chunk last c) o false && eqb n (used_words c rows)) ≡ true)
-        ↔ (option_map (with_words rows) o ≡ Some (record { chunk = c; used = n }))
-    by_last None = (λ h. absurd (cc), λ h. absurd (cc))
-    by_last (Some d) = (
-      λ h.
-          let p = both_true (same_chunk d c) (eqb n (used_words c rows)) h in
-          let same : d ≡ c = same_chunk-true d c p.0 in
-          let words : n ≡ used_words c rows = eqb-true n (used_words c rows) p.1 in
-          ap (λ (x : Chunk). Some (with_words rows x)) same ∙ ap
-          (λ (k : ℕ). Some (record { chunk = c; used = k })) (sym words),
-      λ h.
-          let is : with_words rows d ≡ record { chunk = c; used = n } = cc in
-          let same : d ≡ c = ap (λ (x : LastChunk). x.chunk) is in
-          let words : used_words d rows ≡ n = ap (λ (x : LastChunk). x.used) is in
-          all_two (same_chunk d c) (eqb n (used_words c rows)) (same_chunk-is d c same) (eq-eqb n (used_words c rows) (sym words ∙ ap (λ (x : Chunk). used_words x rows) same)),
-    )
+module _ {P : Type 0} where
+  -- the place behind a loader's last record
+  pub top-is : (rows : List (Row P)) (u n : ℕ) (c : Chunk)
+      → ((is_last_chunk u c rows && eqb n (used_words c rows)) ≡ true)
+      ↔ (last_of u rows ≡ Some (record { chunk = c; used = n }))
+  top-is rows u n c = by_last (last_chunk u (classes_in rows))
+    where
+      by_last : (o : Option Chunk) → ((option_map_or
+          (λ last. same_chunk last c) o false && eqb n (used_words c rows)) ≡ true)
+          ↔ (option_map (with_words rows) o ≡ Some (record { chunk = c; used = n }))
+      by_last None = (λ h. absurd (cc), λ h. absurd (cc))
+      by_last (Some d) = (
+        λ h.
+            let p = both_true (same_chunk d c) (eqb n (used_words c rows)) h in
+            let same : d ≡ c = same_chunk-true d c p.0 in
+            let words : n ≡ used_words c rows = eqb-true n (used_words c rows) p.1 in
+            ap (λ (x : Chunk). Some (with_words rows x)) same ∙ ap
+            (λ (k : ℕ). Some (record { chunk = c; used = k })) (sym words),
+        λ h.
+            let is : with_words rows d ≡ record { chunk = c; used = n } = cc in
+            let same : d ≡ c = ap (λ (x : LastChunk). x.chunk) is in
+            let words : used_words d rows ≡ n = ap (λ (x : LastChunk). x.used) is in
+            all_two (same_chunk d c) (eqb n (used_words c rows)) (same_chunk-is d c same) (eq-eqb n (used_words c rows) (sym words ∙ ap (λ (x : Chunk). used_words x rows) same)),
+      )
 
-pub place-top : (rows : List BareRow) (r : ClassRow)
-    → last_of r.loader rows ≡ Some (record { chunk = r.place.chunk; used = r.place.offset })
-    → has_place rows r ≡ true
-place-top rows r last = rw ((top-is rows r.loader r.place.offset r.place.chunk).1 last) refl
+  pub place-top : (rows : List (Row P)) (r : ClassRow)
+      → last_of r.loader rows ≡ Some (record { chunk = r.place.chunk; used = r.place.offset })
+      → has_place rows r ≡ true
+  place-top rows r last = rw ((top-is rows r.loader r.place.offset r.place.chunk).1 last) refl
 
-pub place-front : (sizes : Sizes) (rows : List BareRow) (p : FreeSpace) (r : ClassRow)
-    → AreLiveRows sizes rows p → r.place.offset ≡ 0 → IsFreeChunk p r.place.chunk
-    → has_place rows r ≡ true
-place-front sizes rows p r h zero free =
-    or_second (is_last_chunk r.loader r.place.chunk rows && eqb r.place.offset (used_words r.place.chunk rows)) _
-    (all_two (eqb r.place.offset 0) (is_unused r.place.chunk rows) (eq-eqb r.place.offset 0 zero) ((free-unused sizes rows p r.place.chunk h).0 free).1)
+  pub place-front : (sizes : Sizes) (rows : List (Row P)) (p : FreeSpace) (r : ClassRow)
+      → AreLiveRows sizes rows p → r.place.offset ≡ 0 → IsFreeChunk p r.place.chunk
+      → has_place rows r ≡ true
+  place-front sizes rows p r h zero free =
+      or_second (is_last_chunk r.loader r.place.chunk rows && eqb r.place.offset (used_words r.place.chunk rows)) _
+      (all_two (eqb r.place.offset 0) (is_unused r.place.chunk rows) (eq-eqb r.place.offset 0 zero) ((free-unused sizes rows p r.place.chunk h).0 free).1)
 
-pub place-none : (sizes : Sizes) (rows : List BareRow) (p : FreeSpace) (r : ClassRow)
-    → AreLiveRows sizes rows p → is_chunk sizes r.place.chunk ≡ true
-    → (¬ (last_of r.loader rows ≡ Some (record { chunk = r.place.chunk; used = r.place.offset }))) → (r.place.offset ≡ 0 → ¬ IsFreeChunk p r.place.chunk) → has_place rows r ≡ false
-place-none sizes rows p r h chunk not_top not_front =
-    not-true (has_place rows r) (λ yes.
-    elim (either_true (is_last_chunk r.loader r.place.chunk rows && eqb r.place.offset (used_words r.place.chunk rows)) (eqb r.place.offset 0 && is_unused r.place.chunk rows) yes) [
-      | inl top ↦ not_top ((top-is rows r.loader r.place.offset r.place.chunk).0 top)
-      | inr front ↦
-          let q = both_true (eqb r.place.offset 0) (is_unused r.place.chunk rows) front in
-          not_front (eqb-true r.place.offset 0 q.0) ((free-unused sizes rows p r.place.chunk h).1 (chunk, q.1))
-    ])
+  pub place-none : (sizes : Sizes) (rows : List (Row P)) (p : FreeSpace) (r : ClassRow)
+      → AreLiveRows sizes rows p → is_chunk sizes r.place.chunk ≡ true
+      → (¬ (last_of r.loader rows ≡ Some (record { chunk = r.place.chunk; used = r.place.offset }))) → (r.place.offset ≡ 0 → ¬ IsFreeChunk p r.place.chunk) → has_place rows r ≡ false
+  place-none sizes rows p r h chunk not_top not_front =
+      not-true (has_place rows r) (λ yes.
+      elim (either_true (is_last_chunk r.loader r.place.chunk rows && eqb r.place.offset (used_words r.place.chunk rows)) (eqb r.place.offset 0 && is_unused r.place.chunk rows) yes) [
+        | inl top ↦ not_top ((top-is rows r.loader r.place.offset r.place.chunk).0 top)
+        | inr front ↦
+            let q = both_true (eqb r.place.offset 0) (is_unused r.place.chunk rows) front in
+            not_front (eqb-true r.place.offset 0 q.0) ((free-unused sizes rows p r.place.chunk h).1 (chunk, q.1))
+      ])
 
 -- ---- moves
 
@@ -230,53 +235,65 @@ place-none sizes rows p r h chunk not_top not_front =
 abbrev pub has_room_for : Sizes → LastChunk → Move → Bool
 has_room_for sizes l e = same_chunk l.chunk e.from && is_chunk sizes e.to && nat_le l.used (chunk_size e.to.order)
 
-pub move-none : (sizes : Sizes) (rows : List BareRow) (e : Move) → last_of e.loader rows ≡ None
-    → move_fits sizes rows e ≡ false
-move-none sizes rows e none = by_last (last_chunk e.loader (classes_in rows)) none
-  where
-    by_last : (o : Option Chunk) → option_map (with_words rows) o ≡ None
-        → (option_map_or
-        (λ last. same_chunk last e.from) o false && is_chunk sizes e.to && is_unused e.to rows && nat_le (used_words e.from rows) (chunk_size e.to.order)) ≡ false
-    by_last None h = refl
-    by_last (Some d) h = absurd (cc)
+module _ {P : Type 0} where
+  pub move-none : (sizes : Sizes) (rows : List (Row P)) (e : Move) → last_of e.loader rows ≡ None
+      → move_fits sizes rows e ≡ false
+  move-none sizes rows e none = by_last (last_chunk e.loader (classes_in rows)) none
+    where
+      by_last : (o : Option Chunk) → option_map (with_words rows) o ≡ None
+          → (option_map_or
+          (λ last. same_chunk last e.from) o false && is_chunk sizes e.to && is_unused e.to rows && nat_le (used_words e.from rows) (chunk_size e.to.order)) ≡ false
+      by_last None h = refl
+      by_last (Some d) h = absurd (cc)
 
-pub move-is : (sizes : Sizes) (rows : List BareRow) (e : Move) (l : LastChunk)
-    → last_of e.loader rows ≡ Some l
-    → move_fits sizes rows e ≡ (has_room_for sizes l e && is_unused e.to rows)
-move-is sizes rows e l last = by_last (last_chunk e.loader (classes_in rows)) last
-  where
-    by_tests : (t : Bool) (d : Chunk) → same_chunk d e.from ≡ t → with_words rows d ≡ l
-        → (t && is_chunk sizes e.to && is_unused e.to rows && nat_le (used_words e.from rows) (chunk_size e.to.order)) ≡ (t && is_chunk sizes e.to && nat_le l.used (chunk_size e.to.order) && is_unused e.to rows)
-    by_tests false d same is = refl
-    by_tests true d same is =
-        let words : used_words e.from rows ≡ l.used = ap
-        (λ (x : Chunk). used_words x rows) (sym (same_chunk-true d e.from same)) ∙ ap
-        (λ (x : LastChunk). x.used) is in
-        rw (words) (turned (is_chunk sizes e.to) (is_unused e.to rows) (nat_le l.used (chunk_size e.to.order)))
+  pub move-is : (sizes : Sizes) (rows : List (Row P)) (e : Move) (l : LastChunk)
+      → last_of e.loader rows ≡ Some l
+      → move_fits sizes rows e ≡ (has_room_for sizes l e && is_unused e.to rows)
+  move-is sizes rows e l last = by_last (last_chunk e.loader (classes_in rows)) last
+    where
+      by_tests : (t : Bool) (d : Chunk) → same_chunk d e.from ≡ t → with_words rows d ≡ l
+          → (t && is_chunk sizes e.to && is_unused e.to rows && nat_le (used_words e.from rows) (chunk_size e.to.order)) ≡ (t && is_chunk sizes e.to && nat_le l.used (chunk_size e.to.order) && is_unused e.to rows)
+      by_tests false d same is = refl
+      by_tests true d same is =
+          let words : used_words e.from rows ≡ l.used = ap
+          (λ (x : Chunk). used_words x rows) (sym (same_chunk-true d e.from same)) ∙ ap
+          (λ (x : LastChunk). x.used) is in
+          rw (words) (turned (is_chunk sizes e.to) (is_unused e.to rows) (nat_le l.used (chunk_size e.to.order)))
 
-    by_last : (o : Option Chunk) → option_map (with_words rows) o ≡ Some l
-        → (option_map_or
-        (λ last. same_chunk last e.from) o false && is_chunk sizes e.to && is_unused e.to rows && nat_le (used_words e.from rows) (chunk_size e.to.order)) ≡ (has_room_for sizes l e && is_unused e.to rows)
-    by_last None h = absurd (cc)
-    by_last (Some d) h =
-        let is : with_words rows d ≡ l = cc in
-        by_tests (same_chunk d e.from) d refl is ∙ ap
-        (λ (x : LastChunk). same_chunk x.chunk e.from && is_chunk sizes e.to && nat_le l.used (chunk_size e.to.order) && is_unused e.to rows) is
+      by_last : (o : Option Chunk) → option_map (with_words rows) o ≡ Some l
+          → (option_map_or
+          (λ last. same_chunk last e.from) o false && is_chunk sizes e.to && is_unused e.to rows && nat_le (used_words e.from rows) (chunk_size e.to.order)) ≡ (has_room_for sizes l e && is_unused e.to rows)
+      by_last None h = absurd (cc)
+      by_last (Some d) h =
+          let is : with_words rows d ≡ l = cc in
+          by_tests (same_chunk d e.from) d refl is ∙ ap
+          (λ (x : LastChunk). same_chunk x.chunk e.from && is_chunk sizes e.to && nat_le l.used (chunk_size e.to.order) && is_unused e.to rows) is
 
 -- ---- new loaders
 
-pub new-is : (sizes : Sizes) (rows : List BareRow) (r : LoaderRow)
-    → is_new_loader sizes rows r ≡ (is_loader_name r.name && is_none (number_of r.name rows) && nat_lt (length rows) (row_limit sizes))
-new-is sizes rows r =
-    let e = slots-length rows in
-    let same : has_room sizes rows (Loader r) ≡ nat_lt (length rows) (row_limit sizes) = grind (arith, nat_tests) in
-    ap (λ (t : Bool). is_loader_name r.name && is_none (number_of r.name rows) && t) same
+none-is : (o : Option ℕ) → is_none o ≡ true → o ≡ None
+none-is None h = refl
+none-is (Some n) h = absurd (cc)
 
-pub new-few : (sizes : Sizes) (rows : List BareRow) (r : LoaderRow)
-    → is_new_loader sizes rows r ≡ true → length rows < row_limit sizes
-new-few sizes rows r h =
-    let last = (both_true (is_loader_name r.name && is_none (number_of r.name rows)) (nat_lt (length rows) (row_limit sizes)) (sym (new-is sizes rows r) ∙ h)).1 in
-    ltb-true _ _ last
+module _ {P : Type 0} where
+  pub new-is : (sizes : Sizes) (rows : List (Row P)) (r : LoaderRow)
+      → is_new_loader sizes rows r ≡ (is_loader_name r.name && is_none (number_of r.name rows) && nat_lt (length rows) (row_limit sizes))
+  new-is sizes rows r =
+      let e = slots-length rows in
+      let same : has_room sizes rows (Loader r) ≡ nat_lt (length rows) (row_limit sizes) = grind (arith, nat_tests) in
+      ap (λ (t : Bool). is_loader_name r.name && is_none (number_of r.name rows) && t) same
+
+  pub new-name : (sizes : Sizes) (rows : List (Row P)) (r : LoaderRow)
+      → is_new_loader sizes rows r ≡ true → number_of r.name rows ≡ None
+  new-name sizes rows r h =
+      let first = both_true (is_loader_name r.name && is_none (number_of r.name rows)) (nat_lt (length rows) (row_limit sizes)) (sym (new-is sizes rows r) ∙ h) in
+      none-is (number_of r.name rows) (both_true (is_loader_name r.name) (is_none (number_of r.name rows)) first.0).1
+
+  pub new-few : (sizes : Sizes) (rows : List (Row P)) (r : LoaderRow)
+      → is_new_loader sizes rows r ≡ true → length rows < row_limit sizes
+  new-few sizes rows r h =
+      let last = (both_true (is_loader_name r.name && is_none (number_of r.name rows)) (nat_lt (length rows) (row_limit sizes)) (sym (new-is sizes rows r) ∙ h)).1 in
+      ltb-true _ _ last
 
 -- ---- the first broken rule of a class
 
@@ -345,11 +362,12 @@ none-if false e = absurd (cc)
 
 -- ---- the first broken rule of a move
 
-pub move-no_room : (sizes : Sizes) (rows : List BareRow) (e : Move) (l : LastChunk)
-    → last_of e.loader rows ≡ Some l → has_room_for sizes l e ≡ false
-    → move_fits sizes rows e ≡ false
-move-no_room sizes rows e l last none = move-is sizes rows e l last ∙ ap
-    (λ (t : Bool). t && is_unused e.to rows) none
+module _ {P : Type 0} where
+  pub move-no_room : (sizes : Sizes) (rows : List (Row P)) (e : Move) (l : LastChunk)
+      → last_of e.loader rows ≡ Some l → has_room_for sizes l e ≡ false
+      → move_fits sizes rows e ≡ false
+  move-no_room sizes rows e l last none = move-is sizes rows e l last ∙ ap
+      (λ (t : Bool). t && is_unused e.to rows) none
 
 and-true : (a b : Bool) → a ≡ true → (a && b) ≡ b
 and-true true b h = refl
@@ -366,21 +384,22 @@ pub room-from : (sizes : Sizes) (l : LastChunk) (e : Move) → has_room_for size
     → l.chunk ≡ e.from
 room-from sizes l e h = (room-chunk sizes l e h).0
 
-pub move-used : (sizes : Sizes) (rows : List BareRow) (p : FreeSpace) (e : Move) (l : LastChunk)
-    → AreLiveRows sizes rows p → last_of e.loader rows ≡ Some l → has_room_for sizes l e ≡ true
-    → (¬ IsFreeChunk p e.to)
-    → move_fits sizes rows e ≡ false
-move-used sizes rows p e l h last room taken =
-    move-is sizes rows e l last ∙ and-true (has_room_for sizes l e) (is_unused e.to rows) room
-    ∙ not-true (is_unused e.to rows)
-    (λ unused. taken ((free-unused sizes rows p e.to h).1 ((room-chunk sizes l e room).1, unused)))
+module _ {P : Type 0} where
+  pub move-used : (sizes : Sizes) (rows : List (Row P)) (p : FreeSpace) (e : Move) (l : LastChunk)
+      → AreLiveRows sizes rows p → last_of e.loader rows ≡ Some l → has_room_for sizes l e ≡ true
+      → (¬ IsFreeChunk p e.to)
+      → move_fits sizes rows e ≡ false
+  move-used sizes rows p e l h last room taken =
+      move-is sizes rows e l last ∙ and-true (has_room_for sizes l e) (is_unused e.to rows) room
+      ∙ not-true (is_unused e.to rows)
+      (λ unused. taken ((free-unused sizes rows p e.to h).1 ((room-chunk sizes l e room).1, unused)))
 
-pub move-fits : (sizes : Sizes) (rows : List BareRow) (p : FreeSpace) (e : Move) (l : LastChunk)
-    → AreLiveRows sizes rows p → last_of e.loader rows ≡ Some l → has_room_for sizes l e ≡ true
-    → IsFreeChunk p e.to
-    → move_fits sizes rows e ≡ true
-move-fits sizes rows p e l h last room free =
-    move-is sizes rows e l last ∙ and-true (has_room_for sizes l e) (is_unused e.to rows) room ∙ ((free-unused sizes rows p e.to h).0 free).1
+  pub move-fits : (sizes : Sizes) (rows : List (Row P)) (p : FreeSpace) (e : Move) (l : LastChunk)
+      → AreLiveRows sizes rows p → last_of e.loader rows ≡ Some l → has_room_for sizes l e ≡ true
+      → IsFreeChunk p e.to
+      → move_fits sizes rows e ≡ true
+  move-fits sizes rows p e l h last room free =
+      move-is sizes rows e l last ∙ and-true (has_room_for sizes l e) (is_unused e.to rows) room ∙ ((free-unused sizes rows p e.to h).0 free).1
 
 -- ---- numbers that go on
 
@@ -390,6 +409,7 @@ all-tested n [] h = tt
 all-tested n (u ∷ ns) h = let p = both_true (nat_lt u n) (list_all
     (λ u. nat_lt u n) ns) h in (ltb-true u n p.0, all-tested n ns p.1)
 
-pub above-all : (rows : List BareRow) (n : ℕ) → is_above n rows ≡ true → AllByRecursion
-    (λ u. u < n) (numbers_in rows)
-above-all rows n h = all-tested n (numbers_in rows) h
+module _ {P : Type 0} where
+  pub above-all : (rows : List (Row P)) (n : ℕ) → is_above n rows ≡ true → AllByRecursion
+      (λ u. u < n) (numbers_in rows)
+  above-all rows n h = all-tested n (numbers_in rows) h

@@ -10,8 +10,8 @@ use Rattle.cm_pool.specs.Lists.{Among, Pairwise}
 use Rattle.cm_pool.specs.Chunks.{IsChunk, Meets}
 use Rattle.std.specs.List.{AllByRecursion}
 use Rattle.cm_layout.specs.declared.class_row.ClassRow.{ClassRow}
+use Rattle.cm_layout.specs.declared.row.Row.{Row}
 use Rattle.cm_layout.specs.declared.row.Row.TheVariants.{Loader, Class}
-use Rattle.cm_layout.specs.Frames.{BareRow}
 use Rattle.cm_rows.specs.declared.live_loader.LastChunk.{LastChunk}
 
 -- the pool has all roots, and its free words are those of no chunk of these
@@ -31,12 +31,12 @@ abbrev pub first_chunks : List ClassRow → List Chunk
 first_chunks classes = map (λ r. r.place.chunk) (filter (λ r. r.place.offset == 0) classes)
 
 -- the chunk of a row that is the first on it
-abbrev pub own_chunk : BareRow → Option Chunk
+abbrev pub own_chunk : {P : Type 0} → Row P → Option Chunk
 own_chunk (Loader r) = None
 own_chunk (Class r p) = if r.place.offset == 0 then Some r.place.chunk else None
 
 -- the chunk of a row of this loader that is the first on it
-abbrev pub first_of : ℕ → BareRow → Option Chunk
+abbrev pub first_of : {P : Type 0} → ℕ → Row P → Option Chunk
 first_of u (Loader r) = None
 first_of u (Class r p) = if (r.loader == u) && (r.place.offset == 0) then Some r.place.chunk else None
 

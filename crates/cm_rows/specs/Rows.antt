@@ -1,17 +1,18 @@
 -- Live rows as a value: what a book is seen as, and what is asked of it.
-use Rattle.std.specs.Prelude.{ℕ, Bool, nat_lt, List, Option}
+pub use Rattle.cm_index.specs.Index.{class_of}
+use Rattle.std.specs.Prelude.{ℕ, Bool, nat_lt, List}
+use Rattle.std.specs.Prelude.{Option}
 use Rattle.std.specs.List.{list_all}
 use Rattle.std.specs.Option.{option_map}
 use Rattle.cm_pool.specs.Geometry.{Sizes}
 use Rattle.cm_layout.specs.declared.row.Row.{Row}
-use Rattle.cm_layout.specs.Frames.{BareRow}
 use Rattle.cm_layout.specs.Rows.{numbers_in, classes_in, used_words, last_chunk}
 use Rattle.cm_rows.specs.declared.live_loader.LastChunk.{LastChunk}
 
--- the sizes of a region, and the rows that live, with nothing kept of a class
-pub record LiveRows : Type 0 where
+-- the sizes of a region, and the rows that live, each class with what is kept of it
+pub record LiveRows (P : Type 0) : Type 0 where
   pub sizes : Sizes
-  pub rows : List BareRow
+  pub rows : List (Row P)
 
 -- the number is above that of each live loader
 abbrev pub is_above : {P : Type 0} → ℕ → List (Row P) → Bool

@@ -5,62 +5,73 @@ ghost use Rattle.std.specs.Prelude.{if◌then◌else◌};
 
 use crate::live_loader::{LastChunk, LiveLoader, copy_loaders, find, push_loader, set_last};
 use crate::place_rules::{has_room, is_inside, row_limit, take_place};
-use crate::rows::{
-    copy_loader, copy_rows, give_all, give_chunks, is_new, move_rows, number_of, push_row,
-    remove_loader, take_all,
-};
+use crate::rows::{copy_rows, give_all, give_chunks, move_rows, remove_loader, take_all};
 use crate::walk::Walk;
 use crate::whole_pool::whole_pool;
+use cm_index::{
+    IndexEntry, Kept, class_in, forget_loader, index_rows, is_new, loader_of, push_row,
+};
 use cm_layout::{ClassRow, Entry, EntryRule, LoaderRow, Move, Row};
 use cm_pool::{Geometry, Pool};
 use std::alloc::{AllocError, Global};
 use std::marker::Model;
 
-/// The rows that live, in the order of the entries that made them, with nothing kept of a class.
+/// The rows that live, in the order of the entries that made them, each class with what is kept of
+/// it: nothing, or its record.
 ///
 /// Contracts see a book as the sizes of its region and these rows. Beside the rows it keeps what
-/// answers questions on them: the loaders by number, each with its last chunk, and a pool that
-/// holds all chunks of rows.
+/// answers questions on them: the loaders by number, each with its last chunk, a pool that holds
+/// all chunks of rows, and an index of loaders and classes by name.
 #[derive(Drop)]
-pub struct Book {
+pub struct Book<P: Kept> {
     geometry: Geometry,
-    rows: Vec<Row<()>>,
+    rows: Vec<Row<P>>,
+    index: Vec<IndexEntry>,
+    /// Room to count places in while a loader is unloaded.
+    places: Vec<u32>,
     loaders: Vec<LiveLoader>,
     pool: Pool,
 }
 
-impl Model for Book {
+impl<P: Kept> Model for Book<P> {
     ghost use Rattle.std.specs.Prelude.{vec_capacity};
     ghost use Rattle.cm_rows.specs.Rows.{LiveRows};
     ghost use Rattle.cm_rows.specs.Book.{IsBook};
+    ghost use Rattle.cm_index.specs.Index.{HasIndex};
 
-    ghost Value = { LiveRows };
+    ghost Value = { LiveRows P };
 
     ghost view = { λ b. record { sizes = b.geometry; rows = b.rows.items } };
 
-    ghost invariant = { λ b. IsBook b.geometry b.rows.items (vec_capacity b.rows) b.loaders.items (vec_capacity b.loaders) b.pool };
+    ghost invariant = { λ b. IsBook b.geometry b.rows.items (vec_capacity b.rows) b.loaders.items (vec_capacity b.loaders) b.pool
+        × HasIndex P.mark P.name b.geometry b.rows.items b.index.items (vec_capacity b.index) (vec_capacity b.places) };
 }
 
-impl Book {
+impl<P: Kept> Book<P> {
     ghost use Rattle.cm_layout.specs.declared.entry_rule.EntryRule.TheVariants.{OnRows, OnChunks};
     ghost use Rattle.cm_layout.specs.declared.row.Row.TheVariants.{Loader, Class};
     ghost use Rattle.cm_layout.specs.Rows.{rows_after, without_loader, moved};
     ghost use Rattle.cm_layout.specs.Rows.{number_of as number_of_name};
     ghost use Rattle.cm_layout.specs.Rules.{broken_rule, broken_live_rule, is_new_loader, is_live};
     ghost use Rattle.cm_layout.specs.Rules.{move_fits};
-    ghost use Rattle.cm_rows.specs.Rows.{is_above, last_of};
+    ghost use Rattle.cm_rows.specs.Rows.{is_above, last_of, class_of};
+    ghost use Rattle.std.specs.Option.{option_copied};
 
     /// A book with no rows. All memory that it will ever need is taken here.
-    pub fn new(alloc: Global, geometry: Geometry) -> Result<Book, AllocError>
+    pub fn new(alloc: Global, geometry: Geometry) -> Result<Book<P>, AllocError>
         ensures { IfOk result (λ book. book ≡ record { sizes = geometry; rows = [] }) }
     {
         let limit = row_limit(geometry);
         let rows = Vec::with_capacity(alloc, limit)?;
+        let index = Vec::with_capacity(alloc, limit)?;
+        let places = Vec::with_capacity(alloc, limit)?;
         let loaders = Vec::with_capacity(alloc, limit)?;
         let pool = whole_pool(alloc, geometry)?;
         Ok(Book {
             geometry,
             rows,
+            index,
+            places,
             loaders,
             pool,
         })
@@ -69,10 +80,10 @@ impl Book {
     /// The first rule that an entry of this number breaks. Where it breaks none, the rows are those
     /// after it; else nothing is changed. A group's numbers go on from those before, so the number
     /// is above all live loaders' ([`Book::is_above`]).
-    pub fn apply(&mut self, number: u64, entry: &Entry<()>) -> Option<EntryRule>
+    pub fn apply(&mut self, number: u64, entry: Entry<P>) -> Option<EntryRule>
         requires { IsTrue (is_above number self.old.rows) }
-        ensures broken { result ≡ broken_rule self.old.sizes self.old.rows number entry.now }
-        ensures left { self.new ≡ (if is_none result then record self.old { rows = rows_after self.old.rows entry.now } else self.old) }
+        ensures broken { result ≡ broken_rule self.old.sizes self.old.rows number entry }
+        ensures left { self.new ≡ (if is_none result then record self.old { rows = rows_after self.old.rows entry } else self.old) }
     {
         match entry {
             Entry::Live(Row::Loader(row)) => {
@@ -81,17 +92,17 @@ impl Book {
                 }
                 self.add_loader(row)
             }
-            Entry::Live(Row::Class(row, _)) => self.define(row),
+            Entry::Live(Row::Class(row, kept)) => self.define(row, kept),
             Entry::Unload(entry) => self.unload(entry.loader),
-            Entry::Move(entry) => self.relocate(entry),
+            Entry::Move(entry) => self.relocate(&entry),
         }
     }
 
     /// The first rule that a live row breaks behind a half's head with this base. Where it breaks
     /// none, it stands behind the others; else nothing is changed.
-    pub fn apply_live(&mut self, base: u64, row: &Row<()>) -> Option<EntryRule>
-        ensures broken { result ≡ broken_live_rule self.old.sizes base self.old.rows row.now }
-        ensures left { self.new ≡ (if is_none result then record self.old { rows = self.old.rows ++ row.now ∷ [] } else self.old) }
+    pub fn apply_live(&mut self, base: u64, row: Row<P>) -> Option<EntryRule>
+        ensures broken { result ≡ broken_live_rule self.old.sizes base self.old.rows row }
+        ensures left { self.new ≡ (if is_none result then record self.old { rows = self.old.rows ++ row ∷ [] } else self.old) }
     {
         match row {
             Row::Loader(row) => {
@@ -100,7 +111,7 @@ impl Book {
                 }
                 self.add_loader(row)
             }
-            Row::Class(row, _) => self.define(row),
+            Row::Class(row, kept) => self.define(row, kept),
         }
     }
 
@@ -108,7 +119,14 @@ impl Book {
     pub fn loader(&self, name: &[u8]) -> Option<u64>
         ensures { result ≡ number_of_name name.now self.now.rows }
     {
-        number_of(&self.rows, name)
+        loader_of(&self.index, &self.rows, name)
+    }
+
+    /// What is kept of the class of this name in the loader of this number, if it has one.
+    pub fn class(&self, loader: u64, name: &[u8]) -> Option<&P>
+        ensures { option_copied result ≡ class_of P.name loader name.now self.now.rows }
+    {
+        class_in(&self.index, &self.rows, loader, name)
     }
 
     /// Whether a loader of this number lives.
@@ -134,28 +152,18 @@ impl Book {
         self.loaders[at].last
     }
 
-    /// Takes over the rows of another book of the same sizes.
-    pub fn copy_from(&mut self, other: &Book)
-        requires { self.old.sizes ≡ other.now.sizes }
-        ensures { self.new ≡ other.now }
-    {
-        give_all(&self.rows, &mut self.pool);
-        take_all(&other.rows, &mut self.pool);
-        copy_rows(&mut self.rows, &other.rows);
-        copy_loaders(&mut self.loaders, &other.loaders);
-    }
-
     /// Leaves no row.
     pub fn clear(&mut self)
         ensures { self.new ≡ record self.old { rows = [] } }
     {
         give_all(&self.rows, &mut self.pool);
         self.rows.clear();
+        self.index.clear();
         self.loaders.clear();
     }
 
     /// The rows, one after another.
-    pub fn walk(&self) -> Walk<'_>
+    pub fn walk(&self) -> Walk<'_, P>
         ensures { result ≡ self.now.rows }
     {
         Walk::over(&self.rows)
@@ -168,22 +176,27 @@ impl Book {
         self.rows.len()
     }
 
-    fn add_loader(&mut self, row: &LoaderRow) -> Option<EntryRule>
-        requires { IsTrue (is_above row.now.number self.old.rows) }
-        ensures broken { result ≡ (if is_new_loader self.old.sizes self.old.rows row.now then None else Some OnRows) }
-        ensures left { self.new ≡ (if is_none result then record self.old { rows = self.old.rows ++ Loader row.now ∷ [] } else self.old) }
+    fn add_loader(&mut self, row: LoaderRow) -> Option<EntryRule>
+        requires { IsTrue (is_above row.number self.old.rows) }
+        ensures broken { result ≡ (if is_new_loader self.old.sizes self.old.rows row then None else Some OnRows) }
+        ensures left { self.new ≡ (if is_none result then record self.old { rows = self.old.rows ++ Loader row ∷ [] } else self.old) }
     {
-        if !is_new(&self.rows, row_limit(self.geometry), row.name.as_bytes()) {
+        if !is_new(
+            &self.index,
+            &self.rows,
+            row_limit(self.geometry),
+            row.name.as_bytes(),
+        ) {
             return Some(EntryRule::OnRows);
         }
-        push_row(&mut self.rows, Row::Loader(copy_loader(row)));
         push_loader(&mut self.loaders, row.number);
+        push_row(&mut self.rows, &mut self.index, Row::Loader(row));
         None
     }
 
-    fn define(&mut self, row: &ClassRow) -> Option<EntryRule>
-        ensures broken { result ≡ broken_live_rule self.old.sizes 0 self.old.rows (Class row.now tt) }
-        ensures left { self.new ≡ (if is_none result then record self.old { rows = self.old.rows ++ Class row.now tt ∷ [] } else self.old) }
+    fn define(&mut self, row: ClassRow, kept: P) -> Option<EntryRule>
+        ensures broken { result ≡ broken_live_rule self.old.sizes 0 self.old.rows (Class row kept) }
+        ensures left { self.new ≡ (if is_none result then record self.old { rows = self.old.rows ++ Class row kept ∷ [] } else self.old) }
     {
         let Some(at) = find(&self.loaders, row.loader) else {
             return Some(EntryRule::OnRows);
@@ -199,7 +212,7 @@ impl Book {
         }
         let used = row.place.offset + row.place.words;
         set_last(&mut self.loaders, at, row.loader, row.place.chunk, used);
-        push_row(&mut self.rows, Row::Class(*row, ()));
+        push_row(&mut self.rows, &mut self.index, Row::Class(row, kept));
         None
     }
 
@@ -211,6 +224,7 @@ impl Book {
             return Some(EntryRule::OnRows);
         };
         give_chunks(&self.rows, number, &mut self.pool);
+        forget_loader(&mut self.index, &mut self.places, &self.rows, number);
         remove_loader(&mut self.rows, number);
         let _unloaded = self.loaders.remove(at);
         None
@@ -233,5 +247,21 @@ impl Book {
         move_rows(&mut self.rows, entry.from, entry.to);
         set_last(&mut self.loaders, at, entry.loader, entry.to, last.used);
         None
+    }
+}
+
+impl Book<()> {
+    ghost use Rattle.cm_layout.specs.Rows.{bare};
+
+    /// Takes over the rows of another book of the same sizes, with nothing kept of a class.
+    pub fn copy_from<Q: Kept>(&mut self, other: &Book<Q>)
+        requires { self.old.sizes ≡ other.now.sizes }
+        ensures { self.new ≡ record self.old { rows = bare other.now.rows } }
+    {
+        give_all(&self.rows, &mut self.pool);
+        take_all(&other.rows, &mut self.pool);
+        copy_rows(&mut self.rows, &other.rows);
+        index_rows(&mut self.index, &self.rows);
+        copy_loaders(&mut self.loaders, &other.loaders);
     }
 }

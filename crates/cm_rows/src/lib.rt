@@ -10,8 +10,6 @@ mod walk;
 mod whole_pool;
 
 pub use book::Book;
+pub use cm_index::Kept;
 pub use live_loader::LastChunk;
 pub use walk::Walk;
-
-#[cfg(test)]
-mod tests;

@@ -5,7 +5,7 @@ use Rattle.cm_rows.proofs.rows.give_all.Goals as goal
 use Rattle.cm_rows.proofs.rows.give_all.Goals.{in-Some, in_default}
 
 pub loop-row-preserved : goal.loop-row-preserved
-loop-row-preserved c =
+loop-row-preserved g c =
     let is = ap own_chunk (sym c.row-item.is) ∙ sym c.own_chunk.ensures in
     elim c.match-own_chunk.branch [
       | in-Some w ↦

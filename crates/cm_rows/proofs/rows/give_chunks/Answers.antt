@@ -5,12 +5,12 @@ use Rattle.cm_rows.proofs.rows.give_chunks.Goals as goal
 use Rattle.cm_rows.proofs.rows.give_chunks.Goals.{in-Some, in_default}
 
 pub give-requires : goal.give-requires
-give-requires c =
+give-requires g c =
     (gives-more c.args.pool.now.geometry c.loop-row.pool c.args.loader c.args.rows.now c.loop-row.row-index c.row-item.result c.in-Some.chunk
     (omega arith) (ap (first_of c.args.loader) (sym c.row-item.is) ∙ sym c.in-Some.ensures) c.loop-row.invariant).0
 
 pub loop-row-preserved : goal.loop-row-preserved
-loop-row-preserved c =
+loop-row-preserved g c =
     elim c.match-first_chunk.branch [
       | in-Some w ↦
           rw (w.pool-is, w.give.ensures) ((gives-more c.args.pool.now.geometry c.loop-row.pool c.args.loader c.args.rows.now c.loop-row.row-index c.row-item.result w.in-Some.chunk

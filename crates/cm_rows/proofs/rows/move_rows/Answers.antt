@@ -1,21 +1,12 @@
-use Rattle.std.proofs.Common.{◌<◌, length, vec_capacity, ap, ◌∙◌, arith}
-use Rattle.cm_rows.proofs.Giving.{moved-put, moved-kept}
+use Rattle.std.proofs.Common.{◌<◌, length, sym, arith}
+use Rattle.cm_rows.proofs.Giving.{moved-put}
 use Rattle.cm_rows.proofs.rows.move_rows.Goals as goal
-use Rattle.cm_rows.proofs.rows.move_rows.Goals.{in-Some, in_default}
 
 pub loop-at-preserved : goal.loop-at-preserved
-loop-at-preserved c =
+loop-at-preserved g c =
     let rows = c.args.rows.now.items in
-    let within : c.loop-at.at < length rows = omega (arith, c.len-at-end.ensures, c.args.rows.now.ok.0) in
-    elim c.match-moved_class.branch [
-      | in-Some w ↦
-          record {
-            items = ap (λ v. v.items) w.rows-is ∙ moved-put c.args.from c.args.to rows c.loop-at.rows.items c.loop-at.at c.index.result.now _ within c.loop-at.invariant.items c.index.ensures w.in-Some.ensures;
-            capacity = ap vec_capacity w.rows-is ∙ c.loop-at.invariant.capacity;
-          }
-      | in_default w ↦
-          record {
-            items = ap (λ v. v.items) w.rows-is ∙ moved-kept c.args.from c.args.to rows c.loop-at.rows.items c.loop-at.at c.index.result.now within c.loop-at.invariant.items c.index.ensures w.in_default.ensures;
-            capacity = ap vec_capacity w.rows-is ∙ c.loop-at.invariant.capacity;
-          }
-    ]
+    let within : c.loop-at.at < length rows = omega (arith, c.len-at-end.ensures, c.args.rows.now.ok.0, c.loop-at-test.true) in
+    record {
+      items = moved-put c.args.from c.args.to rows c.loop-at.rows.items c.loop-at.at c.index_mut.result.now _ within c.loop-at.invariant.items c.index_mut.ensures.value (sym c.move_row.ensures);
+      capacity = c.loop-at.invariant.capacity;
+    }

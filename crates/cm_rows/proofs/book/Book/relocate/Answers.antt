@@ -5,55 +5,57 @@ use Rattle.cm_pool.specs.FreeSpace.{without, with_chunk}
 use Rattle.cm_rows.proofs.Verdicts.{last-at, last-absent, move-none, move-no_room, move-used}
 use Rattle.cm_rows.proofs.Verdicts.{move-fits, on_chunks-unless, none-if}
 use Rattle.cm_rows.proofs.Books.{relocated, roomier}
+use Rattle.cm_index.proofs.Forgetting.{unique-moved}
+use Rattle.cm_index.proofs.Indexes.{index-moved}
 use Rattle.cm_rows.proofs.book.Book.relocate.Goals as goal
 use Rattle.cm_rows.proofs.book.Book.relocate.Goals.{then-not-has_room-via-then-not-has_room}
 use Rattle.cm_rows.proofs.book.Book.relocate.Goals.{then-not-has_room-via-else-not-has_room+then-not-take}
 
 pub returns-in_default-clause-broken : goal.returns-in_default-clause-broken
-returns-in_default-clause-broken c =
-    let g = c.self.inside.geometry in
+returns-in_default-clause-broken g c =
+    let sizes = c.self.inside.geometry in
     let rows = c.self.inside.rows.items in
     let e = c.args.entry.now in
     let absent = rw c.deref.ensures.value at c.in_default.ensures.absent in
-    rw (← c.self.view_is) (on_chunks-unless (move_fits g rows e) (move-none g rows e (last-absent rows c.self.inside.loaders.items e.loader c.self.invariant.loaders absent)))
+    rw (← c.self.view_is) (on_chunks-unless (move_fits sizes rows e) (move-none sizes rows e (last-absent rows c.self.inside.loaders.items e.loader c.self.invariant.0.loaders absent)))
 
 pub returns-in_default-last-clause-broken : goal.returns-in_default-last-clause-broken
-returns-in_default-last-clause-broken c =
-    let g = c.self.inside.geometry in
+returns-in_default-last-clause-broken g c =
+    let sizes = c.self.inside.geometry in
     let rows = c.self.inside.rows.items in
     let e = c.args.entry.now in
     let found = rw c.deref.ensures.value at c.in-Some.ensures.found in
-    let none = last-at rows c.self.inside.loaders.items e.loader c.in-Some.at c.index.result.now c.self.invariant.loaders found c.index.ensures ∙ c.in_default-last.is in
-    rw (← c.self.view_is) (on_chunks-unless (move_fits g rows e) (move-none g rows e none))
+    let none = last-at rows c.self.inside.loaders.items e.loader c.in-Some.at c.index.result.now c.self.invariant.0.loaders found c.index.ensures ∙ c.in_default-last.is in
+    rw (← c.self.view_is) (on_chunks-unless (move_fits sizes rows e) (move-none sizes rows e none))
 
 pub returns-then-not-has_room-clause-broken : goal.returns-then-not-has_room-clause-broken
-returns-then-not-has_room-clause-broken c =
-    let g = c.self.inside.geometry in
+returns-then-not-has_room-clause-broken g c =
+    let sizes = c.self.inside.geometry in
     let rows = c.self.inside.rows.items in
     let e = c.args.entry.now in
     let l = c.in-Some-last.last in
     let found = rw c.deref.ensures.value at c.in-Some.ensures.found in
-    let last = last-at rows c.self.inside.loaders.items e.loader c.in-Some.at c.index.result.now c.self.invariant.loaders found c.index.ensures ∙ c.in-Some-last.is in
-    let broken : move_fits g rows e ≡ false =
+    let last = last-at rows c.self.inside.loaders.items e.loader c.in-Some.at c.index.result.now c.self.invariant.0.loaders found c.index.ensures ∙ c.in-Some-last.is in
+    let broken : move_fits sizes rows e ≡ false =
     elim c.then-not-has_room.branch [
-      | then-not-has_room-via-then-not-has_room w ↦ move-no_room g rows e l last (sym c.has_room.ensures ∙ w.if-not-has_room.true)
+      | then-not-has_room-via-then-not-has_room w ↦ move-no_room sizes rows e l last (sym c.has_room.ensures ∙ w.if-not-has_room.true)
       | then-not-has_room-via-else-not-has_room+then-not-take w ↦
-          move-used g rows c.self.inside.pool e l c.self.invariant.live last (sym c.has_room.ensures ∙ w.if-not-has_room.false)
+          move-used sizes rows c.self.inside.pool e l c.self.invariant.0.live last (sym c.has_room.ensures ∙ w.if-not-has_room.false)
           (λ free. let yes = w.take.ensures.free.1 free in let refused = w.if-not-take.true in absurd (cc))
     ] in
-    rw (← c.self.view_is) (on_chunks-unless (move_fits g rows e) broken)
+    rw (← c.self.view_is) (on_chunks-unless (move_fits sizes rows e) broken)
 
 pub give-requires : goal.give-requires
-give-requires c =
+give-requires g c =
     let found = rw c.deref.ensures.value at c.in-Some.ensures.found in
     let free = c.take.ensures.free.0 c.if-not-take.false in
     rw c.if-not-take.ensures.left
     ((relocated c.self.inside.geometry c.self.inside.rows.items (vec_capacity c.self.inside.rows) c.self.inside.loaders.items (vec_capacity c.self.inside.loaders) c.self.inside.pool c.args.entry.now c.in-Some.at c.index.result.now c.in-Some-last.last
-    c.self.invariant found c.index.ensures c.in-Some-last.is (sym c.has_room.ensures ∙ c.if-not-has_room.false) free).0)
+    c.self.invariant.0 found c.index.ensures c.in-Some-last.is (sym c.has_room.ensures ∙ c.if-not-has_room.false) free).0)
 
 pub invariant_of-self-2 : goal.invariant_of-self-2
-invariant_of-self-2 c =
-    let g = c.self.inside.geometry in
+invariant_of-self-2 g c =
+    let sizes = c.self.inside.geometry in
     let rows = c.self.inside.rows.items in
     let ls = c.self.inside.loaders.items in
     let p = c.self.inside.pool in
@@ -64,19 +66,21 @@ invariant_of-self-2 c =
     let new = set ls c.in-Some.at (record { number = e.loader; last = Some (record { chunk = e.to; used = l.used }) }) in
     let rows_room : vec_capacity c.self.inside.rows ≤ vec_capacity c.move_rows.new.rows = omega (arith, c.move_rows.ensures.capacity) in
     let room : vec_capacity c.self.inside.loaders ≤ vec_capacity c.set_last.new.loaders = omega (arith, c.set_last.ensures.capacity) in
-    rw (c.move_rows.ensures.rows, c.set_last.ensures.loaders, c.give.ensures, c.if-not-take.ensures.left)
-    (roomier g (moved e.from e.to rows) (vec_capacity c.self.inside.rows) (vec_capacity c.move_rows.new.rows) new (vec_capacity c.self.inside.loaders) (vec_capacity c.set_last.new.loaders) (with_chunk (without p e.to) e.from)
-    rows_room room
-    (relocated g rows (vec_capacity c.self.inside.rows) ls (vec_capacity c.self.inside.loaders) p e c.in-Some.at c.index.result.now l
-    c.self.invariant found c.index.ensures c.in-Some-last.is (sym c.has_room.ensures ∙ c.if-not-has_room.false) free).1)
+    rw (c.move_rows.ensures.rows, c.set_last.ensures.loaders, c.give.ensures, c.if-not-take.ensures.left) (
+      (roomier sizes (moved e.from e.to rows) (vec_capacity c.self.inside.rows) (vec_capacity c.move_rows.new.rows) new (vec_capacity c.self.inside.loaders) (vec_capacity c.set_last.new.loaders) (with_chunk (without p e.to) e.from)
+          rows_room room
+          (relocated sizes rows (vec_capacity c.self.inside.rows) ls (vec_capacity c.self.inside.loaders) p e c.in-Some.at c.index.result.now l
+          c.self.invariant.0 found c.index.ensures c.in-Some-last.is (sym c.has_room.ensures ∙ c.if-not-has_room.false) free).1),
+      record { index = index-moved g.P.Kept.mark g.P.Kept.name e.from e.to rows c.self.inside.index.items c.self.invariant.1.index; unique = unique-moved e.from e.to rows c.self.invariant.1.unique; room = c.self.invariant.1.room; places_room = c.self.invariant.1.places_room },
+    )
 
 pub returns-clause-broken : goal.returns-clause-broken
-returns-clause-broken c =
-    let g = c.self.inside.geometry in
+returns-clause-broken g c =
+    let sizes = c.self.inside.geometry in
     let rows = c.self.inside.rows.items in
     let e = c.args.entry.now in
     let found = rw c.deref.ensures.value at c.in-Some.ensures.found in
-    let last = last-at rows c.self.inside.loaders.items e.loader c.in-Some.at c.index.result.now c.self.invariant.loaders found c.index.ensures ∙ c.in-Some-last.is in
+    let last = last-at rows c.self.inside.loaders.items e.loader c.in-Some.at c.index.result.now c.self.invariant.0.loaders found c.index.ensures ∙ c.in-Some-last.is in
     let free = c.take.ensures.free.0 c.if-not-take.false in
-    rw (← c.self.view_is) (none-if (move_fits g rows e)
-    (move-fits g rows c.self.inside.pool e c.in-Some-last.last c.self.invariant.live last (sym c.has_room.ensures ∙ c.if-not-has_room.false) free))
+    rw (← c.self.view_is) (none-if (move_fits sizes rows e)
+    (move-fits sizes rows c.self.inside.pool e c.in-Some-last.last c.self.invariant.0.live last (sym c.has_room.ensures ∙ c.if-not-has_room.false) free))

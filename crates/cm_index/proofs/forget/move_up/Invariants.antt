@@ -1,0 +1,10 @@
+use Rattle.std.proofs.Common.{◌≡◌, ◌++◌, take, drop, map, vec_capacity}
+use Rattle.cm_index.specs.Forget.{shifted}
+use Rattle.cm_index.proofs.forget.move_up.Given as goal
+
+abbrev pub invariant-loop-i : goal.invariant-loop-i
+invariant-loop-i l =
+    record {
+      items : l.index.items ≡ map (shifted l.places) (take l.i l.initial.index.items) ++ drop l.i l.initial.index.items;
+      capacity : vec_capacity l.index ≡ vec_capacity l.initial.index;
+    }

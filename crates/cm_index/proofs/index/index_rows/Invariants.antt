@@ -1,0 +1,10 @@
+use Rattle.std.proofs.Common.{◌≤◌, take, vec_capacity}
+use Rattle.cm_index.specs.Index.{IsIndex}
+use Rattle.cm_index.proofs.index.index_rows.Given as goal
+
+abbrev pub invariant-loop-at : goal.invariant-loop-at
+invariant-loop-at g l =
+    record {
+      index : IsIndex g.P.Kept.mark g.P.Kept.name (take l.at l.rows) l.index.items;
+      capacity : vec_capacity l.fn.index ≤ vec_capacity l.index;
+    }

@@ -1,0 +1,113 @@
+-- Rows by name: an index that rises by fingerprint, owner and name, and what it finds.
+use Rattle.std.specs.Prelude.{◌≡◌, ◌≤◌, ◌<◌, ℕ, suc, List, [], ◌∷◌, map, length, take, drop, Option}
+use Rattle.std.specs.Prelude.{Some, None, Bool, ◌==◌, ◌&&◌, if◌then◌else◌}
+use Rattle.std.specs.List.{find, slice_get, HoldsAt, AllByRecursion}
+use Rattle.std.specs.Str.{bytes_eq}
+use Rattle.std.specs.Ordering.{nat_cmp}
+use Rattle.std.specs.Cmp.Lexicographic.{slice_cmp}
+use Rattle.std.specs.declared.cmp.Ordering.TheVariants.{Less, Equal, Greater}
+use Rattle.cm_pool.specs.Geometry.{Sizes}
+use Rattle.cm_pool.specs.Lists.{Among, Pairwise}
+use Rattle.cm_layout.specs.declared.loader_row.LoaderRow.{LoaderRow}
+use Rattle.cm_layout.specs.declared.row.Row.{Row}
+use Rattle.cm_layout.specs.declared.row.Row.TheVariants.{Loader, Class}
+use Rattle.cm_layout.specs.Rules.{row_limit}
+use Rattle.cm_index.specs.declared.index.IndexEntry.{IndexEntry}
+
+-- whose row it is: nobody's a loader's own, a loader's a class's
+abbrev pub owner_of : {P : Type 0} → Row P → Option ℕ
+owner_of (Loader r) = None
+owner_of (Class r p) = Some r.loader
+
+-- nobody stands before all loaders
+abbrev pub rank : Option ℕ → ℕ
+rank None = 0
+rank (Some u) = suc u
+
+-- the name of the loader or of the class, where what is kept of a class says its name
+abbrev pub name_in : {P : Type 0} → (P → List ℕ) → Row P → List ℕ
+name_in name_of (Loader r) = r.name
+name_in name_of (Class r p) = name_of p
+
+-- the row is this owner's, and has this name
+abbrev pub is_named : {P : Type 0} → (P → List ℕ) → ℕ → List ℕ → Row P → Bool
+is_named name_of o x row = (rank (owner_of row) == o) && bytes_eq (name_in name_of row) x
+
+-- a loader's number, and what is kept of a class
+abbrev pub number_in : {P : Type 0} → Option (Row P) → Option ℕ
+number_in None = None
+number_in (Some (Loader r)) = Some r.number
+number_in (Some (Class r p)) = None
+
+abbrev pub kept_in : {P : Type 0} → Option (Row P) → Option P
+kept_in None = None
+kept_in (Some (Loader r)) = None
+kept_in (Some (Class r p)) = Some p
+
+-- what is kept of the first class of this name in the loader of this number, where what is kept of
+-- a class says its name
+abbrev pub class_of : {P : Type 0} → (P → List ℕ) → ℕ → List ℕ → List (Row P) → Option P
+class_of name_of u x [] = None
+class_of name_of u x (Loader r ∷ rows) = class_of name_of u x rows
+class_of name_of u x (Class r p ∷ rows) =
+    if (r.loader == u) && bytes_eq (name_of p) x then Some p else class_of name_of u x rows
+
+-- by which an index is sorted: the fingerprint, the owner, the name
+abbrev pub key : (ℕ → List ℕ → ℕ) → ℕ → List ℕ → List ℕ
+key mark o x = mark o x ∷ o ∷ x
+
+abbrev pub tail_at : {P : Type 0} → (P → List ℕ) → Option (Row P) → List ℕ
+tail_at name_of None = []
+tail_at name_of (Some row) = rank (owner_of row) ∷ name_in name_of row
+
+abbrev pub key_at : {P : Type 0} → (P → List ℕ) → List (Row P) → IndexEntry → List ℕ
+key_at name_of rows e = e.fingerprint ∷ tail_at name_of (slice_get rows e.at)
+
+abbrev pub keys_at : {P : Type 0} → (P → List ℕ) → List (Row P) → List IndexEntry → List (List ℕ)
+keys_at name_of rows es = map (key_at name_of rows) es
+
+-- each key is below those behind it
+abbrev pub Rise : List (List ℕ) → Type 0
+Rise keys = Pairwise (λ a b. slice_cmp nat_cmp a b ≡ Less) keys
+
+-- the entry leads to the first row with its owner and name
+pub record IsEntry {P : Type 0} (mark : ℕ → List ℕ → ℕ) (name_of : P → List ℕ)
+    (rows : List (Row P)) (e : IndexEntry) : Type 0 where
+  pub row : Row P
+  pub there : slice_get rows e.at ≡ Some row
+  pub fingerprint : e.fingerprint ≡ mark (rank (owner_of row)) (name_in name_of row)
+  pub first : find (is_named name_of (rank (owner_of row)) (name_in name_of row)) rows ≡ Some row
+
+-- the index leads to the first row of each owner and name that rows have
+pub record IsIndex {P : Type 0} (mark : ℕ → List ℕ → ℕ) (name_of : P → List ℕ)
+    (rows : List (Row P)) (es : List IndexEntry) : Type 0 where
+  pub each : AllByRecursion (IsEntry mark name_of rows) es
+  pub rises : Rise (keys_at name_of rows es)
+  pub complete : (o : ℕ) (x : List ℕ) (row : Row P) → find (is_named name_of o x) rows ≡ Some row
+      → Among (key mark o x) (keys_at name_of rows es)
+  pub few : length es ≤ length rows
+
+-- the entry at this place has this key
+pub record IsKeyAt {P : Type 0} (name_of : P → List ℕ) (rows : List (Row P))
+    (es : List IndexEntry) (place : ℕ) (k : List ℕ) : Type 0 where
+  pub within : place < length es
+  pub key_is : HoldsAt (λ e. slice_cmp nat_cmp (key_at name_of rows e) k ≡ Equal) es place
+
+-- the keys before this place are below this one, and the others above it
+pub record Parts (keys : List (List ℕ)) (place : ℕ) (k : List ℕ) : Type 0 where
+  pub within : place ≤ length keys
+  pub below : AllByRecursion (λ a. slice_cmp nat_cmp a k ≡ Less) (take place keys)
+  pub above : AllByRecursion (λ a. slice_cmp nat_cmp a k ≡ Greater) (drop place keys)
+
+-- no two live loaders have one name
+pub record AreUnique {P : Type 0} (rows : List (Row P)) : Type 0 where
+  pub names : (r s : LoaderRow) → Among (Loader r) rows → Among (Loader s) rows → r.name ≡ s.name
+      → r.number ≡ s.number
+
+-- an index of the rows, with room for all that can live
+pub record HasIndex {P : Type 0} (mark : ℕ → List ℕ → ℕ) (name_of : P → List ℕ)
+    (sizes : Sizes) (rows : List (Row P)) (es : List IndexEntry) (capacity places : ℕ) : Type 0 where
+  pub index : IsIndex mark name_of rows es
+  pub unique : AreUnique rows
+  pub room : row_limit sizes ≤ capacity
+  pub places_room : row_limit sizes ≤ places

@@ -1,0 +1,51 @@
+//! Records as what is kept of classes.
+
+ghost use Rattle.std.specs.Prelude.{◌≡◌, ◌%◌, ◌^◌};
+ghost use Rattle.std.specs.Arc.{arc_value};
+ghost use Rattle.std.specs.Ordering.{nat_cmp};
+ghost use Rattle.std.specs.Cmp.Lexicographic.{slice_cmp};
+ghost use Rattle.cm_record.specs.Names.{class_name_in};
+
+use crate::kept::{Kept, owner_fingerprint};
+use cm_record::{Record, words_tell_name};
+use std::alloc::Global;
+use std::cmp::Ordering;
+use std::sync::Arc;
+
+impl Kept for Arc<Record, Global> {
+    ghost name = { λ class. class_name_in (arc_value class) };
+
+    ghost mark = { λ owner name. owner % 2 ^ 32 };
+
+    fn cmp_name(&self, other: &Arc<Record, Global>) -> Ordering {
+        cmp_records(self, other)
+    }
+
+    fn cmp_name_to(&self, bytes: &[u8]) -> Ordering {
+        cmp_record_to(self, bytes)
+    }
+
+    fn fingerprint(&self, owner: Option<u64>) -> u32 {
+        owner_fingerprint(owner)
+    }
+
+    fn fingerprint_of(owner: Option<u64>, _bytes: &[u8]) -> u32 {
+        owner_fingerprint(owner)
+    }
+}
+
+fn cmp_records(one: &Record, other: &Record) -> Ordering
+    ensures { result ≡ slice_cmp nat_cmp (class_name_in one.now) (class_name_in other.now) }
+{
+    words_tell_name();
+    let _words = (one.words(), other.words()); // so the proof knows that they are records
+    one.cmp_name(other)
+}
+
+fn cmp_record_to(class: &Record, bytes: &[u8]) -> Ordering
+    ensures { result ≡ slice_cmp nat_cmp (class_name_in class.now) bytes.now }
+{
+    words_tell_name();
+    let _words = class.words(); // so the proof knows that they are a record
+    class.cmp_name_to(bytes)
+}

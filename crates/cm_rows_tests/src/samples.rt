@@ -1,0 +1,70 @@
+//! Entries and books.
+
+ghost use Rattle.std.specs.Prelude.{◌≡◌, IfOk};
+
+use cm_layout::{ClassRow, Entry, EntryRule, LoaderRow, Move, Row, SlotName, Unload};
+use cm_pool::{Chunk, Geometry, Place};
+use cm_rows::{Book, Kept};
+use std::alloc::Global;
+use std::test::Fail;
+
+pub const ROWS: Option<EntryRule> = Some(EntryRule::OnRows);
+
+pub const CHUNKS: Option<EntryRule> = Some(EntryRule::OnChunks);
+
+// What came of an entry: the first broken rule, or a number that isn't above those of the live
+// loaders.
+pub fn offer<P: Kept>(
+    book: &mut Book<P>,
+    number: u64,
+    entry: Entry<P>,
+) -> Result<Option<EntryRule>, Fail>
+    ensures { book.new.sizes ≡ book.old.sizes }
+{
+    if !book.is_above(number) {
+        return Err("the number has been".into());
+    }
+    Ok(book.apply(number, entry))
+}
+
+// A book of a region with one root of 1,024 words.
+pub fn small_book<P: Kept>(alloc: Global) -> Result<Book<P>, Fail>
+    ensures { IfOk result (λ book. book.sizes ≡ record { top = 3; roots = 1; slots = 256 }) }
+{
+    let geometry = Geometry::new(3, 1, 256).ok_or("within the limits")?;
+    Ok(Book::new(alloc, geometry)?)
+}
+
+pub fn chunk(order: u32, at: u32) -> Chunk {
+    Chunk { root: 0, order, at }
+}
+
+pub fn loader_row<P>(number: u64, name: &[u8]) -> Result<Row<P>, Fail> {
+    let name = SlotName::new(name).ok_or("a short name")?;
+    Ok(Row::Loader(LoaderRow { number, name }))
+}
+
+pub fn loader<P>(number: u64, name: &[u8]) -> Result<Entry<P>, Fail> {
+    Ok(Entry::Live(loader_row(number, name)?))
+}
+
+pub fn class_row(loader: u64, chunk: Chunk, offset: u32, words: u32) -> ClassRow {
+    let place = Place {
+        chunk,
+        offset,
+        words,
+    };
+    ClassRow { loader, place }
+}
+
+pub fn class(loader: u64, chunk: Chunk, offset: u32, words: u32) -> Entry<()> {
+    Entry::Live(Row::Class(class_row(loader, chunk, offset, words), ()))
+}
+
+pub fn unload<P>(loader: u64) -> Entry<P> {
+    Entry::Unload(Unload { loader })
+}
+
+pub fn move_of<P>(loader: u64, from: Chunk, to: Chunk) -> Entry<P> {
+    Entry::Move(Move { loader, from, to })
+}
