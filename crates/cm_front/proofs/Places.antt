@@ -169,8 +169,7 @@ some-top u rows c used e = by_last (last_chunk u (classes_in rows)) e
         → (option_map_or (λ last. same_chunk last c) o false ≡ true) × (used ≡ used_words c rows)
     by_last None h = absurd (cc)
     by_last (Some d) h =
-        let same = filled-is d c (used_words d rows) used h in
-        (
+        let same = filled-is d c (used_words d rows) used h in (
           ap (λ (k : Chunk). same_chunk k c) same.0 ∙ same-itself c,
           sym same.1 ∙ ap (λ (k : Chunk). used_words k rows) same.0,
         )

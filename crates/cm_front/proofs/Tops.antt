@@ -32,8 +32,10 @@ same-classes u xs ys e h =
   where
     tops : List ClassRow → Option Filled
     tops classes =
-        option_map (λ c. record { chunk = c;
-        used = sum (map (λ r. r.place.words) (filter (λ r. same_chunk r.place.chunk c) classes)) })
+        option_map (λ c. record {
+          chunk = c;
+          used = sum (map (λ r. r.place.words) (filter (λ r. same_chunk r.place.chunk c) classes));
+        })
         (last_chunk u classes)
 
 loader-kept : (u : ℕ) (pre : List BareRow) (r : LoaderRow) → EndsAtTop u pre

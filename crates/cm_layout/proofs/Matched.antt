@@ -30,8 +30,12 @@ use Rattle.cm_layout.proofs.Superblocks.{length-blank}
 
 length-superblock : (sizes : Sizes) → length (superblock_bytes sizes) ≡ superblock_size
 length-superblock sizes =
-    omega (arith, length-append (superblock_front sizes) (blank superblock_zeros ++ open_gate ∷ []),
-    length-append (blank superblock_zeros) (open_gate ∷ []), length-blank superblock_zeros)
+    omega (
+      arith,
+      length-append (superblock_front sizes) (blank superblock_zeros ++ open_gate ∷ []),
+      length-append (blank superblock_zeros) (open_gate ∷ []),
+      length-blank superblock_zeros,
+    )
 
 -- ---- parts of joined lists
 
@@ -275,19 +279,18 @@ half_back sizes f at contents long fits used end =
     let half = part at (half_size sizes) contents in
     let behind = drop (used_size f) half in
     let front : take (used_size f) half ≡ used_bytes f =
-    take-take (used_size f) (half_size sizes) (drop at contents) fits ∙ used in
-    (
+    take-take (used_size f) (half_size sizes) (drop at contents) fits ∙ used in (
       behind,
       sym (take-append-drop (used_size f) half) ∙ ap (λ (l : List ℕ). l ++ behind) front,
       end_from behind (λ some.
-      let goes_on : used_size f < half_size sizes =
-      omega (arith, some, length-drop (used_size f) half, part_long at (half_size sizes) contents long) in
-      let byte : get_or behind 0 0 ≡ get_or contents (at + used_size f) 0 =
-      get_or-drop (used_size f) half 0 0
-      ∙ (get_or-take (half_size sizes) (drop at contents) (used_size f + 0) 0 (omega (arith, goes_on))
-      ∙ (get_or-drop at contents (used_size f + 0) 0
-      ∙ ap (λ (i : ℕ). get_or contents i 0) (omega arith))) in
-      λ is_open. end goes_on (sym byte ∙ is_open)),
+          let goes_on : used_size f < half_size sizes =
+          omega (arith, some, length-drop (used_size f) half, part_long at (half_size sizes) contents long) in
+          let byte : get_or behind 0 0 ≡ get_or contents (at + used_size f) 0 =
+          get_or-drop (used_size f) half 0 0
+          ∙ (get_or-take (half_size sizes) (drop at contents) (used_size f + 0) 0 (omega (arith, goes_on))
+          ∙ (get_or-drop at contents (used_size f + 0) 0
+          ∙ ap (λ (i : ℕ). get_or contents i 0) (omega arith))) in
+          λ is_open. end goes_on (sym byte ∙ is_open)),
     )
 
 older_back : (sizes : Sizes) (epoch at : ℕ) (older : Option HalfHead) (contents : List ℕ)

@@ -112,7 +112,9 @@ abbrev pub guards : Sizes → Framing → List (Row (List ℕ)) → List Range
 guards sizes f rows =
     record { at = 0; count = superblock_size }
     ∷ record { at = half_at sizes f.counting; count = used_size f }
-    ∷ record { at = half_at sizes f.counting + used_size f;
-      count = if nat_lt (used_size f) (half_size sizes) then 1 else 0 }
+    ∷ record {
+      at = half_at sizes f.counting + used_size f;
+      count = if nat_lt (used_size f) (half_size sizes) then 1 else 0;
+    }
     ∷ record { at = half_at sizes (other_half f.counting); count = older_size f.older }
     ∷ record_ranges sizes rows

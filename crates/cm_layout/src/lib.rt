@@ -27,9 +27,10 @@ pub use entry_rule::EntryRule;
 pub use group::{GROUP_SLOTS, Group};
 pub use half::Half;
 pub use heads::{GroupHead, HalfHead};
-pub use laws::{agreement_frames, contents_determine_rows, frames_are_matched, live_rows_go_on};
-pub use laws::{loaders_are_own, rows_are_apart, rows_stay_live, slot_determines_entry};
-pub use laws::slot_determines_head;
+pub use laws::{
+    agreement_frames, contents_determine_rows, frames_are_matched, live_rows_go_on,
+    loaders_are_own, rows_are_apart, rows_stay_live, slot_determines_entry, slot_determines_head,
+};
 pub use loader_row::LoaderRow;
 pub use name::{NAME_BYTES, SlotName, is_loader_name};
 pub use offsets::{half_at, record_at, root_at, root_bytes, roots_at, slot_at};
