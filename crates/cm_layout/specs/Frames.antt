@@ -5,7 +5,7 @@
 use Rattle.std.specs.Prelude.{◌≡◌, ◌≢◌, ℕ, ◌+◌, ◌*◌, ◌^◌, ◌<◌, ◌≤◌, ◌⊎◌, List, [], ◌∷◌, ◌++◌}
 use Rattle.std.specs.Prelude.{length, take, drop, None}
 use Rattle.std.specs.List.{flat_map, AllByRecursion}
-use Rattle.cm_record.specs.Packing.{packed_into}
+use Rattle.cm_record_layout.specs.Packing.{packed_into}
 use Rattle.cm_pool.specs.Geometry.{Sizes, IsGeometry}
 use Rattle.cm_pool.specs.Chunks.{Meets}
 use Rattle.cm_pool.specs.Lists.{Among}

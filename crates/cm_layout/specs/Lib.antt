@@ -8,4 +8,3 @@ pub mod Rules
 pub mod Frames
 pub mod Framing
 pub mod Laws
-pub mod Groups

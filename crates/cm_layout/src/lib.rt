@@ -2,29 +2,24 @@
 //! rows.
 #![tactic(auto)]
 
-mod carried;
 mod class_row;
 mod entry;
 mod entry_rule;
-mod group;
 mod half;
 mod heads;
 mod laws;
 mod loader_row;
 mod name;
 mod offsets;
-mod receipt;
 mod relocation;
 mod row;
 mod slot;
 mod superblock;
 mod unload;
 
-pub use carried::CarriedEntry;
 pub use class_row::ClassRow;
 pub use entry::Entry;
 pub use entry_rule::EntryRule;
-pub use group::{GROUP_SLOTS, Group};
 pub use half::Half;
 pub use heads::{GroupHead, HalfHead};
 pub use laws::{
@@ -34,7 +29,6 @@ pub use laws::{
 pub use loader_row::LoaderRow;
 pub use name::{NAME_BYTES, SlotName, is_loader_name};
 pub use offsets::{half_at, record_at, root_at, root_bytes, roots_at, slot_at};
-pub use receipt::Receipt;
 pub use relocation::Move;
 pub use row::Row;
 pub use slot::{OPEN_GATE, SLOT_BYTES, SUPERBLOCK_BYTES};

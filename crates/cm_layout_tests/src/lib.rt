@@ -2,8 +2,6 @@
 #![tactic(auto)]
 
 #[cfg(test)]
-mod groups;
-#[cfg(test)]
 mod regions;
 #[cfg(test)]
 mod slots;

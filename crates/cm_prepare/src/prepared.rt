@@ -2,7 +2,7 @@
 
 ghost use Rattle.std.specs.Prelude.{◌≡◌, length, IfOk};
 ghost use Rattle.std.specs.Arc.{arc_value};
-ghost use Rattle.cm_layout.specs.Groups.{IsRightRecord};
+ghost use Rattle.cm_group.specs.Groups.{IsRightRecord};
 ghost use Rattle.cm_record.specs.Names.{class_name_in};
 
 use cm_record::{Record, words_tell_name};
@@ -20,7 +20,7 @@ pub struct Prepared {
 impl Model for Prepared {
     ghost use Rattle.std.specs.Prelude.{List, ℕ};
     ghost use Rattle.std.specs.Arc.{arc_value};
-    ghost use Rattle.cm_layout.specs.Groups.{IsRightRecord};
+    ghost use Rattle.cm_group.specs.Groups.{IsRightRecord};
 
     ghost Value = { List ℕ };
 

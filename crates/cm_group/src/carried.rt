@@ -3,17 +3,13 @@
 ghost use Rattle.std.specs.Prelude.{◌≡◌, [], ◌∷◌, map, IfOk};
 ghost use Rattle.std.specs.Arc.{arc_value};
 ghost use Rattle.std.specs.List.{AllByRecursion};
-ghost use Rattle.cm_layout.specs.Groups.{Carried, CarriesRight, IsRightRecord};
+ghost use Rattle.cm_group.specs.Groups.{Carried, CarriesRight, IsRightRecord};
 ghost use Rattle.cm_layout.specs.Rows.{slots_of};
 ghost use Rattle.cm_layout.specs.declared.entry.Entry.TheVariants as variant;
 ghost use Rattle.cm_layout.specs.declared.row.Row.TheVariants.{Loader, Class};
 
-use crate::class_row::ClassRow;
-use crate::entry::Entry;
-use crate::loader_row::LoaderRow;
-use crate::relocation::Move;
-use crate::row::Row;
-use crate::unload::Unload;
+use crate::room::RecordRoom;
+use cm_layout::{ClassRow, Entry, LoaderRow, Move, Row, Unload};
 use cm_record::Record;
 use std::alloc::{AllocError, Global};
 use std::marker::Model;
@@ -31,7 +27,7 @@ pub struct CarriedEntry {
 impl Model for CarriedEntry {
     ghost use Rattle.std.specs.Prelude.{map};
     ghost use Rattle.std.specs.Arc.{arc_value};
-    ghost use Rattle.cm_layout.specs.Groups.{Carried, CarriesRight};
+    ghost use Rattle.cm_group.specs.Groups.{Carried, CarriesRight};
 
     ghost Value = { Carried };
 
@@ -51,6 +47,27 @@ impl CarriedEntry {
         }
     }
 
+    /// A class's row, which writes its record. It is put into room that was taken before, so no
+    /// memory is taken here.
+    pub fn class_in(
+        room: RecordRoom,
+        row: ClassRow,
+        class: Arc<Record, Global>,
+    ) -> CarriedEntry
+        requires right { IsRightRecord (arc_value class) }
+        ensures { result ≡ record {
+          entry = variant.Live (Class row tt);
+          records = arc_value class ∷ [];
+        } }
+    {
+        let mut records = room.into_records();
+        records.push(class).unwrap();
+        CarriedEntry {
+            entry: Entry::Live(Row::Class(row, ())),
+            records,
+        }
+    }
+
     /// A class's row, which writes its record.
     pub fn class(
         alloc: Global,
@@ -63,12 +80,8 @@ impl CarriedEntry {
           records = arc_value class ∷ [];
         }) }
     {
-        let mut records = Vec::with_capacity(alloc, 1)?;
-        records.push(class)?;
-        Ok(CarriedEntry {
-            entry: Entry::Live(Row::Class(row, ())),
-            records,
-        })
+        let room = RecordRoom::new(alloc)?;
+        Ok(CarriedEntry::class_in(room, row, class))
     }
 
     /// That a loader is unloaded, which writes no record.

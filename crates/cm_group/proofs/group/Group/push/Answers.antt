@@ -1,7 +1,7 @@
 use Rattle.std.proofs.Common.{◌∷◌, [], length, refl, ap, arith}
-use Rattle.cm_layout.specs.Groups.{Handed, slots_taken}
-use Rattle.cm_layout.proofs.Joining.{taken-append, with_entry}
-use Rattle.cm_layout.proofs.group.Group.push.Goals as goal
+use Rattle.cm_group.specs.Groups.{Handed, slots_taken}
+use Rattle.cm_group.proofs.Joining.{taken-append, with_entry}
+use Rattle.cm_group.proofs.group.Group.push.Goals as goal
 
 pub returns-then-self-slots-gt-GROUP_SLOTS-clause-room : goal.returns-then-self-slots-gt-GROUP_SLOTS-clause-room
 returns-then-self-slots-gt-GROUP_SLOTS-clause-room c =

@@ -1,5 +1,6 @@
 //! Groups of entries: how many they take, and which join.
-use cm_layout::{CarriedEntry, Group, Unload};
+use cm_group::{CarriedEntry, Group};
+use cm_layout::Unload;
 use std::alloc::Global;
 use std::test::Fail;
 

@@ -5,8 +5,8 @@ use Rattle.std.proofs.lemmas.List.{length-append}
 use Rattle.cm_layout.specs.declared.entry.Entry.TheVariants as entry
 use Rattle.cm_layout.specs.Rows.{slots_of}
 use Rattle.cm_layout.specs.Frames.{BareEntry}
-use Rattle.cm_layout.specs.Groups.{Carried, CarriesRight, Handed, KeepsGroup, GoesOn}
-use Rattle.cm_layout.specs.Groups.{slots_taken}
+use Rattle.cm_group.specs.Groups.{Carried, CarriesRight, Handed, KeepsGroup, GoesOn}
+use Rattle.cm_group.specs.Groups.{slots_taken}
 
 one_slot : (e : BareEntry) → 1 ≤ slots_of e
 one_slot (entry.Live r) = omega arith

@@ -1,8 +1,8 @@
 use Rattle.std.proofs.Common.{subst, sym, arith}
-use Rattle.cm_layout.specs.Groups.{Handed, GoesOn}
-use Rattle.cm_layout.specs.contracts.group.Group.{the_view as view}
-use Rattle.cm_layout.proofs.Joining.{room_for, with_group}
-use Rattle.cm_layout.proofs.group.Group.add.Goals as goal
+use Rattle.cm_group.specs.Groups.{Handed, GoesOn}
+use Rattle.cm_group.specs.contracts.group.Group.{the_view as view}
+use Rattle.cm_group.proofs.Joining.{room_for, with_group}
+use Rattle.cm_group.proofs.group.Group.add.Goals as goal
 
 pub unwrap-requires : goal.unwrap-requires
 unwrap-requires c =

@@ -2,10 +2,11 @@
 
 ghost use Rattle.std.specs.Prelude.{◌≡◌, ◌+◌, ◌^◌, ◌<◌, ◌≤◌, ◌↔◌, ◌++◌, ◌∷◌, [], ℕ, List, length};
 ghost use Rattle.std.specs.Prelude.{IsOk, IfOk, IfErr, OnOk, OnErr, IsTrue};
-ghost use Rattle.cm_layout.specs.Groups.{IsGroup, GoesOn, joined, group_limit, slots_taken};
-ghost use Rattle.cm_layout.specs.Groups.{next_number};
+ghost use Rattle.cm_group.specs.Groups.{IsGroup, GoesOn, joined, group_limit, slots_taken};
+ghost use Rattle.cm_group.specs.Groups.{next_number};
 
 use crate::carried::CarriedEntry;
+use crate::room::GroupRoom;
 use std::alloc::{AllocError, Global};
 use std::marker::Model;
 
@@ -25,7 +26,7 @@ pub struct Group {
 
 impl Model for Group {
     ghost use Rattle.std.specs.Prelude.{vec_capacity};
-    ghost use Rattle.cm_layout.specs.Groups.{Handed, KeepsGroup};
+    ghost use Rattle.cm_group.specs.Groups.{Handed, KeepsGroup};
 
     ghost Value = { Handed };
 
@@ -36,6 +37,24 @@ impl Model for Group {
 }
 
 impl Group {
+    /// A group of one entry, which has this number. Nothing is learnt yet. It is put into room that
+    /// was taken before, so no memory is taken here.
+    pub fn new_in(room: GroupRoom, number: u64, entry: CarriedEntry) -> Group
+        requires from { 1 ≤ number }
+        requires to { number ≤ 2 ^ 63 }
+        ensures { result ≡ record { first = number; learnt = 0; entries = entry ∷ [] } }
+    {
+        let mut entries = room.into_entries();
+        let slots = entry.slots();
+        entries.push(entry).unwrap();
+        Group {
+            first: number,
+            learnt: 0,
+            slots,
+            entries,
+        }
+    }
+
     /// A group of one entry, which has this number. Nothing is learnt yet.
     pub fn new(alloc: Global, number: u64, entry: CarriedEntry) -> Result<Group, AllocError>
         requires from { 1 ≤ number }
@@ -43,15 +62,8 @@ impl Group {
         ensures { IfOk result
             (λ g. g ≡ record { first = number; learnt = 0; entries = entry ∷ [] }) }
     {
-        let mut entries = Vec::with_capacity(alloc, GROUP_SLOTS)?;
-        let slots = entry.slots();
-        entries.push(entry)?;
-        Ok(Group {
-            first: number,
-            learnt: 0,
-            slots,
-            entries,
-        })
+        let room = GroupRoom::new(alloc)?;
+        Ok(Group::new_in(room, number, entry))
     }
 
     /// The number of the first entry.

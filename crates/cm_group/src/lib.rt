@@ -1,0 +1,12 @@
+//! Groups: what the accepted cache hands to its disk at once, and the receipts that come back.
+#![tactic(auto)]
+
+mod carried;
+mod group;
+mod receipt;
+mod room;
+
+pub use carried::CarriedEntry;
+pub use group::{GROUP_SLOTS, Group};
+pub use receipt::Receipt;
+pub use room::{GroupRoom, RecordRoom};
