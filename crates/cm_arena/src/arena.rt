@@ -6,7 +6,7 @@ ghost use Rattle.cm_pool.specs.Chunks.{chunk_size};
 ghost use Rattle.cm_arena.specs.Chains.{used_of, chain_of, IsArena};
 ghost use Rattle.cm_arena.specs.Placing.{IsOnTop, HasRoom, next_offset as next_offset_of};
 
-use crate::fetch::{fetch, order_for};
+use crate::fetch::{fetch, has_free, order_for};
 use crate::refusal::Refusal;
 use cm_pool::{Chunk, Place, Pool};
 use std::alloc::{AllocError, Global};
@@ -114,6 +114,19 @@ impl Arena {
         })
     }
 
+    /// Whether [`place`](Arena::place) refuses so many words with `RegionFull`. Takes no memory, and
+    /// leaves the pool as it was.
+    pub fn is_full(&self, words: u32, pool: &mut Pool) -> bool
+        requires { 1 ≤ words }
+        ensures full { IsTrue result ↔ IsFull self.now pool.old words }
+        ensures left { pool.new ≡ pool.old }
+    {
+        if words > 128 << pool.geometry().top() || pool.roots() < pool.geometry().roots() {
+            return false;
+        }
+        !has_room(&self.chunks, &self.used, words) && !has_free(pool, order_for(words))
+    }
+
     /// Takes over a place that was found again. It has to be the next one: inside its chunk, and
     /// behind the used words of the last chunk, or at the front of another one. False, and nothing
     /// is changed, where it isn't.
@@ -163,6 +176,17 @@ fn used_in(chunks: &[Chunk], used: &[u32], chunk: &Chunk) -> Option<u32>
         }
     }
     None
+}
+
+// Whether the last chunk has room for so many words more.
+fn has_room(chunks: &[Chunk], used: &[u32], words: u32) -> bool
+    requires { IsArena chunks.now used.now }
+    ensures { IsTrue result ↔ HasRoom (chain_of chunks.now used.now) words }
+{
+    let Some(last) = chunks.len().checked_sub(1) else {
+        return false;
+    };
+    words <= chunks[last].size() - used[last]
 }
 
 // Uses so many words more of the last chunk, where it has room for them.

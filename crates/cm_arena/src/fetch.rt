@@ -21,6 +21,19 @@ pub fn order_for(words: u32) -> u32
     order
 }
 
+/// Whether a chunk of this order is free: takes one, and gives it back.
+pub fn has_free(pool: &mut Pool, order: u32) -> bool
+    requires { order ≤ pool.old.geometry.top }
+    ensures free { IsTrue result ↔ HasFree pool.old order }
+    ensures left { pool.new ≡ pool.old }
+{
+    let Some(found) = pool.alloc(order) else {
+        return false;
+    };
+    pool.give(found);
+    true
+}
+
 // A chunk of the order wanted, or else of the one needed.
 fn first_of(pool: &mut Pool, wanted: u32, need: u32) -> Option<Chunk>
     requires needed { need ≤ wanted }

@@ -45,6 +45,8 @@ fn places_words(rt: HostRuntime) -> Result<(), Fail> {
         (128, Ok((chunk(0, 0, 128), 0))),
     ];
     for (words, expected) in cases {
+        let full = arena.is_full(words, &mut pool);
+        assert_eq!(rt; full, expected == Err(Refusal::RegionFull), "at {words}");
         let place = place(&mut arena, words, &mut pool);
         let expected = expected.map(|(chunk, offset)| Place {
             chunk,

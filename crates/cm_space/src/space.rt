@@ -144,6 +144,18 @@ impl Space {
         arena.place(words, &mut self.pool)
     }
 
+    /// Whether [`place`](Space::place) refuses so many words in a loader's arena with `RegionFull`.
+    /// Takes no memory, and leaves the space as it was.
+    pub fn is_full(&mut self, loader: u64, words: u32) -> bool
+        requires known { IsKnown self.old loader }
+        requires some { 1 ≤ words }
+        ensures full { IsTrue result ↔ IsFull (arena_of self.old loader) self.old.pool words }
+        ensures left { self.new ≡ self.old }
+    {
+        let arena = self.arenas.get(&loader).unwrap();
+        arena.is_full(words, &mut self.pool)
+    }
+
     /// Takes over the place of a record that was found again. It has to be the next one of the
     /// loader's arena: on the top of its last chunk, or at the front of a chunk of the region that
     /// is free. Roots are added until that chunk's root is present, and the chunk is taken. False,

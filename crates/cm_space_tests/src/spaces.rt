@@ -52,6 +52,15 @@ fn place(space: &mut Space, loader: u64, words: u32) -> Result<Result<Place, Ref
     }
 }
 
+fn is_full(space: &mut Space, loader: u64, words: u32) -> Result<bool, Fail>
+    requires { 1 ≤ words }
+{
+    if !space.is_known(loader) {
+        return Err("not known".into());
+    }
+    Ok(space.is_full(loader, words))
+}
+
 fn leave(space: &mut Space, loader: u64, number: u64) -> Result<(), Fail>
     requires { AllByRecursion (λ (w : Waits). w.number ≤ number) space.old.waiting }
     ensures { OnOk result ((later : ℕ) → number ≤ later
@@ -106,6 +115,7 @@ fn leave_and_learn(rt: &impl Abort, space: &mut Space) -> Result<(), Fail>
     let full = Err(Refusal::RegionFull);
     for (number, expected) in [(0, full), (3, full), (4, Ok(front))] {
         space.learn(number);
+        assert_eq!(rt; is_full(space, 3, 16)?, expected == full, "at {number}");
         assert_eq!(rt; place(space, 3, 16)?, expected, "at {number}");
     }
     assert_eq!(rt; space.chunks(3).unwrap_or(&[]), [chunk(0, 0, 0)].as_slice());
