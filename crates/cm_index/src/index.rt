@@ -8,7 +8,7 @@ ghost use Rattle.std.specs.Ordering.{nat_cmp};
 ghost use Rattle.std.specs.Cmp.Lexicographic.{slice_cmp};
 ghost use Rattle.cm_index.specs.Index.{owner_of as owner_in, rank, name_in, is_named, key, key_at};
 ghost use Rattle.cm_index.specs.Index.{keys_at, IsIndex, IsKeyAt, Parts};
-ghost use Rattle.cm_index.specs.Sought.{name_sought, key_sought};
+ghost use Rattle.cm_index.specs.Sought.{name_sought, key_sought, IsKey};
 
 use crate::kept::Kept;
 use crate::sought::{Name, Sought};
@@ -103,13 +103,14 @@ fn search<P: Kept>(
 pub fn find_row<'a, P: Kept>(
     index: &[IndexEntry],
     rows: &'a [Row<P>],
-    owner: Option<u64>,
-    name: &[u8],
+    sought: &Sought<P>,
 ) -> Option<&'a Row<P>>
-    requires { IsIndex P.mark P.name rows.now index.now }
-    ensures { option_copied result ≡ find (is_named P.name (rank owner) name.now) rows.now }
+    requires index { IsIndex P.mark P.name rows.now index.now }
+    requires key { IsKey P.mark P.name sought.now }
+    ensures { option_copied result ≡ find
+        (is_named P.name (rank sought.now.owner) (name_sought P.name sought.now.name)) rows.now }
 {
-    let Ok(place) = search(index, rows, &Sought::named(owner, name)) else {
+    let Ok(place) = search(index, rows, sought) else {
         return None;
     };
     Some(&rows[index[place].at as usize])

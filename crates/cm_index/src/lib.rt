@@ -12,4 +12,4 @@ mod sought;
 pub use forget::{forget_loader, is_of};
 pub use index::{IndexEntry, index_rows, push_row};
 pub use kept::Kept;
-pub use names::{class_in, is_new, loader_of};
+pub use names::{class_in, class_like, is_new, loader_of};

@@ -9,6 +9,7 @@ ghost use Rattle.cm_index.specs.Index.{IsIndex, number_in, kept_in};
 
 use crate::index::{IndexEntry, find_row};
 use crate::kept::Kept;
+use crate::sought::Sought;
 use cm_layout::{Row, is_loader_name};
 
 /// The number of the live loader of a name.
@@ -16,7 +17,7 @@ pub fn loader_of<P: Kept>(index: &[IndexEntry], rows: &[Row<P>], name: &[u8]) ->
     requires { IsIndex P.mark P.name rows.now index.now }
     ensures { result ≡ number_of name.now rows.now }
 {
-    let Some(row) = find_row(index, rows, None, name) else {
+    let Some(row) = find_row(index, rows, &Sought::named(None, name)) else {
         return None;
     };
     number_in(row)
@@ -41,7 +42,23 @@ pub fn class_in<'a, P: Kept>(
     requires { IsIndex P.mark P.name rows.now index.now }
     ensures { option_copied result ≡ class_of P.name loader name.now rows.now }
 {
-    let Some(row) = find_row(index, rows, Some(loader), name) else {
+    let Some(row) = find_row(index, rows, &Sought::named(Some(loader), name)) else {
+        return None;
+    };
+    kept_in(row)
+}
+
+/// What is kept of the class that has the name of this one in the loader of a number.
+pub fn class_like<'a, P: Kept>(
+    index: &[IndexEntry],
+    rows: &'a [Row<P>],
+    loader: u64,
+    class: &P,
+) -> Option<&'a P>
+    requires { IsIndex P.mark P.name rows.now index.now }
+    ensures { option_copied result ≡ class_of P.name loader (P.name class.now) rows.now }
+{
+    let Some(row) = find_row(index, rows, &Sought::class(loader, class)) else {
         return None;
     };
     kept_in(row)

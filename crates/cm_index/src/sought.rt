@@ -1,8 +1,8 @@
 //! What is looked for in an index.
 
-ghost use Rattle.std.specs.Prelude.{◌≡◌};
+ghost use Rattle.std.specs.Prelude.{◌≡◌, Some};
 ghost use Rattle.cm_index.specs.Index.{owner_of, rank, name_in, key};
-ghost use Rattle.cm_index.specs.Sought.{key_sought};
+ghost use Rattle.cm_index.specs.Sought.{name_sought, key_sought, IsKey};
 
 use crate::kept::Kept;
 use cm_layout::Row;
@@ -25,12 +25,27 @@ pub struct Sought<'a, P> {
 impl<'a, P: Kept> Sought<'a, P> {
     /// A name of this owner's.
     pub fn named(owner: Option<u64>, name: &'a [u8]) -> Sought<'a, P>
-        ensures { key_sought P.name result ≡ key P.mark (rank owner) name.now }
+        ensures key { IsKey P.mark P.name result }
+        ensures owner { result.owner ≡ owner }
+        ensures name { name_sought P.name result.name ≡ name.now }
     {
         Sought {
             fingerprint: P::fingerprint_of(owner, name),
             owner,
             name: Name::Bytes(name),
+        }
+    }
+
+    /// The name of the class that this is kept of, as one of the loader's.
+    pub fn class(loader: u64, class: &'a P) -> Sought<'a, P>
+        ensures key { IsKey P.mark P.name result }
+        ensures owner { result.owner ≡ Some loader }
+        ensures name { name_sought P.name result.name ≡ P.name class.now }
+    {
+        Sought {
+            fingerprint: class.fingerprint(Some(loader)),
+            owner: Some(loader),
+            name: Name::Of(class),
         }
     }
 
@@ -41,11 +56,7 @@ impl<'a, P: Kept> Sought<'a, P> {
     {
         match row {
             Row::Loader(row) => Sought::named(None, row.name.as_bytes()),
-            Row::Class(row, class) => Sought {
-                fingerprint: class.fingerprint(Some(row.loader)),
-                owner: Some(row.loader),
-                name: Name::Of(class),
-            },
+            Row::Class(row, class) => Sought::class(row.loader, class),
         }
     }
 }

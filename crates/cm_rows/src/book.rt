@@ -9,7 +9,7 @@ use crate::rows::{copy_rows, give_all, give_chunks, move_rows, remove_loader, ta
 use crate::walk::Walk;
 use crate::whole_pool::whole_pool;
 use cm_index::{
-    IndexEntry, Kept, class_in, forget_loader, index_rows, is_new, loader_of, push_row,
+    IndexEntry, Kept, class_in, class_like, forget_loader, index_rows, is_new, loader_of, push_row,
 };
 use cm_layout::{ClassRow, Entry, EntryRule, LoaderRow, Move, Row};
 use cm_pool::{Geometry, Pool};
@@ -127,6 +127,13 @@ impl<P: Kept> Book<P> {
         ensures { option_copied result ≡ class_of P.name loader name.now self.now.rows }
     {
         class_in(&self.index, &self.rows, loader, name)
+    }
+
+    /// What is kept of the class in the loader of this number that has the name of this one.
+    pub fn class_like(&self, loader: u64, class: &P) -> Option<&P>
+        ensures { option_copied result ≡ class_of P.name loader (P.name class.now) self.now.rows }
+    {
+        class_like(&self.index, &self.rows, loader, class)
     }
 
     /// Whether a loader of this number lives.

@@ -56,6 +56,9 @@ fn finds_each_class_in_its_loader(rt: HostRuntime) -> Result<(), Fail> {
     for (loader, name) in CLASSES {
         let found = book.class(loader, name).ok_or("it was added")?;
         assert_eq!(rt; found.class_name(alloc)?.as_slice(), name);
+        let class = record_named(alloc, name)?;
+        let like = book.class_like(loader, &class).ok_or("it was added")?;
+        assert_eq!(rt; like.class_name(alloc)?.as_slice(), name);
     }
     let none: [(u64, &[u8]); 5] = [
         (2, b"B"),
@@ -66,6 +69,8 @@ fn finds_each_class_in_its_loader(rt: HostRuntime) -> Result<(), Fail> {
     ];
     for (loader, name) in none {
         assert!(rt; book.class(loader, name).is_none());
+        let class = record_named(alloc, name)?;
+        assert!(rt; book.class_like(loader, &class).is_none());
     }
     Ok(())
 }
