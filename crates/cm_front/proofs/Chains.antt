@@ -1,11 +1,11 @@
 -- The chain that rows make of a loader.
-use Rattle.std.proofs.Common.{◌≡◌, ℕ, ◌+◌, ◌*◌, ◌^◌, ◌<◌, ◌≤◌, ◌⊎◌, Bool, true, false, cond, List, []}
-use Rattle.std.proofs.Common.{◌∷◌, ◌++◌, length, map, Option, Some, None, inl, inr, refl, sym, ap}
-use Rattle.std.proofs.Common.{subst, ◌∙◌, arith, append_assoc, append-nil, eqb}
+use Rattle.std.proofs.Common.{◌≡◌, ℕ, ◌+◌, ◌^◌, ◌<◌, ◌⊎◌, Bool, true, false, cond, List, []}
+use Rattle.std.proofs.Common.{◌∷◌, ◌++◌, map, Option, Some, None, inl, inr, refl, sym, ap}
+use Rattle.std.proofs.Common.{subst, ◌∙◌, arith, eqb}
 use Rattle.std.specs.Prelude.{◌&&◌, ◌||◌, not, filter, sum, nat_le, nat_lt, max, min}
 use Rattle.std.specs.List.{list_any}
 use Rattle.std.specs.Option.{option_map, option_map_or}
-use Rattle.std.proofs.lemmas.Bool.{eqb-true, eq-eqb, lt-ltb, ltb-true, leb-true, le-leb}
+use Rattle.std.proofs.lemmas.Bool.{eqb-true, eq-eqb, lt-ltb, ltb-true}
 use Rattle.std.proofs.lemmas.List.{map-append}
 use Rattle.std.proofs.lemmas.List.Sums.{sum_by-append}
 use Rattle.std.proofs.lemmas.List.Elements.{filter-append}
@@ -15,16 +15,15 @@ use Rattle.cm_pool.specs.declared.place.Place.{Place}
 use Rattle.cm_pool.specs.Chunks.{chunk_size, same_chunk, Meets, Covers}
 use Rattle.cm_pool.specs.Geometry.{Sizes}
 use Rattle.cm_pool.specs.Lists.{Among}
-use Rattle.cm_arena.specs.Chains.{Filled, chunks_of, last_of}
+use Rattle.cm_arena.specs.Chains.{Filled, last_of}
 use Rattle.cm_arena.specs.Placing.{with_place}
 use Rattle.cm_layout.specs.declared.class_row.ClassRow.{ClassRow}
 use Rattle.cm_layout.specs.declared.row.Row.TheVariants.{Loader, Class}
-use Rattle.cm_layout.specs.Rows.{classes_in, chunks_in, last_chunk, used_words}
+use Rattle.cm_layout.specs.Rows.{classes_in, last_chunk, used_words}
 use Rattle.cm_layout.specs.Rules.{is_live, is_chunk, meets, is_unused, is_last_chunk, has_place}
 use Rattle.cm_layout.specs.Rules.{class_fits, broken_of, has_room}
-use Rattle.cm_layout.specs.Frames.{BareRow, AreApart, LiveRowsKeep}
+use Rattle.cm_layout.specs.Frames.{BareRow, AreApart}
 use Rattle.cm_front.specs.Chains.{chain_from, chain_of, top_of}
-use Rattle.cm_front.specs.Laws.{ChainsEndAtTop, ChainsHaveChunks}
 
 -- ---- tests
 
@@ -246,13 +245,13 @@ with_place-last (f ∷ g ∷ rest) place c used e =
         by_test false = refl
     last-behind f (g ∷ h ∷ rest) place = refl
 
-no_last : (chain : List Filled) → last_of chain ≡ None → chain ≡ []
+pub no_last : (chain : List Filled) → last_of chain ≡ None → chain ≡ []
 no_last [] e = refl
 no_last (f ∷ []) e = absurd (cc)
 no_last (f ∷ g ∷ rest) e = let none : (g ∷ rest) ≡ [] = no_last (g ∷ rest) e in absurd (cc)
 
 -- the row of a last chunk
-last-row : (u : ℕ) (classes : List ClassRow) (c : Chunk) → last_chunk u classes ≡ Some c
+pub last-row : (u : ℕ) (classes : List ClassRow) (c : Chunk) → last_chunk u classes ≡ Some c
     → (s : ClassRow) × Among s classes × (s.loader ≡ u) × (s.place.chunk ≡ c)
 last-row u [] c h = absurd (cc)
 last-row u (r ∷ classes) c h = by_rest (last_chunk u classes) (last-row u classes c) h
@@ -271,7 +270,7 @@ last-row u (r ∷ classes) c h = by_rest (last_chunk u classes) (last-row u clas
     by_rest None later is = by_first (eqb r.loader u) refl is
 
 -- a chunk that no row uses is none of theirs
-unused-apart : (c : Chunk) (classes : List ClassRow) (s : ClassRow)
+pub unused-apart : (c : Chunk) (classes : List ClassRow) (s : ClassRow)
     → not (list_any (meets c) (map (λ (r : ClassRow). r.place.chunk) classes)) ≡ true
     → Among s classes → ¬ Meets c s.place.chunk
 unused-apart c [] s h none = absurd none
@@ -304,7 +303,7 @@ apart-unused c (r ∷ classes) h =
     by_first true e rest = absurd (h r (inl refl) (meets-from c r.place.chunk e))
     by_first false e rest = rest
 
-never-on : (c : Chunk) (classes : List ClassRow)
+pub never-on : (c : Chunk) (classes : List ClassRow)
     → not (list_any (meets c) (map (λ (r : ClassRow). r.place.chunk) classes)) ≡ true
     → (s : ClassRow) → Among s classes → same_chunk s.place.chunk c ≡ false
 never-on c classes h s m =

@@ -1,3 +1,14 @@
 pub mod Chains
 pub mod Tops
 pub mod Places
+pub mod Groups
+pub mod Causes
+pub mod RowFacts
+pub mod Spaces
+pub mod Goings
+pub mod GoingsClass
+pub mod GoingsUnload
+pub mod Answering
+pub mod Learning
+pub mod Adopting
+pub mod Taking

@@ -1,5 +1,5 @@
 -- A place that a space finds, whose arenas are those of the rows, is one that the entry rules allow.
-use Rattle.std.proofs.Common.{◌≡◌, ℕ, ◌+◌, ◌*◌, ◌%◌, ◌^◌, ◌<◌, ◌≤◌, ◌⊎◌, Bool, true, false, cond, List}
+use Rattle.std.proofs.Common.{◌≡◌, ℕ, ◌+◌, ◌%◌, ◌≤◌, Bool, true, false, cond, List}
 use Rattle.std.proofs.Common.{[], ◌∷◌, ◌++◌, Option, Some, None, inl, inr, refl, sym, ap, subst, ◌∙◌}
 use Rattle.std.proofs.Common.{arith, eqb, length}
 use Rattle.std.specs.Prelude.{◌&&◌, ◌||◌, nat_le, nat_lt}
@@ -11,22 +11,18 @@ use Rattle.cm_pool.specs.Chunks.{chunk_size, same_chunk, Meets, IsBlock}
 use Rattle.cm_pool.specs.Geometry.{Sizes}
 use Rattle.cm_pool.specs.FreeSpace.{FreeSpace, IsFreeSpace, IsFreeWord, IsFreeChunk, IsUsedChunk}
 use Rattle.cm_pool.specs.FreeSpace.{with_root}
-use Rattle.cm_pool.specs.Held.{AreHeld}
 use Rattle.cm_pool.specs.Lists.{Among}
 use Rattle.cm_pool.specs.SpaceLaws.{RootsKeepHeld}
 use Rattle.cm_arena.specs.Chains.{Filled, chunks_of, last_of, with_more}
-use Rattle.cm_arena.specs.Placing.{Places, IsOnTop, IsFetched, IsInNew, IsWanted, IsNeeded}
-use Rattle.cm_arena.specs.Placing.{IsOfNewRoot, Fetches, order_wanted, with_place}
-use Rattle.cm_space.specs.Space.{SpaceState, arena_of}
-use Rattle.cm_space.specs.Ownership.{IsSpace, Owns}
+use Rattle.cm_arena.specs.Placing.{Fetches, order_wanted, with_place}
+use Rattle.cm_space.specs.Space.{arena_of}
 use Rattle.cm_space.specs.Laws.{OwnedIsUsed}
 use Rattle.cm_layout.specs.declared.class_row.ClassRow.{ClassRow}
-use Rattle.cm_layout.specs.declared.row.Row.TheVariants.{Class}
-use Rattle.cm_layout.specs.Rows.{classes_in, chunks_in, last_chunk, used_words}
+use Rattle.cm_layout.specs.Rows.{classes_in, last_chunk, used_words}
 use Rattle.cm_layout.specs.Rules.{is_chunk, is_unused, is_last_chunk, has_place, class_fits}
-use Rattle.cm_layout.specs.Frames.{BareRow, AreApart, LiveRowsKeep}
+use Rattle.cm_layout.specs.Frames.{BareRow}
 use Rattle.cm_front.specs.Chains.{chain_of, top_of}
-use Rattle.cm_front.specs.Laws.{GoesWith, IsPlaceOf, PlacesKeepRules}
+use Rattle.cm_front.specs.Laws.{PlacesKeepRules}
 use Rattle.cm_front.proofs.Chains.{same-itself, not_same, meets-itself, apart-unused, chain_grows}
 use Rattle.cm_front.proofs.Tops.{chains_end_at_top, chains_have_chunks}
 

@@ -1,6 +1,6 @@
 -- Chains end at the top of their loader's last chunk, and have the chunk of each class.
-use Rattle.std.proofs.Common.{◌≡◌, ℕ, ◌+◌, ◌⊎◌, Bool, true, false, cond, List, [], ◌∷◌, ◌++◌, map}
-use Rattle.std.proofs.Common.{Option, Some, None, inl, inr, refl, sym, ap, subst, ◌∙◌, append_assoc, append-nil, eqb}
+use Rattle.std.proofs.Common.{◌≡◌, ℕ, ◌+◌, Bool, true, false, cond, List, [], ◌∷◌, ◌++◌, map}
+use Rattle.std.proofs.Common.{Option, inl, inr, refl, sym, ap, subst, ◌∙◌, append_assoc, append-nil, eqb}
 use Rattle.std.specs.Prelude.{filter, sum}
 use Rattle.std.specs.Option.{option_map}
 use Rattle.std.proofs.lemmas.Bool.{eqb-true, eq-eqb}
@@ -14,9 +14,9 @@ use Rattle.cm_arena.specs.Placing.{with_place}
 use Rattle.cm_layout.specs.declared.loader_row.LoaderRow.{LoaderRow}
 use Rattle.cm_layout.specs.declared.class_row.ClassRow.{ClassRow}
 use Rattle.cm_layout.specs.declared.row.Row.TheVariants.{Loader, Class}
-use Rattle.cm_layout.specs.Rows.{classes_in, used_words, last_chunk}
+use Rattle.cm_layout.specs.Rows.{classes_in, last_chunk}
 use Rattle.cm_layout.specs.Frames.{BareRow, AreApart, LiveRowsKeep}
-use Rattle.cm_front.specs.Chains.{chain_from, chain_of, top_of}
+use Rattle.cm_front.specs.Chains.{chain_from}
 use Rattle.cm_front.specs.Laws.{ChainsEndAtTop, ChainsHaveChunks}
 use Rattle.cm_front.proofs.Chains.{EndsAtTop, own_class, other_class, place_of, classes-more}
 use Rattle.cm_front.proofs.Chains.{same_chunk-true}

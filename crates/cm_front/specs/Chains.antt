@@ -1,6 +1,6 @@
 -- The arena that rows make of a loader: each class's record goes on where the one before it ends, or
 -- begins a chunk.
-use Rattle.std.specs.Prelude.{◌≡◌, ℕ, ◌==◌, if◌then◌else◌, List, [], ◌∷◌, Option}
+use Rattle.std.specs.Prelude.{ℕ, ◌==◌, if◌then◌else◌, List, [], ◌∷◌, Option}
 use Rattle.std.specs.Option.{option_map}
 use Rattle.cm_arena.specs.Chains.{Filled}
 use Rattle.cm_arena.specs.Placing.{with_place}

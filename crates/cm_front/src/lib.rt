@@ -1,6 +1,14 @@
-//! The accepted cache. So far the laws that its calls stand on: how loaders' arenas go with rows.
+//! The accepted cache: which commands are accepted, what is found, and what is handed to the disk.
 #![tactic(auto)]
 
+mod accept;
+mod checks;
+mod front;
 mod laws;
+mod opened;
+mod restore;
+mod unsealed;
 
+pub use front::{Front, Stranger};
 pub use laws::{chains_go_with_rows, places_keep_rules};
+pub use opened::Opened;

@@ -4,6 +4,7 @@
 mod bad_class;
 mod command;
 mod from_bytes;
+mod kept;
 mod prepared;
 mod refusal;
 

@@ -66,7 +66,8 @@ impl Prepared {
 
     /// Its record.
     pub fn record(&self) -> &Arc<Record, Global>
-        ensures { arc_value result.now ≡ self.now }
+        ensures record { arc_value result.now ≡ self.now }
+        ensures right { IsRightRecord self.now }
     {
         &self.class
     }

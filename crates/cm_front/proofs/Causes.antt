@@ -1,0 +1,346 @@
+-- What is looked for by names in the rows is the first cause against a step of the cache.
+use Rattle.std.proofs.Common.{◌≡◌, ℕ, suc, ◌+◌, Bool, true, false, cond, List, [], ◌∷◌}
+use Rattle.std.proofs.Common.{length, Option, Some, None, refl, sym, ap, subst, ◌∙◌, arith, eqb}
+use Rattle.std.specs.Prelude.{not, nat_le, nat_lt, is_some, Result, Ok, Err, ◌&&◌}
+use Rattle.std.specs.Option.{option_and_then}
+use Rattle.std.specs.Str.{bytes_eq}
+use Rattle.std.specs.FinMap as map
+use Rattle.cm_pool.specs.Chunks.{chunk_size}
+use Rattle.cm_layout.specs.declared.row.Row.{Row}
+use Rattle.cm_layout.specs.declared.row.Row.TheVariants.{Loader, Class}
+use Rattle.cm_layout.specs.Names.{is_loader_name}
+use Rattle.cm_layout.specs.Rows.{number_of, slots_of_rows}
+use Rattle.cm_layout.specs.Rules.{row_limit}
+use Rattle.cm_record.specs.Names.{class_name_in}
+use Rattle.cm_index.specs.Index.{class_of}
+use Rattle.cm_state.specs.State.{Loaders, words_show, state_of, class_among, class_in, size}
+use Rattle.cm_state.specs.Step as step
+use Rattle.cm_state.specs.Step.{Cause, Change, AddLoader, Define, Unload, last_number}
+use Rattle.cm_state.specs.Laws.{LoadersAreFound, ClassesAreFound, SizesAgree}
+use Rattle.cm_prepare.specs.declared.refusal.Refusal.{Refusal}
+use Rattle.cm_prepare.specs.declared.refusal.Refusal.TheVariants as refusal
+use Rattle.cm_prepare.specs.Refusals.{refusal_of}
+use Rattle.cm_front.specs.Front.{FrontState, IsFront, first_refusal, is_half_full}
+use Rattle.cm_front.specs.Refusing.{loader_asked, loader_made, class_free, class_asked}
+use Rattle.cm_front.specs.Refusing.{loader_left}
+
+-- the refusal in an answer
+abbrev pub refused : Result ℕ Refusal → Option Refusal
+refused (Ok n) = None
+refused (Err r) = Some r
+
+-- the cause of a step, and that the half is full, as a refusal
+abbrev first : Result (Loaders (List ℕ)) Cause → Bool → Option Refusal
+first (Ok next) h = cond h (Some refusal.JournalFull) None
+first (Err cause) h = Some (refusal_of cause)
+
+-- ---- a new loader
+
+abbrev made : Bool → Bool → Bool → Bool → Bool → ℕ → Result ℕ Refusal
+made named spent found full h n =
+    cond (not named) (Err refusal.BadName)
+    (cond spent (Err refusal.NumbersSpent)
+    (cond found (Err refusal.LoaderExists) (cond (cond full true h) (Err refusal.JournalFull) (Ok n))))
+
+abbrev loader_step : Bool → Bool → Bool → Bool → Loaders (List ℕ) → Result (Loaders (List ℕ)) Cause
+loader_step named spent found full next =
+    cond (not named) (Err step.BadName)
+    (cond spent (Err step.NumbersSpent)
+    (cond found (Err step.LoaderExists) (cond full (Err step.JournalFull) (Ok next))))
+
+made_as_step : (named spent found full h : Bool) (next : Loaders (List ℕ)) (n : ℕ)
+    → first (loader_step named spent found full next) h ≡ refused (made named spent found full h n)
+made_as_step false spent found full h next n = refl
+made_as_step true true found full h next n = refl
+made_as_step true false true full h next n = refl
+made_as_step true false false true h next n = refl
+made_as_step true false false false true next n = refl
+made_as_step true false false false false next n = refl
+
+-- ---- the rows tell the state
+
+slots_are_rows : {A : Type 0} (rows : List (Row A)) → slots_of_rows rows ≡ length rows
+slots_are_rows [] = refl
+slots_are_rows (row ∷ rows) = let rest = slots_are_rows rows in omega (arith, rest)
+
+pub one_class : (u : ℕ) (name : List ℕ) (rows : List (Row (List ℕ)))
+    → class_of class_name_in u name rows ≡ class_among words_show u name rows
+one_class u name [] = refl
+one_class u name (Loader r ∷ rows) = one_class u name rows
+one_class u name (Class r words ∷ rows) =
+    ap (cond (eqb r.loader u && bytes_eq (class_name_in words) name) (Some words))
+    (one_class u name rows)
+
+size_is : SizesAgree (List ℕ) → (s : FrontState) → IsFront s
+    → size (state_of words_show s.rows) ≡ length s.rows
+size_is sizes s f = sizes words_show s.sizes s.number s.rows f.rows ∙ slots_are_rows s.rows
+
+-- a running cache's first refusal is that of the step
+running : (s : FrontState) (change : Change (List ℕ)) → s.closed ≡ false → s.broken ≡ false
+    → first_refusal s change
+    ≡ first (step.step words_show s.sizes (state_of words_show s.rows) s.number change) (is_half_full s)
+running s change closed broken = rw closed (rw broken
+    (by_answer (step.step words_show s.sizes (state_of words_show s.rows) s.number change)))
+  where
+    by_answer : (a : Result (Loaders (List ℕ)) Cause)
+        → (elim a [
+          | Err cause ↦ Some (refusal_of cause)
+          | Ok next ↦ cond (is_half_full s) (Some refusal.JournalFull) None
+        ])
+        ≡ first a (is_half_full s)
+    by_answer (Ok next) = refl
+    by_answer (Err cause) = refl
+
+pub loader_refused : LoadersAreFound (List ℕ) → SizesAgree (List ℕ) → (s : FrontState) (x : List ℕ)
+    → IsFront s → s.closed ≡ false → s.broken ≡ false
+    → first_refusal s (AddLoader x) ≡ refused (loader_made s x)
+loader_refused loaders sizes s x f closed broken =
+    running s (AddLoader x) closed broken
+    ∙ (ap (λ (b : Bool). first (loader_step (is_loader_name x) (eqb s.number last_number) b
+    (nat_le (row_limit s.sizes) (size m)) (step.with_loader m x)) (is_half_full s))
+    (loaders words_show s.rows x)
+    ∙ (ap (λ (k : ℕ). first (loader_step (is_loader_name x) (eqb s.number last_number)
+    (is_some (number_of x s.rows)) (nat_le (row_limit s.sizes) k) (step.with_loader m x))
+    (is_half_full s)) (size_is sizes s f)
+    ∙ made_as_step (is_loader_name x) (eqb s.number last_number) (is_some (number_of x s.rows))
+    (nat_le (row_limit s.sizes) (length s.rows)) (is_half_full s) (step.with_loader m x)
+    (suc s.number)))
+  where
+    m : Loaders (List ℕ)
+    m = state_of words_show s.rows
+
+-- ---- a class
+
+abbrev asked : Bool → Bool → Option ℕ → Result ℕ Refusal
+asked named spent o =
+    cond (not named) (Err refusal.BadName)
+    (cond spent (Err refusal.NumbersSpent) (elim o [ Some u ↦ Ok u | None ↦ Err refusal.NoLoader ]))
+
+abbrev free : Bool → Bool → Bool → Bool → ℕ → Result ℕ Refusal
+free taken long full h u =
+    cond taken (Err refusal.ClassExists)
+    (cond long (Err refusal.RecordTooLong)
+    (cond (cond full true h) (Err refusal.JournalFull) (Ok u)))
+
+abbrev class_step : Bool → Bool → Bool → Bool → Bool → Bool → Loaders (List ℕ)
+    → Result (Loaders (List ℕ)) Cause
+class_step named spent there taken long full next =
+    cond (not named) (Err step.BadName)
+    (cond spent (Err step.NumbersSpent)
+    (cond (not there) (Err step.NoLoader)
+    (cond taken (Err step.ClassExists)
+    (cond long (Err step.RecordTooLong) (cond full (Err step.JournalFull) (Ok next))))))
+
+free_as_step : (taken long full h : Bool) (next : Loaders (List ℕ)) (u : ℕ)
+    → first (class_step true false true taken long full next) h ≡ refused (free taken long full h u)
+free_as_step true long full h next u = refl
+free_as_step false true full h next u = refl
+free_as_step false false true h next u = refl
+free_as_step false false false true next u = refl
+free_as_step false false false false next u = refl
+
+class_as_step : (named spent : Bool) (o : Option ℕ) (among : ℕ → Option (List ℕ))
+    (long full h : Bool) (next : Loaders (List ℕ))
+    → first (class_step named spent (is_some o) (is_some (option_and_then among o)) long full next) h
+    ≡ refused (elim (asked named spent o)
+    [ Err r ↦ Err r | Ok u ↦ free (is_some (among u)) long full h u ])
+class_as_step false spent o among long full h next = refl
+class_as_step true true o among long full h next = refl
+class_as_step true false None among long full h next = refl
+class_as_step true false (Some u) among long full h next =
+    free_as_step (is_some (among u)) long full h next u
+
+pub class_refused : LoadersAreFound (List ℕ) → ClassesAreFound (List ℕ) → SizesAgree (List ℕ)
+    → (s : FrontState) (x words : List ℕ) → IsFront s → s.closed ≡ false → s.broken ≡ false
+    → first_refusal s (Define x words) ≡ refused (class_asked s x words)
+class_refused loaders classes sizes s x words f closed broken =
+    running s (Define x words) closed broken
+    ∙ (ap (λ (b : Bool). first (class_step named spent b
+    (is_some (class_in m x (class_name_in words))) long (nat_le (row_limit s.sizes) (size m)) next) half)
+    (loaders words_show s.rows x)
+    ∙ (ap (λ (o : Option (List ℕ)). first (class_step named spent (is_some o_x) (is_some o) long
+    (nat_le (row_limit s.sizes) (size m)) next) half)
+    (classes words_show s.rows x (class_name_in words))
+    ∙ (ap (λ (k : ℕ). first (class_step named spent (is_some o_x) (is_some (option_and_then among o_x))
+    long (nat_le (row_limit s.sizes) k) next) half) (size_is sizes s f)
+    ∙ (class_as_step named spent o_x among long full half next
+    ∙ ap (λ (g : ℕ → Option (List ℕ)). refused (elim (asked named spent o_x)
+    [ Err r ↦ Err r | Ok u ↦ free (is_some (g u)) long full half u ])) same))))
+  where
+    m : Loaders (List ℕ)
+    m = state_of words_show s.rows
+
+    named : Bool
+    named = is_loader_name x
+
+    spent : Bool
+    spent = eqb s.number last_number
+
+    o_x : Option ℕ
+    o_x = number_of x s.rows
+
+    among : ℕ → Option (List ℕ)
+    among u = class_among words_show u (class_name_in words) s.rows
+
+    long : Bool
+    long = nat_lt (chunk_size s.sizes.top) (length words)
+
+    full : Bool
+    full = nat_le (row_limit s.sizes) (length s.rows)
+
+    half : Bool
+    half = is_half_full s
+
+    next : Loaders (List ℕ)
+    next = step.with_class words_show m x words
+
+    same : among ≡ (λ u. class_of class_name_in u (class_name_in words) s.rows)
+    same = λ i u. sym (one_class u (class_name_in words) s.rows) i
+
+-- ---- an unload
+
+abbrev left : Bool → ℕ → Result ℕ Refusal
+left h u = cond h (Err refusal.JournalFull) (Ok u)
+
+abbrev unload_step : Bool → Bool → Bool → Loaders (List ℕ) → Result (Loaders (List ℕ)) Cause
+unload_step named spent there next =
+    cond (not named) (Err step.BadName)
+    (cond spent (Err step.NumbersSpent) (cond (not there) (Err step.NoLoader) (Ok next)))
+
+left_as_step : (h : Bool) (next : Loaders (List ℕ)) (u : ℕ)
+    → first (unload_step true false true next) h ≡ refused (left h u)
+left_as_step true next u = refl
+left_as_step false next u = refl
+
+unload_as_step : (named spent : Bool) (o : Option ℕ) (h : Bool) (next : Loaders (List ℕ))
+    → first (unload_step named spent (is_some o) next) h
+    ≡ refused (elim (asked named spent o) [ Err r ↦ Err r | Ok u ↦ left h u ])
+unload_as_step false spent o h next = refl
+unload_as_step true true o h next = refl
+unload_as_step true false None h next = refl
+unload_as_step true false (Some u) h next = left_as_step h next u
+
+pub unload_refused : LoadersAreFound (List ℕ) → (s : FrontState) (x : List ℕ) → s.closed ≡ false
+    → s.broken ≡ false → first_refusal s (Unload x) ≡ refused (loader_left s x)
+unload_refused loaders s x closed broken =
+    running s (Unload x) closed broken
+    ∙ (ap (λ (b : Bool). first (unload_step (is_loader_name x) (eqb s.number last_number) b
+    (map.remove m x)) (is_half_full s)) (loaders words_show s.rows x)
+    ∙ unload_as_step (is_loader_name x) (eqb s.number last_number) (number_of x s.rows)
+    (is_half_full s) (map.remove m x))
+  where
+    m : Loaders (List ℕ)
+    m = state_of words_show s.rows
+
+-- ---- what an answer says
+
+-- a number is answered: the name is one, and numbers are left
+pub record IsAsked (s : FrontState) (x : List ℕ) (u : ℕ) : Type 0 where
+  pub named : is_loader_name x ≡ true
+  pub left : eqb s.number last_number ≡ false
+  pub found : number_of x s.rows ≡ Some u
+
+err_not_ok : {X : Type 0} (r : Refusal) (n : ℕ) → ◌≡◌ {A = Result ℕ Refusal} (Err r) (Ok n) → X
+err_not_ok r n e = absurd (cc)
+
+ok_same : (n k : ℕ) → ◌≡◌ {A = Result ℕ Refusal} (Ok n) (Ok k) → n ≡ k
+ok_same n k e = cc
+
+is_asked : (named spent : Bool) (o : Option ℕ) (u : ℕ) → asked named spent o ≡ Ok u
+    → (named ≡ true) × (spent ≡ false) × (o ≡ Some u)
+is_asked false spent o u e = err_not_ok refusal.BadName u e
+is_asked true true o u e = err_not_ok refusal.NumbersSpent u e
+is_asked true false None u e = err_not_ok refusal.NoLoader u e
+is_asked true false (Some v) u e = (refl, refl, ap Some (ok_same v u e))
+
+pub was_asked : (s : FrontState) (x : List ℕ) (u : ℕ) → loader_asked s x ≡ Ok u → IsAsked s x u
+was_asked s x u e =
+    let h = is_asked (is_loader_name x) (eqb s.number last_number) (number_of x s.rows) u e in
+    record { named = h.0; left = h.1; found = h.2 }
+
+pub record IsMade (s : FrontState) (x : List ℕ) (n : ℕ) : Type 0 where
+  pub named : is_loader_name x ≡ true
+  pub left : eqb s.number last_number ≡ false
+  pub absent : number_of x s.rows ≡ None
+  pub room : nat_le (row_limit s.sizes) (length s.rows) ≡ false
+  pub number : n ≡ s.number + 1
+
+none_of : (o : Option ℕ) → is_some o ≡ false → o ≡ None
+none_of None e = refl
+none_of (Some n) e = absurd (cc)
+
+is_made : (named spent found full h : Bool) (n k : ℕ) → made named spent found full h n ≡ Ok k
+    → (named ≡ true) × (spent ≡ false) × (found ≡ false) × (full ≡ false) × (n ≡ k)
+is_made false spent found full h n k e = err_not_ok refusal.BadName k e
+is_made true true found full h n k e = err_not_ok refusal.NumbersSpent k e
+is_made true false true full h n k e = err_not_ok refusal.LoaderExists k e
+is_made true false false true h n k e = err_not_ok refusal.JournalFull k e
+is_made true false false false true n k e = err_not_ok refusal.JournalFull k e
+is_made true false false false false n k e = (refl, refl, refl, refl, ok_same n k e)
+
+pub was_made : (s : FrontState) (x : List ℕ) (n : ℕ) → loader_made s x ≡ Ok n → IsMade s x n
+was_made s x n e =
+    let h = is_made (is_loader_name x) (eqb s.number last_number) (is_some (number_of x s.rows))
+    (nat_le (row_limit s.sizes) (length s.rows)) (is_half_full s) (suc s.number) n e in
+    let next : suc s.number ≡ n = h.4 in
+    record {
+      named = h.0;
+      left = h.1;
+      absent = none_of (number_of x s.rows) h.2;
+      room = h.3;
+      number = omega (arith, next);
+    }
+
+pub record IsFree (s : FrontState) (x : List ℕ) (words : List ℕ) (u : ℕ) : Type 0 where
+  pub asked : IsAsked s x u
+  pub new : class_among words_show u (class_name_in words) s.rows ≡ None
+  pub fits : nat_lt (chunk_size s.sizes.top) (length words) ≡ false
+  pub room : nat_le (row_limit s.sizes) (length s.rows) ≡ false
+
+none_kept : (o : Option (List ℕ)) → is_some o ≡ false → o ≡ None
+none_kept None e = refl
+none_kept (Some n) e = absurd (cc)
+
+is_free : (taken long full h : Bool) (u v : ℕ) → free taken long full h u ≡ Ok v
+    → (taken ≡ false) × (long ≡ false) × (full ≡ false) × (u ≡ v)
+is_free true long full h u v e = err_not_ok refusal.ClassExists v e
+is_free false true full h u v e = err_not_ok refusal.RecordTooLong v e
+is_free false false true h u v e = err_not_ok refusal.JournalFull v e
+is_free false false false true u v e = err_not_ok refusal.JournalFull v e
+is_free false false false false u v e = (refl, refl, refl, ok_same u v e)
+
+pub was_free : (s : FrontState) (x words : List ℕ) (u : ℕ) → class_asked s x words ≡ Ok u
+    → IsFree s x words u
+was_free s x words u e = by_answer (loader_asked s x) refl e
+  where
+    by_answer : (a : Result ℕ Refusal) → loader_asked s x ≡ a
+        → ◌≡◌ {A = Result ℕ Refusal} (elim a [ Err r ↦ Err r | Ok v ↦ class_free s v words ]) (Ok u)
+        → IsFree s x words u
+    by_answer (Err r) a h = err_not_ok r u h
+    by_answer (Ok v) a h =
+        let taken = is_some (class_of class_name_in v (class_name_in words) s.rows) in
+        let p = is_free taken (nat_lt (chunk_size s.sizes.top) (length words))
+        (nat_le (row_limit s.sizes) (length s.rows)) (is_half_full s) v u h in
+        let same : v ≡ u = p.3 in
+        record {
+          asked = subst (λ k. IsAsked s x k) same (was_asked s x v a);
+          new = subst (λ k. class_among words_show k (class_name_in words) s.rows ≡ None) same
+              (sym (one_class v (class_name_in words) s.rows)
+              ∙ none_kept (class_of class_name_in v (class_name_in words) s.rows) p.0);
+          fits = p.1;
+          room = p.2;
+        }
+
+pub was_left : (s : FrontState) (x : List ℕ) (u : ℕ) → loader_left s x ≡ Ok u → IsAsked s x u
+was_left s x u e = by_answer (loader_asked s x) refl e
+  where
+    is_left : (h : Bool) (v : ℕ) → left h v ≡ Ok u → v ≡ u
+    is_left true v p = err_not_ok refusal.JournalFull u p
+    is_left false v p = ok_same v u p
+
+    by_answer : (a : Result ℕ Refusal) → loader_asked s x ≡ a
+        → ◌≡◌ {A = Result ℕ Refusal} (elim a [ Err r ↦ Err r | Ok v ↦ left (is_half_full s) v ]) (Ok u)
+        → IsAsked s x u
+    by_answer (Err r) a h = err_not_ok r u h
+    by_answer (Ok v) a h =
+        subst (λ k. IsAsked s x k) (is_left (is_half_full s) v h) (was_asked s x v a)

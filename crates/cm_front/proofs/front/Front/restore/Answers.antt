@@ -1,0 +1,7 @@
+use Rattle.cm_front.proofs.Taking.{none_taken}
+use Rattle.cm_front.proofs.front.Front.restore.Goals as goal
+
+pub take_rows-requires-clause-none : goal.take_rows-requires-clause-none
+take_rows-requires-clause-none c =
+    none_taken c.args.book.sizes c.args.geometry c.in_ok-space.space c.requires.sizes
+    c.in_ok-space.ensures c.geometry-is_space.ensures.lawful c.geometry-is_space.ensures.pool

@@ -1,0 +1,119 @@
+-- What each call of the accepted cache does.
+use Rattle.std.specs.Prelude.{◌≡◌, ℕ, ◌+◌, ◌-◌, ◌⊎◌, max, nat_le, if◌then◌else◌, List, [], ◌∷◌, ◌++◌}
+use Rattle.std.specs.Prelude.{length, Option, Some, None, Result, Ok, Err}
+use Rattle.cm_arena.specs.Chains.{chunks_of}
+use Rattle.cm_arena.specs.Placing.{Places, IsFull}
+use Rattle.cm_layout.specs.declared.row.Row.TheVariants.{Loader, Class}
+use Rattle.cm_layout.specs.declared.entry.Entry.{Entry}
+use Rattle.cm_layout.specs.declared.entry.Entry.TheVariants as entry
+use Rattle.cm_layout.specs.Rows.{number_of, rows_after, group_limit}
+use Rattle.cm_group.specs.Groups.{Carried, Handed, next_number, slots_taken}
+use Rattle.cm_space.specs.Space.{SpaceState, arena_of, with_arena, without_arena, learnt}
+use Rattle.cm_state.specs.State.{words_show}
+use Rattle.cm_state.specs.Step.{Change, AddLoader, Define, Unload, Tighten}
+use Rattle.cm_state.specs.Entries.{MayFollow, change_of}
+use Rattle.cm_prepare.specs.declared.refusal.Refusal.{Refusal}
+use Rattle.cm_prepare.specs.declared.refusal.Refusal.TheVariants as refusal
+use Rattle.cm_front.specs.Front.{FrontState, first_refusal}
+
+-- ---- accepting
+
+-- an entry with the words of the record that it writes
+abbrev pub carried : Entry (List ℕ) → Carried
+carried (entry.Live (Loader r)) = record { entry = entry.Live (Loader r); records = [] }
+carried (entry.Live (Class r words)) =
+    record { entry = entry.Live (Class r tt); records = words ∷ [] }
+carried (entry.Unload e) = record { entry = entry.Unload e; records = [] }
+carried (entry.Move e) = record { entry = entry.Move e; records = [] }
+
+-- a group that begins with this number
+abbrev pub begun_by : ℕ → Carried → Handed
+begun_by n c = record { first = n; learnt = 0; entries = c ∷ [] }
+
+abbrev pub with_entry : Handed → Carried → Handed
+with_entry group c = record group { entries = group.entries ++ c ∷ [] }
+
+-- the entry of this number joins the newest group while that has slots for it, else begins one
+abbrev pub joined_by : ℕ → List Handed → Carried → List Handed
+joined_by n [] c = begun_by n c ∷ []
+joined_by n (group ∷ []) c =
+    if nat_le (slots_taken (group.entries ++ c ∷ [])) group_limit then with_entry group c ∷ []
+    else group ∷ begun_by n c ∷ []
+joined_by n (group ∷ next ∷ groups) c = group ∷ joined_by n (next ∷ groups) c
+
+-- what an entry does to the space: a loader gets an arena, a class a place, and the chunks that an
+-- unloaded loader leaves wait for the entry's number
+abbrev pub SpaceAfter : FrontState → Entry (List ℕ) → SpaceState → Type 0
+SpaceAfter s (entry.Live (Loader r)) new = new ≡ with_arena s.space r.number []
+SpaceAfter s (entry.Live (Class r words)) new =
+    Places (arena_of s.space r.loader) s.space.pool (length words) r.place
+    (arena_of new r.loader) new.pool
+    × (new ≡ record (with_arena s.space r.loader (arena_of new r.loader)) { pool = new.pool })
+SpaceAfter s (entry.Unload e) new =
+    new ≡ record (without_arena s.space e.loader) {
+      waiting = s.space.waiting
+          ++ record { number = s.number + 1; chunks = chunks_of (arena_of s.space e.loader) } ∷ [];
+    }
+SpaceAfter s (entry.Move e) new = ⊥
+
+-- the cache with one entry more
+abbrev pub accepted : FrontState → Entry (List ℕ) → SpaceState → FrontState
+accepted s e space =
+    record s {
+      rows = rows_after s.rows e;
+      number = s.number + 1;
+      unsealed = joined_by (s.number + 1) s.unsealed (carried e);
+      space = space;
+    }
+
+-- the change is accepted with this number: it is an entry that may follow
+pub record Accepts (s : FrontState) (change : Change (List ℕ)) (n : ℕ)
+    (new : FrontState) : Type 0 where
+  pub number : n ≡ s.number + 1
+  pub entry : Entry (List ℕ)
+  pub change_is : change_of s.rows entry ≡ Some change
+  pub may : MayFollow words_show s.sizes s.number s.rows entry
+  pub space : SpaceAfter s entry new.space
+  pub after : new ≡ accepted s entry new.space
+
+-- no room in the region is left for the class
+abbrev pub IsFullFor : FrontState → Change (List ℕ) → Type 0
+IsFullFor s (AddLoader x) = ⊥
+IsFullFor s (Define x words) =
+    (u : ℕ) × (number_of x s.rows ≡ Some u)
+    × IsFull (arena_of s.space u) s.space.pool (length words)
+IsFullFor s (Unload x) = ⊥
+IsFullFor s (Tighten x) = ⊥
+
+-- The refusal is the first that applies; that the region is full, or that an allocation failed, is
+-- told only where none of the others applies, and the latter only where the region isn't full.
+abbrev pub IsReason : FrontState → Change (List ℕ) → Refusal → Type 0
+IsReason s change r =
+    (first_refusal s change ≡ Some r)
+    ⊎ ((first_refusal s change ≡ None)
+    × (((r ≡ refusal.RegionFull) × IsFullFor s change)
+    ⊎ ((r ≡ refusal.NoMemory) × ¬ IsFullFor s change)))
+
+abbrev pub Answers : FrontState → Change (List ℕ) → Result ℕ Refusal → FrontState → Type 0
+Answers s change (Ok n) new =
+    (first_refusal s change ≡ None) × (¬ IsFullFor s change) × Accepts s change n new
+Answers s change (Err r) new = (new ≡ s) × IsReason s change r
+
+-- ---- handing out and learning
+
+-- the oldest group goes, with what is learnt by now
+pub record HandsOut (s : FrontState) (group : Handed) (new : FrontState) : Type 0 where
+  pub oldest : Handed
+  pub rest : List Handed
+  pub is_oldest : s.unsealed ≡ oldest ∷ rest
+  pub group_is : group ≡ record oldest { learnt = s.learnt }
+  pub after : new ≡ record s { unsealed = rest; sealed = next_number oldest - 1 }
+
+abbrev pub Seals : FrontState → Option Handed → FrontState → Type 0
+Seals s None new = (s.unsealed ≡ []) × (new ≡ s)
+Seals s (Some group) new = HandsOut s group new
+
+-- the learnt number rises to that of the receipt, and what waits for at most it is free
+abbrev pub with_learnt : FrontState → ℕ → FrontState
+with_learnt s number =
+    record s { learnt = max s.learnt number; space = learnt s.space (max s.learnt number) }

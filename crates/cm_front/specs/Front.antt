@@ -1,0 +1,144 @@
+-- What the accepted cache is seen as, and what is true of it between two calls.
+use Rattle.std.specs.Prelude.{◌≡◌, ℕ, ◌+◌, ◌*◌, ◌-◌, ◌^◌, ◌<◌, ◌≤◌, ◌↔◌, Bool, true, nat_lt, List, []}
+use Rattle.std.specs.Prelude.{◌∷◌, Option, Some, None, Ok, Err, if◌then◌else◌, refl}
+use Rattle.std.specs.List.{AllByRecursion}
+use Rattle.std.specs.Coded.{Coded, code_by, coded×, codes}
+use Rattle.cm_pool.specs.Geometry.{Sizes, IsGeometry}
+use Rattle.cm_layout.specs.declared.row.Row.{Row}
+use Rattle.cm_layout.specs.declared.row.Row.TheVariants.{Loader, Class}
+use Rattle.cm_layout.specs.Rows.{bare}
+use Rattle.cm_layout.specs.Rules.{is_live}
+use Rattle.cm_group.specs.Groups.{Handed, IsRightRecord}
+use Rattle.cm_space.specs.Space.{SpaceState, Waits as WaitingChunks, IsKnown, state_code}
+use Rattle.cm_rows.specs.Rows.{LiveRows}
+use Rattle.cm_state.specs.State.{words_show, state_of}
+use Rattle.cm_state.specs.Step.{Change, step}
+use Rattle.cm_state.specs.Entries.{AreCacheRows}
+use Rattle.cm_prepare.specs.declared.refusal.Refusal.{Refusal}
+use Rattle.cm_prepare.specs.declared.refusal.Refusal.TheVariants as refusal
+use Rattle.cm_prepare.specs.Refusals.{refusal_of}
+use Rattle.cm_front.specs.declared.opened.Opened.{Opened}
+use Rattle.cm_front.specs.Laws.{GoesWith}
+use Rattle.cm_front.specs.Unsealed.{Waits, Follow}
+
+pub record FrontState : Type 0 where
+  pub sizes : Sizes
+  -- each class with the words of its record
+  pub rows : List (Row (List ℕ))
+  -- of the last accepted command, of the last one handed out, of the last one known to be stored
+  pub number : ℕ
+  pub sealed : ℕ
+  pub learnt : ℕ
+  -- what is still to be handed out, oldest first
+  pub unsealed : List Handed
+  pub space : SpaceState
+  pub broken : Bool
+  pub closed : Bool
+  pub opened : Opened
+
+-- how the code keeps it
+abbrev pub front_of : LiveRows (List ℕ) → SpaceState → Waits → ℕ → ℕ → ℕ → Bool → Bool → Opened
+    → FrontState
+front_of book space unsealed number sealed learnt broken closed opened =
+    record {
+      sizes = book.sizes;
+      rows = book.rows;
+      number = number;
+      sealed = sealed;
+      learnt = learnt;
+      unsealed = unsealed.groups;
+      space = space;
+      broken = broken;
+      closed = closed;
+      opened = opened;
+    }
+
+-- a value of this kind as data: what has a code of its own, and the space
+pub record Parts : Type 0 where
+  pub sizes : Sizes
+  pub rows : List (Row (List ℕ))
+  pub number : ℕ
+  pub sealed : ℕ
+  pub learnt : ℕ
+  pub unsealed : List Handed
+  pub broken : Bool
+  pub closed : Bool
+  pub opened : Opened
+
+pub parts_code : Coded Parts
+parts_code = Prim.hlevel codes
+
+abbrev pub front_code : Coded FrontState
+front_code =
+    code_by (Parts × SpaceState) (coded× parts_code state_code)
+    (λ s. (
+      record {
+        sizes = s.sizes;
+        rows = s.rows;
+        number = s.number;
+        sealed = s.sealed;
+        learnt = s.learnt;
+        unsealed = s.unsealed;
+        broken = s.broken;
+        closed = s.closed;
+        opened = s.opened;
+      },
+      s.space,
+    ))
+    (λ t. record {
+      sizes = t.0.sizes;
+      rows = t.0.rows;
+      number = t.0.number;
+      sealed = t.0.sealed;
+      learnt = t.0.learnt;
+      unsealed = t.0.unsealed;
+      space = t.1;
+      broken = t.0.broken;
+      closed = t.0.closed;
+      opened = t.0.opened;
+    })
+    (λ _. refl)
+
+-- each class's words are the record of a class that keeps the rules
+abbrev pub AreRight : List (Row (List ℕ)) → Type 0
+AreRight [] = Unit {0}
+AreRight (Loader r ∷ rows) = AreRight rows
+AreRight (Class r words ∷ rows) = IsRightRecord words × AreRight rows
+
+-- what waits, waits for a number that isn't learnt and was given
+pub record IsDueLater (learnt number : ℕ) (w : WaitingChunks) : Type 0 where
+  pub from : learnt < w.number
+  pub to : w.number ≤ number
+
+-- The rows are a cache's; the arenas are those of the rows, one for each live loader; and the
+-- commands that aren't handed out have the numbers behind those that are.
+pub record IsFront (s : FrontState) : Type 0 where
+  pub lawful : IsGeometry s.sizes
+  pub rows : AreCacheRows words_show s.sizes s.number s.rows
+  pub right : AreRight s.rows
+  pub space : GoesWith s.sizes (bare s.rows) s.space
+  pub known : (u : ℕ) → IsKnown s.space u ↔ (is_live u s.rows ≡ true)
+  pub waiting : AllByRecursion (IsDueLater s.learnt s.number) s.space.waiting
+  pub learnt : s.learnt ≤ s.sealed
+  pub numbers : s.number ≤ 2 ^ 63
+  pub groups : Follow (s.sealed + 1) s.unsealed (s.number + 1)
+  pub opened : s.opened.number ≤ s.number
+
+-- ---- refusals
+
+-- Until there are checkpoints: the half has no room for another group, where each command so far
+-- took one.
+abbrev pub is_half_full : FrontState → Bool
+is_half_full s =
+    nat_lt (s.sizes.slots - 1) (s.opened.slot + 2 * (s.number - s.opened.number) + 1)
+
+-- the first refusal that applies, in the order in which they are looked for, but for want of room
+-- in the region and of memory
+abbrev pub first_refusal : FrontState → Change (List ℕ) → Option Refusal
+first_refusal s change =
+    if s.closed then Some refusal.Closed
+    else if s.broken then Some refusal.Broken
+    else elim (step words_show s.sizes (state_of words_show s.rows) s.number change) [
+      | Err cause ↦ Some (refusal_of cause)
+      | Ok next ↦ if is_half_full s then Some refusal.JournalFull else None
+    ]

@@ -1,0 +1,59 @@
+-- The causes against a command as they are looked for: by names in the rows.
+use Rattle.std.specs.Prelude.{ℕ, suc, ◌==◌, Bool, true, not, nat_lt, nat_le, if◌then◌else◌, List, length}
+use Rattle.std.specs.Prelude.{Some, None, is_some, Result, Ok, Err}
+use Rattle.cm_pool.specs.Chunks.{chunk_size}
+use Rattle.cm_layout.specs.Names.{is_loader_name}
+use Rattle.cm_layout.specs.Rows.{number_of}
+use Rattle.cm_layout.specs.Rules.{row_limit}
+use Rattle.cm_record.specs.Names.{class_name_in}
+use Rattle.cm_index.specs.Index.{class_of}
+use Rattle.cm_state.specs.Step.{last_number}
+use Rattle.cm_prepare.specs.declared.refusal.Refusal.{Refusal}
+use Rattle.cm_prepare.specs.declared.refusal.Refusal.TheVariants as refusal
+use Rattle.cm_arena.specs.declared.refusal.Refusal.{Refusal as PlaceRefusal}
+use Rattle.cm_arena.specs.declared.refusal.Refusal.TheVariants as of_place
+use Rattle.cm_front.specs.Front.{FrontState, is_half_full}
+
+-- the number of the live loader that a command names
+abbrev pub loader_asked : FrontState → List ℕ → Result ℕ Refusal
+loader_asked s x =
+    if not (is_loader_name x) then Err refusal.BadName
+    else if s.number == last_number then Err refusal.NumbersSpent
+    else elim (number_of x s.rows) [ Some u ↦ Ok u | None ↦ Err refusal.NoLoader ]
+
+-- as many rows live as may, or the half is full
+abbrev pub journal_full : FrontState → Bool
+journal_full s = if nat_le (row_limit s.sizes) (length s.rows) then true else is_half_full s
+
+-- the number that the new loader gets
+abbrev pub loader_made : FrontState → List ℕ → Result ℕ Refusal
+loader_made s x =
+    if not (is_loader_name x) then Err refusal.BadName
+    else if s.number == last_number then Err refusal.NumbersSpent
+    else if is_some (number_of x s.rows) then Err refusal.LoaderExists
+    else if journal_full s then Err refusal.JournalFull
+    else Ok (suc s.number)
+
+-- the number of the loader in which the class can be defined
+abbrev pub class_free : FrontState → ℕ → List ℕ → Result ℕ Refusal
+class_free s u words =
+    if is_some (class_of class_name_in u (class_name_in words) s.rows) then Err refusal.ClassExists
+    else if nat_lt (chunk_size s.sizes.top) (length words) then Err refusal.RecordTooLong
+    else if journal_full s then Err refusal.JournalFull
+    else Ok u
+
+abbrev pub class_asked : FrontState → List ℕ → List ℕ → Result ℕ Refusal
+class_asked s x words =
+    elim (loader_asked s x) [ Err r ↦ Err r | Ok u ↦ class_free s u words ]
+
+-- the number of the loader that can be unloaded
+abbrev pub loader_left : FrontState → List ℕ → Result ℕ Refusal
+loader_left s x =
+    elim (loader_asked s x)
+    [ Err r ↦ Err r | Ok u ↦ if is_half_full s then Err refusal.JournalFull else Ok u ]
+
+-- why a class has no place
+abbrev pub refusal_of_place : PlaceRefusal → Refusal
+refusal_of_place of_place.RecordTooLong = refusal.RecordTooLong
+refusal_of_place of_place.RegionFull = refusal.RegionFull
+refusal_of_place of_place.NoMemory = refusal.NoMemory

@@ -1,0 +1,157 @@
+//! Accepting commands.
+
+ghost use Rattle.std.specs.Prelude.{◌≡◌, false, true};
+ghost use Rattle.std.specs.Prelude.{IfOk, OnOk};
+ghost use Rattle.cm_layout.specs.Names.{is_loader_name};
+ghost use Rattle.cm_layout.specs.declared.entry.Entry.TheVariants as variant;
+ghost use Rattle.cm_layout.specs.declared.row.Row.TheVariants.{Loader, Class};
+ghost use Rattle.cm_prepare.specs.Commands.{change_asked};
+ghost use Rattle.cm_state.specs.Step.{AddLoader, Define, Unload as UnloadOf};
+ghost use Rattle.cm_front.specs.Accepting.{Answers};
+ghost use Rattle.cm_front.specs.Refusing.{refusal_of_place};
+
+use crate::front::Front;
+use crate::laws::places_keep_rules;
+use crate::unsealed::Unsealed;
+use cm_group::{CarriedEntry, RecordRoom};
+use cm_layout::{ClassRow, Entry, LoaderRow, Row, SlotName, Unload, loaders_are_own};
+use cm_prepare::{Command, Prepared, Refusal};
+use cm_state::{entries_are_steps, rows_tell_state};
+use std::alloc::{AllocError, Global};
+
+impl Front {
+    /// Accepts a command and gives it the next number. It joins the newest group that isn't handed
+    /// out, while that has slots for it.
+    ///
+    /// The refusals are looked for in this order: `Closed`, `Broken`, `BadName`, `NumbersSpent`,
+    /// `LoaderExists` or `NoLoader`, `ClassExists`, `RecordTooLong`, `JournalFull`, `RegionFull`;
+    /// `NoMemory` is told only where none of these applies. A refused command takes no number and
+    /// leaves all as it was.
+    pub fn accept(&mut self, command: Command<'_>) -> Result<u64, Refusal>
+        ensures { Answers self.old (change_asked command.entry) result self.new }
+    {
+        if self.is_closed {
+            return Err(Refusal::Closed);
+        }
+        if self.is_broken {
+            return Err(Refusal::Broken);
+        }
+        match command {
+            Command::AddLoader(name) => self.add_loader(name),
+            Command::Define(name, class) => self.define(name, class),
+            Command::Unload(name) => self.unload(name),
+        }
+    }
+
+    fn add_loader(&mut self, name: &[u8]) -> Result<u64, Refusal>
+        requires running { self.old.closed ≡ false }
+        requires whole { self.old.broken ≡ false }
+        ensures { Answers self.old (AddLoader name.now) result self.new }
+    {
+        rows_tell_state();
+        loaders_are_own();
+        entries_are_steps();
+        let number = self.check_loader(name)?;
+        self.unsealed.make_ready()?;
+        self.space.add_loader(number)?;
+        let _is_space = self.space.geometry(); // so the proof knows that it is one
+        let _rule = self.book.apply(number, loader_entry(number, name));
+        let entry = CarriedEntry::loader(self.alloc, loader_row(number, name));
+        self.unsealed.join(number, entry);
+        self.number = number;
+        Ok(number)
+    }
+
+    fn define(&mut self, name: &[u8], class: Prepared) -> Result<u64, Refusal>
+        requires running { self.old.closed ≡ false }
+        requires whole { self.old.broken ≡ false }
+        ensures { Answers self.old (Define name.now class) result self.new }
+    {
+        rows_tell_state();
+        loaders_are_own();
+        entries_are_steps();
+        places_keep_rules();
+        let loader = self.check_class(name, &class)?;
+        let words = class.words();
+        let Ok((room, shared)) = room_for(self.alloc, &mut self.unsealed, &class) else {
+            return Err(if self.space.is_full(loader, words) {
+                Refusal::RegionFull
+            } else {
+                Refusal::NoMemory
+            });
+        };
+        let place = match self.space.place(loader, words) {
+            Ok(place) => place,
+            Err(refusal) => return Err(refusal_of_place(refusal)),
+        };
+        let _is_space = self.space.geometry(); // so the proof knows that it is one
+        let number = self.number + 1;
+        let row = ClassRow { loader, place };
+        let _rule = self.book.apply(number, Entry::Live(Row::Class(row, class)));
+        let entry = CarriedEntry::class_in(room, row, shared.into_record());
+        self.unsealed.join(number, entry);
+        self.number = number;
+        Ok(number)
+    }
+
+    fn unload(&mut self, name: &[u8]) -> Result<u64, Refusal>
+        requires running { self.old.closed ≡ false }
+        requires whole { self.old.broken ≡ false }
+        ensures { Answers self.old (UnloadOf name.now) result self.new }
+    {
+        rows_tell_state();
+        loaders_are_own();
+        entries_are_steps();
+        let loader = self.check_unload(name)?;
+        self.unsealed.make_ready()?;
+        let number = self.number + 1;
+        self.space.leave(loader, number)?;
+        let _is_space = self.space.geometry(); // so the proof knows that it is one
+        let _rule = self.book.apply(number, Entry::Unload(Unload { loader }));
+        let entry = CarriedEntry::unload(self.alloc, Unload { loader });
+        self.unsealed.join(number, entry);
+        self.number = number;
+        Ok(number)
+    }
+}
+
+// The room that a class takes in its group, and its record once more.
+fn room_for(
+    alloc: Global,
+    unsealed: &mut Unsealed,
+    class: &Prepared,
+) -> Result<(RecordRoom, Prepared), AllocError>
+    ensures groups { unsealed.new.groups ≡ unsealed.old.groups }
+    ensures ready { OnOk result (unsealed.new.is_ready ≡ true) }
+    ensures shared { IfOk result (λ p. p.1 ≡ class.now) }
+{
+    unsealed.make_ready()?;
+    let room = RecordRoom::new(alloc)?;
+    Ok((room, class.share()?))
+}
+
+fn loader_row(number: u64, name: &[u8]) -> LoaderRow
+    requires { is_loader_name name.now ≡ true }
+    ensures { result ≡ record { number = number; name = name.now } }
+{
+    let name = SlotName::new(name).unwrap();
+    LoaderRow { number, name }
+}
+
+fn loader_entry(number: u64, name: &[u8]) -> Entry<Prepared>
+    requires { is_loader_name name.now ≡ true }
+    ensures { result ≡ variant.Live (Loader (record { number = number; name = name.now })) }
+{
+    Entry::Live(Row::Loader(loader_row(number, name)))
+}
+
+// A place is never refused for the record's length, which was looked at before.
+fn refusal_of_place(refusal: cm_arena::Refusal) -> Refusal
+    ensures { result ≡ refusal_of_place refusal }
+{
+    match refusal {
+        cm_arena::Refusal::RecordTooLong => Refusal::RecordTooLong,
+        cm_arena::Refusal::RegionFull => Refusal::RegionFull,
+        cm_arena::Refusal::NoMemory => Refusal::NoMemory,
+    }
+}

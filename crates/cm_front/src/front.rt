@@ -1,0 +1,132 @@
+//! The accepted cache.
+
+ghost use Rattle.std.specs.Prelude.{◌≡◌, ◌<◌, true, OnOk, OnErr, IsOk, ◌↔◌, ◌≤◌};
+ghost use Rattle.std.specs.Option.{option_map};
+ghost use Rattle.std.specs.Arc.{arc_value};
+
+use crate::opened::Opened;
+use crate::unsealed::Unsealed;
+use cm_group::{Group, Receipt};
+use cm_pool::Geometry;
+use cm_prepare::Prepared;
+use cm_record::Record;
+use cm_rows::Book;
+use cm_space::Space;
+use cm_state::rows_tell_state;
+use std::alloc::Global;
+use std::marker::Model;
+use std::sync::Arc;
+use thiserror::Error;
+
+/// A receipt names a number that wasn't handed out.
+#[derive(Clone, Copy, Debug, PartialEq, Eq, Error)]
+#[error("the receipt is of a number that wasn't handed out")]
+pub struct Stranger;
+
+/// The cache as it was accepted: each loader with its classes, where their records lie, and the
+/// commands that are still to be handed to the disk.
+///
+/// Contracts see the rows that live, each class with the words of its record, the number of the
+/// last command, the space, and what isn't handed out. The loaders and classes are the map of the
+/// rows.
+#[derive(Drop)]
+pub struct Front {
+    pub(crate) alloc: Global,
+    pub(crate) book: Book<Prepared>,
+    pub(crate) space: Space,
+    pub(crate) unsealed: Unsealed,
+    pub(crate) number: u64,
+    pub(crate) sealed: u64,
+    pub(crate) learnt: u64,
+    pub(crate) is_broken: bool,
+    pub(crate) is_closed: bool,
+    pub(crate) opened: Opened,
+}
+
+impl Model for Front {
+    ghost use Rattle.cm_front.specs.Front.{FrontState, IsFront, front_of, front_code};
+
+    ghost Value = { FrontState };
+
+    ghost coded = { front_code };
+
+    ghost view = { λ f. front_of f.book f.space f.unsealed f.number f.sealed f.learnt f.is_broken f.is_closed f.opened };
+
+    ghost invariant = { λ f. IsFront (front_of f.book f.space f.unsealed f.number f.sealed f.learnt f.is_broken f.is_closed f.opened) };
+}
+
+impl Front {
+    ghost use Rattle.cm_group.specs.Groups.{IsRightRecord};
+    ghost use Rattle.cm_state.specs.State.{words_show, state_of, class_in};
+    ghost use Rattle.cm_front.specs.Front.{IsFront};
+    ghost use Rattle.cm_front.specs.Accepting.{Seals, with_learnt};
+
+    /// The sizes of the region.
+    pub fn geometry(&self) -> Geometry
+        ensures value { result ≡ self.now.sizes }
+        ensures lawful { IsFront self.now }
+    {
+        self.space.geometry()
+    }
+
+    /// The number of the last accepted command.
+    pub fn number(&self) -> u64
+        ensures { result ≡ self.now.number }
+    {
+        self.number
+    }
+
+    /// The record of the class of a name in the loader of a name, as accepted, whether or not it is
+    /// stored; also after a failure of the device, and once the cache is closed. Takes no memory.
+    pub fn find(&self, loader: &[u8], class: &[u8]) -> Option<&Arc<Record, Global>>
+        ensures { option_map (λ r. arc_value r.now) result
+            ≡ class_in (state_of words_show self.now.rows) loader.now class.now }
+    {
+        rows_tell_state();
+        let number = self.book.loader(loader)?;
+        let found = self.book.class(number, class)?;
+        Some(found.record())
+    }
+
+    /// Hands out the oldest group of accepted commands, with the number that is known to be stored
+    /// by now. `None` where all commands are handed out. Takes no memory.
+    pub fn seal(&mut self) -> Option<Group>
+        ensures { Seals self.old result self.new }
+    {
+        let mut group = self.unsealed.take_oldest()?;
+        group.set_learnt(self.learnt);
+        self.sealed = group.first() + (group.count() as u64 - 1);
+        Some(group)
+    }
+
+    /// Learns that all commands up to a number are stored: the chunks that waited for one of these
+    /// are free from then on. What is learnt never falls. Refused, with nothing changed, where
+    /// the number wasn't handed out yet. Takes no memory.
+    pub fn learn(&mut self, receipt: Receipt) -> Result<(), Stranger>
+        ensures known { IsOk result ↔ (receipt.number ≤ self.old.sealed) }
+        ensures ok { OnOk result (self.new ≡ with_learnt self.old receipt.number) }
+        ensures err { OnErr result (self.new ≡ self.old) }
+    {
+        if receipt.number > self.sealed {
+            return Err(Stranger);
+        }
+        self.learnt = self.learnt.max(receipt.number);
+        self.space.learn(self.learnt);
+        let _is_space = self.space.geometry(); // so the proof knows that it is one
+        Ok(())
+    }
+
+    /// The device failed: from now on no command is accepted. Takes no memory.
+    pub fn fail(&mut self)
+        ensures { self.new ≡ record self.old { broken = true } }
+    {
+        self.is_broken = true;
+    }
+
+    /// Closes the cache: from now on no command is accepted. Takes no memory.
+    pub fn close(&mut self)
+        ensures { self.new ≡ record self.old { closed = true } }
+    {
+        self.is_closed = true;
+    }
+}

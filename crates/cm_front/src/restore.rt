@@ -1,0 +1,86 @@
+//! The cache that a file holds.
+
+ghost use Rattle.std.specs.Prelude.{◌≡◌, ℕ, ◌≤◌, ◌^◌, [], IfOk, OnOk};
+ghost use Rattle.cm_pool.specs.Geometry.{IsGeometry};
+ghost use Rattle.cm_state.specs.State.{words_show};
+ghost use Rattle.cm_state.specs.Entries.{AreCacheRows};
+ghost use Rattle.cm_front.specs.Front.{AreRight};
+ghost use Rattle.cm_front.specs.Restoring.{IsSpaceOf, CanTake, Takes, Restores};
+
+use crate::front::Front;
+use crate::opened::Opened;
+use crate::unsealed::Unsealed;
+use cm_layout::Row;
+use cm_pool::{Geometry, roots_are_free};
+use cm_prepare::Prepared;
+use cm_rows::Book;
+use cm_space::{Space, each_word_has_its_place, roots_reach_what_is_adopted};
+use std::alloc::{AllocError, Global};
+
+impl Front {
+    /// The cache of the rows of a book, as recovery finds them: all commands up to `number` are
+    /// stored, nothing is to be handed out, and as many roots are present as the rows use. The half
+    /// that counts is used up to `slot`.
+    pub fn restore(
+        alloc: Global,
+        geometry: Geometry,
+        book: Book<Prepared>,
+        number: u64,
+        slot: u32,
+    ) -> Result<Front, AllocError>
+        requires sizes { book.sizes ≡ geometry }
+        requires rows { AreCacheRows words_show book.sizes number book.rows }
+        requires right { AreRight book.rows }
+        requires last { number ≤ 2 ^ 63 }
+        ensures { IfOk result (λ front. Restores book number slot front) }
+    {
+        let _lawful = geometry.top(); // so the proof knows that its sizes are within the limits
+        let mut space = Space::new(alloc, geometry)?;
+        let _is_space = space.geometry(); // and that this is a space
+        take_rows(&mut space, &book)?;
+        Ok(Front {
+            alloc,
+            book,
+            space,
+            unsealed: Unsealed::new(alloc),
+            number,
+            sealed: number,
+            learnt: number,
+            is_broken: false,
+            is_closed: false,
+            opened: Opened { slot, number },
+        })
+    }
+}
+
+// Takes the rows of a book into a space that has none.
+fn take_rows(space: &mut Space, book: &Book<Prepared>) -> Result<(), AllocError>
+    requires lawful { IsGeometry book.now.sizes }
+    requires none { IsSpaceOf book.now.sizes [] space.old }
+    requires rows { (n : ℕ) × AreCacheRows words_show book.now.sizes n book.now.rows }
+    ensures { OnOk result (IsSpaceOf book.now.sizes book.now.rows space.new) }
+{
+    roots_are_free();
+    each_word_has_its_place();
+    roots_reach_what_is_adopted();
+    let mut rows = book.walk();
+    while let Some(row) = rows.next() {
+        take_row(space, row)?;
+    }
+    Ok(())
+}
+
+// Takes one row more: a loader gets an arena, and a class's place is taken over.
+fn take_row(space: &mut Space, row: &Row<Prepared>) -> Result<(), AllocError>
+    requires { CanTake row.now space.old }
+    ensures { OnOk result (Takes row.now space.old space.new) }
+{
+    match row {
+        Row::Loader(row) => space.add_loader(row.number)?,
+        Row::Class(row, _) => {
+            let _taken = space.adopt(row.loader, row.place)?;
+        }
+    }
+    let _is_space = space.geometry(); // so the proof knows that it is one
+    Ok(())
+}

@@ -1,0 +1,90 @@
+//! Accepted caches to look at. What a test does with one stands in a function that borrows it. Where an
+//! allocation failed a call is made once more: the cache is as it was, so the answer is the one that
+//! was due.
+
+use cm_front::Front;
+use cm_pool::Geometry;
+use cm_prepare::{Command, Prepared, Refusal, prepare};
+use cm_rows::Book;
+use std::alloc::{AllocError, Global};
+use std::test::Fail;
+
+/// A class with a name of one letter and one attribute named `X`: what stands before the letter, and
+/// between it and the attribute's length.
+const BEFORE_NAME: &[u8] = b"cafebabe0000003400060700020100";
+const BEHIND_NAME: &[u8] =
+    b"0700040100106a6176612f6c616e672f4f626a656374010001580021000100030000000000000001";
+
+fn open(alloc: Global, geometry: Geometry) -> Result<Front, AllocError> {
+    let book = Book::new(alloc, geometry)?;
+    Front::restore(alloc, geometry, book, 0, 1)
+}
+
+/// A cache with nothing in it.
+pub fn empty(alloc: Global, top: u32, roots: u32) -> Result<Front, Fail> {
+    let geometry = Geometry::new(top, roots, 65_536).ok_or("sizes")?;
+    match open(alloc, geometry) {
+        Ok(front) => Ok(front),
+        Err(_) => Ok(open(alloc, geometry)?),
+    }
+}
+
+fn bytes_of(alloc: Global, name: u8, count: u32) -> Result<Vec<u8>, Fail> {
+    let mut bytes = hex::decode(alloc, BEFORE_NAME)?;
+    bytes.extend_from_slice(&[1, name])?;
+    bytes.extend_from_slice(&hex::decode(alloc, BEHIND_NAME)?)?;
+    bytes.extend_from_slice(&[0, 5])?;
+    bytes.extend_from_slice(&count.to_be_bytes())?;
+    for _byte in 0..count {
+        bytes.push(0)?;
+    }
+    Ok(bytes)
+}
+
+/// The class of this name with so many bytes in its attribute: its record has 20 words and one for
+/// each eight bytes.
+pub fn class(alloc: Global, name: u8, count: u32) -> Result<Prepared, Fail> {
+    let bytes = match bytes_of(alloc, name, count) {
+        Ok(bytes) => bytes,
+        Err(_) => bytes_of(alloc, name, count)?,
+    };
+    match prepare(alloc, &bytes) {
+        Ok(class) => Ok(class),
+        Err(Refusal::NoMemory) => Ok(prepare(alloc, &bytes).ok().ok_or("a class")?),
+        Err(_) => Err("no class".into()),
+    }
+}
+
+pub fn add_loader(front: &mut Front, name: &[u8]) -> Result<u64, Refusal> {
+    match front.accept(Command::AddLoader(name)) {
+        Err(Refusal::NoMemory) => front.accept(Command::AddLoader(name)),
+        answer => answer,
+    }
+}
+
+pub fn unload(front: &mut Front, name: &[u8]) -> Result<u64, Refusal> {
+    match front.accept(Command::Unload(name)) {
+        Err(Refusal::NoMemory) => front.accept(Command::Unload(name)),
+        answer => answer,
+    }
+}
+
+fn share(class: &Prepared) -> Result<Prepared, AllocError> {
+    match class.share() {
+        Ok(shared) => Ok(shared),
+        Err(_) => class.share(),
+    }
+}
+
+pub fn define(front: &mut Front, name: &[u8], class: &Prepared) -> Result<u64, Refusal> {
+    match front.accept(Command::Define(name, share(class)?)) {
+        Err(Refusal::NoMemory) => front.accept(Command::Define(name, share(class)?)),
+        answer => answer,
+    }
+}
+
+/// How many words the record of a class has, where it is found.
+pub fn words(front: &Front, loader: &[u8], class: &[u8]) -> Option<u32> {
+    let found = front.find(loader, class)?;
+    Some(found.words())
+}

@@ -1,0 +1,10 @@
+//! Worked examples for `cm_front`: commands that are accepted and refused, what is found and handed
+//! out, and when chunks are free again.
+#![tactic(auto)]
+
+#[cfg(test)]
+mod commands;
+#[cfg(test)]
+mod fronts;
+#[cfg(test)]
+mod random;
