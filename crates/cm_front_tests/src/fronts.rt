@@ -29,30 +29,31 @@ pub fn empty(alloc: Global, top: u32, roots: u32) -> Result<Front, Fail> {
     }
 }
 
-fn bytes_of(alloc: Global, name: u8, count: u32) -> Result<Vec<u8>, Fail> {
-    let mut bytes = hex::decode(alloc, BEFORE_NAME)?;
-    bytes.extend_from_slice(&[1, name])?;
-    bytes.extend_from_slice(&hex::decode(alloc, BEHIND_NAME)?)?;
-    bytes.extend_from_slice(&[0, 5])?;
-    bytes.extend_from_slice(&count.to_be_bytes())?;
+fn bytes_of(alloc: Global, name: u8, count: u32) -> Option<Vec<u8>> {
+    let mut bytes = hex::decode(alloc, BEFORE_NAME).ok()?;
+    bytes.extend_from_slice(&[1, name]).ok()?;
+    let behind = hex::decode(alloc, BEHIND_NAME).ok()?;
+    bytes.extend_from_slice(&behind).ok()?;
+    bytes.extend_from_slice(&[0, 5]).ok()?;
+    bytes.extend_from_slice(&count.to_be_bytes()).ok()?;
     for _byte in 0..count {
-        bytes.push(0)?;
+        bytes.push(0).ok()?;
     }
-    Ok(bytes)
+    Some(bytes)
 }
 
 /// The class of this name with so many bytes in its attribute: its record has 20 words and one for
 /// each eight bytes.
 pub fn class(alloc: Global, name: u8, count: u32) -> Result<Prepared, Fail> {
     let bytes = match bytes_of(alloc, name, count) {
-        Ok(bytes) => bytes,
-        Err(_) => bytes_of(alloc, name, count)?,
+        Some(bytes) => bytes,
+        None => bytes_of(alloc, name, count).ok_or("bytes")?,
     };
-    match prepare(alloc, &bytes) {
-        Ok(class) => Ok(class),
-        Err(Refusal::NoMemory) => Ok(prepare(alloc, &bytes).ok().ok_or("a class")?),
-        Err(_) => Err("no class".into()),
-    }
+    let class = match prepare(alloc, &bytes) {
+        Ok(class) => class,
+        Err(_) => prepare(alloc, &bytes).ok().ok_or("a class")?,
+    };
+    Ok(class)
 }
 
 pub fn add_loader(front: &mut Front, name: &[u8]) -> Result<u64, Refusal> {

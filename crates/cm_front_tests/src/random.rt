@@ -15,6 +15,7 @@ const CLASSES: usize = 8;
 const WORDS: [u32; CLASSES] = [20, 24, 120, 128, 129, 300, 1_024, 3_000];
 
 /// What a cache of these holds.
+#[derive(Drop)]
 struct Model {
     lives: [bool; LOADERS],
     has: [[bool; CLASSES]; LOADERS],
