@@ -1,10 +1,10 @@
 -- An index over rows: what a search in it finds, and the index of rows that change.
 use Rattle.std.proofs.Common.{◌≡◌, ℕ, zero, suc, ◌+◌, ◌<◌, ◌⊎◌, Bool, true, false, cond, eqb}
-use Rattle.std.proofs.Common.{List, [], ◌∷◌, ◌++◌, map, length, take, drop, get_or, Option, Some}
+use Rattle.std.proofs.Common.{List, [], ◌∷◌, ◌++◌, map, length, take, drop, get_or, set, Option, Some}
 use Rattle.std.proofs.Common.{None, refl, sym, ◌∙◌, ap, subst, arith, inl, inr, length-append}
-use Rattle.std.proofs.Common.{add-one, length-take}
+use Rattle.std.proofs.Common.{add-one, length-take, length-set}
 use Rattle.std.specs.Prelude.{◌&&◌}
-use Rattle.std.specs.Option.{option_map, option_or}
+use Rattle.std.specs.Option.{option_map, option_or, option_map_or}
 use Rattle.std.specs.List.{AllByRecursion, find, slice_get, insert}
 use Rattle.std.specs.Str.{bytes_eq}
 use Rattle.std.specs.Ordering.{nat_cmp}
@@ -21,15 +21,19 @@ use Rattle.cm_pool.specs.Chunks.{same_chunk}
 use Rattle.cm_pool.specs.Lists.{Among}
 use Rattle.cm_layout.specs.declared.row.Row.{Row}
 use Rattle.cm_layout.specs.declared.row.Row.TheVariants.{Loader, Class}
-use Rattle.cm_layout.specs.Rows.{number_of, moved, moved_row}
+use Rattle.cm_layout.specs.Rows.{number_of, moved_row}
 use Rattle.cm_index.specs.declared.index.IndexEntry.{IndexEntry}
+use Rattle.cm_index.specs.declared.slot.Slot.{Slot}
+use Rattle.cm_index.specs.Living.{living, moved_slot}
 use Rattle.cm_index.specs.Index.{class_of}
 use Rattle.cm_index.specs.Index.{owner_of, rank, name_in, is_named, key, tail_at, key_at, keys_at}
-use Rattle.cm_index.specs.Index.{IsEntry, IsIndex, IsKeyAt, Parts, Rise, number_in, kept_in}
-use Rattle.cm_index.proofs.Lists.{among-append, among-left, among-right}
+use Rattle.cm_index.specs.Index.{IsEntry, IsIndex, IsKeyAt, Parts, Rise, Leads, LivesAt, leads_to_life}
+use Rattle.cm_index.specs.Index.{renewed, number_in, kept_in}
+use Rattle.cm_index.proofs.Lists.{among-append, among-left, among-right, among-map}
 use Rattle.cm_index.proofs.Tests.{both_true}
 use Rattle.cm_index.proofs.Tests.{ne-eqb}
-use Rattle.cm_index.proofs.Sorted.{Below, Above, below-to, above-from}
+use Rattle.cm_index.proofs.Living.{living-append, living-push, living-moved}
+use Rattle.cm_index.proofs.Sorted.{Below, Above, below-to, above-from, equal-itself, all-among}
 use Rattle.cm_index.proofs.Sorted.{equal-is, all-take, all-drop, all-append, all-at, rise-insert, parted}
 
 -- ---- lists
@@ -44,7 +48,7 @@ get-last : {X : Type 0} (xs : List X) (x : X) → slice_get (xs ++ x ∷ []) (le
 get-last [] x = refl
 get-last (y ∷ xs) x = get-last xs x
 
-get-map : {X Y : Type 0} (f : X → Y) (xs : List X) (i : ℕ)
+pub get-map : {X Y : Type 0} (f : X → Y) (xs : List X) (i : ℕ)
     → slice_get (map f xs) i ≡ option_map f (slice_get xs i)
 get-map f [] i = refl
 get-map f (x ∷ xs) zero = refl
@@ -100,135 +104,228 @@ module _ {P : Type 0} (name_of : P → List ℕ) where
 
 -- ---- what a search finds
 
-module _ {P : Type 0} (mark : ℕ → List ℕ → ℕ) (name_of : P → List ℕ) where
-  pub record Found (rows : List (Row P)) (e : IndexEntry) (o : ℕ) (x : List ℕ) : Type 0 where
-    pub row : Row P
-    pub there : slice_get rows e.at ≡ Some row
-    pub first : find (is_named name_of o x) rows ≡ Some row
+-- of one key there is one entry
+same-key : {X : Type 0} (f : X → List ℕ) (xs : List X) (x : X) (i : ℕ) (d : X) → Rise (map f xs)
+    → Among x xs → i < length xs → f x ≡ f (get_or xs i d) → x ≡ get_or xs i d
+same-key f [] x i d h none lt e = absurd none
+same-key f (y ∷ xs) x zero d h (inl is) lt e = is
+same-key f (y ∷ xs) x zero d h (inr m) lt e =
+    let less : slice_cmp nat_cmp (f y) (f x) ≡ Less = all-among (λ b. slice_cmp nat_cmp (f y) b ≡ Less) (map f xs) (f x) h.0 (among-map f x xs m) in
+    let same : slice_cmp nat_cmp (f y) (f x) ≡ Equal = ap (slice_cmp nat_cmp (f y)) e ∙ equal-itself (f y) in
+    absurd (cc)
+same-key f (y ∷ xs) x (suc i) d h (inl is) lt e =
+    let there : f (get_or xs i d) ≡ f y = sym e ∙ ap f is in
+    let less : slice_cmp nat_cmp (f y) (f (get_or xs i d)) ≡ Less = all-places f y xs i d h.0 (omega arith) in
+    let same : slice_cmp nat_cmp (f y) (f (get_or xs i d)) ≡ Equal = ap (slice_cmp nat_cmp (f y)) there ∙ equal-itself (f y) in
+    absurd (cc)
+  where
+    all-places : {X : Type 0} (f : X → List ℕ) (y : X) (xs : List X) (i : ℕ) (d : X)
+        → AllByRecursion (λ b. slice_cmp nat_cmp (f y) b ≡ Less) (map f xs) → i < length xs
+        → slice_cmp nat_cmp (f y) (f (get_or xs i d)) ≡ Less
+    all-places f y [] i d h lt = absurd (omega arith)
+    all-places f y (x ∷ xs) zero d h lt = h.0
+    all-places f y (x ∷ xs) (suc i) d h lt = all-places f y xs i d h.1 (omega arith)
+same-key f (y ∷ xs) x (suc i) d h (inr m) lt e = same-key f xs x i d h.1 m (omega arith) e
 
-  pub found-entry : (rows : List (Row P)) (e : IndexEntry) (o : ℕ) (x : List ℕ)
-      → IsEntry mark name_of rows e → slice_cmp nat_cmp (key_at name_of rows e) (key mark o x) ≡ Equal
-      → Found rows e o x
-  found-entry rows e o x h same =
-      let keys : key_at name_of rows e ≡ key mark o x = equal-is (key_at name_of rows e) (key mark o x) same in
-      let whole : e.fingerprint ∷ rank (owner_of h.row) ∷ name_in name_of h.row ≡ mark o x ∷ o ∷ x = ap
-      (λ (r : Option (Row P)). e.fingerprint ∷ tail_at name_of r) (sym h.there) ∙ keys in
-      let owner : rank (owner_of h.row) ≡ o = cc in
-      let name : name_in name_of h.row ≡ x = cc in
+module _ {P : Type 0} where
+  pub leads-is : (slots : List (Slot (Row P))) (e : IndexEntry) (s : Slot (Row P))
+      → slice_get slots e.at ≡ Some s → leads_to_life slots e ≡ s.live
+  leads-is slots e s there = ap (λ (o : Option (Slot (Row P))). option_map_or (λ s. s.live) o false) there
+
+  -- where an entry leads to life, it leads somewhere
+  pub leads-there : (slots : List (Slot (Row P))) (e : IndexEntry) → leads_to_life slots e ≡ true
+      → (s : Slot (Row P)) × (slice_get slots e.at ≡ Some s)
+  leads-there slots e h = by_slot (slice_get slots e.at) refl h
+    where
+      by_slot : (o : Option (Slot (Row P))) → slice_get slots e.at ≡ o
+          → option_map_or (λ (s : Slot (Row P)). s.live) o false ≡ true
+          → (s : Slot (Row P)) × (slice_get slots e.at ≡ Some s)
+      by_slot None is h = absurd (cc)
+      by_slot (Some s) is h = (s, is)
+
+module _ {P : Type 0} (mark : ℕ → List ℕ → ℕ) (name_of : P → List ℕ) where
+  pub record Found (slots : List (Slot (Row P))) (e : IndexEntry) (o : ℕ) (x : List ℕ) : Type 0 where
+    pub slot : Slot (Row P)
+    pub there : slice_get slots e.at ≡ Some slot
+    pub fingerprint : e.fingerprint ≡ mark o x
+    pub owner : rank (owner_of slot.item) ≡ o
+    pub name : name_in name_of slot.item ≡ x
+    pub lives : slot.live ≡ true → find (is_named name_of o x) (living slots) ≡ Some slot.item
+    pub gone : slot.live ≡ false → find (is_named name_of o x) (living slots) ≡ None
+
+  pub found-there : (slots : List (Slot (Row P))) (es : List IndexEntry) (i : ℕ) (d : IndexEntry) (o : ℕ) (x k : List ℕ) → IsIndex mark name_of slots es → IsKeyAt name_of slots es i k
+      → k ≡ key mark o x → Found slots (get_or es i d) o x
+  found-there slots es i d o x k h at is =
+      let e = get_or es i d in
+      let entry = all-at (IsEntry mark name_of slots) es i d h.each at.within in
+      let s = entry.slot in
+      let keys : key_at name_of slots e ≡ key mark o x = equal-is (key_at name_of slots e) (key mark o x) (ap (λ (y : List ℕ). slice_cmp nat_cmp (key_at name_of slots e) y) (sym is) ∙ at.key_is d) in
+      let whole : e.fingerprint ∷ rank (owner_of s.item) ∷ name_in name_of s.item ≡ mark o x ∷ o ∷ x = ap
+      (λ (r : Option (Slot (Row P))). e.fingerprint ∷ tail_at name_of r) (sym entry.there) ∙ keys in
+      let print : e.fingerprint ≡ mark o x = cc in
+      let owner : rank (owner_of s.item) ≡ o = cc in
+      let name : name_in name_of s.item ≡ x = cc in
       record {
-        row = h.row;
-        there = h.there;
-        first = ap (λ (t : ℕ). find (is_named name_of t x) rows) (sym owner) ∙ ap (λ (y : List ℕ). find (is_named name_of (rank (owner_of h.row)) y) rows) (sym name) ∙ h.first;
+        slot = s;
+        there = entry.there;
+        fingerprint = print;
+        owner = owner;
+        name = name;
+        lives = λ live. ap (λ (t : ℕ). find (is_named name_of t x) (living slots)) (sym owner) ∙ ap (λ (y : List ℕ). find (is_named name_of (rank (owner_of s.item)) y) (living slots)) (sym name) ∙ entry.first live;
+        gone = λ dead. option-none (find (is_named name_of o x) (living slots)) (λ row first.
+            let l = h.complete o x row first in
+            let one : l.entry ≡ e = same-key (key_at name_of slots) es l.entry i d h.rises l.among at.within (l.key_is ∙ sym keys) in
+            let lives : leads_to_life slots e ≡ true = ap (leads_to_life slots) (sym one) ∙ l.lives in
+            let dies : leads_to_life slots e ≡ false = leads-is slots e s entry.there ∙ dead in
+            absurd (cc));
       }
 
-  pub found-there : (rows : List (Row P)) (es : List IndexEntry) (i : ℕ) (d : IndexEntry) (o : ℕ) (x k : List ℕ) → IsIndex mark name_of rows es → IsKeyAt name_of rows es i k
-      → k ≡ key mark o x → Found rows (get_or es i d) o x
-  found-there rows es i d o x k h at is =
-      found-entry rows (get_or es i d) o x (all-at (IsEntry mark name_of rows) es i d h.each at.within) (ap (λ (y : List ℕ). slice_cmp nat_cmp (key_at name_of rows (get_or es i d)) y) (sym is) ∙ at.key_is d)
-
-  pub absent-at : (rows : List (Row P)) (es : List IndexEntry) (i o : ℕ) (x : List ℕ)
-      → IsIndex mark name_of rows es → Parts (keys_at name_of rows es) i (key mark o x)
-      → find (is_named name_of o x) rows ≡ None
-  absent-at rows es i o x h p =
-      option-none (find (is_named name_of o x) rows) (λ row is. parted (keys_at name_of rows es) i (key mark o x) p (h.complete o x row is))
+  pub absent-at : (slots : List (Slot (Row P))) (es : List IndexEntry) (i o : ℕ) (x : List ℕ)
+      → IsIndex mark name_of slots es → Parts (keys_at name_of slots es) i (key mark o x)
+      → find (is_named name_of o x) (living slots) ≡ None
+  absent-at slots es i o x h p =
+      option-none (find (is_named name_of o x) (living slots)) (λ row is.
+      let l = h.complete o x row is in
+      parted (keys_at name_of slots es) i (key mark o x) p (subst (λ (k : List ℕ). Among k (keys_at name_of slots es)) l.key_is (among-map (key_at name_of slots) l.entry es l.among)))
 
   -- ---- a row more
 
-  entry-left : (rows more : List (Row P)) (e : IndexEntry) → IsEntry mark name_of rows e
-      → IsEntry mark name_of (rows ++ more) e
-  entry-left rows more e h =
-      let test = is_named name_of (rank (owner_of h.row)) (name_in name_of h.row) in
+  entry-left : (slots more : List (Slot (Row P))) (e : IndexEntry) → IsEntry mark name_of slots e
+      → IsEntry mark name_of (slots ++ more) e
+  entry-left slots more e h =
+      let test = is_named name_of (rank (owner_of h.slot.item)) (name_in name_of h.slot.item) in
       record {
-        row = h.row;
-        there = get-left rows more e.at h.row h.there;
+        slot = h.slot;
+        there = get-left slots more e.at h.slot h.there;
         fingerprint = h.fingerprint;
-        first = find-append test rows more ∙ or-some (find test rows) (find test more) h.row h.first;
+        first = λ live. ap (find test) (living-append slots more) ∙ find-append test (living slots) (living more) ∙ or-some (find test (living slots)) (find test (living more)) h.slot.item (h.first live);
       }
 
-  each-left : (rows more : List (Row P)) (es : List IndexEntry)
-      → AllByRecursion (IsEntry mark name_of rows) es
-      → AllByRecursion (IsEntry mark name_of (rows ++ more)) es
-  each-left rows more [] h = tt
-  each-left rows more (e ∷ es) h = (entry-left rows more e h.0, each-left rows more es h.1)
+  each-left : (slots more : List (Slot (Row P))) (es : List IndexEntry)
+      → AllByRecursion (IsEntry mark name_of slots) es
+      → AllByRecursion (IsEntry mark name_of (slots ++ more)) es
+  each-left slots more [] h = tt
+  each-left slots more (e ∷ es) h = (entry-left slots more e h.0, each-left slots more es h.1)
 
-  keys-left : (rows more : List (Row P)) (es : List IndexEntry)
-      → AllByRecursion (IsEntry mark name_of rows) es
-      → keys_at name_of (rows ++ more) es ≡ keys_at name_of rows es
-  keys-left rows more [] h = refl
-  keys-left rows more (e ∷ es) h =
-      let same : slice_get (rows ++ more) e.at ≡ slice_get rows e.at = get-left rows more e.at h.0.row h.0.there ∙ sym h.0.there in
-      ap (λ (r : Option (Row P)). (e.fingerprint ∷ tail_at name_of r) ∷ keys_at name_of (rows ++ more) es) same
-      ∙ ap (λ (ks : List (List ℕ)). key_at name_of rows e ∷ ks) (keys-left rows more es h.1)
+  keys-left : (slots more : List (Slot (Row P))) (es : List IndexEntry)
+      → AllByRecursion (IsEntry mark name_of slots) es
+      → keys_at name_of (slots ++ more) es ≡ keys_at name_of slots es
+  keys-left slots more [] h = refl
+  keys-left slots more (e ∷ es) h =
+      let same : slice_get (slots ++ more) e.at ≡ slice_get slots e.at = get-left slots more e.at h.0.slot h.0.there ∙ sym h.0.there in
+      ap (λ (r : Option (Slot (Row P))). (e.fingerprint ∷ tail_at name_of r) ∷ keys_at name_of (slots ++ more) es) same
+      ∙ ap (λ (ks : List (List ℕ)). key_at name_of slots e ∷ ks) (keys-left slots more es h.1)
 
-  abbrev known : List (Row P) → Row P → Option (Row P)
-  known rows row = find (is_named name_of (rank (owner_of row)) (name_in name_of row)) rows
+  -- what leads to life goes on to do so, among more entries
+  leads-left : (slots more : List (Slot (Row P))) (es fs : List IndexEntry) (k : List ℕ)
+      → (l : Leads name_of slots es k) → Among l.entry fs → Leads name_of (slots ++ more) fs k
+  leads-left slots more es fs k l among =
+      let t = leads-there slots l.entry l.lives in
+      let there : slice_get (slots ++ more) l.entry.at ≡ Some t.0 = get-left slots more l.entry.at t.0 t.1 in
+      record {
+        entry = l.entry;
+        among = among;
+        key_is = ap (λ (r : Option (Slot (Row P))). l.entry.fingerprint ∷ tail_at name_of r) (there ∙ sym t.1) ∙ l.key_is;
+        lives = leads-is (slots ++ more) l.entry t.0 there ∙ sym (leads-is slots l.entry t.0 t.1) ∙ l.lives;
+      }
 
   -- what is first after a row more is first before, or is the row
-  first-more : (rows : List (Row P)) (row r : Row P) (o : ℕ) (x : List ℕ)
-      → find (is_named name_of o x) (rows ++ row ∷ []) ≡ Some r
-      → (find (is_named name_of o x) rows ≡ Some r)
-      ⊎ ((rank (owner_of row) ≡ o) × (name_in name_of row ≡ x))
-  first-more rows row r o x h =
-      elim (or-from (find (is_named name_of o x) rows) (find (is_named name_of o x) (row ∷ [])) r (sym (find-append (is_named name_of o x) rows (row ∷ [])) ∙ h)) [
+  first-more : (slots : List (Slot (Row P))) (s : Slot (Row P)) (r : Row P) (o : ℕ) (x : List ℕ)
+      → s.live ≡ true → find (is_named name_of o x) (living (slots ++ s ∷ [])) ≡ Some r
+      → (find (is_named name_of o x) (living slots) ≡ Some r)
+      ⊎ ((rank (owner_of s.item) ≡ o) × (name_in name_of s.item ≡ x))
+  first-more slots s r o x live h =
+      elim (or-from (find (is_named name_of o x) (living slots)) (find (is_named name_of o x) (s.item ∷ [])) r (sym (ap (find (is_named name_of o x)) (living-push slots s live) ∙ find-append (is_named name_of o x) (living slots) (s.item ∷ [])) ∙ h)) [
         | inl before ↦ inl before
-        | inr new ↦ inr (named-is name_of o x row (by_test (is_named name_of o x row) refl new.1))
+        | inr new ↦ inr (named-is name_of o x s.item (by_test (is_named name_of o x s.item) refl new.1))
       ]
     where
-      by_test : (t : Bool) → is_named name_of o x row ≡ t → cond t (Some row) None ≡ Some r
-          → is_named name_of o x row ≡ true
+      by_test : (t : Bool) → is_named name_of o x s.item ≡ t → cond t (Some s.item) None ≡ Some r
+          → is_named name_of o x s.item ≡ true
       by_test true e h = e
       by_test false e h = absurd (cc)
 
-  -- a row whose owner and name others have already
-  pub index-known : (rows : List (Row P)) (row before : Row P) (es : List IndexEntry)
-      → IsIndex mark name_of rows es → known rows row ≡ Some before
-      → IsIndex mark name_of (rows ++ row ∷ []) es
-  index-known rows row before es h is =
-      let keys = keys-left rows (row ∷ []) es h.each in
+  -- a row whose owner and name a living one has already
+  index-known : (slots : List (Slot (Row P))) (s : Slot (Row P)) (before : Row P) (es : List IndexEntry)
+      → s.live ≡ true → IsIndex mark name_of slots es
+      → find (is_named name_of (rank (owner_of s.item)) (name_in name_of s.item)) (living slots) ≡ Some before
+      → IsIndex mark name_of (slots ++ s ∷ []) es
+  index-known slots s before es live h is =
+      let keys = keys-left slots (s ∷ []) es h.each in
       record {
-        each = each-left rows (row ∷ []) es h.each;
+        each = each-left slots (s ∷ []) es h.each;
         rises = rw (keys) h.rises;
-        complete = λ o x r first. rw (keys) (elim (first-more rows row r o x first) [
-          | inl old ↦ h.complete o x r old
-          | inr own ↦ h.complete o x before (ap (λ (t : ℕ). find (is_named name_of t x) rows) (sym own.0) ∙ ap (λ (y : List ℕ). find (is_named name_of (rank (owner_of row)) y) rows) (sym own.1) ∙ is)
-        ]);
-        few = omega (arith, h.few, length-append rows (row ∷ []));
+        complete = λ o x r first. elim (first-more slots s r o x live first) [
+          | inl old ↦ let l = h.complete o x r old in leads-left slots (s ∷ []) es es (key mark o x) l l.among
+          | inr own ↦
+              let l = h.complete o x before (ap (λ (t : ℕ). find (is_named name_of t x) (living slots)) (sym own.0) ∙ ap (λ (y : List ℕ). find (is_named name_of (rank (owner_of s.item)) y) (living slots)) (sym own.1) ∙ is) in
+              leads-left slots (s ∷ []) es es (key mark o x) l l.among
+        ];
+        few = omega (arith, h.few, length-append slots (s ∷ []));
+      }
+
+  -- the entry of a row that is put behind the others, where none of them that lives is first
+  record IsNew (slots : List (Slot (Row P))) (s : Slot (Row P)) (new : IndexEntry) : Type 0 where
+    own : key_at name_of (slots ++ s ∷ []) new ≡ key mark (rank (owner_of s.item)) (name_in name_of s.item)
+    entry : IsEntry mark name_of (slots ++ s ∷ []) new
+    lives : leads_to_life (slots ++ s ∷ []) new ≡ true
+
+  is_new : (slots : List (Slot (Row P))) (s : Slot (Row P)) (f n : ℕ) → s.live ≡ true
+      → n ≡ length slots → f ≡ mark (rank (owner_of s.item)) (name_in name_of s.item)
+      → find (is_named name_of (rank (owner_of s.item)) (name_in name_of s.item)) (living slots) ≡ None
+      → IsNew slots s (record { fingerprint = f; at = n })
+  is_new slots s f n live last print none =
+      let o = rank (owner_of s.item) in
+      let x = name_in name_of s.item in
+      let new : IndexEntry = record { fingerprint = f; at = n } in
+      let there : slice_get (slots ++ s ∷ []) n ≡ Some s = ap (slice_get (slots ++ s ∷ [])) last ∙ get-last slots s in
+      record {
+        own = ap (λ (r : Option (Slot (Row P))). f ∷ tail_at name_of r) there ∙ ap (λ (g : ℕ). g ∷ o ∷ x) print;
+        entry = record {
+          slot = s;
+          there = there;
+          fingerprint = print;
+          first = λ _. ap (find (is_named name_of o x)) (living-push slots s live) ∙ find-append (is_named name_of o x) (living slots) (s.item ∷ []) ∙ ap (λ (r : Option (Row P)). option_or r (find (is_named name_of o x) (s.item ∷ []))) none ∙ ap (λ (t : Bool). cond t (Some s.item) None) (named-itself name_of s.item);
+        };
+        lives = leads-is (slots ++ s ∷ []) new s there ∙ live;
       }
 
   -- a row of an owner and a name that are new
-  pub index-new : (rows : List (Row P)) (row : Row P) (es : List IndexEntry) (i f n : ℕ)
-      → IsIndex mark name_of rows es → n ≡ length rows
-      → f ≡ mark (rank (owner_of row)) (name_in name_of row)
-      → Parts (keys_at name_of rows es) i (key mark (rank (owner_of row)) (name_in name_of row))
-      → IsIndex mark name_of (rows ++ row ∷ []) (insert es i (record { fingerprint = f; at = n }))
-  index-new rows row es i f n h last print p =
-      let o = rank (owner_of row) in
-      let x = name_in name_of row in
+  index-new : (slots : List (Slot (Row P))) (s : Slot (Row P)) (es : List IndexEntry) (i f n : ℕ)
+      → s.live ≡ true → IsIndex mark name_of slots es → n ≡ length slots
+      → f ≡ mark (rank (owner_of s.item)) (name_in name_of s.item)
+      → Parts (keys_at name_of slots es) i (key mark (rank (owner_of s.item)) (name_in name_of s.item))
+      → IsIndex mark name_of (slots ++ s ∷ []) (insert es i (record { fingerprint = f; at = n }))
+  index-new slots s es i f n live h last print p =
+      let o = rank (owner_of s.item) in
+      let x = name_in name_of s.item in
       let k = key mark o x in
       let new : IndexEntry = record { fingerprint = f; at = n } in
-      let more = rows ++ row ∷ [] in
-      let keys = keys-left rows (row ∷ []) es h.each in
-      let there : slice_get more n ≡ Some row = ap (slice_get more) last ∙ get-last rows row in
-      let own : key_at name_of more new ≡ k = ap (λ (r : Option (Row P)). f ∷ tail_at name_of r) there ∙ ap (λ (g : ℕ). g ∷ o ∷ x) print in
-      let ks = keys_at name_of rows es in
+      let more = slots ++ s ∷ [] in
+      let keys = keys-left slots (s ∷ []) es h.each in
+      let is = is_new slots s f n live last print (absent-at slots es i o x h p) in
+      let ks = keys_at name_of slots es in
       let split : keys_at name_of more (insert es i new) ≡ take i ks ++ k ∷ drop i ks =
       map-append (key_at name_of more) (take i es) (new ∷ drop i es)
       ∙ ap (λ (l : List (List ℕ)). l ++ key_at name_of more new ∷ map (key_at name_of more) (drop i es)) (sym (take-map (key_at name_of more) i es) ∙ ap (take i) keys)
-      ∙ ap (λ (a : List ℕ). take i ks ++ a ∷ map (key_at name_of more) (drop i es)) own
+      ∙ ap (λ (a : List ℕ). take i ks ++ a ∷ map (key_at name_of more) (drop i es)) is.own
       ∙ ap (λ (l : List (List ℕ)). take i ks ++ k ∷ l) (sym (drop-map (key_at name_of more) i es) ∙ ap (drop i) keys) in
-      let each = each-left rows (row ∷ []) es h.each in
-      let none : find (is_named name_of o x) rows ≡ None = absent-at rows es i o x h p in
-      let first : find (is_named name_of o x) more ≡ Some row =
-      find-append (is_named name_of o x) rows (row ∷ []) ∙ ap (λ (r : Option (Row P)). option_or r (find (is_named name_of o x) (row ∷ []))) none ∙ ap (λ (t : Bool). cond t (Some row) None) (named-itself name_of row) in
-      let entry : IsEntry mark name_of more new = record { row = row; there = there; fingerprint = print; first = first } in
+      let each = each-left slots (s ∷ []) es h.each in
       record {
-        each = all-append (IsEntry mark name_of more) (take i es) (new ∷ drop i es) (all-take (IsEntry mark name_of more) i es each) (entry, all-drop (IsEntry mark name_of more) i es each);
+        each = all-append (IsEntry mark name_of more) (take i es) (new ∷ drop i es) (all-take (IsEntry mark name_of more) i es each) (is.entry, all-drop (IsEntry mark name_of more) i es each);
         rises = rw (split) (rise-insert ks i k h.rises p);
-        complete = λ a y r is. rw (split) (elim (first-more rows row r a y is) [
-          | inl old ↦ put (key mark a y) (take i ks) (drop i ks) k (subst (Among (key mark a y)) (sym (take-append-drop i ks)) (h.complete a y r old))
-          | inr same ↦ among-right (key mark a y) (take i ks) (k ∷ drop i ks) (inl (ap (λ (t : ℕ). key mark t y) (sym same.0) ∙ ap (key mark o) (sym same.1)))
-        ]);
-        few = omega (arith, h.few, length-append rows (row ∷ []), length-append (take i es) (new ∷ drop i es), ap (λ (l : List IndexEntry). length l) (take-append-drop i es), length-append (take i es) (drop i es));
+        complete = λ a y r first. elim (first-more slots s r a y live first) [
+          | inl old ↦
+              let l = h.complete a y r old in
+              leads-left slots (s ∷ []) es (insert es i new) (key mark a y) l (put l.entry (take i es) (drop i es) new (subst (Among l.entry) (sym (take-append-drop i es)) l.among))
+          | inr same ↦ record {
+            entry = new;
+            among = among-right new (take i es) (new ∷ drop i es) (inl refl);
+            key_is = is.own ∙ ap (λ (t : ℕ). key mark t x) same.0 ∙ ap (key mark a) same.1;
+            lives = is.lives;
+          }
+        ];
+        few = omega (arith, h.few, length-append slots (s ∷ []), length-append (take i es) (new ∷ drop i es), ap (λ (l : List IndexEntry). length l) (take-append-drop i es), length-append (take i es) (drop i es));
       }
     where
       put : {X : Type 0} (a : X) (xs ys : List X) (b : X) → Among a (xs ++ ys) → Among a (xs ++ b ∷ ys)
@@ -237,6 +334,77 @@ module _ {P : Type 0} (mark : ℕ → List ℕ → ℕ) (name_of : P → List �
             | inl left ↦ among-left a xs (b ∷ ys) left
             | inr right ↦ among-right a xs (b ∷ ys) (inr right)
           ]
+
+  -- one of a list put in the place of another
+  all-put : {X : Type 0} (Q : X → Type 0) (xs : List X) (i : ℕ) (y : X) → AllByRecursion Q xs → Q y
+      → AllByRecursion Q (set xs i y)
+  all-put Q [] i y h q = h
+  all-put Q (x ∷ xs) zero y h q = (q, h.1)
+  all-put Q (x ∷ xs) (suc i) y h q = (h.0, all-put Q xs i y h.1 q)
+
+  map-put : {X : Type 0} (f : X → List ℕ) (xs : List X) (i : ℕ) (d y : X) → f y ≡ f (get_or xs i d)
+      → map f (set xs i y) ≡ map f xs
+  map-put f [] i d y e = refl
+  map-put f (x ∷ xs) zero d y e = ap (λ (k : List ℕ). k ∷ map f xs) e
+  map-put f (x ∷ xs) (suc i) d y e = ap (λ (ks : List (List ℕ)). f x ∷ ks) (map-put f xs i d y e)
+
+  among-put : {X : Type 0} (xs : List X) (i : ℕ) (d y z : X) → Among z xs → (z ≡ get_or xs i d)
+      ⊎ Among z (set xs i y)
+  among-put [] i d y z m = absurd m
+  among-put (x ∷ xs) zero d y z (inl e) = inl e
+  among-put (x ∷ xs) zero d y z (inr m) = inr (inr m)
+  among-put (x ∷ xs) (suc i) d y z (inl e) = inr (inl e)
+  among-put (x ∷ xs) (suc i) d y z (inr m) = elim (among-put xs i d y z m) [ inl e ↦ inl e | inr n ↦ inr (inr n) ]
+
+  among-new : {X : Type 0} (xs : List X) (i : ℕ) (y : X) → i < length xs → Among y (set xs i y)
+  among-new [] i y lt = absurd (omega arith)
+  among-new (x ∷ xs) zero y lt = inl refl
+  among-new (x ∷ xs) (suc i) y lt = inr (among-new xs i y (omega arith))
+
+  -- a row of an owner and a name of which a row stands that lives no more
+  index-again : (slots : List (Slot (Row P))) (s : Slot (Row P)) (es : List IndexEntry) (i f n : ℕ) (d : IndexEntry)
+      → s.live ≡ true → IsIndex mark name_of slots es → n ≡ length slots → i < length es
+      → f ≡ mark (rank (owner_of s.item)) (name_in name_of s.item)
+      → (found : Found slots (get_or es i d) (rank (owner_of s.item)) (name_in name_of s.item))
+      → found.slot.live ≡ false
+      → IsIndex mark name_of (slots ++ s ∷ []) (set es i (record { fingerprint = f; at = n }))
+  index-again slots s es i f n d live h last within print found dead =
+      let o = rank (owner_of s.item) in
+      let x = name_in name_of s.item in
+      let e = get_or es i d in
+      let new : IndexEntry = record { fingerprint = f; at = n } in
+      let more = slots ++ s ∷ [] in
+      let is = is_new slots s f n live last print (found.gone dead) in
+      let there : slice_get more e.at ≡ Some found.slot = get-left slots (s ∷ []) e.at found.slot found.there in
+      let was : key_at name_of more e ≡ key mark o x =
+      ap (λ (r : Option (Slot (Row P))). e.fingerprint ∷ tail_at name_of r) there
+      ∙ ap (λ (g : ℕ). g ∷ rank (owner_of found.slot.item) ∷ name_in name_of found.slot.item) found.fingerprint
+      ∙ ap (λ (t : ℕ). mark o x ∷ t ∷ name_in name_of found.slot.item) found.owner
+      ∙ ap (λ (y : List ℕ). mark o x ∷ o ∷ y) found.name in
+      let keys : keys_at name_of more (set es i new) ≡ keys_at name_of slots es =
+      map-put (key_at name_of more) es i d new (is.own ∙ sym was) ∙ keys-left slots (s ∷ []) es h.each in
+      record {
+        each = all-put (IsEntry mark name_of more) es i new (each-left slots (s ∷ []) es h.each) is.entry;
+        rises = rw (keys) h.rises;
+        complete = λ a y r first. elim (first-more slots s r a y live first) [
+          | inl old ↦
+              let l = h.complete a y r old in
+              elim (among-put es i d new l.entry l.among) [
+                | inl it ↦ absurd (
+                    let lives : leads_to_life slots e ≡ true = ap (leads_to_life slots) (sym it) ∙ l.lives in
+                    let dies : leads_to_life slots e ≡ false = leads-is slots e found.slot found.there ∙ dead in
+                    cc)
+                | inr stays ↦ leads-left slots (s ∷ []) es (set es i new) (key mark a y) l stays
+              ]
+          | inr same ↦ record {
+            entry = new;
+            among = among-new es i new within;
+            key_is = is.own ∙ ap (λ (t : ℕ). key mark t x) same.0 ∙ ap (key mark a) same.1;
+            lives = is.lives;
+          }
+        ];
+        few = omega (arith, h.few, length-append slots (s ∷ []), length-set es i new);
+      }
 
   -- ---- no row, and rows that move
 
@@ -254,114 +422,155 @@ module _ {P : Type 0} (mark : ℕ → List ℕ → ℕ) (name_of : P → List �
       by_test false = refl
 
   moved-tail : (from to : Chunk) (row : Row P)
-      → tail_at name_of (Some (moved_row from to row)) ≡ tail_at name_of (Some row)
+      → rank (owner_of (moved_row from to row)) ∷ name_in name_of (moved_row from to row) ≡ rank (owner_of row) ∷ name_in name_of row
   moved-tail from to (Loader r) = refl
   moved-tail from to (Class r p) = by_test (same_chunk r.place.chunk from)
     where
       by_test : (t : Bool)
-          → tail_at name_of (Some (cond t (Class (record r { place = record r.place { chunk = to } }) p) (Class r p))) ≡ tail_at name_of (Some (Class r p))
+          → rank (owner_of (cond t (Class (record r { place = record r.place { chunk = to } }) p) (Class r p))) ∷ name_in name_of (cond t (Class (record r { place = record r.place { chunk = to } }) p) (Class r p)) ≡ rank (owner_of (Class r p)) ∷ name_in name_of (Class r p)
       by_test true = refl
       by_test false = refl
 
-  entry-moved : (from to : Chunk) (rows : List (Row P)) (e : IndexEntry)
-      → IsEntry mark name_of rows e → IsEntry mark name_of (moved from to rows) e
-  entry-moved from to rows e h =
-      let to_row = moved_row from to h.row in
-      let tail : rank (owner_of to_row) ∷ name_in name_of to_row ≡ rank (owner_of h.row) ∷ name_in name_of h.row = moved-tail from to h.row in
-      let owner : rank (owner_of to_row) ≡ rank (owner_of h.row) = cc in
-      let name : name_in name_of to_row ≡ name_in name_of h.row = cc in
-      let test = is_named name_of (rank (owner_of h.row)) (name_in name_of h.row) in
+  entry-moved : (from to : Chunk) (slots : List (Slot (Row P))) (e : IndexEntry)
+      → IsEntry mark name_of slots e → IsEntry mark name_of (map (moved_slot from to) slots) e
+  entry-moved from to slots e h =
+      let row = h.slot.item in
+      let to_row = moved_row from to row in
+      let all = map (moved_slot from to) slots in
+      let tail : rank (owner_of to_row) ∷ name_in name_of to_row ≡ rank (owner_of row) ∷ name_in name_of row = moved-tail from to row in
+      let owner : rank (owner_of to_row) ≡ rank (owner_of row) = cc in
+      let name : name_in name_of to_row ≡ name_in name_of row = cc in
+      let test = is_named name_of (rank (owner_of row)) (name_in name_of row) in
       record {
-        row = to_row;
-        there = get-map (moved_row from to) rows e.at ∙ ap (option_map (moved_row from to)) h.there;
-        fingerprint = h.fingerprint ∙ ap (λ (t : ℕ). mark t (name_in name_of h.row)) (sym owner) ∙ ap (mark (rank (owner_of to_row))) (sym name);
-        first = ap (λ (t : ℕ). find (is_named name_of t (name_in name_of to_row)) (moved from to rows)) owner
-            ∙ ap (λ (y : List ℕ). find (is_named name_of (rank (owner_of h.row)) y) (moved from to rows)) name
-            ∙ find-map (moved_row from to) test rows (moved-named from to (rank (owner_of h.row)) (name_in name_of h.row))
-            ∙ ap (option_map (moved_row from to)) h.first;
+        slot = moved_slot from to h.slot;
+        there = get-map (moved_slot from to) slots e.at ∙ ap (option_map (moved_slot from to)) h.there;
+        fingerprint = h.fingerprint ∙ ap (λ (t : ℕ). mark t (name_in name_of row)) (sym owner) ∙ ap (mark (rank (owner_of to_row))) (sym name);
+        first = λ live.
+            ap (λ (t : ℕ). find (is_named name_of t (name_in name_of to_row)) (living all)) owner
+            ∙ ap (λ (y : List ℕ). find (is_named name_of (rank (owner_of row)) y) (living all)) name
+            ∙ ap (find test) (living-moved from to slots)
+            ∙ find-map (moved_row from to) test (living slots) (moved-named from to (rank (owner_of row)) (name_in name_of row))
+            ∙ ap (option_map (moved_row from to)) (h.first live);
       }
 
-  each-moved : (from to : Chunk) (rows : List (Row P)) (es : List IndexEntry)
-      → AllByRecursion (IsEntry mark name_of rows) es
-      → AllByRecursion (IsEntry mark name_of (moved from to rows)) es
-  each-moved from to rows [] h = tt
-  each-moved from to rows (e ∷ es) h = (entry-moved from to rows e h.0, each-moved from to rows es h.1)
+  each-moved : (from to : Chunk) (slots : List (Slot (Row P))) (es : List IndexEntry)
+      → AllByRecursion (IsEntry mark name_of slots) es
+      → AllByRecursion (IsEntry mark name_of (map (moved_slot from to) slots)) es
+  each-moved from to slots [] h = tt
+  each-moved from to slots (e ∷ es) h = (entry-moved from to slots e h.0, each-moved from to slots es h.1)
 
-  keys-moved : (from to : Chunk) (rows : List (Row P)) (es : List IndexEntry)
-      → AllByRecursion (IsEntry mark name_of rows) es
-      → keys_at name_of (moved from to rows) es ≡ keys_at name_of rows es
-  keys-moved from to rows [] h = refl
-  keys-moved from to rows (e ∷ es) h =
-      let there : slice_get (moved from to rows) e.at ≡ Some (moved_row from to h.0.row) = get-map (moved_row from to) rows e.at ∙ ap (option_map (moved_row from to)) h.0.there in
-      let tail : tail_at name_of (slice_get (moved from to rows) e.at) ≡ tail_at name_of (slice_get rows e.at) =
-      ap (tail_at name_of) there ∙ moved-tail from to h.0.row ∙ ap (tail_at name_of) (sym h.0.there) in
-      ap (λ (t : List ℕ). (e.fingerprint ∷ t) ∷ keys_at name_of (moved from to rows) es) tail
-      ∙ ap (λ (ks : List (List ℕ)). key_at name_of rows e ∷ ks) (keys-moved from to rows es h.1)
+  key-moved : (from to : Chunk) (slots : List (Slot (Row P))) (e : IndexEntry) (s : Slot (Row P))
+      → slice_get slots e.at ≡ Some s
+      → key_at name_of (map (moved_slot from to) slots) e ≡ key_at name_of slots e
+  key-moved from to slots e s is =
+      let there : slice_get (map (moved_slot from to) slots) e.at ≡ Some (moved_slot from to s) = get-map (moved_slot from to) slots e.at ∙ ap (option_map (moved_slot from to)) is in
+      ap (λ (r : Option (Slot (Row P))). e.fingerprint ∷ tail_at name_of r) there
+      ∙ ap (λ (t : List ℕ). e.fingerprint ∷ t) (moved-tail from to s.item)
+      ∙ ap (λ (r : Option (Slot (Row P))). e.fingerprint ∷ tail_at name_of r) (sym is)
+
+  keys-moved : (from to : Chunk) (slots : List (Slot (Row P))) (es : List IndexEntry)
+      → AllByRecursion (IsEntry mark name_of slots) es
+      → keys_at name_of (map (moved_slot from to) slots) es ≡ keys_at name_of slots es
+  keys-moved from to slots [] h = refl
+  keys-moved from to slots (e ∷ es) h =
+      ap (λ (k : List ℕ). k ∷ keys_at name_of (map (moved_slot from to) slots) es) (key-moved from to slots e h.0.slot h.0.there)
+      ∙ ap (λ (ks : List (List ℕ)). key_at name_of slots e ∷ ks) (keys-moved from to slots es h.1)
 
   map-some : (from to : Chunk) (o : Option (Row P)) (r : Row P)
       → option_map (moved_row from to) o ≡ Some r → (row : Row P) × (o ≡ Some row)
   map-some from to None r h = absurd (cc)
   map-some from to (Some row) r h = (row, refl)
 
-  pub index-moved : (from to : Chunk) (rows : List (Row P)) (es : List IndexEntry)
-      → IsIndex mark name_of rows es → IsIndex mark name_of (moved from to rows) es
-  index-moved from to rows es h =
-      let keys = keys-moved from to rows es h.each in
+  pub index-moved : (from to : Chunk) (slots : List (Slot (Row P))) (es : List IndexEntry)
+      → IsIndex mark name_of slots es → IsIndex mark name_of (map (moved_slot from to) slots) es
+  index-moved from to slots es h =
+      let keys = keys-moved from to slots es h.each in
+      let all = map (moved_slot from to) slots in
       record {
-        each = each-moved from to rows es h.each;
+        each = each-moved from to slots es h.each;
         rises = rw (keys) h.rises;
-        complete = λ o x r is. rw (keys) (
-            let was = map-some from to (find (is_named name_of o x) rows) r (sym (find-map (moved_row from to) (is_named name_of o x) rows (moved-named from to o x)) ∙ is) in
-            h.complete o x was.0 was.1);
-        few = omega (arith, h.few, length-map rows (moved_row {P = P} from to));
+        complete = λ o x r is.
+            let was = map-some from to (find (is_named name_of o x) (living slots)) r (sym (ap (find (is_named name_of o x)) (living-moved from to slots) ∙ find-map (moved_row from to) (is_named name_of o x) (living slots) (moved-named from to o x)) ∙ is) in
+            let l = h.complete o x was.0 was.1 in
+            let t = leads-there slots l.entry l.lives in
+            let there : slice_get all l.entry.at ≡ Some (moved_slot from to t.0) = get-map (moved_slot from to) slots l.entry.at ∙ ap (option_map (moved_slot from to)) t.1 in
+            record {
+              entry = l.entry;
+              among = l.among;
+              key_is = key-moved from to slots l.entry t.0 t.1 ∙ l.key_is;
+              lives = leads-is all l.entry (moved_slot from to t.0) there ∙ sym (leads-is slots l.entry t.0 t.1) ∙ l.lives;
+            };
+        few = omega (arith, h.few, length-map slots (moved_slot {P = P} from to));
       }
 
 -- ---- the steps of a search
 
 module _ {P : Type 0} (name_of : P → List ℕ) where
-  pub lower : (rows : List (Row P)) (es : List IndexEntry) (m : ℕ) (k : List ℕ) (d : IndexEntry)
-      → Rise (keys_at name_of rows es) → m < length es
-      → slice_cmp nat_cmp (key_at name_of rows (get_or es m d)) k ≡ Less
-      → AllByRecursion (Below k) (take (m + 1) (keys_at name_of rows es))
-  lower rows es m k d h lt less =
-      let ks = keys_at name_of rows es in
-      let there : get_or ks m [] ≡ key_at name_of rows (get_or es m d) = get_or-map (key_at name_of rows) es m d [] lt in
-      subst (λ (n : ℕ). AllByRecursion (Below k) (take n ks)) (sym (add-one m)) (below-to ks m k [] h (omega (arith, length-map es (key_at name_of rows))) (ap (λ (a : List ℕ). slice_cmp nat_cmp a k) there ∙ less))
+  pub lower : (slots : List (Slot (Row P))) (es : List IndexEntry) (m : ℕ) (k : List ℕ) (d : IndexEntry)
+      → Rise (keys_at name_of slots es) → m < length es
+      → slice_cmp nat_cmp (key_at name_of slots (get_or es m d)) k ≡ Less
+      → AllByRecursion (Below k) (take (m + 1) (keys_at name_of slots es))
+  lower slots es m k d h lt less =
+      let ks = keys_at name_of slots es in
+      let there : get_or ks m [] ≡ key_at name_of slots (get_or es m d) = get_or-map (key_at name_of slots) es m d [] lt in
+      subst (λ (n : ℕ). AllByRecursion (Below k) (take n ks)) (sym (add-one m)) (below-to ks m k [] h (omega (arith, length-map es (key_at name_of slots))) (ap (λ (a : List ℕ). slice_cmp nat_cmp a k) there ∙ less))
 
-  pub upper : (rows : List (Row P)) (es : List IndexEntry) (m : ℕ) (k : List ℕ) (d : IndexEntry)
-      → Rise (keys_at name_of rows es) → m < length es
-      → slice_cmp nat_cmp (key_at name_of rows (get_or es m d)) k ≡ Greater
-      → AllByRecursion (Above k) (drop m (keys_at name_of rows es))
-  upper rows es m k d h lt more =
-      let ks = keys_at name_of rows es in
-      let there : get_or ks m [] ≡ key_at name_of rows (get_or es m d) = get_or-map (key_at name_of rows) es m d [] lt in
-      above-from ks m k [] h (omega (arith, length-map es (key_at name_of rows))) (ap (λ (a : List ℕ). slice_cmp nat_cmp a k) there ∙ more)
+  pub upper : (slots : List (Slot (Row P))) (es : List IndexEntry) (m : ℕ) (k : List ℕ) (d : IndexEntry)
+      → Rise (keys_at name_of slots es) → m < length es
+      → slice_cmp nat_cmp (key_at name_of slots (get_or es m d)) k ≡ Greater
+      → AllByRecursion (Above k) (drop m (keys_at name_of slots es))
+  upper slots es m k d h lt more =
+      let ks = keys_at name_of slots es in
+      let there : get_or ks m [] ≡ key_at name_of slots (get_or es m d) = get_or-map (key_at name_of slots) es m d [] lt in
+      above-from ks m k [] h (omega (arith, length-map es (key_at name_of slots))) (ap (λ (a : List ℕ). slice_cmp nat_cmp a k) there ∙ more)
 
 -- ---- one row further
 
 module _ {P : Type 0} (mark : ℕ → List ℕ → ℕ) (name_of : P → List ℕ) where
-  pub further-new : (rows : List (Row P)) (at : ℕ) (row : Row P) (es : List IndexEntry) (i f : ℕ) (k : List ℕ) → at < length rows → row ≡ get_or rows at row
-      → IsIndex mark name_of (take at rows) es
-      → f ∷ drop 1 k ≡ key mark (rank (owner_of row)) (name_in name_of row)
-      → k ≡ key mark (rank (owner_of row)) (name_in name_of row)
-      → Parts (keys_at name_of (take at rows) es) i k
-      → IsIndex mark name_of (take (at + 1) rows) (insert es i (record { fingerprint = f; at = at }))
-  further-new rows at row es i f k lt is h print key_is p =
-      let first : f ≡ mark (rank (owner_of row)) (name_in name_of row) = cc in
-      let more : take at rows ++ row ∷ [] ≡ take (at + 1) rows = ap (λ (r : Row P). take at rows ++ r ∷ []) is ∙ sym (take_more rows at row lt) in
-      subst (λ (l : List (Row P)). IsIndex mark name_of l (insert es i (record { fingerprint = f; at = at }))) more
-      (index-new mark name_of (take at rows) row es i f at h (omega (arith, length-take at rows)) first (subst (Parts (keys_at name_of (take at rows) es) i) key_is p))
+  pub further-new : (slots : List (Slot (Row P))) (at : ℕ) (s : Slot (Row P)) (es : List IndexEntry) (i f : ℕ) (k : List ℕ) → at < length slots → s ≡ get_or slots at s → LivesAt slots at
+      → IsIndex mark name_of (take at slots) es
+      → f ∷ drop 1 k ≡ key mark (rank (owner_of s.item)) (name_in name_of s.item)
+      → k ≡ key mark (rank (owner_of s.item)) (name_in name_of s.item)
+      → Parts (keys_at name_of (take at slots) es) i k
+      → IsIndex mark name_of (take (at + 1) slots) (insert es i (record { fingerprint = f; at = at }))
+  further-new slots at s es i f k lt is live h print key_is p =
+      let first : f ≡ mark (rank (owner_of s.item)) (name_in name_of s.item) = cc in
+      let more : take at slots ++ s ∷ [] ≡ take (at + 1) slots = ap (λ (r : Slot (Row P)). take at slots ++ r ∷ []) is ∙ sym (take_more slots at s lt) in
+      let lives : s.live ≡ true = ap (λ (r : Slot (Row P)). r.live) is ∙ live.is s in
+      subst (λ (l : List (Slot (Row P))). IsIndex mark name_of l (insert es i (record { fingerprint = f; at = at }))) more
+      (index-new mark name_of (take at slots) s es i f at lives h (omega (arith, length-take at slots)) first (subst (Parts (keys_at name_of (take at slots) es) i) key_is p))
 
-  pub further-known : (rows : List (Row P)) (at : ℕ) (row : Row P) (es : List IndexEntry) (i : ℕ) (k : List ℕ) → at < length rows → row ≡ get_or rows at row
-      → IsIndex mark name_of (take at rows) es
-      → k ≡ key mark (rank (owner_of row)) (name_in name_of row)
-      → IsKeyAt name_of (take at rows) es i k
-      → IsIndex mark name_of (take (at + 1) rows) es
-  further-known rows at row es i k lt is h key_is there =
+  -- an entry that is found leads to one of those before
+  pub found-within : (slots : List (Slot (Row P))) (at : ℕ) (e : IndexEntry) (o : ℕ) (x : List ℕ)
+      → Found mark name_of (take at slots) e o x → (s : Slot (Row P))
+      → slice_get (take at slots) e.at ≡ Some s → slice_get slots e.at ≡ Some s
+  found-within slots at e o x found s there =
+      ap (λ (l : List (Slot (Row P))). slice_get l e.at) (sym (take-append-drop at slots)) ∙ get-left (take at slots) (drop at slots) e.at s there
+
+  pub further-known : (slots : List (Slot (Row P))) (at : ℕ) (s : Slot (Row P)) (es : List IndexEntry) (i f : ℕ) (k : List ℕ) → at < length slots → s ≡ get_or slots at s → LivesAt slots at
+      → IsIndex mark name_of (take at slots) es
+      → f ∷ drop 1 k ≡ key mark (rank (owner_of s.item)) (name_in name_of s.item)
+      → k ≡ key mark (rank (owner_of s.item)) (name_in name_of s.item)
+      → IsKeyAt name_of (take at slots) es i k
+      → IsIndex mark name_of (take (at + 1) slots) (renewed slots es i (record { fingerprint = f; at = at }))
+  further-known slots at s es i f k lt is live h print key_is there =
       let d : IndexEntry = record { fingerprint = 0; at = 0 } in
-      let found = found-there mark name_of (take at rows) es i d (rank (owner_of row)) (name_in name_of row) k h there key_is in
-      let more : take at rows ++ row ∷ [] ≡ take (at + 1) rows = ap (λ (r : Row P). take at rows ++ r ∷ []) is ∙ sym (take_more rows at row lt) in
-      subst (λ (l : List (Row P)). IsIndex mark name_of l es) more (index-known mark name_of (take at rows) row found.row es h found.first)
+      let new : IndexEntry = record { fingerprint = f; at = at } in
+      let o = rank (owner_of s.item) in
+      let x = name_in name_of s.item in
+      let first : f ≡ mark o x = cc in
+      let found = found-there mark name_of (take at slots) es i new o x k h there key_is in
+      let lives : s.live ≡ true = ap (λ (r : Slot (Row P)). r.live) is ∙ live.is s in
+      let more : take at slots ++ s ∷ [] ≡ take (at + 1) slots = ap (λ (r : Slot (Row P)). take at slots ++ r ∷ []) is ∙ sym (take_more slots at s lt) in
+      let leads : leads_to_life slots (get_or es i new) ≡ found.slot.live = ap (λ (r : Option (Slot (Row P))). option_map_or (λ s. s.live) r false) (found-within slots at (get_or es i new) o x found found.slot found.there) in
+      subst (λ (l : List (Slot (Row P))). IsIndex mark name_of l (renewed slots es i new)) more
+      (subst (λ (t : Bool). IsIndex mark name_of (take at slots ++ s ∷ []) (cond t es (set es i new))) (sym leads)
+      (by_life found.slot.live found refl lives first))
+    where
+      by_life : (t : Bool) → (found : Found mark name_of (take at slots) (get_or es i (record { fingerprint = f; at = at })) (rank (owner_of s.item)) (name_in name_of s.item)) → found.slot.live ≡ t → s.live ≡ true → f ≡ mark (rank (owner_of s.item)) (name_in name_of s.item)
+          → IsIndex mark name_of (take at slots ++ s ∷ []) (cond t es (set es i (record { fingerprint = f; at = at })))
+      by_life true found e lives first = index-known mark name_of (take at slots) s found.slot.item es lives h (found.lives e)
+      by_life false found e lives first = index-again mark name_of (take at slots) s es i f at (record { fingerprint = f; at = at }) lives h (omega (arith, length-take at slots)) there.within first found e
 
 -- ---- loaders and classes by name
 

@@ -1,5 +1,7 @@
 pub mod Tests
 pub mod Lists
 pub mod Sorted
+pub mod Living
 pub mod Indexes
-pub mod Forgetting
+pub mod Sweeping
+pub mod Unloading

@@ -1,7 +1,8 @@
 -- Rows by name: an index that rises by fingerprint, owner and name, and what it finds.
 use Rattle.std.specs.Prelude.{◌≡◌, ◌≤◌, ◌<◌, ℕ, suc, List, [], ◌∷◌, map, length, take, drop, Option}
-use Rattle.std.specs.Prelude.{Some, None, Bool, ◌==◌, ◌&&◌, if◌then◌else◌}
+use Rattle.std.specs.Prelude.{Some, None, Bool, true, false, ◌==◌, ◌&&◌, if◌then◌else◌, ◌*◌, get_or, slice_set}
 use Rattle.std.specs.List.{find, slice_get, HoldsAt, AllByRecursion}
+use Rattle.std.specs.Option.{option_map_or}
 use Rattle.std.specs.Str.{bytes_eq}
 use Rattle.std.specs.Ordering.{nat_cmp}
 use Rattle.std.specs.Cmp.Lexicographic.{slice_cmp}
@@ -13,6 +14,8 @@ use Rattle.cm_layout.specs.declared.row.Row.{Row}
 use Rattle.cm_layout.specs.declared.row.Row.TheVariants.{Loader, Class}
 use Rattle.cm_layout.specs.Rules.{row_limit}
 use Rattle.cm_index.specs.declared.index.IndexEntry.{IndexEntry}
+use Rattle.cm_index.specs.declared.slot.Slot.{Slot}
+use Rattle.cm_index.specs.Living.{living}
 
 -- whose row it is: nobody's a loader's own, a loader's a class's
 abbrev pub owner_of : {P : Type 0} → Row P → Option ℕ
@@ -56,42 +59,67 @@ class_of name_of u x (Class r p ∷ rows) =
 abbrev pub key : (ℕ → List ℕ → ℕ) → ℕ → List ℕ → List ℕ
 key mark o x = mark o x ∷ o ∷ x
 
-abbrev pub tail_at : {P : Type 0} → (P → List ℕ) → Option (Row P) → List ℕ
+abbrev pub tail_at : {P : Type 0} → (P → List ℕ) → Option (Slot (Row P)) → List ℕ
 tail_at name_of None = []
-tail_at name_of (Some row) = rank (owner_of row) ∷ name_in name_of row
+tail_at name_of (Some s) = rank (owner_of s.item) ∷ name_in name_of s.item
 
-abbrev pub key_at : {P : Type 0} → (P → List ℕ) → List (Row P) → IndexEntry → List ℕ
-key_at name_of rows e = e.fingerprint ∷ tail_at name_of (slice_get rows e.at)
+abbrev pub key_at : {P : Type 0} → (P → List ℕ) → List (Slot (Row P)) → IndexEntry → List ℕ
+key_at name_of slots e = e.fingerprint ∷ tail_at name_of (slice_get slots e.at)
 
-abbrev pub keys_at : {P : Type 0} → (P → List ℕ) → List (Row P) → List IndexEntry → List (List ℕ)
-keys_at name_of rows es = map (key_at name_of rows) es
+abbrev pub keys_at : {P : Type 0} → (P → List ℕ) → List (Slot (Row P)) → List IndexEntry
+    → List (List ℕ)
+keys_at name_of slots es = map (key_at name_of slots) es
 
 -- each key is below those behind it
 abbrev pub Rise : List (List ℕ) → Type 0
 Rise keys = Pairwise (λ a b. slice_cmp nat_cmp a b ≡ Less) keys
 
--- the entry leads to the first row with its owner and name
-pub record IsEntry {P : Type 0} (mark : ℕ → List ℕ → ℕ) (name_of : P → List ℕ)
-    (rows : List (Row P)) (e : IndexEntry) : Type 0 where
-  pub row : Row P
-  pub there : slice_get rows e.at ≡ Some row
-  pub fingerprint : e.fingerprint ≡ mark (rank (owner_of row)) (name_in name_of row)
-  pub first : find (is_named name_of (rank (owner_of row)) (name_in name_of row)) rows ≡ Some row
+-- the entry leads to a row that lives
+abbrev pub leads_to_life : {P : Type 0} → List (Slot (Row P)) → IndexEntry → Bool
+leads_to_life slots e = option_map_or (λ s. s.live) (slice_get slots e.at) false
 
--- the index leads to the first row of each owner and name that rows have
+-- the entry leads to a row, and where that lives, it is the first that does of its owner and name
+pub record IsEntry {P : Type 0} (mark : ℕ → List ℕ → ℕ) (name_of : P → List ℕ)
+    (slots : List (Slot (Row P))) (e : IndexEntry) : Type 0 where
+  pub slot : Slot (Row P)
+  pub there : slice_get slots e.at ≡ Some slot
+  pub fingerprint : e.fingerprint ≡ mark (rank (owner_of slot.item)) (name_in name_of slot.item)
+  pub first : slot.live ≡ true
+      → find (is_named name_of (rank (owner_of slot.item)) (name_in name_of slot.item)) (living slots) ≡ Some slot.item
+
+-- an entry of this key leads to a row that lives
+pub record Leads {P : Type 0} (name_of : P → List ℕ) (slots : List (Slot (Row P)))
+    (es : List IndexEntry) (k : List ℕ) : Type 0 where
+  pub entry : IndexEntry
+  pub among : Among entry es
+  pub key_is : key_at name_of slots entry ≡ k
+  pub lives : leads_to_life slots entry ≡ true
+
+-- the index leads to the first of the living rows of each owner and name; an entry of an owner and
+-- name that no living row has may be left, one at most
 pub record IsIndex {P : Type 0} (mark : ℕ → List ℕ → ℕ) (name_of : P → List ℕ)
-    (rows : List (Row P)) (es : List IndexEntry) : Type 0 where
-  pub each : AllByRecursion (IsEntry mark name_of rows) es
-  pub rises : Rise (keys_at name_of rows es)
-  pub complete : (o : ℕ) (x : List ℕ) (row : Row P) → find (is_named name_of o x) rows ≡ Some row
-      → Among (key mark o x) (keys_at name_of rows es)
-  pub few : length es ≤ length rows
+    (slots : List (Slot (Row P))) (es : List IndexEntry) : Type 0 where
+  pub each : AllByRecursion (IsEntry mark name_of slots) es
+  pub rises : Rise (keys_at name_of slots es)
+  pub complete : (o : ℕ) (x : List ℕ) (row : Row P)
+      → find (is_named name_of o x) (living slots) ≡ Some row → Leads name_of slots es (key mark o x)
+  pub few : length es ≤ length slots
 
 -- the entry at this place has this key
-pub record IsKeyAt {P : Type 0} (name_of : P → List ℕ) (rows : List (Row P))
+pub record IsKeyAt {P : Type 0} (name_of : P → List ℕ) (slots : List (Slot (Row P)))
     (es : List IndexEntry) (place : ℕ) (k : List ℕ) : Type 0 where
   pub within : place < length es
-  pub key_is : HoldsAt (λ e. slice_cmp nat_cmp (key_at name_of rows e) k ≡ Equal) es place
+  pub key_is : HoldsAt (λ e. slice_cmp nat_cmp (key_at name_of slots e) k ≡ Equal) es place
+
+-- what stands at this place lives
+pub record LivesAt {X : Type 0} (slots : List (Slot X)) (at : ℕ) : Type 0 where
+  pub is : (d : Slot X) → (get_or slots at d).live ≡ true
+
+-- the entry is put in the place of one that leads to a row that lives no more
+abbrev pub renewed : {P : Type 0} → List (Slot (Row P)) → List IndexEntry → ℕ → IndexEntry
+    → List IndexEntry
+renewed slots es place e =
+    if leads_to_life slots (get_or es place e) then es else slice_set es place e
 
 -- the keys before this place are below this one, and the others above it
 pub record Parts (keys : List (List ℕ)) (place : ℕ) (k : List ℕ) : Type 0 where
@@ -104,10 +132,10 @@ pub record AreUnique {P : Type 0} (rows : List (Row P)) : Type 0 where
   pub names : (r s : LoaderRow) → Among (Loader r) rows → Among (Loader s) rows → r.name ≡ s.name
       → r.number ≡ s.number
 
--- an index of the rows, with room for all that can live
+-- an index of the rows, with room for all places
 pub record HasIndex {P : Type 0} (mark : ℕ → List ℕ → ℕ) (name_of : P → List ℕ)
-    (sizes : Sizes) (rows : List (Row P)) (es : List IndexEntry) (capacity places : ℕ) : Type 0 where
-  pub index : IsIndex mark name_of rows es
-  pub unique : AreUnique rows
-  pub room : row_limit sizes ≤ capacity
-  pub places_room : row_limit sizes ≤ places
+    (sizes : Sizes) (slots : List (Slot (Row P))) (es : List IndexEntry) (capacity places : ℕ) : Type 0 where
+  pub index : IsIndex mark name_of slots es
+  pub unique : AreUnique (living slots)
+  pub room : 2 * row_limit sizes ≤ capacity
+  pub places_room : 2 * row_limit sizes ≤ places

@@ -1,3 +1,4 @@
+pub mod Living
 pub mod Index
 pub mod Sought
-pub mod Forget
+pub mod Sweep

@@ -1,23 +1,25 @@
 //! Loaders and classes by their names.
 
-ghost use Rattle.std.specs.Prelude.{◌≡◌, ◌&&◌, Some, length, nat_lt, is_none};
+ghost use Rattle.std.specs.Prelude.{◌≡◌, ◌&&◌, Some, is_none};
 ghost use Rattle.std.specs.Option.{option_copied};
 ghost use Rattle.cm_layout.specs.Names.{is_loader_name};
 ghost use Rattle.cm_layout.specs.Rows.{number_of};
 ghost use Rattle.cm_index.specs.Index.{class_of};
+ghost use Rattle.cm_index.specs.Living.{living};
 ghost use Rattle.cm_index.specs.Index.{IsIndex, number_in, kept_in};
 
 use crate::index::{IndexEntry, find_row};
 use crate::kept::Kept;
+use crate::slot::Slot;
 use crate::sought::Sought;
 use cm_layout::{Row, is_loader_name};
 
 /// The number of the live loader of a name.
-pub fn loader_of<P: Kept>(index: &[IndexEntry], rows: &[Row<P>], name: &[u8]) -> Option<u64>
-    requires { IsIndex P.mark P.name rows.now index.now }
-    ensures { result ≡ number_of name.now rows.now }
+pub fn loader_of<P: Kept>(index: &[IndexEntry], slots: &[Slot<Row<P>>], name: &[u8]) -> Option<u64>
+    requires { IsIndex P.mark P.name slots.now index.now }
+    ensures { result ≡ number_of name.now (living slots.now) }
 {
-    let Some(row) = find_row(index, rows, &Sought::named(None, name)) else {
+    let Some(row) = find_row(index, slots, &Sought::named(None, name)) else {
         return None;
     };
     number_in(row)
@@ -35,14 +37,14 @@ fn number_in<P>(row: &Row<P>) -> Option<u64>
 /// What is kept of the class of a name in the loader of a number.
 pub fn class_in<'a, P: Kept>(
     index: &[IndexEntry],
-    rows: &'a [Row<P>],
+    slots: &'a [Slot<Row<P>>],
     loader: u64,
     name: &[u8],
 ) -> Option<&'a P>
-    requires { IsIndex P.mark P.name rows.now index.now }
-    ensures { option_copied result ≡ class_of P.name loader name.now rows.now }
+    requires { IsIndex P.mark P.name slots.now index.now }
+    ensures { option_copied result ≡ class_of P.name loader name.now (living slots.now) }
 {
-    let Some(row) = find_row(index, rows, &Sought::named(Some(loader), name)) else {
+    let Some(row) = find_row(index, slots, &Sought::named(Some(loader), name)) else {
         return None;
     };
     kept_in(row)
@@ -51,14 +53,14 @@ pub fn class_in<'a, P: Kept>(
 /// What is kept of the class that has the name of this one in the loader of a number.
 pub fn class_like<'a, P: Kept>(
     index: &[IndexEntry],
-    rows: &'a [Row<P>],
+    slots: &'a [Slot<Row<P>>],
     loader: u64,
     class: &P,
 ) -> Option<&'a P>
-    requires { IsIndex P.mark P.name rows.now index.now }
-    ensures { option_copied result ≡ class_of P.name loader (P.name class.now) rows.now }
+    requires { IsIndex P.mark P.name slots.now index.now }
+    ensures { option_copied result ≡ class_of P.name loader (P.name class.now) (living slots.now) }
 {
-    let Some(row) = find_row(index, rows, &Sought::class(loader, class)) else {
+    let Some(row) = find_row(index, slots, &Sought::class(loader, class)) else {
         return None;
     };
     kept_in(row)
@@ -74,11 +76,16 @@ fn kept_in<P>(row: &Row<P>) -> Option<&P>
 }
 
 /// Whether a loader of this name can be added to the rows: the name is one, no live loader has it,
-/// and fewer than `limit` rows live.
-pub fn is_new<P: Kept>(index: &[IndexEntry], rows: &[Row<P>], limit: usize, name: &[u8]) -> bool
-    requires { IsIndex P.mark P.name rows.now index.now }
-    ensures { result ≡ (is_loader_name name.now && is_none (number_of name.now rows.now)
-        && nat_lt (length rows.now) limit) }
+/// and there is room for a row more.
+pub fn is_new<P: Kept>(
+    index: &[IndexEntry],
+    slots: &[Slot<Row<P>>],
+    room: bool,
+    name: &[u8],
+) -> bool
+    requires { IsIndex P.mark P.name slots.now index.now }
+    ensures { result ≡ (is_loader_name name.now && is_none (number_of name.now (living slots.now))
+        && room) }
 {
-    is_loader_name(name) && loader_of(index, rows, name).is_none() && rows.len() < limit
+    is_loader_name(name) && loader_of(index, slots, name).is_none() && room
 }

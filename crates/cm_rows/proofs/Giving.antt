@@ -1,4 +1,4 @@
--- Rows gone over one by one: a loader's chunks are given back, and a chunk's records are moved.
+-- Rows gone over one by one: their chunks are given back, and taken.
 use Rattle.std.proofs.Common.{◌≡◌, ℕ, zero, suc, add-one, ◌+◌, ◌<◌, Bool, true, false, cond, eqb}
 use Rattle.std.proofs.Common.{List, [], ◌∷◌, ◌++◌, map, length, take, drop, get_or, set, Some, None}
 use Rattle.std.proofs.Common.{refl, sym, ◌∙◌, ap, subst, arith, append_assoc, append-nil, inl, inr}
@@ -14,8 +14,12 @@ use Rattle.cm_pool.specs.FreeSpace.{FreeSpace, IsFreeChunk, IsUsedChunk, without
 use Rattle.cm_layout.specs.declared.class_row.ClassRow.{ClassRow}
 use Rattle.cm_layout.specs.declared.row.Row.{Row}
 use Rattle.cm_layout.specs.declared.row.Row.TheVariants.{Loader, Class}
-use Rattle.cm_layout.specs.Rows.{classes_in, is_of, without_loader, moved_row, moved}
-use Rattle.cm_rows.specs.Held.{Holds, CanBeHeld, first_chunks, first_of, own_chunk}
+use Rattle.cm_layout.specs.Rows.{classes_in}
+use Rattle.cm_index.specs.declared.slot.Slot.{Slot}
+use Rattle.cm_index.specs.Living.{living}
+use Rattle.cm_index.proofs.Living.{living-append}
+use Rattle.std.proofs.lemmas.List.{take-append-drop}
+use Rattle.cm_rows.specs.Held.{Holds, CanBeHeld, first_chunks, own_chunk, living_chunk}
 use Rattle.cm_index.proofs.Lists.{among-right}
 use Rattle.cm_rows.proofs.Chunks.{meets-turned}
 use Rattle.cm_rows.proofs.Holding.{each-among, free-is, take-push, give-back}
@@ -37,128 +41,14 @@ first-append rs ss =
     (λ (r : ClassRow). eqb r.place.offset 0) ss)
 
 module _ {P : Type 0} where
-  -- the first chunks of all but a loader's rows, and of all rows
-  abbrev pub kept : ℕ → List (Row P) → List Chunk
-  kept u rows = first_chunks (classes_in (without_loader u rows))
-
+  -- the first chunks of rows
   abbrev pub firsts : List (Row P) → List Chunk
   firsts rows = first_chunks (classes_in rows)
-
-  kept-push : (u : ℕ) (rows : List (Row P)) (x : Row P)
-      → kept u (rows ++ x ∷ []) ≡ kept u rows ++ kept u (x ∷ [])
-  kept-push u rows x =
-      ap (λ l. first_chunks (classes_in l)) (filter-append
-      (λ (row : Row P). not (is_of u row)) rows (x ∷ []))
-      ∙ ap first_chunks (classes-append (without_loader u rows) (without_loader u (x ∷ [])))
-      ∙ first-append (classes_in (without_loader u rows)) (classes_in (without_loader u (x ∷ [])))
-
-  record Gives (u : ℕ) (x : Row P) (rest : List (Row P)) (c : Chunk) : Type 0 where
-    own : kept u (x ∷ []) ≡ []
-    first : firsts (x ∷ rest) ≡ c ∷ firsts rest
-
-  gives : (u : ℕ) (x : Row P) (rest : List (Row P)) (c : Chunk) → first_of u x ≡ Some c
-      → Gives u x rest c
-  gives u (Loader r) rest c h = absurd (cc)
-  gives u (Class r p) rest c h = by_tests (eqb r.loader u) (eqb r.place.offset 0) refl refl h
-    where
-      by_tests : (t s : Bool) → eqb r.loader u ≡ t → eqb r.place.offset 0 ≡ s
-          → cond (t && s) (Some r.place.chunk) None ≡ Some c → Gives u (Class r p) rest c
-      by_tests true true e f h = let is : r.place.chunk ≡ c = cc in record { own = rw (e) refl; first = rw (f) (ap (λ (d : Chunk). d ∷ firsts rest) is) }
-      by_tests true false e f h = absurd (cc)
-      by_tests false s e f h = absurd (cc)
-
-  keeps : (u : ℕ) (x : Row P) (rest : List (Row P)) → first_of u x ≡ None
-      → firsts (x ∷ rest) ≡ kept u (x ∷ []) ++ firsts rest
-  keeps u (Loader r) rest h = by_test (Loader r) refl (not (eqb r.number u))
-    where
-      by_test : (x : Row P) → classes_in (x ∷ []) ≡ [] → (t : Bool)
-          → firsts rest ≡ first_chunks (classes_in (cond t (x ∷ []) [])) ++ firsts rest
-      by_test x none true = rw (none) refl
-      by_test x none false = refl
-  keeps u (Class r p) rest h = by_tests (eqb r.loader u) (eqb r.place.offset 0) refl refl h
-    where
-      by_tests : (t s : Bool) → eqb r.loader u ≡ t → eqb r.place.offset 0 ≡ s
-          → cond (t && s) (Some r.place.chunk) None ≡ None
-          → firsts (Class r p ∷ rest) ≡ kept u (Class r p ∷ []) ++ firsts rest
-      by_tests true true e f h = absurd (cc)
-      by_tests true false e f h = rw (e, f) refl
-      by_tests false true e f h = rw (e, f) refl
-      by_tests false false e f h = rw (e, f) refl
-
-  -- one row further
-  pub gives-more : (sizes : Sizes) (p : FreeSpace) (u : ℕ) (rows : List (Row P)) (i : ℕ) (d : Row P) (c : Chunk) → i < length rows → first_of u (get_or rows i d) ≡ Some c
-      → Holds sizes p (kept u (take i rows) ++ firsts (drop i rows)) → IsUsedChunk p c
-      × Holds sizes (with_chunk p c) (kept u (take (i + 1) rows) ++ firsts (drop (i + 1) rows))
-  gives-more sizes p u rows i d c lt some h =
-      let x = get_or rows i d in
-      let rest = drop (i + 1) rows in
-      let g = gives u x rest c some in
-      let now : Holds sizes p (kept u (take i rows) ++ c ∷ firsts rest) =
-      subst (λ (l : List Chunk). Holds sizes p (kept u (take i rows) ++ l)) (ap firsts (drop_more rows i d lt) ∙ g.first) h in
-      let given = give-back sizes p (kept u (take i rows)) c (firsts rest) now in
-      let same : kept u (take (i + 1) rows) ≡ kept u (take i rows) =
-      ap (kept u) (take_more rows i d lt) ∙ kept-push u (take i rows) x ∙ ap
-      (λ l. kept u (take i rows) ++ l) g.own ∙ append-nil (kept u (take i rows)) in (
-        given.0,
-        subst
-            (λ (l : List Chunk). Holds sizes (with_chunk p c) (l ++ firsts rest)) (sym same) given.1,
-      )
-
-  pub keeps-more : (sizes : Sizes) (p : FreeSpace) (u : ℕ) (rows : List (Row P)) (i : ℕ) (d : Row P) → i < length rows → first_of u (get_or rows i d) ≡ None
-      → Holds sizes p (kept u (take i rows) ++ firsts (drop i rows))
-      → Holds sizes p (kept u (take (i + 1) rows) ++ firsts (drop (i + 1) rows))
-  keeps-more sizes p u rows i d lt none h =
-      let x = get_or rows i d in
-      let rest = drop (i + 1) rows in
-      let left : kept u (take (i + 1) rows) ≡ kept u (take i rows) ++ kept u (x ∷ []) = ap (kept u) (take_more rows i d lt) ∙ kept-push u (take i rows) x in
-      let right : firsts (drop i rows) ≡ kept u (x ∷ []) ++ firsts rest = ap firsts (drop_more rows i d lt) ∙ keeps u x rest none in
-      let same : kept u (take i rows) ++ firsts (drop i rows) ≡ kept u (take (i + 1) rows) ++ firsts rest =
-      ap (λ l. kept u (take i rows) ++ l) right ∙ sym (append_assoc (kept u (take i rows)) (kept u (x ∷ [])) (firsts rest)) ∙ ap (λ l. l ++ firsts rest) (sym left) in
-      subst (λ (l : List Chunk). Holds sizes p l) same h
-
--- ---- a move
-
-module _ {P : Type 0} where
-  abbrev half_moved : Chunk → Chunk → List (Row P) → ℕ → List (Row P)
-  half_moved from to rows i = moved from to (take i rows) ++ drop i rows
-
-  seam : (from to : Chunk) (rows : List (Row P)) (i : ℕ) (d : Row P) → i < length rows
-      → get_or (half_moved from to rows i) i d ≡ get_or rows i d
-  seam from to [] i d lt = absurd (omega arith)
-  seam from to (x ∷ rows) zero d lt = refl
-  seam from to (x ∷ rows) (suc i) d lt = seam from to rows i d (omega arith)
-
-  seam-set : (from to : Chunk) (rows : List (Row P)) (i : ℕ) (d : Row P) → i < length rows
-      → set (half_moved from to rows i) i (moved_row from to (get_or rows i d)) ≡ half_moved from to rows (suc i)
-  seam-set from to [] i d lt = absurd (omega arith)
-  seam-set from to (x ∷ rows) zero d lt = refl
-  seam-set from to (x ∷ rows) (suc i) d lt = ap
-      (λ l. moved_row from to x ∷ l) (seam-set from to rows i d (omega arith))
-
-  -- one row further: it is moved, or stays
-  pub moved-put : (from to : Chunk) (rows items : List (Row P)) (i : ℕ) (row y : Row P)
-      → i < length rows → items ≡ half_moved from to rows i → row ≡ get_or items i row
-      → moved_row from to row ≡ y
-      → set items i y ≡ half_moved from to rows (i + 1)
-  moved-put from to rows items i row y lt e is put =
-      let here : row ≡ get_or rows i row = is ∙ ap
-      (λ (l : List (Row P)). get_or l i row) e ∙ seam from to rows i row lt in
-      let next : half_moved from to rows (suc i) ≡ half_moved from to rows (i + 1) = ap (half_moved from to rows) (sym (add-one i)) in
-      ap (λ (l : List (Row P)). set l i y) e ∙ ap
-      (λ (x : Row P). set (half_moved from to rows i) i x) (sym put ∙ ap (moved_row from to) here) ∙ seam-set from to rows i row lt ∙ next
-
-  pub moved-kept : (from to : Chunk) (rows items : List (Row P)) (i : ℕ) (row : Row P)
-      → i < length rows → items ≡ half_moved from to rows i → row ≡ get_or items i row
-      → moved_row from to row ≡ row
-      → items ≡ half_moved from to rows (i + 1)
-  moved-kept from to rows items i row lt e is put =
-      sym (set-get_or items i row) ∙ ap
-      (λ (x : Row P). set items i x) (sym is) ∙ moved-put from to rows items i row row lt e is put
 
 -- ---- all chunks, given back and taken
 
 module _ {P : Type 0} where
-  firsts-some : (x : Row P) (rest : List (Row P)) (c : Chunk) → own_chunk x ≡ Some c
+  pub firsts-some : (x : Row P) (rest : List (Row P)) (c : Chunk) → own_chunk x ≡ Some c
       → firsts (x ∷ rest) ≡ c ∷ firsts rest
   firsts-some (Loader r) rest c h = absurd (cc)
   firsts-some (Class r p) rest c h = by_test (eqb r.place.offset 0) refl h
@@ -169,7 +59,7 @@ module _ {P : Type 0} where
           (λ (d : Chunk). d ∷ firsts rest) is)
       by_test false e h = absurd (cc)
 
-  firsts-none : (x : Row P) (rest : List (Row P)) → own_chunk x ≡ None
+  pub firsts-none : (x : Row P) (rest : List (Row P)) → own_chunk x ≡ None
       → firsts (x ∷ rest) ≡ firsts rest
   firsts-none (Loader r) rest h = refl
   firsts-none (Class r p) rest h = by_test (eqb r.place.offset 0) refl h
@@ -179,19 +69,47 @@ module _ {P : Type 0} where
       by_test true e h = absurd (cc)
       by_test false e h = rw (e) refl
 
-  pub given-more : (sizes : Sizes) (p : FreeSpace) (rows : List (Row P)) (i : ℕ) (d : Row P) (c : Chunk) → i < length rows → own_chunk (get_or rows i d) ≡ Some c
-      → Holds sizes p (firsts (drop i rows))
-      → Holds sizes (with_chunk p c) (firsts (drop (i + 1) rows))
-  given-more sizes p rows i d c lt some h =
-      let now = subst
-      (λ (l : List Chunk). Holds sizes p l) (ap firsts (drop_more rows i d lt) ∙ firsts-some (get_or rows i d) (drop (i + 1) rows) c some) h in
-      (give-back sizes p [] c (firsts (drop (i + 1) rows)) now).1
+  pub living-more : (slots : List (Slot (Row P))) (i : ℕ) (d : Slot (Row P)) → i < length slots
+      → living (drop i slots) ≡ cond (get_or slots i d).live ((get_or slots i d).item ∷ living (drop (i + 1) slots)) (living (drop (i + 1) slots))
+  living-more slots i d lt = ap living (drop_more slots i d lt)
 
-  pub left-more : (sizes : Sizes) (p : FreeSpace) (rows : List (Row P)) (i : ℕ) (d : Row P)
-      → i < length rows → own_chunk (get_or rows i d) ≡ None
-      → Holds sizes p (firsts (drop i rows)) → Holds sizes p (firsts (drop (i + 1) rows))
-  left-more sizes p rows i d lt none h = subst
-      (λ (l : List Chunk). Holds sizes p l) (ap firsts (drop_more rows i d lt) ∙ firsts-none (get_or rows i d) (drop (i + 1) rows) none) h
+  pub given-more : (sizes : Sizes) (p : FreeSpace) (slots : List (Slot (Row P))) (i : ℕ) (s : Slot (Row P)) (c : Chunk) → i < length slots → s ≡ get_or slots i s → living_chunk s ≡ Some c
+      → Holds sizes p (firsts (living (drop i slots)))
+      → Holds sizes (with_chunk p c) (firsts (living (drop (i + 1) slots)))
+  given-more sizes p slots i s c lt is some h =
+      let rest = living (drop (i + 1) slots) in
+      let now : living (drop i slots) ≡ cond s.live (s.item ∷ rest) rest = living-more slots i s lt ∙ ap (λ (t : Slot (Row P)). cond t.live (t.item ∷ rest) rest) (sym is) in
+      by_test s.live rest (subst (λ (l : List (Row P)). Holds sizes p (firsts l)) now h) some
+    where
+      by_test : (t : Bool) (rest : List (Row P)) → Holds sizes p (firsts (cond t (s.item ∷ rest) rest)) → cond t (own_chunk s.item) None ≡ Some c
+          → Holds sizes (with_chunk p c) (firsts rest)
+      by_test true rest h e = (give-back sizes p [] c (firsts rest) (subst (λ (l : List Chunk). Holds sizes p l) (firsts-some s.item rest c e) h)).1
+      by_test false rest h e = absurd (cc)
+
+  pub given-used : (sizes : Sizes) (p : FreeSpace) (slots : List (Slot (Row P))) (i : ℕ) (s : Slot (Row P)) (c : Chunk) → i < length slots → s ≡ get_or slots i s → living_chunk s ≡ Some c
+      → Holds sizes p (firsts (living (drop i slots))) → IsUsedChunk p c
+  given-used sizes p slots i s c lt is some h =
+      let rest = living (drop (i + 1) slots) in
+      let now : living (drop i slots) ≡ cond s.live (s.item ∷ rest) rest = living-more slots i s lt ∙ ap (λ (t : Slot (Row P)). cond t.live (t.item ∷ rest) rest) (sym is) in
+      by_test s.live rest (subst (λ (l : List (Row P)). Holds sizes p (firsts l)) now h) some
+    where
+      by_test : (t : Bool) (rest : List (Row P)) → Holds sizes p (firsts (cond t (s.item ∷ rest) rest)) → cond t (own_chunk s.item) None ≡ Some c
+          → IsUsedChunk p c
+      by_test true rest h e = (give-back sizes p [] c (firsts rest) (subst (λ (l : List Chunk). Holds sizes p l) (firsts-some s.item rest c e) h)).0
+      by_test false rest h e = absurd (cc)
+
+  pub left-more : (sizes : Sizes) (p : FreeSpace) (slots : List (Slot (Row P))) (i : ℕ) (s : Slot (Row P))
+      → i < length slots → s ≡ get_or slots i s → living_chunk s ≡ None
+      → Holds sizes p (firsts (living (drop i slots))) → Holds sizes p (firsts (living (drop (i + 1) slots)))
+  left-more sizes p slots i s lt is none h =
+      let rest = living (drop (i + 1) slots) in
+      let now : living (drop i slots) ≡ cond s.live (s.item ∷ rest) rest = living-more slots i s lt ∙ ap (λ (t : Slot (Row P)). cond t.live (t.item ∷ rest) rest) (sym is) in
+      by_test s.live rest (subst (λ (l : List (Row P)). Holds sizes p (firsts l)) now h) none
+    where
+      by_test : (t : Bool) (rest : List (Row P)) → Holds sizes p (firsts (cond t (s.item ∷ rest) rest)) → cond t (own_chunk s.item) None ≡ None
+          → Holds sizes p (firsts rest)
+      by_test true rest h e = subst (λ (l : List Chunk). Holds sizes p l) (firsts-none s.item rest e) h
+      by_test false rest h e = h
 
 -- what is before c in a list has R with it
 pair-before : (R : Chunk → Chunk
@@ -203,50 +121,54 @@ pair-before R (x ∷ xs) c ys d h (inl e) = subst
 pair-before R (x ∷ xs) c ys d h (inr m) = pair-before R xs c ys d h.1 m
 
 module _ {P : Type 0} where
-  firsts-more : (rows : List (Row P)) (i : ℕ) (d : Row P) → i < length rows
-      → firsts (take (i + 1) rows) ≡ firsts (take i rows) ++ firsts (get_or rows i d ∷ [])
-  firsts-more rows i d lt =
-      ap firsts (take_more rows i d lt) ∙ ap first_chunks (classes-append (take i rows) (get_or rows i d ∷ []))
-      ∙ first-append (classes_in (take i rows)) (classes_in (get_or rows i d ∷ []))
+  firsts-joined : (rows more : List (Row P)) → firsts (rows ++ more) ≡ firsts rows ++ firsts more
+  firsts-joined rows more = ap first_chunks (classes-append rows more) ∙ first-append (classes_in rows) (classes_in more)
 
-  split-at : (i : ℕ) (rows : List (Row P)) → take i rows ++ drop i rows ≡ rows
-  split-at zero rows = refl
-  split-at (suc i) [] = refl
-  split-at (suc i) (x ∷ rows) = ap (λ l. x ∷ l) (split-at i rows)
+  -- what lives up to a place, the place, and what lives behind it
+  pub split-living : (slots : List (Slot (Row P))) (i : ℕ) (s : Slot (Row P)) → i < length slots → s ≡ get_or slots i s
+      → living slots ≡ living (take i slots) ++ cond s.live (s.item ∷ living (drop (i + 1) slots)) (living (drop (i + 1) slots))
+  split-living slots i s lt is =
+      ap living (sym (take-append-drop i slots)) ∙ living-append (take i slots) (drop i slots)
+      ∙ ap (λ l. living (take i slots) ++ l) (living-more slots i s lt ∙ ap (λ (t : Slot (Row P)). cond t.live (t.item ∷ living (drop (i + 1) slots)) (living (drop (i + 1) slots))) (sym is))
 
-  firsts-parts : (rows : List (Row P)) (i : ℕ) (d : Row P) (c : Chunk) → i < length rows
-      → own_chunk (get_or rows i d) ≡ Some c
-      → firsts rows ≡ firsts (take i rows) ++ c ∷ firsts (drop (i + 1) rows)
-  firsts-parts rows i d c lt some =
-      ap firsts (sym (split-at i rows))
-      ∙ ap first_chunks (classes-append (take i rows) (drop i rows))
-      ∙ first-append (classes_in (take i rows)) (classes_in (drop i rows))
-      ∙ ap (λ l. firsts (take i rows) ++ l) (ap firsts (drop_more rows i d lt) ∙ firsts-some (get_or rows i d) (drop (i + 1) rows) c some)
+  pub taken-living : (slots : List (Slot (Row P))) (i : ℕ) (s : Slot (Row P)) → i < length slots → s ≡ get_or slots i s
+      → living (take (i + 1) slots) ≡ living (take i slots) ++ cond s.live (s.item ∷ []) []
+  taken-living slots i s lt is =
+      ap living (take_more slots i s lt) ∙ living-append (take i slots) (get_or slots i s ∷ []) ∙ ap (λ (t : Slot (Row P)). living (take i slots) ++ cond t.live (t.item ∷ []) []) (sym is)
 
-  pub taken-more : (sizes : Sizes) (p : FreeSpace) (rows : List (Row P)) (i : ℕ) (d : Row P) (c : Chunk) → i < length rows → own_chunk (get_or rows i d) ≡ Some c → CanBeHeld sizes (firsts rows)
-      → Holds sizes p (firsts (take i rows)) → IsFreeChunk p c
-      × Holds sizes (without p c) (firsts (take (i + 1) rows))
-  taken-more sizes p rows i d c lt some can h =
-      let parts = firsts-parts rows i d c lt some in
-      let each : AllByRecursion (IsChunk sizes) (firsts (take i rows) ++ c ∷ firsts (drop (i + 1) rows)) = subst (AllByRecursion (IsChunk sizes)) parts can.each in
-      let apart : Pairwise
-      (λ a b. ¬ Meets a b) (firsts (take i rows) ++ c ∷ firsts (drop (i + 1) rows)) = subst (Pairwise (λ a b. ¬ Meets a b)) parts can.apart in
-      let chunk = each-among (IsChunk sizes) (firsts (take i rows) ++ c ∷ firsts (drop (i + 1) rows)) c each (among-right c (firsts (take i rows)) (c ∷ firsts (drop (i + 1) rows)) (inl refl)) in
-      let free = (free-is sizes p (firsts (take i rows)) c h).1 (
-        chunk,
-        λ x m meet. pair-before
-            (λ a b. ¬ Meets a b) (firsts (take i rows)) c (firsts (drop (i + 1) rows)) x apart m (meets-turned c x meet),
-      ) in
-      let more : firsts (take (i + 1) rows) ≡ firsts (take i rows) ++ c ∷ [] = firsts-more rows i d lt ∙ ap (λ l. firsts (take i rows) ++ l) (firsts-some (get_or rows i d) [] c some) in (
-        free,
-        subst
-            (λ (l : List Chunk). Holds sizes (without p c) l) (sym more) (take-push sizes p (firsts (take i rows)) c h free),
-      )
+  pub taken-more : (sizes : Sizes) (p : FreeSpace) (slots : List (Slot (Row P))) (i : ℕ) (s : Slot (Row P)) (c : Chunk) → i < length slots → s ≡ get_or slots i s → living_chunk s ≡ Some c → CanBeHeld sizes (firsts (living slots))
+      → Holds sizes p (firsts (living (take i slots))) → IsFreeChunk p c
+      × Holds sizes (without p c) (firsts (living (take (i + 1) slots)))
+  taken-more sizes p slots i s c lt is some can h =
+      by_test s.live some (living (take i slots)) (living (drop (i + 1) slots)) h
+      (subst (λ (l : List (Row P)). CanBeHeld sizes (firsts l)) (split-living slots i s lt is) can)
+      (living (take (i + 1) slots)) (taken-living slots i s lt is)
+    where
+      by_test : (t : Bool) → cond t (own_chunk s.item) None ≡ Some c → (front rest : List (Row P)) → Holds sizes p (firsts front)
+          → CanBeHeld sizes (firsts (front ++ cond t (s.item ∷ rest) rest)) → (more : List (Row P)) → more ≡ front ++ cond t (s.item ∷ []) []
+          → IsFreeChunk p c × Holds sizes (without p c) (firsts more)
+      by_test false e front rest h can more is = absurd (cc)
+      by_test true e front rest h can more is =
+          let parts : firsts (front ++ s.item ∷ rest) ≡ firsts front ++ c ∷ firsts rest = firsts-joined front (s.item ∷ rest) ∙ ap (λ l. firsts front ++ l) (firsts-some s.item rest c e) in
+          let each : AllByRecursion (IsChunk sizes) (firsts front ++ c ∷ firsts rest) = subst (AllByRecursion (IsChunk sizes)) parts can.each in
+          let apart : Pairwise (λ a b. ¬ Meets a b) (firsts front ++ c ∷ firsts rest) = subst (Pairwise (λ a b. ¬ Meets a b)) parts can.apart in
+          let chunk = each-among (IsChunk sizes) (firsts front ++ c ∷ firsts rest) c each (among-right c (firsts front) (c ∷ firsts rest) (inl refl)) in
+          let free = (free-is sizes p (firsts front) c h).1 (
+            chunk,
+            λ x m meet. pair-before (λ a b. ¬ Meets a b) (firsts front) c (firsts rest) x apart m (meets-turned c x meet),
+          ) in
+          let one : firsts more ≡ firsts front ++ c ∷ [] = ap firsts is ∙ firsts-joined front (s.item ∷ []) ∙ ap (λ l. firsts front ++ l) (firsts-some s.item [] c e) in (
+            free,
+            subst (λ (l : List Chunk). Holds sizes (without p c) l) (sym one) (take-push sizes p (firsts front) c h free),
+          )
 
-  pub passed-more : (sizes : Sizes) (p : FreeSpace) (rows : List (Row P)) (i : ℕ) (d : Row P)
-      → i < length rows → own_chunk (get_or rows i d) ≡ None
-      → Holds sizes p (firsts (take i rows)) → Holds sizes p (firsts (take (i + 1) rows))
-  passed-more sizes p rows i d lt none h =
-      subst (λ (l : List Chunk). Holds sizes p l)
-      (sym (firsts-more rows i d lt ∙ ap
-      (λ l. firsts (take i rows) ++ l) (firsts-none (get_or rows i d) [] none) ∙ append-nil (firsts (take i rows)))) h
+  pub passed-more : (sizes : Sizes) (p : FreeSpace) (slots : List (Slot (Row P))) (i : ℕ) (s : Slot (Row P))
+      → i < length slots → s ≡ get_or slots i s → living_chunk s ≡ None
+      → Holds sizes p (firsts (living (take i slots))) → Holds sizes p (firsts (living (take (i + 1) slots)))
+  passed-more sizes p slots i s lt is none h =
+      by_test s.live none (living (take i slots)) h (living (take (i + 1) slots)) (taken-living slots i s lt is)
+    where
+      by_test : (t : Bool) → cond t (own_chunk s.item) None ≡ None → (front : List (Row P)) → Holds sizes p (firsts front)
+          → (more : List (Row P)) → more ≡ front ++ cond t (s.item ∷ []) [] → Holds sizes p (firsts more)
+      by_test true e front h more is = subst (λ (l : List Chunk). Holds sizes p l) (sym (ap firsts is ∙ firsts-joined front (s.item ∷ []) ∙ ap (λ l. firsts front ++ l) (firsts-none s.item [] e) ∙ append-nil (firsts front))) h
+      by_test false e front h more is = subst (λ (l : List Chunk). Holds sizes p l) (sym (ap firsts (is ∙ append-nil front))) h

@@ -1,9 +1,12 @@
 pub mod Chunks
 pub mod Classes
 pub mod Loaders
+pub mod Linking
 pub mod Holding
 pub mod RowFacts
 pub mod Changes
 pub mod Giving
+pub mod Ending
 pub mod Verdicts
 pub mod Books
+pub mod Placed

@@ -69,7 +69,7 @@ searched ls n (Err at) h within parted = (tt, record { none = λ k d lt same. el
 
 -- ---- what is kept of each loader
 
-ne-eqb : (a b : ℕ) → a ≢ b → eqb a b ≡ false
+pub ne-eqb : (a b : ℕ) → a ≢ b → eqb a b ≡ false
 ne-eqb a b n = by_test (eqb a b) refl
   where
     by_test : (t : Bool) → eqb a b ≡ t → t ≡ false

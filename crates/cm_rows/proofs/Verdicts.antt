@@ -2,10 +2,11 @@
 use Rattle.std.proofs.Common.{◌≡◌, ℕ, ◌+◌, ◌%◌, ◌<◌, ◌≤◌, ◌↔◌, Bool, true, false, cond, eqb, List}
 use Rattle.std.proofs.Common.{[], ◌∷◌, length, get_or, Option, Some, None, inl, inr, refl, sym, ◌∙◌}
 use Rattle.std.proofs.Common.{ap, subst, arith}
-use Rattle.std.specs.Prelude.{not, ◌&&◌, ◌||◌, nat_le, nat_lt, max, min, is_none}
+use Rattle.std.specs.Prelude.{not, ◌==◌, ◌^◌, ◌&&◌, ◌||◌, nat_le, nat_lt, max, min, is_none}
 use Rattle.std.specs.List.{list_any, list_all, AllByRecursion}
 use Rattle.std.specs.Option.{option_map, option_map_or}
-use Rattle.std.proofs.lemmas.Bool.{eqb-true, eq-eqb, ltb-true}
+use Rattle.std.proofs.lemmas.Bool.{eqb-true, eq-eqb, ltb-true, leb-true}
+use Rattle.std.proofs.Math.Nat.{pow-le-pow_right}
 use Rattle.std.proofs.lemmas.Bool.Decides.{nat_tests}
 use Rattle.cm_pool.specs.declared.chunk.Chunk.{Chunk}
 use Rattle.cm_pool.specs.Geometry.{Sizes}
@@ -341,6 +342,20 @@ inside-chunk sizes r h =
     let p = both_true (is_chunk sizes r.place.chunk && nat_le 1 r.place.words) (nat_le (r.place.offset + r.place.words) (chunk_size r.place.chunk.order)) h in
     let q = both_true (is_chunk sizes r.place.chunk) (nat_le 1 r.place.words) p.0 in
     (q.0, grind (arith, nat_tests))
+
+pub inside-few : (sizes : Sizes) (r : ClassRow) → is_inside sizes r ≡ true → sizes.top ≤ 12
+    → r.place.offset + r.place.words ≤ 524288
+inside-few sizes r h top =
+    let c = r.place.chunk in
+    let p = both_true (is_chunk sizes c && nat_le 1 r.place.words) (nat_le (r.place.offset + r.place.words) (chunk_size c.order)) h in
+    let fits : r.place.offset + r.place.words ≤ chunk_size c.order = leb-true (r.place.offset + r.place.words) (chunk_size c.order) p.1 in
+    let chunk = (both_true (is_chunk sizes c) (nat_le 1 r.place.words) p.0).0 in
+    let three = (both_true (nat_le c.order sizes.top && nat_lt c.root sizes.roots && (c.at % chunk_size c.order == 0)) (nat_le (c.at + chunk_size c.order) (chunk_size sizes.top)) chunk).0 in
+    let two = (both_true (nat_le c.order sizes.top && nat_lt c.root sizes.roots) (c.at % chunk_size c.order == 0) three).0 in
+    let order : c.order ≤ sizes.top = leb-true c.order sizes.top (both_true (nat_le c.order sizes.top) (nat_lt c.root sizes.roots) two).0 in
+    let small : c.order ≤ 12 = omega (arith, order, top) in
+    let size : 2 ^ c.order ≤ 2 ^ 12 = pow-le-pow_right {n = 2} (omega arith) small in
+    omega (arith, fits, size)
 
 -- ---- the rule of an entry with one test
 

@@ -12,6 +12,7 @@ use Rattle.std.specs.List.{AllByRecursion}
 use Rattle.cm_layout.specs.declared.class_row.ClassRow.{ClassRow}
 use Rattle.cm_layout.specs.declared.row.Row.{Row}
 use Rattle.cm_layout.specs.declared.row.Row.TheVariants.{Loader, Class}
+use Rattle.cm_index.specs.declared.slot.Slot.{Slot}
 use Rattle.cm_rows.specs.declared.live_loader.LastChunk.{LastChunk}
 
 -- the pool has all roots, and its free words are those of no chunk of these
@@ -35,10 +36,9 @@ abbrev pub own_chunk : {P : Type 0} → Row P → Option Chunk
 own_chunk (Loader r) = None
 own_chunk (Class r p) = if r.place.offset == 0 then Some r.place.chunk else None
 
--- the chunk of a row of this loader that is the first on it
-abbrev pub first_of : {P : Type 0} → ℕ → Row P → Option Chunk
-first_of u (Loader r) = None
-first_of u (Class r p) = if (r.loader == u) && (r.place.offset == 0) then Some r.place.chunk else None
+-- the same of a row that lives
+abbrev pub living_chunk : {P : Type 0} → Slot (Row P) → Option Chunk
+living_chunk s = if s.live then own_chunk s.item else None
 
 -- each record has words, each chunk a first record, and each chunk one loader
 pub record AreFounded (classes : List ClassRow) : Type 0 where

@@ -1,4 +1,5 @@
 pub mod Rows
 pub mod Loaders
+pub mod Links
 pub mod Held
 pub mod Book

@@ -3,13 +3,14 @@
 ghost use Rattle.std.specs.Prelude.{◌≡◌, IsTrue, IfOk, [], ◌∷◌, ◌++◌, Some, None, is_none, length};
 ghost use Rattle.std.specs.Prelude.{if◌then◌else◌};
 
+use crate::links::{link, make_room, push_place, relink, unload_rows};
 use crate::live_loader::{LastChunk, LiveLoader, copy_loaders, find, push_loader, set_last};
 use crate::place_rules::{has_room, is_inside, row_limit, take_place};
-use crate::rows::{copy_rows, give_all, give_chunks, move_rows, remove_loader, take_all};
+use crate::rows::{copy_rows, give_all, move_rows, take_all};
 use crate::walk::Walk;
 use crate::whole_pool::whole_pool;
 use cm_index::{
-    IndexEntry, Kept, class_in, class_like, forget_loader, index_rows, is_new, loader_of, push_row,
+    IndexEntry, Kept, Slot, class_in, class_like, index_rows, is_new, loader_of, push_row,
 };
 use cm_layout::{ClassRow, Entry, EntryRule, LoaderRow, Move, Row};
 use cm_pool::{Geometry, Pool};
@@ -22,14 +23,26 @@ use std::marker::Model;
 /// Contracts see a book as the sizes of its region and these rows. Beside the rows it keeps what
 /// answers questions on them: the loaders by number, each with its last chunk, a pool that holds
 /// all chunks of rows, and an index of loaders and classes by name.
+///
+/// The rows stand in places, twice as many as rows can live. An unloaded loader's rows are found by
+/// links, each to the one before it, and keep their places, with what is kept of their classes,
+/// until all places are taken; then those of rows that live no more are swept out at once. So an
+/// unload costs by the rows of its loader; a move alone goes over all rows.
 #[derive(Drop)]
 pub struct Book<P: Kept> {
     geometry: Geometry,
-    rows: Vec<Row<P>>,
+    /// The rows, and between them those that live no more and aren't swept out yet.
+    slots: Vec<Slot<Row<P>>>,
+    /// How many of the rows live.
+    count: usize,
+    /// Beside each living row the place of the row of its loader before it.
+    before: Vec<Option<u32>>,
     index: Vec<IndexEntry>,
-    /// Room to count places in while a loader is unloaded.
+    /// Room to count places in while they are swept.
     places: Vec<u32>,
     loaders: Vec<LiveLoader>,
+    /// Beside each loader the place of its last row.
+    newest: Vec<Option<u32>>,
     pool: Pool,
 }
 
@@ -37,14 +50,17 @@ impl<P: Kept> Model for Book<P> {
     ghost use Rattle.std.specs.Prelude.{vec_capacity};
     ghost use Rattle.cm_rows.specs.Rows.{LiveRows};
     ghost use Rattle.cm_rows.specs.Book.{IsBook};
+    ghost use Rattle.cm_rows.specs.Links.{HasLinks};
     ghost use Rattle.cm_index.specs.Index.{HasIndex};
+    ghost use Rattle.cm_index.specs.Living.{living};
 
     ghost Value = { LiveRows P };
 
-    ghost view = { λ b. record { sizes = b.geometry; rows = b.rows.items } };
+    ghost view = { λ b. record { sizes = b.geometry; rows = living b.slots.items } };
 
-    ghost invariant = { λ b. IsBook b.geometry b.rows.items (vec_capacity b.rows) b.loaders.items (vec_capacity b.loaders) b.pool
-        × HasIndex P.mark P.name b.geometry b.rows.items b.index.items (vec_capacity b.index) (vec_capacity b.places) };
+    ghost invariant = { λ b. IsBook b.geometry (living b.slots.items) (vec_capacity b.slots) b.loaders.items (vec_capacity b.loaders) b.pool
+        × HasIndex P.mark P.name b.geometry b.slots.items b.index.items (vec_capacity b.index) (vec_capacity b.places)
+        × HasLinks b.geometry b.slots.items (vec_capacity b.slots) b.count b.before.items (vec_capacity b.before) b.loaders.items b.newest.items (vec_capacity b.newest) };
 }
 
 impl<P: Kept> Book<P> {
@@ -62,17 +78,22 @@ impl<P: Kept> Book<P> {
         ensures { IfOk result (λ book. book ≡ record { sizes = geometry; rows = [] }) }
     {
         let limit = row_limit(geometry);
-        let rows = Vec::with_capacity(alloc, limit)?;
-        let index = Vec::with_capacity(alloc, limit)?;
-        let places = Vec::with_capacity(alloc, limit)?;
+        let slots = Vec::with_capacity(alloc, 2 * limit)?;
+        let before = Vec::with_capacity(alloc, 2 * limit)?;
+        let index = Vec::with_capacity(alloc, 2 * limit)?;
+        let places = Vec::with_capacity(alloc, 2 * limit)?;
         let loaders = Vec::with_capacity(alloc, limit)?;
+        let newest = Vec::with_capacity(alloc, limit)?;
         let pool = whole_pool(alloc, geometry)?;
         Ok(Book {
             geometry,
-            rows,
+            slots,
+            count: 0,
+            before,
             index,
             places,
             loaders,
+            newest,
             pool,
         })
     }
@@ -119,21 +140,21 @@ impl<P: Kept> Book<P> {
     pub fn loader(&self, name: &[u8]) -> Option<u64>
         ensures { result ≡ number_of_name name.now self.now.rows }
     {
-        loader_of(&self.index, &self.rows, name)
+        loader_of(&self.index, &self.slots, name)
     }
 
     /// What is kept of the class of this name in the loader of this number, if it has one.
     pub fn class(&self, loader: u64, name: &[u8]) -> Option<&P>
         ensures { option_copied result ≡ class_of P.name loader name.now self.now.rows }
     {
-        class_in(&self.index, &self.rows, loader, name)
+        class_in(&self.index, &self.slots, loader, name)
     }
 
     /// What is kept of the class in the loader of this number that has the name of this one.
     pub fn class_like(&self, loader: u64, class: &P) -> Option<&P>
         ensures { option_copied result ≡ class_of P.name loader (P.name class.now) self.now.rows }
     {
-        class_like(&self.index, &self.rows, loader, class)
+        class_like(&self.index, &self.slots, loader, class)
     }
 
     /// Whether a loader of this number lives.
@@ -163,24 +184,27 @@ impl<P: Kept> Book<P> {
     pub fn clear(&mut self)
         ensures { self.new ≡ record self.old { rows = [] } }
     {
-        give_all(&self.rows, &mut self.pool);
-        self.rows.clear();
+        give_all(&self.slots, &mut self.pool);
+        self.slots.clear();
+        self.count = 0;
+        self.before.clear();
         self.index.clear();
         self.loaders.clear();
+        self.newest.clear();
     }
 
     /// The rows, one after another.
     pub fn walk(&self) -> Walk<'_, P>
         ensures { result ≡ self.now.rows }
     {
-        Walk::over(&self.rows)
+        Walk::over(&self.slots)
     }
 
     /// How many rows there are.
     pub fn len(&self) -> usize
         ensures { result ≡ length self.now.rows }
     {
-        self.rows.len()
+        self.count
     }
 
     fn add_loader(&mut self, row: LoaderRow) -> Option<EntryRule>
@@ -188,16 +212,25 @@ impl<P: Kept> Book<P> {
         ensures broken { result ≡ (if is_new_loader self.old.sizes self.old.rows row then None else Some OnRows) }
         ensures left { self.new ≡ (if is_none result then record self.old { rows = self.old.rows ++ Loader row ∷ [] } else self.old) }
     {
-        if !is_new(
-            &self.index,
-            &self.rows,
-            row_limit(self.geometry),
-            row.name.as_bytes(),
-        ) {
+        let room = self.count < row_limit(self.geometry);
+        if !is_new(&self.index, &self.slots, room, row.name.as_bytes()) {
             return Some(EntryRule::OnRows);
         }
+        make_room(
+            self.geometry,
+            &mut self.slots,
+            &mut self.before,
+            &mut self.index,
+            &mut self.places,
+            &self.loaders,
+            &mut self.newest,
+        );
+        let next = self.slots.len() as u32;
+        push_place(&mut self.newest, Some(next));
+        push_place(&mut self.before, None);
         push_loader(&mut self.loaders, row.number);
-        push_row(&mut self.rows, &mut self.index, Row::Loader(row));
+        push_row(&mut self.slots, &mut self.index, Row::Loader(row));
+        self.count += 1;
         None
     }
 
@@ -208,7 +241,7 @@ impl<P: Kept> Book<P> {
         let Some(at) = find(&self.loaders, row.loader) else {
             return Some(EntryRule::OnRows);
         };
-        if self.rows.len() >= row_limit(self.geometry) {
+        if self.count >= row_limit(self.geometry) {
             return Some(EntryRule::OnRows);
         }
         if !is_inside(self.geometry, &row.place) {
@@ -218,8 +251,20 @@ impl<P: Kept> Book<P> {
             return Some(EntryRule::OnChunks);
         }
         let used = row.place.offset + row.place.words;
+        make_room(
+            self.geometry,
+            &mut self.slots,
+            &mut self.before,
+            &mut self.index,
+            &mut self.places,
+            &self.loaders,
+            &mut self.newest,
+        );
+        let next = self.slots.len() as u32;
+        link(&mut self.before, &mut self.newest, at, next);
         set_last(&mut self.loaders, at, row.loader, row.place.chunk, used);
-        push_row(&mut self.rows, &mut self.index, Row::Class(row, kept));
+        push_row(&mut self.slots, &mut self.index, Row::Class(row, kept));
+        self.count += 1;
         None
     }
 
@@ -230,10 +275,11 @@ impl<P: Kept> Book<P> {
         let Some(at) = find(&self.loaders, number) else {
             return Some(EntryRule::OnRows);
         };
-        give_chunks(&self.rows, number, &mut self.pool);
-        forget_loader(&mut self.index, &mut self.places, &self.rows, number);
-        remove_loader(&mut self.rows, number);
+        let last = self.newest[at];
+        let ended = unload_rows(&mut self.slots, &self.before, number, last, &mut self.pool);
+        self.count -= ended;
         let _unloaded = self.loaders.remove(at);
+        let _last = self.newest.remove(at);
         None
     }
 
@@ -251,7 +297,7 @@ impl<P: Kept> Book<P> {
             return Some(EntryRule::OnChunks);
         }
         self.pool.give(entry.from);
-        move_rows(&mut self.rows, entry.from, entry.to);
+        move_rows(&mut self.slots, entry.from, entry.to);
         set_last(&mut self.loaders, at, entry.loader, entry.to, last.used);
         None
     }
@@ -265,10 +311,17 @@ impl Book<()> {
         requires { self.old.sizes ≡ other.now.sizes }
         ensures { self.new ≡ record self.old { rows = bare other.now.rows } }
     {
-        give_all(&self.rows, &mut self.pool);
-        take_all(&other.rows, &mut self.pool);
-        copy_rows(&mut self.rows, &other.rows);
-        index_rows(&mut self.index, &self.rows);
+        give_all(&self.slots, &mut self.pool);
+        take_all(&other.slots, &mut self.pool);
+        copy_rows(&mut self.slots, &other.slots);
+        self.count = other.count;
+        index_rows(&mut self.index, &self.slots);
         copy_loaders(&mut self.loaders, &other.loaders);
+        relink(
+            &mut self.before,
+            &mut self.newest,
+            &self.loaders,
+            &self.slots,
+        );
     }
 }

@@ -3,6 +3,7 @@
 #![tactic(auto)]
 
 mod book;
+mod links;
 mod live_loader;
 mod place_rules;
 mod rows;

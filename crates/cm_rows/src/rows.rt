@@ -1,12 +1,14 @@
 //! What goes over rows.
 
 ghost use Rattle.std.specs.Prelude.{◌≡◌, ◌<◌, ◌≤◌, ◌&&◌, [], ◌∷◌, ◌++◌, vec_len, vec_capacity};
-ghost use Rattle.std.specs.Prelude.{length};
-ghost use Rattle.cm_layout.specs.Rows.{classes_in, is_of, without_loader, moved_row, moved};
+ghost use Rattle.std.specs.Prelude.{length, map, true};
+ghost use Rattle.std.specs.List.{AllByRecursion};
+ghost use Rattle.cm_index.specs.Living.{living, moved_slot};
+ghost use Rattle.cm_layout.specs.Rows.{classes_in, moved_row};
 ghost use Rattle.cm_layout.specs.Rows.{row_with, bare};
-ghost use Rattle.cm_rows.specs.Held.{Holds, CanBeHeld, first_chunks, first_of, own_chunk};
+ghost use Rattle.cm_rows.specs.Held.{Holds, CanBeHeld, first_chunks, own_chunk, living_chunk};
 
-use cm_index::is_of;
+use cm_index::Slot;
 use cm_layout::{LoaderRow, Row, SlotName};
 use cm_pool::{Chunk, Pool};
 
@@ -30,67 +32,75 @@ fn bare_row<Q>(row: &Row<Q>) -> Row<()>
     }
 }
 
-/// Puts others in the place of the rows, where there is room for them, with nothing kept of a
-/// class.
-pub fn copy_rows<Q>(rows: &mut Vec<Row<()>>, others: &[Row<Q>])
-    requires { length others.now ≤ vec_capacity rows.old }
-    ensures rows { rows.new.items ≡ bare others.now }
-    ensures capacity { vec_capacity rows.old ≤ vec_capacity rows.new }
+/// Puts the living rows of others in the place of the rows, where there is room for them, with
+/// nothing kept of a class.
+pub fn copy_rows<Q>(slots: &mut Vec<Slot<Row<()>>>, others: &[Slot<Row<Q>>])
+    requires { length (living others.now) ≤ vec_capacity slots.old }
+    ensures rows { living slots.new.items ≡ bare (living others.now) }
+    ensures live { AllByRecursion (λ s. s.live ≡ true) slots.new.items }
+    ensures count { length slots.new.items ≡ length (living others.now) }
+    ensures capacity { vec_capacity slots.old ≤ vec_capacity slots.new }
 {
-    rows.clear();
-    for row in others {
-        push_row(rows, bare_row(row));
-    }
-}
-
-/// Puts a row behind the others, where there is room for it.
-fn push_row<P: Drop>(rows: &mut Vec<Row<P>>, row: Row<P>)
-    requires { vec_len rows.old < vec_capacity rows.old }
-    ensures rows { rows.new.items ≡ rows.old.items ++ row ∷ [] }
-    ensures capacity { vec_capacity rows.old ≤ vec_capacity rows.new }
-{
-    rows.push(row).unwrap();
-}
-
-/// Gives the chunks of a loader's rows back to the pool.
-pub fn give_chunks<P>(rows: &[Row<P>], loader: u64, pool: &mut Pool)
-    requires { Holds pool.old.geometry pool.old (first_chunks (classes_in rows.now)) }
-    ensures { Holds pool.old.geometry pool.new (first_chunks (classes_in (without_loader loader rows.now))) }
-{
-    for row in rows {
-        if let Some(chunk) = first_chunk(row, loader) {
-            pool.give(chunk);
+    slots.clear();
+    for slot in others {
+        if slot.live {
+            push_living(slots, bare_row(&slot.item));
         }
     }
 }
 
+// Puts a row that lives behind the others, where there is room for it.
+fn push_living<P: Drop>(slots: &mut Vec<Slot<Row<P>>>, row: Row<P>)
+    requires { vec_len slots.old < vec_capacity slots.old }
+    ensures slots { slots.new.items ≡ slots.old.items ++ record { item = row; live = true } ∷ [] }
+    ensures capacity { vec_capacity slots.old ≤ vec_capacity slots.new }
+{
+    slots
+        .push(Slot {
+            item: row,
+            live: true,
+        })
+        .unwrap();
+}
+
 /// Gives the chunks of all rows back to the pool.
-pub fn give_all<P>(rows: &[Row<P>], pool: &mut Pool)
-    requires { Holds pool.old.geometry pool.old (first_chunks (classes_in rows.now)) }
+pub fn give_all<P>(slots: &[Slot<Row<P>>], pool: &mut Pool)
+    requires { Holds pool.old.geometry pool.old (first_chunks (classes_in (living slots.now))) }
     ensures { Holds pool.old.geometry pool.new [] }
 {
-    for row in rows {
-        if let Some(chunk) = own_chunk(row) {
+    for slot in slots {
+        if let Some(chunk) = living_chunk(slot) {
             pool.give(chunk);
         }
     }
 }
 
 /// Takes the chunks of rows out of a pool that holds none.
-pub fn take_all<P>(rows: &[Row<P>], pool: &mut Pool)
+pub fn take_all<P>(slots: &[Slot<Row<P>>], pool: &mut Pool)
     requires none { Holds pool.old.geometry pool.old [] }
-    requires apart { CanBeHeld pool.old.geometry (first_chunks (classes_in rows.now)) }
-    ensures { Holds pool.old.geometry pool.new (first_chunks (classes_in rows.now)) }
+    requires apart { CanBeHeld pool.old.geometry (first_chunks (classes_in (living slots.now))) }
+    ensures { Holds pool.old.geometry pool.new (first_chunks (classes_in (living slots.now))) }
 {
-    for row in rows {
-        if let Some(chunk) = own_chunk(row) {
+    for slot in slots {
+        if let Some(chunk) = living_chunk(slot) {
             let _taken = pool.take(&chunk);
         }
     }
 }
 
-// The chunk whose first record is this row's.
-fn own_chunk<P>(row: &Row<P>) -> Option<Chunk>
+// The chunk whose first record is this row's, if the row lives.
+fn living_chunk<P>(slot: &Slot<Row<P>>) -> Option<Chunk>
+    ensures { result ≡ living_chunk slot.now }
+{
+    if slot.live {
+        own_chunk(&slot.item)
+    } else {
+        None
+    }
+}
+
+/// The chunk whose first record is this row's.
+pub fn own_chunk<P>(row: &Row<P>) -> Option<Chunk>
     ensures { result ≡ own_chunk row.now }
 {
     match row {
@@ -99,33 +109,13 @@ fn own_chunk<P>(row: &Row<P>) -> Option<Chunk>
     }
 }
 
-// The chunk whose first record is this row's, if the row is one of the loader.
-fn first_chunk<P>(row: &Row<P>, loader: u64) -> Option<Chunk>
-    ensures { result ≡ first_of loader row.now }
-{
-    match row {
-        Row::Class(row, _) if row.loader == loader && row.place.offset == 0 => Some(
-            row.place.chunk,
-        ),
-        _ => None,
-    }
-}
-
-/// Takes the rows of a loader out.
-pub fn remove_loader<P: Drop>(rows: &mut Vec<Row<P>>, loader: u64)
-    ensures rows { rows.new.items ≡ without_loader loader rows.old.items }
-    ensures capacity { vec_capacity rows.new ≡ vec_capacity rows.old }
-{
-    rows.retain(|row| !is_of(row, loader));
-}
-
 /// Lets the records on one chunk lie on another.
-pub fn move_rows<P>(rows: &mut Vec<Row<P>>, from: Chunk, to: Chunk)
-    ensures rows { rows.new.items ≡ moved from to rows.old.items }
-    ensures capacity { vec_capacity rows.new ≡ vec_capacity rows.old }
+pub fn move_rows<P>(slots: &mut Vec<Slot<Row<P>>>, from: Chunk, to: Chunk)
+    ensures slots { slots.new.items ≡ map (moved_slot from to) slots.old.items }
+    ensures capacity { vec_capacity slots.new ≡ vec_capacity slots.old }
 {
-    for at in 0..rows.len() {
-        move_row(&mut rows[at], &from, to);
+    for at in 0..slots.len() {
+        move_row(&mut slots[at].item, &from, to);
     }
 }
 

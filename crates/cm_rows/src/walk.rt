@@ -1,44 +1,57 @@
 //! Rows, one after another.
 
-ghost use Rattle.std.specs.Prelude.{◌≡◌, [], ◌∷◌, MatchOption};
+ghost use Rattle.std.specs.Prelude.{◌≡◌, [], ◌∷◌, drop, MatchOption};
+ghost use Rattle.cm_index.specs.Living.{living};
+ghost use Rattle.cm_rows.specs.Links.{ComesNext};
 
+use cm_index::Slot;
 use cm_layout::Row;
 use std::marker::Model;
 
 /// The rows of a book that are left to go over. Contracts see the list of these rows.
 #[derive(Drop)]
 pub struct Walk<'a, P> {
-    rows: &'a [Row<P>],
+    slots: &'a [Slot<Row<P>>],
     at: usize,
 }
 
 impl<'a, P> Model for Walk<'a, P> {
     ghost use Rattle.std.specs.Prelude.{◌≤◌, List, drop, length};
     ghost use Rattle.cm_layout.specs.declared.row.Row.{Row};
+    ghost use Rattle.cm_index.specs.Living.{living};
 
     ghost Value = { List (Row P) };
 
-    ghost view = { λ w. drop w.at w.rows.now };
+    ghost view = { λ w. living (drop w.at w.slots.now) };
 
-    ghost invariant = { λ w. w.at ≤ length w.rows.now };
+    ghost invariant = { λ w. w.at ≤ length w.slots.now };
 }
 
 impl<'a, P> Walk<'a, P> {
-    pub(crate) fn over(rows: &'a [Row<P>]) -> Walk<'a, P>
-        ensures { result ≡ rows.now }
+    pub(crate) fn over(slots: &'a [Slot<Row<P>>]) -> Walk<'a, P>
+        ensures { result ≡ living slots.now }
     {
-        Walk { rows, at: 0 }
+        Walk { slots, at: 0 }
     }
 
     /// The next row, or `None` behind the last.
     pub fn next(&mut self) -> Option<&'a Row<P>>
         ensures { MatchOption result (self.old ≡ []) (λ row. self.old ≡ row.now ∷ self.new) }
     {
-        if self.at >= self.rows.len() {
-            return None;
-        }
-        let row = &self.rows[self.at];
-        self.at += 1;
-        Some(row)
+        let at = next_living(self.slots, self.at)?;
+        self.at = at + 1;
+        Some(&self.slots[at].item)
     }
+}
+
+// Where the next living row stands from a place on.
+fn next_living<T>(slots: &[Slot<T>], from: usize) -> Option<usize>
+    ensures { MatchOption result (living (drop from slots.now) ≡ []) (ComesNext slots.now from) }
+{
+    for place in from..slots.len() {
+        if slots[place].live {
+            return Some(place);
+        }
+    }
+    None
 }

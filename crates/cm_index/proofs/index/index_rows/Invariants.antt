@@ -5,6 +5,6 @@ use Rattle.cm_index.proofs.index.index_rows.Given as goal
 abbrev pub invariant-loop-at : goal.invariant-loop-at
 invariant-loop-at g l =
     record {
-      index : IsIndex g.P.Kept.mark g.P.Kept.name (take l.at l.rows) l.index.items;
+      index : IsIndex g.P.Kept.mark g.P.Kept.name (take l.at l.slots) l.index.items;
       capacity : vec_capacity l.fn.index ≤ vec_capacity l.index;
     }

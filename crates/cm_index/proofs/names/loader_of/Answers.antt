@@ -1,21 +1,22 @@
-use Rattle.std.proofs.Common.{◌≡◌, ℕ, List, ap, sym, ◌∙◌}
+use Rattle.std.proofs.Common.{ℕ, List, ap, sym, ◌∙◌}
 use Rattle.std.specs.Option.{option_copied}
 use Rattle.std.specs.List.{find}
 use Rattle.cm_index.specs.Index.{number_in, rank, is_named}
 use Rattle.cm_index.specs.Sought.{name_sought}
+use Rattle.cm_index.specs.Living.{living}
 use Rattle.cm_index.proofs.Indexes.{number-first}
 use Rattle.cm_index.proofs.names.loader_of.Goals as goal
 
 pub returns-in_default : goal.returns-in_default
 returns-in_default g c =
     let found = c.find_row.ensures
-    ∙ ap (λ o. find (is_named g.P.Kept.name (rank o) (name_sought g.P.Kept.name c.named.result.name)) c.args.rows.now) c.named.ensures.owner
-    ∙ ap (λ (x : List ℕ). find (is_named g.P.Kept.name 0 x) c.args.rows.now) c.named.ensures.name in
-    sym (number-first g.P.Kept.name c.args.name.now c.args.rows.now ∙ ap number_in (sym found ∙ ap option_copied c.in_default.is))
+    ∙ ap (λ o. find (is_named g.P.Kept.name (rank o) (name_sought g.P.Kept.name c.named.result.name)) (living c.args.slots.now)) c.named.ensures.owner
+    ∙ ap (λ (x : List ℕ). find (is_named g.P.Kept.name 0 x) (living c.args.slots.now)) c.named.ensures.name in
+    sym (number-first g.P.Kept.name c.args.name.now (living c.args.slots.now) ∙ ap number_in (sym found ∙ ap option_copied c.in_default.is))
 
 pub returns : goal.returns
 returns g c =
     let found = c.find_row.ensures
-    ∙ ap (λ o. find (is_named g.P.Kept.name (rank o) (name_sought g.P.Kept.name c.named.result.name)) c.args.rows.now) c.named.ensures.owner
-    ∙ ap (λ (x : List ℕ). find (is_named g.P.Kept.name 0 x) c.args.rows.now) c.named.ensures.name in
-    c.number_in.ensures ∙ ap number_in (sym (ap option_copied c.in-Some.is) ∙ found) ∙ sym (number-first g.P.Kept.name c.args.name.now c.args.rows.now)
+    ∙ ap (λ o. find (is_named g.P.Kept.name (rank o) (name_sought g.P.Kept.name c.named.result.name)) (living c.args.slots.now)) c.named.ensures.owner
+    ∙ ap (λ (x : List ℕ). find (is_named g.P.Kept.name 0 x) (living c.args.slots.now)) c.named.ensures.name in
+    c.number_in.ensures ∙ ap number_in (sym (ap option_copied c.in-Some.is) ∙ found) ∙ sym (number-first g.P.Kept.name c.args.name.now (living c.args.slots.now))

@@ -1,16 +1,18 @@
-use Rattle.std.proofs.Common.{ap, sym, ◌∙◌, arith}
-use Rattle.cm_rows.specs.Held.{own_chunk}
-use Rattle.cm_rows.proofs.Giving.{given-more, left-more}
+use Rattle.std.proofs.Common.{sym, ◌∙◌, arith}
+use Rattle.cm_rows.proofs.Giving.{given-more, given-used, left-more}
 use Rattle.cm_rows.proofs.rows.give_all.Goals as goal
 use Rattle.cm_rows.proofs.rows.give_all.Goals.{in-Some, in_default}
 
-pub loop-row-preserved : goal.loop-row-preserved
-loop-row-preserved g c =
-    let is = ap own_chunk (sym c.row-item.is) ∙ sym c.own_chunk.ensures in
-    elim c.match-own_chunk.branch [
+pub give-requires : goal.give-requires
+give-requires g c =
+    given-used c.args.pool.now.geometry c.loop-slot.pool c.args.slots.now c.loop-slot.slot-index c.slot-item.result c.in-Some.chunk (omega arith) c.slot-item.is (sym c.in-Some.ensures) c.loop-slot.invariant
+
+pub loop-slot-preserved : goal.loop-slot-preserved
+loop-slot-preserved g c =
+    elim c.match-living_chunk.branch [
       | in-Some w ↦
           rw (w.pool-is, w.give.ensures)
-          (given-more c.args.pool.now.geometry c.loop-row.pool c.args.rows.now c.loop-row.row-index c.row-item.result w.in-Some.chunk (omega arith) (is ∙ w.in-Some.is) c.loop-row.invariant)
+          (given-more c.args.pool.now.geometry c.loop-slot.pool c.args.slots.now c.loop-slot.slot-index c.slot-item.result w.in-Some.chunk (omega arith) c.slot-item.is (sym w.in-Some.ensures) c.loop-slot.invariant)
       | in_default w ↦
-          rw (w.pool-is) (left-more c.args.pool.now.geometry c.loop-row.pool c.args.rows.now c.loop-row.row-index c.row-item.result (omega arith) (is ∙ w.in_default.is) c.loop-row.invariant)
+          rw (w.pool-is) (left-more c.args.pool.now.geometry c.loop-slot.pool c.args.slots.now c.loop-slot.slot-index c.slot-item.result (omega arith) c.slot-item.is (sym c.living_chunk.ensures ∙ w.in_default.is) c.loop-slot.invariant)
     ]

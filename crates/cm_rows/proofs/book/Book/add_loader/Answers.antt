@@ -1,20 +1,26 @@
 use Rattle.std.proofs.Common.{◌≡◌, ◌++◌, ◌∷◌, [], Bool, true, false, cond, vec_capacity, Some, None}
-use Rattle.std.proofs.Common.{refl, sym, ◌∙◌, arith}
+use Rattle.std.proofs.Common.{◌<◌, ◌≤◌, List, length, refl, sym, ap, subst, ◌∙◌, arith}
 use Rattle.cm_layout.specs.declared.row.Row.TheVariants.{Loader}
 use Rattle.cm_layout.specs.declared.entry_rule.EntryRule.TheVariants.{OnRows}
-use Rattle.cm_layout.specs.Rules.{is_new_loader}
+use Rattle.cm_layout.specs.Rules.{is_new_loader, row_limit}
 use Rattle.cm_rows.proofs.Verdicts.{new-is, new-few, new-name}
-use Rattle.cm_rows.proofs.Books.{add-loader, roomier, loaders-few}
-use Rattle.cm_index.proofs.Forgetting.{unique-loader}
+use Rattle.cm_layout.specs.declared.row.Row.{Row}
+use Rattle.cm_index.specs.Index.{AreUnique}
+use Rattle.cm_index.proofs.Living.{living-push}
+use Rattle.cm_rows.specs.Book.{IsBook}
+use Rattle.cm_rows.proofs.Books.{add-loader, roomier, loaders-few, loaders-at_most}
+use Rattle.cm_rows.proofs.Placed.{owned-rows, loaders-fewer, as-many, links-loader}
+use Rattle.cm_index.proofs.Unloading.{unique-loader}
+use Rattle.cm_index.specs.Living.{living}
 use Rattle.cm_rows.proofs.book.Book.add_loader.Given.{Over}
 use Rattle.cm_rows.proofs.book.Book.add_loader.Goals as goal
-use Rattle.cm_rows.proofs.book.Book.add_loader.Goals.{After-is_new}
+use Rattle.cm_rows.proofs.book.Book.add_loader.Goals.{After-is_new, After-push_row}
 
 tested : (g : Over) (c : After-is_new g)
-    → c.is_new.result ≡ is_new_loader c.self.inside.geometry c.self.inside.rows.items c.args.row
+    → c.is_new.result ≡ is_new_loader c.self.inside.geometry (living c.self.inside.slots.items) c.args.row
 tested g c =
-    let e = rw (c.as_bytes.ensures.value, c.deref-2.ensures.value, c.row_limit.ensures) at c.is_new.ensures in
-    e ∙ sym (new-is c.self.inside.geometry c.self.inside.rows.items c.args.row)
+    let e = rw (c.as_bytes.ensures.value, c.deref-2.ensures.value, c.row_limit.ensures, c.self.invariant.2.counted) at c.is_new.ensures in
+    e ∙ sym (new-is c.self.inside.geometry (living c.self.inside.slots.items) c.args.row)
 
 refused : (t : Bool) → t ≡ false → Some OnRows ≡ cond t None (Some OnRows)
 refused true e = absurd (cc)
@@ -27,32 +33,82 @@ added false e = absurd (cc)
 pub returns-then-not-is_new-clause-broken : goal.returns-then-not-is_new-clause-broken
 returns-then-not-is_new-clause-broken g c =
     let at = goal.at.returns-then-not-is_new-clause-broken g c in
-    rw (← c.self.view_is) (refused (is_new_loader c.self.inside.geometry c.self.inside.rows.items c.args.row) (sym (tested g at.After-is_new) ∙ c.if-not-is_new.true))
+    rw (← c.self.view_is) (refused (is_new_loader c.self.inside.geometry (living c.self.inside.slots.items) c.args.row) (sym (tested g at.After-is_new) ∙ c.if-not-is_new.true))
 
 pub returns-clause-broken : goal.returns-clause-broken
 returns-clause-broken g c =
     let at = goal.at.returns-clause-broken g c in
-    rw (← c.self.view_is) (added (is_new_loader c.self.inside.geometry c.self.inside.rows.items c.args.row) (sym (tested g at.After-is_new) ∙ c.if-not-is_new.false))
+    rw (← c.self.view_is) (added (is_new_loader c.self.inside.geometry (living c.self.inside.slots.items) c.args.row) (sym (tested g at.After-is_new) ∙ c.if-not-is_new.false))
+
+few : (g : Over) (c : After-is_new g) → c.is_new.result ≡ true → length (living c.self.inside.slots.items) < row_limit c.self.inside.geometry
+few g c e = new-few c.self.inside.geometry (living c.self.inside.slots.items) c.args.row (sym (tested g c) ∙ e)
+
+pub make_room-requires-clause-loaders_few : goal.make_room-requires-clause-loaders_few
+make_room-requires-clause-loaders_few g c =
+    let a = c.self.inside in
+    rw (c.deref-3.ensures.value) (loaders-at_most a.geometry (living a.slots.items) (vec_capacity a.slots) a.loaders.items (vec_capacity a.loaders) a.pool c.self.invariant.0)
+
+pub make_room-requires-clause-owned : goal.make_room-requires-clause-owned
+make_room-requires-clause-owned g c =
+    let a = c.self.inside in
+    rw (c.deref-3.ensures.value) (owned-rows a.geometry (living a.slots.items) (vec_capacity a.slots) a.loaders.items (vec_capacity a.loaders) a.pool c.self.invariant.0)
+
+pub push_place-requires : goal.push_place-requires
+push_place-requires g c =
+    let a = c.self.inside in
+    let at = goal.at.push_place-requires g c in
+    let links = rw (c.deref-3.ensures.value) at c.make_room.ensures.links in
+    let fewer = loaders-fewer a.geometry (living a.slots.items) (vec_capacity a.slots) a.loaders.items (vec_capacity a.loaders) a.pool c.self.invariant.0 in
+    let many = as-many a.geometry c.make_room.new.slots.items (vec_capacity c.make_room.new.slots) (length (living c.make_room.new.slots.items)) c.make_room.new.before.items (vec_capacity c.make_room.new.before) a.loaders.items c.make_room.new.newest.items (vec_capacity c.make_room.new.newest) links in
+    omega (arith, fewer, many, few g at.After-is_new c.if-not-is_new.false, links.newest_room, c.make_room.new.newest.ok.0)
+
+next : (g : Over) (c : After-push_row g) → living c.push_row.new.slots.items ≡ living c.self.inside.slots.items ++ Loader c.args.row ∷ []
+next g c =
+    ap living c.push_row.ensures.slots ∙ living-push c.make_room.new.slots.items (record { item = Loader c.args.row; live = true }) refl ∙ ap (λ l. l ++ Loader c.args.row ∷ []) c.make_room.ensures.rows
+
+pub returns-clause-left : goal.returns-clause-left
+returns-clause-left g c =
+    let a = c.self.inside in
+    rw (← c.self.view_is) (ap (λ (l : List (Row g.row.P.Denot)). record { sizes = a.geometry; rows = l }) (next g (goal.at.returns-clause-left g c).After-push_row))
 
 pub push_loader-requires : goal.push_loader-requires
 push_loader-requires g c =
     let at = goal.at.push_loader-requires g c in
-    let few = new-few c.self.inside.geometry c.self.inside.rows.items c.args.row (sym (tested g at.After-is_new) ∙ c.if-not-is_new.false) in
-    let there = loaders-few c.self.inside.geometry c.self.inside.rows.items (vec_capacity c.self.inside.rows) c.self.inside.loaders.items (vec_capacity c.self.inside.loaders) c.self.inside.pool c.self.invariant.0 few in
-    omega (arith, there, c.self.inside.loaders.ok.0)
+    let a = c.self.inside in
+    let there = loaders-few a.geometry (living a.slots.items) (vec_capacity a.slots) a.loaders.items (vec_capacity a.loaders) a.pool c.self.invariant.0 (few g at.After-is_new c.if-not-is_new.false) in
+    omega (arith, there, a.loaders.ok.0)
 
 pub invariant_of-self : goal.invariant_of-self
 invariant_of-self g c =
     let at = goal.at.invariant_of-self g c in
-    let sizes = c.self.inside.geometry in
-    let rows = c.self.inside.rows.items in
-    let ls = c.self.inside.loaders.items in
-    let few = new-few sizes rows c.args.row (sym (tested g at.After-is_new) ∙ c.if-not-is_new.false) in
+    let a = c.self.inside in
+    let sizes = a.geometry in
+    let rows = living a.slots.items in
+    let ls = a.loaders.items in
+    let r = c.args.row in
+    let m = c.make_room.ensures in
+    let slots = c.make_room.new.slots.items in
+    let is = next g at.After-push_row in
+    let fresh = sym (tested g at.After-is_new) ∙ c.if-not-is_new.false in
     let above = rw (← c.self.view_is) at c.requires in
-    let none = new-name sizes rows c.args.row (sym (tested g at.After-is_new) ∙ c.if-not-is_new.false) in
-    rw (c.push_row.ensures.rows, c.push_loader.ensures.loaders) (
-      (roomier sizes (rows ++ Loader c.args.row ∷ []) (vec_capacity c.self.inside.rows) (vec_capacity c.push_row.new.rows) (ls ++ record { number = c.args.row.number; last = None } ∷ []) (vec_capacity c.self.inside.loaders) (vec_capacity c.push_loader.new.loaders) c.self.inside.pool
-          c.push_row.ensures.capacity c.push_loader.ensures.capacity
-          (add-loader sizes rows (vec_capacity c.self.inside.rows) ls (vec_capacity c.self.inside.loaders) c.self.inside.pool c.args.row c.self.invariant.0 few above)),
-      record { index = c.push_row.ensures.index; unique = unique-loader rows c.args.row c.self.invariant.1.unique none; places_room = c.self.invariant.1.places_room; room = omega (arith, c.self.invariant.1.room, c.push_row.ensures.index_capacity) },
+    let none = new-name sizes rows r fresh in
+    let new = ls ++ record { number = r.number; last = None } ∷ [] in
+    let slots_room : vec_capacity a.slots ≤ vec_capacity c.push_row.new.slots = omega (arith, m.capacity, c.push_row.ensures.capacity) in
+    let links = rw (c.deref-3.ensures.value) at m.links in
+    let count : length (living slots) ≡ a.count = ap length m.rows ∙ sym c.self.invariant.2.counted in
+    let at_end : c.len-next.result ≡ length slots = omega (arith, c.len-next.ensures, c.make_room.new.slots.ok.0) in
+    rw (c.push_loader.ensures.loaders) (
+      subst (λ l. IsBook sizes l (vec_capacity c.push_row.new.slots) new (vec_capacity c.push_loader.new.loaders) a.pool) (sym is)
+          (roomier sizes (rows ++ Loader r ∷ []) (vec_capacity a.slots) (vec_capacity c.push_row.new.slots) new (vec_capacity a.loaders) (vec_capacity c.push_loader.new.loaders) a.pool
+          slots_room c.push_loader.ensures.capacity
+          (add-loader sizes rows (vec_capacity a.slots) ls (vec_capacity a.loaders) a.pool r c.self.invariant.0 (few g at.After-is_new c.if-not-is_new.false) above)),
+      record {
+        index = rw (c.push_row.ensures.slots) c.push_row.ensures.index;
+        unique = subst AreUnique (sym is) (unique-loader rows r c.self.invariant.1.unique none);
+        room = omega (arith, m.index.room, c.push_row.ensures.index_capacity);
+        places_room = m.index.places_room;
+      },
+      rw (c.push_row.ensures.slots, c.push_place.ensures.places, c.push_place-2.ensures.places, at_end, ← count)
+          (links-loader sizes rows (vec_capacity a.slots) (vec_capacity a.loaders) a.pool slots (vec_capacity c.make_room.new.slots) (vec_capacity c.push_row.new.slots) (length (living slots)) c.make_room.new.before.items (vec_capacity c.make_room.new.before) (vec_capacity c.push_place-2.new.places) ls c.make_room.new.newest.items (vec_capacity c.make_room.new.newest) (vec_capacity c.push_place.new.places) r
+          c.self.invariant.0 above m.rows links m.room c.push_row.ensures.capacity c.push_place-2.ensures.capacity c.push_place.ensures.capacity),
     )

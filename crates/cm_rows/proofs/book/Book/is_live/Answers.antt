@@ -5,6 +5,7 @@ use Rattle.cm_rows.specs.declared.live_loader.LiveLoader.{LiveLoader}
 use Rattle.cm_rows.specs.Loaders.{IsAt, IsAbsent}
 use Rattle.cm_rows.specs.Book.{AreLoadersOf}
 use Rattle.cm_rows.proofs.Verdicts.{live-at, not_live}
+use Rattle.cm_index.specs.Living.{living}
 use Rattle.cm_rows.proofs.book.Book.is_live.Goals as goal
 
 by_find : {P : Type 0} (rows : List (Row P)) (ls : List LiveLoader) (u : ℕ) (o : Option ℕ)
@@ -15,7 +16,7 @@ by_find rows ls u None h found absent = sym (not_live rows ls u h absent)
 
 pub returns : goal.returns
 returns g c =
-    let rows = c.self.inside.rows.items in
+    let rows = (living c.self.inside.slots.items) in
     let ls = c.self.inside.loaders.items in
     let found = rw c.deref.ensures.value at c.find.ensures.found in
     let absent = rw c.deref.ensures.value at c.find.ensures.absent in

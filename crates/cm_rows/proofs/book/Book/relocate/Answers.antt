@@ -1,12 +1,18 @@
-use Rattle.std.proofs.Common.{◌≡◌, ◌≤◌, false, Some, set, vec_capacity, sym, ◌∙◌, arith}
+use Rattle.std.proofs.Common.{◌≡◌, ◌≤◌, List, false, Some, set, vec_capacity, sym, ap, subst, ◌∙◌, arith}
+use Rattle.cm_layout.specs.declared.row.Row.{Row}
+use Rattle.cm_index.specs.Index.{AreUnique}
+use Rattle.cm_index.proofs.Living.{living-moved}
+use Rattle.cm_rows.specs.Book.{IsBook}
+use Rattle.cm_rows.proofs.Placed.{links-moved}
 use Rattle.cm_layout.specs.Rows.{moved}
 use Rattle.cm_layout.specs.Rules.{move_fits}
 use Rattle.cm_pool.specs.FreeSpace.{without, with_chunk}
 use Rattle.cm_rows.proofs.Verdicts.{last-at, last-absent, move-none, move-no_room, move-used}
 use Rattle.cm_rows.proofs.Verdicts.{move-fits, on_chunks-unless, none-if}
 use Rattle.cm_rows.proofs.Books.{relocated, roomier}
-use Rattle.cm_index.proofs.Forgetting.{unique-moved}
+use Rattle.cm_index.proofs.Unloading.{unique-moved}
 use Rattle.cm_index.proofs.Indexes.{index-moved}
+use Rattle.cm_index.specs.Living.{living}
 use Rattle.cm_rows.proofs.book.Book.relocate.Goals as goal
 use Rattle.cm_rows.proofs.book.Book.relocate.Goals.{then-not-has_room-via-then-not-has_room}
 use Rattle.cm_rows.proofs.book.Book.relocate.Goals.{then-not-has_room-via-else-not-has_room+then-not-take}
@@ -14,7 +20,7 @@ use Rattle.cm_rows.proofs.book.Book.relocate.Goals.{then-not-has_room-via-else-n
 pub returns-in_default-clause-broken : goal.returns-in_default-clause-broken
 returns-in_default-clause-broken g c =
     let sizes = c.self.inside.geometry in
-    let rows = c.self.inside.rows.items in
+    let rows = (living c.self.inside.slots.items) in
     let e = c.args.entry.now in
     let absent = rw c.deref.ensures.value at c.in_default.ensures.absent in
     rw (← c.self.view_is) (on_chunks-unless (move_fits sizes rows e) (move-none sizes rows e (last-absent rows c.self.inside.loaders.items e.loader c.self.invariant.0.loaders absent)))
@@ -22,7 +28,7 @@ returns-in_default-clause-broken g c =
 pub returns-in_default-last-clause-broken : goal.returns-in_default-last-clause-broken
 returns-in_default-last-clause-broken g c =
     let sizes = c.self.inside.geometry in
-    let rows = c.self.inside.rows.items in
+    let rows = (living c.self.inside.slots.items) in
     let e = c.args.entry.now in
     let found = rw c.deref.ensures.value at c.in-Some.ensures.found in
     let none = last-at rows c.self.inside.loaders.items e.loader c.in-Some.at c.index.result.now c.self.invariant.0.loaders found c.index.ensures ∙ c.in_default-last.is in
@@ -31,7 +37,7 @@ returns-in_default-last-clause-broken g c =
 pub returns-then-not-has_room-clause-broken : goal.returns-then-not-has_room-clause-broken
 returns-then-not-has_room-clause-broken g c =
     let sizes = c.self.inside.geometry in
-    let rows = c.self.inside.rows.items in
+    let rows = (living c.self.inside.slots.items) in
     let e = c.args.entry.now in
     let l = c.in-Some-last.last in
     let found = rw c.deref.ensures.value at c.in-Some.ensures.found in
@@ -50,34 +56,45 @@ give-requires g c =
     let found = rw c.deref.ensures.value at c.in-Some.ensures.found in
     let free = c.take.ensures.free.0 c.if-not-take.false in
     rw c.if-not-take.ensures.left
-    ((relocated c.self.inside.geometry c.self.inside.rows.items (vec_capacity c.self.inside.rows) c.self.inside.loaders.items (vec_capacity c.self.inside.loaders) c.self.inside.pool c.args.entry.now c.in-Some.at c.index.result.now c.in-Some-last.last
+    ((relocated c.self.inside.geometry (living c.self.inside.slots.items) (vec_capacity c.self.inside.slots) c.self.inside.loaders.items (vec_capacity c.self.inside.loaders) c.self.inside.pool c.args.entry.now c.in-Some.at c.index.result.now c.in-Some-last.last
     c.self.invariant.0 found c.index.ensures c.in-Some-last.is (sym c.has_room.ensures ∙ c.if-not-has_room.false) free).0)
+
+pub returns-clause-left : goal.returns-clause-left
+returns-clause-left g c =
+    let a = c.self.inside in
+    let e = c.args.entry.now in
+    rw (← c.self.view_is) (ap (λ (l : List (Row g.row.P.Denot)). record { sizes = a.geometry; rows = l }) (ap living c.move_rows.ensures.slots ∙ living-moved e.from e.to a.slots.items))
 
 pub invariant_of-self-2 : goal.invariant_of-self-2
 invariant_of-self-2 g c =
-    let sizes = c.self.inside.geometry in
-    let rows = c.self.inside.rows.items in
-    let ls = c.self.inside.loaders.items in
-    let p = c.self.inside.pool in
+    let a = c.self.inside in
+    let sizes = a.geometry in
+    let slots = a.slots.items in
+    let rows = living slots in
+    let ls = a.loaders.items in
+    let p = a.pool in
     let e = c.args.entry.now in
     let l = c.in-Some-last.last in
     let found = rw c.deref.ensures.value at c.in-Some.ensures.found in
     let free = c.take.ensures.free.0 c.if-not-take.false in
-    let new = set ls c.in-Some.at (record { number = e.loader; last = Some (record { chunk = e.to; used = l.used }) }) in
-    let rows_room : vec_capacity c.self.inside.rows ≤ vec_capacity c.move_rows.new.rows = omega (arith, c.move_rows.ensures.capacity) in
-    let room : vec_capacity c.self.inside.loaders ≤ vec_capacity c.set_last.new.loaders = omega (arith, c.set_last.ensures.capacity) in
-    rw (c.move_rows.ensures.rows, c.set_last.ensures.loaders, c.give.ensures, c.if-not-take.ensures.left) (
-      (roomier sizes (moved e.from e.to rows) (vec_capacity c.self.inside.rows) (vec_capacity c.move_rows.new.rows) new (vec_capacity c.self.inside.loaders) (vec_capacity c.set_last.new.loaders) (with_chunk (without p e.to) e.from)
-          rows_room room
-          (relocated sizes rows (vec_capacity c.self.inside.rows) ls (vec_capacity c.self.inside.loaders) p e c.in-Some.at c.index.result.now l
+    let o = Some (record { chunk = e.to; used = l.used }) in
+    let new = set ls c.in-Some.at (record { number = e.loader; last = o }) in
+    let slots_room : vec_capacity a.slots ≤ vec_capacity c.move_rows.new.slots = omega (arith, c.move_rows.ensures.capacity) in
+    let room : vec_capacity a.loaders ≤ vec_capacity c.set_last.new.loaders = omega (arith, c.set_last.ensures.capacity) in
+    rw (c.move_rows.ensures.slots, c.set_last.ensures.loaders, c.give.ensures, c.if-not-take.ensures.left) (
+      subst (λ r. IsBook sizes r (vec_capacity c.move_rows.new.slots) new (vec_capacity c.set_last.new.loaders) (with_chunk (without p e.to) e.from)) (sym (living-moved e.from e.to slots))
+          (roomier sizes (moved e.from e.to rows) (vec_capacity a.slots) (vec_capacity c.move_rows.new.slots) new (vec_capacity a.loaders) (vec_capacity c.set_last.new.loaders) (with_chunk (without p e.to) e.from)
+          slots_room room
+          (relocated sizes rows (vec_capacity a.slots) ls (vec_capacity a.loaders) p e c.in-Some.at c.index.result.now l
           c.self.invariant.0 found c.index.ensures c.in-Some-last.is (sym c.has_room.ensures ∙ c.if-not-has_room.false) free).1),
-      record { index = index-moved g.P.Kept.mark g.P.Kept.name e.from e.to rows c.self.inside.index.items c.self.invariant.1.index; unique = unique-moved e.from e.to rows c.self.invariant.1.unique; room = c.self.invariant.1.room; places_room = c.self.invariant.1.places_room },
+      record { index = index-moved g.P.Kept.mark g.P.Kept.name e.from e.to slots a.index.items c.self.invariant.1.index; unique = subst AreUnique (sym (living-moved e.from e.to slots)) (unique-moved e.from e.to rows c.self.invariant.1.unique); room = c.self.invariant.1.room; places_room = c.self.invariant.1.places_room },
+      links-moved sizes e.from e.to slots (vec_capacity a.slots) (vec_capacity c.move_rows.new.slots) a.count a.before.items (vec_capacity a.before) ls a.newest.items (vec_capacity a.newest) e.loader c.in-Some.at o c.self.invariant.2 found slots_room,
     )
 
 pub returns-clause-broken : goal.returns-clause-broken
 returns-clause-broken g c =
     let sizes = c.self.inside.geometry in
-    let rows = c.self.inside.rows.items in
+    let rows = (living c.self.inside.slots.items) in
     let e = c.args.entry.now in
     let found = rw c.deref.ensures.value at c.in-Some.ensures.found in
     let last = last-at rows c.self.inside.loaders.items e.loader c.in-Some.at c.index.result.now c.self.invariant.0.loaders found c.index.ensures ∙ c.in-Some-last.is in

@@ -1,6 +1,6 @@
 use Rattle.std.proofs.Common.{◌≡◌, ◌++◌, take, drop, map, vec_capacity}
-use Rattle.cm_index.specs.Forget.{shifted}
-use Rattle.cm_index.proofs.forget.move_up.Given as goal
+use Rattle.cm_index.specs.Sweep.{shifted}
+use Rattle.cm_index.proofs.sweep.move_up.Given as goal
 
 abbrev pub invariant-loop-i : goal.invariant-loop-i
 invariant-loop-i l =

@@ -1,8 +1,8 @@
 use Rattle.std.proofs.Common.{◌≡◌, ◌<◌, List, length, get_or, ap, ◌∙◌, arith}
 use Rattle.cm_index.specs.declared.index.IndexEntry.{IndexEntry}
-use Rattle.cm_index.specs.Forget.{shifted}
-use Rattle.cm_index.proofs.Forgetting.{change-more, change-seam}
-use Rattle.cm_index.proofs.forget.move_up.Goals as goal
+use Rattle.cm_index.specs.Sweep.{shifted}
+use Rattle.cm_index.proofs.Sweeping.{change-more, change-seam}
+use Rattle.cm_index.proofs.sweep.move_up.Goals as goal
 
 pub loop-i-preserved : goal.loop-i-preserved
 loop-i-preserved c =

@@ -1,0 +1,12 @@
+-- An index once what lives no more is swept out: the places of what is behind move up.
+use Rattle.std.specs.Prelude.{ℕ, ◌+◌, if◌then◌else◌, List, [], ◌∷◌, get_or}
+use Rattle.cm_index.specs.declared.index.IndexEntry.{IndexEntry}
+use Rattle.cm_index.specs.declared.slot.Slot.{Slot}
+
+-- where each stands once the places are swept, with k that live before them
+abbrev pub places_from : {X : Type 0} → ℕ → List (Slot X) → List ℕ
+places_from k [] = []
+places_from k (s ∷ slots) = k ∷ places_from (if s.live then k + 1 else k) slots
+
+abbrev pub shifted : List ℕ → IndexEntry → IndexEntry
+shifted places e = record { fingerprint = e.fingerprint; at = get_or places e.at 0 }

@@ -1,0 +1,64 @@
+-- How the places of a loader's rows lead to one another: each to the one before it.
+use Rattle.std.specs.Prelude.{◌≡◌, ◌≤◌, ◌*◌, ◌&&◌, ℕ, suc, true, false, Bool, List, [], ◌∷◌, map, take, drop, length, get_or, ◌+◌, ◌<◌}
+use Rattle.std.specs.Prelude.{Option, Some, None, if◌then◌else◌}
+use Rattle.std.specs.List.{slice_get}
+use Rattle.cm_pool.specs.Geometry.{Sizes}
+use Rattle.cm_layout.specs.declared.row.Row.{Row}
+use Rattle.cm_layout.specs.declared.row.Row.TheVariants.{Loader, Class}
+use Rattle.cm_layout.specs.Rows.{is_of}
+use Rattle.cm_layout.specs.Rules.{row_limit}
+use Rattle.cm_index.specs.declared.slot.Slot.{Slot}
+use Rattle.cm_index.specs.Living.{living}
+use Rattle.cm_rows.specs.declared.live_loader.LiveLoader.{LiveLoader}
+use Rattle.cm_rows.specs.Loaders.{numbers_of}
+
+-- the number of the loader whose row it is: its own, or one of its classes
+abbrev pub loader_in : {P : Type 0} → Row P → ℕ
+loader_in (Loader r) = r.number
+loader_in (Class r p) = r.loader
+
+-- a place in the places behind the first, or else the first where that is one
+abbrev pub place_behind : Option ℕ → Bool → Option ℕ
+place_behind (Some i) t = Some (suc i)
+place_behind None t = if t then Some 0 else None
+
+-- where the last living row of a loader stands
+abbrev pub last_place : {P : Type 0} → ℕ → List (Slot (Row P)) → Option ℕ
+last_place u [] = None
+last_place u (s ∷ slots) = place_behind (last_place u slots) (s.live && is_of u s.item)
+
+-- beside each place of a living row stands that of the living row of its loader before it
+pub record AreLinked {P : Type 0} (slots : List (Slot (Row P))) (before : List (Option ℕ)) : Type 0 where
+  pub same : length before ≡ length slots
+  pub each : (i : ℕ) (s : Slot (Row P)) → slice_get slots i ≡ Some s → s.live ≡ true
+      → get_or before i None ≡ last_place (loader_in s.item) (take i slots)
+
+-- the last places of loaders of these numbers
+abbrev pub last_places : {P : Type 0} → List (Slot (Row P)) → List ℕ → List (Option ℕ)
+last_places slots numbers = map (λ u. last_place u slots) numbers
+
+-- a place whose row lives no more
+abbrev pub ended : {P : Type 0} → Slot (Row P) → Slot (Row P)
+ended s = record { item = s.item; live = false }
+
+-- the next living row from a place on stands here
+pub record ComesNext {X : Type 0} (slots : List (Slot X)) (from place : ℕ) : Type 0 where
+  pub within : place < length slots
+  pub is : (d : Slot X) → living (drop from slots) ≡ (get_or slots place d).item ∷ living (drop (place + 1) slots)
+
+-- how many places a walk still goes over at most
+abbrev pub places_left : Option ℕ → ℕ
+places_left None = 0
+places_left (Some i) = suc i
+
+-- the links of the places, with room for twice the rows that can live
+pub record HasLinks {P : Type 0} (sizes : Sizes) (slots : List (Slot (Row P))) (capacity count : ℕ)
+    (before : List (Option ℕ)) (before_capacity : ℕ) (loaders : List LiveLoader)
+    (newest : List (Option ℕ)) (newest_capacity : ℕ) : Type 0 where
+  pub linked : AreLinked slots before
+  pub lasts : newest ≡ last_places slots (numbers_of loaders)
+  pub counted : count ≡ length (living slots)
+  pub few : length slots ≤ 2 * row_limit sizes
+  pub room : 2 * row_limit sizes ≤ capacity
+  pub before_room : 2 * row_limit sizes ≤ before_capacity
+  pub newest_room : row_limit sizes ≤ newest_capacity

@@ -1,0 +1,173 @@
+//! The links of places, by which a loader's rows are found from its last one.
+
+ghost use Rattle.std.specs.Prelude.{◌≡◌, ◌<◌, ◌≤◌, ◌+◌, ◌^◌, ◌*◌, ◌++◌, ◌∷◌, [], ℕ, Some, None, Option};
+ghost use Rattle.std.specs.Prelude.{true, length, map, get_or, slice_set, vec_len, vec_capacity};
+ghost use Rattle.std.specs.List.{AllByRecursion};
+ghost use Rattle.cm_pool.specs.Geometry.{IsGeometry};
+ghost use Rattle.cm_pool.specs.Lists.{Among};
+ghost use Rattle.cm_layout.specs.Rows.{classes_in};
+ghost use Rattle.cm_index.specs.Index.{LivesAt, HasIndex};
+ghost use Rattle.cm_index.specs.Living.{living, swept, unloaded};
+ghost use Rattle.cm_rows.specs.Held.{Holds, first_chunks};
+ghost use Rattle.cm_rows.specs.Links.{loader_in, last_place, last_places, AreLinked, HasLinks, ended};
+ghost use Rattle.cm_rows.specs.Loaders.{Rises, numbers_of};
+ghost use Rattle.cm_layout.specs.Rules.{row_limit as row_limit_of};
+
+use crate::live_loader::{LiveLoader, find};
+use crate::place_rules::row_limit;
+use crate::rows::own_chunk;
+use cm_index::{IndexEntry, Kept, Slot, sweep_index};
+use cm_layout::Row;
+use cm_pool::{Geometry, Pool};
+
+/// Links the place that comes next to the last one of its row's loader, and is the last one then.
+pub fn link(before: &mut Vec<Option<u32>>, newest: &mut Vec<Option<u32>>, loader: usize, place: u32)
+    requires within { loader < vec_len newest.old }
+    requires room { vec_len before.old < vec_capacity before.old }
+    ensures before { before.new.items ≡ before.old.items ++ get_or newest.old.items loader None ∷ [] }
+    ensures newest { newest.new.items ≡ slice_set newest.old.items loader (Some place) }
+    ensures capacity { vec_capacity before.old ≤ vec_capacity before.new }
+    ensures newest_capacity { vec_capacity newest.new ≡ vec_capacity newest.old }
+{
+    before.push(newest[loader]).unwrap();
+    newest[loader] = Some(place);
+}
+
+/// Ends the rows of a loader, from its last one on, and gives their chunks back to the pool. Says
+/// how many they were.
+pub fn unload_rows<P>(
+    slots: &mut Vec<Slot<Row<P>>>,
+    before: &[Option<u32>],
+    loader: u64,
+    newest: Option<u32>,
+    pool: &mut Pool,
+) -> usize
+    requires linked { AreLinked slots.old.items before.now }
+    requires newest { newest ≡ last_place loader slots.old.items }
+    requires holds { Holds pool.old.geometry pool.old (first_chunks (classes_in (living slots.old.items))) }
+    ensures slots { slots.new.items ≡ map (unloaded loader) slots.old.items }
+    ensures linked { AreLinked slots.new.items before.now }
+    ensures holds { Holds pool.old.geometry pool.new (first_chunks (classes_in (living slots.new.items))) }
+    ensures count { length (living slots.new.items) + result ≡ length (living slots.old.items) }
+    ensures capacity { vec_capacity slots.new ≡ vec_capacity slots.old }
+{
+    let mut next = newest;
+    let mut count = 0;
+    while let Some(place) = next {
+        end_row(slots, place as usize, pool);
+        next = before[place as usize];
+        count += 1;
+    }
+    count
+}
+
+// Ends a row, and gives its chunk back to the pool where it is the first record there.
+fn end_row<P>(slots: &mut Vec<Slot<Row<P>>>, at: usize, pool: &mut Pool)
+    requires within { at < vec_len slots.old }
+    requires lives { LivesAt slots.old.items at }
+    requires holds { Holds pool.old.geometry pool.old (first_chunks (classes_in (living slots.old.items))) }
+    ensures slots { (d : Slot (Row P)) → slots.new.items ≡ slice_set slots.old.items at (ended (get_or slots.old.items at d)) }
+    ensures holds { Holds pool.old.geometry pool.new (first_chunks (classes_in (living slots.new.items))) }
+    ensures capacity { vec_capacity slots.new ≡ vec_capacity slots.old }
+{
+    let chunk = own_chunk(&slots[at].item);
+    slots[at].live = false;
+    if let Some(chunk) = chunk {
+        pool.give(chunk);
+    }
+}
+
+// The number of the loader whose row it is.
+fn loader_in<P>(row: &Row<P>) -> u64
+    ensures { result ≡ loader_in row.now }
+{
+    match row {
+        Row::Loader(row) => row.number,
+        Row::Class(row, _) => row.loader,
+    }
+}
+
+// No place for each loader.
+fn no_places(newest: &mut Vec<Option<u32>>, loaders: &[LiveLoader])
+    requires { length loaders.now ≤ vec_capacity newest.old }
+    ensures newest { newest.new.items ≡ map (λ l. None) loaders.now }
+    ensures capacity { vec_capacity newest.old ≤ vec_capacity newest.new }
+{
+    newest.clear();
+    for loader in loaders {
+        push_place(newest, None);
+    }
+}
+
+/// Puts a place behind the others, where there is room for it.
+pub fn push_place(places: &mut Vec<Option<u32>>, place: Option<u32>)
+    requires { vec_len places.old < vec_capacity places.old }
+    ensures places { places.new.items ≡ places.old.items ++ place ∷ [] }
+    ensures capacity { vec_capacity places.old ≤ vec_capacity places.new }
+{
+    places.push(place).unwrap();
+}
+
+/// Links places anew whose rows all live.
+pub fn relink<P>(
+    before: &mut Vec<Option<u32>>,
+    newest: &mut Vec<Option<u32>>,
+    loaders: &[LiveLoader],
+    slots: &[Slot<Row<P>>],
+)
+    requires live { AllByRecursion (λ s. s.live ≡ true) slots.now }
+    requires rises { Rises loaders.now }
+    requires owned { AllByRecursion (λ row. Among (loader_in row) (numbers_of loaders.now)) (living slots.now) }
+    requires fits { length slots.now ≤ 2 ^ 32 }
+    requires room { length slots.now ≤ vec_capacity before.old }
+    requires newest_room { length loaders.now ≤ vec_capacity newest.old }
+    ensures linked { AreLinked slots.now before.new.items }
+    ensures newest { newest.new.items ≡ last_places slots.now (numbers_of loaders.now) }
+    ensures capacity { vec_capacity before.old ≤ vec_capacity before.new }
+    ensures newest_capacity { vec_capacity newest.old ≤ vec_capacity newest.new }
+{
+    before.clear();
+    no_places(newest, loaders);
+    for at in 0..slots.len() {
+        let loader = find(loaders, loader_in(&slots[at].item)).unwrap();
+        link(before, newest, loader, at as u32);
+    }
+}
+
+// Takes the rows out that live no more.
+fn sweep_rows<P: Drop>(slots: &mut Vec<Slot<Row<P>>>)
+    ensures slots { slots.new.items ≡ swept slots.old.items }
+    ensures capacity { vec_capacity slots.new ≡ vec_capacity slots.old }
+{
+    slots.retain(|slot| slot.live);
+}
+
+/// Where twice as many places are taken as rows can live, sweeps those out whose rows live no more.
+pub fn make_room<P: Kept>(
+    geometry: Geometry,
+    slots: &mut Vec<Slot<Row<P>>>,
+    before: &mut Vec<Option<u32>>,
+    index: &mut Vec<IndexEntry>,
+    places: &mut Vec<u32>,
+    loaders: &[LiveLoader],
+    newest: &mut Vec<Option<u32>>,
+)
+    requires lawful { IsGeometry geometry }
+    requires few { length (living slots.old.items) < row_limit_of geometry }
+    requires loaders_few { length loaders.now ≤ row_limit_of geometry }
+    requires links { HasLinks geometry slots.old.items (vec_capacity slots.old) (length (living slots.old.items)) before.old.items (vec_capacity before.old) loaders.now newest.old.items (vec_capacity newest.old) }
+    requires index { HasIndex P.mark P.name geometry slots.old.items index.old.items (vec_capacity index.old) (vec_capacity places.old) }
+    requires rises { Rises loaders.now }
+    requires owned { AllByRecursion (λ row. Among (loader_in row) (numbers_of loaders.now)) (living slots.old.items) }
+    ensures rows { living slots.new.items ≡ living slots.old.items }
+    ensures links { HasLinks geometry slots.new.items (vec_capacity slots.new) (length (living slots.new.items)) before.new.items (vec_capacity before.new) loaders.now newest.new.items (vec_capacity newest.new) }
+    ensures index { HasIndex P.mark P.name geometry slots.new.items index.new.items (vec_capacity index.new) (vec_capacity places.new) }
+    ensures room { length slots.new.items < 2 * row_limit_of geometry }
+    ensures capacity { vec_capacity slots.new ≡ vec_capacity slots.old }
+{
+    if slots.len() >= 2 * row_limit(geometry) {
+        sweep_index(index, places, slots);
+        sweep_rows(slots);
+        relink(before, newest, loaders, slots);
+    }
+}
