@@ -1,7 +1,9 @@
 -- Which images are images of more.
 use Rattle.std.proofs.Common.{◌≡◌, ◌<◌, ◌≤◌, ◌+◌, ◌-◌, ℕ, Bool, true, false, List, length, get_or}
 use Rattle.std.proofs.Common.{take, drop, refl, sym, ◌∙◌, ap, ⊎_elim, arith}
-use Rattle.std.specs.Prelude.{◌||◌, ◌++◌, nat_lt, nat_le}
+use Rattle.std.proofs.Common.{drop-drop}
+use Rattle.std.proofs.Math.Seq.{take-length}
+use Rattle.std.specs.Prelude.{◌||◌, ◌++◌, nat_lt, nat_le, Result, Ok, Err, OnOk, OnErr}
 use Rattle.std.proofs.lemmas.Bool.{false≢true, or_parts, and_cases, leb-false, ltb-false}
 use Rattle.std.proofs.lemmas.List.{get_or-take, get_or-drop, length-take-le, length-append}
 use Rattle.std.proofs.lemmas.List.{length-drop, take-append-le, take_at, drop_at}
@@ -93,3 +95,29 @@ overwritten_torn at bytes old new le e =
       no_shorter = omega (arith, size);
       no_longer = omega (arith, size);
     })
+
+-- a write that stored only the beginning of its range
+pub torn_part : (at k n : ℕ) (old new : List ℕ) → k ≤ n → IsTorn at k old new → IsTorn at n old new
+torn_part at k n old new le torn =
+    let e : at + n ≡ at + k + (n - k) = omega arith in
+    let behind : (xs : List ℕ) → drop (at + n) xs ≡ drop (n - k) (drop (at + k) xs) =
+    λ xs. ap (λ (i : ℕ). drop i xs) e ∙ sym (drop-drop (n - k) (at + k) xs) in
+    record {
+      before = torn.before;
+      after = behind new ∙ ap (drop (n - k)) torn.after ∙ sym (behind old);
+      no_shorter = torn.no_shorter;
+      no_longer = omega (arith, torn.no_longer);
+    }
+
+-- a write that stored the beginning of its range, or nothing
+pub torn_write : {T E : Type 0} (r : Result T E) (at n : ℕ) (bytes old new : List ℕ)
+    → at ≤ length old → length bytes ≤ n → OnOk r (new ≡ overwritten at bytes old)
+    → OnErr r (new ≡ old) → IsTorn at n old new
+torn_write (Ok x) at n bytes old new le few done none =
+    torn_part at (length bytes) n old new few (overwritten_torn at bytes old new le done)
+torn_write (Err e) at n bytes old new le few done none = untouched_torn at n old new none
+
+-- a cut that changed nothing
+pub uncut : (len : ℕ) (old new : List ℕ) → len ≤ length old → new ≡ old → IsCut len old new
+uncut len old new le e =
+    rw e (record { no_shorter = le; no_longer = omega arith; front = sym (take-length old) })

@@ -1,7 +1,10 @@
--- What a disk in memory shows.
-use Rattle.std.specs.Prelude.{◌⊎◌, ℕ, List, length}
+-- What a disk in memory shows, and when its calls fail.
+use Rattle.std.specs.Prelude.{◌≡◌, ◌⊎◌, ◌+◌, ◌||◌, ℕ, Bool, true, false, List, take, length, Result}
+use Rattle.std.specs.Prelude.{Option, Some, None, is_some, is_err, if◌then◌else◌}
+use Rattle.cm_disk.specs.declared.disk.DeviceFault.{DeviceFault}
 use Rattle.cm_disk.specs.declared.sim.SimDisk.{SimDisk}
-use Rattle.cm_disk.specs.Disk.{Unsynced, IsImage}
+use Rattle.cm_disk.specs.Disk.{Unsynced, IsImage, IsSettled, IsWithin, widened}
+use Rattle.cm_disk.specs.Calls.{overwritten}
 use Rattle.cm_disk.specs.Medium.{medium_unsynced}
 use Rattle.cm_disk.specs.Moments.{LeftAtOne, noted_since}
 
@@ -26,3 +29,41 @@ sim_left_since disk t image =
 -- the syncs that have succeeded
 abbrev pub sim_syncs : SimDisk → ℕ
 sim_syncs disk = disk.syncs
+
+-- where the next call is to fail: how many bytes it stores, if it is a write
+abbrev pub sim_armed : SimDisk → Option ℕ
+sim_armed disk = disk.armed
+
+-- the last call was refused memory
+abbrev pub sim_refused : SimDisk → Bool
+sim_refused disk = disk.refused
+
+-- a new disk: all is stored, nothing has happened, and no call is to fail
+pub record IsFresh (disk : SimDisk) : Type 0 where
+  pub settled : IsSettled (sim_contents disk) (sim_unsynced disk)
+  pub armed : sim_armed disk ≡ None
+  pub refused : sim_refused disk ≡ false
+  pub syncs : sim_syncs disk ≡ 0
+  pub failures : sim_failures disk ≡ 0
+  pub moment : sim_moment disk ≡ 0
+
+-- A call fails exactly where it is armed or refused memory, and then counts. Only it was armed.
+pub record FailsFor {T : Type 0} (armed : Option ℕ) (old new : SimDisk)
+    (result : Result T DeviceFault) : Type 0 where
+  pub exactly : is_err result ≡ (is_some armed || sim_refused new)
+  pub disarmed : sim_armed new ≡ None
+  pub counted : sim_failures new ≡ sim_failures old + (if is_err result then 1 else 0)
+
+-- what a write stores of its bytes: where it is armed only the first n
+abbrev pub stored_part : Option ℕ → List ℕ → List ℕ
+stored_part None bytes = bytes
+stored_part (Some n) bytes = take n bytes
+
+-- A write opens its whole range, and stores what it is to store. One that is refused memory changes
+-- no byte.
+pub record Stores (at : ℕ) (bytes : List ℕ) (armed : Option ℕ) (old new : SimDisk) : Type 0 where
+  pub stored : sim_refused new ≡ false
+      → sim_contents new ≡ overwritten at (stored_part armed bytes) (sim_contents old)
+  pub opened : sim_refused new ≡ false
+      → IsWithin (sim_unsynced new) (widened at (length bytes) (sim_unsynced old))
+  pub refused : sim_refused new ≡ true → sim_contents new ≡ sim_contents old

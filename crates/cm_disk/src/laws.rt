@@ -1,7 +1,9 @@
 //! What the words of the disk model mean, as laws.
 ghost use Rattle.std.specs.Prelude.{◌≡◌, ◌≤◌, ◌↔◌, List, ℕ, length, take, drop};
-ghost use Rattle.cm_disk.specs.Disk.{Unsynced, IsBytes, IsImage, IsSettled, widened, shortened};
+ghost use Rattle.cm_disk.specs.Disk.{Unsynced, IsBytes, IsImage, IsSettled, IsSound, widened};
+ghost use Rattle.cm_disk.specs.Disk.{shortened};
 ghost use Rattle.cm_disk.specs.Calls.{overwritten, IsTorn, IsCut};
+ghost use Rattle.cm_disk.specs.Chosen.{IsChosen};
 
 /// Once all is stored, a crash leaves the bytes that are there, and nothing else.
 pub fn settled_has_one_image()
@@ -31,4 +33,19 @@ pub fn write_is_read_back()
     ensures { (at : ℕ) (bytes old : List ℕ) → at ≤ length old
         → (take (length bytes) (drop at (overwritten at bytes old)) ≡ bytes)
         × IsTorn at (length bytes) old (overwritten at bytes old) }
+{}
+
+/// What a choice takes of a disk is an image that a crash may leave.
+pub fn chosen_is_an_image()
+    ensures { (contents fill image : List ℕ) (unsynced : Unsynced) (len : ℕ)
+        → IsSound contents unsynced → IsBytes fill → IsChosen contents unsynced len fill image
+        → IsImage contents unsynced image }
+{}
+
+/// Each image that a crash may leave is taken by a choice: its length, and as many bytes as it has
+/// loose positions.
+pub fn image_has_a_choice()
+    ensures { (contents image : List ℕ) (unsynced : Unsynced) → IsImage contents unsynced image
+        → ((fill : List ℕ) × IsBytes fill × (length fill ≤ length image)
+        × IsChosen contents unsynced (length image) fill image) }
 {}

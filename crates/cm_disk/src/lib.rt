@@ -1,18 +1,21 @@
 //! A disk as a crash-safe store sees it: what it holds now, what of that is surely stored, and what
-//! a crash may leave. The trait [`Disk`] carries the whole model; [`SimDisk`] is a disk in memory.
+//! a crash may leave. The trait [`Disk`] carries the whole model; [`SimDisk`] is a disk in memory that
+//! can be crashed, [`FuseDisk`] one that fails from some call on.
 #![tactic(auto)]
 
+mod choice;
 mod disk;
+mod fuse;
 mod history;
 mod laws;
 mod medium;
 mod sim;
 
+pub use choice::Choice;
 pub use disk::{DeviceFault, Disk};
+pub use fuse::FuseDisk;
 pub use laws::{
-    settled_has_one_image, torn_write_is_an_image, write_is_read_back, write_is_torn_in_its_range,
+    chosen_is_an_image, image_has_a_choice, settled_has_one_image, torn_write_is_an_image,
+    write_is_read_back, write_is_torn_in_its_range,
 };
 pub use sim::SimDisk;
-
-#[cfg(test)]
-mod tests;

@@ -2,7 +2,7 @@
 //! leave.
 ghost use Rattle.std.specs.Prelude.{◌≡◌, ◌≤◌, ◌+◌, ◌^◌, [], ◌∷◌, ◌++◌, length, take, min, max};
 ghost use Rattle.std.specs.Prelude.{OnOk, OnErr};
-ghost use Rattle.cm_disk.specs.Disk.{IsSound};
+ghost use Rattle.cm_disk.specs.Disk.{IsSound, IsBytes};
 ghost use Rattle.cm_disk.specs.Calls.{overwritten};
 ghost use Rattle.cm_disk.specs.Moments.{unsynced_of};
 
@@ -57,6 +57,23 @@ impl Medium {
             ranges: Vec::new(alloc),
             least: 0,
             greatest: 0,
+        }
+    }
+
+    /// All of it is stored.
+    pub(crate) fn stored(alloc: Global, bytes: Vec<u8>) -> Medium
+        requires { length bytes.items ≤ 2 ^ 40 }
+        ensures bytes { result.bytes ≡ bytes }
+        ensures ranges { result.ranges.items ≡ [] }
+        ensures least { result.least ≡ length bytes.items }
+        ensures greatest { result.greatest ≡ length bytes.items }
+    {
+        let len = bytes.len() as u64;
+        Medium {
+            bytes,
+            ranges: Vec::new(alloc),
+            least: len,
+            greatest: len,
         }
     }
 

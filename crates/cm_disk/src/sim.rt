@@ -1,38 +1,68 @@
 //! A disk in memory.
 ghost use Rattle.std.specs.Prelude.{◌≡◌, ◌≤◌, ◌⊎◌, [], length, take, drop, min, ◌+◌, ◌-◌, ◌^◌};
-ghost use Rattle.std.specs.Prelude.{IsOk, IfOk, OnOk, OnErr};
-ghost use Rattle.cm_disk.specs.Calls.{Elapses, HasCause, IsCut};
+ghost use Rattle.std.specs.Prelude.{true, false, Some, None, IfOk, OnOk, OnErr};
+ghost use Rattle.cm_disk.specs.Calls.{Elapses, HasCause, IsTorn, IsCut, overwritten};
 ghost use Rattle.std.proofs.Common.{inl};
-ghost use Rattle.cm_disk.specs.Disk.{IsImage, IsSettled, IsWithin, shortened};
+ghost use Rattle.cm_disk.specs.Chosen.{IsChosen};
+ghost use Rattle.cm_disk.specs.Disk.{IsImage, IsSettled, IsWithin, widened, shortened};
 ghost use Rattle.cm_disk.specs.Moments.{noted_since, LeftAtOne, unsynced_of, none_since_now};
+ghost use Rattle.cm_disk.specs.Sim.{sim_contents, sim_unsynced, sim_failures, sim_moment};
+ghost use Rattle.cm_disk.specs.Sim.{sim_left_since, sim_syncs, sim_armed, sim_refused};
+ghost use Rattle.cm_disk.specs.Sim.{IsFresh, FailsFor, Stores, stored_part};
 
+use crate::choice::Choice;
 use crate::history::History;
 use crate::medium::Medium;
 use crate::{DeviceFault, Disk};
-use std::alloc::Global;
+use std::alloc::{AllocError, Global};
 
-/// A disk in memory, empty at first. It fails only where memory that it must grow by is refused.
+/// A disk in memory, empty at first. A call fails where the disk was armed for it, and a write also
+/// where memory that it must grow by is refused; no other call fails.
 #[derive(Drop)]
 pub struct SimDisk {
     medium: Medium,
     syncs: u64,
+    /// The next call is to fail; a write stores this many bytes.
+    armed: Option<usize>,
+    refused: bool,
     history: History,
     /// What stood at each failure.
     failures: History,
 }
 
-impl SimDisk {
-    ghost use Rattle.cm_disk.specs.Sim.{sim_contents, sim_unsynced, sim_syncs};
+/// What a write stores of its bytes.
+fn part_to_store(bytes: &[u8], armed: Option<usize>) -> &[u8]
+    ensures { result.now ≡ stored_part armed bytes.now }
+{
+    match armed {
+        Some(stores) => &bytes[..stores.min(bytes.len())],
+        None => bytes,
+    }
+}
 
+impl SimDisk {
     /// A disk of no bytes, all of it stored.
     pub fn new(alloc: Global) -> SimDisk
         ensures contents { sim_contents result ≡ [] }
         ensures settled { IsSettled [] (sim_unsynced result) }
+        ensures fresh { IsFresh result }
+    {
+        SimDisk::holding(Medium::new(alloc))
+    }
+
+    fn holding(medium: Medium) -> SimDisk
+        ensures medium { result.medium ≡ medium }
+        ensures armed { sim_armed result ≡ None }
+        ensures refused { sim_refused result ≡ false }
         ensures syncs { sim_syncs result ≡ 0 }
+        ensures failures { result.failures.moments ≡ [] }
+        ensures history { result.history.moments ≡ [] }
     {
         SimDisk {
-            medium: Medium::new(alloc),
+            medium,
             syncs: 0,
+            armed: None,
+            refused: false,
             history: History::new(),
             failures: History::new(),
         }
@@ -44,12 +74,70 @@ impl SimDisk {
     {
         self.syncs
     }
+
+    /// Whether the last call failed for want of memory.
+    pub fn was_refused(&self) -> bool
+        ensures { result ≡ sim_refused self.now }
+    {
+        self.refused
+    }
+
+    /// The next call is to fail, and if it is a write, to store its first `stores` bytes. A call that
+    /// was armed before and hasn't come yet is forgotten.
+    pub fn arm(&mut self, stores: usize)
+        ensures { self.new ≡ record self.old { armed = Some stores } }
+    {
+        self.armed = Some(stores);
+    }
+
+    /// The next call is not to fail.
+    pub fn disarm(&mut self)
+        ensures { self.new ≡ record self.old { armed = None } }
+    {
+        self.armed = None;
+    }
+
+    /// The disk that a crash leaves: it holds the chosen image, all of it stored. Nothing has
+    /// happened to it yet.
+    pub fn crash(self, alloc: Global, choice: &Choice) -> Result<SimDisk, AllocError>
+        ensures chosen { IfOk result (λ disk. IsChosen (sim_contents self) (sim_unsynced self)
+            choice.now.len choice.now.fill.items (sim_contents disk)) }
+        ensures image { IfOk result (λ disk. IsImage (sim_contents self) (sim_unsynced self)
+            (sim_contents disk)) }
+        ensures fresh { IfOk result IsFresh }
+    {
+        let bytes = self.medium.image(alloc, choice)?;
+        Ok(SimDisk::holding(Medium::stored(alloc, bytes)))
+    }
+
+    /// Opens the range of a write of `count` bytes, and stores those of them that are given.
+    fn store(&mut self, at: u64, count: u64, stored: &[u8]) -> Result<(), AllocError>
+        requires starts_within { at ≤ length (sim_contents self.old) }
+        requires within_limit { at + count ≤ 2 ^ 40 }
+        requires part { length stored.now ≤ count }
+        ensures ok { OnOk result
+            (sim_contents self.new ≡ overwritten at stored.now (sim_contents self.old)) }
+        ensures err { OnErr result (sim_contents self.new ≡ sim_contents self.old) }
+        ensures torn { IsTorn at count (sim_contents self.old) (sim_contents self.new) }
+        ensures unsynced { IsWithin (widened at count (sim_unsynced self.old))
+            (sim_unsynced self.new) }
+        ensures opened { OnOk result (IsWithin (sim_unsynced self.new)
+            (widened at count (sim_unsynced self.old))) }
+        ensures time { Elapses (sim_moment self.old) (sim_moment self.new)
+            (sim_left_since self.old) (sim_left_since self.new)
+            (IsImage (sim_contents self.old) (widened at count (sim_unsynced self.old))) }
+        ensures failures { self.new.failures ≡ self.old.failures }
+        ensures syncs { sim_syncs self.new ≡ sim_syncs self.old }
+        ensures armed { sim_armed self.new ≡ sim_armed self.old }
+        ensures refused { sim_refused self.new ≡ sim_refused self.old }
+    {
+        self.medium.begin_write(at, count)?;
+        self.history.note(&self.medium);
+        self.medium.write(at, stored)
+    }
 }
 
 impl Disk for SimDisk {
-    ghost use Rattle.cm_disk.specs.Sim.{sim_contents, sim_unsynced, sim_failures, sim_moment};
-    ghost use Rattle.cm_disk.specs.Sim.{sim_left_since, sim_syncs};
-
     ghost contents = { sim_contents };
 
     ghost unsynced = { sim_unsynced };
@@ -66,83 +154,134 @@ impl Disk for SimDisk {
 
     ghost only_now = { λ d image left. none_since_now d.history.moments image left };
 
-    // The trait's clauses again, and that it doesn't fail.
+    // The trait's clauses again, and when it fails.
     fn len(&mut self) -> Result<u64, DeviceFault>
         ensures len { IfOk result (λ n. n ≡ length (sim_contents self.old)) }
         ensures contents { sim_contents self.new ≡ sim_contents self.old }
         ensures unsynced { sim_unsynced self.new ≡ sim_unsynced self.old }
-        ensures time { Elapses (sim_moment self.old) (sim_moment self.new) (sim_left_since self.old)
-            (sim_left_since self.new)
+        ensures time { Elapses (sim_moment self.old) (sim_moment self.new)
+            (sim_left_since self.old) (sim_left_since self.new)
             (IsImage (sim_contents self.old) (sim_unsynced self.old)) }
         ensures cause { HasCause (sim_failures self.old) (sim_failures self.new) result }
-        ensures never_fails { IsOk result }
+        ensures fails { FailsFor (sim_armed self.old) self.old self.new result }
+        ensures no_memory { sim_refused self.new ≡ false }
+        ensures syncs { sim_syncs self.new ≡ sim_syncs self.old }
     {
+        self.refused = false;
+        if self.armed.take().is_some() {
+            self.failures.note(&self.medium);
+            return Err(DeviceFault);
+        }
         Ok(self.medium.bytes.len() as u64)
     }
 
-    // The trait's clauses again, and that it doesn't fail.
+    // The trait's clauses again, and when it fails.
     fn read(&mut self, at: u64, out: &mut [u8]) -> Result<(), DeviceFault>
         requires { at + length out.old ≤ length (sim_contents self.old) }
         ensures bytes { OnOk result
             (out.new ≡ take (length out.old) (drop at (sim_contents self.old))) }
         ensures contents { sim_contents self.new ≡ sim_contents self.old }
         ensures unsynced { sim_unsynced self.new ≡ sim_unsynced self.old }
-        ensures time { Elapses (sim_moment self.old) (sim_moment self.new) (sim_left_since self.old)
-            (sim_left_since self.new)
+        ensures time { Elapses (sim_moment self.old) (sim_moment self.new)
+            (sim_left_since self.old) (sim_left_since self.new)
             (IsImage (sim_contents self.old) (sim_unsynced self.old)) }
         ensures cause { HasCause (sim_failures self.old) (sim_failures self.new) result }
-        ensures never_fails { IsOk result }
+        ensures fails { FailsFor (sim_armed self.old) self.old self.new result }
+        ensures no_memory { sim_refused self.new ≡ false }
+        ensures syncs { sim_syncs self.new ≡ sim_syncs self.old }
     {
+        self.refused = false;
+        if self.armed.take().is_some() {
+            self.failures.note(&self.medium);
+            return Err(DeviceFault);
+        }
         let start = at as usize;
         out.copy_from_slice(&self.medium.bytes[start..start + out.len()]);
         Ok(())
     }
 
-    fn write_at(&mut self, at: u64, bytes: &[u8]) -> Result<(), DeviceFault> {
-        let Ok(()) = self.medium.begin_write(at, bytes.len() as u64) else {
+    // The trait's clauses again, when it fails, and what it stores.
+    fn write_at(&mut self, at: u64, bytes: &[u8]) -> Result<(), DeviceFault>
+        requires starts_within { at ≤ length (sim_contents self.old) }
+        requires within_limit { at + length bytes.now ≤ 2 ^ 40 }
+        ensures written { OnOk result
+            (sim_contents self.new ≡ overwritten at bytes.now (sim_contents self.old)) }
+        ensures torn { OnErr result
+            (IsTorn at (length bytes.now) (sim_contents self.old) (sim_contents self.new)) }
+        ensures unsynced { IsWithin (widened at (length bytes.now) (sim_unsynced self.old))
+            (sim_unsynced self.new) }
+        ensures time { Elapses (sim_moment self.old) (sim_moment self.new)
+            (sim_left_since self.old) (sim_left_since self.new)
+            (IsImage (sim_contents self.old) (widened at (length bytes.now) (sim_unsynced self.old))) }
+        ensures cause { HasCause (sim_failures self.old) (sim_failures self.new) result }
+        ensures fails { FailsFor (sim_armed self.old) self.old self.new result }
+        ensures stores { Stores at bytes.now (sim_armed self.old) self.old
+            self.new }
+        ensures syncs { sim_syncs self.new ≡ sim_syncs self.old }
+    {
+        self.refused = false;
+        let armed = self.armed.take();
+        let Ok(()) = self.store(at, bytes.len() as u64, part_to_store(bytes, armed)) else {
+            self.refused = true;
             self.failures.note(&self.medium);
             return Err(DeviceFault);
         };
-        self.history.note(&self.medium);
-        let Ok(()) = self.medium.write(at, bytes) else {
+        if armed.is_some() {
             self.failures.note(&self.medium);
             return Err(DeviceFault);
-        };
+        }
         Ok(())
     }
 
-    // The trait's clauses again, and that it doesn't fail.
+    // The trait's clauses again, and when it fails: then nothing is cut, but may be after a crash.
     fn cut(&mut self, len: u64) -> Result<(), DeviceFault>
         requires { len ≤ length (sim_contents self.old) }
         ensures cut { OnOk result (sim_contents self.new ≡ take len (sim_contents self.old)) }
         ensures between { OnErr result (IsCut len (sim_contents self.old) (sim_contents self.new)) }
         ensures unsynced { IsWithin (shortened len (sim_unsynced self.old))
             (sim_unsynced self.new) }
-        ensures time { Elapses (sim_moment self.old) (sim_moment self.new) (sim_left_since self.old)
-            (sim_left_since self.new)
+        ensures time { Elapses (sim_moment self.old) (sim_moment self.new)
+            (sim_left_since self.old) (sim_left_since self.new)
             (IsImage (sim_contents self.old) (shortened len (sim_unsynced self.old))) }
         ensures cause { HasCause (sim_failures self.old) (sim_failures self.new) result }
-        ensures never_fails { IsOk result }
+        ensures fails { FailsFor (sim_armed self.old) self.old self.new result }
+        ensures no_memory { sim_refused self.new ≡ false }
+        ensures uncut { OnErr result (sim_contents self.new ≡ sim_contents self.old) }
+        ensures shortened { sim_unsynced self.new ≡ shortened len (sim_unsynced self.old) }
+        ensures syncs { sim_syncs self.new ≡ sim_syncs self.old }
     {
+        self.refused = false;
+        let armed = self.armed.take();
         self.medium.begin_cut(len);
         self.history.note(&self.medium);
+        if armed.is_some() {
+            self.failures.note(&self.medium);
+            return Err(DeviceFault);
+        }
         self.medium.cut(len);
         Ok(())
     }
 
-    // The trait's clauses again, that it doesn't fail, and that it counts the syncs.
+    // The trait's clauses again, when it fails, and that it counts the syncs.
     fn sync(&mut self) -> Result<(), DeviceFault>
         ensures settled { OnOk result (IsSettled (sim_contents self.new) (sim_unsynced self.new)) }
         ensures not_settled { OnErr result (sim_unsynced self.new ≡ sim_unsynced self.old) }
         ensures contents { sim_contents self.new ≡ sim_contents self.old }
-        ensures time { Elapses (sim_moment self.old) (sim_moment self.new) (sim_left_since self.old)
-            (sim_left_since self.new)
+        ensures time { Elapses (sim_moment self.old) (sim_moment self.new)
+            (sim_left_since self.old) (sim_left_since self.new)
             (IsImage (sim_contents self.old) (sim_unsynced self.old)) }
         ensures cause { HasCause (sim_failures self.old) (sim_failures self.new) result }
-        ensures never_fails { IsOk result }
+        ensures fails { FailsFor (sim_armed self.old) self.old self.new result }
+        ensures no_memory { sim_refused self.new ≡ false }
         ensures counted { OnOk result
             (sim_syncs self.new ≡ min (sim_syncs self.old + 1) (2 ^ 64 - 1)) }
+        ensures not_counted { OnErr result (sim_syncs self.new ≡ sim_syncs self.old) }
     {
+        self.refused = false;
+        if self.armed.take().is_some() {
+            self.failures.note(&self.medium);
+            return Err(DeviceFault);
+        }
         self.syncs = self.syncs.saturating_add(1);
         self.history.note(&self.medium);
         self.medium.settle();

@@ -1,17 +1,6 @@
-ghost use Rattle.std.specs.Prelude.{◌≡◌, OnOk};
-ghost use Rattle.cm_disk.specs.Calls.{overwritten};
-
-use crate::{DeviceFault, Disk, SimDisk};
+use crate::held::fill;
+use cm_disk::{Disk, SimDisk};
 use std::test::Fail;
-
-const LETTERS: [u8; 6] = *b"abcdef";
-
-// Of the disk only the trait is known.
-fn fill<D: Disk>(disk: &mut D) -> Result<(), DeviceFault>
-    ensures { OnOk result (D.contents disk.new ≡ overwritten 0 LETTERS (D.contents disk.old)) }
-{
-    disk.write_at(0, &LETTERS)
-}
 
 #[test]
 fn writes_over_and_past_the_end(rt: HostRuntime) -> Result<(), Fail> {
@@ -19,6 +8,7 @@ fn writes_over_and_past_the_end(rt: HostRuntime) -> Result<(), Fail> {
     assert_eq!(rt; disk.len()?, 0);
     fill(&mut disk)?;
     disk.write_at(4, b"WXYZ")?;
+    assert!(rt; !disk.was_refused());
     disk.write_at(1, b"-")?;
     disk.sync()?;
     assert_eq!(rt; disk.len()?, 8);

@@ -1,0 +1,37 @@
+-- What a disk behind a fuse shows, and which of its calls is to fail.
+use Rattle.std.specs.Prelude.{ℕ, List, Option, Some, None, nat_eq, if◌then◌else◌}
+use Rattle.cm_disk.specs.declared.fuse.FuseDisk.{FuseDisk}
+use Rattle.cm_disk.specs.declared.sim.SimDisk.{SimDisk}
+use Rattle.cm_disk.specs.Disk.{Unsynced}
+use Rattle.cm_disk.specs.Sim.{sim_contents, sim_unsynced, sim_failures, sim_moment, sim_left_since}
+
+-- the disk behind the fuse
+abbrev pub behind : FuseDisk → SimDisk
+behind fuse = fuse.disk
+
+abbrev pub fuse_contents : FuseDisk → List ℕ
+fuse_contents fuse = sim_contents (behind fuse)
+
+abbrev pub fuse_unsynced : FuseDisk → Unsynced
+fuse_unsynced fuse = sim_unsynced (behind fuse)
+
+abbrev pub fuse_failures : FuseDisk → ℕ
+fuse_failures fuse = sim_failures (behind fuse)
+
+abbrev pub fuse_moment : FuseDisk → ℕ
+fuse_moment fuse = sim_moment (behind fuse)
+
+abbrev pub fuse_left_since : FuseDisk → ℕ → List ℕ → Type 0
+fuse_left_since fuse = sim_left_since (behind fuse)
+
+-- the calls that are still let through
+abbrev pub fuse_pass : FuseDisk → ℕ
+fuse_pass fuse = fuse.pass
+
+-- how many bytes a failing write stores
+abbrev pub fuse_stores : FuseDisk → ℕ
+fuse_stores fuse = fuse.stores
+
+-- where the next call is to fail: how many bytes it stores, if it is a write
+abbrev pub fuse_armed : FuseDisk → Option ℕ
+fuse_armed fuse = if nat_eq (fuse_pass fuse) 0 then Some (fuse_stores fuse) else None
