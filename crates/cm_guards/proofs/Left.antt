@@ -1,0 +1,99 @@
+-- What a crash leaves at the moments inside runs of calls.
+use Rattle.std.proofs.Common.{◌≡◌, ◌⊎◌, ℕ, List, ⊎_elim, inl, inr, arith, ◌∙◌, subst}
+use Rattle.std.specs.Prelude.{Result, IsErr}
+use Rattle.cm_disk.specs.Disk.{Unsynced, IsImage}
+use Rattle.cm_disk.specs.Calls.{Elapses, HasCause}
+use Rattle.cm_guards.specs.Guards.{EachImage}
+use Rattle.cm_guards.specs.Calls.{LeavesOnly, Reads}
+
+module _ {D : Type 0} (moment : D → ℕ) (left_since : D → ℕ → List ℕ → Type 0) where
+  -- one call
+  pub one_call : (contents : D → List ℕ) (unsynced : D → Unsynced)
+      → ((disk : D) (image : List ℕ) → left_since disk (moment disk) image
+      → IsImage (contents disk) (unsynced disk) image)
+      → (old new : D) (during : Unsynced) (P : List ℕ → Type 0)
+      → Elapses (moment old) (moment new) (left_since old) (left_since new)
+      (IsImage (contents old) during)
+      → EachImage (contents old) (unsynced old) P → EachImage (contents old) during P
+      → LeavesOnly moment left_since old new P
+  one_call contents unsynced only_now old new during P time at_entry inside = record {
+    later = time.later;
+    each = λ image left.
+        ⊎_elim (λ past. at_entry.each image (only_now old image past))
+        (λ now. inside.each image now) (time.nothing_else (moment old) image (omega arith) left);
+    before = λ t image le left.
+        ⊎_elim (λ past. inl past) (λ now. inr (inside.each image now))
+        (time.nothing_else t image le left);
+  }
+
+  -- two runs, one after the other
+  pub leaves_on : (a b c : D) (P : List ℕ → Type 0) → LeavesOnly moment left_since a b P
+      → LeavesOnly moment left_since b c P → LeavesOnly moment left_since a c P
+  leaves_on a b c P first second = record {
+    later = omega (arith, first.later, second.later);
+    each = λ image left.
+        ⊎_elim (λ past. first.each image past) (λ here. here)
+        (second.before (moment a) image first.later left);
+    before = λ t image le left.
+        ⊎_elim (λ past. first.before t image le past) (λ here. inr here)
+        (second.before t image (omega (arith, le, first.later)) left);
+  }
+
+  -- less is said of them
+  pub leaves_more : (old new : D) (P Q : List ℕ → Type 0) → ((image : List ℕ) → P image → Q image)
+      → LeavesOnly moment left_since old new P → LeavesOnly moment left_since old new Q
+  leaves_more old new P Q more leaves = record {
+    later = leaves.later;
+    each = λ image left. more image (leaves.each image left);
+    before = λ t image le left.
+        ⊎_elim (λ past. inl past) (λ here. inr (more image here)) (leaves.before t image le left);
+  }
+
+  module _ (contents : D → List ℕ) (unsynced : D → Unsynced) (failures : D → ℕ) where
+    pub one_read : {T E : Type 0} (old new : D) (result : Result T E)
+        → ((disk : D) (image : List ℕ) → left_since disk (moment disk) image
+        → IsImage (contents disk) (unsynced disk) image)
+        → contents new ≡ contents old → unsynced new ≡ unsynced old
+        → Elapses (moment old) (moment new) (left_since old) (left_since new)
+        (IsImage (contents old) (unsynced old))
+        → HasCause (failures old) (failures new) result
+        → Reads contents unsynced failures moment left_since old new (IsErr result)
+    one_read old new result only_now same kept time cause = record {
+      contents_stay = same;
+      unsynced_stay = kept;
+      images = one_call contents unsynced only_now old new (unsynced old)
+          (IsImage (contents old) (unsynced old)) time
+          (record { each = λ image is. is }) (record { each = λ image is. is });
+      later = cause.later;
+      cause = cause.fault;
+    }
+
+    pub reads_on : (a b c : D) (F G : Type 0)
+        → Reads contents unsynced failures moment left_since a b F
+        → Reads contents unsynced failures moment left_since b c G
+        → Reads contents unsynced failures moment left_since a c (F ⊎ G)
+    reads_on a b c F G first second = record {
+      contents_stay = second.contents_stay ∙ first.contents_stay;
+      unsynced_stay = second.unsynced_stay ∙ first.unsynced_stay;
+      images = leaves_on a b c (IsImage (contents a) (unsynced a)) first.images
+          (leaves_more b c (IsImage (contents b) (unsynced b)) (IsImage (contents a) (unsynced a))
+          (λ image is. subst (λ (u : Unsynced). IsImage (contents a) u image) first.unsynced_stay
+          (subst (λ (xs : List ℕ). IsImage xs (unsynced b) image) first.contents_stay is))
+          second.images);
+      later = omega (arith, first.later, second.later);
+      cause = λ faulted.
+          ⊎_elim (λ f. let rose = first.cause f in omega (arith, rose, second.later))
+          (λ g. let rose = second.cause g in omega (arith, rose, first.later)) faulted;
+    }
+
+    -- less is said of its faults
+    pub reads_less : (a b : D) (F G : Type 0) → (G → F)
+        → Reads contents unsynced failures moment left_since a b F
+        → Reads contents unsynced failures moment left_since a b G
+    reads_less a b F G less reads = record {
+      contents_stay = reads.contents_stay;
+      unsynced_stay = reads.unsynced_stay;
+      images = reads.images;
+      later = reads.later;
+      cause = λ faulted. reads.cause (less faulted);
+    }

@@ -1,0 +1,5 @@
+pub mod Kept
+pub mod Gated
+pub mod Planned
+pub mod Left
+pub mod Held

@@ -1,0 +1,118 @@
+-- What guards, plans, gates and runs of calls give.
+use Rattle.std.specs.Prelude.{◌≡◌, ◌≤◌, ◌⊎◌, ℕ, List, [], ◌∷◌, length}
+use Rattle.cm_disk.specs.Disk.{Unsynced, IsImage, IsSettled, IsWithin, widened, shortened}
+use Rattle.cm_disk.specs.Calls.{overwritten, IsTorn, IsCut, Elapses}
+use Rattle.cm_guards.specs.Guards.{Guard, Guards, IsBounded, Keeps, EachImage, IsApart}
+use Rattle.cm_guards.specs.Plans.{Write, written, CanWrite}
+use Rattle.cm_guards.specs.Gates.{Turns}
+use Rattle.cm_guards.specs.Calls.{LeavesOnly}
+
+-- ---- guards
+
+-- while nothing that is guarded is unsynced, each image has what the contents have
+abbrev pub GuardedHolds : (List ℕ → Type 0) → Type 0
+GuardedHolds P =
+    (g : Guard) (contents : List ℕ) (unsynced : Unsynced) → Guards g P
+    → Keeps g contents unsynced → P contents → EachImage contents unsynced P
+
+-- while a write apart from what is guarded runs, each image has it
+abbrev pub HoldsDuringWrites : (List ℕ → Type 0) → Type 0
+HoldsDuringWrites P =
+    (g : Guard) (at n : ℕ) (contents : List ℕ) (unsynced : Unsynced) → Guards g P
+    → Keeps g contents unsynced → IsApart g at n → P contents
+    → EachImage contents (widened at n unsynced) P
+
+-- what such a write leaves, done or failed
+pub record Stays (g : Guard) (P : List ℕ → Type 0) (contents : List ℕ)
+    (unsynced : Unsynced) : Type 0 where
+  pub keeps : Keeps g contents unsynced
+  pub holds : P contents
+
+abbrev pub HoldsAfterWrites : (List ℕ → Type 0) → Type 0
+HoldsAfterWrites P =
+    (g : Guard) (at n : ℕ) (old new : List ℕ) (before after : Unsynced) → Guards g P
+    → Keeps g old before → IsApart g at n → P old → IsTorn at n old new
+    → IsWithin (widened at n before) after → Stays g P new after
+
+-- the same of a cut behind what is guarded
+abbrev pub HoldsDuringCuts : (List ℕ → Type 0) → Type 0
+HoldsDuringCuts P =
+    (g : Guard) (len : ℕ) (contents : List ℕ) (unsynced : Unsynced) → Guards g P
+    → Keeps g contents unsynced → g.needs ≤ len → P contents
+    → EachImage contents (shortened len unsynced) P
+
+abbrev pub HoldsAfterCuts : (List ℕ → Type 0) → Type 0
+HoldsAfterCuts P =
+    (g : Guard) (len : ℕ) (old new : List ℕ) (before after : Unsynced) → Guards g P
+    → Keeps g old before → g.needs ≤ len → P old → IsCut len old new
+    → IsWithin (shortened len before) after → Stays g P new after
+
+-- ---- a sync
+
+-- where all is stored, each image has what the contents have
+abbrev pub SettledHolds : (List ℕ → Type 0) → Type 0
+SettledHolds P =
+    (contents : List ℕ) (unsynced : Unsynced) → IsSettled contents unsynced → P contents
+    → EachImage contents unsynced P
+
+abbrev pub SettledKeeps : Type 0
+SettledKeeps =
+    (g : Guard) (contents : List ℕ) (unsynced : Unsynced) → IsBounded g
+    → g.needs ≤ length contents → IsSettled contents unsynced → Keeps g contents unsynced
+
+-- ---- plans
+
+-- once the first of the writes is made, the others are left, and lead to the same contents
+pub record IsLeft (g : Guard) (w : Write) (writes : List Write) (old new : List ℕ) : Type 0 where
+  pub can : CanWrite g writes (length new)
+  pub same : written (w ∷ writes) old ≡ written writes new
+
+abbrev pub PlansGoOn : Type 0
+PlansGoOn =
+    (g : Guard) (w : Write) (writes : List Write) (old new : List ℕ)
+    → CanWrite g (w ∷ writes) (length old) → new ≡ overwritten w.at w.bytes old
+    → IsLeft g w writes old new
+
+-- once all are made, what is guarded has stayed
+abbrev pub PlansKeep : (List ℕ → Type 0) → Type 0
+PlansKeep P =
+    (g : Guard) (writes : List Write) (contents : List ℕ) → Guards g P → g.needs ≤ length contents
+    → CanWrite g writes (length contents) → P contents → P (written writes contents)
+
+-- ---- gates
+
+-- while a gate's byte is written where all is stored, each image has the one fact or the other
+abbrev pub TurnsDuring : (List ℕ → Type 0) → (List ℕ → Type 0) → Type 0
+TurnsDuring P Q =
+    (gate byte : ℕ) (base : List ℕ) (unsynced : Unsynced) → Turns P Q gate byte base
+    → IsSettled base unsynced → EachImage base (widened gate 1 unsynced) (λ image. P image ⊎ Q image)
+
+-- so it is from then on until a sync, whether the write is done or failed
+abbrev pub TurnsAfter : (List ℕ → Type 0) → (List ℕ → Type 0) → Type 0
+TurnsAfter P Q =
+    (gate byte : ℕ) (base now : List ℕ) (before after : Unsynced) → Turns P Q gate byte base
+    → IsSettled base before → IsTorn gate 1 base now → IsWithin (widened gate 1 before) after
+    → EachImage now after (λ image. P image ⊎ Q image)
+
+-- once the byte is written, the contents have the second fact
+abbrev pub TurnsContents : (List ℕ → Type 0) → (List ℕ → Type 0) → Type 0
+TurnsContents P Q =
+    (gate byte : ℕ) (base now : List ℕ) → Turns P Q gate byte base
+    → now ≡ overwritten gate (byte ∷ []) base → Q now
+
+-- ---- runs of calls, where the moment and what a crash may have left since one are a disk's
+
+abbrev pub RunsJoin : (D : Type 0) → (D → ℕ) → (D → ℕ → List ℕ → Type 0) → (List ℕ → Type 0) → Type 0
+RunsJoin D moment left_since P =
+    (a b c : D) → LeavesOnly moment left_since a b P → LeavesOnly moment left_since b c P
+    → LeavesOnly moment left_since a c P
+
+-- a call leaves what each image at its beginning has, and each while it runs
+abbrev pub CallsLeave : (D : Type 0) → (D → List ℕ) → (D → Unsynced) → (D → ℕ)
+    → (D → ℕ → List ℕ → Type 0) → (List ℕ → Type 0) → Type 0
+CallsLeave D contents unsynced moment left_since P =
+    (old new : D) (during : Unsynced)
+    → Elapses (moment old) (moment new) (left_since old) (left_since new)
+    (IsImage (contents old) during)
+    → EachImage (contents old) (unsynced old) P → EachImage (contents old) during P
+    → LeavesOnly moment left_since old new P

@@ -1,0 +1,5 @@
+pub mod Guards
+pub mod Plans
+pub mod Gates
+pub mod Calls
+pub mod Laws

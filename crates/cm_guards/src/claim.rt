@@ -1,0 +1,7 @@
+//! Facts on what a disk holds.
+ghost use Rattle.std.specs.Prelude.{List, ℕ};
+
+/// A fact on the bytes of a disk. The laws of this crate hold of every such fact.
+pub trait Claim {
+    ghost holds: { List ℕ → Type 0 };
+}
