@@ -1,5 +1,6 @@
 -- What a choice takes is an image, and every image is taken by some choice.
-use Rattle.std.proofs.Common.{◌≡◌, ◌<◌, ◌≤◌, ◌+◌, ℕ, zero, suc, Bool, true, false, cond, List, length}
+use Rattle.std.proofs.Common.{◌≡◌, ◌<◌, ◌≤◌, ◌+◌, ℕ, zero, suc, Bool, true, false, cond, List}
+use Rattle.std.proofs.Common.{length}
 use Rattle.std.proofs.Common.{add-one, ◌-◌, get_or, refl, sym, ◌∙◌, ap, subst, ⊎_elim, arith}
 use Rattle.std.specs.Prelude.{◌||◌, ◌++◌, [], ◌∷◌, nat_le}
 use Rattle.std.proofs.lemmas.Bool.{false≢true, lt-leb, leb-false, or_parts, cases_lt}
@@ -81,7 +82,11 @@ pub length_picked : (unsynced : Unsynced) (image : List ℕ) (n : ℕ)
 length_picked unsynced image zero = refl
 length_picked unsynced image (suc i) =
     length-append (picked unsynced image i) (one_if (is_loose unsynced i) (get_or image i 0))
-    ∙ omega (arith, length_picked unsynced image i, length_one (is_loose unsynced i) (get_or image i 0))
+    ∙ omega (
+      arith,
+      length_picked unsynced image i,
+      length_one (is_loose unsynced i) (get_or image i 0),
+    )
 
 -- a byte for each loose position
 few : (b : Bool) → cond b 1 0 ≤ 1

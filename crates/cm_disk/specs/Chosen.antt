@@ -1,5 +1,6 @@
 -- The image that a choice takes: a length, and bytes for the positions that a crash may change.
-use Rattle.std.specs.Prelude.{◌≡◌, ◌<◌, ◌+◌, ◌||◌, ℕ, zero, suc, Bool, nat_le, min, max, List, length}
+use Rattle.std.specs.Prelude.{◌≡◌, ◌<◌, ◌+◌, ◌||◌, ℕ, zero, suc, Bool, nat_le, min, max, List}
+use Rattle.std.specs.Prelude.{length}
 use Rattle.std.specs.Prelude.{get_or, if◌then◌else◌}
 use Rattle.cm_disk.specs.Disk.{Unsynced}
 
@@ -22,7 +23,8 @@ chosen_byte contents unsynced fill i =
     else get_or contents i 0
 
 -- the image that a length and a fill choose: the length is brought between least and greatest
-pub record IsChosen (contents : List ℕ) (unsynced : Unsynced) (len : ℕ) (fill image : List ℕ) : Type 0 where
+pub record IsChosen (contents : List ℕ) (unsynced : Unsynced) (len : ℕ)
+    (fill image : List ℕ) : Type 0 where
   pub size : length image ≡ max unsynced.least (min len unsynced.greatest)
   pub bytes : (i : ℕ) → i < length image
       → get_or image i 0 ≡ chosen_byte contents unsynced fill i

@@ -123,7 +123,8 @@ impl Disk for FuseDisk {
             (fuse_unsynced self.new) }
         ensures time { Elapses (fuse_moment self.old) (fuse_moment self.new)
             (fuse_left_since self.old) (fuse_left_since self.new)
-            (IsImage (fuse_contents self.old) (widened at (length bytes.now) (fuse_unsynced self.old))) }
+            (IsImage (fuse_contents self.old)
+            (widened at (length bytes.now) (fuse_unsynced self.old))) }
         ensures cause { HasCause (fuse_failures self.old) (fuse_failures self.new) result }
         ensures fails { FailsFor (fuse_armed self.old) (behind self.old) (behind self.new) result }
         ensures stores { Stores at bytes.now (fuse_armed self.old) (behind self.old)
@@ -139,7 +140,8 @@ impl Disk for FuseDisk {
     fn cut(&mut self, len: u64) -> Result<(), DeviceFault>
         requires { len ≤ length (fuse_contents self.old) }
         ensures cut { OnOk result (fuse_contents self.new ≡ take len (fuse_contents self.old)) }
-        ensures between { OnErr result (IsCut len (fuse_contents self.old) (fuse_contents self.new)) }
+        ensures between { OnErr result
+            (IsCut len (fuse_contents self.old) (fuse_contents self.new)) }
         ensures unsynced { IsWithin (shortened len (fuse_unsynced self.old))
             (fuse_unsynced self.new) }
         ensures time { Elapses (fuse_moment self.old) (fuse_moment self.new)
@@ -157,7 +159,8 @@ impl Disk for FuseDisk {
 
     // The trait's clauses again, and when it fails.
     fn sync(&mut self) -> Result<(), DeviceFault>
-        ensures settled { OnOk result (IsSettled (fuse_contents self.new) (fuse_unsynced self.new)) }
+        ensures settled { OnOk result
+            (IsSettled (fuse_contents self.new) (fuse_unsynced self.new)) }
         ensures not_settled { OnErr result (fuse_unsynced self.new ≡ fuse_unsynced self.old) }
         ensures contents { fuse_contents self.new ≡ fuse_contents self.old }
         ensures time { Elapses (fuse_moment self.old) (fuse_moment self.new)

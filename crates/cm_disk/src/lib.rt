@@ -1,6 +1,6 @@
 //! A disk as a crash-safe store sees it: what it holds now, what of that is surely stored, and what
-//! a crash may leave. The trait [`Disk`] carries the whole model; [`SimDisk`] is a disk in memory that
-//! can be crashed, [`FuseDisk`] one that fails from some call on.
+//! a crash may leave. The trait [`Disk`] carries the whole model; [`SimDisk`] is a disk in memory
+//! that can be crashed, [`FuseDisk`] one that fails from some call on.
 #![tactic(auto)]
 
 mod choice;

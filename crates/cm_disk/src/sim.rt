@@ -82,8 +82,8 @@ impl SimDisk {
         self.refused
     }
 
-    /// The next call is to fail, and if it is a write, to store its first `stores` bytes. A call that
-    /// was armed before and hasn't come yet is forgotten.
+    /// The next call is to fail, and if it is a write, to store its first `stores` bytes. What was
+    /// armed before and hasn't come yet is forgotten.
     pub fn arm(&mut self, stores: usize)
         ensures { self.new ≡ record self.old { armed = Some stores } }
     {
@@ -212,7 +212,8 @@ impl Disk for SimDisk {
             (sim_unsynced self.new) }
         ensures time { Elapses (sim_moment self.old) (sim_moment self.new)
             (sim_left_since self.old) (sim_left_since self.new)
-            (IsImage (sim_contents self.old) (widened at (length bytes.now) (sim_unsynced self.old))) }
+            (IsImage (sim_contents self.old)
+            (widened at (length bytes.now) (sim_unsynced self.old))) }
         ensures cause { HasCause (sim_failures self.old) (sim_failures self.new) result }
         ensures fails { FailsFor (sim_armed self.old) self.old self.new result }
         ensures stores { Stores at bytes.now (sim_armed self.old) self.old

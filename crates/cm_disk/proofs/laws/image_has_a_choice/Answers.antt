@@ -6,7 +6,11 @@ pub returns : goal.returns
 returns c = λ contents image unsynced is.
     let fill = picked unsynced image (length image) in
     let short : length fill ≤ length image =
-    omega (arith, length_picked unsynced image (length image), loose_few unsynced (length image)) in (
+    omega (
+      arith,
+      length_picked unsynced image (length image),
+      loose_few unsynced (length image),
+    ) in (
       fill,
       picked_bytes unsynced image (length image) is.bytes,
       short,

@@ -8,5 +8,6 @@ returns-clause-time c =
     let old = c.args.self.now.medium in
     elapses_sync old.bytes.items c.settle.new.self.bytes.items (medium_unsynced old)
     (medium_unsynced c.settle.new.self)
-    c.args.self.now.history.moments c.note-2.new.self.moments (moment_of old) c.note-2.ensures refl refl
+    c.args.self.now.history.moments c.note-2.new.self.moments (moment_of old)
+    c.note-2.ensures refl refl
     c.settle.ensures.bytes (search rules)
