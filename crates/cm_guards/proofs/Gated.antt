@@ -1,16 +1,18 @@
 -- One byte is written where all is stored: each image has some byte there, and nothing else new.
 use Rattle.std.proofs.Common.{◌≡◌, ◌<◌, ◌+◌, ◌⊎◌, ℕ, Bool, true, false, List, [], ◌∷◌}
-use Rattle.std.proofs.Common.{length, get_or, take, drop, refl, sym, ◌∙◌, ap, subst, ⊎_elim, arith, inl, inr}
+use Rattle.std.proofs.Common.{length, get_or, take, drop, refl, sym, ◌∙◌, ap, subst, ⊎_elim}
+use Rattle.std.proofs.Common.{arith, inl, inr}
 use Rattle.std.proofs.Common.{suc, append_assoc}
 use Rattle.std.specs.Prelude.{◌||◌, ◌&&◌, nat_le, nat_lt}
 use Rattle.std.proofs.Math.ListN.{set}
 use Rattle.std.proofs.lemmas.Bool.{false≢true, lt-leb, le-ltb, cases_lt}
-use Rattle.std.proofs.lemmas.List.{ext_get_or, length-set, get_or-set_same, get_or-set_other, set_split}
+use Rattle.std.proofs.lemmas.List.{ext_get_or, length-set, get_or-set_same, get_or-set_other}
+use Rattle.std.proofs.lemmas.List.{set_split}
 use Rattle.cm_disk.specs.Disk.{Unsynced, IsImage, IsWithin, IsSettled, IsSound, widened, is_among}
 use Rattle.cm_disk.specs.Calls.{IsTorn, overwritten}
 use Rattle.cm_disk.proofs.Images.{after_write}
 use Rattle.cm_guards.specs.Guards.{EachImage}
-use Rattle.cm_guards.specs.Gates.{Turns}
+use Rattle.cm_guards.specs.Gates.{OneOf, Turns}
 
 -- where all is stored, an image is the contents
 pub settled_image : (contents : List ℕ) (unsynced : Unsynced) (image : List ℕ)
@@ -75,10 +77,10 @@ gate_image gate base unsynced image inside settled is =
 -- while the gate's byte is written, one fact or the other holds of each image
 pub turned_during : (P Q : List ℕ → Type 0) (gate byte : ℕ) (base : List ℕ) (unsynced : Unsynced)
     → Turns P Q gate byte base → IsSettled base unsynced
-    → EachImage base (widened gate 1 unsynced) (λ image. P image ⊎ Q image)
+    → EachImage base (widened gate 1 unsynced) (OneOf P Q)
 turned_during P Q gate byte base unsynced turns settled = record {
   each = λ image is.
-      subst (λ (x : List ℕ). P x ⊎ Q x)
+      subst (OneOf P Q)
       (sym (gate_image gate base unsynced image turns.inside settled is))
       (turns.either (get_or image gate 0) (is.bytes gate
       (omega (arith, settled.least, is.no_shorter, turns.inside))));
@@ -88,7 +90,7 @@ turned_during P Q gate byte base unsynced turns settled = record {
 pub turned_after : (P Q : List ℕ → Type 0) (gate byte : ℕ) (base now : List ℕ)
     (before after : Unsynced) → Turns P Q gate byte base → IsSettled base before
     → IsTorn gate 1 base now → IsWithin (widened gate 1 before) after
-    → EachImage now after (λ image. P image ⊎ Q image)
+    → EachImage now after (OneOf P Q)
 turned_after P Q gate byte base now before after turns settled torn within = record {
   each = λ image is.
       (turned_during P Q gate byte base before turns settled).each image

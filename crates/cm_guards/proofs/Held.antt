@@ -35,7 +35,8 @@ module _ (P : List ℕ → Type 0) where
   pub holds_after_cuts : HoldsAfterCuts P
   holds_after_cuts g len old new before after guards keeps behind holds cut within = record {
     keeps = keeps_cut g len old new before after behind cut within keeps;
-    holds = guards.carries old new keeps.long (cut_agrees g len old new keeps.ends behind cut) holds;
+    holds = guards.carries old new keeps.long (cut_agrees g len old new keeps.ends behind cut)
+        holds;
   }
 
   pub settled_holds : SettledHolds P

@@ -1,5 +1,5 @@
 -- What a crash leaves at the moments inside runs of calls.
-use Rattle.std.proofs.Common.{◌≡◌, ◌⊎◌, ℕ, List, ⊎_elim, inl, inr, arith, ◌∙◌, subst}
+use Rattle.std.proofs.Common.{◌≡◌, ◌⊎◌, ℕ, List, ⊎_elim, inl, inr, arith, refl, ◌∙◌, subst}
 use Rattle.std.specs.Prelude.{Result, IsErr}
 use Rattle.cm_disk.specs.Disk.{Unsynced, IsImage}
 use Rattle.cm_disk.specs.Calls.{Elapses, HasCause}
@@ -26,6 +26,18 @@ module _ {D : Type 0} (moment : D → ℕ) (left_since : D → ℕ → List ℕ 
         (time.nothing_else t image le left);
   }
 
+  -- no call
+  pub leaves_none : (contents : D → List ℕ) (unsynced : D → Unsynced)
+      → ((disk : D) (image : List ℕ) → left_since disk (moment disk) image
+      → IsImage (contents disk) (unsynced disk) image)
+      → (disk : D) (P : List ℕ → Type 0) → EachImage (contents disk) (unsynced disk) P
+      → LeavesOnly moment left_since disk disk P
+  leaves_none contents unsynced only_now disk P images = record {
+    later = omega arith;
+    each = λ image left. images.each image (only_now disk image left);
+    before = λ t image le left. inl left;
+  }
+
   -- two runs, one after the other
   pub leaves_on : (a b c : D) (P : List ℕ → Type 0) → LeavesOnly moment left_since a b P
       → LeavesOnly moment left_since b c P → LeavesOnly moment left_since a c P
@@ -50,6 +62,19 @@ module _ {D : Type 0} (moment : D → ℕ) (left_since : D → ℕ → List ℕ 
   }
 
   module _ (contents : D → List ℕ) (unsynced : D → Unsynced) (failures : D → ℕ) where
+    pub no_read : (disk : D)
+        → ((disk : D) (image : List ℕ) → left_since disk (moment disk) image
+        → IsImage (contents disk) (unsynced disk) image)
+        → Reads contents unsynced failures moment left_since disk disk ⊥
+    no_read disk only_now = record {
+      contents_stay = refl;
+      unsynced_stay = refl;
+      images = leaves_none contents unsynced only_now disk
+          (IsImage (contents disk) (unsynced disk)) (record { each = λ image is. is });
+      later = omega arith;
+      cause = λ none. absurd none;
+    }
+
     pub one_read : {T E : Type 0} (old new : D) (result : Result T E)
         → ((disk : D) (image : List ℕ) → left_since disk (moment disk) image
         → IsImage (contents disk) (unsynced disk) image)
@@ -97,3 +122,34 @@ module _ {D : Type 0} (moment : D → ℕ) (left_since : D → ℕ → List ℕ 
       later = reads.later;
       cause = λ faulted. reads.cause (less faulted);
     }
+
+    -- a read behind a run of reads
+    pub read_after : {T E : Type 0} (first old new : D) (F : Type 0) (result : Result T E)
+        → ((disk : D) (image : List ℕ) → left_since disk (moment disk) image
+        → IsImage (contents disk) (unsynced disk) image)
+        → Reads contents unsynced failures moment left_since first old F
+        → contents new ≡ contents old → unsynced new ≡ unsynced old
+        → Elapses (moment old) (moment new) (left_since old) (left_since new)
+        (IsImage (contents old) (unsynced old))
+        → HasCause (failures old) (failures new) result
+        → Reads contents unsynced failures moment left_since first new (IsErr result)
+    read_after first old new F result only_now run same kept time cause =
+        reads_less first new (F ⊎ IsErr result) (IsErr result) (λ faulted. inr faulted)
+        (reads_on first old new F (IsErr result) run
+        (one_read old new result only_now same kept time cause))
+
+    -- a read behind a run of reads, where the run goes on
+    pub read_more : {T E : Type 0} (first old new : D) (F : Type 0) (result : Result T E)
+        → ((disk : D) (image : List ℕ) → left_since disk (moment disk) image
+        → IsImage (contents disk) (unsynced disk) image)
+        → Reads contents unsynced failures moment left_since first old F
+        → contents new ≡ contents old → unsynced new ≡ unsynced old
+        → Elapses (moment old) (moment new) (left_since old) (left_since new)
+        (IsImage (contents old) (unsynced old))
+        → HasCause (failures old) (failures new) result
+        → Reads contents unsynced failures moment left_since first new ⊥
+    read_more first old new F result only_now run same kept time cause =
+        reads_less first new (IsErr result) ⊥ (λ none. absurd none)
+        (read_after first old new F result only_now run same kept time cause)
+
+pub ruleset reading = (no_read, one_read, read_after, read_more)

@@ -3,3 +3,4 @@ pub mod Gated
 pub mod Planned
 pub mod Left
 pub mod Held
+pub mod Steps

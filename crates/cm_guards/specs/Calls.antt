@@ -1,5 +1,6 @@
 -- What runs of device calls leave, at any moment inside them. The members of a disk are arguments:
--- its contents, what is unsynced, its failures, its moment, and what a crash may have left since one.
+-- its contents, what is unsynced, its failures, its moment, and what a crash may have left since
+-- one.
 use Rattle.std.specs.Prelude.{◌≡◌, ◌<◌, ◌≤◌, ◌⊎◌, ℕ, List}
 use Rattle.cm_disk.specs.Disk.{Unsynced, IsImage}
 

@@ -1,11 +1,12 @@
 -- What guards, plans, gates and runs of calls give.
-use Rattle.std.specs.Prelude.{◌≡◌, ◌≤◌, ◌⊎◌, ℕ, List, [], ◌∷◌, length}
+use Rattle.std.specs.Prelude.{◌≡◌, ◌≤◌, ◌⊎◌, ℕ, List, [], ◌∷◌, length, Result, IsErr}
+use Rattle.cm_disk.specs.declared.disk.DeviceFault.{DeviceFault}
 use Rattle.cm_disk.specs.Disk.{Unsynced, IsImage, IsSettled, IsWithin, widened, shortened}
-use Rattle.cm_disk.specs.Calls.{overwritten, IsTorn, IsCut, Elapses}
+use Rattle.cm_disk.specs.Calls.{overwritten, IsTorn, IsCut, Elapses, HasCause}
 use Rattle.cm_guards.specs.Guards.{Guard, Guards, IsBounded, Keeps, EachImage, IsApart}
 use Rattle.cm_guards.specs.Plans.{Write, written, CanWrite}
-use Rattle.cm_guards.specs.Gates.{Turns}
-use Rattle.cm_guards.specs.Calls.{LeavesOnly}
+use Rattle.cm_guards.specs.Gates.{OneOf, Turns}
+use Rattle.cm_guards.specs.Calls.{LeavesOnly, Reads}
 
 -- ---- guards
 
@@ -85,14 +86,14 @@ PlansKeep P =
 abbrev pub TurnsDuring : (List ℕ → Type 0) → (List ℕ → Type 0) → Type 0
 TurnsDuring P Q =
     (gate byte : ℕ) (base : List ℕ) (unsynced : Unsynced) → Turns P Q gate byte base
-    → IsSettled base unsynced → EachImage base (widened gate 1 unsynced) (λ image. P image ⊎ Q image)
+    → IsSettled base unsynced → EachImage base (widened gate 1 unsynced) (OneOf P Q)
 
 -- so it is from then on until a sync, whether the write is done or failed
 abbrev pub TurnsAfter : (List ℕ → Type 0) → (List ℕ → Type 0) → Type 0
 TurnsAfter P Q =
     (gate byte : ℕ) (base now : List ℕ) (before after : Unsynced) → Turns P Q gate byte base
     → IsSettled base before → IsTorn gate 1 base now → IsWithin (widened gate 1 before) after
-    → EachImage now after (λ image. P image ⊎ Q image)
+    → EachImage now after (OneOf P Q)
 
 -- once the byte is written, the contents have the second fact
 abbrev pub TurnsContents : (List ℕ → Type 0) → (List ℕ → Type 0) → Type 0
@@ -102,7 +103,8 @@ TurnsContents P Q =
 
 -- ---- runs of calls, where the moment and what a crash may have left since one are a disk's
 
-abbrev pub RunsJoin : (D : Type 0) → (D → ℕ) → (D → ℕ → List ℕ → Type 0) → (List ℕ → Type 0) → Type 0
+abbrev pub RunsJoin : (D : Type 0) → (D → ℕ) → (D → ℕ → List ℕ → Type 0) → (List ℕ → Type 0)
+    → Type 0
 RunsJoin D moment left_since P =
     (a b c : D) → LeavesOnly moment left_since a b P → LeavesOnly moment left_since b c P
     → LeavesOnly moment left_since a c P
@@ -116,3 +118,23 @@ CallsLeave D contents unsynced moment left_since P =
     (IsImage (contents old) during)
     → EachImage (contents old) (unsynced old) P → EachImage (contents old) during P
     → LeavesOnly moment left_since old new P
+
+-- two runs of reads are one, which faults where one of them does
+abbrev pub ReadsJoin : (D : Type 0) → (D → List ℕ) → (D → Unsynced) → (D → ℕ) → (D → ℕ)
+    → (D → ℕ → List ℕ → Type 0) → Type 0
+ReadsJoin D contents unsynced failures moment left_since =
+    (a b c : D) (r s : Result (Unit {0}) DeviceFault)
+    → Reads contents unsynced failures moment left_since a b (IsErr r)
+    → Reads contents unsynced failures moment left_since b c (IsErr s)
+    → Reads contents unsynced failures moment left_since a c (IsErr r ⊎ IsErr s)
+
+-- one read is a run
+abbrev pub ReadIsRun : (D : Type 0) → (D → List ℕ) → (D → Unsynced) → (D → ℕ) → (D → ℕ)
+    → (D → ℕ → List ℕ → Type 0) → Type 0
+ReadIsRun D contents unsynced failures moment left_since =
+    (old new : D) (r : Result (Unit {0}) DeviceFault) → contents new ≡ contents old
+    → unsynced new ≡ unsynced old
+    → Elapses (moment old) (moment new) (left_since old) (left_since new)
+    (IsImage (contents old) (unsynced old))
+    → HasCause (failures old) (failures new) r
+    → Reads contents unsynced failures moment left_since old new (IsErr r)

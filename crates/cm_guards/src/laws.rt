@@ -3,7 +3,7 @@ ghost use Rattle.cm_guards.specs.Laws.{GuardedHolds, HoldsDuringWrites, HoldsAft
 ghost use Rattle.cm_guards.specs.Laws.{HoldsDuringCuts, HoldsAfterCuts, SettledHolds, SettledKeeps};
 ghost use Rattle.cm_guards.specs.Laws.{PlansGoOn, PlansKeep};
 ghost use Rattle.cm_guards.specs.Laws.{TurnsDuring, TurnsAfter, TurnsContents};
-ghost use Rattle.cm_guards.specs.Laws.{RunsJoin, CallsLeave};
+ghost use Rattle.cm_guards.specs.Laws.{RunsJoin, CallsLeave, ReadsJoin, ReadIsRun};
 
 use crate::claim::Claim;
 use cm_disk::Disk;
@@ -14,8 +14,8 @@ pub fn guarded_claim_holds_of_each_image<P: Claim>()
     ensures { GuardedHolds P.holds }
 {}
 
-/// A write that touches nothing guarded leaves a claim as it was, of the contents and of each image:
-/// while it runs, and after it, whether it is done or failed.
+/// A write that touches nothing guarded leaves a claim as it was, of the contents and of each
+/// image: while it runs, and after it, whether it is done or failed.
 pub fn writes_apart_keep_a_claim<P: Claim>()
     ensures during { HoldsDuringWrites P.holds }
     ensures after { HoldsAfterWrites P.holds }
@@ -40,8 +40,8 @@ pub fn plans_keep_a_claim<P: Claim>()
     ensures holds { PlansKeep P.holds }
 {}
 
-/// A gate's byte, written where all is stored, leaves one claim or the other of each image until the
-/// next sync; the contents have the second once it is written.
+/// A gate's byte, written where all is stored, leaves one claim or the other of each image until
+/// the next sync; the contents have the second once it is written.
 pub fn gates_turn_claims<P: Claim, Q: Claim>()
     ensures during { TurnsDuring P.holds Q.holds }
     ensures after { TurnsAfter P.holds Q.holds }
@@ -52,4 +52,11 @@ pub fn gates_turn_claims<P: Claim, Q: Claim>()
 pub fn runs_leave_a_claim<D: Disk, P: Claim>()
     ensures join { RunsJoin D D.moment D.left_since P.holds }
     ensures call { CallsLeave D D.contents D.unsynced D.moment D.left_since P.holds }
+{}
+
+/// A run of calls that only read changes nothing, and leaves at each moment what a crash might have
+/// left before it: a read is such a run, and two of them are.
+pub fn reads_change_nothing<D: Disk>()
+    ensures one { ReadIsRun D D.contents D.unsynced D.failures D.moment D.left_since }
+    ensures join { ReadsJoin D D.contents D.unsynced D.failures D.moment D.left_since }
 {}

@@ -1,0 +1,10 @@
+use Rattle.std.proofs.Common.{◌≤◌}
+use Rattle.cm_guards.specs.Calls.{Reads}
+use Rattle.cm_guards_tests.proofs.reading.count_open.Given as goal
+
+abbrev pub invariant-loop-slot : goal.invariant-loop-slot
+invariant-loop-slot g l = record {
+  few : l.open ≤ l.slot;
+  reads : Reads g.D.Disk.contents g.D.Disk.unsynced g.D.Disk.failures g.D.Disk.moment
+      g.D.Disk.left_since l.fn.disk l.disk ⊥;
+}
