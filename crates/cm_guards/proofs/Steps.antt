@@ -1,9 +1,10 @@
 -- What one device call leaves at each moment, and what the disk holds after it: a line for each
 -- step of a committer over any disk.
-use Rattle.std.proofs.Common.{◌≡◌, ◌≤◌, ℕ, List, [], ◌∷◌, length, inl, arith, sym, ap, subst}
+use Rattle.std.proofs.Common.{◌≡◌, ◌≤◌, ℕ, List, [], ◌∷◌, length, inl, arith, sym, ap, subst, take, ◌∙◌}
+use Rattle.std.proofs.lemmas.List.{length-take-le}
 use Rattle.std.specs.Prelude.{Result, Ok, Err, OnOk, OnErr}
 use Rattle.cm_disk.specs.Disk.{Unsynced, IsImage, IsSettled, IsWithin, widened, shortened}
-use Rattle.cm_disk.specs.Calls.{Elapses, overwritten, IsTorn}
+use Rattle.cm_disk.specs.Calls.{Elapses, overwritten, IsTorn, IsCut}
 use Rattle.cm_disk.proofs.Images.{overwritten_torn}
 use Rattle.cm_guards.specs.Guards.{Guard, Guards, Keeps, EachImage, IsApart}
 use Rattle.cm_guards.specs.Gates.{OneOf, Turns}
@@ -12,6 +13,7 @@ use Rattle.cm_guards.specs.Laws.{Stays}
 use Rattle.cm_guards.proofs.Kept.{guarded_images, keeps_settled}
 use Rattle.cm_guards.proofs.Gated.{turned_during, turned_after, turned, settled_images}
 use Rattle.cm_guards.proofs.Held.{holds_during_writes, holds_during_cuts, holds_after_writes}
+use Rattle.cm_guards.proofs.Held.{holds_after_cuts}
 use Rattle.cm_guards.proofs.Left.{one_call, leaves_on, leaves_more}
 
 -- what stands after a write, done or failed
@@ -77,6 +79,26 @@ pub stays_written : {T E : Type 0} (r : Result T E) (g : Guard) (P : List ℕ �
 stays_written r g P at bytes old new before after guards keeps apart holds le done torn within =
     holds_after_writes P g at (length bytes) old new before after guards keeps apart holds
     (torn_either r at bytes old new le done torn) within
+
+-- what stands after a cut, done or failed
+pub cut_either : {T E : Type 0} (r : Result T E) (len : ℕ) (old new : List ℕ) → len ≤ length old
+    → OnOk r (new ≡ take len old) → OnErr r (IsCut len old new) → IsCut len old new
+cut_either (Ok x) len old new le done between =
+    let size : length new ≡ len = ap length done ∙ length-take-le len old le in
+    record {
+      no_shorter = omega (arith, size);
+      no_longer = omega (arith, size, le);
+      front = done ∙ ap (λ (n : ℕ). take n old) (sym size);
+    }
+cut_either (Err e) len old new le done between = between
+
+pub stays_cut : {T E : Type 0} (r : Result T E) (g : Guard) (P : List ℕ → Type 0) (len : ℕ)
+    (old new : List ℕ) (before after : Unsynced) → Guards g P → Stays g P old before
+    → g.needs ≤ len → len ≤ length old → OnOk r (new ≡ take len old)
+    → OnErr r (IsCut len old new) → IsWithin (shortened len before) after → Stays g P new after
+stays_cut r g P len old new before after guards stays behind le done between within =
+    holds_after_cuts P g len old new before after guards stays.keeps behind stays.holds
+    (cut_either r len old new le done between) within
 
 -- what each image has after a gate's byte, done or failed
 pub gate_images : {T E : Type 0} (r : Result T E) (P Q : List ℕ → Type 0) (gate byte : ℕ)
@@ -152,6 +174,8 @@ module _ {D : Type 0} (moment : D → ℕ) (left_since : D → ℕ → List ℕ 
 -- ---- what to name on a function that makes such steps
 
 pub ruleset writing = (stays_written)
+
+pub ruleset cutting = (stays_cut, stays_images)
 
 pub ruleset syncing = (stays_synced, stays_images, run_then_sync)
 

@@ -3,6 +3,8 @@ ghost use Rattle.std.specs.Prelude.{◌≡◌, List, ℕ, IfOk, length, false};
 ghost use Rattle.cm_disk.specs.Disk.{IsSettled};
 ghost use Rattle.cm_disk.specs.Sim.{sim_contents, sim_unsynced};
 
+use crate::reading::{count_open, read_both};
+use crate::trimming::trim;
 use crate::turning::{Guarded, turn};
 use cm_disk::{Choice, Disk, FuseDisk, SimDisk};
 use cm_guards::Claim;
@@ -73,5 +75,23 @@ fn the_gate_opens_behind_its_record(rt: HostRuntime) -> Result<(), Fail> {
         let bytes = left(alloc, disk, fill)?;
         assert_eq!(rt; bytes.as_slice(), expected.as_slice());
     }
+    Ok(())
+}
+
+#[test]
+fn reads_and_trims(rt: HostRuntime) -> Result<(), Fail> {
+    let alloc = rt.alloc();
+    let mut disk = zeros(alloc)?;
+    trim::<SimDisk, Anything>(&mut disk, 3)?;
+    assert_eq!(rt; disk.len()?, 3);
+    assert_eq!(rt; disk.syncs(), 2);
+    let mut first = [1; 2];
+    let mut second = [1; 1];
+    if disk.len()? == 3 {
+        read_both(&mut disk, 1, &mut first, 0, &mut second)?;
+    }
+    assert_eq!(rt; first.as_slice(), b"\0\0".as_slice());
+    assert_eq!(rt; second.as_slice(), b"\0".as_slice());
+    assert_eq!(rt; count_open(&mut disk, 0)?, 0);
     Ok(())
 }
