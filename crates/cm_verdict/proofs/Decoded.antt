@@ -1,0 +1,395 @@
+-- What is read from a slot is what was written there, and nothing else is read.
+use Rattle.std.proofs.Common.{◌≡◌, ℕ, ◌-◌, ◌<◌, ◌≤◌, ◌^◌, Bool, true, false, cond, List}
+use Rattle.std.proofs.Common.{length, take, drop, replicate, Option, Some, None, refl, sym, ap}
+use Rattle.std.proofs.Common.{subst, ◌∙◌, arith, length-take}
+use Rattle.std.specs.Prelude.{◌&&◌, nat_le, ◌==◌}
+use Rattle.std.specs.Int.{w16, w32, w64, from_le_bytes, to_le_bytes}
+use Rattle.std.specs.Option.{option_map}
+use Rattle.std.specs.Str.{bytes_eq}
+use Rattle.std.proofs.lemmas.Nat.{from_le_bytes-to_le_bytes_2, from_le_bytes-to_le_bytes_4}
+use Rattle.std.proofs.lemmas.Nat.{from_le_bytes-to_le_bytes_8}
+use Rattle.std.proofs.lemmas.List.{take_at}
+use Rattle.std.proofs.lemmas.Slice.Eq.{bytes_eq-Decides}
+use Rattle.std.proofs.lemmas.Bool.{and_parts, and_from, leb-true, le-leb}
+use Rattle.cm_pool.specs.Geometry.{Sizes, IsGeometry}
+use Rattle.cm_pool.specs.declared.chunk.Chunk.{Chunk}
+use Rattle.cm_layout.specs.declared.heads.HalfHead.{HalfHead}
+use Rattle.cm_layout.specs.declared.heads.GroupHead.{GroupHead}
+use Rattle.cm_layout.specs.declared.loader_row.LoaderRow.{LoaderRow}
+use Rattle.cm_layout.specs.declared.class_row.ClassRow.{ClassRow}
+use Rattle.cm_layout.specs.declared.unload.Unload.{Unload}
+use Rattle.cm_layout.specs.declared.relocation.Move.{Move}
+use Rattle.cm_layout.specs.declared.row.Row.TheVariants.{Loader, Class}
+use Rattle.cm_layout.specs.declared.entry.Entry.TheVariants as entry
+use Rattle.cm_layout.specs.Slots.{half_head_slot, group_head_slot, loader_slot, class_slot}
+use Rattle.cm_layout.specs.Slots.{unload_slot, move_slot, row_slot, entry_slot, FitsHalfHead}
+use Rattle.cm_layout.specs.Slots.{FitsGroupHead, FitsLoader, FitsClass, FitsUnload, FitsMove, FitsRow}
+use Rattle.cm_layout.specs.Slots.{FitsEntry, FitsChunk}
+use Rattle.cm_layout.specs.Superblock.{superblock_bytes}
+use Rattle.cm_layout.specs.Frames.{BareRow, BareEntry}
+use Rattle.cm_verdict.specs.Decoding.{two_at, four_at, eight_at, if_spelled, half_head_at}
+use Rattle.cm_verdict.specs.Decoding.{half_head_in, group_head_at, group_head_in, name_size, loader_at}
+use Rattle.cm_verdict.specs.Decoding.{loader_in, class_at, class_in, chunk_at, unload_at, unload_in}
+use Rattle.cm_verdict.specs.Decoding.{move_at, move_in, kind_at, row_in, entry_in, sizes_at}
+use Rattle.cm_verdict.specs.Decoding.{is_lawful, sizes_in}
+
+-- ---- encodings
+
+same_some : {A : Type 0} (x y : A) → Some x ≡ Some y → x ≡ y
+same_some x y e = cc
+
+no_some : {A P : Type 0} (x : A) → None ≡ Some x → P
+no_some x e = absurd (cc)
+
+record IsSpelled {A : Type 0} (encoding bytes : List ℕ) (v w : A) : Type 0 where
+  same : encoding ≡ bytes
+  value : v ≡ w
+
+spelled_some : {A : Type 0} (encoding bytes : List ℕ) (v w : A)
+    → if_spelled encoding bytes v ≡ Some w → IsSpelled encoding bytes v w
+spelled_some {A} encoding bytes v w = by_test (bytes_eq encoding bytes) refl
+  where
+    by_test : (t : Bool) → bytes_eq encoding bytes ≡ t → cond t (Some v) None ≡ Some w
+        → IsSpelled encoding bytes v w
+    by_test true is e =
+        record { same = (bytes_eq-Decides encoding bytes).0 is; value = same_some v w e }
+    by_test false is e = no_some w e
+
+spelled_is : {A : Type 0} (encoding bytes : List ℕ) (v : A) → encoding ≡ bytes
+    → if_spelled encoding bytes v ≡ Some v
+spelled_is encoding bytes v e =
+    ap (λ t. cond t (Some v) None) ((bytes_eq-Decides encoding bytes).1 e)
+
+-- ---- numbers
+
+small_2 : (n : ℕ) → from_le_bytes w16 (to_le_bytes w16 n) < 2 ^ 16
+small_2 n = omega arith
+
+small_4 : (n : ℕ) → from_le_bytes w32 (to_le_bytes w32 n) < 2 ^ 32
+small_4 n = omega arith
+
+small_8 : (n : ℕ) → from_le_bytes w64 (to_le_bytes w64 n) < 2 ^ 64
+small_8 n = omega arith
+
+-- ---- heads
+
+pub half_head_spelled : (slot : List ℕ) (h : HalfHead) → half_head_in slot ≡ Some h
+    → (slot ≡ half_head_slot h) × FitsHalfHead h
+unfolding half_head_in
+half_head_spelled slot h e =
+    let s = spelled_some (half_head_slot (half_head_at slot)) slot (half_head_at slot) h e in
+    let fits : FitsHalfHead (half_head_at slot) =
+    subst (λ (l : List ℕ). FitsHalfHead (half_head_at l)) s.same (record {
+      version = small_2 (two_at 2 slot);
+      live = small_4 (four_at 4 slot);
+      epoch = small_8 (eight_at 8 slot);
+      base = small_8 (eight_at 16 slot);
+    }) in
+    (sym s.same ∙ ap half_head_slot s.value, subst FitsHalfHead s.value fits)
+
+pub half_head_again : (h : HalfHead) → FitsHalfHead h → half_head_in (half_head_slot h) ≡ Some h
+unfolding half_head_in
+half_head_again h fits =
+    let same : half_head_at (half_head_slot h) ≡ h = (λ i. record {
+      version = from_le_bytes-to_le_bytes_2 h.version fits.version i;
+      live = from_le_bytes-to_le_bytes_4 h.live fits.live i;
+      epoch = from_le_bytes-to_le_bytes_8 h.epoch fits.epoch i;
+      base = from_le_bytes-to_le_bytes_8 h.base fits.base i;
+    }) in
+    (λ i. if_spelled (half_head_slot (same i)) (half_head_slot h) (same i))
+    ∙ spelled_is (half_head_slot h) (half_head_slot h) h refl
+
+pub group_head_spelled : (slot : List ℕ) (h : GroupHead) → group_head_in slot ≡ Some h
+    → (slot ≡ group_head_slot h) × FitsGroupHead h
+unfolding group_head_in
+group_head_spelled slot h e =
+    let s = spelled_some (group_head_slot (group_head_at slot)) slot (group_head_at slot) h e in
+    let fits : FitsGroupHead (group_head_at slot) =
+    subst (λ (l : List ℕ). FitsGroupHead (group_head_at l)) s.same (record {
+      count = small_2 (two_at 2 slot);
+      first = small_8 (eight_at 8 slot);
+    }) in
+    (sym s.same ∙ ap group_head_slot s.value, subst FitsGroupHead s.value fits)
+
+pub group_head_again : (h : GroupHead) → FitsGroupHead h
+    → group_head_in (group_head_slot h) ≡ Some h
+unfolding group_head_in
+group_head_again h fits =
+    let same : group_head_at (group_head_slot h) ≡ h = (λ i. record {
+      count = from_le_bytes-to_le_bytes_2 h.count fits.count i;
+      first = from_le_bytes-to_le_bytes_8 h.first fits.first i;
+    }) in
+    (λ i. if_spelled (group_head_slot (same i)) (group_head_slot h) (same i))
+    ∙ spelled_is (group_head_slot h) (group_head_slot h) h refl
+
+-- ---- loaders
+
+loader_spelled : (slot : List ℕ) (r : LoaderRow) → loader_in slot ≡ Some r
+    → (slot ≡ loader_slot r) × FitsLoader r
+unfolding loader_in
+loader_spelled slot r = by_size (nat_le (name_size slot) 48) refl
+  where
+    by_size : (t : Bool) → nat_le (name_size slot) 48 ≡ t
+        → cond t (if_spelled (loader_slot (loader_at slot)) slot (loader_at slot)) None ≡ Some r
+        → (slot ≡ loader_slot r) × FitsLoader r
+    by_size true is e =
+        let s = spelled_some (loader_slot (loader_at slot)) slot (loader_at slot) r e in
+        let number : eight_at 8 slot < 2 ^ 64 =
+        subst (λ (l : List ℕ). eight_at 8 l < 2 ^ 64) s.same (small_8 (eight_at 8 slot)) in
+        let small : name_size slot ≤ 48 = leb-true (name_size slot) 48 is in
+        let fits : FitsLoader (loader_at slot) = record {
+          number = number;
+          name = omega (arith, length-take (name_size slot) (drop 16 slot), small);
+        } in
+        (sym s.same ∙ ap loader_slot s.value, subst FitsLoader s.value fits)
+    by_size false is e = no_some r e
+
+loader_again : (r : LoaderRow) → FitsLoader r → loader_in (loader_slot r) ≡ Some r
+unfolding loader_in
+loader_again r fits =
+    let name : take (length r.name) (drop 16 (loader_slot r)) ≡ r.name =
+    take_at r.name (replicate (48 - length r.name) 0) (length r.name) refl in
+    let same : loader_at (loader_slot r) ≡ r =
+    (λ i. record { number = from_le_bytes-to_le_bytes_8 r.number fits.number i; name = name i }) in
+    ap (λ t. cond t (if_spelled (loader_slot (loader_at (loader_slot r))) (loader_slot r)
+    (loader_at (loader_slot r))) None) (le-leb (length r.name) 48 fits.name)
+    ∙ ((λ i. if_spelled (loader_slot (same i)) (loader_slot r) (same i))
+    ∙ spelled_is (loader_slot r) (loader_slot r) r refl)
+
+-- ---- classes
+
+same_chunk : (c : Chunk) → FitsChunk c → (d : Chunk)
+    → d.root ≡ from_le_bytes w32 (to_le_bytes w32 c.root)
+    → d.order ≡ from_le_bytes w32 (to_le_bytes w32 c.order)
+    → d.at ≡ from_le_bytes w32 (to_le_bytes w32 c.at) → d ≡ c
+same_chunk c fits d root order at =
+    let r : d.root ≡ c.root = root ∙ from_le_bytes-to_le_bytes_4 c.root fits.root in
+    let o : d.order ≡ c.order = order ∙ from_le_bytes-to_le_bytes_4 c.order fits.order in
+    let a : d.at ≡ c.at = at ∙ from_le_bytes-to_le_bytes_4 c.at fits.at in
+    (λ i. record { root = r i; order = o i; at = a i })
+
+class_spelled : (slot : List ℕ) (r : ClassRow) → class_in slot ≡ Some r
+    → (slot ≡ class_slot r) × FitsClass r
+unfolding class_in
+class_spelled slot r e =
+    let s = spelled_some (class_slot (class_at slot)) slot (class_at slot) r e in
+    let fits : FitsClass (class_at slot) =
+    subst (λ (l : List ℕ). FitsClass (class_at l)) s.same (record {
+      words = small_4 (four_at 4 slot);
+      loader = small_8 (eight_at 8 slot);
+      chunk = record {
+        root = small_4 (four_at 16 slot);
+        order = small_4 (four_at 20 slot);
+        at = small_4 (four_at 24 slot);
+      };
+      offset = small_4 (four_at 28 slot);
+    }) in
+    (sym s.same ∙ ap class_slot s.value, subst FitsClass s.value fits)
+
+class_again : (r : ClassRow) → FitsClass r → class_in (class_slot r) ≡ Some r
+unfolding class_in
+class_again r fits =
+    let chunk : chunk_at 16 (class_slot r) ≡ r.place.chunk =
+    same_chunk r.place.chunk fits.chunk (chunk_at 16 (class_slot r)) refl refl refl in
+    let same : class_at (class_slot r) ≡ r = (λ i. record {
+      loader = from_le_bytes-to_le_bytes_8 r.loader fits.loader i;
+      place = record {
+        chunk = chunk i;
+        offset = from_le_bytes-to_le_bytes_4 r.place.offset fits.offset i;
+        words = from_le_bytes-to_le_bytes_4 r.place.words fits.words i;
+      };
+    }) in
+    (λ i. if_spelled (class_slot (same i)) (class_slot r) (same i))
+    ∙ spelled_is (class_slot r) (class_slot r) r refl
+
+-- ---- unloadings and moves
+
+unload_spelled : (slot : List ℕ) (e : Unload) → unload_in slot ≡ Some e
+    → (slot ≡ unload_slot e) × FitsUnload e
+unfolding unload_in
+unload_spelled slot u e =
+    let s = spelled_some (unload_slot (unload_at slot)) slot (unload_at slot) u e in
+    let fits : FitsUnload (unload_at slot) =
+    subst (λ (l : List ℕ). FitsUnload (unload_at l)) s.same
+    (record { loader = small_8 (eight_at 8 slot) }) in
+    (sym s.same ∙ ap unload_slot s.value, subst FitsUnload s.value fits)
+
+unload_again : (e : Unload) → FitsUnload e → unload_in (unload_slot e) ≡ Some e
+unfolding unload_in
+unload_again e fits =
+    let same : unload_at (unload_slot e) ≡ e =
+    (λ i. record { loader = from_le_bytes-to_le_bytes_8 e.loader fits.loader i }) in
+    (λ i. if_spelled (unload_slot (same i)) (unload_slot e) (same i))
+    ∙ spelled_is (unload_slot e) (unload_slot e) e refl
+
+move_spelled : (slot : List ℕ) (m : Move) → move_in slot ≡ Some m
+    → (slot ≡ move_slot m) × FitsMove m
+unfolding move_in
+move_spelled slot m e =
+    let s = spelled_some (move_slot (move_at slot)) slot (move_at slot) m e in
+    let fits : FitsMove (move_at slot) =
+    subst (λ (l : List ℕ). FitsMove (move_at l)) s.same (record {
+      loader = small_8 (eight_at 8 slot);
+      from = record {
+        root = small_4 (four_at 16 slot);
+        order = small_4 (four_at 20 slot);
+        at = small_4 (four_at 24 slot);
+      };
+      to = record {
+        root = small_4 (four_at 28 slot);
+        order = small_4 (four_at 32 slot);
+        at = small_4 (four_at 36 slot);
+      };
+    }) in
+    (sym s.same ∙ ap move_slot s.value, subst FitsMove s.value fits)
+
+move_again : (m : Move) → FitsMove m → move_in (move_slot m) ≡ Some m
+unfolding move_in
+move_again m fits =
+    let old : chunk_at 16 (move_slot m) ≡ m.from =
+    same_chunk m.from fits.from (chunk_at 16 (move_slot m)) refl refl refl in
+    let new : chunk_at 28 (move_slot m) ≡ m.to =
+    same_chunk m.to fits.to (chunk_at 28 (move_slot m)) refl refl refl in
+    let same : move_at (move_slot m) ≡ m = (λ i. record {
+      loader = from_le_bytes-to_le_bytes_8 m.loader fits.loader i;
+      from = old i;
+      to = new i;
+    }) in
+    (λ i. if_spelled (move_slot (same i)) (move_slot m) (same i))
+    ∙ spelled_is (move_slot m) (move_slot m) m refl
+
+-- ---- rows and entries
+
+mapped_some : {A B P : Type 0} (f : A → B) (o : Option A) (y : B) → option_map f o ≡ Some y
+    → ((x : A) → o ≡ Some x → f x ≡ y → P) → P
+mapped_some f None y e k = no_some y e
+mapped_some f (Some x) y e k = k x refl (same_some (f x) y e)
+
+pub row_spelled : (slot : List ℕ) (row : BareRow) → row_in slot ≡ Some row
+    → (slot ≡ row_slot row) × FitsRow row
+unfolding row_in
+row_spelled slot row = by_kind (kind_at slot == 17)
+  where
+    by_kind : (t : Bool)
+        → cond t (option_map (λ r. Loader r) (loader_in slot))
+        (option_map (λ r. Class r tt) (class_in slot)) ≡ Some row
+        → (slot ≡ row_slot row) × FitsRow row
+    by_kind true e =
+        mapped_some (λ (r : LoaderRow). Loader r) (loader_in slot) row e (λ r there is.
+        let s = loader_spelled slot r there in
+        subst (λ (w : BareRow). (slot ≡ row_slot w) × FitsRow w) is s)
+    by_kind false e =
+        mapped_some (λ (r : ClassRow). Class r tt) (class_in slot) row e (λ r there is.
+        let s = class_spelled slot r there in
+        subst (λ (w : BareRow). (slot ≡ row_slot w) × FitsRow w) is s)
+
+pub row_again : (row : BareRow) → FitsRow row → row_in (row_slot row) ≡ Some row
+unfolding row_in
+row_again (Loader r) fits = ap (option_map (λ (l : LoaderRow). Loader l)) (loader_again r fits)
+row_again (Class r u) fits = ap (option_map (λ (c : ClassRow). Class c tt)) (class_again r fits)
+
+pub entry_spelled : (slot : List ℕ) (e : BareEntry) → entry_in slot ≡ Some e
+    → (slot ≡ entry_slot e) × FitsEntry e
+unfolding entry_in
+entry_spelled slot v = by_kind (kind_at slot == 19) (kind_at slot == 20)
+  where
+    by_kind : (t u : Bool)
+        → cond t (option_map (λ e. entry.Unload e) (unload_in slot))
+        (cond u (option_map (λ e. entry.Move e) (move_in slot))
+        (option_map (λ r. entry.Live r) (row_in slot))) ≡ Some v
+        → (slot ≡ entry_slot v) × FitsEntry v
+    by_kind true u e =
+        mapped_some (λ (d : Unload). entry.Unload d) (unload_in slot) v e (λ d there is.
+        let s = unload_spelled slot d there in
+        subst (λ (w : BareEntry). (slot ≡ entry_slot w) × FitsEntry w) is s)
+    by_kind false true e =
+        mapped_some (λ (d : Move). entry.Move d) (move_in slot) v e (λ d there is.
+        let s = move_spelled slot d there in
+        subst (λ (w : BareEntry). (slot ≡ entry_slot w) × FitsEntry w) is s)
+    by_kind false false e =
+        mapped_some (λ (d : BareRow). entry.Live d) (row_in slot) v e (λ d there is.
+        let s = row_spelled slot d there in
+        subst (λ (w : BareEntry). (slot ≡ entry_slot w) × FitsEntry w) is s)
+
+pub entry_again : (e : BareEntry) → FitsEntry e → entry_in (entry_slot e) ≡ Some e
+unfolding entry_in
+entry_again (entry.Live (Loader r)) fits =
+    ap (option_map (λ (d : BareRow). entry.Live d)) (row_again (Loader r) fits)
+entry_again (entry.Live (Class r u)) fits =
+    ap (option_map (λ (d : BareRow). entry.Live d)) (row_again (Class r u) fits)
+entry_again (entry.Unload e) fits =
+    ap (option_map (λ (d : Unload). entry.Unload d)) (unload_again e fits)
+entry_again (entry.Move e) fits = ap (option_map (λ (d : Move). entry.Move d)) (move_again e fits)
+
+-- what isn't spelled isn't there
+pub none_is : {A : Type 0} (o : Option A) → ((x : A) → o ≡ Some x → ⊥) → None ≡ o
+none_is None h = refl
+none_is (Some x) h = absurd (h x refl)
+
+pub row_of_entry : (slot : List ℕ) (row : BareRow) → entry_in slot ≡ Some (entry.Live row)
+    → row_in slot ≡ Some row
+row_of_entry slot row e =
+    let s = entry_spelled slot (entry.Live row) e in ap row_in s.0 ∙ row_again row s.1
+
+pub entry_of_row : (slot : List ℕ) (row : BareRow) → row_in slot ≡ Some row
+    → entry_in slot ≡ Some (entry.Live row)
+entry_of_row slot row e =
+    let s = row_spelled slot row e in ap entry_in s.0 ∙ entry_again (entry.Live row) s.1
+
+-- ---- the superblock
+
+lawful : (g : Sizes) → is_lawful g ≡ true → IsGeometry g
+lawful g e =
+    let a = and_parts (nat_le 3 g.top && nat_le g.top 12 && nat_le 1 g.roots && nat_le g.roots 256
+    && nat_le 256 g.slots) (nat_le g.slots 65536) e in
+    let b = and_parts (nat_le 3 g.top && nat_le g.top 12 && nat_le 1 g.roots && nat_le g.roots 256)
+    (nat_le 256 g.slots) a.0 in
+    let c = and_parts (nat_le 3 g.top && nat_le g.top 12 && nat_le 1 g.roots) (nat_le g.roots 256)
+    b.0 in
+    let d = and_parts (nat_le 3 g.top && nat_le g.top 12) (nat_le 1 g.roots) c.0 in
+    let f = and_parts (nat_le 3 g.top) (nat_le g.top 12) d.0 in
+    record {
+      top_from = leb-true 3 g.top f.0;
+      top_to = leb-true g.top 12 f.1;
+      roots_from = leb-true 1 g.roots d.1;
+      roots_to = leb-true g.roots 256 c.1;
+      slots_from = leb-true 256 g.slots b.1;
+      slots_to = leb-true g.slots 65536 a.1;
+    }
+
+is_lawful_from : (g : Sizes) → IsGeometry g → is_lawful g ≡ true
+is_lawful_from g h =
+    and_from _ _ (and_from _ _ (and_from _ _ (and_from _ _ (and_from _ _
+    (le-leb 3 g.top h.top_from) (le-leb g.top 12 h.top_to)) (le-leb 1 g.roots h.roots_from))
+    (le-leb g.roots 256 h.roots_to)) (le-leb 256 g.slots h.slots_from))
+    (le-leb g.slots 65536 h.slots_to)
+
+pub sizes_spelled : (block : List ℕ) (g : Sizes) → sizes_in block ≡ Some g
+    → (block ≡ superblock_bytes g) × IsGeometry g
+unfolding sizes_in
+sizes_spelled block g = by_limits (is_lawful (sizes_at block)) refl
+  where
+    by_limits : (t : Bool) → is_lawful (sizes_at block) ≡ t
+        → cond t (if_spelled (superblock_bytes (sizes_at block)) block (sizes_at block)) None
+        ≡ Some g
+        → (block ≡ superblock_bytes g) × IsGeometry g
+    by_limits true is e =
+        let s = spelled_some (superblock_bytes (sizes_at block)) block (sizes_at block) g e in (
+          sym s.same ∙ ap superblock_bytes s.value,
+          subst IsGeometry s.value (lawful (sizes_at block) is),
+        )
+    by_limits false is e = no_some g e
+
+pub sizes_again : (g : Sizes) → IsGeometry g → sizes_in (superblock_bytes g) ≡ Some g
+unfolding sizes_in
+sizes_again g h =
+    let same : sizes_at (superblock_bytes g) ≡ g = (λ i. record {
+      top = from_le_bytes-to_le_bytes_4 g.top (omega (arith, h.top_to)) i;
+      roots = from_le_bytes-to_le_bytes_4 g.roots (omega (arith, h.roots_to)) i;
+      slots = from_le_bytes-to_le_bytes_4 g.slots (omega (arith, h.slots_to)) i;
+    }) in
+    ap (λ t. cond t (if_spelled (superblock_bytes (sizes_at (superblock_bytes g)))
+    (superblock_bytes g) (sizes_at (superblock_bytes g))) None)
+    (ap is_lawful same ∙ is_lawful_from g h)
+    ∙ ((λ i. if_spelled (superblock_bytes (same i)) (superblock_bytes g) (same i))
+    ∙ spelled_is (superblock_bytes g) (superblock_bytes g) g refl)

@@ -1,0 +1,11 @@
+pub mod Decoded
+pub mod Turns
+pub mod Placed
+pub mod Walks
+pub mod WalksBack
+pub mod Heads
+pub mod Parts
+pub mod Contents
+pub mod Records
+pub mod Above
+pub mod Goings

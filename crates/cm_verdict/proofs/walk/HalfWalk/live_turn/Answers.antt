@@ -1,0 +1,20 @@
+use Rattle.std.proofs.Common.{◌+◌, ap, ◌∙◌, arith}
+use Rattle.cm_rows.specs.Rows.{LiveRows, is_above}
+use Rattle.cm_verdict.specs.declared.defined_at.DefinedAt.{DefinedAt}
+use Rattle.cm_verdict.proofs.Above.{above_row}
+use Rattle.cm_verdict.proofs.walk.HalfWalk.live_turn.Goals as goal
+
+pub returns-clause-steady : goal.returns-clause-steady
+returns-clause-steady c =
+    let old = c.args.self.now in
+    let s = c.requires.steady in
+    let k = c.in_default-apply_live.ensures {u = tt} in
+    record {
+      sizes = ap (λ (b : LiveRows DefinedAt). b.sizes) k.left ∙ s.sizes;
+      above = ap (λ (b : LiveRows DefinedAt). is_above (old.number + 1) b.rows) k.left
+          ∙ above_row old.book.sizes old.number old.book.rows c.placed_row-row.result k.broken s.above;
+      number = s.number;
+      group = λ group. omega (arith, s.group group);
+      slot = omega (arith, c.requires.room);
+      first = s.first;
+    }

@@ -1,0 +1,140 @@
+-- What bytes spell, as functions: fields are read at their places, and only writing them again
+-- tells whether the bytes are an encoding.
+use Rattle.std.specs.Prelude.{ℕ, ◌+◌, ◌==◌, ◌&&◌, nat_le, Bool, if◌then◌else◌, List, take, drop}
+use Rattle.std.specs.Prelude.{Option, Some, None, get_or}
+use Rattle.std.specs.Int.{w16, w32, w64, from_le_bytes}
+use Rattle.std.specs.Option.{option_map}
+use Rattle.std.specs.Str.{bytes_eq}
+use Rattle.cm_pool.specs.Geometry.{Sizes}
+use Rattle.cm_pool.specs.declared.chunk.Chunk.{Chunk}
+use Rattle.cm_layout.specs.declared.heads.HalfHead.{HalfHead}
+use Rattle.cm_layout.specs.declared.heads.GroupHead.{GroupHead}
+use Rattle.cm_layout.specs.declared.loader_row.LoaderRow.{LoaderRow}
+use Rattle.cm_layout.specs.declared.class_row.ClassRow.{ClassRow}
+use Rattle.cm_layout.specs.declared.unload.Unload.{Unload}
+use Rattle.cm_layout.specs.declared.relocation.Move.{Move}
+use Rattle.cm_layout.specs.declared.row.Row.TheVariants.{Loader, Class}
+use Rattle.cm_layout.specs.declared.entry.Entry.TheVariants as entry
+use Rattle.cm_layout.specs.Names.{name_limit}
+use Rattle.cm_layout.specs.Slots.{open_gate, half_head_slot, group_head_slot, loader_slot}
+use Rattle.cm_layout.specs.Slots.{class_slot, unload_slot, move_slot}
+use Rattle.cm_layout.specs.Superblock.{superblock_bytes}
+use Rattle.cm_layout.specs.Frames.{BareRow, BareEntry}
+
+-- ---- numbers at their places
+
+abbrev pub two_at : ℕ → List ℕ → ℕ
+two_at at bytes = from_le_bytes w16 (take 2 (drop at bytes))
+
+abbrev pub four_at : ℕ → List ℕ → ℕ
+four_at at bytes = from_le_bytes w32 (take 4 (drop at bytes))
+
+abbrev pub eight_at : ℕ → List ℕ → ℕ
+eight_at at bytes = from_le_bytes w64 (take 8 (drop at bytes))
+
+-- a value, where the bytes are its encoding
+abbrev pub if_spelled : {A : Type 0} → List ℕ → List ℕ → A → Option A
+if_spelled encoding bytes value = if bytes_eq encoding bytes then Some value else None
+
+-- ---- gates and heads
+
+-- the first byte opens a gate
+abbrev pub is_open : List ℕ → Bool
+is_open bytes = get_or bytes 0 0 == open_gate
+
+abbrev pub half_head_at : List ℕ → HalfHead
+half_head_at slot = record {
+  version = two_at 2 slot;
+  live = four_at 4 slot;
+  epoch = eight_at 8 slot;
+  base = eight_at 16 slot;
+}
+
+unfoldable pub half_head_in : List ℕ → Option HalfHead
+half_head_in slot = if_spelled (half_head_slot (half_head_at slot)) slot (half_head_at slot)
+
+abbrev pub group_head_at : List ℕ → GroupHead
+group_head_at slot = record { count = two_at 2 slot; first = eight_at 8 slot }
+
+unfoldable pub group_head_in : List ℕ → Option GroupHead
+group_head_in slot = if_spelled (group_head_slot (group_head_at slot)) slot (group_head_at slot)
+
+-- ---- rows and entries
+
+abbrev pub name_size : List ℕ → ℕ
+name_size slot = get_or slot 2 0
+
+abbrev pub loader_at : List ℕ → LoaderRow
+loader_at slot = record { number = eight_at 8 slot; name = take (name_size slot) (drop 16 slot) }
+
+unfoldable pub loader_in : List ℕ → Option LoaderRow
+loader_in slot =
+    if nat_le (name_size slot) name_limit
+    then if_spelled (loader_slot (loader_at slot)) slot (loader_at slot) else None
+
+abbrev pub chunk_at : ℕ → List ℕ → Chunk
+chunk_at at slot = record {
+  root = four_at at slot;
+  order = four_at (at + 4) slot;
+  at = four_at (at + 8) slot;
+}
+
+abbrev pub class_at : List ℕ → ClassRow
+class_at slot = record {
+  loader = eight_at 8 slot;
+  place = record { chunk = chunk_at 16 slot; offset = four_at 28 slot; words = four_at 4 slot };
+}
+
+unfoldable pub class_in : List ℕ → Option ClassRow
+class_in slot = if_spelled (class_slot (class_at slot)) slot (class_at slot)
+
+abbrev pub unload_at : List ℕ → Unload
+unload_at slot = record { loader = eight_at 8 slot }
+
+unfoldable pub unload_in : List ℕ → Option Unload
+unload_in slot = if_spelled (unload_slot (unload_at slot)) slot (unload_at slot)
+
+abbrev pub move_at : List ℕ → Move
+move_at slot = record {
+  loader = eight_at 8 slot;
+  from = chunk_at 16 slot;
+  to = chunk_at 28 slot;
+}
+
+unfoldable pub move_in : List ℕ → Option Move
+move_in slot = if_spelled (move_slot (move_at slot)) slot (move_at slot)
+
+-- the byte that says what a slot is
+abbrev pub kind_at : List ℕ → ℕ
+kind_at slot = get_or slot 1 0
+
+unfoldable pub row_in : List ℕ → Option BareRow
+row_in slot =
+    if kind_at slot == 17 then option_map (λ r. Loader r) (loader_in slot)
+    else option_map (λ r. Class r tt) (class_in slot)
+
+unfoldable pub entry_in : List ℕ → Option BareEntry
+entry_in slot =
+    if kind_at slot == 19 then option_map (λ e. entry.Unload e) (unload_in slot)
+    else if kind_at slot == 20 then option_map (λ e. entry.Move e) (move_in slot)
+    else option_map (λ r. entry.Live r) (row_in slot)
+
+-- ---- the superblock
+
+abbrev pub sizes_at : List ℕ → Sizes
+sizes_at block = record {
+  top = four_at 12 block;
+  roots = four_at 16 block;
+  slots = four_at 20 block;
+}
+
+-- within the limits
+abbrev pub is_lawful : Sizes → Bool
+is_lawful g =
+    nat_le 3 g.top && nat_le g.top 12 && nat_le 1 g.roots && nat_le g.roots 256
+    && nat_le 256 g.slots && nat_le g.slots 65536
+
+unfoldable pub sizes_in : List ℕ → Option Sizes
+sizes_in block =
+    if is_lawful (sizes_at block)
+    then if_spelled (superblock_bytes (sizes_at block)) block (sizes_at block) else None

@@ -1,0 +1,98 @@
+-- What the verdict has to do with what contents frame and stand for: it is Ok exactly where they do.
+use Rattle.std.specs.Prelude.{◌≡◌, ◌≤◌, ℕ, ◌+◌, ◌*◌, List, [], ◌∷◌, length, map, Ok}
+use Rattle.cm_record.specs.Layout.{lay}
+use Rattle.cm_pool.specs.Geometry.{Sizes}
+use Rattle.cm_layout.specs.declared.row.Row.{Row}
+use Rattle.cm_layout.specs.declared.row.Row.TheVariants.{Loader, Class}
+use Rattle.cm_layout.specs.Offsets.{slot_size, root_at}
+use Rattle.cm_layout.specs.Rows.{rows_with}
+use Rattle.cm_layout.specs.Frames.{Frames}
+use Rattle.cm_layout.specs.Framing.{Framing, IsRight, Matches, used_size}
+use Rattle.cm_state.specs.State.{CacheState}
+use Rattle.cm_state.specs.Stands.{Arenas, Stands}
+use Rattle.cm_verdict.specs.declared.defined_at.DefinedAt.{DefinedAt}
+use Rattle.cm_verdict.specs.Found.{Found, found_in}
+use Rattle.cm_verdict.specs.Verdict.{Standing, words_at, state_in, arenas_in, verdict}
+
+-- ---- what is found
+
+-- rows with the words of their records
+abbrev pub row_words : Sizes → List ℕ → Row DefinedAt → Row (List ℕ)
+row_words sizes contents (Loader r) = Loader r
+row_words sizes contents (Class r at) = Class r (words_at sizes contents r.place)
+
+abbrev pub rows_words : Sizes → List ℕ → List (Row DefinedAt) → List (Row (List ℕ))
+rows_words sizes contents rows = map (row_words sizes contents) rows
+
+-- each record lies in a root that a file of this length holds as a whole
+abbrev pub AreWhole : Sizes → ℕ → List (Row DefinedAt) → Type 0
+AreWhole sizes long [] = Unit {0}
+AreWhole sizes long (Loader r ∷ rows) = AreWhole sizes long rows
+AreWhole sizes long (Class r at ∷ rows) =
+    (root_at sizes (r.place.chunk.root + 1) ≤ long) × AreWhole sizes long rows
+
+abbrev pub words_found : List ℕ → Found → List (Row (List ℕ))
+words_found contents f = rows_words f.sizes contents f.rows
+
+-- what was found is what the contents frame: a framing matches that has this half, this head and
+-- this end
+pub record IsFramed (contents : List ℕ) (f : Found) : Type 0 where
+  pub framing : Framing
+  pub counting_is : framing.counting ≡ f.half
+  pub head_is : framing.head ≡ f.head
+  pub end_is : used_size framing ≡ slot_size * f.end
+  pub right : IsRight f.sizes framing (words_found contents f) f.number
+  pub matches : Matches f.sizes framing (words_found contents f) contents
+  pub frames : Frames f.sizes contents (words_found contents f) f.number
+
+-- What is found in contents is what they frame, where the records lie in whole roots.
+abbrev pub FoundIsFramed : Type 0
+FoundIsFramed =
+    (contents : List ℕ) (f : Found) → found_in contents ≡ Ok f
+    → AreWhole f.sizes (length contents) f.rows → IsFramed contents f
+
+-- this is found, of these sizes, rows and number
+pub record IsFound (sizes : Sizes) (contents : List ℕ) (rows : List (Row (List ℕ)))
+    (number : ℕ) (f : Found) : Type 0 where
+  pub found : found_in contents ≡ Ok f
+  pub whole : AreWhole f.sizes (length contents) f.rows
+  pub sizes_are : f.sizes ≡ sizes
+  pub rows_are : words_found contents f ≡ rows
+  pub number_is : f.number ≡ number
+
+-- What contents frame is found in them.
+abbrev pub FramedIsFound : Type 0
+FramedIsFound =
+    (sizes : Sizes) (contents : List ℕ) (rows : List (Row (List ℕ))) (number : ℕ)
+    → Frames sizes contents rows number
+    → (f : Found) × IsFound sizes contents rows number f
+
+-- ---- what contents stand for
+
+-- the file stands for the state, arenas and number of this verdict, whose classes have the records
+-- that were found
+pub record Proves (contents : List ℕ) (s : Standing) : Type 0 where
+  pub stands : Stands s.found.sizes contents (state_in s) (arenas_in s) s.found.number
+  pub found : found_in contents ≡ Ok s.found
+  pub whole : AreWhole s.found.sizes (length contents) s.found.rows
+  pub words : rows_with lay s.rows ≡ words_found contents s.found
+
+-- Where the verdict is Ok, the contents stand for what it says.
+abbrev pub VerdictStands : Type 0
+VerdictStands = (contents : List ℕ) (s : Standing) → verdict contents ≡ Ok s → Proves contents s
+
+-- the verdict is Ok, with these sizes, this state, these arenas and this number
+pub record IsVerdict (sizes : Sizes) (contents : List ℕ) (m : CacheState) (arenas : Arenas)
+    (number : ℕ) (s : Standing) : Type 0 where
+  pub ok : verdict contents ≡ Ok s
+  pub sizes_are : s.found.sizes ≡ sizes
+  pub state_is : state_in s ≡ m
+  pub arenas_are : arenas_in s ≡ arenas
+  pub number_is : s.found.number ≡ number
+
+-- What contents stand for, the verdict says.
+abbrev pub StandsInVerdict : Type 0
+StandsInVerdict =
+    (sizes : Sizes) (contents : List ℕ) (m : CacheState) (arenas : Arenas) (number : ℕ)
+    → Stands sizes contents m arenas number
+    → (s : Standing) × IsVerdict sizes contents m arenas number s

@@ -1,0 +1,44 @@
+-- A walk in memory, seen as what the definitions say of it.
+use Rattle.std.specs.Prelude.{◌≡◌, ◌≤◌, ◌+◌, ◌^◌, true, false, Result, Ok, Err}
+use Rattle.cm_rows.specs.Rows.{is_above}
+use Rattle.cm_verdict.specs.declared.fault.Damage.{Damage}
+use Rattle.cm_verdict.specs.declared.fault.FileFault.{FileFault}
+use Rattle.cm_verdict.specs.declared.walk.HalfWalk.{HalfWalk}
+use Rattle.cm_verdict.specs.declared.walk.Step.{Step}
+use Rattle.cm_verdict.specs.declared.walk.Step.TheVariants.{On, End}
+use Rattle.cm_verdict.specs.Walk.{Walked, Turn, Stop, Go, Bad}
+
+abbrev pub walked : HalfWalk → Walked
+walked h = record {
+  slot = h.slot;
+  rows = h.book.rows;
+  number = h.number;
+  live = h.live;
+  left = h.left;
+}
+
+-- what holds between two slots: the book is of these sizes, all loaders have numbers of the past,
+-- and no number passes its limit before the group ends
+pub record IsSteady (h : HalfWalk) : Type 0 where
+  pub sizes : h.book.sizes ≡ h.geometry
+  pub above : is_above (h.number + 1) h.book.rows ≡ true
+  pub number : h.number ≤ 2 ^ 63
+  pub group : h.live ≡ false → h.number + h.left ≤ 2 ^ 63
+  pub slot : h.slot ≤ 65536
+  pub first : h.first ≤ 65536
+
+-- what a slot of live rows or of a group says
+abbrev pub IsStep : Result (Unit {0}) Damage → Walked → Turn → Type 0
+IsStep (Ok u) next t = t ≡ Go next
+IsStep (Err what) next t = t ≡ Bad what
+
+-- what a slot says; where it ends the half, nothing has changed
+abbrev pub IsTurn : Result Step Damage → Walked → Walked → Turn → Type 0
+IsTurn (Ok On) old next t = t ≡ Go next
+IsTurn (Ok End) old next t = (t ≡ Stop) × (next ≡ old)
+IsTurn (Err what) old next t = t ≡ Bad what
+
+-- what a walk comes to
+abbrev pub IsWalk : Result HalfWalk FileFault → Result Walked FileFault → Type 0
+IsWalk (Ok h) r = r ≡ Ok (walked h)
+IsWalk (Err fault) r = r ≡ Err fault

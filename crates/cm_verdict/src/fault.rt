@@ -1,0 +1,59 @@
+//! What is wrong with a file.
+
+ghost use Rattle.std.specs.Prelude.{◌≡◌};
+ghost use Rattle.cm_verdict.specs.Faults.{damage_number};
+
+/// What is damaged in a region file.
+#[derive(Clone, Copy, Debug, PartialEq, Eq)]
+pub enum Damage {
+    /// The superblock is of another version, has a size outside its limits, or has another byte
+    /// that should be 0.
+    Superblock,
+    /// The file ends before its halves do.
+    Length,
+    /// No half is open, or both are with one epoch.
+    Halves,
+    /// The head of an open half, or that of a group, isn't good.
+    Head,
+    /// A slot spells no entry, or a live row is neither a loader nor a class.
+    Slot,
+    /// A rule on loaders, names, numbers or how many rows there are is broken.
+    Rows,
+    /// A rule on chunks, offsets or sizes is broken, or a record lies behind the file's last whole
+    /// root.
+    Chunks,
+    /// The words of a record are no class's that keeps the class rules.
+    Record,
+    /// A loader has two classes of one name.
+    ClassTwice,
+}
+
+impl Damage {
+    /// Its number, from 1 to 9. Of two damages of one slot the lower is told.
+    pub fn number(self) -> u8
+        ensures { result ≡ damage_number self }
+    {
+        match self {
+            Damage::Superblock => 1,
+            Damage::Length => 2,
+            Damage::Halves => 3,
+            Damage::Head => 4,
+            Damage::Slot => 5,
+            Damage::Rows => 6,
+            Damage::Chunks => 7,
+            Damage::Record => 8,
+            Damage::ClassTwice => 9,
+        }
+    }
+}
+
+/// Why a file stands for no cache.
+#[derive(Clone, Copy, Debug, PartialEq, Eq)]
+pub enum FileFault {
+    /// It is shorter than a superblock, or its first bytes or the gate of its superblock are
+    /// others.
+    NotACache,
+    /// The first damage, with the slot where it was met: slots are counted over both halves, and a
+    /// record's is that of the entry that defined its class. Where no slot is meant it is 0.
+    Damaged { what: Damage, slot: u32 },
+}

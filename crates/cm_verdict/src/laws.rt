@@ -1,0 +1,27 @@
+//! What the verdict means, as laws.
+
+ghost use Rattle.cm_verdict.specs.Laws.{FoundIsFramed, FramedIsFound};
+ghost use Rattle.cm_verdict.specs.Laws.{VerdictStands, StandsInVerdict};
+
+use cm_layout::{frames_are_matched, rows_are_apart};
+
+/// What is found in a file without its records is what the file frames: its sizes, the rows that
+/// live, each class with the words of its record, and the number of the last command; with the half
+/// that counts, its head, and where its groups end. It is found exactly where the file frames
+/// something and its records lie in whole roots.
+pub fn found_is_framed()
+    ensures framed { FoundIsFramed }
+    ensures found { FramedIsFound }
+{
+    frames_are_matched();
+    rows_are_apart();
+}
+
+/// The verdict on a file is Ok exactly where the file stands for a cache: then it says for which
+/// state, arenas and number. It is a function of the file's contents, so there is at most one.
+pub fn verdict_is_exact()
+    ensures stands { VerdictStands }
+    ensures ok { StandsInVerdict }
+{
+    found_is_framed();
+}

@@ -1,0 +1,19 @@
+//! The verdict on a file: what a region file holds, or the first damage in the order of recovery.
+#![tactic(auto)]
+
+mod counting;
+mod decode;
+mod defined_at;
+mod fault;
+mod laws;
+mod record;
+mod superblock;
+mod walk;
+
+pub use counting::{Counting, counting_half};
+pub use defined_at::DefinedAt;
+pub use fault::{Damage, FileFault};
+pub use laws::{found_is_framed, verdict_is_exact};
+pub use record::read_record;
+pub use superblock::sizes_found;
+pub use walk::{HalfWalk, walk_through};
