@@ -1,0 +1,105 @@
+//! What is found in small files, and which damage is told first.
+
+ghost use Rattle.std.specs.Prelude.{◌≤◌};
+
+use crate::samples::{Summary, damaged, found, small_front};
+use cm_verdict::{Damage, FileFault};
+use std::test::*;
+
+// How many rows live at the number of the last command, and where the groups end.
+const fn sound(rows: usize, number: u64, end: u32) -> Result<Summary, FileFault> {
+    Ok(Summary { rows, number, end })
+}
+
+// Where a slot of half 0 begins.
+const fn slot(number: usize) -> usize
+    ensures { result ≤ 36_864 }
+{
+    4_096 + 64 * (number % 512)
+}
+
+// A byte, what stands in its place, and what is found then.
+fn changes() -> [(usize, u8, Result<Summary, FileFault>); 24] {
+    [
+        // nothing changed
+        (slot(0), 0xA5, sound(3, 3, 7)),
+        // the superblock: its magic, its gate, its version, a size, a byte behind them
+        (0, 0, Err(FileFault::NotACache)),
+        (4_095, 0xA4, Err(FileFault::NotACache)),
+        (8, 2, damaged(Damage::Superblock, 0)),
+        (12, 2, damaged(Damage::Superblock, 0)),
+        (100, 1, damaged(Damage::Superblock, 0)),
+        // more slots than the file has room for
+        (21, 2, damaged(Damage::Length, 0)),
+        // no half is open; the head of half 0 is of another version, of an epoch to come; the head
+        // of half 1 is blank
+        (slot(0), 0, damaged(Damage::Halves, 0)),
+        (slot(0) + 2, 2, damaged(Damage::Head, 0)),
+        (slot(0) + 8, 2, damaged(Damage::Head, 0)),
+        (slot(256), 0xA5, damaged(Damage::Head, 256)),
+        // a group of none, of another number, of 65 entries
+        (slot(1) + 2, 0, damaged(Damage::Head, 1)),
+        (slot(3) + 8, 3, damaged(Damage::Head, 3)),
+        (slot(3) + 2, 65, damaged(Damage::Head, 3)),
+        // a group whose gate isn't open isn't there
+        (slot(5), 0xA4, sound(2, 2, 5)),
+        (slot(5), 0, sound(2, 2, 5)),
+        (slot(5), 0xFF, sound(2, 2, 5)),
+        // no entry, padding that isn't 0
+        (slot(4) + 1, 0x15, damaged(Damage::Slot, 4)),
+        (slot(4) + 63, 1, damaged(Damage::Slot, 4)),
+        // a name of no bytes, a loader of another number, a class of no loader
+        (slot(2) + 2, 0, damaged(Damage::Slot, 2)),
+        (slot(2) + 8, 2, damaged(Damage::Rows, 2)),
+        (slot(4) + 8, 2, damaged(Damage::Rows, 4)),
+        // an order of four billion, and a record that begins inside the one before it
+        (slot(4) + 23, 238, damaged(Damage::Chunks, 4)),
+        (slot(6) + 28, 15, damaged(Damage::Chunks, 6)),
+    ]
+}
+
+#[test]
+fn the_first_damage_is_told(rt: HostRuntime) -> Result<(), Fail> {
+    let front = small_front(rt.alloc())?;
+    for (at, byte, expected) in changes() {
+        let mut bytes = front.clone()?;
+        if let Some(there) = bytes.get_mut(at) {
+            *there = byte;
+        }
+        assert_eq!(rt; found(rt.alloc(), &bytes)?, expected, "{byte} at {at}");
+    }
+    Ok(())
+}
+
+#[test]
+fn a_short_file_is_no_cache_or_damaged(rt: HostRuntime) -> Result<(), Fail> {
+    let front = small_front(rt.alloc())?;
+    for (long, expected) in [
+        (0, Err(FileFault::NotACache)),
+        (4_095, Err(FileFault::NotACache)),
+        (4_096, damaged(Damage::Length, 0)),
+        (36_863, damaged(Damage::Length, 0)),
+        (36_864, sound(3, 3, 7)),
+    ] {
+        let bytes = front.get(..long).ok_or("not longer")?;
+        assert_eq!(rt; found(rt.alloc(), bytes)?, expected, "{long} bytes");
+    }
+    Ok(())
+}
+
+#[test]
+fn damages_have_their_numbers(rt: HostRuntime) {
+    for (what, number) in [
+        (Damage::Superblock, 1),
+        (Damage::Length, 2),
+        (Damage::Halves, 3),
+        (Damage::Head, 4),
+        (Damage::Slot, 5),
+        (Damage::Rows, 6),
+        (Damage::Chunks, 7),
+        (Damage::Record, 8),
+        (Damage::ClassTwice, 9),
+    ] {
+        assert_eq!(rt; what.number(), number);
+    }
+}
