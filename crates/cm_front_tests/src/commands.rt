@@ -62,7 +62,10 @@ fn classes_get_chunks_of_their_size(rt: HostRuntime) -> Result<(), Fail> {
     let longer = class(alloc, b'A', 8_033)?;
     let mut front = empty(alloc, 3, 1)?;
     assert_eq!(rt; add_loader(&mut front, b"a"), Ok(1));
-    assert_eq!(rt; define(&mut front, b"a", &longer), Err(Refusal::RecordTooLong));
+    assert_eq!(rt;
+        define(&mut front, b"a", &longer),
+        Err(Refusal::RecordTooLong)
+    );
     Ok(())
 }
 

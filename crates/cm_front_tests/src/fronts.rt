@@ -12,6 +12,7 @@ use std::test::Fail;
 /// A class with a name of one letter and one attribute named `X`: what stands before the letter, and
 /// between it and the attribute's length.
 const BEFORE_NAME: &[u8] = b"cafebabe0000003400060700020100";
+
 const BEHIND_NAME: &[u8] =
     b"0700040100106a6176612f6c616e672f4f626a656374010001580021000100030000000000000001";
 

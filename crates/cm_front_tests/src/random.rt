@@ -9,6 +9,7 @@ use std::test::Fail;
 
 /// How many loaders and classes there are to choose from.
 const LOADERS: usize = 6;
+
 const CLASSES: usize = 8;
 
 /// How many words the record of each class has.
@@ -98,7 +99,11 @@ fn agrees(front: &mut Front, model: &mut Model, classes: &[Prepared], choice: u3
         0 | 1 => add_loader(front, &name) == model.add_loader(loader),
         2 => unload(front, &name) == model.unload(loader),
         3 => seals(front, model),
-        4 => front.learn(Receipt { number: model.sealed }).is_ok(),
+        4 => front
+            .learn(Receipt {
+                number: model.sealed,
+            })
+            .is_ok(),
         _ => define(front, &name, &classes[class]) == model.define(loader, class),
     };
     is_same && words(front, &name, &[class as u8 + 0x41]) == model.words(loader, class)
@@ -109,7 +114,11 @@ fn random_commands_agree_with_a_plain_model(rt: HostRuntime) -> Result<(), Fail>
     let alloc = rt.alloc();
     let mut classes = Vec::new(alloc);
     for (letter, words) in WORDS.into_iter().enumerate() {
-        classes.push(class(alloc, letter as u8 + 0x41, words.wrapping_sub(20).wrapping_mul(8))?)?;
+        classes.push(class(
+            alloc,
+            letter as u8 + 0x41,
+            words.wrapping_sub(20).wrapping_mul(8),
+        )?)?;
     }
     let mut front = empty(alloc, 8, 64)?;
     let mut model = Model {

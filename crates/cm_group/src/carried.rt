@@ -49,11 +49,7 @@ impl CarriedEntry {
 
     /// A class's row, which writes its record. It is put into room that was taken before, so no
     /// memory is taken here.
-    pub fn class_in(
-        room: RecordRoom,
-        row: ClassRow,
-        class: Arc<Record, Global>,
-    ) -> CarriedEntry
+    pub fn class_in(room: RecordRoom, row: ClassRow, class: Arc<Record, Global>) -> CarriedEntry
         requires right { IsRightRecord (arc_value class) }
         ensures { result ≡ record {
           entry = variant.Live (Class row tt);
