@@ -1,6 +1,6 @@
 //! The accepted cache.
 
-ghost use Rattle.std.specs.Prelude.{◌≡◌, ◌<◌, true, OnOk, OnErr, IsOk, ◌↔◌, ◌≤◌};
+ghost use Rattle.std.specs.Prelude.{◌≡◌, ◌<◌, true, OnOk, OnErr, IsOk, IfSome, ◌↔◌, ◌≤◌};
 ghost use Rattle.std.specs.Option.{option_map};
 ghost use Rattle.std.specs.Arc.{arc_value};
 
@@ -79,8 +79,9 @@ impl Front {
     /// The record of the class of a name in the loader of a name, as accepted, whether or not it is
     /// stored; also after a failure of the device, and once the cache is closed. Takes no memory.
     pub fn find(&self, loader: &[u8], class: &[u8]) -> Option<&Arc<Record, Global>>
-        ensures { option_map (λ r. arc_value r.now) result
+        ensures found { option_map (λ r. arc_value r.now) result
             ≡ class_in (state_of words_show self.now.rows) loader.now class.now }
+        ensures right { IfSome result (λ r. IsRightRecord (arc_value r.now)) }
     {
         rows_tell_state();
         let number = self.book.loader(loader)?;

@@ -4,16 +4,16 @@ use Rattle.cm_front.specs.Front.{FrontState}
 use Rattle.cm_front.proofs.Learning.{nothing_there, what_is_there}
 use Rattle.cm_front.proofs.front.Front.find.Goals as goal
 
-pub returns-in_err-number : goal.returns-in_err-number
-returns-in_err-number c =
+pub returns-in_err-number-clause-found : goal.returns-in_err-number-clause-found
+returns-in_err-number-clause-found c =
     let there = nothing_there c.rows_tell_state.ensures.classes.1 c.self.inside.book.rows
     c.args.loader.now c.args.class.now (sym c.in_err-number.ensures) in
     rw c.from_residual.ensures
     (sym there ∙ ap (λ (t : FrontState). class_in (state_of words_show t.rows) c.args.loader.now
     c.args.class.now) c.self.view_is)
 
-pub returns-in_err-found : goal.returns-in_err-found
-returns-in_err-found c =
+pub returns-in_err-found-clause-found : goal.returns-in_err-found-clause-found
+returns-in_err-found-clause-found c =
     let there = what_is_there c.rows_tell_state.ensures.classes.1 c.self.inside.book.rows
     c.args.loader.now c.args.class.now c.in_ok-number.number None (sym c.in_ok-number.ensures)
     (sym c.in_err-found.ensures) in
@@ -21,8 +21,8 @@ returns-in_err-found c =
     (sym there ∙ ap (λ (t : FrontState). class_in (state_of words_show t.rows) c.args.loader.now
     c.args.class.now) c.self.view_is)
 
-pub returns : goal.returns
-returns c =
+pub returns-clause-found : goal.returns-clause-found
+returns-clause-found c =
     let there = what_is_there c.rows_tell_state.ensures.classes.1 c.self.inside.book.rows
     c.args.loader.now c.args.class.now c.in_ok-number.number (Some c.in_ok-found.found.now)
     (sym c.in_ok-number.ensures) (sym c.in_ok-found.ensures) in
