@@ -1,138 +1,165 @@
-//! Commands one after another, with what comes of each.
+//! Calls one after another, with what comes of each.
 
-use crate::fronts::{add_loader, class, define, empty, unload, words};
-use cm_front::Front;
-use cm_group::{Group, Receipt};
-use cm_layout::{Entry, Row};
-use cm_pool::{Chunk, Place};
+use crate::calls::{Answer, Call, make};
+use crate::fronts::{add_loader, class, empty};
 use cm_prepare::{Prepared, Refusal};
 use std::alloc::Global;
 use std::test::Fail;
 
-// The number of the first entry of the group that is handed out next, and how many there are.
-fn sealed(front: &mut Front) -> Option<(u64, usize)> {
-    let group = front.seal()?;
-    Some((group.first(), group.count()))
+/// A class with a name of one letter, and how many bytes its attribute has.
+type Sample = (u8, u32);
+
+fn room(alloc: Global, count: usize) -> Result<Vec<Prepared>, Fail> {
+    match Vec::with_capacity(alloc, count) {
+        Ok(room) => Ok(room),
+        Err(_) => Ok(Vec::with_capacity(alloc, count)?),
+    }
 }
 
-// The place of the class that is the last entry of a group.
-fn last_place(group: &Group) -> Option<Place> {
-    match group.entries().last()?.entry() {
-        Entry::Live(Row::Class(row, ())) => Some(row.place),
-        _ => None,
+fn classes(alloc: Global, samples: &[Sample]) -> Result<Vec<Prepared>, Fail> {
+    let mut classes = room(alloc, samples.len())?;
+    for (name, count) in samples {
+        classes.push(class(alloc, *name, *count)?)?;
     }
+    Ok(classes)
+}
+
+// Which of these calls, made one after another on an empty cache, is the first that gives another
+// answer.
+fn first_other(
+    alloc: Global,
+    roots: u32,
+    samples: &[Sample],
+    cases: &[(Call, Answer)],
+) -> Result<Option<usize>, Fail> {
+    let classes = classes(alloc, samples)?;
+    let mut front = empty(alloc, 3, roots)?;
+    for (at, (call, expected)) in cases.iter().enumerate() {
+        if make(&mut front, &classes, *call) != *expected {
+            return Ok(Some(at));
+        }
+    }
+    Ok(None)
 }
 
 #[test]
 fn a_left_chunk_waits_for_its_receipt(rt: HostRuntime) -> Result<(), Fail> {
-    let alloc = rt.alloc();
-    let large = class(alloc, b'A', 8_032)?;
-    let small = class(alloc, b'B', 0)?;
-    let mut front = empty(alloc, 3, 1)?;
-    let f = &mut front;
-    assert_eq!(rt; add_loader(f, b"a"), Ok(1));
-    assert_eq!(rt; define(f, b"a", &large), Ok(2));
-    assert_eq!(rt; add_loader(f, b"b"), Ok(3));
-    assert_eq!(rt; unload(f, b"a"), Ok(4));
-    assert_eq!(rt; define(f, b"b", &small), Err(Refusal::RegionFull));
-    assert_eq!(rt; f.learn(Receipt { number: 4 }).is_ok(), false);
-    assert_eq!(rt; sealed(f), Some((1, 4)));
-    assert_eq!(rt; define(f, b"b", &small), Err(Refusal::RegionFull));
-    assert_eq!(rt; f.learn(Receipt { number: 4 }).is_ok(), true);
-    assert_eq!(rt; define(f, b"b", &small), Ok(5));
-    assert_eq!(rt; words(f, b"b", b"B"), Some(20));
-    assert_eq!(rt; f.number(), 5);
-    assert_eq!(rt; f.geometry().top(), 3);
+    let cases = [
+        (Call::AddLoader(b'a'), Answer::Number(1)),
+        (Call::Define(b'a', 0), Answer::Number(2)),
+        (Call::AddLoader(b'b'), Answer::Number(3)),
+        (Call::Unload(b'a'), Answer::Number(4)),
+        (Call::Define(b'b', 1), Answer::Refused(Refusal::RegionFull)),
+        (Call::Learn(4), Answer::Nothing),
+        (Call::Seal, Answer::Group(1, 4, 0)),
+        (Call::Define(b'b', 1), Answer::Refused(Refusal::RegionFull)),
+        (Call::Learn(3), Answer::Done),
+        (Call::Define(b'b', 1), Answer::Refused(Refusal::RegionFull)),
+        (Call::Learn(4), Answer::Done),
+        (Call::Define(b'b', 1), Answer::Number(5)),
+        (Call::Find(b'b', b'B'), Answer::Words(20)),
+        (Call::Seal, Answer::Group(5, 1, 4)),
+    ];
+    let samples = [(b'A', 8_032), (b'B', 0)];
+    assert_eq!(rt; first_other(rt.alloc(), 1, &samples, &cases)?, None);
     Ok(())
 }
 
 #[test]
 fn classes_get_chunks_of_their_size(rt: HostRuntime) -> Result<(), Fail> {
-    let alloc = rt.alloc();
-    for (count, order) in [(864, 0), (865, 1), (8_032, 3)] {
-        let class = class(alloc, b'A', count)?;
-        let mut front = empty(alloc, 3, 1)?;
-        assert_eq!(rt; add_loader(&mut front, b"a"), Ok(1));
-        assert_eq!(rt; define(&mut front, b"a", &class), Ok(2));
-        let group = front.seal().ok_or("a group")?;
-        let place = last_place(&group).ok_or("a class")?;
-        assert_eq!(rt; place.chunk.order, order);
-        assert_eq!(rt; place.words, class.words());
+    for (count, words, order) in [(864, 128, 0), (865, 129, 1), (8_032, 1_024, 3)] {
+        let cases = [
+            (Call::AddLoader(b'a'), Answer::Number(1)),
+            (Call::Define(b'a', 0), Answer::Number(2)),
+            (Call::SealPlace, Answer::Order(order, words)),
+        ];
+        assert_eq!(rt; first_other(rt.alloc(), 1, &[(b'A', count)], &cases)?, None);
     }
-    let longer = class(alloc, b'A', 8_033)?;
-    let mut front = empty(alloc, 3, 1)?;
-    assert_eq!(rt; add_loader(&mut front, b"a"), Ok(1));
-    assert_eq!(rt;
-        define(&mut front, b"a", &longer),
-        Err(Refusal::RecordTooLong)
-    );
+    let cases = [
+        (Call::AddLoader(b'a'), Answer::Number(1)),
+        (
+            Call::Define(b'a', 0),
+            Answer::Refused(Refusal::RecordTooLong),
+        ),
+        (Call::Define(b'b', 0), Answer::Refused(Refusal::NoLoader)),
+    ];
+    assert_eq!(rt; first_other(rt.alloc(), 1, &[(b'A', 8_033)], &cases)?, None);
     Ok(())
 }
 
 #[test]
 fn what_is_defined_is_found(rt: HostRuntime) -> Result<(), Fail> {
-    let alloc = rt.alloc();
-    let old = class(alloc, b'A', 0)?;
-    let new = class(alloc, b'A', 8)?;
-    let mut front = empty(alloc, 8, 64)?;
-    let f = &mut front;
-    assert_eq!(rt; add_loader(f, b"a"), Ok(1));
-    assert_eq!(rt; define(f, b"a", &old), Ok(2));
-    assert_eq!(rt; unload(f, b"a"), Ok(3));
-    assert_eq!(rt; words(f, b"a", b"A"), None);
-    assert_eq!(rt; add_loader(f, b"a"), Ok(4));
-    assert_eq!(rt; define(f, b"a", &new), Ok(5));
-    assert_eq!(rt; words(f, b"a", b"A"), Some(21));
-    assert_eq!(rt; words(f, b"a", b"B"), None);
-    assert_eq!(rt; words(f, b"b", b"A"), None);
-    assert_eq!(rt; add_loader(f, b"b"), Ok(6));
-    assert_eq!(rt; define(f, b"b", &new), Ok(7));
-    assert_eq!(rt; words(f, b"b", b"A"), Some(21));
-    f.close();
-    assert_eq!(rt; words(f, b"b", b"A"), Some(21));
+    let cases = [
+        (Call::AddLoader(b'a'), Answer::Number(1)),
+        (Call::Define(b'a', 0), Answer::Number(2)),
+        (Call::Unload(b'a'), Answer::Number(3)),
+        (Call::Find(b'a', b'A'), Answer::Nothing),
+        (Call::AddLoader(b'a'), Answer::Number(4)),
+        (Call::Define(b'a', 1), Answer::Number(5)),
+        (Call::Find(b'a', b'A'), Answer::Words(21)),
+        (Call::Find(b'a', b'B'), Answer::Nothing),
+        (Call::Find(b'b', b'A'), Answer::Nothing),
+        (Call::AddLoader(b'b'), Answer::Number(6)),
+        (Call::Define(b'b', 1), Answer::Number(7)),
+        (Call::Find(b'b', b'A'), Answer::Words(21)),
+        (Call::Close, Answer::Done),
+        (Call::Find(b'b', b'A'), Answer::Words(21)),
+        (Call::Seal, Answer::Group(1, 7, 0)),
+    ];
+    let samples = [(b'A', 0), (b'A', 8)];
+    assert_eq!(rt; first_other(rt.alloc(), 4, &samples, &cases)?, None);
+    Ok(())
+}
+
+#[test]
+fn refusals_come_in_their_order(rt: HostRuntime) -> Result<(), Fail> {
+    let cases = [
+        (Call::AddLoader(b' '), Answer::Refused(Refusal::BadName)),
+        (Call::Define(0x7F, 1), Answer::Refused(Refusal::BadName)),
+        (Call::Define(b'a', 1), Answer::Refused(Refusal::NoLoader)),
+        (Call::Unload(b'a'), Answer::Refused(Refusal::NoLoader)),
+        (Call::AddLoader(b'a'), Answer::Number(1)),
+        (
+            Call::AddLoader(b'a'),
+            Answer::Refused(Refusal::LoaderExists),
+        ),
+        (Call::Define(b'a', 0), Answer::Number(2)),
+        (Call::Define(b'a', 1), Answer::Refused(Refusal::ClassExists)),
+        (Call::Fail, Answer::Done),
+        (Call::AddLoader(b' '), Answer::Refused(Refusal::Broken)),
+        (Call::Close, Answer::Done),
+        (Call::Unload(b'a'), Answer::Refused(Refusal::Closed)),
+        (Call::Seal, Answer::Group(1, 2, 0)),
+        (Call::Seal, Answer::Nothing),
+    ];
+    let samples = [(b'A', 0), (b'A', 8_033)];
+    assert_eq!(rt; first_other(rt.alloc(), 1, &samples, &cases)?, None);
     Ok(())
 }
 
 #[test]
 fn loaders_seal_in_groups_of_64(rt: HostRuntime) -> Result<(), Fail> {
     let mut front = empty(rt.alloc(), 3, 1)?;
-    let f = &mut front;
     for number in 1..66 {
-        assert_eq!(rt; add_loader(f, &[number + 0x20]), Ok(u64::from(number)));
+        assert_eq!(rt;
+            add_loader(&mut front, &[number + 0x20]),
+            Ok(u64::from(number))
+        );
     }
-    assert_eq!(rt; sealed(f), Some((1, 64)));
-    assert_eq!(rt; f.learn(Receipt { number: 65 }).is_ok(), false);
-    assert_eq!(rt; sealed(f), Some((65, 1)));
-    assert_eq!(rt; sealed(f), None);
-    assert_eq!(rt; f.learn(Receipt { number: 66 }).is_ok(), false);
-    assert_eq!(rt; f.learn(Receipt { number: 65 }).is_ok(), true);
-    assert_eq!(rt; f.learn(Receipt { number: 1 }).is_ok(), true);
-    assert_eq!(rt; add_loader(f, b"late"), Ok(66));
-    let group = f.seal().ok_or("a group")?;
-    assert_eq!(rt; group.learnt(), 65);
-    Ok(())
-}
-
-#[test]
-fn refusals_come_in_their_order(rt: HostRuntime) -> Result<(), Fail> {
-    let alloc = rt.alloc();
-    let class_a = class(alloc, b'A', 0)?;
-    let long = class(alloc, b'A', 8_033)?;
-    let mut front = empty(alloc, 3, 1)?;
-    let f = &mut front;
-    assert_eq!(rt; add_loader(f, b"a b"), Err(Refusal::BadName));
-    assert_eq!(rt; add_loader(f, b""), Err(Refusal::BadName));
-    assert_eq!(rt; define(f, b"\x7f", &long), Err(Refusal::BadName));
-    assert_eq!(rt; define(f, b"a", &long), Err(Refusal::NoLoader));
-    assert_eq!(rt; unload(f, b"a"), Err(Refusal::NoLoader));
-    assert_eq!(rt; add_loader(f, b"a"), Ok(1));
-    assert_eq!(rt; add_loader(f, b"a"), Err(Refusal::LoaderExists));
-    assert_eq!(rt; define(f, b"a", &class_a), Ok(2));
-    assert_eq!(rt; define(f, b"a", &long), Err(Refusal::ClassExists));
-    f.fail();
-    assert_eq!(rt; add_loader(f, b"a b"), Err(Refusal::Broken));
-    f.close();
-    assert_eq!(rt; unload(f, b"a"), Err(Refusal::Closed));
-    assert_eq!(rt; sealed(f), Some((1, 2)));
+    let cases = [
+        (Call::Seal, Answer::Group(1, 64, 0)),
+        (Call::Learn(65), Answer::Nothing),
+        (Call::Seal, Answer::Group(65, 1, 0)),
+        (Call::Seal, Answer::Nothing),
+        (Call::Learn(66), Answer::Nothing),
+        (Call::Learn(65), Answer::Done),
+        (Call::Learn(1), Answer::Done),
+        (Call::AddLoader(b'z'), Answer::Number(66)),
+        (Call::Seal, Answer::Group(66, 1, 65)),
+    ];
+    for (call, expected) in cases {
+        assert_eq!(rt; make(&mut front, &[], call), expected);
+    }
+    assert_eq!(rt; (front.number(), front.geometry().top()), (66, 3));
     Ok(())
 }

@@ -1,0 +1,103 @@
+//! Calls of an accepted cache as values, so that a test is a table of calls and answers.
+
+use crate::fronts::{add_loader, define, unload, words};
+use cm_front::Front;
+use cm_group::{Group, Receipt};
+use cm_layout::{Entry, Row};
+use cm_prepare::{Prepared, Refusal};
+
+/// A call. Loaders and classes have names of one letter; a class that is defined stands at a place of
+/// the test's list.
+#[derive(Clone, Copy, Debug)]
+pub enum Call {
+    AddLoader(u8),
+    Define(u8, usize),
+    Unload(u8),
+    Find(u8, u8),
+    Seal,
+    SealPlace,
+    Learn(u64),
+    Fail,
+    Close,
+}
+
+/// What comes of it.
+#[derive(Clone, Copy, Debug, PartialEq, Eq)]
+pub enum Answer {
+    Number(u64),
+    Refused(Refusal),
+    /// How many words the record has that was found.
+    Words(u32),
+    /// The number of the group's first entry, how many entries it has, and what is learnt.
+    Group(u64, usize, u64),
+    /// The order of the chunk that the group's last entry names, and how many words it takes.
+    Order(u32, u32),
+    Done,
+    Nothing,
+}
+
+fn numbered(answer: Result<u64, Refusal>) -> Answer {
+    match answer {
+        Ok(number) => Answer::Number(number),
+        Err(refusal) => Answer::Refused(refusal),
+    }
+}
+
+fn group_of(group: Option<Group>) -> Answer {
+    match group {
+        Some(group) => Answer::Group(group.first(), group.count(), group.learnt()),
+        None => Answer::Nothing,
+    }
+}
+
+fn order_of(group: Option<Group>) -> Option<Answer> {
+    let group = group?;
+    match group.entries().last()?.entry() {
+        Entry::Live(Row::Class(row, ())) => {
+            Some(Answer::Order(row.place.chunk.order, row.place.words))
+        }
+        _ => None,
+    }
+}
+
+fn define_at(front: &mut Front, loader: u8, classes: &[Prepared], at: usize) -> Answer {
+    match classes.get(at) {
+        Some(class) => numbered(define(front, &[loader], class)),
+        None => Answer::Nothing,
+    }
+}
+
+fn find(front: &Front, loader: u8, class: u8) -> Answer {
+    match words(front, &[loader], &[class]) {
+        Some(words) => Answer::Words(words),
+        None => Answer::Nothing,
+    }
+}
+
+fn learn(front: &mut Front, number: u64) -> Answer {
+    match front.learn(Receipt { number }) {
+        Ok(()) => Answer::Done,
+        Err(_stranger) => Answer::Nothing,
+    }
+}
+
+/// Makes the call.
+pub fn make(front: &mut Front, classes: &[Prepared], call: Call) -> Answer {
+    match call {
+        Call::AddLoader(loader) => numbered(add_loader(front, &[loader])),
+        Call::Define(loader, at) => define_at(front, loader, classes, at),
+        Call::Unload(loader) => numbered(unload(front, &[loader])),
+        Call::Find(loader, class) => find(front, loader, class),
+        Call::Seal => group_of(front.seal()),
+        Call::SealPlace => order_of(front.seal()).unwrap_or(Answer::Nothing),
+        Call::Learn(number) => learn(front, number),
+        Call::Fail => {
+            front.fail();
+            Answer::Done
+        }
+        Call::Close => {
+            front.close();
+            Answer::Done
+        }
+    }
+}
