@@ -1,0 +1,3 @@
+pub mod Shut
+pub mod Empty
+pub mod Gate

@@ -1,0 +1,20 @@
+-- What a file is before, while and after it is made.
+use Rattle.std.specs.Prelude.{◌≢◌, ℕ, List, get_or}
+use Rattle.cm_pool.specs.Geometry.{Sizes, IsGeometry}
+use Rattle.cm_layout.specs.Slots.{open_gate}
+use Rattle.cm_guards.specs.Gates.{Turns}
+use Rattle.cm_recover.specs.NewFile.{gate_at, new_bytes, shut_bytes, IsNoCache, IsEmptyCache}
+
+-- Contents whose superblock isn't open are no cache, whatever else stands there.
+abbrev pub ShutIsNoCache : Type 0
+ShutIsNoCache = (contents : List ℕ) → get_or contents gate_at 0 ≢ open_gate → IsNoCache contents
+
+-- A new file stands for the empty cache.
+abbrev pub NewIsEmpty : Type 0
+NewIsEmpty = (sizes : Sizes) → IsGeometry sizes → IsEmptyCache sizes (new_bytes sizes)
+
+-- The superblock's gate turns no cache into the empty one.
+abbrev pub GateTurns : Type 0
+GateTurns =
+    (sizes : Sizes) → IsGeometry sizes
+    → Turns IsNoCache (IsEmptyCache sizes) gate_at open_gate (shut_bytes sizes)

@@ -1,0 +1,44 @@
+//! Making a file.
+
+ghost use Rattle.std.specs.Prelude.{◌≡◌, ◌<◌, ◌⊎◌, length, Err, OnOk};
+ghost use Rattle.cm_disk.specs.Disk.{IsSettled};
+ghost use Rattle.cm_guards.specs.Guards.{EachImage};
+ghost use Rattle.cm_guards.specs.Calls.{Reads};
+ghost use Rattle.cm_recover.specs.declared.fault.FormatFault.TheVariants as fault;
+ghost use Rattle.cm_recover.specs.NewFile.{new_bytes, IsEmptyCache};
+ghost use Rattle.cm_recover.specs.Making.{HasFormatCause};
+
+use crate::fault::FormatFault;
+use crate::new_file::NewFile;
+use cm_disk::Disk;
+use cm_pool::Geometry;
+use std::alloc::Global;
+
+/// Makes the empty cache of these sizes on an empty disk. Once it answers Ok, that is what every
+/// crash leaves: there is one image.
+///
+/// `NotEmpty` where the disk has bytes: none is touched. `NoMemory` where an allocation failed:
+/// nothing was written. `Device` where the device failed: until all bytes but one are stored, the
+/// disk may hold any bytes then; from there on, it holds no cache or the empty one.
+pub fn format<D: Disk>(alloc: Global, disk: &mut D, geometry: Geometry) -> Result<(), FormatFault>
+    ensures empty { OnOk result
+        (EachImage (D.contents disk.new) (D.unsynced disk.new) (IsEmptyCache geometry)) }
+    ensures bytes { OnOk result (D.contents disk.new ≡ new_bytes geometry) }
+    ensures stored { OnOk result (IsSettled (D.contents disk.new) (D.unsynced disk.new)) }
+    ensures not_empty { result ≡ Err fault.NotEmpty → 0 < length (D.contents disk.old) }
+    ensures only_empty { 0 < length (D.contents disk.old)
+        → (result ≡ Err fault.NotEmpty) ⊎ (result ≡ Err fault.Device) }
+    ensures overwrites_nothing { 0 < length (D.contents disk.old)
+        → Reads D.contents D.unsynced D.failures D.moment D.left_since disk.old disk.new ⊥ }
+    ensures no_memory { result ≡ Err fault.NoMemory
+        → Reads D.contents D.unsynced D.failures D.moment D.left_since disk.old disk.new ⊥ }
+    ensures cause { HasFormatCause (D.failures disk.old) (D.failures disk.new) result }
+{
+    if disk.len()? != 0 {
+        return Err(FormatFault::NotEmpty);
+    }
+    let file = NewFile::new(alloc, geometry)?;
+    file.store(disk)?;
+    file.open(disk)?;
+    Ok(())
+}

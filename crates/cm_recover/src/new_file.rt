@@ -1,0 +1,101 @@
+//! A file that is being made.
+
+ghost use Rattle.std.specs.Prelude.{◌≡◌, length, IfOk, OnOk};
+ghost use Rattle.cm_disk.specs.Disk.{IsSettled};
+ghost use Rattle.cm_disk.specs.Calls.{HasCause};
+ghost use Rattle.cm_guards.specs.Guards.{EachImage};
+ghost use Rattle.cm_guards.specs.Calls.{LeavesOnly};
+ghost use Rattle.cm_pool.specs.Geometry.{IsGeometry};
+ghost use Rattle.cm_recover.specs.NewFile.{new_bytes, shut_bytes, IsNoneOrEmpty};
+ghost use Rattle.cm_recover.specs.Making.{IsNewFile};
+
+use cm_disk::{DeviceFault, Disk};
+use cm_layout::{HalfHead, OPEN_GATE, SUPERBLOCK_BYTES, Superblock, roots_at};
+use cm_pool::Geometry;
+use std::alloc::{AllocError, Global};
+
+/// Where the superblock's gate stands.
+const GATE_AT: usize = SUPERBLOCK_BYTES - 1;
+
+/// What a new file is to hold: an open superblock, the head of half 0, zeros.
+fn encode(alloc: Global, geometry: Geometry) -> Result<Vec<u8>, AllocError>
+    requires { IsGeometry geometry }
+    ensures { IfOk result (λ bytes. bytes.items ≡ new_bytes geometry) }
+{
+    let head = HalfHead {
+        version: 1,
+        live: 0,
+        epoch: 1,
+        base: 0,
+    };
+    let mut bytes = Superblock { geometry }.encode(alloc)?;
+    bytes.extend_from_slice(&head.encode())?;
+    bytes.resize(roots_at(geometry) as usize, 0)?;
+    Ok(bytes)
+}
+
+/// A file that is being made, with the bytes that it holds before its superblock is opened.
+#[derive(Drop)]
+pub(crate) struct NewFile {
+    geometry: Geometry,
+    bytes: Vec<u8>,
+}
+
+impl NewFile {
+    /// The file of these sizes.
+    pub(crate) fn new(alloc: Global, geometry: Geometry) -> Result<NewFile, AllocError>
+        ensures { IfOk result (IsNewFile geometry) }
+    {
+        let _lawful = geometry.top(); // so the proof knows that its sizes are within the limits
+        let mut bytes = encode(alloc, geometry)?;
+        bytes[GATE_AT] = 0;
+        Ok(NewFile { geometry, bytes })
+    }
+
+    /// Stores it on an empty disk, shut.
+    pub(crate) fn store<D: Disk>(&self, disk: &mut D) -> Result<(), DeviceFault>
+        requires new { IsNewFile self.now.geometry self.now }
+        requires empty { length (D.contents disk.old) ≡ 0 }
+        ensures written { OnOk result (D.contents disk.new ≡ shut_bytes self.now.geometry) }
+        ensures settled { OnOk result (IsSettled (D.contents disk.new) (D.unsynced disk.new)) }
+        ensures cause { HasCause (D.failures disk.old) (D.failures disk.new) result }
+    {
+        disk.write_at(0, &self.bytes)?;
+        disk.sync()
+    }
+
+    /// Writes the gate of its superblock, where all else is stored.
+    #[tactic(auto, using(cm_guards::proofs::Steps::gating))]
+    fn write_gate<D: Disk>(&self, disk: &mut D) -> Result<(), DeviceFault>
+        requires lawful { IsGeometry self.now.geometry }
+        requires shut { D.contents disk.old ≡ shut_bytes self.now.geometry }
+        requires settled { IsSettled (D.contents disk.old) (D.unsynced disk.old) }
+        ensures written { OnOk result (D.contents disk.new ≡ new_bytes self.now.geometry) }
+        ensures images { EachImage (D.contents disk.new) (D.unsynced disk.new)
+            (IsNoneOrEmpty self.now.geometry) }
+        ensures any_moment { LeavesOnly D.moment D.left_since disk.old disk.new
+            (IsNoneOrEmpty self.now.geometry) }
+        ensures cause { HasCause (D.failures disk.old) (D.failures disk.new) result }
+    {
+        disk.write_at(GATE_AT as u64, &[OPEN_GATE])
+    }
+
+    /// Opens its superblock, where all else is stored: until this is stored too, a crash leaves no
+    /// cache or the empty one, at each moment and after a fault.
+    #[tactic(auto, using(cm_guards::proofs::Steps::settling))]
+    pub(crate) fn open<D: Disk>(&self, disk: &mut D) -> Result<(), DeviceFault>
+        requires lawful { IsGeometry self.now.geometry }
+        requires shut { D.contents disk.old ≡ shut_bytes self.now.geometry }
+        requires settled { IsSettled (D.contents disk.old) (D.unsynced disk.old) }
+        ensures written { OnOk result (D.contents disk.new ≡ new_bytes self.now.geometry) }
+        ensures stored { OnOk result (IsSettled (D.contents disk.new) (D.unsynced disk.new)) }
+        ensures images { EachImage (D.contents disk.new) (D.unsynced disk.new)
+            (IsNoneOrEmpty self.now.geometry) }
+        ensures any_moment { LeavesOnly D.moment D.left_since disk.old disk.new
+            (IsNoneOrEmpty self.now.geometry) }
+        ensures cause { HasCause (D.failures disk.old) (D.failures disk.new) result }
+    {
+        self.write_gate(disk)?;
+        disk.sync()
+    }
+}
