@@ -1,0 +1,7 @@
+//! Tests of `cm_recover`, over what it makes public.
+#![tactic(auto)]
+
+#[cfg(test)]
+mod found;
+#[cfg(test)]
+mod making;

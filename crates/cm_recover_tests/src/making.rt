@@ -1,0 +1,106 @@
+//! Making files, and stops at each device call.
+
+use crate::found::{EMPTY, Summary, bytes_of, found};
+use cm_disk::{Choice, Disk, FuseDisk, SimDisk};
+use cm_pool::Geometry;
+use cm_recover::{FormatFault, format};
+use cm_verdict::FileFault;
+use std::alloc::Global;
+use std::test::*;
+
+const NONE: Result<Summary, FileFault> = Err(FileFault::NotACache);
+
+#[test]
+fn a_new_file_is_the_empty_cache(rt: HostRuntime) -> Result<(), Fail> {
+    let alloc = rt.alloc();
+    for (top, roots, slots, long) in [
+        (8, 64, 4_096, 528_384),
+        (3, 1, 256, 36_864),
+        (12, 256, 65_536, 8_392_704),
+    ] {
+        let geometry = Geometry::new(top, roots, slots).ok_or("within the limits")?;
+        let mut disk = SimDisk::new(alloc);
+        assert_eq!(rt; format(alloc, &mut disk, geometry), Ok(()));
+        assert_eq!(rt; disk.len()?, long);
+        assert_eq!(rt; disk.syncs(), 2);
+        let bytes = bytes_of(alloc, &mut disk)?;
+        assert_eq!(rt; found(alloc, &bytes)?, EMPTY);
+    }
+    Ok(())
+}
+
+#[test]
+fn a_file_that_has_bytes_stays(rt: HostRuntime) -> Result<(), Fail> {
+    let alloc = rt.alloc();
+    let geometry = Geometry::new(3, 1, 256).ok_or("within the limits")?;
+    let mut disk = SimDisk::new(alloc);
+    disk.write_at(0, b"x")?;
+    assert_eq!(rt; format(alloc, &mut disk, geometry), Err(FormatFault::NotEmpty));
+    assert_eq!(rt; bytes_of(alloc, &mut disk)?.as_slice(), b"x".as_slice());
+    assert_eq!(rt; disk.syncs(), 0);
+    Ok(())
+}
+
+/// Lets so many calls through; a write that fails stores so many bytes.
+fn stopped(
+    alloc: Global,
+    pass: u64,
+    stores: usize,
+) -> Result<(Result<(), FormatFault>, SimDisk), Fail> {
+    let geometry = Geometry::new(3, 1, 256).ok_or("within the limits")?;
+    let mut fuse = FuseDisk::new(SimDisk::new(alloc), pass, stores);
+    let made = format(alloc, &mut fuse, geometry);
+    Ok((made, fuse.into_inner()))
+}
+
+/// How many calls are let through, how many bytes a write stores that fails, the length and the
+/// bytes that a crash leaves where it may, and what is found then.
+const LEFT: [(u64, usize, u64, &[u8], Result<Summary, FileFault>); 14] = [
+    // the length isn't told
+    (0, 0, 0, b"", NONE),
+    // the first write fails, its sync does
+    (1, 0, 36_864, b"", NONE),
+    (1, 5_000, 36_864, b"", NONE),
+    (1, 36_864, 36_864, b"", NONE),
+    (2, 0, 36_864, b"", NONE),
+    (2, 0, 4_095, b"", NONE),
+    (2, 0, 36_864, b"CMCACHE1", NONE),
+    // the gate's write fails, its sync does
+    (3, 0, 36_864, b"", NONE),
+    (3, 0, 36_864, b"\xA5", EMPTY),
+    (3, 1, 36_864, b"", EMPTY),
+    (3, 1, 36_864, b"\xA4", NONE),
+    (4, 0, 36_864, b"", EMPTY),
+    (4, 0, 36_864, b"\0", NONE),
+    // all is stored
+    (5, 0, 0, b"\0", EMPTY),
+];
+
+#[test]
+fn a_crash_leaves_no_cache_or_the_empty_one(rt: HostRuntime) -> Result<(), Fail> {
+    let alloc = rt.alloc();
+    for (pass, stores, len, fill, expected) in &LEFT {
+        let (made, disk) = stopped(alloc, *pass, *stores)?;
+        assert_eq!(rt; made.is_ok(), *pass == 5);
+        let choice = Choice {
+            len: *len,
+            fill: Vec::from_slice(alloc, fill)?,
+        };
+        let mut disk = disk.crash(alloc, &choice)?;
+        let bytes = bytes_of(alloc, &mut disk)?;
+        assert_eq!(rt; found(alloc, &bytes)?, *expected, "{pass} calls");
+    }
+    Ok(())
+}
+
+#[test]
+fn faults_have_their_texts(rt: HostRuntime) -> Result<(), Fail> {
+    for (fault, text) in [
+        (FormatFault::NotEmpty, "exists"),
+        (FormatFault::Device, "device"),
+        (FormatFault::NoMemory, "memory"),
+    ] {
+        assert_eq!(rt; fault.to_string(rt.alloc())?.as_str(), text);
+    }
+    Ok(())
+}
