@@ -1,0 +1,26 @@
+-- How many device calls a plan is.
+use Rattle.std.proofs.Common.{◌≡◌, ℕ, zero, suc, ◌+◌, [], ◌∷◌, ◌++◌, length, arith}
+use Rattle.std.proofs.lemmas.List.{length-append}
+use Rattle.cm_pool.specs.Geometry.{Sizes}
+use Rattle.cm_group.specs.Groups.{entries_in}
+use Rattle.cm_commit.specs.Committed.{end_slot}
+use Rattle.cm_commit.specs.GroupPlans.{root_writes, record_writes, roots_to_add, whole_roots}
+use Rattle.cm_commit.specs.GroupPlans.{slots_write}
+use Rattle.cm_commit.specs.Laws.{PlansHaveSteps}
+
+root-count : (sizes : Sizes) (from n : ℕ) → length (root_writes sizes from n) ≡ n
+root-count sizes from zero = omega arith
+root-count sizes from (suc n) = omega (arith, root-count sizes (from + 1) n)
+
+pub plans_have_steps : PlansHaveSteps
+plans_have_steps c len carried =
+    let entries = entries_in carried in
+    let roots = root_writes c.sizes (whole_roots c.sizes len) (roots_to_add c.sizes len entries) in
+    let records = record_writes c.sizes carried in
+    let slots = slots_write c.sizes c.framing.counting (end_slot c.framing) c.number entries ∷ [] in
+    omega (
+      arith,
+      length-append (roots ++ records) slots,
+      length-append roots records,
+      root-count c.sizes (whole_roots c.sizes len) (roots_to_add c.sizes len entries),
+    )

@@ -1,0 +1,12 @@
+pub mod Counting
+pub mod Slots
+pub mod Ranges
+pub mod Places
+pub mod Guards
+pub mod Writing
+pub mod Held
+pub mod Rights
+pub mod Gate
+pub mod Records
+pub mod Apart
+pub mod Turning

@@ -1,0 +1,6 @@
+pub mod Plans
+pub mod Committed
+pub mod Offers
+pub mod GroupPlans
+pub mod Guarding
+pub mod Laws
