@@ -10,3 +10,5 @@ pub mod Gate
 pub mod Records
 pub mod Apart
 pub mod Turning
+pub mod Above
+pub mod Applied

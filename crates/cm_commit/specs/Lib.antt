@@ -4,3 +4,4 @@ pub mod Offers
 pub mod GroupPlans
 pub mod Guarding
 pub mod Laws
+pub mod Keeping

@@ -2,6 +2,7 @@
 //! calls that store one, and what a crash leaves of it.
 #![tactic(auto)]
 
+mod applying;
 mod laws;
 
 pub use laws::{committed_is_guarded, groups_turn, plans_have_steps};
