@@ -1,3 +1,4 @@
 pub mod NewFile
 pub mod Making
+pub mod Opening
 pub mod Laws

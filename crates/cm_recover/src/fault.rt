@@ -1,9 +1,12 @@
-//! Why a file isn't made.
+//! Why a file isn't made, or isn't opened.
 
 ghost use Rattle.std.specs.Prelude.{◌≡◌};
 ghost use Rattle.cm_recover.specs.declared.fault.FormatFault.TheVariants as fault;
+ghost use Rattle.cm_recover.specs.declared.fault.OpenFault.TheVariants as open_fault;
+ghost use Rattle.cm_recover.specs.Opening.{fault_of};
 
 use cm_disk::DeviceFault;
+use cm_verdict::{Damage, FileFault};
 use std::alloc::AllocError;
 use thiserror::Error;
 
@@ -34,5 +37,50 @@ impl From<AllocError> for FormatFault {
 
     fn from(_error: AllocError) -> FormatFault {
         FormatFault::NoMemory
+    }
+}
+
+/// Why a file isn't opened. It stays as it was.
+#[derive(Clone, Copy, Debug, PartialEq, Eq, Error)]
+pub enum OpenFault {
+    /// The file is shorter than a superblock, or its first bytes or the gate of its superblock are
+    /// others.
+    #[error("not a cache")]
+    NotACache,
+    /// The file's first damage, with the slot where it was met, as in [`FileFault`].
+    #[error("damaged at slot {slot}")]
+    Damaged { what: Damage, slot: u32 },
+    /// The device failed.
+    #[error("device")]
+    Device,
+    /// An allocation failed.
+    #[error("memory")]
+    NoMemory,
+}
+
+impl From<FileFault> for OpenFault {
+    ghost from_gives = { λ fault e. e ≡ fault_of fault };
+
+    fn from(fault: FileFault) -> OpenFault {
+        match fault {
+            FileFault::NotACache => OpenFault::NotACache,
+            FileFault::Damaged { what, slot } => OpenFault::Damaged { what, slot },
+        }
+    }
+}
+
+impl From<DeviceFault> for OpenFault {
+    ghost from_gives = { λ _ e. e ≡ open_fault.Device };
+
+    fn from(_fault: DeviceFault) -> OpenFault {
+        OpenFault::Device
+    }
+}
+
+impl From<AllocError> for OpenFault {
+    ghost from_gives = { λ _ e. e ≡ open_fault.NoMemory };
+
+    fn from(_error: AllocError) -> OpenFault {
+        OpenFault::NoMemory
     }
 }

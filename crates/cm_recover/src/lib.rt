@@ -5,7 +5,9 @@ mod fault;
 mod laws;
 mod making;
 mod new_file;
+mod reading;
 
-pub use fault::FormatFault;
+pub use fault::{FormatFault, OpenFault};
 pub use laws::new_file_is_empty;
 pub use making::format;
+pub use reading::{FoundFile, read_found};

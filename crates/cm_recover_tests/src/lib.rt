@@ -5,3 +5,5 @@
 mod found;
 #[cfg(test)]
 mod making;
+#[cfg(test)]
+mod reading;

@@ -1,0 +1,22 @@
+-- Runs of reads, one behind the other, where the last one's fault is told.
+use Rattle.std.proofs.Common.{ℕ, List, inr, ◌⊎◌}
+use Rattle.cm_disk.specs.Disk.{Unsynced}
+use Rattle.cm_guards.specs.Calls.{Reads}
+use Rattle.cm_guards.proofs.Left.{reads_on, reads_less}
+
+module _ {D : Type 0} (moment : D → ℕ) (left_since : D → ℕ → List ℕ → Type 0)
+    (contents : D → List ℕ) (unsynced : D → Unsynced) (failures : D → ℕ) where
+  pub then_reads : (a b c : D) (F G : Type 0)
+      → Reads contents unsynced failures moment left_since a b F
+      → Reads contents unsynced failures moment left_since b c G
+      → Reads contents unsynced failures moment left_since a c G
+  then_reads a b c F G first second =
+      reads_less moment left_since contents unsynced failures a c (F ⊎ G) G (λ g. inr g)
+      (reads_on moment left_since contents unsynced failures a b c F G first second)
+
+  -- where it can't fail any more
+  pub no_more : (a b : D) (F G : Type 0) → (G → ⊥)
+      → Reads contents unsynced failures moment left_since a b F
+      → Reads contents unsynced failures moment left_since a b G
+  no_more a b F G never run =
+      reads_less moment left_since contents unsynced failures a b F G (λ g. absurd (never g)) run

@@ -1,0 +1,113 @@
+//! What a file holds without its records, by a run of reads.
+
+ghost use Rattle.std.specs.Prelude.{◌≡◌, ◌≤◌, ◌+◌, ◌*◌, ◌⊎◌, length, take, Err, IfOk, IfErr};
+ghost use Rattle.cm_guards.specs.Calls.{Reads};
+ghost use Rattle.cm_layout.specs.Framing.{part};
+ghost use Rattle.cm_verdict.specs.Found.{sizes_found as sizes_found_in, found_in};
+ghost use Rattle.cm_recover.specs.declared.fault.OpenFault.TheVariants as open_fault;
+ghost use Rattle.cm_recover.specs.Opening.{IsAnswer, found_in_halves, found_of};
+
+use crate::fault::OpenFault;
+use cm_disk::Disk;
+use cm_layout::{Half, SLOT_BYTES, SUPERBLOCK_BYTES, half_at};
+use cm_pool::Geometry;
+use cm_rows::Book;
+use cm_verdict::{Counting, HalfWalk, counting_half, sizes_found, walk_through};
+use std::alloc::Global;
+
+/// What is found in a file without its records: its sizes, the half that counts, and what lives by
+/// the entries of that half.
+#[derive(Drop)]
+pub struct FoundFile {
+    pub geometry: Geometry,
+    pub counts: Counting,
+    pub walk: HalfWalk,
+}
+
+// Reads so many bytes.
+#[tactic(auto, using(cm_guards::proofs::Left::reading))]
+fn read_part<D: Disk>(
+    alloc: Global,
+    disk: &mut D,
+    at: u64,
+    count: usize,
+) -> Result<Vec<u8>, OpenFault>
+    requires { at + count ≤ length (D.contents disk.old) }
+    ensures bytes { IfOk result (λ bytes. bytes.items ≡ part at count (D.contents disk.old)) }
+    ensures faults { IfErr result (λ e. (e ≡ open_fault.Device) ⊎ (e ≡ open_fault.NoMemory)) }
+    ensures reads { Reads D.contents D.unsynced D.failures D.moment D.left_since disk.old disk.new
+        (result ≡ Err open_fault.Device) }
+{
+    let mut bytes = Vec::from_elem(alloc, 0, count)?;
+    disk.read(at, &mut bytes)?;
+    Ok(bytes)
+}
+
+// Reads the superblock: the file's sizes.
+#[tactic(auto, using(cm_guards::proofs::Left::reading))]
+fn read_sizes<D: Disk>(alloc: Global, disk: &mut D) -> Result<Geometry, OpenFault>
+    ensures sizes { IsAnswer (λ g. g) result
+        (sizes_found_in (length (D.contents disk.old)) (take 4096 (D.contents disk.old))) }
+    ensures reads { Reads D.contents D.unsynced D.failures D.moment D.left_since disk.old disk.new
+        (result ≡ Err open_fault.Device) }
+{
+    let long = disk.len()?;
+    if long < SUPERBLOCK_BYTES as u64 {
+        return Err(OpenFault::NotACache);
+    }
+    let block = read_part(alloc, disk, 0, SUPERBLOCK_BYTES)?;
+    let geometry = sizes_found(long, &block)?;
+    Ok(geometry)
+}
+
+// The head of a half.
+fn first_slot(half: &[u8]) -> &[u8; SLOT_BYTES]
+    requires { 64 ≤ length half.now }
+    ensures { result.now ≡ take 64 half.now }
+{
+    match half.first_chunk::<SLOT_BYTES>() {
+        Some(slot) => slot,
+        None => unreachable!(),
+    }
+}
+
+// Walks through the half that counts.
+fn walk_halves(
+    alloc: Global,
+    geometry: Geometry,
+    zero: &[u8],
+    one: &[u8],
+) -> Result<FoundFile, OpenFault>
+    requires long_0 { length zero.now ≡ 64 * geometry.slots }
+    requires long_1 { length one.now ≡ 64 * geometry.slots }
+    ensures found { IsAnswer found_of result (found_in_halves geometry zero.now one.now) }
+    ensures in_memory { result ≡ Err open_fault.Device → ⊥ }
+{
+    let _lawful = geometry.top(); // so the proof knows that its sizes are within the limits
+    let counts = counting_half(geometry, first_slot(zero), first_slot(one))?;
+    let half = match counts.half {
+        Half::Zero => zero,
+        Half::One => one,
+    };
+    let book = Book::new(alloc, geometry)?;
+    let walk = walk_through(geometry, book, &counts, half)?;
+    Ok(FoundFile {
+        geometry,
+        counts,
+        walk,
+    })
+}
+
+/// What is found in a file without its records, or its first damage, by a run of reads: the
+/// superblock first, then both halves, whose bytes are dropped again. Nothing changes.
+pub fn read_found<D: Disk>(alloc: Global, disk: &mut D) -> Result<FoundFile, OpenFault>
+    ensures found { IsAnswer found_of result (found_in (D.contents disk.old)) }
+    ensures reads { Reads D.contents D.unsynced D.failures D.moment D.left_since disk.old disk.new
+        (result ≡ Err open_fault.Device) }
+{
+    let geometry = read_sizes(alloc, disk)?;
+    let size = SLOT_BYTES * geometry.slots() as usize;
+    let zero = read_part(alloc, disk, half_at(geometry, Half::Zero), size)?;
+    let one = read_part(alloc, disk, half_at(geometry, Half::One), size)?;
+    walk_halves(alloc, geometry, &zero, &one)
+}
