@@ -1,4 +1,5 @@
 pub mod Names
+pub mod Fingerprints
 pub mod Constants
 pub mod Runs
 pub mod Members

@@ -1,6 +1,6 @@
 -- The names of a class and of its super class, as `cm_class` has them; and the class's name out of
 -- the words of its record.
-use Rattle.std.specs.Prelude.{ℕ, List, [], drop, get_or, Option, Some, None}
+use Rattle.std.specs.Prelude.{ℕ, List, [], drop, get_or, Some, None}
 use Rattle.cm_record_layout.specs.Packing.{second_of}
 use Rattle.cm_record_reading.specs.Reading.{run_at}
 use Rattle.cm_record.specs.Runs.{name_run}

@@ -4,6 +4,7 @@
 
 mod code;
 mod constant;
+mod fingerprints;
 mod laws;
 mod member;
 mod names;
@@ -15,6 +16,7 @@ pub use cm_record_reading::{RecordFault, layout_determines_class};
 pub use cm_record_writing::RecordRefusal;
 pub use code::Code;
 pub use constant::Constant;
+pub use fingerprints::fingerprint;
 pub use laws::words_tell_name;
 pub use member::Member;
 pub use record::{Record, build};

@@ -10,6 +10,7 @@ ghost use Rattle.cm_record_layout.specs.Layout.{lay, limit, IsRecord, IsRecordOf
 ghost use Rattle.std.specs.Ordering.{nat_cmp};
 ghost use Rattle.std.specs.Cmp.Lexicographic.{slice_cmp};
 ghost use Rattle.cm_record.specs.Constants.{constant_kept};
+ghost use Rattle.cm_record.specs.Fingerprints.{fingerprint};
 ghost use Rattle.cm_record.specs.Members.{FindsMember};
 ghost use Rattle.cm_record.specs.Code.{HasCode, HasNoCode, code_in, run_place};
 ghost use Rattle.cm_class.specs.declared.class_file.Member.{Member as ClassMember};
@@ -17,6 +18,7 @@ ghost use Rattle.cm_class.specs.declared.class_file.Attribute.{Attribute};
 
 use crate::code::{Code, attribute_run, code_in_run, find_code, method_attributes};
 use crate::constant::{Constant, constant_at_index};
+use crate::fingerprints::run_fingerprint;
 use crate::member::{Member, find_member, member_at};
 use crate::names::{is_same_run, name_run, run_bytes};
 use crate::order::{cmp_run_to, cmp_runs};
@@ -218,6 +220,17 @@ impl Record {
     {
         let words = self.as_slice();
         cmp_run_to(words, name_run(words, second(words[1])), name)
+    }
+
+    /// The fingerprint of its class's name, as [`fingerprint`] makes it of the name's bytes.
+    ///
+    /// [`fingerprint`]: crate::fingerprint
+    pub fn name_fingerprint(&self, seed: u64) -> u32
+        ensures { (c : ClassFile) → IsRecordOf c self.now
+            → result ≡ fingerprint seed (class_name_of c) }
+    {
+        let words = self.as_slice();
+        run_fingerprint(seed, words, name_run(words, second(words[1])))
     }
 
     /// Whether the class of another record has the same name.

@@ -12,7 +12,7 @@ use cm_record_layout::word_of;
 
 /// The bytes behind the first eight.
 #[tactic(auto, using(std::proofs::lemmas::List::take_rest))]
-fn behind_eight(bytes: &[u8]) -> &[u8]
+pub(crate) fn behind_eight(bytes: &[u8]) -> &[u8]
     ensures { result.now ≡ drop (min (length bytes.now) 8) bytes.now }
 {
     &bytes[bytes.len().min(8)..]

@@ -1,4 +1,4 @@
-use Rattle.std.proofs.Common.{◌≡◌, ℕ, List, [], drop, get_or, Some, None, ap}
+use Rattle.std.proofs.Common.{◌≡◌, ℕ, List, [], get_or, Some, None, ap}
 use Rattle.cm_class.specs.declared.class_file.ClassFile.{ClassFile}
 use Rattle.cm_record_layout.specs.Packing.{second_of}
 use Rattle.cm_record_layout.specs.Layout.{IsRecordOf}

@@ -1,0 +1,73 @@
+//! Numbers that tell names apart at a glance.
+ghost use Rattle.std.specs.Prelude.{◌≡◌, ℕ, List};
+ghost use Rattle.cm_record_layout.specs.Packing.{packed};
+ghost use Rattle.cm_record.specs.Fingerprints.{further, folded, upper_half};
+ghost use Rattle.cm_record.specs.Fingerprints.{fingerprint as fingerprint_of};
+ghost use Rattle.cm_record.specs.Runs.{IsRunOf, HasRun};
+
+use crate::names::run_slice;
+use crate::utf8::behind_eight;
+use cm_record_layout::word_of;
+
+/// An odd number with its bits mixed, so that each word has a part in all that is above it.
+const STEP: u64 = 11_400_714_819_323_198_485;
+
+/// Another one.
+const SPREAD: u64 = 14_029_467_366_897_019_727;
+
+/// One word more.
+#[tactic(auto, unfolding(crate::specs::Fingerprints::further))]
+fn further(number: u64, word: u64) -> u64
+    ensures { result ≡ further number word }
+{
+    number.wrapping_mul(STEP).wrapping_add(word)
+}
+
+/// The upper half, once each bit had a part in it.
+#[tactic(auto, unfolding(crate::specs::Fingerprints::upper_half))]
+fn upper_half(number: u64) -> u32
+    ensures { result ≡ upper_half number }
+{
+    (number.wrapping_mul(SPREAD) >> 32) as u32
+}
+
+/// These words more.
+fn folded(from: u64, words: &[u64]) -> u64
+    ensures { result ≡ folded from words.now }
+{
+    let mut number = from;
+    for word in words {
+        number = further(number, *word);
+    }
+    number
+}
+
+/// The words of these bytes more.
+fn folded_bytes(from: u64, bytes: &[u8]) -> u64
+    ensures { result ≡ folded from (packed bytes.now) }
+{
+    let (mut number, mut left) = (from, bytes);
+    while !left.is_empty() {
+        number = further(number, word_of(left));
+        left = behind_eight(left);
+    }
+    number
+}
+
+/// A number of 32 bits that depends on the seed and on the bytes alone. Whoever picks both can make
+/// any of them meet, so names with the same number have to be compared.
+#[tactic(auto, unfolding(crate::specs::Fingerprints::fingerprint))]
+pub fn fingerprint(seed: u64, bytes: &[u8]) -> u32
+    ensures { result ≡ fingerprint_of seed bytes.now }
+{
+    upper_half(folded_bytes(further(seed, bytes.len() as u64), bytes))
+}
+
+/// The same of the bytes of a run.
+pub(crate) fn run_fingerprint(seed: u64, words: &[u64], run: (usize, usize)) -> u32
+    requires { HasRun words.now run }
+    ensures { (bytes : List ℕ) → IsRunOf words.now run bytes → result ≡ fingerprint_of seed bytes }
+{
+    let from = further(seed, run.1 as u64);
+    upper_half(folded(from, run_slice(words, run)))
+}
