@@ -1,4 +1,5 @@
 pub mod Living
+pub mod Marks
 pub mod Index
 pub mod Sought
 pub mod Sweep

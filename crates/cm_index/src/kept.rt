@@ -4,7 +4,9 @@ ghost use Rattle.std.specs.Prelude.{◌≡◌, ◌%◌, ◌^◌, ℕ, List, []};
 ghost use Rattle.std.specs.Ordering.{nat_cmp};
 ghost use Rattle.std.specs.Cmp.Lexicographic.{slice_cmp};
 ghost use Rattle.cm_index.specs.Index.{rank};
+ghost use Rattle.cm_index.specs.Marks.{mark_of};
 
+use cm_record::fingerprint;
 use std::cmp::Ordering;
 
 /// What a book keeps of a class, which tells the class's name.
@@ -32,21 +34,29 @@ pub trait Kept: Drop {
         ensures { result ≡ mark (rank owner) bytes.now };
 }
 
-/// The fingerprint of a loader's number alone.
-pub fn owner_fingerprint(owner: Option<u64>) -> u32
-    ensures { result ≡ rank owner % 2 ^ 32 }
+/// What stands for an owner in fingerprints.
+pub(crate) fn seed_of(owner: Option<u64>) -> u64
+    ensures { result ≡ rank owner % 2 ^ 64 }
 {
     match owner {
         None => 0,
-        Some(number) => ((number % 0x1_0000_0000 + 1) % 0x1_0000_0000) as u32,
+        Some(number) => number.wrapping_add(1),
     }
+}
+
+/// The fingerprint of a name and of whose it is.
+#[tactic(auto, unfolding(crate::specs::Marks::mark_of))]
+pub fn mark_of(owner: Option<u64>, name: &[u8]) -> u32
+    ensures { result ≡ mark_of (rank owner) name.now }
+{
+    fingerprint(seed_of(owner), name)
 }
 
 /// Nothing is kept: all classes have no name.
 impl Kept for () {
     ghost name = { λ nothing. [] };
 
-    ghost mark = { λ owner name. owner % 2 ^ 32 };
+    ghost mark = { mark_of };
 
     fn cmp_name(&self, _other: &()) -> Ordering {
         Ordering::Equal
@@ -61,10 +71,10 @@ impl Kept for () {
     }
 
     fn fingerprint(&self, owner: Option<u64>) -> u32 {
-        owner_fingerprint(owner)
+        mark_of(owner, &[])
     }
 
-    fn fingerprint_of(owner: Option<u64>, _bytes: &[u8]) -> u32 {
-        owner_fingerprint(owner)
+    fn fingerprint_of(owner: Option<u64>, bytes: &[u8]) -> u32 {
+        mark_of(owner, bytes)
     }
 }

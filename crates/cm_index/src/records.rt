@@ -1,12 +1,14 @@
 //! Records as what is kept of classes.
 
-ghost use Rattle.std.specs.Prelude.{◌≡◌, ◌%◌, ◌^◌};
+ghost use Rattle.std.specs.Prelude.{◌≡◌};
 ghost use Rattle.std.specs.Arc.{arc_value};
 ghost use Rattle.std.specs.Ordering.{nat_cmp};
 ghost use Rattle.std.specs.Cmp.Lexicographic.{slice_cmp};
 ghost use Rattle.cm_record.specs.Names.{class_name_in};
+ghost use Rattle.cm_index.specs.Index.{rank};
+ghost use Rattle.cm_index.specs.Marks.{mark_of};
 
-use crate::kept::{Kept, owner_fingerprint};
+use crate::kept::{Kept, mark_of, seed_of};
 use cm_record::{Record, words_tell_name};
 use std::alloc::Global;
 use std::cmp::Ordering;
@@ -15,7 +17,7 @@ use std::sync::Arc;
 impl Kept for Arc<Record, Global> {
     ghost name = { λ class. class_name_in (arc_value class) };
 
-    ghost mark = { λ owner name. owner % 2 ^ 32 };
+    ghost mark = { mark_of };
 
     fn cmp_name(&self, other: &Arc<Record, Global>) -> Ordering {
         cmp_records(self, other)
@@ -26,11 +28,11 @@ impl Kept for Arc<Record, Global> {
     }
 
     fn fingerprint(&self, owner: Option<u64>) -> u32 {
-        owner_fingerprint(owner)
+        record_mark(self, owner)
     }
 
-    fn fingerprint_of(owner: Option<u64>, _bytes: &[u8]) -> u32 {
-        owner_fingerprint(owner)
+    fn fingerprint_of(owner: Option<u64>, bytes: &[u8]) -> u32 {
+        mark_of(owner, bytes)
     }
 }
 
@@ -48,4 +50,13 @@ fn cmp_record_to(class: &Record, bytes: &[u8]) -> Ordering
     words_tell_name();
     let _words = class.words(); // so the proof knows that they are a record
     class.cmp_name_to(bytes)
+}
+
+#[tactic(auto, unfolding(crate::specs::Marks::mark_of))]
+fn record_mark(class: &Record, owner: Option<u64>) -> u32
+    ensures { result ≡ mark_of (rank owner) (class_name_in class.now) }
+{
+    words_tell_name();
+    let _words = class.words(); // so the proof knows that they are a record
+    class.name_fingerprint(seed_of(owner))
 }

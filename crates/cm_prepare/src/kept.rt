@@ -1,6 +1,6 @@
 //! Prepared classes as what is kept of live ones.
 
-ghost use Rattle.std.specs.Prelude.{◌≡◌, ◌%◌, ◌^◌};
+ghost use Rattle.cm_index.specs.Marks.{mark_of};
 ghost use Rattle.cm_record.specs.Names.{class_name_in};
 
 use crate::prepared::Prepared;
@@ -13,7 +13,7 @@ use std::sync::Arc;
 impl Kept for Prepared {
     ghost name = { class_name_in };
 
-    ghost mark = { λ owner name. owner % 2 ^ 32 };
+    ghost mark = { mark_of };
 
     fn cmp_name(&self, other: &Prepared) -> Ordering {
         Kept::cmp_name(self.record(), other.record())
