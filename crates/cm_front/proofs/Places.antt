@@ -115,14 +115,14 @@ free-apart p c d free used m =
     let roots : c.root ≡ d.root = sym in_c.same_root ∙ in_d.same_root in
     used.words m.1 in_d.from in_d.to (subst (λ (r : ℕ). IsFreeWord p r m.1) roots there)
 
-used-with-root : RootsKeepHeld → (p : FreeSpace) (d : Chunk) → IsUsedChunk p d
+pub used-with-root : RootsKeepHeld → (p : FreeSpace) (d : Chunk) → IsUsedChunk p d
     → IsUsedChunk (with_root p) d
 used-with-root keep p d used = (keep p (d ∷ []) (record { each = (used, tt); apart = (tt, tt) })).each.0
 
 -- what is fetched is free, in the pool or in one with a root more
-record IsFetchedFree (p : FreeSpace) (c : Chunk) : Type 0 where
-  block : IsBlock p.geometry.top p.geometry.roots c
-  apart : (d : Chunk) → IsUsedChunk p d → ¬ Meets c d
+pub record IsFetchedFree (p : FreeSpace) (c : Chunk) : Type 0 where
+  pub block : IsBlock p.geometry.top p.geometry.roots c
+  pub apart : (d : Chunk) → IsUsedChunk p d → ¬ Meets c d
 
 free-fetched : (p : FreeSpace) (c : Chunk) → IsFreeSpace p → IsFreeChunk p c → IsFetchedFree p c
 free-fetched p c lawful free = record {
@@ -135,7 +135,7 @@ free-fetched p c lawful free = record {
   apart = λ d used. free-apart p c d free used;
 }
 
-fetched_free : RootsKeepHeld → (p : FreeSpace) (wanted need : ℕ) (c : Chunk) (left : FreeSpace)
+pub fetched_free : RootsKeepHeld → (p : FreeSpace) (wanted need : ℕ) (c : Chunk) (left : FreeSpace)
     → IsFreeSpace p → Fetches p wanted need c left → IsFetchedFree p c
 fetched_free keep p wanted need c left lawful (inl w) = free-fetched p c lawful w.first.free
 fetched_free keep p wanted need c left lawful (inr (inl w)) = free-fetched p c lawful w.first.free
@@ -153,7 +153,7 @@ fetched_free keep p wanted need c left lawful (inr (inr w)) =
 
 -- ---- places
 
-some-top : (u : ℕ) (rows : List BareRow) (c : Chunk) (used : ℕ)
+pub some-top : (u : ℕ) (rows : List BareRow) (c : Chunk) (used : ℕ)
     → top_of u rows ≡ Some (record { chunk = c; used = used })
     → (is_last_chunk u c rows ≡ true) × (used ≡ used_words c rows)
 some-top u rows c used e = by_last (last_chunk u (classes_in rows)) e

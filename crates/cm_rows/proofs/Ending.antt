@@ -1,8 +1,7 @@
 -- A living row ends, and its chunk is given back where it is the first record there.
 use Rattle.std.proofs.Common.{◌≡◌, ℕ, zero, suc, ◌+◌, ◌<◌, Bool, true, false, cond, List, [], ◌∷◌, ◌++◌}
-use Rattle.std.proofs.Common.{map, length, drop, set, get_or, Some, None, refl, sym, ◌∙◌, ap, subst, arith, length-append}
-use Rattle.std.specs.List.{slice_get, AllByRecursion}
-use Rattle.std.proofs.lemmas.List.{drop_more}
+use Rattle.std.proofs.Common.{length, set, get_or, Some, None, refl, sym, ◌∙◌, ap, subst, arith, length-append}
+use Rattle.std.specs.List.{slice_get}
 use Rattle.cm_pool.specs.declared.chunk.Chunk.{Chunk}
 use Rattle.cm_pool.specs.Geometry.{Sizes}
 use Rattle.cm_pool.specs.FreeSpace.{FreeSpace, IsUsedChunk, with_chunk}
@@ -11,7 +10,6 @@ use Rattle.cm_layout.specs.Rows.{classes_in}
 use Rattle.cm_index.specs.declared.slot.Slot.{Slot}
 use Rattle.cm_index.specs.Living.{living}
 use Rattle.cm_rows.specs.Held.{Holds, first_chunks, own_chunk}
-use Rattle.cm_rows.specs.Links.{ended}
 use Rattle.cm_rows.proofs.Holding.{give-back}
 use Rattle.cm_rows.proofs.Giving.{firsts, classes-append, first-append, firsts-some, firsts-none}
 

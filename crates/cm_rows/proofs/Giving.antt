@@ -1,9 +1,9 @@
 -- Rows gone over one by one: their chunks are given back, and taken.
-use Rattle.std.proofs.Common.{◌≡◌, ℕ, zero, suc, add-one, ◌+◌, ◌<◌, Bool, true, false, cond, eqb}
-use Rattle.std.proofs.Common.{List, [], ◌∷◌, ◌++◌, map, length, take, drop, get_or, set, Some, None}
-use Rattle.std.proofs.Common.{refl, sym, ◌∙◌, ap, subst, arith, append_assoc, append-nil, inl, inr}
-use Rattle.std.specs.Prelude.{not, filter, ◌&&◌}
-use Rattle.std.proofs.lemmas.List.{take_more, drop_more, map-append, set-get_or}
+use Rattle.std.proofs.Common.{◌≡◌, ℕ, ◌+◌, ◌<◌, Bool, true, false, cond, eqb}
+use Rattle.std.proofs.Common.{List, [], ◌∷◌, ◌++◌, map, length, take, drop, get_or, Some, None}
+use Rattle.std.proofs.Common.{refl, sym, ◌∙◌, ap, subst, append-nil, inl, inr}
+use Rattle.std.specs.Prelude.{filter}
+use Rattle.std.proofs.lemmas.List.{take_more, drop_more, map-append}
 use Rattle.std.specs.List.{AllByRecursion}
 use Rattle.cm_pool.specs.Chunks.{Meets, IsChunk}
 use Rattle.cm_pool.specs.Lists.{Among, Pairwise}

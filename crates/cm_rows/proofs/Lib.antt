@@ -1,6 +1,7 @@
 pub mod Chunks
 pub mod Classes
 pub mod Loaders
+pub mod KeptPlaces
 pub mod Linking
 pub mod Holding
 pub mod RowFacts

@@ -4,8 +4,8 @@ use Rattle.std.proofs.Common.{List, [], ◌∷◌, ◌++◌, map, length, take, 
 use Rattle.std.proofs.Common.{refl, sym, ◌∙◌, ap, subst, arith, inl, inr, length-append, length-set, add-one}
 use Rattle.std.specs.Prelude.{not, ◌&&◌}
 use Rattle.std.specs.Option.{option_map}
-use Rattle.std.specs.List.{slice_get, remove, AllByRecursion}
-use Rattle.std.proofs.lemmas.Bool.{eqb-true, eq-eqb, cases_lt}
+use Rattle.std.specs.List.{slice_get, AllByRecursion}
+use Rattle.std.proofs.lemmas.Bool.{eqb-true, eq-eqb}
 use Rattle.std.proofs.lemmas.List.{length-map, take-append-le}
 use Rattle.std.proofs.Math.Seq.{take-append_seam, get_or-append_seam}
 use Rattle.std.proofs.Math.ListN.{get_or-append}
@@ -21,7 +21,7 @@ use Rattle.cm_index.specs.declared.slot.Slot.{Slot}
 use Rattle.cm_index.specs.Living.{living, unloaded, moved_slot}
 use Rattle.cm_index.proofs.Indexes.{get-map}
 use Rattle.cm_rows.specs.declared.live_loader.LiveLoader.{LiveLoader}
-use Rattle.cm_rows.specs.Loaders.{numbers_of}
+use Rattle.cm_rows.specs.Loaders.{numbers_of, items}
 use Rattle.cm_rows.specs.Links.{loader_in, place_behind, last_place, AreLinked, last_places, ended, places_left}
 use Rattle.cm_rows.proofs.Loaders.{ne-eqb}
 use Rattle.cm_rows.proofs.Holding.{each-among}
@@ -438,12 +438,26 @@ module _ {P : Type 0} where
           place-push v slots s ∙ ap (λ (b : Bool). cond (s.live && b) (Some (length slots)) (last_place v slots)) (of-is v s.item ∙ ne-eqb (loader_in s.item) v (λ same. n (sym same)))
           ∙ ap (λ (b : Bool). cond b (Some (length slots)) (last_place v slots)) (and-false s.live)
 
+  -- no row lives of a loader that is unloaded
+  place-unloaded : (u : ℕ) (slots : List (Slot (Row P))) → last_place u (map (unloaded u) slots) ≡ None
+  place-unloaded u [] = refl
+  place-unloaded u (s ∷ slots) =
+      ap (λ (o : Option ℕ). place_behind o (mine u (unloaded u s))) (place-unloaded u slots)
+      ∙ ap (λ (b : Bool). cond b (Some 0) None) (by_tests s.live (is_of u s.item))
+    where
+      by_tests : (a b : Bool) → ((a && not b) && b) ≡ false
+      by_tests true true = refl
+      by_tests true false = refl
+      by_tests false b = refl
+
   -- without a loader
-  pub places-remove : (u : ℕ) (slots : List (Slot (Row P))) (ls : List LiveLoader) (i : ℕ) (d : LiveLoader)
+  pub places-unloaded : (u : ℕ) (slots : List (Slot (Row P))) (ls : List LiveLoader) (i : ℕ) (d : LiveLoader)
       → Pairwise Below ls → i < length ls → (get_or ls i d).number ≡ u
-      → remove (last_places slots (numbers_of ls)) i ≡ last_places (map (unloaded u) slots) (numbers_of (remove ls i))
-  places-remove u slots [] i d h lt e = absurd (omega arith)
-  places-remove u slots (l ∷ ls) zero d h lt e = rest u slots ls (above ls l.number u e h.0)
+      → set (last_places slots (numbers_of ls)) i None ≡ last_places (map (unloaded u) slots) (numbers_of ls)
+  places-unloaded u slots [] i d h lt e = absurd (omega arith)
+  places-unloaded u slots (l ∷ ls) zero d h lt e =
+      ap (λ (o : Option ℕ). o ∷ last_places slots (numbers_of ls)) (sym (ap (λ (v : ℕ). last_place v (map (unloaded u) slots)) e ∙ place-unloaded u slots))
+      ∙ ap (λ (os : List (Option ℕ)). last_place l.number (map (unloaded u) slots) ∷ os) (rest u slots ls (above ls l.number u e h.0))
     where
       above : (ls : List LiveLoader) (n u : ℕ) → n ≡ u → AllByRecursion (λ m. n < m.number) ls → AllByRecursion (λ m. u < m.number) ls
       above [] n u e h = tt
@@ -455,9 +469,16 @@ module _ {P : Type 0} where
       rest u slots (m ∷ ls) h =
           ap (λ (o : Option ℕ). o ∷ last_places slots (numbers_of ls)) (sym (place-of_other u m.number slots (λ same. omega (arith, h.0, same))))
           ∙ ap (λ (os : List (Option ℕ)). last_place m.number (map (unloaded u) slots) ∷ os) (rest u slots ls h.1)
-  places-remove u slots (l ∷ ls) (suc i) d h lt e =
-      ap (λ (o : Option ℕ). o ∷ remove (last_places slots (numbers_of ls)) i) (sym (place-of_other u l.number slots (λ same. omega (arith, number-behind ls i d l h.0 (omega arith), e, same))))
-      ∙ ap (λ (os : List (Option ℕ)). last_place l.number (map (unloaded u) slots) ∷ os) (places-remove u slots ls i d h.1 (omega arith) e)
+  places-unloaded u slots (l ∷ ls) (suc i) d h lt e =
+      ap (λ (o : Option ℕ). o ∷ set (last_places slots (numbers_of ls)) i None) (sym (place-of_other u l.number slots (λ same. omega (arith, number-behind ls i d l h.0 (omega arith), e, same))))
+      ∙ ap (λ (os : List (Option ℕ)). last_place l.number (map (unloaded u) slots) ∷ os) (places-unloaded u slots ls i d h.1 (omega arith) e)
+
+  -- of the first loaders
+  pub places-take : (slots : List (Slot (Row P))) (n : ℕ) (ls : List LiveLoader)
+      → take n (last_places slots (numbers_of ls)) ≡ last_places slots (numbers_of (take n ls))
+  places-take slots zero ls = refl
+  places-take slots (suc n) [] = refl
+  places-take slots (suc n) (l ∷ ls) = ap (λ (os : List (Option ℕ)). last_place l.number slots ∷ os) (places-take slots n ls)
 
   -- what stands at a loader's place is its last place
   pub places-at : (slots : List (Slot (Row P))) (ls : List LiveLoader) (i : ℕ) (d : LiveLoader) (o : Option ℕ)
@@ -480,17 +501,18 @@ module _ {P : Type 0} where
   unloaded-ended u (z ∷ slots) (suc i) s there own = ap (λ l. unloaded u z ∷ l) (unloaded-ended u slots i s there own)
 
 -- no loader has a place among none
-pub places-none : (P : Type 0) (ls : List LiveLoader) → map (λ l. None) ls ≡ last_places {P = P} [] (numbers_of ls)
+pub places-none : (P : Type 0) (ls : List (Slot LiveLoader))
+    → map (λ l. None) ls ≡ last_places {P = P} [] (numbers_of (items ls))
 places-none P [] = refl
 places-none P (l ∷ ls) = ap (λ (os : List (Option ℕ)). None ∷ os) (places-none P ls)
 
-none-suc : (ls : List LiveLoader) (i : ℕ) → i < length ls
+none-suc : {X : Type 0} (ls : List X) (i : ℕ) → i < length ls
     → map {B = Option ℕ} (λ l. None) (take (suc i) ls) ≡ map (λ l. None) (take i ls) ++ None ∷ []
 none-suc [] i lt = absurd (omega arith)
 none-suc (l ∷ ls) zero lt = refl
 none-suc (l ∷ ls) (suc i) lt = ap (λ (os : List (Option ℕ)). None ∷ os) (none-suc ls i (omega arith))
 
-pub none-more : (ls : List LiveLoader) (i : ℕ) → i < length ls
+pub none-more : {X : Type 0} (ls : List X) (i : ℕ) → i < length ls
     → map {B = Option ℕ} (λ l. None) (take (i + 1) ls) ≡ map (λ l. None) (take i ls) ++ None ∷ []
 none-more ls i lt = ap (λ (n : ℕ). map {B = Option ℕ} (λ l. None) (take n ls)) (add-one i) ∙ none-suc ls i lt
 

@@ -1,27 +1,16 @@
--- The live loaders: what a search finds, and what a change of one does to what is kept of each.
-use Rattle.std.proofs.Common.{◌≡◌, ◌≢◌, ℕ, zero, suc, ◌<◌, ◌≤◌, ◌⊎◌, Bool, true, false, cond, eqb}
-use Rattle.std.proofs.Common.{List, [], ◌∷◌, ◌++◌, length, get_or, set, Option, None, Result, Ok}
-use Rattle.std.proofs.Common.{Err, IfSome, IfNone, inl, inr, refl, sym, ◌∙◌, ap, subst, arith}
-use Rattle.std.specs.Ordering.{nat_cmp, ordering_index}
-use Rattle.std.specs.Result.{result_ok}
+-- The live loaders: what a change of one does to what is kept of each.
+use Rattle.std.proofs.Common.{◌≡◌, ◌≢◌, ℕ, zero, suc, ◌<◌, Bool, true, false, cond, eqb}
+use Rattle.std.proofs.Common.{List, [], ◌∷◌, ◌++◌, length, get_or, set, Option, None}
+use Rattle.std.proofs.Common.{inl, inr, refl, sym, ◌∙◌, ap, subst, arith}
 use Rattle.std.specs.List.{remove, list_all, AllByRecursion}
 use Rattle.std.specs.Prelude.{not, filter, nat_lt, ◌&&◌}
-use Rattle.std.specs.List.Sorted.{IsSearchInRange, IsBinarySearchResult, IsNonDecreasingBy}
-use Rattle.std.proofs.lemmas.Cmp.{ranked}
-use Rattle.std.proofs.lemmas.Bool.{eqb-true, eq-eqb, ltb-true, lt-ltb, cases_lt}
-use Rattle.std.proofs.lemmas.Bool.Decides.{nat_tests}
+use Rattle.std.proofs.lemmas.Bool.{eqb-true, eq-eqb, ltb-true, lt-ltb}
 use Rattle.cm_pool.specs.Lists.{Among, Pairwise}
 use Rattle.cm_rows.specs.declared.live_loader.LastChunk.{LastChunk}
 use Rattle.cm_rows.specs.declared.live_loader.LiveLoader.{LiveLoader}
-use Rattle.cm_rows.specs.Loaders.{numbers_of, Rises, IsAt, IsAbsent, last_in}
+use Rattle.cm_rows.specs.Loaders.{numbers_of, IsAbsent, last_in}
 
--- ---- a search
-
-abbrev default : LiveLoader
-default = record { number = 0; last = None }
-
-abbrev number_at : List LiveLoader → ℕ → ℕ
-number_at ls i = (get_or ls i default).number
+-- ---- lists
 
 -- the default doesn't matter inside a list
 inside : (ls : List LiveLoader) (i : ℕ) (d e : LiveLoader) → i < length ls
@@ -46,26 +35,6 @@ rises-at [] i j d h lt within = absurd (omega arith)
 rises-at (l ∷ ls) i zero d h lt within = absurd (omega arith)
 rises-at (l ∷ ls) zero (suc j) d h lt within = each-at (Below l) ls j d h.0 (omega arith)
 rises-at (l ∷ ls) (suc i) (suc j) d h lt within = rises-at ls i j d h.1 (omega arith) (omega arith)
-
-rise : (ls : List LiveLoader) (n : ℕ) → Rises ls → IsNonDecreasingBy
-    (λ l. ordering_index (nat_cmp l.number n)) ls
-rise ls n h i j d le within =
-    elim (cases_lt i j) [
-      | inl lt ↦ let rises = rises-at ls i j d h.each lt within in grind (arith, nat_tests)
-      | inr ge ↦ let same : i ≡ j = omega arith in subst
-          (λ (k : ℕ). ordering_index (nat_cmp (get_or ls i d).number n) ≤ ordering_index (nat_cmp (get_or ls k d).number n)) same (omega arith)
-    ]
-
-pub searched : (ls : List LiveLoader) (n : ℕ) (r : Result ℕ ℕ) → Rises ls
-    → IsSearchInRange r (length ls) → IsBinarySearchResult (λ l. nat_cmp l.number n) ls r
-    → IfSome (result_ok r) (IsAt ls n) × IfNone (result_ok r) (IsAbsent ls n)
-searched ls n (Ok at) h within equal = (record { within = within; number_is = λ d. ranked _ n _ (sym (equal d)) }, tt)
-searched ls n (Err at) h within parted = (tt, record { none = λ k d lt same. elsewhere k d lt (cases_lt k at) same })
-  where
-    elsewhere : (k : ℕ) (d : LiveLoader) → k < length ls → (k < at) ⊎ (at ≤ k)
-        → (get_or ls k d).number ≢ n
-    elsewhere k d lt (inl before) same = let less : (get_or ls k d).number < n = ranked _ n _ (sym ((parted (rise ls n h)).0 k d (omega arith) before)) in omega arith
-    elsewhere k d lt (inr behind) same = let more : n < (get_or ls k d).number = ranked _ n _ (sym ((parted (rise ls n h)).1 k d behind lt)) in omega arith
 
 -- ---- what is kept of each loader
 

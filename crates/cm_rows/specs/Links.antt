@@ -61,4 +61,4 @@ pub record HasLinks {P : Type 0} (sizes : Sizes) (slots : List (Slot (Row P))) (
   pub few : length slots ≤ 2 * row_limit sizes
   pub room : 2 * row_limit sizes ≤ capacity
   pub before_room : 2 * row_limit sizes ≤ before_capacity
-  pub newest_room : row_limit sizes ≤ newest_capacity
+  pub newest_room : 2 * row_limit sizes ≤ newest_capacity

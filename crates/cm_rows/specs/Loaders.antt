@@ -1,8 +1,12 @@
--- The live loaders as a list that rises by number.
-use Rattle.std.specs.Prelude.{◌≡◌, ◌≢◌, ◌<◌, ℕ, List, [], ◌∷◌, Option, None, length, map}
-use Rattle.std.specs.Prelude.{if◌then◌else◌, ◌==◌}
-use Rattle.std.specs.List.{All, HoldsAt}
+-- The loaders as a list that rises by number, with those between them that live no more.
+use Rattle.std.specs.Prelude.{◌≡◌, ◌≢◌, ◌<◌, ◌≤◌, ◌+◌, ◌*◌, ℕ, List, [], ◌∷◌, Option, None, length, map}
+use Rattle.std.specs.Prelude.{if◌then◌else◌, ◌==◌, take, drop, slice_set, false}
+use Rattle.std.specs.List.{All, HoldsAt, AllByRecursion}
+use Rattle.cm_pool.specs.Geometry.{Sizes}
 use Rattle.cm_pool.specs.Lists.{Pairwise}
+use Rattle.cm_layout.specs.Rules.{row_limit}
+use Rattle.cm_index.specs.declared.slot.Slot.{Slot}
+use Rattle.cm_index.specs.Index.{LivesAt}
 use Rattle.cm_rows.specs.declared.live_loader.LastChunk.{LastChunk}
 use Rattle.cm_rows.specs.declared.live_loader.LiveLoader.{LiveLoader}
 
@@ -26,3 +30,38 @@ pub record IsAbsent (loaders : List LiveLoader) (number : ℕ) : Type 0 where
 abbrev pub last_in : ℕ → List LiveLoader → Option LastChunk
 last_in u [] = None
 last_in u (l ∷ loaders) = if l.number == u then l.last else last_in u loaders
+
+-- what stands at places, whether it lives or not
+abbrev pub items : {X : Type 0} → List (Slot X) → List X
+items slots = map (λ s. s.item) slots
+
+-- the loader of this number stands at this place, and lives
+pub record IsKept (loaders : List (Slot LiveLoader)) (number place : ℕ) : Type 0 where
+  pub at : IsAt (items loaders) number place
+  pub lives : LivesAt loaders place
+
+-- those from this place on live no more, and the one before it does
+pub record IsLivingEnd (loaders : List (Slot LiveLoader)) (place : ℕ) : Type 0 where
+  pub within : place ≤ length loaders
+  pub behind : AllByRecursion (λ s. s.live ≡ false) (drop place loaders)
+  pub last : (k : ℕ) → place ≡ k + 1 → LivesAt loaders k
+
+-- the one at this place lives no more, and those at the end are taken out that don't
+abbrev pub with_end : List (Slot LiveLoader) → ℕ → ℕ → List (Slot LiveLoader)
+with_end loaders at number =
+    slice_set loaders at (record { item = record { number = number; last = None }; live = false })
+
+pub record HasEnded (loaders : List (Slot LiveLoader)) (newest : List (Option ℕ)) (at number : ℕ)
+    (loaders_left : List (Slot LiveLoader)) (newest_left : List (Option ℕ)) : Type 0 where
+  pub count : ℕ
+  pub is_end : IsLivingEnd (with_end loaders at number) count
+  pub loaders_are : loaders_left ≡ take count (with_end loaders at number)
+  pub newest_are : newest_left ≡ take count (slice_set newest at None)
+
+-- the places of loaders rise by number, the last one lives, and there is room for as many as for
+-- rows
+pub record HasLoaders (sizes : Sizes) (loaders : List (Slot LiveLoader)) (capacity rows : ℕ) : Type 0 where
+  pub rises : Rises (items loaders)
+  pub last : (k : ℕ) → length loaders ≡ k + 1 → LivesAt loaders k
+  pub few : length loaders ≤ rows
+  pub room : 2 * row_limit sizes ≤ capacity

@@ -1,11 +1,13 @@
 //! The book of live rows.
 
-ghost use Rattle.std.specs.Prelude.{◌≡◌, IsTrue, IfOk, [], ◌∷◌, ◌++◌, Some, None, is_none, length};
+ghost use Rattle.std.specs.Prelude.{◌≡◌, ◌&&◌, IsTrue, IfOk, [], ◌∷◌, ◌++◌, Some, None, is_none, length};
 ghost use Rattle.std.specs.Prelude.{if◌then◌else◌};
 
 use crate::links::{link, make_room, push_place, relink, unload_rows};
-use crate::live_loader::{LastChunk, LiveLoader, copy_loaders, find, push_loader, set_last};
-use crate::place_rules::{has_room, is_inside, row_limit, take_place};
+use crate::live_loader::{
+    LastChunk, LiveLoader, copy_loaders, end_loader, find, push_loader, set_last,
+};
+use crate::place_rules::{has_room, is_free, is_inside, row_limit, take_place};
 use crate::rows::{copy_rows, give_all, move_rows, take_all};
 use crate::walk::Walk;
 use crate::whole_pool::whole_pool;
@@ -13,7 +15,7 @@ use cm_index::{
     IndexEntry, Kept, Slot, class_in, class_like, index_rows, is_new, loader_of, push_row,
 };
 use cm_layout::{ClassRow, Entry, EntryRule, LoaderRow, Move, Row};
-use cm_pool::{Geometry, Pool};
+use cm_pool::{Chunk, Geometry, Pool};
 use std::alloc::{AllocError, Global};
 use std::marker::Model;
 
@@ -25,9 +27,9 @@ use std::marker::Model;
 /// all chunks of rows, and an index of loaders and classes by name.
 ///
 /// The rows stand in places, twice as many as rows can live. An unloaded loader's rows are found by
-/// links, each to the one before it, and keep their places, with what is kept of their classes,
-/// until all places are taken; then those of rows that live no more are swept out at once. So an
-/// unload costs by the rows of its loader; a move alone goes over all rows.
+/// links, each to the one before it. They keep their places, with what is kept of their classes, as
+/// the loader keeps its own, until all places are taken; then what lives no more is swept out at
+/// once. So an unload costs by the rows of its loader; a move alone goes over all rows.
 #[derive(Drop)]
 pub struct Book<P: Kept> {
     geometry: Geometry,
@@ -40,15 +42,17 @@ pub struct Book<P: Kept> {
     index: Vec<IndexEntry>,
     /// Room to count places in while they are swept.
     places: Vec<u32>,
-    loaders: Vec<LiveLoader>,
+    /// The loaders, and between them those that live no more.
+    loaders: Vec<Slot<LiveLoader>>,
     /// Beside each loader the place of its last row.
     newest: Vec<Option<u32>>,
     pool: Pool,
 }
 
 impl<P: Kept> Model for Book<P> {
-    ghost use Rattle.std.specs.Prelude.{vec_capacity};
+    ghost use Rattle.std.specs.Prelude.{vec_capacity, length};
     ghost use Rattle.cm_rows.specs.Rows.{LiveRows};
+    ghost use Rattle.cm_rows.specs.Loaders.{items, HasLoaders};
     ghost use Rattle.cm_rows.specs.Book.{IsBook};
     ghost use Rattle.cm_rows.specs.Links.{HasLinks};
     ghost use Rattle.cm_index.specs.Index.{HasIndex};
@@ -58,9 +62,10 @@ impl<P: Kept> Model for Book<P> {
 
     ghost view = { λ b. record { sizes = b.geometry; rows = living b.slots.items } };
 
-    ghost invariant = { λ b. IsBook b.geometry (living b.slots.items) (vec_capacity b.slots) b.loaders.items (vec_capacity b.loaders) b.pool
+    ghost invariant = { λ b. IsBook b.geometry (living b.slots.items) (vec_capacity b.slots) (living b.loaders.items) (vec_capacity b.loaders) b.pool
         × HasIndex P.mark P.name b.geometry b.slots.items b.index.items (vec_capacity b.index) (vec_capacity b.places)
-        × HasLinks b.geometry b.slots.items (vec_capacity b.slots) b.count b.before.items (vec_capacity b.before) b.loaders.items b.newest.items (vec_capacity b.newest) };
+        × HasLinks b.geometry b.slots.items (vec_capacity b.slots) b.count b.before.items (vec_capacity b.before) (items b.loaders.items) b.newest.items (vec_capacity b.newest)
+        × HasLoaders b.geometry b.loaders.items (vec_capacity b.loaders) (length b.slots.items) };
 }
 
 impl<P: Kept> Book<P> {
@@ -69,7 +74,7 @@ impl<P: Kept> Book<P> {
     ghost use Rattle.cm_layout.specs.Rows.{rows_after, without_loader, moved};
     ghost use Rattle.cm_layout.specs.Rows.{number_of as number_of_name};
     ghost use Rattle.cm_layout.specs.Rules.{broken_rule, broken_live_rule, is_new_loader, is_live};
-    ghost use Rattle.cm_layout.specs.Rules.{move_fits};
+    ghost use Rattle.cm_layout.specs.Rules.{move_fits, is_chunk, is_unused};
     ghost use Rattle.cm_rows.specs.Rows.{is_above, last_of, class_of};
     ghost use Rattle.std.specs.Option.{option_copied};
 
@@ -82,8 +87,8 @@ impl<P: Kept> Book<P> {
         let before = Vec::with_capacity(alloc, 2 * limit)?;
         let index = Vec::with_capacity(alloc, 2 * limit)?;
         let places = Vec::with_capacity(alloc, 2 * limit)?;
-        let loaders = Vec::with_capacity(alloc, limit)?;
-        let newest = Vec::with_capacity(alloc, limit)?;
+        let loaders = Vec::with_capacity(alloc, 2 * limit)?;
+        let newest = Vec::with_capacity(alloc, 2 * limit)?;
         let pool = whole_pool(alloc, geometry)?;
         Ok(Book {
             geometry,
@@ -169,7 +174,7 @@ impl<P: Kept> Book<P> {
         ensures { result ≡ is_above number self.now.rows }
     {
         let count = self.loaders.len();
-        count == 0 || self.loaders[count - 1].number < number
+        count == 0 || self.loaders[count - 1].item.number < number
     }
 
     /// The chunk of a loader's last class, with its used words, if the loader has a class.
@@ -177,7 +182,16 @@ impl<P: Kept> Book<P> {
         ensures { result ≡ last_of number self.now.rows }
     {
         let at = find(&self.loaders, number)?;
-        self.loaders[at].last
+        self.loaders[at].item.last
+    }
+
+    /// Whether a chunk can be had: the region has it, and no row's record lies on a word of it.
+    pub fn is_unused(&mut self, chunk: &Chunk) -> bool
+        ensures unused { result
+            ≡ (is_chunk self.old.sizes chunk.now && is_unused chunk.now self.old.rows) }
+        ensures same { self.new ≡ self.old }
+    {
+        is_free(&mut self.pool, chunk)
     }
 
     /// Leaves no row.
@@ -222,13 +236,17 @@ impl<P: Kept> Book<P> {
             &mut self.before,
             &mut self.index,
             &mut self.places,
-            &self.loaders,
+            &mut self.loaders,
             &mut self.newest,
         );
         let next = self.slots.len() as u32;
         push_place(&mut self.newest, Some(next));
         push_place(&mut self.before, None);
-        push_loader(&mut self.loaders, row.number);
+        let loader = LiveLoader {
+            number: row.number,
+            last: None,
+        };
+        push_loader(&mut self.loaders, loader);
         push_row(&mut self.slots, &mut self.index, Row::Loader(row));
         self.count += 1;
         None
@@ -247,7 +265,7 @@ impl<P: Kept> Book<P> {
         if !is_inside(self.geometry, &row.place) {
             return Some(EntryRule::OnChunks);
         }
-        if !take_place(self.loaders[at].last, &row.place, &mut self.pool) {
+        if !take_place(self.loaders[at].item.last, &row.place, &mut self.pool) {
             return Some(EntryRule::OnChunks);
         }
         let used = row.place.offset + row.place.words;
@@ -257,12 +275,13 @@ impl<P: Kept> Book<P> {
             &mut self.before,
             &mut self.index,
             &mut self.places,
-            &self.loaders,
+            &mut self.loaders,
             &mut self.newest,
         );
+        let here = find(&self.loaders, row.loader).unwrap(); // what was before it may be swept out
         let next = self.slots.len() as u32;
-        link(&mut self.before, &mut self.newest, at, next);
-        set_last(&mut self.loaders, at, row.loader, row.place.chunk, used);
+        link(&mut self.before, &mut self.newest, here, next);
+        set_last(&mut self.loaders, here, row.loader, row.place.chunk, used);
         push_row(&mut self.slots, &mut self.index, Row::Class(row, kept));
         self.count += 1;
         None
@@ -278,8 +297,7 @@ impl<P: Kept> Book<P> {
         let last = self.newest[at];
         let ended = unload_rows(&mut self.slots, &self.before, number, last, &mut self.pool);
         self.count -= ended;
-        let _unloaded = self.loaders.remove(at);
-        let _last = self.newest.remove(at);
+        end_loader(&mut self.loaders, &mut self.newest, at, number);
         None
     }
 
@@ -290,7 +308,7 @@ impl<P: Kept> Book<P> {
         let Some(at) = find(&self.loaders, entry.loader) else {
             return Some(EntryRule::OnChunks);
         };
-        let Some(last) = self.loaders[at].last else {
+        let Some(last) = self.loaders[at].item.last else {
             return Some(EntryRule::OnChunks);
         };
         if !has_room(self.geometry, last, entry) || !self.pool.take(&entry.to) {

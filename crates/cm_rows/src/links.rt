@@ -10,7 +10,7 @@ ghost use Rattle.cm_index.specs.Index.{LivesAt, HasIndex};
 ghost use Rattle.cm_index.specs.Living.{living, swept, unloaded};
 ghost use Rattle.cm_rows.specs.Held.{Holds, first_chunks};
 ghost use Rattle.cm_rows.specs.Links.{loader_in, last_place, last_places, AreLinked, HasLinks, ended};
-ghost use Rattle.cm_rows.specs.Loaders.{Rises, numbers_of};
+ghost use Rattle.cm_rows.specs.Loaders.{Rises, numbers_of, items, HasLoaders};
 ghost use Rattle.cm_layout.specs.Rules.{row_limit as row_limit_of};
 
 use crate::live_loader::{LiveLoader, find};
@@ -88,7 +88,7 @@ fn loader_in<P>(row: &Row<P>) -> u64
 }
 
 // No place for each loader.
-fn no_places(newest: &mut Vec<Option<u32>>, loaders: &[LiveLoader])
+fn no_places(newest: &mut Vec<Option<u32>>, loaders: &[Slot<LiveLoader>])
     requires { length loaders.now ≤ vec_capacity newest.old }
     ensures newest { newest.new.items ≡ map (λ l. None) loaders.now }
     ensures capacity { vec_capacity newest.old ≤ vec_capacity newest.new }
@@ -112,17 +112,17 @@ pub fn push_place(places: &mut Vec<Option<u32>>, place: Option<u32>)
 pub fn relink<P>(
     before: &mut Vec<Option<u32>>,
     newest: &mut Vec<Option<u32>>,
-    loaders: &[LiveLoader],
+    loaders: &[Slot<LiveLoader>],
     slots: &[Slot<Row<P>>],
 )
     requires live { AllByRecursion (λ s. s.live ≡ true) slots.now }
-    requires rises { Rises loaders.now }
-    requires owned { AllByRecursion (λ row. Among (loader_in row) (numbers_of loaders.now)) (living slots.now) }
+    requires rises { Rises (items loaders.now) }
+    requires owned { AllByRecursion (λ row. Among (loader_in row) (numbers_of (living loaders.now))) (living slots.now) }
     requires fits { length slots.now ≤ 2 ^ 32 }
     requires room { length slots.now ≤ vec_capacity before.old }
     requires newest_room { length loaders.now ≤ vec_capacity newest.old }
     ensures linked { AreLinked slots.now before.new.items }
-    ensures newest { newest.new.items ≡ last_places slots.now (numbers_of loaders.now) }
+    ensures newest { newest.new.items ≡ last_places slots.now (numbers_of (items loaders.now)) }
     ensures capacity { vec_capacity before.old ≤ vec_capacity before.new }
     ensures newest_capacity { vec_capacity newest.old ≤ vec_capacity newest.new }
 {
@@ -134,40 +134,45 @@ pub fn relink<P>(
     }
 }
 
-// Takes the rows out that live no more.
-fn sweep_rows<P: Drop>(slots: &mut Vec<Slot<Row<P>>>)
+// Takes out what lives no more.
+fn sweep<T: Drop>(slots: &mut Vec<Slot<T>>)
     ensures slots { slots.new.items ≡ swept slots.old.items }
     ensures capacity { vec_capacity slots.new ≡ vec_capacity slots.old }
 {
     slots.retain(|slot| slot.live);
 }
 
-/// Where twice as many places are taken as rows can live, sweeps those out whose rows live no more.
+/// Where twice as many places are taken as rows can live, sweeps out the rows and the loaders that
+/// live no more.
 pub fn make_room<P: Kept>(
     geometry: Geometry,
     slots: &mut Vec<Slot<Row<P>>>,
     before: &mut Vec<Option<u32>>,
     index: &mut Vec<IndexEntry>,
     places: &mut Vec<u32>,
-    loaders: &[LiveLoader],
+    loaders: &mut Vec<Slot<LiveLoader>>,
     newest: &mut Vec<Option<u32>>,
 )
     requires lawful { IsGeometry geometry }
     requires few { length (living slots.old.items) < row_limit_of geometry }
-    requires loaders_few { length loaders.now ≤ row_limit_of geometry }
-    requires links { HasLinks geometry slots.old.items (vec_capacity slots.old) (length (living slots.old.items)) before.old.items (vec_capacity before.old) loaders.now newest.old.items (vec_capacity newest.old) }
+    requires loaders_few { length (living loaders.old.items) ≤ length (living slots.old.items) }
+    requires links { HasLinks geometry slots.old.items (vec_capacity slots.old) (length (living slots.old.items)) before.old.items (vec_capacity before.old) (items loaders.old.items) newest.old.items (vec_capacity newest.old) }
     requires index { HasIndex P.mark P.name geometry slots.old.items index.old.items (vec_capacity index.old) (vec_capacity places.old) }
-    requires rises { Rises loaders.now }
-    requires owned { AllByRecursion (λ row. Among (loader_in row) (numbers_of loaders.now)) (living slots.old.items) }
+    requires loaders { HasLoaders geometry loaders.old.items (vec_capacity loaders.old) (length slots.old.items) }
+    requires owned { AllByRecursion (λ row. Among (loader_in row) (numbers_of (living loaders.old.items))) (living slots.old.items) }
     ensures rows { living slots.new.items ≡ living slots.old.items }
-    ensures links { HasLinks geometry slots.new.items (vec_capacity slots.new) (length (living slots.new.items)) before.new.items (vec_capacity before.new) loaders.now newest.new.items (vec_capacity newest.new) }
+    ensures living_loaders { living loaders.new.items ≡ living loaders.old.items }
+    ensures links { HasLinks geometry slots.new.items (vec_capacity slots.new) (length (living slots.new.items)) before.new.items (vec_capacity before.new) (items loaders.new.items) newest.new.items (vec_capacity newest.new) }
     ensures index { HasIndex P.mark P.name geometry slots.new.items index.new.items (vec_capacity index.new) (vec_capacity places.new) }
+    ensures loaders { HasLoaders geometry loaders.new.items (vec_capacity loaders.new) (length slots.new.items) }
     ensures room { length slots.new.items < 2 * row_limit_of geometry }
     ensures capacity { vec_capacity slots.new ≡ vec_capacity slots.old }
+    ensures loaders_capacity { vec_capacity loaders.new ≡ vec_capacity loaders.old }
 {
     if slots.len() >= 2 * row_limit(geometry) {
         sweep_index(index, places, slots);
-        sweep_rows(slots);
+        sweep(slots);
+        sweep(loaders);
         relink(before, newest, loaders, slots);
     }
 }

@@ -1,9 +1,12 @@
-//! The live loaders, rising by number, each with its last chunk.
+//! The loaders, rising by number, each with its last chunk. One that lives no more keeps its place
+//! until the last one ends or all such are swept out, so no unload moves the others.
 
-ghost use Rattle.std.specs.Prelude.{◌≡◌, ◌<◌, ◌≤◌, IfSome, IfNone, Some, None, [], ◌∷◌, ◌++◌};
-ghost use Rattle.std.specs.Prelude.{length, slice_set, vec_len, vec_capacity};
-ghost use Rattle.cm_rows.specs.Loaders.{Rises, IsAt, IsAbsent};
+ghost use Rattle.std.specs.Prelude.{◌≡◌, ◌<◌, ◌≤◌, IfSome, IfNone, Some, None, [], ◌∷◌, ◌++◌, ◌+◌};
+ghost use Rattle.std.specs.Prelude.{length, slice_set, vec_len, vec_capacity, true};
+ghost use Rattle.cm_index.specs.Living.{living, swept};
+ghost use Rattle.cm_rows.specs.Loaders.{Rises, IsAt, IsAbsent, items, IsKept, HasEnded, IsLivingEnd};
 
+use cm_index::Slot;
 use cm_pool::Chunk;
 
 /// The chunk of a loader's last class.
@@ -14,7 +17,7 @@ pub struct LastChunk {
     pub used: u32,
 }
 
-/// A live loader.
+/// A loader.
 #[derive(Clone, Copy, Debug)]
 pub struct LiveLoader {
     pub number: u64,
@@ -22,44 +25,116 @@ pub struct LiveLoader {
     pub last: Option<LastChunk>,
 }
 
-/// Where the loader of a number stands.
-pub fn find(loaders: &[LiveLoader], number: u64) -> Option<usize>
-    requires { Rises loaders.now }
-    ensures found { IfSome result (IsAt loaders.now number) }
-    ensures absent { IfNone result (IsAbsent loaders.now number) }
+// Where the loader of a number stands or stood.
+fn search(loaders: &[Slot<LiveLoader>], number: u64) -> Option<usize>
+    requires { Rises (items loaders.now) }
+    ensures found { IfSome result (IsAt (items loaders.now) number) }
+    ensures absent { IfNone result (IsAbsent (items loaders.now) number) }
 {
     loaders
-        .binary_search_by_key(&number, |loader| loader.number)
+        .binary_search_by_key(&number, |slot| slot.item.number)
         .ok()
 }
 
-/// Puts a loader behind the others, where there is room for it.
-pub fn push_loader(loaders: &mut Vec<LiveLoader>, number: u64)
+/// Where the loader of a number stands, if it lives.
+pub fn find(loaders: &[Slot<LiveLoader>], number: u64) -> Option<usize>
+    requires { Rises (items loaders.now) }
+    ensures found { IfSome result (IsKept loaders.now number) }
+    ensures absent { IfNone result (IsAbsent (living loaders.now) number) }
+{
+    let at = search(loaders, number)?;
+    if loaders[at].live { Some(at) } else { None }
+}
+
+/// Puts a loader that lives behind the others, where there is room for it.
+pub fn push_loader(loaders: &mut Vec<Slot<LiveLoader>>, loader: LiveLoader)
     requires { vec_len loaders.old < vec_capacity loaders.old }
-    ensures loaders { loaders.new.items ≡ loaders.old.items ++ record { number = number; last = None } ∷ [] }
+    ensures loaders { loaders.new.items ≡ loaders.old.items ++ record { item = loader; live = true } ∷ [] }
     ensures capacity { vec_capacity loaders.old ≤ vec_capacity loaders.new }
 {
-    loaders.push(LiveLoader { number, last: None }).unwrap();
+    loaders
+        .push(Slot {
+            item: loader,
+            live: true,
+        })
+        .unwrap();
 }
 
 /// Keeps another last chunk of a loader.
-pub fn set_last(loaders: &mut Vec<LiveLoader>, at: usize, number: u64, chunk: Chunk, used: u32)
+pub fn set_last(
+    loaders: &mut Vec<Slot<LiveLoader>>,
+    at: usize,
+    number: u64,
+    chunk: Chunk,
+    used: u32,
+)
     requires { at < vec_len loaders.old }
-    ensures loaders { loaders.new.items ≡ slice_set loaders.old.items at (record { number = number; last = Some (record { chunk = chunk; used = used }) }) }
+    ensures loaders { loaders.new.items ≡ slice_set loaders.old.items at (record { item = record { number = number; last = Some (record { chunk = chunk; used = used }) }; live = true }) }
     ensures capacity { vec_capacity loaders.new ≡ vec_capacity loaders.old }
 {
-    loaders[at] = LiveLoader {
-        number,
-        last: Some(LastChunk { chunk, used }),
+    let last = Some(LastChunk { chunk, used });
+    loaders[at] = Slot {
+        item: LiveLoader { number, last },
+        live: true,
     };
 }
 
-/// Puts others in the place of the loaders, where there is room for them.
-pub fn copy_loaders(loaders: &mut Vec<LiveLoader>, others: &[LiveLoader])
-    requires { length others.now ≤ vec_capacity loaders.old }
-    ensures loaders { loaders.new.items ≡ others.now }
+/// Ends a loader. It keeps its place as long as one behind it lives.
+pub fn end_loader(
+    loaders: &mut Vec<Slot<LiveLoader>>,
+    newest: &mut Vec<Option<u32>>,
+    at: usize,
+    number: u64,
+)
+    requires within { at < vec_len loaders.old }
+    requires beside { vec_len newest.old ≡ vec_len loaders.old }
+    ensures ended { HasEnded loaders.old.items newest.old.items at number loaders.new.items newest.new.items }
+    ensures capacity { vec_capacity loaders.new ≡ vec_capacity loaders.old }
+    ensures newest_capacity { vec_capacity newest.new ≡ vec_capacity newest.old }
+{
+    loaders[at] = Slot {
+        item: LiveLoader { number, last: None },
+        live: false,
+    };
+    newest[at] = None;
+    let count = living_end(loaders);
+    loaders.truncate(count);
+    newest.truncate(count);
+}
+
+// How many there are up to the last one that lives.
+fn living_end(loaders: &[Slot<LiveLoader>]) -> usize
+    ensures { IsLivingEnd loaders.now result }
+{
+    let mut count = loaders.len();
+    while count > 0 {
+        if loaders[count - 1].live {
+            return count;
+        }
+        count -= 1;
+    }
+    0
+}
+
+/// Puts the living ones of others in the place of the loaders, where there is room for them.
+pub fn copy_loaders(loaders: &mut Vec<Slot<LiveLoader>>, others: &[Slot<LiveLoader>])
+    requires { length (living others.now) ≤ vec_capacity loaders.old }
+    ensures loaders { loaders.new.items ≡ swept others.now }
     ensures capacity { vec_capacity loaders.old ≤ vec_capacity loaders.new }
 {
     loaders.clear();
-    loaders.extend_from_slice(others).unwrap();
+    for slot in others {
+        push_living(loaders, slot);
+    }
+}
+
+// Puts a loader behind the others if it lives, where there is room for it.
+fn push_living(loaders: &mut Vec<Slot<LiveLoader>>, slot: &Slot<LiveLoader>)
+    requires { vec_len loaders.old + length (living (slot.now ∷ [])) ≤ vec_capacity loaders.old }
+    ensures loaders { loaders.new.items ≡ loaders.old.items ++ swept (slot.now ∷ []) }
+    ensures capacity { vec_capacity loaders.old ≤ vec_capacity loaders.new }
+{
+    if slot.live {
+        push_loader(loaders, slot.item);
+    }
 }

@@ -2,12 +2,13 @@
 
 ghost use Rattle.std.specs.Prelude.{◌≡◌, ◌+◌, ◌&&◌, ◌↔◌, IsTrue, Some, MatchBool, nat_le};
 ghost use Rattle.cm_pool.specs.Chunks.{chunk_size, same_chunk};
+ghost use Rattle.cm_pool.specs.FreeSpace.{IsFreeChunk};
 ghost use Rattle.cm_layout.specs.Rules.{is_chunk, row_limit as row_limit_of};
 ghost use Rattle.cm_rows.specs.Held.{TakesPlace, HasNoPlace};
 
 use crate::live_loader::LastChunk;
 use cm_layout::Move;
-use cm_pool::{Chunk, Geometry, Place, Pool};
+use cm_pool::{Chunk, Geometry, Place, Pool, giving_back_restores, held_chunks_come_and_go};
 
 /// How many rows can live: half of a half's slots.
 pub fn row_limit(geometry: Geometry) -> usize
@@ -39,6 +40,20 @@ pub fn take_place(last: Option<LastChunk>, place: &Place, pool: &mut Pool) -> bo
         return true;
     }
     place.offset == 0 && pool.take(&place.chunk)
+}
+
+/// Whether the pool has a chunk, with all its words free.
+pub fn is_free(pool: &mut Pool, chunk: &Chunk) -> bool
+    ensures free { IsTrue result ↔ IsFreeChunk pool.old chunk.now }
+    ensures same { pool.new ≡ pool.old }
+{
+    let is_free = pool.take(chunk);
+    if is_free {
+        held_chunks_come_and_go();
+        giving_back_restores();
+        pool.give(*chunk);
+    }
+    is_free
 }
 
 // Whether the place is the next one on a loader's last chunk.

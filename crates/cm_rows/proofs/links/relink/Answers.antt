@@ -2,8 +2,9 @@ use Rattle.std.proofs.Common.{◌≡◌, ◌<◌, ◌+◌, ℕ, List, ◌++◌, 
 use Rattle.std.proofs.lemmas.List.{take_more}
 use Rattle.cm_pool.specs.Lists.{Among}
 use Rattle.cm_rows.specs.declared.live_loader.LiveLoader.{LiveLoader}
+use Rattle.cm_index.specs.Living.{living}
 use Rattle.cm_rows.specs.Links.{loader_in, last_place, AreLinked, last_places}
-use Rattle.cm_rows.specs.Loaders.{numbers_of, IsAt, IsAbsent}
+use Rattle.cm_rows.specs.Loaders.{numbers_of, IsAbsent, IsKept, items}
 use Rattle.cm_rows.proofs.Loaders.{absent-among}
 use Rattle.cm_rows.proofs.Linking.{linked-push, linked-none, places-push, places-at, places-none, all-living}
 use Rattle.cm_rows.proofs.links.relink.Goals as goal
@@ -27,7 +28,7 @@ loop-at-init g c =
 pub unwrap-loader-requires : goal.unwrap-loader-requires
 unwrap-loader-requires g c =
     let slots = c.args.slots.now in
-    let ls = c.args.loaders.now in
+    let ls = living c.args.loaders.now in
     let i = c.loop-at.at in
     let within : i < length slots = omega (arith, c.loop-at-test.true) in
     let own = all-living (λ row. Among (loader_in row) (numbers_of ls)) slots i c.index-slots-at.result c.requires.owned c.requires.live within in
@@ -37,13 +38,14 @@ pub loop-at-preserved : goal.loop-at-preserved
 loop-at-preserved g c =
     let h = c.loop-at.invariant in
     let slots = c.args.slots.now in
-    let ls = c.args.loaders.now in
+    let ls = items c.args.loaders.now in
     let i = c.loop-at.at in
     let s = get_or slots i c.index-slots-at.result in
     let place = c.unwrap-loader.result in
     let within : i < length slots = omega (arith, c.loop-at-test.true) in
-    let own = all-living (λ row. Among (loader_in row) (numbers_of ls)) slots i c.index-slots-at.result c.requires.owned c.requires.live within in
-    let at : IsAt ls c.loader_in.result place = subst (λ (o : Option ℕ). IfSome o (IsAt ls c.loader_in.result)) c.unwrap-loader.ensures c.find.ensures.found in
+    let own = all-living (λ row. Among (loader_in row) (numbers_of (living c.args.loaders.now))) slots i c.index-slots-at.result c.requires.owned c.requires.live within in
+    let kept : IsKept c.args.loaders.now c.loader_in.result place = subst (λ (o : Option ℕ). IfSome o (IsKept c.args.loaders.now c.loader_in.result)) c.unwrap-loader.ensures c.find.ensures.found in
+    let at = kept.at in
     let number : (get_or ls place nobody).number ≡ loader_in s.item = at.number_is nobody ∙ c.loader_in.ensures in
     let more : take (i + 1) slots ≡ take i slots ++ s ∷ [] = take_more slots i c.index-slots-at.result within in
     let before : get_or c.loop-at.newest.items place None ≡ last_place (loader_in s.item) (take i slots) =

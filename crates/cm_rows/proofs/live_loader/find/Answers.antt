@@ -1,18 +1,12 @@
-use Rattle.std.proofs.Common.{rules}
-use Rattle.std.proofs.lemmas.List.Sorted.{answers_always}
-use Rattle.cm_rows.proofs.Loaders.{searched}
+use Rattle.cm_rows.proofs.KeptPlaces.{absent-living, absent-dead, dead-any}
 use Rattle.cm_rows.proofs.live_loader.find.Goals as goal
 
-pub returns-clause-found : goal.returns-clause-found
-returns-clause-found c =
-    let facts = c.binary_search_by_key.ensures in
-    let by_key = facts.position (λ l. l.number) (answers_always _ _ _
-    (λ f a r g called. search rules)) in
-    rw c.ok.ensures.value ((searched c.args.loaders.now c.args.number c.binary_search_by_key.result c.requires facts.bound by_key).0)
+pub returns-in_err-at-clause-absent : goal.returns-in_err-at-clause-absent
+returns-in_err-at-clause-absent c =
+    rw c.from_residual.ensures (absent-living c.args.loaders.now c.args.number c.in_err-at.ensures.absent)
 
-pub returns-clause-absent : goal.returns-clause-absent
-returns-clause-absent c =
-    let facts = c.binary_search_by_key.ensures in
-    let by_key = facts.position (λ l. l.number) (answers_always _ _ _
-    (λ f a r g called. search rules)) in
-    rw c.ok.ensures.value ((searched c.args.loaders.now c.args.number c.binary_search_by_key.result c.requires facts.bound by_key).1)
+pub returns-else-loaders-at-clause-absent : goal.returns-else-loaders-at-clause-absent
+returns-else-loaders-at-clause-absent c =
+    let found = c.in_ok-at.ensures.found in
+    absent-dead c.args.loaders.now c.args.number c.in_ok-at.at c.requires found
+    (dead-any c.args.loaders.now c.args.number c.in_ok-at.at _ found c.if-loaders-at.false)

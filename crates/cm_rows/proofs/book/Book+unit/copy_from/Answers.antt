@@ -10,7 +10,10 @@ use Rattle.cm_rows.specs.Rows.{LiveRows}
 use Rattle.cm_rows.specs.Held.{Holds, first_chunks}
 use Rattle.cm_rows.specs.Book.{IsBook}
 use Rattle.cm_rows.proofs.Books.{bared, loaders-at_most}
-use Rattle.cm_rows.proofs.Placed.{owned-rows}
+use Rattle.cm_index.proofs.Living.{living-swept, swept-live, length-swept}
+use Rattle.cm_rows.specs.Loaders.{Rises}
+use Rattle.cm_rows.proofs.KeptPlaces.{items-swept, rises-living, each-lives}
+use Rattle.cm_rows.proofs.Placed.{owned-rows, loaders-fewer}
 use Rattle.cm_rows.proofs.book.Book+unit.copy_from.Given.{Over}
 use Rattle.cm_rows.proofs.book.Book+unit.copy_from.Goals as goal
 use Rattle.cm_rows.proofs.book.Book+unit.copy_from.Goals.{After-copy_rows, After-copy_loaders}
@@ -34,8 +37,8 @@ pub copy_loaders-requires : goal.copy_loaders-requires
 copy_loaders-requires g c =
     let o = c.other.inside in
     let at = goal.at.copy_loaders-requires g c in
-    let fewer = loaders-at_most o.geometry (living o.slots.items) (vec_capacity o.slots) o.loaders.items (vec_capacity o.loaders) o.pool c.other.invariant.0 in
-    rw c.deref-5.ensures.value (omega (arith, fewer, c.self.invariant.0.loaders_room, ap row_limit (same g at.After-copy_rows)))
+    let fewer = loaders-at_most o.geometry (living o.slots.items) (vec_capacity o.slots) (living o.loaders.items) (vec_capacity o.loaders) o.pool c.other.invariant.0 in
+    rw c.deref-5.ensures.value (omega (arith, fewer, c.self.invariant.3.room, ap row_limit (same g at.After-copy_rows)))
 
 pub index_rows-requires-clause-live : goal.index_rows-requires-clause-live
 index_rows-requires-clause-live g c = rw c.deref-4.ensures.value c.copy_rows.ensures.live
@@ -50,46 +53,54 @@ index_rows-requires-clause-room g c =
 
 -- the rows of the other book make a book
 book : (g : Over) (c : After-copy_loaders g) → c.self.inside.geometry ≡ c.other.inside.geometry
-    → IsBook c.self.inside.geometry (bare (living c.other.inside.slots.items)) (vec_capacity c.copy_rows.new.slots) c.other.inside.loaders.items (vec_capacity c.copy_loaders.new.loaders) c.take_all.new.pool
+    → IsBook c.self.inside.geometry (bare (living c.other.inside.slots.items)) (vec_capacity c.copy_rows.new.slots) (living c.other.inside.loaders.items) (vec_capacity c.copy_loaders.new.loaders) c.take_all.new.pool
 book g c same =
     let o = c.other.inside in
     let sizes = c.self.inside.geometry in
     let rs = living o.slots.items in
-    let h : IsBook sizes rs (vec_capacity o.slots) o.loaders.items (vec_capacity o.loaders) o.pool =
-    subst (λ (s : Sizes). IsBook s rs (vec_capacity o.slots) o.loaders.items (vec_capacity o.loaders) o.pool) (sym same) c.other.invariant.0 in
+    let h : IsBook sizes rs (vec_capacity o.slots) (living o.loaders.items) (vec_capacity o.loaders) o.pool =
+    subst (λ (s : Sizes). IsBook s rs (vec_capacity o.slots) (living o.loaders.items) (vec_capacity o.loaders) o.pool) (sym same) c.other.invariant.0 in
     let taken = rw c.deref-2.ensures.value at c.take_all.ensures in
     let holds : Holds sizes c.take_all.new.pool (first_chunks (classes_in rs)) =
     subst (λ (s : Sizes). Holds s c.take_all.new.pool (first_chunks (classes_in rs))) (c.give_all.ensures.geometry ∙ c.self.invariant.0.live.holds.geometry) taken in
     let room : row_limit sizes ≤ vec_capacity c.copy_rows.new.slots = omega (arith, c.self.invariant.0.room, c.copy_rows.ensures.capacity) in
     let also : row_limit sizes ≤ vec_capacity c.copy_loaders.new.loaders = omega (arith, c.self.invariant.0.loaders_room, c.copy_loaders.ensures.capacity) in
-    bared sizes rs (vec_capacity o.slots) (vec_capacity c.copy_rows.new.slots) o.loaders.items (vec_capacity o.loaders) (vec_capacity c.copy_loaders.new.loaders) o.pool c.take_all.new.pool h room also holds
+    bared sizes rs (vec_capacity o.slots) (vec_capacity c.copy_rows.new.slots) (living o.loaders.items) (vec_capacity o.loaders) (vec_capacity c.copy_loaders.new.loaders) o.pool c.take_all.new.pool h room also holds
+
+pub relink-requires-clause-rises : goal.relink-requires-clause-rises
+relink-requires-clause-rises g c =
+    let o = c.other.inside in
+    rw (c.deref-6.ensures.value, c.copy_loaders.ensures.loaders, c.deref-5.ensures.value, items-swept o.loaders.items) (rises-living o.loaders.items c.other.invariant.3.rises)
 
 pub relink-requires-clause-owned : goal.relink-requires-clause-owned
 relink-requires-clause-owned g c =
     let at = goal.at.relink-requires-clause-owned g c in
     let o = c.other.inside in
-    rw (c.deref-6.ensures.value, c.deref-7.ensures.value, c.copy_loaders.ensures.loaders, c.deref-5.ensures.value, rows g at.After-copy_rows)
-    (owned-rows c.self.inside.geometry (bare (living o.slots.items)) (vec_capacity c.copy_rows.new.slots) o.loaders.items (vec_capacity c.copy_loaders.new.loaders) c.take_all.new.pool (book g at.After-copy_loaders (same g at.After-copy_rows)))
+    rw (c.deref-6.ensures.value, c.deref-7.ensures.value, c.copy_loaders.ensures.loaders, c.deref-5.ensures.value, living-swept o.loaders.items, rows g at.After-copy_rows)
+    (owned-rows c.self.inside.geometry (bare (living o.slots.items)) (vec_capacity c.copy_rows.new.slots) (living o.loaders.items) (vec_capacity c.copy_loaders.new.loaders) c.take_all.new.pool (book g at.After-copy_loaders (same g at.After-copy_rows)))
 
 pub relink-requires-clause-newest_room : goal.relink-requires-clause-newest_room
 relink-requires-clause-newest_room g c =
     let at = goal.at.relink-requires-clause-newest_room g c in
     let o = c.other.inside in
-    let fewer = loaders-at_most o.geometry (living o.slots.items) (vec_capacity o.slots) o.loaders.items (vec_capacity o.loaders) o.pool c.other.invariant.0 in
-    rw (c.deref-6.ensures.value, c.copy_loaders.ensures.loaders, c.deref-5.ensures.value) (omega (arith, fewer, c.self.invariant.2.newest_room, ap row_limit (same g at.After-copy_rows)))
+    let fewer = loaders-at_most o.geometry (living o.slots.items) (vec_capacity o.slots) (living o.loaders.items) (vec_capacity o.loaders) o.pool c.other.invariant.0 in
+    rw (c.deref-6.ensures.value, c.copy_loaders.ensures.loaders, c.deref-5.ensures.value) (omega (arith, fewer, length-swept o.loaders.items, c.self.invariant.2.newest_room, ap row_limit (same g at.After-copy_rows)))
 
 pub invariant_of-self : goal.invariant_of-self
 invariant_of-self g c =
     let at = goal.at.invariant_of-self g c in
     let o = c.other.inside in
+    let ls = o.loaders.items in
     let sizes = c.self.inside.geometry in
     let is = rows g at.After-copy_rows in
     let less = few g at.After-copy_rows in
     let index = rw c.deref-4.ensures.value at c.index_rows.ensures.index in
     let linked = rw c.deref-7.ensures.value at c.relink.ensures.linked in
     let lasts = rw (c.deref-7.ensures.value, c.deref-6.ensures.value) at c.relink.ensures.newest in
+    let copied = rw c.deref-5.ensures.value at c.copy_loaders.ensures.loaders in
+    let fewer = loaders-fewer o.geometry (living o.slots.items) (vec_capacity o.slots) (living ls) (vec_capacity o.loaders) o.pool c.other.invariant.0 in
     let whole = book g at.After-copy_loaders (same g at.After-copy_rows) in (
-      rw (is, c.copy_loaders.ensures.loaders, c.deref-5.ensures.value) whole,
+      rw (is, copied, living-swept ls) whole,
       record {
         index = index;
         unique = subst AreUnique (sym is) (unique-bare (living o.slots.items) c.other.invariant.1.unique);
@@ -105,4 +116,10 @@ invariant_of-self g c =
         before_room = omega (arith, c.self.invariant.2.before_room, c.relink.ensures.capacity);
         newest_room = omega (arith, c.self.invariant.2.newest_room, c.relink.ensures.newest_capacity);
       },
+      rw (copied) (record {
+        rises = subst Rises (sym (items-swept ls)) (rises-living ls c.other.invariant.3.rises);
+        last = λ k e. each-lives k (swept-live ls) (omega (arith, e));
+        few = omega (arith, length-swept ls, fewer, c.copy_rows.ensures.count, ap (λ l. length (living l)) c.deref-3.ensures.value);
+        room = omega (arith, c.self.invariant.3.room, c.copy_loaders.ensures.capacity);
+      }),
     )

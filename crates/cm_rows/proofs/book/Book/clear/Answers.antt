@@ -1,4 +1,4 @@
-use Rattle.std.proofs.Common.{◌≡◌, ◌≤◌, ◌*◌, List, [], length, vec_capacity, refl, sym, ap, subst, arith}
+use Rattle.std.proofs.Common.{[], refl, subst, arith}
 use Rattle.cm_pool.specs.Geometry.{Sizes}
 use Rattle.cm_index.proofs.Indexes.{index-none}
 use Rattle.cm_rows.specs.Held.{Holds}
@@ -37,5 +37,11 @@ invariant_of-self g c =
         room = omega (arith, c.self.invariant.2.room, c.clear.ensures.capacity);
         before_room = omega (arith, c.self.invariant.2.before_room, c.clear-2.ensures.capacity);
         newest_room = omega (arith, c.self.invariant.2.newest_room, c.clear-5.ensures.capacity);
+      },
+      record {
+        rises = record { each = tt };
+        last = λ k e. absurd (omega (arith, e));
+        few = omega arith;
+        room = omega (arith, c.self.invariant.3.room, c.clear-4.ensures.capacity);
       },
     )

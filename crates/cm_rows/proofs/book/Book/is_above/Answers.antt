@@ -1,8 +1,9 @@
-use Rattle.std.proofs.Common.{◌≡◌, ◌-◌, suc, ℕ, List, length, sym, ap, ◌∙◌, arith}
+use Rattle.std.proofs.Common.{◌≡◌, ◌+◌, ◌-◌, suc, ℕ, List, length, sym, ap, ◌∙◌, arith}
 use Rattle.std.specs.Prelude.{nat_lt}
 use Rattle.std.specs.List.{list_all}
 use Rattle.cm_rows.specs.declared.live_loader.LiveLoader.{LiveLoader}
-use Rattle.cm_rows.proofs.Loaders.{below-last}
+use Rattle.cm_index.specs.declared.slot.Slot.{Slot}
+use Rattle.cm_rows.proofs.KeptPlaces.{above-living}
 use Rattle.cm_rows.proofs.book.Book.is_above.Goals as goal
 
 pub returns-else-count-eq0 : goal.returns-else-count-eq0
@@ -11,7 +12,8 @@ returns-else-count-eq0 g c =
     let ls = c.self.inside.loaders.items in
     let k = c.len-count.result - 1 in
     let count : length ls ≡ suc k = omega (arith, c.len-count.ensures, c.self.inside.loaders.ok.0, c.if-count-eq0.false) in
-    let all = below-last n ls k c.index.result.now c.self.invariant.0.loaders.rises.each count in
+    let more : length ls ≡ k + 1 = omega (arith, count) in
+    let all = above-living n ls k c.index.result.now c.self.invariant.3.rises count ((c.self.invariant.3.last k more).is c.index.result.now) in
     rw (← c.self.view_is) (ap
-    (λ (l : LiveLoader). nat_lt l.number n) c.index.ensures ∙ sym all ∙ ap
+    (λ (l : Slot LiveLoader). nat_lt l.item.number n) c.index.ensures ∙ sym all ∙ ap
     (λ (ns : List ℕ). list_all (λ u. nat_lt u n) ns) c.self.invariant.0.loaders.numbers)

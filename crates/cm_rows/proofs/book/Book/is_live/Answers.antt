@@ -2,17 +2,21 @@ use Rattle.std.proofs.Common.{◌≡◌, Option, Some, None, is_some, IfSome, If
 use Rattle.cm_layout.specs.Rules.{is_live}
 use Rattle.cm_layout.specs.declared.row.Row.{Row}
 use Rattle.cm_rows.specs.declared.live_loader.LiveLoader.{LiveLoader}
-use Rattle.cm_rows.specs.Loaders.{IsAt, IsAbsent}
+use Rattle.cm_index.specs.declared.slot.Slot.{Slot}
+use Rattle.cm_rows.specs.Loaders.{IsKept, IsAbsent}
 use Rattle.cm_rows.specs.Book.{AreLoadersOf}
 use Rattle.cm_rows.proofs.Verdicts.{live-at, not_live}
 use Rattle.cm_index.specs.Living.{living}
+use Rattle.cm_rows.proofs.KeptPlaces.{stands, at-living}
 use Rattle.cm_rows.proofs.book.Book.is_live.Goals as goal
 
-by_find : {P : Type 0} (rows : List (Row P)) (ls : List LiveLoader) (u : ℕ) (o : Option ℕ)
-    → AreLoadersOf rows ls → IfSome o (IsAt ls u) → IfNone o (IsAbsent ls u)
+by_find : {P : Type 0} (rows : List (Row P)) (ls : List (Slot LiveLoader)) (u : ℕ) (o : Option ℕ)
+    → AreLoadersOf rows (living ls) → IfSome o (IsKept ls u) → IfNone o (IsAbsent (living ls) u)
     → is_some o ≡ is_live u rows
-by_find rows ls u (Some i) h found absent = sym (live-at rows ls u i h found)
-by_find rows ls u None h found absent = sym (not_live rows ls u h absent)
+by_find rows ls u (Some i) h found absent =
+    let at = stands ls u i found in
+    sym (live-at rows (living ls) u at.place h (at-living ls u i found at))
+by_find rows ls u None h found absent = sym (not_live rows (living ls) u h absent)
 
 pub returns : goal.returns
 returns g c =

@@ -9,6 +9,16 @@ use Rattle.cm_layout.specs.Rules.{move_fits}
 use Rattle.cm_pool.specs.FreeSpace.{without, with_chunk}
 use Rattle.cm_rows.proofs.Verdicts.{last-at, last-absent, move-none, move-no_room, move-used}
 use Rattle.cm_rows.proofs.Verdicts.{move-fits, on_chunks-unless, none-if}
+use Rattle.std.proofs.Common.{true, map, refl, length-set}
+use Rattle.std.proofs.lemmas.List.{length-map}
+use Rattle.cm_index.specs.declared.slot.Slot.{Slot}
+use Rattle.cm_index.specs.Living.{moved_slot}
+use Rattle.std.proofs.Common.{Option}
+use Rattle.cm_rows.specs.declared.live_loader.LastChunk.{LastChunk}
+use Rattle.cm_rows.specs.declared.live_loader.LiveLoader.{LiveLoader}
+use Rattle.cm_rows.specs.Loaders.{Rises, items}
+use Rattle.cm_rows.proofs.Loaders.{rises-set}
+use Rattle.cm_rows.proofs.KeptPlaces.{nobody, stands, at-living, same-kept, items-set, lives-set}
 use Rattle.cm_rows.proofs.Books.{relocated, roomier}
 use Rattle.cm_index.proofs.Unloading.{unique-moved}
 use Rattle.cm_index.proofs.Indexes.{index-moved}
@@ -23,7 +33,7 @@ returns-in_default-clause-broken g c =
     let rows = (living c.self.inside.slots.items) in
     let e = c.args.entry.now in
     let absent = rw c.deref.ensures.value at c.in_default.ensures.absent in
-    rw (← c.self.view_is) (on_chunks-unless (move_fits sizes rows e) (move-none sizes rows e (last-absent rows c.self.inside.loaders.items e.loader c.self.invariant.0.loaders absent)))
+    rw (← c.self.view_is) (on_chunks-unless (move_fits sizes rows e) (move-none sizes rows e (last-absent rows (living c.self.inside.loaders.items) e.loader c.self.invariant.0.loaders absent)))
 
 pub returns-in_default-last-clause-broken : goal.returns-in_default-last-clause-broken
 returns-in_default-last-clause-broken g c =
@@ -31,7 +41,9 @@ returns-in_default-last-clause-broken g c =
     let rows = (living c.self.inside.slots.items) in
     let e = c.args.entry.now in
     let found = rw c.deref.ensures.value at c.in-Some.ensures.found in
-    let none = last-at rows c.self.inside.loaders.items e.loader c.in-Some.at c.index.result.now c.self.invariant.0.loaders found c.index.ensures ∙ c.in_default-last.is in
+    let loaders = c.self.inside.loaders.items in
+    let at = stands loaders c.args.entry.now.loader c.in-Some.at found in
+    let none = last-at rows (living loaders) e.loader at.place c.index.result.now.item c.self.invariant.0.loaders (at-living loaders e.loader c.in-Some.at found at) (same-kept loaders c.in-Some.at at c.index.result.now c.index.ensures) ∙ c.in_default-last.is in
     rw (← c.self.view_is) (on_chunks-unless (move_fits sizes rows e) (move-none sizes rows e none))
 
 pub returns-then-not-has_room-clause-broken : goal.returns-then-not-has_room-clause-broken
@@ -41,7 +53,9 @@ returns-then-not-has_room-clause-broken g c =
     let e = c.args.entry.now in
     let l = c.in-Some-last.last in
     let found = rw c.deref.ensures.value at c.in-Some.ensures.found in
-    let last = last-at rows c.self.inside.loaders.items e.loader c.in-Some.at c.index.result.now c.self.invariant.0.loaders found c.index.ensures ∙ c.in-Some-last.is in
+    let loaders = c.self.inside.loaders.items in
+    let at = stands loaders c.args.entry.now.loader c.in-Some.at found in
+    let last = last-at rows (living loaders) e.loader at.place c.index.result.now.item c.self.invariant.0.loaders (at-living loaders e.loader c.in-Some.at found at) (same-kept loaders c.in-Some.at at c.index.result.now c.index.ensures) ∙ c.in-Some-last.is in
     let broken : move_fits sizes rows e ≡ false =
     elim c.then-not-has_room.branch [
       | then-not-has_room-via-then-not-has_room w ↦ move-no_room sizes rows e l last (sym c.has_room.ensures ∙ w.if-not-has_room.true)
@@ -54,10 +68,12 @@ returns-then-not-has_room-clause-broken g c =
 pub give-requires : goal.give-requires
 give-requires g c =
     let found = rw c.deref.ensures.value at c.in-Some.ensures.found in
+    let loaders = c.self.inside.loaders.items in
+    let at = stands loaders c.args.entry.now.loader c.in-Some.at found in
     let free = c.take.ensures.free.0 c.if-not-take.false in
     rw c.if-not-take.ensures.left
-    ((relocated c.self.inside.geometry (living c.self.inside.slots.items) (vec_capacity c.self.inside.slots) c.self.inside.loaders.items (vec_capacity c.self.inside.loaders) c.self.inside.pool c.args.entry.now c.in-Some.at c.index.result.now c.in-Some-last.last
-    c.self.invariant.0 found c.index.ensures c.in-Some-last.is (sym c.has_room.ensures ∙ c.if-not-has_room.false) free).0)
+    ((relocated c.self.inside.geometry (living c.self.inside.slots.items) (vec_capacity c.self.inside.slots) (living loaders) (vec_capacity c.self.inside.loaders) c.self.inside.pool c.args.entry.now at.place c.index.result.now.item c.in-Some-last.last
+    c.self.invariant.0 (at-living loaders c.args.entry.now.loader c.in-Some.at found at) (same-kept loaders c.in-Some.at at c.index.result.now c.index.ensures) c.in-Some-last.is (sym c.has_room.ensures ∙ c.if-not-has_room.false) free).0)
 
 pub returns-clause-left : goal.returns-clause-left
 returns-clause-left g c =
@@ -71,24 +87,37 @@ invariant_of-self-2 g c =
     let sizes = a.geometry in
     let slots = a.slots.items in
     let rows = living slots in
-    let ls = a.loaders.items in
     let p = a.pool in
     let e = c.args.entry.now in
     let l = c.in-Some-last.last in
+    let i = c.in-Some.at in
     let found = rw c.deref.ensures.value at c.in-Some.ensures.found in
+    let loaders = a.loaders.items in
+    let ls = living loaders in
+    let at = stands loaders e.loader i found in
     let free = c.take.ensures.free.0 c.if-not-take.false in
-    let o = Some (record { chunk = e.to; used = l.used }) in
-    let new = set ls c.in-Some.at (record { number = e.loader; last = o }) in
+    let o : Option LastChunk = Some (record { chunk = e.to; used = l.used }) in
+    let x : LiveLoader = record { number = e.loader; last = o } in
+    let s : Slot LiveLoader = record { item = x; live = true } in
+    let after = with_chunk (without p e.to) e.from in
     let slots_room : vec_capacity a.slots ≤ vec_capacity c.move_rows.new.slots = omega (arith, c.move_rows.ensures.capacity) in
     let room : vec_capacity a.loaders ≤ vec_capacity c.set_last.new.loaders = omega (arith, c.set_last.ensures.capacity) in
     rw (c.move_rows.ensures.slots, c.set_last.ensures.loaders, c.give.ensures, c.if-not-take.ensures.left) (
-      subst (λ r. IsBook sizes r (vec_capacity c.move_rows.new.slots) new (vec_capacity c.set_last.new.loaders) (with_chunk (without p e.to) e.from)) (sym (living-moved e.from e.to slots))
-          (roomier sizes (moved e.from e.to rows) (vec_capacity a.slots) (vec_capacity c.move_rows.new.slots) new (vec_capacity a.loaders) (vec_capacity c.set_last.new.loaders) (with_chunk (without p e.to) e.from)
+      subst (λ k. IsBook sizes (living (map (moved_slot e.from e.to) slots)) (vec_capacity c.move_rows.new.slots) k (vec_capacity c.set_last.new.loaders) after) (sym (at.changed x))
+          (subst (λ r. IsBook sizes r (vec_capacity c.move_rows.new.slots) (set ls at.place x) (vec_capacity c.set_last.new.loaders) after) (sym (living-moved e.from e.to slots))
+          (roomier sizes (moved e.from e.to rows) (vec_capacity a.slots) (vec_capacity c.move_rows.new.slots) (set ls at.place x) (vec_capacity a.loaders) (vec_capacity c.set_last.new.loaders) after
           slots_room room
-          (relocated sizes rows (vec_capacity a.slots) ls (vec_capacity a.loaders) p e c.in-Some.at c.index.result.now l
-          c.self.invariant.0 found c.index.ensures c.in-Some-last.is (sym c.has_room.ensures ∙ c.if-not-has_room.false) free).1),
+          (relocated sizes rows (vec_capacity a.slots) ls (vec_capacity a.loaders) p e at.place c.index.result.now.item l
+          c.self.invariant.0 (at-living loaders e.loader i found at) (same-kept loaders i at c.index.result.now c.index.ensures) c.in-Some-last.is (sym c.has_room.ensures ∙ c.if-not-has_room.false) free).1)),
       record { index = index-moved g.P.Kept.mark g.P.Kept.name e.from e.to slots a.index.items c.self.invariant.1.index; unique = subst AreUnique (sym (living-moved e.from e.to slots)) (unique-moved e.from e.to rows c.self.invariant.1.unique); room = c.self.invariant.1.room; places_room = c.self.invariant.1.places_room },
-      links-moved sizes e.from e.to slots (vec_capacity a.slots) (vec_capacity c.move_rows.new.slots) a.count a.before.items (vec_capacity a.before) ls a.newest.items (vec_capacity a.newest) e.loader c.in-Some.at o c.self.invariant.2 found slots_room,
+      rw (items-set loaders i s)
+          (links-moved sizes e.from e.to slots (vec_capacity a.slots) (vec_capacity c.move_rows.new.slots) a.count a.before.items (vec_capacity a.before) (items loaders) a.newest.items (vec_capacity a.newest) e.loader i o c.self.invariant.2 found.at slots_room),
+      record {
+        rises = subst Rises (sym (items-set loaders i s)) (record { each = rises-set e.loader o (items loaders) i nobody (found.at.number_is nobody) c.self.invariant.3.rises.each });
+        last = λ k is. lives-set loaders i s k refl (omega (arith, is, length-set loaders i s)) (c.self.invariant.3.last k (omega (arith, is, length-set loaders i s)));
+        few = omega (arith, c.self.invariant.3.few, length-set loaders i s, length-map slots (moved_slot {P = g.row.P.Denot} e.from e.to));
+        room = omega (arith, c.self.invariant.3.room, c.set_last.ensures.capacity);
+      },
     )
 
 pub returns-clause-broken : goal.returns-clause-broken
@@ -97,7 +126,9 @@ returns-clause-broken g c =
     let rows = (living c.self.inside.slots.items) in
     let e = c.args.entry.now in
     let found = rw c.deref.ensures.value at c.in-Some.ensures.found in
-    let last = last-at rows c.self.inside.loaders.items e.loader c.in-Some.at c.index.result.now c.self.invariant.0.loaders found c.index.ensures ∙ c.in-Some-last.is in
+    let loaders = c.self.inside.loaders.items in
+    let at = stands loaders c.args.entry.now.loader c.in-Some.at found in
+    let last = last-at rows (living loaders) e.loader at.place c.index.result.now.item c.self.invariant.0.loaders (at-living loaders e.loader c.in-Some.at found at) (same-kept loaders c.in-Some.at at c.index.result.now c.index.ensures) ∙ c.in-Some-last.is in
     let free = c.take.ensures.free.0 c.if-not-take.false in
     rw (← c.self.view_is) (none-if (move_fits sizes rows e)
     (move-fits sizes rows c.self.inside.pool e c.in-Some-last.last c.self.invariant.0.live last (sym c.has_room.ensures ∙ c.if-not-has_room.false) free))
