@@ -116,6 +116,15 @@ impl CarriedEntry {
         self.entry.slots()
     }
 
+    /// The entry, and the records that it writes.
+    pub fn into_parts(self) -> (Entry<()>, Vec<Arc<Record, Global>>)
+        ensures entry { result.0 ≡ self.entry }
+        ensures records { map arc_value result.1.items ≡ self.records }
+    {
+        let CarriedEntry { entry, records } = self;
+        (entry, records)
+    }
+
     /// The records that it writes, in order.
     pub fn records(&self) -> &[Arc<Record, Global>]
         ensures records { map arc_value result.now ≡ self.now.records }

@@ -89,11 +89,27 @@ impl Group {
         self.learnt
     }
 
+    /// How many slots the entries take.
+    pub fn slots(&self) -> usize
+        ensures value { result ≡ slots_taken self.now.entries }
+        ensures few { result ≤ group_limit }
+    {
+        self.slots
+    }
+
     /// The entries in order.
     pub fn entries(&self) -> &[CarriedEntry]
         ensures { result.now ≡ self.now.entries }
     {
         &self.entries
+    }
+
+    /// The entries in order, with the records that they carry.
+    pub fn into_entries(self) -> Vec<CarriedEntry>
+        ensures { result.items ≡ self.entries }
+    {
+        let Group { entries, .. } = self;
+        entries
     }
 
     /// One entry more, with the next number. It is handed back, and nothing is changed, exactly
