@@ -1,5 +1,5 @@
 -- What is found in contents is what they frame, and the other way round.
-use Rattle.std.proofs.Common.{◌≡◌, ◌≢◌, ℕ, ◌+◌, ◌-◌, ◌*◌, ◌<◌, ◌≤◌, List, [], ◌∷◌}
+use Rattle.std.proofs.Common.{◌≡◌, ◌≢◌, ℕ, ◌+◌, ◌-◌, ◌*◌, ◌^◌, ◌<◌, ◌≤◌, List, [], ◌∷◌}
 use Rattle.std.proofs.Common.{◌++◌, length, take, drop, get_or, Ok, Err, refl, sym}
 use Rattle.std.proofs.Common.{ap, subst, ◌∙◌, arith, length-drop}
 use Rattle.std.specs.Prelude.{Result}
@@ -13,11 +13,11 @@ use Rattle.cm_layout.specs.declared.row.Row.TheVariants.{Loader, Class}
 use Rattle.cm_layout.specs.Offsets.{superblock_size, half_size, half_at, roots_at}
 use Rattle.cm_layout.specs.Slots.{open_gate, half_head_slot, row_slot, entry_slot}
 use Rattle.cm_layout.specs.Rows.{slots_of_entries, classes_in, bare, rows_after_all}
-use Rattle.cm_layout.specs.Frames.{BareRow, BareEntry, IsEnd, IsGoodHalf, GroupsKeep}
+use Rattle.cm_layout.specs.Frames.{BareRow, BareEntry, IsEnd, IsGoodHalf, LiveRowsKeep, GroupsKeep}
 use Rattle.cm_layout.specs.Frames.{AreApart, groups_slots, rows_of, number_at_end}
 use Rattle.cm_layout.specs.Framing.{Framing, IsRight, Matches, used_bytes, used_size}
 use Rattle.cm_layout.specs.Framing.{open_half, other_half, needs}
-use Rattle.cm_layout.specs.Laws.{RowsAreApart, FramesAreMatched, MatchesFrame}
+use Rattle.cm_layout.specs.Laws.{RowsAreApart, RowsStayLive, FramesAreMatched, MatchesFrame}
 use Rattle.cm_state.proofs.Bare.{classes-bare}
 use Rattle.cm_verdict.specs.declared.counting.Counting.{Counting}
 use Rattle.cm_verdict.specs.declared.fault.FileFault.{FileFault}
@@ -25,8 +25,8 @@ use Rattle.cm_verdict.specs.Faults.{◌>>=◌}
 use Rattle.cm_verdict.specs.Walk.{Walked, slot_of, start, first_slot}
 use Rattle.cm_verdict.specs.Found.{counting, counting_half, Found, half_in, head_in}
 use Rattle.cm_verdict.specs.Found.{found_walked, walk_through, sizes_found, found_in}
-use Rattle.cm_verdict.specs.Laws.{rows_words, AreWhole, IsFramed, FoundIsFramed, IsFound}
-use Rattle.cm_verdict.specs.Laws.{FramedIsFound}
+use Rattle.cm_verdict.specs.Laws.{rows_words, AreWhole, IsLive, FoundIsLive, IsFramed, FoundIsFramed}
+use Rattle.cm_verdict.specs.Laws.{IsFound, FramedIsFound}
 use Rattle.cm_verdict.proofs.Walks.{end_from, from_slot, next_from, slots_one, HasGroups, HasLive, live_walked}
 use Rattle.cm_verdict.proofs.WalksBack.{Reaches, live_found}
 use Rattle.cm_verdict.proofs.Heads.{IsCounting, counted, counting_back}
@@ -69,13 +69,22 @@ whole_groups sizes half slot rows number e g =
           ∙ ap (λ (n : ℕ). n + length (flat_map (λ group. group) g.groups)) same;
     }
 
+-- no group's last number passes the limit
+groups_end : (sizes : Sizes) (rows : List BareRow) (n : ℕ) (groups : List (List BareEntry))
+    → n ≤ 2 ^ 63 → GroupsKeep sizes rows n groups
+    → n + length (flat_map (λ group. group) groups) ≤ 2 ^ 63
+groups_end sizes rows n [] small k = omega (arith, small)
+groups_end sizes rows n (group ∷ groups) small k =
+    let rest = groups_end sizes (rows_after_all rows group) (n + length group) groups
+    k.0.numbers k.1 in
+    omega (arith, rest, length-append group (flat_map (λ g. g) groups))
+
 -- ---- from what is found to a framing
 
 module _ (apart : RowsAreApart) (contents : List ℕ) (sizes : Sizes) (c : Counting) (w : Walked)
     (b : Begins (length contents) (take superblock_size contents) sizes)
     (k : IsCounting sizes (λ h. head_in sizes contents h) c)
-    (walked : walk_through sizes c (half_in sizes contents c.half) ≡ Ok w)
-    (whole : AreWhole sizes (length contents) w.rows) where
+    (walked : walk_through sizes c (half_in sizes contents c.half) ≡ Ok w) where
   abbrev half : List ℕ
   half = half_in sizes contents c.half
 
@@ -170,30 +179,44 @@ module _ (apart : RowsAreApart) (contents : List ℕ) (sizes : Sizes) (c : Count
         (apart sizes (open_half framing) good);
   }
 
-  matches : Matches sizes framing words contents
-  matches = record {
-    long = needs_long sizes contents w.rows b.halves whole;
-    superblock = b.block_is;
-    used = sym (take-take (used_size framing) (half_size sizes)
-        (drop (half_at sizes c.half) contents) within)
-        ∙ (ap (take (used_size framing)) half_is
-        ∙ take_at (used_bytes framing) behind (used_size framing) refl);
-    end = end_shut;
-    other = has_older (half_at sizes (other_half c.half)) k.older contents k.older_there;
-    records = each_held sizes contents w.rows whole;
+  pub live : RowsStayLive → IsLive contents (found_walked sizes c w)
+  live stay = record {
+    lawful = b.lawful;
+    long = b.halves;
+    live = subst (λ (n : ℕ). LiveRowsKeep sizes n [] (bare w.rows)) (sym groups.number_is)
+        (subst (LiveRowsKeep sizes (number_at_end (open_half framing)) []) (sym groups.rows_are)
+        (stay sizes (open_half framing) good));
+    number =
+        let ends = groups_end sizes found_live.live c.head.base found_live.groups.groups
+        k.good.base groups.keep in
+        omega (arith, ends, groups.number_is);
   }
 
-  pub framed : MatchesFrame → IsFramed contents (found_walked sizes c w)
-  framed matches_frame = record {
-    framing = framing;
-    counting_is = refl;
-    head_is = refl;
-    end_is = used_is;
-    right = right;
-    matches = matches;
-    frames = matches_frame sizes contents words w.number
-        (record { framing = framing; right = right; matches = matches });
-  }
+  module _ (whole : AreWhole sizes (length contents) w.rows) where
+    matches : Matches sizes framing words contents
+    matches = record {
+      long = needs_long sizes contents w.rows b.halves whole;
+      superblock = b.block_is;
+      used = sym (take-take (used_size framing) (half_size sizes)
+          (drop (half_at sizes c.half) contents) within)
+          ∙ (ap (take (used_size framing)) half_is
+          ∙ take_at (used_bytes framing) behind (used_size framing) refl);
+      end = end_shut;
+      other = has_older (half_at sizes (other_half c.half)) k.older contents k.older_there;
+      records = each_held sizes contents w.rows whole;
+    }
+
+    pub framed : MatchesFrame → IsFramed contents (found_walked sizes c w)
+    framed matches_frame = record {
+      framing = framing;
+      counting_is = refl;
+      head_is = refl;
+      end_is = used_is;
+      right = right;
+      matches = matches;
+      frames = matches_frame sizes contents words w.number
+          (record { framing = framing; right = right; matches = matches });
+    }
 
 -- ---- step by step
 
@@ -207,6 +230,18 @@ found_ok f = Ok f
 
 found_same : (f g : Found) → found_ok f ≡ found_ok g → f ≡ g
 found_same f g e = cc
+
+pub found_is_live : RowsAreApart → RowsStayLive → FoundIsLive
+unfolding found_in
+found_is_live apart stay contents f e =
+    bound (sizes_found (length contents) (take superblock_size contents)) _ f e (λ sizes spelled rest.
+    bound (counting_half sizes (head_in sizes contents Zero) (head_in sizes contents One)) _ f rest
+    (λ c counts walks.
+    bound (walk_through sizes c (half_in sizes contents c.half)) _ f walks (λ w walked last.
+    subst (IsLive contents) (found_same (found_walked sizes c w) f last)
+    (live apart contents sizes c w
+    (begun_with (length contents) (take superblock_size contents) sizes spelled)
+    (counted sizes (λ h. head_in sizes contents h) c counts) walked stay))))
 
 pub found_is_framed : RowsAreApart → MatchesFrame → FoundIsFramed
 unfolding found_in

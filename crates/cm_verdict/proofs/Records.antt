@@ -298,6 +298,8 @@ proves contents f rows framed found p = record {
   found = found;
   whole = p.whole;
   words = p.words;
+  kept = p.keep;
+  differ = p.differ;
 }
 
 pub verdict_stands : FoundIsFramed → VerdictStands

@@ -1,15 +1,15 @@
 -- What the verdict has to do with what contents frame and stand for: it is Ok exactly where they do.
-use Rattle.std.specs.Prelude.{◌≡◌, ◌≤◌, ℕ, ◌+◌, ◌*◌, List, [], ◌∷◌, length, map, Ok}
+use Rattle.std.specs.Prelude.{◌≡◌, ◌≤◌, ℕ, ◌+◌, ◌*◌, ◌^◌, List, [], ◌∷◌, length, map, Ok}
 use Rattle.cm_record.specs.Layout.{lay}
-use Rattle.cm_pool.specs.Geometry.{Sizes}
+use Rattle.cm_pool.specs.Geometry.{Sizes, IsGeometry}
 use Rattle.cm_layout.specs.declared.row.Row.{Row}
 use Rattle.cm_layout.specs.declared.row.Row.TheVariants.{Loader, Class}
-use Rattle.cm_layout.specs.Offsets.{slot_size, root_at}
-use Rattle.cm_layout.specs.Rows.{rows_with}
-use Rattle.cm_layout.specs.Frames.{Frames}
+use Rattle.cm_layout.specs.Offsets.{slot_size, roots_at, root_at}
+use Rattle.cm_layout.specs.Rows.{rows_with, bare}
+use Rattle.cm_layout.specs.Frames.{LiveRowsKeep, Frames}
 use Rattle.cm_layout.specs.Framing.{Framing, IsRight, Matches, used_size}
-use Rattle.cm_state.specs.State.{CacheState}
-use Rattle.cm_state.specs.Stands.{Arenas, Stands}
+use Rattle.cm_state.specs.State.{CacheState, NamesDiffer, class_shows}
+use Rattle.cm_state.specs.Stands.{Arenas, EachKeepsRules, Stands}
 use Rattle.cm_verdict.specs.declared.defined_at.DefinedAt.{DefinedAt}
 use Rattle.cm_verdict.specs.Found.{Found, found_in}
 use Rattle.cm_verdict.specs.Verdict.{Standing, words_at, state_in, arenas_in, verdict}
@@ -45,6 +45,17 @@ pub record IsFramed (contents : List ℕ) (f : Found) : Type 0 where
   pub matches : Matches f.sizes framing (words_found contents f) contents
   pub frames : Frames f.sizes contents (words_found contents f) f.number
 
+-- what was found are live rows that keep the rules at the number of the last command, wherever their
+-- records lie, in a file that is as long as its halves ask
+pub record IsLive (contents : List ℕ) (f : Found) : Type 0 where
+  pub lawful : IsGeometry f.sizes
+  pub long : roots_at f.sizes ≤ length contents
+  pub live : LiveRowsKeep f.sizes f.number [] (bare f.rows)
+  pub number : f.number ≤ 2 ^ 63
+
+abbrev pub FoundIsLive : Type 0
+FoundIsLive = (contents : List ℕ) (f : Found) → found_in contents ≡ Ok f → IsLive contents f
+
 -- What is found in contents is what they frame, where the records lie in whole roots.
 abbrev pub FoundIsFramed : Type 0
 FoundIsFramed =
@@ -70,12 +81,14 @@ FramedIsFound =
 -- ---- what contents stand for
 
 -- the file stands for the state, arenas and number of this verdict, whose classes have the records
--- that were found
+-- that were found, keep the class rules, and differ by name in each loader
 pub record Proves (contents : List ℕ) (s : Standing) : Type 0 where
   pub stands : Stands s.found.sizes contents (state_in s) (arenas_in s) s.found.number
   pub found : found_in contents ≡ Ok s.found
   pub whole : AreWhole s.found.sizes (length contents) s.found.rows
   pub words : rows_with lay s.rows ≡ words_found contents s.found
+  pub kept : EachKeepsRules s.rows
+  pub differ : NamesDiffer class_shows [] s.rows
 
 -- Where the verdict is Ok, the contents stand for what it says.
 abbrev pub VerdictStands : Type 0

@@ -1,9 +1,18 @@
 //! What the verdict means, as laws.
 
-ghost use Rattle.cm_verdict.specs.Laws.{FoundIsFramed, FramedIsFound};
+ghost use Rattle.cm_verdict.specs.Laws.{FoundIsLive, FoundIsFramed, FramedIsFound};
 ghost use Rattle.cm_verdict.specs.Laws.{VerdictStands, StandsInVerdict};
 
-use cm_layout::{frames_are_matched, rows_are_apart};
+use cm_layout::{frames_are_matched, rows_are_apart, rows_stay_live};
+
+/// What is found in a file without its records are live rows that keep the rules at the number of
+/// the last command, so a book takes them one after another. Their records may lie anywhere.
+pub fn found_is_live()
+    ensures { FoundIsLive }
+{
+    rows_are_apart();
+    rows_stay_live();
+}
 
 /// What is found in a file without its records is what the file frames: its sizes, the rows that
 /// live, each class with the words of its record, and the number of the last command; with the half

@@ -13,7 +13,7 @@ mod walk;
 pub use counting::{Counting, counting_half};
 pub use defined_at::DefinedAt;
 pub use fault::{Damage, FileFault};
-pub use laws::{found_is_framed, verdict_is_exact};
+pub use laws::{found_is_framed, found_is_live, verdict_is_exact};
 pub use record::read_record;
 pub use superblock::sizes_found;
 pub use walk::{HalfWalk, walk_through};
