@@ -36,7 +36,7 @@ above_next sizes n rows e some keeps above =
     (subst (λ (m : ℕ). is_above m rows ≡ true) (sym same) above))
 
 -- the next one
-next_is : (carried : List Carried) (count : ℕ) (c : Carried) → count < length carried
+pub next_is : (carried : List Carried) (count : ℕ) (c : Carried) → count < length carried
     → c ≡ get_or carried count c → drop count carried ≡ c ∷ drop (count + 1) carried
 next_is carried count c lt is =
     drop_more carried count c lt ∙ ap (λ (d : Carried). d ∷ drop (count + 1) carried) (sym is)

@@ -1,8 +1,13 @@
 -- How many device calls a plan is.
-use Rattle.std.proofs.Common.{◌≡◌, ℕ, zero, suc, ◌+◌, [], ◌∷◌, ◌++◌, length, arith}
+use Rattle.std.proofs.Common.{◌≡◌, ℕ, zero, suc, ◌+◌, ◌-◌, [], ◌∷◌, ◌++◌, length, drop, arith}
 use Rattle.std.proofs.lemmas.List.{length-append}
 use Rattle.cm_pool.specs.Geometry.{Sizes}
-use Rattle.cm_group.specs.Groups.{entries_in}
+use Rattle.cm_group.specs.Groups.{Handed, entries_in}
+use Rattle.cm_commit.specs.declared.journal.Journal.{Journal}
+use Rattle.cm_commit.specs.declared.step.Step.TheVariants as step
+use Rattle.cm_commit.specs.Plans.{calls_left}
+use Rattle.cm_commit.specs.Steps.{stages_at}
+use Rattle.cm_commit.specs.GroupPlans.{roots_of_entries}
 use Rattle.cm_commit.specs.Committed.{end_slot}
 use Rattle.cm_commit.specs.GroupPlans.{root_writes, record_writes, roots_to_add, whole_roots}
 use Rattle.cm_commit.specs.GroupPlans.{slots_write}
@@ -23,4 +28,21 @@ plans_have_steps c len carried =
       length-append (roots ++ records) slots,
       length-append roots records,
       root-count c.sizes (whole_roots c.sizes len) (roots_to_add c.sizes len entries),
+    )
+
+-- how many calls of a group are left while it is written
+pub calls_write : (j : Journal) (group : Handed) (roots from : ℕ)
+    → calls_left (stages_at j group (step.Write roots from))
+    ≡ roots_of_entries (entries_in group.entries) - roots
+    + length (record_writes j.geometry (drop from group.entries)) + 4
+calls_write j group roots from =
+    let more = roots_of_entries (entries_in group.entries) - roots in
+    let zeros = root_writes j.geometry roots more in
+    let records = record_writes j.geometry (drop from group.entries) in
+    let slots = slots_write j.geometry j.half j.end j.number (entries_in group.entries) ∷ [] in
+    omega (
+      arith,
+      length-append (zeros ++ records) slots,
+      length-append zeros records,
+      root-count j.geometry roots more,
     )

@@ -12,3 +12,17 @@ pub mod Apart
 pub mod Turning
 pub mod Above
 pub mod Applied
+pub mod Called
+pub mod Shown
+pub mod With
+pub mod NextRecords
+pub mod SlotsPut
+pub mod NextWrites
+pub mod Committing
+pub mod Advancing
+pub mod Filled
+pub mod Fitting
+pub mod ClassNames
+pub mod Roots
+pub mod Joins
+pub mod Offering

@@ -98,7 +98,7 @@ module _ (c : Committed) (group : Handed) (right : IsCommitted c) (next : IsNext
           omega (arith, length-blank 64, ltb-true (slot + slots_of_entries es + 1) c.sizes.slots e)
       by_test false e = omega (arith, room)
 
-  slots-end : slots.at + length slots.bytes ≤ here + half_size c.sizes
+  pub slots-end : slots.at + length slots.bytes ≤ here + half_size c.sizes
   slots-end =
       let size = length-append front shut in
       let fits = shut-fits (omega (arith, next.room, right.lawful.slots_from)) in

@@ -1,12 +1,10 @@
--- What stands for sure in a region file, and what a committer is seen as.
-use Rattle.std.specs.Prelude.{ℕ, ◌+◌, Bool, List, [], ◌∷◌, ◌++◌, Option}
+-- What stands for sure in a region file.
+use Rattle.std.specs.Prelude.{ℕ, ◌+◌, List, [], ◌∷◌, ◌++◌}
 use Rattle.cm_pool.specs.Geometry.{Sizes}
 use Rattle.cm_layout.specs.declared.row.Row.{Row}
 use Rattle.cm_layout.specs.Rows.{slots_of_rows, slots_of_entries}
 use Rattle.cm_layout.specs.Frames.{BareEntry}
 use Rattle.cm_layout.specs.Framing.{Framing}
-use Rattle.cm_group.specs.Groups.{Handed}
-use Rattle.cm_commit.specs.Plans.{Stage}
 
 -- The rows, each class with the words of its record; the number of the last command; and what the
 -- halves of the journal hold.
@@ -28,12 +26,3 @@ end_slot f = 1 + slots_of_rows f.live + slots_of_groups f.groups
 -- the half that counts, with a group more
 abbrev pub with_group : Framing → List BareEntry → Framing
 with_group f group = record f { groups = f.groups ++ group ∷ [] }
-
--- A committer: its disk, what is committed, the group that is under way, and the stages that are
--- still to be gone through. It is broken once the device failed.
-pub record CommitterState (D : Type 0) : Type 0 where
-  pub disk : D
-  pub committed : Committed
-  pub underway : Option Handed
-  pub left : List Stage
-  pub broken : Bool

@@ -4,7 +4,9 @@ use Rattle.std.specs.Prelude.{ℕ, zero, suc, ◌+◌, ◌-◌, ◌/◌, max, Li
 use Rattle.std.specs.Prelude.{nat_lt, if◌then◌else◌}
 use Rattle.std.specs.List.{flat_map}
 use Rattle.cm_record_layout.specs.Packing.{word_bytes}
+use Rattle.std.specs.Prelude.{Option, Some, None}
 use Rattle.cm_pool.specs.Geometry.{Sizes}
+use Rattle.cm_pool.specs.declared.place.Place.{Place}
 use Rattle.cm_layout.specs.declared.half.Half.{Half}
 use Rattle.cm_layout.specs.declared.row.Row.TheVariants.{Loader, Class}
 use Rattle.cm_layout.specs.declared.entry.Entry.TheVariants as entry
@@ -40,13 +42,25 @@ roots_of_entries (e ∷ entries) = max (roots_of_entry e) (roots_of_entries entr
 abbrev pub roots_to_add : Sizes → ℕ → List BareEntry → ℕ
 roots_to_add sizes len entries = roots_of_entries entries - whole_roots sizes len
 
+abbrev pub root_write : Sizes → ℕ → Write
+root_write sizes root = record { at = root_at sizes root; bytes = blank (root_size sizes) }
+
 abbrev pub root_writes : Sizes → ℕ → ℕ → List Write
 root_writes sizes from zero = []
-root_writes sizes from (suc n) =
-    record { at = root_at sizes from; bytes = blank (root_size sizes) }
-    ∷ root_writes sizes (from + 1) n
+root_writes sizes from (suc n) = root_write sizes from ∷ root_writes sizes (from + 1) n
 
 -- ---- records
+
+-- where an entry has a record of its own
+abbrev pub own_place : BareEntry → Option Place
+own_place (entry.Live (Loader r)) = None
+own_place (entry.Live (Class r p)) = Some r.place
+own_place (entry.Unload e) = None
+own_place (entry.Move e) = None
+
+abbrev pub place_write : Sizes → Place → List ℕ → Write
+place_write sizes place words =
+    record { at = record_at sizes place; bytes = word_bytes words }
 
 -- each record in its place, in the order of the entries; a move has none, as none is taken yet
 abbrev pub record_write : BareEntry → List (List ℕ) → Sizes → List Write
@@ -81,6 +95,21 @@ slots_write sizes half slot n entries = record {
 
 -- ---- the plan
 
+-- The writes of a group's that are left, where the group begins at this slot behind the n-th
+-- command: the file has so many whole roots by now, and the records of the last entries aren't
+-- written yet.
+abbrev pub writes_left : Sizes → Half → ℕ → ℕ → List Carried → ℕ → List Carried → List Write
+writes_left sizes half slot n carried roots unwritten =
+    root_writes sizes roots (roots_of_entries (entries_in carried) - roots)
+    ++ record_writes sizes unwritten
+    ++ slots_write sizes half slot n (entries_in carried) ∷ []
+
+-- all of them, and then the gate
+abbrev pub plan_at : Sizes → Half → ℕ → ℕ → ℕ → List Carried → List Stage
+plan_at sizes half slot n roots carried =
+    Store (writes_left sizes half slot n carried roots carried)
+    ∷ Turn (slot_at sizes half slot) open_gate ∷ []
+
 -- where the gate of a group stands
 abbrev pub gate_at : Committed → ℕ
 gate_at c = slot_at c.sizes c.framing.counting (end_slot c.framing)
@@ -88,11 +117,10 @@ gate_at c = slot_at c.sizes c.framing.counting (end_slot c.framing)
 -- the writes, for a file of this length
 abbrev pub group_writes : Committed → ℕ → List Carried → List Write
 group_writes c len carried =
-    root_writes c.sizes (whole_roots c.sizes len)
-    (roots_to_add c.sizes len (entries_in carried))
-    ++ record_writes c.sizes carried
-    ++ slots_write c.sizes c.framing.counting (end_slot c.framing) c.number (entries_in carried)
-    ∷ []
+    writes_left c.sizes c.framing.counting (end_slot c.framing) c.number carried
+    (whole_roots c.sizes len) carried
 
 abbrev pub group_plan : Committed → ℕ → List Carried → List Stage
-group_plan c len carried = Store (group_writes c len carried) ∷ Turn (gate_at c) open_gate ∷ []
+group_plan c len carried =
+    plan_at c.sizes c.framing.counting (end_slot c.framing) c.number (whole_roots c.sizes len)
+    carried

@@ -2,6 +2,12 @@ pub mod Plans
 pub mod Committed
 pub mod Offers
 pub mod GroupPlans
+pub mod States
+pub mod Steps
+pub mod Standing
 pub mod Guarding
+pub mod Keeps
 pub mod Laws
 pub mod Keeping
+pub mod Advances
+pub mod Joining

@@ -1,7 +1,7 @@
 -- Which groups a committer takes, and what is committed after one.
-use Rattle.std.specs.Prelude.{◌≡◌, ℕ, ◌+◌, ◌-◌, ◌^◌, ◌≤◌, Bool, true, false, ◌&&◌, ◌||◌, nat_le}
+use Rattle.std.specs.Prelude.{◌≡◌, ℕ, ◌+◌, ◌-◌, ◌^◌, ◌≤◌, Bool, true, false, ◌==◌, ◌&&◌, ◌||◌, nat_le}
 use Rattle.std.specs.Prelude.{List}
-use Rattle.std.specs.Prelude.{[], ◌∷◌, length, map, None}
+use Rattle.std.specs.Prelude.{[], ◌∷◌, length, map}
 use Rattle.cm_pool.specs.Geometry.{Sizes}
 use Rattle.cm_layout.specs.declared.row.Row.{Row}
 use Rattle.cm_layout.specs.declared.row.Row.TheVariants.{Loader, Class}
@@ -13,7 +13,7 @@ use Rattle.cm_layout.specs.Frames.{BareEntry}
 use Rattle.cm_group.specs.Groups.{Carried, Handed, entries_in, slots_taken}
 use Rattle.cm_state.specs.State.{words_show}
 use Rattle.cm_state.specs.Entries.{MayFollow}
-use Rattle.cm_commit.specs.Committed.{Committed, CommitterState, end_slot, with_group}
+use Rattle.cm_commit.specs.Committed.{Committed, end_slot, with_group}
 
 -- ---- an entry of a group
 
@@ -34,6 +34,20 @@ HasRecords (entry.Live (Class r p)) records =
     (words : List ℕ) × (records ≡ words ∷ []) × (length words ≡ r.place.words)
 HasRecords (entry.Unload e) records = records ≡ []
 HasRecords (entry.Move e) records = ⊥
+
+-- the same as a test
+abbrev pub is_own : List (List ℕ) → ℕ → Bool
+is_own [] n = false
+is_own (words ∷ []) n = length words == n
+is_own (words ∷ more ∷ records) n = false
+
+abbrev pub carries_own : Carried → Bool
+carries_own c = elim c.entry [
+  | entry.Live (Loader r) ↦ length c.records == 0
+  | entry.Live (Class r p) ↦ is_own c.records r.place.words
+  | entry.Unload e ↦ length c.records == 0
+  | entry.Move e ↦ false
+]
 
 -- It writes into no chunk that committed rows use, but behind the records on its loader's last one.
 abbrev pub writes_apart : {P : Type 0} → List (Row P) → BareEntry → Bool
@@ -63,19 +77,17 @@ MayJoinAll sizes committed rows n (c ∷ carried) =
 
 -- ---- a group
 
--- It goes on where the commands end that are committed, the half that counts has slots for it, and
--- its entries may join.
-pub record IsNext (c : Committed) (group : Handed) : Type 0 where
-  pub begins : group.first ≡ c.number + 1
-  pub ends : c.number + length group.entries ≤ 2 ^ 63
-  pub room : end_slot c.framing + slots_taken group.entries ≤ c.sizes.slots - 1
-  pub entries : MayJoinAll c.sizes c.rows c.rows c.number group.entries
+-- It goes on where the commands end that are committed, the half that counts has slots for it from
+-- the slot where it ends, and its entries may join.
+pub record MayCome (sizes : Sizes) (rows : List (Row (List ℕ))) (number end : ℕ)
+    (group : Handed) : Type 0 where
+  pub begins : group.first ≡ number + 1
+  pub ends : number + length group.entries ≤ 2 ^ 63
+  pub room : end + slots_taken group.entries ≤ sizes.slots - 1
+  pub entries : MayJoinAll sizes rows rows number group.entries
 
--- a committer that is neither broken nor busy takes it
-pub record Takes {D : Type 0} (s : CommitterState D) (group : Handed) : Type 0 where
-  pub sound : s.broken ≡ false
-  pub idle : s.underway ≡ None
-  pub next : IsNext s.committed group
+abbrev pub IsNext : Committed → Handed → Type 0
+IsNext c group = MayCome c.sizes c.rows c.number (end_slot c.framing) group
 
 -- the rows after it, and all that is committed then
 abbrev pub rows_after_group : List (Row (List ℕ)) → List Carried → List (Row (List ℕ))

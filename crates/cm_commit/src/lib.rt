@@ -3,6 +3,15 @@
 #![tactic(auto)]
 
 mod applying;
+mod bytes;
+mod calls;
+mod committer;
+mod entries;
+mod journal;
 mod laws;
+mod progress;
+mod step;
 
+pub use committer::{Committer, NotMade};
 pub use laws::{committed_is_guarded, groups_turn, plans_have_steps};
+pub use progress::{AdvanceFault, Progress};

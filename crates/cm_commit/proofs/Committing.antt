@@ -1,0 +1,223 @@
+-- What a group that is taken makes of what a committer keeps.
+use Rattle.std.proofs.Common.{◌≡◌, ℕ, ◌+◌, ◌*◌, ◌^◌, ◌≤◌, inl, inr, Bool, true, false, cond, List}
+use Rattle.std.proofs.Common.{[], ◌∷◌, ◌++◌, length, None, is_none, refl, sym, ap, subst, arith}
+use Rattle.std.specs.Prelude.{nat_lt, not}
+use Rattle.std.specs.List.{AllByRecursion, list_all}
+use Rattle.std.proofs.lemmas.Bool.{eq-eqb, lt-ltb, and_from}
+use Rattle.cm_pool.specs.Geometry.{Sizes}
+use Rattle.cm_pool.specs.Lists.{Among}
+use Rattle.cm_layout.specs.declared.row.Row.{Row}
+use Rattle.cm_layout.specs.declared.row.Row.TheVariants.{Loader, Class}
+use Rattle.cm_layout.specs.declared.entry.Entry.TheVariants as entry
+use Rattle.cm_layout.specs.Offsets.{root_size}
+use Rattle.cm_layout.specs.Rows.{bare, numbers_in, rows_after, without_loader, is_of}
+use Rattle.cm_layout.specs.Rows.{slots_of_entries}
+use Rattle.cm_layout.specs.Rules.{broken_rule}
+use Rattle.cm_layout.specs.Frames.{BareRow, BareEntry, LiveRowsKeep}
+use Rattle.cm_layout.specs.Framing.{Framing}
+use Rattle.cm_layout.proofs.Apart.{entry-apart}
+use Rattle.cm_layout.proofs.StayLive.{entry-live, live-append}
+use Rattle.cm_layout.proofs.OwnLoaders.{own_loaders}
+use Rattle.cm_rows.specs.Rows.{is_above}
+use Rattle.cm_state.specs.State.{words_show}
+use Rattle.cm_state.specs.Entries.{AreCacheRows}
+use Rattle.cm_state.proofs.EntrySteps.{entries_are_steps}
+use Rattle.cm_group.specs.Groups.{Carried, Handed, IsGroup, CarriesRight, IsRightRecord, entries_in}
+use Rattle.cm_commit.specs.declared.journal.Journal.{Journal}
+use Rattle.cm_commit.specs.Plans.{Stage, Store, Turn, Settle, calls_left, after_call}
+use Rattle.cm_commit.specs.Committed.{Committed, end_slot, with_group, slots_of_groups}
+use Rattle.cm_commit.specs.Offers.{filled, own_record, HasRecords, MayJoinAll, IsNext}
+use Rattle.cm_commit.specs.Offers.{carries_own, rows_after_group}
+use Rattle.cm_commit.specs.Guarding.{IsCommitted}
+use Rattle.cm_commit.specs.Keeping.{keep_rules}
+use Rattle.cm_commit.specs.Keeps.{AreRight}
+use Rattle.cm_commit.specs.States.{leaves}
+use Rattle.cm_commit.specs.Steps.{AreSmall, FitsJournal}
+use Rattle.cm_commit.proofs.Apart.{roots-few}
+use Rattle.cm_commit.proofs.Records.{class_inside}
+use Rattle.cm_commit.proofs.Rights.{rule-filled, after-filled, entries_keep}
+use Rattle.cm_commit.proofs.Slots.{entries_count}
+
+-- ---- the records that entries carry
+
+own_one : (e : BareEntry) (records : List (List ℕ)) → HasRecords e records
+    → carries_own (record { entry = e; records = records }) ≡ true
+own_one (entry.Live (Loader r)) records has = eq-eqb (length records) 0 (ap length has)
+own_one (entry.Live (Class r p)) records has =
+    subst (λ (l : List (List ℕ)). carries_own (record { entry = entry.Live (Class r p); records = l })
+    ≡ true) (sym has.1) (eq-eqb (length has.0) r.place.words has.2)
+own_one (entry.Unload e) records has = eq-eqb (length records) 0 (ap length has)
+own_one (entry.Move e) records has = absurd has
+
+pub own_all : (sizes : Sizes) (committed rows : List (Row (List ℕ))) (n : ℕ)
+    (carried : List Carried) → MayJoinAll sizes committed rows n carried
+    → list_all carries_own carried ≡ true
+own_all sizes committed rows n [] joins = refl
+own_all sizes committed rows n (c ∷ carried) joins =
+    and_from (carries_own c) (list_all carries_own carried)
+    (own_one c.entry c.records joins.0.records)
+    (own_all sizes committed (rows_after rows (filled c)) (n + 1) carried joins.1)
+
+small_one : (sizes : Sizes) (rows : List (Row (List ℕ))) (n : ℕ) (e : BareEntry)
+    (records : List (List ℕ)) → broken_rule sizes (bare rows) (n + 1) e ≡ None
+    → HasRecords e records → 8 * length (own_record records) ≤ root_size sizes
+small_one sizes rows n (entry.Live (Loader r)) records keeps has =
+    omega (arith, ap (λ (l : List (List ℕ)). length (own_record l)) has)
+small_one sizes rows n (entry.Live (Class r p)) records keeps has =
+    let is = (class_inside sizes rows n r keeps).0 in
+    let own = ap (λ (l : List (List ℕ)). length (own_record l)) has.1 in
+    omega (arith, own, has.2, is.words, is.chunk)
+small_one sizes rows n (entry.Unload e) records keeps has =
+    omega (arith, ap (λ (l : List (List ℕ)). length (own_record l)) has)
+small_one sizes rows n (entry.Move e) records keeps has = absurd has
+
+pub small_all : (sizes : Sizes) (committed rows : List (Row (List ℕ))) (n : ℕ)
+    (carried : List Carried) → MayJoinAll sizes committed rows n carried
+    → AreSmall (root_size sizes) carried
+small_all sizes committed rows n [] joins = tt
+small_all sizes committed rows n (c ∷ carried) joins = (
+  small_one sizes rows n c.entry c.records
+      (rule-filled sizes rows (n + 1) c joins.0.follows.keeps) joins.0.records,
+  small_all sizes committed (rows_after rows (filled c)) (n + 1) carried joins.1,
+)
+
+pub fits_journal : (j : Journal) (rows : List (Row (List ℕ))) (f : Framing) (group : Handed)
+    → end_slot f ≡ j.end
+    → IsCommitted (record { sizes = j.geometry; rows = rows; number = j.number; framing = f })
+    → IsGroup group
+    → IsNext (record { sizes = j.geometry; rows = rows; number = j.number; framing = f }) group
+    → FitsJournal j group
+fits_journal j rows f group end_is right is next =
+    let c : Committed = record {
+      sizes = j.geometry;
+      rows = rows;
+      number = j.number;
+      framing = f;
+    } in
+    record {
+      lawful = right.lawful;
+      own = own_all j.geometry rows rows j.number group.entries next.entries;
+      small = small_all j.geometry rows rows j.number group.entries next.entries;
+      roots = roots-few c j.number rows group.entries next.entries;
+      number = omega (arith, is.some, next.ends);
+      room = omega (arith, end_is, next.room, right.lawful.slots_from);
+      size = entries_count j.geometry (bare rows) j.number (entries_in group.entries)
+          (entries_keep j.geometry rows rows j.number group.entries next.entries);
+    }
+
+-- ---- the rows after the group
+
+pub rules_kept : (sizes : Sizes) (committed rows : List (Row (List ℕ))) (n : ℕ)
+    (carried : List Carried) → MayJoinAll sizes committed rows n carried
+    → keep_rules sizes (bare rows) (n + 1) (entries_in carried) ≡ true
+rules_kept sizes committed rows n [] joins = refl
+rules_kept sizes committed rows n (c ∷ carried) joins =
+    and_from (is_none (broken_rule sizes (bare rows) (n + 1) c.entry))
+    (keep_rules sizes (rows_after (bare rows) c.entry) (n + 1 + 1) (entries_in carried))
+    (ap is_none (rule-filled sizes rows (n + 1) c joins.0.follows.keeps))
+    (subst (λ (l : List BareRow). keep_rules sizes l (n + 1 + 1) (entries_in carried) ≡ true)
+    (after-filled rows c)
+    (rules_kept sizes committed (rows_after rows (filled c)) (n + 1) carried joins.1))
+
+all_below : (n : ℕ) (numbers : List ℕ) → ((u : ℕ) → Among u numbers → u ≤ n)
+    → list_all (λ u. nat_lt u (n + 1)) numbers ≡ true
+all_below n [] past = refl
+all_below n (u ∷ numbers) past =
+    let le : u ≤ n = past u (inl refl) in
+    and_from (nat_lt u (n + 1)) (list_all (λ v. nat_lt v (n + 1)) numbers)
+    (lt-ltb u (n + 1) (omega (arith, le))) (all_below n numbers (λ v m. past v (inr m)))
+
+pub next_above : (sizes : Sizes) (n : ℕ) (rows : List BareRow) → LiveRowsKeep sizes n [] rows
+    → is_above (n + 1) rows ≡ true
+next_above sizes n rows live =
+    all_below n (numbers_in rows) (own_loaders sizes n rows live).past
+
+pub cache_after : (sizes : Sizes) (committed rows : List (Row (List ℕ))) (n : ℕ)
+    (carried : List Carried) → AreCacheRows words_show sizes n rows
+    → MayJoinAll sizes committed rows n carried → n + length carried ≤ 2 ^ 63
+    → AreCacheRows words_show sizes (n + length carried) (rows_after_group rows carried)
+cache_after sizes committed rows n [] cache joins le =
+    subst (λ (m : ℕ). AreCacheRows words_show sizes m rows) (omega arith) cache
+cache_after sizes committed rows n (c ∷ carried) cache joins le =
+    let one = entries_are_steps
+    (λ s r m e apart k fits h.
+    (entry-apart s r (m + 1) e apart h, entry-live s r m e apart k fits h))
+    (λ s m r row k fits h. live-append s m [] r row k fits h) own_loaders words_show sizes n rows
+    (filled c) cache joins.0.follows (omega (arith, le)) in
+    subst (λ (m : ℕ). AreCacheRows words_show sizes m
+    (rows_after_group (rows_after rows (filled c)) carried)) (omega arith)
+    (cache_after sizes committed (rows_after rows (filled c)) (n + 1) carried one.rows_are joins.1
+    (omega (arith, le)))
+
+right-append : (rows more : List (Row (List ℕ))) → AreRight rows → AreRight more
+    → AreRight (rows ++ more)
+right-append [] more right new = new
+right-append (row ∷ rows) more right new = (right.0, right-append rows more right.1 new)
+
+right-without : (u : ℕ) (rows : List (Row (List ℕ))) → AreRight rows
+    → AreRight (without_loader u rows)
+right-without u [] right = tt
+right-without u (row ∷ rows) right =
+    by_test (not (is_of u row)) (right-without u rows right.1)
+  where
+    by_test : (t : Bool) → AreRight (without_loader u rows)
+        → AreRight (cond t (row ∷ without_loader u rows) (without_loader u rows))
+    by_test true rest = (right.0, rest)
+    by_test false rest = rest
+
+right-one : (rows : List (Row (List ℕ))) (e : BareEntry) (records : List (List ℕ)) → AreRight rows
+    → AllByRecursion IsRightRecord records → HasRecords e records
+    → AreRight (rows_after rows (filled (record { entry = e; records = records })))
+right-one rows (entry.Live (Loader r)) records right all has =
+    right-append rows (Loader r ∷ []) right (tt, tt)
+right-one rows (entry.Live (Class r p)) records right all has =
+    let own = (subst (AllByRecursion IsRightRecord) has.1 all).0 in
+    right-append rows (Class r (own_record records) ∷ []) right
+    (subst (λ (l : List (List ℕ)). IsRightRecord (own_record l)) (sym has.1) own, tt)
+right-one rows (entry.Unload e) records right all has = right-without e.loader rows right
+right-one rows (entry.Move e) records right all has = absurd has
+
+pub right_rows_after : (sizes : Sizes) (committed rows : List (Row (List ℕ))) (n : ℕ)
+    (carried : List Carried) → AreRight rows → AllByRecursion CarriesRight carried
+    → MayJoinAll sizes committed rows n carried → AreRight (rows_after_group rows carried)
+right_rows_after sizes committed rows n [] right all joins = right
+right_rows_after sizes committed rows n (c ∷ carried) right all joins =
+    right_rows_after sizes committed (rows_after rows (filled c)) (n + 1) carried
+    (right-one rows c.entry c.records right all.0 joins.0.records) all.1 joins.1
+
+-- ---- the end of the half
+
+slots-append : (groups : List (List BareEntry)) (group : List BareEntry)
+    → slots_of_groups (groups ++ group ∷ [])
+    ≡ slots_of_groups groups + (1 + slots_of_entries group)
+slots-append [] group = omega arith
+slots-append (g ∷ groups) group = omega (arith, slots-append groups group)
+
+pub end_after : (f : Framing) (group : List BareEntry)
+    → end_slot (with_group f group) ≡ end_slot f + 1 + slots_of_entries group
+end_after f group = omega (arith, slots-append f.groups group)
+
+-- ---- what is left
+
+pub one_call_less : (left : List Stage) → (left ≡ [] → ⊥)
+    → calls_left left ≡ 1 + calls_left (after_call left)
+one_call_less [] some = absurd (some refl)
+one_call_less (Store [] ∷ behind) some = omega arith
+one_call_less (Store (w ∷ writes) ∷ behind) some = omega arith
+one_call_less (Turn gate byte ∷ behind) some = omega arith
+one_call_less (Settle ∷ behind) some = omega arith
+
+pub some_calls : (left : List Stage) → (left ≡ [] → ⊥) → 1 ≤ calls_left left
+some_calls left some = omega (arith, one_call_less left some)
+
+pub leaves_so : (left : List Stage) (P Q R S : List ℕ → Type 0)
+    → ((image : List ℕ) → P image → R image) → ((image : List ℕ) → Q image → S image)
+    → (image : List ℕ) → leaves left P Q image → leaves left R S image
+leaves_so [] P Q R S f g image l = f image l
+leaves_so (Store writes ∷ behind) P Q R S f g image l = f image l
+leaves_so (Turn gate byte ∷ behind) P Q R S f g image l = record {
+  which = elim l.which [ inl p ↦ inl (f image p) | inr q ↦ inr (g image q) ];
+}
+leaves_so (Settle ∷ behind) P Q R S f g image l = record {
+  which = elim l.which [ inl p ↦ inl (f image p) | inr q ↦ inr (g image q) ];
+}

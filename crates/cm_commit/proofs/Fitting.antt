@@ -1,0 +1,120 @@
+-- What entries have that keep the rules.
+use Rattle.std.proofs.Common.{◌≡◌, ℕ, ◌+◌, ◌^◌, ◌<◌, ◌≤◌, Bool, true, false, cond, List, []}
+use Rattle.std.proofs.Common.{◌∷◌, length, Some, None, inl, inr, refl, sym, arith, eqb}
+use Rattle.std.specs.Prelude.{◌&&◌, ◌==◌, nat_le, is_some, is_none}
+use Rattle.std.specs.List.{list_all}
+use Rattle.std.proofs.lemmas.Bool.{eqb-true, leb-true}
+use Rattle.std.proofs.Math.Pow.{pow_mono}
+use Rattle.cm_pool.specs.Geometry.{Sizes, IsGeometry}
+use Rattle.cm_pool.specs.Lists.{Among}
+use Rattle.cm_layout.specs.declared.class_row.ClassRow.{ClassRow}
+use Rattle.cm_layout.specs.declared.entry_rule.EntryRule.TheVariants.{OnRows}
+use Rattle.cm_layout.specs.declared.row.Row.{Row}
+use Rattle.cm_layout.specs.declared.row.Row.TheVariants.{Loader, Class}
+use Rattle.cm_layout.specs.declared.entry.Entry.TheVariants as entry
+use Rattle.cm_layout.specs.Names.{is_loader_name, is_visible, name_limit}
+use Rattle.cm_layout.specs.Slots.{FitsEntry, FitsClass}
+use Rattle.cm_layout.specs.Rows.{name_of, number_of, numbers_in}
+use Rattle.cm_layout.specs.Rules.{broken_rule, broken_of, is_live, has_room, class_fits}
+use Rattle.cm_layout.specs.Rules.{is_new_loader}
+use Rattle.cm_layout.specs.Frames.{BareRow, BareEntry, LiveRowsKeep}
+use Rattle.cm_layout.proofs.Apart.{both}
+use Rattle.cm_layout.proofs.OwnLoaders.{own_loaders}
+use Rattle.cm_layout.proofs.StayLive.{class_keeps}
+use Rattle.cm_commit.specs.Offers.{HasRecords, carries_own}
+use Rattle.cm_commit.proofs.Places.{IsInside, inside}
+
+-- ---- the records that they carry
+
+none_there : (records : List (List ℕ)) → (length records == 0) ≡ true → records ≡ []
+none_there [] own = refl
+none_there (words ∷ records) own =
+    absurd (omega (arith, eqb-true (length (words ∷ records)) 0 own))
+
+pub has_one : (e : BareEntry) (records : List (List ℕ))
+    → carries_own (record { entry = e; records = records }) ≡ true → HasRecords e records
+has_one (entry.Live (Loader r)) records own = none_there records own
+has_one (entry.Live (Class r p)) [] own = absurd (cc)
+has_one (entry.Live (Class r p)) (words ∷ []) own =
+    (words, refl, eqb-true (length words) r.place.words own)
+has_one (entry.Live (Class r p)) (words ∷ more ∷ records) own = absurd (cc)
+has_one (entry.Unload e) records own = none_there records own
+has_one (entry.Move e) records own = absurd (cc)
+
+-- ---- what slots have room for
+
+pub rule_rows : (t : Bool) → cond t None (Some OnRows) ≡ None → t ≡ true
+rule_rows true keeps = refl
+rule_rows false keeps = absurd (cc)
+
+pub rule_both : (a b : Bool) → broken_of a b ≡ None → (a ≡ true) × (b ≡ true)
+rule_both true true keeps = (refl, refl)
+rule_both true false keeps = absurd (cc)
+rule_both false b keeps = absurd (cc)
+
+pub among_live : {A : Type 0} (u : ℕ) (rows : List (Row A)) → is_live u rows ≡ true
+    → Among u (numbers_in rows)
+among_live u [] live = absurd (cc)
+among_live {A} u (Loader r ∷ rows) live =
+    by_test (λ h. among_live u rows h) (eqb r.number u) refl live
+  where
+    by_test : (is_live u rows ≡ true → Among u (numbers_in rows))
+        → (t : Bool) → eqb r.number u ≡ t
+        → is_some (cond t (Some r.name) (name_of u rows)) ≡ true
+        → Among u (r.number ∷ numbers_in rows)
+    by_test rest true t e = inl (sym (eqb-true r.number u t))
+    by_test rest false t e = inr (rest e)
+among_live u (Class r p ∷ rows) live = among_live u rows live
+
+pub live_past : (sizes : Sizes) (n : ℕ) (rows : List BareRow) (u : ℕ)
+    → LiveRowsKeep sizes n [] rows → is_live u rows ≡ true → u ≤ n
+live_past sizes n rows u keep live = (own_loaders sizes n rows keep).past u (among_live u rows live)
+
+short_name : (x : List ℕ) → is_loader_name x ≡ true → length x ≤ name_limit
+short_name x named =
+    let some = nat_le 1 (length x) in
+    let short = nat_le (length x) name_limit in
+    leb-true (length x) name_limit
+    (both some short (both (some && short) (list_all is_visible x) named).0).1
+
+fits_class : (sizes : Sizes) (r : ClassRow) → IsGeometry sizes → r.loader < 2 ^ 64
+    → IsInside sizes r.place → FitsClass r
+fits_class sizes r g loader is =
+    let top : 2 ^ sizes.top ≤ 2 ^ 12 = pow_mono g.top_to in
+    let top_to = g.top_to in
+    let roots_to = g.roots_to in
+    record {
+      words = omega (arith, is.words, is.chunk, top);
+      loader = loader;
+      chunk = record {
+        root = omega (arith, is.root, roots_to);
+        order = omega (arith, is.order, top_to);
+        at = omega (arith, is.chunk, top);
+      };
+      offset = omega (arith, is.words, is.chunk, top);
+    }
+
+pub fits_one : (sizes : Sizes) (n : ℕ) (rows : List BareRow) (e : BareEntry)
+    (records : List (List ℕ)) → IsGeometry sizes → n < 2 ^ 63 → LiveRowsKeep sizes n [] rows
+    → broken_rule sizes rows (n + 1) e ≡ None → HasRecords e records → FitsEntry e
+fits_one sizes n rows (entry.Live (Loader r)) records g small keep keeps has =
+    let new = is_new_loader sizes rows r in
+    let parts = both (r.number == n + 1) new (rule_rows ((r.number == n + 1) && new) keeps) in
+    let named = is_loader_name r.name in
+    let own = is_none (number_of r.name rows) in
+    let name = both named own (both (named && own) (has_room sizes rows (Loader r)) parts.1).0 in
+    record {
+      number = omega (arith, eqb-true r.number (n + 1) parts.0, small);
+      name = short_name r.name name.0;
+    }
+fits_one sizes n rows (entry.Live (Class r p)) records g small keep keeps has =
+    let live = is_live r.loader rows in
+    let room = has_room sizes rows (Class r p) in
+    let rules = rule_both (live && room) (class_fits sizes rows r) keeps in
+    let past = live_past sizes n rows r.loader keep (both live room rules.0).0 in
+    let k = class_keeps sizes rows r keeps in
+    fits_class sizes r g (omega (arith, past, small)) (inside sizes r.place k.chunk k.within)
+fits_one sizes n rows (entry.Unload e) records g small keep keeps has =
+    let past = live_past sizes n rows e.loader keep (rule_rows (is_live e.loader rows) keeps) in
+    record { loader = omega (arith, past, small) }
+fits_one sizes n rows (entry.Move e) records g small keep keeps has = absurd has

@@ -1,0 +1,283 @@
+-- Entries may join where tests on what is committed say so, and only there.
+use Rattle.std.proofs.Common.{◌≡◌, ℕ, ◌+◌, ◌^◌, ◌<◌, ◌≤◌, Bool, true, false, not, List, [], ◌∷◌}
+use Rattle.std.proofs.Common.{◌++◌, length, Option, Some, None, refl, sym, ap, subst, ◌∙◌, arith}
+use Rattle.std.proofs.Common.{eqb, is_some, is_none}
+use Rattle.std.specs.Prelude.{◌&&◌, ◌||◌, ◌==◌}
+use Rattle.std.specs.Str.{bytes_eq}
+use Rattle.std.specs.List.{list_all, list_any}
+use Rattle.std.proofs.lemmas.Bool.{eqb-true, and_parts, and_from}
+use Rattle.cm_pool.specs.Geometry.{Sizes, IsGeometry}
+use Rattle.cm_pool.specs.Lists.{Among}
+use Rattle.cm_record.specs.Names.{class_name_in}
+use Rattle.cm_layout.specs.declared.class_row.ClassRow.{ClassRow}
+use Rattle.cm_layout.specs.declared.row.Row.{Row}
+use Rattle.cm_layout.specs.declared.row.Row.TheVariants.{Loader, Class}
+use Rattle.cm_layout.specs.declared.entry.Entry.TheVariants as entry
+use Rattle.cm_layout.specs.Slots.{FitsEntry}
+use Rattle.cm_layout.specs.Rows.{bare, rows_after}
+use Rattle.cm_layout.specs.Rules.{broken_rule, is_live, has_room, class_fits, is_new_loader}
+use Rattle.cm_layout.specs.Frames.{BareRow, BareEntry}
+use Rattle.cm_layout.proofs.OwnLoaders.{own_loaders}
+use Rattle.cm_state.specs.State.{words_show, class_among}
+use Rattle.cm_state.specs.Entries.{IsNewClass}
+use Rattle.cm_state.proofs.Bare.{rule-bare, classes-bare, name-bare}
+use Rattle.cm_group.specs.Groups.{Carried, entries_in}
+use Rattle.cm_commit.specs.Offers.{filled, own_record, HasRecords, carries_own, writes_apart}
+use Rattle.cm_commit.specs.Offers.{MayJoin, MayJoinAll}
+use Rattle.cm_commit.specs.Keeping.{keep_rules}
+use Rattle.cm_commit.specs.Joining.{makes_class, is_new_name, is_new, are_new}
+use Rattle.cm_commit.proofs.Rights.{AreKept, kept-after, bare-filled, after-filled, rule-filled}
+use Rattle.cm_commit.proofs.Fitting.{has_one, rule_rows, rule_both, live_past, fits_one}
+use Rattle.cm_commit.proofs.ClassNames.{is_there, there-loader, there-class, there-without}
+use Rattle.cm_commit.proofs.ClassNames.{none-there, live-loader, live-class, live-without, any-more}
+
+-- ---- tests
+
+with_true : (t : Bool) → t ≡ (t && true)
+with_true true = refl
+with_true false = refl
+
+neither : (a b d : Bool) → (a && not (b || d)) ≡ ((a && not b) && not d)
+neither true true d = refl
+neither true false d = refl
+neither false b d = refl
+
+none_is : {A : Type 0} (o : Option A) → is_none o ≡ true → o ≡ None
+none_is None e = refl
+none_is (Some a) e = absurd (cc)
+
+below_differs : (a b : ℕ) → a < b → eqb a b ≡ false
+below_differs a b lt = by_eq (eqb a b) refl
+  where
+    by_eq : (t : Bool) → eqb a b ≡ t → t ≡ false
+    by_eq true e = absurd (omega (arith, eqb-true a b e, lt))
+    by_eq false e = refl
+
+-- ---- loaders of rows
+
+live_bare : (u : ℕ) (rows : List (Row (List ℕ))) → is_live u (bare rows) ≡ is_live u rows
+live_bare u rows = ap is_some (name-bare u rows)
+
+-- a loader that comes later has no class yet
+none_later : (sizes : Sizes) (n : ℕ) (rows : List (Row (List ℕ))) (u : ℕ) (name : List ℕ)
+    → AreKept sizes n rows → n < u → is_there u name rows ≡ true
+none_later sizes n rows u name kept lt =
+    none-there u name rows (λ (r : ClassRow) among.
+    let own = (own_loaders sizes n (bare rows) kept.live).owned r
+    (subst (λ (l : List ClassRow). Among r l) (sym (classes-bare rows)) among) in
+    let past = live_past sizes n (bare rows) r.loader kept.live own in
+    below_differs r.loader u (omega (arith, past, lt)))
+
+-- ---- names of classes
+
+-- What is committed and the entries before tell the class names of the loaders that live.
+pub record TellsNames (committed : List (Row (List ℕ))) (before : List Carried)
+    (rows : List (Row (List ℕ))) (n : ℕ) : Type 0 where
+  pub live : (u : ℕ) (name : List ℕ) → is_live u rows ≡ true
+      → is_there u name rows ≡ is_new_name committed before u name
+  pub later : (u : ℕ) (name : List ℕ) → n < u → is_new_name committed before u name ≡ true
+
+pub tells_first : (sizes : Sizes) (n : ℕ) (rows : List (Row (List ℕ))) → AreKept sizes n rows
+    → TellsNames rows [] rows n
+tells_first sizes n rows kept = record {
+  live = λ u name live. with_true (is_there u name rows);
+  later = λ u name lt.
+      sym (with_true (is_there u name rows)) ∙ none_later sizes n rows u name kept lt;
+}
+
+one_more : (committed : List (Row (List ℕ))) (before : List Carried) (c : Carried) (u : ℕ)
+    (name : List ℕ)
+    → is_new_name committed (before ++ c ∷ []) u name
+    ≡ (is_new_name committed before u name && not (makes_class u name c))
+one_more committed before c u name =
+    let there = is_there u name committed in
+    ap (λ (t : Bool). there && not t) (any-more u name before c)
+    ∙ neither there (list_any (makes_class u name) before) (makes_class u name c)
+
+no_class : (committed : List (Row (List ℕ))) (before : List Carried) (c : Carried) (u : ℕ)
+    (name : List ℕ) → makes_class u name c ≡ false
+    → is_new_name committed (before ++ c ∷ []) u name ≡ is_new_name committed before u name
+no_class committed before c u name none =
+    one_more committed before c u name
+    ∙ (ap (λ (t : Bool). is_new_name committed before u name && not t) none
+    ∙ sym (with_true (is_new_name committed before u name)))
+
+pub tells_next : (sizes : Sizes) (n : ℕ) (committed : List (Row (List ℕ))) (before : List Carried)
+    (rows : List (Row (List ℕ))) (e : BareEntry) (records : List (List ℕ)) → AreKept sizes n rows
+    → broken_rule sizes (bare rows) (n + 1) e ≡ None → HasRecords e records
+    → TellsNames committed before rows n
+    → TellsNames committed (before ++ record { entry = e; records = records } ∷ [])
+    (rows_after rows (filled (record { entry = e; records = records }))) (n + 1)
+tells_next sizes n committed before rows (entry.Live (Loader r)) records kept keeps has tells =
+    let c : Carried = record { entry = entry.Live (Loader r); records = records } in
+    let number = (and_parts (r.number == n + 1) (is_new_loader sizes (bare rows) r)
+    (rule_rows ((r.number == n + 1) && is_new_loader sizes (bare rows) r) keeps)).0 in
+    record {
+      live = λ u name live.
+          there-loader u name rows r
+          ∙ (by_number u name number live (eqb r.number u) refl
+          ∙ sym (no_class committed before c u name refl));
+      later = λ u name lt.
+          no_class committed before c u name refl ∙ tells.later u name (omega (arith, lt));
+    }
+  where
+    by_number : (u : ℕ) (name : List ℕ) → (r.number == n + 1) ≡ true
+        → is_live u (rows ++ Loader r ∷ []) ≡ true → (t : Bool) → eqb r.number u ≡ t
+        → is_there u name rows ≡ is_new_name committed before u name
+    by_number u name number live true e =
+        let lt : n < u = omega (arith, eqb-true r.number (n + 1) number, eqb-true r.number u e) in
+        none_later sizes n rows u name kept lt ∙ sym (tells.later u name lt)
+    by_number u name number live false e = tells.live u name (live-loader u rows r live e)
+tells_next sizes n committed before rows (entry.Live (Class r p)) records kept keeps has tells =
+    let c : Carried = record { entry = entry.Live (Class r p); records = records } in
+    let words = own_record records in
+    let rules = rule_both (is_live r.loader (bare rows) && has_room sizes (bare rows) (Class r p))
+    (class_fits sizes (bare rows) r) keeps in
+    let alive = (and_parts (is_live r.loader (bare rows)) (has_room sizes (bare rows) (Class r p))
+    rules.0).0 in
+    let past = live_past sizes n (bare rows) r.loader kept.live alive in
+    record {
+      live = λ u name live.
+          there-class u name rows r words
+          ∙ (ap (λ (t : Bool). t && not (makes_class u name c))
+          (tells.live u name (sym (live-class u rows r words) ∙ live))
+          ∙ sym (one_more committed before c u name));
+      later = λ u name lt.
+          no_class committed before c u name
+          (ap (λ (t : Bool). t && bytes_eq (class_name_in words) name)
+          (below_differs r.loader u (omega (arith, past, lt))))
+          ∙ tells.later u name (omega (arith, lt));
+    }
+tells_next sizes n committed before rows (entry.Unload e) records kept keeps has tells =
+    let c : Carried = record { entry = entry.Unload e; records = records } in
+    record {
+      live = λ u name live.
+          let is = live-without u e.loader rows live in
+          there-without u e.loader name rows is.1
+          ∙ (tells.live u name is.0 ∙ sym (no_class committed before c u name refl));
+      later = λ u name lt.
+          no_class committed before c u name refl ∙ tells.later u name (omega (arith, lt));
+    }
+tells_next sizes n committed before rows (entry.Move e) records kept keeps has tells = absurd has
+
+-- ---- one entry
+
+fits_filled : (e : BareEntry) (records : List (List ℕ)) → FitsEntry e
+    → FitsEntry (filled (record { entry = e; records = records }))
+fits_filled (entry.Live (Loader r)) records fits = fits
+fits_filled (entry.Live (Class r p)) records fits = fits
+fits_filled (entry.Unload e) records fits = fits
+fits_filled (entry.Move e) records fits = fits
+
+class_is_new : (sizes : Sizes) (n : ℕ) (committed : List (Row (List ℕ))) (before : List Carried)
+    (rows : List (Row (List ℕ))) (e : BareEntry) (records : List (List ℕ))
+    → broken_rule sizes (bare rows) (n + 1) e ≡ None → HasRecords e records
+    → TellsNames committed before rows n → is_new committed before e records ≡ true
+    → IsNewClass words_show rows (filled (record { entry = e; records = records }))
+class_is_new sizes n committed before rows (entry.Live (Loader r)) records keeps has tells new = tt
+class_is_new sizes n committed before rows (entry.Live (Class r p)) records keeps has tells new =
+    let name = class_name_in (own_record records) in
+    let rules = rule_both (is_live r.loader (bare rows) && has_room sizes (bare rows) (Class r p))
+    (class_fits sizes (bare rows) r) keeps in
+    let alive = (and_parts (is_live r.loader (bare rows)) (has_room sizes (bare rows) (Class r p))
+    rules.0).0 in (
+      none_is (class_among words_show r.loader name rows)
+          (tells.live r.loader name (sym (live_bare r.loader rows) ∙ alive) ∙ new),
+      ap (λ (l : List (List ℕ)). length (own_record l)) has.1 ∙ has.2,
+    )
+class_is_new sizes n committed before rows (entry.Unload e) records keeps has tells new = tt
+class_is_new sizes n committed before rows (entry.Move e) records keeps has tells new = absurd has
+
+new_class_is : (sizes : Sizes) (n : ℕ) (committed : List (Row (List ℕ))) (before : List Carried)
+    (rows : List (Row (List ℕ))) (e : BareEntry) (records : List (List ℕ))
+    → broken_rule sizes (bare rows) (n + 1) e ≡ None → TellsNames committed before rows n
+    → IsNewClass words_show rows (filled (record { entry = e; records = records }))
+    → is_new committed before e records ≡ true
+new_class_is sizes n committed before rows (entry.Live (Loader r)) records keeps tells new = refl
+new_class_is sizes n committed before rows (entry.Live (Class r p)) records keeps tells new =
+    let name = class_name_in (own_record records) in
+    let rules = rule_both (is_live r.loader (bare rows) && has_room sizes (bare rows) (Class r p))
+    (class_fits sizes (bare rows) r) keeps in
+    let alive = (and_parts (is_live r.loader (bare rows)) (has_room sizes (bare rows) (Class r p))
+    rules.0).0 in
+    sym (tells.live r.loader name (sym (live_bare r.loader rows) ∙ alive)) ∙ ap is_none new.0
+new_class_is sizes n committed before rows (entry.Unload e) records keeps tells new = refl
+new_class_is sizes n committed before rows (entry.Move e) records keeps tells new = refl
+
+joins_one : (sizes : Sizes) (n : ℕ) (committed : List (Row (List ℕ))) (before : List Carried)
+    (rows : List (Row (List ℕ))) (c : Carried) → IsGeometry sizes → n < 2 ^ 63
+    → AreKept sizes n rows → TellsNames committed before rows n
+    → broken_rule sizes (bare rows) (n + 1) c.entry ≡ None → carries_own c ≡ true
+    → writes_apart committed c.entry ≡ true → is_new committed before c.entry c.records ≡ true
+    → MayJoin sizes committed rows n c
+joins_one sizes n committed before rows c g small kept tells keeps own apart new =
+    let has = has_one c.entry c.records own in
+    record {
+      follows = record {
+        fits = fits_filled c.entry c.records
+            (fits_one sizes n (bare rows) c.entry c.records g small kept.live keeps has);
+        keeps = sym (rule-bare sizes rows (n + 1) (filled c))
+            ∙ (ap (broken_rule sizes (bare rows) (n + 1)) (bare-filled c) ∙ keeps);
+        new = class_is_new sizes n committed before rows c.entry c.records keeps has tells new;
+      };
+      records = has;
+      apart = apart;
+    }
+
+-- ---- all of them
+
+abbrev pub are_apart : List (Row (List ℕ)) → List Carried → Bool
+are_apart committed carried = list_all (λ c. writes_apart committed c.entry) carried
+
+pub joins_all : (sizes : Sizes) (n : ℕ) (committed : List (Row (List ℕ))) (before : List Carried)
+    (rows : List (Row (List ℕ))) (carried : List Carried) → IsGeometry sizes
+    → n + length carried ≤ 2 ^ 63 → AreKept sizes n rows → TellsNames committed before rows n
+    → keep_rules sizes (bare rows) (n + 1) (entries_in carried) ≡ true
+    → list_all carries_own carried ≡ true → are_apart committed carried ≡ true
+    → are_new committed before carried ≡ true → MayJoinAll sizes committed rows n carried
+joins_all sizes n committed before rows [] g le kept tells keep own apart new = tt
+joins_all sizes n committed before rows (c ∷ carried) g le kept tells keep own apart new =
+    let rule = broken_rule sizes (bare rows) (n + 1) c.entry in
+    let keeps = and_parts (is_none rule)
+    (keep_rules sizes (rows_after (bare rows) c.entry) (n + 1 + 1) (entries_in carried)) keep in
+    let owns = and_parts (carries_own c) (list_all carries_own carried) own in
+    let aparts = and_parts (writes_apart committed c.entry) (are_apart committed carried) apart in
+    let news = and_parts (is_new committed before c.entry c.records)
+    (are_new committed (before ++ c ∷ []) carried) new in
+    let none = none_is rule keeps.0 in
+    let joins = joins_one sizes n committed before rows c g (omega (arith, le)) kept tells none
+    owns.0 aparts.0 news.0 in (
+      joins,
+      joins_all sizes (n + 1) committed (before ++ c ∷ []) (rows_after rows (filled c)) carried g
+          (omega (arith, le))
+          (kept-after sizes committed rows n c kept joins)
+          (tells_next sizes n committed before rows c.entry c.records kept none joins.records tells)
+          (subst (λ (l : List BareRow). keep_rules sizes l (n + 1 + 1) (entries_in carried) ≡ true)
+          (sym (after-filled rows c)) keeps.1)
+          owns.1
+          aparts.1
+          news.1,
+    )
+
+pub all_apart : (sizes : Sizes) (committed rows : List (Row (List ℕ))) (n : ℕ)
+    (carried : List Carried) → MayJoinAll sizes committed rows n carried
+    → are_apart committed carried ≡ true
+all_apart sizes committed rows n [] joins = refl
+all_apart sizes committed rows n (c ∷ carried) joins =
+    and_from (writes_apart committed c.entry) (are_apart committed carried) joins.0.apart
+    (all_apart sizes committed (rows_after rows (filled c)) (n + 1) carried joins.1)
+
+pub all_new : (sizes : Sizes) (n : ℕ) (committed : List (Row (List ℕ))) (before : List Carried)
+    (rows : List (Row (List ℕ))) (carried : List Carried) → AreKept sizes n rows
+    → TellsNames committed before rows n → MayJoinAll sizes committed rows n carried
+    → are_new committed before carried ≡ true
+all_new sizes n committed before rows [] kept tells joins = refl
+all_new sizes n committed before rows (c ∷ carried) kept tells joins =
+    let none = rule-filled sizes rows (n + 1) c joins.0.follows.keeps in
+    and_from (is_new committed before c.entry c.records)
+    (are_new committed (before ++ c ∷ []) carried)
+    (new_class_is sizes n committed before rows c.entry c.records none tells joins.0.follows.new)
+    (all_new sizes (n + 1) committed (before ++ c ∷ []) (rows_after rows (filled c)) carried
+    (kept-after sizes committed rows n c kept joins.0)
+    (tells_next sizes n committed before rows c.entry c.records kept none joins.0.records tells)
+    joins.1)

@@ -1,0 +1,109 @@
+-- The next write of a group, and what is left behind it.
+use Rattle.std.proofs.Common.{◌≡◌, ℕ, zero, suc, ◌+◌, ◌-◌, ◌<◌, ◌≤◌, List, [], ◌∷◌, ◌++◌}
+use Rattle.std.proofs.Common.{sym, ap, subst, ◌∙◌, arith}
+use Rattle.std.specs.Prelude.{Result, Ok, Err}
+use Rattle.std.proofs.lemmas.Bool.{false≢true}
+use Rattle.cm_disk.specs.Disk.{Unsynced}
+use Rattle.cm_pool.specs.Geometry.{Sizes}
+use Rattle.cm_pool.specs.declared.place.Place.{Place}
+use Rattle.cm_layout.specs.declared.half.Half.{Half}
+use Rattle.cm_guards.specs.Plans.{Write}
+use Rattle.cm_group.specs.Groups.{Carried, entries_in}
+use Rattle.cm_commit.specs.Plans.{Stage, Store, after_call}
+use Rattle.cm_commit.specs.GroupPlans.{root_write, root_writes, place_write, record_writes}
+use Rattle.cm_commit.specs.GroupPlans.{slots_write, writes_left, roots_of_entries}
+use Rattle.cm_commit.specs.Standing.{WritesOnce, CallsOnce, TakesCall, TakesWrite}
+use Rattle.cm_commit.specs.Steps.{WritesNone, WritesFirst}
+
+module _ (sizes : Sizes) (half : Half) (slot n : ℕ) (carried : List Carried) (roots : ℕ) where
+  abbrev needed : ℕ
+  needed = roots_of_entries (entries_in carried)
+
+  abbrev slots : Write
+  slots = slots_write sizes half slot n (entries_in carried)
+
+  pub next_root : (unwritten : List Carried) → roots < needed
+      → writes_left sizes half slot n carried roots unwritten
+      ≡ root_write sizes roots ∷ writes_left sizes half slot n carried (roots + 1) unwritten
+  next_root unwritten lt =
+      let more : needed - roots ≡ suc (needed - (roots + 1)) = omega (arith, lt) in
+      ap (λ (k : ℕ). root_writes sizes roots k ++ record_writes sizes unwritten ++ slots ∷ []) more
+
+  no_root : needed ≤ roots → root_writes sizes roots (needed - roots) ≡ []
+  no_root le =
+      let none : needed - roots ≡ zero = omega (arith, le) in
+      ap (root_writes sizes roots) none
+
+  pub next_place : (unwritten behind : List Carried) (place : Place) (words : List ℕ)
+      → needed ≤ roots → WritesFirst unwritten behind place words
+      → writes_left sizes half slot n carried roots unwritten
+      ≡ place_write sizes place words ∷ writes_left sizes half slot n carried roots behind
+  next_place unwritten behind place words le first =
+      ap (λ (l : List Write). l ++ record_writes sizes unwritten ++ slots ∷ []) (no_root le)
+      ∙ (ap (λ (l : List Write). l ++ slots ∷ []) (first.first sizes)
+      ∙ ap (λ (l : List Write). place_write sizes place words
+      ∷ (l ++ record_writes sizes behind ++ slots ∷ [])) (sym (no_root le)))
+
+  pub next_slots : (unwritten : List Carried) → needed ≤ roots → WritesNone unwritten
+      → writes_left sizes half slot n carried roots unwritten ≡ slots ∷ []
+  next_slots unwritten le none =
+      ap (λ (l : List Write). l ++ record_writes sizes unwritten ++ slots ∷ []) (no_root le)
+      ∙ ap (λ (l : List Write). l ++ slots ∷ []) (none.none sizes)
+
+-- ---- stages that begin with these writes
+
+pub takes_first : (writes ws : List Write) (w : Write) (behind : List Stage) (len : ℕ)
+    → writes ≡ w ∷ ws → TakesCall (Store writes ∷ behind) len → TakesWrite w len
+takes_first writes ws w behind len e takes =
+    subst (λ (l : List Write). TakesCall (Store l ∷ behind) len) e takes
+
+pub left_behind : (writes ws : List Write) (w : Write) (behind : List Stage) → writes ≡ w ∷ ws
+    → Store ws ∷ behind ≡ after_call (Store writes ∷ behind)
+left_behind writes ws w behind e =
+    ap (λ (l : List Write). after_call (Store l ∷ behind)) (sym e)
+
+module _ {D E : Type 0} (contents : D → List ℕ) (unsynced : D → Unsynced) (failures moment : D → ℕ)
+    (left_since : D → ℕ → List ℕ → Type 0) (old new : D) where
+  pub calls_first : {T : Type 0} (writes ws : List Write) (w : Write) (behind : List Stage)
+      (r : Result T E) → writes ≡ w ∷ ws
+      → WritesOnce contents unsynced failures moment left_since w old new r
+      → CallsOnce contents unsynced failures moment left_since (Store writes ∷ behind) old new r
+  calls_first writes ws w behind r e wrote =
+      subst (λ (l : List Write). CallsOnce contents unsynced failures moment left_since
+      (Store l ∷ behind) old new r) (sym e) wrote
+
+  -- the same call, with another value told
+  pub wrote_ok : {S T : Type 0} (w : Write) (x : S) (y : T)
+      → WritesOnce {D = D} {T = S} {E = E} contents unsynced failures moment left_since w old new
+      (Ok x)
+      → WritesOnce {D = D} {T = T} {E = E} contents unsynced failures moment left_since w old new
+      (Ok y)
+  wrote_ok w x y wrote = record {
+    written = wrote.written;
+    torn = tt;
+    opens = wrote.opens;
+    time = wrote.time;
+    cause = record { later = wrote.cause.later; fault = λ none. absurd (false≢true none) };
+  }
+
+  pub wrote_err : {S T : Type 0} (w : Write) (e : E)
+      → WritesOnce {D = D} {T = S} {E = E} contents unsynced failures moment left_since w old new
+      (Err e)
+      → WritesOnce {D = D} {T = T} {E = E} contents unsynced failures moment left_since w old new
+      (Err e)
+  wrote_err w e wrote = record {
+    written = tt;
+    torn = wrote.torn;
+    opens = wrote.opens;
+    time = wrote.time;
+    cause = record { later = wrote.cause.later; fault = wrote.cause.fault };
+  }
+
+  -- the write, its place and bytes written otherwise
+  pub wrote_as : {T : Type 0} (w v : Write) (r : Result T E) → v.at ≡ w.at → v.bytes ≡ w.bytes
+      → WritesOnce contents unsynced failures moment left_since v old new r
+      → WritesOnce contents unsynced failures moment left_since w old new r
+  wrote_as w v r at_is bytes_are wrote =
+      let same : v ≡ w = (λ i. record { at = at_is i; bytes = bytes_are i }) in
+      subst (λ (u : Write). WritesOnce contents unsynced failures moment left_since u old new r)
+      same wrote

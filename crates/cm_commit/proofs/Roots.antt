@@ -1,0 +1,167 @@
+-- How many whole roots a file has once a group is written.
+use Rattle.std.proofs.Common.{◌≡◌, ℕ, zero, suc, ◌+◌, ◌-◌, ◌*◌, ◌^◌, ◌<◌, ◌≤◌, Bool, true, false}
+use Rattle.std.proofs.Common.{List, [], ◌∷◌, ◌++◌, length, None, refl, sym, ap, ◌∙◌, arith}
+use Rattle.std.specs.Prelude.{max, nat_lt}
+use Rattle.std.proofs.Math.Nat.{le-div_iff_mul-le, lt-div-mul-add}
+use Rattle.std.proofs.lemmas.Bool.{ltb-true, ltb-false}
+use Rattle.std.proofs.lemmas.Nat.{pow_pos}
+use Rattle.cm_words.proofs.WordBytes.{length-word_bytes}
+use Rattle.cm_pool.specs.Geometry.{Sizes}
+use Rattle.cm_layout.specs.declared.row.Row.{Row}
+use Rattle.cm_layout.specs.declared.row.Row.TheVariants.{Loader, Class}
+use Rattle.cm_layout.specs.declared.entry.Entry.TheVariants as entry
+use Rattle.cm_layout.specs.Offsets.{roots_at, root_at, root_size}
+use Rattle.cm_layout.specs.Superblock.{blank}
+use Rattle.cm_layout.specs.Rows.{bare, rows_after}
+use Rattle.cm_layout.specs.Rules.{broken_rule}
+use Rattle.cm_layout.specs.Frames.{BareEntry}
+use Rattle.cm_layout.proofs.Superblocks.{length-blank}
+use Rattle.cm_guards.specs.Plans.{written, CanWrite}
+use Rattle.cm_group.specs.Groups.{Carried, Handed, entries_in}
+use Rattle.cm_commit.specs.Committed.{Committed, end_slot}
+use Rattle.cm_commit.specs.Guarding.{IsCommitted, guard_of}
+use Rattle.cm_commit.specs.Offers.{filled, own_record, HasRecords, MayJoinAll, IsNext}
+use Rattle.cm_commit.specs.GroupPlans.{root_writes, record_write, record_writes, slots_write}
+use Rattle.cm_commit.specs.GroupPlans.{group_writes, whole_roots, roots_to_add, roots_of_entry}
+use Rattle.cm_commit.specs.GroupPlans.{roots_of_entries}
+use Rattle.cm_commit.specs.Keeps.{roots_then}
+use Rattle.cm_commit.proofs.Ranges.{half_ends}
+use Rattle.cm_commit.proofs.Places.{ends_in_root}
+use Rattle.cm_commit.proofs.Writing.{size_after, size_after-append, written-size}
+use Rattle.cm_commit.proofs.Rights.{rule-filled}
+use Rattle.cm_commit.proofs.Records.{class_inside, roots-mono}
+use Rattle.cm_commit.proofs.Apart.{whole-ends}
+use Rattle.cm_commit.proofs.Turning.{slots-end}
+
+-- ---- how long a file is
+
+-- with zeros for so many roots
+roots-grow : (sizes : Sizes) (from n len : ℕ) → root_at sizes from ≤ len
+    → size_after (root_writes sizes from n) len ≡ max len (root_at sizes (from + n))
+roots-grow sizes from zero len starts =
+    let same : root_at sizes (from + 0) ≡ root_at sizes from = ap (root_at sizes) (omega arith) in
+    omega (arith, same, starts)
+roots-grow sizes from (suc n) len starts =
+    let size = length-blank (root_size sizes) in
+    let longer = max len (root_at sizes from + length (blank (root_size sizes))) in
+    let rest = roots-grow sizes (from + 1) n longer (omega (arith, size)) in
+    let same : root_at sizes (from + 1 + n) ≡ root_at sizes (from + suc n) =
+    ap (root_at sizes) (omega arith) in
+    let behind = roots-mono sizes (from + 1) (from + suc n) (omega arith) in
+    omega (arith, rest, same, behind, size)
+
+-- with records in its whole roots
+record-stays : (sizes : Sizes) (rows : List (Row (List ℕ))) (n : ℕ) (e : BareEntry)
+    (records : List (List ℕ)) (len : ℕ) → broken_rule sizes (bare rows) (n + 1) e ≡ None
+    → HasRecords e records → root_at sizes (roots_of_entry e) ≤ len
+    → size_after (record_write e records sizes) len ≡ len
+record-stays sizes rows n (entry.Live (Loader r)) records len keeps has long = refl
+record-stays sizes rows n (entry.Live (Class r p)) records len keeps has long =
+    let words = own_record records in
+    let count : length words ≡ r.place.words =
+    ap (λ (l : List (List ℕ)). length (own_record l)) has.1 ∙ has.2 in
+    let bytes = length-word_bytes words in
+    let ends = ends_in_root sizes r.place (class_inside sizes rows n r keeps).0 in
+    omega (arith, bytes, count, ends, long)
+record-stays sizes rows n (entry.Unload e) records len keeps has long = refl
+record-stays sizes rows n (entry.Move e) records len keeps has long = refl
+
+records-stay : (sizes : Sizes) (committed rows : List (Row (List ℕ))) (n : ℕ)
+    (carried : List Carried) (len : ℕ) → MayJoinAll sizes committed rows n carried
+    → root_at sizes (roots_of_entries (entries_in carried)) ≤ len
+    → size_after (record_writes sizes carried) len ≡ len
+records-stay sizes committed rows n [] len joins long = refl
+records-stay sizes committed rows n (c ∷ carried) len joins long =
+    let es = entries_in carried in
+    let all = max (roots_of_entry c.entry) (roots_of_entries es) in
+    let here = roots-mono sizes (roots_of_entry c.entry) all (omega arith) in
+    let there = roots-mono sizes (roots_of_entries es) all (omega arith) in
+    size_after-append (record_write c.entry c.records sizes) (record_writes sizes carried) len
+    ∙ (ap (size_after (record_writes sizes carried))
+    (record-stays sizes rows n c.entry c.records len
+    (rule-filled sizes rows (n + 1) c joins.0.follows.keeps) joins.0.records
+    (omega (arith, here, long)))
+    ∙ records-stay sizes committed (rows_after rows (filled c)) (n + 1) carried len joins.1
+    (omega (arith, there, long)))
+
+-- with a group
+group-size : (c : Committed) (group : Handed) (len : ℕ) → IsCommitted c → IsNext c group
+    → roots_at c.sizes ≤ len
+    → size_after (group_writes c len group.entries) len
+    ≡ max len (root_at c.sizes (whole_roots c.sizes len
+    + roots_to_add c.sizes len (entries_in group.entries)))
+group-size c group len right next long =
+    let es = entries_in group.entries in
+    let from = whole_roots c.sizes len in
+    let added = roots_to_add c.sizes len es in
+    let roots = root_writes c.sizes from added in
+    let records = record_writes c.sizes group.entries in
+    let slots = slots_write c.sizes c.framing.counting (end_slot c.framing) c.number es in
+    let grown = roots-grow c.sizes from added len (whole-ends c.sizes len long) in
+    let enough = roots-mono c.sizes (roots_of_entries es) (from + added) (omega arith) in
+    let stays = records-stay c.sizes c.rows c.rows c.number group.entries (size_after roots len)
+    next.entries (omega (arith, grown, enough)) in
+    let half = half_ends c.sizes c.framing.counting in
+    let last = slots-end c group right next in
+    let whole : size_after (roots ++ records ++ slots ∷ []) len
+    ≡ max (size_after records (size_after roots len)) (slots.at + length slots.bytes) =
+    size_after-append (roots ++ records) (slots ∷ []) len
+    ∙ ap (λ (k : ℕ). max k (slots.at + length slots.bytes)) (size_after-append roots records len) in
+    whole ∙ omega (arith, stays, grown, half, last, long)
+
+-- ---- how many whole roots it has
+
+root_some : (sizes : Sizes) → zero < root_size sizes
+root_some sizes =
+    let some : 0 < 2 ^ sizes.top = pow_pos sizes.top in
+    omega (arith, some)
+
+whole-is : (sizes : Sizes) (count len : ℕ) → root_at sizes count ≤ len
+    → len < root_at sizes (count + 1) → whole_roots sizes len ≡ count
+whole-is sizes count len starts ends = by_test (nat_lt count found) refl
+  where
+    found : ℕ
+    found = whole_roots sizes len
+
+    least : count ≤ found
+    least =
+        let times : count * root_size sizes ≤ len - roots_at sizes = omega (arith, starts) in
+        (le-div_iff_mul-le (root_some sizes)).1 times
+
+    by_test : (t : Bool) → nat_lt count found ≡ t → whole_roots sizes len ≡ count
+    by_test true e =
+        let more = roots-mono sizes (count + 1) found (omega (arith, ltb-true count found e)) in
+        let within = whole-ends sizes len (omega (arith, starts)) in
+        absurd (omega (arith, more, within, ends))
+    by_test false e = omega (arith, ltb-false count found e, least)
+
+whole-before : (sizes : Sizes) (len : ℕ) → roots_at sizes ≤ len
+    → len < root_at sizes (whole_roots sizes len + 1)
+whole-before sizes len long =
+    let below : len - roots_at sizes < whole_roots sizes len * root_size sizes + root_size sizes =
+    lt-div-mul-add (root_some sizes) in
+    omega (arith, below, long)
+
+-- once the group is written
+pub roots-written : (c : Committed) (group : Handed) (contents : List ℕ) → IsCommitted c
+    → IsNext c group → roots_at c.sizes ≤ length contents
+    → CanWrite (guard_of c) (group_writes c (length contents) group.entries) (length contents)
+    → roots_then (whole_roots c.sizes (length contents)) group
+    ≡ whole_roots c.sizes (length (written (group_writes c (length contents) group.entries)
+    contents))
+roots-written c group contents right next long can =
+    let len = length contents in
+    let from = whole_roots c.sizes len in
+    let count = from + roots_to_add c.sizes len (entries_in group.entries) in
+    let size : length (written (group_writes c len group.entries) contents)
+    ≡ max len (root_at c.sizes count) =
+    written-size (guard_of c) (group_writes c len group.entries) contents can
+    ∙ group-size c group len right next long in
+    let before = whole-before c.sizes len long in
+    let behind = roots-mono c.sizes (from + 1) (count + 1) (omega arith) in
+    let some = root_some c.sizes in
+    let is : whole_roots c.sizes (max len (root_at c.sizes count)) ≡ count =
+    whole-is c.sizes count (max len (root_at c.sizes count)) (omega arith)
+    (omega (arith, before, behind, some)) in
+    let most : roots_then from group ≡ count = omega arith in
+    most ∙ (sym is ∙ ap (whole_roots c.sizes) (sym size))

@@ -1,0 +1,27 @@
+use Rattle.std.proofs.Common.{◌≡◌, ◌+◌, sym, ap, ◌∙◌, arith}
+use Rattle.cm_group.specs.Groups.{Handed}
+use Rattle.cm_commit.specs.declared.step.Step.{Step}
+use Rattle.cm_commit.specs.declared.step.Step.TheVariants as step
+use Rattle.cm_commit.specs.Plans.{calls_left}
+use Rattle.cm_commit.specs.Steps.{stages_at}
+use Rattle.cm_commit.proofs.Counting.{calls_write}
+use Rattle.cm_commit.proofs.entries.calls_at.Goals as goal
+
+pub returns-in-Write : goal.returns-in-Write
+returns-in-Write c = λ j first learnt.
+    let group : Handed = record {
+      first = first;
+      learnt = learnt;
+      entries = c.args.entries.now;
+    } in
+    let counted : c.from.result + c.records_from.result + 4
+    ≡ calls_left (stages_at j group (step.Write c.in-Write.roots c.in-Write.from)) =
+    omega (
+      arith,
+      calls_write j group c.in-Write.roots c.in-Write.from,
+      c.from.ensures,
+      c.saturating_sub-zeros.ensures,
+      c.roots_needed.ensures,
+      c.records_from.ensures.counted j.geometry,
+    ) in
+    counted ∙ ap (λ (s : Step). calls_left (stages_at j group s)) (sym c.in-Write.is)

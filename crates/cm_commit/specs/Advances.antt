@@ -1,0 +1,70 @@
+-- What one step of a committer does.
+use Rattle.std.specs.Prelude.{◌≡◌, ℕ, ◌+◌, ◌≤◌, ◌<◌, true, false, [], length, Some, None}
+use Rattle.std.specs.Prelude.{Result, Ok, Err}
+use Rattle.cm_group.specs.declared.receipt.Receipt.{Receipt}
+use Rattle.cm_group.specs.Groups.{Handed, slots_taken}
+use Rattle.cm_commit.specs.declared.progress.Progress.{Progress}
+use Rattle.cm_commit.specs.declared.progress.Progress.TheVariants.{Idle, Working, Done}
+use Rattle.cm_commit.specs.declared.progress.AdvanceFault.{AdvanceFault}
+use Rattle.cm_commit.specs.declared.progress.AdvanceFault.TheVariants.{Device, Broken}
+use Rattle.cm_commit.specs.Plans.{calls_left, after_call}
+use Rattle.cm_commit.specs.Offers.{rows_after_group}
+use Rattle.cm_commit.specs.States.{CommitterState}
+
+-- nothing is left: no call, no change
+pub record Rests {D : Type 0} (old new : CommitterState D) : Type 0 where
+  pub sound : old.broken ≡ false
+  pub none : old.left ≡ []
+  pub stays : new ≡ old
+
+-- one call is made, and others are left
+pub record Works {D : Type 0} (old new : CommitterState D) : Type 0 where
+  pub sound : old.broken ≡ false
+  pub more : 2 ≤ calls_left old.left
+  pub new_is : new ≡ record old { disk = new.disk; left = after_call old.left }
+
+-- the last call is made: the group is committed, and its last number is told
+pub record Finishes {D : Type 0} (old : CommitterState D) (receipt : Receipt)
+    (new : CommitterState D) : Type 0 where
+  pub sound : old.broken ≡ false
+  pub last : calls_left old.left ≡ 1
+  pub group : Handed
+  pub underway : old.underway ≡ Some group
+  pub told : receipt.number ≡ old.number + length group.entries
+  pub new_is : new ≡ record old {
+    disk = new.disk;
+    rows = rows_after_group old.rows group.entries;
+    number = old.number + length group.entries;
+    end = old.end + 1 + slots_taken group.entries;
+    underway = None;
+    left = [];
+  }
+
+-- the call failed
+pub record Breaks {D : Type 0} (old new : CommitterState D) : Type 0 where
+  pub sound : old.broken ≡ false
+  pub some : 1 ≤ calls_left old.left
+  pub new_is : new ≡ record old { disk = new.disk; broken = true }
+
+-- an earlier one had: no call, no change
+pub record StaysBroken {D : Type 0} (old new : CommitterState D) : Type 0 where
+  pub broken : old.broken ≡ true
+  pub stays : new ≡ old
+
+abbrev pub Advances : {D : Type 0} → CommitterState D → Result Progress AdvanceFault
+    → CommitterState D → Type 0
+Advances old (Ok Idle) new = Rests old new
+Advances old (Ok Working) new = Works old new
+Advances old (Ok (Done receipt)) new = Finishes old receipt new
+Advances old (Err Device) new = Breaks old new
+Advances old (Err Broken) new = StaysBroken old new
+
+-- The count of failures doesn't fall, and a device fault is told only where it rose.
+abbrev pub IsDevice : Result Progress AdvanceFault → Type 0
+IsDevice (Ok progress) = ⊥
+IsDevice (Err Device) = Unit {0}
+IsDevice (Err Broken) = ⊥
+
+pub record HasRisen (before now : ℕ) (result : Result Progress AdvanceFault) : Type 0 where
+  pub later : before ≤ now
+  pub device : IsDevice result → before < now

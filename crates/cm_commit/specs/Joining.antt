@@ -1,0 +1,42 @@
+-- Whether the classes that entries make are new in their loaders, told by what is committed and by
+-- the entries before them.
+use Rattle.std.specs.Prelude.{ℕ, Bool, true, false, ◌&&◌, ◌==◌, not, is_none, List, [], ◌∷◌, ◌++◌}
+use Rattle.std.specs.Str.{bytes_eq}
+use Rattle.std.specs.List.{list_any}
+use Rattle.cm_record.specs.Names.{class_name_in}
+use Rattle.cm_layout.specs.declared.row.Row.{Row}
+use Rattle.cm_layout.specs.declared.row.Row.TheVariants.{Loader, Class}
+use Rattle.cm_layout.specs.declared.entry.Entry.TheVariants as entry
+use Rattle.cm_layout.specs.Frames.{BareEntry}
+use Rattle.cm_state.specs.State.{words_show, class_among}
+use Rattle.cm_group.specs.Groups.{Carried}
+use Rattle.cm_commit.specs.Offers.{own_record}
+
+-- the entry makes a class of this name in the loader of this number
+abbrev pub makes : ℕ → List ℕ → BareEntry → List (List ℕ) → Bool
+makes u name (entry.Live (Loader r)) records = false
+makes u name (entry.Live (Class r p)) records =
+    (r.loader == u) && bytes_eq (class_name_in (own_record records)) name
+makes u name (entry.Unload e) records = false
+makes u name (entry.Move e) records = false
+
+abbrev pub makes_class : ℕ → List ℕ → Carried → Bool
+makes_class u name c = makes u name c.entry c.records
+
+-- the loader of this number has no class of this name, neither committed nor by the entries before
+abbrev pub is_new_name : List (Row (List ℕ)) → List Carried → ℕ → List ℕ → Bool
+is_new_name committed before u name =
+    is_none (class_among words_show u name committed) && not (list_any (makes_class u name) before)
+
+abbrev pub is_new : List (Row (List ℕ)) → List Carried → BareEntry → List (List ℕ) → Bool
+is_new committed before (entry.Live (Loader r)) records = true
+is_new committed before (entry.Live (Class r p)) records =
+    is_new_name committed before r.loader (class_name_in (own_record records))
+is_new committed before (entry.Unload e) records = true
+is_new committed before (entry.Move e) records = true
+
+-- so does each of the entries behind those before
+abbrev pub are_new : List (Row (List ℕ)) → List Carried → List Carried → Bool
+are_new committed before [] = true
+are_new committed before (c ∷ carried) =
+    is_new committed before c.entry c.records && are_new committed (before ++ c ∷ []) carried

@@ -1,0 +1,101 @@
+-- What a committer keeps.
+use Rattle.std.specs.Prelude.{◌≡◌, ℕ, ◌^◌, ◌≤◌, max, Bool, true, false, List, [], length}
+use Rattle.std.specs.Prelude.{Option, Some, None}
+use Rattle.std.specs.List.{AllByRecursion}
+use Rattle.cm_disk.specs.Disk.{Unsynced, IsSettled}
+use Rattle.cm_pool.specs.Geometry.{Sizes}
+use Rattle.cm_layout.specs.declared.half.Half.{Half}
+use Rattle.cm_layout.specs.declared.row.Row.{Row}
+use Rattle.cm_layout.specs.declared.row.Row.TheVariants.{Loader, Class}
+use Rattle.cm_layout.specs.Offsets.{root_size}
+use Rattle.cm_layout.specs.Rows.{bare}
+use Rattle.cm_layout.specs.Framing.{Framing, IsRight, Matches}
+use Rattle.cm_group.specs.Groups.{Handed, IsGroup, IsRightRecord, entries_in}
+use Rattle.cm_rows.specs.Rows.{LiveRows}
+use Rattle.cm_state.specs.State.{words_show}
+use Rattle.cm_state.specs.Entries.{AreCacheRows}
+use Rattle.cm_commit.specs.Plans.{Stage}
+use Rattle.cm_commit.specs.Committed.{Committed, end_slot}
+use Rattle.cm_commit.specs.Offers.{IsNext, rows_after_group, committed_after}
+use Rattle.cm_commit.specs.GroupPlans.{whole_roots, roots_of_entries}
+use Rattle.cm_commit.specs.Guarding.{guard_of, Shows}
+use Rattle.cm_commit.specs.Standing.{StagesStand, StagesBroken}
+use Rattle.cm_commit.specs.States.{CommitterState}
+
+-- each record is that of a class that keeps the class rules
+abbrev pub HasRightRecord : Row (List ℕ) → Type 0
+HasRightRecord (Loader r) = Unit {0}
+HasRightRecord (Class r words) = IsRightRecord words
+
+abbrev pub AreRight : List (Row (List ℕ)) → Type 0
+AreRight rows = AllByRecursion HasRightRecord rows
+
+-- Contents hold the cache of these rows and this number: they match a framing whose half that
+-- counts ends at this slot, they have so many whole roots, and all of it is stored.
+pub record IsHeld (contents : List ℕ) (unsynced : Unsynced) (sizes : Sizes)
+    (rows : List (Row (List ℕ))) (number : ℕ) (half : Half) (end roots : ℕ) : Type 0 where
+  pub settled : IsSettled contents unsynced
+  pub framing : Framing
+  pub counting_is : framing.counting ≡ half
+  pub end_is : end_slot framing ≡ end
+  pub right : IsRight sizes framing rows number
+  pub matches : Matches sizes framing rows contents
+  pub cache : AreCacheRows words_show sizes number rows
+  pub records : AreRight rows
+  pub number_is : number ≤ 2 ^ 63
+  pub roots_are : roots ≡ whole_roots sizes (length contents)
+
+-- ---- the committer's own
+
+-- the rows after the group that is under way, with nothing kept
+abbrev pub rows_then : List (Row (List ℕ)) → Option Handed → List (Row (List ℕ))
+rows_then rows None = rows
+rows_then rows (Some group) = rows_after_group rows group.entries
+
+-- how many whole roots the file has once the group is written
+abbrev pub roots_then : ℕ → Handed → ℕ
+roots_then roots group = max roots (roots_of_entries (entries_in group.entries))
+
+-- nothing is under way
+pub record IsIdle (c : Committed) (roots : ℕ) (broken : Bool) (contents : List ℕ)
+    (unsynced : Unsynced) : Type 0 where
+  pub sound : broken ≡ false
+  pub settled : IsSettled contents unsynced
+  pub shows : Shows c contents
+  pub roots_are : roots ≡ whole_roots c.sizes (length contents)
+
+abbrev pub StandsBroken : Bool → Committed → Committed → ℕ → List Stage → List ℕ → Unsynced → Type 0
+StandsBroken false c next long left contents unsynced =
+    StagesStand (guard_of c) (Shows c) (Shows next) long left contents unsynced
+StandsBroken true c next long left contents unsynced =
+    StagesBroken (Shows c) (Shows next) left contents unsynced
+
+-- a group is under way
+pub record IsBusy (c : Committed) (roots : ℕ) (group : Handed) (left : List Stage) (broken : Bool)
+    (contents : List ℕ) (unsynced : Unsynced) : Type 0 where
+  pub is : IsGroup group
+  pub next : IsNext c group
+  pub some : (left ≡ []) → ⊥
+  pub long : ℕ
+  pub roots_are : roots_then roots group ≡ whole_roots c.sizes long
+  pub stands : StandsBroken broken c (committed_after c group) long left contents unsynced
+
+abbrev pub IsAt : Committed → ℕ → Option Handed → List Stage → Bool → List ℕ → Unsynced → Type 0
+IsAt c roots None left broken contents unsynced = IsIdle c roots broken contents unsynced
+IsAt c roots (Some group) left broken contents unsynced =
+    IsBusy c roots group left broken contents unsynced
+
+pub record IsCommitter {D : Type 0} (contents : D → List ℕ) (unsynced : D → Unsynced)
+    (s : CommitterState D) (sizes : Sizes) (next : LiveRows (Unit {0})) (roots room : ℕ) : Type 0 where
+  pub framing : Framing
+  pub counting_is : framing.counting ≡ s.half
+  pub end_is : end_slot framing ≡ s.end
+  pub right : IsRight s.sizes framing s.rows s.number
+  pub cache : AreCacheRows words_show s.sizes s.number s.rows
+  pub records : AreRight s.rows
+  pub number_is : s.number ≤ 2 ^ 63
+  pub sizes_are : sizes ≡ s.sizes
+  pub next_is : next ≡ record { sizes = s.sizes; rows = bare (rows_then s.rows s.underway) }
+  pub room_is : root_size s.sizes ≤ room
+  pub at : IsAt (record { sizes = s.sizes; rows = s.rows; number = s.number; framing = framing })
+      roots s.underway s.left s.broken (contents s.disk) (unsynced s.disk)

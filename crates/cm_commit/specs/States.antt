@@ -1,0 +1,67 @@
+-- What a committer is seen as, and what a crash may leave of it.
+use Rattle.std.specs.Prelude.{◌≡◌, ℕ, ◌+◌, Bool, false, List, [], ◌∷◌, Option, Some, None, length}
+use Rattle.cm_class.specs.declared.class_file.ClassFile.{ClassFile}
+use Rattle.cm_record.specs.Layout.{lay}
+use Rattle.cm_pool.specs.Geometry.{Sizes}
+use Rattle.cm_layout.specs.declared.half.Half.{Half}
+use Rattle.cm_layout.specs.declared.row.Row.{Row}
+use Rattle.cm_layout.specs.Rows.{rows_with, classes_in}
+use Rattle.cm_guards.specs.Gates.{OneOf}
+use Rattle.cm_group.specs.Groups.{Handed}
+use Rattle.cm_state.specs.State.{class_shows, state_of}
+use Rattle.cm_state.specs.Stands.{Stands, arenas_among}
+use Rattle.cm_commit.specs.Plans.{Stage, Store, Turn, Settle}
+use Rattle.cm_commit.specs.Offers.{MayCome, rows_after_group}
+
+-- A committer: its disk; the region's sizes; the rows that are committed, each class with the words
+-- of its record; the number of the last command; the half of the journal that counts, and the slot
+-- where it ends; the group that is under way, and the stages of it that are still to be gone
+-- through. It is broken once the device failed.
+pub record CommitterState (D : Type 0) : Type 0 where
+  pub disk : D
+  pub sizes : Sizes
+  pub rows : List (Row (List ℕ))
+  pub number : ℕ
+  pub half : Half
+  pub end : ℕ
+  pub underway : Option Handed
+  pub left : List Stage
+  pub broken : Bool
+
+-- a committer that is neither broken nor busy takes a group that may come next
+pub record Takes {D : Type 0} (s : CommitterState D) (group : Handed) : Type 0 where
+  pub sound : s.broken ≡ false
+  pub idle : s.underway ≡ None
+  pub next : MayCome s.sizes s.rows s.number s.end group
+
+-- ---- what contents stand for
+
+-- The contents stand for the cache of these rows and this number: its state and its arenas are
+-- those of the classes whose records the rows have.
+pub record ShowsCache (sizes : Sizes) (rows : List (Row (List ℕ))) (number : ℕ)
+    (contents : List ℕ) : Type 0 where
+  pub classes : List (Row ClassFile)
+  pub records : rows_with lay classes ≡ rows
+  pub stands : Stands sizes contents (state_of class_shows classes)
+      (arenas_among (classes_in classes) classes) number
+
+abbrev pub ShowsCommitted : {D : Type 0} → CommitterState D → List ℕ → Type 0
+ShowsCommitted s contents = ShowsCache s.sizes s.rows s.number contents
+
+-- with the group that is under way, if there is one
+abbrev pub ShowsWith : {D : Type 0} → CommitterState D → Option Handed → List ℕ → Type 0
+ShowsWith s None contents = ShowsCommitted s contents
+ShowsWith s (Some group) contents =
+    ShowsCache s.sizes (rows_after_group s.rows group.entries) (s.number + length group.entries)
+    contents
+
+-- what a crash may leave: what is committed; once the bytes before a gate are stored, that or what
+-- is committed with the group
+abbrev pub leaves : List Stage → (List ℕ → Type 0) → (List ℕ → Type 0) → List ℕ → Type 0
+leaves [] before after image = before image
+leaves (Store writes ∷ stages) before after image = before image
+leaves (Turn gate byte ∷ stages) before after image = OneOf before after image
+leaves (Settle ∷ stages) before after image = OneOf before after image
+
+abbrev pub MayLeave : {D : Type 0} → CommitterState D → List ℕ → Type 0
+MayLeave s image = leaves s.left (ShowsCommitted s) (ShowsWith s s.underway) image

@@ -1,0 +1,95 @@
+//! The bytes of a group's writes.
+
+ghost use Rattle.std.specs.Prelude.{◌≡◌, ◌≤◌, ◌+◌, ◌*◌, ◌++◌, ◌<◌, ◌^◌, length, vec_capacity};
+ghost use Rattle.cm_record_layout.specs.Packing.{word_bytes};
+ghost use Rattle.cm_layout.specs.Superblock.{blank};
+ghost use Rattle.cm_layout.specs.Offsets.{slot_size};
+ghost use Rattle.cm_layout.specs.Slots.{group_head_rest, entry_slot};
+ghost use Rattle.std.specs.List.{flat_map};
+ghost use Rattle.cm_group.specs.Groups.{entries_in, slots_taken};
+ghost use Rattle.cm_commit.specs.GroupPlans.{slots_behind_gate, shut_slot};
+
+use crate::journal::Journal;
+use cm_group::CarriedEntry;
+use cm_layout::{GroupHead, SLOT_BYTES};
+use cm_record::Record;
+
+/// Puts so many zeros in the place of what is there.
+#[tactic(auto, unfolding(cm_layout::specs::Superblock::blank))]
+pub(crate) fn put_zeros(buffer: &mut Vec<u8>, count: usize)
+    requires { count ≤ vec_capacity buffer.old }
+    ensures zeros { buffer.new.items ≡ blank count }
+    ensures room { vec_capacity buffer.old ≤ vec_capacity buffer.new }
+{
+    buffer.clear();
+    buffer.resize(count, 0).unwrap();
+}
+
+/// Puts the bytes of a record in the place of what is there.
+pub(crate) fn put_record(buffer: &mut Vec<u8>, class: &Record)
+    requires { 8 * length class.now ≤ vec_capacity buffer.old }
+    ensures bytes { buffer.new.items ≡ word_bytes class.now }
+    ensures room { vec_capacity buffer.old ≤ vec_capacity buffer.new }
+{
+    put_zeros(buffer, 8 * class.words() as usize);
+    class.bytes_into(buffer);
+}
+
+/// Puts the slots of entries behind what is there.
+fn add_entries(buffer: &mut Vec<u8>, entries: &[CarriedEntry])
+    requires { length buffer.old.items + length (flat_map entry_slot (entries_in entries.now)) ≤ vec_capacity buffer.old }
+    ensures bytes { buffer.new.items ≡ buffer.old.items ++ flat_map entry_slot (entries_in entries.now) }
+    ensures room { vec_capacity buffer.old ≤ vec_capacity buffer.new }
+{
+    for carried in entries {
+        buffer.extend_from_slice(&carried.entry().encode()).unwrap();
+    }
+}
+
+/// Puts the head of a group, behind the byte of its gate, in the place of what is there.
+fn put_head(buffer: &mut Vec<u8>, head: &GroupHead)
+    requires { 63 ≤ vec_capacity buffer.old }
+    ensures bytes { buffer.new.items ≡ group_head_rest head.now }
+    ensures room { vec_capacity buffer.old ≤ vec_capacity buffer.new }
+{
+    buffer.clear();
+    buffer.extend_from_slice(&head.encode()[1..]).unwrap();
+}
+
+/// Puts a shut slot behind what is there.
+#[tactic(auto, unfolding(cm_layout::specs::Superblock::blank))]
+fn add_shut_slot(buffer: &mut Vec<u8>)
+    requires { length buffer.old.items + slot_size ≤ vec_capacity buffer.old }
+    ensures bytes { buffer.new.items ≡ buffer.old.items ++ blank slot_size }
+    ensures room { vec_capacity buffer.old ≤ vec_capacity buffer.new }
+{
+    buffer.extend_from_slice(&[0; SLOT_BYTES]).unwrap();
+}
+
+/// Puts a group's slots, behind the byte of its gate, in the place of what is there: its head, its
+/// entries, and a shut slot where the half has one behind them.
+pub(crate) fn put_slots(
+    buffer: &mut Vec<u8>,
+    journal: Journal,
+    count: u16,
+    entries: &[CarriedEntry],
+)
+    requires count { count ≡ slots_taken entries.now }
+    requires number { journal.number < 2 ^ 63 }
+    requires end { journal.end + count < journal.geometry.slots }
+    requires size { length (flat_map entry_slot (entries_in entries.now)) ≡ 64 * count }
+    requires room { 64 * count + 127 ≤ vec_capacity buffer.old }
+    ensures bytes { buffer.new.items ≡ slots_behind_gate journal.number (entries_in entries.now)
+        ++ shut_slot journal.geometry (journal.end + count + 1) }
+    ensures room { vec_capacity buffer.old ≤ vec_capacity buffer.new }
+{
+    let head = GroupHead {
+        count,
+        first: journal.number + 1,
+    };
+    put_head(buffer, &head);
+    add_entries(buffer, entries);
+    if journal.end + u32::from(count) + 1 < journal.geometry.slots() {
+        add_shut_slot(buffer);
+    }
+}

@@ -1,0 +1,167 @@
+//! The device calls that store a group.
+
+ghost use Rattle.std.specs.Prelude.{◌≡◌, ◌≤◌, ◌<◌, ◌+◌, ◌*◌, IfOk, length, vec_capacity};
+ghost use Rattle.cm_layout.specs.Offsets.{root_size};
+ghost use Rattle.cm_layout.specs.Slots.{open_gate};
+ghost use Rattle.cm_group.specs.Groups.{entries_in, group_limit};
+ghost use Rattle.cm_commit.specs.declared.step.Step.TheVariants as step;
+ghost use Rattle.cm_commit.specs.Plans.{after_call};
+ghost use Rattle.cm_commit.specs.GroupPlans.{root_write, place_write, slots_write};
+ghost use Rattle.cm_commit.specs.Standing.{WritesOnce, CallsOnce, TakesWrite, TakesCall};
+ghost use Rattle.cm_commit.specs.Standing.{gate_write};
+ghost use Rattle.cm_commit.specs.Steps.{FitsJournal, next_gate, stages_at};
+
+use crate::bytes::{put_record, put_slots, put_zeros};
+use crate::entries::{next_record, roots_needed};
+use crate::journal::Journal;
+use crate::step::Step;
+use cm_disk::{DeviceFault, Disk};
+use cm_group::Group;
+use cm_layout::{OPEN_GATE, record_at, root_at, root_bytes, slot_at};
+use cm_pool::{Geometry, Place};
+use cm_record::Record;
+
+/// Writes a root of zeros.
+fn write_root<D: Disk>(
+    disk: &mut D,
+    buffer: &mut Vec<u8>,
+    geometry: Geometry,
+    root: u32,
+) -> Result<(), DeviceFault>
+    requires room { root_size geometry ≤ vec_capacity buffer.old }
+    requires fits { TakesWrite (root_write geometry root) (length (D.contents disk.old)) }
+    ensures written { WritesOnce D.contents D.unsynced D.failures D.moment D.left_since
+        (root_write geometry root) disk.old disk.new result }
+    ensures room { vec_capacity buffer.old ≤ vec_capacity buffer.new }
+{
+    put_zeros(buffer, root_bytes(geometry) as usize);
+    disk.write_at(root_at(geometry, root), buffer)
+}
+
+/// Writes a record in its place.
+fn write_record<D: Disk>(
+    disk: &mut D,
+    buffer: &mut Vec<u8>,
+    geometry: Geometry,
+    place: Place,
+    class: &Record,
+) -> Result<(), DeviceFault>
+    requires room { 8 * length class.now ≤ vec_capacity buffer.old }
+    requires fits { TakesWrite (place_write geometry place class.now)
+        (length (D.contents disk.old)) }
+    ensures written { WritesOnce D.contents D.unsynced D.failures D.moment D.left_since
+        (place_write geometry place class.now) disk.old disk.new result }
+    ensures room { vec_capacity buffer.old ≤ vec_capacity buffer.new }
+{
+    put_record(buffer, class);
+    disk.write_at(record_at(geometry, place), buffer)
+}
+
+/// Writes a group's slots behind the byte of its gate.
+fn write_slots<D: Disk>(
+    disk: &mut D,
+    buffer: &mut Vec<u8>,
+    journal: Journal,
+    group: &Group,
+) -> Result<(), DeviceFault>
+    requires room { root_size journal.geometry ≤ vec_capacity buffer.old }
+    requires group { FitsJournal journal group.now }
+    requires fits { TakesWrite (slots_write journal.geometry journal.half journal.end
+        journal.number (entries_in group.now.entries)) (length (D.contents disk.old)) }
+    ensures written { WritesOnce D.contents D.unsynced D.failures D.moment D.left_since
+        (slots_write journal.geometry journal.half journal.end journal.number
+        (entries_in group.now.entries)) disk.old disk.new result }
+    ensures room { vec_capacity buffer.old ≤ vec_capacity buffer.new }
+{
+    let at = slot_at(journal.geometry, journal.half, journal.end) + 1;
+    let count = group.slots() as u16;
+    put_slots(buffer, journal, count, group.entries());
+    disk.write_at(at, buffer)
+}
+
+/// Makes the next of the writes of a group, and tells the step behind it.
+fn write_next<D: Disk>(
+    disk: &mut D,
+    buffer: &mut Vec<u8>,
+    journal: Journal,
+    group: &Group,
+    roots: u32,
+    from: usize,
+) -> Result<Step, DeviceFault>
+    requires room { root_size journal.geometry ≤ vec_capacity buffer.old }
+    requires group { FitsJournal journal group.now }
+    requires fits { TakesCall (stages_at journal group.now (step.Write roots from))
+        (length (D.contents disk.old)) }
+    ensures called { CallsOnce D.contents D.unsynced D.failures D.moment D.left_since
+        (stages_at journal group.now (step.Write roots from)) disk.old disk.new result }
+    ensures next { IfOk result (λ s. stages_at journal group.now s
+        ≡ after_call (stages_at journal group.now (step.Write roots from))) }
+    ensures room { vec_capacity buffer.old ≤ vec_capacity buffer.new }
+{
+    if roots < roots_needed(group.entries()) {
+        write_root(disk, buffer, journal.geometry, roots)?;
+        return Ok(Step::Write {
+            roots: roots + 1,
+            from,
+        });
+    }
+    match next_record(group.entries(), from) {
+        Some((at, place, class)) => {
+            write_record(disk, buffer, journal.geometry, place, class)?;
+            Ok(Step::Write {
+                roots,
+                from: at + 1,
+            })
+        }
+        None => {
+            write_slots(disk, buffer, journal, group)?;
+            Ok(Step::Sync)
+        }
+    }
+}
+
+/// Writes the byte of a group's gate.
+fn write_gate<D: Disk>(disk: &mut D, journal: Journal) -> Result<(), DeviceFault>
+    requires fits { TakesWrite (gate_write (next_gate journal) open_gate)
+        (length (D.contents disk.old)) }
+    ensures written { WritesOnce D.contents D.unsynced D.failures D.moment D.left_since
+        (gate_write (next_gate journal) open_gate) disk.old disk.new result }
+{
+    let gate = slot_at(journal.geometry, journal.half, journal.end);
+    disk.write_at(gate, &[OPEN_GATE])
+}
+
+/// Makes the next device call of a group, and tells the step behind it.
+pub(crate) fn make_call<D: Disk>(
+    disk: &mut D,
+    buffer: &mut Vec<u8>,
+    journal: Journal,
+    group: &Group,
+    now: Step,
+) -> Result<Step, DeviceFault>
+    requires room { root_size journal.geometry ≤ vec_capacity buffer.old }
+    requires group { FitsJournal journal group.now }
+    requires fits { TakesCall (stages_at journal group.now now) (length (D.contents disk.old)) }
+    ensures called { CallsOnce D.contents D.unsynced D.failures D.moment D.left_since
+        (stages_at journal group.now now) disk.old disk.new result }
+    ensures next { IfOk result (λ s. stages_at journal group.now s
+        ≡ after_call (stages_at journal group.now now)) }
+    ensures room { vec_capacity buffer.old ≤ vec_capacity buffer.new }
+{
+    match now {
+        Step::Write { roots, from } => write_next(disk, buffer, journal, group, roots, from),
+        Step::Sync => {
+            disk.sync()?;
+            Ok(Step::Gate)
+        }
+        Step::Gate => {
+            write_gate(disk, journal)?;
+            Ok(Step::LastSync)
+        }
+        Step::LastSync => {
+            disk.sync()?;
+            Ok(Step::Done)
+        }
+        Step::Done => Ok(Step::Done),
+    }
+}

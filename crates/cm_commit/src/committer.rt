@@ -1,0 +1,312 @@
+//! The committer of a region file.
+
+ghost use Rattle.std.specs.Prelude.{◌≡◌, ◌≤◌, ◌<◌, ◌+◌, ◌^◌, IfOk, IfErr, IsTrue, Some, None, [], true};
+ghost use Rattle.std.specs.Prelude.{false, vec_capacity, length, if◌then◌else◌};
+ghost use Rattle.std.specs.Arc.{arc_value};
+ghost use Rattle.std.specs.List.{list_all};
+ghost use Rattle.cm_guards.specs.Guards.{EachImage};
+ghost use Rattle.cm_guards.specs.Calls.{LeavesOnly};
+ghost use Rattle.cm_rows.specs.Rows.{is_above};
+ghost use Rattle.cm_group.specs.Groups.{entries_in, slots_taken};
+ghost use Rattle.cm_commit.specs.Plans.{calls_left};
+ghost use Rattle.cm_commit.specs.Offers.{carries_own, rows_after_group};
+ghost use Rattle.cm_commit.specs.GroupPlans.{roots_of_entries};
+ghost use Rattle.cm_commit.specs.Keeping.{keep_rules};
+ghost use Rattle.cm_commit.specs.States.{MayLeave};
+ghost use Rattle.cm_commit.specs.Advances.{Advances, HasRisen};
+ghost use Rattle.cm_layout.specs.Offsets.{root_size};
+ghost use Rattle.cm_layout.specs.Rows.{bare, rows_with};
+ghost use Rattle.cm_commit.specs.Keeps.{IsHeld, roots_then};
+
+use crate::applying::fill_all;
+use crate::calls::make_call;
+use crate::entries::{calls_at, roots_needed};
+use crate::journal::Journal;
+use crate::progress::{AdvanceFault, Progress};
+use crate::step::Step;
+use cm_disk::{Disk, SimDisk};
+use cm_group::{Group, Receipt};
+use cm_layout::{Half, root_bytes};
+use cm_pool::Geometry;
+use cm_record::Record;
+use cm_rows::Book;
+use std::alloc::{AllocError, Global};
+use std::marker::Model;
+use std::sync::Arc;
+
+/// The one that writes groups to a region file: it owns the disk, the rows that are committed with
+/// the records of their classes, and the number of the last command. A group is offered to it, and
+/// then stored by one device call after another. All memory that it will ever need is taken when it
+/// is made.
+///
+/// Contracts see a committer as its disk, what is committed, the group that is under way, and the
+/// stages of it that are left.
+pub struct Committer<D: Disk> {
+    disk: D,
+    journal: Journal,
+    /// The rows that are committed, each class with its record.
+    rows: Book<Arc<Record, Global>>,
+    /// The same rows, with nothing kept; while a group is under way, those after it.
+    next: Book<()>,
+    /// How many whole roots the file had when the last group was done.
+    roots: u32,
+    group: Option<Group>,
+    step: Step,
+    is_broken: bool,
+    /// Room for the bytes of one write: no more than a root has.
+    buffer: Vec<u8>,
+}
+
+impl<D: Disk> Model for Committer<D> {
+    ghost use Rattle.std.specs.Prelude.{vec_capacity};
+    ghost use Rattle.std.specs.Arc.{arc_value};
+    ghost use Rattle.cm_layout.specs.Rows.{rows_with};
+    ghost use Rattle.cm_commit.specs.States.{CommitterState};
+    ghost use Rattle.cm_commit.specs.Steps.{stages_left};
+    ghost use Rattle.cm_commit.specs.Keeps.{IsCommitter};
+
+    ghost Value = { CommitterState D };
+
+    ghost view = { λ c. record {
+      disk = c.disk;
+      sizes = c.journal.geometry;
+      rows = rows_with arc_value c.rows.rows;
+      number = c.journal.number;
+      half = c.journal.half;
+      end = c.journal.end;
+      underway = c.group;
+      left = stages_left c.journal c.group c.step;
+      broken = c.is_broken;
+    } };
+
+    ghost invariant = { λ c. IsCommitter D.contents D.unsynced
+        (record {
+          disk = c.disk;
+          sizes = c.journal.geometry;
+          rows = rows_with arc_value c.rows.rows;
+          number = c.journal.number;
+          half = c.journal.half;
+          end = c.journal.end;
+          underway = c.group;
+          left = stages_left c.journal c.group c.step;
+          broken = c.is_broken;
+        }) c.rows.sizes c.next c.roots (vec_capacity c.buffer) };
+}
+
+/// A committer that wasn't made, since memory was refused; its disk.
+#[derive(Debug)]
+pub struct NotMade<D> {
+    /// As it was.
+    pub disk: D,
+}
+
+/// The rows again with nothing kept, and room for the bytes of one write.
+fn take_memory(
+    alloc: Global,
+    geometry: Geometry,
+    rows: &Book<Arc<Record, Global>>,
+) -> Result<(Book<()>, Vec<u8>), AllocError>
+    requires { rows.now.sizes ≡ geometry }
+    ensures next { IfOk result (λ p. p.0 ≡ record { sizes = geometry; rows = bare rows.now.rows }) }
+    ensures room { IfOk result (λ p. root_size geometry ≤ vec_capacity p.1) }
+{
+    let mut next = Book::new(alloc, geometry)?;
+    next.copy_from(rows);
+    let buffer = Vec::with_capacity(alloc, root_bytes(geometry) as usize)?;
+    Ok((next, buffer))
+}
+
+/// Commits a group: its entries are applied to the rows, and the half that counts ends behind it.
+fn finish(
+    journal: &mut Journal,
+    rows: &mut Book<Arc<Record, Global>>,
+    roots: &mut u32,
+    group: Group,
+) -> Receipt
+    requires first { group.first ≡ journal.old.number + 1 }
+    requires above { IsTrue (is_above (journal.old.number + 1) rows.old.rows) }
+    requires own { list_all carries_own group.entries ≡ true }
+    requires kept { keep_rules rows.old.sizes (bare rows.old.rows) (journal.old.number + 1)
+        (entries_in group.entries) ≡ true }
+    requires needed { roots_of_entries (entries_in group.entries) < 2 ^ 32 }
+    requires end { journal.old.end + slots_taken group.entries < 65536 }
+    ensures journal { journal.new ≡ record journal.old {
+      end = journal.old.end + 1 + slots_taken group.entries;
+      number = journal.old.number + length group.entries;
+    } }
+    ensures rows { rows_with arc_value rows.new.rows
+        ≡ rows_after_group (rows_with arc_value rows.old.rows) group.entries }
+    ensures sizes { rows.new.sizes ≡ rows.old.sizes }
+    ensures roots { roots.new ≡ roots_then roots.old group }
+    ensures told { result.number ≡ journal.old.number + length group.entries }
+{
+    let first = group.first();
+    journal.number += group.count() as u64;
+    journal.end += 1 + group.slots() as u32;
+    *roots = (*roots).max(roots_needed(group.entries()));
+    fill_all(rows, first, group.into_entries());
+    Receipt {
+        number: journal.number,
+    }
+}
+
+impl<D: Disk> Committer<D> {
+    /// The committer of a disk that holds the cache of these rows and this number: the half that
+    /// counts, the slot where it ends, and the whole roots of the file are as given. An `Err` hands
+    /// the disk back as it was.
+    pub fn new(
+        alloc: Global,
+        disk: D,
+        geometry: Geometry,
+        rows: Book<Arc<Record, Global>>,
+        number: u64,
+        half: Half,
+        end: u32,
+        roots: u32,
+    ) -> Result<Committer<D>, NotMade<D>>
+        requires sizes { rows.sizes ≡ geometry }
+        requires held { IsHeld (D.contents disk) (D.unsynced disk) geometry
+            (rows_with arc_value rows.rows) number half end roots }
+        ensures made { IfOk result (λ c. c ≡ record {
+          disk = disk;
+          sizes = geometry;
+          rows = rows_with arc_value rows.rows;
+          number = number;
+          half = half;
+          end = end;
+          underway = None;
+          left = [];
+          broken = false;
+        }) }
+        ensures not_made { IfErr result (λ e. e.disk ≡ disk) }
+    {
+        let Ok((next, buffer)) = take_memory(alloc, geometry, &rows) else {
+            return Err(NotMade { disk });
+        };
+        Ok(Committer {
+            disk,
+            journal: Journal {
+                geometry,
+                half,
+                end,
+                number,
+            },
+            rows,
+            next,
+            roots,
+            group: None,
+            step: Step::Done,
+            is_broken: false,
+            buffer,
+        })
+    }
+
+    /// Makes the next device call of the group that is under way, exactly one where any is left:
+    /// a write of a root of zeros for each root by which the file has to grow, a write of each
+    /// record in the order of the entries, a write of the slots behind the gate's byte, a sync, the
+    /// write of the gate's byte, a sync. The last of them commits the group and answers its
+    /// receipt. After `Device` the committer is broken, and makes no call any more.
+    pub fn advance(&mut self) -> Result<Progress, AdvanceFault>
+        ensures moved { Advances self.old result self.new }
+        ensures any_moment { LeavesOnly D.moment D.left_since self.old.disk self.new.disk
+            (MayLeave self.old) }
+        ensures cause { HasRisen (D.failures self.old.disk) (D.failures self.new.disk) result }
+    {
+        if self.is_broken {
+            return Err(AdvanceFault::Broken);
+        }
+        let Some(group) = &self.group else {
+            return Ok(Progress::Idle);
+        };
+        let called = make_call(
+            &mut self.disk,
+            &mut self.buffer,
+            self.journal,
+            group,
+            self.step,
+        );
+        let Ok(step) = called else {
+            self.is_broken = true;
+            return Err(AdvanceFault::Device);
+        };
+        self.step = step;
+        match step {
+            Step::Done => {
+                let group = self.group.take().unwrap();
+                let receipt = finish(&mut self.journal, &mut self.rows, &mut self.roots, group);
+                Ok(Progress::Done(receipt))
+            }
+            _ => Ok(Progress::Working),
+        }
+    }
+
+    /// What a crash leaves now: the cache that is committed, or, once the gate's byte may be
+    /// written, that or the one with the group that is under way.
+    pub fn images(&self)
+        ensures { EachImage (D.contents self.now.disk) (D.unsynced self.now.disk)
+            (MayLeave self.now) }
+    {
+        let _broken = self.is_broken; // so the proof knows what the committer keeps
+    }
+
+    /// How many device calls are left.
+    pub fn steps_left(&self) -> u64
+        ensures { result ≡ (if self.now.broken then 0 else calls_left self.now.left) }
+    {
+        if self.is_broken {
+            return 0;
+        }
+        let Some(group) = &self.group else {
+            return 0;
+        };
+        calls_at(self.step, group.entries())
+    }
+
+    /// The number of the last command that is committed.
+    pub fn number(&self) -> u64
+        ensures { result ≡ self.now.number }
+    {
+        self.journal.number
+    }
+
+    /// The sizes of the region.
+    pub fn geometry(&self) -> Geometry
+        ensures { result ≡ self.now.sizes }
+    {
+        self.journal.geometry
+    }
+
+    /// The disk, as it is now.
+    pub fn into_disk(self) -> D
+        ensures { result ≡ self.disk }
+    {
+        let Committer {
+            disk,
+            journal: _,
+            rows: _rows,
+            next: _next,
+            roots: _,
+            group: _group,
+            step: _,
+            is_broken: _,
+            buffer: _buffer,
+        } = self;
+        disk
+    }
+}
+
+impl Committer<SimDisk> {
+    /// Lets the disk's next call fail; a write stores its first bytes, so many of them.
+    pub fn arm(&mut self, stores: usize)
+        ensures { self.new ≡ record self.old { disk = record self.old.disk { armed = Some stores } } }
+    {
+        self.disk.arm(stores);
+    }
+
+    /// Lets the disk's next call pass.
+    pub fn disarm(&mut self)
+        ensures { self.new ≡ record self.old { disk = record self.old.disk { armed = None } } }
+    {
+        self.disk.disarm();
+    }
+}
