@@ -1,0 +1,339 @@
+-- A command that is accepted: one entry more that waits to be stored.
+use Rattle.std.proofs.Common.{◌≡◌, ℕ, ◌+◌, ◌-◌, ◌*◌, ◌≤◌, Bool, true, false, cond, List, []}
+use Rattle.std.proofs.Common.{◌∷◌, ◌++◌, length, Option, Some, None, Ok, Err, inl, inr, refl, sym}
+use Rattle.std.proofs.Common.{ap}
+use Rattle.std.proofs.Common.{subst, ◌∙◌, arith, append_assoc, append-nil}
+use Rattle.std.specs.Prelude.{◌⊎◌, ◌&&◌, nat_le, nat_lt, Result}
+use Rattle.std.specs.List.{flat_map}
+use Rattle.std.specs.Option.{option_map_or}
+use Rattle.std.proofs.lemmas.List.{length-append}
+use Rattle.std.proofs.lemmas.Bool.{ltb-false}
+use Rattle.cm_pool.specs.declared.chunk.Chunk.{Chunk}
+use Rattle.cm_pool.specs.Chunks.{same_chunk}
+use Rattle.cm_pool.specs.FreeSpace.{FreeSpace, IsUsedChunk}
+use Rattle.cm_pool.specs.Lists.{Among}
+use Rattle.cm_pool.specs.SpaceLaws.{TakenIsHeld, RootsKeepHeld}
+use Rattle.cm_arena.specs.Chains.{Filled, last_of}
+use Rattle.cm_arena.specs.Placing.{Fetches, order_wanted}
+use Rattle.cm_layout.specs.declared.class_row.ClassRow.{ClassRow}
+use Rattle.cm_layout.specs.declared.row.Row.TheVariants.{Loader, Class}
+use Rattle.cm_layout.specs.declared.entry.Entry.{Entry}
+use Rattle.cm_layout.specs.declared.entry.Entry.TheVariants as entry
+use Rattle.cm_layout.specs.Rows.{rows_after, bare, classes_in, last_chunk, used_words}
+use Rattle.cm_layout.specs.Rules.{is_last_chunk, is_unused}
+use Rattle.cm_layout.specs.Frames.{AreApart}
+use Rattle.cm_group.specs.Groups.{Carried, Handed, slots_taken, group_limit}
+use Rattle.cm_space.specs.Space.{SpaceState, Waits, arena_of}
+use Rattle.cm_space.specs.Laws.{OwnedIsUsed, OwnedOrWaiting}
+use Rattle.cm_prepare.specs.declared.refusal.Refusal.{Refusal}
+use Rattle.cm_prepare.specs.declared.refusal.Refusal.TheVariants as refusal
+use Rattle.cm_prepare.specs.Refusals.{refusal_of}
+use Rattle.cm_state.specs.State.{words_show, state_of}
+use Rattle.cm_state.specs.Step.{Change, Cause, step}
+use Rattle.cm_state.specs.Entries.{MayFollow}
+use Rattle.cm_state.specs.Laws.{EntriesAreSteps}
+use Rattle.cm_commit.specs.Offers.{filled, HasRecords, writes_apart, rows_after_group}
+use Rattle.cm_front.specs.Chains.{chain_of}
+use Rattle.cm_front.specs.Laws.{ChainsEndAtTop, ChainsHaveChunks}
+use Rattle.cm_front.specs.Front.{FrontState, IsFront, is_half_full, first_refusal}
+use Rattle.cm_front.specs.Accepting.{Accepts, SpaceAfter, accepted, carried, joined_by}
+use Rattle.cm_front.proofs.RowFacts.{classes_bare}
+use Rattle.cm_front.proofs.Chains.{apart-unused}
+use Rattle.cm_front.proofs.Places.{some-top, fetched_free}
+use Rattle.cm_handover.specs.Ahead.{AllFollow, AtEach, AllApart, AreUsed, UseNoneDue}
+use Rattle.cm_handover.specs.Ahead.{pending, IsAhead}
+use Rattle.cm_handover.specs.Laws.{AcceptedIsAhead}
+use Rattle.cm_handover.proofs.Following.{WordRows, rows_after_two, follow_two, at_one_more}
+use Rattle.cm_handover.proofs.Following.{at_each_also}
+use Rattle.cm_handover.proofs.Following.{apart_one_more}
+use Rattle.cm_handover.proofs.Tops.{GoesOnTop, tops_apart, or_left, used_in}
+use Rattle.cm_handover.proofs.Used.{front_uses, front_due, used_fetched}
+
+-- ---- the entry that waits
+
+pub filled_again : (e : Entry (List ℕ)) → filled (carried e) ≡ e
+filled_again (entry.Live (Loader r)) = refl
+filled_again (entry.Live (Class r words)) = refl
+filled_again (entry.Unload e) = refl
+filled_again (entry.Move e) = refl
+
+-- a move isn't accepted
+has_records : (s : FrontState) (e : Entry (List ℕ)) (new : SpaceState)
+    → MayFollow words_show s.sizes s.number s.rows e → SpaceAfter s e new
+    → HasRecords (carried e).entry (carried e).records
+has_records s (entry.Live (Loader r)) new may after = refl
+has_records s (entry.Live (Class r words)) new may after = (words, refl, may.new.1)
+has_records s (entry.Unload e) new may after = refl
+has_records s (entry.Move e) new may after = after
+
+joined_last : (n : ℕ) (groups : List Handed) (c : Carried)
+    → flat_map (λ (g : Handed). g.entries) (joined_by n groups c)
+    ≡ flat_map (λ (g : Handed). g.entries) groups ++ c ∷ []
+joined_last n [] c = refl
+joined_last n (g ∷ []) c = by_room (nat_le (slots_taken (g.entries ++ c ∷ [])) group_limit)
+  where
+    by_room : (t : Bool)
+        → flat_map (λ (h : Handed). h.entries)
+        (cond t (record { first = g.first; learnt = g.learnt; entries = g.entries ++ c ∷ [] } ∷ [])
+        (g ∷ record { first = n; learnt = 0; entries = c ∷ [] } ∷ []))
+        ≡ (g.entries ++ []) ++ c ∷ []
+    by_room true =
+        append-nil (g.entries ++ c ∷ []) ∙ ap (λ (l : List Carried). l ++ c ∷ []) (sym (append-nil
+        g.entries))
+    by_room false = ap (λ (l : List Carried). l ++ c ∷ []) (sym (append-nil g.entries))
+joined_last n (g ∷ h ∷ groups) c =
+    ap (λ l. g.entries ++ l) (joined_last n (h ∷ groups) c)
+    ∙ sym (append_assoc g.entries (flat_map (λ (k : Handed). k.entries) (h ∷ groups)) (c ∷ []))
+
+pub pending_accepted : (out : List Carried) (s : FrontState) (e : Entry (List ℕ))
+    (space : SpaceState) → pending out (accepted s e space) ≡ pending out s ++ carried e ∷ []
+pending_accepted out s e space =
+    ap (λ l. out ++ l) (joined_last (s.number + 1) s.unsealed (carried e))
+    ∙ sym (append_assoc out (flat_map (λ (g : Handed). g.entries) s.unsealed) (carried e ∷ []))
+
+-- ---- where a class goes
+
+on_top : ChainsEndAtTop → (s : FrontState) (r : ClassRow) → IsFront s
+    → last_of (arena_of s.space r.loader)
+    ≡ Some (record { chunk = r.place.chunk; used = r.place.offset })
+    → GoesOnTop s.rows r
+on_top tops s r f e =
+    let apart : AreApart (classes_in (bare s.rows)) =
+    subst (λ l. AreApart l) (sym (classes_bare s.rows)) f.rows.apart in
+    let here : last_of (chain_of r.loader (bare s.rows))
+    ≡ Some (record { chunk = r.place.chunk; used = r.place.offset }) =
+    subst (λ (l : List Filled). last_of l
+    ≡ Some (record { chunk = r.place.chunk; used = r.place.offset })) (f.space.chains r.loader) e in
+    let top = some-top r.loader (bare s.rows) r.place.chunk r.place.offset
+    (sym (tops s.sizes s.number (bare s.rows) f.rows.live apart r.loader) ∙ here) in
+    record {
+      last = subst (λ (l : List ClassRow).
+          option_map_or (λ (last : Chunk). same_chunk last r.place.chunk) (last_chunk r.loader l)
+          false
+          ≡ true) (classes_bare s.rows) top.0;
+      behind = subst (λ (l : List ClassRow). r.place.offset ≡ used_in r.place.chunk l)
+          (classes_bare s.rows) top.1;
+    }
+
+-- a chunk that is fetched isn't used at any number before
+fetched_each : RootsKeepHeld → (s : FrontState) (r : ClassRow) (words : ℕ) (new : FreeSpace)
+    (wanted need : ℕ) → IsFront s → Fetches s.space.pool wanted need r.place.chunk new
+    → (at : WordRows) → AreUsed s.space.pool at
+    → writes_apart at (entry.Live (Class r (tt {0}))) ≡ true
+fetched_each roots s r words new wanted need f fetches at used =
+    or_left (is_unused r.place.chunk at)
+    (is_last_chunk r.loader r.place.chunk at
+    && nat_le (used_words r.place.chunk at) r.place.offset)
+    (apart-unused r.place.chunk (classes_in at)
+    (λ d m. (fetched_free roots s.space.pool wanted need r.place.chunk new f.space.pool
+    fetches).apart
+    d.place.chunk (used d m)))
+
+-- ---- what an entry's space keeps
+
+-- words that weren't free aren't free after it
+used_kept : TakenIsHeld → RootsKeepHeld → (s : FrontState) (e : Entry (List ℕ)) (new : SpaceState)
+    → SpaceAfter s e new → (d : Chunk) → IsUsedChunk s.space.pool d → IsUsedChunk new.pool d
+used_kept held roots s (entry.Live (Loader r)) new after d used =
+    subst (λ (t : SpaceState). IsUsedChunk t.pool d) (sym after) used
+used_kept held roots s (entry.Live (Class r words)) new after d used =
+    elim after.0 [
+      | inl top ↦ subst (λ p. IsUsedChunk p d) (sym top.1) used
+      | inr fetched ↦
+          used_fetched held roots s.space.pool
+          (order_wanted fetched.need (length (arena_of s.space r.loader)) s.space.pool.geometry.top)
+          fetched.need r.place.chunk new.pool fetched.fetches d used
+    ]
+used_kept held roots s (entry.Unload e) new after d used =
+    subst (λ (t : SpaceState). IsUsedChunk t.pool d) (sym after) used
+used_kept held roots s (entry.Move e) new after d used = absurd after
+
+among_last : (ws : List Waits) (v w : Waits) → Among w (ws ++ v ∷ []) → Among w ws ⊎ (w ≡ v)
+among_last [] v w (inl e) = inr e
+among_last [] v w (inr none) = absurd none
+among_last (x ∷ ws) v w (inl e) = inl (inl e)
+among_last (x ∷ ws) v w (inr rest) =
+    elim (among_last ws v w rest) [ inl old ↦ inl (inr old) | inr e ↦ inr e ]
+
+-- what waits, waits for no number that earlier rows have, but for what waited before
+due_kept : (s : FrontState) (e : Entry (List ℕ)) (new : SpaceState) → SpaceAfter s e new → (k : ℕ)
+    (at : WordRows) → k ≤ s.number → UseNoneDue s.space.waiting k at → UseNoneDue new.waiting k at
+due_kept s (entry.Live (Loader r)) new after k at to none =
+    subst (λ (t : SpaceState). UseNoneDue t.waiting k at) (sym after) none
+due_kept s (entry.Live (Class r words)) new after k at to none =
+    subst (λ (l : List Waits). UseNoneDue l k at) (sym (ap (λ (t : SpaceState). t.waiting) after.1))
+    none
+due_kept s (entry.Unload e) new after k at to none =
+    subst (λ (t : SpaceState). UseNoneDue t.waiting k at) (sym after)
+    (λ w c among small in_w r in_rows. elim (among_last s.space.waiting _ w among) [
+      | inl old ↦ none w c old small in_w r in_rows
+      | inr is ↦
+          let number : w.number ≡ s.number + 1 = ap (λ (v : Waits). v.number) is in
+          absurd (omega (arith, number, small, to))
+    ])
+due_kept s (entry.Move e) new after k at to none = absurd after
+
+-- ---- apart from all rows before
+
+-- a fact that needs nothing
+at_all : (P Q : ℕ → WordRows → Type 0) (n : ℕ) (rows : WordRows) (a : List Carried)
+    → ((k : ℕ) (at : WordRows) → P k at → Q k at) → AtEach P n rows a → AtEach Q n rows a
+at_all P Q n rows a f h = at_each_also P Q n rows a (λ k at from to. f k at) h
+
+-- What is used of what is known of spaces, chunks and rows.
+pub record Known : Type 0 where
+  pub tops : ChainsEndAtTop
+  pub chunks : ChainsHaveChunks
+  pub held : TakenIsHeld
+  pub roots : RootsKeepHeld
+  pub owned : OwnedIsUsed
+  pub apart : OwnedOrWaiting
+  pub steps : EntriesAreSteps (List ℕ)
+
+entry_apart : Known → (rows : WordRows) (number end : ℕ) (out : List Carried) (s : FrontState)
+    (e : Entry (List ℕ)) (new : SpaceState) → IsFront s → IsAhead rows number end out s
+    → SpaceAfter s e new
+    → AtEach (λ k at. writes_apart at (carried e).entry ≡ true) number rows (pending out s)
+entry_apart known rows number end out s (entry.Live (Loader r)) new f a after =
+    at_all (λ n at. AreUsed s.space.pool at) (λ k at. true ≡ true) number rows (pending out s)
+    (λ k at h. refl) a.used
+entry_apart known rows number end out s (entry.Live (Class r words)) new f a after =
+    elim after.0 [
+      | inl top ↦
+          tops_apart known.steps s.sizes number rows (pending out s) r a.cache a.follow a.apart
+          (let is = a.numbers in let to = f.numbers in omega (arith, is, to))
+          (subst (λ l. GoesOnTop l r) (sym a.rows_are) (on_top known.tops s r f top.0.last))
+      | inr fetched ↦
+          at_all (λ n at. AreUsed s.space.pool at)
+          (λ k at. writes_apart at (entry.Live (Class r (tt {0}))) ≡ true) number rows (pending out
+          s)
+          (λ k at h. fetched_each known.roots s r (length words) new.pool
+          (order_wanted fetched.need (length (arena_of s.space r.loader)) s.space.pool.geometry.top)
+          fetched.need f fetched.fetches at h) a.used
+    ]
+entry_apart known rows number end out s (entry.Unload e) new f a after =
+    at_all (λ n at. AreUsed s.space.pool at) (λ k at. true ≡ true) number rows (pending out s)
+    (λ k at h. refl) a.used
+entry_apart known rows number end out s (entry.Move e) new f a after = absurd after
+
+-- ---- slots
+
+not_half_full : (s : FrontState) (change : Change (List ℕ)) → first_refusal s change ≡ None
+    → is_half_full s ≡ false
+not_half_full s change h =
+    by_closed s.closed s.broken
+    (step words_show s.sizes (state_of words_show s.rows) s.number change) (is_half_full s) h
+  where
+    by_full : (t : Bool)
+        → ◌≡◌ {A = Option Refusal} (cond t (Some refusal.JournalFull) None) None → t ≡ false
+    by_full true e = absurd (cc)
+    by_full false e = refl
+
+    by_step : {M : Type 0} (answer : Result M Cause) (t : Bool)
+        → ◌≡◌ {A = Option Refusal} (elim answer [
+          | Err cause ↦ Some (refusal_of cause)
+          | Ok next ↦ cond t (Some refusal.JournalFull) None
+        ]) None → t ≡ false
+    by_step (Err cause) t e = absurd (cc)
+    by_step (Ok next) t e = by_full t e
+
+    by_closed : {M : Type 0} (closed broken : Bool) (answer : Result M Cause) (t : Bool)
+        → ◌≡◌ {A = Option Refusal} (cond closed (Some refusal.Closed) (cond broken (Some
+        refusal.Broken)
+        (elim answer [
+          | Err cause ↦ Some (refusal_of cause)
+          | Ok next ↦ cond t (Some refusal.JournalFull) None
+        ]))) None → t ≡ false
+    by_closed true broken answer t e = absurd (cc)
+    by_closed false true answer t e = absurd (cc)
+    by_closed false false answer t e = by_step answer t e
+
+slots_left : (slots opened_slot opened n : ℕ)
+    → nat_lt (slots - 1) (opened_slot + 2 * (n - opened) + 1) ≡ false → opened ≤ n
+    → opened_slot + 2 * (n + 1 - opened) ≤ slots
+slots_left slots opened_slot opened n e to =
+    let room = ltb-false (slots - 1) (opened_slot + 2 * (n - opened) + 1) e in
+    omega (arith, room, to)
+
+-- ---- one command more
+
+accepted_ahead : Known → (rows : WordRows) (number end : ℕ) (out : List Carried) (s : FrontState)
+    (e : Entry (List ℕ)) (space : SpaceState) → IsFront s → IsFront (accepted s e space)
+    → IsAhead rows number end out s → MayFollow words_show s.sizes s.number s.rows e
+    → SpaceAfter s e space → is_half_full s ≡ false
+    → IsAhead rows number end out (accepted s e space)
+accepted_ahead known rows number end out s e space f g a may after room = record {
+  cache = a.cache;
+  numbers =
+      let is = a.numbers in
+      let long = ap length longer in
+      let more = length-append before (carried e ∷ []) in
+      omega (arith, is, long, more);
+  sealed = a.sealed;
+  learnt = a.learnt;
+  rows_are = ap (rows_after_group rows) longer ∙ last_rows;
+  follow = subst (λ l. AllFollow s.sizes rows number l) (sym longer)
+      (follow_two s.sizes rows number before (carried e ∷ []) a.follow
+      (last_follows.0, last_follows.1, tt));
+  apart = subst (λ l. AllApart rows l) (sym longer)
+      (apart_one_more number rows before (carried e) a.apart
+      (entry_apart known rows number end out s e space f a after));
+  used = subst (λ l. AtEach (λ n at. AreUsed space.pool at) number rows l) (sym longer)
+      (at_one_more (λ n at. AreUsed space.pool at) number rows before (carried e)
+      (at_all (λ n at. AreUsed s.space.pool at) (λ n at. AreUsed space.pool at) number rows before
+      (λ k at h r m. used_kept known.held known.roots s e space after r.place.chunk (h r m)) a.used)
+      (subst (λ l. AreUsed space.pool l) (sym next_rows) (front_uses known.chunks known.owned _
+      g)));
+  due = subst (λ l. AtEach (UseNoneDue space.waiting) number rows l) (sym longer)
+      (at_one_more (UseNoneDue space.waiting) number rows before (carried e)
+      (at_each_also (UseNoneDue s.space.waiting) (UseNoneDue space.waiting) number rows before
+      (λ k at from to h. due_kept s e space after k at (let is = a.numbers in omega (
+        arith,
+        is,
+        to,
+      )) h)
+      a.due)
+      (subst (λ l. UseNoneDue space.waiting (number + length before + 1) l) (sym next_rows)
+      (front_due known.chunks known.apart _ (number + length before + 1) g)));
+  slots = record {
+    since = a.slots.since;
+    end_to = a.slots.end_to;
+    all_to =
+        let opened = f.opened in
+        slots_left s.sizes.slots s.opened.slot s.opened.number s.number room opened;
+  };
+}
+  where
+    before : List Carried
+    before = pending out s
+
+    longer : pending out (accepted s e space) ≡ pending out s ++ carried e ∷ []
+    longer = pending_accepted out s e space
+
+    next_rows : rows_after (rows_after_group rows (pending out s)) (filled (carried e))
+        ≡ rows_after s.rows e
+    next_rows =
+        ap (λ l. rows_after l (filled (carried e))) a.rows_are
+        ∙ ap (rows_after s.rows) (filled_again e)
+
+    last_rows : rows_after_group rows (pending out s ++ carried e ∷ []) ≡ rows_after s.rows e
+    last_rows = rows_after_two rows (pending out s) (carried e ∷ []) ∙ next_rows
+
+    last_follows : MayFollow words_show s.sizes (number + length (pending out s))
+        (rows_after_group rows (pending out s)) (filled (carried e))
+        × HasRecords (carried e).entry (carried e).records
+    last_follows = (
+      subst (λ n. MayFollow words_show s.sizes n (rows_after_group rows (pending out s))
+          (filled (carried e))) (sym a.numbers)
+          (subst (λ l. MayFollow words_show s.sizes s.number l (filled (carried e))) (sym
+          a.rows_are)
+          (subst (λ d. MayFollow words_show s.sizes s.number s.rows d) (sym (filled_again e)) may)),
+      has_records s e space may after,
+    )
+
+pub accepted_is_ahead : Known → AcceptedIsAhead
+accepted_is_ahead known rows number end out s new change n f g a answer =
+    let is : Accepts s change n new = answer.2 in
+    subst (λ t. IsAhead rows number end out t) (sym is.after)
+    (accepted_ahead known rows number end out s is.entry new.space f
+    (subst (λ t. IsFront t) is.after g) a is.may is.space (not_half_full s change answer.0))

@@ -1,0 +1,5 @@
+pub mod Following
+pub mod Tops
+pub mod Used
+pub mod Accepted
+pub mod Handed
