@@ -1,0 +1,4 @@
+pub mod Classes
+pub mod Causes
+pub mod Making
+pub mod Fronts

@@ -1,0 +1,109 @@
+-- The cache as an abstract machine: which commands were accepted, how many of them were handed out,
+-- and how many surely live on. There are no chunks here, no journal and no offsets.
+use Rattle.std.specs.Prelude.{◌≡◌, ℕ, ◌+◌, ◌<◌, ◌≤◌, ◌⊎◌, Bool, false, List, [], ◌∷◌, ◌++◌}
+use Rattle.std.specs.Prelude.{length, take, Some, Result, Ok, Err}
+use Rattle.cm_class.specs.declared.class_file.ClassFile.{ClassFile}
+use Rattle.cm_pool.specs.Geometry.{Sizes}
+use Rattle.cm_record.specs.Layout.{lay, limit}
+use Rattle.cm_group.specs.Groups.{group_limit}
+use Rattle.cm_prepare.specs.declared.refusal.Refusal.{Refusal}
+use Rattle.cm_prepare.specs.declared.refusal.Refusal.TheVariants as refusal
+use Rattle.cm_prepare.specs.Refusals.{refusal_of}
+use Rattle.cm_rules.specs.Keeps.{KeepsRules}
+use Rattle.cm_state.specs.State.{CacheState, class_shows}
+use Rattle.cm_state.specs.Step.{Change, AddLoader, Define, Unload, Tighten, Cause, step}
+use Rattle.cm_state.specs.Fold.{fold_from_empty}
+
+pub record Machine : Type 0 where
+  -- the accepted commands in order: each has the number of its place, from 1 on
+  pub commands : List (Change ClassFile)
+  -- how many of them are acknowledged, and how many were handed out
+  pub acknowledged : ℕ
+  pub sealed : ℕ
+  -- the device failed since the file was opened, and this was noticed
+  pub failed : Bool
+  pub noticed : Bool
+
+-- nothing was accepted yet
+abbrev pub empty_machine : Machine
+empty_machine =
+    record { commands = []; acknowledged = 0; sealed = 0; failed = false; noticed = false }
+
+-- what a cache holds after commands
+abbrev pub Holds : Sizes → List (Change ClassFile) → CacheState → Type 0
+Holds sizes commands m = fold_from_empty class_shows sizes commands ≡ Some (m, length commands)
+
+-- ---- accepting
+
+-- a class that keeps the rules, and whose record isn't longer than any may be
+pub record IsRight (c : ClassFile) : Type 0 where
+  pub kept : KeepsRules c
+  pub short : length (lay c) ≤ limit
+
+-- the command asks for this change, of a class that is known by the words of its record
+abbrev pub Asks : Change (List ℕ) → Change ClassFile → Type 0
+Asks (AddLoader x) change = change ≡ AddLoader x
+Asks (Define x words) change =
+    (c : ClassFile) × IsRight c × (lay c ≡ words) × (change ≡ Define x c)
+Asks (Unload x) change = change ≡ Unload x
+Asks (Tighten x) change = change ≡ Tighten x
+
+-- It is accepted with the next number, where no cause stands against it.
+pub record Accepts (sizes : Sizes) (k : Machine) (change : Change ClassFile) (number : ℕ)
+    (next : Machine) : Type 0 where
+  pub state : CacheState
+  pub holds : Holds sizes k.commands state
+  pub after : CacheState
+  pub may : step class_shows sizes state (length k.commands) change ≡ Ok after
+  pub number_is : number ≡ length k.commands + 1
+  pub next_is : next ≡ record k { commands = k.commands ++ change ∷ [] }
+
+-- a command may be refused for want of room against which no cause stands: in the region, in the
+-- half of the journal that counts, in memory
+abbrev pub WantsRoom : Change ClassFile → Refusal → Type 0
+WantsRoom change r =
+    ((r ≡ refusal.RegionFull) × IsClass change)
+    ⊎ ((r ≡ refusal.JournalFull) ⊎ (r ≡ refusal.NoMemory))
+  where
+    IsClass : Change ClassFile → Type 0
+    IsClass (Define x c) = Unit {0}
+    IsClass other = ⊥
+
+abbrev pub IsReason : Result CacheState Cause → Change ClassFile → Refusal → Type 0
+IsReason (Err cause) change r = r ≡ refusal_of cause
+IsReason (Ok after) change r = WantsRoom change r
+
+-- It is refused: for the first cause against it, or for want of room.
+pub record Refuses (sizes : Sizes) (k : Machine) (change : Change ClassFile)
+    (r : Refusal) : Type 0 where
+  pub state : CacheState
+  pub holds : Holds sizes k.commands state
+  pub reason : IsReason (step class_shows sizes state (length k.commands) change) change r
+
+-- ---- handing out, acknowledging, opening again
+
+-- a group of commands is handed out, with the numbers behind those that were
+pub record Seals (k : Machine) (first last : ℕ) (next : Machine) : Type 0 where
+  pub first_is : first ≡ k.sealed + 1
+  pub some : first ≤ last
+  pub few : last ≤ k.sealed + group_limit
+  pub known : last ≤ length k.commands
+  pub next_is : next ≡ record k { sealed = last }
+
+-- commands that were handed out are stored for sure
+pub record Acknowledges (k : Machine) (number : ℕ) (next : Machine) : Type 0 where
+  pub more : k.acknowledged < number
+  pub known : number ≤ k.sealed
+  pub next_is : next ≡ record k { acknowledged = number }
+
+-- the file is opened again: what was acknowledged is there, and nothing that wasn't handed out
+pub record Reopens (k : Machine) (number : ℕ) (next : Machine) : Type 0 where
+  pub least : k.acknowledged ≤ number
+  pub most : number ≤ k.sealed
+  pub next_is : next ≡ record {
+    commands = take number k.commands;
+    acknowledged = number;
+    sealed = number;
+    failed = false;
+    noticed = false;
+  }
