@@ -3,3 +3,11 @@ pub mod Empty
 pub mod Gate
 pub mod Halves
 pub mod Readings
+pub mod Packs
+pub mod RecordPlaces
+pub mod Verdicts
+pub mod Passing
+pub mod Shared
+pub mod Assembled
+pub mod SyncRuns
+pub mod Opened

@@ -1,8 +1,15 @@
 -- Runs of reads, one behind the other, where the last one's fault is told.
-use Rattle.std.proofs.Common.{ℕ, List, inr, ◌⊎◌}
+use Rattle.std.proofs.Common.{◌≡◌, ℕ, List, Ok, Err, inr, ◌⊎◌}
+use Rattle.std.specs.Prelude.{Result}
 use Rattle.cm_disk.specs.Disk.{Unsynced}
 use Rattle.cm_guards.specs.Calls.{Reads}
 use Rattle.cm_guards.proofs.Left.{reads_on, reads_less}
+use Rattle.cm_recover.specs.declared.fault.OpenFault.{OpenFault}
+
+-- what is answered is no fault then
+pub ok_no_fault : {A : Type 0} (r : Result A OpenFault) (x : A) (f : OpenFault) → r ≡ Ok x → r ≡ Err f
+    → ⊥
+ok_no_fault r x f ok err = absurd (cc)
 
 module _ {D : Type 0} (moment : D → ℕ) (left_since : D → ℕ → List ℕ → Type 0)
     (contents : D → List ℕ) (unsynced : D → Unsynced) (failures : D → ℕ) where

@@ -1,4 +1,6 @@
 pub mod NewFile
 pub mod Making
 pub mod Opening
+pub mod Standing
+pub mod Opened
 pub mod Laws

@@ -5,9 +5,15 @@ mod fault;
 mod laws;
 mod making;
 mod new_file;
+mod opening;
 mod reading;
+mod record_words;
+mod shared_rows;
+mod standing;
 
 pub use fault::{FormatFault, OpenFault};
 pub use laws::new_file_is_empty;
 pub use making::format;
+pub use opening::{NotOpened, open};
 pub use reading::{FoundFile, read_found};
+pub use standing::{StandingFile, read_standing};

@@ -7,3 +7,7 @@ mod found;
 mod making;
 #[cfg(test)]
 mod reading;
+#[cfg(test)]
+mod samples;
+#[cfg(test)]
+mod standing;

@@ -1,0 +1,289 @@
+-- What a file stands for has what the accepted cache and its committer are made of.
+use Rattle.std.proofs.Common.{◌≡◌, ℕ, ◌+◌, ◌*◌, ◌^◌, ◌≤◌, Bool, true, false, cond, List, [], ◌∷◌}
+use Rattle.std.proofs.Common.{◌++◌, length, drop, Option, Some, None, Ok, refl, sym, ap, subst, ◌∙◌}
+use Rattle.std.proofs.Common.{arith, eqb}
+use Rattle.std.specs.Prelude.{◌&&◌}
+use Rattle.std.specs.List.{AllByRecursion}
+use Rattle.std.specs.Str.{bytes_eq}
+use Rattle.std.proofs.lemmas.List.{map-append}
+use Rattle.cm_class.specs.declared.class_file.ClassFile.{ClassFile}
+use Rattle.cm_class.specs.Names.{class_name_of}
+use Rattle.cm_record.specs.Layout.{lay, limit, IsRecordOf}
+use Rattle.cm_record.specs.Names.{class_name_in}
+use Rattle.cm_pool.specs.Geometry.{Sizes, IsGeometry}
+use Rattle.cm_layout.specs.declared.row.Row.{Row}
+use Rattle.cm_layout.specs.Offsets.{roots_at}
+use Rattle.cm_layout.specs.declared.row.Row.TheVariants.{Loader, Class}
+use Rattle.cm_layout.specs.Rows.{rows_with, row_with, bare}
+use Rattle.cm_layout.specs.Frames.{BareRow, LiveRowsKeep, HoldsRow}
+use Rattle.cm_layout.specs.Framing.{Framing, IsRight, Matches}
+use Rattle.cm_commit.specs.Committed.{end_slot}
+use Rattle.cm_commit.proofs.Slots.{end_is as ends_with_slots}
+use Rattle.cm_state.specs.State.{NamesDiffer, class_shows, words_show, class_among}
+use Rattle.cm_state.specs.Stands.{EachKeepsRules}
+use Rattle.cm_state.specs.Entries.{AreCacheRows}
+use Rattle.cm_front.specs.Front.{AreRight}
+use Rattle.cm_verdict.specs.Found.{Found}
+use Rattle.cm_verdict.specs.Verdict.{Standing, verdict}
+use Rattle.cm_verdict.specs.Laws.{FoundIsLive, FoundIsFramed, VerdictStands, Proves, IsFramed, IsLive}
+use Rattle.cm_verdict.proofs.Parts.{bare_words}
+use Rattle.std.specs.Arc.{arc_value}
+use Rattle.cm_disk.specs.Disk.{Unsynced, IsSettled}
+use Rattle.cm_rows.specs.Rows.{LiveRows}
+use Rattle.cm_commit.specs.GroupPlans.{whole_roots}
+use Rattle.cm_commit.specs.Keeps.{IsHeld, AreRight as AreCommittedRight}
+use Rattle.cm_commit.specs.States.{CommitterState}
+use Rattle.cm_front.specs.Front.{FrontState}
+use Rattle.cm_front.specs.Restoring.{Restores}
+use Rattle.cm_recover.specs.declared.standing.StandingFile.{StandingFile}
+use Rattle.cm_recover.specs.Standing.{TellNames, Tells, IsStanding}
+use Rattle.cm_recover.specs.Opened.{Opens}
+use Rattle.cm_recover.proofs.RecordPlaces.{place_of, short_enough}
+use Rattle.cm_recover.proofs.Passing.{more_named}
+
+-- the name of a class stands in the words of its record
+abbrev pub TellsName : Type 0
+TellsName = (c : ClassFile) (words : List ℕ) → IsRecordOf c words → class_name_in words ≡ class_name_of c
+
+-- ---- records
+
+-- no record is longer than any may be
+abbrev AreShort : List (Row (List ℕ)) → Type 0
+AreShort [] = Unit {0}
+AreShort (Loader r ∷ rows) = AreShort rows
+AreShort (Class r words ∷ rows) = (length words ≤ limit) × AreShort rows
+
+are_short : (sizes : Sizes) → IsGeometry sizes → (n : ℕ) (roots : List ℕ) (pre : List BareRow)
+    (rows : List (Row (List ℕ))) → LiveRowsKeep sizes n pre (bare rows)
+    → AllByRecursion (HoldsRow sizes roots) rows → AreShort rows
+are_short sizes g n roots pre [] live held = tt
+are_short sizes g n roots pre (Loader r ∷ rows) live held =
+    are_short sizes g n roots (pre ++ Loader r ∷ []) rows live.2 held.1
+are_short sizes g n roots pre (Class r words ∷ rows) live held = (
+  let short = short_enough sizes r.place (place_of sizes g n pre r live.1) in
+      let count = held.0.count in
+      omega (arith, short, count),
+  are_short sizes g n roots (pre ++ Class r (tt {0}) ∷ []) rows live.2 held.1,
+)
+
+tell_names : TellsName → (classes : List (Row ClassFile)) → EachKeepsRules classes
+    → AreShort (rows_with lay classes) → TellNames classes
+tell_names tells [] kept short = tt
+tell_names tells (Loader r ∷ rows) kept short = tell_names tells rows kept short
+tell_names tells (Class r c ∷ rows) kept short = (
+  tells c (lay c) (record { spelled = kept.0.spelled; laid = refl; short = short.0 }),
+  tell_names tells rows kept.1 short.1,
+)
+
+pub are_right : (classes : List (Row ClassFile)) → EachKeepsRules classes
+    → AreRight (rows_with lay classes)
+are_right [] kept = tt
+are_right (Loader r ∷ rows) kept = are_right rows kept
+are_right (Class r c ∷ rows) kept = ((c, kept.0, refl), are_right rows kept.1)
+
+-- ---- names
+
+no_class : (u : ℕ) (x : List ℕ) (rows : List (Row ClassFile)) → TellNames rows
+    → class_among class_shows u x rows ≡ None
+    → class_among words_show u x (rows_with lay rows) ≡ None
+no_class u x [] named none = refl
+no_class u x (Loader r ∷ rows) named none = no_class u x rows named none
+no_class u x (Class r c ∷ rows) named none =
+    ap (λ (name : List ℕ). cond (eqb r.loader u && bytes_eq name x) (Some (lay c))
+    (class_among words_show u x (rows_with lay rows))) named.0
+    ∙ by_test (eqb r.loader u && bytes_eq (class_name_of c) x) (no_class u x rows named.1) none
+  where
+    by_test : (t : Bool)
+        → (class_among class_shows u x rows ≡ None
+        → class_among words_show u x (rows_with lay rows) ≡ None)
+        → cond t (Some c) (class_among class_shows u x rows) ≡ None
+        → cond t (Some (lay c)) (class_among words_show u x (rows_with lay rows)) ≡ None
+    by_test true rest e = absurd (cc)
+    by_test false rest e = rest e
+
+names_before : (before : List (Row ClassFile)) (row : Row ClassFile)
+    (rows : List (Row (List ℕ)))
+    → NamesDiffer words_show (rows_with lay (before ++ row ∷ [])) rows
+    → NamesDiffer words_show (rows_with lay before ++ row_with lay row ∷ []) rows
+names_before before row rows =
+    subst (λ (l : List (Row (List ℕ))). NamesDiffer words_show l rows)
+    (map-append (row_with lay) before (row ∷ []))
+
+names_differ : (before rows : List (Row ClassFile)) → TellNames before → TellNames rows
+    → NamesDiffer class_shows before rows
+    → NamesDiffer words_show (rows_with lay before) (rows_with lay rows)
+names_differ before [] told named differ = tt
+names_differ before (Loader r ∷ rows) told named differ =
+    names_before before (Loader r) (rows_with lay rows)
+    (names_differ (before ++ Loader r ∷ []) rows (more_named before (Loader r) told tt) named differ)
+names_differ before (Class r c ∷ rows) told named differ = (
+  ap (λ (x : List ℕ). class_among words_show r.loader x (rows_with lay before)) named.0
+      ∙ no_class r.loader (class_name_of c) before told differ.0,
+  names_before before (Class r c) (rows_with lay rows)
+      (names_differ (before ++ Class r c ∷ []) rows (more_named before (Class r c) told (named.0, tt))
+      named.1 differ.1),
+)
+
+-- ---- the file
+
+-- what a file stands for is what its contents frame, with rows of a cache
+pub record IsOpened (contents : List ℕ) (s : Standing) (rows : List (Row (List ℕ))) : Type 0 where
+  pub framing : Framing
+  pub counting_is : framing.counting ≡ s.found.half
+  pub end_is : end_slot framing ≡ s.found.end
+  pub right : IsRight s.found.sizes framing rows s.found.number
+  pub matches : Matches s.found.sizes framing rows contents
+  pub cache : AreCacheRows words_show s.found.sizes s.found.number rows
+  pub records : AreRight rows
+  pub number_is : s.found.number ≤ 2 ^ 63
+  pub lawful : IsGeometry s.found.sizes
+
+module _ (live : FoundIsLive) (framed : FoundIsFramed) (stands : VerdictStands) (tells : TellsName)
+    (contents : List ℕ) (s : Standing) (e : verdict contents ≡ Ok s) where
+  abbrev found : Found
+  found = s.found
+
+  abbrev p : Proves contents s
+  p = stands contents s e
+
+  abbrev b : IsFramed contents found
+  b = framed contents found p.found p.whole
+
+  abbrev l : IsLive contents found
+  l = live contents found p.found
+
+  right_here : IsRight found.sizes b.framing (rows_with lay s.rows) found.number
+  right_here =
+      subst (λ (rows : List (Row (List ℕ))). IsRight found.sizes b.framing rows found.number)
+      (sym p.words) b.right
+
+  match_here : Matches found.sizes b.framing (rows_with lay s.rows) contents
+  match_here =
+      subst (λ (rows : List (Row (List ℕ))). Matches found.sizes b.framing rows contents)
+      (sym p.words) b.matches
+
+  live_here : LiveRowsKeep found.sizes found.number [] (bare (rows_with lay s.rows))
+  live_here =
+      subst (LiveRowsKeep found.sizes found.number [])
+      (sym (ap (λ (rows : List (Row (List ℕ))). bare rows) p.words ∙ bare_words found.sizes contents found.rows)) l.live
+
+  named : TellNames s.rows
+  named =
+      tell_names tells s.rows p.kept
+      (are_short found.sizes l.lawful found.number (drop (roots_at found.sizes) contents) [] (rows_with lay s.rows) live_here
+      match_here.records)
+
+  pub opened : IsOpened contents s (rows_with lay s.rows)
+  opened = record {
+    framing = b.framing;
+    counting_is = b.counting_is;
+    end_is =
+        let used = ends_with_slots found.sizes b.framing right_here.good in
+        let end = b.end_is in
+        omega (arith, used, end);
+    right = right_here;
+    matches = match_here;
+    cache = record {
+      live = live_here;
+      apart = right_here.apart;
+      differ = names_differ [] s.rows tt named p.differ;
+    };
+    records = are_right s.rows p.kept;
+    number_is = l.number;
+    lawful = l.lawful;
+  }
+
+-- ---- in memory
+
+committed_right : (rows : List (Row (List ℕ))) → AreRight rows → AreCommittedRight rows
+committed_right [] right = tt
+committed_right (Loader r ∷ rows) right = (tt, committed_right rows right)
+committed_right (Class r words ∷ rows) right = (right.0, committed_right rows right.1)
+
+module _ (live : FoundIsLive) (framed : FoundIsFramed) (stands : VerdictStands) (tells : TellsName)
+    (contents : List ℕ) (file : StandingFile)
+    (t : Tells (IsStanding contents) (verdict contents) file) where
+  abbrev told : Standing
+  told = t.told
+
+  o : IsOpened contents told (rows_with lay told.rows)
+  o = opened live framed stands tells contents told t.verdict_is
+
+  pub front_rows : AreCacheRows words_show file.rows.sizes file.number file.rows.rows
+  front_rows =
+      subst (λ (n : ℕ). AreCacheRows words_show file.rows.sizes n file.rows.rows)
+      (sym t.alike.number)
+      (subst (λ (l : LiveRows (List ℕ)). AreCacheRows words_show l.sizes told.found.number l.rows)
+      (sym t.alike.rows) o.cache)
+
+  pub front_right : AreRight file.rows.rows
+  front_right = subst (λ (l : LiveRows (List ℕ)). AreRight l.rows) (sym t.alike.rows) o.records
+
+  pub front_last : file.number ≤ 2 ^ 63
+  front_last = let n = t.alike.number in omega (arith, n, o.number_is)
+
+  pub held : (now : List ℕ) (unsynced : Unsynced) → IsSettled now unsynced → now ≡ contents
+      → IsHeld now unsynced file.geometry (rows_with arc_value file.committed.rows) file.number
+      file.half file.end file.roots
+  held now unsynced settled same =
+      rw (
+        t.alike.geometry,
+        t.alike.committed,
+        t.alike.number,
+        t.alike.half,
+        t.alike.end,
+        t.alike.roots,
+      ) (record {
+        settled = settled;
+        framing = o.framing;
+        counting_is = o.counting_is;
+        end_is = o.end_is;
+        right = o.right;
+        matches = subst (Matches told.found.sizes o.framing (rows_with lay told.rows)) (sym same)
+            o.matches;
+        cache = o.cache;
+        records = committed_right (rows_with lay told.rows) o.records;
+        number_is = o.number_is;
+        roots_are = ap (λ (l : List ℕ). whole_roots told.found.sizes (length l)) (sym same);
+      })
+
+  pub opens : {D : Type 0} (disk : D) (front : FrontState) (committer : CommitterState D)
+      → Restores file.rows file.number file.end front
+      → committer ≡ record {
+        disk = disk;
+        sizes = file.geometry;
+        rows = rows_with arc_value file.committed.rows;
+        number = file.number;
+        half = file.half;
+        end = file.end;
+        underway = None;
+        left = [];
+        broken = false;
+      }
+      → Opens contents front committer
+  opens {D = D} disk front committer restored made = record {
+    standing = told;
+    verdict_is = t.verdict_is;
+    stands = (stands contents told t.verdict_is).stands;
+    front_is = subst (λ (n : ℕ). Restores (record {
+      sizes = told.found.sizes;
+      rows = rows_with lay told.rows;
+    }) told.found.number n front) t.alike.end
+        (subst (λ (n : ℕ). Restores (record {
+          sizes = told.found.sizes;
+          rows = rows_with lay told.rows;
+        }) n file.end front) t.alike.number
+        (subst (λ (l : LiveRows (List ℕ)). Restores l file.number file.end front) t.alike.rows
+        restored));
+    committer_is = made ∙ (λ i. record {
+      disk = sym (ap (λ (c : CommitterState D). c.disk) made) i;
+      sizes = t.alike.geometry i;
+      rows = t.alike.committed i;
+      number = t.alike.number i;
+      half = t.alike.half i;
+      end = t.alike.end i;
+      underway = None;
+      left = [];
+      broken = false;
+    });
+  }

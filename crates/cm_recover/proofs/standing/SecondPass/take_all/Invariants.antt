@@ -1,0 +1,16 @@
+use Rattle.std.proofs.Common.{length}
+use Rattle.cm_guards.specs.Calls.{Reads}
+use Rattle.cm_recover.proofs.Passing.{IsPassing}
+use Rattle.cm_recover.proofs.standing.SecondPass.take_all.Given as goal
+
+-- what is still to be taken comes to what all of it does
+abbrev pub invariant-loop-row : goal.invariant-loop-row
+invariant-loop-row g l = record {
+  reads : Reads g.D.Disk.contents g.D.Disk.unsynced g.D.Disk.failures g.D.Disk.moment
+      g.D.Disk.left_since l.fn.disk l.disk ⊥;
+  passing : IsPassing l.self.geometry (g.D.Disk.contents l.fn.disk) l.self.number l.found.rows
+      l.left l.rows;
+}
+
+abbrev pub decreases-loop-row : goal.decreases-loop-row
+decreases-loop-row g l = length l.left

@@ -1,0 +1,85 @@
+//! Opening a file.
+
+ghost use Rattle.std.specs.Prelude.{◌≡◌, Err, IfOk, IfErr, OnOk};
+ghost use Rattle.cm_disk.specs.Disk.{IsSettled};
+ghost use Rattle.cm_verdict.specs.Verdict.{verdict};
+ghost use Rattle.cm_recover.specs.declared.fault.OpenFault.TheVariants as open_fault;
+ghost use Rattle.cm_recover.specs.Opening.{IsFaultIn};
+ghost use Rattle.cm_recover.specs.Standing.{Answers, IsStanding};
+ghost use Rattle.cm_recover.specs.Opened.{SyncsAndReads, Opens, disk_after, MeetsDevice};
+
+use crate::fault::OpenFault;
+use crate::standing::{StandingFile, read_standing};
+use cm_commit::{Committer, NotMade};
+use cm_disk::Disk;
+use cm_front::Front;
+use cm_record::words_tell_name;
+use cm_verdict::{found_is_framed, found_is_live, verdict_is_exact};
+use std::alloc::Global;
+
+/// A file that isn't opened: why, and its disk.
+#[derive(Debug)]
+pub struct NotOpened<D> {
+    pub fault: OpenFault,
+    /// With the contents that it had, and no more of them unsynced.
+    pub disk: D,
+}
+
+// Has all stored that the disk holds, and reads what it stands for.
+fn read_synced<D: Disk>(alloc: Global, disk: &mut D) -> Result<StandingFile, OpenFault>
+    ensures standing { Answers (IsStanding (D.contents disk.old)) result
+        (verdict (D.contents disk.old)) }
+    ensures stored { OnOk result (IsSettled (D.contents disk.new) (D.unsynced disk.new)) }
+    ensures run { SyncsAndReads D.contents D.unsynced D.failures D.moment D.left_since disk.old
+        disk.new (result ≡ Err open_fault.Device) }
+{
+    disk.sync()?;
+    read_standing(alloc, disk)
+}
+
+/// Opens the cache of a file: the accepted cache, and the committer of its disk, both with the rows
+/// that the file stands for and the number of its last command. It begins with a sync, so a crash
+/// leaves what was opened, and nothing else; the rest are reads.
+///
+/// `NotACache` and `Damaged` exactly where the verdict on the file's bytes says so; `Device` where
+/// the device failed; `NoMemory` where an allocation failed. The disk is handed back then, as it
+/// was, and each image that a crash may leave is one that it might have left before the call.
+pub fn open<D: Disk>(alloc: Global, mut disk: D) -> Result<(Front, Committer<D>), NotOpened<D>>
+    ensures opened { IfOk result (λ p. Opens (D.contents disk) p.0 p.1) }
+    ensures stored { IfOk result
+        (λ p. IsSettled (D.contents p.1.disk) (D.unsynced p.1.disk)) }
+    ensures fault { IfErr result (λ e. IsFaultIn e.fault (verdict (D.contents disk))) }
+    ensures run { SyncsAndReads D.contents D.unsynced D.failures D.moment D.left_since disk
+        (disk_after result) (MeetsDevice result) }
+{
+    found_is_live();
+    found_is_framed();
+    verdict_is_exact();
+    words_tell_name();
+    let file = match read_synced(alloc, &mut disk) {
+        Ok(file) => file,
+        Err(fault) => return Err(NotOpened { fault, disk }),
+    };
+    let Ok(front) = Front::restore(alloc, file.geometry, file.rows, file.number, file.end) else {
+        return Err(NotOpened {
+            fault: OpenFault::NoMemory,
+            disk,
+        });
+    };
+    match Committer::new(
+        alloc,
+        disk,
+        file.geometry,
+        file.committed,
+        file.number,
+        file.half,
+        file.end,
+        file.roots,
+    ) {
+        Ok(committer) => Ok((front, committer)),
+        Err(NotMade { disk }) => Err(NotOpened {
+            fault: OpenFault::NoMemory,
+            disk,
+        }),
+    }
+}

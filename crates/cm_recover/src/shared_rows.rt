@@ -1,0 +1,117 @@
+//! The rows of a file, for the accepted cache and for its disk.
+
+ghost use Rattle.std.specs.Prelude.{◌≡◌, [], ◌∷◌, ◌++◌, None, is_some, IfOk, OnOk};
+ghost use Rattle.std.specs.Arc.{arc_value};
+ghost use Rattle.cm_layout.specs.declared.row.Row.TheVariants.{Loader, Class};
+ghost use Rattle.cm_layout.specs.Rows.{rows_with};
+ghost use Rattle.cm_layout.specs.Rules.{broken_live_rule};
+ghost use Rattle.cm_record.specs.Names.{class_name_in};
+ghost use Rattle.cm_rows.specs.Rows.{class_of};
+
+use cm_layout::{ClassRow, LoaderRow, Row, SlotName};
+use cm_pool::Geometry;
+use cm_prepare::Prepared;
+use cm_record::Record;
+use cm_rows::Book;
+use std::alloc::{AllocError, Global};
+use std::marker::Model;
+use std::sync::Arc;
+
+/// The rows that live, twice: those that are accepted, and those that are committed. Both have one
+/// record for each class. Contracts see the rows with the words of their records.
+#[derive(Drop)]
+pub(crate) struct SharedRows {
+    accepted: Book<Prepared>,
+    committed: Book<Arc<Record, Global>>,
+}
+
+impl Model for SharedRows {
+    ghost use Rattle.std.specs.Prelude.{◌≡◌, List, ℕ};
+    ghost use Rattle.std.specs.Arc.{arc_value};
+    ghost use Rattle.cm_layout.specs.Rows.{rows_with};
+    ghost use Rattle.cm_rows.specs.Rows.{LiveRows};
+
+    ghost Value = { LiveRows (List ℕ) };
+
+    ghost view = { λ r. r.accepted };
+
+    ghost invariant = { λ r. (r.committed.sizes ≡ r.accepted.sizes)
+        × (rows_with arc_value r.committed.rows ≡ r.accepted.rows) };
+}
+
+// The row once more.
+fn copy_loader(row: &LoaderRow) -> LoaderRow
+    ensures { result ≡ row.now }
+{
+    LoaderRow {
+        number: row.number,
+        name: SlotName::new(row.name.as_bytes()).unwrap(),
+    }
+}
+
+impl SharedRows {
+    /// No rows.
+    pub(crate) fn new(alloc: Global, geometry: Geometry) -> Result<SharedRows, AllocError>
+        ensures { IfOk result (λ r. r ≡ record { sizes = geometry; rows = [] }) }
+    {
+        let accepted = Book::new(alloc, geometry)?;
+        let committed = Book::new(alloc, geometry)?;
+        Ok(SharedRows {
+            accepted,
+            committed,
+        })
+    }
+
+    /// Whether the loader of this number has a class of the same name.
+    pub(crate) fn has_class(&self, loader: u64, class: &Prepared) -> bool
+        ensures { result ≡ is_some
+            (class_of class_name_in loader (class_name_in class.now) self.now.rows) }
+    {
+        self.accepted.class_like(loader, class).is_some()
+    }
+
+    /// A loader more, which keeps the rules behind a half's head with this base.
+    pub(crate) fn push_loader(&mut self, base: u64, row: &LoaderRow)
+        requires { broken_live_rule self.old.sizes base self.old.rows (Loader row.now) ≡ None }
+        ensures { self.new ≡ record self.old { rows = self.old.rows ++ Loader row.now ∷ [] } }
+    {
+        let _accepted = self
+            .accepted
+            .apply_live(base, Row::Loader(copy_loader(row)));
+        let _committed = self
+            .committed
+            .apply_live(base, Row::Loader(copy_loader(row)));
+    }
+
+    /// A class more, which keeps them.
+    pub(crate) fn push_class(
+        &mut self,
+        base: u64,
+        row: ClassRow,
+        class: Prepared,
+    ) -> Result<(), AllocError>
+        requires { broken_live_rule self.old.sizes base self.old.rows (Class row class) ≡ None }
+        ensures { OnOk result
+            (self.new ≡ record self.old { rows = self.old.rows ++ Class row class ∷ [] }) }
+    {
+        let shared = class.share()?;
+        let _accepted = self.accepted.apply_live(base, Row::Class(row, class));
+        let _committed = self
+            .committed
+            .apply_live(base, Row::Class(row, shared.into_record()));
+        Ok(())
+    }
+
+    /// The rows that are accepted, and those that are committed.
+    pub(crate) fn into_books(self) -> (Book<Prepared>, Book<Arc<Record, Global>>)
+        ensures accepted { result.0 ≡ self }
+        ensures sizes { result.1.sizes ≡ self.sizes }
+        ensures committed { rows_with arc_value result.1.rows ≡ self.rows }
+    {
+        let SharedRows {
+            accepted,
+            committed,
+        } = self;
+        (accepted, committed)
+    }
+}

@@ -1,0 +1,225 @@
+//! What a file stands for, by a run of reads.
+
+ghost use Rattle.std.specs.Prelude.{◌≡◌, ◌≤◌, ◌^◌, [], List, length, Err, IfOk};
+ghost use Rattle.cm_class.specs.declared.class_file.ClassFile.{ClassFile};
+ghost use Rattle.cm_record.specs.Layout.{limit};
+ghost use Rattle.cm_layout.specs.declared.row.Row.{Row as RowOf};
+ghost use Rattle.cm_layout.specs.declared.row.Row.TheVariants.{Class};
+ghost use Rattle.cm_layout.specs.Rows.{bare};
+ghost use Rattle.cm_layout.specs.Frames.{LiveRowsKeep};
+ghost use Rattle.cm_guards.specs.Calls.{Reads};
+ghost use Rattle.cm_commit.specs.GroupPlans.{whole_roots as whole_roots_of};
+ghost use Rattle.cm_verdict.specs.Faults.{at_slot};
+ghost use Rattle.cm_verdict.specs.Verdict.{classes_found, verdict};
+ghost use Rattle.cm_recover.specs.declared.fault.OpenFault.TheVariants as open_fault;
+ghost use Rattle.cm_recover.specs.Standing.{Answers, IsPlace, class_in_place, IsKeptClass};
+ghost use Rattle.cm_recover.specs.Standing.{IsRecorded, AreRecorded, bare_of, MayFollow};
+ghost use Rattle.cm_recover.specs.Standing.{row_found, IsStanding};
+
+use crate::fault::OpenFault;
+use crate::reading::read_found;
+use crate::record_words::RecordWords;
+use crate::shared_rows::SharedRows;
+use cm_disk::Disk;
+use cm_layout::{ClassRow, Half, Row, record_at, root_at, root_bytes, roots_at};
+use cm_pool::{Geometry, Place};
+use cm_prepare::Prepared;
+use cm_record::{Record, words_tell_name};
+use cm_rows::Book;
+use cm_verdict::{Damage, DefinedAt, found_is_live, read_record};
+use std::alloc::{AllocError, Global};
+use std::sync::Arc;
+
+/// What a file stands for: its sizes, the half that counts, the number of the last command, and the
+/// rows that live, each class with its record.
+#[derive(Drop)]
+pub struct StandingFile {
+    pub geometry: Geometry,
+    pub half: Half,
+    /// The slot where the half's groups end.
+    pub end: u32,
+    pub number: u64,
+    /// How many whole roots the file has.
+    pub roots: u32,
+    /// The rows, for the accepted cache.
+    pub rows: Book<Prepared>,
+    /// The same rows with the same records, for the file's disk.
+    pub committed: Book<Arc<Record, Global>>,
+}
+
+// How many whole roots a file of this length has.
+fn whole_roots(geometry: Geometry, long: u64) -> u32
+    requires { long ≤ 2 ^ 40 }
+    ensures { result ≡ whole_roots_of geometry long }
+{
+    let _lawful = geometry.top(); // so the proof knows that its sizes are within the limits
+    (long.saturating_sub(roots_at(geometry)) / root_bytes(geometry)) as u32
+}
+
+// The class whose record these words are, if it keeps the class rules.
+fn prepared(alloc: Global, words: &[u64]) -> Result<Option<Prepared>, AllocError>
+    requires { length words.now ≤ limit }
+    ensures { IfOk result (IsKeptClass words.now) }
+{
+    words_tell_name();
+    let Some(record) = read_record(alloc, words)? else {
+        return Ok(None);
+    };
+    let class = Prepared::of_record(alloc, record)?;
+    Ok(Some(class))
+}
+
+// A file whose rows were found, and whose records are read.
+#[derive(Clone, Copy)]
+struct SecondPass {
+    alloc: Global,
+    geometry: Geometry,
+    /// The file's length.
+    long: u64,
+    /// The number of the last command.
+    number: u64,
+}
+
+impl SecondPass {
+    // The class of a place, whose entry stands in this slot.
+    fn class_at<D: Disk>(
+        &self,
+        disk: &mut D,
+        words: &mut RecordWords,
+        place: Place,
+        slot: u32,
+    ) -> Result<Prepared, OpenFault>
+        requires place { IsPlace self.now.geometry place }
+        requires long { self.now.long ≡ length (D.contents disk.old) }
+        ensures class { Answers IsRecorded result (at_slot slot
+            (class_in_place self.now.geometry (D.contents disk.old) place)) }
+        ensures reads { Reads D.contents D.unsynced D.failures D.moment D.left_since disk.old
+            disk.new (result ≡ Err open_fault.Device) }
+    {
+        if root_at(self.geometry, place.chunk.root + 1) > self.long {
+            return Err(OpenFault::Damaged {
+                what: Damage::Chunks,
+                slot,
+            });
+        }
+        let at = record_at(self.geometry, place);
+        words.read(disk, at, place.words as usize)?;
+        match prepared(self.alloc, words.as_slice())? {
+            Some(class) => Ok(class),
+            None => Err(OpenFault::Damaged {
+                what: Damage::Record,
+                slot,
+            }),
+        }
+    }
+
+    // Takes a class, whose entry stands in this slot, behind the rows that were taken.
+    fn take_class<D: Disk>(
+        &self,
+        disk: &mut D,
+        words: &mut RecordWords,
+        rows: &mut SharedRows,
+        row: ClassRow,
+        slot: u32,
+    ) -> Result<(), OpenFault>
+        requires follows { MayFollow self.now.geometry self.now.number rows.old (Class row tt) }
+        requires long { self.now.long ≡ length (D.contents disk.old) }
+        ensures taken { (before : List (RowOf ClassFile))
+            → AreRecorded self.now.geometry rows.old before
+            → Answers (λ u. AreRecorded self.now.geometry rows.new) result
+            (row_found self.now.geometry (D.contents disk.old) before
+            (Class row (record { slot = slot }))) }
+        ensures reads { Reads D.contents D.unsynced D.failures D.moment D.left_since disk.old
+            disk.new (result ≡ Err open_fault.Device) }
+    {
+        let _lawful = self.geometry.top(); // so the proof knows that its sizes are within the limits
+        let class = self.class_at(disk, words, row.place, slot)?;
+        if rows.has_class(row.loader, &class) {
+            return Err(OpenFault::Damaged {
+                what: Damage::ClassTwice,
+                slot,
+            });
+        }
+        rows.push_class(self.number, row, class)?;
+        Ok(())
+    }
+
+    // Takes a row, behind those that were taken.
+    fn take_row<D: Disk>(
+        &self,
+        disk: &mut D,
+        words: &mut RecordWords,
+        rows: &mut SharedRows,
+        row: &Row<DefinedAt>,
+    ) -> Result<(), OpenFault>
+        requires follows { MayFollow self.now.geometry self.now.number rows.old (bare_of row.now) }
+        requires long { self.now.long ≡ length (D.contents disk.old) }
+        ensures taken { (before : List (RowOf ClassFile))
+            → AreRecorded self.now.geometry rows.old before
+            → Answers (λ u. AreRecorded self.now.geometry rows.new) result
+            (row_found self.now.geometry (D.contents disk.old) before row.now) }
+        ensures reads { Reads D.contents D.unsynced D.failures D.moment D.left_since disk.old
+            disk.new (result ≡ Err open_fault.Device) }
+    {
+        match row {
+            Row::Loader(row) => {
+                rows.push_loader(self.number, row);
+                Ok(())
+            }
+            Row::Class(row, at) => self.take_class(disk, words, rows, *row, at.slot),
+        }
+    }
+
+    // Takes all rows that were found.
+    fn take_all<D: Disk>(
+        &self,
+        disk: &mut D,
+        found: &Book<DefinedAt>,
+    ) -> Result<SharedRows, OpenFault>
+        requires live { LiveRowsKeep self.now.geometry self.now.number [] (bare found.now.rows) }
+        requires long { self.now.long ≡ length (D.contents disk.old) }
+        ensures classes { Answers (AreRecorded self.now.geometry) result
+            (classes_found self.now.geometry (D.contents disk.old) [] found.now.rows) }
+        ensures reads { Reads D.contents D.unsynced D.failures D.moment D.left_since disk.old
+            disk.new (result ≡ Err open_fault.Device) }
+    {
+        let mut words = RecordWords::new(self.alloc);
+        let mut rows = SharedRows::new(self.alloc, self.geometry)?;
+        let mut left = found.walk();
+        while let Some(row) = left.next() {
+            self.take_row(disk, &mut words, &mut rows, row)?;
+        }
+        Ok(rows)
+    }
+}
+
+/// What a file stands for, or its first damage, by a run of reads: what is found without records
+/// first, then the records of the classes that live, in the order of their rows. Nothing changes.
+pub fn read_standing<D: Disk>(alloc: Global, disk: &mut D) -> Result<StandingFile, OpenFault>
+    ensures standing { Answers (IsStanding (D.contents disk.old)) result
+        (verdict (D.contents disk.old)) }
+    ensures reads { Reads D.contents D.unsynced D.failures D.moment D.left_since disk.old disk.new
+        (result ≡ Err open_fault.Device) }
+{
+    found_is_live();
+    let found = read_found(alloc, disk)?;
+    let long = disk.len()?;
+    let pass = SecondPass {
+        alloc,
+        geometry: found.geometry,
+        long,
+        number: found.walk.number(),
+    };
+    let end = found.walk.end();
+    let rows = pass.take_all(disk, &found.walk.into_book())?;
+    let (rows, committed) = rows.into_books();
+    Ok(StandingFile {
+        geometry: found.geometry,
+        half: found.counts.half,
+        end,
+        number: pass.number,
+        roots: whole_roots(found.geometry, long),
+        rows,
+        committed,
+    })
+}
