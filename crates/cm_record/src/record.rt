@@ -103,6 +103,13 @@ impl Record {
         bytes_tell_words(self.as_slice());
     }
 
+    /// The bytes of its words tell the words again. It does nothing when it runs.
+    pub fn bytes_tell_words(&self)
+        ensures { packed_into (length self.now) (word_bytes self.now) ≡ self.now }
+    {
+        bytes_tell_words(self.as_slice());
+    }
+
     /// The access flags of its class.
     pub fn flags(&self) -> u16
         ensures { (c : ClassFile) → IsRecordOf c self.now → result ≡ c.flags }
