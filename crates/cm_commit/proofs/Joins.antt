@@ -16,16 +16,18 @@ use Rattle.cm_layout.specs.declared.entry.Entry.TheVariants as entry
 use Rattle.cm_layout.specs.Slots.{FitsEntry}
 use Rattle.cm_layout.specs.Rows.{bare, rows_after}
 use Rattle.cm_layout.specs.Rules.{broken_rule, is_live, has_room, class_fits, is_new_loader}
-use Rattle.cm_layout.specs.Frames.{BareRow, BareEntry}
+use Rattle.cm_layout.specs.Frames.{BareRow, BareEntry, AreApart}
 use Rattle.cm_layout.proofs.OwnLoaders.{own_loaders}
 use Rattle.cm_state.specs.State.{words_show, class_among}
-use Rattle.cm_state.specs.Entries.{IsNewClass}
+use Rattle.cm_state.specs.Entries.{IsNewClass, AreCacheRows}
 use Rattle.cm_state.proofs.Bare.{rule-bare, classes-bare, name-bare}
 use Rattle.cm_group.specs.Groups.{Carried, entries_in}
 use Rattle.cm_commit.specs.Offers.{filled, own_record, HasRecords, carries_own, writes_apart}
 use Rattle.cm_commit.specs.Offers.{MayJoin, MayJoinAll}
 use Rattle.cm_commit.specs.Keeping.{keep_rules}
-use Rattle.cm_commit.specs.Joining.{makes_class, is_new_name, is_new, are_new}
+use Rattle.cm_commit.specs.Joining.{makes_class, is_new_name, is_new, are_new, are_apart}
+use Rattle.cm_commit.specs.Joining.{may_join}
+use Rattle.cm_commit.proofs.Committing.{own_all, rules_kept}
 use Rattle.cm_commit.proofs.Rights.{AreKept, kept-after, bare-filled, after-filled, rule-filled}
 use Rattle.cm_commit.proofs.Fitting.{has_one, rule_rows, rule_both, live_past, fits_one}
 use Rattle.cm_commit.proofs.ClassNames.{is_there, there-loader, there-class, there-without}
@@ -226,9 +228,6 @@ joins_one sizes n committed before rows c g small kept tells keeps own apart new
 
 -- ---- all of them
 
-abbrev pub are_apart : List (Row (List ℕ)) → List Carried → Bool
-are_apart committed carried = list_all (λ c. writes_apart committed c.entry) carried
-
 pub joins_all : (sizes : Sizes) (n : ℕ) (committed : List (Row (List ℕ))) (before : List Carried)
     (rows : List (Row (List ℕ))) (carried : List Carried) → IsGeometry sizes
     → n + length carried ≤ 2 ^ 63 → AreKept sizes n rows → TellsNames committed before rows n
@@ -281,3 +280,41 @@ all_new sizes n committed before rows (c ∷ carried) kept tells joins =
     (kept-after sizes committed rows n c kept joins.0)
     (tells_next sizes n committed before rows c.entry c.records kept none joins.0.records tells)
     joins.1)
+
+-- ---- as one test
+
+pub cache_kept : (sizes : Sizes) (n : ℕ) (rows : List (Row (List ℕ)))
+    → AreCacheRows words_show sizes n rows → AreKept sizes n rows
+cache_kept sizes n rows cache = record {
+  live = cache.live;
+  apart = subst AreApart (sym (classes-bare rows)) cache.apart;
+}
+
+pub joins_where : (sizes : Sizes) (n : ℕ) (rows : List (Row (List ℕ))) (carried : List Carried)
+    → IsGeometry sizes → n + length carried ≤ 2 ^ 63 → AreCacheRows words_show sizes n rows
+    → may_join sizes rows n carried ≡ true → MayJoinAll sizes rows rows n carried
+joins_where sizes n rows carried g le cache may =
+    let kept = cache_kept sizes n rows cache in
+    let own = list_all carries_own carried in
+    let keep = keep_rules sizes (bare rows) (n + 1) (entries_in carried) in
+    let apart = are_apart rows carried in
+    let new = are_new rows [] carried in
+    let one = and_parts own (keep && (apart && new)) may in
+    let two = and_parts keep (apart && new) one.1 in
+    let three = and_parts apart new two.1 in
+    joins_all sizes n rows [] rows carried g le kept (tells_first sizes n rows kept) two.0 one.0
+    three.0 three.1
+
+pub may_where : (sizes : Sizes) (n : ℕ) (rows : List (Row (List ℕ))) (carried : List Carried)
+    → AreCacheRows words_show sizes n rows → MayJoinAll sizes rows rows n carried
+    → may_join sizes rows n carried ≡ true
+may_where sizes n rows carried cache joins =
+    let kept = cache_kept sizes n rows cache in
+    let own = list_all carries_own carried in
+    let keep = keep_rules sizes (bare rows) (n + 1) (entries_in carried) in
+    let apart = are_apart rows carried in
+    let new = are_new rows [] carried in
+    and_from own (keep && (apart && new)) (own_all sizes rows rows n carried joins)
+    (and_from keep (apart && new) (rules_kept sizes rows rows n carried joins)
+    (and_from apart new (all_apart sizes rows rows n carried joins)
+    (all_new sizes n rows [] rows carried kept (tells_first sizes n rows kept) joins)))

@@ -25,4 +25,6 @@ pub mod Fitting
 pub mod ClassNames
 pub mod Roots
 pub mod Joins
+pub mod Testing
+pub mod Coming
 pub mod Offering

@@ -1,16 +1,23 @@
--- Whether the classes that entries make are new in their loaders, told by what is committed and by
--- the entries before them.
-use Rattle.std.specs.Prelude.{ℕ, Bool, true, false, ◌&&◌, ◌==◌, not, is_none, List, [], ◌∷◌, ◌++◌}
+-- Whether entries may join what is committed, as tests. The classes that they make are new in their
+-- loaders, told by what is committed and by the entries before them; and they write where they may.
+use Rattle.std.specs.Prelude.{ℕ, ◌+◌, Bool, true, false, ◌&&◌, ◌==◌, not, is_none}
+use Rattle.std.specs.Prelude.{List, [], ◌∷◌, ◌++◌}
 use Rattle.std.specs.Str.{bytes_eq}
-use Rattle.std.specs.List.{list_any}
+use Rattle.std.specs.List.{list_all, list_any}
+use Rattle.cm_pool.specs.Geometry.{Sizes}
 use Rattle.cm_record.specs.Names.{class_name_in}
 use Rattle.cm_layout.specs.declared.row.Row.{Row}
 use Rattle.cm_layout.specs.declared.row.Row.TheVariants.{Loader, Class}
 use Rattle.cm_layout.specs.declared.entry.Entry.TheVariants as entry
+use Rattle.cm_layout.specs.Rows.{bare}
+use Rattle.cm_layout.specs.Rules.{is_chunk}
 use Rattle.cm_layout.specs.Frames.{BareEntry}
 use Rattle.cm_state.specs.State.{words_show, class_among}
-use Rattle.cm_group.specs.Groups.{Carried}
-use Rattle.cm_commit.specs.Offers.{own_record}
+use Rattle.cm_group.specs.Groups.{Carried, entries_in}
+use Rattle.cm_commit.specs.Keeping.{keep_rules}
+use Rattle.cm_commit.specs.Offers.{own_record, carries_own, writes_apart}
+
+-- ---- names of classes
 
 -- the entry makes a class of this name in the loader of this number
 abbrev pub makes : ℕ → List ℕ → BareEntry → List (List ℕ) → Bool
@@ -40,3 +47,27 @@ abbrev pub are_new : List (Row (List ℕ)) → List Carried → List Carried →
 are_new committed before [] = true
 are_new committed before (c ∷ carried) =
     is_new committed before c.entry c.records && are_new committed (before ++ c ∷ []) carried
+
+-- ---- places of records
+
+-- the chunk that an entry writes into is one that the region can have
+abbrev pub is_inside : Sizes → BareEntry → Bool
+is_inside sizes (entry.Live (Loader r)) = true
+is_inside sizes (entry.Live (Class r p)) = is_chunk sizes r.place.chunk
+is_inside sizes (entry.Unload e) = true
+is_inside sizes (entry.Move e) = is_chunk sizes e.to
+
+abbrev pub are_inside : Sizes → List Carried → Bool
+are_inside sizes carried = list_all (λ c. is_inside sizes c.entry) carried
+
+abbrev pub are_apart : {P : Type 0} → List (Row P) → List Carried → Bool
+are_apart committed carried = list_all (λ c. writes_apart committed c.entry) carried
+
+-- ---- all of it
+
+-- they carry the records that they need, keep the rules, write apart, and their classes are new
+abbrev pub may_join : Sizes → List (Row (List ℕ)) → ℕ → List Carried → Bool
+may_join sizes committed n carried =
+    list_all carries_own carried
+    && (keep_rules sizes (bare committed) (n + 1) (entries_in carried)
+    && (are_apart committed carried && are_new committed [] carried))

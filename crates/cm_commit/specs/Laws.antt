@@ -30,11 +30,13 @@ pub record IsGuarded (c : Committed) : Type 0 where
 abbrev pub CommittedIsGuarded : Type 0
 CommittedIsGuarded = (c : Committed) → IsCommitted c → IsGuarded c
 
--- the bytes of the record that an entry carries tell its words
+-- the bytes of words tell them
+abbrev pub AreTold : List ℕ → Type 0
+AreTold words = packed_into (length words) (word_bytes words) ≡ words
+
+-- the bytes of the record that an entry carries do
 abbrev pub TellsWords : Carried → Type 0
-TellsWords c =
-    packed_into (length (own_record c.records)) (word_bytes (own_record c.records))
-    ≡ own_record c.records
+TellsWords c = AreTold (own_record c.records)
 
 -- A group's writes touch nothing that is guarded. Once they are made, the byte of its gate turns
 -- what is committed into what is committed after it: while another byte stands there, nothing has

@@ -6,6 +6,7 @@ ghost use Rattle.cm_commit.specs.declared.journal.Journal.{Journal};
 ghost use Rattle.cm_commit.specs.Plans.{calls_left};
 ghost use Rattle.cm_commit.specs.GroupPlans.{record_writes};
 ghost use Rattle.cm_commit.specs.Steps.{stages_at};
+ghost use Rattle.std.specs.Arc.{arc_value};
 ghost use Rattle.std.specs.List.{list_all};
 ghost use Rattle.cm_group.specs.Groups.{entries_in};
 ghost use Rattle.cm_commit.specs.Offers.{carries_own as carries, own_record as own};
@@ -18,6 +19,8 @@ use cm_group::CarriedEntry;
 use cm_layout::{Entry, Row};
 use cm_pool::Place;
 use cm_record::Record;
+use std::alloc::Global;
+use std::sync::Arc;
 
 /// How many roots the records of an entry need: one more than the root of its record.
 fn roots_of(entry: &Entry<()>) -> u32
@@ -53,12 +56,20 @@ fn own_place(entry: &Entry<()>) -> Option<Place>
     }
 }
 
+/// The record that a class carries, as it is shared.
+pub(crate) fn own_class(carried: &CarriedEntry) -> &Arc<Record, Global>
+    requires { 1 ≤ length carried.now.records }
+    ensures { arc_value result.now ≡ own carried.now.records }
+{
+    &carried.records()[0]
+}
+
 /// The record that a class carries.
-fn own_record(carried: &CarriedEntry) -> &Record
+pub(crate) fn own_record(carried: &CarriedEntry) -> &Record
     requires { 1 ≤ length carried.now.records }
     ensures { result.now ≡ own carried.now.records }
 {
-    &carried.records()[0]
+    own_class(carried)
 }
 
 /// The next entry from this one on that writes a record, with the record's place.

@@ -7,6 +7,7 @@ mod bytes;
 mod calls;
 mod committer;
 mod entries;
+mod joining;
 mod journal;
 mod laws;
 mod progress;

@@ -1,0 +1,257 @@
+//! Whether the entries of a group may join what is committed.
+
+ghost use Rattle.std.specs.Prelude.{◌≡◌, ◌≤◌, ◌+◌, ◌^◌, ◌&&◌, ◌==◌, ◌↔◌, IsTrue, true, nat_le};
+ghost use Rattle.std.specs.Prelude.{nat_lt, length, is_none, [], if◌then◌else◌};
+ghost use Rattle.std.specs.Arc.{arc_value};
+ghost use Rattle.std.specs.List.{list_all, list_any, AllByRecursion};
+ghost use Rattle.std.specs.Str.{bytes_eq};
+ghost use Rattle.cm_pool.specs.Geometry.{IsGeometry};
+ghost use Rattle.cm_record.specs.Names.{class_name_in};
+ghost use Rattle.cm_layout.specs.Rows.{bare, rows_with, rows_after_all, used_words};
+ghost use Rattle.cm_layout.specs.Rules.{is_last_chunk};
+ghost use Rattle.cm_state.specs.State.{words_show, class_among};
+ghost use Rattle.cm_state.specs.Entries.{AreCacheRows};
+ghost use Rattle.cm_group.specs.Groups.{IsGroup, entries_in, slots_taken};
+ghost use Rattle.cm_commit.specs.Offers.{carries_own as carries, is_own, writes_apart as writes};
+ghost use Rattle.cm_commit.specs.Offers.{MayCome};
+ghost use Rattle.cm_commit.specs.Joining.{makes_class as makes, is_new as is_new_entry};
+ghost use Rattle.cm_commit.specs.Joining.{are_new as are_new_entries, is_inside, are_inside};
+ghost use Rattle.cm_commit.specs.Joining.{are_apart as write_apart, may_join as may_all_join};
+ghost use Rattle.cm_commit.specs.Laws.{TellsWords};
+
+use crate::applying::apply_all;
+use crate::entries::{own_class, own_record};
+use crate::journal::Journal;
+use cm_group::{CarriedEntry, Group};
+use cm_layout::{ClassRow, Entry, Row};
+use cm_record::{Record, words_tell_name};
+use cm_rows::Book;
+use std::alloc::Global;
+use std::sync::Arc;
+
+/// Whether an entry carries one record, of so many words.
+fn carries_record(carried: &CarriedEntry, words: u32) -> bool
+    ensures own { result ≡ is_own carried.now.records words }
+    ensures told { IsTrue result → TellsWords carried.now }
+{
+    if carried.records().len() != 1 {
+        return false;
+    }
+    let class = own_record(carried);
+    class.bytes_tell_words(); // the proof has use for it
+    class.words() == words
+}
+
+/// Whether an entry carries the records that it needs. No move is taken yet.
+fn carries_own(carried: &CarriedEntry) -> bool
+    ensures own { result ≡ carries carried.now }
+    ensures told { IsTrue result → TellsWords carried.now }
+{
+    match carried.entry() {
+        Entry::Live(Row::Class(row, ())) => carries_record(carried, row.place.words),
+        Entry::Live(Row::Loader(_)) | Entry::Unload(_) => carried.records().is_empty(),
+        Entry::Move(_) => false,
+    }
+}
+
+/// Whether each entry carries the records that it needs.
+fn carry_own(entries: &[CarriedEntry]) -> bool
+    ensures own { result ≡ list_all carries entries.now }
+    ensures told { IsTrue result → AllByRecursion TellsWords entries.now }
+{
+    for carried in entries {
+        if !carries_own(carried) {
+            return false;
+        }
+    }
+    true
+}
+
+/// Whether a class's record lies behind all others on the last chunk of its loader.
+fn is_behind_last(rows: &Book<Arc<Record, Global>>, row: &ClassRow) -> bool
+    ensures { result ≡ (is_last_chunk row.now.loader row.now.place.chunk rows.now.rows
+        && nat_le (used_words row.now.place.chunk rows.now.rows) row.now.place.offset) }
+{
+    match rows.last(row.loader) {
+        Some(last) => last.chunk == row.place.chunk && last.used <= row.place.offset,
+        None => false,
+    }
+}
+
+/// Whether an entry writes into no chunk that committed rows use, but behind the records on its
+/// loader's last one.
+fn writes_apart(rows: &mut Book<Arc<Record, Global>>, entry: &Entry<()>) -> bool
+    requires inside { is_inside rows.old.sizes entry.now ≡ true }
+    ensures apart { result ≡ writes rows.old.rows entry.now }
+    ensures same { rows.new ≡ rows.old }
+{
+    match entry {
+        Entry::Live(Row::Class(row, ())) => {
+            rows.is_unused(&row.place.chunk) || is_behind_last(rows, row)
+        }
+        Entry::Move(entry) => rows.is_unused(&entry.to),
+        Entry::Live(Row::Loader(_)) | Entry::Unload(_) => true,
+    }
+}
+
+/// Whether each entry does.
+fn write_apart(rows: &mut Book<Arc<Record, Global>>, entries: &[CarriedEntry]) -> bool
+    requires inside { are_inside rows.old.sizes entries.now ≡ true }
+    ensures apart { result ≡ write_apart rows.old.rows entries.now }
+    ensures same { rows.new ≡ rows.old }
+{
+    for carried in entries {
+        if !writes_apart(rows, carried.entry()) {
+            return false;
+        }
+    }
+    true
+}
+
+/// Whether two records are of classes with one name.
+fn have_one_name(one: &Record, other: &Record) -> bool
+    ensures { result ≡ bytes_eq (class_name_in one.now) (class_name_in other.now) }
+{
+    words_tell_name();
+    let _words = (one.words(), other.words()); // so the proof knows that they are records
+    one.same_name(other)
+}
+
+/// Whether an entry makes a class in this loader that has the name of this one.
+fn makes_class(loader: u64, class: &Record, carried: &CarriedEntry) -> bool
+    requires own { carries carried.now ≡ true }
+    ensures { result ≡ makes loader (class_name_in class.now) carried.now }
+{
+    match carried.entry() {
+        Entry::Live(Row::Class(row, ())) => {
+            row.loader == loader && have_one_name(own_record(carried), class)
+        }
+        Entry::Live(Row::Loader(_)) | Entry::Unload(_) | Entry::Move(_) => false,
+    }
+}
+
+/// Whether one of the entries does.
+fn make_class(loader: u64, class: &Record, entries: &[CarriedEntry]) -> bool
+    requires own { list_all carries entries.now ≡ true }
+    ensures { result ≡ list_any (makes loader (class_name_in class.now)) entries.now }
+{
+    for carried in entries {
+        if makes_class(loader, class, carried) {
+            return true;
+        }
+    }
+    false
+}
+
+/// Whether no committed class of this loader has the name of this one.
+fn is_absent(rows: &Book<Arc<Record, Global>>, loader: u64, class: &Arc<Record, Global>) -> bool
+    ensures { result ≡ is_none (class_among words_show loader (class_name_in (arc_value class.now))
+        (rows_with arc_value rows.now.rows)) }
+{
+    rows.class_like(loader, class).is_none()
+}
+
+/// Whether the class that an entry makes, if it makes one, is new in its loader, by what is
+/// committed and by the entries before it.
+fn is_new(rows: &Book<Arc<Record, Global>>, before: &[CarriedEntry], carried: &CarriedEntry) -> bool
+    requires before { list_all carries before.now ≡ true }
+    requires own { carries carried.now ≡ true }
+    ensures { result ≡ is_new_entry (rows_with arc_value rows.now.rows) before.now carried.now.entry
+        carried.now.records }
+{
+    match carried.entry() {
+        Entry::Live(Row::Class(row, ())) => {
+            let class = own_class(carried);
+            is_absent(rows, row.loader, class) && !make_class(row.loader, class, before)
+        }
+        Entry::Live(Row::Loader(_)) | Entry::Unload(_) | Entry::Move(_) => true,
+    }
+}
+
+/// Whether each class that entries make is new in its loader. A group has few entries, so each is
+/// held against those before it.
+fn are_new(rows: &Book<Arc<Record, Global>>, entries: &[CarriedEntry]) -> bool
+    requires own { list_all carries entries.now ≡ true }
+    ensures { result ≡ are_new_entries (rows_with arc_value rows.now.rows) [] entries.now }
+{
+    for at in 0..entries.len() {
+        if !is_new(rows, &entries[..at], &entries[at]) {
+            return false;
+        }
+    }
+    true
+}
+
+/// Whether entries may join, the first with the number behind this one. Then they are applied to
+/// the next rows; else some of them may be.
+fn may_join(
+    rows: &mut Book<Arc<Record, Global>>,
+    next: &mut Book<()>,
+    number: u64,
+    entries: &[CarriedEntry],
+) -> bool
+    requires next_is { next.old ≡ record { sizes = rows.old.sizes; rows = bare rows.old.rows } }
+    requires cache { AreCacheRows words_show rows.old.sizes number
+        (rows_with arc_value rows.old.rows) }
+    requires numbers { number + length entries.now ≤ 2 ^ 63 }
+    ensures joins { result ≡ may_all_join rows.old.sizes (rows_with arc_value rows.old.rows) number
+        entries.now }
+    ensures told { IsTrue result → AllByRecursion TellsWords entries.now }
+    ensures next { IsTrue result → next.new
+        ≡ record next.old { rows = rows_after_all next.old.rows (entries_in entries.now) } }
+    ensures sizes { next.new.sizes ≡ next.old.sizes }
+    ensures same { rows.new ≡ rows.old }
+{
+    if !carry_own(entries) {
+        return false;
+    }
+    if !apply_all(next, number + 1, entries) {
+        return false;
+    }
+    write_apart(rows, entries) && are_new(rows, entries)
+}
+
+/// Whether a group begins where the commands end that are committed, and the half that counts has
+/// slots for it.
+fn goes_on(journal: Journal, group: &Group) -> bool
+    requires { journal.number ≤ 2 ^ 63 }
+    ensures on { result ≡ ((group.now.first == journal.number + 1)
+        && nat_lt (journal.end + slots_taken group.now.entries) journal.geometry.slots) }
+    ensures lawful { IsGroup group.now }
+{
+    group.first() == journal.number + 1
+        && journal.end as usize + group.slots() < journal.geometry.slots() as usize
+}
+
+/// Whether a group may come next. Then the next rows are those after it; else nothing is changed.
+pub(crate) fn take_group(
+    journal: Journal,
+    rows: &mut Book<Arc<Record, Global>>,
+    next: &mut Book<()>,
+    group: &Group,
+) -> bool
+    requires lawful { IsGeometry journal.geometry }
+    requires sizes { rows.old.sizes ≡ journal.geometry }
+    requires number { journal.number ≤ 2 ^ 63 }
+    requires next_is { next.old ≡ record { sizes = rows.old.sizes; rows = bare rows.old.rows } }
+    requires cache { AreCacheRows words_show journal.geometry journal.number
+        (rows_with arc_value rows.old.rows) }
+    ensures comes { IsTrue result ↔ MayCome journal.geometry (rows_with arc_value rows.old.rows)
+        journal.number journal.end group.now }
+    ensures told { IsTrue result → AllByRecursion TellsWords group.now.entries }
+    ensures next { next.new ≡ (if result
+        then record next.old { rows = rows_after_all next.old.rows (entries_in group.now.entries) }
+        else next.old) }
+    ensures same { rows.new ≡ rows.old }
+    ensures group { IsGroup group.now }
+{
+    let number = journal.number;
+    if !goes_on(journal, group) {
+        return false;
+    }
+    let joins = may_join(rows, next, number, group.entries());
+    if !joins {
+        next.copy_from(rows);
+    }
+    joins
+}
