@@ -1,27 +1,75 @@
 -- What a committer keeps once it has taken a group.
-use Rattle.std.proofs.Common.{◌≡◌, ℕ, ◌≤◌, Bool, true, false, List, [], ◌∷◌, length, Some, None, refl}
-use Rattle.std.proofs.Common.{sym, ap, subst, ◌∙◌, arith, Option}
+use Rattle.std.proofs.Common.{◌≡◌, ℕ, ◌+◌, Bool, true, false, cond, List, length}
+use Rattle.std.proofs.Common.{Some, None, refl, sym, ap, subst, ◌∙◌, arith, Option, is_some}
 use Rattle.std.specs.List.{AllByRecursion}
 use Rattle.cm_disk.specs.Disk.{Unsynced}
 use Rattle.cm_pool.specs.Geometry.{Sizes}
 use Rattle.cm_layout.specs.Slots.{open_gate}
-use Rattle.cm_layout.specs.Rows.{bare}
+use Rattle.cm_layout.specs.declared.row.Row.{Row}
+use Rattle.cm_layout.specs.Rows.{bare, rows_with, rows_after_all}
 use Rattle.cm_guards.specs.Plans.{written}
 use Rattle.cm_guards.proofs.Kept.{keeps_settled}
 use Rattle.cm_rows.specs.Rows.{LiveRows}
-use Rattle.cm_group.specs.Groups.{Handed, IsGroup}
-use Rattle.cm_commit.specs.Plans.{Stage}
+use Rattle.cm_group.specs.Groups.{Carried, Handed, IsGroup, entries_in}
+use Rattle.cm_commit.specs.Plans.{Stage, calls_left}
 use Rattle.cm_commit.specs.Committed.{Committed, end_slot}
 use Rattle.cm_commit.specs.GroupPlans.{plan_at, group_writes, gate_at, whole_roots}
+use Rattle.cm_commit.specs.GroupPlans.{roots_to_add, record_writes}
 use Rattle.cm_commit.specs.Guarding.{guard_of, Shows}
 use Rattle.cm_commit.specs.Keeps.{IsCommitter, IsIdle, IsBusy, IsAt, StandsBroken, roots_then}
+use Rattle.cm_commit.specs.Keeps.{rows_then}
 use Rattle.cm_commit.specs.Laws.{TellsWords}
 use Rattle.cm_commit.specs.Offers.{IsNext, MayCome, rows_after_group, committed_after}
 use Rattle.cm_commit.specs.Standing.{StagesStand}
-use Rattle.cm_commit.specs.States.{CommitterState, Takes}
+use Rattle.cm_commit.specs.States.{CommitterState, Takes, with_taken}
+use Rattle.cm_commit.proofs.Counting.{calls_write}
+use Rattle.cm_commit.proofs.Rights.{all-bare}
+use Rattle.cm_commit.proofs.With.{bare-with}
 use Rattle.cm_commit.proofs.Guards.{guard_bounded, needs_roots}
 use Rattle.cm_commit.proofs.Roots.{roots-written}
 use Rattle.cm_commit.proofs.Turning.{groups_turn}
+
+-- ---- the books
+
+pub none_under_way : (o : Option Handed) → is_some o ≡ false → o ≡ None
+none_under_way None e = refl
+none_under_way (Some group) e = absurd (cc)
+
+-- before a group the next rows are those that are committed
+pub next_before : {P : Type 0} (f : P → List ℕ) (sizes held : Sizes) (rows : List (Row P))
+    (o : Option Handed) (next : LiveRows (Unit {0})) → held ≡ sizes → o ≡ None
+    → next ≡ record { sizes = sizes; rows = bare (rows_then (rows_with f rows) o) }
+    → next ≡ record { sizes = held; rows = bare rows }
+next_before f sizes held rows o next same none is =
+    let before : next ≡ record { sizes = held; rows = bare (rows_with f rows) } =
+    is ∙ (λ k. record {
+      sizes = sym same k;
+      rows = bare (rows_then (rows_with f rows) (none k));
+    }) in
+    before ∙ (λ k. record { sizes = held; rows = bare-with f rows k })
+
+-- and once it is taken those after it
+pub next_after : {P : Type 0} (f : P → List ℕ) (sizes held : Sizes) (rows : List (Row P))
+    (carried : List Carried) (old new : LiveRows (Unit {0})) (t : Bool) → held ≡ sizes → t ≡ true
+    → old ≡ record { sizes = held; rows = bare rows }
+    → new ≡ cond t (record old { rows = rows_after_all old.rows (entries_in carried) }) old
+    → new ≡ record { sizes = sizes; rows = bare (rows_after_group (rows_with f rows) carried) }
+next_after f sizes held rows carried old new t same taken is then =
+    let after : new ≡ record {
+      sizes = sizes;
+      rows = rows_after_all (bare (rows_with f rows)) (entries_in carried);
+    } =
+    then
+    ∙ ((λ k. cond (taken k) (record (is k) {
+      rows = rows_after_all (is k).rows (entries_in carried);
+    }) (is k))
+    ∙ (λ k. record {
+      sizes = same k;
+      rows = rows_after_all (sym (bare-with f rows) k) (entries_in carried);
+    })) in
+    after ∙ (λ k. record { sizes = sizes; rows = sym (all-bare (rows_with f rows) carried) k })
+
+-- ---- the committer
 
 module _ {D : Type 0} (contents : D → List ℕ) (unsynced : D → Unsynced) (s : CommitterState D)
     (sizes : Sizes) (next : LiveRows (Unit {0})) (roots room : ℕ)
@@ -118,3 +166,25 @@ module _ {D : Type 0} (contents : D → List ℕ) (unsynced : D → Unsynced) (s
       room_is = i.room_is;
       at = busy;
     }
+
+    pub as_taken : with_group_underway ≡ with_taken contents s group
+    as_taken =
+        ap (λ (k : ℕ). record s {
+          underway = Some group;
+          left = plan_at s.sizes s.half s.end s.number k group.entries;
+        }) idle.roots_are
+
+    pub steps : calls_left plan
+        ≡ 4 + roots_to_add s.sizes (length now) (entries_in group.entries)
+        + length (record_writes s.sizes group.entries)
+    steps =
+        omega (
+          arith,
+          calls_write (record {
+            geometry = s.sizes;
+            half = s.half;
+            end = s.end;
+            number = s.number;
+          }) group roots 0,
+          idle.roots_are,
+        )

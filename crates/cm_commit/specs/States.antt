@@ -12,6 +12,7 @@ use Rattle.cm_state.specs.State.{class_shows, state_of}
 use Rattle.cm_state.specs.Stands.{Stands, arenas_among}
 use Rattle.cm_commit.specs.Plans.{Stage, Store, Turn, Settle}
 use Rattle.cm_commit.specs.Offers.{MayCome, rows_after_group}
+use Rattle.cm_commit.specs.GroupPlans.{plan_at, whole_roots}
 
 -- A committer: its disk; the region's sizes; the rows that are committed, each class with the words
 -- of its record; the number of the last command; the half of the journal that counts, and the slot
@@ -33,6 +34,14 @@ pub record Takes {D : Type 0} (s : CommitterState D) (group : Handed) : Type 0 w
   pub sound : s.broken ≡ false
   pub idle : s.underway ≡ None
   pub next : MayCome s.sizes s.rows s.number s.end group
+
+-- and goes through the stages of its plan from then on
+abbrev pub with_taken : {D : Type 0} → (D → List ℕ) → CommitterState D → Handed → CommitterState D
+with_taken contents s group = record s {
+  underway = Some group;
+  left = plan_at s.sizes s.half s.end s.number (whole_roots s.sizes (length (contents s.disk)))
+      group.entries;
+}
 
 -- ---- what contents stand for
 

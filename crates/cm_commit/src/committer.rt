@@ -1,7 +1,8 @@
 //! The committer of a region file.
 
-ghost use Rattle.std.specs.Prelude.{◌≡◌, ◌≤◌, ◌<◌, ◌+◌, ◌^◌, IfOk, IfErr, IsTrue, Some, None, [], true};
-ghost use Rattle.std.specs.Prelude.{false, vec_capacity, length, if◌then◌else◌};
+ghost use Rattle.std.specs.Prelude.{◌≡◌, ◌≤◌, ◌<◌, ◌+◌, ◌^◌, ◌↔◌, IfOk, IfErr, IsTrue, IsOk, OnOk};
+ghost use Rattle.std.specs.Prelude.{OnErr, Some, None, [], true, false, vec_capacity, length};
+ghost use Rattle.std.specs.Prelude.{if◌then◌else◌};
 ghost use Rattle.std.specs.Arc.{arc_value};
 ghost use Rattle.std.specs.List.{list_all};
 ghost use Rattle.cm_guards.specs.Guards.{EachImage};
@@ -10,9 +11,9 @@ ghost use Rattle.cm_rows.specs.Rows.{is_above};
 ghost use Rattle.cm_group.specs.Groups.{entries_in, slots_taken};
 ghost use Rattle.cm_commit.specs.Plans.{calls_left};
 ghost use Rattle.cm_commit.specs.Offers.{carries_own, rows_after_group};
-ghost use Rattle.cm_commit.specs.GroupPlans.{roots_of_entries};
+ghost use Rattle.cm_commit.specs.GroupPlans.{roots_of_entries, roots_to_add, record_writes};
 ghost use Rattle.cm_commit.specs.Keeping.{keep_rules};
-ghost use Rattle.cm_commit.specs.States.{MayLeave};
+ghost use Rattle.cm_commit.specs.States.{MayLeave, Takes, with_taken};
 ghost use Rattle.cm_commit.specs.Advances.{Advances, HasRisen};
 ghost use Rattle.cm_layout.specs.Offsets.{root_size};
 ghost use Rattle.cm_layout.specs.Rows.{bare, rows_with};
@@ -21,7 +22,9 @@ ghost use Rattle.cm_commit.specs.Keeps.{IsHeld, roots_then};
 use crate::applying::fill_all;
 use crate::calls::make_call;
 use crate::entries::{calls_at, roots_needed};
+use crate::joining::take_group;
 use crate::journal::Journal;
+use crate::mismatch::Mismatch;
 use crate::progress::{AdvanceFault, Progress};
 use crate::step::Step;
 use cm_disk::{Disk, SimDisk};
@@ -199,6 +202,41 @@ impl<D: Disk> Committer<D> {
             is_broken: false,
             buffer,
         })
+    }
+
+    /// Takes a group, which is stored from then on by [`Committer::advance`]. No device call is
+    /// made, and no memory is taken.
+    ///
+    /// The group is handed back, and nothing is changed, exactly where the committer is broken or
+    /// busy, where the group doesn't begin one past the committer's number, where the half that
+    /// counts has no slots for it, and where an entry may not join: it breaks a rule, writes into a
+    /// chunk that committed rows use (but behind the records on its loader's last one), makes a
+    /// class that its loader has by then, carries other records than it needs, or is a move.
+    pub fn offer(&mut self, group: Group) -> Result<(), Mismatch>
+        ensures takes { IsOk result ↔ Takes self.old group }
+        ensures taken { OnOk result (self.new ≡ with_taken D.contents self.old group) }
+        ensures steps { OnOk result (calls_left self.new.left
+            ≡ 4 + roots_to_add self.old.sizes (length (D.contents self.old.disk))
+            (entries_in group.entries)
+            + length (record_writes self.old.sizes group.entries)) }
+        ensures handed_back { IfErr result (λ e. e.group ≡ group) }
+        ensures same { OnErr result (self.new ≡ self.old) }
+    {
+        if self.is_broken {
+            return Err(Mismatch { group });
+        }
+        if self.group.is_some() {
+            return Err(Mismatch { group });
+        }
+        if !take_group(self.journal, &mut self.rows, &mut self.next, &group) {
+            return Err(Mismatch { group });
+        }
+        self.step = Step::Write {
+            roots: self.roots,
+            from: 0,
+        };
+        self.group = Some(group);
+        Ok(())
     }
 
     /// Makes the next device call of the group that is under way, exactly one where any is left:

@@ -10,9 +10,11 @@ mod entries;
 mod joining;
 mod journal;
 mod laws;
+mod mismatch;
 mod progress;
 mod step;
 
 pub use committer::{Committer, NotMade};
 pub use laws::{committed_is_guarded, groups_turn, plans_have_steps};
+pub use mismatch::Mismatch;
 pub use progress::{AdvanceFault, Progress};
