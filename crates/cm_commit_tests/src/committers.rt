@@ -1,0 +1,63 @@
+//! Committers of new files in memory. What a test does with one stands in a function that borrows
+//! it, and behind that the committer ends, which gives its disk back.
+
+use crate::groups::{Sample, group_of};
+use cm_commit::{Committer, Progress};
+use cm_disk::SimDisk;
+use cm_front::Front;
+use cm_pool::Geometry;
+use cm_recover::{NotOpened, format, open};
+use std::alloc::Global;
+use std::test::Fail;
+
+/// A file of two roots of 1,024 words and of 256 slots in each half, with nothing in it.
+pub fn new_file(alloc: Global) -> Result<SimDisk, Fail> {
+    let geometry = Geometry::new(3, 2, 256).ok_or("within the limits")?;
+    let mut disk = SimDisk::new(alloc);
+    if format(alloc, &mut disk, geometry).is_err() {
+        return Err("the disk doesn't fail".into());
+    }
+    Ok(disk)
+}
+
+/// The cache of a file.
+pub fn opened(alloc: Global, disk: SimDisk) -> Result<(Front, Committer<SimDisk>), Fail> {
+    match open(alloc, disk) {
+        Ok(cache) => Ok(cache),
+        Err(
+            NotOpened {
+                fault: _,
+                disk: _disk,
+            },
+        ) => Err("the file holds a cache".into()),
+    }
+}
+
+/// Offers a group: how many device calls it takes, or, where it is refused, whether it came back.
+pub fn offer(
+    alloc: Global,
+    committer: &mut Committer<SimDisk>,
+    first: u64,
+    samples: &[Sample],
+) -> Result<Result<u64, bool>, Fail> {
+    let group = group_of(alloc, first, samples)?;
+    match committer.offer(group) {
+        Ok(()) => Ok(Ok(committer.steps_left())),
+        Err(mismatch) => {
+            let back = mismatch.group;
+            Ok(Err(back.first() == first && back.count() == samples.len()))
+        }
+    }
+}
+
+/// Makes all device calls of the group that is under way, and tells the number that is stored then.
+pub fn store(committer: &mut Committer<SimDisk>) -> Option<u64> {
+    for _call in 0..committer.steps_left() {
+        match committer.advance() {
+            Ok(Progress::Working) => {}
+            Ok(Progress::Done(receipt)) => return Some(receipt.number),
+            Ok(Progress::Idle) | Err(_) => return None,
+        }
+    }
+    None
+}

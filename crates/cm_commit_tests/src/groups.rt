@@ -1,0 +1,128 @@
+//! Groups that are made by hand, of entries that are values, so that a test is a table of groups.
+
+use cm_group::{CarriedEntry, Group};
+use cm_layout::{ClassRow, LoaderRow, Move, SlotName, Unload};
+use cm_pool::{Chunk, Place};
+use cm_prepare::{Prepared, prepare};
+use std::alloc::Global;
+use std::test::Fail;
+
+/// An entry. Loaders and classes have names of one letter; each chunk has 128 words.
+#[derive(Clone, Copy, Debug)]
+pub enum Sample {
+    Loader(u64, u8),
+    /// A class of a loader, by its name, with the first word of its chunk in the first root, its
+    /// offset and how many words its row names.
+    Class(u64, u8, u32, u32, u32),
+    /// The same with its chunk at the front of the second root.
+    Far(u64, u8),
+    Unload(u64),
+    /// A loader's chunk, by its first word, moves behind it.
+    Move(u64, u32),
+}
+
+/// How many words the record of each class has.
+pub const WORDS: u32 = 20;
+
+/// A class with a name of one letter and an attribute of no bytes: what stands before the letter, and
+/// behind it.
+const BEFORE_NAME: &[u8] = b"cafebabe0000003400060700020100";
+
+const BEHIND_NAME: &[u8] = b"0700040100106a6176612f6c616e672f4f626a656374010001580021000100030000\
+    00000000000100050000\
+    0000";
+
+fn bytes_of(alloc: Global, name: u8) -> Option<Vec<u8>> {
+    let mut bytes = hex::decode(alloc, BEFORE_NAME).ok()?;
+    bytes.extend_from_slice(&[1, name]).ok()?;
+    let behind = hex::decode(alloc, BEHIND_NAME).ok()?;
+    bytes.extend_from_slice(&behind).ok()?;
+    Some(bytes)
+}
+
+/// The class of this name.
+pub fn class(alloc: Global, name: u8) -> Result<Prepared, Fail> {
+    let bytes = bytes_of(alloc, name).ok_or("bytes")?;
+    match prepare(alloc, &bytes) {
+        Ok(class) => Ok(class),
+        Err(_) => Err("a class".into()),
+    }
+}
+
+fn chunk(root: u32, at: u32) -> Chunk {
+    Chunk { root, order: 0, at }
+}
+
+fn class_entry(alloc: Global, loader: u64, name: u8, place: Place) -> Result<CarriedEntry, Fail> {
+    let class = class(alloc, name)?;
+    let row = ClassRow { loader, place };
+    Ok(CarriedEntry::class(alloc, row, class.into_record())?)
+}
+
+fn loader_entry(alloc: Global, number: u64, name: u8) -> Result<CarriedEntry, Fail> {
+    let name = SlotName::new(&[name]).ok_or("a short name")?;
+    Ok(CarriedEntry::loader(alloc, LoaderRow { number, name }))
+}
+
+fn move_entry(alloc: Global, loader: u64, at: u32) -> CarriedEntry {
+    let entry = Move {
+        loader,
+        from: chunk(0, at),
+        to: chunk(0, at.saturating_add(128)),
+    };
+    CarriedEntry::relocation(entry, Vec::new(alloc))
+}
+
+fn entry_of(alloc: Global, sample: Sample) -> Result<CarriedEntry, Fail> {
+    match sample {
+        Sample::Loader(number, name) => loader_entry(alloc, number, name),
+        Sample::Class(loader, name, at, offset, words) => {
+            let chunk = chunk(0, at);
+            class_entry(
+                alloc,
+                loader,
+                name,
+                Place {
+                    chunk,
+                    offset,
+                    words,
+                },
+            )
+        }
+        Sample::Far(loader, name) => {
+            let (chunk, offset, words) = (chunk(1, 0), 0, WORDS);
+            class_entry(
+                alloc,
+                loader,
+                name,
+                Place {
+                    chunk,
+                    offset,
+                    words,
+                },
+            )
+        }
+        Sample::Unload(loader) => Ok(CarriedEntry::unload(alloc, Unload { loader })),
+        Sample::Move(loader, at) => Ok(move_entry(alloc, loader, at)),
+    }
+}
+
+fn push(group: &mut Group, entry: CarriedEntry) -> bool {
+    let next = group.first() + group.count() as u64;
+    next <= 1 << 63 && group.push(entry).is_ok()
+}
+
+/// The group of these entries, the first of which has this number.
+pub fn group_of(alloc: Global, first: u64, samples: &[Sample]) -> Result<Group, Fail> {
+    if first == 0 || first > 1 << 63 {
+        return Err("a number of a command".into());
+    }
+    let Some((one, more)) = samples.split_first() else {
+        return Err("an entry".into());
+    };
+    let mut group = Group::new(alloc, first, entry_of(alloc, *one)?)?;
+    for sample in more {
+        let _pushed = push(&mut group, entry_of(alloc, *sample)?);
+    }
+    Ok(group)
+}

@@ -1,0 +1,205 @@
+//! Which groups a committer takes.
+
+use crate::committers::{new_file, offer, opened, store};
+use crate::groups::Sample::{Class, Far, Loader, Move, Unload};
+use crate::groups::{Sample, WORDS};
+use cm_commit::{AdvanceFault, Committer};
+use cm_disk::SimDisk;
+use std::alloc::Global;
+use std::test::*;
+
+/// A loader with one class, at the front of the first root.
+const FIRST: [Sample; 2] = [Loader(1, b'a'), Class(1, b'A', 0, 0, WORDS)];
+
+/// Its next class.
+const NEXT: [Sample; 1] = [Class(1, b'B', 0, WORDS, WORDS)];
+
+/// How many calls a group takes, or, where it is refused, whether it came back.
+type Answer = Result<u64, bool>;
+
+const REFUSED: Answer = Err(true);
+
+/// What comes of a group behind the first one, what of the next class then, and the number that is
+/// stored in the end.
+type Answers = (Answer, Answer, Option<u64>);
+
+fn offer_both(
+    alloc: Global,
+    committer: &mut Committer<SimDisk>,
+    first: u64,
+    samples: &[Sample],
+) -> Result<Answers, Fail> {
+    let _taken = offer(alloc, committer, 1, &FIRST)?;
+    let _stored = store(committer);
+    let answer = offer(alloc, committer, first, samples)?;
+    let next = offer(alloc, committer, 3, &NEXT)?;
+    Ok((answer, next, store(committer)))
+}
+
+fn answers(alloc: Global, first: u64, samples: &[Sample]) -> Result<Answers, Fail> {
+    let (_front, mut committer) = opened(alloc, new_file(alloc)?)?;
+    let answers = offer_both(alloc, &mut committer, first, samples);
+    let _disk = committer.into_disk();
+    answers
+}
+
+/// Groups that may come next, how many device calls each takes, and the number of its last entry.
+const TAKEN: [(&[Sample], u64, u64); 7] = [
+    (&NEXT, 5, 3),
+    // behind one another
+    (
+        &[
+            Class(1, b'B', 0, WORDS, WORDS),
+            Class(1, b'C', 0, 2 * WORDS, WORDS),
+        ],
+        6,
+        4,
+    ),
+    // in another chunk, and in one of another root
+    (&[Class(1, b'B', 128, 0, WORDS)], 5, 3),
+    (&[Far(1, b'B')], 6, 3),
+    // the same name in another loader, and in one that has the name of a loader that is gone
+    (&[Loader(3, b'b'), Class(3, b'A', 128, 0, WORDS)], 5, 4),
+    (
+        &[Unload(1), Loader(4, b'a'), Class(4, b'A', 128, 0, WORDS)],
+        5,
+        5,
+    ),
+    (&[Unload(1)], 4, 3),
+];
+
+#[test]
+fn a_group_that_may_come_next_is_taken(rt: HostRuntime) -> Result<(), Fail> {
+    for (samples, steps, number) in TAKEN {
+        // the class behind it is refused while it is under way
+        assert_eq!(rt;
+            answers(rt.alloc(), 3, samples)?,
+            (Ok(steps), REFUSED, Some(number))
+        );
+    }
+    Ok(())
+}
+
+/// The number of the first entry, and the entries.
+const REFUSALS: [(u64, &[Sample]); 14] = [
+    // numbers that aren't next
+    (1, &NEXT),
+    (2, &NEXT),
+    (4, &NEXT),
+    // entries that break a rule: of a loader that isn't there, a number that isn't its own, a name
+    // that is taken, a place that is taken, the second entry
+    (3, &[Unload(2)]),
+    (3, &[Loader(4, b'b')]),
+    (3, &[Loader(3, b'a')]),
+    (3, &[Class(1, b'B', 0, 0, WORDS)]),
+    (3, &[Class(1, b'B', 0, WORDS, WORDS), Unload(2)]),
+    // a chunk that committed rows use, although the loader leaves it before
+    (
+        3,
+        &[Unload(1), Loader(4, b'b'), Class(4, b'A', 0, 0, WORDS)],
+    ),
+    // a class twice: committed before, and in the group
+    (3, &[Class(1, b'A', 0, WORDS, WORDS)]),
+    (
+        3,
+        &[
+            Class(1, b'B', 0, WORDS, WORDS),
+            Class(1, b'B', 0, 2 * WORDS, WORDS),
+        ],
+    ),
+    // a record of another length than its row names
+    (3, &[Class(1, b'B', 0, WORDS, WORDS + 1)]),
+    (
+        3,
+        &[
+            Class(1, b'B', 0, WORDS, WORDS),
+            Class(1, b'C', 0, 2 * WORDS, WORDS - 1),
+        ],
+    ),
+    // a move
+    (3, &[Move(1, 0)]),
+];
+
+#[test]
+fn another_group_comes_back_and_nothing_is_changed(rt: HostRuntime) -> Result<(), Fail> {
+    for (first, samples) in REFUSALS {
+        assert_eq!(rt;
+            answers(rt.alloc(), first, samples)?,
+            (REFUSED, Ok(5), Some(3))
+        );
+    }
+    Ok(())
+}
+
+/// Offers groups of two entries until one is refused: how many are stored.
+fn fill(alloc: Global, committer: &mut Committer<SimDisk>) -> Result<u64, Fail> {
+    for stored in 0..100 {
+        let first = 2 * stored + 1;
+        let group = [Loader(first, b'a'), Unload(first)];
+        if offer(alloc, committer, first, &group)? != Ok(4) {
+            return Ok(stored);
+        }
+        let _stored = store(committer);
+    }
+    Ok(100)
+}
+
+/// And what comes of a smaller one then.
+fn fill_and_offer(
+    alloc: Global,
+    committer: &mut Committer<SimDisk>,
+) -> Result<(u64, Answer), Fail> {
+    let stored = fill(alloc, committer)?;
+    Ok((stored, offer(alloc, committer, 171, &[Loader(171, b'a')])?))
+}
+
+fn filled(alloc: Global) -> Result<(u64, Answer), Fail> {
+    let (_front, mut committer) = opened(alloc, new_file(alloc)?)?;
+    let told = fill_and_offer(alloc, &mut committer);
+    let _disk = committer.into_disk();
+    told
+}
+
+#[test]
+fn a_half_takes_groups_until_it_is_full(rt: HostRuntime) -> Result<(), Fail> {
+    // 85 groups of three slots each, behind the half's head, fill its 256 slots
+    assert_eq!(rt; filled(rt.alloc())?, (85, REFUSED));
+    Ok(())
+}
+
+/// Lets the device fail behind so many calls of the first group: whether that is told, what comes of
+/// the group then, and how many calls are left.
+fn fail_behind(
+    alloc: Global,
+    committer: &mut Committer<SimDisk>,
+    calls: u64,
+) -> Result<(bool, Answer, u64), Fail> {
+    let _taken = offer(alloc, committer, 1, &FIRST)?;
+    for _call in 0..calls {
+        let _working = committer.advance();
+    }
+    committer.arm(0);
+    let failed = committer.advance() == Err(AdvanceFault::Device);
+    committer.disarm();
+    let answer = offer(alloc, committer, 1, &FIRST)?;
+    Ok((failed, answer, committer.steps_left()))
+}
+
+fn failed_behind(alloc: Global, calls: u64) -> Result<(bool, Answer, u64), Fail> {
+    let (_front, mut committer) = opened(alloc, new_file(alloc)?)?;
+    let told = fail_behind(alloc, &mut committer, calls);
+    let _disk = committer.into_disk();
+    told
+}
+
+#[test]
+fn a_broken_committer_takes_nothing(rt: HostRuntime) -> Result<(), Fail> {
+    for calls in 0..6 {
+        assert_eq!(rt;
+            failed_behind(rt.alloc(), calls)?,
+            (true, REFUSED, 0),
+            "{calls} calls"
+        );
+    }
+    Ok(())
+}
