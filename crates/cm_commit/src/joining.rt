@@ -12,11 +12,9 @@ ghost use Rattle.cm_layout.specs.Rules.{is_last_chunk};
 ghost use Rattle.cm_state.specs.State.{words_show, class_among};
 ghost use Rattle.cm_state.specs.Entries.{AreCacheRows};
 ghost use Rattle.cm_group.specs.Groups.{IsGroup, entries_in, slots_taken};
-ghost use Rattle.cm_commit.specs.Offers.{carries_own as carries, is_own, writes_apart as writes};
-ghost use Rattle.cm_commit.specs.Offers.{MayCome};
-ghost use Rattle.cm_commit.specs.Joining.{makes_class as makes, is_new as is_new_entry};
-ghost use Rattle.cm_commit.specs.Joining.{are_new as are_new_entries, is_inside, are_inside};
-ghost use Rattle.cm_commit.specs.Joining.{are_apart as write_apart, may_join as may_all_join};
+ghost use Rattle.cm_commit.specs.Offers.{carries_own, is_own, writes_apart, MayCome};
+ghost use Rattle.cm_commit.specs.Joining.{makes_class, is_new, are_new, is_inside, are_inside};
+ghost use Rattle.cm_commit.specs.Joining.{are_apart, may_join};
 ghost use Rattle.cm_commit.specs.Laws.{TellsWords};
 
 use crate::applying::apply_all;
@@ -44,7 +42,7 @@ fn carries_record(carried: &CarriedEntry, words: u32) -> bool
 
 /// Whether an entry carries the records that it needs. No move is taken yet.
 fn carries_own(carried: &CarriedEntry) -> bool
-    ensures own { result ≡ carries carried.now }
+    ensures own { result ≡ carries_own carried.now }
     ensures told { IsTrue result → TellsWords carried.now }
 {
     match carried.entry() {
@@ -55,8 +53,8 @@ fn carries_own(carried: &CarriedEntry) -> bool
 }
 
 /// Whether each entry carries the records that it needs.
-fn carry_own(entries: &[CarriedEntry]) -> bool
-    ensures own { result ≡ list_all carries entries.now }
+fn all_carry_own(entries: &[CarriedEntry]) -> bool
+    ensures own { result ≡ list_all carries_own entries.now }
     ensures told { IsTrue result → AllByRecursion TellsWords entries.now }
 {
     for carried in entries {
@@ -82,7 +80,7 @@ fn is_behind_last(rows: &Book<Arc<Record, Global>>, row: &ClassRow) -> bool
 /// loader's last one.
 fn writes_apart(rows: &mut Book<Arc<Record, Global>>, entry: &Entry<()>) -> bool
     requires inside { is_inside rows.old.sizes entry.now ≡ true }
-    ensures apart { result ≡ writes rows.old.rows entry.now }
+    ensures apart { result ≡ writes_apart rows.old.rows entry.now }
     ensures same { rows.new ≡ rows.old }
 {
     match entry {
@@ -95,9 +93,9 @@ fn writes_apart(rows: &mut Book<Arc<Record, Global>>, entry: &Entry<()>) -> bool
 }
 
 /// Whether each entry does.
-fn write_apart(rows: &mut Book<Arc<Record, Global>>, entries: &[CarriedEntry]) -> bool
+fn all_write_apart(rows: &mut Book<Arc<Record, Global>>, entries: &[CarriedEntry]) -> bool
     requires inside { are_inside rows.old.sizes entries.now ≡ true }
-    ensures apart { result ≡ write_apart rows.old.rows entries.now }
+    ensures apart { result ≡ are_apart rows.old.rows entries.now }
     ensures same { rows.new ≡ rows.old }
 {
     for carried in entries {
@@ -119,8 +117,8 @@ fn have_one_name(one: &Record, other: &Record) -> bool
 
 /// Whether an entry makes a class in this loader that has the name of this one.
 fn makes_class(loader: u64, class: &Record, carried: &CarriedEntry) -> bool
-    requires own { carries carried.now ≡ true }
-    ensures { result ≡ makes loader (class_name_in class.now) carried.now }
+    requires own { carries_own carried.now ≡ true }
+    ensures { result ≡ makes_class loader (class_name_in class.now) carried.now }
 {
     match carried.entry() {
         Entry::Live(Row::Class(row, ())) => {
@@ -131,9 +129,9 @@ fn makes_class(loader: u64, class: &Record, carried: &CarriedEntry) -> bool
 }
 
 /// Whether one of the entries does.
-fn make_class(loader: u64, class: &Record, entries: &[CarriedEntry]) -> bool
-    requires own { list_all carries entries.now ≡ true }
-    ensures { result ≡ list_any (makes loader (class_name_in class.now)) entries.now }
+fn is_made(loader: u64, class: &Record, entries: &[CarriedEntry]) -> bool
+    requires own { list_all carries_own entries.now ≡ true }
+    ensures { result ≡ list_any (makes_class loader (class_name_in class.now)) entries.now }
 {
     for carried in entries {
         if makes_class(loader, class, carried) {
@@ -154,15 +152,15 @@ fn is_absent(rows: &Book<Arc<Record, Global>>, loader: u64, class: &Arc<Record, 
 /// Whether the class that an entry makes, if it makes one, is new in its loader, by what is
 /// committed and by the entries before it.
 fn is_new(rows: &Book<Arc<Record, Global>>, before: &[CarriedEntry], carried: &CarriedEntry) -> bool
-    requires before { list_all carries before.now ≡ true }
-    requires own { carries carried.now ≡ true }
-    ensures { result ≡ is_new_entry (rows_with arc_value rows.now.rows) before.now carried.now.entry
+    requires before { list_all carries_own before.now ≡ true }
+    requires own { carries_own carried.now ≡ true }
+    ensures { result ≡ is_new (rows_with arc_value rows.now.rows) before.now carried.now.entry
         carried.now.records }
 {
     match carried.entry() {
         Entry::Live(Row::Class(row, ())) => {
             let class = own_class(carried);
-            is_absent(rows, row.loader, class) && !make_class(row.loader, class, before)
+            is_absent(rows, row.loader, class) && !is_made(row.loader, class, before)
         }
         Entry::Live(Row::Loader(_)) | Entry::Unload(_) | Entry::Move(_) => true,
     }
@@ -171,8 +169,8 @@ fn is_new(rows: &Book<Arc<Record, Global>>, before: &[CarriedEntry], carried: &C
 /// Whether each class that entries make is new in its loader. A group has few entries, so each is
 /// held against those before it.
 fn are_new(rows: &Book<Arc<Record, Global>>, entries: &[CarriedEntry]) -> bool
-    requires own { list_all carries entries.now ≡ true }
-    ensures { result ≡ are_new_entries (rows_with arc_value rows.now.rows) [] entries.now }
+    requires own { list_all carries_own entries.now ≡ true }
+    ensures { result ≡ are_new (rows_with arc_value rows.now.rows) [] entries.now }
 {
     for at in 0..entries.len() {
         if !is_new(rows, &entries[..at], &entries[at]) {
@@ -194,7 +192,7 @@ fn may_join(
     requires cache { AreCacheRows words_show rows.old.sizes number
         (rows_with arc_value rows.old.rows) }
     requires numbers { number + length entries.now ≤ 2 ^ 63 }
-    ensures joins { result ≡ may_all_join rows.old.sizes (rows_with arc_value rows.old.rows) number
+    ensures joins { result ≡ may_join rows.old.sizes (rows_with arc_value rows.old.rows) number
         entries.now }
     ensures told { IsTrue result → AllByRecursion TellsWords entries.now }
     ensures next { IsTrue result → next.new
@@ -202,13 +200,13 @@ fn may_join(
     ensures sizes { next.new.sizes ≡ next.old.sizes }
     ensures same { rows.new ≡ rows.old }
 {
-    if !carry_own(entries) {
+    if !all_carry_own(entries) {
         return false;
     }
     if !apply_all(next, number + 1, entries) {
         return false;
     }
-    write_apart(rows, entries) && are_new(rows, entries)
+    all_write_apart(rows, entries) && are_new(rows, entries)
 }
 
 /// Whether a group begins where the commands end that are committed, and the half that counts has

@@ -24,10 +24,10 @@ returns-then-not-apply_all-clause-joins c =
     let rows = c.args.rows.now in
     breaks arc_value rows.sizes rows.rows c.args.number c.args.entries.now c.args.next.now
     c.requires.next_is c.apply_all.result c.apply_all.ensures.kept
-    (sym c.carry_own.ensures.own ∙ c.if-not-carry_own.false) c.if-not-apply_all.true
+    (sym c.all_carry_own.ensures.own ∙ c.if-not-all_carry_own.false) c.if-not-apply_all.true
 
-pub write_apart-requires : goal.write_apart-requires
-write_apart-requires c =
+pub all_write_apart-requires : goal.all_write_apart-requires
+all_write_apart-requires c =
     let rows = c.args.rows.now in
     record {
       inside = inside arc_value rows.sizes rows.rows c.args.number c.args.entries.now
@@ -35,22 +35,22 @@ write_apart-requires c =
           c.if-not-apply_all.false;
     }
 
-pub returns-then-write_apart-clause-joins : goal.returns-then-write_apart-clause-joins
-returns-then-write_apart-clause-joins c =
+pub returns-then-all_write_apart-clause-joins : goal.returns-then-all_write_apart-clause-joins
+returns-then-all_write_apart-clause-joins c =
     let rows = c.args.rows.now in
     c.are_new.ensures
     ∙ (ap (λ (l : LiveRows _). are_new (rows_with arc_value l.rows) [] c.args.entries.now)
-    c.write_apart.ensures.same
+    c.all_write_apart.ensures.same
     ∙ names_left arc_value rows.sizes rows.rows c.args.number c.args.entries.now c.args.next.now
     c.requires.next_is c.apply_all.result c.apply_all.ensures.kept
-    (sym c.carry_own.ensures.own ∙ c.if-not-carry_own.false) c.if-not-apply_all.false
-    (sym c.write_apart.ensures.apart ∙ c.if-write_apart.true))
+    (sym c.all_carry_own.ensures.own ∙ c.if-not-all_carry_own.false) c.if-not-apply_all.false
+    (sym c.all_write_apart.ensures.apart ∙ c.if-all_write_apart.true))
 
-pub returns-else-write_apart-clause-joins : goal.returns-else-write_apart-clause-joins
-returns-else-write_apart-clause-joins c =
+pub returns-else-all_write_apart-clause-joins : goal.returns-else-all_write_apart-clause-joins
+returns-else-all_write_apart-clause-joins c =
     let rows = c.args.rows.now in
-    c.if-write_apart.false
+    c.if-all_write_apart.false
     ∙ overwrites arc_value rows.sizes rows.rows c.args.number c.args.entries.now c.args.next.now
     c.requires.next_is c.apply_all.result c.apply_all.ensures.kept
-    (sym c.carry_own.ensures.own ∙ c.if-not-carry_own.false) c.if-not-apply_all.false
-    (sym c.write_apart.ensures.apart ∙ c.if-write_apart.false)
+    (sym c.all_carry_own.ensures.own ∙ c.if-not-all_carry_own.false) c.if-not-apply_all.false
+    (sym c.all_write_apart.ensures.apart ∙ c.if-all_write_apart.false)

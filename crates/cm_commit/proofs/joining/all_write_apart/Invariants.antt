@@ -1,7 +1,7 @@
 use Rattle.std.proofs.Common.{◌≡◌, drop}
 use Rattle.std.specs.List.{list_all}
 use Rattle.cm_commit.specs.Offers.{writes_apart}
-use Rattle.cm_commit.proofs.joining.write_apart.Given as goal
+use Rattle.cm_commit.proofs.joining.all_write_apart.Given as goal
 
 abbrev pub invariant-loop-carried : goal.invariant-loop-carried
 invariant-loop-carried l =

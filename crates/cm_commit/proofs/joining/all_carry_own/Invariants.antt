@@ -2,7 +2,7 @@ use Rattle.std.proofs.Common.{◌≡◌, drop}
 use Rattle.std.specs.List.{list_all, AllByRecursion}
 use Rattle.cm_commit.specs.Offers.{carries_own}
 use Rattle.cm_commit.specs.Laws.{TellsWords}
-use Rattle.cm_commit.proofs.joining.carry_own.Given as goal
+use Rattle.cm_commit.proofs.joining.all_carry_own.Given as goal
 
 abbrev pub invariant-loop-carried : goal.invariant-loop-carried
 invariant-loop-carried l =
