@@ -23,8 +23,8 @@ use Rattle.cm_layout.specs.Rows.{classes_in, rows_with, row_with}
 use Rattle.cm_layout.specs.Frames.{HoldsRow, Frames}
 use Rattle.cm_layout.proofs.Matched.{matches_frame}
 use Rattle.std.specs.List.{AllByRecursion}
-use Rattle.cm_state.specs.State.{NamesDiffer, class_among, class_shows, words_show}
-use Rattle.cm_state.specs.Stands.{EachKeepsRules}
+use Rattle.cm_state.specs.State.{NamesDiffer, class_among, class_shows, words_show, state_of}
+use Rattle.cm_state.specs.Stands.{EachKeepsRules, arenas_among}
 use Rattle.cm_commit.specs.Committed.{Committed}
 use Rattle.cm_commit.specs.Guarding.{IsCommitted, Shows}
 use Rattle.cm_commit.specs.States.{ShowsCache}
@@ -95,7 +95,7 @@ differ pre (Class r c ∷ rows) before named d = (
 
 -- ---- the classes of the records
 
-AreShort : List (Row (List ℕ)) → Type 0
+pub AreShort : List (Row (List ℕ)) → Type 0
 AreShort [] = Unit {0}
 AreShort (Loader r ∷ rows) = AreShort rows
 AreShort (Class r words ∷ rows) = (length words ≤ limit) × AreShort rows
@@ -135,14 +135,14 @@ has_classes (Class r words ∷ rows) right short =
       );
     }
 
-chunk_words : (sizes : Sizes) → IsGeometry sizes → (place : Place) → IsInside sizes place
+pub chunk_words : (sizes : Sizes) → IsGeometry sizes → (place : Place) → IsInside sizes place
     → place.words ≤ limit
 chunk_words sizes g place is =
     let power : 2 ^ sizes.top ≤ 2 ^ 12 = pow_mono g.top_to in
     omega (arith, is.words, is.chunk, power)
 
 -- a record is no longer than its chunk
-are_short : (sizes : Sizes) (roots : List ℕ) (rows : List (Row (List ℕ)))
+pub are_short : (sizes : Sizes) (roots : List ℕ) (rows : List (Row (List ℕ)))
     → ((r : ClassRow) → Among r (classes_in rows) → r.place.words ≤ limit)
     → AllByRecursion (HoldsRow sizes roots) rows → AreShort rows
 unfolding AreShort
@@ -167,8 +167,8 @@ shows_cache c contents right records names shows =
     let frames = matches_frame c.sizes contents c.rows c.number
     (record { framing = c.framing; right = right; matches = shows }) in
     record {
-      classes = has.classes;
-      records = has.laid;
+      state = state_of class_shows has.classes;
+      arenas = arenas_among (classes_in has.classes) has.classes;
       stands = record {
         rows = has.classes;
         framed = subst (λ (l : List (Row (List ℕ))). Frames c.sizes contents l c.number)
@@ -179,4 +179,5 @@ shows_cache c contents right records names shows =
         state_is = refl;
         arenas_are = refl;
       };
+      records = has.laid;
     }

@@ -1,15 +1,14 @@
 -- What a committer is seen as, and what a crash may leave of it.
 use Rattle.std.specs.Prelude.{◌≡◌, ℕ, ◌+◌, Bool, false, List, [], ◌∷◌, Option, Some, None, length}
-use Rattle.cm_class.specs.declared.class_file.ClassFile.{ClassFile}
 use Rattle.cm_record.specs.Layout.{lay}
 use Rattle.cm_pool.specs.Geometry.{Sizes}
 use Rattle.cm_layout.specs.declared.half.Half.{Half}
 use Rattle.cm_layout.specs.declared.row.Row.{Row}
-use Rattle.cm_layout.specs.Rows.{rows_with, classes_in}
+use Rattle.cm_layout.specs.Rows.{rows_with}
 use Rattle.cm_guards.specs.Gates.{OneOf}
 use Rattle.cm_group.specs.Groups.{Handed}
-use Rattle.cm_state.specs.State.{class_shows, state_of}
-use Rattle.cm_state.specs.Stands.{Stands, arenas_among}
+use Rattle.cm_state.specs.State.{CacheState}
+use Rattle.cm_state.specs.Stands.{Arenas, Stands}
 use Rattle.cm_commit.specs.Plans.{Stage, Store, Turn, Settle}
 use Rattle.cm_commit.specs.Offers.{MayCome, rows_after_group}
 use Rattle.cm_commit.specs.GroupPlans.{plan_at, whole_roots}
@@ -45,14 +44,14 @@ with_taken contents s group = record s {
 
 -- ---- what contents stand for
 
--- The contents stand for the cache of these rows and this number: its state and its arenas are
--- those of the classes whose records the rows have.
+-- The contents stand for the cache of these rows and this number: for the state and the arenas of
+-- classes whose records the rows have.
 pub record ShowsCache (sizes : Sizes) (rows : List (Row (List ℕ))) (number : ℕ)
     (contents : List ℕ) : Type 0 where
-  pub classes : List (Row ClassFile)
-  pub records : rows_with lay classes ≡ rows
-  pub stands : Stands sizes contents (state_of class_shows classes)
-      (arenas_among (classes_in classes) classes) number
+  pub state : CacheState
+  pub arenas : Arenas
+  pub stands : Stands sizes contents state arenas number
+  pub records : rows_with lay stands.rows ≡ rows
 
 abbrev pub ShowsCommitted : {D : Type 0} → CommitterState D → List ℕ → Type 0
 ShowsCommitted s contents = ShowsCache s.sizes s.rows s.number contents
