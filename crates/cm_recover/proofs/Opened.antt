@@ -48,12 +48,12 @@ TellsName = (c : ClassFile) (words : List ℕ) → IsRecordOf c words → class_
 -- ---- records
 
 -- no record is longer than any may be
-abbrev AreShort : List (Row (List ℕ)) → Type 0
+abbrev pub AreShort : List (Row (List ℕ)) → Type 0
 AreShort [] = Unit {0}
 AreShort (Loader r ∷ rows) = AreShort rows
 AreShort (Class r words ∷ rows) = (length words ≤ limit) × AreShort rows
 
-are_short : (sizes : Sizes) → IsGeometry sizes → (n : ℕ) (roots : List ℕ) (pre : List BareRow)
+pub are_short : (sizes : Sizes) → IsGeometry sizes → (n : ℕ) (roots : List ℕ) (pre : List BareRow)
     (rows : List (Row (List ℕ))) → LiveRowsKeep sizes n pre (bare rows)
     → AllByRecursion (HoldsRow sizes roots) rows → AreShort rows
 are_short sizes g n roots pre [] live held = tt
