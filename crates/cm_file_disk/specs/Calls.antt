@@ -1,0 +1,45 @@
+-- What a call on a file makes of the state of its disk.
+use Rattle.std.specs.Prelude.{◌≡◌, ◌≤◌, ◌+◌, ℕ, List, [], ◌∷◌, length, take}
+use Rattle.cm_disk.specs.Disk.{IsBytes}
+use Rattle.cm_disk.specs.Calls.{overwritten, IsTorn, IsCut}
+use Rattle.cm_disk.specs.Moments.{Moment}
+use Rattle.cm_file_disk.specs.declared.course.Call.{Call}
+use Rattle.cm_file_disk.specs.declared.course.Call.TheVariants.{Opened, Wrote, NotWritten, Cut}
+use Rattle.cm_file_disk.specs.declared.course.Call.TheVariants.{NotCut, Synced, Failed}
+use Rattle.cm_file_disk.specs.State.{State, unsure, stored, opened, lowered}
+
+-- The bytes that a call leaves of the old ones. Those of a failed write or cut aren't known.
+abbrev pub Leaves : Call → List ℕ → List ℕ → List ℕ → Type 0
+Leaves Opened bytes old left = left ≡ bytes
+Leaves (Wrote at) bytes old left = left ≡ overwritten at bytes old
+Leaves (NotWritten at) bytes old left =
+    IsTorn at (length bytes) old left × (IsBytes old → IsBytes left)
+Leaves (Cut len) bytes old left = left ≡ take len old
+Leaves (NotCut len) bytes old left = len ≤ length old → IsCut len old left
+Leaves Synced bytes old left = left ≡ old
+Leaves Failed bytes old left = left ≡ old
+
+-- it went through a moment, at which a crash may have left it, to other bytes
+abbrev pub gone : Moment → List ℕ → State → State
+gone during left old = record {
+  now = record during { bytes = left };
+  moments = during ∷ old.moments;
+  failures = old.failures;
+}
+
+-- the state after a call that left these bytes
+abbrev pub after : Call → List ℕ → List ℕ → State → State
+after Opened bytes left old = record { now = unsure left; moments = []; failures = 0 }
+after (Wrote at) bytes left old = gone (opened at (length bytes) old.now) left old
+after (NotWritten at) bytes left old =
+    record (gone (opened at (length bytes) old.now) left old) { failures = old.failures + 1 }
+after (Cut len) bytes left old = gone (lowered len old.now) left old
+after (NotCut len) bytes left old =
+    record (gone (lowered len old.now) left old) { failures = old.failures + 1 }
+after Synced bytes left old = record (gone old.now left old) { now = stored left }
+after Failed bytes left old = record old { failures = old.failures + 1 }
+
+-- a call goes over from a state to the next
+pub record Follows (call : Call) (bytes : List ℕ) (old new : State) : Type 0 where
+  pub left : Leaves call bytes old.now.bytes new.now.bytes
+  pub state : new ≡ after call bytes new.now.bytes old

@@ -1,0 +1,52 @@
+//! Why a file doesn't become a disk.
+
+ghost use Rattle.std.specs.Prelude.{◌≡◌};
+ghost use Rattle.cm_file_disk.specs.declared.fault.OpenError.TheVariants as open_error;
+
+use std::alloc::AllocError;
+use std::io;
+use thiserror::Error;
+
+/// Why a file isn't opened as a disk. It stays as it was.
+#[derive(Clone, Copy, Debug, Error)]
+pub enum OpenError {
+    /// It is a folder, a pipe or a device of the system.
+    #[error("not a regular file")]
+    NotRegular,
+    /// It has more than 2^40 bytes.
+    #[error("longer than a disk may be")]
+    TooLong,
+    /// The system doesn't find, open or read it.
+    #[error("{0}")]
+    Device(io::Error),
+    /// There is no memory for its bytes.
+    #[error("out of memory")]
+    NoMemory,
+}
+
+impl From<io::Error> for OpenError {
+    ghost from_gives = { λ cause e. e ≡ open_error.Device cause };
+
+    fn from(cause: io::Error) -> OpenError {
+        OpenError::Device(cause)
+    }
+}
+
+impl From<AllocError> for OpenError {
+    ghost from_gives = { λ _ e. e ≡ open_error.NoMemory };
+
+    fn from(_error: AllocError) -> OpenError {
+        OpenError::NoMemory
+    }
+}
+
+/// Why a file isn't created as a disk.
+#[derive(Clone, Copy, Debug, Error)]
+pub enum CreateError {
+    /// Something has that name already, if only a link that leads nowhere. It stays as it was.
+    #[error("something has that name already")]
+    Exists,
+    /// The system doesn't create it, or doesn't store it for good.
+    #[error("{0}")]
+    Device(io::Error),
+}
