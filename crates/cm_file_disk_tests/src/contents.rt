@@ -1,0 +1,76 @@
+//! What reaches the file, and what is read of it.
+
+use cm_disk::Disk;
+use cm_file_disk::FileDisk;
+use std::fs;
+use std::test::*;
+
+#[test]
+fn stored_bytes_are_read_when_it_is_opened_again(rt: HostRuntime) -> Result<(), Fail> {
+    let path = "cm_file_disk_stored.tmp";
+    let _ = fs::remove_file(&rt, path);
+    let mut disk = FileDisk::create(&rt, rt.alloc(), path)?;
+    assert_eq!(rt; disk.len(), Ok(0));
+    disk.write_at(0, b"abcdef")?;
+    disk.write_at(4, b"WXYZ")?;
+    assert_eq!(rt; disk.len(), Ok(8));
+    disk.sync()?;
+    disk.cut(7)?;
+    disk.sync()?;
+    assert_eq!(rt; disk.len(), Ok(7));
+    drop(disk);
+    for _ in 0..2 {
+        let mut disk = FileDisk::open(&rt, rt.alloc(), path)?;
+        assert_eq!(rt; disk.len(), Ok(7));
+        let mut middle = [0; 4];
+        assert_eq!(rt; disk.read(2, &mut middle), Ok(()));
+        assert_eq!(rt; middle, *b"cdWX");
+        disk.sync()?;
+        let mut end = [0; 1];
+        assert_eq!(rt; disk.read(6, &mut end), Ok(()));
+        assert_eq!(rt; end, *b"Y");
+        assert_eq!(rt; disk.cause().is_none(), true);
+    }
+    fs::remove_file(&rt, path)?;
+    Ok(())
+}
+
+#[test]
+fn a_write_of_many_pieces_is_written_whole(rt: HostRuntime) -> Result<(), Fail> {
+    let path = "cm_file_disk_pieces.tmp";
+    let _ = fs::remove_file(&rt, path);
+    let mut bytes = Vec::from_elem(rt.alloc(), 0u8, 200_000)?;
+    for (i, byte) in bytes.iter_mut().enumerate() {
+        *byte = (i % 251) as u8;
+    }
+    let mut disk = FileDisk::create(&rt, rt.alloc(), path)?;
+    disk.write_at(0, b"0123456789")?;
+    disk.write_at(7, &bytes)?;
+    assert_eq!(rt; disk.len(), Ok(200_007));
+    let held = fs::read(&rt, path)?;
+    assert_eq!(rt; held.len(), 200_007);
+    assert!(rt; held.starts_with(b"0123456"));
+    assert!(rt; held[7..].iter().eq(bytes.iter()));
+    fs::remove_file(&rt, path)?;
+    Ok(())
+}
+
+#[test]
+fn a_write_gives_the_bytes_up_and_leaves_the_length(rt: HostRuntime) -> Result<(), Fail> {
+    let path = "cm_file_disk_given_up.tmp";
+    fs::write(&rt, path, b"abcdef".as_slice())?;
+    let mut disk = FileDisk::open(&rt, rt.alloc(), path)?;
+    assert_eq!(rt; disk.len(), Ok(6));
+    let mut byte = [0; 1];
+    assert_eq!(rt; disk.read(0, &mut byte), Ok(()));
+    disk.write_at(1, b"X")?;
+    assert_eq!(rt; disk.read(0, &mut byte).is_err(), true);
+    assert_eq!(rt; disk.len(), Ok(6));
+    // It is no failure of the file: what follows still reaches it.
+    assert_eq!(rt; disk.cause().is_none(), true);
+    disk.write_at(6, b"g")?;
+    disk.sync()?;
+    assert_eq!(rt; fs::read_to_string(&rt, path)?.as_str(), "aXcdefg");
+    fs::remove_file(&rt, path)?;
+    Ok(())
+}
