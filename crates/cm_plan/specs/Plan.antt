@@ -1,0 +1,42 @@
+-- What a plan holds of the words that it was read from.
+use Rattle.std.specs.Prelude.{◌≡◌, ℕ, List, Option, Some, None, Contains, IfSome, codes}
+use Rattle.std.specs.Prelude.{option_map, slice_get, drop, map}
+use Rattle.std.specs.Borrow.{Bor}
+use Rattle.cm_pool.specs.Geometry.{Sizes, IsGeometry}
+use Rattle.cm_plan.specs.declared.plans.Plan.{Plan}
+use Rattle.cm_plan.specs.declared.plans.Plan.TheVariants.{Format, Check, List as Lists, Apply}
+use Rattle.cm_plan.specs.declared.fault.UsageFault.{UsageFault}
+use Rattle.cm_plan.specs.declared.fault.UsageFault.TheVariants.{Help, Words, NoMemory}
+
+abbrev pub plan_path : Plan → Option (Bor (List ℕ))
+plan_path (Format path geometry) = Some path
+plan_path (Check path) = Some path
+plan_path (Lists path) = Some path
+plan_path (Apply path) = path
+
+abbrev pub plan_geometry : Plan → Option Sizes
+plan_geometry (Format path geometry) = Some geometry
+plan_geometry (Check path) = None
+plan_geometry (Lists path) = None
+plan_geometry (Apply path) = None
+
+-- the name of its command
+abbrev pub plan_command : Plan → List ℕ
+plan_command (Format path geometry) = codes "format"
+plan_command (Check path) = codes "check"
+plan_command (Lists path) = codes "list"
+plan_command (Apply path) = codes "apply"
+
+-- The first word is its command, and its path is one of the others. Without a path `--memory` is
+-- one of them. Its numbers are within their limits.
+pub record IsOfWords (words : List (Bor (List ℕ))) (plan : Plan) : Type 0 where
+  pub command : option_map (λ w. w.now) (slice_get words 0) ≡ Some (plan_command plan)
+  pub path : IfSome (plan_path plan) (Contains (drop 1 words))
+  pub memory : plan_path plan ≡ None → Contains (map (λ w. w.now) (drop 1 words)) (codes "--memory")
+  pub numbers : IfSome (plan_geometry plan) IsGeometry
+
+-- the status to end with
+abbrev pub fault_status : UsageFault → ℕ
+fault_status (Help text) = 0
+fault_status (Words text) = 2
+fault_status NoMemory = 3

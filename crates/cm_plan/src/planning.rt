@@ -1,0 +1,110 @@
+//! From the words of a command line to a plan.
+ghost use Rattle.std.specs.Prelude.{◌≡◌, ◌≢◌, ◌<◌, ◌⊎◌, IfOk, IfSome, Contains};
+ghost use Rattle.clap.specs.Words.{kind_of};
+ghost use Rattle.clap.specs.declared.error.kind.ErrorKind.TheVariants.{DisplayHelp, DisplayVersion};
+ghost use Rattle.clap.specs.declared.error.kind.ErrorKind.TheVariants.{OutOfMemory, ValueValidation};
+ghost use Rattle.cm_plan.specs.Plan.{IsOfWords, fault_status};
+ghost use Rattle.cm_plan.specs.declared.fault.UsageFault.TheVariants.{NoMemory};
+
+use crate::command::{
+    APPLY, CHECK, FILE, FORMAT, LIST, MEMORY, MEMORY_WORD, ROOTS, SLOTS, TOP, whole_command,
+};
+use crate::{Plan, UsageFault};
+use clap::ArgMatches;
+use clap::error::{Error, ErrorKind};
+use cm_pool::Geometry;
+use std::alloc::{AllocError, Global};
+
+/// Reads the words of a command line, which begin behind the program's name.
+///
+/// # Errors
+/// [`UsageFault::Help`] where they ask for help; [`UsageFault::Words`] where they are wrong, or a
+/// number is outside its limits; [`UsageFault::NoMemory`] where an allocation failed.
+pub fn plan<'a>(alloc: Global, words: &'a [&'a str]) -> Result<Plan<'a>, UsageFault>
+    ensures { IfOk result (IsOfWords words.now) }
+{
+    let matches = match whole_command(alloc)?.try_get_matches_from(words) {
+        Ok(matches) => matches,
+        Err(error) => return Err(fault_of(alloc, &error)),
+    };
+    match plan_of(&matches, words) {
+        Some(plan) => Ok(plan),
+        None => Err(wrong_words(alloc, "the words are not known")),
+    }
+}
+
+/// The fault of words that can't be read at all, as where one of them isn't UTF-8: its text begins
+/// with `why` and tells how the words are used.
+pub fn wrong_words(alloc: Global, why: &str) -> UsageFault
+    ensures no_help { 0 < fault_status result }
+{
+    match usage_error(alloc, why) {
+        Ok(error) => fault_of(alloc, &error),
+        Err(_) => UsageFault::NoMemory,
+    }
+}
+
+fn usage_error(alloc: Global, why: &str) -> Result<Error, AllocError>
+    ensures { IfOk result (λ error. kind_of error ≡ ValueValidation) }
+{
+    whole_command(alloc)?.error(ErrorKind::ValueValidation, why)
+}
+
+fn fault_of(alloc: Global, error: &Error) -> UsageFault
+    ensures memory { kind_of error.now ≡ OutOfMemory → result ≡ NoMemory }
+    ensures help { fault_status result ≡ 0
+        → (kind_of error.now ≡ DisplayHelp) ⊎ (kind_of error.now ≡ DisplayVersion) }
+    ensures words { fault_status result ≡ 2
+        → (kind_of error.now ≢ DisplayHelp) × (kind_of error.now ≢ DisplayVersion) }
+{
+    if error.kind() == ErrorKind::OutOfMemory {
+        return UsageFault::NoMemory;
+    }
+    match error.to_string(alloc) {
+        Ok(text) if error.use_stderr() => UsageFault::Words(text),
+        Ok(text) => UsageFault::Help(text),
+        Err(_) => UsageFault::NoMemory,
+    }
+}
+
+/// The plan of words that `clap` took. No clause of it says which word is the command or the path,
+/// or that a number is within its limits, so this is looked at again.
+fn plan_of<'a>(matches: &ArgMatches<'a>, words: &'a [&'a str]) -> Option<Plan<'a>>
+    ensures { IfSome result (IsOfWords words.now) }
+{
+    let (_, given) = matches.subcommand()?;
+    let (command, rest) = words.split_first()?;
+    match *command {
+        FORMAT => Some(Plan::Format(path_of(given, rest)?, geometry_of(given)?)),
+        CHECK => Some(Plan::Check(path_of(given, rest)?)),
+        LIST => Some(Plan::List(path_of(given, rest)?)),
+        APPLY if given.get_flag(MEMORY) => {
+            find(rest, MEMORY_WORD)?;
+            Some(Plan::Apply(None))
+        }
+        APPLY => Some(Plan::Apply(Some(path_of(given, rest)?))),
+        _ => None,
+    }
+}
+
+fn path_of<'a>(given: &ArgMatches<'a>, words: &'a [&'a str]) -> Option<&'a str>
+    ensures { IfSome result (Contains words.now) }
+{
+    find(words, given.get_str(FILE)?)
+}
+
+/// The first of the words that is this text.
+fn find<'a>(words: &'a [&'a str], text: &str) -> Option<&'a str>
+    ensures word { IfSome result (Contains words.now) }
+    ensures text { IfSome result (λ word. word.now ≡ text.now) }
+{
+    words.iter().copied().find(|word| *word == text)
+}
+
+fn geometry_of(given: &ArgMatches<'_>) -> Option<Geometry> {
+    Geometry::new(
+        given.get_one(TOP)?,
+        given.get_one(ROOTS)?,
+        given.get_one(SLOTS)?,
+    )
+}

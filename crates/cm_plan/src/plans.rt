@@ -1,0 +1,16 @@
+//! What a command line asks for.
+
+use cm_pool::Geometry;
+
+/// What a command line asks for. Paths are words of that line.
+#[derive(Clone, Copy, Debug, PartialEq, Eq)]
+pub enum Plan<'a> {
+    /// To make an empty cache of that geometry in a new file.
+    Format(&'a str, Geometry),
+    /// To look for damage in a file.
+    Check(&'a str),
+    /// To list what a file holds.
+    List(&'a str),
+    /// To run a script on a file, or on a fresh cache in memory where there is none.
+    Apply(Option<&'a str>),
+}
