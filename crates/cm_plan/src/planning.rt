@@ -1,6 +1,7 @@
 //! From the words of a command line to a plan.
-ghost use Rattle.std.specs.Prelude.{◌≡◌, ◌≢◌, ◌<◌, ◌⊎◌, IfOk, IfSome, Contains};
-ghost use Rattle.clap.specs.Words.{kind_of};
+ghost use Rattle.std.specs.Prelude.{◌≡◌, ◌≢◌, ◌<◌, ◌⊎◌, IfOk, IfSome, Some, Contains};
+ghost use Rattle.std.specs.Prelude.{codes};
+ghost use Rattle.clap.specs.Words.{first_value, found_of, kind_of};
 ghost use Rattle.clap.specs.declared.error.kind.ErrorKind.TheVariants.{DisplayHelp, DisplayVersion};
 ghost use Rattle.clap.specs.declared.error.kind.ErrorKind.TheVariants.{OutOfMemory, ValueValidation};
 ghost use Rattle.cm_plan.specs.Plan.{IsOfWords, fault_status};
@@ -88,7 +89,9 @@ fn plan_of<'a>(matches: &ArgMatches<'a>, words: &'a [&'a str]) -> Option<Plan<'a
 }
 
 fn path_of<'a>(given: &ArgMatches<'a>, words: &'a [&'a str]) -> Option<&'a str>
-    ensures { IfSome result (Contains words.now) }
+    ensures word { IfSome result (Contains words.now) }
+    ensures given { IfSome result (λ path.
+        first_value (found_of given.now) (codes "FILE") ≡ Some path.now) }
 {
     find(words, given.get_str(FILE)?)
 }
