@@ -204,7 +204,8 @@ impl Disk for FileDisk {
             (file_left_since self.old) (file_left_since self.new)
             (IsImage (file_contents self.old) (file_unsynced self.old)) }
         ensures cause { HasCause (file_failures self.old) (file_failures self.new) result }
-        ensures answers { Answers (is_whole self.old) self.old self.new result }
+        ensures answers { Answers (is_whole self.old && not (is_lost self.old)) self.old self.new
+            result }
     {
         let Image::Whole(bytes) = &self.image else {
             return Err(self.refuse());
