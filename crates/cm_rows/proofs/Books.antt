@@ -49,18 +49,6 @@ module _ {P : Type 0} where
   roomier sizes rows rc more ls lc most p le also h =
       record { lawful = h.lawful; few = h.few; room = omega (arith, h.room); loaders_room = omega (arith, h.loaders_room); loaders = h.loaders; live = h.live }
 
-  -- there is room for a loader more
-  pub loaders-few : (sizes : Sizes) (rows : List (Row P)) (rc : ℕ) (ls : List LiveLoader) (lc : ℕ) (p : FreeSpace) → IsBook sizes rows rc ls lc p → length rows < row_limit sizes → length ls < lc
-  loaders-few sizes rows rc ls lc p h lt =
-      omega (
-        arith,
-        h.loaders_room,
-        length-map ls
-            (λ (l : LiveLoader). l.number),
-        ap length h.loaders.numbers,
-        numbers-few rows,
-      )
-
 -- ---- the loaders
 
 module _ {P : Type 0} where

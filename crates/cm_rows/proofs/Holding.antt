@@ -21,15 +21,6 @@ each-among P [] x h none = absurd none
 each-among P (y ∷ xs) x h (inl e) = subst P (sym e) h.0
 each-among P (y ∷ xs) x h (inr m) = each-among P xs x h.1 m
 
--- a chunk that is held is one of the region's
-pub held-chunk : (sizes : Sizes) (p : FreeSpace) (cs : List Chunk) (c : Chunk) → Holds sizes p cs
-    → Among c cs → IsChunk sizes c
-held-chunk sizes p cs c h m =
-    let block : IsBlock p.geometry.top p.roots c = (each-among (IsUsedChunk p) cs c h.held.each m).block in
-    let top : IsBlock sizes.top p.roots c = subst
-    (λ (s : Sizes). IsBlock s.top p.roots c) h.geometry block in
-    subst (λ (n : ℕ). IsBlock sizes.top n c) h.roots top
-
 -- a chunk is free that the region has and that shares no word with those held, and no other is
 pub free-is : (sizes : Sizes) (p : FreeSpace) (cs : List Chunk) (c : Chunk) → Holds sizes p cs
     → IsFreeChunk p c ↔ (IsChunk sizes c × ((d : Chunk) → Among d cs → ¬ Meets c d))

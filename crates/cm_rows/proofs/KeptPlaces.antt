@@ -11,7 +11,7 @@ use Rattle.std.specs.List.Sorted.{IsSearchInRange, IsBinarySearchResult, IsNonDe
 use Rattle.std.proofs.lemmas.Bool.{cases_lt, ltb-true, lt-ltb}
 use Rattle.std.proofs.lemmas.Bool.Decides.{nat_tests}
 use Rattle.std.proofs.lemmas.Cmp.{ranked}
-use Rattle.std.proofs.lemmas.List.{length-map, take-append-drop, get_or-take, take_more, drop_more}
+use Rattle.std.proofs.lemmas.List.{length-map, take-append-drop, get_or-take, take_more}
 use Rattle.std.proofs.Common.{length-append, IfNone, IsSome, Some}
 use Rattle.std.proofs.Math.Seq.{get_or-append_seam}
 use Rattle.cm_pool.specs.Lists.{Among, Pairwise}
@@ -60,11 +60,6 @@ module _ {X : Type 0} where
           → items (cond t (s ∷ swept slots) (swept slots)) ≡ cond t (s.item ∷ living slots) (living slots)
       by_test true behind = ap (λ l. s.item ∷ l) behind
       by_test false behind = behind
-
-  pub living-all : (slots : List (Slot X)) → AllByRecursion (λ s. s.live ≡ true) slots
-      → living slots ≡ items slots
-  living-all [] h = refl
-  living-all (s ∷ slots) h = ap (λ (t : Bool). cond t (s.item ∷ living slots) (living slots)) h.0 ∙ ap (λ l. s.item ∷ l) (living-all slots h.1)
 
   -- what is known of all is known of those that live
   pub all-kept : (P : X → Type 0) (slots : List (Slot X)) → AllByRecursion P (items slots)
@@ -115,13 +110,6 @@ module _ {X : Type 0} where
       → n ≡ length (swept (take i slots)) → length (living slots) ≤ capacity
       → n + length (living (get_or slots i d ∷ [])) ≤ capacity
   room-there slots i n capacity d lt same le = let few = room-for slots i d lt in omega (arith, few, same, le)
-
-  -- one more that doesn't
-  pub end-less : (slots : List (Slot X)) (n : ℕ) (d : Slot X) → n < length slots → (get_or slots n d).live ≡ false
-      → AllByRecursion (λ s. s.live ≡ false) (drop (n + 1) slots)
-      → AllByRecursion (λ s. s.live ≡ false) (drop n slots)
-  end-less slots n d lt dead h =
-      subst (AllByRecursion (λ s. s.live ≡ false)) (sym (drop_more slots n d lt)) (dead, h)
 
   -- behind an end nothing lives
   pub living-end : (slots : List (Slot X)) (n : ℕ) → AllByRecursion (λ s. s.live ≡ false) (drop n slots)

@@ -340,6 +340,10 @@ module _ {P : Type 0} where
           ap (λ (b : Bool). b && is_of v x.item) dead ∙ sym (ap (λ (b : Bool). s.live && b) none ∙ and-false s.live)))
 
   -- records lie on another chunk
+  pub place-moved : (from to : Chunk) (u : ℕ) (slots : List (Slot (Row P)))
+      → last_place u (map (moved_slot from to) slots) ≡ last_place u slots
+  place-moved from to u slots = place-map u (moved_slot from to) slots (λ s. ap (λ (b : Bool). s.live && b) (of-is u (moved_row from to s.item) ∙ ap (λ (n : ℕ). eqb n u) (moved-loader_in from to s.item) ∙ sym (of-is u s.item)))
+
   pub linked-moved : (from to : Chunk) (slots : List (Slot (Row P))) (before : List (Option ℕ))
       → AreLinked slots before → AreLinked (map (moved_slot from to) slots) before
   linked-moved from to slots before h =
@@ -350,16 +354,8 @@ module _ {P : Type 0} where
             let alive : (was.0).live ≡ true = ap (λ (s : Slot (Row P)). s.live) was.2 ∙ live in
             let loader : loader_in (was.0).item ≡ loader_in r.item = sym (moved-loader_in from to (was.0).item) ∙ ap (λ (s : Slot (Row P)). loader_in s.item) was.2 in
             h.each i was.0 was.1 alive ∙ ap (λ (u : ℕ). last_place u (take i slots)) loader
-            ∙ sym (ap (last_place (loader_in r.item)) (take-mapped (moved_slot from to) slots i) ∙ places-moved from to (loader_in r.item) (take i slots));
+            ∙ sym (ap (last_place (loader_in r.item)) (take-mapped (moved_slot from to) slots i) ∙ place-moved from to (loader_in r.item) (take i slots));
       }
-    where
-      places-moved : (from to : Chunk) (u : ℕ) (slots : List (Slot (Row P)))
-          → last_place u (map (moved_slot from to) slots) ≡ last_place u slots
-      places-moved from to u slots = place-map u (moved_slot from to) slots (λ s. ap (λ (b : Bool). s.live && b) (of-is u (moved_row from to s.item) ∙ ap (λ (n : ℕ). eqb n u) (moved-loader_in from to s.item) ∙ sym (of-is u s.item)))
-
-  pub place-moved : (from to : Chunk) (u : ℕ) (slots : List (Slot (Row P)))
-      → last_place u (map (moved_slot from to) slots) ≡ last_place u slots
-  place-moved from to u slots = place-map u (moved_slot from to) slots (λ s. ap (λ (b : Bool). s.live && b) (of-is u (moved_row from to s.item) ∙ ap (λ (n : ℕ). eqb n u) (moved-loader_in from to s.item) ∙ sym (of-is u s.item)))
 
 module _ {P : Type 0} where
   -- beside the last place of a loader stands the one before it

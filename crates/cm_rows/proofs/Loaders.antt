@@ -2,9 +2,9 @@
 use Rattle.std.proofs.Common.{◌≡◌, ◌≢◌, ℕ, zero, suc, ◌<◌, Bool, true, false, cond, eqb}
 use Rattle.std.proofs.Common.{List, [], ◌∷◌, ◌++◌, length, get_or, set, Option, None}
 use Rattle.std.proofs.Common.{inl, inr, refl, sym, ◌∙◌, ap, subst, arith}
-use Rattle.std.specs.List.{remove, list_all, AllByRecursion}
-use Rattle.std.specs.Prelude.{not, filter, nat_lt, ◌&&◌}
-use Rattle.std.proofs.lemmas.Bool.{eqb-true, eq-eqb, ltb-true, lt-ltb}
+use Rattle.std.specs.List.{remove, AllByRecursion}
+use Rattle.std.specs.Prelude.{not, filter}
+use Rattle.std.proofs.lemmas.Bool.{eqb-true, eq-eqb}
 use Rattle.cm_pool.specs.Lists.{Among, Pairwise}
 use Rattle.cm_rows.specs.declared.live_loader.LastChunk.{LastChunk}
 use Rattle.cm_rows.specs.declared.live_loader.LiveLoader.{LiveLoader}
@@ -222,35 +222,3 @@ absent-among u ls h m = by_all ls (λ k d lt. h.none k d lt) m
     by_all [] h none = none
     by_all (l ∷ ls) h (inl e) = h 0 l (omega arith) (sym e)
     by_all (l ∷ ls) h (inr m) = by_all ls (λ k d lt. h (suc k) d (omega arith)) m
-
--- all numbers are below one that the last is below
-pub below-last : (n : ℕ) (ls : List LiveLoader) (k : ℕ) (d : LiveLoader) → Pairwise Below ls
-    → length ls ≡ suc k → list_all
-    (λ u. nat_lt u n) (numbers_of ls) ≡ nat_lt (get_or ls k d).number n
-below-last n [] k d h e = absurd (omega arith)
-below-last n (l ∷ []) zero d h e = single (nat_lt l.number n)
-  where
-    single : (t : Bool) → (t && true) ≡ t
-    single true = refl
-    single false = refl
-below-last n (l ∷ []) (suc k) d h e = absurd (omega arith)
-below-last n (l ∷ m ∷ ls) zero d h e = absurd (omega arith)
-below-last n (l ∷ m ∷ ls) (suc k) d h e =
-    let before : l.number < (get_or (m ∷ ls) k d).number = each-at (Below l) (m ∷ ls) k d h.0 (omega arith) in
-    by_test (below-last n (m ∷ ls) k d h.1 (omega arith)) before (nat_lt (get_or (m ∷ ls) k d).number n) refl
-  where
-    by_test : list_all
-        (λ u. nat_lt u n) (numbers_of (m ∷ ls)) ≡ nat_lt (get_or (m ∷ ls) k d).number n
-        → l.number < (get_or (m ∷ ls) k d).number
-        → (t : Bool) → nat_lt (get_or (m ∷ ls) k d).number n ≡ t
-        → (nat_lt l.number n && list_all
-        (λ u. nat_lt u n) (numbers_of (m ∷ ls))) ≡ nat_lt (get_or (m ∷ ls) k d).number n
-    by_test behind before true e =
-        let lt : (get_or (m ∷ ls) k d).number < n = ltb-true (get_or (m ∷ ls) k d).number n e in
-        let first : nat_lt l.number n ≡ true = lt-ltb l.number n (omega arith) in
-        rw (first) behind
-    by_test behind before false e = rw (behind, e) (none (nat_lt l.number n))
-      where
-        none : (t : Bool) → (t && false) ≡ false
-        none true = refl
-        none false = refl

@@ -49,12 +49,6 @@ module _ {P : Type 0} where
   loaders-fewer sizes rows rc ls lc p h =
       omega (arith, length-map ls (λ (l : LiveLoader). l.number), ap length h.loaders.numbers, numbers-few rows)
 
-  -- with as many rows as live
-  pub recounted : (sizes : Sizes) (slots : List (Slot (Row P))) (cap count : ℕ) (before : List (Option ℕ)) (bc : ℕ) (ls : List LiveLoader) (newest : List (Option ℕ)) (nc : ℕ)
-      → HasLinks sizes slots cap count before bc ls newest nc → HasLinks sizes slots cap (length (living slots)) before bc ls newest nc
-  recounted sizes slots cap count before bc ls newest nc h =
-      record { linked = h.linked; lasts = h.lasts; counted = refl; few = h.few; room = h.room; before_room = h.before_room; newest_room = h.newest_room }
-
   pub last-at-place : (sizes : Sizes) (slots : List (Slot (Row P))) (cap count : ℕ) (before : List (Option ℕ)) (bc : ℕ) (ls : List LiveLoader) (newest : List (Option ℕ)) (nc u i : ℕ) (o : Option ℕ)
       → HasLinks sizes slots cap count before bc ls newest nc → IsAt ls u i → get_or newest i o ≡ last_place u slots
   last-at-place sizes slots cap count before bc ls newest nc u i o h at =
