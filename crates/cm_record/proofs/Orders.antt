@@ -28,6 +28,15 @@ same_byte xs ys i n en hx hy e so_far =
     so_far ∙ (heads xs ys i hx hy ∙ (ap
     (λ o. ordering_then o (order (drop (suc i) xs) (drop (suc i) ys))) (equal_numbers (get_or xs i 0) (get_or ys i 0) e) ∙ ap (λ k. order (drop k xs) (drop k ys)) more))
 
+-- nor do the first ones where all are the same
+pub same_bytes : (n : ℕ) (xs ys : List ℕ) → n ≤ length xs → n ≤ length ys
+    → ((i : ℕ) → i < n → get_or xs i 0 ≡ get_or ys i 0)
+    → order xs ys ≡ order (drop n xs) (drop n ys)
+same_bytes zero xs ys hx hy same = refl
+same_bytes (suc n) xs ys hx hy same =
+    same_byte xs ys n (suc n) (omega arith) (omega arith) (omega arith) (same n (omega arith))
+    (same_bytes n xs ys (omega arith) (omega arith) (λ i lt. same i (omega arith)))
+
 below : (a b : ℕ) → (a ≡ b → ⊥) → (a < b) ⊎ (b < a)
 below zero zero ne = absurd (ne refl)
 below zero (suc b) ne = inl (omega arith)

@@ -50,3 +50,33 @@ byte_there words run bytes is i lt =
     ap (λ w. get_or (bytes_of w) j 0) word
     ∙ (word_byte (drop (8 * k) bytes) (drop_fits (8 * k) bytes is.fits) j (omega arith) (omega (arith, length-drop (8 * k) bytes, is.count, whole))
     ∙ (get_or-drop (8 * k) bytes j 0 ∙ ap (λ n. get_or bytes n 0) whole))
+
+-- where the first words of two runs are the same, their bytes are
+pub same_in_runs : (words others : List ℕ) (run other : ℕ × ℕ) (xs ys : List ℕ)
+    → IsRunOf words run xs → IsRunOf others other ys
+    → (n : ℕ) → 8 * n ≤ run.1 → 8 * n ≤ other.1
+    → ((k : ℕ) → k < n → get_or (drop run.0 words) k 0 ≡ get_or (drop other.0 others) k 0)
+    → (i : ℕ) → i < 8 * n → get_or xs i 0 ≡ get_or ys i 0
+same_in_runs words others run other xs ys of_xs of_ys n le also same i lt =
+    let k = i / 8 in
+    let word : get_or words (run.0 + k) 0 ≡ get_or others (other.0 + k) 0 =
+    sym (get_or-drop run.0 words k 0) ∙ (same k (omega arith) ∙ get_or-drop other.0 others k 0) in
+    sym (byte_there words run xs of_xs i (omega arith))
+    ∙ (ap (λ w. get_or (bytes_of w) (i % 8) 0) word
+    ∙ byte_there others other ys of_ys i (omega arith))
+
+-- where the first words of a run are made of these bytes, its bytes are these
+pub same_in_run : (words : List ℕ) (run : ℕ × ℕ) (xs ys : List ℕ) → IsRunOf words run xs → AreBytes ys
+    → (n : ℕ) → 8 * n ≤ run.1 → 8 * n ≤ length ys
+    → ((k : ℕ) → k < n → get_or (drop run.0 words) k 0 ≡ word_from (drop (8 * k) ys))
+    → (i : ℕ) → i < 8 * n → get_or xs i 0 ≡ get_or ys i 0
+same_in_run words run xs ys of_xs are n le also same i lt =
+    let k = i / 8 in
+    let j = i % 8 in
+    let whole : 8 * k + j ≡ i = omega arith in
+    let word : get_or words (run.0 + k) 0 ≡ word_from (drop (8 * k) ys) =
+    sym (get_or-drop run.0 words k 0) ∙ same k (omega arith) in
+    sym (byte_there words run xs of_xs i (omega arith))
+    ∙ (ap (λ w. get_or (bytes_of w) j 0) word
+    ∙ (word_byte (drop (8 * k) ys) (drop_fits (8 * k) ys are) j (omega arith) (omega (arith, length-drop (8 * k) ys, whole))
+    ∙ (get_or-drop (8 * k) ys j 0 ∙ ap (λ m. get_or ys m 0) whole)))

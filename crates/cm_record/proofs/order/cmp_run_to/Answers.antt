@@ -1,8 +1,24 @@
-use Rattle.std.proofs.Common.{◌≡◌, ◌∙◌, length, get_or, sym, ap, refl, arith}
+use Rattle.std.proofs.Common.{◌≡◌, ◌∙◌, ◌*◌, length, get_or, sym, ap, refl, arith}
 use Rattle.std.specs.Ordering.{nat_cmp}
-use Rattle.cm_record.proofs.RunBytes.{run_fits, byte_there}
-use Rattle.cm_record.proofs.Orders.{same_byte, other_byte, one_ends}
+use Rattle.cm_record_layout.proofs.Runs.{bytes_from}
+use Rattle.cm_record.proofs.RunBytes.{run_fits, byte_there, same_in_run}
+use Rattle.cm_record.proofs.RunPlaces.{run_words_there}
+use Rattle.cm_record.proofs.Orders.{same_byte, same_bytes, other_byte, one_ends}
 use Rattle.cm_record.proofs.order.cmp_run_to.Goals as goal
+
+pub same_as_bytes-same-requires-clause-words : goal.same_as_bytes-same-requires-clause-words
+same_as_bytes-same-requires-clause-words c =
+    let is = c.requires.run in
+    omega (arith, (run_words_there c.args.words.now c.args.run is.0 is.1).0, ap length c.words_from.ensures, c.min-shared.ensures)
+
+pub loop-i-init : goal.loop-i-init
+loop-i-init c = λ xs of_xs.
+    let n = c.same_as_bytes-same.result in
+    let ys = c.args.bytes.now in
+    same_bytes (8 * n) xs ys (omega (arith, of_xs.count, c.same_as_bytes-same.ensures.within, c.min-shared.ensures)) (omega (arith, c.same_as_bytes-same.ensures.within, c.min-shared.ensures))
+    (same_in_run c.args.words.now c.args.run xs ys of_xs (bytes_from ys (λ i lt. omega (arith, c.type_inv.bytes i))) n
+    (omega (arith, c.same_as_bytes-same.ensures.within, c.min-shared.ensures)) (omega (arith, c.same_as_bytes-same.ensures.within, c.min-shared.ensures))
+    (λ k lt. sym (ap (λ w. get_or w k 0) c.words_from.ensures) ∙ c.same_as_bytes-same.ensures.same k lt))
 
 pub byte_at-one-requires-clause-there : goal.byte_at-one-requires-clause-there
 byte_at-one-requires-clause-there c = let is = c.requires.run in omega (arith, run_fits c.args.words.now c.args.run is.0 is.1, c.loop-i-test.true, c.min-shared.ensures)
