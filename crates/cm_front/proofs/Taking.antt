@@ -285,11 +285,6 @@ took laws sizes n rows rest row old new lawful cache way t = record {
     by_row (Class r words) next can t =
         took_class laws sizes n way.taken r words old new next way.so_far t
 
-pub all_taken : (sizes : Sizes) (rows : List (Row (List ℕ))) (space : SpaceState)
-    → IsOnTheWay sizes rows [] space → IsSpaceOf sizes rows space
-all_taken sizes rows space way =
-    subst (λ l. IsSpaceOf sizes l space) (sym (append-nil way.taken) ∙ way.split) way.so_far
-
 -- ---- no row
 
 pub none_taken : (sizes geometry : Sizes) (space : SpaceState) → sizes ≡ geometry

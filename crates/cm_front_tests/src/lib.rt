@@ -10,3 +10,5 @@ mod commands;
 mod fronts;
 #[cfg(test)]
 mod random;
+#[cfg(test)]
+mod words;

@@ -1,11 +1,16 @@
-//! Random commands against a plain model: which loaders live, and which classes each has.
+//! Random commands against a plain model: which loaders live, which classes each has, and which words
+//! are free, are a loader's or wait.
 ghost use Rattle.std.specs.Prelude.{◌<◌, ◌≤◌, length};
 
 use crate::fronts::{add_loader, class, define, empty, unload, words};
+use crate::words::{Chain, ROOTS, Region, TOP};
 use cm_front::Front;
-use cm_group::Receipt;
+use cm_group::{CarriedEntry, Group, Receipt};
+use cm_layout::{Entry, Row};
+use cm_pool::Place;
 use cm_prepare::{Prepared, Refusal};
-use std::alloc::Global;
+use std::alloc::{AllocError, Global};
+use std::collections::VecDeque;
 use std::test::Fail;
 
 /// How many loaders and classes there are to choose from.
@@ -19,49 +24,61 @@ const WORDS: [u32; CLASSES] = [20, 24, 120, 128, 129, 300, 1_024, 3_000];
 /// What a cache of these holds.
 #[derive(Drop)]
 struct Model {
-    lives: [bool; LOADERS],
+    /// The number of each loader that lives.
+    lives: [Option<u64>; LOADERS],
     has: [[bool; CLASSES]; LOADERS],
+    chains: [Chain; LOADERS],
+    region: Region,
+    /// The place of the record of each command that isn't handed out; none where it defines no
+    /// class.
+    places: VecDeque<Option<Place>>,
     number: u64,
     sealed: u64,
 }
 
 impl Model {
+    // The next number, whose command has a record at this place.
+    fn accept(&mut self, place: Option<Place>) -> Result<u64, Refusal> {
+        self.places.push_back(place).map_err(AllocError::from)?;
+        self.number = self.number.wrapping_add(1);
+        Ok(self.number)
+    }
+
     fn add_loader(&mut self, loader: usize) -> Result<u64, Refusal>
         requires { loader < 6 }
     {
-        if self.lives[loader] {
+        if self.lives[loader].is_some() {
             return Err(Refusal::LoaderExists);
         }
-        self.lives[loader] = true;
+        let number = self.accept(None)?;
+        self.lives[loader] = Some(number);
         self.has[loader] = [false; CLASSES];
-        self.number = self.number.wrapping_add(1);
-        Ok(self.number)
+        self.chains[loader] = Chain::EMPTY;
+        Ok(number)
     }
 
     fn define(&mut self, loader: usize, class: usize) -> Result<u64, Refusal>
         requires loader { loader < 6 }
         requires class { class < 8 }
     {
-        if !self.lives[loader] {
-            return Err(Refusal::NoLoader);
-        }
+        let number = self.lives[loader].ok_or(Refusal::NoLoader)?;
         if self.has[loader][class] {
             return Err(Refusal::ClassExists);
         }
+        let chain = &mut self.chains[loader];
+        let place = self.region.place(number, chain, WORDS[class])?;
         self.has[loader][class] = true;
-        self.number = self.number.wrapping_add(1);
-        Ok(self.number)
+        self.accept(Some(place))
     }
 
     fn unload(&mut self, loader: usize) -> Result<u64, Refusal>
         requires { loader < 6 }
     {
-        if !self.lives[loader] {
-            return Err(Refusal::NoLoader);
-        }
-        self.lives[loader] = false;
-        self.number = self.number.wrapping_add(1);
-        Ok(self.number)
+        let left = self.lives[loader].ok_or(Refusal::NoLoader)?;
+        let number = self.accept(None)?;
+        self.lives[loader] = None;
+        self.region.leave(left, number);
+        Ok(number)
     }
 
     // How many words the record has that is to be found.
@@ -69,7 +86,7 @@ impl Model {
         requires loader { loader < 6 }
         requires class { class < 8 }
     {
-        if self.lives[loader] && self.has[loader][class] {
+        if self.lives[loader].is_some() && self.has[loader][class] {
             Some(WORDS[class])
         } else {
             None
@@ -77,16 +94,41 @@ impl Model {
     }
 }
 
-// Whether the next group begins behind the last one.
+// Where an entry's record lies, if it has one.
+fn place_of(entry: &CarriedEntry) -> Option<Place> {
+    match entry.entry() {
+        Entry::Live(Row::Class(row, ())) => Some(row.place),
+        _ => None,
+    }
+}
+
+// Whether the records of a group lie where the model has them.
+fn lie_there(group: &Group, model: &mut Model) -> bool {
+    for entry in group.entries() {
+        if model.places.pop_front() != Some(place_of(entry)) {
+            return false;
+        }
+    }
+    true
+}
+
+// Whether the next group begins behind the last one, and has the model's places.
 fn seals(front: &mut Front, model: &mut Model) -> bool {
     match front.seal() {
         None => model.sealed == model.number,
         Some(group) => {
             let is_next = group.first() == model.sealed.wrapping_add(1);
             model.sealed = model.sealed.wrapping_add(group.count() as u64);
-            is_next && model.sealed <= model.number
+            is_next && lie_there(&group, model) && model.sealed <= model.number
         }
     }
+}
+
+// Whether a number up to the last that was handed out is learnt.
+fn learns(front: &mut Front, model: &mut Model, choice: u32) -> bool {
+    let number = model.sealed.saturating_sub(u64::from(choice % 32));
+    model.region.learn(number);
+    front.learn(Receipt { number }).is_ok()
 }
 
 // Whether one more call gives what the model gives.
@@ -100,11 +142,7 @@ fn agrees(front: &mut Front, model: &mut Model, classes: &[Prepared], choice: u3
         0..=2 => add_loader(front, &name) == model.add_loader(loader),
         3 | 4 => unload(front, &name) == model.unload(loader),
         5 => seals(front, model),
-        6 => front
-            .learn(Receipt {
-                number: model.sealed,
-            })
-            .is_ok(),
+        6 => learns(front, model, choice / 4_096),
         _ => define(front, &name, &classes[class]) == model.define(loader, class),
     };
     is_same && words(front, &name, &[class as u8 + 0x41]) == model.words(loader, class)
@@ -141,15 +179,19 @@ fn classes(alloc: Global) -> Result<Vec<Prepared>, Fail> {
 #[test]
 fn random_commands_agree_with_a_plain_model(rt: HostRuntime) -> Result<(), Fail> {
     let classes = classes(rt.alloc())?;
-    let mut front = empty(rt.alloc(), 8, 64)?;
+    let mut front = empty(rt.alloc(), TOP, ROOTS)?;
     let mut model = Model {
-        lives: [false; LOADERS],
+        lives: [None; LOADERS],
         has: [[false; CLASSES]; LOADERS],
+        chains: [Chain::EMPTY; LOADERS],
+        region: Region::new(),
+        places: VecDeque::new(rt.alloc()),
         number: 0,
         sealed: 0,
     };
     assert!(rt; classes.len() >= 8);
     assert_eq!(rt; first_other(&mut front, &mut model, &classes), None);
     assert!(rt; model.number > 3_000);
+    assert!(rt; model.region.full > 300);
     Ok(())
 }
