@@ -1,12 +1,13 @@
 #!/usr/bin/env bash
-# Measures what reading, judging and recording class files costs, and prints one table. It isn't part of the gate.
+# Measures what reading, judging and recording class files costs, and what calls of the accepted cache cost, and prints two
+# tables. It isn't part of the gate.
 #
 #     bench/run.sh [PASSES]
 #
 # It builds cm_bench, runs it over ordinary class files (version 52.0, from jars of Debian packages) and over hostile
 # ones (bench/bench_classes.py says what they are), and lets mature libraries (ASM, Javassist, BCEL) read the same
 # ordinary files whole. Each row has the best of PASSES passes (20; of hostile files 3). "ratio" is the time for each byte
-# of class file, compared with the same step on ordinary files.
+# of class file, compared with the same step on ordinary files. Then cm_bench_front makes its calls, the best of PASSES passes.
 set -eu
 top=$(cd "$(dirname "${BASH_SOURCE[0]}")/.." && pwd)
 passes=${1:-20}
@@ -28,8 +29,9 @@ fetch() {
     apt-get install -y -qq "${packages[@]}" >&2
 }
 
+# build CRATE
 build() {
-    (cd "$top/crates/cm_bench" && rt run </dev/null) >"$work/log" 2>&1 || { cat "$work/log" >&2; exit 1; }
+    (cd "$top/crates/$1" && rt run </dev/null) >"$work/log" 2>&1 || { cat "$work/log" >&2; exit 1; }
 }
 
 # Rows of cm_bench, with the stream's name in front.
@@ -47,7 +49,8 @@ read_by_libraries() {
 }
 
 fetch
-build
+build cm_bench
+build cm_bench_front
 "$top/bench/bench_classes.py" --only-52 "${jars[@]}" >"$work/ordinary.bin"
 for kind in "${hostile[@]}"; do
     "$top/bench/bench_classes.py" --hostile "$kind" >"$work/$kind.bin"
@@ -74,4 +77,5 @@ done
             for (name in library)
                 printf "%-24s time of read_class+build for each byte, to that of %s: %.2f\n", "", name, each / library[name]
     }'
+"$top/crates/cm_bench_front/out/cm_bench_front" --times "$passes"
 echo "load of the machine at the end: $(cut -d' ' -f1 /proc/loadavg) on $(nproc) cores"
