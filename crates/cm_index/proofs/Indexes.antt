@@ -431,13 +431,22 @@ module _ {P : Type 0} (mark : ℕ → List ℕ → ℕ) (name_of : P → List �
       by_test true = refl
       by_test false = refl
 
+  slot-tail : (from to : Chunk) (s : Slot (Row P))
+      → rank (owner_of (moved_slot from to s).item) ∷ name_in name_of (moved_slot from to s).item ≡ rank (owner_of s.item) ∷ name_in name_of s.item
+  slot-tail from to s = by_test s.live
+    where
+      by_test : (t : Bool)
+          → rank (owner_of (cond t (moved_row from to s.item) s.item)) ∷ name_in name_of (cond t (moved_row from to s.item) s.item) ≡ rank (owner_of s.item) ∷ name_in name_of s.item
+      by_test true = moved-tail from to s.item
+      by_test false = refl
+
   entry-moved : (from to : Chunk) (slots : List (Slot (Row P))) (e : IndexEntry)
       → IsEntry mark name_of slots e → IsEntry mark name_of (map (moved_slot from to) slots) e
   entry-moved from to slots e h =
       let row = h.slot.item in
-      let to_row = moved_row from to row in
+      let to_row = (moved_slot from to h.slot).item in
       let all = map (moved_slot from to) slots in
-      let tail : rank (owner_of to_row) ∷ name_in name_of to_row ≡ rank (owner_of row) ∷ name_in name_of row = moved-tail from to row in
+      let tail : rank (owner_of to_row) ∷ name_in name_of to_row ≡ rank (owner_of row) ∷ name_in name_of row = slot-tail from to h.slot in
       let owner : rank (owner_of to_row) ≡ rank (owner_of row) = cc in
       let name : name_in name_of to_row ≡ name_in name_of row = cc in
       let test = is_named name_of (rank (owner_of row)) (name_in name_of row) in
@@ -450,7 +459,8 @@ module _ {P : Type 0} (mark : ℕ → List ℕ → ℕ) (name_of : P → List �
             ∙ ap (λ (y : List ℕ). find (is_named name_of (rank (owner_of row)) y) (living all)) name
             ∙ ap (find test) (living-moved from to slots)
             ∙ find-map (moved_row from to) test (living slots) (moved-named from to (rank (owner_of row)) (name_in name_of row))
-            ∙ ap (option_map (moved_row from to)) (h.first live);
+            ∙ ap (option_map (moved_row from to)) (h.first live)
+            ∙ ap (λ (t : Bool). Some (cond t (moved_row from to row) row)) (sym live);
       }
 
   each-moved : (from to : Chunk) (slots : List (Slot (Row P))) (es : List IndexEntry)
@@ -465,7 +475,7 @@ module _ {P : Type 0} (mark : ℕ → List ℕ → ℕ) (name_of : P → List �
   key-moved from to slots e s is =
       let there : slice_get (map (moved_slot from to) slots) e.at ≡ Some (moved_slot from to s) = get-map (moved_slot from to) slots e.at ∙ ap (option_map (moved_slot from to)) is in
       ap (λ (r : Option (Slot (Row P))). e.fingerprint ∷ tail_at name_of r) there
-      ∙ ap (λ (t : List ℕ). e.fingerprint ∷ t) (moved-tail from to s.item)
+      ∙ ap (λ (t : List ℕ). e.fingerprint ∷ t) (slot-tail from to s)
       ∙ ap (λ (r : Option (Slot (Row P))). e.fingerprint ∷ tail_at name_of r) (sym is)
 
   keys-moved : (from to : Chunk) (slots : List (Slot (Row P))) (es : List IndexEntry)

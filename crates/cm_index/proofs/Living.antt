@@ -82,6 +82,6 @@ module _ {P : Type 0} where
   living-moved from to (s ∷ xs) = by_test s.live (living-moved from to xs)
     where
       by_test : (t : Bool) → living (map (moved_slot from to) xs) ≡ moved from to (living xs)
-          → cond t (moved_row from to s.item ∷ living (map (moved_slot from to) xs)) (living (map (moved_slot from to) xs)) ≡ moved from to (cond t (s.item ∷ living xs) (living xs))
+          → cond t (cond t (moved_row from to s.item) s.item ∷ living (map (moved_slot from to) xs)) (living (map (moved_slot from to) xs)) ≡ moved from to (cond t (s.item ∷ living xs) (living xs))
       by_test true behind = ap (λ l. moved_row from to s.item ∷ l) behind
       by_test false behind = behind

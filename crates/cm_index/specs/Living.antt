@@ -18,6 +18,7 @@ swept slots = filter (λ s. s.live) slots
 abbrev pub unloaded : {P : Type 0} → ℕ → Slot (Row P) → Slot (Row P)
 unloaded u s = record { item = s.item; live = s.live && not (is_of u s.item) }
 
--- the place of a row once a chunk's records lie on another
+-- the place of a row once a chunk's records lie on another; what lives no more stays as it is
 abbrev pub moved_slot : {P : Type 0} → Chunk → Chunk → Slot (Row P) → Slot (Row P)
-moved_slot from to s = record { item = moved_row from to s.item; live = s.live }
+moved_slot from to s =
+    record { item = if s.live then moved_row from to s.item else s.item; live = s.live }

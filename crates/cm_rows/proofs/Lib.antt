@@ -3,6 +3,7 @@ pub mod Classes
 pub mod Loaders
 pub mod KeptPlaces
 pub mod Linking
+pub mod Moving
 pub mod Holding
 pub mod RowFacts
 pub mod Changes

@@ -49,21 +49,21 @@ take-set (z ∷ xs) i zero x = refl
 take-set (z ∷ xs) zero (suc j) x = refl
 take-set (z ∷ xs) (suc i) (suc j) x = ap (λ l. z ∷ l) (take-set xs i j x)
 
-take-set_before : {X : Type 0} (xs : List X) (i j : ℕ) (x : X) → j ≤ i
+pub take-set_before : {X : Type 0} (xs : List X) (i j : ℕ) (x : X) → j ≤ i
     → take j (set xs i x) ≡ take j xs
 take-set_before xs i zero x h = refl
 take-set_before [] i (suc j) x h = refl
 take-set_before (z ∷ xs) zero (suc j) x h = absurd (omega arith)
 take-set_before (z ∷ xs) (suc i) (suc j) x h = ap (λ l. z ∷ l) (take-set_before xs i j x (omega arith))
 
-get-take : {X : Type 0} (xs : List X) (i j : ℕ) (s : X) → slice_get (take j xs) i ≡ Some s
+pub get-take : {X : Type 0} (xs : List X) (i j : ℕ) (s : X) → slice_get (take j xs) i ≡ Some s
     → slice_get xs i ≡ Some s
 get-take xs i zero s h = absurd (cc)
 get-take [] i (suc j) s h = h
 get-take (z ∷ xs) zero (suc j) s h = h
 get-take (z ∷ xs) (suc i) (suc j) s h = get-take xs i j s h
 
-take-few : {X : Type 0} (i : ℕ) (xs : List X) → length (take i xs) ≤ i
+pub take-few : {X : Type 0} (i : ℕ) (xs : List X) → length (take i xs) ≤ i
 take-few zero xs = omega arith
 take-few (suc i) [] = omega arith
 take-few (suc i) (x ∷ xs) = omega (arith, take-few i xs)
@@ -340,9 +340,16 @@ module _ {P : Type 0} where
           ap (λ (b : Bool). b && is_of v x.item) dead ∙ sym (ap (λ (b : Bool). s.live && b) none ∙ and-false s.live)))
 
   -- records lie on another chunk
+  slot-loader_in : (from to : Chunk) (s : Slot (Row P)) → loader_in (moved_slot from to s).item ≡ loader_in s.item
+  slot-loader_in from to s = by_test s.live
+    where
+      by_test : (t : Bool) → loader_in (cond t (moved_row from to s.item) s.item) ≡ loader_in s.item
+      by_test true = moved-loader_in from to s.item
+      by_test false = refl
+
   pub place-moved : (from to : Chunk) (u : ℕ) (slots : List (Slot (Row P)))
       → last_place u (map (moved_slot from to) slots) ≡ last_place u slots
-  place-moved from to u slots = place-map u (moved_slot from to) slots (λ s. ap (λ (b : Bool). s.live && b) (of-is u (moved_row from to s.item) ∙ ap (λ (n : ℕ). eqb n u) (moved-loader_in from to s.item) ∙ sym (of-is u s.item)))
+  place-moved from to u slots = place-map u (moved_slot from to) slots (λ s. ap (λ (b : Bool). s.live && b) (of-is u (moved_slot from to s).item ∙ ap (λ (n : ℕ). eqb n u) (slot-loader_in from to s) ∙ sym (of-is u s.item)))
 
   pub linked-moved : (from to : Chunk) (slots : List (Slot (Row P))) (before : List (Option ℕ))
       → AreLinked slots before → AreLinked (map (moved_slot from to) slots) before
@@ -352,7 +359,7 @@ module _ {P : Type 0} where
         each = λ i r there live.
             let was = option-from (moved_slot from to) (slice_get slots i) r (sym (get-map (moved_slot from to) slots i) ∙ there) in
             let alive : (was.0).live ≡ true = ap (λ (s : Slot (Row P)). s.live) was.2 ∙ live in
-            let loader : loader_in (was.0).item ≡ loader_in r.item = sym (moved-loader_in from to (was.0).item) ∙ ap (λ (s : Slot (Row P)). loader_in s.item) was.2 in
+            let loader : loader_in (was.0).item ≡ loader_in r.item = sym (slot-loader_in from to was.0) ∙ ap (λ (s : Slot (Row P)). loader_in s.item) was.2 in
             h.each i was.0 was.1 alive ∙ ap (λ (u : ℕ). last_place u (take i slots)) loader
             ∙ sym (ap (last_place (loader_in r.item)) (take-mapped (moved_slot from to) slots i) ∙ place-moved from to (loader_in r.item) (take i slots));
       }

@@ -2,10 +2,11 @@
 use Rattle.std.specs.Prelude.{◌≡◌, ◌≤◌, ◌*◌, ◌&&◌, ℕ, suc, true, false, Bool, List, [], ◌∷◌, map, take, drop, length, get_or, ◌+◌, ◌<◌}
 use Rattle.std.specs.Prelude.{Option, Some, None, if◌then◌else◌}
 use Rattle.std.specs.List.{slice_get}
+use Rattle.cm_pool.specs.declared.chunk.Chunk.{Chunk}
 use Rattle.cm_pool.specs.Geometry.{Sizes}
 use Rattle.cm_layout.specs.declared.row.Row.{Row}
 use Rattle.cm_layout.specs.declared.row.Row.TheVariants.{Loader, Class}
-use Rattle.cm_layout.specs.Rows.{is_of}
+use Rattle.cm_layout.specs.Rows.{is_of, moved_row}
 use Rattle.cm_layout.specs.Rules.{row_limit}
 use Rattle.cm_index.specs.declared.slot.Slot.{Slot}
 use Rattle.cm_index.specs.Living.{living}
@@ -36,6 +37,11 @@ pub record AreLinked {P : Type 0} (slots : List (Slot (Row P))) (before : List (
 -- the last places of loaders of these numbers
 abbrev pub last_places : {P : Type 0} → List (Slot (Row P)) → List ℕ → List (Option ℕ)
 last_places slots numbers = map (λ u. last_place u slots) numbers
+
+-- where a chunk's records move, no other loader's row does
+pub record OthersStay {P : Type 0} (u : ℕ) (from to : Chunk) (slots : List (Slot (Row P))) : Type 0 where
+  pub each : (i : ℕ) (s : Slot (Row P)) → slice_get slots i ≡ Some s → s.live ≡ true
+      → is_of u s.item ≡ false → moved_row from to s.item ≡ s.item
 
 -- a place whose row lives no more
 abbrev pub ended : {P : Type 0} → Slot (Row P) → Slot (Row P)

@@ -3,12 +3,12 @@
 ghost use Rattle.std.specs.Prelude.{◌≡◌, ◌&&◌, IsTrue, IfOk, [], ◌∷◌, ◌++◌, Some, None, is_none, length};
 ghost use Rattle.std.specs.Prelude.{if◌then◌else◌};
 
-use crate::links::{link, make_room, push_place, relink, unload_rows};
+use crate::links::{link, make_room, move_rows, push_place, relink, unload_rows};
 use crate::live_loader::{
     LastChunk, LiveLoader, copy_loaders, end_loader, find, push_loader, set_last,
 };
 use crate::place_rules::{has_room, is_free, is_inside, row_limit, take_place};
-use crate::rows::{copy_rows, give_all, move_rows, take_all};
+use crate::rows::{copy_rows, give_all, take_all};
 use crate::walk::Walk;
 use crate::whole_pool::whole_pool;
 use cm_index::{
@@ -29,7 +29,7 @@ use std::marker::Model;
 /// The rows stand in places, twice as many as rows can live. An unloaded loader's rows are found by
 /// links, each to the one before it. They keep their places, with what is kept of their classes, as
 /// the loader keeps its own, until all places are taken; then what lives no more is swept out at
-/// once. So an unload costs by the rows of its loader; a move alone goes over all rows.
+/// once. So an unload and a move cost by the rows of their loader.
 #[derive(Drop)]
 pub struct Book<P: Kept> {
     geometry: Geometry,
@@ -315,7 +315,15 @@ impl<P: Kept> Book<P> {
             return Some(EntryRule::OnChunks);
         }
         self.pool.give(entry.from);
-        move_rows(&mut self.slots, entry.from, entry.to);
+        let newest = self.newest[at];
+        move_rows(
+            &mut self.slots,
+            &self.before,
+            entry.loader,
+            newest,
+            entry.from,
+            entry.to,
+        );
         set_last(&mut self.loaders, at, entry.loader, entry.to, last.used);
         None
     }

@@ -7,18 +7,19 @@ ghost use Rattle.cm_pool.specs.Geometry.{IsGeometry};
 ghost use Rattle.cm_pool.specs.Lists.{Among};
 ghost use Rattle.cm_layout.specs.Rows.{classes_in};
 ghost use Rattle.cm_index.specs.Index.{LivesAt, HasIndex};
-ghost use Rattle.cm_index.specs.Living.{living, swept, unloaded};
+ghost use Rattle.cm_index.specs.Living.{living, swept, unloaded, moved_slot};
 ghost use Rattle.cm_rows.specs.Held.{Holds, first_chunks};
 ghost use Rattle.cm_rows.specs.Links.{loader_in, last_place, last_places, AreLinked, HasLinks, ended};
+ghost use Rattle.cm_rows.specs.Links.{OthersStay};
 ghost use Rattle.cm_rows.specs.Loaders.{Rises, numbers_of, items, HasLoaders};
 ghost use Rattle.cm_layout.specs.Rules.{row_limit as row_limit_of};
 
 use crate::live_loader::{LiveLoader, find};
 use crate::place_rules::row_limit;
-use crate::rows::own_chunk;
+use crate::rows::{move_row, own_chunk};
 use cm_index::{IndexEntry, Kept, Slot, sweep_index};
 use cm_layout::Row;
-use cm_pool::{Geometry, Pool};
+use cm_pool::{Chunk, Geometry, Pool};
 
 /// Links the place that comes next to the last one of its row's loader, and is the last one then.
 pub fn link(before: &mut Vec<Option<u32>>, newest: &mut Vec<Option<u32>>, loader: usize, place: u32)
@@ -74,6 +75,30 @@ fn end_row<P>(slots: &mut Vec<Slot<Row<P>>>, at: usize, pool: &mut Pool)
     slots[at].live = false;
     if let Some(chunk) = chunk {
         pool.give(chunk);
+    }
+}
+
+/// Lets the records of a loader that lie on one chunk lie on another. Goes over the loader's rows,
+/// from its last one on.
+pub fn move_rows<P>(
+    slots: &mut Vec<Slot<Row<P>>>,
+    before: &[Option<u32>],
+    loader: u64,
+    newest: Option<u32>,
+    from: Chunk,
+    to: Chunk,
+)
+    requires linked { AreLinked slots.old.items before.now }
+    requires newest { newest ≡ last_place loader slots.old.items }
+    requires others { OthersStay loader from to slots.old.items }
+    ensures slots { slots.new.items ≡ map (moved_slot from to) slots.old.items }
+    ensures capacity { vec_capacity slots.new ≡ vec_capacity slots.old }
+{
+    let mut next = newest;
+    while let Some(place) = next {
+        let at = place as usize;
+        move_row(&mut slots[at].item, &from, to);
+        next = before[at];
     }
 }
 

@@ -3,7 +3,7 @@
 ghost use Rattle.std.specs.Prelude.{◌≡◌, ◌<◌, ◌≤◌, ◌&&◌, [], ◌∷◌, ◌++◌, vec_len, vec_capacity};
 ghost use Rattle.std.specs.Prelude.{length, map, true};
 ghost use Rattle.std.specs.List.{AllByRecursion};
-ghost use Rattle.cm_index.specs.Living.{living, moved_slot};
+ghost use Rattle.cm_index.specs.Living.{living};
 ghost use Rattle.cm_layout.specs.Rows.{classes_in, moved_row};
 ghost use Rattle.cm_layout.specs.Rows.{row_with, bare};
 ghost use Rattle.cm_rows.specs.Held.{Holds, CanBeHeld, first_chunks, own_chunk, living_chunk};
@@ -109,18 +109,8 @@ pub fn own_chunk<P>(row: &Row<P>) -> Option<Chunk>
     }
 }
 
-/// Lets the records on one chunk lie on another.
-pub fn move_rows<P>(slots: &mut Vec<Slot<Row<P>>>, from: Chunk, to: Chunk)
-    ensures slots { slots.new.items ≡ map (moved_slot from to) slots.old.items }
-    ensures capacity { vec_capacity slots.new ≡ vec_capacity slots.old }
-{
-    for at in 0..slots.len() {
-        move_row(&mut slots[at].item, &from, to);
-    }
-}
-
-// Lets the record of a row lie on another chunk, if it lies on this one.
-fn move_row<P>(row: &mut Row<P>, from: &Chunk, to: Chunk)
+/// Lets the record of a row lie on another chunk, if it lies on this one.
+pub fn move_row<P>(row: &mut Row<P>, from: &Chunk, to: Chunk)
     ensures { row.new ≡ moved_row from.now to row.old }
 {
     if let Row::Class(class, _) = row {

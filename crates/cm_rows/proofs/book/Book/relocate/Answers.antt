@@ -3,7 +3,12 @@ use Rattle.cm_layout.specs.declared.row.Row.{Row}
 use Rattle.cm_index.specs.Index.{AreUnique}
 use Rattle.cm_index.proofs.Living.{living-moved}
 use Rattle.cm_rows.specs.Book.{IsBook}
-use Rattle.cm_rows.proofs.Placed.{links-moved}
+use Rattle.cm_rows.proofs.Placed.{links-moved, last-at-place}
+use Rattle.cm_rows.proofs.Moving.{others-stay}
+use Rattle.cm_rows.proofs.Classes.{last-among}
+use Rattle.cm_rows.proofs.Changes.{last_of-is, use-chunk}
+use Rattle.cm_rows.proofs.Verdicts.{room-from}
+use Rattle.cm_layout.specs.Rows.{classes_in}
 use Rattle.cm_layout.specs.Rows.{moved}
 use Rattle.cm_layout.specs.Rules.{move_fits}
 use Rattle.cm_pool.specs.FreeSpace.{without, with_chunk}
@@ -74,6 +79,27 @@ give-requires g c =
     rw c.if-not-take.ensures.left
     ((relocated c.self.inside.geometry (living c.self.inside.slots.items) (vec_capacity c.self.inside.slots) (living loaders) (vec_capacity c.self.inside.loaders) c.self.inside.pool c.args.entry.now at.place c.index.result.now.item c.in-Some-last.last
     c.self.invariant.0 (at-living loaders c.args.entry.now.loader c.in-Some.at found at) (same-kept loaders c.in-Some.at at c.index.result.now c.index.ensures) c.in-Some-last.is (sym c.has_room.ensures ∙ c.if-not-has_room.false) free).0)
+
+pub move_rows-requires-clause-newest : goal.move_rows-requires-clause-newest
+move_rows-requires-clause-newest g c =
+    let a = c.self.inside in
+    let found = rw c.deref.ensures.value at c.in-Some.ensures.found in
+    c.index-newest.ensures ∙ last-at-place a.geometry a.slots.items (vec_capacity a.slots) a.count a.before.items (vec_capacity a.before) (items a.loaders.items) a.newest.items (vec_capacity a.newest) c.args.entry.now.loader c.in-Some.at c.index-newest.result.now c.self.invariant.2 found.at
+
+pub move_rows-requires-clause-others : goal.move_rows-requires-clause-others
+move_rows-requires-clause-others g c =
+    let a = c.self.inside in
+    let e = c.args.entry.now in
+    let l = c.in-Some-last.last in
+    let rows = living a.slots.items in
+    let found = rw c.deref.ensures.value at c.in-Some.ensures.found in
+    let loaders = a.loaders.items in
+    let at = stands loaders e.loader c.in-Some.at found in
+    let last = last-at rows (living loaders) e.loader at.place c.index.result.now.item c.self.invariant.0.loaders (at-living loaders e.loader c.in-Some.at found at) (same-kept loaders c.in-Some.at at c.index.result.now c.index.ensures) ∙ c.in-Some-last.is in
+    let last_used = use-chunk e.loader (classes_in rows) l (sym (last_of-is e.loader rows) ∙ last) in
+    let t = last-among e.loader (classes_in rows) l.chunk last_used.0 in
+    others-stay e.loader e.from e.to a.slots.items t.0 c.self.invariant.0.live.founded t.1 t.2
+    (t.3 ∙ room-from a.geometry l e (sym c.has_room.ensures ∙ c.if-not-has_room.false))
 
 pub returns-clause-left : goal.returns-clause-left
 returns-clause-left g c =
