@@ -1,0 +1,134 @@
+-- A command that is accepted or refused.
+use Rattle.std.proofs.Common.{◌≡◌, ℕ, ◌≤◌, Bool, true, false, List, ◌++◌, Option, Result, Ok, Err, inl}
+use Rattle.std.proofs.Common.{inr, refl, length, sym, ap, subst, ◌∙◌}
+use Rattle.std.specs.Prelude.{◌⊎◌}
+use Rattle.cm_class.specs.declared.class_file.ClassFile.{ClassFile}
+use Rattle.cm_record.specs.Layout.{lay, limit}
+use Rattle.cm_group.specs.Groups.{Carried, Handed, IsRightRecord}
+use Rattle.cm_prepare.specs.declared.refusal.Refusal.{Refusal}
+use Rattle.cm_prepare.specs.declared.refusal.Refusal.TheVariants as refusal
+use Rattle.cm_state.specs.State.{words_show, state_of, class_in}
+use Rattle.cm_state.specs.Step.{Change, Define}
+use Rattle.cm_front.specs.Front.{FrontState, IsFront}
+use Rattle.cm_front.specs.Accepting.{Answers as FrontAnswers, accepted}
+use Rattle.cm_commit.specs.States.{CommitterState}
+use Rattle.cm_handover.specs.Laws.{AcceptedIsAhead}
+use Rattle.cm_machine.specs.Machine.{Machine, Asks, Accepts, Refuses}
+use Rattle.cm_machine.specs.Laws.{AcceptedIsMade, RefusedIsRefused, IsAccepted, FoundIsThere, Finds}
+use Rattle.cm_session.specs.Session.{of_underway, commands_of, IsSession}
+use Rattle.cm_session.specs.Moves.{Accepting, Answers, IsAsked}
+
+-- the class that a command defines
+pub is_asked : (x words : List ℕ) → IsRightRecord words → length words ≤ limit
+    → IsAsked (Define x words)
+is_asked x words right short = (
+  Define x right.0,
+  (
+    right.0,
+    record {
+      kept = right.1;
+      short = subst (λ (l : List ℕ). length l ≤ limit) right.2 short;
+    },
+    sym right.2,
+    refl,
+  ),
+)
+
+-- what is found is what the machine has
+pub finds : {D : Type 0} (there : FoundIsThere) (k : Machine) (front : FrontState)
+    (committer : CommitterState D) (queue : List Handed) (sealed : ℕ) (failed : Bool)
+    → IsSession k front committer queue sealed failed → (loader class : List ℕ)
+    (found : Option (List ℕ)) → found ≡ class_in (state_of words_show front.rows) loader class
+    → Finds committer.sizes k loader class found
+finds there k front committer queue sealed failed i loader class found same =
+    subst (λ o. Finds committer.sizes k loader class o) (sym same)
+    (subst (λ z. Finds z k loader class (class_in (state_of words_show front.rows) loader class))
+    i.sizes
+    (there k committer.rows committer.number committer.end
+    (commands_of (of_underway committer.underway ++ queue)) front loader class i.is i.ahead
+    i.follows))
+
+module _ {D : Type 0} (made : AcceptedIsMade) (refused : RefusedIsRefused) (ahead : AcceptedIsAhead)
+    (k : Machine) (front new : FrontState) (committer : CommitterState D) (queue : List Handed)
+    (sealed : ℕ) (failed : Bool) (asked : Change (List ℕ)) (change : Change ClassFile)
+    (asks : Asks asked change) (is_new : IsFront new)
+    (i : IsSession k front committer queue sealed failed) where
+  abbrev out : List Carried
+  out = commands_of (of_underway committer.underway ++ queue)
+
+  abbrev Goes : Machine → Type 0
+  Goes next = IsSession next new committer queue sealed failed
+
+  was_accepted : (n : ℕ) → FrontAnswers front asked (Ok n) new
+      → Accepting committer.sizes k asked (Ok n) Goes
+  was_accepted n answer =
+      let m : IsAccepted k committer.rows committer.number out front new asked n =
+      made k committer.rows committer.number committer.end out front new asked change n i.is is_new
+      i.ahead i.follows asks answer in
+      let same = answer.2.after in
+      record {
+        change = m.change;
+        asks = m.asks;
+        leads = record {
+          next = m.next;
+          does = (
+            i.noticed_is ∙ m.whole,
+            subst (λ z. Accepts z k m.change n m.next) i.sizes m.accepts,
+          );
+          goes = record {
+            is = is_new;
+            sizes = ap (λ (s : FrontState). s.sizes) same ∙ i.sizes;
+            running = ap (λ (s : FrontState). s.closed) same ∙ i.running;
+            groups = i.groups;
+            busy = i.busy;
+            ahead = ahead committer.rows committer.number committer.end out front new asked n i.is
+                is_new i.ahead answer;
+            follows = m.follows;
+            acknowledged_is =
+                ap (λ (j : Machine). j.acknowledged) m.accepts.next_is ∙ i.acknowledged_is;
+            sealed_is =
+                ap (λ (j : Machine). j.sealed) m.accepts.next_is
+                ∙ (i.sealed_is ∙ sym (ap (λ (s : FrontState). s.sealed) same));
+            sealed_told = i.sealed_told ∙ sym (ap (λ (s : FrontState). s.sealed) same);
+            failed_is = ap (λ (j : Machine). j.failed) m.accepts.next_is ∙ i.failed_is;
+            failed_told = i.failed_told;
+            noticed_is =
+                ap (λ (j : Machine). j.noticed) m.accepts.next_is
+                ∙ (i.noticed_is ∙ sym (ap (λ (s : FrontState). s.broken) same));
+          };
+        };
+      }
+
+  was_refused : (r : Refusal) → FrontAnswers front asked (Err r) new
+      → Accepting committer.sizes k asked (Err r) Goes
+  was_refused r answer = record {
+    change = change;
+    asks = asks;
+    leads = record {
+      next = k;
+      does = (refl, reason);
+      goes = subst (λ s. IsSession k s committer queue sealed failed) (sym answer.0) i;
+    };
+  }
+    where
+      reason : ((k.noticed ≡ true) × (r ≡ refusal.Broken))
+          ⊎ ((k.noticed ≡ false) × Refuses committer.sizes k change r)
+      reason =
+          elim (refused k committer.rows committer.number committer.end out front new asked change r
+          i.is i.ahead i.follows asks answer) [
+            | inl closed ↦ absurd (open_and_closed front.closed i.running closed.0)
+            | inr (inl broken) ↦ inl (i.noticed_is ∙ broken.0, broken.1)
+            | inr (inr machine) ↦ inr (
+              i.noticed_is ∙ machine.0,
+              subst (λ z. Refuses z k change r) i.sizes machine.1,
+            )
+          ]
+        where
+          open_and_closed : (b : Bool) → b ≡ false → b ≡ true → ⊥
+          open_and_closed true is_open is_closed = absurd (cc)
+          open_and_closed false is_open is_closed = absurd (cc)
+
+  pub answers : (result : Result ℕ Refusal) → FrontAnswers front asked result new
+      → Accepting committer.sizes k asked result Goes
+  answers (Ok n) answer = was_accepted n answer
+  answers (Err r) answer = was_refused r answer

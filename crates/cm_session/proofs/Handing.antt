@@ -1,0 +1,266 @@
+-- A group that is handed out, what is learnt, and a failure that is noticed.
+use Rattle.std.proofs.Common.{◌≡◌, ℕ, ◌+◌, ◌-◌, ◌≤◌, ◌<◌, Bool, true, false, List, [], ◌∷◌, ◌++◌, length}
+use Rattle.std.proofs.Common.{Result, Ok, Err, map, refl, sym, ap, subst, ◌∙◌, arith, append_assoc}
+use Rattle.std.proofs.lemmas.List.{length-append, length-map}
+use Rattle.cm_pool.specs.Geometry.{Sizes}
+use Rattle.cm_group.specs.Groups.{Carried, Handed, IsGroup, group_limit, entries_in}
+use Rattle.std.specs.Prelude.{◌||◌, IsOk, OnOk}
+use Rattle.cm_commit.specs.Offers.{filled}
+use Rattle.cm_commit.specs.States.{CommitterState}
+use Rattle.cm_front.specs.Front.{FrontState, IsFront}
+use Rattle.cm_front.specs.Accepting.{HandsOut, with_learnt}
+use Rattle.cm_front.specs.Unsealed.{Follow}
+use Rattle.cm_handover.specs.Ahead.{IsAhead, pending}
+use Rattle.cm_handover.specs.Laws.{HandedIsAhead, LearntIsAhead, FailedIsAhead}
+use Rattle.cm_machine.specs.Following.{Follows}
+use Rattle.cm_machine.specs.Laws.{CommandsAreCounted, FollowsFront}
+use Rattle.cm_machine.specs.Machine.{Machine, Seals}
+use Rattle.cm_session.specs.Session.{of_underway, commands_of, GoBehind, IsSession}
+use Rattle.cm_session.specs.Moves.{Leads, Learns}
+use Rattle.cm_verdict.proofs.Walks.{slots_many}
+use Rattle.cm_session.proofs.Queued.{commands_more, behind_more}
+
+-- ---- another machine with the same commands
+
+pub same_commands : {rows : _} {number : ℕ} {waits : _} (sizes : Sizes) (k j : Machine)
+    → j.commands ≡ k.commands → Follows sizes k rows number waits
+    → Follows sizes j rows number waits
+same_commands sizes k j same f = record {
+  classes = f.classes;
+  are = f.are;
+  entries = f.entries;
+  words = f.words;
+  first = f.first;
+  rest = f.rest;
+  commands = f.commands ∙ sym same;
+  count = f.count;
+  holds = f.holds;
+  make = f.make;
+}
+
+-- an answer that is Ok has what is said of it then
+pub on_ok : {A E P : Type 0} (r : Result A E) → IsOk r → OnOk r P → P
+on_ok (Ok x) is p = p
+on_ok (Err e) is p = absurd (cc)
+
+-- ---- what isn't handed out yet
+
+module _ {D : Type 0} (counted : CommandsAreCounted) (k : Machine) (front : FrontState)
+    (committer : CommitterState D) (queue : List Handed) (sealed : ℕ) (failed : Bool)
+    (i : IsSession k front committer queue sealed failed) where
+  all_commands : length k.commands ≡ front.number
+  all_commands =
+      let all = counted front.sizes k committer.rows committer.number
+      (pending (commands_of (of_underway committer.underway ++ queue)) front) i.follows in
+      all ∙ i.ahead.numbers
+
+  pub none_waits : front.number ≡ sealed → k.sealed ≡ length k.commands
+  none_waits same =
+      let all = all_commands in
+      let is = i.sealed_is in
+      let told = i.sealed_told in
+      omega (arith, same, all, is, told)
+
+  pub some_wait : (front.number ≡ sealed → ⊥) → k.sealed < length k.commands
+  some_wait differ =
+      let all = all_commands in
+      let is = i.sealed_is in
+      let told = i.sealed_told in
+      let numbers = i.ahead.numbers in
+      let handed = i.ahead.sealed in
+      let long = length-append (commands_of (of_underway committer.underway ++ queue))
+      (commands_of front.unsealed) in
+      omega (arith, differ, all, is, told, numbers, handed, long)
+
+-- ---- handing out
+
+module _ {D : Type 0} (counted : CommandsAreCounted) (handed : HandedIsAhead) (k : Machine)
+    (front new : FrontState) (committer : CommitterState D) (queue : List Handed) (sealed : ℕ)
+    (failed : Bool) (group : Handed) (is : IsGroup group) (h : HandsOut front group new)
+    (is_new : IsFront new) (i : IsSession k front committer queue sealed failed) where
+  abbrev groups : List Handed
+  groups = of_underway committer.underway ++ queue
+
+  abbrev out : List Carried
+  out = commands_of groups
+
+  abbrev last : ℕ
+  last = group.first + (length group.entries - 1)
+
+  oldest_first : h.oldest.first ≡ front.sealed + 1
+  oldest_first =
+      (subst (λ l. Follow (front.sealed + 1) l (front.number + 1)) h.is_oldest i.is.groups).0
+
+  first_is : group.first ≡ front.sealed + 1
+  first_is = ap (λ (g : Handed). g.first) h.group_is ∙ oldest_first
+
+  entries_are : group.entries ≡ h.oldest.entries
+  entries_are = ap (λ (g : Handed). g.entries) h.group_is
+
+  sealed_after : new.sealed ≡ last
+  sealed_after =
+      ap (λ (s : FrontState). s.sealed) h.after
+      ∙ (let first = oldest_first in
+      let here = first_is in
+      let long = ap length entries_are in
+      let some = is.some in
+      omega (arith, first, here, long, some))
+
+  groups_are : of_underway committer.underway ++ (queue ++ group ∷ []) ≡ groups ++ group ∷ []
+  groups_are = sym (append_assoc (of_underway committer.underway) queue (group ∷ []))
+
+  out_are : commands_of (of_underway committer.underway ++ (queue ++ group ∷ []))
+      ≡ out ++ group.entries
+  out_are = ap commands_of groups_are ∙ commands_more groups group
+
+  ahead_then : IsAhead committer.rows committer.number committer.end (out ++ group.entries) new
+  ahead_then =
+      handed committer.rows committer.number committer.end out front new group i.is i.ahead h
+
+  waits_are : pending (out ++ group.entries) new ≡ pending out front
+  waits_are =
+      ap (λ (s : FrontState). pending (out ++ group.entries) s) h.after
+      ∙ (ap (λ l. pending (out ++ l) (record front { unsealed = h.rest })) entries_are
+      ∙ (append_assoc out h.oldest.entries (commands_of h.rest)
+      ∙ ap (λ l. out ++ commands_of l) (sym h.is_oldest)))
+
+  abbrev next : Machine
+  next = record k { sealed = last }
+
+  follows_then : FollowsFront next committer.rows committer.number (out ++ group.entries) new
+  follows_then =
+      same_commands new.sizes k next refl
+      (subst (λ z. Follows z k committer.rows committer.number
+      (map filled (pending (out ++ group.entries) new)))
+      (sym (ap (λ (s : FrontState). s.sizes) h.after))
+      (subst (λ l. Follows front.sizes k committer.rows committer.number (map filled l))
+      (sym waits_are) i.follows))
+
+  many : length group.entries ≤ group_limit
+  many =
+      let few = is.few in
+      let slots = slots_many (entries_in group.entries) in
+      let long = length-map group.entries (λ (c : Carried). c.entry) in
+      omega (arith, few, slots, long)
+
+  all_known : last ≤ length k.commands
+  all_known =
+      let all = counted front.sizes k committer.rows committer.number (pending out front) i.follows in
+      let numbers = i.ahead.numbers in
+      let then = ahead_then.numbers in
+      let sealed = ahead_then.sealed in
+      let after = sealed_after in
+      let long = ap length waits_are in
+      let more = length-append (out ++ group.entries) (commands_of new.unsealed) in
+      omega (arith, all, numbers, then, sealed, after, long, more)
+
+  pub hands : Leads (λ (j : Machine). Seals k group.first last j)
+      (λ j. IsSession j new committer (queue ++ group ∷ []) last failed)
+  hands = record {
+    next = next;
+    does = record {
+      first_is = first_is ∙ ap (λ n. n + 1) (sym i.sealed_is);
+      some = let some = is.some in omega (arith, some);
+      few =
+          let many = many in
+          let first = first_is in
+          let sealed = i.sealed_is in
+          let some = is.some in
+          omega (arith, many, first, sealed, some);
+      known = all_known;
+      next_is = refl;
+    };
+    goes = record {
+      is = is_new;
+      sizes = ap (λ (s : FrontState). s.sizes) h.after ∙ i.sizes;
+      running = ap (λ (s : FrontState). s.closed) h.after ∙ i.running;
+      groups = subst (GoBehind committer.number) (sym groups_are)
+          (behind_more committer.number groups group i.groups
+          (let first = first_is in
+          let sealed = i.ahead.sealed in
+          omega (arith, first, sealed)) is);
+      busy = i.busy;
+      ahead = subst (λ l. IsAhead committer.rows committer.number committer.end l new)
+          (sym out_are) ahead_then;
+      follows = subst (λ l. FollowsFront next committer.rows committer.number l new) (sym out_are)
+          follows_then;
+      acknowledged_is = i.acknowledged_is;
+      sealed_is = sym sealed_after;
+      sealed_told = sym sealed_after;
+      failed_is = i.failed_is;
+      failed_told = i.failed_told;
+      noticed_is = i.noticed_is ∙ sym (ap (λ (s : FrontState). s.broken) h.after);
+    };
+  }
+
+  pub hands_as : (first to : ℕ) (behind : List Handed) → first ≡ group.first → to ≡ last
+      → behind ≡ queue ++ group ∷ []
+      → Leads (λ (j : Machine). Seals k first to j)
+      (λ j. IsSession j new committer behind to failed)
+  hands_as first to behind first_same to_same behind_same =
+      subst (λ q. Leads (λ (j : Machine). Seals k first to j)
+      (λ j. IsSession j new committer q to failed)) (sym behind_same)
+      (subst (λ n. Leads (λ (j : Machine). Seals k first n j)
+      (λ j. IsSession j new committer (queue ++ group ∷ []) n failed)) (sym to_same)
+      (subst (λ n. Leads (λ (j : Machine). Seals k n last j)
+      (λ j. IsSession j new committer (queue ++ group ∷ []) last failed)) (sym first_same) hands))
+
+-- ---- learning
+
+module _ {D : Type 0} (frees : LearntIsAhead) (fails : FailedIsAhead) (k : Machine)
+    (front new : FrontState) (committer : CommitterState D) (queue : List Handed) (sealed : ℕ)
+    (failed : Bool) (is_new : IsFront new)
+    (i : IsSession k front committer queue sealed failed) where
+  abbrev all_out : List Carried
+  all_out = commands_of (of_underway committer.underway ++ queue)
+
+  noted : (broken : Bool) → k.noticed || k.failed ≡ broken
+      → IsAhead committer.rows committer.number committer.end all_out
+      (with_learnt (record front { broken = broken }) committer.number)
+  noted broken told =
+      frees committer.rows committer.number committer.end all_out (record front { broken = broken })
+      committer.number is_broken
+      (fails committer.rows committer.number committer.end all_out front broken front.closed i.ahead)
+      (omega arith)
+    where
+      is_broken : IsFront (record front { broken = broken })
+      is_broken = record {
+        lawful = i.is.lawful;
+        rows = i.is.rows;
+        right = i.is.right;
+        space = i.is.space;
+        known = i.is.known;
+        waiting = i.is.waiting;
+        learnt = i.is.learnt;
+        numbers = i.is.numbers;
+        groups = i.is.groups;
+        opened = i.is.opened;
+      }
+
+  pub learns : (broken : Bool) → k.noticed || k.failed ≡ broken
+      → new ≡ with_learnt (record front { broken = broken }) committer.number
+      → Leads (Learns k committer.number) (λ j. IsSession j new committer queue sealed failed)
+  learns broken told after = record {
+    next = next;
+    does = record { number_is = sym i.acknowledged_is; next_is = refl };
+    goes = record {
+      is = is_new;
+      sizes = ap (λ (s : FrontState). s.sizes) after ∙ i.sizes;
+      running = ap (λ (s : FrontState). s.closed) after ∙ i.running;
+      groups = i.groups;
+      busy = i.busy;
+      ahead = subst (λ s. IsAhead committer.rows committer.number committer.end all_out s)
+          (sym after) (noted broken told);
+      follows = subst (λ s. FollowsFront next committer.rows committer.number all_out s)
+          (sym after) (same_commands front.sizes k next refl i.follows);
+      acknowledged_is = i.acknowledged_is;
+      sealed_is = i.sealed_is ∙ sym (ap (λ (s : FrontState). s.sealed) after);
+      sealed_told = i.sealed_told ∙ sym (ap (λ (s : FrontState). s.sealed) after);
+      failed_is = i.failed_is;
+      failed_told = i.failed_told;
+      noticed_is = told ∙ sym (ap (λ (s : FrontState). s.broken) after);
+    };
+  }
+    where
+      next : Machine
+      next = record k { noticed = k.noticed || k.failed }

@@ -1,0 +1,202 @@
+-- A file is opened that stands for some of the machine's commands.
+use Rattle.std.proofs.Common.{◌≡◌, ℕ, ◌+◌, ◌*◌, ◌≤◌, List, [], ◌∷◌, length, drop, take, refl, sym, ap, subst}
+use Rattle.std.proofs.Common.{◌∙◌, arith, Result, Ok, Err, true, false, None, map}
+use Rattle.cm_class.specs.declared.class_file.ClassFile.{ClassFile}
+use Rattle.cm_pool.specs.Geometry.{Sizes}
+use Rattle.cm_disk.specs.Disk.{Unsynced, IsSettled}
+use Rattle.cm_record.specs.Layout.{lay}
+use Rattle.cm_layout.specs.declared.row.Row.{Row}
+use Rattle.cm_layout.specs.declared.row.Row.TheVariants.{Loader, Class}
+use Rattle.cm_layout.specs.Offsets.{roots_at}
+use Rattle.cm_layout.specs.Rows.{rows_with, bare, classes_in}
+use Rattle.cm_layout.specs.Frames.{LiveRowsKeep, AreApart}
+use Rattle.cm_front.proofs.RowFacts.{classes_bare}
+use Rattle.cm_state.specs.Laws.{StandForOne}
+use Rattle.cm_state.specs.Entries.{AreCacheRows}
+use Rattle.cm_state.specs.Stands.{EachKeepsRules}
+use Rattle.cm_state.specs.State.{class_shows, state_of}
+use Rattle.cm_verdict.specs.Verdict.{Standing, verdict, state_in, arenas_in}
+use Rattle.cm_verdict.specs.Laws.{FoundIsLive, FoundIsFramed, VerdictStands, StandsInVerdict, Proves}
+use Rattle.cm_verdict.specs.Laws.{IsVerdict}
+use Rattle.cm_commit.proofs.Slots.{end_is as ends_with_slots}
+use Rattle.cm_commit.specs.States.{CommitterState}
+use Rattle.cm_verdict.specs.declared.fault.FileFault.{FileFault}
+use Rattle.cm_front.specs.Front.{FrontState, IsFront}
+use Rattle.cm_front.specs.Restoring.{Restores}
+use Rattle.cm_recover.specs.declared.fault.OpenFault.{OpenFault}
+use Rattle.cm_recover.specs.declared.fault.OpenFault.TheVariants as open_fault
+use Rattle.cm_recover.specs.Opening.{IsFaultIn}
+use Rattle.cm_recover.specs.Opened.{Opens}
+use Rattle.cm_recover.proofs.Opened.{AreShort, are_short, IsOpened, TellsName, opened}
+use Rattle.cm_handover.specs.Laws.{OpenedIsAhead}
+use Rattle.cm_machine.specs.Machine.{Machine, Reopens, Holds, IsRight}
+use Rattle.cm_machine.specs.Following.{AreRight, AreClasses, Follows}
+use Rattle.cm_machine.specs.Laws.{OpenedFollows, IsAfter, FollowsFront}
+use Rattle.cm_commit.specs.Offers.{filled}
+use Rattle.cm_handover.specs.Ahead.{pending}
+use Rattle.cm_machine.proofs.Classes.{bare_words}
+use Rattle.cm_session.specs.Images.{StandsFor, StandsForSome}
+use Rattle.cm_session.specs.Session.{IsSession, commands_of}
+use Rattle.cm_session.specs.Moves.{Leads, Reopening, IsOutside}
+
+-- each class is right, where its record isn't longer than any may be
+are_right : (classes : List (Row ClassFile)) → EachKeepsRules classes
+    → AreShort (rows_with lay classes) → AreRight classes
+are_right [] kept short = tt
+are_right (Loader r ∷ rows) kept short = are_right rows kept short
+are_right (Class r c ∷ rows) kept short =
+    (record { kept = kept.0; short = short.0 }, are_right rows kept.1 short.1)
+
+same_places : (rows : List (Row ClassFile)) → classes_in (rows_with lay rows) ≡ classes_in rows
+same_places rows =
+    sym (classes_bare (rows_with lay rows)) ∙ (ap classes_in (bare_words rows) ∙ classes_bare rows)
+
+module _ {D : Type 0} (one : StandForOne) (live : FoundIsLive) (framed : FoundIsFramed)
+    (proves : VerdictStands) (tells : TellsName) (ahead : OpenedIsAhead) (goes_on : OpenedFollows)
+    (sizes : Sizes) (k : Machine) (contents : List ℕ) (some : StandsForSome sizes k contents)
+    (front : FrontState) (committer : CommitterState D) (o : Opens contents front committer)
+    (is : IsFront front) where
+  abbrev s : Standing
+  s = o.standing
+
+  abbrev number : ℕ
+  number = s.found.number
+
+  abbrev rows : List (Row (List ℕ))
+  rows = rows_with lay s.rows
+
+  p : Proves contents s
+  p = proves contents s o.verdict_is
+
+  file : IsOpened contents s rows
+  file = opened live framed proves tells contents s o.verdict_is
+
+  same : (s.found.sizes ≡ sizes)
+      × ((state_in s ≡ some.stands.state)
+      × ((arenas_in s ≡ some.stands.arenas) × (number ≡ some.number)))
+  same =
+      one s.found.sizes sizes contents (state_in s) some.stands.state (arenas_in s)
+      some.stands.arenas number some.number o.stands some.stands.stands
+
+  number_is : number ≡ some.number
+  number_is = same.1.1.1
+
+  are : AreClasses s.found.sizes number rows s.rows
+  are = record {
+    words = refl;
+    right = are_right s.rows p.kept
+        (are_short s.found.sizes file.lawful number (drop (roots_at s.found.sizes) contents) [] rows
+        file.cache.live file.matches.records);
+    cache = record {
+      live = subst (LiveRowsKeep s.found.sizes number []) (bare_words s.rows) file.cache.live;
+      apart = subst AreApart (same_places s.rows) file.cache.apart;
+      differ = p.differ;
+    };
+  }
+
+  holds : Holds s.found.sizes (take number k.commands) (state_of class_shows s.rows)
+  holds =
+      subst (λ z. Holds z (take number k.commands) (state_in s)) (sym same.0)
+      (subst (λ n. Holds sizes (take n k.commands) (state_in s)) (sym number_is)
+      (subst (λ m. Holds sizes (take some.number k.commands) m) (sym same.1.0)
+      some.stands.holds))
+
+  after : IsAfter s.found.sizes k rows number
+  after = record { classes = s.rows; are = are; holds = holds }
+
+  abbrev next : Machine
+  next = record {
+    commands = take number k.commands;
+    acknowledged = number;
+    sealed = number;
+    failed = false;
+    noticed = false;
+  }
+
+  slots : s.found.end ≤ s.found.sizes.slots
+  slots =
+      let used = ends_with_slots s.found.sizes file.framing file.right.good in
+      let end = file.end_is in
+      let fits = file.right.fits in
+      omega (arith, used, end, fits)
+
+  front_is : front ≡ record {
+    sizes = s.found.sizes;
+    rows = rows;
+    number = number;
+    sealed = number;
+    learnt = number;
+    unsealed = [];
+    space = front.space;
+    broken = false;
+    closed = false;
+    opened = record { slot = s.found.end; number = number };
+  }
+  front_is = o.front_is.front_is
+
+  pub reopened : Leads (Reopening sizes k contents)
+      (λ j. IsSession j front committer [] committer.number false)
+  reopened = record {
+    next = next;
+    does = record {
+      number = number;
+      reopens = record {
+        least = let least = some.least in let n = number_is in omega (arith, least, n);
+        most = let most = some.most in let n = number_is in omega (arith, most, n);
+        next_is = refl;
+      };
+      stands = subst (λ n. StandsFor sizes k.commands n contents) (sym number_is) some.stands;
+    };
+    goes = subst (λ (c : CommitterState D). IsSession next front c [] c.number false)
+        (sym o.committer_is) (record {
+          is = is;
+          sizes = ap (λ (f : FrontState). f.sizes) front_is;
+          running = ap (λ (f : FrontState). f.closed) front_is;
+          groups = tt;
+          busy = refl;
+          ahead = ahead (record { sizes = s.found.sizes; rows = rows }) number s.found.end front is
+              file.cache o.front_is slots;
+          follows = follows;
+          acknowledged_is = refl;
+          sealed_is = sym (ap (λ (f : FrontState). f.sealed) front_is);
+          sealed_told = sym (ap (λ (f : FrontState). f.sealed) front_is);
+          failed_is = refl;
+          failed_told = refl;
+          noticed_is = sym (ap (λ (f : FrontState). f.broken) front_is);
+        });
+  }
+    where
+      follows : FollowsFront next rows number [] front
+      follows =
+          subst (λ z. Follows z next rows number (map filled (pending [] front)))
+          (sym (ap (λ (f : FrontState). f.sizes) front_is))
+          (subst (λ l. Follows s.found.sizes next rows number (map filled (commands_of l)))
+          (sym (ap (λ (f : FrontState). f.unsealed) front_is))
+          (goes_on s.found.sizes k next rows number after refl
+          (let known = some.stands.known in let n = number_is in omega (arith, known, n))))
+
+  pub same_sizes : committer.sizes ≡ sizes
+  same_sizes = ap (λ (c : CommitterState D). c.sizes) o.committer_is ∙ same.0
+
+-- ---- a fault
+
+not_both : {A E : Type 0} (r : Result A E) (x : A) (e : E) → r ≡ Ok x → r ≡ Err e → ⊥
+not_both (Ok y) x e ok err = absurd (cc)
+not_both (Err f) x e ok err = absurd (cc)
+
+pub is_outside : StandsInVerdict → (sizes : Sizes) (k : Machine) (contents : List ℕ)
+    → StandsForSome sizes k contents → (fault : OpenFault) → IsFaultIn fault (verdict contents)
+    → IsOutside fault
+is_outside in_verdict sizes k contents some fault told = by_fault fault told
+  where
+    right : verdict contents ≡ Ok (in_verdict sizes contents some.stands.state some.stands.arenas
+        some.number some.stands.stands).0
+    right =
+        (in_verdict sizes contents some.stands.state some.stands.arenas some.number
+        some.stands.stands).1.ok
+
+    by_fault : (f : OpenFault) → IsFaultIn f (verdict contents) → IsOutside f
+    by_fault open_fault.NotACache wrong = not_both (verdict contents) _ _ right wrong
+    by_fault (open_fault.Damaged what slot) wrong = not_both (verdict contents) _ _ right wrong
+    by_fault open_fault.Device wrong = tt
+    by_fault open_fault.NoMemory wrong = tt

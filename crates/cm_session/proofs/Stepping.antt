@@ -1,0 +1,316 @@
+-- One step of the committer, for the machine.
+use Rattle.std.proofs.Common.{cond, ◌≡◌, ℕ, ◌+◌, ◌≤◌, ◌<◌, ◌^◌, Bool, true, false, List, [], ◌∷◌, ◌++◌, length}
+use Rattle.std.proofs.Common.{map, Option, Some, None, Result, Ok, Err, refl, sym, ap, subst, ◌∙◌, arith}
+use Rattle.std.proofs.Common.{append_assoc}
+use Rattle.std.specs.Prelude.{◌||◌}
+use Rattle.std.proofs.lemmas.List.{length-append}
+use Rattle.cm_group.specs.declared.receipt.Receipt.{Receipt}
+use Rattle.cm_group.specs.Groups.{Carried, Handed, IsGroup, slots_taken}
+use Rattle.cm_commit.specs.declared.progress.Progress.TheVariants.{Idle, Working, Done}
+use Rattle.cm_commit.specs.declared.progress.AdvanceFault.TheVariants.{Device, Broken}
+use Rattle.cm_commit.specs.Plans.{Stage, calls_left, after_call}
+use Rattle.cm_commit.specs.Offers.{filled, rows_after_group, MayCome}
+use Rattle.cm_commit.specs.States.{CommitterState, Takes}
+use Rattle.cm_commit.specs.declared.progress.Progress.{Progress}
+use Rattle.cm_commit.specs.declared.progress.AdvanceFault.{AdvanceFault}
+use Rattle.cm_commit.specs.Advances.{Rests, Works, Finishes, Breaks, StaysBroken, Advances}
+use Rattle.cm_commit.proofs.Committing.{one_call_less}
+use Rattle.cm_front.specs.Front.{FrontState}
+use Rattle.cm_handover.specs.Ahead.{IsAhead, pending}
+use Rattle.cm_handover.specs.Laws.{CommittedIsAhead, HandedMayBeNext, MayBeNext}
+use Rattle.cm_machine.specs.Following.{Follows}
+use Rattle.cm_machine.specs.Laws.{CommittedFollows, FollowsFront}
+use Rattle.cm_machine.specs.Machine.{Machine}
+use Rattle.cm_session.specs.Session.{of_underway, commands_of, GoBehind, IsBusyWith, IsSession}
+use Rattle.cm_session.specs.Moves.{Leads, Advancing, is_device}
+use Rattle.cm_session.proofs.Handing.{same_commands}
+
+-- ---- what is under way
+
+none_under : (u : Option Handed) (left : List Stage) → IsBusyWith u left → left ≡ [] → u ≡ None
+none_under None left busy none = refl
+none_under (Some group) left busy none =
+    absurd (let calls = ap calls_left none in omega (arith, busy, calls))
+
+some_left : (left : List Stage) → 1 ≤ calls_left left → left ≡ [] → ⊥
+some_left left some none = let calls = ap calls_left none in omega (arith, some, calls)
+
+still_busy : (u : Option Handed) (left : List Stage) → IsBusyWith u left → 2 ≤ calls_left left
+    → IsBusyWith u (after_call left)
+still_busy None left busy more =
+    absurd (some_left left (omega (arith, more)) busy)
+still_busy (Some group) left busy more =
+    let less = one_call_less left (some_left left busy) in omega (arith, less, more)
+
+module _ {D : Type 0} (k : Machine) (front : FrontState) (old new : CommitterState D)
+    (queue : List Handed) (sealed : ℕ) (failed : Bool)
+    (i : IsSession k front old queue sealed failed) where
+  -- ---- nothing is left
+
+  pub rests : (old.underway ≡ None → queue ≡ []) → Rests old new
+      → Leads (Advancing k (Ok Idle)) (λ j. IsSession j front new queue sealed failed)
+  rests empty r = record {
+    next = k;
+    does = (i.failed_is ∙ r.sound, all, refl);
+    goes = subst (λ c. IsSession k front c queue sealed failed) (sym r.stays) i;
+  }
+    where
+      none : old.underway ≡ None
+      none = none_under old.underway old.left i.busy r.none
+
+      out : commands_of (of_underway old.underway ++ queue) ≡ []
+      out =
+          ap (λ (u : Option Handed). commands_of (of_underway u ++ queue)) none
+          ∙ ap (λ (l : List Handed). commands_of l) (empty none)
+
+      all : k.acknowledged ≡ k.sealed
+      all =
+          let sealed = i.ahead.sealed in
+          let long = ap length out in
+          let here = i.acknowledged_is in
+          let there = i.sealed_is in
+          omega (arith, sealed, long, here, there)
+
+  -- ---- a call is made
+
+  pub works : Works old new
+      → Leads (Advancing k (Ok Working)) (λ j. IsSession j front new queue sealed failed)
+  works w = record {
+    next = k;
+    does = (i.failed_is ∙ w.sound, refl);
+    goes = subst (λ c. IsSession k front c queue sealed failed) (sym w.new_is) (record {
+      is = i.is;
+      sizes = i.sizes;
+      running = i.running;
+      groups = i.groups;
+      busy = still_busy old.underway old.left i.busy w.more;
+      ahead = i.ahead;
+      follows = i.follows;
+      acknowledged_is = i.acknowledged_is;
+      sealed_is = i.sealed_is;
+      sealed_told = i.sealed_told;
+      failed_is = i.failed_is;
+      failed_told = i.failed_told;
+      noticed_is = i.noticed_is;
+    });
+  }
+
+  -- ---- the last call is made
+
+  pub finishes : CommittedIsAhead → CommittedFollows → (receipt : Receipt)
+      → Finishes old receipt new
+      → Leads (Advancing k (Ok (Done receipt))) (λ j. IsSession j front new queue sealed failed)
+  finishes next_ahead committed receipt f = record {
+    next = next;
+    does = (
+      i.failed_is ∙ f.sound,
+      record {
+        more =
+            let told = f.told in
+            let here = i.acknowledged_is in
+            let some = behind.1.some in
+            omega (arith, told, here, some);
+        known =
+            let told = f.told in
+            let sealed = ahead.sealed in
+            let there = i.sealed_is in
+            let long = length-append group.entries (commands_of queue) in
+            omega (arith, told, sealed, there, long);
+        next_is = refl;
+      },
+    );
+    goes = subst (λ c. IsSession next front c queue sealed failed) (sym f.new_is) (record {
+      is = i.is;
+      sizes = i.sizes;
+      running = i.running;
+      groups = behind.2;
+      busy = refl;
+      ahead = next_ahead old.rows old.number old.end group (commands_of queue) front i.is behind.1
+          ahead;
+      follows = same_commands front.sizes k next refl follows;
+      acknowledged_is = f.told;
+      sealed_is = i.sealed_is;
+      sealed_told = i.sealed_told;
+      failed_is = i.failed_is;
+      failed_told = i.failed_told;
+      noticed_is = i.noticed_is;
+    });
+  }
+    where
+      group : Handed
+      group = f.group
+
+      next : Machine
+      next = record k { acknowledged = receipt.number }
+
+      behind : GoBehind old.number (group ∷ queue)
+      behind = subst (λ u. GoBehind old.number (of_underway u ++ queue)) f.underway i.groups
+
+      ahead : IsAhead old.rows old.number old.end (group.entries ++ commands_of queue) front
+      ahead =
+          subst (λ u. IsAhead old.rows old.number old.end (commands_of (of_underway u ++ queue))
+          front) f.underway i.ahead
+
+      split : pending (group.entries ++ commands_of queue) front
+          ≡ group.entries ++ pending (commands_of queue) front
+      split = append_assoc group.entries (commands_of queue) (commands_of front.unsealed)
+
+      before : FollowsFront k old.rows old.number (group.entries ++ commands_of queue) front
+      before =
+          subst (λ u. FollowsFront k old.rows old.number (commands_of (of_underway u ++ queue))
+          front) f.underway i.follows
+
+      follows : Follows front.sizes k (rows_after_group old.rows group.entries)
+          (old.number + length group.entries) (map filled (pending (commands_of queue) front))
+      follows =
+          committed front.sizes k old.rows old.number group.entries
+          (pending (commands_of queue) front)
+          (subst (λ l. Follows front.sizes k old.rows old.number (map filled l)) split before)
+          (let numbers = ahead.numbers in
+          let last = i.is.numbers in
+          let long = ap length split in
+          omega (arith, numbers, last, long))
+
+  -- ---- a call fails
+
+  pub breaks : Breaks old new
+      → Leads (Advancing k (Err Device)) (λ j. IsSession j front new queue sealed true)
+  breaks b = record {
+    next = next;
+    does = (i.failed_is ∙ b.sound, refl);
+    goes = subst (λ c. IsSession next front c queue sealed true) (sym b.new_is) (record {
+      is = i.is;
+      sizes = i.sizes;
+      running = i.running;
+      groups = i.groups;
+      busy = i.busy;
+      ahead = i.ahead;
+      follows = same_commands front.sizes k next refl i.follows;
+      acknowledged_is = i.acknowledged_is;
+      sealed_is = i.sealed_is;
+      sealed_told = i.sealed_told;
+      failed_is = refl;
+      failed_told = refl;
+      noticed_is = i.noticed_is;
+    });
+  }
+    where
+      next : Machine
+      next = record k { failed = true }
+
+  pub stays : StaysBroken old new
+      → Leads (Advancing k (Err Broken)) (λ j. IsSession j front new queue sealed failed)
+  stays s = record {
+    next = k;
+    does = (i.failed_is ∙ s.broken, refl);
+    goes = subst (λ c. IsSession k front c queue sealed failed) (sym s.stays) i;
+  }
+
+-- ---- whichever it is
+
+pub or_false : (b : Bool) → b || false ≡ b
+or_false true = refl
+or_false false = refl
+
+pub or_true : (b : Bool) → b || true ≡ true
+or_true true = refl
+or_true false = refl
+
+pub advanced : {D : Type 0} (next_ahead : CommittedIsAhead) (committed : CommittedFollows)
+    (k : Machine) (front : FrontState) (old new : CommitterState D) (queue : List Handed)
+    (sealed : ℕ) (failed : Bool) → IsSession k front old queue sealed failed
+    → (failed ≡ false → old.underway ≡ None → queue ≡ [])
+    → (result : Result Progress AdvanceFault) → Advances old result new
+    → Leads (Advancing k result) (λ j. IsSession j front new queue sealed (failed || is_device result))
+advanced next_ahead committed k front old new queue sealed failed i empty (Ok Idle) r =
+    subst (λ b. Leads (Advancing k (Ok Idle)) (λ j. IsSession j front new queue sealed b))
+    (sym (or_false failed))
+    (rests k front old new queue sealed failed i (empty (i.failed_told ∙ r.sound)) r)
+advanced next_ahead committed k front old new queue sealed failed i empty (Ok Working) w =
+    subst (λ b. Leads (Advancing k (Ok Working)) (λ j. IsSession j front new queue sealed b))
+    (sym (or_false failed)) (works k front old new queue sealed failed i w)
+advanced next_ahead committed k front old new queue sealed failed i empty (Ok (Done receipt)) f =
+    subst (λ b. Leads (Advancing k (Ok (Done receipt)))
+    (λ j. IsSession j front new queue sealed b))
+    (sym (or_false failed))
+    (finishes k front old new queue sealed failed i next_ahead committed receipt f)
+advanced next_ahead committed k front old new queue sealed failed i empty (Err Device) b =
+    subst (λ t. Leads (Advancing k (Err Device)) (λ j. IsSession j front new queue sealed t))
+    (sym (or_true failed)) (breaks k front old new queue sealed failed i b)
+advanced next_ahead committed k front old new queue sealed failed i empty (Err Broken) s =
+    subst (λ b. Leads (Advancing k (Err Broken)) (λ j. IsSession j front new queue sealed b))
+    (sym (or_false failed)) (stays k front old new queue sealed failed i s)
+
+-- ---- the next group is taken
+
+pub not_none : {A : Type 0} (x : A) (o : Option A) → o ≡ Some x → o ≡ None → ⊥
+not_none x None some none = absurd (cc)
+not_none x (Some y) some none = absurd (cc)
+
+-- no steps are left of a committer that isn't broken
+pub no_calls : (broken : Bool) (calls n : ℕ) → n ≡ cond broken 0 calls → broken ≡ false → n ≡ 0
+    → calls ≡ 0
+no_calls true calls n same sound none = absurd (cc)
+no_calls false calls n same sound none = omega (arith, same, none)
+
+-- no call is left, so none is under way
+pub none_busy : (u : Option Handed) (left : List Stage) → IsBusyWith u left → calls_left left ≡ 0
+    → u ≡ None
+none_busy None left busy none = refl
+none_busy (Some group) left busy none = absurd (omega (arith, busy, none))
+
+module _ {D : Type 0} (next : HandedMayBeNext) (k : Machine) (front : FrontState)
+    (committer : CommitterState D) (queue rest : List Handed) (sealed : ℕ) (failed : Bool)
+    (group : Handed) (i : IsSession k front committer queue sealed failed)
+    (none : committer.underway ≡ None)
+    (same : commands_of (group ∷ rest) ≡ commands_of queue)
+    (joined : (n : ℕ) → GoBehind n queue → GoBehind n (group ∷ rest)) where
+  behind : GoBehind committer.number (group ∷ rest)
+  behind =
+      joined committer.number
+      (subst (λ u. GoBehind committer.number (of_underway u ++ queue)) none i.groups)
+
+  out : commands_of (of_underway committer.underway ++ queue) ≡ commands_of (group ∷ rest)
+  out = ap (λ (u : Option Handed). commands_of (of_underway u ++ queue)) none ∙ sym same
+
+  ahead : IsAhead committer.rows committer.number committer.end (commands_of (group ∷ rest)) front
+  ahead =
+      subst (λ l. IsAhead committer.rows committer.number committer.end l front) out i.ahead
+
+  comes : MayBeNext committer.rows committer.number committer.end group front
+  comes =
+      next committer.rows committer.number committer.end group (commands_of rest) front i.is
+      behind.1 ahead
+
+  -- it is what the committer takes
+  pub is_taken : committer.broken ≡ false → Takes committer group
+  is_taken sound = record {
+    sound = sound;
+    idle = none;
+    next = subst (λ z. MayCome z committer.rows committer.number committer.end group) i.sizes
+        (record {
+          begins = behind.0;
+          ends = comes.ends;
+          room = comes.room;
+          entries = comes.entries;
+        });
+  }
+
+  pub takes : (left : List Stage) → 1 ≤ calls_left left
+      → IsSession k front (record committer { underway = Some group; left = left }) rest sealed
+      failed
+  takes left some = record {
+    is = i.is;
+    sizes = i.sizes;
+    running = i.running;
+    groups = behind;
+    busy = some;
+    ahead = ahead;
+    follows = subst (λ l. FollowsFront k committer.rows committer.number l front) out i.follows;
+    acknowledged_is = i.acknowledged_is;
+    sealed_is = i.sealed_is;
+    sealed_told = i.sealed_told;
+    failed_is = i.failed_is;
+    failed_told = i.failed_told;
+    noticed_is = i.noticed_is;
+  }

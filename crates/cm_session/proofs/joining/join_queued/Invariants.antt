@@ -1,0 +1,12 @@
+use Rattle.std.proofs.Common.{◌≡◌, ◌∷◌, ℕ, length}
+use Rattle.cm_session.specs.Session.{commands_of, GoBehind}
+use Rattle.cm_session.proofs.joining.join_queued.Given as goal
+
+abbrev pub invariant-loop : goal.invariant-loop
+invariant-loop l =
+    (commands_of (l.group ∷ l.queue.items) ≡ commands_of (l.fn.group ∷ l.fn.queue.items))
+    × ((n : ℕ) → GoBehind n (l.fn.group ∷ l.fn.queue.items)
+    → GoBehind n (l.group ∷ l.queue.items))
+
+abbrev pub decreases-loop : goal.decreases-loop
+decreases-loop l = length l.queue.items

@@ -1,0 +1,38 @@
+use Rattle.std.proofs.Common.{ℕ, List, [], sym, subst, false}
+use Rattle.cm_group.specs.Groups.{Handed}
+use Rattle.cm_session.specs.Moves.{Leads, Reopening}
+use Rattle.cm_session.specs.Session.{IsSession}
+use Rattle.cm_session.proofs.Reopened.{reopened, same_sizes, is_outside}
+use Rattle.cm_session.proofs.opening.open.Goals as goal
+
+pub returns-in-Err-clause-stands : goal.returns-in-Err-clause-stands
+returns-in-Err-clause-stands g c =
+    λ sizes k some.
+    is_outside c.verdict_is_exact.ensures.ok sizes k (g.D.Disk.contents c.args.disk) some _
+    c.in-Err.ensures.fault
+
+pub returns-clause-opened : goal.returns-clause-opened
+returns-clause-opened g c =
+    let front = c.in-Ok.opened.0 in
+    let committer = c.in-Ok.opened.1 in
+    let bytes = g.D.Disk.contents c.args.disk in
+    let opens = c.in-Ok.ensures.opened in
+    λ sizes k some.
+    let live = c.found_is_live.ensures in
+    let framed = c.found_is_framed.ensures.framed in
+    let stands = c.verdict_is_exact.ensures.stands in
+    let one = c.contents_determine_cache.ensures in
+    let on = c.committed_rows_are_the_machines.ensures.opened in
+    let is = c.geometry-lawful.ensures.lawful in
+    record {
+      leads = subst (λ (q : List Handed). Leads (Reopening sizes k bytes)
+          (λ j. IsSession j front committer q c.number-sealed.result false)) (sym c.new.ensures.items)
+          (subst (λ (n : ℕ). Leads (Reopening sizes k bytes)
+          (λ j. IsSession j front committer [] n false)) (sym c.number-sealed.ensures)
+          (reopened one live framed stands c.words_tell_name.ensures c.opened_is_ahead.ensures on
+          sizes k bytes some front committer opens is));
+      sizes_are = same_sizes one live framed stands c.words_tell_name.ensures
+          c.opened_is_ahead.ensures on sizes k bytes some front committer opens is;
+      contents_are = c.in-Ok.ensures.run.contents_stay;
+      settled = c.in-Ok.ensures.stored;
+    }

@@ -1,0 +1,11 @@
+use Rattle.cm_session.proofs.Commands.{answers}
+use Rattle.cm_session.proofs.session.Session.accept.Goals as goal
+
+pub returns-clause-machine : goal.returns-clause-machine
+returns-clause-machine g c =
+    let s = c.args.self.now in
+    let laws = c.commands_follow_the_machine.ensures in
+    λ k i. answers laws.accepted laws.refused c.ahead_stays_ahead.ensures.accepted k s.front
+    c.accept-number.new.self s.committer s.queue.items s.sealed s.has_failed _ c.look_at.ensures.0
+    c.look_at.ensures.1 c.geometry-lawful.ensures.lawful i c.accept-number.result
+    c.accept-number.ensures

@@ -1,0 +1,35 @@
+use Rattle.std.proofs.Common.{ℕ, ◌≤◌, length, sym, subst, ◌∙◌, ap, arith}
+use Rattle.std.specs.Prelude.{◌||◌}
+use Rattle.cm_front.specs.Front.{FrontState}
+use Rattle.cm_front.specs.Accepting.{with_learnt}
+use Rattle.cm_machine.specs.Machine.{Machine}
+use Rattle.cm_session.specs.declared.session.Session.{Session}
+use Rattle.cm_session.specs.Moves.{Leads, Learns}
+use Rattle.cm_session.specs.Session.{IsSession}
+use Rattle.cm_session.proofs.Handing.{learns, on_ok}
+use Rattle.cm_session.proofs.session.Session.learn.Goals as goal
+
+pub returns-clause-machine : goal.returns-clause-machine
+returns-clause-machine g c =
+    let s = c.args.self.now in
+    let n = c.notice.new.self in
+    let same = c.notice.ensures in
+    let laws = c.ahead_stays_ahead.ensures in
+    λ k i.
+    let then : IsSession k s.front n.committer n.queue.items n.sealed n.has_failed =
+    subst (λ (z : Session _). IsSession k s.front z.committer z.queue.items z.sealed z.has_failed)
+    (sym same) i in
+    let sealed = ap (λ (z : Session _). z.front.sealed) same in
+    let number = c.number-number.ensures in
+    let handed = then.ahead.sealed in
+    let learnt = on_ok c.learn-known.result
+    (c.learn-known.ensures.known.1 (omega (arith, sealed, number, handed)))
+    c.learn-known.ensures.ok in
+    subst (λ (m : ℕ). Leads (Learns k m)
+    (λ j. IsSession j c.learn-known.new.self n.committer n.queue.items n.sealed n.has_failed))
+    (sym number)
+    (learns laws.learnt laws.failed k s.front c.learn-known.new.self n.committer n.queue.items
+    n.sealed n.has_failed c.geometry-lawful.ensures.lawful then (s.front.broken || s.has_failed)
+    (λ j. i.noticed_is j || (i.failed_is ∙ sym i.failed_told) j)
+    (learnt
+    ∙ (λ j. with_learnt (ap (λ (z : Session _). z.front) same j) (number j))))

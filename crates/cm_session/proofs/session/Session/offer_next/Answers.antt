@@ -1,0 +1,55 @@
+use Rattle.std.proofs.Common.{List, ℕ, ◌∷◌, ◌≡◌, ◌≤◌, false, Option, Some, None, ap, subst, sym, ◌∙◌, arith}
+use Rattle.cm_group.specs.Groups.{Handed}
+use Rattle.cm_commit.specs.Plans.{calls_left}
+use Rattle.cm_commit.specs.States.{CommitterState, with_taken}
+use Rattle.cm_session.specs.Session.{commands_of, GoBehind, IsSession}
+use Rattle.cm_session.proofs.Handing.{on_ok}
+use Rattle.cm_session.proofs.Stepping.{takes, is_taken, no_calls, none_busy, not_none}
+use Rattle.cm_session.proofs.session.Session.offer_next.Goals as goal
+
+pub returns-clause-machine : goal.returns-clause-machine
+returns-clause-machine g c =
+    let s = c.args.self.now in
+    let group = c.join_queued-group.result in
+    let rest = c.join_queued-group.new.queue.items in
+    let items = c.in-Some.ensures.items in
+    let law = c.handed_groups_are_next.ensures.next in
+    let zero = c.if-steps_left-gt0.false in
+    λ k i.
+    let sound = sym i.failed_told ∙ c.if-self.false in
+    let none = none_busy s.committer.underway s.committer.left i.busy
+    (no_calls s.committer.broken (calls_left s.committer.left) c.steps_left.result
+    c.steps_left.ensures sound (omega (arith, zero))) in
+    let same = c.join_queued-group.ensures.commands ∙ sym (ap commands_of items) in
+    let joined : (n : ℕ) → GoBehind n s.queue.items → GoBehind n (group ∷ rest) =
+    (λ n b. c.join_queued-group.ensures.behind n (subst (GoBehind n) items b)) in
+    let may = is_taken law k s.front s.committer s.queue.items rest s.sealed s.has_failed group i
+    none same joined sound in
+    let taken = on_ok c.offer-taken.result (c.offer-taken.ensures.takes.1 may)
+    c.offer-taken.ensures.taken in
+    subst (λ (z : CommitterState _). IsSession k s.front z rest s.sealed s.has_failed) (sym taken)
+    (takes law k s.front s.committer s.queue.items rest s.sealed s.has_failed group i none same
+    joined (with_taken g.D.Disk.contents s.committer group).left (omega arith))
+
+pub returns-clause-taken : goal.returns-clause-taken
+returns-clause-taken g c =
+    let s = c.args.self.now in
+    let group = c.join_queued-group.result in
+    let rest = c.join_queued-group.new.queue.items in
+    let items = c.in-Some.ensures.items in
+    let law = c.handed_groups_are_next.ensures.next in
+    let zero = c.if-steps_left-gt0.false in
+    λ k i failed none_now.
+    let sound = sym i.failed_told ∙ c.if-self.false in
+    let none = none_busy s.committer.underway s.committer.left i.busy
+    (no_calls s.committer.broken (calls_left s.committer.left) c.steps_left.result
+    c.steps_left.ensures sound (omega (arith, zero))) in
+    let same = c.join_queued-group.ensures.commands ∙ sym (ap commands_of items) in
+    let joined : (n : ℕ) → GoBehind n s.queue.items → GoBehind n (group ∷ rest) =
+    (λ n b. c.join_queued-group.ensures.behind n (subst (GoBehind n) items b)) in
+    let may = is_taken law k s.front s.committer s.queue.items rest s.sealed s.has_failed group i
+    none same joined sound in
+    let taken = on_ok c.offer-taken.result (c.offer-taken.ensures.takes.1 may)
+    c.offer-taken.ensures.taken in
+    absurd (not_none group c.offer-taken.new.self.underway
+    (ap (λ (z : CommitterState _). z.underway) taken) none_now)

@@ -1,0 +1,25 @@
+use Rattle.std.proofs.Common.{List, ℕ, ◌≤◌, length, refl, subst, sym, ◌∙◌}
+use Rattle.cm_record.specs.Layout.{limit}
+use Rattle.cm_prepare.specs.declared.command.Command.{Command}
+use Rattle.cm_prepare.specs.Commands.{change_asked}
+use Rattle.cm_state.specs.Step.{AddLoader, Unload}
+use Rattle.cm_session.specs.Moves.{IsAsked}
+use Rattle.cm_session.proofs.Commands.{is_asked}
+use Rattle.cm_session.proofs.session.look_at.Goals as goal
+
+pub returns-in-AddLoader : goal.returns-in-AddLoader
+returns-in-AddLoader c =
+    subst (λ (command : Command). IsAsked (change_asked command)) (sym c.in-AddLoader.is)
+    (AddLoader _, refl)
+
+pub returns-in-Define : goal.returns-in-Define
+returns-in-Define c =
+    subst (λ (command : Command). IsAsked (change_asked command)) (sym c.in-Define.is)
+    (is_asked c.in-Define.field-0.now c.in-Define.class c.record.ensures.right
+    (subst (λ (l : List ℕ). length l ≤ limit) (c.deref.ensures ∙ c.record.ensures.«record»)
+    (subst (λ (n : ℕ). n ≤ limit) c.words-words.ensures.words c.words-words.ensures.short)))
+
+pub returns-in-Unload : goal.returns-in-Unload
+returns-in-Unload c =
+    subst (λ (command : Command). IsAsked (change_asked command)) (sym c.in-Unload.is)
+    (Unload _, refl)

@@ -1,0 +1,129 @@
+-- What each call of a session is for the machine.
+use Rattle.std.specs.Prelude.{◌≡◌, ℕ, ◌<◌, ◌⊎◌, ◌||◌, Bool, true, false, List, length}
+use Rattle.std.specs.Prelude.{Option, Some, None, Result, Ok, Err}
+use Rattle.cm_class.specs.declared.class_file.ClassFile.{ClassFile}
+use Rattle.cm_pool.specs.Geometry.{Sizes}
+use Rattle.cm_disk.specs.Disk.{Unsynced, IsSettled}
+use Rattle.cm_state.specs.Step.{Change}
+use Rattle.cm_prepare.specs.declared.refusal.Refusal.{Refusal}
+use Rattle.cm_prepare.specs.declared.refusal.Refusal.TheVariants as refusal
+use Rattle.cm_commit.specs.declared.progress.Progress.{Progress}
+use Rattle.cm_commit.specs.declared.progress.Progress.TheVariants.{Idle, Working, Done}
+use Rattle.cm_commit.specs.declared.progress.AdvanceFault.{AdvanceFault}
+use Rattle.cm_commit.specs.declared.progress.AdvanceFault.TheVariants.{Device, Broken}
+use Rattle.cm_recover.specs.declared.opening.NotOpened.{NotOpened}
+use Rattle.cm_recover.specs.declared.fault.OpenFault.{OpenFault}
+use Rattle.cm_recover.specs.declared.fault.OpenFault.TheVariants as open_fault
+use Rattle.cm_machine.specs.Machine.{Machine, Asks, Accepts, Refuses, Seals, Acknowledges, Reopens}
+use Rattle.cm_session.specs.declared.session.Session.{Session}
+use Rattle.cm_session.specs.declared.session.Sealed.{Sealed}
+use Rattle.cm_session.specs.Images.{StandsFor}
+use Rattle.cm_session.specs.Session.{IsSession}
+
+-- the session goes with the machine
+abbrev pub GoesWith : {D : Type 0} → Machine → Session D → Type 0
+GoesWith k s = IsSession k s.front s.committer s.queue.items s.sealed s.has_failed
+
+-- The call leads the machine to another one, by what it does, and the session goes with that one.
+pub record Leads (Does Goes : Machine → Type 0) : Type 0 where
+  pub next : Machine
+  pub does : Does next
+  pub goes : Goes next
+
+-- ---- accepting
+
+-- A command is accepted with the next number, or refused: since a failure of the device was noticed,
+-- or by the machine.
+abbrev pub Answers : Sizes → Machine → Change ClassFile → Result ℕ Refusal → Machine → Type 0
+Answers sizes k change (Ok number) next =
+    (k.noticed ≡ false) × Accepts sizes k change number next
+Answers sizes k change (Err r) next =
+    (next ≡ k)
+    × (((k.noticed ≡ true) × (r ≡ refusal.Broken))
+    ⊎ ((k.noticed ≡ false) × Refuses sizes k change r))
+
+-- it is some change of classes that is asked for
+abbrev pub IsAsked : Change (List ℕ) → Type 0
+IsAsked asked = (change : Change ClassFile) × Asks asked change
+
+-- for the change of classes that a command asks for
+pub record Accepting (sizes : Sizes) (k : Machine) (asked : Change (List ℕ))
+    (result : Result ℕ Refusal) (Goes : Machine → Type 0) : Type 0 where
+  pub change : Change ClassFile
+  pub asks : Asks asked change
+  pub leads : Leads (Answers sizes k change result) Goes
+
+-- ---- handing out
+
+-- All commands were handed out before, or a group of them is now. Where an allocation failed, some
+-- wait, and still do.
+abbrev pub Sealing : {E : Type 0} → Machine → Result (Option Sealed) E → Machine → Type 0
+Sealing k (Ok None) next = (k.sealed ≡ length k.commands) × (next ≡ k)
+Sealing k (Ok (Some group)) next = Seals k group.first group.last next
+Sealing k (Err e) next = (k.sealed < length k.commands) × (next ≡ k)
+
+-- ---- advancing
+
+-- Nothing is left to do, only where all that was handed out is acknowledged; or one device call is
+-- made, the last of which acknowledges a group's commands; once one failed, none is made any more.
+abbrev pub Advancing : Machine → Result Progress AdvanceFault → Machine → Type 0
+Advancing k (Ok Idle) next = (k.failed ≡ false) × (k.acknowledged ≡ k.sealed) × (next ≡ k)
+Advancing k (Ok Working) next = (k.failed ≡ false) × (next ≡ k)
+Advancing k (Ok (Done receipt)) next = (k.failed ≡ false) × Acknowledges k receipt.number next
+Advancing k (Err Device) next = (k.failed ≡ false) × (next ≡ record k { failed = true })
+Advancing k (Err Broken) next = (k.failed ≡ true) × (next ≡ k)
+
+-- no device call is made
+abbrev pub IsNoCall : Result Progress AdvanceFault → Type 0
+IsNoCall (Ok Idle) = Unit {0}
+IsNoCall (Ok Working) = ⊥
+IsNoCall (Ok (Done receipt)) = ⊥
+IsNoCall (Err Device) = ⊥
+IsNoCall (Err Broken) = Unit {0}
+
+-- the device failed in this call
+abbrev pub is_device : Result Progress AdvanceFault → Bool
+is_device (Ok progress) = false
+is_device (Err Device) = true
+is_device (Err Broken) = false
+
+-- ---- learning
+
+-- What is acknowledged is told, and a failure of the device is noticed.
+pub record Learns (k : Machine) (number : ℕ) (next : Machine) : Type 0 where
+  pub number_is : number ≡ k.acknowledged
+  pub next_is : next ≡ record k { noticed = k.noticed || k.failed }
+
+-- ---- opening again
+
+-- The contents stand for the first of the commands, as many as some number says, and the machine
+-- goes on from these.
+pub record Reopening (sizes : Sizes) (k : Machine) (contents : List ℕ) (next : Machine)
+    : Type 0 where
+  pub number : ℕ
+  pub reopens : Reopens k number next
+  pub stands : StandsFor sizes k.commands number contents
+
+-- a file that stands for some of the commands isn't opened only for the device or for memory
+abbrev pub IsOutside : OpenFault → Type 0
+IsOutside open_fault.NotACache = ⊥
+IsOutside (open_fault.Damaged what slot) = ⊥
+IsOutside open_fault.Device = Unit {0}
+IsOutside open_fault.NoMemory = Unit {0}
+
+-- the session of these contents, all of which are stored
+pub record Opened {D : Type 0} (contents : D → List ℕ) (unsynced : D → Unsynced) (sizes : Sizes)
+    (bytes : List ℕ) (k : Machine) (s : Session D) : Type 0 where
+  pub leads : Leads (Reopening sizes k bytes) (λ next. GoesWith next s)
+  pub sizes_are : s.committer.sizes ≡ sizes
+  pub contents_are : contents s.committer.disk ≡ bytes
+  pub settled : IsSettled (contents s.committer.disk) (unsynced s.committer.disk)
+
+-- the disk after it was opened, or handed back
+abbrev pub disk_of : {D : Type 0} → Result (Session D) (NotOpened D) → D
+disk_of (Ok s) = s.committer.disk
+disk_of (Err not_opened) = not_opened.disk
+
+abbrev pub MeetsDevice : {D : Type 0} → Result (Session D) (NotOpened D) → Type 0
+MeetsDevice (Ok s) = ⊥
+MeetsDevice (Err not_opened) = not_opened.fault ≡ open_fault.Device

@@ -1,0 +1,55 @@
+-- What a session keeps: an accepted cache, the committer of its disk, and the groups on the way from
+-- the one to the other.
+use Rattle.std.specs.Prelude.{◌≡◌, ℕ, ◌+◌, ◌≤◌, Bool, false, List, [], ◌∷◌, ◌++◌, length}
+use Rattle.std.specs.Prelude.{Option, Some, None}
+use Rattle.std.specs.List.{flat_map}
+use Rattle.cm_group.specs.Groups.{Carried, Handed, IsGroup}
+use Rattle.cm_front.specs.Front.{FrontState, IsFront}
+use Rattle.cm_commit.specs.Plans.{Stage, calls_left}
+use Rattle.cm_commit.specs.States.{CommitterState}
+use Rattle.cm_handover.specs.Ahead.{IsAhead}
+use Rattle.cm_machine.specs.Machine.{Machine}
+use Rattle.cm_machine.specs.Laws.{FollowsFront}
+
+-- ---- groups on their way
+
+abbrev pub of_underway : Option Handed → List Handed
+of_underway None = []
+of_underway (Some group) = group ∷ []
+
+-- the commands of groups, oldest first
+abbrev pub commands_of : List Handed → List Carried
+commands_of groups = flat_map (λ g. g.entries) groups
+
+-- groups one behind another, the first with the number behind n
+abbrev pub GoBehind : ℕ → List Handed → Type 0
+GoBehind n [] = Unit {0}
+GoBehind n (group ∷ groups) =
+    (group.first ≡ n + 1) × IsGroup group × GoBehind (n + length group.entries) groups
+
+-- calls are left exactly while a group is under way
+abbrev pub IsBusyWith : Option Handed → List Stage → Type 0
+IsBusyWith None left = left ≡ []
+IsBusyWith (Some group) left = 1 ≤ calls_left left
+
+-- ---- the session
+
+-- The parts of a session, which go with what the machine is at: the groups under way and queued lead
+-- from what is committed to what is accepted, and the machine's numbers and flags are theirs.
+pub record IsSession {D : Type 0} (k : Machine) (front : FrontState) (committer : CommitterState D)
+    (queue : List Handed) (sealed : ℕ) (failed : Bool) : Type 0 where
+  pub is : IsFront front
+  pub sizes : front.sizes ≡ committer.sizes
+  pub running : front.closed ≡ false
+  pub groups : GoBehind committer.number (of_underway committer.underway ++ queue)
+  pub busy : IsBusyWith committer.underway committer.left
+  pub ahead : IsAhead committer.rows committer.number committer.end
+      (commands_of (of_underway committer.underway ++ queue)) front
+  pub follows : FollowsFront k committer.rows committer.number
+      (commands_of (of_underway committer.underway ++ queue)) front
+  pub acknowledged_is : k.acknowledged ≡ committer.number
+  pub sealed_is : k.sealed ≡ front.sealed
+  pub sealed_told : sealed ≡ front.sealed
+  pub failed_is : k.failed ≡ committer.broken
+  pub failed_told : failed ≡ committer.broken
+  pub noticed_is : k.noticed ≡ front.broken

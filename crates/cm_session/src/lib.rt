@@ -1,0 +1,10 @@
+//! One thread's use of a cache file: the accepted cache, the committer of its disk, and the groups
+//! on the way from the one to the other. Each call is a step of the abstract machine.
+#![tactic(auto)]
+
+mod joining;
+mod opening;
+mod session;
+
+pub use opening::open;
+pub use session::{Sealed, Session};

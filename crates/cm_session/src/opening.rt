@@ -1,0 +1,56 @@
+//! Opening a file for a session.
+
+ghost use Rattle.std.specs.Prelude.{IfOk, IfErr};
+ghost use Rattle.cm_pool.specs.Geometry.{Sizes};
+ghost use Rattle.cm_verdict.specs.Verdict.{verdict};
+ghost use Rattle.cm_recover.specs.Opening.{IsFaultIn};
+ghost use Rattle.cm_recover.specs.Opened.{SyncsAndReads};
+ghost use Rattle.cm_machine.specs.Machine.{Machine};
+ghost use Rattle.cm_session.specs.Images.{StandsForSome};
+ghost use Rattle.cm_session.specs.Moves.{Opened, IsOutside, disk_of, MeetsDevice};
+
+use crate::session::Session;
+use cm_disk::Disk;
+use cm_handover::opened_is_ahead;
+use cm_machine::committed_rows_are_the_machines;
+use cm_record::words_tell_name;
+use cm_recover::NotOpened;
+use cm_state::contents_determine_cache;
+use cm_verdict::{found_is_framed, found_is_live, verdict_is_exact};
+use std::alloc::Global;
+use std::collections::VecDeque;
+
+/// Opens the cache of a file, as [`cm_recover::open`] does, for one thread's use.
+///
+/// Whichever machine the file stands for some of the commands of: it goes on from these, and the
+/// file isn't opened only where the device or an allocation failed.
+pub fn open<D: Disk>(alloc: Global, disk: D) -> Result<Session<D>, NotOpened<D>>
+    ensures opened { (sizes : Sizes) (k : Machine) → StandsForSome sizes k (D.contents disk)
+        → IfOk result (Opened D.contents D.unsynced sizes (D.contents disk) k) }
+    ensures stands { (sizes : Sizes) (k : Machine) → StandsForSome sizes k (D.contents disk)
+        → IfErr result (λ e. IsOutside e.fault) }
+    ensures fault { IfErr result (λ e. IsFaultIn e.fault (verdict (D.contents disk))) }
+    ensures run { SyncsAndReads D.contents D.unsynced D.failures D.moment D.left_since disk
+        (disk_of result) (MeetsDevice result) }
+{
+    opened_is_ahead();
+    committed_rows_are_the_machines();
+    contents_determine_cache();
+    found_is_live();
+    found_is_framed();
+    verdict_is_exact();
+    words_tell_name();
+    let (front, committer) = match cm_recover::open(alloc, disk) {
+        Ok(opened) => opened,
+        Err(not_opened) => return Err(not_opened),
+    };
+    let _lawful = front.geometry(); // so the proof knows what the cache keeps
+    let sealed = committer.number();
+    Ok(Session {
+        front,
+        committer,
+        queue: VecDeque::new(alloc),
+        sealed,
+        has_failed: false,
+    })
+}

@@ -1,0 +1,251 @@
+//! An accepted cache over its disk.
+
+ghost use Rattle.std.specs.Prelude.{◌≡◌, ◌||◌, None, Some, [], Err, false};
+ghost use Rattle.std.specs.Option.{option_map};
+ghost use Rattle.std.specs.Arc.{arc_value};
+ghost use Rattle.cm_guards.specs.Guards.{EachImage};
+ghost use Rattle.cm_guards.specs.Calls.{LeavesOnly};
+ghost use Rattle.cm_prepare.specs.Commands.{change_asked};
+ghost use Rattle.cm_commit.specs.Advances.{HasRisen};
+ghost use Rattle.cm_machine.specs.Machine.{Machine};
+ghost use Rattle.cm_machine.specs.Laws.{Finds};
+ghost use Rattle.cm_session.specs.Images.{StandsForSome};
+ghost use Rattle.cm_session.specs.Moves.{GoesWith, Leads, Accepting, Sealing, Advancing, Learns};
+ghost use Rattle.cm_session.specs.Moves.{IsAsked, IsNoCall, is_device};
+
+use crate::joining::join_queued;
+use cm_commit::{AdvanceFault, Committer, Progress};
+use cm_disk::{Disk, SimDisk};
+use cm_front::Front;
+use cm_group::{Group, Receipt};
+use cm_handover::{ahead_stays_ahead, handed_groups_are_next};
+use cm_machine::{commands_follow_the_machine, committed_rows_are_the_machines};
+use cm_pool::Geometry;
+use cm_prepare::{Command, Refusal};
+use cm_record::Record;
+use std::alloc::{AllocError, Global};
+use std::collections::VecDeque;
+use std::sync::Arc;
+
+/// The commands that were handed out as a group, by their numbers.
+#[derive(Clone, Copy, Debug, PartialEq, Eq)]
+pub struct Sealed {
+    pub first: u64,
+    pub last: u64,
+}
+
+/// An accepted cache, the committer of its disk, and the groups that were handed out by the one and
+/// aren't taken by the other yet.
+///
+/// Contracts tell what each call is for the abstract machine, whichever machine the session went
+/// with before it.
+pub struct Session<D: Disk> {
+    pub(crate) front: Front,
+    pub(crate) committer: Committer<D>,
+    /// The groups that the committer hasn't taken yet, oldest first.
+    pub(crate) queue: VecDeque<Group>,
+    /// The number of the last command that was handed out.
+    pub(crate) sealed: u64,
+    pub(crate) has_failed: bool,
+}
+
+// Brings into a proof's scope which change of classes a command asks for.
+fn look_at(command: &Command<'_>)
+    ensures { IsAsked (change_asked command.now) }
+{
+    match command {
+        Command::AddLoader(_) => {}
+        Command::Define(_, class) => {
+            let _words = class.record().words();
+        }
+        Command::Unload(_) => {}
+    }
+}
+
+/// Whether the device has failed by now, before this call or in it.
+fn has_failed(before: bool, progress: &Result<Progress, AdvanceFault>) -> bool
+    ensures { result ≡ before || is_device progress.now }
+{
+    match progress {
+        Err(AdvanceFault::Device) => true,
+        Err(AdvanceFault::Broken) => before,
+        Ok(_) => before,
+    }
+}
+
+impl<D: Disk> Session<D> {
+    /// The sizes of the region.
+    pub fn geometry(&self) -> Geometry
+        ensures { result ≡ self.now.committer.sizes }
+    {
+        self.committer.geometry()
+    }
+
+    /// Accepts a command and gives it the next number, or refuses it, as [`Front::accept`] does. The
+    /// disk isn't touched.
+    pub fn accept(&mut self, command: Command<'_>) -> Result<u64, Refusal>
+        ensures machine { (k : Machine) → GoesWith k self.old
+            → Accepting self.old.committer.sizes k (change_asked command.entry) result
+            (λ next. GoesWith next self.new) }
+        ensures disk { self.new.committer ≡ self.old.committer }
+    {
+        commands_follow_the_machine();
+        ahead_stays_ahead();
+        look_at(&command);
+        let number = self.front.accept(command);
+        let _lawful = self.front.geometry(); // so the proof knows what the cache keeps
+        number
+    }
+
+    /// Hands out the oldest group of accepted commands; it waits until the committer takes it.
+    /// `None` where all commands were handed out. After an `Err`, for want of memory, they still
+    /// wait. The disk isn't touched.
+    pub fn seal(&mut self) -> Result<Option<Sealed>, AllocError>
+        ensures machine { (k : Machine) → GoesWith k self.old
+            → Leads (Sealing k result) (λ next. GoesWith next self.new) }
+        ensures disk { self.new.committer ≡ self.old.committer }
+    {
+        committed_rows_are_the_machines();
+        ahead_stays_ahead();
+        if self.front.number() == self.sealed {
+            return Ok(None);
+        }
+        let Ok(()) = self.queue.reserve(1) else {
+            return Err(AllocError);
+        };
+        let Some(group) = self.front.seal() else {
+            return Ok(None);
+        };
+        let _lawful = self.front.geometry(); // so the proof knows what the cache keeps
+        let first = group.first();
+        let last = first + (group.count() as u64 - 1);
+        self.queue.push_back_reserved(group);
+        self.sealed = last;
+        Ok(Some(Sealed { first, last }))
+    }
+
+    /// Where no group is under way, lets the committer take the oldest that waits, with those
+    /// behind it as far as one group holds them.
+    fn offer_next(&mut self)
+        ensures machine { (k : Machine) → GoesWith k self.old → GoesWith k self.new }
+        ensures taken { (k : Machine) → GoesWith k self.old → self.new.has_failed ≡ false
+            → self.new.committer.underway ≡ None → self.new.queue.items ≡ [] }
+        ensures disk { self.new.committer.disk ≡ self.old.committer.disk }
+        ensures sizes { self.new.committer.sizes ≡ self.old.committer.sizes }
+    {
+        handed_groups_are_next();
+        if self.has_failed {
+            return;
+        }
+        if self.committer.steps_left() > 0 {
+            return;
+        }
+        let Some(group) = self.queue.pop_front() else {
+            return;
+        };
+        let group = join_queued(group, &mut self.queue);
+        let _taken = self.committer.offer(group); // it is what comes next, so it is taken
+    }
+
+    /// Makes the next device call: where no group is under way, the committer first takes the
+    /// oldest that waits. As [`Committer::advance`].
+    pub fn advance(&mut self) -> Result<Progress, AdvanceFault>
+        ensures machine { (k : Machine) → GoesWith k self.old
+            → Leads (Advancing k result) (λ next. GoesWith next self.new) }
+        ensures any_moment { (k : Machine) → GoesWith k self.old
+            → LeavesOnly D.moment D.left_since self.old.committer.disk self.new.committer.disk
+            (StandsForSome self.old.committer.sizes k) }
+        ensures cause { HasRisen (D.failures self.old.committer.disk)
+            (D.failures self.new.committer.disk) result }
+        ensures no_call { IsNoCall result → self.new.committer.disk ≡ self.old.committer.disk }
+        ensures sizes { self.new.committer.sizes ≡ self.old.committer.sizes }
+    {
+        committed_rows_are_the_machines();
+        handed_groups_are_next();
+        self.offer_next();
+        let progress = self.committer.advance();
+        self.has_failed = has_failed(self.has_failed, &progress);
+        progress
+    }
+
+    /// Once the device failed, no command is accepted any more.
+    fn notice(&mut self)
+        ensures { self.new ≡ record self.old {
+          front = record self.old.front { broken = self.old.front.broken || self.old.has_failed };
+        } }
+    {
+        if self.has_failed {
+            self.front.fail();
+        }
+    }
+
+    /// Learns which commands are stored, and tells the number of the last; and whether the device
+    /// failed: then no command is accepted any more.
+    pub fn learn(&mut self) -> u64
+        ensures machine { (k : Machine) → GoesWith k self.old
+            → Leads (Learns k result) (λ next. GoesWith next self.new) }
+        ensures disk { self.new.committer ≡ self.old.committer }
+    {
+        ahead_stays_ahead();
+        self.notice();
+        let number = self.committer.number();
+        let _known = self.front.learn(Receipt { number }); // it was handed out
+        let _lawful = self.front.geometry(); // so the proof knows what the cache keeps
+        number
+    }
+
+    /// The record of the class of a name in the loader of a name, as accepted, whether or not it is
+    /// stored.
+    pub fn find(&self, loader: &[u8], class: &[u8]) -> Option<&Arc<Record, Global>>
+        ensures { (k : Machine) → GoesWith k self.now
+            → Finds self.now.committer.sizes k loader.now class.now
+            (option_map (λ r. arc_value r.now) result) }
+    {
+        commands_follow_the_machine();
+        self.front.find(loader, class)
+    }
+
+    /// What a crash leaves now: all commands that were acknowledged, and none that wasn't handed
+    /// out.
+    pub fn images(&self)
+        ensures { (k : Machine) → GoesWith k self.now
+            → EachImage (D.contents self.now.committer.disk) (D.unsynced self.now.committer.disk)
+            (StandsForSome self.now.committer.sizes k) }
+    {
+        committed_rows_are_the_machines();
+        self.committer.images();
+    }
+
+    /// The number of the last command that is acknowledged.
+    pub fn number(&self) -> u64
+        ensures { result ≡ self.now.committer.number }
+    {
+        self.committer.number()
+    }
+
+    /// The disk, as it is now.
+    pub fn into_disk(self) -> D
+        ensures { result ≡ self.committer.disk }
+    {
+        let Session {
+            front: _front,
+            committer,
+            queue: _queue,
+            sealed: _,
+            has_failed: _,
+        } = self;
+        committer.into_disk()
+    }
+}
+
+impl Session<SimDisk> {
+    /// Lets the disk's next call fail; a write stores its first bytes, so many of them.
+    pub fn arm(&mut self, stores: usize)
+        ensures disk { self.new.committer ≡ record self.old.committer {
+          disk = record self.old.committer.disk { armed = Some stores };
+        } }
+        ensures machine { (k : Machine) → GoesWith k self.old → GoesWith k self.new }
+    {
+        self.committer.arm(stores);
+    }
+}
