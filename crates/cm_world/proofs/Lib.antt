@@ -1,0 +1,4 @@
+pub mod Kept
+pub mod Chains
+pub mod Moved
+pub mod Reopened

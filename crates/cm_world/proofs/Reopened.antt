@@ -1,0 +1,111 @@
+-- A file that is opened.
+use Rattle.std.proofs.Common.{◌≡◌, ℕ, ◌≤◌, List, [], take, length, Result, Ok, Err, refl, sym, ap, subst, ◌∙◌, arith}
+use Rattle.std.proofs.Common.{true, false, None}
+use Rattle.std.specs.Prelude.{IfOk, IfErr, ◌↔◌}
+use Rattle.std.specs.FinMap as map
+use Rattle.cm_class.specs.declared.class_file.ClassFile.{ClassFile}
+use Rattle.cm_pool.specs.Geometry.{Sizes}
+use Rattle.cm_disk.specs.declared.sim.SimDisk.{SimDisk}
+use Rattle.cm_disk.specs.Disk.{Unsynced, IsImage, IsBytes, IsSettled}
+use Rattle.cm_disk.specs.Sim.{sim_contents, sim_unsynced, sim_moment, sim_left_since, IsFresh}
+use Rattle.cm_guards.specs.Calls.{LeavesOnly}
+use Rattle.cm_guards.specs.Guards.{EachImage}
+use Rattle.cm_state.specs.Step.{Change}
+use Rattle.cm_recover.specs.NewFile.{new_bytes, IsEmptyCache}
+use Rattle.cm_machine.specs.Machine.{Machine, empty_machine}
+use Rattle.cm_session.specs.Images.{StandsFor, StandsForSome}
+use Rattle.cm_session.specs.Moves.{GoesWith}
+use Rattle.cm_session.proofs.Shown.{leaves_so}
+use Rattle.cm_world.specs.declared.event.Event.{Event}
+use Rattle.cm_world.specs.declared.reply.Reply.{Reply}
+use Rattle.cm_world.specs.declared.world.World.{World}
+use Rattle.cm_world.specs.Steps.{State, BeginsWith, Does, OpenedAgain}
+use Rattle.cm_world.specs.Runs.{IsBegun, IsNew}
+use Rattle.cm_world.specs.Moves.{state, Moves, MovesTo}
+
+pub map_ok : {A E : Type 0} {P Q : A → Type 0} (r : Result A E) → ((x : A) → P x → Q x)
+    → IfOk r P → IfOk r Q
+map_ok (Ok x) f p = f x p
+map_ok (Err e) f p = tt
+
+-- the event opens the file that this disk holds
+pub opened_moves : (k : Machine) (e : Event) (r : Reply) (old new : World) (begun : SimDisk)
+    → BeginsWith e old.session.committer.disk begun
+    → ((next : Machine)
+    → OpenedAgain old.session.committer.sizes r begun (state old k) (state new next)
+    → Does old.session.committer.sizes e r begun (state old k) (state new next))
+    → ((image : List ℕ) → IsImage (sim_contents begun) (sim_unsynced begun) image
+    → StandsForSome old.session.committer.sizes k image)
+    → MovesTo old.session.committer.sizes k r begun (state old k) new → Moves k e r old new
+opened_moves k e r old new begun begins does images m = record {
+  next = m.next;
+  step = record {
+    begun = begun;
+    begins = begins;
+    does = does m.next m.opens;
+    moments = leaves_so sim_moment sim_left_since begun new.session.committer.disk
+        (IsImage (sim_contents begun) (sim_unsynced begun))
+        (StandsForSome old.session.committer.sizes k) images m.moments;
+    images = m.images;
+  };
+  goes = m.goes;
+  sizes_stay = m.sizes_are;
+}
+
+-- ---- a crash
+
+-- a disk that nothing has happened to holds one image
+pub one_image : ((contents image : List ℕ) (unsynced : Unsynced) → IsBytes contents
+    → IsSettled contents unsynced → (IsImage contents unsynced image ↔ (image ≡ contents)))
+    → (disk : SimDisk) → IsFresh disk → (P : List ℕ → Type 0) → P (sim_contents disk)
+    → (image : List ℕ) → IsImage (sim_contents disk) (sim_unsynced disk) image → P image
+one_image law disk fresh P p image is =
+    subst P (sym ((law (sim_contents disk) image (sim_unsynced disk) disk.medium.sound.bytes
+    fresh.settled).0 is)) p
+
+-- ---- a new file
+
+pub nothing_stands : (sizes : Sizes) (contents : List ℕ) → IsEmptyCache sizes contents
+    → StandsForSome sizes empty_machine contents
+nothing_stands sizes contents empty = record {
+  number = 0;
+  least = omega arith;
+  most = omega arith;
+  stands = record {
+    known = omega arith;
+    state = map.empty;
+    arenas = map.empty;
+    stands = empty;
+    holds = refl;
+  };
+}
+
+pub begun : (sizes : Sizes) (r : Reply) (disk : SimDisk) (w : World)
+    → sim_contents disk ≡ new_bytes sizes
+    → MovesTo sizes empty_machine r disk (record { disk = disk; machine = empty_machine }) w
+    → IsBegun sizes w
+begun sizes r disk w made m = record {
+  first = state w m.next;
+  new = record {
+    contents = m.opens.contents_stay ∙ made;
+    stored = m.opens.stored;
+    machine = m.opens.reopens.reopens.next_is ∙ (λ i. record {
+      commands = none i;
+      acknowledged = zero i;
+      sealed = zero i;
+      failed = false;
+      noticed = false;
+    });
+  };
+  at = record { disk = refl; goes = m.goes };
+  sizes_are = m.sizes_are;
+}
+  where
+    number : ℕ
+    number = m.opens.reopens.number
+
+    zero : m.opens.reopens.number ≡ 0
+    zero = let most = m.opens.reopens.reopens.most in omega (arith, most)
+
+    none : take m.opens.reopens.number (empty_machine.commands) ≡ []
+    none = ap (λ (n : ℕ). take n (empty_machine.commands)) zero

@@ -1,0 +1,23 @@
+use Rattle.std.proofs.Common.{refl}
+use Rattle.cm_world.specs.declared.world.World.{World}
+use Rattle.cm_world.specs.declared.event.Event.TheVariants as event
+use Rattle.cm_world.proofs.Moved.{moved}
+use Rattle.cm_world.proofs.world.World.advance.Goals as goal
+
+pub returns : goal.returns
+returns c =
+    let old = c.args.self.now in
+    let new : World = record { alloc = old.alloc; session = c.advance-answer.new.self } in
+    let r = c.advance_reply.result in
+    let does = c.advance-answer.ensures in
+    λ k i.
+    let m = does.machine k i in
+    moved k event.Advance r old new does.sizes c.images.ensures m.next refl
+    (record {
+      result = c.advance-answer.result;
+      reply_is = c.advance_reply.ensures;
+      advances = m.does;
+      no_call = does.no_call;
+      cause = does.cause;
+    })
+    (does.any_moment k i) m.goes

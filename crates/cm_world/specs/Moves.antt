@@ -1,0 +1,38 @@
+-- A world from one event to the next.
+use Rattle.std.specs.Prelude.{◌≡◌, ℕ, List}
+use Rattle.cm_pool.specs.Geometry.{Sizes}
+use Rattle.cm_disk.specs.declared.sim.SimDisk.{SimDisk}
+use Rattle.cm_disk.specs.Disk.{IsImage, IsSettled}
+use Rattle.cm_disk.specs.Sim.{sim_contents, sim_unsynced, sim_moment, sim_left_since}
+use Rattle.cm_guards.specs.Calls.{LeavesOnly}
+use Rattle.cm_guards.specs.Guards.{EachImage}
+use Rattle.cm_machine.specs.Machine.{Machine}
+use Rattle.cm_session.specs.Images.{StandsForSome}
+use Rattle.cm_session.specs.Moves.{GoesWith}
+use Rattle.cm_world.specs.declared.event.Event.{Event}
+use Rattle.cm_world.specs.declared.reply.Reply.{Reply}
+use Rattle.cm_world.specs.declared.world.World.{World}
+use Rattle.cm_world.specs.Steps.{State, IsStep, OpenedAgain}
+
+-- the world's disk, with what a machine is at
+abbrev pub state : World → Machine → State
+state w k = record { disk = w.session.committer.disk; machine = k }
+
+-- The event is a step of the machine, and the world goes with the one that it leads to.
+pub record Moves (k : Machine) (e : Event) (r : Reply) (old new : World) : Type 0 where
+  pub next : Machine
+  pub step : IsStep old.session.committer.sizes e r (state old k) (state new next)
+  pub goes : GoesWith next new.session
+  pub sizes_stay : new.session.committer.sizes ≡ old.session.committer.sizes
+
+-- The world of the file that a disk holds, which stands for some of the machine's commands.
+pub record MovesTo (sizes : Sizes) (k : Machine) (r : Reply) (opened : SimDisk) (before : State)
+    (new : World) : Type 0 where
+  pub next : Machine
+  pub opens : OpenedAgain sizes r opened before (state new next)
+  pub moments : LeavesOnly sim_moment sim_left_since opened new.session.committer.disk
+      (IsImage (sim_contents opened) (sim_unsynced opened))
+  pub images : EachImage (sim_contents new.session.committer.disk)
+      (sim_unsynced new.session.committer.disk) (StandsForSome sizes next)
+  pub goes : GoesWith next new.session
+  pub sizes_are : new.session.committer.sizes ≡ sizes

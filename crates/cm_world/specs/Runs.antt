@@ -1,0 +1,62 @@
+-- A run of a world: events one after another, from an empty cache on.
+use Rattle.std.specs.Prelude.{◌≡◌, List, [], ◌∷◌, map}
+use Rattle.cm_pool.specs.Geometry.{Sizes}
+use Rattle.cm_disk.specs.Disk.{IsSettled}
+use Rattle.cm_disk.specs.Sim.{sim_contents, sim_unsynced}
+use Rattle.cm_machine.specs.Machine.{Machine, empty_machine}
+use Rattle.cm_recover.specs.NewFile.{new_bytes}
+use Rattle.cm_session.specs.Moves.{GoesWith}
+use Rattle.cm_world.specs.declared.event.Event.{Event}
+use Rattle.cm_world.specs.declared.reply.Reply.{Reply}
+use Rattle.cm_world.specs.declared.world.World.{World}
+use Rattle.cm_world.specs.Steps.{State, IsStep}
+
+-- a disk that holds a new file, all of it stored; nothing was accepted yet
+pub record IsNew (sizes : Sizes) (s : State) : Type 0 where
+  pub contents : sim_contents s.disk ≡ new_bytes sizes
+  pub stored : IsSettled (sim_contents s.disk) (sim_unsynced s.disk)
+  pub machine : s.machine ≡ empty_machine
+
+-- an event with its reply, and the states before and after it
+pub record Step : Type 0 where
+  pub event : Event
+  pub reply : Reply
+  pub before : State
+  pub after : State
+
+-- each step begins where the one before ended
+abbrev pub Chain : Sizes → State → List Step → State → Type 0
+Chain sizes first [] last = last ≡ first
+Chain sizes first (s ∷ steps) last =
+    (s.before ≡ first) × IsStep sizes s.event s.reply s.before s.after
+    × Chain sizes s.after steps last
+
+-- the events, one after another, have these replies
+pub record Ran (sizes : Sizes) (events : List Event) (replies : List Reply) (last : State)
+    : Type 0 where
+  pub first : State
+  pub new : IsNew sizes first
+  pub steps : List Step
+  pub events_are : map (λ (s : Step). s.event) steps ≡ events
+  pub replies_are : map (λ (s : Step). s.reply) steps ≡ replies
+  pub chain : Chain sizes first steps last
+
+-- the world goes with the machine, and has its disk
+pub record IsAt (s : State) (w : World) : Type 0 where
+  pub disk : w.session.committer.disk ≡ s.disk
+  pub goes : GoesWith s.machine w.session
+
+-- the world of a new file
+pub record IsBegun (sizes : Sizes) (w : World) : Type 0 where
+  pub first : State
+  pub new : IsNew sizes first
+  pub at : IsAt first w
+  pub sizes_are : w.session.committer.sizes ≡ sizes
+
+-- The world is one in which the events had these replies.
+pub record HasRun (sizes : Sizes) (events : List Event) (replies : List Reply) (w : World)
+    : Type 0 where
+  pub last : State
+  pub ran : Ran sizes events replies last
+  pub at : IsAt last w
+  pub sizes_are : w.session.committer.sizes ≡ sizes

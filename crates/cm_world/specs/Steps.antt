@@ -1,0 +1,149 @@
+-- What one event does to a world: what is replied, what the machine makes of it, and what a crash at
+-- any moment of it leaves.
+use Rattle.std.specs.Prelude.{◌≡◌, ℕ, List, Option, Some, None, Result, Ok, Err}
+use Rattle.std.specs.declared.alloc.AllocError.{AllocError}
+use Rattle.std.specs.Arc.{arc_value}
+use Rattle.std.specs.Option.{option_map}
+use Rattle.cm_class.specs.declared.class_file.ClassFile.{ClassFile}
+use Rattle.cm_pool.specs.Geometry.{Sizes}
+use Rattle.cm_disk.specs.declared.sim.SimDisk.{SimDisk}
+use Rattle.cm_disk.specs.Chosen.{IsChosen}
+use Rattle.cm_disk.specs.Disk.{IsSettled}
+use Rattle.cm_disk.specs.Sim.{sim_contents, sim_unsynced, sim_failures, sim_moment, sim_left_since}
+use Rattle.cm_disk.specs.Sim.{IsFresh}
+use Rattle.cm_guards.specs.Calls.{LeavesOnly}
+use Rattle.cm_guards.specs.Guards.{EachImage}
+use Rattle.cm_prepare.specs.declared.refusal.Refusal.{Refusal}
+use Rattle.cm_prepare.specs.Commands.{change_asked}
+use Rattle.cm_state.specs.Step.{Change}
+use Rattle.cm_commit.specs.declared.progress.Progress.{Progress}
+use Rattle.cm_commit.specs.declared.progress.Progress.TheVariants as progress
+use Rattle.cm_commit.specs.declared.progress.AdvanceFault.{AdvanceFault}
+use Rattle.cm_commit.specs.declared.progress.AdvanceFault.TheVariants as fault
+use Rattle.cm_commit.specs.Advances.{HasRisen}
+use Rattle.cm_machine.specs.Machine.{Machine, Asks}
+use Rattle.cm_machine.specs.Laws.{Finds}
+use Rattle.cm_session.specs.declared.session.Sealed.{Sealed}
+use Rattle.cm_session.specs.Images.{StandsForSome}
+use Rattle.cm_session.specs.Moves.{Answers, Sealing, Advancing, IsNoCall, Learns, Reopening}
+use Rattle.cm_world.specs.declared.event.Event.{Event}
+use Rattle.cm_world.specs.declared.event.Event.TheVariants as event
+use Rattle.cm_world.specs.declared.reply.Reply.{Reply}
+use Rattle.cm_world.specs.declared.reply.Reply.TheVariants as reply
+
+-- a disk, and what the machine is at
+pub record State : Type 0 where
+  pub disk : SimDisk
+  pub machine : Machine
+
+-- ---- replies
+
+abbrev pub command_reply : Result ℕ Refusal → Reply
+command_reply (Ok number) = reply.Accepted number
+command_reply (Err refusal) = reply.Refused refusal
+
+abbrev pub seal_reply : {E : Type 0} → Result (Option Sealed) E → Reply
+seal_reply (Ok (Some group)) = reply.Sealed group
+seal_reply (Ok None) = reply.NothingToSeal
+seal_reply (Err e) = reply.NoMemory
+
+abbrev pub advance_reply : Result Progress AdvanceFault → Reply
+advance_reply (Ok progress.Idle) = reply.Idle
+advance_reply (Ok progress.Working) = reply.Working
+advance_reply (Ok (progress.Done receipt)) = reply.Done receipt.number
+advance_reply (Err fault.Device) = reply.DeviceFailed
+advance_reply (Err fault.Broken) = reply.Broken
+
+-- ---- events
+
+-- a command is answered as the machine answers the change of classes that it asks for
+pub record Commanded (sizes : Sizes) (asked : Change (List ℕ)) (r : Reply) (before after : State)
+    : Type 0 where
+  pub result : Result ℕ Refusal
+  pub reply_is : r ≡ command_reply result
+  pub change : Change ClassFile
+  pub asks : Asks asked change
+  pub answers : Answers sizes before.machine change result after.machine
+  pub disk_stays : after.disk ≡ before.disk
+
+pub record HandedOut (r : Reply) (before after : State) : Type 0 where
+  pub result : Result (Option Sealed) AllocError
+  pub reply_is : r ≡ seal_reply result
+  pub seals : Sealing before.machine result after.machine
+  pub disk_stays : after.disk ≡ before.disk
+
+-- a device fault is told only where the device's count of failures rose
+pub record Advanced (r : Reply) (before after : State) : Type 0 where
+  pub result : Result Progress AdvanceFault
+  pub reply_is : r ≡ advance_reply result
+  pub advances : Advancing before.machine result after.machine
+  pub no_call : IsNoCall result → after.disk ≡ before.disk
+  pub cause : HasRisen (sim_failures before.disk) (sim_failures after.disk) result
+
+pub record Learnt (r : Reply) (before after : State) : Type 0 where
+  pub number : ℕ
+  pub reply_is : r ≡ reply.Learnt number
+  pub learns : Learns before.machine number after.machine
+  pub disk_stays : after.disk ≡ before.disk
+
+-- the words of the record that is found, unless an allocation failed
+abbrev pub FindsSame : Option (List ℕ) → Reply → Type 0
+FindsSame words (reply.Found found) = option_map arc_value found ≡ words
+FindsSame words reply.NoMemory = Unit {0}
+FindsSame words other = ⊥
+
+-- what is found is what the machine has
+pub record Looked (sizes : Sizes) (loader class : List ℕ) (r : Reply) (before after : State)
+    : Type 0 where
+  pub words : Option (List ℕ)
+  pub reply_is : FindsSame words r
+  pub finds : Finds sizes before.machine loader class words
+  pub stays : after ≡ before
+
+pub record Armed (stores : ℕ) (r : Reply) (before after : State) : Type 0 where
+  pub reply_is : r ≡ reply.Armed
+  pub machine_stays : after.machine ≡ before.machine
+  pub disk_is : after.disk ≡ record before.disk { armed = Some stores }
+
+-- the file is opened that the disk then holds; all of it is stored
+pub record OpenedAgain (sizes : Sizes) (r : Reply) (opened : SimDisk) (before after : State)
+    : Type 0 where
+  pub reopens : Reopening sizes before.machine (sim_contents opened) after.machine
+  pub reply_is : r ≡ reply.Opened reopens.number
+  pub contents_stay : sim_contents after.disk ≡ sim_contents opened
+  pub stored : IsSettled (sim_contents after.disk) (sim_unsynced after.disk)
+
+-- the disk that the event's device calls begin with: a crash leaves another than there was, which
+-- holds the chosen image
+pub record IsLeft (length : ℕ) (fill : List ℕ) (disk left : SimDisk) : Type 0 where
+  pub chosen : IsChosen (sim_contents disk) (sim_unsynced disk) length fill (sim_contents left)
+  pub fresh : IsFresh left
+
+abbrev pub BeginsWith : Event → SimDisk → SimDisk → Type 0
+BeginsWith (event.Crash choice) disk begun = IsLeft choice.len choice.fill.items disk begun
+BeginsWith event.Reopen disk begun = begun ≡ record disk { armed = None }
+BeginsWith other disk begun = begun ≡ disk
+
+abbrev pub Does : Sizes → Event → Reply → SimDisk → State → State → Type 0
+Does sizes (event.Accept command) r begun before after =
+    Commanded sizes (change_asked command) r before after
+Does sizes event.Seal r begun before after = HandedOut r before after
+Does sizes event.Advance r begun before after = Advanced r before after
+Does sizes event.Learn r begun before after = Learnt r before after
+Does sizes (event.Look loader class) r begun before after =
+    Looked sizes loader.now class.now r before after
+Does sizes (event.Fault stores) r begun before after = Armed stores r before after
+Does sizes event.Reopen r begun before after = OpenedAgain sizes r begun before after
+Does sizes (event.Crash choice) r begun before after = OpenedAgain sizes r begun before after
+
+-- One event. At each moment of it, a crash leaves contents that stand for the loaders and classes
+-- after some number of the accepted commands: no fewer than were acknowledged before it, and no more
+-- than were handed out. After it, so do they for what is acknowledged and handed out by then.
+pub record IsStep (sizes : Sizes) (e : Event) (r : Reply) (before after : State) : Type 0 where
+  pub begun : SimDisk
+  pub begins : BeginsWith e before.disk begun
+  pub does : Does sizes e r begun before after
+  pub moments : LeavesOnly sim_moment sim_left_since begun after.disk
+      (StandsForSome sizes before.machine)
+  pub images : EachImage (sim_contents after.disk) (sim_unsynced after.disk)
+      (StandsForSome sizes after.machine)

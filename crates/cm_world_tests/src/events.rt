@@ -1,0 +1,218 @@
+//! Events one after another, with what is replied to each.
+
+use cm_disk::Choice;
+use cm_pool::Geometry;
+use cm_prepare::{Command, Prepared, Refusal, prepare};
+use cm_world::{Event, Reply, World};
+use std::alloc::Global;
+use std::test::*;
+
+/// The class `A`, whose record has 16 words.
+const CLASS_A: &[u8] = b"cafebabe000000340005070002010001410700040100106a6176612f6c616e672f4f\
+    626a6563740021000100030000000000000000";
+
+/// An event: its loader is `a`, its class `A`; a crash leaves all bytes that were written.
+#[derive(Clone, Copy, Debug)]
+enum Happens {
+    Loader,
+    Define,
+    Unload,
+    Seal,
+    Advance,
+    Learn,
+    Look,
+    Fault,
+    Reopen,
+    Crash,
+}
+
+/// A reply, a class by the words of its record.
+#[derive(Clone, Copy, Debug, PartialEq, Eq)]
+enum Told {
+    Number(u64),
+    Refused(Refusal),
+    Group(u64, u64),
+    Nothing,
+    NoMemory,
+    Idle,
+    Working,
+    Done(u64),
+    DeviceFailed,
+    Broken,
+    Learnt(u64),
+    Words(u32),
+    Armed,
+    Opened(u64),
+}
+
+fn class(alloc: Global) -> Result<Prepared, Fail> {
+    let bytes = hex::decode(alloc, CLASS_A)?;
+    match prepare(alloc, &bytes) {
+        Ok(class) => Ok(class),
+        Err(_) => Err("a class".into()),
+    }
+}
+
+fn event(alloc: Global, class: &Prepared, happens: Happens) -> Result<Event<'static>, Fail> {
+    Ok(match happens {
+        Happens::Loader => Event::Accept(Command::AddLoader(b"a")),
+        Happens::Define => Event::Accept(Command::Define(b"a", class.share()?)),
+        Happens::Unload => Event::Accept(Command::Unload(b"a")),
+        Happens::Seal => Event::Seal,
+        Happens::Advance => Event::Advance,
+        Happens::Learn => Event::Learn,
+        Happens::Look => Event::Look(b"a", b"A"),
+        Happens::Fault => Event::Fault(0),
+        Happens::Reopen => Event::Reopen,
+        Happens::Crash => Event::Crash(Choice {
+            len: 1 << 20,
+            fill: Vec::new(alloc),
+        }),
+    })
+}
+
+fn summary(reply: &Reply) -> Told {
+    match reply {
+        Reply::Accepted(number) => Told::Number(*number),
+        Reply::Refused(refusal) => Told::Refused(*refusal),
+        Reply::Sealed(group) => Told::Group(group.first, group.last),
+        Reply::NothingToSeal => Told::Nothing,
+        Reply::NoMemory => Told::NoMemory,
+        Reply::Idle => Told::Idle,
+        Reply::Working => Told::Working,
+        Reply::Done(number) => Told::Done(*number),
+        Reply::DeviceFailed => Told::DeviceFailed,
+        Reply::Broken => Told::Broken,
+        Reply::Learnt(number) => Told::Learnt(*number),
+        Reply::Found(Some(record)) => Told::Words(record.words()),
+        Reply::Found(None) => Told::Words(0),
+        Reply::Armed => Told::Armed,
+        Reply::Opened(number) => Told::Opened(*number),
+    }
+}
+
+fn events(alloc: Global, list: &[Happens]) -> Result<Vec<Event<'static>>, Fail> {
+    let class = class(alloc)?;
+    let mut events = Vec::new(alloc);
+    for happens in list {
+        events.push(event(alloc, &class, *happens)?)?;
+    }
+    Ok(events)
+}
+
+// What is replied to events over a file of two roots of 1,024 words and of 256 slots in each half.
+fn replies(alloc: Global, list: &[Happens]) -> Result<Vec<Told>, Fail> {
+    let geometry = Geometry::new(3, 2, 256).ok_or("within the limits")?;
+    let events = events(alloc, list)?;
+    let Ok((replies, world)) = World::run(alloc, geometry, events) else {
+        return Err("no file is damaged".into());
+    };
+    let _disk = world.into_disk();
+    let mut list = Vec::new(alloc);
+    for reply in &replies {
+        list.push(summary(reply))?;
+    }
+    Ok(list)
+}
+
+/// A loader, stored by four device calls; and a class in it, handed out.
+const HANDED_OUT: &[Happens] = &[
+    Happens::Loader,
+    Happens::Seal,
+    Happens::Advance,
+    Happens::Advance,
+    Happens::Advance,
+    Happens::Advance,
+    Happens::Define,
+    Happens::Seal,
+];
+
+// The last two replies where a crash comes behind so many device calls of the class's group, and it
+// is looked up then.
+fn crashed(alloc: Global, calls: usize) -> Result<Vec<Told>, Fail> {
+    let mut list = Vec::new(alloc);
+    list.extend_from_slice(HANDED_OUT)?;
+    for _call in 0..calls {
+        list.push(Happens::Advance)?;
+    }
+    list.push(Happens::Crash)?;
+    list.push(Happens::Look)?;
+    let told = replies(alloc, &list)?;
+    let mut last = Vec::new(alloc);
+    last.extend_from_slice(told.get(HANDED_OUT.len() + calls..).ok_or("two more")?)?;
+    Ok(last)
+}
+
+#[test]
+fn a_group_is_there_once_its_gate_is(rt: HostRuntime) -> Result<(), Fail> {
+    let alloc = rt.alloc();
+    // zeros of a root, the record, the slots, a sync, the gate, a sync
+    for (calls, number, words) in [
+        (0, 1, 0),
+        (1, 1, 0),
+        (2, 1, 0),
+        (3, 1, 0),
+        (4, 1, 0),
+        (5, 2, 16),
+        (6, 2, 16),
+    ] {
+        let expected = [Told::Opened(number), Told::Words(words)];
+        let told = crashed(alloc, calls)?;
+        assert_eq!(rt;
+            told.as_slice(),
+            expected.as_slice(),
+            "behind {calls} calls"
+        );
+    }
+    Ok(())
+}
+
+#[test]
+fn commands_are_stored_call_by_call(rt: HostRuntime) -> Result<(), Fail> {
+    let list = [
+        (Happens::Seal, Told::Nothing),
+        (Happens::Advance, Told::Idle),
+        (Happens::Define, Told::Refused(Refusal::NoLoader)),
+        (Happens::Loader, Told::Number(1)),
+        (Happens::Loader, Told::Refused(Refusal::LoaderExists)),
+        (Happens::Define, Told::Number(2)),
+        (Happens::Look, Told::Words(16)),
+        (Happens::Learn, Told::Learnt(0)),
+        (Happens::Seal, Told::Group(1, 2)),
+        (Happens::Advance, Told::Working),
+        (Happens::Advance, Told::Working),
+        (Happens::Advance, Told::Working),
+        (Happens::Advance, Told::Working),
+        (Happens::Advance, Told::Working),
+        (Happens::Advance, Told::Done(2)),
+        (Happens::Advance, Told::Idle),
+        (Happens::Learn, Told::Learnt(2)),
+        (Happens::Unload, Told::Number(3)),
+        (Happens::Look, Told::Words(0)),
+        (Happens::Reopen, Told::Opened(2)),
+        (Happens::Look, Told::Words(16)),
+    ];
+    let told = replies(rt.alloc(), &list.map(|(happens, _)| happens))?;
+    assert_eq!(rt; told.as_slice(), list.map(|(_, told)| told).as_slice());
+    Ok(())
+}
+
+#[test]
+fn a_failed_call_breaks_the_cache_until_it_is_opened_again(rt: HostRuntime) -> Result<(), Fail> {
+    let list = [
+        (Happens::Loader, Told::Number(1)),
+        (Happens::Seal, Told::Group(1, 1)),
+        (Happens::Fault, Told::Armed),
+        (Happens::Advance, Told::DeviceFailed),
+        (Happens::Advance, Told::Broken),
+        (Happens::Define, Told::Number(2)),
+        (Happens::Learn, Told::Learnt(0)),
+        (Happens::Define, Told::Refused(Refusal::Broken)),
+        (Happens::Look, Told::Words(16)),
+        (Happens::Reopen, Told::Opened(0)),
+        (Happens::Loader, Told::Number(1)),
+    ];
+    let told = replies(rt.alloc(), &list.map(|(happens, _)| happens))?;
+    assert_eq!(rt; told.as_slice(), list.map(|(_, told)| told).as_slice());
+    Ok(())
+}
