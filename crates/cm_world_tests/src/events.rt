@@ -139,7 +139,8 @@ fn crashed(alloc: Global, calls: usize) -> Result<Vec<Told>, Fail> {
     list.push(Happens::Look)?;
     let told = replies(alloc, &list)?;
     let mut last = Vec::new(alloc);
-    last.extend_from_slice(told.get(HANDED_OUT.len() + calls..).ok_or("two more")?)?;
+    let from = told.len().saturating_sub(2);
+    last.extend_from_slice(told.get(from..).ok_or("two more")?)?;
     Ok(last)
 }
 
