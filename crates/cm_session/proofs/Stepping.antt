@@ -1,8 +1,8 @@
 -- One step of the committer, for the machine.
 use Rattle.std.proofs.Common.{cond, ◌≡◌, ℕ, ◌+◌, ◌≤◌, ◌<◌, ◌^◌, Bool, true, false, List, [], ◌∷◌, ◌++◌, length}
 use Rattle.std.proofs.Common.{map, Option, Some, None, Result, Ok, Err, refl, sym, ap, subst, ◌∙◌, arith}
-use Rattle.std.proofs.Common.{append_assoc}
-use Rattle.std.specs.Prelude.{◌||◌}
+use Rattle.std.proofs.Common.{append_assoc, inl, inr}
+use Rattle.std.specs.Prelude.{◌||◌, ◌↔◌, IsOk, OnOk, OnErr}
 use Rattle.std.proofs.lemmas.List.{length-append}
 use Rattle.cm_group.specs.declared.receipt.Receipt.{Receipt}
 use Rattle.cm_group.specs.Groups.{Carried, Handed, IsGroup, slots_taken}
@@ -10,7 +10,7 @@ use Rattle.cm_commit.specs.declared.progress.Progress.TheVariants.{Idle, Working
 use Rattle.cm_commit.specs.declared.progress.AdvanceFault.TheVariants.{Device, Broken}
 use Rattle.cm_commit.specs.Plans.{Stage, calls_left, after_call}
 use Rattle.cm_commit.specs.Offers.{filled, rows_after_group, MayCome}
-use Rattle.cm_commit.specs.States.{CommitterState, Takes}
+use Rattle.cm_commit.specs.States.{CommitterState, Takes, with_taken}
 use Rattle.cm_commit.specs.declared.progress.Progress.{Progress}
 use Rattle.cm_commit.specs.declared.progress.AdvanceFault.{AdvanceFault}
 use Rattle.cm_commit.specs.Advances.{Rests, Works, Finishes, Breaks, StaysBroken, Advances}
@@ -22,8 +22,18 @@ use Rattle.cm_machine.specs.Following.{Follows}
 use Rattle.cm_machine.specs.Laws.{CommittedFollows, FollowsFront}
 use Rattle.cm_machine.specs.Machine.{Machine}
 use Rattle.cm_session.specs.Session.{of_underway, commands_of, GoBehind, IsBusyWith, IsSession}
-use Rattle.cm_session.specs.Moves.{Leads, Advancing, is_device}
+use Rattle.cm_session.specs.Moves.{Leads, Advancing, is_device, MayTake}
 use Rattle.cm_session.proofs.Handing.{same_commands}
+
+-- ---- what is taken
+
+pub may_take : {D : Type 0} {E : Type 0} (contents : D → List ℕ) (old new : CommitterState D)
+    (group : Handed) (result : Result (Unit {0}) E) → (IsOk result ↔ Takes old group)
+    → OnOk result (new ≡ with_taken contents old group) → OnErr result (new ≡ old)
+    → MayTake contents old new
+may_take contents old new group (Ok x) takes taken same =
+    inr ((takes.0 refl).idle, group, taken)
+may_take contents old new group (Err e) takes taken same = inl same
 
 -- ---- what is under way
 

@@ -11,6 +11,9 @@ use Rattle.cm_commit.specs.declared.progress.Progress.{Progress}
 use Rattle.cm_commit.specs.declared.progress.Progress.TheVariants.{Idle, Working, Done}
 use Rattle.cm_commit.specs.declared.progress.AdvanceFault.{AdvanceFault}
 use Rattle.cm_commit.specs.declared.progress.AdvanceFault.TheVariants.{Device, Broken}
+use Rattle.cm_group.specs.Groups.{Handed}
+use Rattle.cm_commit.specs.States.{CommitterState, with_taken}
+use Rattle.cm_commit.specs.Advances.{Advances}
 use Rattle.cm_recover.specs.declared.opening.NotOpened.{NotOpened}
 use Rattle.cm_recover.specs.declared.fault.OpenFault.{OpenFault}
 use Rattle.cm_recover.specs.declared.fault.OpenFault.TheVariants as open_fault
@@ -80,6 +83,20 @@ IsNoCall (Ok Working) = ⊥
 IsNoCall (Ok (Done receipt)) = ⊥
 IsNoCall (Err Device) = ⊥
 IsNoCall (Err Broken) = Unit {0}
+
+-- the committer is as it was, or it had no group under way and took one
+abbrev pub MayTake : {D : Type 0} → (D → List ℕ) → CommitterState D → CommitterState D → Type 0
+MayTake contents old begun =
+    (begun ≡ old)
+    ⊎ ((old.underway ≡ None) × (group : Handed) × (begun ≡ with_taken contents old group))
+
+-- The committer may first take a group, and then makes one step: exactly one device call where some
+-- is left.
+pub record Steps {D : Type 0} (contents : D → List ℕ) (old : CommitterState D)
+    (result : Result Progress AdvanceFault) (new : CommitterState D) : Type 0 where
+  pub begun : CommitterState D
+  pub takes : MayTake contents old begun
+  pub moved : Advances begun result new
 
 -- the device failed in this call
 abbrev pub is_device : Result Progress AdvanceFault → Bool

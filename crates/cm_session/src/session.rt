@@ -11,7 +11,7 @@ ghost use Rattle.cm_machine.specs.Machine.{Machine};
 ghost use Rattle.cm_machine.specs.Laws.{Finds};
 ghost use Rattle.cm_session.specs.Images.{StandsForSome};
 ghost use Rattle.cm_session.specs.Moves.{GoesWith, Leads, Accepting, Sealing, Advancing, Learns};
-ghost use Rattle.cm_session.specs.Moves.{IsAsked, IsNoCall, is_device};
+ghost use Rattle.cm_session.specs.Moves.{IsAsked, IsNoCall, is_device, MayTake, Steps};
 
 use crate::joining::join_queued;
 use cm_commit::{AdvanceFault, Committer, Progress};
@@ -132,6 +132,7 @@ impl<D: Disk> Session<D> {
             → self.new.committer.underway ≡ None → self.new.queue.items ≡ [] }
         ensures disk { self.new.committer.disk ≡ self.old.committer.disk }
         ensures sizes { self.new.committer.sizes ≡ self.old.committer.sizes }
+        ensures takes { MayTake D.contents self.old.committer self.new.committer }
     {
         handed_groups_are_next();
         if self.has_failed {
@@ -159,6 +160,7 @@ impl<D: Disk> Session<D> {
             (D.failures self.new.committer.disk) result }
         ensures no_call { IsNoCall result → self.new.committer.disk ≡ self.old.committer.disk }
         ensures sizes { self.new.committer.sizes ≡ self.old.committer.sizes }
+        ensures steps { Steps D.contents self.old.committer result self.new.committer }
     {
         committed_rows_are_the_machines();
         handed_groups_are_next();

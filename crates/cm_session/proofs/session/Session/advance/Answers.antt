@@ -35,3 +35,10 @@ returns-clause-any_moment g c =
     (stands_for_some laws.committed laws.counted laws.rows k s.front s.committer s.queue.items
     s.sealed s.has_failed (c.offer_next.ensures.machine k i))
     c.advance-progress.ensures.any_moment))
+
+pub returns-clause-steps : goal.returns-clause-steps
+returns-clause-steps g c = record {
+  begun = c.offer_next.new.self.committer;
+  takes = c.offer_next.ensures.takes;
+  moved = c.advance-progress.ensures.moved;
+}

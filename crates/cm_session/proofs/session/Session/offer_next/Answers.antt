@@ -4,7 +4,7 @@ use Rattle.cm_commit.specs.Plans.{calls_left}
 use Rattle.cm_commit.specs.States.{CommitterState, with_taken}
 use Rattle.cm_session.specs.Session.{commands_of, GoBehind, IsSession}
 use Rattle.cm_session.proofs.Handing.{on_ok}
-use Rattle.cm_session.proofs.Stepping.{takes, is_taken, no_calls, none_busy, not_none}
+use Rattle.cm_session.proofs.Stepping.{takes, is_taken, no_calls, none_busy, not_none, may_take}
 use Rattle.cm_session.proofs.session.Session.offer_next.Goals as goal
 
 pub returns-clause-machine : goal.returns-clause-machine
@@ -53,3 +53,9 @@ returns-clause-taken g c =
     c.offer-taken.ensures.taken in
     absurd (not_none group c.offer-taken.new.self.underway
     (ap (λ (z : CommitterState _). z.underway) taken) none_now)
+
+pub returns-clause-takes : goal.returns-clause-takes
+returns-clause-takes g c =
+    may_take g.D.Disk.contents c.args.self.now.committer c.offer-taken.new.self
+    c.join_queued-group.result c.offer-taken.result c.offer-taken.ensures.takes
+    c.offer-taken.ensures.taken c.offer-taken.ensures.same
