@@ -3,7 +3,7 @@ use Rattle.std.proofs.Common.{◌≡◌, ℕ, suc, ◌+◌, ◌^◌, Bool, true,
 use Rattle.std.proofs.Common.{length, map, take, Option, Some, None, Result, Ok, Err, inl, inr}
 use Rattle.std.proofs.Common.{refl}
 use Rattle.std.proofs.Common.{sym, ap, subst, ◌∙◌, ◌<◌, arith, append-nil, append_assoc}
-use Rattle.std.specs.Prelude.{◌⊎◌}
+use Rattle.std.specs.Prelude.{◌⊎◌, ◌-◌}
 use Rattle.std.specs.Option.{option_map}
 use Rattle.std.proofs.lemmas.List.{length-append, map-append, length-take-le}
 use Rattle.std.proofs.Math.Seq.{take-append_seam}
@@ -29,7 +29,7 @@ use Rattle.cm_front.specs.Front.{FrontState, IsFront, is_half_full, first_refusa
 use Rattle.cm_front.specs.Accepting.{Accepts, IsFullFor, SpaceAfter, accepted, carried}
 use Rattle.cm_handover.specs.Ahead.{IsAhead, pending}
 use Rattle.cm_handover.proofs.Accepted.{filled_again, pending_accepted}
-use Rattle.cm_machine.specs.Machine.{Machine, Holds, Asks, WantsRoom}
+use Rattle.cm_machine.specs.Machine.{Base, Machine, Holds, Asks, WantsRoom, commands_to}
 use Rattle.cm_machine.specs.Machine.{IsReason as IsMachineReason, Accepts as MachineAccepts}
 use Rattle.cm_machine.specs.Following.{IsRightEntry, Make, Follows}
 use Rattle.cm_machine.specs.Laws.{FollowsFront, IsAccepted, AcceptedIsMade, RefusedIsRefused}
@@ -431,30 +431,40 @@ commands_are_counted sizes k rows number pend f =
     let makes = makes_as_many sizes f.classes number f.entries f.rest f.make in
     let entries : length pend ≡ length f.entries =
     sym (map_length filled pend) ∙ (sym (ap length f.words) ∙ map_length (entry_with lay) f.entries) in
-    sym (ap length f.commands) ∙ omega (arith, count, both, makes, entries)
+    let all = ap length f.commands in
+    omega (arith, all, count, both, makes, entries)
 
 pub rows_are_after : RowsAreAfter
 rows_are_after sizes k rows number pend f = record {
   classes = f.classes;
   are = f.are;
-  holds = subst (λ l. Holds sizes l (state_of class_shows f.classes)) (sym first) f.holds;
+  least = let count = f.count in omega (arith, count);
+  holds = subst (λ l. Holds sizes k.base l (state_of class_shows f.classes)) (sym first) f.holds;
 }
   where
-    first : take number k.commands ≡ f.first
+    long : number - k.base.number ≡ length f.first
+    long = let count = f.count in omega (arith, count)
+
+    first : commands_to number k ≡ f.first
     first =
-        ap (take number) (sym f.commands)
-        ∙ (ap (λ n. take n (f.first ++ f.rest)) (sym f.count) ∙ take-append_seam f.first f.rest)
+        ap (take (number - k.base.number)) (sym f.commands)
+        ∙ (ap (λ n. take n (f.first ++ f.rest)) long ∙ take-append_seam f.first f.rest)
 
 pub opened_follows : OpenedFollows
-opened_follows sizes k after rows number is commands to = record {
+opened_follows sizes k after rows number is base commands to = record {
   classes = is.classes;
   are = is.are;
   entries = [];
   words = refl;
-  first = take number k.commands;
+  first = commands_to number k;
   rest = [];
-  commands = append-nil (take number k.commands) ∙ sym commands;
-  count = length-take-le number k.commands to;
-  holds = is.holds;
+  commands = append-nil (commands_to number k) ∙ sym commands;
+  count =
+      ap (λ (b : Base). b.number + length (commands_to number k)) base
+      ∙ (let least = is.least in
+      let long = length-take-le (number - k.base.number) k.commands (omega (arith, to)) in
+      omega (arith, least, long));
+  holds = subst (λ b. Holds sizes b (commands_to number k) (state_of class_shows is.classes))
+      (sym base) is.holds;
   make = tt;
 }

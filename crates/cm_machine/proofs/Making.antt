@@ -17,7 +17,7 @@ use Rattle.cm_state.specs.Fold.{fold}
 use Rattle.cm_state.specs.Entries.{AreCacheRows}
 use Rattle.cm_state.specs.Laws.{EntriesAreSteps, ChangesGoOn}
 use Rattle.cm_commit.specs.Offers.{filled, rows_after_group}
-use Rattle.cm_machine.specs.Machine.{Machine, Holds}
+use Rattle.cm_machine.specs.Machine.{Base, Machine, Holds, accepted_to}
 use Rattle.cm_machine.specs.Following.{AreRight, Make, Follows}
 use Rattle.cm_machine.proofs.Classes.{ClassRows, after_words, right_after}
 
@@ -155,16 +155,17 @@ words_after_all rows (e ∷ entries) =
     words_after_all (rows_after rows e) entries
     ∙ ap (λ l. rows_after_all l (map (entry_with lay) entries)) (after_words rows e)
 
--- ---- from the empty cache on
+-- ---- from the base on
 
-pub holds_more : ChangesGoOn → (sizes : Sizes) (first rest : List (Change ClassFile)) (m k : _)
-    → Holds sizes first m
-    → fold class_shows sizes m (length first) rest ≡ Some (k, length first + length rest)
-    → Holds sizes (first ++ rest) k
-holds_more on sizes first rest m k h f =
-    on sizes _ 0 first rest
+pub holds_more : ChangesGoOn → (sizes : Sizes) (base : Base) (first rest : List (Change ClassFile))
+    (m k : _) → Holds sizes base first m
+    → fold class_shows sizes m (base.number + length first) rest
+    ≡ Some (k, base.number + length first + length rest)
+    → Holds sizes base (first ++ rest) k
+holds_more on sizes base first rest m k h f =
+    on sizes base.state base.number first rest
     ∙ (ap (option_and_then (λ p. fold class_shows sizes p.0 p.1 rest)) h
-    ∙ (f ∙ ap (λ n. Some (k, n)) (sym (length-append first rest))))
+    ∙ (f ∙ ap (λ n. Some (k, n)) (let more = length-append first rest in omega (arith, more))))
 
 -- ---- following
 
@@ -175,8 +176,9 @@ pub record Whole {sizes : Sizes} {k : Machine} {rows : List (Row (List ℕ))} {n
   pub right : AreRight (rows_after_all f.classes f.entries)
   pub cache : AreCacheRows class_shows sizes (number + length waits) (rows_after_all f.classes
       f.entries)
-  pub count : length k.commands ≡ number + length waits
-  pub holds : Holds sizes k.commands (state_of class_shows (rows_after_all f.classes f.entries))
+  pub count : accepted_to k ≡ number + length waits
+  pub holds : Holds sizes k.base k.commands
+      (state_of class_shows (rows_after_all f.classes f.entries))
 
 pub map_length : {A B : Type 0} (f : A → B) (xs : List A) → length (map f xs) ≡ length xs
 map_length f [] = refl
@@ -201,11 +203,13 @@ whole steps on sizes k rows number waits f to =
       cache = subst (λ n. AreCacheRows class_shows sizes n (rows_after_all f.classes f.entries))
           (omega (arith, long)) led.cache;
       count =
-          sym (ap length f.commands)
-          ∙ (length-append f.first f.rest ∙ omega (arith, count, as_many, long));
-      holds = subst (λ l. Holds sizes l (state_of class_shows (rows_after_all f.classes f.entries)))
+          let all = ap length f.commands in
+          let more = length-append f.first f.rest in
+          omega (arith, all, more, count, as_many, long);
+      holds = subst (λ l. Holds sizes k.base l
+          (state_of class_shows (rows_after_all f.classes f.entries)))
           f.commands
-          (holds_more on sizes f.first f.rest (state_of class_shows f.classes) _ f.holds
+          (holds_more on sizes k.base f.first f.rest (state_of class_shows f.classes) _ f.holds
           (subst (λ n. fold class_shows sizes (state_of class_shows f.classes) n f.rest
           ≡ Some (state_of class_shows (rows_after_all f.classes f.entries), n + length f.rest))
           (sym f.count) led.folds));
@@ -242,7 +246,7 @@ committed steps on sizes k rows number group rest f to = record {
       let more = length-append f.first s.front in
       let as_many = led.as_many in
       omega (arith, count, more, as_many, long);
-  holds = holds_more on sizes f.first s.front (state_of class_shows f.classes) _ f.holds
+  holds = holds_more on sizes k.base f.first s.front (state_of class_shows f.classes) _ f.holds
       (subst (λ n. fold class_shows sizes (state_of class_shows f.classes) n s.front
       ≡ Some (state_of class_shows (rows_after_all f.classes p.front), n + length s.front))
       (sym f.count) led.folds);

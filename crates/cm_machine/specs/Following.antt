@@ -56,6 +56,6 @@ pub record Follows (sizes : Sizes) (k : Machine) (rows : List (Row (List ℕ))) 
   pub first : List (Change ClassFile)
   pub rest : List (Change ClassFile)
   pub commands : first ++ rest ≡ k.commands
-  pub count : length first ≡ number
-  pub holds : Holds sizes first (state_of class_shows classes)
+  pub count : k.base.number + length first ≡ number
+  pub holds : Holds sizes k.base first (state_of class_shows classes)
   pub make : Make sizes classes number entries rest

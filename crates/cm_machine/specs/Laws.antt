@@ -1,6 +1,6 @@
 -- The accepted cache does what the machine does.
 use Rattle.std.specs.Prelude.{◌≡◌, ℕ, ◌+◌, ◌^◌, ◌≤◌, ◌⊎◌, true, false, List, [], ◌++◌, length}
-use Rattle.std.specs.Prelude.{map, take, Option, Ok, Err}
+use Rattle.std.specs.Prelude.{map, Option, Ok, Err}
 use Rattle.std.specs.Option.{option_map}
 use Rattle.cm_class.specs.declared.class_file.ClassFile.{ClassFile}
 use Rattle.cm_pool.specs.Geometry.{Sizes}
@@ -16,6 +16,7 @@ use Rattle.cm_front.specs.Front.{FrontState, IsFront}
 use Rattle.cm_front.specs.Accepting.{Answers}
 use Rattle.cm_handover.specs.Ahead.{IsAhead, pending}
 use Rattle.cm_machine.specs.Machine.{Machine, Holds, Asks, Accepts, Refuses}
+use Rattle.cm_machine.specs.Machine.{accepted_to, commands_to}
 use Rattle.cm_machine.specs.Following.{Follows, AreClasses}
 
 -- the machine's commands are those of a cache that is ahead of committed rows
@@ -59,7 +60,7 @@ RefusedIsRefused =
 pub record Finds (sizes : Sizes) (k : Machine) (loader class : List ℕ)
     (found : Option (List ℕ)) : Type 0 where
   pub state : CacheState
-  pub holds : Holds sizes k.commands state
+  pub holds : Holds sizes k.base k.commands state
   pub is : found ≡ option_map lay (class_in state loader class)
 
 abbrev pub FoundIsThere : Type 0
@@ -83,14 +84,15 @@ CommittedFollows =
 abbrev pub CommandsAreCounted : Type 0
 CommandsAreCounted =
     (sizes : Sizes) (k : Machine) (rows : List (Row (List ℕ))) (number : ℕ) (waits : List Carried)
-    → Follows sizes k rows number (map filled waits) → length k.commands ≡ number + length waits
+    → Follows sizes k rows number (map filled waits) → accepted_to k ≡ number + length waits
 
 -- Rows with a number are the state after as many of the machine's commands.
 pub record IsAfter (sizes : Sizes) (k : Machine) (rows : List (Row (List ℕ)))
     (number : ℕ) : Type 0 where
   pub classes : List (Row ClassFile)
   pub are : AreClasses sizes number rows classes
-  pub holds : Holds sizes (take number k.commands) (state_of class_shows classes)
+  pub least : k.base.number ≤ number
+  pub holds : Holds sizes k.base (commands_to number k) (state_of class_shows classes)
 
 abbrev pub RowsAreAfter : Type 0
 RowsAreAfter =
@@ -101,5 +103,5 @@ RowsAreAfter =
 abbrev pub OpenedFollows : Type 0
 OpenedFollows =
     (sizes : Sizes) (k next : Machine) (rows : List (Row (List ℕ))) (number : ℕ)
-    → IsAfter sizes k rows number → next.commands ≡ take number k.commands
-    → number ≤ length k.commands → Follows sizes next rows number []
+    → IsAfter sizes k rows number → next.base ≡ k.base → next.commands ≡ commands_to number k
+    → number ≤ accepted_to k → Follows sizes next rows number []

@@ -1,7 +1,8 @@
 -- The cache as an abstract machine: which commands were accepted, how many of them were handed out,
 -- and how many surely live on. There are no chunks here, no journal and no offsets.
-use Rattle.std.specs.Prelude.{◌≡◌, ℕ, ◌+◌, ◌<◌, ◌≤◌, ◌⊎◌, Bool, false, List, [], ◌∷◌, ◌++◌}
+use Rattle.std.specs.Prelude.{◌≡◌, ℕ, ◌+◌, ◌-◌, ◌<◌, ◌≤◌, ◌⊎◌, Bool, false, List, [], ◌∷◌, ◌++◌}
 use Rattle.std.specs.Prelude.{length, take, Some, Result, Ok, Err}
+use Rattle.std.specs.FinMap as map
 use Rattle.cm_class.specs.declared.class_file.ClassFile.{ClassFile}
 use Rattle.cm_pool.specs.Geometry.{Sizes}
 use Rattle.cm_record.specs.Layout.{lay, limit}
@@ -12,26 +13,52 @@ use Rattle.cm_prepare.specs.Refusals.{refusal_of}
 use Rattle.cm_rules.specs.Keeps.{KeepsRules}
 use Rattle.cm_state.specs.State.{CacheState, class_shows}
 use Rattle.cm_state.specs.Step.{Change, AddLoader, Define, Unload, Tighten, Cause, step}
-use Rattle.cm_state.specs.Fold.{fold_from_empty}
+use Rattle.cm_state.specs.Fold.{fold}
+
+-- what the cache held before the first command, and the number of the last one before that
+pub record Base : Type 0 where
+  pub state : CacheState
+  pub number : ℕ
 
 pub record Machine : Type 0 where
-  -- the accepted commands in order: each has the number of its place, from 1 on
+  pub base : Base
+  -- the accepted commands in order: each has the number of its place behind the base's
   pub commands : List (Change ClassFile)
-  -- how many of them are acknowledged, and how many were handed out
+  -- the number up to which they are acknowledged, and the one up to which they were handed out
   pub acknowledged : ℕ
   pub sealed : ℕ
   -- the device failed since the file was opened, and this was noticed
   pub failed : Bool
   pub noticed : Bool
 
--- nothing was accepted yet
+-- nothing was accepted yet of a cache that holds this
+abbrev pub machine_from : Base → Machine
+machine_from base = record {
+  base = base;
+  commands = [];
+  acknowledged = base.number;
+  sealed = base.number;
+  failed = false;
+  noticed = false;
+}
+
+-- nothing was accepted yet of an empty cache
 abbrev pub empty_machine : Machine
-empty_machine =
-    record { commands = []; acknowledged = 0; sealed = 0; failed = false; noticed = false }
+empty_machine = machine_from (record { state = map.empty; number = 0 })
+
+-- the number of the last command that was accepted
+abbrev pub accepted_to : Machine → ℕ
+accepted_to k = k.base.number + length k.commands
+
+-- the commands up to the one of this number
+abbrev pub commands_to : ℕ → Machine → List (Change ClassFile)
+commands_to number k = take (number - k.base.number) k.commands
 
 -- what a cache holds after commands
-abbrev pub Holds : Sizes → List (Change ClassFile) → CacheState → Type 0
-Holds sizes commands m = fold_from_empty class_shows sizes commands ≡ Some (m, length commands)
+abbrev pub Holds : Sizes → Base → List (Change ClassFile) → CacheState → Type 0
+Holds sizes base commands m =
+    fold class_shows sizes base.state base.number commands
+    ≡ Some (m, base.number + length commands)
 
 -- ---- accepting
 
@@ -52,10 +79,10 @@ Asks (Tighten x) change = change ≡ Tighten x
 pub record Accepts (sizes : Sizes) (k : Machine) (change : Change ClassFile) (number : ℕ)
     (next : Machine) : Type 0 where
   pub state : CacheState
-  pub holds : Holds sizes k.commands state
+  pub holds : Holds sizes k.base k.commands state
   pub after : CacheState
-  pub may : step class_shows sizes state (length k.commands) change ≡ Ok after
-  pub number_is : number ≡ length k.commands + 1
+  pub may : step class_shows sizes state (accepted_to k) change ≡ Ok after
+  pub number_is : number ≡ accepted_to k + 1
   pub next_is : next ≡ record k { commands = k.commands ++ change ∷ [] }
 
 -- a command may be refused for want of room against which no cause stands: in the region, in the
@@ -77,8 +104,8 @@ IsReason (Ok after) change r = WantsRoom change r
 pub record Refuses (sizes : Sizes) (k : Machine) (change : Change ClassFile)
     (r : Refusal) : Type 0 where
   pub state : CacheState
-  pub holds : Holds sizes k.commands state
-  pub reason : IsReason (step class_shows sizes state (length k.commands) change) change r
+  pub holds : Holds sizes k.base k.commands state
+  pub reason : IsReason (step class_shows sizes state (accepted_to k) change) change r
 
 -- ---- handing out, acknowledging, opening again
 
@@ -87,7 +114,7 @@ pub record Seals (k : Machine) (first last : ℕ) (next : Machine) : Type 0 wher
   pub first_is : first ≡ k.sealed + 1
   pub some : first ≤ last
   pub few : last ≤ k.sealed + group_limit
-  pub known : last ≤ length k.commands
+  pub known : last ≤ accepted_to k
   pub next_is : next ≡ record k { sealed = last }
 
 -- commands that were handed out are stored for sure
@@ -101,7 +128,8 @@ pub record Reopens (k : Machine) (number : ℕ) (next : Machine) : Type 0 where
   pub least : k.acknowledged ≤ number
   pub most : number ≤ k.sealed
   pub next_is : next ≡ record {
-    commands = take number k.commands;
+    base = k.base;
+    commands = commands_to number k;
     acknowledged = number;
     sealed = number;
     failed = false;

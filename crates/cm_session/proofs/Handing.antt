@@ -14,7 +14,8 @@ use Rattle.cm_handover.specs.Ahead.{IsAhead, pending}
 use Rattle.cm_handover.specs.Laws.{HandedIsAhead, LearntIsAhead, FailedIsAhead}
 use Rattle.cm_machine.specs.Following.{Follows}
 use Rattle.cm_machine.specs.Laws.{CommandsAreCounted, FollowsFront}
-use Rattle.cm_machine.specs.Machine.{Machine, Seals}
+use Rattle.cm_state.specs.State.{class_shows, state_of}
+use Rattle.cm_machine.specs.Machine.{Base, Machine, Holds, Seals, accepted_to}
 use Rattle.cm_session.specs.Session.{of_underway, commands_of, GoBehind, IsSession}
 use Rattle.cm_session.specs.Moves.{Leads, Learns}
 use Rattle.cm_verdict.proofs.Walks.{slots_many}
@@ -23,9 +24,9 @@ use Rattle.cm_session.proofs.Queued.{commands_more, behind_more}
 -- ---- another machine with the same commands
 
 pub same_commands : {rows : _} {number : ℕ} {waits : _} (sizes : Sizes) (k j : Machine)
-    → j.commands ≡ k.commands → Follows sizes k rows number waits
+    → j.base ≡ k.base → j.commands ≡ k.commands → Follows sizes k rows number waits
     → Follows sizes j rows number waits
-same_commands sizes k j same f = record {
+same_commands sizes k j base same f = record {
   classes = f.classes;
   are = f.are;
   entries = f.entries;
@@ -33,8 +34,8 @@ same_commands sizes k j same f = record {
   first = f.first;
   rest = f.rest;
   commands = f.commands ∙ sym same;
-  count = f.count;
-  holds = f.holds;
+  count = ap (λ (b : Base). b.number + length f.first) base ∙ f.count;
+  holds = subst (λ b. Holds sizes b f.first (state_of class_shows f.classes)) (sym base) f.holds;
   make = f.make;
 }
 
@@ -48,20 +49,20 @@ on_ok (Err e) is p = absurd (cc)
 module _ {D : Type 0} (counted : CommandsAreCounted) (k : Machine) (front : FrontState)
     (committer : CommitterState D) (queue : List Handed) (sealed : ℕ) (failed : Bool)
     (i : IsSession k front committer queue sealed failed) where
-  all_commands : length k.commands ≡ front.number
+  all_commands : accepted_to k ≡ front.number
   all_commands =
       let all = counted front.sizes k committer.rows committer.number
       (pending (commands_of (of_underway committer.underway ++ queue)) front) i.follows in
       all ∙ i.ahead.numbers
 
-  pub none_waits : front.number ≡ sealed → k.sealed ≡ length k.commands
+  pub none_waits : front.number ≡ sealed → k.sealed ≡ accepted_to k
   none_waits same =
       let all = all_commands in
       let is = i.sealed_is in
       let told = i.sealed_told in
       omega (arith, same, all, is, told)
 
-  pub some_wait : (front.number ≡ sealed → ⊥) → k.sealed < length k.commands
+  pub some_wait : (front.number ≡ sealed → ⊥) → k.sealed < accepted_to k
   some_wait differ =
       let all = all_commands in
       let is = i.sealed_is in
@@ -129,7 +130,7 @@ module _ {D : Type 0} (counted : CommandsAreCounted) (handed : HandedIsAhead) (k
 
   follows_then : FollowsFront next committer.rows committer.number (out ++ group.entries) new
   follows_then =
-      same_commands new.sizes k next refl
+      same_commands new.sizes k next refl refl
       (subst (λ z. Follows z k committer.rows committer.number
       (map filled (pending (out ++ group.entries) new)))
       (sym (ap (λ (s : FrontState). s.sizes) h.after))
@@ -143,7 +144,7 @@ module _ {D : Type 0} (counted : CommandsAreCounted) (handed : HandedIsAhead) (k
       let long = length-map group.entries (λ (c : Carried). c.entry) in
       omega (arith, few, slots, long)
 
-  all_known : last ≤ length k.commands
+  all_known : last ≤ accepted_to k
   all_known =
       let all = counted front.sizes k committer.rows committer.number (pending out front) i.follows in
       let numbers = i.ahead.numbers in
@@ -252,7 +253,7 @@ module _ {D : Type 0} (frees : LearntIsAhead) (fails : FailedIsAhead) (k : Machi
       ahead = subst (λ s. IsAhead committer.rows committer.number committer.end all_out s)
           (sym after) (noted broken told);
       follows = subst (λ s. FollowsFront next committer.rows committer.number all_out s)
-          (sym after) (same_commands front.sizes k next refl i.follows);
+          (sym after) (same_commands front.sizes k next refl refl i.follows);
       acknowledged_is = i.acknowledged_is;
       sealed_is = i.sealed_is ∙ sym (ap (λ (s : FrontState). s.sealed) after);
       sealed_told = i.sealed_told ∙ sym (ap (λ (s : FrontState). s.sealed) after);

@@ -1,5 +1,5 @@
 -- A file is opened that stands for some of the machine's commands.
-use Rattle.std.proofs.Common.{◌≡◌, ℕ, ◌+◌, ◌*◌, ◌≤◌, List, [], ◌∷◌, length, drop, take, refl, sym, ap, subst}
+use Rattle.std.proofs.Common.{◌≡◌, ℕ, ◌+◌, ◌*◌, ◌≤◌, List, [], ◌∷◌, length, drop, refl, sym, ap, subst}
 use Rattle.std.proofs.Common.{◌∙◌, arith, Result, Ok, Err, true, false, None, map}
 use Rattle.cm_class.specs.declared.class_file.ClassFile.{ClassFile}
 use Rattle.cm_pool.specs.Geometry.{Sizes}
@@ -29,7 +29,7 @@ use Rattle.cm_recover.specs.Opening.{IsFaultIn}
 use Rattle.cm_recover.specs.Opened.{Opens}
 use Rattle.cm_recover.proofs.Opened.{AreShort, are_short, IsOpened, TellsName, opened}
 use Rattle.cm_handover.specs.Laws.{OpenedIsAhead}
-use Rattle.cm_machine.specs.Machine.{Machine, Reopens, Holds, IsRight}
+use Rattle.cm_machine.specs.Machine.{Machine, Reopens, Holds, IsRight, commands_to}
 use Rattle.cm_machine.specs.Following.{AreRight, AreClasses, Follows}
 use Rattle.cm_machine.specs.Laws.{OpenedFollows, IsAfter, FollowsFront}
 use Rattle.cm_commit.specs.Offers.{filled}
@@ -94,19 +94,23 @@ module _ {D : Type 0} (one : StandForOne) (live : FoundIsLive) (framed : FoundIs
     };
   }
 
-  holds : Holds s.found.sizes (take number k.commands) (state_of class_shows s.rows)
+  holds : Holds s.found.sizes k.base (commands_to number k) (state_of class_shows s.rows)
   holds =
-      subst (λ z. Holds z (take number k.commands) (state_in s)) (sym same.0)
-      (subst (λ n. Holds sizes (take n k.commands) (state_in s)) (sym number_is)
-      (subst (λ m. Holds sizes (take some.number k.commands) m) (sym same.1.0)
+      subst (λ z. Holds z k.base (commands_to number k) (state_in s)) (sym same.0)
+      (subst (λ n. Holds sizes k.base (commands_to n k) (state_in s)) (sym number_is)
+      (subst (λ m. Holds sizes k.base (commands_to some.number k) m) (sym same.1.0)
       some.stands.holds))
 
   after : IsAfter s.found.sizes k rows number
-  after = record { classes = s.rows; are = are; holds = holds }
+  after = record { classes = s.rows; are = are; least = least; holds = holds }
+    where
+      least : k.base.number ≤ number
+      least = let from = some.stands.from in let n = number_is in omega (arith, from, n)
 
   abbrev next : Machine
   next = record {
-    commands = take number k.commands;
+    base = k.base;
+    commands = commands_to number k;
     acknowledged = number;
     sealed = number;
     failed = false;
@@ -145,7 +149,7 @@ module _ {D : Type 0} (one : StandForOne) (live : FoundIsLive) (framed : FoundIs
         most = let most = some.most in let n = number_is in omega (arith, most, n);
         next_is = refl;
       };
-      stands = subst (λ n. StandsFor sizes k.commands n contents) (sym number_is) some.stands;
+      stands = subst (λ n. StandsFor sizes k n contents) (sym number_is) some.stands;
     };
     goes = subst (λ (c : CommitterState D). IsSession next front c [] c.number false)
         (sym o.committer_is) (record {
@@ -172,7 +176,7 @@ module _ {D : Type 0} (one : StandForOne) (live : FoundIsLive) (framed : FoundIs
           (sym (ap (λ (f : FrontState). f.sizes) front_is))
           (subst (λ l. Follows s.found.sizes next rows number (map filled (commands_of l)))
           (sym (ap (λ (f : FrontState). f.unsealed) front_is))
-          (goes_on s.found.sizes k next rows number after refl
+          (goes_on s.found.sizes k next rows number after refl refl
           (let known = some.stands.known in let n = number_is in omega (arith, known, n))))
 
   pub same_sizes : committer.sizes ≡ sizes

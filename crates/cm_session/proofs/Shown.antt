@@ -19,7 +19,7 @@ use Rattle.cm_commit.specs.Plans.{Stage, Store, Turn, Settle}
 use Rattle.cm_commit.specs.States.{CommitterState, ShowsCache, ShowsWith, leaves, MayLeave}
 use Rattle.cm_front.specs.Front.{FrontState}
 use Rattle.cm_handover.specs.Ahead.{pending}
-use Rattle.cm_machine.specs.Machine.{Machine}
+use Rattle.cm_machine.specs.Machine.{Machine, accepted_to}
 use Rattle.cm_machine.specs.Following.{AreRight, Follows}
 use Rattle.cm_machine.specs.Laws.{CommittedFollows, CommandsAreCounted, RowsAreAfter, IsAfter}
 use Rattle.cm_session.specs.Images.{StandsFor, StandsForSome}
@@ -33,9 +33,10 @@ each_keeps (Loader r ∷ rows) right = each_keeps rows right
 each_keeps (Class r c ∷ rows) right = (right.0.kept, each_keeps rows right.1)
 
 pub shows : (sizes : Sizes) (k : Machine) (rows : List (Row (List ℕ))) (number : ℕ)
-    (contents : List ℕ) → number ≤ length k.commands → IsAfter sizes k rows number
-    → ShowsCache sizes rows number contents → StandsFor sizes k.commands number contents
+    (contents : List ℕ) → number ≤ accepted_to k → IsAfter sizes k rows number
+    → ShowsCache sizes rows number contents → StandsFor sizes k number contents
 shows sizes k rows number contents known is s = record {
+  from = is.least;
   known = known;
   state = state_of class_shows is.classes;
   arenas = arenas_among (classes_in is.classes) is.classes;
@@ -71,7 +72,7 @@ module _ {D : Type 0} (committed : CommittedFollows) (counted : CommandsAreCount
   Waits out = Follows sizes k committer.rows committer.number (map filled (pending out front))
 
   all_known : (out : List Carried) → Waits out
-      → length k.commands ≡ committer.number + length (pending out front)
+      → accepted_to k ≡ committer.number + length (pending out front)
   all_known out f = counted sizes k committer.rows committer.number (pending out front) f
 
   now : (out : List Carried) → Waits out → committer.number + length out ≡ front.sealed

@@ -137,7 +137,7 @@ module _ {D : Type 0} (k : Machine) (front : FrontState) (old new : CommitterSta
       busy = refl;
       ahead = next_ahead old.rows old.number old.end group (commands_of queue) front i.is behind.1
           ahead;
-      follows = same_commands front.sizes k next refl follows;
+      follows = same_commands front.sizes k next refl refl follows;
       acknowledged_is = f.told;
       sealed_is = i.sealed_is;
       sealed_told = i.sealed_told;
@@ -195,7 +195,7 @@ module _ {D : Type 0} (k : Machine) (front : FrontState) (old new : CommitterSta
       groups = i.groups;
       busy = i.busy;
       ahead = i.ahead;
-      follows = same_commands front.sizes k next refl i.follows;
+      follows = same_commands front.sizes k next refl refl i.follows;
       acknowledged_is = i.acknowledged_is;
       sealed_is = i.sealed_is;
       sealed_told = i.sealed_told;

@@ -1,21 +1,19 @@
 -- What a file's contents stand for, told by the machine's commands.
-use Rattle.std.specs.Prelude.{ℕ, ◌≤◌, List, length, take}
-use Rattle.cm_class.specs.declared.class_file.ClassFile.{ClassFile}
+use Rattle.std.specs.Prelude.{ℕ, ◌≤◌, List}
 use Rattle.cm_pool.specs.Geometry.{Sizes}
 use Rattle.cm_state.specs.State.{CacheState}
 use Rattle.cm_state.specs.Stands.{Arenas, Stands}
-use Rattle.cm_state.specs.Step.{Change}
-use Rattle.cm_machine.specs.Machine.{Machine, Holds}
+use Rattle.cm_machine.specs.Machine.{Machine, Holds, accepted_to, commands_to}
 
--- The contents stand for the loaders and classes after the first commands, as many as this number
--- says.
-pub record StandsFor (sizes : Sizes) (commands : List (Change ClassFile)) (number : ℕ)
-    (contents : List ℕ) : Type 0 where
-  pub known : number ≤ length commands
+-- The contents stand for the loaders and classes after the machine's commands up to this number.
+pub record StandsFor (sizes : Sizes) (k : Machine) (number : ℕ) (contents : List ℕ)
+    : Type 0 where
+  pub from : k.base.number ≤ number
+  pub known : number ≤ accepted_to k
   pub state : CacheState
   pub arenas : Arenas
   pub stands : Stands sizes contents state arenas number
-  pub holds : Holds sizes (take number commands) state
+  pub holds : Holds sizes k.base (commands_to number k) state
 
 -- The contents stand for what some number of the commands came to: all of them that were
 -- acknowledged, and none that wasn't handed out.
@@ -23,4 +21,4 @@ pub record StandsForSome (sizes : Sizes) (k : Machine) (contents : List ℕ) : T
   pub number : ℕ
   pub least : k.acknowledged ≤ number
   pub most : number ≤ k.sealed
-  pub stands : StandsFor sizes k.commands number contents
+  pub stands : StandsFor sizes k number contents

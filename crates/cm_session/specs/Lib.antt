@@ -1,3 +1,4 @@
 pub mod Images
 pub mod Session
 pub mod Moves
+pub mod Laws

@@ -1,5 +1,5 @@
 -- What each call of a session is for the machine.
-use Rattle.std.specs.Prelude.{◌≡◌, ℕ, ◌<◌, ◌⊎◌, ◌||◌, Bool, true, false, List, length}
+use Rattle.std.specs.Prelude.{◌≡◌, ℕ, ◌<◌, ◌⊎◌, ◌||◌, Bool, true, false, List}
 use Rattle.std.specs.Prelude.{Option, Some, None, Result, Ok, Err}
 use Rattle.cm_class.specs.declared.class_file.ClassFile.{ClassFile}
 use Rattle.cm_pool.specs.Geometry.{Sizes}
@@ -17,7 +17,8 @@ use Rattle.cm_commit.specs.Advances.{Advances}
 use Rattle.cm_recover.specs.declared.opening.NotOpened.{NotOpened}
 use Rattle.cm_recover.specs.declared.fault.OpenFault.{OpenFault}
 use Rattle.cm_recover.specs.declared.fault.OpenFault.TheVariants as open_fault
-use Rattle.cm_machine.specs.Machine.{Machine, Asks, Accepts, Refuses, Seals, Acknowledges, Reopens}
+use Rattle.cm_machine.specs.Machine.{Machine, Asks, Accepts, Refuses, Seals, Acknowledges}
+use Rattle.cm_machine.specs.Machine.{Reopens, accepted_to}
 use Rattle.cm_session.specs.declared.session.Session.{Session}
 use Rattle.cm_session.specs.declared.session.Sealed.{Sealed}
 use Rattle.cm_session.specs.Images.{StandsFor}
@@ -61,9 +62,9 @@ pub record Accepting (sizes : Sizes) (k : Machine) (asked : Change (List ℕ))
 -- All commands were handed out before, or a group of them is now. Where an allocation failed, some
 -- wait, and still do.
 abbrev pub Sealing : {E : Type 0} → Machine → Result (Option Sealed) E → Machine → Type 0
-Sealing k (Ok None) next = (k.sealed ≡ length k.commands) × (next ≡ k)
+Sealing k (Ok None) next = (k.sealed ≡ accepted_to k) × (next ≡ k)
 Sealing k (Ok (Some group)) next = Seals k group.first group.last next
-Sealing k (Err e) next = (k.sealed < length k.commands) × (next ≡ k)
+Sealing k (Err e) next = (k.sealed < accepted_to k) × (next ≡ k)
 
 -- ---- advancing
 
@@ -113,13 +114,12 @@ pub record Learns (k : Machine) (number : ℕ) (next : Machine) : Type 0 where
 
 -- ---- opening again
 
--- The contents stand for the first of the commands, as many as some number says, and the machine
--- goes on from these.
+-- The contents stand for the commands up to some number, and the machine goes on from these.
 pub record Reopening (sizes : Sizes) (k : Machine) (contents : List ℕ) (next : Machine)
     : Type 0 where
   pub number : ℕ
   pub reopens : Reopens k number next
-  pub stands : StandsFor sizes k.commands number contents
+  pub stands : StandsFor sizes k number contents
 
 -- a file that stands for some of the commands isn't opened only for the device or for memory
 abbrev pub IsOutside : OpenFault → Type 0

@@ -3,8 +3,10 @@
 #![tactic(auto)]
 
 mod joining;
+mod laws;
 mod opening;
 mod session;
 
+pub use laws::held_cache_begins_machine;
 pub use opening::open;
 pub use session::{Sealed, Session};

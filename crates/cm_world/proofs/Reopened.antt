@@ -1,5 +1,5 @@
 -- A file that is opened.
-use Rattle.std.proofs.Common.{◌≡◌, ℕ, ◌≤◌, List, [], take, length, Result, Ok, Err, refl, sym, ap, subst, ◌∙◌, arith}
+use Rattle.std.proofs.Common.{◌≡◌, ℕ, ◌≤◌, List, [], length, Result, Ok, Err, refl, sym, ap, subst, ◌∙◌, arith}
 use Rattle.std.proofs.Common.{true, false, None}
 use Rattle.std.specs.Prelude.{IfOk, IfErr, ◌↔◌}
 use Rattle.std.specs.FinMap as map
@@ -12,7 +12,7 @@ use Rattle.cm_guards.specs.Calls.{LeavesOnly}
 use Rattle.cm_guards.specs.Guards.{EachImage}
 use Rattle.cm_state.specs.Step.{Change}
 use Rattle.cm_recover.specs.NewFile.{new_bytes, IsEmptyCache}
-use Rattle.cm_machine.specs.Machine.{Machine, empty_machine}
+use Rattle.cm_machine.specs.Machine.{Machine, empty_machine, commands_to}
 use Rattle.cm_session.specs.Images.{StandsFor, StandsForSome}
 use Rattle.cm_session.specs.Moves.{GoesWith}
 use Rattle.cm_session.proofs.Shown.{leaves_so}
@@ -72,6 +72,7 @@ nothing_stands sizes contents empty = record {
   least = omega arith;
   most = omega arith;
   stands = record {
+    from = omega arith;
     known = omega arith;
     state = map.empty;
     arenas = map.empty;
@@ -90,6 +91,7 @@ begun sizes r disk w made m = record {
     contents = m.opens.contents_stay ∙ made;
     stored = m.opens.stored;
     machine = m.opens.reopens.reopens.next_is ∙ (λ i. record {
+      base = empty_machine.base;
       commands = none i;
       acknowledged = zero i;
       sealed = zero i;
@@ -107,5 +109,5 @@ begun sizes r disk w made m = record {
     zero : m.opens.reopens.number ≡ 0
     zero = let most = m.opens.reopens.reopens.most in omega (arith, most)
 
-    none : take m.opens.reopens.number (empty_machine.commands) ≡ []
-    none = ap (λ (n : ℕ). take n (empty_machine.commands)) zero
+    none : commands_to m.opens.reopens.number empty_machine ≡ []
+    none = ap (λ (n : ℕ). commands_to n empty_machine) zero
