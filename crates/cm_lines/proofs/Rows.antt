@@ -1,0 +1,78 @@
+-- The definitions computed on lines and scripts.
+use Rattle.std.proofs.Common.{◌≡◌, [], ◌∷◌, ◌++◌, Some, None, refl}
+use Rattle.std.specs.Prelude.{codes}
+use Rattle.cm_lines.specs.Escapes.{escaped, unescaped}
+use Rattle.cm_lines.specs.Lines.{question_in, lines_of, AsksLoader, AsksUnload, AsksDefine, AsksFind}
+
+-- ---- lines
+
+asks_loader : question_in (codes "loader app") ≡ Some (AsksLoader (codes "app"))
+asks_loader = refl
+
+asks_unload : question_in (codes "unload app") ≡ Some (AsksUnload (codes "app"))
+asks_unload = refl
+
+asks_define : question_in (codes "define app cafebabe")
+    ≡ Some (AsksDefine (codes "app") (codes "cafebabe"))
+asks_define = refl
+
+asks_find : question_in (codes "find app %c3%a9") ≡ Some (AsksFind (codes "app") (codes "%c3%a9"))
+asks_find = refl
+
+two_bytes_escaped : escaped (0xC3 ∷ 0xA9 ∷ []) ≡ codes "%C3%A9"
+two_bytes_escaped = refl
+
+name_of_two_bytes : unescaped (codes "%c3%a9") ≡ Some (0xC3 ∷ 0xA9 ∷ [])
+name_of_two_bytes = refl
+
+two_words : question_in (codes "define app") ≡ None
+two_words = refl
+
+unload_alone : question_in (codes "unload") ≡ None
+unload_alone = refl
+
+unload_of_two : question_in (codes "unload a b") ≡ None
+unload_of_two = refl
+
+no_name : question_in (codes "loader ") ≡ None
+no_name = refl
+
+two_spaces : question_in (codes "loader  app") ≡ None
+two_spaces = refl
+
+space_behind : question_in (codes "loader app ") ≡ None
+space_behind = refl
+
+space_in_front : question_in (codes " loader app") ≡ None
+space_in_front = refl
+
+four_words : question_in (codes "find app A B") ≡ None
+four_words = refl
+
+upper_case : question_in (codes "Loader app") ≡ None
+upper_case = refl
+
+nothing_asked : question_in [] ≡ None
+nothing_asked = refl
+
+-- ---- scripts
+
+no_lines : lines_of [] ≡ []
+no_lines = refl
+
+newline_alone : lines_of (10 ∷ []) ≡ [] ∷ []
+newline_alone = refl
+
+two_lines : lines_of (codes "loader a" ++ 10 ∷ codes "loader b")
+    ≡ codes "loader a" ∷ codes "loader b" ∷ []
+two_lines = refl
+
+two_lines_with_newlines : lines_of (codes "loader a" ++ 10 ∷ codes "loader b" ++ 10 ∷ [])
+    ≡ codes "loader a" ∷ codes "loader b" ∷ []
+two_lines_with_newlines = refl
+
+line_between : lines_of (codes "a" ++ 10 ∷ 10 ∷ codes "b") ≡ codes "a" ∷ [] ∷ codes "b" ∷ []
+line_between = refl
+
+carriage_return : lines_of (codes "a" ++ 13 ∷ 10 ∷ []) ≡ (codes "a" ++ 13 ∷ []) ∷ []
+carriage_return = refl

@@ -1,0 +1,54 @@
+-- What holds of the definitions themselves.
+use Rattle.std.specs.Prelude.{◌≡◌, ◌≢◌, ◌<◌, ◌⊎◌, ◌↔◌, ℕ, ◌++◌, List, [], ◌∷◌, length, codes}
+use Rattle.std.specs.Prelude.{Some}
+use Rattle.std.specs.List.{All, flat_map}
+use Rattle.cm_lines.specs.Escapes.{escaped, unescaped, with_upper_digits}
+use Rattle.cm_lines.specs.Lines.{Asked, AsksLoader, AsksUnload, AsksDefine, AsksFind, question_in}
+use Rattle.cm_lines.specs.Lines.{lines_of}
+
+-- ---- lines
+
+-- each line with a newline behind it
+abbrev pub put_together : List (List ℕ) → List ℕ
+put_together lines = flat_map (λ line. line ++ 10 ∷ []) lines
+
+-- No line has a newline, and put together they are the script, or the script with a newline behind
+-- it.
+abbrev pub LinesMakeScript : Type 0
+LinesMakeScript =
+    (script : List ℕ)
+    → All (λ line. All (λ b. b ≢ 10) line) (lines_of script)
+    × ((put_together (lines_of script) ≡ script)
+    ⊎ (put_together (lines_of script) ≡ script ++ 10 ∷ []))
+
+abbrev pub IsWord : List ℕ → Type 0
+IsWord text = (0 < length text) × All (λ b. b ≢ 32) text
+
+abbrev pub AreWords : Asked → Type 0
+AreWords (AsksLoader name) = IsWord name
+AreWords (AsksUnload name) = IsWord name
+AreWords (AsksDefine loader digits) = IsWord loader × IsWord digits
+AreWords (AsksFind loader name) = IsWord loader × IsWord name
+
+abbrev pub spelled : Asked → List ℕ
+spelled (AsksLoader name) = codes "loader " ++ name
+spelled (AsksUnload name) = codes "unload " ++ name
+spelled (AsksDefine loader digits) = codes "define " ++ (loader ++ 32 ∷ digits)
+spelled (AsksFind loader name) = codes "find " ++ (loader ++ 32 ∷ name)
+
+-- A line asks for something exactly where it is spelled so, in words.
+abbrev pub OneSpelling : Type 0
+OneSpelling =
+    (line : List ℕ) (question : Asked) → (question_in line ≡ Some question)
+    ↔ ((line ≡ spelled question) × AreWords question)
+
+-- ---- names
+
+-- A name's spelling spells that name.
+abbrev pub UnescapingUndoes : Type 0
+UnescapingUndoes = (name : List ℕ) → All (λ b. b < 256) name → unescaped (escaped name) ≡ Some name
+
+-- What spells a name is its spelling, but for the case of the digits.
+abbrev pub SpellingIsOne : Type 0
+SpellingIsOne =
+    (word name : List ℕ) → unescaped word ≡ Some name → with_upper_digits word ≡ escaped name

@@ -1,0 +1,22 @@
+//! The text of scripts: their lines and what these ask for, the spelling of class names in them,
+//! and reading and writing line by line.
+#![tactic(auto)]
+
+mod escape;
+mod fault;
+mod input;
+mod laws;
+mod line;
+mod line_buffer;
+mod output;
+
+pub use escape::{NameFault, escape_into, unescape};
+pub use fault::LineFault;
+pub use input::read_line;
+pub use laws::{
+    lines_make_the_script, names_have_one_spelling, questions_have_one_spelling,
+    unescaping_undoes_escaping,
+};
+pub use line::{Line, parse};
+pub use line_buffer::LineBuffer;
+pub use output::write_line;

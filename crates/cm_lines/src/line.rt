@@ -1,0 +1,76 @@
+//! The lines of a script.
+
+ghost use Rattle.std.specs.Prelude.{◌≡◌, ◌≢◌, [], ◌∷◌, ◌++◌, IfSome, IfNone};
+ghost use Rattle.std.specs.List.{All};
+ghost use Rattle.std.specs.Option.{option_map};
+ghost use Rattle.cm_lines.specs.Lines.{question_in, question_of_words, seen};
+
+/// What a line asks for.
+#[derive(Clone, Copy, Debug, PartialEq, Eq)]
+pub enum Line<'a> {
+    /// `loader NAME`
+    Loader(&'a [u8]),
+    /// `unload NAME`
+    Unload(&'a [u8]),
+    /// `define NAME HEX`
+    Define(&'a [u8], &'a [u8]),
+    /// `find NAME CLASS`
+    Find(&'a [u8], &'a [u8]),
+}
+
+/// What is in front of the first such byte, and what is behind it.
+pub(crate) fn cut(text: &[u8], at: u8) -> Option<(&[u8], &[u8])>
+    ensures found { IfSome result (λ parts. text.now ≡ parts.0.now ++ at ∷ parts.1.now) }
+    ensures first { IfSome result (λ parts. All (λ b. b ≢ at) parts.0.now) }
+    ensures none { IfNone result (All (λ b. b ≢ at) text.now) }
+{
+    for (i, byte) in text.iter().enumerate() {
+        if *byte == at {
+            return Some((&text[..i], &text[i + 1..]));
+        }
+    }
+    None
+}
+
+/// What a line asks for, if it has one of the known forms: words with one space between, none
+/// empty.
+pub fn parse(line: &[u8]) -> Option<Line<'_>>
+    ensures { option_map seen result ≡ question_in line.now }
+{
+    let (verb, rest) = cut(line, b' ')?;
+    match cut(rest, b' ') {
+        None => of_one_name(verb, rest),
+        Some((name, last)) => match cut(last, b' ') {
+            None => of_two_names(verb, name, last),
+            Some(_) => None,
+        },
+    }
+}
+
+fn of_one_name<'a>(verb: &[u8], name: &'a [u8]) -> Option<Line<'a>>
+    ensures { option_map seen result ≡ question_of_words (verb.now ∷ name.now ∷ []) }
+{
+    if name.is_empty() {
+        None
+    } else if verb == b"loader".as_slice() {
+        Some(Line::Loader(name))
+    } else if verb == b"unload".as_slice() {
+        Some(Line::Unload(name))
+    } else {
+        None
+    }
+}
+
+fn of_two_names<'a>(verb: &[u8], name: &'a [u8], last: &'a [u8]) -> Option<Line<'a>>
+    ensures { option_map seen result ≡ question_of_words (verb.now ∷ name.now ∷ last.now ∷ []) }
+{
+    if name.is_empty() || last.is_empty() {
+        None
+    } else if verb == b"define".as_slice() {
+        Some(Line::Define(name, last))
+    } else if verb == b"find".as_slice() {
+        Some(Line::Find(name, last))
+    } else {
+        None
+    }
+}
