@@ -1,0 +1,98 @@
+//! Writers that take part of a line, are interrupted, hold back or fail.
+
+use cm_lines::{LineFault, write_line};
+use std::alloc::Global;
+use std::io::{self, ErrorKind, Write};
+use std::test::*;
+
+/// Takes one byte at a time, so many in all, and is interrupted before each; then it takes nothing,
+/// or fails.
+#[derive(Drop)]
+struct NarrowWriter {
+    bytes: Vec<u8>,
+    room: usize,
+    was_interrupted: bool,
+    fails: bool,
+    is_passed_on: bool,
+}
+
+impl NarrowWriter {
+    fn new(alloc: Global, room: usize, fails: bool) -> NarrowWriter {
+        NarrowWriter {
+            bytes: Vec::new(alloc),
+            room,
+            was_interrupted: false,
+            fails,
+            is_passed_on: false,
+        }
+    }
+}
+
+impl Write for NarrowWriter {
+    fn write(&mut self, buf: &[u8]) -> io::Result<usize> {
+        self.was_interrupted = !self.was_interrupted;
+        if self.was_interrupted {
+            return Err(io::Error::from(ErrorKind::Interrupted));
+        }
+        if self.bytes.len() >= self.room {
+            if self.fails {
+                return Err(io::Error::from(ErrorKind::Other));
+            }
+            return Ok(0);
+        }
+        let Some(first) = buf.first() else {
+            return Ok(0);
+        };
+        match self.bytes.push(*first) {
+            Ok(()) => Ok(1),
+            Err(_) => Err(io::Error::from(ErrorKind::OutOfMemory)),
+        }
+    }
+
+    fn flush(&mut self) -> io::Result<()> {
+        self.is_passed_on = true;
+        Ok(())
+    }
+}
+
+#[test]
+fn a_line_is_written_whole_and_passed_on(rt: HostRuntime) -> Result<(), Fail> {
+    let mut writer = NarrowWriter::new(rt.alloc(), 100, true);
+    assert_eq!(rt; write_line(&mut writer, b"ok 1\n"), Ok(()));
+    assert_eq!(rt; writer.bytes.as_slice(), b"ok 1\n".as_slice());
+    assert!(rt; writer.is_passed_on);
+    Ok(())
+}
+
+#[test]
+fn a_writer_that_fails_or_takes_nothing_has_a_beginning(rt: HostRuntime) -> Result<(), Fail> {
+    for fails in [true, false] {
+        let mut writer = NarrowWriter::new(rt.alloc(), 3, fails);
+        assert_eq!(rt; write_line(&mut writer, b"ok 1\n"), Err(LineFault::Output));
+        assert_eq!(rt; writer.bytes.as_slice(), b"ok ".as_slice());
+    }
+    Ok(())
+}
+
+/// Takes everything, and can't pass it on.
+#[derive(Drop)]
+struct StuckWriter;
+
+impl Write for StuckWriter {
+    fn write(&mut self, buf: &[u8]) -> io::Result<usize> {
+        Ok(buf.len())
+    }
+
+    fn flush(&mut self) -> io::Result<()> {
+        Err(io::Error::from(ErrorKind::Other))
+    }
+}
+
+#[test]
+fn a_line_that_is_not_passed_on_is_a_fault(rt: HostRuntime) -> Result<(), Fail> {
+    assert_eq!(rt;
+        write_line(&mut StuckWriter, b"ok 1\n"),
+        Err(LineFault::Output)
+    );
+    Ok(())
+}
