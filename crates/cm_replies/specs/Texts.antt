@@ -1,0 +1,115 @@
+-- The texts of replies, without their newlines, and what each tells of its command.
+use Rattle.std.specs.Prelude.{ℕ, ◌+◌, ◌-◌, ◌/◌, ◌%◌, nat_lt, if◌then◌else◌, List, [], ◌∷◌, ◌++◌}
+use Rattle.std.specs.Prelude.{codes, Option, Some, None}
+use Rattle.std.specs.Fmt.{decimal}
+use Rattle.cm_class.specs.declared.class_file.ClassFile.{ClassFile}
+use Rattle.cm_record.specs.Names.{super_name_of}
+use Rattle.cm_rules.specs.declared.rule.Spot.{Spot}
+use Rattle.cm_rules.specs.declared.rule.Spot.TheVariants as spot
+use Rattle.cm_rules.specs.declared.rule.Broken.{Broken}
+use Rattle.cm_rules.specs.Fault.{number}
+use Rattle.cm_prepare.specs.declared.bad_class.BadClass.{BadClass}
+use Rattle.cm_prepare.specs.declared.bad_class.BadClass.TheVariants as bad
+use Rattle.cm_prepare.specs.declared.refusal.Refusal.{Refusal}
+use Rattle.cm_prepare.specs.declared.refusal.Refusal.TheVariants as refusal
+use Rattle.cm_prepare.specs.Refusals.{refusal_number}
+use Rattle.cm_lines.specs.Escapes.{escaped}
+use Rattle.cm_replies.specs.declared.reply.Kind.{Kind}
+use Rattle.cm_replies.specs.declared.reply.Kind.TheVariants as kind
+
+-- what a reply tells of its command, and its text
+pub record ReplyText : Type 0 where
+  pub kind : Kind
+  pub text : List ℕ
+
+-- ---- of commands that are done
+
+abbrev pub number_reply : ℕ → ReplyText
+number_reply n = record { kind = kind.Done; text = codes "ok " ++ decimal n }
+
+abbrev pub defined_reply : ℕ → List ℕ → ReplyText
+defined_reply n name =
+    record { kind = kind.Done; text = codes "ok " ++ decimal n ++ codes " " ++ escaped name }
+
+abbrev pub none_reply : ReplyText
+none_reply = record { kind = kind.Done; text = codes "none" }
+
+abbrev pub lower_digit : ℕ → ℕ
+lower_digit v = if nat_lt v 10 then 48 + v else 97 + (v - 10)
+
+-- flags, in four hexadecimal digits
+abbrev pub flags_text : ℕ → List ℕ
+flags_text flags =
+    lower_digit (flags / 4096) ∷ lower_digit (flags / 256 % 16) ∷ lower_digit (flags / 16 % 16)
+    ∷ lower_digit (flags % 16) ∷ []
+
+abbrev pub super_text : Option (List ℕ) → List ℕ
+super_text None = codes "-"
+super_text (Some name) = escaped name
+
+-- a class that is found under a name, with a record of so many words
+abbrev pub class_reply : List ℕ → ClassFile → ℕ → ReplyText
+class_reply name c words =
+    record {
+      kind =
+          kind.Done;
+      text =
+          codes "class " ++ escaped name ++ codes " flags " ++ flags_text c.flags ++ codes " super "
+          ++ super_text (super_name_of c) ++ codes " words " ++ decimal words;
+    }
+
+-- ---- why commands aren't done
+
+-- where in a class a rule is broken
+abbrev pub spot_text : Spot → List ℕ
+spot_text (spot.Pool index) = codes " pool " ++ decimal index
+spot_text spot.This = codes " this"
+spot_text spot.Super = codes " super"
+spot_text (spot.Interface at) = codes " interface " ++ decimal at
+spot_text (spot.Field at) = codes " field " ++ decimal at
+spot_text (spot.Method at) = codes " method " ++ decimal at
+spot_text (spot.Attribute at) = codes " attribute " ++ decimal at
+
+abbrev pub broken_text : Broken → List ℕ
+broken_text b = codes "V" ++ decimal (number b.rule) ++ spot_text b.spot
+
+abbrev pub bad_class_text : BadClass → List ℕ
+bad_class_text bad.Truncated = codes "truncated"
+bad_class_text (bad.Trailing at) = codes "trailing " ++ decimal at
+bad_class_text (bad.Malformed at) = codes "malformed " ++ decimal at
+bad_class_text (bad.Rule broken) = broken_text broken
+
+abbrev pub refusal_text : Refusal → List ℕ
+refusal_text refusal.BadName = codes "name"
+refusal_text refusal.LoaderExists = codes "loader exists"
+refusal_text refusal.NoLoader = codes "no loader"
+refusal_text refusal.ClassExists = codes "class exists"
+refusal_text refusal.RecordTooLong = codes "record too long"
+refusal_text refusal.RegionFull = codes "region full"
+refusal_text refusal.JournalFull = codes "journal full"
+refusal_text refusal.NoMove = codes "no move"
+refusal_text refusal.NoMemory = codes "memory"
+refusal_text refusal.Broken = codes "broken"
+refusal_text refusal.Closed = codes "closed"
+refusal_text refusal.NumbersSpent = codes "numbers spent"
+refusal_text (refusal.Unsure n) = codes "unsure " ++ decimal n
+refusal_text (refusal.BadClass bad) = bad_class_text bad
+refusal_text refusal.BadLine = codes "line"
+
+-- ---- of commands that aren't done
+
+abbrev pub refused_reply : ℕ → List ℕ → ReplyText
+refused_reply k why =
+    record { kind = kind.Refused; text = codes "refused " ++ decimal k ++ codes " " ++ why }
+
+-- a command that the device didn't take is unsure, and not refused
+abbrev pub refusal_reply : Refusal → ReplyText
+refusal_reply (refusal.Unsure n) =
+    record { kind = kind.Unsure; text = refusal_text (refusal.Unsure n) }
+refusal_reply r = refused_reply (refusal_number r) (refusal_text r)
+
+abbrev pub unsure_reply : ℕ → ReplyText
+unsure_reply n = refusal_reply (refusal.Unsure n)
+
+abbrev pub bad_line_reply : ReplyText
+bad_line_reply = refusal_reply refusal.BadLine
