@@ -3,20 +3,20 @@ use Rattle.std.proofs.Common.{◌≡◌, ℕ, ◌≤◌, Bool, true, false, List
 use Rattle.std.proofs.Common.{inr, refl, length, sym, ap, subst, ◌∙◌}
 use Rattle.std.specs.Prelude.{◌⊎◌}
 use Rattle.cm_class.specs.declared.class_file.ClassFile.{ClassFile}
-use Rattle.cm_record.specs.Layout.{lay, limit}
+use Rattle.cm_record.specs.Layout.{limit}
 use Rattle.cm_group.specs.Groups.{Carried, Handed, IsRightRecord}
 use Rattle.cm_prepare.specs.declared.refusal.Refusal.{Refusal}
 use Rattle.cm_prepare.specs.declared.refusal.Refusal.TheVariants as refusal
 use Rattle.cm_state.specs.State.{words_show, state_of, class_in}
 use Rattle.cm_state.specs.Step.{Change, Define}
 use Rattle.cm_front.specs.Front.{FrontState, IsFront}
-use Rattle.cm_front.specs.Accepting.{Answers as FrontAnswers, accepted}
+use Rattle.cm_front.specs.Accepting.{Answers as FrontAnswers}
 use Rattle.cm_commit.specs.States.{CommitterState}
 use Rattle.cm_handover.specs.Laws.{AcceptedIsAhead}
 use Rattle.cm_machine.specs.Machine.{Machine, Asks, Accepts, Refuses}
 use Rattle.cm_machine.specs.Laws.{AcceptedIsMade, RefusedIsRefused, IsAccepted, FoundIsThere, Finds}
 use Rattle.cm_session.specs.Session.{of_underway, commands_of, IsSession}
-use Rattle.cm_session.specs.Moves.{Accepting, Answers, IsAsked}
+use Rattle.cm_session.specs.Moves.{Accepting, IsAsked}
 
 -- the class that a command defines
 pub is_asked : (x words : List ℕ) → IsRightRecord words → length words ≤ limit

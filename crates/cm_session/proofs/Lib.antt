@@ -4,3 +4,4 @@ pub mod Handing
 pub mod Shown
 pub mod Stepping
 pub mod Reopened
+pub mod Stored

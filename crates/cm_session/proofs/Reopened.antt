@@ -1,35 +1,32 @@
 -- A file is opened that stands for some of the machine's commands.
-use Rattle.std.proofs.Common.{◌≡◌, ℕ, ◌+◌, ◌*◌, ◌≤◌, List, [], ◌∷◌, length, drop, refl, sym, ap, subst}
-use Rattle.std.proofs.Common.{◌∙◌, arith, Result, Ok, Err, true, false, None, map}
+use Rattle.std.proofs.Common.{◌≡◌, ℕ, ◌-◌, ◌≤◌, List, [], ◌∷◌, take, drop, refl}
+use Rattle.std.proofs.Common.{sym, ap, subst}
+use Rattle.std.proofs.Common.{◌∙◌, arith, Result, Ok, Err, false, map}
 use Rattle.cm_class.specs.declared.class_file.ClassFile.{ClassFile}
 use Rattle.cm_pool.specs.Geometry.{Sizes}
-use Rattle.cm_disk.specs.Disk.{Unsynced, IsSettled}
 use Rattle.cm_record.specs.Layout.{lay}
 use Rattle.cm_layout.specs.declared.row.Row.{Row}
 use Rattle.cm_layout.specs.declared.row.Row.TheVariants.{Loader, Class}
 use Rattle.cm_layout.specs.Offsets.{roots_at}
-use Rattle.cm_layout.specs.Rows.{rows_with, bare, classes_in}
+use Rattle.cm_layout.specs.Rows.{rows_with, classes_in}
 use Rattle.cm_layout.specs.Frames.{LiveRowsKeep, AreApart}
 use Rattle.cm_front.proofs.RowFacts.{classes_bare}
 use Rattle.cm_state.specs.Laws.{StandForOne}
-use Rattle.cm_state.specs.Entries.{AreCacheRows}
 use Rattle.cm_state.specs.Stands.{EachKeepsRules}
 use Rattle.cm_state.specs.State.{class_shows, state_of}
 use Rattle.cm_verdict.specs.Verdict.{Standing, verdict, state_in, arenas_in}
 use Rattle.cm_verdict.specs.Laws.{FoundIsLive, FoundIsFramed, VerdictStands, StandsInVerdict, Proves}
-use Rattle.cm_verdict.specs.Laws.{IsVerdict}
 use Rattle.cm_commit.proofs.Slots.{end_is as ends_with_slots}
 use Rattle.cm_commit.specs.States.{CommitterState}
-use Rattle.cm_verdict.specs.declared.fault.FileFault.{FileFault}
 use Rattle.cm_front.specs.Front.{FrontState, IsFront}
-use Rattle.cm_front.specs.Restoring.{Restores}
 use Rattle.cm_recover.specs.declared.fault.OpenFault.{OpenFault}
 use Rattle.cm_recover.specs.declared.fault.OpenFault.TheVariants as open_fault
 use Rattle.cm_recover.specs.Opening.{IsFaultIn}
 use Rattle.cm_recover.specs.Opened.{Opens}
 use Rattle.cm_recover.proofs.Opened.{AreShort, are_short, IsOpened, TellsName, opened}
 use Rattle.cm_handover.specs.Laws.{OpenedIsAhead}
-use Rattle.cm_machine.specs.Machine.{Machine, Reopens, Holds, IsRight, commands_to}
+use Rattle.cm_machine.specs.Machine.{Base, Machine, Reopens, Holds, commands_to}
+use Rattle.cm_machine.specs.Machine.{machine_from}
 use Rattle.cm_machine.specs.Following.{AreRight, AreClasses, Follows}
 use Rattle.cm_machine.specs.Laws.{OpenedFollows, IsAfter, FollowsFront}
 use Rattle.cm_commit.specs.Offers.{filled}
@@ -181,6 +178,27 @@ module _ {D : Type 0} (one : StandForOne) (live : FoundIsLive) (framed : FoundIs
 
   pub same_sizes : committer.sizes ≡ sizes
   same_sizes = ap (λ (c : CommitterState D). c.sizes) o.committer_is ∙ same.0
+
+-- ---- nothing was accepted yet
+
+pub fresh : (base : Base) (number : ℕ) (next : Machine) → Reopens (machine_from base) number next
+    → next ≡ machine_from base
+fresh base number next r =
+    let least = r.least in
+    let most = r.most in
+    let same : number ≡ base.number = omega (arith, least, most) in
+    let zero : base.number - base.number ≡ 0 = omega arith in
+    r.next_is ∙ ap (λ (n : ℕ). at_rest n (n - base.number)) same ∙ ap (at_rest base.number) zero
+  where
+    at_rest : ℕ → ℕ → Machine
+    at_rest n z = record {
+      base = base;
+      commands = take z [];
+      acknowledged = n;
+      sealed = n;
+      failed = false;
+      noticed = false;
+    }
 
 -- ---- a fault
 

@@ -1,11 +1,11 @@
 -- One step of the committer, for the machine.
-use Rattle.std.proofs.Common.{cond, ◌≡◌, ℕ, ◌+◌, ◌≤◌, ◌<◌, ◌^◌, Bool, true, false, List, [], ◌∷◌, ◌++◌, length}
+use Rattle.std.proofs.Common.{cond, ◌≡◌, ℕ, ◌+◌, ◌≤◌, Bool, true, false, List, [], ◌∷◌, ◌++◌, length}
 use Rattle.std.proofs.Common.{map, Option, Some, None, Result, Ok, Err, refl, sym, ap, subst, ◌∙◌, arith}
 use Rattle.std.proofs.Common.{append_assoc, inl, inr}
 use Rattle.std.specs.Prelude.{◌||◌, ◌↔◌, IsOk, OnOk, OnErr}
 use Rattle.std.proofs.lemmas.List.{length-append}
 use Rattle.cm_group.specs.declared.receipt.Receipt.{Receipt}
-use Rattle.cm_group.specs.Groups.{Carried, Handed, IsGroup, slots_taken}
+use Rattle.cm_group.specs.Groups.{Handed}
 use Rattle.cm_commit.specs.declared.progress.Progress.TheVariants.{Idle, Working, Done}
 use Rattle.cm_commit.specs.declared.progress.AdvanceFault.TheVariants.{Device, Broken}
 use Rattle.cm_commit.specs.Plans.{Stage, calls_left, after_call}
@@ -27,13 +27,27 @@ use Rattle.cm_session.proofs.Handing.{same_commands}
 
 -- ---- what is taken
 
+-- no steps are left of a committer that isn't broken
+pub no_calls : (broken : Bool) (calls n : ℕ) → n ≡ cond broken 0 calls → broken ≡ false → n ≡ 0
+    → calls ≡ 0
+no_calls true calls n same sound none = absurd (cc)
+no_calls false calls n same sound none = omega (arith, same, none)
+
+-- no step is left of this committer, to which a group is offered
 pub may_take : {D : Type 0} {E : Type 0} (contents : D → List ℕ) (old new : CommitterState D)
-    (group : Handed) (result : Result (Unit {0}) E) → (IsOk result ↔ Takes old group)
+    (group : Handed) (calls : ℕ) → calls ≡ cond old.broken 0 (calls_left old.left) → calls ≡ 0
+    → (result : Result (Unit {0}) E) → (IsOk result ↔ Takes old group)
     → OnOk result (new ≡ with_taken contents old group) → OnErr result (new ≡ old)
     → MayTake contents old new
-may_take contents old new group (Ok x) takes taken same =
-    inr ((takes.0 refl).idle, group, taken)
-may_take contents old new group (Err e) takes taken same = inl same
+may_take contents old new group calls counted none (Ok x) takes taken same =
+    let may = takes.0 refl in
+    inr (
+      may.idle,
+      no_calls old.broken (calls_left old.left) calls counted may.sound none,
+      group,
+      taken,
+    )
+may_take contents old new group calls counted none (Err e) takes taken same = inl same
 
 -- ---- what is under way
 
@@ -256,12 +270,6 @@ advanced next_ahead committed k front old new queue sealed failed i empty (Err B
 pub not_none : {A : Type 0} (x : A) (o : Option A) → o ≡ Some x → o ≡ None → ⊥
 not_none x None some none = absurd (cc)
 not_none x (Some y) some none = absurd (cc)
-
--- no steps are left of a committer that isn't broken
-pub no_calls : (broken : Bool) (calls n : ℕ) → n ≡ cond broken 0 calls → broken ≡ false → n ≡ 0
-    → calls ≡ 0
-no_calls true calls n same sound none = absurd (cc)
-no_calls false calls n same sound none = omega (arith, same, none)
 
 -- no call is left, so none is under way
 pub none_busy : (u : Option Handed) (left : List Stage) → IsBusyWith u left → calls_left left ≡ 0

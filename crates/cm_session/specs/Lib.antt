@@ -1,4 +1,5 @@
 pub mod Images
 pub mod Session
 pub mod Moves
+pub mod Storing
 pub mod Laws

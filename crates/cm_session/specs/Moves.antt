@@ -5,6 +5,7 @@ use Rattle.cm_class.specs.declared.class_file.ClassFile.{ClassFile}
 use Rattle.cm_pool.specs.Geometry.{Sizes}
 use Rattle.cm_disk.specs.Disk.{Unsynced, IsSettled}
 use Rattle.cm_state.specs.Step.{Change}
+use Rattle.cm_state.specs.Stands.{Arenas, Stands}
 use Rattle.cm_prepare.specs.declared.refusal.Refusal.{Refusal}
 use Rattle.cm_prepare.specs.declared.refusal.Refusal.TheVariants as refusal
 use Rattle.cm_commit.specs.declared.progress.Progress.{Progress}
@@ -12,13 +13,14 @@ use Rattle.cm_commit.specs.declared.progress.Progress.TheVariants.{Idle, Working
 use Rattle.cm_commit.specs.declared.progress.AdvanceFault.{AdvanceFault}
 use Rattle.cm_commit.specs.declared.progress.AdvanceFault.TheVariants.{Device, Broken}
 use Rattle.cm_group.specs.Groups.{Handed}
+use Rattle.cm_commit.specs.Plans.{calls_left}
 use Rattle.cm_commit.specs.States.{CommitterState, with_taken}
 use Rattle.cm_commit.specs.Advances.{Advances}
 use Rattle.cm_recover.specs.declared.opening.NotOpened.{NotOpened}
 use Rattle.cm_recover.specs.declared.fault.OpenFault.{OpenFault}
 use Rattle.cm_recover.specs.declared.fault.OpenFault.TheVariants as open_fault
-use Rattle.cm_machine.specs.Machine.{Machine, Asks, Accepts, Refuses, Seals, Acknowledges}
-use Rattle.cm_machine.specs.Machine.{Reopens, accepted_to}
+use Rattle.cm_machine.specs.Machine.{Base, Machine, Asks, Accepts, Refuses, Seals, Acknowledges}
+use Rattle.cm_machine.specs.Machine.{Reopens, accepted_to, machine_from}
 use Rattle.cm_session.specs.declared.session.Session.{Session}
 use Rattle.cm_session.specs.declared.session.Sealed.{Sealed}
 use Rattle.cm_session.specs.Images.{StandsFor}
@@ -85,11 +87,12 @@ IsNoCall (Ok (Done receipt)) = ⊥
 IsNoCall (Err Device) = ⊥
 IsNoCall (Err Broken) = Unit {0}
 
--- the committer is as it was, or it had no group under way and took one
+-- the committer is as it was, or it had no group under way, no call was left, and it took one
 abbrev pub MayTake : {D : Type 0} → (D → List ℕ) → CommitterState D → CommitterState D → Type 0
 MayTake contents old begun =
     (begun ≡ old)
-    ⊎ ((old.underway ≡ None) × (group : Handed) × (begun ≡ with_taken contents old group))
+    ⊎ ((old.underway ≡ None) × (calls_left old.left ≡ 0)
+    × (group : Handed) × (begun ≡ with_taken contents old group))
 
 -- The committer may first take a group, and then makes one step: exactly one device call where some
 -- is left.
@@ -135,6 +138,13 @@ pub record Opened {D : Type 0} (contents : D → List ℕ) (unsynced : D → Uns
   pub sizes_are : s.committer.sizes ≡ sizes
   pub contents_are : contents s.committer.disk ≡ bytes
   pub settled : IsSettled (contents s.committer.disk) (unsynced s.committer.disk)
+
+-- The contents stand for a cache, and the session goes with the machine that begins with it.
+pub record Begins {D : Type 0} (bytes : List ℕ) (s : Session D) : Type 0 where
+  pub base : Base
+  pub arenas : Arenas
+  pub stands : Stands s.committer.sizes bytes base.state arenas base.number
+  pub goes : GoesWith (machine_from base) s
 
 -- the disk after it was opened, or handed back
 abbrev pub disk_of : {D : Type 0} → Result (Session D) (NotOpened D) → D

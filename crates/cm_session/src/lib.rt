@@ -6,7 +6,9 @@ mod joining;
 mod laws;
 mod opening;
 mod session;
+mod storing;
 
 pub use laws::held_cache_begins_machine;
 pub use opening::open;
 pub use session::{Sealed, Session};
+pub use storing::NotStored;

@@ -7,8 +7,9 @@ ghost use Rattle.cm_recover.specs.Opening.{IsFaultIn};
 ghost use Rattle.cm_recover.specs.Opened.{SyncsAndReads};
 ghost use Rattle.cm_machine.specs.Machine.{Machine};
 ghost use Rattle.cm_session.specs.Images.{StandsForSome};
-ghost use Rattle.cm_session.specs.Moves.{Opened, IsOutside, disk_of, MeetsDevice};
+ghost use Rattle.cm_session.specs.Moves.{Opened, Begins, IsOutside, disk_of, MeetsDevice};
 
+use crate::laws::held_cache_begins_machine;
 use crate::session::Session;
 use cm_disk::Disk;
 use cm_handover::opened_is_ahead;
@@ -22,11 +23,13 @@ use std::collections::VecDeque;
 
 /// Opens the cache of a file, as [`cm_recover::open`] does, for one thread's use.
 ///
-/// Whichever machine the file stands for some of the commands of: it goes on from these, and the
-/// file isn't opened only where the device or an allocation failed.
+/// It goes with the machine that begins with the cache that the file stands for; and whichever
+/// machine the file stands for some of the commands of: it goes on from these, and the file isn't
+/// opened only where the device or an allocation failed.
 pub fn open<D: Disk>(alloc: Global, disk: D) -> Result<Session<D>, NotOpened<D>>
     ensures opened { (sizes : Sizes) (k : Machine) → StandsForSome sizes k (D.contents disk)
         → IfOk result (Opened D.contents D.unsynced sizes (D.contents disk) k) }
+    ensures begins { IfOk result (Begins (D.contents disk)) }
     ensures stands { (sizes : Sizes) (k : Machine) → StandsForSome sizes k (D.contents disk)
         → IfErr result (λ e. IsOutside e.fault) }
     ensures fault { IfErr result (λ e. IsFaultIn e.fault (verdict (D.contents disk))) }
@@ -40,6 +43,7 @@ pub fn open<D: Disk>(alloc: Global, disk: D) -> Result<Session<D>, NotOpened<D>>
     found_is_framed();
     verdict_is_exact();
     words_tell_name();
+    held_cache_begins_machine();
     let (front, committer) = match cm_recover::open(alloc, disk) {
         Ok(opened) => opened,
         Err(not_opened) => return Err(not_opened),

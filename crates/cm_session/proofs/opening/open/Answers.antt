@@ -1,8 +1,12 @@
 use Rattle.std.proofs.Common.{ℕ, List, [], sym, subst, false}
 use Rattle.cm_group.specs.Groups.{Handed}
+use Rattle.cm_pool.specs.Geometry.{Sizes}
+use Rattle.cm_state.specs.Stands.{Stands}
+use Rattle.cm_verdict.specs.Verdict.{state_in, arenas_in}
+use Rattle.cm_machine.specs.Machine.{Base, Machine, machine_from}
 use Rattle.cm_session.specs.Moves.{Leads, Reopening}
 use Rattle.cm_session.specs.Session.{IsSession}
-use Rattle.cm_session.proofs.Reopened.{reopened, same_sizes, is_outside}
+use Rattle.cm_session.proofs.Reopened.{reopened, same_sizes, is_outside, fresh}
 use Rattle.cm_session.proofs.opening.open.Goals as goal
 
 pub returns-in-Err-clause-stands : goal.returns-in-Err-clause-stands
@@ -35,4 +39,26 @@ returns-clause-opened g c =
           c.opened_is_ahead.ensures on sizes k bytes some front committer opens is;
       contents_are = c.in-Ok.ensures.run.contents_stay;
       settled = c.in-Ok.ensures.stored;
+    }
+
+pub returns-clause-begins : goal.returns-clause-begins
+returns-clause-begins g c =
+    let bytes = g.D.Disk.contents c.args.disk in
+    let opens = c.in-Ok.ensures.opened in
+    let s = opens.standing in
+    let sizes = s.found.sizes in
+    let state = state_in s in
+    let arenas = arenas_in s in
+    let number = s.found.number in
+    let base : Base = record { state = state; number = number } in
+    let some = c.held_cache_begins_machine.ensures sizes bytes state arenas number opens.stands in
+    let o = returns-clause-opened g c sizes (machine_from base) some in
+    record {
+      base = base;
+      arenas = arenas;
+      stands = subst (λ (z : Sizes). Stands z bytes state arenas number) (sym o.sizes_are)
+          opens.stands;
+      goes = subst (λ (j : Machine). IsSession j c.in-Ok.opened.0 c.in-Ok.opened.1
+          c.new.result.items c.number-sealed.result false) (fresh base o.leads.does.number
+          o.leads.next o.leads.does.reopens) o.leads.goes;
     }

@@ -1,4 +1,4 @@
-use Rattle.std.proofs.Common.{List, ℕ, Bool, subst, sym}
+use Rattle.std.proofs.Common.{Bool, subst, sym}
 use Rattle.cm_pool.specs.Geometry.{Sizes}
 use Rattle.cm_guards.specs.Calls.{LeavesOnly}
 use Rattle.cm_commit.specs.States.{MayLeave}

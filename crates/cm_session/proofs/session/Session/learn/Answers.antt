@@ -1,8 +1,6 @@
-use Rattle.std.proofs.Common.{ℕ, ◌≤◌, length, sym, subst, ◌∙◌, ap, arith}
+use Rattle.std.proofs.Common.{ℕ, sym, subst, ◌∙◌, ap, arith}
 use Rattle.std.specs.Prelude.{◌||◌}
-use Rattle.cm_front.specs.Front.{FrontState}
 use Rattle.cm_front.specs.Accepting.{with_learnt}
-use Rattle.cm_machine.specs.Machine.{Machine}
 use Rattle.cm_session.specs.declared.session.Session.{Session}
 use Rattle.cm_session.specs.Moves.{Leads, Learns}
 use Rattle.cm_session.specs.Session.{IsSession}

@@ -1,5 +1,4 @@
-use Rattle.std.proofs.Common.{List, ℕ, ◌∷◌, ◌≡◌, ◌≤◌, false, Option, Some, None, ap, subst, sym, ◌∙◌, arith}
-use Rattle.cm_group.specs.Groups.{Handed}
+use Rattle.std.proofs.Common.{ℕ, ◌∷◌, ap, subst, sym, ◌∙◌, arith}
 use Rattle.cm_commit.specs.Plans.{calls_left}
 use Rattle.cm_commit.specs.States.{CommitterState, with_taken}
 use Rattle.cm_session.specs.Session.{commands_of, GoBehind, IsSession}
@@ -56,6 +55,8 @@ returns-clause-taken g c =
 
 pub returns-clause-takes : goal.returns-clause-takes
 returns-clause-takes g c =
+    let zero = c.if-steps_left-gt0.false in
     may_take g.D.Disk.contents c.args.self.now.committer c.offer-taken.new.self
-    c.join_queued-group.result c.offer-taken.result c.offer-taken.ensures.takes
-    c.offer-taken.ensures.taken c.offer-taken.ensures.same
+    c.join_queued-group.result c.steps_left.result c.steps_left.ensures (omega (arith, zero))
+    c.offer-taken.result c.offer-taken.ensures.takes c.offer-taken.ensures.taken
+    c.offer-taken.ensures.same

@@ -1,4 +1,4 @@
-use Rattle.std.proofs.Common.{List, ℕ, ◌∷◌, [], ◌++◌, ◌+◌, ◌-◌, ap, refl, subst, sym, ◌∙◌}
+use Rattle.std.proofs.Common.{List, ◌∷◌, [], ◌++◌, ◌+◌, ◌-◌, ap, refl, subst, sym, ◌∙◌}
 use Rattle.cm_group.specs.Groups.{Handed}
 use Rattle.cm_session.specs.Session.{IsSession}
 use Rattle.cm_session.proofs.Handing.{hands_as, none_waits, some_wait}

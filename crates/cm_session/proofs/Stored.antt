@@ -1,0 +1,344 @@
+-- A command that is stored before the next one.
+use Rattle.std.proofs.Common.{◌≡◌, ℕ, ◌+◌, ◌≤◌, ◌<◌, Bool, true, false, List, [], ◌∷◌}
+use Rattle.std.proofs.Common.{Option, Some, None, Result, Ok, Err, inl, inr, refl, sym, ap, subst}
+use Rattle.std.proofs.Common.{◌∙◌, arith}
+use Rattle.std.specs.Prelude.{◌||◌}
+use Rattle.std.specs.Result.{is_err}
+use Rattle.std.proofs.lemmas.List.{length-append}
+use Rattle.cm_class.specs.declared.class_file.ClassFile.{ClassFile}
+use Rattle.cm_pool.specs.Geometry.{Sizes}
+use Rattle.cm_state.specs.Step.{Change}
+use Rattle.cm_commit.specs.declared.progress.Progress.{Progress}
+use Rattle.cm_commit.specs.declared.progress.Progress.TheVariants.{Idle, Working, Done}
+use Rattle.cm_commit.specs.declared.progress.AdvanceFault.{AdvanceFault}
+use Rattle.cm_commit.specs.declared.progress.AdvanceFault.TheVariants.{Device, Broken}
+use Rattle.cm_commit.specs.Plans.{Stage, calls_left}
+use Rattle.cm_commit.specs.States.{CommitterState}
+use Rattle.cm_commit.specs.Advances.{Advances, HasRisen}
+use Rattle.cm_commit.proofs.Committing.{one_call_less}
+use Rattle.cm_prepare.specs.declared.refusal.Refusal.{Refusal}
+use Rattle.cm_machine.specs.Machine.{Machine, Asks, Seals, accepted_to}
+use Rattle.cm_session.specs.declared.session.Sealed.{Sealed}
+use Rattle.cm_session.specs.Images.{StandsForSome}
+use Rattle.cm_session.specs.declared.storing.NotStored.TheVariants.{Refused, NoMemory, Unsure}
+use Rattle.cm_session.specs.Moves.{Leads, Accepting, Answers, Sealing, Advancing, Learns, MayTake}
+use Rattle.cm_session.specs.Moves.{Steps}
+use Rattle.cm_session.specs.Storing.{IsWorking, IsAtRest, Hands, Storing, FailsOnly}
+
+-- ---- how many calls may follow
+
+-- one more while calls are made
+abbrev pub weight : Result Progress AdvanceFault → List Stage → ℕ
+weight (Ok Idle) left = calls_left left
+weight (Ok Working) left = 1 + calls_left left
+weight (Ok (Done receipt)) left = calls_left left
+weight (Err Device) left = calls_left left
+weight (Err Broken) left = calls_left left
+
+not_empty : (left : List Stage) → 1 ≤ calls_left left → left ≡ [] → ⊥
+not_empty left some none = let calls = ap calls_left none in omega (arith, some, calls)
+
+-- while calls are made, some are left
+pub some_left : {D : Type 0} (contents : D → List ℕ) (old new : CommitterState D)
+    (result : Result Progress AdvanceFault) → Steps contents old result new → IsWorking result
+    → 1 ≤ calls_left new.left
+some_left contents old new (Ok Idle) s working = absurd (cc)
+some_left contents old new (Ok Working) s working =
+    let left = s.begun.left in
+    let more = s.moved.more in
+    let less = one_call_less left (not_empty left (omega (arith, more))) in
+    let same = ap (λ (c : CommitterState _). calls_left c.left) s.moved.new_is in
+    omega (arith, more, less, same)
+some_left contents old new (Ok (Done receipt)) s working = absurd (cc)
+some_left contents old new (Err Device) s working = absurd (cc)
+some_left contents old new (Err Broken) s working = absurd (cc)
+
+-- a committer with calls left takes no group
+same_begun : {D : Type 0} (contents : D → List ℕ) (old begun : CommitterState D)
+    → 1 ≤ calls_left old.left → MayTake contents old begun → begun ≡ old
+same_begun contents old begun some (inl same) = same
+same_begun contents old begun some (inr taken) =
+    let none = taken.1 in absurd (omega (arith, some, none))
+
+fewer_of : {D : Type 0} (old new : CommitterState D) (result : Result Progress AdvanceFault)
+    → 1 ≤ calls_left old.left → Advances old result new
+    → weight result new.left < 1 + calls_left old.left
+fewer_of old new (Ok Idle) some r =
+    let same = ap (λ (c : CommitterState _). calls_left c.left) r.stays in omega (arith, same)
+fewer_of old new (Ok Working) some w =
+    let less = one_call_less old.left (not_empty old.left some) in
+    let same = ap (λ (c : CommitterState _). calls_left c.left) w.new_is in
+    omega (arith, less, same)
+fewer_of old new (Ok (Done receipt)) some f =
+    let same = ap (λ (c : CommitterState _). calls_left c.left) f.new_is in omega (arith, some, same)
+fewer_of old new (Err Device) some b =
+    let same = ap (λ (c : CommitterState _). calls_left c.left) b.new_is in omega (arith, same)
+fewer_of old new (Err Broken) some s =
+    let same = ap (λ (c : CommitterState _). calls_left c.left) s.stays in omega (arith, same)
+
+weight_working : (result : Result Progress AdvanceFault) (left : List Stage) → IsWorking result
+    → weight result left ≡ 1 + calls_left left
+weight_working (Ok Idle) left working = absurd (cc)
+weight_working (Ok Working) left working = refl
+weight_working (Ok (Done receipt)) left working = absurd (cc)
+weight_working (Err Device) left working = absurd (cc)
+weight_working (Err Broken) left working = absurd (cc)
+
+-- one call less
+pub fewer : {D : Type 0} (contents : D → List ℕ) (old new : CommitterState D)
+    (before result : Result Progress AdvanceFault) → IsWorking before → 1 ≤ calls_left old.left
+    → Steps contents old result new → weight result new.left < weight before old.left
+fewer contents old new before result working some s =
+    let same = same_begun contents old s.begun some s.takes in
+    let less =
+    fewer_of old new result some (subst (λ (c : CommitterState _). Advances c result new) same s.moved)
+    in
+    let here = weight_working before old.left working in
+    omega (arith, less, here)
+
+-- ---- while calls are made the machine stays
+
+pub goes_on : {Goes : Machine → Type 0} (k : Machine) (result : Result Progress AdvanceFault)
+    → IsWorking result → Leads (Advancing k result) Goes → Goes k
+goes_on k (Ok Idle) working leads = absurd (cc)
+goes_on {Goes = Goes} k (Ok Working) working leads = subst Goes leads.does.1 leads.goes
+goes_on k (Ok (Done receipt)) working leads = absurd (cc)
+goes_on k (Err Device) working leads = absurd (cc)
+goes_on k (Err Broken) working leads = absurd (cc)
+
+pub risen : (before between now : ℕ) (first second : Result Progress AdvanceFault)
+    → HasRisen before between first → HasRisen between now second → HasRisen before now second
+risen before between now first second one two = record {
+  later = let here = one.later in let there = two.later in omega (arith, here, there);
+  device = λ is. let here = one.later in let rose = two.device is in omega (arith, here, rose);
+}
+
+-- ---- one command, from rest to rest
+
+same_flag : (k : Machine) (flag : Bool) → flag ≡ k.noticed → record k { noticed = flag } ≡ k
+same_flag k flag same = ap (λ (b : Bool). record k { noticed = b }) same
+
+or_same : (b : Bool) → b || b ≡ b
+or_same true = refl
+or_same false = refl
+
+or_true : (b : Bool) → b || true ≡ true
+or_true true = refl
+or_true false = refl
+
+module _ (sizes : Sizes) (k : Machine) (change : Change ClassFile) (number : ℕ) (accepted : Machine)
+    (rest : IsAtRest k) (a : Answers sizes k change (Ok number) accepted) where
+  sound : k.failed ≡ false
+  sound = sym rest.noticed ∙ a.0
+
+  sealed_before : accepted.sealed + 1 ≡ number
+  sealed_before =
+      let same = ap (λ (m : Machine). m.sealed) a.1.next_is in
+      let all = rest.sealed sound in
+      let is = a.1.number_is in
+      omega (arith, same, all, is)
+
+  stored_before : accepted.acknowledged + 1 ≡ number
+  stored_before =
+      let same = ap (λ (m : Machine). m.acknowledged) a.1.next_is in
+      let all = rest.stored sound in
+      let is = a.1.number_is in
+      omega (arith, same, all, is)
+
+  all_commands : accepted_to accepted ≡ number
+  all_commands =
+      let same = ap accepted_to a.1.next_is in
+      let one = length-append k.commands (change ∷ []) in
+      let is = a.1.number_is in
+      omega (arith, same, one, is)
+
+  still_sound : accepted.failed ≡ false
+  still_sound = ap (λ (m : Machine). m.failed) a.1.next_is ∙ sound
+
+  not_noticed : accepted.noticed ≡ false
+  not_noticed = ap (λ (m : Machine). m.noticed) a.1.next_is ∙ a.0
+
+  pub some_waits : accepted.sealed ≡ accepted_to accepted → ⊥
+  some_waits none =
+      let here = sealed_before in
+      let all = all_commands in
+      omega (arith, none, here, all)
+
+  abbrev pub handed : Machine
+  handed = record accepted { sealed = number }
+
+  -- it is all of the group
+  pub is_handed : (group : Sealed) (next : Machine) → Seals accepted group.first group.last next
+      → next ≡ handed
+  is_handed group next s =
+      let first = s.first_is in
+      let some = s.some in
+      let known = s.known in
+      let here = sealed_before in
+      let all = all_commands in
+      let last : group.last ≡ number = omega (arith, first, some, known, here, all) in
+      s.next_is ∙ ap (λ (n : ℕ). record accepted { sealed = n }) last
+
+  abbrev pub stored : Machine
+  stored = record handed { acknowledged = number }
+
+  pub is_stored : (p : Progress) (next : Machine) → (IsWorking (Ok p) → ⊥)
+      → Advancing handed (Ok p) next → next ≡ stored
+  is_stored Idle next ends d =
+      let before = stored_before in
+      let all = d.1 in
+      absurd (omega (arith, before, all))
+  is_stored Working next ends d = absurd (ends refl)
+  is_stored (Done receipt) next ends d =
+      let before = stored_before in
+      let more = d.1.more in
+      let known = d.1.known in
+      let last : receipt.number ≡ number = omega (arith, before, more, known) in
+      d.1.next_is ∙ ap (λ (n : ℕ). record handed { acknowledged = n }) last
+
+  pub learnt : (n : ℕ) (next : Machine) → Learns stored n next → next ≡ stored
+  learnt n next l =
+      l.next_is
+      ∙ same_flag stored (accepted.noticed || accepted.failed)
+      (ap (λ (b : Bool). accepted.noticed || b) (still_sound ∙ sym not_noticed)
+      ∙ or_same accepted.noticed)
+
+  pub rests : IsAtRest stored
+  rests = record {
+    noticed = not_noticed ∙ sym still_sound;
+    sealed = λ x. sym all_commands;
+    stored = λ x. sym all_commands;
+  }
+
+  abbrev pub lost : Machine
+  lost = record handed { failed = true; noticed = true }
+
+  pub is_failed : (e : AdvanceFault) (next : Machine) → Advancing handed (Err e) next
+      → next ≡ record handed { failed = true }
+  is_failed Device next d = d.1
+  is_failed Broken next d = absurd (not_both (sym still_sound ∙ d.0))
+    where
+      not_both : false ≡ true → ⊥
+      not_both same = cc
+
+  pub noticed_now : (n : ℕ) (next : Machine) → Learns (record handed { failed = true }) n next
+      → next ≡ lost
+  noticed_now n next l =
+      l.next_is
+      ∙ ap (λ (b : Bool). record handed { failed = true; noticed = b }) (or_true accepted.noticed)
+
+  pub rests_lost : IsAtRest lost
+  rests_lost = record {
+    noticed = refl;
+    sealed = λ same. absurd (cc);
+    stored = λ same. absurd (cc);
+  }
+
+  -- ---- the call as a whole
+
+  hands : (Moments : (List ℕ → Type 0) → Type 0) → Moments (StandsForSome sizes handed)
+      → Hands sizes k change Moments number handed
+  hands Moments moments = record {
+    accepted = accepted;
+    answers = a;
+    handed_is = refl;
+    moments = moments;
+  }
+
+  pub stores : {Moved Goes : Machine → Type 0} (asked : Change (List ℕ)) → Asks asked change
+      → (Moments : (List ℕ → Type 0) → Type 0) → Moments (StandsForSome sizes handed)
+      → (p : Progress) → (IsWorking (Ok p) → ⊥) → Leads (Advancing handed (Ok p)) Moved → (n : ℕ)
+      → ((j : Machine) → Moved j → Leads (Learns j n) Goes)
+      → Storing sizes k asked Moments (Ok number) Goes
+  stores {Moved = Moved} {Goes = Goes} asked asks Moments moments p ends moved n learns =
+      let l = learns stored (subst Moved (is_stored p moved.next ends moved.does) moved.goes) in
+      let same = learnt n l.next l.does in
+      record {
+        change = change;
+        asks = asks;
+        leads = record {
+          next = stored;
+          does = (handed, hands Moments moments, refl, rests);
+          goes = subst Goes same l.goes;
+        };
+      }
+
+  pub loses : {Moved Goes : Machine → Type 0} (asked : Change (List ℕ)) → Asks asked change
+      → (Moments : (List ℕ → Type 0) → Type 0) → Moments (StandsForSome sizes handed)
+      → (e : AdvanceFault) → Leads (Advancing handed (Err e)) Moved → (n : ℕ)
+      → ((j : Machine) → Moved j → Leads (Learns j n) Goes)
+      → Storing sizes k asked Moments (Err (Unsure number)) Goes
+  loses {Moved = Moved} {Goes = Goes} asked asks Moments moments e moved n learns =
+      let l = learns (record handed { failed = true })
+      (subst Moved (is_failed e moved.next moved.does) moved.goes) in
+      let same = noticed_now n l.next l.does in
+      record {
+        change = change;
+        asks = asks;
+        leads = record {
+          next = lost;
+          does = (handed, hands Moments moments, refl, rests_lost);
+          goes = subst Goes same l.goes;
+        };
+      }
+
+  -- the device failed in this call
+  pub fails : {Moved : Machine → Type 0} (before now : ℕ) (e : AdvanceFault)
+      → Leads (Advancing handed (Err e)) Moved → HasRisen before now (Err e)
+      → FailsOnly before now (Err (Unsure number))
+  fails before now Device moved risen = record {
+    later = risen.later;
+    unsure = λ x. risen.device tt;
+  }
+  fails before now Broken moved risen = absurd (not_both (sym still_sound ∙ moved.does.0))
+    where
+      not_both : false ≡ true → ⊥
+      not_both same = cc
+
+-- ---- a command that isn't handed out
+
+pub refuses : {Goes : Machine → Type 0} (sizes : Sizes) (k : Machine) (asked : Change (List ℕ))
+    (Moments : (List ℕ → Type 0) → Type 0) (r : Refusal) → IsAtRest k
+    → Accepting sizes k asked (Err r) Goes → Storing sizes k asked Moments (Err (Refused r)) Goes
+refuses sizes k asked Moments r rest accepting = record {
+  change = accepting.change;
+  asks = accepting.asks;
+  leads = record {
+    next = accepting.leads.next;
+    does = (accepting.leads.does, subst IsAtRest (sym accepting.leads.does.0) rest);
+    goes = accepting.leads.goes;
+  };
+}
+
+-- no group was handed out
+pub unsealed : {Accepted Goes : Machine → Type 0} {E : Type 0} (sizes : Sizes) (k : Machine)
+    (asked : Change (List ℕ)) (Moments : (List ℕ → Type 0) → Type 0) (number : ℕ)
+    (result : Result (Option Sealed) E) → true ≡ is_err result
+    → (accepting : Accepting sizes k asked (Ok number) Accepted)
+    → ((j : Machine) → Accepted j → Leads (Sealing j result) Goes)
+    → Storing sizes k asked Moments (Err (NoMemory number)) Goes
+unsealed sizes k asked Moments number (Ok x) is accepting seals = absurd (cc)
+unsealed {Goes} sizes k asked Moments number (Err e) is accepting seals =
+    let s = seals accepting.leads.next accepting.leads.goes in
+    record {
+      change = accepting.change;
+      asks = accepting.asks;
+      leads = record {
+        next = accepting.leads.next;
+        does = accepting.leads.does;
+        goes = subst Goes s.does.1 s.goes;
+      };
+    }
+
+-- the group that was handed out
+pub sealed : {Goes : Machine → Type 0} {E : Type 0} (sizes : Sizes) (k : Machine)
+    (change : Change ClassFile) (number : ℕ) (accepted : Machine) (rest : IsAtRest k)
+    (a : Answers sizes k change (Ok number) accepted) (result : Result (Option Sealed) E)
+    → false ≡ is_err result → Leads (Sealing accepted result) Goes
+    → Goes (handed sizes k change number accepted rest a)
+sealed sizes k change number accepted rest a (Ok None) is seals =
+    absurd (some_waits sizes k change number accepted rest a seals.does.0)
+sealed {Goes = Goes} sizes k change number accepted rest a (Ok (Some group)) is seals =
+    subst Goes (is_handed sizes k change number accepted rest a group seals.next seals.does)
+    seals.goes
+sealed sizes k change number accepted rest a (Err e) is seals = absurd (cc)

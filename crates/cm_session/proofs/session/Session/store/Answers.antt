@@ -1,0 +1,100 @@
+use Rattle.std.proofs.Common.{Err, subst, sym, ◌∙◌}
+use Rattle.cm_guards.specs.Calls.{LeavesOnly}
+use Rattle.cm_prepare.specs.Commands.{change_asked}
+use Rattle.cm_commit.specs.States.{CommitterState}
+use Rattle.cm_machine.specs.Machine.{Machine}
+use Rattle.cm_session.specs.Images.{StandsForSome}
+use Rattle.cm_session.specs.declared.storing.NotStored.TheVariants.{Unsure}
+use Rattle.cm_session.specs.Storing.{FailsOnly}
+use Rattle.cm_session.proofs.Stored.{refuses, unsealed, sealed, handed, stores, loses, fails}
+use Rattle.cm_session.proofs.session.Session.store.Goals as goal
+
+pub returns-in-Err-clause-machine : goal.returns-in-Err-clause-machine
+returns-in-Err-clause-machine g c =
+    let s = c.args.self.now in
+    λ k goes rest.
+    refuses s.committer.sizes k (change_asked c.args.command)
+    (LeavesOnly g.D.Disk.moment g.D.Disk.left_since s.committer.disk c.accept.new.self.committer.disk)
+    c.in-Err.refusal rest (c.in-Err.ensures.machine k goes)
+
+pub returns-then-is_err-clause-machine : goal.returns-then-is_err-clause-machine
+returns-then-is_err-clause-machine g c =
+    let s = c.args.self.now in
+    λ k goes rest.
+    unsealed s.committer.sizes k (change_asked c.args.command)
+    (LeavesOnly g.D.Disk.moment g.D.Disk.left_since s.committer.disk c.seal.new.self.committer.disk)
+    c.in-Ok.number c.seal.result c.if-is_err.ensures.value (c.in-Ok.ensures.machine k goes)
+    c.seal.ensures.machine
+
+pub returns-in-Ok-progress-clause-machine : goal.returns-in-Ok-progress-clause-machine
+returns-in-Ok-progress-clause-machine g c =
+    let s = c.args.self.now in
+    let disk = g.D.Disk in
+    let sizes = s.committer.sizes in
+    let left = c.learn.new.self.committer.disk in
+    λ k goes rest.
+    let a = c.in-Ok.ensures.machine k goes in
+    let accepted = a.leads.next in
+    let answers = a.leads.does in
+    let number = c.in-Ok.number in
+    let h : Machine = handed sizes k a.change number accepted rest answers in
+    let with_it = sealed sizes k a.change number accepted rest answers c.seal.result
+    c.if-is_err.ensures.value (c.seal.ensures.machine accepted a.leads.goes) in
+    let same = c.seal.ensures.disk ∙ c.accept.ensures.disk in
+    let moments : LeavesOnly disk.moment disk.left_since s.committer.disk left (StandsForSome sizes h) =
+    subst (λ (d : CommitterState _). LeavesOnly disk.moment disk.left_since s.committer.disk d.disk
+    (StandsForSome sizes h)) (sym c.learn.ensures.disk)
+    (subst (λ (b : CommitterState _). LeavesOnly disk.moment disk.left_since b.disk
+    c.advance_group-progress.new.self.committer.disk (StandsForSome b.sizes h)) same
+    (c.advance_group-progress.ensures.any_moment h with_it)) in
+    stores sizes k a.change number accepted rest answers (change_asked c.args.command) a.asks
+    (LeavesOnly disk.moment disk.left_since s.committer.disk left) moments c.in-Ok-progress.field-0
+    c.in-Ok-progress.ensures.ends (c.in-Ok-progress.ensures.machine h with_it) c.learn.result
+    c.learn.ensures.machine
+
+pub returns-in-Err-progress-clause-machine : goal.returns-in-Err-progress-clause-machine
+returns-in-Err-progress-clause-machine g c =
+    let s = c.args.self.now in
+    let disk = g.D.Disk in
+    let sizes = s.committer.sizes in
+    let left = c.learn.new.self.committer.disk in
+    λ k goes rest.
+    let a = c.in-Ok.ensures.machine k goes in
+    let accepted = a.leads.next in
+    let answers = a.leads.does in
+    let number = c.in-Ok.number in
+    let h : Machine = handed sizes k a.change number accepted rest answers in
+    let with_it = sealed sizes k a.change number accepted rest answers c.seal.result
+    c.if-is_err.ensures.value (c.seal.ensures.machine accepted a.leads.goes) in
+    let same = c.seal.ensures.disk ∙ c.accept.ensures.disk in
+    let moments : LeavesOnly disk.moment disk.left_since s.committer.disk left (StandsForSome sizes h) =
+    subst (λ (d : CommitterState _). LeavesOnly disk.moment disk.left_since s.committer.disk d.disk
+    (StandsForSome sizes h)) (sym c.learn.ensures.disk)
+    (subst (λ (b : CommitterState _). LeavesOnly disk.moment disk.left_since b.disk
+    c.advance_group-progress.new.self.committer.disk (StandsForSome b.sizes h)) same
+    (c.advance_group-progress.ensures.any_moment h with_it)) in
+    loses sizes k a.change number accepted rest answers (change_asked c.args.command) a.asks
+    (LeavesOnly disk.moment disk.left_since s.committer.disk left) moments c.in-Err-progress.field-0
+    (c.in-Err-progress.ensures.machine h with_it) c.learn.result c.learn.ensures.machine
+
+pub returns-in-Err-progress-clause-cause : goal.returns-in-Err-progress-clause-cause
+returns-in-Err-progress-clause-cause g c =
+    let s = c.args.self.now in
+    let failures = g.D.Disk.failures in
+    let sizes = s.committer.sizes in
+    λ k goes rest.
+    let a = c.in-Ok.ensures.machine k goes in
+    let accepted = a.leads.next in
+    let answers = a.leads.does in
+    let number = c.in-Ok.number in
+    let h : Machine = handed sizes k a.change number accepted rest answers in
+    let with_it = sealed sizes k a.change number accepted rest answers c.seal.result
+    c.if-is_err.ensures.value (c.seal.ensures.machine accepted a.leads.goes) in
+    let same = c.seal.ensures.disk ∙ c.accept.ensures.disk in
+    let now = failures c.advance_group-progress.new.self.committer.disk in
+    subst (λ (d : CommitterState _). FailsOnly (failures s.committer.disk) (failures d.disk)
+    (Err (Unsure number))) (sym c.learn.ensures.disk)
+    (subst (λ (b : CommitterState _). FailsOnly (failures b.disk) now (Err (Unsure number))) same
+    (fails sizes k a.change number accepted rest answers
+    (failures c.seal.new.self.committer.disk) now c.in-Err-progress.field-0
+    (c.in-Err-progress.ensures.machine h with_it) c.in-Err-progress.ensures.cause))

@@ -1,0 +1,73 @@
+-- What it is to store a command, for the machine: it is accepted, handed out and acknowledged
+-- before the next one.
+use Rattle.std.specs.Prelude.{◌≡◌, ◌≤◌, ◌<◌, ℕ, true, false, List, Result, Ok, Err}
+use Rattle.cm_class.specs.declared.class_file.ClassFile.{ClassFile}
+use Rattle.cm_pool.specs.Geometry.{Sizes}
+use Rattle.cm_state.specs.Step.{Change}
+use Rattle.cm_commit.specs.declared.progress.Progress.{Progress}
+use Rattle.cm_commit.specs.declared.progress.Progress.TheVariants.{Working}
+use Rattle.cm_commit.specs.declared.progress.AdvanceFault.{AdvanceFault}
+use Rattle.cm_machine.specs.Machine.{Machine, Asks, accepted_to}
+use Rattle.cm_session.specs.declared.storing.NotStored.{NotStored}
+use Rattle.cm_session.specs.declared.storing.NotStored.TheVariants.{Refused, NoMemory, Unsure}
+use Rattle.cm_session.specs.Images.{StandsForSome}
+use Rattle.cm_session.specs.Moves.{Leads, Answers}
+
+abbrev pub IsWorking : Result Progress AdvanceFault → Type 0
+IsWorking result = result ≡ Ok Working
+
+-- Everything that was accepted is acknowledged, unless the device failed, which was noticed.
+pub record IsAtRest (k : Machine) : Type 0 where
+  pub noticed : k.noticed ≡ k.failed
+  pub sealed : k.failed ≡ false → k.sealed ≡ accepted_to k
+  pub stored : k.failed ≡ false → k.acknowledged ≡ accepted_to k
+
+-- The command was handed out alone. Whichever call a crash fell into, the file stands for what was
+-- acknowledged before, or for that and this command.
+pub record Hands (sizes : Sizes) (k : Machine) (change : Change ClassFile)
+    (Moments : (List ℕ → Type 0) → Type 0) (number : ℕ) (handed : Machine) : Type 0 where
+  pub accepted : Machine
+  pub answers : Answers sizes k change (Ok number) accepted
+  pub handed_is : handed ≡ record accepted { sealed = number }
+  pub moments : Moments (StandsForSome sizes handed)
+
+-- It is stored; or refused, with nothing changed; or an allocation failed before it was handed out;
+-- or the device failed, and the file may hold it or not.
+abbrev pub Stores : Sizes → Machine → Change ClassFile → ((List ℕ → Type 0) → Type 0)
+    → Result ℕ NotStored → Machine → Type 0
+Stores sizes k change Moments (Ok number) next =
+    (handed : Machine) × Hands sizes k change Moments number handed
+    × (next ≡ record handed { acknowledged = number }) × IsAtRest next
+Stores sizes k change Moments (Err (Refused r)) next =
+    Answers sizes k change (Err r) next × IsAtRest next
+Stores sizes k change Moments (Err (NoMemory number)) next =
+    Answers sizes k change (Ok number) next
+Stores sizes k change Moments (Err (Unsure number)) next =
+    (handed : Machine) × Hands sizes k change Moments number handed
+    × (next ≡ record handed { failed = true; noticed = true }) × IsAtRest next
+
+-- for the change of classes that a command asks for
+pub record Storing (sizes : Sizes) (k : Machine) (asked : Change (List ℕ))
+    (Moments : (List ℕ → Type 0) → Type 0) (result : Result ℕ NotStored) (Goes : Machine → Type 0)
+    : Type 0 where
+  pub change : Change ClassFile
+  pub asks : Asks asked change
+  pub leads : Leads (Stores sizes k change Moments result) Goes
+
+abbrev pub IsUnsure : Result ℕ NotStored → Type 0
+IsUnsure (Ok number) = ⊥
+IsUnsure (Err (Refused r)) = ⊥
+IsUnsure (Err (NoMemory number)) = ⊥
+IsUnsure (Err (Unsure number)) = Unit {0}
+
+-- A command is unsure only where the device failed in this call.
+pub record FailsOnly (before now : ℕ) (result : Result ℕ NotStored) : Type 0 where
+  pub later : before ≤ now
+  pub unsure : IsUnsure result → before < now
+
+-- no device call is made
+abbrev pub MakesNoCall : Result ℕ NotStored → Type 0
+MakesNoCall (Ok number) = ⊥
+MakesNoCall (Err (Refused r)) = Unit {0}
+MakesNoCall (Err (NoMemory number)) = Unit {0}
+MakesNoCall (Err (Unsure number)) = ⊥

@@ -1,0 +1,86 @@
+//! One command after another: each is stored before the next is accepted.
+
+ghost use Rattle.std.specs.Prelude.{◌≡◌, true};
+ghost use Rattle.cm_guards.specs.Calls.{LeavesOnly};
+ghost use Rattle.cm_prepare.specs.Commands.{change_asked};
+ghost use Rattle.cm_commit.specs.Advances.{HasRisen};
+ghost use Rattle.cm_machine.specs.Machine.{Machine};
+ghost use Rattle.cm_session.specs.Images.{StandsForSome};
+ghost use Rattle.cm_session.specs.Moves.{GoesWith, Leads, Advancing};
+ghost use Rattle.cm_session.specs.Storing.{IsWorking, IsAtRest, Storing, FailsOnly, MakesNoCall};
+
+use crate::session::Session;
+use cm_commit::{AdvanceFault, Progress};
+use cm_disk::Disk;
+use cm_prepare::{Command, Refusal};
+
+/// Why a command isn't known to be stored.
+#[derive(Clone, Copy, Debug, PartialEq, Eq)]
+pub enum NotStored {
+    /// The command is refused; nothing changed.
+    Refused(Refusal),
+    /// The command was accepted with this number, but an allocation failed before it was handed
+    /// out; the disk wasn't touched.
+    NoMemory(u64),
+    /// The device failed while the command of this number was being stored: the file holds it, or
+    /// it doesn't. No further command is accepted.
+    Unsure(u64),
+}
+
+fn is_working(progress: &Result<Progress, AdvanceFault>) -> bool
+    ensures is { result ≡ true → IsWorking progress.now }
+    ensures whenever { IsWorking progress.now → result ≡ true }
+{
+    matches!(progress, Ok(Progress::Working))
+}
+
+impl<D: Disk> Session<D> {
+    /// Makes device calls until a group is stored, the device fails, or nothing is left to do.
+    fn advance_group(&mut self) -> Result<Progress, AdvanceFault>
+        ensures machine { (k : Machine) → GoesWith k self.old
+            → Leads (Advancing k result) (λ next. GoesWith next self.new) }
+        ensures ends { IsWorking result → ⊥ }
+        ensures any_moment { (k : Machine) → GoesWith k self.old
+            → LeavesOnly D.moment D.left_since self.old.committer.disk self.new.committer.disk
+            (StandsForSome self.old.committer.sizes k) }
+        ensures cause { HasRisen (D.failures self.old.committer.disk)
+            (D.failures self.new.committer.disk) result }
+        ensures sizes { self.new.committer.sizes ≡ self.old.committer.sizes }
+    {
+        let mut progress = self.advance();
+        while is_working(&progress) {
+            progress = self.advance();
+        }
+        progress
+    }
+
+    /// Accepts a command and stores it: at `Ok`, with its number, no crash loses it any more.
+    ///
+    /// For a session in which everything accepted is stored, as it is when it was opened, and as
+    /// it is again after an `Ok` or a refusal.
+    pub fn store(&mut self, command: Command<'_>) -> Result<u64, NotStored>
+        ensures machine { (k : Machine) → GoesWith k self.old → IsAtRest k
+            → Storing self.old.committer.sizes k (change_asked command.entry)
+            (LeavesOnly D.moment D.left_since self.old.committer.disk self.new.committer.disk)
+            result (λ next. GoesWith next self.new) }
+        ensures cause { (k : Machine) → GoesWith k self.old → IsAtRest k
+            → FailsOnly (D.failures self.old.committer.disk) (D.failures self.new.committer.disk)
+            result }
+        ensures no_call { MakesNoCall result → self.new.committer ≡ self.old.committer }
+        ensures sizes { self.new.committer.sizes ≡ self.old.committer.sizes }
+    {
+        let number = match self.accept(command) {
+            Ok(number) => number,
+            Err(refusal) => return Err(NotStored::Refused(refusal)),
+        };
+        if self.seal().is_err() {
+            return Err(NotStored::NoMemory(number));
+        }
+        let progress = self.advance_group();
+        self.learn();
+        match progress {
+            Ok(_) => Ok(number),
+            Err(_) => Err(NotStored::Unsure(number)),
+        }
+    }
+}
