@@ -89,6 +89,15 @@ impl Front {
         Some(found.record())
     }
 
+    /// The accepted loaders and classes by their rows, each class with its record.
+    pub fn rows(&self) -> &Book<Prepared>
+        ensures sizes { result.now.sizes ≡ self.now.sizes }
+        ensures rows { result.now.rows ≡ self.now.rows }
+        ensures lawful { IsFront self.now }
+    {
+        &self.book
+    }
+
     /// Hands out the oldest group of accepted commands, with the number that is known to be stored
     /// by now. `None` where all commands are handed out. Takes no memory.
     pub fn seal(&mut self) -> Option<Group>
