@@ -91,8 +91,8 @@ fn apply_command<'a>(alloc: Global) -> Result<Command<'a>, AllocError> {
         .action(ArgAction::SetTrue);
     Command::new(alloc, APPLY)
         .about(
-            "Run a script from standard input: lines `loader NAME`, `define NAME HEX`, \
-             `find NAME CLASS`",
+            "Run a script from standard input: lines `loader NAME`, `unload NAME`, \
+             `define NAME HEX`, `find NAME CLASS`",
         )
         .arg(file)?
         .arg(memory)
