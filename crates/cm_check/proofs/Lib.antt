@@ -1,0 +1,3 @@
+mod Tallies
+mod Counts
+mod Checked
