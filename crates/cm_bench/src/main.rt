@@ -13,9 +13,6 @@ mod pools;
 mod report;
 mod samples;
 mod step;
-mod stream;
-#[cfg(test)]
-mod tests;
 
 use crate::command::{Request, read_words};
 use crate::lookups::{Lookup, subjects};
@@ -24,8 +21,8 @@ use crate::pools::Crowd;
 use crate::report::{report, report_lookup, report_pools};
 use crate::samples::Samples;
 use crate::step::Step;
-use crate::stream::classes_in;
 use anyhow::Result;
+use cm_stream::classes_in;
 use std::io::Read;
 use std::process::ExitCode;
 use std::rt::{Clock, Env};

@@ -9,13 +9,13 @@ use Rattle.std.proofs.lemmas.List.{take_at, drop_at, take-append-drop, length-ap
 use Rattle.std.proofs.lemmas.List.{length-drop, append-nil, flat_map_more}
 use Rattle.std.proofs.lemmas.List.Concat.{flat_map-cons}
 use Rattle.std.proofs.lemmas.Option.{option_and_then_some, some_pair_parts}
-use Rattle.cm_bench.specs.Stream.{frame, stream_of, Fits, AllFit, EndsInClass, number_at, piece_at}
-use Rattle.cm_bench.specs.Stream.{first_at, EndsEarly, IsFault, Answers}
-use Rattle.cm_bench.specs.declared.stream.StreamFault.{StreamFault}
-use Rattle.cm_bench.specs.declared.stream.StreamFault.TheVariants.{InLength, InClass, NoMemory}
-use Rattle.cm_bench.proofs.Numbers.{IsBytes, IsBytes-drop, let_through, held_back, wide32}
-use Rattle.cm_bench.proofs.Numbers.{TakesNumber, number_takes, number_again, number_short}
-use Rattle.cm_bench.proofs.Numbers.{number_long}
+use Rattle.cm_stream.specs.Stream.{frame, stream_of, Fits, AllFit, EndsInClass, number_at, piece_at}
+use Rattle.cm_stream.specs.Stream.{first_at, EndsEarly, IsFault, Answers}
+use Rattle.cm_stream.specs.declared.stream.StreamFault.{StreamFault}
+use Rattle.cm_stream.specs.declared.stream.StreamFault.TheVariants.{InLength, InClass, NoMemory}
+use Rattle.cm_stream.proofs.Numbers.{IsBytes, IsBytes-drop, let_through, held_back, wide32}
+use Rattle.cm_stream.proofs.Numbers.{TakesNumber, number_takes, number_again, number_short}
+use Rattle.cm_stream.proofs.Numbers.{number_long}
 
 -- a class that was read from the front of a stream
 pub record TakesClass (bytes class behind : List ℕ) : Type 0 where

@@ -1,6 +1,6 @@
 use Rattle.std.proofs.Common.{◌≡◌, ◌≤◌, ◌++◌, length, map}
-use Rattle.cm_bench.specs.Stream.{stream_of, AllFit}
-use Rattle.cm_bench.proofs.stream.split.Given as goal
+use Rattle.cm_stream.specs.Stream.{stream_of, AllFit}
+use Rattle.cm_stream.proofs.stream.split.Given as goal
 
 -- the classes so far, and the rest
 abbrev pub invariant-loop-rest : goal.invariant-loop-rest

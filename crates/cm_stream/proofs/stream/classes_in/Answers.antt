@@ -1,6 +1,6 @@
-use Rattle.cm_bench.proofs.Streams.{answered}
+use Rattle.cm_stream.proofs.Streams.{answered}
 use Rattle.std.proofs.Common.{map}
-use Rattle.cm_bench.proofs.stream.classes_in.Goals as goal
+use Rattle.cm_stream.proofs.stream.classes_in.Goals as goal
 
 pub returns-clause-only : goal.returns-clause-only
 returns-clause-only c =

@@ -1,8 +1,8 @@
 //! Class files one behind another, each behind its length.
 ghost use Rattle.std.specs.Prelude.{◌≡◌, ◌≤◌, ◌<◌, List, ℕ, length, map, option_map, IfOk, IfErr};
-ghost use Rattle.cm_bench.specs.Stream.{stream_of, AllFit, IsFault, Answers, EndsInLength};
-ghost use Rattle.cm_bench.specs.Stream.{EndsInClass, first_at};
-ghost use Rattle.cm_bench.specs.declared.stream.StreamFault.TheVariants.{NoMemory};
+ghost use Rattle.cm_stream.specs.Stream.{stream_of, AllFit, IsFault, Answers, EndsInLength};
+ghost use Rattle.cm_stream.specs.Stream.{EndsInClass, first_at};
+ghost use Rattle.cm_stream.specs.declared.stream.StreamFault.TheVariants.{NoMemory};
 
 use byteorder::{BigEndian, ByteOrder};
 use std::alloc::{AllocError, AllocFailed, Global};

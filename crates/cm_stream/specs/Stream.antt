@@ -3,8 +3,8 @@ use Rattle.std.specs.Prelude.{◌≡◌, ℕ, ◌+◌, ◌^◌, ◌<◌, ◌≤�
 use Rattle.std.specs.Prelude.{Some, None, option_and_then, nat_lt, if◌then◌else◌, Result, Ok, Err}
 use Rattle.std.specs.List.{flat_map, AllByRecursion}
 use Rattle.std.specs.Int.{Width, w32, byte_len, to_be_bytes, from_be_bytes}
-use Rattle.cm_bench.specs.declared.stream.StreamFault.{StreamFault}
-use Rattle.cm_bench.specs.declared.stream.StreamFault.TheVariants.{InLength, InClass, NoMemory}
+use Rattle.cm_stream.specs.declared.stream.StreamFault.{StreamFault}
+use Rattle.cm_stream.specs.declared.stream.StreamFault.TheVariants.{InLength, InClass, NoMemory}
 
 -- how a class stands in a stream: its length in four bytes, and its bytes
 abbrev pub frame : List ℕ → List ℕ

@@ -1,9 +1,9 @@
 use Rattle.std.proofs.Common.{rules, ◌≡◌, ◌<◌, ◌-◌, None, length, map, arith, sym, inl, inr}
 use Rattle.std.proofs.lemmas.Bool.{cases_lt}
 use Rattle.std.proofs.lemmas.List.{map_push}
-use Rattle.cm_bench.specs.Stream.{first_at, EndsInLength, EndsInClass}
-use Rattle.cm_bench.proofs.Streams.{first_takes, none_first, rest_fits, goes_on, ends_early}
-use Rattle.cm_bench.proofs.stream.split.Goals as goal
+use Rattle.cm_stream.specs.Stream.{first_at, EndsInLength, EndsInClass}
+use Rattle.cm_stream.proofs.Streams.{first_takes, none_first, rest_fits, goes_on, ends_early}
+use Rattle.cm_stream.proofs.stream.split.Goals as goal
 
 pub returns-in_default-clause-fault : goal.returns-in_default-clause-fault
 returns-in_default-clause-fault c =
