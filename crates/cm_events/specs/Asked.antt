@@ -1,0 +1,127 @@
+-- Which line of a simulation asks for what, by its words: these are separated by one space, and
+-- none is empty.
+use Rattle.std.specs.Prelude.{ℕ, Bool, ◌&&◌, nat_le, nat_lt, if◌then◌else◌, List, [], ◌∷◌, length}
+use Rattle.std.specs.Prelude.{codes, Option, Some, None}
+use Rattle.std.specs.Option.{option_map, option_and_then}
+use Rattle.std.specs.Result.{result_ok}
+use Rattle.std.specs.Str.{bytes_eq}
+use Rattle.hex.specs.Hex.{decode_of}
+use Rattle.cm_pool.specs.Geometry.{Sizes}
+use Rattle.cm_lines.specs.Lines.{pieces, is_word, line_limit}
+use Rattle.cm_events.specs.declared.line.Line.{Line}
+use Rattle.cm_events.specs.declared.line.Line.TheVariants as line
+use Rattle.cm_events.specs.Numbers.{number_in}
+
+-- What is asked for: loaders, classes and what they are looked up by as bytes.
+pub data Asked : Type 0 where
+  AsksLoader : List ℕ → Asked
+  -- in a loader, a class of these bytes
+  AsksDefine : List ℕ → List ℕ → Asked
+  AsksUnload : List ℕ → Asked
+  AsksSeal : Asked
+  AsksAdvance : Asked
+  AsksLearn : Asked
+  AsksLook : List ℕ → List ℕ → Asked
+  AsksFault : ℕ → Asked
+  AsksReopen : Asked
+  -- a length, and the bytes that fill what is loose
+  AsksCrash : ℕ → List ℕ → Asked
+
+-- the bytes that digits spell
+abbrev pub bytes_in : List ℕ → Option (List ℕ)
+bytes_in digits = result_ok (decode_of digits)
+
+-- a class of these digits in a loader
+abbrev pub define_of : List ℕ → List ℕ → Option Asked
+define_of loader digits = option_map (λ bytes. AsksDefine loader bytes) (bytes_in digits)
+
+-- a crash that leaves this length; a dash is no bytes
+abbrev pub crash_of : ℕ → List ℕ → Option Asked
+crash_of len digits =
+    if bytes_eq digits (codes "-") then Some (AsksCrash len [])
+    else option_map (λ bytes. AsksCrash len bytes) (bytes_in digits)
+
+-- ---- by the number of words
+
+abbrev pub asked_alone : List ℕ → Option Asked
+asked_alone verb =
+    if bytes_eq verb (codes "seal") then Some AsksSeal
+    else if bytes_eq verb (codes "advance") then Some AsksAdvance
+    else if bytes_eq verb (codes "learn") then Some AsksLearn
+    else if bytes_eq verb (codes "reopen") then Some AsksReopen
+    else None
+
+abbrev pub asked_of_one : List ℕ → List ℕ → Option Asked
+asked_of_one verb word =
+    if bytes_eq verb (codes "loader") && is_word word then Some (AsksLoader word)
+    else if bytes_eq verb (codes "unload") && is_word word then Some (AsksUnload word)
+    else if bytes_eq verb (codes "fault") then option_map AsksFault (number_in word)
+    else None
+
+abbrev pub asked_of_two : List ℕ → List ℕ → List ℕ → Option Asked
+asked_of_two verb word last =
+    if bytes_eq verb (codes "define") && (is_word word && is_word last) then define_of word last
+    else if bytes_eq verb (codes "look") && (is_word word && is_word last)
+    then Some (AsksLook word last)
+    else if bytes_eq verb (codes "crash") && is_word last
+    then option_and_then (λ len. crash_of len last) (number_in word)
+    else None
+
+-- of the words that the line consists of
+abbrev pub asked_of_words : List (List ℕ) → Option Asked
+asked_of_words [] = None
+asked_of_words (verb ∷ []) = asked_alone verb
+asked_of_words (verb ∷ word ∷ []) = asked_of_one verb word
+asked_of_words (verb ∷ word ∷ last ∷ []) = asked_of_two verb word last
+asked_of_words (verb ∷ word ∷ last ∷ further ∷ more) = None
+
+-- A line that is too long asks for nothing, whatever it says.
+abbrev pub event_of_line : List ℕ → Option Asked
+event_of_line line =
+    if nat_lt line_limit (length line) then None else asked_of_words (pieces 32 line)
+
+-- ---- the program's values
+
+-- the digits aren't read yet
+abbrev pub seen : Line → Option Asked
+seen (line.Loader name) = Some (AsksLoader name.now)
+seen (line.Define loader digits) = define_of loader.now digits.now
+seen (line.Unload name) = Some (AsksUnload name.now)
+seen line.Seal = Some AsksSeal
+seen line.Advance = Some AsksAdvance
+seen line.Learn = Some AsksLearn
+seen (line.Look loader class) = Some (AsksLook loader.now class.now)
+seen (line.Fault stores) = Some (AsksFault stores)
+seen line.Reopen = Some AsksReopen
+seen (line.Crash len digits) = crash_of len digits.now
+
+-- ---- the first line
+
+abbrev pub are_sizes : ℕ → ℕ → ℕ → Bool
+are_sizes top roots slots =
+    (nat_le 3 top && nat_le top 12) && (nat_le 1 roots && nat_le roots 256)
+    && (nat_le 256 slots && nat_le slots 65536)
+
+-- sizes within their limits
+abbrev pub sizes_of : Option ℕ → Option ℕ → Option ℕ → Option Sizes
+sizes_of None roots slots = None
+sizes_of (Some top) None slots = None
+sizes_of (Some top) (Some roots) None = None
+sizes_of (Some top) (Some roots) (Some slots) =
+    if are_sizes top roots slots then Some (record { top = top; roots = roots; slots = slots })
+    else None
+
+abbrev pub geometry_of_words : List (List ℕ) → Option Sizes
+geometry_of_words [] = None
+geometry_of_words (verb ∷ []) = None
+geometry_of_words (verb ∷ top ∷ []) = None
+geometry_of_words (verb ∷ top ∷ roots ∷ []) = None
+geometry_of_words (verb ∷ top ∷ roots ∷ slots ∷ []) =
+    if bytes_eq verb (codes "geometry")
+    then sizes_of (number_in top) (number_in roots) (number_in slots) else None
+geometry_of_words (verb ∷ top ∷ roots ∷ slots ∷ further ∷ more) = None
+
+-- the sizes that a simulation's first line gives
+abbrev pub geometry_of_line : List ℕ → Option Sizes
+geometry_of_line line =
+    if nat_lt line_limit (length line) then None else geometry_of_words (pieces 32 line)

@@ -1,0 +1,119 @@
+-- What becomes of the lines of a simulation.
+use Rattle.std.specs.Prelude.{◌≡◌, ℕ, ◌+◌, ◌++◌, if◌then◌else◌, List, [], ◌∷◌, Option, Some, None}
+use Rattle.std.specs.Prelude.{map, is_some}
+use Rattle.std.specs.List.{flat_map}
+use Rattle.cm_class.specs.declared.class_file.ClassFile.{ClassFile}
+use Rattle.cm_record.specs.Layout.{lay}
+use Rattle.cm_rules.specs.Answer.{IsRight}
+use Rattle.cm_prepare.specs.Prepare.{IsUnprepared}
+use Rattle.cm_prepare.specs.declared.command.Command.{Command}
+use Rattle.cm_prepare.specs.declared.command.Command.TheVariants as command
+use Rattle.cm_prepare.specs.declared.refusal.Refusal.{Refusal}
+use Rattle.cm_world.specs.declared.event.Event.{Event}
+use Rattle.cm_world.specs.declared.event.Event.TheVariants as event
+use Rattle.cm_events.specs.declared.made.Made.{Made}
+use Rattle.cm_events.specs.declared.made.Made.TheVariants as made
+use Rattle.cm_events.specs.declared.simulation.Turn.{Turn}
+use Rattle.cm_events.specs.declared.simulation.Turn.TheVariants as turn
+use Rattle.cm_events.specs.declared.simulation.Simulation.{Simulation}
+use Rattle.cm_events.specs.declared.fault.SimulationFault.{SimulationFault}
+use Rattle.cm_events.specs.declared.fault.SimulationFault.TheVariants as fault
+use Rattle.cm_events.specs.Asked.{Asked, AsksLoader, AsksDefine, AsksUnload, AsksSeal, AsksAdvance}
+use Rattle.cm_events.specs.Asked.{AsksLearn, AsksLook, AsksFault, AsksReopen, AsksCrash}
+use Rattle.cm_events.specs.Asked.{event_of_line, geometry_of_line}
+
+-- ---- one line
+
+-- a definition of the class that these bytes are, by the words of its record
+pub record IsDefinition (asked : Option Asked) (loader words : List ℕ) : Type 0 where
+  pub bytes : List ℕ
+  pub asked_is : asked ≡ Some (AsksDefine loader bytes)
+  pub c : ClassFile
+  pub right : IsRight bytes c
+  pub words_are : words ≡ lay c
+
+-- the command is what is asked for
+abbrev pub IsCommand : Option Asked → Command → Type 0
+IsCommand asked (command.AddLoader name) = asked ≡ Some (AsksLoader name.now)
+IsCommand asked (command.Define loader class) = IsDefinition asked loader.now class
+IsCommand asked (command.Unload name) = asked ≡ Some (AsksUnload name.now)
+
+-- the event is what is asked for
+abbrev pub IsEvent : Option Asked → Event → Type 0
+IsEvent asked (event.Accept command) = IsCommand asked command
+IsEvent asked event.Seal = asked ≡ Some AsksSeal
+IsEvent asked event.Advance = asked ≡ Some AsksAdvance
+IsEvent asked event.Learn = asked ≡ Some AsksLearn
+IsEvent asked (event.Look loader class) = asked ≡ Some (AsksLook loader.now class.now)
+IsEvent asked (event.Fault stores) = asked ≡ Some (AsksFault stores)
+IsEvent asked event.Reopen = asked ≡ Some AsksReopen
+IsEvent asked (event.Crash choice) = asked ≡ Some (AsksCrash choice.len choice.fill.items)
+
+-- a class is to be defined of bytes that can't be prepared, so that there is no event
+pub record IsRefused (asked : Option Asked) (r : Refusal) : Type 0 where
+  pub loader : List ℕ
+  pub bytes : List ℕ
+  pub asked_is : asked ≡ Some (AsksDefine loader bytes)
+  pub unprepared : IsUnprepared bytes r
+
+abbrev pub Comes : Option Asked → Made → Type 0
+Comes asked (made.Runs e) = IsEvent asked e
+Comes asked (made.Refused r) = IsRefused asked r
+
+-- ---- all lines
+
+abbrev pub EachComes : List (List ℕ) → List Made → Type 0
+EachComes [] [] = Unit {0}
+EachComes [] (m ∷ more) = ⊥
+EachComes (line ∷ lines) [] = ⊥
+EachComes (line ∷ lines) (m ∷ more) = Comes (event_of_line line) m × EachComes lines more
+
+abbrev pub event_in : Made → List Event
+event_in (made.Runs e) = e ∷ []
+event_in (made.Refused r) = []
+
+abbrev pub turn_of : Made → Turn
+turn_of (made.Runs e) = turn.Runs
+turn_of (made.Refused r) = turn.Refused r
+
+-- one turn a line, and the events of those that run, in order
+pub record AreOf (lines : List (List ℕ)) (events : List Event) (turns : List Turn)
+    : Type 0 where
+  pub made : List Made
+  pub each : EachComes lines made
+  pub events_are : events ≡ flat_map event_in made
+  pub turns_are : turns ≡ map turn_of made
+
+-- the first line gives the sizes, and those behind it the events
+pub record IsSimulation (lines : List (List ℕ)) (s : Simulation) : Type 0 where
+  pub first : List ℕ
+  pub rest : List (List ℕ)
+  pub lines_are : lines ≡ first ∷ rest
+  pub geometry : geometry_of_line first ≡ Some s.geometry
+  pub events : AreOf rest s.events.items s.turns.items
+
+-- ---- lines of another form
+
+-- the number of the first line that is no event, where the first of these has this number
+abbrev pub first_bad_from : ℕ → List (List ℕ) → Option ℕ
+first_bad_from n [] = None
+first_bad_from n (line ∷ lines) =
+    if is_some (event_of_line line) then first_bad_from (n + 1) lines else Some n
+
+-- of the first line that has another form than it must have, counted from 1; where there is no line,
+-- the first is missing
+abbrev pub first_bad : List (List ℕ) → Option ℕ
+first_bad [] = Some 1
+first_bad (line ∷ lines) =
+    if is_some (geometry_of_line line) then first_bad_from 2 lines else Some 1
+
+abbrev pub IsFault : List (List ℕ) → SimulationFault → Type 0
+IsFault lines (fault.BadLine n) = first_bad lines ≡ Some n
+IsFault lines fault.NoMemory = Unit {0}
+
+-- the line's events and its turn are behind those that there were
+pub record Takes (line : List ℕ) (old new : Simulation) : Type 0 where
+  pub taken : Made
+  pub comes : Comes (event_of_line line) taken
+  pub events : new.events.items ≡ old.events.items ++ event_in taken
+  pub turns : new.turns.items ≡ old.turns.items ++ turn_of taken ∷ []

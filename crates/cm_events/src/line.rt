@@ -1,0 +1,144 @@
+//! What a line asks for.
+
+ghost use Rattle.std.specs.Prelude.{◌≡◌, ◌∷◌, nat_lt, length};
+ghost use Rattle.std.specs.Option.{option_map, option_and_then};
+ghost use Rattle.cm_lines.specs.Lines.{pieces, line_limit};
+ghost use Rattle.cm_events.specs.Numbers.{number_in};
+ghost use Rattle.cm_events.specs.Asked.{seen, asked_alone, asked_of_one, asked_of_two};
+ghost use Rattle.cm_events.specs.Asked.{asked_of_words, event_of_line, AsksFault, crash_of};
+
+use crate::cuts::cut;
+use crate::number::number_in;
+
+/// How many bytes a line may have, without its newline.
+const LINE_LIMIT: usize = 16_777_216;
+
+/// What a line asks for. Hexadecimal digits aren't read yet.
+#[derive(Clone, Copy, Debug, PartialEq, Eq)]
+pub(crate) enum Line<'a> {
+    /// `loader NAME`
+    Loader(&'a [u8]),
+    /// `define NAME HEX`
+    Define(&'a [u8], &'a [u8]),
+    /// `unload NAME`
+    Unload(&'a [u8]),
+    /// `seal`
+    Seal,
+    /// `advance`
+    Advance,
+    /// `learn`
+    Learn,
+    /// `look NAME CLASS`
+    Look(&'a [u8], &'a [u8]),
+    /// `fault N`
+    Fault(u64),
+    /// `reopen`
+    Reopen,
+    /// `crash LENGTH HEX`
+    Crash(u64, &'a [u8]),
+}
+
+/// Whether a line is longer than lines may be.
+pub(crate) fn is_long(line: &[u8]) -> bool
+    ensures { result ≡ nat_lt line_limit (length line.now) }
+{
+    line.len() > LINE_LIMIT
+}
+
+/// What a line asks for, if it has one of the known forms: words with one space between, none
+/// empty.
+pub(crate) fn parse(line: &[u8]) -> Option<Line<'_>>
+    ensures { option_and_then seen result ≡ event_of_line line.now }
+{
+    if is_long(line) {
+        return None;
+    }
+    by_words(line)
+}
+
+fn by_words(line: &[u8]) -> Option<Line<'_>>
+    ensures { option_and_then seen result ≡ asked_of_words (pieces 32 line.now) }
+{
+    match cut(line, b' ') {
+        None => alone(line),
+        Some((verb, rest)) => with_words(verb, rest),
+    }
+}
+
+/// Of a verb and the words behind it.
+fn with_words<'a>(verb: &[u8], rest: &'a [u8]) -> Option<Line<'a>>
+    ensures { option_and_then seen result ≡ asked_of_words (verb.now ∷ pieces 32 rest.now) }
+{
+    match cut(rest, b' ') {
+        None => with_one(verb, rest),
+        Some((word, last)) => match cut(last, b' ') {
+            None => with_two(verb, word, last),
+            Some(_) => None,
+        },
+    }
+}
+
+fn alone<'a>(verb: &[u8]) -> Option<Line<'a>>
+    ensures { option_and_then seen result ≡ asked_alone verb.now }
+{
+    if verb == b"seal".as_slice() {
+        Some(Line::Seal)
+    } else if verb == b"advance".as_slice() {
+        Some(Line::Advance)
+    } else if verb == b"learn".as_slice() {
+        Some(Line::Learn)
+    } else if verb == b"reopen".as_slice() {
+        Some(Line::Reopen)
+    } else {
+        None
+    }
+}
+
+fn with_one<'a>(verb: &[u8], word: &'a [u8]) -> Option<Line<'a>>
+    ensures { option_and_then seen result ≡ asked_of_one verb.now word.now }
+{
+    if verb == b"loader".as_slice() && !word.is_empty() {
+        Some(Line::Loader(word))
+    } else if verb == b"unload".as_slice() && !word.is_empty() {
+        Some(Line::Unload(word))
+    } else if verb == b"fault".as_slice() {
+        fault(word)
+    } else {
+        None
+    }
+}
+
+/// `fault N`
+fn fault<'a>(word: &[u8]) -> Option<Line<'a>>
+    ensures { option_and_then seen result ≡ option_map AsksFault (number_in word.now) }
+{
+    match number_in(word) {
+        Some(stores) => Some(Line::Fault(stores)),
+        None => None,
+    }
+}
+
+fn with_two<'a>(verb: &[u8], word: &'a [u8], last: &'a [u8]) -> Option<Line<'a>>
+    ensures { option_and_then seen result ≡ asked_of_two verb.now word.now last.now }
+{
+    if verb == b"define".as_slice() && !word.is_empty() && !last.is_empty() {
+        Some(Line::Define(word, last))
+    } else if verb == b"look".as_slice() && !word.is_empty() && !last.is_empty() {
+        Some(Line::Look(word, last))
+    } else if verb == b"crash".as_slice() && !last.is_empty() {
+        crash(word, last)
+    } else {
+        None
+    }
+}
+
+/// `crash LENGTH HEX`
+fn crash<'a>(word: &[u8], digits: &'a [u8]) -> Option<Line<'a>>
+    ensures { option_and_then seen result
+        ≡ option_and_then (λ len. crash_of len digits.now) (number_in word.now) }
+{
+    match number_in(word) {
+        Some(len) => Some(Line::Crash(len, digits)),
+        None => None,
+    }
+}

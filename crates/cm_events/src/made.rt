@@ -1,0 +1,108 @@
+//! Lines that become events.
+
+ghost use Rattle.std.specs.Prelude.{◌≡◌, Some, None, IfOk, IsErrOf};
+ghost use Rattle.cm_events.specs.Asked.{seen, event_of_line, define_of, crash_of, bytes_in};
+ghost use Rattle.cm_events.specs.Asked.{AsksDefine};
+ghost use Rattle.cm_events.specs.Made.{Comes};
+
+use crate::line::{Line, parse};
+use cm_disk::Choice;
+use cm_prepare::{Command, Refusal, prepare};
+use cm_world::Event;
+use hex::FromHexError;
+use std::alloc::Global;
+
+/// What becomes of a line.
+#[derive(Drop)]
+pub(crate) enum Made<'a> {
+    /// It is an event.
+    Runs(Event<'a>),
+    /// It is none: the bytes of its class can't be prepared.
+    Refused(Refusal),
+}
+
+/// Why nothing becomes of a line.
+#[derive(Clone, Copy, Debug, PartialEq, Eq)]
+pub(crate) enum LineFault {
+    /// It has no known form.
+    BadForm,
+    /// An allocation failed.
+    NoMemory,
+}
+
+/// The event that a line asks for.
+pub(crate) fn make<'a>(alloc: Global, line: &'a [u8]) -> Result<Made<'a>, LineFault>
+    ensures made { IfOk result (Comes (event_of_line line.now)) }
+    ensures bad { IsErrOf result LineFault.BadForm → event_of_line line.now ≡ None }
+{
+    match parse(line) {
+        Some(line) => make_of(alloc, line),
+        None => Err(LineFault::BadForm),
+    }
+}
+
+fn make_of<'a>(alloc: Global, line: Line<'a>) -> Result<Made<'a>, LineFault>
+    ensures made { IfOk result (Comes (seen line.entry)) }
+    ensures bad { IsErrOf result LineFault.BadForm → seen line.entry ≡ None }
+{
+    match line {
+        Line::Loader(name) => Ok(Made::Runs(Event::Accept(Command::AddLoader(name)))),
+        Line::Define(loader, digits) => define(alloc, loader, digits),
+        Line::Unload(name) => Ok(Made::Runs(Event::Accept(Command::Unload(name)))),
+        Line::Seal => Ok(Made::Runs(Event::Seal)),
+        Line::Advance => Ok(Made::Runs(Event::Advance)),
+        Line::Learn => Ok(Made::Runs(Event::Learn)),
+        Line::Look(loader, class) => Ok(Made::Runs(Event::Look(loader, class))),
+        Line::Fault(stores) => Ok(Made::Runs(Event::Fault(stores as usize))),
+        Line::Reopen => Ok(Made::Runs(Event::Reopen)),
+        Line::Crash(len, digits) => crash(alloc, len, digits),
+    }
+}
+
+/// The bytes that hexadecimal digits spell.
+fn bytes_of(alloc: Global, digits: &[u8]) -> Result<Vec<u8>, LineFault>
+    ensures ok { IfOk result (λ bytes. bytes_in digits.now ≡ Some bytes.items) }
+    ensures bad { IsErrOf result LineFault.BadForm → bytes_in digits.now ≡ None }
+{
+    match hex::decode(alloc, digits) {
+        Ok(bytes) => Ok(bytes),
+        Err(FromHexError::OutOfMemory) => Err(LineFault::NoMemory),
+        Err(_) => Err(LineFault::BadForm),
+    }
+}
+
+/// `define NAME HEX`
+fn define<'a>(alloc: Global, loader: &'a [u8], digits: &[u8]) -> Result<Made<'a>, LineFault>
+    ensures made { IfOk result (Comes (define_of loader.now digits.now)) }
+    ensures bad { IsErrOf result LineFault.BadForm → define_of loader.now digits.now ≡ None }
+{
+    match bytes_of(alloc, digits) {
+        Ok(bytes) => Ok(define_bytes(alloc, loader, &bytes)),
+        Err(fault) => Err(fault),
+    }
+}
+
+/// A class of these bytes in a loader.
+fn define_bytes<'a>(alloc: Global, loader: &'a [u8], bytes: &[u8]) -> Made<'a>
+    ensures { Comes (Some (AsksDefine loader.now bytes.now)) result }
+{
+    match prepare(alloc, bytes) {
+        Ok(class) => Made::Runs(Event::Accept(Command::Define(loader, class))),
+        Err(refusal) => Made::Refused(refusal),
+    }
+}
+
+/// `crash LENGTH HEX`
+fn crash<'a>(alloc: Global, len: u64, digits: &[u8]) -> Result<Made<'a>, LineFault>
+    ensures made { IfOk result (Comes (crash_of len digits.now)) }
+    ensures bad { IsErrOf result LineFault.BadForm → crash_of len digits.now ≡ None }
+{
+    if digits == b"-".as_slice() {
+        let fill = Vec::new(alloc);
+        return Ok(Made::Runs(Event::Crash(Choice { len, fill })));
+    }
+    match bytes_of(alloc, digits) {
+        Ok(fill) => Ok(Made::Runs(Event::Crash(Choice { len, fill }))),
+        Err(fault) => Err(fault),
+    }
+}

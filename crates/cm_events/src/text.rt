@@ -1,0 +1,140 @@
+//! The lines that answer those of a simulation.
+
+ghost use Rattle.std.specs.Prelude.{◌≡◌, ◌++◌, ◌∷◌, List, IfOk, OnOk};
+ghost use Rattle.std.specs.Option.{option_map};
+ghost use Rattle.std.specs.Arc.{arc_value};
+ghost use Rattle.cm_events.specs.declared.simulation.Turn.{Turn};
+ghost use Rattle.cm_events.specs.Texts.{numbered, refused_text, group_text, class_text};
+ghost use Rattle.cm_events.specs.Texts.{reply_text, with_newline, answers, answers_behind};
+
+use crate::simulation::Turn;
+use cm_prepare::Refusal;
+use cm_record::Record;
+use cm_session::Sealed;
+use cm_world::Reply;
+use std::alloc::{AllocError, Global};
+use std::sync::Arc;
+
+/// The lines that answer those behind a simulation's first, where these are the replies to its
+/// events: one for each line, as far as there are replies.
+pub fn answer_lines(alloc: Global, turns: &[Turn], replies: &[Reply]) -> Result<Vec<u8>, AllocError>
+    ensures { IfOk result (λ text. text.items ≡ answers turns.now replies.now) }
+{
+    let mut text = Vec::new(alloc);
+    let mut rest = replies;
+    for turn in turns {
+        match push_turn(alloc, &mut text, *turn, rest)? {
+            Some(behind) => rest = behind,
+            None => return Ok(text),
+        }
+    }
+    Ok(text)
+}
+
+/// Adds the line of one turn, and answers which replies are left; `None` where there was none for
+/// it.
+fn push_turn<'a>(
+    alloc: Global,
+    text: &mut Vec<u8>,
+    turn: Turn,
+    replies: &'a [Reply],
+) -> Result<Option<&'a [Reply]>, AllocError>
+    ensures { IfOk result (λ behind. (turns : List Turn)
+        → text.old.items ++ answers (turn ∷ turns) replies.now
+        ≡ text.new.items ++ answers_behind turns behind) }
+{
+    match turn {
+        Turn::Refused(refusal) => {
+            push_refused_line(alloc, text, refusal)?;
+            Ok(Some(replies))
+        }
+        Turn::Runs => match replies.split_first() {
+            Some((reply, behind)) => {
+                push_reply_line(alloc, text, reply)?;
+                Ok(Some(behind))
+            }
+            None => Ok(None),
+        },
+    }
+}
+
+fn push_refused_line(alloc: Global, text: &mut Vec<u8>, refusal: Refusal) -> Result<(), AllocError>
+    ensures { OnOk result
+        (text.new.items ≡ text.old.items ++ with_newline (refused_text refusal)) }
+{
+    push_refused(alloc, text, refusal)?;
+    text.push(b'\n')?;
+    Ok(())
+}
+
+fn push_reply_line(alloc: Global, text: &mut Vec<u8>, reply: &Reply) -> Result<(), AllocError>
+    ensures { OnOk result
+        (text.new.items ≡ text.old.items ++ with_newline (reply_text reply.now)) }
+{
+    push_reply(alloc, text, reply)?;
+    text.push(b'\n')?;
+    Ok(())
+}
+
+fn push_reply(alloc: Global, text: &mut Vec<u8>, reply: &Reply) -> Result<(), AllocError>
+    ensures { OnOk result (text.new.items ≡ text.old.items ++ reply_text reply.now) }
+{
+    match reply {
+        Reply::Accepted(number) => push_numbered(alloc, text, b"number", *number),
+        Reply::Refused(refusal) => push_refused(alloc, text, *refusal),
+        Reply::Sealed(group) => push_group(alloc, text, *group),
+        Reply::NothingToSeal => text.extend_from_slice(b"none"),
+        Reply::NoMemory => push_refused(alloc, text, Refusal::NoMemory),
+        Reply::Idle => text.extend_from_slice(b"idle"),
+        Reply::Working => text.extend_from_slice(b"working"),
+        Reply::Done(number) => push_numbered(alloc, text, b"done", *number),
+        Reply::DeviceFailed => text.extend_from_slice(b"device"),
+        Reply::Broken => text.extend_from_slice(b"broken"),
+        Reply::Learnt(number) => push_numbered(alloc, text, b"learnt", *number),
+        Reply::Found(found) => push_found(alloc, text, found),
+        Reply::Armed => text.extend_from_slice(b"armed"),
+        Reply::Opened(number) => push_numbered(alloc, text, b"opened", *number),
+    }
+}
+
+fn push_refused(alloc: Global, text: &mut Vec<u8>, refusal: Refusal) -> Result<(), AllocError>
+    ensures { OnOk result (text.new.items ≡ text.old.items ++ refused_text refusal) }
+{
+    push_numbered(alloc, text, b"refused", u64::from(refusal.number()))
+}
+
+fn push_group(alloc: Global, text: &mut Vec<u8>, group: Sealed) -> Result<(), AllocError>
+    ensures { OnOk result (text.new.items ≡ text.old.items ++ group_text group) }
+{
+    push_numbered(alloc, text, b"group", group.first)?;
+    push_numbered(alloc, text, b"", group.last)
+}
+
+fn push_found(
+    alloc: Global,
+    text: &mut Vec<u8>,
+    found: &Option<Arc<Record, Global>>,
+) -> Result<(), AllocError>
+    ensures { OnOk result
+        (text.new.items ≡ text.old.items ++ class_text (option_map arc_value found.now)) }
+{
+    match found {
+        Some(record) => push_numbered(alloc, text, b"class", u64::from(record.words())),
+        None => text.extend_from_slice(b"none"),
+    }
+}
+
+/// Adds a word, a space and a number.
+fn push_numbered(
+    alloc: Global,
+    text: &mut Vec<u8>,
+    word: &[u8],
+    number: u64,
+) -> Result<(), AllocError>
+    ensures { OnOk result (text.new.items ≡ text.old.items ++ numbered word.now number) }
+{
+    let digits = number.to_string(alloc)?;
+    text.extend_from_slice(word)?;
+    text.push(b' ')?;
+    text.extend_from_slice(digits.as_bytes())
+}
