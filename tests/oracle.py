@@ -3,18 +3,16 @@
 
     tests/oracle.py < SCRIPT > REPLIES
 
-It is written from the project's description of lines, faults, rules and records and from JVMS SE 8, chapter 4, and
-shares no code with the program. It knows of no device, and takes all the memory that it wants: no reply is `unsure`,
-and none is a refusal 9 or 10.
+It is written from the project's description of lines, faults, rules, records and chunks and from JVMS SE 8, chapter 4,
+and shares no code with the program. It knows of no device, and takes all the memory that it wants: no reply is `unsure`,
+and none is a refusal 9 or 10. What a file holds after a script is region.py's part.
 """
 import re
 import sys
 
 LINE_LIMIT = 16_777_216
 RECORD_LIMIT = 524_288
-ROOT_WORDS = 32_768
-ROOTS = 64
-SLOTS = 4_096
+UNIT = 128  # words of the least chunk
 
 
 # ---- the shape of a class file
@@ -146,12 +144,50 @@ class ClassFile:
         for index, method in enumerate(self.methods):
             yield "method", index, method
 
-    def record_words(self):
-        """How many words the record has: the head, the directory, interfaces, members, attributes, and the runs."""
-        attributes = [a for _, _, member in self.members() for a in member.attributes] + self.attributes
-        runs = [content for tag, content in self.pool.values() if tag == UTF8] + [content for _, content in attributes]
-        fixed = 8 + self.count + len(self.interfaces) + 2 * (len(self.fields) + len(self.methods) + len(attributes))
-        return fixed + sum((len(run) + 7) // 8 for run in runs)
+    def record(self):
+        """The words of the record: the head, the directory, interfaces, members, attributes, and the runs."""
+        lists = [member.attributes for _, _, member in self.members()] + [self.attributes]
+        attributes = [attribute for some in lists for attribute in some]
+        interfaces = 8 + self.count
+        members = interfaces + len(self.interfaces)
+        rows = members + 2 * (len(self.fields) + len(self.methods))
+        runs = rows + 2 * len(attributes)
+        tail = []
+
+        def run(content):
+            """Where the run of these bytes begins."""
+            at = runs + len(tail)
+            tail.extend(int.from_bytes(content[i:i + 8], "little") for i in range(0, len(content), 8))
+            return at
+
+        directory = [0] * self.count
+        for index in sorted(self.pool):
+            tag, content = self.pool[index]
+            if tag == UTF8:
+                directory[index] = packed(tag, len(content), low=run(content))
+            elif tag in (LONG, DOUBLE):
+                directory[index:index + 2] = [tag, content[0]]
+            elif len(content) == 2:
+                directory[index] = packed(tag, third=content[0], fourth=content[1])
+            else:
+                directory[index] = packed(tag, low=content[0])
+        spelled, first = [], 0
+        for _, _, member in self.members():
+            spelled += [packed(member.flags, member.name, member.descriptor, len(member.attributes)), rows + 2 * first]
+            first += len(member.attributes)
+        listed = [word for name, content in attributes for word in (packed(name, low=len(content)), run(content))]
+        head = [
+            runs + len(tail),
+            packed(self.flags, self.this_class, self.super_class, len(self.interfaces)),
+            packed(self.count, len(self.fields), len(self.methods), len(self.attributes)),
+            8, interfaces, members, rows, runs,
+        ]
+        return head + directory + self.interfaces + spelled + listed + tail
+
+
+def packed(first, second=0, third=0, fourth=0, low=0):
+    """A word of four numbers of 16 bits, or of two and one of 32 bits behind them."""
+    return first | second << 16 | (third | low) << 32 | fourth << 48
 
 
 def read_shape(data):
@@ -625,23 +661,136 @@ def class_bytes(word):
     return bytes.fromhex(word.decode("ascii"))
 
 
-class Cache:
+class Pool:
+    """The free units of each present root, as the bits of a number."""
+
+    def __init__(self, geometry):
+        self.units = 1 << geometry.top
+        self.limit = geometry.roots
+        self.free = []
+
+    def add_root(self):
+        if len(self.free) == self.limit:
+            return False
+        self.free.append((1 << self.units) - 1)
+        return True
+
+    def alloc(self, order):
+        """The first free block of an order, by root and then place; None where there is none."""
+        size = 1 << order
+        block = (1 << size) - 1
+        for root, free in enumerate(self.free):
+            for at in range(0, self.units, size):
+                if free >> at & block == block:
+                    self.free[root] &= ~(block << at)
+                    return root, order, at * UNIT
+        return None
+
+    def take(self, chunk):
+        root, order, at = chunk
+        while len(self.free) <= root:
+            self.add_root()
+        self.free[root] &= ~(((1 << (1 << order)) - 1) << at // UNIT)
+
+    def give(self, chunk):
+        root, order, at = chunk
+        self.free[root] |= ((1 << (1 << order)) - 1) << at // UNIT
+
+
+class Arena:
+    """A loader's chunks, each with its used words."""
+
     def __init__(self):
+        self.chain = []
+
+    def place(self, words, pool, top):
+        """The chunk and the offset for so many words."""
+        need = next(order for order in range(64) if UNIT << order >= words)
+        if need > top:
+            raise Refused("5 record too long")
+        if self.chain:
+            chunk, used = self.chain[-1]
+            if used + words <= UNIT << chunk[1]:
+                self.chain[-1][1] += words
+                return chunk, used
+        wanted = max(need, min(len(self.chain), 4, top))
+        chunk = pool.alloc(wanted) or pool.alloc(need)
+        if not chunk:
+            if not pool.add_root():
+                raise Refused("6 region full")
+            chunk = pool.alloc(wanted)
+        self.chain.append([chunk, words])
+        return chunk, 0
+
+
+class Geometry:
+    def __init__(self, top=8, roots=64, slots=4096):
+        self.top = top
+        self.roots = roots
+        self.slots = slots
+
+
+class Loader:
+    def __init__(self, number):
+        self.number = number
+        self.arena = Arena()
+        self.classes = {}
+
+
+class Live:
+    """A class that lives: what `find` tells of it, its record and where this lies."""
+
+    def __init__(self, told, words, chunk, offset):
+        self.told = told
+        self.words = words
+        self.chunk = chunk
+        self.offset = offset
+
+
+class Cache:
+    """A cache whose commands are stored one by one. Each is kept with what the journal says of it."""
+
+    def __init__(self, geometry=None):
+        self.geometry = geometry or Geometry()
         self.loaders = {}
+        self.pool = Pool(self.geometry)
+        self.entries = []
         self.number = 0
-        self.classes = 0
+
+    def reopened(self):
+        """Opened again: the roots behind the last one in use aren't present any more."""
+        self.pool = Pool(self.geometry)
+        for loader in self.loaders.values():
+            for chunk, _ in loader.arena.chain:
+                self.pool.take(chunk)
+        return self
 
     def check_name(self, name):
         if not re.fullmatch(rb"[\x21-\x7e]{1,48}", name):
             raise Refused("1 name")
 
-    def check_room(self):
+    def check_group(self):
         """A group of two slots goes behind those of the commands so far, and the half's last slot stays free."""
-        if 1 + 2 * self.number + 1 > SLOTS - 1 or len(self.loaders) + self.classes >= SLOTS // 2:
+        if 1 + 2 * self.number + 1 > self.geometry.slots - 1:
             raise Refused("7 journal full")
 
-    def done(self):
+    def check_room(self):
+        self.check_group()
+        if len(self.loaders) + self.classes() >= self.geometry.slots // 2:
+            raise Refused("7 journal full")
+
+    def classes(self):
+        return sum(len(loader.classes) for loader in self.loaders.values())
+
+    def named(self, name):
+        self.check_name(name)
+        if name not in self.loaders:
+            raise Refused("3 no loader")
+        return self.loaders[name]
+
+    def done(self, *entry):
         self.number += 1
+        self.entries.append(entry)
         return self.number
 
     def loader(self, name):
@@ -649,36 +798,44 @@ class Cache:
         if name in self.loaders:
             raise Refused("2 loader exists")
         self.check_room()
-        self.loaders[name] = {}
-        return b"ok %d" % self.done()
+        number = self.done("loader", self.number + 1, name)
+        self.loaders[name] = Loader(number)
+        return b"ok %d" % number
+
+    def unload(self, name):
+        gone = self.named(name)
+        self.check_group()
+        for chunk, _ in gone.arena.chain:
+            self.pool.give(chunk)
+        del self.loaders[name]
+        return b"ok %d" % self.done("unload", gone.number)
 
     def define(self, name, data):
         found, fault = read_shape(data)
         fault = fault or first_fault(found)
         if fault:
             raise Refused(f"14 {fault}")
-        words = found.record_words()
-        if words > RECORD_LIMIT:
+        words = found.record()
+        if len(words) > RECORD_LIMIT:
             raise Refused("5 record too long")
-        self.check_name(name)
-        if name not in self.loaders:
-            raise Refused("3 no loader")
+        loader = self.named(name)
         class_name = found.class_name(found.this_class)
-        if class_name in self.loaders[name]:
+        if class_name in loader.classes:
             raise Refused("4 class exists")
-        if words > ROOT_WORDS:
+        if len(words) > UNIT << self.geometry.top:
             raise Refused("5 record too long")
         self.check_room()
-        if self.classes >= ROOTS:
-            raise Refused("6 region full")
+        chunk, offset = loader.arena.place(len(words), self.pool, self.geometry.top)
         super_name = escaped(found.class_name(found.super_class)) if found.super_class else b"-"
-        self.loaders[name][class_name] = b"flags %04x super %s words %d" % (found.flags, super_name, words)
-        self.classes += 1
-        return b"ok %d %s" % (self.done(), escaped(class_name))
+        told = b"flags %04x super %s words %d" % (found.flags, super_name, len(words))
+        loader.classes[class_name] = Live(told, words, chunk, offset)
+        return b"ok %d %s" % (self.done("define", loader.number, chunk, offset, words), escaped(class_name))
 
     def find(self, name, class_name):
-        found = self.loaders.get(name, {}).get(class_name)
-        return b"class %s %s" % (escaped(class_name), found) if found else b"none"
+        loader = self.loaders.get(name)
+        if not loader or class_name not in loader.classes:
+            return b"none"
+        return b"class %s %s" % (escaped(class_name), loader.classes[class_name].told)
 
     def reply(self, line):
         words = line.split(b" ")
@@ -686,25 +843,34 @@ class Cache:
             raise Refused(BAD_LINE)
         if words[0] == b"loader" and len(words) == 2:
             return self.loader(words[1])
+        if words[0] == b"unload" and len(words) == 2:
+            return self.unload(words[1])
         if words[0] == b"define" and len(words) == 3:
             return self.define(words[1], class_bytes(words[2]))
         if words[0] == b"find" and len(words) == 3:
             return self.find(words[1], unescaped(words[2]))
         raise Refused(BAD_LINE)
 
+    def answer(self, line):
+        """The reply to a line, refusals too."""
+        try:
+            return self.reply(line)
+        except Refused as refusal:
+            return b"refused %s" % str(refusal).encode("ascii")
+
+
+def lines_of(script):
+    lines = script.split(b"\n")
+    return lines[:-1] if lines[-1] == b"" else lines
+
 
 def main():
-    lines = sys.stdin.buffer.read().split(b"\n")
-    if lines[-1] == b"":
-        lines.pop()
     cache = Cache()
     status = 0
-    for line in lines:
-        try:
-            reply = cache.reply(line)
-        except Refused as refusal:
+    for line in lines_of(sys.stdin.buffer.read()):
+        reply = cache.answer(line)
+        if reply.startswith(b"refused"):
             status = 1
-            reply = b"refused %s" % str(refusal).encode("ascii")
         sys.stdout.buffer.write(reply + b"\n")
     sys.exit(status)
 

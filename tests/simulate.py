@@ -1,0 +1,623 @@
+#!/usr/bin/env python3
+"""Compares `cm_simulate` with a plain model of the world: event lists drawn at random, and walks stopped at each device call.
+
+    tests/simulate.py PROGRAM            event lists, walks, lines of another form, the file of the disk
+    tests/simulate.py PROGRAM LIBRARY N  a simulation once for each of its allocations, with that one refused; N are met
+
+The model holds loaders and classes as dictionaries, what is handed out and what is acknowledged, and what the device call
+under way may leave of the file. It is written from the project's description and shares no code with the program; the class
+files are judged by tests/oracle.py. Its random numbers have fixed seeds.
+"""
+import os
+import random
+import re
+import struct
+import subprocess
+import sys
+import tempfile
+
+sys.path.insert(0, os.path.dirname(os.path.abspath(__file__)))
+import oracle
+
+LISTS = 1500
+MOST_IN_GROUP = 64
+MOST_ALLOCATIONS = 2000
+
+
+# ---- class files
+
+def utf8(text):
+    return b"\x01" + struct.pack(">H", len(text)) + text
+
+
+def class_a(name=b"A"):
+    """A class of this name, of java/lang/Object, with nothing in it."""
+    pool = b"\x07\x00\x02" + utf8(name) + b"\x07\x00\x04" + utf8(b"java/lang/Object")
+    return b"\xca\xfe\xba\xbe\x00\x00\x00\x34\x00\x05" + pool + b"\x00\x21\x00\x01\x00\x03" + bytes(8)
+
+
+def class_p(name, count):
+    """The same with an attribute X of so many zeros."""
+    data = class_a(name)
+    return data[:9] + b"\x06" + data[10:-14] + utf8(b"X") + data[-14:-2] + b"\x00\x01\x00\x05" + struct.pack(">I", count) + bytes(count)
+
+
+def judged(data):
+    """The name and the words of a class, or None and the refusal of what is none."""
+    found, fault = oracle.read_shape(data)
+    if fault or oracle.first_fault(found):
+        return None, 14
+    words = len(found.record())
+    return (None, 5) if words > oracle.RECORD_LIMIT else (found.class_name(found.this_class), words)
+
+
+# ---- the world
+
+class Group:
+    """Commands that are stored together: the number of the last, how many, and the device calls to make."""
+
+    def __init__(self, first, last):
+        self.first = first
+        self.last = last
+
+    def count(self):
+        return self.last - self.first + 1
+
+
+class World:
+    """All classes fit into the first root: no region is full, and a file grows by one root at most."""
+
+    def __init__(self, top, roots, slots):
+        self.root_words = 128 << top
+        self.root_bytes = 1024 << top
+        self.base = 4096 + 128 * slots
+        self.slots = slots
+        self.commands = []
+        self.states = [{}]
+        # Where crashes came and calls failed, for the test's own count.
+        self.stops = []
+        self.length = self.least = self.greatest = self.base
+        self.acknowledged = 0
+        self.end = 1
+        self.open_again(0)
+
+    # -- what is in the file
+
+    def open_again(self, number):
+        """The file is opened, whose last command is this one."""
+        del self.commands[number:]
+        del self.states[number + 1:]
+        if number > self.acknowledged:
+            self.end += 1 + self.under_way.count()
+        self.opened_slot, self.opened_number = self.end, number
+        self.acknowledged = self.sealed = number
+        self.queue = []
+        self.under_way = None
+        self.calls = []
+        self.broken = self.told = False
+        self.armed = None
+        # The gate's byte, and whether a crash may leave any byte there.
+        self.gate, self.loose = 0, False
+
+    def number(self):
+        return len(self.commands)
+
+    def loaders(self):
+        return self.states[-1]
+
+    def in_file(self, gate):
+        return self.under_way.last if self.under_way and gate == 0xa5 else self.acknowledged
+
+    # -- commands
+
+    def accept(self, change, refusal):
+        if self.told:
+            return "refused 10"
+        if refusal:
+            return f"refused {refusal}"
+        if self.opened_slot + 2 * (self.number() - self.opened_number) + 1 > self.slots - 1:
+            return "refused 7"
+        self.commands.append(change[0])
+        self.states.append(change[1])
+        return f"number {self.number()}"
+
+    def rows(self):
+        return len(self.loaders()) + sum(len(classes) for classes in self.loaders().values())
+
+    def loader(self, name):
+        refusal = None
+        if not re.fullmatch(rb"[\x21-\x7e]{1,48}", name):
+            refusal = 1
+        elif name in self.loaders():
+            refusal = 2
+        elif self.rows() >= self.slots // 2:
+            refusal = 7
+        return self.accept(("loader", {**self.loaders(), name: {}}), refusal)
+
+    def unload(self, name):
+        refusal = None
+        if not re.fullmatch(rb"[\x21-\x7e]{1,48}", name):
+            refusal = 1
+        elif name not in self.loaders():
+            refusal = 3
+        return self.accept(("unload", {n: c for n, c in self.loaders().items() if n != name}), refusal)
+
+    def define(self, name, data):
+        class_name, words = judged(data)
+        if class_name is None:
+            return f"refused {words}"
+        refusal, change = None, None
+        if not re.fullmatch(rb"[\x21-\x7e]{1,48}", name):
+            refusal = 1
+        elif name not in self.loaders():
+            refusal = 3
+        elif class_name in self.loaders()[name]:
+            refusal = 4
+        elif words > self.root_words:
+            refusal = 5
+        elif self.rows() >= self.slots // 2:
+            refusal = 7
+        else:
+            change = ("define", {**self.loaders(), name: {**self.loaders()[name], class_name: words}})
+        return self.accept(change, refusal)
+
+    def look(self, name, class_name):
+        words = self.loaders().get(name, {}).get(class_name)
+        return "none" if words is None else f"class {words}"
+
+    # -- groups
+
+    def seal(self):
+        if self.sealed == self.number():
+            return "none"
+        # Unsealed commands are in groups of 64, but for those in the newest.
+        group = Group(self.sealed + 1, min(self.sealed + MOST_IN_GROUP, self.number()))
+        self.sealed = group.last
+        self.queue.append(group)
+        return f"group {group.first} {group.last}"
+
+    def take_group(self):
+        group = self.queue.pop(0)
+        while self.queue and group.count() + self.queue[0].count() <= MOST_IN_GROUP:
+            group.last = self.queue.pop(0).last
+        records = self.commands[group.first - 1:group.last].count("define")
+        grows = records > 0 and self.length < self.base + self.root_bytes
+        self.under_way = group
+        self.calls = ["root"] * grows + ["record"] * records + ["group", "sync", "gate", "sync"]
+
+    def advance(self, may_fail=False):
+        if self.broken:
+            return "broken"
+        if not self.calls:
+            if not self.queue:
+                return "idle"
+            self.take_group()
+        call = self.calls.pop(0)
+        fails, self.armed = self.armed, None
+        if may_fail:
+            fails = 0
+        self.make(call, fails)
+        if fails is not None:
+            self.broken = True
+            return "device"
+        if self.calls:
+            return "working"
+        group, self.under_way = self.under_way, None
+        self.end += 1 + group.count()
+        self.acknowledged = group.last
+        return f"done {group.last}"
+
+    def make(self, call, fails):
+        """A device call; where it fails, a write stores its first bytes."""
+        if fails is not None:
+            self.stops.append(f"fault in {call}")
+        if call == "root":
+            stored = self.root_bytes if fails is None else min(fails, self.root_bytes)
+            self.length = max(self.length, self.base + stored)
+            self.greatest = self.base + self.root_bytes
+        elif call == "gate":
+            self.loose = True
+            if fails is None or fails > 0:
+                self.gate = 0xa5
+        elif call == "sync" and fails is None:
+            self.least = self.greatest = self.length
+            self.loose = False
+            if not self.calls:
+                self.gate = 0
+
+    def learn(self):
+        if self.broken:
+            self.told = True
+        return f"learnt {self.acknowledged}"
+
+    # -- the end of a world, and the next
+
+    def fault(self, stores):
+        self.armed = stores
+        return "armed"
+
+    def reopen(self):
+        self.least = self.greatest = self.length
+        self.open_again(self.in_file(self.gate))
+        return f"opened {self.number()}"
+
+    def crash(self, length, fill):
+        """Once anything is loose behind the gate's own sync, nothing else is."""
+        self.stops.append("crash, gate loose" if self.loose else f"crash before {self.calls[0]}" if self.calls else "crash at rest")
+        gate = fill[0] if self.loose and fill else self.gate
+        self.length = self.least = self.greatest = max(self.least, min(length, self.greatest))
+        self.open_again(self.in_file(gate))
+        return f"opened {self.number()}"
+
+
+# ---- simulations as text
+
+class Simulation:
+    """Lines, and the replies that are due by the model."""
+
+    def __init__(self, top=5, roots=4, slots=256):
+        self.world = World(top, roots, slots)
+        self.lines = [b"geometry %d %d %d" % (top, roots, slots)]
+        self.events = []
+
+    def add(self, name, *words):
+        """An event; the reply that is due to it."""
+        shown = [w if isinstance(w, bytes) else b"%d" % w for w in words]
+        if name in ("define", "crash"):
+            shown[1] = shown[1].hex().encode() or b"-"
+        self.lines.append(b" ".join([name.encode()] + shown))
+        self.events.append((name, words))
+        self.due = getattr(self.world, name)(*words)
+        return self.due
+
+    def text(self):
+        return b"".join(line + b"\n" for line in self.lines)
+
+
+def run(program, text, *words, **names):
+    ran = subprocess.run([program, *words], input=text, stdout=subprocess.PIPE, stderr=subprocess.PIPE, env={**os.environ, **names})
+    return ran.stdout.decode().split("\n")[:-1], ran.returncode, ran.stderr.decode()
+
+
+class Checks:
+    def __init__(self):
+        self.passed = 0
+        self.failed = 0
+
+    def check(self, right, what):
+        if right:
+            self.passed += 1
+        else:
+            self.failed += 1
+            if self.failed <= 10:
+                print("FAILED:", what)
+
+
+# ---- event lists
+
+NAMES = [b"a", b"b", b"c", b"app", b"~!%"]
+CLASSES = [(class_a(n), n) for n in (b"A", b"B", b"C")] + [(class_p(b"A", 0), b"A"), (class_p(b"D", 33), b"D"), (class_p(b"E", 8), b"E")]
+BAD = [class_a() + b"\x00", class_a()[:-1], b"\xca", class_a()[:-2] + b"\x00\x01", class_a().replace(b"\x00\x21", b"\x02\x21")]
+TOO_LONG = class_p(b"L", 8 * (4097 - 20))
+FILLS = [b"", b"\xa5", b"\x00", b"\xa4", b"\xff" * 3]
+
+
+def draw_name(draw, world):
+    """A loader's name: mostly one that lives."""
+    if world.loaders() and draw.random() < 0.7:
+        return draw.choice(sorted(world.loaders()))
+    return draw.choice(NAMES) if draw.random() < 0.9 else draw.choice([b"x" * 48, b"x" * 49, b"\x7f", b"\xc3\xa9"])
+
+
+def draw_command(draw, add, world):
+    kind = draw.random()
+    name = draw_name(draw, world) if kind >= 0.35 else draw.choice(NAMES + [b"x" * 48, b"x" * 49, b"\xff"])
+    if kind < 0.35:
+        add("loader", name)
+    elif kind < 0.85:
+        add("define", name, draw.choice(BAD) if draw.random() < 0.05 else TOO_LONG if draw.random() < 0.01 else draw.choice(CLASSES)[0])
+    else:
+        add("unload", name)
+
+
+def draw_event(draw, simulation, busy, at_rest):
+    add, world = simulation.add, simulation.world
+    kind = draw.choices(range(8), busy if world.calls or world.queue else at_rest)[0]
+    if kind == 0:
+        draw_command(draw, add, world)
+    elif kind == 1:
+        add("seal")
+    elif kind == 2:
+        add("advance")
+    elif kind == 3:
+        add("learn")
+    elif kind == 4:
+        add("look", draw_name(draw, world), draw.choice(CLASSES)[1])
+    elif kind == 5:
+        add("fault", draw.choice([0, 1, 7, 64, 1000, 1 << 40]))
+    elif kind == 6:
+        add("reopen")
+    else:
+        length = draw.choice([0, 1 << 40, world.base, world.base + draw.randrange(world.root_bytes), world.base + world.root_bytes])
+        add("crash", length, draw.choice(FILLS) if draw.random() < 0.7 else draw.randbytes(draw.randrange(1, 200)))
+
+
+# How often there are commands, seals, advances, learns, look-ups, faults, openings and crashes, where a group waits or is
+# under way, and where none is.
+BUSY = [(4, 2, 30, 2, 2, 4, 1, 3), (2, 1, 40, 1, 1, 1, 1, 4), (8, 4, 20, 1, 1, 6, 2, 2)]
+AT_REST = [(20, 8, 1, 3, 5, 1, 1, 1), (30, 4, 1, 2, 2, 1, 0, 1)]
+
+
+def fill_journal(draw, simulation):
+    """Commands until the journal has no room for another."""
+    simulation.add("reopen")
+    for count in range(600):
+        if simulation.add("loader", b"l%d" % count) == "refused 7":
+            break
+        if draw.random() < 0.5 and simulation.add("unload", b"l%d" % count) == "refused 7":
+            break
+        if draw.random() < 0.3:
+            simulation.add("seal")
+        for _ in range(draw.randrange(3)):
+            simulation.add("advance")
+
+
+def draw_list(seed):
+    """An event list; of every 25, one is long enough that the journal is full."""
+    draw = random.Random(seed)
+    simulation = Simulation()
+    mixes = draw.choice(BUSY), draw.choice(AT_REST)
+    defines = 0
+    for _ in range(draw.randrange(5, 90)):
+        before = len(simulation.lines)
+        draw_event(draw, simulation, *mixes)
+        defines += simulation.lines[before].startswith(b"define") and simulation.due.startswith("number")
+        if defines == 24:
+            # More might not fit into one root.
+            break
+    if seed % 25 == 0:
+        fill_journal(draw, simulation)
+    for name in NAMES:
+        simulation.add("look", name, b"A")
+    return simulation
+
+
+def replies_due(simulation):
+    """The replies of the model, to the same events from the beginning."""
+    again = World(*(int(word) for word in simulation.lines[0].split()[1:]))
+    return [getattr(again, name)(*words) for name, words in simulation.events]
+
+
+def compare(checks, program, simulation, what):
+    due = replies_due(simulation)
+    got, status, _ = run(program, simulation.text())
+    at = next((i for i, pair in enumerate(zip(due, got)) if pair[0] != pair[1]), None)
+    line = "" if at is None else f", line {at + 2} {simulation.lines[at + 1][:60]!r}: {got[at]} and not {due[at]}"
+    checks.check(got == due and status == 0, f"{what}: status {status}, {len(got)} of {len(due)} replies{line}")
+    return due
+
+
+def check_lists(checks, program):
+    met = {}
+    for seed in range(LISTS):
+        simulation = draw_list(seed)
+        due = compare(checks, program, simulation, f"list {seed}")
+        replies = [reply if reply.startswith("refused") or reply == "none" else reply.split()[0] for reply in due]
+        for kind in replies + simulation.world.stops:
+            met[kind] = met.get(kind, 0) + 1
+    wanted = [f"refused {n}" for n in (1, 2, 3, 4, 5, 7, 10, 14)]
+    wanted += ["number", "group", "none", "idle", "working", "done", "device", "broken", "learnt", "class", "armed", "opened"]
+    # A root is the first call of its group: before it the cache is at rest.
+    wanted += [f"fault in {call}" for call in set(CALLS)] + [f"crash before {call}" for call in set(CALLS) - {"root"}]
+    wanted += ["crash, gate loose", "crash at rest"]
+    missed = [f"{kind} ({met.get(kind, 0)})" for kind in wanted if met.get(kind, 0) < 20]
+    checks.check(not missed, f"the lists meet each reply and each stop at least 20 times, but not {missed}")
+    return met
+
+
+# ---- walks
+
+CALLS = ["root", "record", "group", "sync", "gate", "sync"]
+
+
+def beginning():
+    """A loader that is stored, and a class that is handed out."""
+    simulation = Simulation(3, 2, 256)
+    for event in ("loader", b"app"), ("seal",), ("advance",), ("advance",), ("advance",), ("advance",), ("learn",):
+        simulation.add(*event)
+    simulation.add("define", b"app", class_a())
+    simulation.add("seal")
+    return simulation
+
+
+def ends():
+    """The ways in which a walk goes on: opened again, or behind a crash."""
+    yield ("reopen",)
+    for length in 0, 4096 + 128 * 256 + 100, 4096 + 128 * 256 + 8192, 1 << 40:
+        for fill in b"", b"\xa5", b"\x00", b"\xff", b"\xa5" * 9000:
+            yield "crash", length, fill
+
+
+def check_walk(checks, program, calls, stored, end):
+    """A define is stopped behind so many device calls, the last of which fails where bytes are given that it stores."""
+    simulation = beginning()
+    for call in range(calls):
+        if stored is not None and call == calls - 1:
+            simulation.add("fault", stored)
+        simulation.add("advance")
+    simulation.add(*end)
+    simulation.add("look", b"app", b"A")
+    what = f"a define stopped behind {calls} calls, {stored} bytes stored of the last, {end[0]}"
+    # From the papers' words: the class is there exactly where its gate is A5 in the file that is opened.
+    last = CALLS[calls - 1] if calls else None
+    gate = 0xa5 if calls >= 5 and not (calls == 5 and stored == 0) else 0
+    if end[0] == "crash" and end[2] and (calls == 5 or calls == 6 and stored is not None):
+        gate = end[2][0]
+    there = gate == 0xa5
+    due = compare(checks, program, simulation, what)
+    wanted = ["opened 2", "class 16"] if there else ["opened 1", "none"]
+    checks.check(due[-2:] == wanted and (last != "sync" or calls < 6 or stored is not None or there), f"{what}: the model")
+    # What is opened goes on.
+    simulation.add("loader", b"next")
+    simulation.add("seal")
+    while not simulation.add("advance").startswith("done"):
+        pass
+    simulation.add("crash", 0, b"\x00")
+    simulation.add("look", b"app", b"A")
+    compare(checks, program, simulation, what + ", and then more")
+
+
+def check_walks(checks, program):
+    for calls in range(7):
+        for end in ends():
+            check_walk(checks, program, calls, None, end)
+    for calls in range(1, 7):
+        for stored in (0, 1, 5) if CALLS[calls - 1] != "sync" else (0,):
+            for end in ends():
+                check_walk(checks, program, calls, stored, end)
+
+
+def check_region(checks, program):
+    """A left chunk waits for the receipt of what left it. Worked out by hand: one root, and classes as long as it."""
+    data, other = class_p(b"A", 8032), class_p(b"B", 0)
+    lines = [b"geometry 3 1 256", b"loader a", b"define a " + data.hex().encode(), b"loader b", b"unload a"]
+    full = b"define b " + other.hex().encode()
+    lines += [full, b"seal"] + [b"advance"] * 6 + [full, b"learn", full, b"look b B"]
+    # A root, one record, the group, a sync, the gate, a sync.
+    wanted = ["number 1", "number 2", "number 3", "number 4", "refused 6", "group 1 4"] + ["working"] * 5
+    wanted += ["done 4", "refused 6", "learnt 4", "number 5", "class 20"]
+    got, status, _ = run(program, b"\n".join(lines))
+    checks.check(got == wanted and status == 0, f"one root, two loaders: {got}")
+    for words, reply in (1024, "number 2"), (1025, "refused 5"):
+        line = b"define a " + class_p(b"A", 8 * (words - 20)).hex().encode()
+        got, _, _ = run(program, b"geometry 3 1 256\nloader a\n" + line + b"\n")
+        checks.check(got == ["number 1", reply], f"a record of {words} words: {got}")
+
+
+# ---- lines of another form
+
+def check_forms(checks, program):
+    first = b"geometry 3 1 256\n"
+    bad = [b"", b" ", b"seal ", b" seal", b"Seal", b"seal 1", b"loader", b"loader ", b"loader a b", b"loader  a", b"define a", b"define a 0"]
+    bad += [b"define a 0g", b"define a -", b"define a 00 00", b"unload", b"unload a b", b"look a", b"look a A B", b"fault", b"fault -1", b"fault +1"]
+    bad += [b"fault 1x", b"fault 18446744073709551616", b"fault 0x1", b"reopen 1", b"crash", b"crash 0", b"crash 0 ", b"crash - 00", b"crash 0 0"]
+    bad += [b"crash 0 00 00", b"crash 0 --", b"tighten a", b"trim", b"geometry 3 1 256", b"advance\r", b"learn\t", b"\xff"]
+    for line in bad:
+        for before in 0, 3:
+            text = first + b"seal\n" * before + line + b"\nlearn\nnone of it\n"
+            got, status, errors = run(program, text)
+            right = status == 2 and not got and re.search(rf"\b{before + 2}\b", errors)
+            checks.check(right, f"line {line!r} as number {before + 2}: status {status}, {errors!r}")
+    for line in [b"", b"geometry", b"geometry 3 1", b"geometry 3 1 256 1", b"geometry 2 1 256", b"geometry 13 1 256", b"geometry 3 0 256",
+                 b"geometry 3 257 256", b"geometry 3 1 255", b"geometry 3 1 65537", b"geometry 3 1 4294967552", b"geometry  3 1 256", b"seal"]:
+        for rest in b"", b"\nseal\n":
+            got, status, errors = run(program, line + rest)
+            checks.check(status == 2 and not got and re.search(r"\b1\b", errors), f"first line {line!r}: status {status}, {errors!r}")
+    good = [b"geometry 12 256 65536", b"geometry 3 1 256\nloader a", b"geometry 003 1 256\nfault 18446744073709551615\ncrash 0 fF\n"]
+    for text, wanted in zip(good, ([], ["number 1"], ["armed", "opened 0"])):
+        got, status, _ = run(program, text)
+        checks.check(got == wanted and status == 0, f"{text!r}: status {status}, {got}")
+
+
+# ---- the file of the disk
+
+def slot(kind, **fields):
+    """A slot of 64 bytes with these numbers, little-endian: at_OFFSET_SIZE."""
+    data = bytearray(64)
+    data[1] = kind
+    for place, value in fields.items():
+        _, at, size = place.split("_")
+        data[int(at):int(at) + int(size)] = value.to_bytes(int(size), "little")
+    return data
+
+
+def check_disk(checks, program):
+    """The file behind one loader, by docs/REGION.md, and behind a class a root longer."""
+    superblock = b"CMCACHE1" + struct.pack("<4I", 1, 3, 2, 256)
+    superblock += bytes(4095 - len(superblock)) + b"\xa5"
+    head = slot(0x01, at_0_1=0xa5, at_2_2=1, at_8_8=1)
+    group = slot(0x02, at_0_1=0xa5, at_2_2=1, at_8_8=1)
+    loader = slot(0x11, at_2_1=3, at_8_8=1)
+    loader[16:19] = b"app"
+    slots = bytes(head + group + loader)
+    file = superblock + slots + bytes(2 * 256 * 64 - len(slots))
+    lines = b"geometry 3 2 256\nloader app\nseal\nadvance\nadvance\nadvance\nadvance\n"
+    with tempfile.TemporaryDirectory() as folder:
+        path = os.path.join(folder, "disk")
+        _, status, _ = run(program, lines, "--disk", path)
+        with open(path, "rb") as held:
+            checks.check(status == 0 and held.read() == file, "the file behind one loader")
+        run(program, lines + b"define app " + class_a().hex().encode() + b"\nseal\nadvance\nfault 0\n", "--disk", path)
+        with open(path, "rb") as held:
+            checks.check(held.read() == file + bytes(8192), "the file behind one loader and a root")
+        _, status, errors = run(program, lines, "--disk", os.path.join(folder, "no", "disk"))
+        checks.check(status == 3 and errors, f"a path in no folder: status {status}")
+    _, status, errors = run(program, lines, "--disc", "x")
+    checks.check(status == 2 and errors, f"a word that isn't known: status {status}")
+    got, status, errors = run(program, lines, "--help")
+    checks.check(status == 0 and any("--disk" in line for line in got) and not errors, f"help: status {status}")
+
+
+# ---- refused allocations
+
+def sweep_script():
+    simulation = beginning()
+    for _ in CALLS:
+        simulation.add("advance")
+    for event in ("learn",), ("look", b"app", b"A"), ("unload", b"none"), ("define", b"app", BAD[0]), ("reopen",), ("look", b"app", b"A"):
+        simulation.add(*event)
+    simulation.add("loader", b"b")
+    simulation.add("seal")
+    simulation.add("advance")
+    simulation.add("crash", 1 << 40, b"")
+    simulation.add("look", b"app", b"A")
+    return simulation
+
+
+def is_true(simulation, replies):
+    """Whether each reply is as ever, but for one that tells of the allocation that failed."""
+    world = World(3, 2, 256)
+    left = 1
+    for (name, words), reply in zip(simulation.events, replies):
+        if left and name == "advance" and reply == "device":
+            due, left = world.advance(may_fail=True), 0
+        elif left and name in ("loader", "define", "unload", "seal", "look") and reply == "refused 9":
+            due, left = reply, 0
+        else:
+            due = getattr(world, name)(*words)
+        if reply != due:
+            return False
+    return len(replies) == len(simulation.events)
+
+
+def sweep(checks, program, library, wanted):
+    simulation = sweep_script()
+    told = set()
+    for refuse in range(1, MOST_ALLOCATIONS):
+        with tempfile.NamedTemporaryFile() as counts:
+            got, status, errors = run(program, simulation.text(), LD_PRELOAD=library, ALLOCATIONS=counts.name, REFUSE=str(refuse))
+            refused = struct.unpack("3Q", counts.read(24))[2]
+        right = is_true(simulation, got) if status == 0 else status == 3 and not got and errors
+        checks.check(right, f"with allocation {refuse} refused: status {status}, {errors!r}, {got}")
+        told |= {"refused 9", "device"} & set(got) if status == 0 else {status}
+        if not refused:
+            break
+    checks.check(told == {"refused 9", "device", 3}, f"refused allocations are told as {told}")
+    checks.check(refuse - 1 == wanted, f"{refuse - 1} refusals were met, and not {wanted}")
+
+
+def main(words):
+    checks = Checks()
+    if len(words) == 3:
+        sweep(checks, words[0], words[1], int(words[2]))
+    else:
+        met = check_lists(checks, words[0])
+        print(f"{LISTS} event lists:", ", ".join(f"{kind} {count}" for kind, count in sorted(met.items())))
+        for check in check_walks, check_region, check_forms, check_disk:
+            check(checks, words[0])
+    print(f"{checks.passed} passed, {checks.failed} failed")
+    return 1 if checks.failed else 0
+
+
+if __name__ == "__main__":
+    sys.exit(main(sys.argv[1:]))

@@ -1,0 +1,33 @@
+#!/usr/bin/env bash
+# cm_simulate beside a plain model of the world: event lists drawn with fixed seeds, a define stopped at each of its device
+# calls, lines of another form, the file of the disk, and each allocation of a simulation refused in turn.
+#
+# Needs Python and a C compiler.
+set -u
+cd "$(dirname "$0")/.." || exit 1
+. tests/lib.sh
+
+bin/cm_simulate --help >"$work/log" 2>&1 || cat "$work/log" # builds it where it is missing
+built=$top/crates/cm_simulate/out/cm_simulate
+library=$work/allocations.so
+cc -O2 -Wall -Werror -shared -fPIC -o "$library" tests/allocations.c || { echo "0 passed, 1 failed"; exit 1; }
+
+# checks ARGS..: those of tests/simulate.py, which tells in its last line how many passed.
+checks() {
+    tests/simulate.py "$built" "$@" >"$work/log" 2>&1
+    local last
+    last=$(tail -n 1 "$work/log")
+    if [[ $last =~ ^([0-9]+)\ passed,\ ([0-9]+)\ failed$ ]]; then
+        passed=$((passed + BASH_REMATCH[1]))
+        failed=$((failed + BASH_REMATCH[2]))
+        sed '$d' "$work/log" | cut -c1-1000
+    else
+        failed=$((failed + 1))
+        tail -n 5 "$work/log"
+    fi
+}
+
+checks
+checks "$library" 379
+
+finish
