@@ -1,172 +1,320 @@
--- From what a store answers to a command to what is replied.
-use Rattle.std.proofs.Common.{◌≡◌, ◌≤◌, ◌+◌, ◌^◌, ℕ, Bool, true, false, cond, not, eqb, List}
-use Rattle.std.proofs.Common.{length, Option, Some, None, Result, Ok, Err, IfOk, OnOk, inl, inr}
-use Rattle.std.proofs.Common.{refl, sym, ap, subst, ◌∙◌}
-use Rattle.std.specs.Option.{is_some}
-use Rattle.std.specs.FinMap.{get}
+-- From what a session answers to a command to what is replied.
+use Rattle.std.proofs.Common.{◌≡◌, ◌≤◌, ◌<◌, ◌⊎◌, ℕ, Bool, true, false, List, length, Option, Some, None}
+use Rattle.std.proofs.Common.{Result, Ok, Err, IfOk, OnOk, inl, inr, refl, sym, ap, subst, ◌∙◌}
 use Rattle.hex.specs.Hex.{decode_of}
+use Rattle.hex.specs.declared.error.FromHexError.{FromHexError}
+use Rattle.hex.specs.declared.error.FromHexError.TheVariants.{OutOfMemory}
 use Rattle.cm_class.specs.declared.class_file.ClassFile.{ClassFile}
-use Rattle.cm_record.specs.Layout.{IsRecord, IsRecordOf, limit}
-use Rattle.cm_record.specs.Names.{class_name_of}
+use Rattle.cm_class.specs.Spelling.{HasSpelling}
+use Rattle.cm_pool.specs.Geometry.{Sizes}
+use Rattle.cm_record.specs.Layout.{lay, limit, IsRecord, IsRecordOf}
+use Rattle.cm_record.specs.Names.{class_name_of, class_name_in}
 use Rattle.cm_rules.specs.Answer.{IsRight}
-use Rattle.cm_narrow.specs.State.{class_in}
-use Rattle.cm_store.specs.declared.refusal.Refusal.{Refusal}
-use Rattle.cm_store.specs.declared.refusal.Refusal.TheVariants.{BadName, LoaderExists, NoLoader}
-use Rattle.cm_store.specs.declared.refusal.Refusal.TheVariants.{ClassExists, RecordTooLong}
-use Rattle.cm_store.specs.declared.refusal.Refusal.TheVariants.{RegionFull, JournalFull, NoMemory}
-use Rattle.cm_store.specs.declared.refusal.Refusal.TheVariants.{Broken, NumbersSpent, Unsure}
-use Rattle.cm_store.specs.Store.{StoreValue, PreparedValue, IsPreparedOf, is_loader_name, is_full}
-use Rattle.cm_store.specs.Store.{loader_refusal, define_refusal, AddsClass, AnswersBy}
-use Rattle.cm_store.specs.Store.{IsUnsureOrSame}
-use Rattle.cm_tool.specs.declared.reply.Reply.{Reply}
-use Rattle.cm_tool.specs.Escapes.{unescaped}
-use Rattle.cm_tool.specs.Lines.{Asked, AsksDefine, AsksFind}
-use Rattle.cm_tool.specs.Texts.{ReplyText, defined_reply, class_reply, refusal_reply}
-use Rattle.cm_tool.specs.Answers.{AnswersCommand, AnswersAsked, AnswersDefine, AnswersFind}
-use Rattle.cm_tool.specs.Answers.{AnswersClass, TellsClass}
-use Rattle.cm_tool.specs.Seen.{IsReply, Replies, AnswersBytes}
+use Rattle.cm_state.specs.Step.{Change, AddLoader, Define, Unload}
+use Rattle.cm_prepare.specs.declared.refusal.Refusal.{Refusal}
+use Rattle.cm_prepare.specs.declared.refusal.Refusal.TheVariants as refusal
+use Rattle.cm_prepare.specs.Prepare.{IsUnprepared}
+use Rattle.cm_machine.specs.Machine.{Machine, Asks, Refuses}
+use Rattle.cm_machine.specs.Laws.{Finds}
+use Rattle.cm_session.specs.declared.storing.NotStored.{NotStored}
+use Rattle.cm_session.specs.declared.storing.NotStored.TheVariants.{Refused, NoMemory, Unsure}
+use Rattle.cm_session.specs.Moves.{Leads}
+use Rattle.cm_session.specs.Storing.{IsAtRest, Storing, Stores, FailsOnly, MakesNoCall}
+use Rattle.cm_lines.specs.Escapes.{unescaped}
+use Rattle.cm_lines.specs.Lines.{Asked, AsksLoader, AsksUnload, AsksDefine, AsksFind}
+use Rattle.cm_replies.specs.declared.reply.Reply.{Reply}
+use Rattle.cm_replies.specs.Texts.{ReplyText, number_reply, defined_reply, none_reply, class_reply}
+use Rattle.cm_replies.specs.Texts.{refusal_reply, unsure_reply, bad_line_reply}
+use Rattle.cm_replies.specs.Replies.{IsReply, is_unsure}
+use Rattle.cm_tool.specs.Answers.{Served, served, AnswersCommand, AnswersAsked, AnswersDefine}
+use Rattle.cm_tool.specs.Answers.{AnswersFind, AnswersName, TellsClass, IsChangeOf, IsDefineOf}
+use Rattle.cm_tool.specs.Answers.{IsUnstored}
+use Rattle.cm_tool.specs.Serving.{IsReady, LedTo, IsLeft, Replies, Tells}
 
--- ---- a refusal that is found beforehand is never an unsure one
+-- ---- lines that change nothing
 
-passed : (b : Bool) (r q : Refusal) (rest : Option Refusal) → (r ≡ q → ⊥) → (rest ≡ Some q → ⊥)
-    → cond b (Some r) rest ≡ Some q → ⊥
-passed true r q rest other more e = other (cc)
-passed false r q rest other more e = more e
+-- a reply that changes nothing
+pub replies_same : {E : Type 0} (sizes : Sizes) (question : Option Asked) (k : Machine)
+    (failures : ℕ) (given : ReplyText) (result : Result Reply E)
+    → IsReady k → IfOk result (IsReply given)
+    → AnswersAsked sizes question (served k failures) given (served k failures)
+    → Replies sizes question result (served k failures) (served k failures)
+replies_same sizes question k failures given (Ok reply) ready says answers =
+    (given, says, answers, record { rest = ready.rest; works = λ sure. ready.works })
+replies_same sizes question k failures given (Err e) ready says answers = inl refl
 
-pub loader_refusal_is_sure : (s : StoreValue) (name : List ℕ) (n : ℕ)
-    → loader_refusal s name ≡ Some (Unsure n) → ⊥
-loader_refusal_is_sure s name n =
-    passed s.broken Broken (Unsure n) _ (λ e. (cc))
-    (passed (not (is_loader_name name)) BadName (Unsure n) _ (λ e. (cc))
-    (passed (eqb s.number (2 ^ 63)) NumbersSpent (Unsure n) _ (λ e. (cc))
-    (passed (is_some (get s.listed.numbers name)) LoaderExists (Unsure n) _ (λ e. (cc))
-    (passed (is_full s.number) JournalFull (Unsure n) None (λ e. (cc)) (λ e. (cc))))))
+-- the session stays with its machine
+pub stays : {Does : Served → Type 0} {Goes : Machine → Type 0} (k : Machine) (failures : ℕ)
+    → Does (served k failures) → Goes k → LedTo Does failures Goes
+stays k failures does goes = record { next = k; does = does; goes = goes }
 
-pub define_refusal_is_sure : (s : StoreValue) (loader name : List ℕ) (words n : ℕ)
-    → define_refusal s loader name words ≡ Some (Unsure n) → ⊥
-define_refusal_is_sure s loader name words n =
-    passed s.broken Broken (Unsure n) _ (λ e. (cc))
-    (passed (not (is_loader_name loader)) BadName (Unsure n) _ (λ e. (cc))
-    (passed (eqb s.number (2 ^ 63)) NumbersSpent (Unsure n) _ (λ e. (cc))
-    (passed (not (is_some (get s.listed.numbers loader))) NoLoader (Unsure n) _ (λ e. (cc))
-    (passed (is_some (class_in s.listed.classes loader name)) ClassExists (Unsure n) _ (λ e. (cc))
-    (passed _ RecordTooLong (Unsure n) _ (λ e. (cc))
-    (passed (is_full s.number) JournalFull (Unsure n) _ (λ e. (cc))
-    (passed _ RegionFull (Unsure n) None (λ e. (cc)) (λ e. (cc)))))))))
+-- ---- commands
 
--- ---- a command
+-- a question asks for the changes that a command asks for
+pub record Fits (sizes : Sizes) (question : Option Asked) (told : ℕ → ReplyText)
+    (asked : Change (List ℕ)) : Type 0 where
+  pub answers : (change : Change ClassFile) → Asks asked change → (old : Served)
+      (given : ReplyText) (new : Served) → AnswersCommand sizes change told old given new
+      → AnswersAsked sizes question old given new
+  pub change_of : (change : Change ClassFile) → Asks asked change → IsChangeOf question change
 
-pub command_done : (o : Option Refusal) (reply : ReplyText)
-    (Leaves : StoreValue → StoreValue → Type 0) (old new : StoreValue) (n : ℕ)
-    → AnswersBy o (Ok n) → Leaves old new → AnswersCommand o reply Leaves old reply new
-command_done None reply Leaves old new n by left = inl (refl, left)
-command_done (Some r) reply Leaves old new n by left = absurd (cc)
+pub loader_fits : (sizes : Sizes) (name : List ℕ)
+    → Fits sizes (Some (AsksLoader name)) number_reply (AddLoader name)
+loader_fits sizes name = record {
+  answers = λ change asks old given new h.
+      subst (λ (d : Change ClassFile). AnswersCommand sizes d number_reply old given new) asks h;
+  change_of = λ change asks. asks;
+}
 
-same_after : (r : Refusal) (old new : StoreValue) → ((n : ℕ) → r ≡ Unsure n → ⊥)
-    → IsUnsureOrSame old new r → new ≡ old
-same_after BadName old new sure h = h
-same_after LoaderExists old new sure h = h
-same_after NoLoader old new sure h = h
-same_after ClassExists old new sure h = h
-same_after RecordTooLong old new sure h = h
-same_after RegionFull old new sure h = h
-same_after JournalFull old new sure h = h
-same_after NoMemory old new sure h = h
-same_after Broken old new sure h = h
-same_after NumbersSpent old new sure h = h
-same_after (Unsure n) old new sure h = absurd (sure n refl)
+pub unload_fits : (sizes : Sizes) (name : List ℕ)
+    → Fits sizes (Some (AsksUnload name)) number_reply (Unload name)
+unload_fits sizes name = record {
+  answers = λ change asks old given new h.
+      subst (λ (d : Change ClassFile). AnswersCommand sizes d number_reply old given new) asks h;
+  change_of = λ change asks. asks;
+}
 
-pub command_not_done : (o : Option Refusal) (reply : ReplyText)
-    (Leaves : StoreValue → StoreValue → Type 0) (old new : StoreValue) (r : Refusal)
-    → ((n : ℕ) → o ≡ Some (Unsure n) → ⊥) → AnswersBy o (Err r) → IsUnsureOrSame old new r
-    → AnswersCommand o reply Leaves old (refusal_reply r) new
-command_not_done (Some q) reply Leaves old new r sure by h =
-    let same : r ≡ q = (cc) in
-    record {
-      reply =
-          ap refusal_reply same;
-      same =
-          same_after r old new (λ n e. sure n (ap Some (sym same ∙ e))) h;
-    }
-command_not_done None reply Leaves old new NoMemory sure by h =
-    inr (inl (record { reply = refl; same = h }))
-command_not_done None reply Leaves old new (Unsure n) sure by h =
-    inr (inr (record {
-      reply =
-          ap (λ k. refusal_reply (Unsure k)) h.0;
-      failed = h.1;
-      broken = h.2;
-    }))
-command_not_done None reply Leaves old new BadName sure by h = absurd by
-command_not_done None reply Leaves old new LoaderExists sure by h = absurd by
-command_not_done None reply Leaves old new NoLoader sure by h = absurd by
-command_not_done None reply Leaves old new ClassExists sure by h = absurd by
-command_not_done None reply Leaves old new RecordTooLong sure by h = absurd by
-command_not_done None reply Leaves old new RegionFull sure by h = absurd by
-command_not_done None reply Leaves old new JournalFull sure by h = absurd by
-command_not_done None reply Leaves old new Broken sure by h = absurd by
-command_not_done None reply Leaves old new NumbersSpent sure by h = absurd by
+-- no two classes have one layout
+abbrev pub LayIsOne : Type 0
+LayIsOne = (c d : ClassFile) → HasSpelling c → HasSpelling d → lay c ≡ lay d → c ≡ d
 
--- ---- a reply
+module _ (one : LayIsOne) (sizes : Sizes) (loader digits bytes words name : List ℕ) (c : ClassFile)
+    (decoded : decode_of digits ≡ Ok bytes) (right : IsRight bytes c) (words_are : words ≡ lay c)
+    (name_is : length (lay c) ≤ limit → name ≡ class_name_of c) where
+  -- the class that is asked for is that of the bytes
+  its_class : (d : ClassFile) → HasSpelling d → lay d ≡ words → d ≡ c
+  its_class d spelled laid = one d c spelled right.spelled.fits (laid ∙ words_are)
 
-pub replies_with : {E : Type 0} (question : Option Asked) (old new : StoreValue) (given : ReplyText)
+  its_change : (change : Change ClassFile) → Asks (Define loader words) change
+      → change ≡ Define loader c
+  its_change change asks =
+      asks.3 ∙ ap (λ (d : ClassFile). Define loader d)
+      (its_class asks.0 asks.1.kept.spelled asks.2)
+
+  its_length : (change : Change ClassFile) → Asks (Define loader words) change
+      → length (lay c) ≤ limit
+  its_length change asks =
+      subst (λ (d : ClassFile). length (lay d) ≤ limit)
+      (its_class asks.0 asks.1.kept.spelled asks.2) asks.1.short
+
+  answers_define : (change : Change ClassFile) → Asks (Define loader words) change → (old : Served)
+      (given : ReplyText) (new : Served)
+      → AnswersCommand sizes change (λ n. defined_reply n name) old given new
+      → AnswersAsked sizes (Some (AsksDefine loader digits)) old given new
+  answers_define change asks old given new h =
+      subst (λ r. AnswersDefine sizes loader r old given new) (sym decoded)
+      (inr (record {
+        c = c;
+        right = right;
+        short = its_length change asks;
+        answer = subst
+            (λ (x : List ℕ). AnswersCommand sizes (Define loader c) (λ n. defined_reply n x) old
+            given new) (name_is (its_length change asks))
+            (subst (λ (d : Change ClassFile).
+            AnswersCommand sizes d (λ n. defined_reply n name) old given new)
+            (its_change change asks) h);
+      }))
+
+  change_of_define : (change : Change ClassFile) → Asks (Define loader words) change
+      → IsChangeOf (Some (AsksDefine loader digits)) change
+  change_of_define change asks =
+      subst (λ r. IsDefineOf loader r change) (sym decoded) (c, right, its_change change asks)
+
+  pub define_fits : Fits sizes (Some (AsksDefine loader digits)) (λ n. defined_reply n name)
+      (Define loader words)
+  define_fits = record { answers = answers_define; change_of = change_of_define }
+
+-- a record's words tell the name of its class
+abbrev pub TellName : Type 0
+TellName = (c : ClassFile) (words : List ℕ) → IsRecordOf c words → class_name_in words ≡ class_name_of c
+
+pub class_named : (bytes words : List ℕ) (c : ClassFile) → TellName → IsRight bytes c → words ≡ lay c
+    → length (lay c) ≤ limit → class_name_in words ≡ class_name_of c
+class_named bytes words c tell right laid short =
+    tell c words (record {
+      spelled = right.spelled.fits;
+      laid = laid;
+      short = subst (λ (w : List ℕ). length w ≤ limit) (sym laid) short;
+    })
+
+-- bytes that are no class
+pub answers_fault : (sizes : Sizes) (loader digits bytes : List ℕ) (refusal : Refusal)
+    (old : Served)
+    → decode_of digits ≡ Ok bytes → IsUnprepared bytes refusal
+    → AnswersAsked sizes (Some (AsksDefine loader digits)) old (refusal_reply refusal) old
+answers_fault sizes loader digits bytes refusal old decoded unprepared =
+    subst (λ r. AnswersDefine sizes loader r old (refusal_reply refusal) old) (sym decoded)
+    (inl (record { refusal = refusal; unprepared = unprepared; reply = refl; same = refl }))
+
+-- digits that aren't read, though memory was there
+pub not_memory : (digits : List ℕ) (e : FromHexError) (is : Bool) → (e ≡ OutOfMemory → is ≡ true)
+    → is ≡ false → (e ≡ OutOfMemory) ⊎ (decode_of digits ≡ Err e) → decode_of digits ≡ Err e
+not_memory digits e is whenever never (inl memory) = let yes = whenever memory in absurd (cc)
+not_memory digits e is whenever never (inr decoded) = decoded
+
+-- digits that stand for no bytes
+pub answers_bad_digits : (sizes : Sizes) (loader digits : List ℕ) (e : FromHexError) (old : Served)
+    → decode_of digits ≡ Err e
+    → AnswersAsked sizes (Some (AsksDefine loader digits)) old bad_line_reply old
+answers_bad_digits sizes loader digits e old decoded =
+    subst (λ r. AnswersDefine sizes loader r old bad_line_reply old) (sym decoded) (refl, refl)
+
+-- ---- what is stored
+
+module _ (sizes : Sizes) (question : Option Asked) (told : ℕ → ReplyText) (k : Machine)
+    (asked : Change (List ℕ)) (Moments : (List ℕ → Type 0) → Type 0) (before now : ℕ)
+    (ready : IsReady k) (fits : Fits sizes question told asked) (change : Change ClassFile)
+    (asks : Asks asked change) (next : Machine) where
+  abbrev old : Served
+  old = served k before
+
+  abbrev new : Served
+  new = served next now
+
+  -- the reply, or that no memory was there for it
+  replied : {E : Type 0} (given : ReplyText) (result : Result Reply E) → IfOk result (IsReply given)
+      → AnswersCommand sizes change told old given new → IsLeft given next
+      → Replies sizes question result old new
+  replied given (Ok reply) says h left =
+      (given, says, fits.answers change asks old given new h, left)
+  replied given (Err e) says h left = inr (inl (given, fits.answers change asks old given new h))
+
+  was_stored : {E : Type 0} (number : ℕ) (result : Result Reply E)
+      → Stores sizes k change Moments (Ok number) next
+      → FailsOnly before now (Ok number) → Tells told (Ok number) result
+      → Replies sizes question result old new
+  was_stored number result s fails says =
+      let hands = s.1 in
+      let machine_is = s.2 ∙ ap (λ (m : Machine). record m { acknowledged = number })
+      hands.handed_is in
+      let works = ap (λ (m : Machine). m.failed) machine_is
+      ∙ ap (λ (m : Machine). m.failed) hands.answers.1.next_is ∙ ready.works in
+      replied (told number) result says
+      (inl (record {
+        number = number;
+        accepted = hands.accepted;
+        accepts = hands.answers.1;
+        reply = refl;
+        machine_is = machine_is;
+        failures = fails.later;
+      }))
+      (record { rest = s.3; works = λ sure. works })
+
+  was_refused : {E : Type 0} (r : Refusal) (result : Result Reply E)
+      → Stores sizes k change Moments (Err (Refused r)) next
+      → now ≡ before → Tells told (Err (Refused r)) result
+      → Replies sizes question result old new
+  was_refused r result s same says = by s.0.1
+    where
+      by : ((k.noticed ≡ true) × (r ≡ refusal.Broken))
+          ⊎ ((k.noticed ≡ false) × Refuses sizes k change r)
+          → Replies sizes question result old new
+      by (inl noticed) =
+          let no = sym noticed.0 ∙ ready.rest.noticed ∙ ready.works in absurd (cc)
+      by (inr refuses) =
+          replied (refusal_reply r) result says
+          (inr (inl (record {
+            refusal = r;
+            refuses = refuses.1;
+            reply = refl;
+            same = ap (λ (m : Machine). served m now) s.0.0 ∙ ap (λ (f : ℕ). served k f) same;
+          })))
+          (record {
+            rest = s.1;
+            works = λ sure. ap (λ (m : Machine). m.failed) s.0.0 ∙ ready.works;
+          })
+
+  was_lost : {E : Type 0} (number : ℕ) (result : Result Reply E)
+      → Stores sizes k change Moments (Err (Unsure number)) next
+      → FailsOnly before now (Err (Unsure number)) → Tells told (Err (Unsure number)) result
+      → Replies sizes question result old new
+  was_lost number result s fails says =
+      let hands = s.1 in
+      replied (unsure_reply number) result says
+      (inr (inr (record {
+        number = number;
+        accepted = hands.accepted;
+        accepts = hands.answers.1;
+        reply = refl;
+        machine_is = s.2 ∙ ap (λ (m : Machine). record m { failed = true; noticed = true })
+            hands.handed_is;
+        failed = fails.unsure tt;
+      })))
+      (record { rest = s.3; works = λ sure. absurd (cc) })
+
+  pub store_replies : {E : Type 0} (stored : Result ℕ NotStored) (result : Result Reply E)
+      → Stores sizes k change Moments stored next → FailsOnly before now stored
+      → (MakesNoCall stored → now ≡ before) → Tells told stored result
+      → Replies sizes question result old new
+  store_replies (Ok number) result s fails same says = was_stored number result s fails says
+  store_replies (Err (Refused r)) result s fails same says = was_refused r result s (same tt) says
+  store_replies (Err (NoMemory n)) (Ok reply) s fails same says = absurd says
+  store_replies (Err (NoMemory n)) (Err e) s fails same says =
+      inr (inr (record {
+        change = change;
+        asked = fits.change_of change asks;
+        number = n;
+        accepts = s.1;
+        failures = same tt;
+      }))
+  store_replies (Err (Unsure n)) result s fails same says = was_lost n result s fails says
+
+pub command_replies : {E : Type 0} {Goes : Machine → Type 0}
+    {Moments : (List ℕ → Type 0) → Type 0} (sizes : Sizes)
+    (question : Option Asked) (told : ℕ → ReplyText) (k : Machine) (asked : Change (List ℕ))
+    (before now : ℕ) (stored : Result ℕ NotStored)
     (result : Result Reply E)
-    → IfOk result (IsReply given) → AnswersAsked question old given new
-    → Replies question old new result
-replies_with question old new given (Ok reply) says answers = (given, says, answers)
-replies_with question old new given (Err e) says answers = inr (given, answers)
-
-pub answers_bytes_with : {E : Type 0} (loader bytes : List ℕ) (old new : StoreValue)
-    (given : ReplyText) (result : Result Reply E)
-    → IfOk result (IsReply given) → AnswersClass loader bytes old given new
-    → AnswersBytes loader bytes old new result
-answers_bytes_with loader bytes old new given (Ok reply) says answers = (given, says, inr answers)
-answers_bytes_with loader bytes old new given (Err e) says answers = inr (given, inr answers)
-
--- the digits stand for the bytes
-pub replies_of_bytes : {E : Type 0} (loader digits bytes : List ℕ) (old new : StoreValue)
-    (result : Result Reply E)
-    → decode_of digits ≡ Ok bytes → AnswersBytes loader bytes old new result
-    → Replies (Some (AsksDefine loader digits)) old new result
-replies_of_bytes loader digits bytes old new (Ok reply) e h =
-    (h.0, h.1, subst (λ r. AnswersDefine loader r old h.0 new) (sym e) h.2)
-replies_of_bytes loader digits bytes old new (Err x) e (inl same) = inl same
-replies_of_bytes loader digits bytes old new (Err x) e (inr h) =
-    inr (h.0, subst (λ r. AnswersDefine loader r old h.0 new) (sym e) h.1)
-
--- the prepared class is the class of the bytes
-pub class_of_prepared : (loader bytes : List ℕ) (old new : StoreValue) (given : ReplyText)
-    (p : PreparedValue) (c : ClassFile) → IsRight bytes c → IsPreparedOf c p
-    → AnswersCommand (define_refusal old loader p.name (length p.words))
-    (defined_reply (old.number + 1) p.name) (AddsClass loader p.name p.words) old given new
-    → AnswersClass loader bytes old given new
-class_of_prepared loader bytes old new given p c right prepared answer =
+    → IsReady k → Fits sizes question told asked → Storing sizes k asked Moments stored Goes
+    → FailsOnly before now stored → (MakesNoCall stored → now ≡ before) → Tells told stored result
+    → LedTo (Replies sizes question result (served k before)) now Goes
+command_replies {Moments = Moments} sizes question told k asked before now stored result ready fits s
+    fails same says =
     record {
-      c = c;
-      right = right;
-      short = subst (λ w. length w ≤ limit) prepared.words prepared.short;
-      answer = subst
-          (λ w. AnswersCommand (define_refusal old loader (class_name_of c) (length w))
-          (defined_reply (old.number + 1) (class_name_of c)) (AddsClass loader (class_name_of c) w)
-          old given new) prepared.words
-          (subst (λ n.
-          AnswersCommand (define_refusal old loader n (length p.words))
-          (defined_reply (old.number + 1) n) (AddsClass loader n p.words) old given new)
-          prepared.name answer);
+      next = s.leads.next;
+      does = store_replies sizes question told k asked Moments before now ready fits s.change s.asks
+          s.leads.next stored result s.leads.does fails same says;
+      goes = s.leads.goes;
     }
+
+-- ---- looking up
+
+pub finds_none : (sizes : Sizes) (loader word name : List ℕ) (k : Machine) (failures : ℕ)
+    → unescaped word ≡ Some name → Finds sizes k loader name None
+    → AnswersAsked sizes (Some (AsksFind loader word)) (served k failures) none_reply
+    (served k failures)
+finds_none sizes loader word name k failures spelled finds =
+    subst (λ o. AnswersFind sizes loader o (served k failures) none_reply (served k failures))
+    (sym spelled) (record { found = None; finds = finds; tells = refl; same = refl })
+
+pub finds_class : (sizes : Sizes) (loader word name words : List ℕ) (c : ClassFile) (k : Machine)
+    (failures : ℕ)
+    → unescaped word ≡ Some name → Finds sizes k loader name (Some words) → IsRecordOf c words
+    → AnswersAsked sizes (Some (AsksFind loader word)) (served k failures)
+    (class_reply name c (length words)) (served k failures)
+finds_class sizes loader word name words c k failures spelled finds laid =
+    subst (λ o. AnswersFind sizes loader o (served k failures) (class_reply name c (length words))
+    (served k failures))
+    (sym spelled)
+    (record { found = Some words; finds = finds; tells = (c, laid, refl); same = refl })
 
 -- a class that is found
-pub replies_found : {E : Type 0} (loader word name words : List ℕ) (old : StoreValue)
-    (result : Result Reply E) → unescaped word ≡ Some name
-    → class_in old.listed.classes loader name ≡ Some words
+pub replies_found : {E : Type 0} (sizes : Sizes) (loader word name words : List ℕ) (k : Machine)
+    (failures : ℕ) (result : Result Reply E)
+    → IsReady k → unescaped word ≡ Some name → Finds sizes k loader name (Some words)
     → ((c : ClassFile) → IsRecordOf c words
     → IfOk result (IsReply (class_reply name c (length words)))) → OnOk result (IsRecord words)
-    → Replies (Some (AsksFind loader word)) old old result
-replies_found loader word name words old (Ok reply) spelled listed says laid =
-    let c = laid.0 in
-    let given : ReplyText = class_reply name c (length words) in
-    let tells : TellsClass name (Some words) given = (c, laid.1, refl) in
-    let answers : AnswersFind loader (Some name) old given old =
-    (subst (λ o. TellsClass name o given) (sym listed) tells, refl) in
-    (given, says c laid.1, subst (λ o. AnswersFind loader o old given old) (sym spelled) answers)
-replies_found loader word name words old (Err e) spelled listed says laid = inl refl
+    → Replies sizes (Some (AsksFind loader word)) result (served k failures) (served k failures)
+replies_found sizes loader word name words k failures (Ok reply) ready spelled finds says laid =
+    let c = laid.0 in (
+      class_reply name c (length words),
+      says c laid.1,
+      finds_class sizes loader word name words c k failures spelled finds laid.1,
+      record { rest = ready.rest; works = λ sure. ready.works },
+    )
+replies_found sizes loader word name words k failures (Err e) ready spelled finds says laid = inl refl
+
+pub answers_bad_name : (sizes : Sizes) (loader word : List ℕ) (old : Served)
+    → unescaped word ≡ None
+    → AnswersAsked sizes (Some (AsksFind loader word)) old bad_line_reply old
+answers_bad_name sizes loader word old spelled =
+    subst (λ o. AnswersFind sizes loader o old bad_line_reply old) (sym spelled) (refl, refl)

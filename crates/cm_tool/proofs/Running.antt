@@ -1,27 +1,33 @@
 -- A script that is run line by line.
 use Rattle.std.proofs.Common.{◌≡◌, ◌||◌, ◌⊎◌, ℕ, Bool, true, false, List, [], ◌∷◌, ◌++◌, Option}
-use Rattle.std.proofs.Common.{Some, None, Err, inl, inr, refl, sym, ap, subst, ◌∙◌, append_assoc}
-use Rattle.std.proofs.Common.{append-nil}
+use Rattle.std.proofs.Common.{Some, None, Result, Ok, Err, inl, inr, refl, sym, ap, subst, ◌∙◌}
+use Rattle.std.proofs.Common.{append_assoc, append-nil, arith}
 use Rattle.std.specs.List.{list_any}
-use Rattle.std.specs.Option.{IfSome}
+use Rattle.std.specs.Option.{IfSome, option_map}
 use Rattle.std.proofs.lemmas.List.Folds.{list_any-append}
 use Rattle.std.proofs.lemmas.Grind.{flat_map-append}
 use Rattle.std.proofs.KnownBytes.{Appends-nil, Appends-trans, Appends-kept, Keeps-refl}
 use Rattle.std.specs.Io.KnownBytes.{Appends}
-use Rattle.cm_store.specs.Store.{StoreValue}
-use Rattle.cm_tool.specs.declared.line_buffer.LineBuffer.{LineBuffer}
-use Rattle.cm_tool.specs.declared.reply.Kind.{Kind}
+use Rattle.cm_pool.specs.Geometry.{Sizes}
+use Rattle.cm_machine.specs.Machine.{Base, Machine, machine_from}
+use Rattle.cm_lines.specs.declared.fault.LineFault.{LineFault}
+use Rattle.cm_lines.specs.declared.fault.LineFault.TheVariants as line_fault
+use Rattle.cm_lines.specs.declared.line.Line.{Line}
+use Rattle.cm_lines.specs.declared.line_buffer.LineBuffer.{LineBuffer}
+use Rattle.cm_lines.specs.Lines.{lines_of, asked_by, seen}
+use Rattle.cm_lines.specs.Streams.{io, TakesLines, HasNoLine, Begins, Holds, ReadsLine, WritesPart}
+use Rattle.cm_replies.specs.declared.reply.Kind.{Kind}
+use Rattle.cm_replies.specs.declared.reply.Reply.{Reply}
+use Rattle.cm_replies.specs.Texts.{ReplyText}
+use Rattle.cm_replies.specs.Replies.{is_refused, is_unsure, reply_line, reply_lines}
 use Rattle.cm_tool.specs.declared.script.Outcome.{Outcome}
 use Rattle.cm_tool.specs.declared.script.ToolFault.{ToolFault}
 use Rattle.cm_tool.specs.declared.script.ToolFault.TheVariants as fault
-use Rattle.cm_tool.specs.Lines.{lines_of}
-use Rattle.cm_tool.specs.Texts.{ReplyText}
-use Rattle.cm_tool.specs.Answers.{AnswersLine, AnswersEach, EndsUnsure, is_refused, is_unsure}
-use Rattle.cm_tool.specs.Answers.{reply_line, reply_lines}
-use Rattle.cm_tool.specs.Seen.{RepliesTo}
-use Rattle.cm_tool.specs.Runs.{io, TakesLines, HasNoLine, Holds, ReadsLine, Begins, Turned}
-use Rattle.cm_tool.specs.Runs.{HasEnded, BreaksIn, BreaksBefore, Breaks, IsAnswered, EndsEarly}
-use Rattle.cm_tool.specs.Runs.{EndsBefore, EndsIn, Ends}
+use Rattle.cm_tool.specs.Answers.{Served, served, AnswersLine, AnswersEach, EndsUnsure, IsUnstored}
+use Rattle.cm_tool.specs.Serving.{IsReady, LedTo, Replies}
+use Rattle.cm_tool.specs.Runs.{fault_of, Turned, HasEnded, BreaksIn, BreaksBefore, LeavesUnstored}
+use Rattle.cm_tool.specs.Runs.{Breaks, Turns, IsAnswered, EndsEarly, EndsBefore, EndsIn}
+use Rattle.cm_tool.specs.Runs.{EndsUnstored, Ends, IsRun}
 
 -- ---- lines
 
@@ -43,7 +49,7 @@ takes_all None b lines p none = tt
 takes_all (Some x) None lines p none = absurd p
 takes_all (Some x) (Some y) lines p none = sym (p ∙ ap (λ l. lines ++ l) none ∙ append-nil lines)
 
-pub begins_with : (a b : Option (List ℕ)) (lines : List (List ℕ)) → TakesLines a b lines
+begins_with : (a b : Option (List ℕ)) (lines : List (List ℕ)) → TakesLines a b lines
     → Begins a lines
 begins_with None b lines p = tt
 begins_with (Some x) None lines p = absurd p
@@ -70,25 +76,31 @@ all_lines (Some x) (Some y) lines p = sym p
 
 -- ---- answers
 
-answered_more : (lines : List (List ℕ)) (replies : List ReplyText) (a b c : StoreValue)
+answered_more : (sizes : Sizes) (lines : List (List ℕ)) (replies : List ReplyText) (a b c : Served)
     (line : List ℕ) (given : ReplyText)
-    → AnswersEach lines a replies b → AnswersLine line b given c → is_unsure given.kind ≡ false
-    → AnswersEach (lines ++ line ∷ []) a (replies ++ given ∷ []) c
-answered_more [] [] a b c line given each answer sure =
-    (c, subst (λ s. AnswersLine line s given c) each answer, sure, refl)
-answered_more [] (first ∷ replies) a b c line given each answer sure = absurd each
-answered_more (next ∷ lines) [] a b c line given each answer sure = absurd each
-answered_more (next ∷ lines) (first ∷ replies) a b c line given each answer sure =
-    (each.0, each.1, each.2, answered_more lines replies each.0 b c line given each.3 answer sure)
+    → AnswersEach sizes lines a replies b → AnswersLine sizes line b given c
+    → is_unsure given.kind ≡ false
+    → AnswersEach sizes (lines ++ line ∷ []) a (replies ++ given ∷ []) c
+answered_more sizes [] [] a b c line given each answer sure =
+    (c, subst (λ s. AnswersLine sizes line s given c) each answer, sure, refl)
+answered_more sizes [] (first ∷ replies) a b c line given each answer sure = absurd each
+answered_more sizes (next ∷ lines) [] a b c line given each answer sure = absurd each
+answered_more sizes (next ∷ lines) (first ∷ replies) a b c line given each answer sure = (
+  each.0,
+  each.1,
+  each.2,
+  answered_more sizes lines replies each.0 b c line given each.3 answer sure,
+)
 
-none_unsure : (lines : List (List ℕ)) (replies : List ReplyText) (a b : StoreValue)
-    → AnswersEach lines a replies b → list_any (λ given. is_unsure given.kind) replies ≡ false
-none_unsure [] [] a b each = refl
-none_unsure [] (first ∷ replies) a b each = absurd each
-none_unsure (next ∷ lines) [] a b each = absurd each
-none_unsure (next ∷ lines) (first ∷ replies) a b each =
-    ap (λ t. t || list_any (λ given. is_unsure given.kind) replies) each.2 ∙ none_unsure lines
-    replies each.0 b each.3
+none_unsure : (sizes : Sizes) (lines : List (List ℕ)) (replies : List ReplyText) (a b : Served)
+    → AnswersEach sizes lines a replies b
+    → list_any (λ given. is_unsure given.kind) replies ≡ false
+none_unsure sizes [] [] a b each = refl
+none_unsure sizes [] (first ∷ replies) a b each = absurd each
+none_unsure sizes (next ∷ lines) [] a b each = absurd each
+none_unsure sizes (next ∷ lines) (first ∷ replies) a b each =
+    ap (λ t. t || list_any (λ given. is_unsure given.kind) replies) each.2
+    ∙ none_unsure sizes lines replies each.0 b each.3
 
 written_lines : (replies : List ReplyText) (given : ReplyText)
     → reply_lines (replies ++ given ∷ []) ≡ reply_lines replies ++ reply_line given
@@ -110,24 +122,40 @@ any_more test replies given so now one p q r =
 
 -- ---- a run so far
 
-pub record SoFar (script now held holds : Option (List ℕ)) (first between : StoreValue)
-    (outcome : Outcome) : Type 0 where
+pub record SoFar (sizes : Sizes) (script now held holds : Option (List ℕ)) (outcome : Outcome)
+    (first between : Served) : Type 0 where
   pub lines : List (List ℕ)
   pub replies : List ReplyText
   pub taken : TakesLines script now lines
-  pub answered : AnswersEach lines first replies between
+  pub answered : AnswersEach sizes lines first replies between
   pub written : Appends held holds (reply_lines replies)
   pub refused : outcome.refused ≡ list_any (λ given. is_refused given.kind) replies
   pub unsure : outcome.unsure ≡ list_any (λ given. is_unsure given.kind) replies
+  pub ready : IsReady between.machine
 
 -- the outcome with one more reply
 pub record IsAfter (old : Outcome) (k : Kind) (new : Outcome) : Type 0 where
   pub refused : new.refused ≡ (old.refused || is_refused k)
   pub unsure : new.unsure ≡ (old.unsure || is_unsure k)
 
-pub run_start : (a h : Option (List ℕ)) (s : StoreValue) (o : Outcome) → o.refused ≡ false
-    → o.unsure ≡ false → SoFar a a h h s s o
-run_start a h s o p q =
+is_sure : (so one now : Bool) → now ≡ (so || one) → now ≡ false → one ≡ false
+is_sure true one now p q = absurd (cc)
+is_sure false one now p q = sym p ∙ q
+
+is_lost : (so one now : Bool) → so ≡ false → now ≡ (so || one) → now ≡ true → one ≡ true
+is_lost true one now e p q = absurd (cc)
+is_lost false one now e p q = sym p ∙ q
+
+written_more : (h k m : Option (List ℕ)) (replies : List ReplyText) (given : ReplyText)
+    → Appends h k (reply_lines replies) → Appends k m (reply_line given)
+    → Appends h m (reply_lines (replies ++ given ∷ []))
+written_more h k m replies given p q =
+    subst (Appends h m) (sym (written_lines replies given))
+    (Appends-trans h k m (reply_lines replies) (reply_line given) p q)
+
+run_start : (sizes : Sizes) (a h : Option (List ℕ)) (s : Served) (o : Outcome)
+    → o.refused ≡ false → o.unsure ≡ false → IsReady s.machine → SoFar sizes a a h h o s s
+run_start sizes a h s o p q ready =
     record {
       lines =
           [];
@@ -139,173 +167,326 @@ run_start a h s o p q =
       written = Appends-nil h;
       refused = p;
       unsure = q;
+      ready = ready;
     }
 
-is_sure : (so one now : Bool) → now ≡ (so || one) → now ≡ false → one ≡ false
-is_sure true one now p q = absurd (cc)
-is_sure false one now p q = sym p ∙ q
+module _ (sizes : Sizes) (a b c h k m : Option (List ℕ)) (s t u : Served) (o n : Outcome)
+    (kind : Kind) (so : SoFar sizes a b h k o s t) (turned : Turned sizes c (io b k m) kind t u)
+    (after : IsAfter o kind n) where
+  abbrev given : ReplyText
+  given = turned.given
 
-written_more : (h k m : Option (List ℕ)) (replies : List ReplyText) (given : ReplyText)
-    → Appends h k (reply_lines replies) → Appends k m (reply_line given)
-    → Appends h m (reply_lines (replies ++ given ∷ []))
-written_more h k m replies given p q =
-    subst (Appends h m) (sym (written_lines replies given))
-    (Appends-trans h k m (reply_lines replies) (reply_line given) p q)
+  refused_now : n.refused ≡ list_any (λ r. is_refused r.kind) (so.replies ++ given ∷ [])
+  refused_now =
+      any_more (λ (r : ReplyText). is_refused r.kind) so.replies given o.refused n.refused
+      (is_refused kind) so.refused (ap is_refused turned.kind) after.refused
 
-pub run_more : (a b c h k m : Option (List ℕ)) (s t u : StoreValue) (o n : Outcome) (kind : Kind)
-    → SoFar a b h k s t o → Turned b c k m t u kind → IsAfter o kind n → n.unsure ≡ false
-    → SoFar a c h m s u n
-run_more a b c h k m s t u o n kind so turned after sure =
-    let given = turned.given in
-    record {
-      lines = so.lines ++ turned.line ∷ [];
-      replies = so.replies ++ given ∷ [];
-      taken = takes_more a b c so.lines (turned.line ∷ []) so.taken turned.taken;
-      answered = answered_more so.lines so.replies s t u turned.line given so.answered turned.answer
-          (sym (ap is_unsure turned.kind) ∙ is_sure o.unsure (is_unsure kind) n.unsure after.unsure
-          sure);
-      written = written_more h k m so.replies given so.written turned.written;
-      refused = any_more (λ (r : ReplyText). is_refused r.kind) so.replies given o.refused n.refused
-          (is_refused kind) so.refused (ap is_refused turned.kind) after.refused;
-      unsure = any_more (λ (r : ReplyText). is_unsure r.kind) so.replies given o.unsure n.unsure
-          (is_unsure kind) so.unsure (ap is_unsure turned.kind) after.unsure;
-    }
+  unsure_now : n.unsure ≡ list_any (λ r. is_unsure r.kind) (so.replies ++ given ∷ [])
+  unsure_now =
+      any_more (λ (r : ReplyText). is_unsure r.kind) so.replies given o.unsure n.unsure
+      (is_unsure kind) so.unsure (ap is_unsure turned.kind) after.unsure
 
-pub run_end : (a b h k m : Option (List ℕ)) (s t u : StoreValue) (o : Outcome) → SoFar a b h k s t o
-    → HasEnded b k m t u → IsAnswered (io a h m) s u o
-run_end a b h k m s t u o so ended =
-    record {
-      lines = so.lines;
-      lines_are = takes_all a b so.lines so.taken ended.none;
-      replies = so.replies;
-      answers = inl (subst (AnswersEach so.lines s so.replies) (sym ended.same) so.answered);
-      written = Appends-kept h k m (reply_lines so.replies) so.written ended.nothing;
-      refused = so.refused;
-      unsure = so.unsure;
-    }
+  taken_now : TakesLines a c (so.lines ++ turned.line ∷ [])
+  taken_now = takes_more a b c so.lines (turned.line ∷ []) so.taken turned.taken
 
-is_lost : (so one now : Bool) → so ≡ false → now ≡ (so || one) → now ≡ true → one ≡ true
-is_lost true one now e p q = absurd (cc)
-is_lost false one now e p q = sym p ∙ q
+  run_more : n.unsure ≡ false → SoFar sizes a c h m n s u
+  run_more sure =
+      let fine = sym (ap is_unsure turned.kind)
+      ∙ is_sure o.unsure (is_unsure kind) n.unsure after.unsure sure in
+      record {
+        lines = so.lines ++ turned.line ∷ [];
+        replies = so.replies ++ given ∷ [];
+        taken = taken_now;
+        answered = answered_more sizes so.lines so.replies s t u turned.line given so.answered
+            turned.answer fine;
+        written = written_more h k m so.replies given so.written turned.written;
+        refused = refused_now;
+        unsure = unsure_now;
+        ready = record { rest = turned.rest_is; works = turned.works fine };
+      }
 
-pub run_lost : (a b c h k m : Option (List ℕ)) (s t u : StoreValue) (o n : Outcome) (kind : Kind)
-    → SoFar a b h k s t o → Turned b c k m t u kind → IsAfter o kind n → n.unsure ≡ true
-    → IsAnswered (io a h m) s u n
-run_lost a b c h k m s t u o n kind so turned after lost =
-    let given = turned.given in
-    let taken = takes_more a b c so.lines (turned.line ∷ []) so.taken turned.taken in
-    let working = so.unsure ∙ none_unsure so.lines so.replies s t so.answered in
-    let ends : EndsUnsure (so.lines ++ turned.line ∷ behind c) s (so.replies ++ given ∷ []) u =
-    record {
-      before = so.lines;
-      line = turned.line;
-      behind = behind c;
-      lines_are = refl;
-      earlier = so.replies;
-      last = given;
-      replies_are = refl;
-      between = t;
-      answered = so.answered;
-      answer = turned.answer;
-      unsure = sym (ap is_unsure turned.kind) ∙ is_lost o.unsure (is_unsure kind) n.unsure working
-          after.unsure lost;
-    } in
-    record {
-      lines = so.lines ++ turned.line ∷ behind c;
-      lines_are = subst (λ l. IfSome a (λ text. l ≡ lines_of text))
-          (append_assoc so.lines (turned.line ∷ []) (behind c))
-          (all_lines a c (so.lines ++ turned.line ∷ []) taken);
-      replies = so.replies ++ given ∷ [];
-      answers = inr ends;
-      written = written_more h k m so.replies given so.written turned.written;
-      refused = any_more (λ (r : ReplyText). is_refused r.kind) so.replies given o.refused n.refused
-          (is_refused kind) so.refused (ap is_refused turned.kind) after.refused;
-      unsure = any_more (λ (r : ReplyText). is_unsure r.kind) so.replies given o.unsure n.unsure
-          (is_unsure kind) so.unsure (ap is_unsure turned.kind) after.unsure;
-    }
+  ends_unsure : n.unsure ≡ true
+      → EndsUnsure sizes (so.lines ++ turned.line ∷ behind c) s (so.replies ++ given ∷ []) u
+  ends_unsure lost =
+      let working = so.unsure ∙ none_unsure sizes so.lines so.replies s t so.answered in
+      record {
+        before = so.lines;
+        line = turned.line;
+        behind = behind c;
+        lines_are = refl;
+        earlier = so.replies;
+        last = given;
+        replies_are = refl;
+        between = t;
+        answered = so.answered;
+        answer = turned.answer;
+        unsure = sym (ap is_unsure turned.kind)
+            ∙ is_lost o.unsure (is_unsure kind) n.unsure working after.unsure lost;
+      }
 
-early : (a b h k m : Option (List ℕ)) (s t u : StoreValue) (o : Outcome) (so : SoFar a b h k s t o)
-    → BreaksBefore k m t u → EndsBefore h m so.replies t u
-early a b h k m s t u o so breaks =
-    record {
-      same =
-          breaks.same;
-      written = Appends-kept h k m (reply_lines so.replies) so.written breaks.nothing;
-    }
+  run_lost : n.unsure ≡ true → IsAnswered sizes (io a h m) n s u
+  run_lost lost =
+      record {
+        lines = so.lines ++ turned.line ∷ behind c;
+        lines_are = subst (λ l. IfSome a (λ text. l ≡ lines_of text))
+            (append_assoc so.lines (turned.line ∷ []) (behind c))
+            (all_lines a c (so.lines ++ turned.line ∷ []) taken_now);
+        replies = so.replies ++ given ∷ [];
+        answers = inr (ends_unsure lost);
+        written = written_more h k m so.replies given so.written turned.written;
+        refused = refused_now;
+        unsure = unsure_now;
+        rest = turned.rest_is;
+      }
 
-late : (a b h k m : Option (List ℕ)) (s t u : StoreValue) (o : Outcome) (so : SoFar a b h k s t o)
-    → BreaksIn b k m t u → EndsIn a so.lines h m so.replies t u
-late a b h k m s t u o so breaks =
-    let w = breaks.written in
-    record {
-      line = breaks.line;
-      begins = begins_more a b so.lines (breaks.line ∷ []) so.taken breaks.next;
-      given = breaks.given;
-      answer = breaks.answer;
-      part = w.part;
-      rest = w.rest;
-      whole = w.whole;
-      written = Appends-trans h k m (reply_lines so.replies) w.part so.written w.written;
-    }
+module _ (sizes : Sizes) (a b h k m : Option (List ℕ)) (s t u : Served) (o : Outcome)
+    (so : SoFar sizes a b h k o s t) where
+  run_end : HasEnded (io b k m) t u → IsAnswered sizes (io a h m) o s u
+  run_end ended =
+      record {
+        lines = so.lines;
+        lines_are = takes_all a b so.lines so.taken ended.none;
+        replies = so.replies;
+        answers = inl (subst (AnswersEach sizes so.lines s so.replies) (sym ended.same) so.answered);
+        written = Appends-kept h k m (reply_lines so.replies) so.written ended.nothing;
+        refused = so.refused;
+        unsure = so.unsure;
+        rest = (subst (λ (v : Served). IsReady v.machine) (sym ended.same) so.ready).rest;
+      }
 
-broken : (a b h k m : Option (List ℕ)) (s t u : StoreValue) (o : Outcome) (e : ToolFault)
-    (so : SoFar a b h k s t o) → Breaks e b k m t u → Ends e a so.lines h m so.replies t u
-unfolding late
-broken a b h k m s t u o fault.Input so breaks = early a b h k m s t u o so breaks
-broken a b h k m s t u o fault.Output so breaks = late a b h k m s t u o so breaks
-broken a b h k m s t u o fault.Memory so (inl breaks) = inl (early a b h k m s t u o so breaks)
-broken a b h k m s t u o fault.Memory so (inr breaks) =
-    inr (late a b h k m s t u o so breaks.0, breaks.1)
+  early : BreaksBefore (io b k m) t u → EndsBefore (io a h m) so.replies t u
+  early breaks =
+      record {
+        same =
+            breaks.same;
+        written = Appends-kept h k m (reply_lines so.replies) so.written breaks.nothing;
+      }
 
-pub run_broken : (a b h k m : Option (List ℕ)) (s t u : StoreValue) (o : Outcome) (e : ToolFault)
-    → SoFar a b h k s t o → Breaks e b k m t u → EndsEarly (io a h m) s u e
-run_broken a b h k m s t u o e so breaks =
-    record {
-      lines = so.lines;
-      begins = begins_with a b so.lines so.taken;
-      replies = so.replies;
-      between = t;
-      answered = so.answered;
-      ends = broken a b h k m s t u o e so breaks;
-    }
+  late : BreaksIn sizes (io b k m) t u → EndsIn sizes (io a h m) so.lines so.replies t u
+  late breaks =
+      let w = breaks.written in
+      record {
+        line = breaks.line;
+        begins = begins_more a b so.lines (breaks.line ∷ []) so.taken breaks.next;
+        given = breaks.given;
+        answer = breaks.answer;
+        part = w.part;
+        rest = w.rest;
+        whole = w.whole;
+        written = Appends-trans h k m (reply_lines so.replies) w.part so.written w.written;
+      }
+
+  unstored : LeavesUnstored sizes (io b k m) t u
+      → EndsUnstored sizes (io a h m) so.lines so.replies t u
+  unstored leaves =
+      record {
+        line = leaves.line;
+        begins = begins_more a b so.lines (leaves.line ∷ []) so.taken leaves.next;
+        unstored = leaves.unstored;
+        written = Appends-kept h k m (reply_lines so.replies) so.written leaves.nothing;
+      }
+
+  broken : (e : ToolFault) → Breaks sizes e (io b k m) t u
+      → Ends sizes e (io a h m) so.lines so.replies t u
+  unfolding late
+  broken fault.Input breaks = early breaks
+  broken fault.Output breaks = late breaks
+  broken fault.Memory (inl breaks) = inl (early breaks)
+  broken fault.Memory (inr (inl breaks)) = inr (inl (late breaks.0, breaks.1))
+  broken fault.Memory (inr (inr leaves)) = inr (inr (unstored leaves))
+
+  run_broken : (e : ToolFault) → Breaks sizes e (io b k m) t u → EndsEarly sizes (io a h m) e s u
+  run_broken e breaks =
+      record {
+        lines = so.lines;
+        begins = begins_with a b so.lines so.taken;
+        replies = so.replies;
+        between = t;
+        answered = so.answered;
+        ends = broken e breaks;
+      }
+
+-- a cache that was just opened
+pub ready_from : (base : Base) → IsReady (machine_from base)
+ready_from base = record {
+  rest = record { noticed = refl; sealed = λ works. omega (arith); stored = λ works. omega (arith) };
+  works = refl;
+}
+
+-- ---- the session that a run leads from machine to machine
+
+module _ (sizes : Sizes) (a b c h k m : Option (List ℕ)) (first : Served) (o : Outcome)
+    (f now : ℕ) (Goes Next : Machine → Type 0)
+    (so : LedTo (SoFar sizes a b h k o first) f Goes) where
+  pub lines_more : (n : Outcome) (kind : Kind)
+      → ((j : Machine) → Goes j → IsReady j
+      → LedTo (Turns sizes c (io b k m) (Ok (Some kind)) (served j f)) now Next)
+      → IsAfter o kind n → n.unsure ≡ false → LedTo (SoFar sizes a c h m n first) now Next
+  lines_more n kind turn after sure =
+      let t = turn so.next so.goes so.does.ready in
+      record {
+        next = t.next;
+        does = run_more sizes a b c h k m first (served so.next f) (served t.next now) o n kind
+            so.does t.does after sure;
+        goes = t.goes;
+      }
+
+  pub lines_lost : (n : Outcome) (kind : Kind)
+      → ((j : Machine) → Goes j → IsReady j
+      → LedTo (Turns sizes c (io b k m) (Ok (Some kind)) (served j f)) now Next)
+      → IsAfter o kind n → n.unsure ≡ true
+      → LedTo (IsRun sizes (io a h m) (Ok n) first) now Next
+  lines_lost n kind turn after lost =
+      let t = turn so.next so.goes so.does.ready in
+      record {
+        next = t.next;
+        does = run_lost sizes a b c h k m first (served so.next f) (served t.next now) o n kind
+            so.does t.does after lost;
+        goes = t.goes;
+      }
+
+  pub lines_end : ((j : Machine) → Goes j → IsReady j
+      → LedTo (Turns sizes c (io b k m) (Ok None) (served j f)) now Next)
+      → LedTo (IsRun sizes (io a h m) (Ok o) first) now Next
+  lines_end turn =
+      let t = turn so.next so.goes so.does.ready in
+      record {
+        next = t.next;
+        does = run_end sizes a b h k m first (served so.next f) (served t.next now) o so.does t.does;
+        goes = t.goes;
+      }
+
+  pub lines_broken : (e : ToolFault) → ((j : Machine) → Goes j → IsReady j
+      → LedTo (Turns sizes c (io b k m) (Err e) (served j f)) now Next)
+      → LedTo (IsRun sizes (io a h m) (Err e) first) now Next
+  lines_broken e turn =
+      let t = turn so.next so.goes so.does.ready in
+      record {
+        next = t.next;
+        does = run_broken sizes a b h k m first (served so.next f) (served t.next now) o so.does e
+            t.does;
+        goes = t.goes;
+      }
+
+pub lines_start : (sizes : Sizes) (a h : Option (List ℕ)) (k : Machine) (f : ℕ) (o : Outcome)
+    (Goes : Machine → Type 0) → o.refused ≡ false → o.unsure ≡ false → IsReady k → Goes k
+    → LedTo (SoFar sizes a a h h o (served k f)) f Goes
+lines_start sizes a h k f o Goes p q ready goes = record {
+  next = k;
+  does = run_start sizes a h (served k f) o p q ready;
+  goes = goes;
+}
 
 -- the run gave up before the end
-pub run_given_up : (a b h k : Option (List ℕ)) (s t : StoreValue) (o : Outcome)
-    → SoFar a b h k s t o → EndsEarly (io a h k) s t fault.Input
-run_given_up a b h k s t o so =
-    record {
-      lines = so.lines;
-      begins = begins_with a b so.lines so.taken;
-      replies = so.replies;
-      between = t;
-      answered = so.answered;
-      ends = record { same = refl; written = so.written };
-    }
+pub lines_given_up : (sizes : Sizes) (a b h k : Option (List ℕ)) (first : Served) (o : Outcome)
+    (f : ℕ) (Goes : Machine → Type 0) → LedTo (SoFar sizes a b h k o first) f Goes
+    → LedTo (IsRun sizes (io a h k) (Err fault.Input) first) f Goes
+lines_given_up sizes a b h k first o f Goes so = record {
+  next = so.next;
+  does = run_broken sizes a b h k k first (served so.next f) (served so.next f) o so.does
+      fault.Input (record { same = refl; nothing = Keeps-refl k });
+  goes = so.goes;
+}
 
 -- ---- one line
 
--- memory for the reply was refused
-pub line_unmade : {E : Type 0} (a b h : Option (List ℕ)) (s u : StoreValue) (buffer : LineBuffer)
-    (e : E) → ReadsLine a b buffer true
-    → ((text : List ℕ) → Holds text buffer → RepliesTo text s u (Err e))
-    → Breaks fault.Memory a h h s u
-line_unmade a b h s u buffer e read replies = made (replies read.0 read.2)
-  where
-    made : (u ≡ s) ⊎ ((given : ReplyText) × AnswersLine read.0 s given u)
-        → Breaks fault.Memory a h h s u
-    made (inl same) = inl (record { same = same; nothing = Keeps-refl h })
-    made (inr answered) =
-        let cut : BreaksIn a h h s u = record {
+-- the reader failed, or an allocation did
+pub unread : (sizes : Sizes) (a h : Option (List ℕ)) (s : Served) (e : LineFault)
+    → (e ≡ line_fault.Output → ⊥) → Breaks sizes (fault_of e) (io a h h) s s
+unread sizes a h s line_fault.Input never = record { same = refl; nothing = Keeps-refl h }
+unread sizes a h s line_fault.Output never = absurd (never refl)
+unread sizes a h s line_fault.Memory never = inl (record { same = refl; nothing = Keeps-refl h })
+
+-- the answer to the question is the answer to the line
+asked_line : {E : Type 0} (sizes : Sizes) (a b : Option (List ℕ)) (buffer : LineBuffer)
+    (question : Option Line) (result : Result Reply E) (old new : Served)
+    (read : ReadsLine a b buffer true)
+    → ((line : List ℕ) → Holds line buffer → option_map seen question ≡ asked_by line)
+    → Replies sizes (option_map seen question) result old new
+    → Replies sizes (asked_by (read.0)) result old new
+asked_line sizes a b buffer question result old new read says replies =
+    subst (λ q. Replies sizes q result old new) (says read.0 read.2) replies
+
+-- no memory for the reply, or for the command
+unmade : {E : Type 0} (sizes : Sizes) (a b h : Option (List ℕ)) (s u : Served) (line : List ℕ)
+    (e : E) → TakesLines a b (line ∷ []) → Replies sizes (asked_by line) (Err e) s u
+    → Breaks sizes fault.Memory (io a h h) s u
+unmade sizes a b h s u line e taken (inl same) =
+    inl (record { same = same; nothing = Keeps-refl h })
+unmade sizes a b h s u line e taken (inr (inl answered)) =
+    let cut : BreaksIn sizes (io a h h) s u = record {
+      line = line;
+      given = answered.0;
+      next = begins_with a b (line ∷ []) taken;
+      answer = answered.1;
+      written = record {
+        part =
+            [];
+        rest = reply_line answered.0;
+        whole = refl;
+        written = Appends-nil h;
+      };
+    } in
+    inr (inl (cut, refl))
+unmade sizes a b h s u line e taken (inr (inr left)) =
+    inr (inr (record {
+      line = line;
+      next = begins_with a b (line ∷ []) taken;
+      unstored = left;
+      nothing = Keeps-refl h;
+    }))
+
+module _ (sizes : Sizes) (a b h : Option (List ℕ)) (old : Served) (now : ℕ)
+    (Goes : Machine → Type 0) (buffer : LineBuffer) (question : Option Line)
+    (read : ReadsLine a b buffer true)
+    (says : (line : List ℕ) → Holds line buffer → option_map seen question ≡ asked_by line) where
+  pub line_unmade : {E : Type 0} (e : E)
+      → LedTo (Replies {E = E} sizes (option_map seen question) (Err e) old) now Goes
+      → LedTo (Turns sizes b (io a h h) (Err fault.Memory) old) now Goes
+  line_unmade e led = record {
+    next = led.next;
+    does = unmade sizes a b h old (served led.next now) read.0 e read.1
+        (asked_line sizes a b buffer question (Err e) old (served led.next now) read says led.does);
+    goes = led.goes;
+  }
+
+  pub line_answered : (E : Type 0) (m : Option (List ℕ)) (reply : Reply)
+      → LedTo (Replies {E = E} sizes (option_map seen question) (Ok reply) old) now Goes
+      → Appends h m reply.line.items
+      → LedTo (Turns sizes b (io a h m) (Ok (Some reply.kind)) old) now Goes
+  line_answered E m reply led written =
+      let r = asked_line {E = E} sizes a b buffer question (Ok reply) old (served led.next now) read
+      says led.does in
+      record {
+        next = led.next;
+        does = record {
           line = read.0;
-          given = answered.0;
+          given = r.0;
+          taken = read.1;
+          answer = r.2;
+          kind = r.1.kind;
+          written = subst (Appends h m) r.1.line written;
+          rest_is = r.3.rest;
+          works = r.3.works;
+        };
+        goes = led.goes;
+      }
+
+  pub line_unwritten : (E : Type 0) (m : Option (List ℕ)) (reply : Reply)
+      → LedTo (Replies {E = E} sizes (option_map seen question) (Ok reply) old) now Goes
+      → WritesPart h m reply.line.items
+      → LedTo (Turns sizes b (io a h m) (Err fault.Output) old) now Goes
+  line_unwritten E m reply led written =
+      let r = asked_line {E = E} sizes a b buffer question (Ok reply) old (served led.next now) read
+      says led.does in
+      record {
+        next = led.next;
+        does = record {
+          line = read.0;
+          given = r.0;
           next = begins_with a b (read.0 ∷ []) read.1;
-          answer = answered.1;
-          written = record {
-            part =
-                [];
-            rest = reply_line answered.0;
-            whole = refl;
-            written = Appends-nil h;
-          };
-        } in
-        inr (cut, refl)
+          answer = r.2;
+          written = subst (WritesPart h m) r.1.line written;
+        };
+        goes = led.goes;
+      }

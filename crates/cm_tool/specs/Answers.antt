@@ -1,133 +1,176 @@
--- The answers of a cache to the lines of a script: to one line after another, each by the cache's
--- value so far.
-use Rattle.std.specs.Prelude.{◌≡◌, ◌<◌, ◌≤◌, ◌⊎◌, ℕ, ◌+◌, ◌++◌, Bool, true, false, nat_lt}
-use Rattle.std.specs.Prelude.{if◌then◌else◌, List, [], ◌∷◌, length, Option, Some, None, Result, Ok}
-use Rattle.std.specs.Prelude.{Err}
-use Rattle.std.specs.List.{flat_map}
+-- The answers of a cache to the lines of a script: to one line after another, each by what the
+-- abstract machine came to so far.
+use Rattle.std.specs.Prelude.{◌≡◌, ◌<◌, ◌≤◌, ◌⊎◌, ℕ, ◌++◌, true, false, List, [], ◌∷◌, length}
+use Rattle.std.specs.Prelude.{Option, Some, None, Result, Ok, Err}
 use Rattle.hex.specs.Hex.{decode_of}
 use Rattle.hex.specs.declared.error.FromHexError.{FromHexError}
 use Rattle.cm_class.specs.declared.class_file.ClassFile.{ClassFile}
+use Rattle.cm_pool.specs.Geometry.{Sizes}
 use Rattle.cm_record.specs.Layout.{lay, limit, IsRecordOf}
 use Rattle.cm_record.specs.Names.{class_name_of}
 use Rattle.cm_rules.specs.Answer.{IsRight}
-use Rattle.cm_narrow.specs.State.{class_in}
-use Rattle.cm_store.specs.declared.refusal.Refusal.{Refusal}
-use Rattle.cm_store.specs.declared.refusal.Refusal.TheVariants as refusal
-use Rattle.cm_store.specs.declared.prepare.PrepareFault.{PrepareFault}
-use Rattle.cm_store.specs.Prepare.{IsUnprepared}
-use Rattle.cm_store.specs.Store.{StoreValue, loader_refusal, define_refusal, AddsLoader, AddsClass}
-use Rattle.cm_tool.specs.declared.reply.Kind.{Kind}
-use Rattle.cm_tool.specs.declared.reply.Kind.TheVariants as kind
-use Rattle.cm_tool.specs.Escapes.{unescaped}
-use Rattle.cm_tool.specs.Lines.{Asked, AsksLoader, AsksDefine, AsksFind, question_in, line_limit}
-use Rattle.cm_tool.specs.Texts.{ReplyText, number_reply, defined_reply, none_reply, class_reply}
-use Rattle.cm_tool.specs.Texts.{refusal_reply, fault_reply, bad_line_reply}
+use Rattle.cm_state.specs.Step.{Change, AddLoader, Define, Unload}
+use Rattle.cm_prepare.specs.declared.refusal.Refusal.{Refusal}
+use Rattle.cm_prepare.specs.Prepare.{IsUnprepared}
+use Rattle.cm_machine.specs.Machine.{Machine, Accepts, Refuses}
+use Rattle.cm_machine.specs.Laws.{Finds}
+use Rattle.cm_lines.specs.Escapes.{unescaped}
+use Rattle.cm_lines.specs.Lines.{Asked, AsksLoader, AsksUnload, AsksDefine, AsksFind, asked_by}
+use Rattle.cm_replies.specs.Texts.{ReplyText, number_reply, defined_reply, none_reply, class_reply}
+use Rattle.cm_replies.specs.Texts.{refusal_reply, unsure_reply, bad_line_reply}
+use Rattle.cm_replies.specs.Replies.{is_unsure}
+
+-- What a script runs on: the machine that the cache goes with, and how often its disk has failed.
+pub record Served : Type 0 where
+  pub machine : Machine
+  pub failures : ℕ
+
+abbrev pub served : Machine → ℕ → Served
+served machine failures = record { machine = machine; failures = failures }
 
 -- ---- one command
 
--- refused, and nothing is changed
-pub record IsRefused (r : Refusal) (old : StoreValue) (given : ReplyText)
-    (new : StoreValue) : Type 0 where
-  pub reply : given ≡ refusal_reply r
+-- It is stored: accepted with the next number, handed out and acknowledged.
+pub record IsDone (sizes : Sizes) (change : Change ClassFile) (told : ℕ → ReplyText) (old : Served)
+    (given : ReplyText) (new : Served) : Type 0 where
+  pub number : ℕ
+  pub accepted : Machine
+  pub accepts : Accepts sizes old.machine change number accepted
+  pub reply : given ≡ told number
+  pub machine_is : new.machine ≡ record accepted { sealed = number; acknowledged = number }
+  pub failures : old.failures ≤ new.failures
+
+-- It is refused, for the first cause against it or for want of room, and nothing is changed.
+pub record IsRefused (sizes : Sizes) (change : Change ClassFile) (old : Served) (given : ReplyText)
+    (new : Served) : Type 0 where
+  pub refusal : Refusal
+  pub refuses : Refuses sizes old.machine change refusal
+  pub reply : given ≡ refusal_reply refusal
   pub same : new ≡ old
 
--- The device failed in this command, which had the next number: it is unsure, and the cache is
--- broken.
-pub record IsLost (old : StoreValue) (given : ReplyText) (new : StoreValue) : Type 0 where
-  pub reply : given ≡ refusal_reply (refusal.Unsure (old.number + 1))
+-- It was accepted with the next number, and the device failed before its receipt: the file holds it
+-- or doesn't, and no command is accepted any more.
+pub record IsLost (sizes : Sizes) (change : Change ClassFile) (old : Served) (given : ReplyText)
+    (new : Served) : Type 0 where
+  pub number : ℕ
+  pub accepted : Machine
+  pub accepts : Accepts sizes old.machine change number accepted
+  pub reply : given ≡ unsure_reply number
+  pub machine_is : new.machine ≡ record accepted {
+    sealed = number;
+    failed = true;
+    noticed = true;
+  }
   pub failed : old.failures < new.failures
-  pub broken : new.broken ≡ true
 
--- Of a command, by the first refusal that applies to it: where none does, it is done with this
--- reply and leaves that, or an allocation failed, or the device failed.
-abbrev pub AnswersCommand : Option Refusal → ReplyText → (StoreValue → StoreValue → Type 0)
-    → StoreValue → ReplyText → StoreValue → Type 0
-AnswersCommand (Some r) reply Leaves old given new = IsRefused r old given new
-AnswersCommand None reply Leaves old given new =
-    ((given ≡ reply) × Leaves old new)
-    ⊎ (IsRefused refusal.NoMemory old given new ⊎ IsLost old given new)
+-- of a command, with the reply that tells its number once it is done
+abbrev pub AnswersCommand : Sizes → Change ClassFile → (ℕ → ReplyText) → Served → ReplyText → Served
+    → Type 0
+AnswersCommand sizes change told old given new =
+    IsDone sizes change told old given new
+    ⊎ (IsRefused sizes change old given new ⊎ IsLost sizes change old given new)
 
 -- ---- one line
 
-abbrev pub IsBadLine : StoreValue → ReplyText → StoreValue → Type 0
+abbrev pub IsBadLine : Served → ReplyText → Served → Type 0
 IsBadLine old given new = (given ≡ bad_line_reply) × (new ≡ old)
 
 -- the bytes are no class that can be defined
-pub record AnswersFault (bytes : List ℕ) (old : StoreValue) (given : ReplyText)
-    (new : StoreValue) : Type 0 where
-  pub fault : PrepareFault
-  pub unprepared : IsUnprepared bytes fault
-  pub reply : given ≡ fault_reply fault
+pub record AnswersFault (bytes : List ℕ) (old : Served) (given : ReplyText) (new : Served)
+    : Type 0 where
+  pub refusal : Refusal
+  pub unprepared : IsUnprepared bytes refusal
+  pub reply : given ≡ refusal_reply refusal
   pub same : new ≡ old
 
 -- they are a class that keeps the rules, whose record is no longer than records may be
-pub record AnswersClass (loader bytes : List ℕ) (old : StoreValue) (given : ReplyText)
-    (new : StoreValue) : Type 0 where
+pub record AnswersClass (sizes : Sizes) (loader bytes : List ℕ) (old : Served) (given : ReplyText)
+    (new : Served) : Type 0 where
   pub c : ClassFile
   pub right : IsRight bytes c
   pub short : length (lay c) ≤ limit
-  pub answer : AnswersCommand (define_refusal old loader (class_name_of c) (length (lay c)))
-      (defined_reply (old.number + 1) (class_name_of c))
-      (AddsClass loader (class_name_of c) (lay c)) old given new
+  pub answer : AnswersCommand sizes (Define loader c) (λ n. defined_reply n (class_name_of c)) old
+      given new
 
 -- of the bytes that the digits stand for
-abbrev pub AnswersDefine : List ℕ → Result (List ℕ) FromHexError → StoreValue → ReplyText
-    → StoreValue → Type 0
-AnswersDefine loader (Err e) old given new = IsBadLine old given new
-AnswersDefine loader (Ok bytes) old given new =
-    AnswersFault bytes old given new ⊎ AnswersClass loader bytes old given new
+abbrev pub AnswersDefine : Sizes → List ℕ → Result (List ℕ) FromHexError → Served → ReplyText
+    → Served → Type 0
+AnswersDefine sizes loader (Err e) old given new = IsBadLine old given new
+AnswersDefine sizes loader (Ok bytes) old given new =
+    AnswersFault bytes old given new ⊎ AnswersClass sizes loader bytes old given new
 
--- of the words of the record that is listed under the name
+-- of the words of the record that is found under the name
 abbrev pub TellsClass : List ℕ → Option (List ℕ) → ReplyText → Type 0
 TellsClass name None given = given ≡ none_reply
 TellsClass name (Some words) given =
     (c : ClassFile) × IsRecordOf c words × (given ≡ class_reply name c (length words))
 
+-- what the machine finds is told, and nothing is changed
+pub record AnswersName (sizes : Sizes) (loader name : List ℕ) (old : Served) (given : ReplyText)
+    (new : Served) : Type 0 where
+  pub found : Option (List ℕ)
+  pub finds : Finds sizes old.machine loader name found
+  pub tells : TellsClass name found given
+  pub same : new ≡ old
+
 -- of the name that the last word spells
-abbrev pub AnswersFind : List ℕ → Option (List ℕ) → StoreValue → ReplyText → StoreValue → Type 0
-AnswersFind loader None old given new = IsBadLine old given new
-AnswersFind loader (Some name) old given new =
-    TellsClass name (class_in old.listed.classes loader name) given × (new ≡ old)
+abbrev pub AnswersFind : Sizes → List ℕ → Option (List ℕ) → Served → ReplyText → Served → Type 0
+AnswersFind sizes loader None old given new = IsBadLine old given new
+AnswersFind sizes loader (Some name) old given new = AnswersName sizes loader name old given new
 
-abbrev pub AnswersAsked : Option Asked → StoreValue → ReplyText → StoreValue → Type 0
-AnswersAsked None old given new = IsBadLine old given new
-AnswersAsked (Some (AsksLoader name)) old given new =
-    AnswersCommand (loader_refusal old name) (number_reply (old.number + 1)) (AddsLoader name) old
-    given new
-AnswersAsked (Some (AsksDefine loader digits)) old given new =
-    AnswersDefine loader (decode_of digits) old given new
-AnswersAsked (Some (AsksFind loader name)) old given new =
-    AnswersFind loader (unescaped name) old given new
+abbrev pub AnswersAsked : Sizes → Option Asked → Served → ReplyText → Served → Type 0
+AnswersAsked sizes None old given new = IsBadLine old given new
+AnswersAsked sizes (Some (AsksLoader name)) old given new =
+    AnswersCommand sizes (AddLoader name) number_reply old given new
+AnswersAsked sizes (Some (AsksUnload name)) old given new =
+    AnswersCommand sizes (Unload name) number_reply old given new
+AnswersAsked sizes (Some (AsksDefine loader digits)) old given new =
+    AnswersDefine sizes loader (decode_of digits) old given new
+AnswersAsked sizes (Some (AsksFind loader name)) old given new =
+    AnswersFind sizes loader (unescaped name) old given new
 
--- A line that is too long asks for nothing, whatever it says.
-abbrev pub AnswersLine : List ℕ → StoreValue → ReplyText → StoreValue → Type 0
-AnswersLine line old given new =
-    AnswersAsked (if nat_lt line_limit (length line) then None else question_in line) old given new
+-- a line that is too long asks for nothing, whatever it says
+abbrev pub AnswersLine : Sizes → List ℕ → Served → ReplyText → Served → Type 0
+AnswersLine sizes line old given new = AnswersAsked sizes (asked_by line) old given new
+
+-- ---- a command that isn't answered
+
+-- the bytes are a class, and it is to be defined
+abbrev pub IsDefineOf : List ℕ → Result (List ℕ) FromHexError → Change ClassFile → Type 0
+IsDefineOf loader (Err e) change = ⊥
+IsDefineOf loader (Ok bytes) change =
+    (c : ClassFile) × IsRight bytes c × (change ≡ Define loader c)
+
+-- the question asks for this change of classes
+abbrev pub IsChangeOf : Option Asked → Change ClassFile → Type 0
+IsChangeOf None change = ⊥
+IsChangeOf (Some (AsksLoader name)) change = change ≡ AddLoader name
+IsChangeOf (Some (AsksUnload name)) change = change ≡ Unload name
+IsChangeOf (Some (AsksDefine loader digits)) change = IsDefineOf loader (decode_of digits) change
+IsChangeOf (Some (AsksFind loader name)) change = ⊥
+
+-- The command was accepted, and an allocation failed before it was handed out: no file holds it.
+pub record IsUnstored (sizes : Sizes) (question : Option Asked) (old new : Served) : Type 0 where
+  pub change : Change ClassFile
+  pub asked : IsChangeOf question change
+  pub number : ℕ
+  pub accepts : Accepts sizes old.machine change number new.machine
+  pub failures : new.failures ≡ old.failures
 
 -- ---- a script
 
-abbrev pub is_refused : Kind → Bool
-is_refused kind.Done = false
-is_refused kind.Refused = true
-is_refused kind.Unsure = false
-
-abbrev pub is_unsure : Kind → Bool
-is_unsure kind.Done = false
-is_unsure kind.Refused = false
-is_unsure kind.Unsure = true
-
 -- one reply to each line, none of them unsure
-abbrev pub AnswersEach : List (List ℕ) → StoreValue → List ReplyText → StoreValue → Type 0
-AnswersEach [] old [] new = new ≡ old
-AnswersEach [] old (given ∷ more) new = ⊥
-AnswersEach (line ∷ lines) old [] new = ⊥
-AnswersEach (line ∷ lines) old (given ∷ more) new =
-    (next : StoreValue) × AnswersLine line old given next × (is_unsure given.kind ≡ false)
-    × AnswersEach lines next more new
+abbrev pub AnswersEach : Sizes → List (List ℕ) → Served → List ReplyText → Served → Type 0
+AnswersEach sizes [] old [] new = new ≡ old
+AnswersEach sizes [] old (given ∷ more) new = ⊥
+AnswersEach sizes (line ∷ lines) old [] new = ⊥
+AnswersEach sizes (line ∷ lines) old (given ∷ more) new =
+    (next : Served) × AnswersLine sizes line old given next × (is_unsure given.kind ≡ false)
+    × AnswersEach sizes lines next more new
 
 -- the reply to some line is unsure, and nothing follows it
-pub record EndsUnsure (lines : List (List ℕ)) (old : StoreValue) (replies : List ReplyText)
-    (new : StoreValue) : Type 0 where
+pub record EndsUnsure (sizes : Sizes) (lines : List (List ℕ)) (old : Served)
+    (replies : List ReplyText) (new : Served) : Type 0 where
   pub before : List (List ℕ)
   pub line : List ℕ
   pub behind : List (List ℕ)
@@ -135,17 +178,11 @@ pub record EndsUnsure (lines : List (List ℕ)) (old : StoreValue) (replies : Li
   pub earlier : List ReplyText
   pub last : ReplyText
   pub replies_are : replies ≡ earlier ++ last ∷ []
-  pub between : StoreValue
-  pub answered : AnswersEach before old earlier between
-  pub answer : AnswersLine line between last new
+  pub between : Served
+  pub answered : AnswersEach sizes before old earlier between
+  pub answer : AnswersLine sizes line between last new
   pub unsure : is_unsure last.kind ≡ true
 
-abbrev pub Answers : List (List ℕ) → StoreValue → List ReplyText → StoreValue → Type 0
-Answers lines old replies new = AnswersEach lines old replies new ⊎ EndsUnsure lines old replies new
-
--- what is written of a reply, and of replies
-abbrev pub reply_line : ReplyText → List ℕ
-reply_line given = given.text ++ 10 ∷ []
-
-abbrev pub reply_lines : List ReplyText → List ℕ
-reply_lines replies = flat_map reply_line replies
+abbrev pub Answers : Sizes → List (List ℕ) → Served → List ReplyText → Served → Type 0
+Answers sizes lines old replies new =
+    AnswersEach sizes lines old replies new ⊎ EndsUnsure sizes lines old replies new

@@ -1,36 +1,45 @@
 -- What comes of a script on the cache that stands on a disk.
-use Rattle.std.specs.Prelude.{◌≡◌, ◌<◌, ℕ, false, List}
-use Rattle.cm_store.specs.declared.fault.OpenFault.{OpenFault}
-use Rattle.cm_store.specs.declared.fault.OpenFault.TheVariants.{NotACache, Device}
-use Rattle.cm_store.specs.Store.{StoreValue, IsOpen, default_sizes}
-use Rattle.cm_store.specs.Replay.{Stands}
+use Rattle.std.specs.Prelude.{◌≡◌, ◌<◌, ◌≤◌, ℕ}
+use Rattle.cm_pool.specs.Geometry.{Sizes}
+use Rattle.cm_disk.specs.Disk.{IsWithin}
+use Rattle.cm_state.specs.Stands.{Arenas, Stands}
+use Rattle.cm_verdict.specs.Verdict.{verdict}
+use Rattle.cm_recover.specs.declared.fault.OpenFault.{OpenFault}
+use Rattle.cm_recover.specs.declared.fault.OpenFault.TheVariants as open_fault
+use Rattle.cm_recover.specs.Opening.{IsFaultIn}
+use Rattle.cm_machine.specs.Machine.{Base, machine_from}
+use Rattle.cm_lines.specs.Streams.{Io}
 use Rattle.cm_tool.specs.declared.apply.ApplyFault.{ApplyFault}
 use Rattle.cm_tool.specs.declared.apply.ApplyFault.TheVariants as apply
-use Rattle.cm_tool.specs.Runs.{Io, Medium, EndsEarly, LeavesDisk}
+use Rattle.cm_tool.specs.Answers.{Served, served}
+use Rattle.cm_tool.specs.Runs.{EndsEarly}
+use Rattle.cm_tool.specs.Serving.{Medium, LeavesDisk}
 
--- the store that was opened is the cache that the bytes are
-pub record IsOpened (bytes : List ℕ) (old : StoreValue) : Type 0 where
-  pub stands : IsOpen default_sizes bytes old.listed old.number old.classes
-  pub working : old.broken ≡ false
+-- A run that begins with the cache that the disk's bytes stand for, and the disk that it leaves.
+pub record RunsFromOpened (disk left : Medium) (Came : Sizes → Served → Served → Type 0)
+    : Type 0 where
+  pub sizes : Sizes
+  pub base : Base
+  pub arenas : Arenas
+  pub stands : Stands sizes disk.bytes base.state arenas base.number
+  -- how often the disk had failed when the cache was opened
+  pub opened : ℕ
+  pub later : disk.failures ≤ opened
+  pub new : Served
+  pub came : Came sizes (served (machine_from base) opened) new
+  pub leaves : LeavesDisk sizes left new
 
--- A run from the opened store on, and the disk that it leaves.
-pub record RunsFromOpened (disk left : Medium)
-    (Came : StoreValue → StoreValue → Type 0) : Type 0 where
-  pub old : StoreValue
-  pub new : StoreValue
-  pub opened : IsOpened disk.bytes old
-  pub came : Came old new
-  pub leaves : LeavesDisk left new
-
--- Nothing was run: the disk has its bytes, nothing is written, and there is a reason for the fault.
+-- Nothing was run: the disk has its bytes, a crash leaves no more than it did before, nothing is
+-- written, and the fault is the one that the bytes have, or of the device or of memory.
 pub record IsUntouched (io : Io) (disk left : Medium) (f : OpenFault) : Type 0 where
-  pub same : left.bytes ≡ disk.bytes
+  pub bytes_stay : left.bytes ≡ disk.bytes
+  pub no_more : IsWithin disk.unsynced left.unsynced
   pub nothing : io.after ≡ io.before
-  pub no_cache : f ≡ NotACache → Stands disk.bytes → ⊥
-  pub device : f ≡ Device → disk.failures < left.failures
+  pub fault_is : IsFaultIn f (verdict disk.bytes)
+  pub device : f ≡ open_fault.Device → disk.failures < left.failures
 
 -- why a run isn't there, or ended early
 abbrev pub IsStopped : Io → Medium → Medium → ApplyFault → Type 0
 IsStopped io disk left (apply.Open f) = IsUntouched io disk left f
 IsStopped io disk left (apply.Script e) =
-    RunsFromOpened disk left (λ old new. EndsEarly io old new e)
+    RunsFromOpened disk left (λ sizes old new. EndsEarly sizes io e old new)

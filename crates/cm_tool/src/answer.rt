@@ -1,111 +1,217 @@
 //! The answer of a cache to a line.
 
-ghost use Rattle.std.specs.Prelude.{ℕ, List, Some};
+ghost use Rattle.std.specs.Prelude.{◌≡◌, ℕ, true, List, Some, Ok};
+ghost use Rattle.std.specs.Option.{option_map};
+ghost use Rattle.hex.specs.Hex.{decode_of};
+ghost use Rattle.hex.specs.declared.error.FromHexError.TheVariants.{OutOfMemory};
 ghost use Rattle.cm_class.specs.declared.class_file.ClassFile.{ClassFile};
+ghost use Rattle.cm_record.specs.Layout.{lay};
 ghost use Rattle.cm_rules.specs.Answer.{IsRight};
-ghost use Rattle.cm_store.specs.Store.{IsPreparedOf};
-ghost use Rattle.cm_tool.specs.Lines.{question_in, AsksLoader, AsksDefine, AsksFind};
-ghost use Rattle.cm_tool.specs.Seen.{Replies, AnswersBytes};
+ghost use Rattle.cm_machine.specs.Machine.{Machine};
+ghost use Rattle.cm_session.specs.Moves.{GoesWith};
+ghost use Rattle.cm_lines.specs.Lines.{seen, AsksLoader, AsksUnload, AsksDefine, AsksFind};
+ghost use Rattle.cm_replies.specs.Texts.{number_reply, defined_reply};
+ghost use Rattle.cm_tool.specs.Answers.{served};
+ghost use Rattle.cm_tool.specs.Serving.{IsReady, LedTo, Replies, Tells, TellsNotStored};
 
-use crate::escape::{NameFault, unescape};
-use crate::line::{Line, parse};
-use crate::reply::{Reply, bad_line, defined, done, found, nothing, refused, unprepared};
 use cm_disk::Disk;
-use cm_store::prepare::prepare;
-use cm_store::prepared::Prepared;
-use cm_store::store::Store;
+use cm_lines::{Line, NameFault, unescape};
+use cm_prepare::{Command, Prepared, prepare};
+use cm_record::{layout_determines_class, words_tell_name};
+use cm_replies::{Reply, bad_line, defined, done, found, nothing, refused, unsure};
+use cm_session::{NotStored, Session};
 use hex::FromHexError;
 use std::alloc::{AllocError, Global};
 
-/// Runs a line, and makes its reply. An `Err` says that an allocation failed for the reply, or
-/// before anything was done.
-pub fn answer<D: Disk + Drop>(
+/// Runs what a line asks for, and makes its reply. An `Err` says that an allocation failed: for the
+/// reply, or before a command was handed out, or before anything was done.
+pub fn answer<D: Disk>(
     alloc: Global,
-    store: &mut Store<D>,
-    line: &[u8],
+    session: &mut Session<D>,
+    question: Option<Line<'_>>,
 ) -> Result<Reply, AllocError>
-    ensures { Replies (question_in line.now) store.old store.new result }
+    ensures machine { (k : Machine) → GoesWith k session.old → IsReady k
+        → LedTo (Replies session.old.committer.sizes (option_map seen question.entry) result
+        (served k (D.failures session.old.committer.disk)))
+        (D.failures session.new.committer.disk) (λ next. GoesWith next session.new) }
+    ensures sizes { session.new.committer.sizes ≡ session.old.committer.sizes }
 {
-    match parse(line) {
-        Some(Line::Loader(name)) => add_loader(alloc, store, name),
-        Some(Line::Define(loader, digits)) => define(alloc, store, loader, digits),
-        Some(Line::Find(loader, class)) => find(alloc, store, loader, class),
+    match question {
+        Some(line) => answer_question(alloc, session, line),
         None => bad_line(alloc),
     }
 }
 
-fn add_loader<D: Disk + Drop>(
+fn answer_question<D: Disk>(
     alloc: Global,
-    store: &mut Store<D>,
-    name: &[u8],
+    session: &mut Session<D>,
+    question: Line<'_>,
 ) -> Result<Reply, AllocError>
-    ensures { Replies (Some (AsksLoader name.now)) store.old store.new result }
+    ensures machine { (k : Machine) → GoesWith k session.old → IsReady k
+        → LedTo (Replies session.old.committer.sizes (Some (seen question.entry)) result
+        (served k (D.failures session.old.committer.disk)))
+        (D.failures session.new.committer.disk) (λ next. GoesWith next session.new) }
+    ensures sizes { session.new.committer.sizes ≡ session.old.committer.sizes }
 {
-    match store.add_loader(name) {
-        Ok(number) => done(alloc, number),
-        Err(refusal) => refused(alloc, refusal),
+    match question {
+        Line::Loader(name) => add_loader(alloc, session, name),
+        Line::Unload(name) => unload(alloc, session, name),
+        Line::Define(loader, digits) => define(alloc, session, loader, digits),
+        Line::Find(loader, class) => find(alloc, session, loader, class),
     }
 }
 
-fn define<D: Disk + Drop>(
+fn add_loader<D: Disk>(
     alloc: Global,
-    store: &mut Store<D>,
+    session: &mut Session<D>,
+    name: &[u8],
+) -> Result<Reply, AllocError>
+    ensures machine { (k : Machine) → GoesWith k session.old → IsReady k
+        → LedTo (Replies session.old.committer.sizes (Some (AsksLoader name.now)) result
+        (served k (D.failures session.old.committer.disk)))
+        (D.failures session.new.committer.disk) (λ next. GoesWith next session.new) }
+    ensures sizes { session.new.committer.sizes ≡ session.old.committer.sizes }
+{
+    let stored = session.store(Command::AddLoader(name));
+    numbered(alloc, stored)
+}
+
+fn unload<D: Disk>(
+    alloc: Global,
+    session: &mut Session<D>,
+    name: &[u8],
+) -> Result<Reply, AllocError>
+    ensures machine { (k : Machine) → GoesWith k session.old → IsReady k
+        → LedTo (Replies session.old.committer.sizes (Some (AsksUnload name.now)) result
+        (served k (D.failures session.old.committer.disk)))
+        (D.failures session.new.committer.disk) (λ next. GoesWith next session.new) }
+    ensures sizes { session.new.committer.sizes ≡ session.old.committer.sizes }
+{
+    let stored = session.store(Command::Unload(name));
+    numbered(alloc, stored)
+}
+
+/// The reply to a command that tells no more than its number once it is done.
+fn numbered(alloc: Global, stored: Result<u64, NotStored>) -> Result<Reply, AllocError>
+    ensures { Tells number_reply stored result }
+{
+    match stored {
+        Ok(number) => done(alloc, number),
+        Err(fault) => not_stored(alloc, fault),
+    }
+}
+
+fn not_stored(alloc: Global, fault: NotStored) -> Result<Reply, AllocError>
+    ensures { TellsNotStored fault result }
+{
+    match fault {
+        NotStored::Refused(refusal) => refused(alloc, refusal),
+        NotStored::NoMemory(_) => Err(AllocError),
+        NotStored::Unsure(number) => unsure(alloc, number),
+    }
+}
+
+fn define<D: Disk>(
+    alloc: Global,
+    session: &mut Session<D>,
     loader: &[u8],
     digits: &[u8],
 ) -> Result<Reply, AllocError>
-    ensures { Replies (Some (AsksDefine loader.now digits.now)) store.old store.new result }
+    ensures machine { (k : Machine) → GoesWith k session.old → IsReady k
+        → LedTo (Replies session.old.committer.sizes (Some (AsksDefine loader.now digits.now)) result
+        (served k (D.failures session.old.committer.disk)))
+        (D.failures session.new.committer.disk) (λ next. GoesWith next session.new) }
+    ensures sizes { session.new.committer.sizes ≡ session.old.committer.sizes }
 {
     match hex::decode(alloc, digits) {
-        Ok(bytes) => define_bytes(alloc, store, loader, &bytes),
-        Err(FromHexError::OutOfMemory) => Err(AllocError),
-        Err(_) => bad_line(alloc),
+        Ok(bytes) => define_bytes(alloc, session, loader, &bytes),
+        Err(fault) => {
+            if is_memory(fault) {
+                Err(AllocError)
+            } else {
+                bad_line(alloc)
+            }
+        }
     }
 }
 
-fn define_bytes<D: Disk + Drop>(
+fn is_memory(fault: FromHexError) -> bool
+    ensures is { result ≡ true → fault ≡ OutOfMemory }
+    ensures whenever { fault ≡ OutOfMemory → result ≡ true }
+{
+    matches!(fault, FromHexError::OutOfMemory)
+}
+
+fn define_bytes<D: Disk>(
     alloc: Global,
-    store: &mut Store<D>,
+    session: &mut Session<D>,
     loader: &[u8],
     bytes: &[u8],
 ) -> Result<Reply, AllocError>
-    ensures { AnswersBytes loader.now bytes.now store.old store.new result }
+    ensures machine { (digits : List ℕ) → decode_of digits ≡ Ok bytes.now
+        → (k : Machine) → GoesWith k session.old → IsReady k
+        → LedTo (Replies session.old.committer.sizes (Some (AsksDefine loader.now digits)) result
+        (served k (D.failures session.old.committer.disk)))
+        (D.failures session.new.committer.disk) (λ next. GoesWith next session.new) }
+    ensures sizes { session.new.committer.sizes ≡ session.old.committer.sizes }
 {
     match prepare(alloc, bytes) {
-        Ok(class) => define_class(alloc, store, loader, class),
-        Err(fault) => unprepared(alloc, fault),
-    }
-}
-
-fn define_class<D: Disk + Drop>(
-    alloc: Global,
-    store: &mut Store<D>,
-    loader: &[u8],
-    class: Prepared,
-) -> Result<Reply, AllocError>
-    ensures { (bytes : List ℕ) (c : ClassFile) → IsRight bytes c → IsPreparedOf c class
-        → AnswersBytes loader.now bytes store.old store.new result }
-{
-    let name = Vec::from_slice(alloc, class.name())?;
-    match store.define(loader, class) {
-        Ok(number) => defined(alloc, number, &name),
+        Ok(class) => define_class(alloc, session, loader, class),
         Err(refusal) => refused(alloc, refusal),
     }
 }
 
-fn find<D: Disk + Drop>(
+fn define_class<D: Disk>(
     alloc: Global,
-    store: &Store<D>,
+    session: &mut Session<D>,
+    loader: &[u8],
+    class: Prepared,
+) -> Result<Reply, AllocError>
+    ensures machine { (digits bytes : List ℕ) (c : ClassFile) → decode_of digits ≡ Ok bytes
+        → IsRight bytes c → class ≡ lay c
+        → (k : Machine) → GoesWith k session.old → IsReady k
+        → LedTo (Replies session.old.committer.sizes (Some (AsksDefine loader.now digits)) result
+        (served k (D.failures session.old.committer.disk)))
+        (D.failures session.new.committer.disk) (λ next. GoesWith next session.new) }
+    ensures sizes { session.new.committer.sizes ≡ session.old.committer.sizes }
+{
+    layout_determines_class();
+    words_tell_name();
+    let name = match class.class_name(alloc) {
+        Ok(name) => name,
+        Err(_) => return Err(AllocError),
+    };
+    let stored = session.store(Command::Define(loader, class));
+    named(alloc, stored, &name)
+}
+
+/// The reply to a define of a class of this name.
+fn named(alloc: Global, stored: Result<u64, NotStored>, name: &[u8]) -> Result<Reply, AllocError>
+    ensures { Tells (λ n. defined_reply n name.now) stored result }
+{
+    match stored {
+        Ok(number) => defined(alloc, number, name),
+        Err(fault) => not_stored(alloc, fault),
+    }
+}
+
+fn find<D: Disk>(
+    alloc: Global,
+    session: &Session<D>,
     loader: &[u8],
     class: &[u8],
 ) -> Result<Reply, AllocError>
-    ensures { Replies (Some (AsksFind loader.now class.now)) store.now store.now result }
+    ensures { (k : Machine) → GoesWith k session.now → IsReady k
+        → LedTo (Replies session.now.committer.sizes (Some (AsksFind loader.now class.now)) result
+        (served k (D.failures session.now.committer.disk)))
+        (D.failures session.now.committer.disk) (λ next. GoesWith next session.now) }
 {
     let name = match unescape(alloc, class) {
         Ok(name) => name,
         Err(NameFault::BadEscape) => return bad_line(alloc),
         Err(NameFault::NoMemory) => return Err(AllocError),
     };
-    match store.find(loader, &name) {
+    match session.find(loader, &name) {
         Some(class) => found(alloc, &name, class),
         None => nothing(alloc),
     }

@@ -1,20 +1,20 @@
 //! Scripts: lines that are read, run and answered one after another.
 
-ghost use Rattle.std.specs.Prelude.{◌≡◌, ◌||◌, ℕ, List, IfOk, IfErr};
-ghost use Rattle.cm_store.specs.Store.{StoreValue};
-ghost use Rattle.cm_tool.specs.Answers.{is_refused, is_unsure};
-ghost use Rattle.cm_tool.specs.Runs.{io, medium, Holds, Turns, IsAnswered, EndsEarly, IsRun};
-ghost use Rattle.cm_tool.specs.Runs.{LeavesDisk};
-ghost use Rattle.cm_tool.specs.Seen.{RepliesTo};
+ghost use Rattle.std.specs.Prelude.{◌≡◌, ◌||◌, IfOk, IfErr};
+ghost use Rattle.cm_machine.specs.Machine.{Machine};
+ghost use Rattle.cm_session.specs.Moves.{GoesWith};
+ghost use Rattle.cm_lines.specs.Streams.{io};
+ghost use Rattle.cm_replies.specs.Replies.{is_refused, is_unsure};
+ghost use Rattle.cm_tool.specs.Answers.{Served, served};
+ghost use Rattle.cm_tool.specs.Runs.{fault_of, Turns, IsRun};
+ghost use Rattle.cm_tool.specs.Serving.{IsReady, LedTo, medium, LeavesDisk};
 
 use crate::answer::answer;
-use crate::input::read_line;
-use crate::line_buffer::LineBuffer;
-use crate::output::write_reply;
-use crate::reply::{Kind, Reply, bad_line};
 use cm_disk::Disk;
-use cm_store::store::Store;
-use std::alloc::{AllocError, Global};
+use cm_lines::{LineBuffer, LineFault, read_line, write_line};
+use cm_replies::Kind;
+use cm_session::Session;
+use std::alloc::Global;
 use std::io::{BufRead, Write};
 use thiserror::Error;
 
@@ -38,6 +38,18 @@ pub enum ToolFault {
     Memory,
 }
 
+impl From<LineFault> for ToolFault {
+    ghost from_gives = { λ fault e. e ≡ fault_of fault };
+
+    fn from(fault: LineFault) -> ToolFault {
+        match fault {
+            LineFault::Input => ToolFault::Input,
+            LineFault::Output => ToolFault::Output,
+            LineFault::Memory => ToolFault::Memory,
+        }
+    }
+}
+
 impl Outcome {
     /// The same with one more reply.
     fn after(self, kind: Kind) -> Outcome
@@ -51,23 +63,26 @@ impl Outcome {
     }
 }
 
-/// Runs a script on a store: reads its lines, and writes the reply to each as soon as it is there.
+/// Runs a script on a session in which everything accepted is stored: reads its lines, and writes
+/// the reply to each as soon as it is there.
 ///
-/// A line ends at a newline; a rest that isn't empty is a line too. After an `Err` what was
-/// acknowledged stays: `Input` where the reader fails, `Output` where the writer does, `Memory`
-/// where a growth is refused for a line or a reply.
-pub fn run_script<R: BufRead, W: Write, D: Disk + Drop>(
+/// A line ends at a newline; a rest that isn't empty is a line too. The run ends at an unsure
+/// command, since no further one would be accepted. It is an `Err` where the reader fails
+/// (`Input`), where the writer does (`Output`), or where an allocation failed for a line, a reply,
+/// or a command that was accepted and not handed out yet (`Memory`): what was acknowledged is
+/// stored.
+pub fn run_script<R: BufRead, W: Write, D: Disk>(
     alloc: Global,
     reader: &mut R,
     writer: &mut W,
-    store: &mut Store<D>,
+    session: &mut Session<D>,
 ) -> Result<Outcome, ToolFault>
-    ensures ok { IfOk result (IsAnswered
-        (io (R.remaining reader.old) (W.contents writer.old) (W.contents writer.new))
-        store.old store.new) }
-    ensures err { IfErr result (EndsEarly
-        (io (R.remaining reader.old) (W.contents writer.old) (W.contents writer.new))
-        store.old store.new) }
+    ensures machine { (k : Machine) → GoesWith k session.old → IsReady k
+        → LedTo (IsRun session.old.committer.sizes
+        (io (R.remaining reader.old) (W.contents writer.old) (W.contents writer.new)) result
+        (served k (D.failures session.old.committer.disk)))
+        (D.failures session.new.committer.disk) (λ next. GoesWith next session.new) }
+    ensures sizes { session.new.committer.sizes ≡ session.old.committer.sizes }
 {
     let mut line = LineBuffer::new(alloc);
     let mut outcome = Outcome {
@@ -75,7 +90,7 @@ pub fn run_script<R: BufRead, W: Write, D: Disk + Drop>(
         unsure: false,
     };
     'lines: for _ in 0..u64::MAX {
-        match run_line(alloc, reader, writer, store, &mut line) {
+        match run_line(alloc, reader, writer, session, &mut line) {
             Ok(Some(kind)) => {
                 outcome = outcome.after(kind);
                 if outcome.unsure {
@@ -86,65 +101,59 @@ pub fn run_script<R: BufRead, W: Write, D: Disk + Drop>(
             Err(fault) => return Err(fault),
         }
     }
+    // No script has 2^64 lines: the bound only shows that the loop ends.
     Err(ToolFault::Input)
 }
 
-/// Runs a script on an open store, and hands back its disk, whatever came of the script.
-pub fn run_to_end<R: BufRead, W: Write, D: Disk + Drop>(
+/// Runs a script on a session in which everything accepted is stored, and hands back its disk,
+/// whatever came of the script.
+pub fn run_to_end<R: BufRead, W: Write, D: Disk>(
     alloc: Global,
     reader: &mut R,
     writer: &mut W,
-    store: Store<D>,
+    session: Session<D>,
 ) -> (Result<Outcome, ToolFault>, D)
-    ensures { (new : StoreValue)
-        × IsRun (io (R.remaining reader.old) (W.contents writer.old) (W.contents writer.new))
-        store new result.0
-        × LeavesDisk (medium (D.contents result.1) (D.failures result.1)) new }
+    ensures { (k : Machine) → GoesWith k session → IsReady k
+        → (new : Served)
+        × IsRun session.committer.sizes
+        (io (R.remaining reader.old) (W.contents writer.old) (W.contents writer.new)) result.0
+        (served k (D.failures session.committer.disk)) new
+        × LeavesDisk session.committer.sizes
+        (medium (D.contents result.1) (D.unsynced result.1) (D.failures result.1)) new }
 {
-    let mut store = store;
-    let result = run_script(alloc, reader, writer, &mut store);
-    let _is_broken = store.is_broken(); // brings what a working store stands for into the proof's scope
-    (result, store.into_disk())
+    let mut session = session;
+    let result = run_script(alloc, reader, writer, &mut session);
+    session.images();
+    (result, session.into_disk())
 }
 
 /// Reads a line, runs it and writes its reply. `None` says that there was no line.
-fn run_line<R: BufRead, W: Write, D: Disk + Drop>(
+fn run_line<R: BufRead, W: Write, D: Disk>(
     alloc: Global,
     reader: &mut R,
     writer: &mut W,
-    store: &mut Store<D>,
+    session: &mut Session<D>,
     line: &mut LineBuffer,
 ) -> Result<Option<Kind>, ToolFault>
-    ensures { Turns (R.remaining reader.new)
-        (io (R.remaining reader.old) (W.contents writer.old) (W.contents writer.new))
-        store.old store.new result }
+    ensures machine { (k : Machine) → GoesWith k session.old → IsReady k
+        → LedTo (Turns session.old.committer.sizes (R.remaining reader.new)
+        (io (R.remaining reader.old) (W.contents writer.old) (W.contents writer.new)) result
+        (served k (D.failures session.old.committer.disk)))
+        (D.failures session.new.committer.disk) (λ next. GoesWith next session.new) }
+    ensures sizes { session.new.committer.sizes ≡ session.old.committer.sizes }
 {
     match read_line(reader, line) {
         Ok(true) => {}
         Ok(false) => return Ok(None),
-        Err(fault) => return Err(fault),
+        Err(fault) => return Err(ToolFault::from(fault)),
     }
-    let reply = match answer_line(alloc, store, line) {
+    let question = line.question();
+    let reply = match answer(alloc, session, question) {
         Ok(reply) => reply,
         Err(_) => return Err(ToolFault::Memory),
     };
-    match write_reply(writer, &reply) {
+    match write_line(writer, &reply.line) {
         Ok(()) => Ok(Some(reply.kind)),
-        Err(fault) => Err(fault),
-    }
-}
-
-/// Runs a line that was read, and makes its reply.
-fn answer_line<D: Disk + Drop>(
-    alloc: Global,
-    store: &mut Store<D>,
-    line: &LineBuffer,
-) -> Result<Reply, AllocError>
-    ensures { (text : List ℕ) → Holds text line.now → RepliesTo text store.old store.new result }
-{
-    if line.is_long {
-        bad_line(alloc)
-    } else {
-        answer(alloc, store, &line.bytes)
+        Err(fault) => Err(ToolFault::from(fault)),
     }
 }

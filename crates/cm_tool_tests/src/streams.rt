@@ -1,20 +1,10 @@
 //! Readers and writers that fail, are interrupted, or take nothing.
 
-use cm_disk::SimDisk;
-use cm_store::store::Store;
-use cm_tool::{Outcome, ToolFault, run_script};
-use std::alloc::Global;
+use crate::disks::{names_are_there, new_disk};
+use cm_tool::{ApplyFault, Outcome, ToolFault, apply_script};
 use std::cell::Cell;
 use std::io::{self, BufRead, ErrorKind, Read, Write};
 use std::test::*;
-
-fn empty_store(alloc: Global) -> Result<Store<SimDisk>, Fail> {
-    Ok(
-        Store::create(alloc, SimDisk::new(alloc))
-            .ok()
-            .ok_or("no store")?,
-    )
-}
 
 /// Gives its bytes, and then fails.
 #[derive(Drop)]
@@ -46,17 +36,15 @@ impl<'a> BufRead for FailingReader<'a> {
 #[test]
 fn a_reader_that_fails_in_mid_line_ends_the_run(rt: HostRuntime) -> Result<(), Fail> {
     let alloc = rt.alloc();
-    let mut store = Store::create(alloc, SimDisk::new(alloc))
-        .ok()
-        .ok_or("no store")?;
+    let disk = new_disk(alloc)?;
     let mut reader = FailingReader {
         bytes: b"loader a\nloader b",
     };
     let mut written = Vec::new(alloc);
-    let outcome = run_script(alloc, &mut reader, &mut written, &mut store);
-    assert_eq!(rt; outcome, Err(ToolFault::Input));
+    let (outcome, disk) = apply_script(alloc, &mut reader, &mut written, disk);
+    assert_eq!(rt; outcome, Err(ApplyFault::Script(ToolFault::Input)));
     assert_eq!(rt; written.as_slice(), b"ok 1\n".as_slice());
-    assert_eq!(rt; store.number(), 1);
+    assert_eq!(rt; names_are_there(alloc, disk, &[b"a"], b"ok 2\n")?, true);
     Ok(())
 }
 
@@ -83,14 +71,15 @@ impl Write for FailingWriter {
 #[test]
 fn a_writer_that_fails_at_the_second_reply_ends_the_run(rt: HostRuntime) -> Result<(), Fail> {
     let alloc = rt.alloc();
-    let mut store = Store::create(alloc, SimDisk::new(alloc))
-        .ok()
-        .ok_or("no store")?;
+    let disk = new_disk(alloc)?;
     let mut reader = b"loader a\nloader b\nloader c\n".as_slice();
     let mut writer = FailingWriter { replies: 1 };
-    let outcome = run_script(alloc, &mut reader, &mut writer, &mut store);
-    assert_eq!(rt; outcome, Err(ToolFault::Output));
-    assert_eq!(rt; store.number(), 2);
+    let (outcome, disk) = apply_script(alloc, &mut reader, &mut writer, disk);
+    assert_eq!(rt; outcome, Err(ApplyFault::Script(ToolFault::Output)));
+    assert_eq!(rt;
+        names_are_there(alloc, disk, &[b"a", b"b"], b"ok 3\n")?,
+        true
+    );
     Ok(())
 }
 
@@ -154,7 +143,7 @@ impl Write for InterruptedWriter {
 #[test]
 fn an_interrupted_reader_and_writer_go_on(rt: HostRuntime) -> Result<(), Fail> {
     let alloc = rt.alloc();
-    let mut store = empty_store(alloc)?;
+    let disk = new_disk(alloc)?;
     let mut reader = InterruptedReader {
         bytes: b"loader a\nloader a\nfind a B",
         was_interrupted: false,
@@ -163,7 +152,7 @@ fn an_interrupted_reader_and_writer_go_on(rt: HostRuntime) -> Result<(), Fail> {
         bytes: Vec::new(alloc),
         was_interrupted: false,
     };
-    let outcome = run_script(alloc, &mut reader, &mut writer, &mut store);
+    let (outcome, _) = apply_script(alloc, &mut reader, &mut writer, disk);
     assert_eq!(rt;
         outcome,
         Ok(Outcome {
@@ -193,11 +182,11 @@ impl Write for FullWriter {
 #[test]
 fn a_writer_that_takes_nothing_ends_the_run(rt: HostRuntime) -> Result<(), Fail> {
     let alloc = rt.alloc();
-    let mut store = empty_store(alloc)?;
+    let disk = new_disk(alloc)?;
     let mut reader = b"loader a\nloader b\n".as_slice();
-    let outcome = run_script(alloc, &mut reader, &mut FullWriter, &mut store);
-    assert_eq!(rt; outcome, Err(ToolFault::Output));
-    assert_eq!(rt; store.number(), 1);
+    let (outcome, disk) = apply_script(alloc, &mut reader, &mut FullWriter, disk);
+    assert_eq!(rt; outcome, Err(ApplyFault::Script(ToolFault::Output)));
+    assert_eq!(rt; names_are_there(alloc, disk, &[b"a"], b"ok 2\n")?, true);
     Ok(())
 }
 
@@ -260,7 +249,7 @@ impl<'a> Write for HoldingWriter<'a> {
 #[test]
 fn a_reply_is_passed_on_before_the_next_line_is_read(rt: HostRuntime) -> Result<(), Fail> {
     let alloc = rt.alloc();
-    let mut store = empty_store(alloc)?;
+    let disk = new_disk(alloc)?;
     let held_back = Cell::new(0u64);
     let mut reader = PatientReader {
         bytes: b"loader a\nfind a B\nloader b\n",
@@ -270,7 +259,7 @@ fn a_reply_is_passed_on_before_the_next_line_is_read(rt: HostRuntime) -> Result<
         bytes: Vec::new(alloc),
         held_back: &held_back,
     };
-    let outcome = run_script(alloc, &mut reader, &mut writer, &mut store);
+    let (outcome, _) = apply_script(alloc, &mut reader, &mut writer, disk);
     assert!(rt; outcome.is_ok());
     assert_eq!(rt; writer.bytes.as_slice(), b"ok 1\nnone\nok 2\n".as_slice());
     Ok(())

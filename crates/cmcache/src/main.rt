@@ -1,77 +1,60 @@
-//! `cmcache`: a crash-safe cache of class metadata.
+//! `cmcache`: a crash-safe cache of class metadata, in a file.
 #![tactic(auto)]
 
-mod command;
+mod files;
+mod inspection;
+mod memory;
+mod scripts;
+mod status;
+mod words;
 
-use crate::command::{Request, read_words};
-use cm_disk::SimDisk;
-use cm_store::format::format;
-use cm_tool::{ApplyFault, Outcome, apply_script};
-use std::alloc::Global;
-use std::io::{self, BufReader, BufWriter};
+use crate::files::{apply_file, format_file};
+use crate::inspection::{check_file, list_file};
+use crate::memory::apply_in_memory;
+use crate::words::{read_words, tell_fault};
+use cm_plan::{Plan, UsageFault, plan};
+use std::alloc::{AllocError, Global};
+use std::fs::{File, Files};
 use std::process::ExitCode;
 use std::rt::Env;
-
-/// Some line was refused.
-const REFUSED: u8 = 1;
-
-/// The device, memory, the input or the output failed.
-const FAILED: u8 = 3;
 
 fn main(rt: HostRuntime) -> ExitCode {
     ExitCode::from(run(&rt))
 }
 
 /// Does what the command line asks for, and gives the status.
-fn run(rt: &(impl Env + Input + Print + Eprint + AllocGlobal)) -> u8 {
-    match read_words(rt) {
-        Ok(Request::ApplyInMemory) => apply_in_memory(rt),
-        Ok(Request::Printed(status)) => status,
-        Err(fault) => {
-            let _ = eprintln!(rt; "cmcache: {fault}");
-            FAILED
-        }
-    }
-}
-
-/// Runs the script on standard input on a fresh cache in memory.
-fn apply_in_memory(rt: &(impl Input + Print + Eprint + AllocGlobal)) -> u8 {
-    let alloc = rt.alloc();
-    let mut disk = SimDisk::new(alloc);
-    if let Err(fault) = format(alloc, &mut disk) {
-        let _ = println!(rt; "{fault}");
-        return FAILED;
-    }
-    let Ok(mut reader) = BufReader::new(alloc, rt.reader()) else {
-        return failed(rt, "out of memory");
+fn run(rt: &(impl Env + Input + Print + Eprint + Files<File = File> + AllocGlobal)) -> u8 {
+    let words = match read_words(rt) {
+        Ok(words) => words,
+        Err(fault) => return tell_fault(rt, &fault),
     };
-    let Ok(mut writer) = BufWriter::new(alloc, io::writer(rt)) else {
-        return failed(rt, "out of memory");
+    let Ok(texts) = texts_of(rt.alloc(), &words) else {
+        return tell_fault(rt, &UsageFault::NoMemory);
     };
-    match apply_script(alloc, &mut reader, &mut writer, disk).0 {
-        Ok(outcome) => status_of(outcome),
-        Err(ApplyFault::Open(fault)) => {
-            let _ = println!(rt; "{fault}");
-            FAILED
-        }
-        Err(ApplyFault::Script(fault)) => {
-            let _ = eprintln!(rt; "cmcache: {fault}");
-            FAILED
-        }
+    match plan(rt.alloc(), &texts) {
+        Ok(plan) => carry_out(rt, &plan),
+        Err(fault) => tell_fault(rt, &fault),
     }
 }
 
-fn failed(rt: &impl Eprint, why: &str) -> u8 {
-    let _ = eprintln!(rt; "cmcache: {why}");
-    FAILED
+/// The words behind the program's name.
+fn texts_of(alloc: Global, words: &[String]) -> Result<Vec<&str>, AllocError> {
+    words
+        .iter()
+        .skip(1)
+        .map(|word| word.as_str())
+        .collect(alloc)
 }
 
-fn status_of(outcome: Outcome) -> u8 {
-    if outcome.unsure {
-        FAILED
-    } else if outcome.refused {
-        REFUSED
-    } else {
-        0
+fn carry_out(
+    rt: &(impl Input + Print + Eprint + Files<File = File> + AllocGlobal),
+    plan: &Plan<'_>,
+) -> u8 {
+    match plan {
+        Plan::Format(path, geometry) => format_file(rt, path, *geometry),
+        Plan::Check(path) => check_file(rt, path),
+        Plan::List(path) => list_file(rt, path),
+        Plan::Apply(Some(path)) => apply_file(rt, path),
+        Plan::Apply(None) => apply_in_memory(rt),
     }
 }

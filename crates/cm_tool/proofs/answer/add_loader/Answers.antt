@@ -1,32 +1,21 @@
-use Rattle.std.proofs.Common.{◌+◌, Some, subst}
-use Rattle.cm_store.specs.Store.{loader_refusal, AddsLoader}
-use Rattle.cm_tool.specs.Lines.{AsksLoader}
-use Rattle.cm_tool.specs.Texts.{number_reply, refusal_reply}
-use Rattle.cm_tool.specs.Seen.{IsReply}
-use Rattle.std.specs.Prelude.{IfOk}
-use Rattle.cm_tool.proofs.Commands.{loader_refusal_is_sure, command_done, command_not_done}
-use Rattle.cm_tool.proofs.Commands.{replies_with}
+use Rattle.std.proofs.Common.{Some, ap}
+use Rattle.cm_state.specs.Step.{AddLoader}
+use Rattle.cm_commit.specs.States.{CommitterState}
+use Rattle.cm_lines.specs.Lines.{AsksLoader}
+use Rattle.cm_replies.specs.Texts.{number_reply}
+use Rattle.cm_tool.proofs.Commands.{command_replies, loader_fits}
 use Rattle.cm_tool.proofs.answer.add_loader.Goals as goal
 
-pub returns-in-Ok : goal.returns-in-Ok
-returns-in-Ok g c =
-    let old = c.args.store.now in
-    let new = c.add_loader.new.self in
+pub returns-clause-machine : goal.returns-clause-machine
+returns-clause-machine g c =
+    let s = c.args.session.now in
     let name = c.args.name.now in
-    let given = number_reply (old.number + 1) in
-    replies_with (Some (AsksLoader name)) old new given c.done.result
-    (subst (λ n. IfOk c.done.result (IsReply (number_reply n))) c.in-Ok.ensures.ok c.done.ensures)
-    (command_done (loader_refusal old name) given (AddsLoader name) old new c.in-Ok.number
-    c.in-Ok.ensures.answer c.in-Ok.ensures.added)
-
-pub returns-in-Err : goal.returns-in-Err
-returns-in-Err g c =
-    let old = c.args.store.now in
-    let new = c.add_loader.new.self in
-    let name = c.args.name.now in
-    let refusal = c.in-Err.refusal in
-    replies_with (Some (AsksLoader name)) old new (refusal_reply refusal) c.refused.result
-    c.refused.ensures
-    (command_not_done (loader_refusal old name) (number_reply (old.number + 1)) (AddsLoader name)
-    old new refusal (loader_refusal_is_sure old name) c.in-Err.ensures.answer
-    c.in-Err.ensures.unsure)
+    let call = c.store-stored in
+    let failures = g.D.Disk.failures in
+    λ k goes ready.
+    command_replies s.committer.sizes (Some (AsksLoader name)) number_reply k (AddLoader name)
+    (failures s.committer.disk) (failures call.new.self.committer.disk) call.result c.numbered.result
+    ready (loader_fits s.committer.sizes name) (call.ensures.machine k goes ready.rest)
+    (call.ensures.cause k goes ready.rest)
+    (λ none. ap (λ (x : CommitterState _). failures x.disk) (call.ensures.no_call none))
+    c.numbered.ensures

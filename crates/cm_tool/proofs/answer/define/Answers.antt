@@ -1,9 +1,34 @@
-use Rattle.std.proofs.Common.{◌∙◌, Ok, ap, sym}
-use Rattle.cm_tool.proofs.Commands.{replies_of_bytes}
+use Rattle.std.proofs.Common.{◌≡◌, ◌⊎◌, ◌∙◌, Ok, Err, inl, inr, refl, ap, sym}
+use Rattle.std.specs.Prelude.{Some}
+use Rattle.hex.specs.Hex.{decode_of}
+use Rattle.hex.specs.declared.error.FromHexError.{FromHexError}
+use Rattle.hex.specs.declared.error.FromHexError.TheVariants.{OutOfMemory}
+use Rattle.cm_lines.specs.Lines.{AsksDefine}
+use Rattle.cm_replies.specs.Texts.{bad_line_reply}
+use Rattle.cm_tool.specs.Answers.{served}
+use Rattle.cm_tool.proofs.Commands.{stays, replies_same, answers_bad_digits, not_memory}
 use Rattle.cm_tool.proofs.answer.define.Goals as goal
 
-pub returns-in-Ok : goal.returns-in-Ok
-returns-in-Ok g c =
-    replies_of_bytes c.args.loader.now c.args.digits.now c.deref.result.now c.args.store.now
-    c.define_bytes.new.store c.define_bytes.result
-    (c.in-Ok.ensures.ok ∙ ap Ok (sym c.deref.ensures.value)) c.define_bytes.ensures
+pub returns-in-Ok-clause-machine : goal.returns-in-Ok-clause-machine
+returns-in-Ok-clause-machine g c =
+    c.define_bytes.ensures.machine c.args.digits.now
+    (c.in-Ok.ensures.ok ∙ ap Ok (sym c.deref.ensures.value))
+
+pub returns-then-is_memory-clause-machine : goal.returns-then-is_memory-clause-machine
+returns-then-is_memory-clause-machine g c =
+    λ k goes ready. stays k (g.D.Disk.failures c.args.session.now.committer.disk) (inl refl) goes
+
+pub returns-else-is_memory-clause-machine : goal.returns-else-is_memory-clause-machine
+returns-else-is_memory-clause-machine g c =
+    let s = c.args.session.now in
+    let f = g.D.Disk.failures s.committer.disk in
+    let sizes = s.committer.sizes in
+    let loader = c.args.loader.now in
+    let digits = c.args.digits.now in
+    λ k goes ready.
+    stays k f
+    (replies_same sizes (Some (AsksDefine loader digits)) k f bad_line_reply c.bad_line.result ready
+    c.bad_line.ensures
+    (answers_bad_digits sizes loader digits c.in-Err.fault (served k f)
+    (not_memory digits c.in-Err.fault c.is_memory.result c.is_memory.ensures.whenever
+    c.if-is_memory.false c.in-Err.ensures.err))) goes

@@ -1,40 +1,33 @@
-use Rattle.std.proofs.Common.{◌+◌, length, subst, ◌∙◌}
-use Rattle.std.specs.Prelude.{IfOk}
-use Rattle.cm_store.specs.Store.{define_refusal, AddsClass}
-use Rattle.cm_tool.specs.Texts.{defined_reply, refusal_reply}
-use Rattle.cm_tool.specs.Seen.{IsReply}
-use Rattle.cm_tool.proofs.Commands.{define_refusal_is_sure, command_done, command_not_done}
-use Rattle.cm_tool.proofs.Commands.{answers_bytes_with, class_of_prepared}
+use Rattle.std.proofs.Common.{Some, ap, inl, refl, ◌∙◌}
+use Rattle.cm_record.specs.Layout.{lay}
+use Rattle.cm_state.specs.Step.{Define}
+use Rattle.cm_commit.specs.States.{CommitterState}
+use Rattle.cm_lines.specs.Lines.{AsksDefine}
+use Rattle.cm_replies.specs.Texts.{defined_reply}
+use Rattle.cm_tool.proofs.Commands.{command_replies, define_fits, class_named, stays}
 use Rattle.cm_tool.proofs.answer.define_class.Goals as goal
 
-pub returns-in-Ok : goal.returns-in-Ok
-returns-in-Ok g c bytes class right prepared =
-    let old = c.args.store.now in
-    let new = c.define.new.self in
+pub returns-clause-machine : goal.returns-clause-machine
+returns-clause-machine g c =
+    let s = c.args.session.now in
     let loader = c.args.loader.now in
-    let p = c.args.class in
-    let given = defined_reply (old.number + 1) p.name in
-    let name_is = c.deref.ensures.value ∙ c.in_ok-name.ensures.items ∙ c.name.ensures in
-    let says = subst (λ n. IfOk c.defined.result (IsReply (defined_reply n c.deref.result.now)))
-    c.in-Ok.ensures.ok c.defined.ensures in
-    answers_bytes_with loader bytes old new given c.defined.result
-    (subst (λ n. IfOk c.defined.result (IsReply (defined_reply (old.number + 1) n))) name_is says)
-    (class_of_prepared loader bytes old new given p class right prepared
-    (command_done (define_refusal old loader p.name (length p.words)) given
-    (AddsClass loader p.name p.words) old new c.in-Ok.number c.in-Ok.ensures.answer
-    c.in-Ok.ensures.defined))
+    let words = c.args.class in
+    let call = c.store-stored in
+    let failures = g.D.Disk.failures in
+    let name = c.deref.result.now in
+    λ digits bytes class decoded right laid k goes ready.
+    let name_is = c.deref.ensures.value ∙ c.in-Ok.ensures in
+    command_replies s.committer.sizes (Some (AsksDefine loader digits)) (λ n. defined_reply n name) k
+    (Define loader words) (failures s.committer.disk) (failures call.new.self.committer.disk)
+    call.result c.named.result ready
+    (define_fits c.layout_determines_class.ensures s.committer.sizes loader digits bytes words name
+    class decoded right laid
+    (λ short. name_is ∙ class_named bytes words class c.words_tell_name.ensures right laid short))
+    (call.ensures.machine k goes ready.rest) (call.ensures.cause k goes ready.rest)
+    (λ none. ap (λ (x : CommitterState _). failures x.disk) (call.ensures.no_call none))
+    c.named.ensures
 
-pub returns : goal.returns
-returns g c bytes class right prepared =
-    let old = c.args.store.now in
-    let new = c.define.new.self in
-    let loader = c.args.loader.now in
-    let p = c.args.class in
-    let refusal = c.in-Err.refusal in
-    let given = refusal_reply refusal in
-    answers_bytes_with loader bytes old new given c.refused.result c.refused.ensures
-    (class_of_prepared loader bytes old new given p class right prepared
-    (command_not_done (define_refusal old loader p.name (length p.words))
-    (defined_reply (old.number + 1) p.name) (AddsClass loader p.name p.words) old new refusal
-    (define_refusal_is_sure old loader p.name (length p.words)) c.in-Err.ensures.answer
-    c.in-Err.ensures.unsure))
+pub returns-in-Err-clause-machine : goal.returns-in-Err-clause-machine
+returns-in-Err-clause-machine g c =
+    λ digits bytes class decoded right laid k goes ready.
+    stays k (g.D.Disk.failures c.args.session.now.committer.disk) (inl refl) goes

@@ -1,30 +1,24 @@
-use Rattle.std.proofs.Common.{Result, Ok, Err, IfOk, IfErr, List, ℕ, Option, subst, sym}
-use Rattle.cm_store.specs.Store.{StoreValue, IsOpen, default_sizes}
-use Rattle.cm_tool.specs.declared.script.Outcome.{Outcome}
-use Rattle.cm_tool.specs.declared.script.ToolFault.{ToolFault}
-use Rattle.cm_tool.specs.Runs.{io, IsRun, IsAnswered, EndsEarly}
+use Rattle.std.proofs.Common.{sym, ap, subst}
+use Rattle.cm_guards.specs.Guards.{EachImage}
+use Rattle.cm_session.specs.Images.{StandsForSome}
+use Rattle.cm_tool.specs.Answers.{served}
 use Rattle.cm_tool.proofs.script.run_to_end.Goals as goal
-
-run_of : (a h k : Option (List ℕ)) (s t : StoreValue) (r : Result Outcome ToolFault)
-    → IfOk r (IsAnswered (io a h k) s t) → IfErr r (EndsEarly (io a h k) s t)
-    → IsRun (io a h k) s t r
-run_of a h k s t (Ok outcome) ok err = ok
-run_of a h k s t (Err e) ok err = err
 
 pub returns : goal.returns
 returns g c =
-    let new = c.run_script-result.new.store in
-    let text = g.D.Disk.contents c.into_disk.result in (
-      new,
-      run_of (g.R.Read.remaining c.args.reader.now) (g.W.Write.contents c.args.writer.now)
-          (g.W.Write.contents c.run_script-result.new.writer) c.args.store new
-          c.run_script-result.result
-          c.run_script-result.ensures.ok c.run_script-result.ensures.err,
+    let disk = g.D.Disk in
+    let new = c.run_script-result.new.session in
+    λ k goes ready.
+    let led = c.run_script-result.ensures.machine k goes ready in
+    let images = subst (λ d. EachImage (disk.contents d) (disk.unsynced d)
+    (StandsForSome new.committer.sizes led.next)) (sym c.into_disk.ensures)
+    (c.images.ensures led.next led.goes) in (
+      served led.next (disk.failures new.committer.disk),
+      led.does,
       record {
-        bytes_are = c.into_disk.ensures.contents;
-        failures_are = c.into_disk.ensures.failures;
-        stands = λ working.
-            subst (λ t. IsOpen default_sizes t new.listed new.number new.classes)
-            (sym c.into_disk.ensures.contents) (c.is_broken-is_broken.ensures.stands working);
+        failures_are = ap disk.failures (sym c.into_disk.ensures);
+        images = subst (λ z. EachImage (disk.contents c.into_disk.result)
+            (disk.unsynced c.into_disk.result) (StandsForSome z led.next))
+            c.run_script-result.ensures.sizes images;
       },
     )

@@ -1,0 +1,31 @@
+use Rattle.std.proofs.Common.{Some, None, refl, sym, ap, subst}
+use Rattle.std.specs.Option.{option_map}
+use Rattle.cm_session.specs.Moves.{GoesWith}
+use Rattle.cm_lines.specs.Lines.{seen}
+use Rattle.cm_replies.specs.Texts.{bad_line_reply}
+use Rattle.cm_tool.specs.Answers.{served, AnswersAsked}
+use Rattle.cm_tool.specs.Serving.{LedTo, Replies}
+use Rattle.cm_tool.proofs.Commands.{stays, replies_same}
+use Rattle.cm_tool.proofs.answer.answer.Goals as goal
+
+pub returns-in-Some-clause-machine : goal.returns-in-Some-clause-machine
+returns-in-Some-clause-machine g c =
+    let s = c.args.session.now in
+    let failures = g.D.Disk.failures in
+    let new = c.answer_question.new.session in
+    λ k goes ready.
+    subst (λ q. LedTo (Replies s.committer.sizes (option_map seen q) c.answer_question.result
+    (served k (failures s.committer.disk))) (failures new.committer.disk)
+    (λ next. GoesWith next new)) (sym c.in-Some.is) (c.answer_question.ensures.machine k goes ready)
+
+pub returns-in-None-clause-machine : goal.returns-in-None-clause-machine
+returns-in-None-clause-machine g c =
+    let s = c.args.session.now in
+    let f = g.D.Disk.failures s.committer.disk in
+    let sizes = s.committer.sizes in
+    λ k goes ready.
+    stays k f
+    (replies_same sizes (option_map seen c.args.question) k f bad_line_reply c.bad_line.result ready
+    c.bad_line.ensures
+    (subst (λ q. AnswersAsked sizes (option_map seen q) (served k f) bad_line_reply (served k f))
+    (sym c.in-None.is) (refl, refl))) goes

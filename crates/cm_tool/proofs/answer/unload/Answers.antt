@@ -1,0 +1,21 @@
+use Rattle.std.proofs.Common.{Some, ap}
+use Rattle.cm_state.specs.Step.{Unload}
+use Rattle.cm_commit.specs.States.{CommitterState}
+use Rattle.cm_lines.specs.Lines.{AsksUnload}
+use Rattle.cm_replies.specs.Texts.{number_reply}
+use Rattle.cm_tool.proofs.Commands.{command_replies, unload_fits}
+use Rattle.cm_tool.proofs.answer.unload.Goals as goal
+
+pub returns-clause-machine : goal.returns-clause-machine
+returns-clause-machine g c =
+    let s = c.args.session.now in
+    let name = c.args.name.now in
+    let call = c.store-stored in
+    let failures = g.D.Disk.failures in
+    λ k goes ready.
+    command_replies s.committer.sizes (Some (AsksUnload name)) number_reply k (Unload name)
+    (failures s.committer.disk) (failures call.new.self.committer.disk) call.result c.numbered.result
+    ready (unload_fits s.committer.sizes name) (call.ensures.machine k goes ready.rest)
+    (call.ensures.cause k goes ready.rest)
+    (λ none. ap (λ (x : CommitterState _). failures x.disk) (call.ensures.no_call none))
+    c.numbered.ensures

@@ -1,5 +1,0 @@
-use Rattle.cm_tool.proofs.EscapeLaws as laws
-use Rattle.cm_tool.proofs.laws.names_have_one_spelling.Goals as goal
-
-pub returns : goal.returns
-returns c = laws.spelling_is_one

@@ -1,6 +1,0 @@
-use Rattle.cm_tool.proofs.Writing.{WrittenBut}
-use Rattle.cm_tool.proofs.output.write_whole.Given as goal
-
-abbrev pub invariant-writes : goal.invariant-writes
-invariant-writes g l =
-    WrittenBut (g.W.Write.contents l.fn.writer) (g.W.Write.contents l.writer) l.text l.rest

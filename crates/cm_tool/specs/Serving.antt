@@ -1,0 +1,73 @@
+-- What the functions of a script do to the session that they run on.
+use Rattle.std.specs.Prelude.{◌≡◌, ◌⊎◌, ℕ, false, List, Option, Result, Ok, Err, IfOk}
+use Rattle.cm_pool.specs.Geometry.{Sizes}
+use Rattle.cm_disk.specs.Disk.{Unsynced}
+use Rattle.cm_guards.specs.Guards.{EachImage}
+use Rattle.cm_machine.specs.Machine.{Machine}
+use Rattle.cm_session.specs.declared.storing.NotStored.{NotStored}
+use Rattle.cm_session.specs.declared.storing.NotStored.TheVariants.{Refused, NoMemory, Unsure}
+use Rattle.cm_session.specs.Images.{StandsForSome}
+use Rattle.cm_session.specs.Storing.{IsAtRest}
+use Rattle.cm_lines.specs.Lines.{Asked}
+use Rattle.cm_replies.specs.declared.reply.Reply.{Reply}
+use Rattle.cm_replies.specs.Texts.{ReplyText, refusal_reply, unsure_reply}
+use Rattle.cm_replies.specs.Replies.{IsReply, is_unsure}
+use Rattle.cm_tool.specs.Answers.{Served, served, AnswersAsked, IsUnstored}
+
+-- everything that was accepted is acknowledged, and the device works
+pub record IsReady (k : Machine) : Type 0 where
+  pub rest : IsAtRest k
+  pub works : k.failed ≡ false
+
+-- What is done leads the machine to another one, and the session goes with that one.
+pub record LedTo (Does : Served → Type 0) (failures : ℕ) (Goes : Machine → Type 0) : Type 0 where
+  pub next : Machine
+  pub does : Does (served next failures)
+  pub goes : Goes next
+
+-- ---- replies
+
+-- all is stored again, and the device works unless the reply is unsure
+pub record IsLeft (given : ReplyText) (k : Machine) : Type 0 where
+  pub rest : IsAtRest k
+  pub works : is_unsure given.kind ≡ false → k.failed ≡ false
+
+-- A reply answers what was asked. Where memory for it was refused, the command was answered so, or
+-- is left unstored, or nothing was done.
+abbrev pub Replies : {E : Type 0} → Sizes → Option Asked → Result Reply E → Served → Served → Type 0
+Replies sizes question (Ok reply) old new =
+    (given : ReplyText) × IsReply given reply × AnswersAsked sizes question old given new
+    × IsLeft given new.machine
+Replies sizes question (Err e) old new =
+    (new ≡ old)
+    ⊎ (((given : ReplyText) × AnswersAsked sizes question old given new)
+    ⊎ IsUnstored sizes question old new)
+
+-- a command that isn't stored has a reply, but where memory was refused before it was handed out
+abbrev pub TellsNotStored : {E : Type 0} → NotStored → Result Reply E → Type 0
+TellsNotStored (Refused r) result = IfOk result (IsReply (refusal_reply r))
+TellsNotStored (NoMemory n) (Ok reply) = ⊥
+TellsNotStored (NoMemory n) (Err e) = Unit {0}
+TellsNotStored (Unsure n) result = IfOk result (IsReply (unsure_reply n))
+
+abbrev pub Tells : {E : Type 0} → (ℕ → ReplyText) → Result ℕ NotStored → Result Reply E → Type 0
+Tells told (Ok number) result = IfOk result (IsReply (told number))
+Tells told (Err fault) result = TellsNotStored fault result
+
+-- ---- the disk that a run leaves
+
+-- the bytes of a disk, what of them a crash may take back, and how often it failed
+pub record Medium : Type 0 where
+  pub bytes : List ℕ
+  pub unsynced : Unsynced
+  pub failures : ℕ
+
+abbrev pub medium : List ℕ → Unsynced → ℕ → Medium
+medium bytes unsynced failures =
+    record { bytes = bytes; unsynced = unsynced; failures = failures }
+
+-- Whatever a crash leaves of the disk stands for all that was acknowledged, and nothing that
+-- wasn't handed out.
+pub record LeavesDisk (sizes : Sizes) (left : Medium) (new : Served) : Type 0 where
+  pub failures_are : new.failures ≡ left.failures
+  pub images : EachImage left.bytes left.unsynced (StandsForSome sizes new.machine)

@@ -1,0 +1,81 @@
+//! Caches that lie in files.
+
+use crate::scripts::run_script;
+use crate::status::{DONE, FAILED, REFUSED, say};
+use cm_file_disk::{CreateError, FileDisk, OpenError};
+use cm_pool::Geometry;
+use cm_recover::{FormatFault, format};
+use std::fs::{self, File, Files};
+use std::io;
+
+/// Makes an empty cache in a new file, and gives the status.
+pub fn format_file(
+    rt: &(impl Print + Eprint + Files<File = File> + AllocGlobal),
+    path: &str,
+    geometry: Geometry,
+) -> u8 {
+    let mut disk = match FileDisk::create(rt, rt.alloc(), path) {
+        Ok(disk) => disk,
+        Err(CreateError::Exists) => return say(rt, "exists", REFUSED),
+        Err(CreateError::Device(cause)) => {
+            tell_cause(rt, path, cause);
+            return say(rt, "device", FAILED);
+        }
+    };
+    match format(rt.alloc(), &mut disk, geometry) {
+        Ok(()) => say(rt, "ok", DONE),
+        Err(FormatFault::NotEmpty) => say(rt, "exists", REFUSED),
+        Err(FormatFault::Device) => {
+            give_up(rt, path, disk);
+            say(rt, "device", FAILED)
+        }
+        Err(FormatFault::NoMemory) => {
+            give_up(rt, path, disk);
+            say(rt, "memory", FAILED)
+        }
+    }
+}
+
+/// Removes a new file that doesn't hold a cache: it would stand in the way of the next try.
+fn give_up(rt: &(impl Eprint + Files<File = File>), path: &str, disk: FileDisk) {
+    tell_failure(rt, path, &disk);
+    drop(disk);
+    if fs::remove_file(rt, path).is_err() {
+        let _ = eprintln!(rt; "cmcache: {path}: can't be removed, and holds no cache");
+    }
+}
+
+/// Runs the script on standard input on the cache in a file, and gives the status.
+pub fn apply_file(
+    rt: &(impl Input + Print + Eprint + Files<File = File> + AllocGlobal),
+    path: &str,
+) -> u8 {
+    match FileDisk::open(rt, rt.alloc(), path) {
+        Ok(disk) => {
+            let (status, disk) = run_script(rt, disk);
+            tell_failure(rt, path, &disk);
+            status
+        }
+        Err(error) => say_not_opened(rt, path, error),
+    }
+}
+
+/// Says that a file can't be opened, and tells why.
+pub fn say_not_opened(rt: &(impl Print + Eprint), path: &str, error: OpenError) -> u8 {
+    if let OpenError::NoMemory = error {
+        return say(rt, "memory", FAILED);
+    }
+    let _ = eprintln!(rt; "cmcache: {path}: {error}");
+    say(rt, "device", FAILED)
+}
+
+/// Tells why a file's first call that failed did so, if one has.
+pub fn tell_failure(rt: &impl Eprint, path: &str, disk: &FileDisk) {
+    if let Some(cause) = disk.cause() {
+        tell_cause(rt, path, cause);
+    }
+}
+
+fn tell_cause(rt: &impl Eprint, path: &str, cause: io::Error) {
+    let _ = eprintln!(rt; "cmcache: {path}: {cause}");
+}

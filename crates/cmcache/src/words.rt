@@ -1,0 +1,37 @@
+//! The words of the command line, and what is said where they ask for nothing that can be done.
+
+use crate::status::{DONE, FAILED, OUTPUT_FAILED, WRONG_WORDS, tell};
+use cm_plan::{UsageFault, wrong_words};
+use std::rt::Env;
+use std::{env, io};
+
+/// The words of the command line, the program's name first.
+pub fn read_words(rt: &(impl Env + AllocGlobal)) -> Result<Vec<String>, UsageFault> {
+    match env::args(rt) {
+        Ok(words) => Ok(words.collect(rt.alloc())?),
+        Err(error) if error.kind() == io::ErrorKind::OutOfMemory => Err(UsageFault::NoMemory),
+        Err(error) if error.kind() == io::ErrorKind::InvalidData => {
+            Err(wrong_words(rt.alloc(), "a word is not UTF-8"))
+        }
+        Err(_) => Err(wrong_words(rt.alloc(), "the words can't be read")),
+    }
+}
+
+/// Prints the help, or what is wrong with the words, and gives the status. Of wrong words it is the
+/// same whether or not their text reaches anyone.
+pub fn tell_fault(rt: &(impl Print + Eprint), fault: &UsageFault) -> u8 {
+    match fault {
+        UsageFault::Help(text) => match print!(rt; "{text}") {
+            Ok(()) => DONE,
+            Err(_) => tell(rt, OUTPUT_FAILED, FAILED),
+        },
+        UsageFault::Words(text) => {
+            let _ = eprint!(rt; "{text}");
+            WRONG_WORDS
+        }
+        UsageFault::NoMemory => {
+            let _ = eprintln!(rt; "cmcache: {fault}");
+            FAILED
+        }
+    }
+}
