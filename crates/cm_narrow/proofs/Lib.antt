@@ -1,2 +1,0 @@
-pub mod OneSlot
-pub mod Folds
