@@ -1,6 +1,6 @@
 # What the end-to-end scripts share: each check counts, and the last line says how many passed.
 top=$(cd "$(dirname "${BASH_SOURCE[0]}")/.." && pwd)
-program=$top/bin/cmcache
+program=${CMCACHE:-$top/bin/cmcache} # CMCACHE names another build
 work=$(mktemp -d)
 trap 'rm -rf "$work"' EXIT
 passed=0
@@ -50,6 +50,13 @@ check_streams() {
 run() {
     "$program" "$@" <"$work/in" >"$work/got" 2>"$work/errors"
     status=$?
+}
+
+# executable: the path of the built program itself, which is built where it is missing.
+executable() {
+    [ -n "${CMCACHE:-}" ] && { echo "$CMCACHE"; return; }
+    "$program" --help >"$work/log" 2>&1 || cat "$work/log" >&2
+    echo "$top/crates/cmcache/out/cmcache"
 }
 
 finish() {

@@ -40,14 +40,19 @@ sweep cm_arena tests::places_words 15
 sweep cm_arena tests::takes_larger_chunks_in_a_longer_chain 25
 sweep cm_class_tests faults::a_fault_behind_a_refusal 11
 sweep cm_front_tests commands::a_left_chunk_waits_for_its_receipt 81
-sweep cm_store_tests stores::a_refused_growth_leaves_the_store_as_it_was 33
 
-# The program's own, on a script with commands that are done, refused, and looked up.
+# The program's own: making a file, and scripts with commands that are done, refused, and looked up, in memory and on a file.
 a=cafebabe000000340005070002010001410700040100106a6176612f6c616e672f4f626a6563740021000100030000000000000000
-"$program" --help >"$work/log" 2>&1 # builds it where it is missing
-printf 'loader app\ndefine app %s\nfind app A\nloader app\n' "$a" |
-    tests/refused_memory.py "$top/crates/cmcache/out/cmcache" "$library" 107
-check_last "the program with a refused allocation"
+built=$(executable)
+printf 'loader app\ndefine app %s\nfind app A\nloader app\nunload app\nfind app A\n' "$a" >"$work/in"
+# sweep_program REFUSALS WORD..
+sweep_program() {
+    WORK=$work tests/refused_memory.py "$built" "$library" "$@" <"$work/in"
+    check_last "the program with a refused allocation: $*"
+}
+sweep_program 289 apply --memory
+sweep_program 288 apply FILE
+sweep_program 83 format FILE
 
 # asks NAME HEX: reading, judging and recording this class asks for no more than 4,096 bytes at once, though it claims more.
 bench=$top/crates/cm_bench/out/cm_bench

@@ -1,96 +1,108 @@
 #!/usr/bin/env python3
-"""Runs the program on a script once for each allocation that it makes, with that one refused, and looks at what it says.
+"""Runs the program once for each allocation that it makes, with that one refused, and looks at what it says and leaves.
 
-    tests/refused_memory.py PROGRAM ALLOCATIONS_LIBRARY REFUSALS <SCRIPT
+    tests/refused_memory.py PROGRAM ALLOCATIONS_LIBRARY REFUSALS WORD.. <SCRIPT
 
-Each run has to end, and to write replies that are true: a line is answered as ever, or `refused 9 memory` where nothing else
-refuses it, or `unsure N` as the last reply (a disk in memory that can't grow is a device that failed); fewer replies than
-lines come with status 3 alone. REFUSALS is how many runs have to meet a refusal; the first that meets none ends the sweep.
-The script has lines `loader NAME`, and `define NAME HEX` and `find NAME A` of class A.
+The words are the program's; FILE among them is a file: for `format` none that is there, else that of an empty cache. Each run
+has to end, and to write replies that are true: a line is answered as ever, or `refused 9 memory` where nothing else refuses
+it, or, of a cache in memory, `unsure N` as the last reply (a disk in memory that can't grow is a device that failed); fewer
+replies than lines come with status 3 alone. A file holds what was acknowledged then, or that and the next command; one that
+`format` didn't make isn't there. REFUSALS is how many runs have to meet a refusal; the first that meets none ends the sweep.
 """
+import copy
 import os
 import struct
-import subprocess
 import sys
 import tempfile
+
+import oracle
+import region
+import runs
 
 MOST = 2000
 
 
-class Cache:
-    """What the replies so far say that the cache holds."""
-
-    def __init__(self):
-        self.loaders = {}
-        self.number = 0
-
-    def due(self, words):
-        """The reply that is due, and what it changes."""
-        verb, loader = words[0], words[1]
-        if verb == "loader":
-            if loader in self.loaders:
-                return "refused 2 loader exists", None
-            return f"ok {self.number + 1}", (loader, set())
-        if verb == "define":
-            if loader not in self.loaders:
-                return "refused 3 no loader", None
-            if "A" in self.loaders[loader]:
-                return "refused 4 class exists", None
-            return f"ok {self.number + 1} A", (loader, self.loaders[loader] | {"A"})
-        if "A" in self.loaders.get(loader, ()):
-            return "class A flags 0021 super java/lang/Object words 16", None
-        return "none", None
-
-
-def is_true(script, replies, status):
-    cache, worst = Cache(), 0
+def is_true(lines, replies, status, cache, has_file):
+    """Whether these are replies to the lines, in order; the cache is left as they tell."""
+    worst = 0
     for at, reply in enumerate(replies):
-        if at >= len(script):
+        if at >= len(lines):
             return False
-        due, change = cache.due(script[at].split(" "))
+        before = copy.deepcopy(cache)
+        due = cache.answer(lines[at])
         if reply == due:
-            if change:
-                cache.loaders[change[0]] = change[1]
-                cache.number += 1
-            worst = max(worst, due.startswith("refused"))
-        elif change and reply == "refused 9 memory":
+            worst = max(worst, due.startswith(b"refused"))
+            continue
+        number, cache.__dict__ = cache.number, before.__dict__
+        if number == before.number:
+            return False
+        if reply == b"refused 9 memory":
             worst = 1
-        elif change and reply == f"unsure {cache.number + 1}":
+        elif reply == b"unsure %d" % number and not has_file:
             return at == len(replies) - 1 and status == 3
         else:
             return False
-    return status == (worst if len(replies) == len(script) else 3)
+    return status == (worst if len(replies) == len(lines) else 3)
 
 
-def run(program, library, script, refuse):
-    with tempfile.NamedTemporaryFile() as counts:
-        names = {**os.environ, "LD_PRELOAD": library, "ALLOCATIONS": counts.name, "REFUSE": str(refuse)}
-        ran = subprocess.run([program, "apply", "--memory"], input=script, stdout=subprocess.PIPE, stderr=subprocess.DEVNULL, env=names)
-        refused = struct.unpack("3Q", counts.read(24))[2]
-    return ran.stdout.decode().split("\n")[:-1], ran.returncode, refused
+class Sweep:
+    def __init__(self, program, library, words, lines, folder):
+        self.program = program
+        self.library = library
+        self.path = f"{folder}/cache" if "FILE" in words else None
+        self.words = [self.path if word == "FILE" else word for word in words]
+        self.lines = lines
+        self.counts = f"{folder}/counts"
+        self.checks = runs.Checks()
 
+    def run(self, refuse):
+        """What came of the run with that allocation refused, and whether there was one."""
+        if self.path and os.path.exists(self.path):
+            os.remove(self.path)
+        if self.path and self.words[0] != "format":
+            with open(self.path, "wb") as file:
+                file.write(region.Region(oracle.Geometry()).bytes)
+        env = {"LD_PRELOAD": self.library, "ALLOCATIONS": self.counts, "REFUSE": str(refuse)}
+        ran = runs.run(self.program, self.words, self.lines, env)
+        with open(self.counts, "rb") as file:
+            return ran, struct.unpack("3Q", file.read(24))[2] > 0
 
-def main(program, library, wanted):
-    script = sys.stdin.read()
-    lines = script.split("\n")[:-1]
-    bad = 0
-    for refuse in range(1, MOST):
-        replies, status, refused = run(program, library, script.encode(), refuse)
-        # A program that can't make its cache says so, and runs nothing.
-        if replies in (["memory"], ["device"]) and status == 3:
+    def check_script(self, name, ran):
+        replies, status, _ = ran
+        # A program that can't make or open its cache says so, and runs nothing.
+        if replies in ([b"memory"], [b"device"]) and status == 3:
             replies = []
-        if not is_true(lines, replies, status):
-            bad += 1
-            print(f"FAILED: with allocation {refuse} refused: status {status}, replies {replies}")
-        if not refused:
-            break
-    met = refuse - 1
-    if met != wanted:
-        bad += 1
-        print(f"FAILED: {met} refusals were met, and not {wanted}")
-    print(f"{met + 2 - bad} passed, {bad} failed")
-    return 1 if bad else 0
+        cache = oracle.Cache()
+        self.checks.check(f"{name}: the replies", is_true(self.lines, replies, status, cache, self.path), f"{ran}")
+        if self.path:
+            line = self.lines[len(replies)] if len(replies) < len(self.lines) else None
+            runs.settle(self.checks, f"{name}: the file", self.path, cache, line)
+
+    def check_format(self, name, ran):
+        if ran == ([b"ok"], 0, ""):
+            good = runs.state_in(self.path) == ({}, 0)
+        else:
+            good = ran[0] in ([], [b"memory"]) and ran[1] == 3 and not os.path.exists(self.path)
+        self.checks.check(name, good, f"{ran}")
+
+    def sweep(self, wanted):
+        for refuse in range(1, MOST):
+            ran, has_met = self.run(refuse)
+            name = f"{self.words[0]}, allocation {refuse} refused"
+            if self.words[0] == "format":
+                self.check_format(name, ran)
+            else:
+                self.check_script(name, ran)
+            if not has_met:
+                break
+        self.checks.check("the number of refusals", refuse - 1 == wanted, f"{refuse - 1} were met, and not {wanted}")
+        return self.checks.finish()
+
+
+def main(program, library, wanted, *words):
+    with tempfile.TemporaryDirectory(dir=os.environ.get("WORK")) as folder:
+        return Sweep(program, library, words, oracle.lines_of(sys.stdin.buffer.read()), folder).sweep(int(wanted))
 
 
 if __name__ == "__main__":
-    sys.exit(main(sys.argv[1], sys.argv[2], int(sys.argv[3])))
+    sys.exit(main(*sys.argv[1:]))

@@ -67,4 +67,34 @@ printf 'ok 1\nok 2 %%C3%%A9\nclass %%C3%%A9 flags 0021 super java/lang/Object wo
 run apply --memory
 check "a name outside ASCII" 0
 
+{
+    printf 'unload app\nloader app\ndefine app %s\nunload app\nfind app A\nunload app\nloader app\nfind app A\ndefine app %s\n' "$a" "$a"
+    printf 'unload\nunload app ext\nunload  app\nunload app \nunload \xff\nunload %%41\nloader %%41\nunload %%41\n'
+} >"$work/in"
+printf 'refused 3 no loader\nok 1\nok 2 A\nok 3\nnone\nrefused 3 no loader\nok 4\nnone\nok 5 A\n' >"$work/want"
+printf 'refused 15 line\nrefused 15 line\nrefused 15 line\nrefused 15 line\nrefused 1 name\nrefused 3 no loader\nok 6\nok 7\n' >>"$work/want"
+run apply --memory
+check "loaders that are unloaded" 1
+
+# A hundred classes in two loaders: a root holds many.
+number=2
+printf 'loader a\nloader b\n' >"$work/in"
+printf 'ok 1\nok 2\n' >"$work/want"
+for loader in a b; do
+    for byte in $(seq 65 90) $(seq 97 120); do
+        number=$((number + 1))
+        # shellcheck disable=SC2059
+        printf "define $loader ${a/000141/0001$(printf %02x "$byte")}\n" >>"$work/in"
+        # shellcheck disable=SC2059
+        printf "ok $number \\x$(printf %02x "$byte")\n" >>"$work/want"
+    done
+done
+run apply --memory
+check "a hundred classes" 0
+
+for i in $(seq 2050); do echo "loader l$i"; done >"$work/in"
+{ for i in $(seq 2047); do echo "ok $i"; done; for i in 1 2 3; do echo "refused 7 journal full"; done; } >"$work/want"
+run apply --memory
+check "a journal at its end" 1
+
 finish

@@ -1,0 +1,344 @@
+#!/usr/bin/env bash
+# Caches in files: what `format` and `apply FILE` reply, the statuses they end with, and what the file holds then. The
+# replies and the bytes of each file are those of tests/oracle.py and tests/region.py, which share no code with the
+# program. Needs Python 3; where it isn't run by root, files without permission are the caller's own.
+set -u
+cd "$(dirname "$0")/.." || exit 1
+. tests/lib.sh
+
+a=cafebabe000000340005070002010001410700040100106a6176612f6c616e672f4f626a6563740021000100030000000000000000
+
+# padded X M: class A with another name of one letter, and an attribute of M zeros.
+padded() {
+    printf 'cafebabe000000340006070002010001%02x0700040100106a6176612f6c616e672f4f626a65637401000158' "'$1"
+    printf '002100010003000000000000000100''05%08x' "$2"
+    [ "$2" = 0 ] || printf '00%.0s' $(seq "$2")
+}
+
+# expect: the replies to the lines of $work/in behind those of $work/before, on one file.
+expect() {
+    touch "$work/before"
+    cat "$work/before" "$work/in" >"$work/all"
+    python3 tests/oracle.py <"$work/all" | tail -n +$(($(wc -l <"$work/before") + 1)) >"$work/want"
+    cp "$work/all" "$work/before"
+}
+
+# check_file NAME FILE: the file has the bytes that a new one has after the lines of $work/before.
+check_file() {
+    python3 tests/region.py after <"$work/before" | cmp -s - "$2"
+    check_last "$1"
+}
+
+# check_says NAME STATUS WORDS [PATH]: the words are all of standard output. With a path standard error tells it, once;
+# without one it is empty.
+check_says() {
+    printf '%s\n' "$3" >"$work/want"
+    check "$1" "$2"
+    if [ -n "${4:-}" ]; then
+        [ "$(wc -l <"$work/errors")" = 1 ] && grep -qF "cmcache: $4: " "$work/errors"
+    else
+        [ ! -s "$work/errors" ]
+    fi
+    check_last "$1: what standard error says"
+}
+
+# check_size NAME FILE BYTES
+check_size() {
+    [ "$(stat -c %s "$2")" = "$3" ]
+    check_last "$1: $(stat -c %s "$2") bytes"
+}
+
+# ---- a file is made, and goes on from run to run
+
+cache=$work/cache
+: >"$work/in"
+run format "$cache"
+check_says "a new file" 0 ok
+check_size "a new file" "$cache" 528384
+python3 tests/region.py new 8 64 4096 | cmp -s - "$cache"
+check_last "the bytes of a new file"
+run format "$cache"
+check_says "a file that exists" 1 exists
+check_size "a file that exists" "$cache" 528384
+
+expect
+run apply "$cache"
+check "an empty script on a file" 0
+check_file "an empty script changes nothing" "$cache"
+
+cp examples/first.txt "$work/in"
+expect
+run apply "$cache"
+check "the first example on a file" 0
+check_size "a first class brings a root" "$cache" 790528
+check_file "the bytes after the first example" "$cache"
+printf 'ok 1\nok 2 A\nclass A flags 0021 super java/lang/Object words 16\n' | cmp -s - "$work/got"
+check_last "the first example's replies"
+
+cp examples/again.txt "$work/in"
+expect
+run apply "$cache"
+check "the second example, where the first ended" 0
+check_file "the bytes after the second example" "$cache"
+
+run apply "$cache"
+expect
+check "the second example once more" 1
+check_file "the bytes after that" "$cache"
+
+{
+    printf 'loader a\nfind a A\ndefine a %s\nunload a\nfind a A\nunload a\nloader a\ndefine a %s\nfind a A\n' "$a" "$(padded A 0)"
+    printf 'unload\nunload a b\nunload \nunload a\xff\nunload 0123456789012345678901234567890123456789012345678\n'
+} >"$work/in"
+expect
+run apply "$cache"
+check "a loader is unloaded and made again" 1
+check_file "the bytes after that" "$cache"
+printf 'find a A\nfind nobody A\n' >"$work/in"
+expect
+run apply "$cache"
+check "the class of the loader that was made again" 0
+grep -q 'words 20$' "$work/got"
+check_last "the class of the loader that was made again: 20 words"
+check_file "looking up changes nothing" "$cache"
+
+# ---- sizes
+
+small=$work/small
+: >"$work/in"
+run format "$small" --top 3 --roots 1 --slots 256
+check_says "a small file" 0 ok
+python3 tests/region.py new 3 1 256 | cmp -s - "$small"
+check_last "the bytes of a small file"
+printf 'loader a\ndefine a %s\nloader b\ndefine b %s\nunload a\ndefine b %s\nfind b B\n' \
+    "$(padded A 8032)" "$(padded B 0)" "$(padded B 0)" >"$work/in"
+printf 'ok 1\nok 2 A\nok 3\nrefused 6 region full\nok 4\nok 5 B\nclass B flags 0021 super java/lang/Object words 20\n' >"$work/want"
+run apply "$small"
+check "an unloaded loader's room is used again" 1
+
+rm "$small"
+: >"$work/in"
+run format --slots 256 --roots 64 --top 3 "$small"
+utf8=$(printf '61%.0s' $(seq 65535))
+{
+    printf 'loader a\ndefine a %s\ndefine a %s\ndefine a %s\ndefine a %s\n' \
+        "$(padded A 864)" "$(padded B 865)" "$(padded C 8032)" "$(padded D 8033)"
+    long=${a/00340005/00340006} # its name is E
+    long=${long/01000141/01000145}
+    printf 'define a %s\n' "${long/4f626a656374/4f626a65637401ffff$utf8}"
+} >"$work/in"
+printf 'ok 1\nok 2 A\nok 3 B\nok 4 C\nrefused 5 record too long\nrefused 5 record too long\n' >"$work/want"
+run apply "$small"
+check "records that no root holds" 1
+sed 1d "$work/in" >"$work/rest" && sed 's/ a / b /; 1i loader b' "$work/rest" >"$work/in"
+printf 'ok 5\nok 6 A\nok 7 B\nok 8 C\nrefused 5 record too long\nrefused 5 record too long\n' >"$work/want"
+run apply "$small"
+check "and in another run" 1
+
+rm "$small"
+: >"$work/in"
+run format "$small" --slots=256
+for i in $(seq 127); do echo "loader l$i"; done >"$work/in"
+for i in $(seq 127); do echo "ok $i"; done >"$work/want"
+run apply "$small"
+check "127 loaders fill the half" 0
+printf 'loader l128\nunload l1\nfind l1 A\nloader l1\n' >"$work/in"
+printf 'refused 7 journal full\nrefused 7 journal full\nnone\nrefused 2 loader exists\n' >"$work/want"
+run apply "$small"
+check "no command follows them" 1
+
+# ---- groups whose gate isn't open
+
+cp examples/first.txt "$work/in"
+for gate in A4 00 FF A5; do
+    rm -f "$small"
+    python3 tests/region.py after <"$work/in" >"$small"
+    printf "\x$gate" | dd of="$small" bs=1 seek=$((4096 + 64 * 3)) conv=notrunc status=none
+    printf 'find app A\nloader app\n' >"$work/in2"
+    if [ $gate = A5 ]; then
+        printf 'class A flags 0021 super java/lang/Object words 16\nrefused 2 loader exists\n' >"$work/want"
+    else
+        printf 'none\nrefused 2 loader exists\n' >"$work/want"
+    fi
+    "$program" apply "$small" <"$work/in2" >"$work/got" 2>"$work/errors"
+    status=$?
+    check "a gate that is $gate" 1
+done
+
+# ---- what isn't opened
+
+: >"$work/in"
+damaged() { # NAME WORDS STATUS OFFSET BYTES..: a good file with bytes changed
+    printf 'loader a\ndefine a %s\ndefine a %s\n' "$a" "$(padded B 0)" | python3 tests/region.py after >"$work/damaged"
+    [ -n "$4" ] && printf "$5" | dd of="$work/damaged" bs=1 seek="$4" conv=notrunc status=none
+    cp "$work/damaged" "$work/kept"
+    run apply "$work/damaged"
+    check_says "$1" "$3" "$2"
+    cmp -s "$work/damaged" "$work/kept"
+    check_last "$1: the file stays"
+    [ "$(python3 tests/region.py check "$work/damaged")" = "$2" ]
+    check_last "$1: the verdict"
+}
+damaged "an offset that isn't the next" "damaged 7 6" 1 $((4096 + 64 * 6 + 28)) '\x0f'
+damaged "a record that is no class's" "damaged 8 4" 1 $((528384 + 8 * 9)) '\x02'
+damaged "another version" "damaged 1 0" 1 8 '\x02'
+damaged "no half is open" "damaged 3 0" 1 4096 '\x00'
+damaged "a bad half's head" "damaged 4 4096" 1 $((4096 + 64 * 4096)) '\xa5'
+damaged "a bad group's head" "damaged 4 5" 1 $((4096 + 64 * 5 + 8)) '\x04'
+damaged "a slot that is no entry" "damaged 5 2" 1 $((4096 + 64 * 2 + 1)) '\x15'
+damaged "a loader's number" "damaged 6 2" 1 $((4096 + 64 * 2 + 8)) '\x02'
+damaged "another magic" "not a cache" 1 0 'X'
+damaged "a superblock's gate" "not a cache" 1 4095 '\x00'
+
+printf 'loader a\ndefine a %s\n' "$a" | python3 tests/region.py after >"$work/damaged"
+truncate -s 528383 "$work/damaged"
+run apply "$work/damaged"
+check_says "a file that ends in its halves" 1 "damaged 2 0"
+truncate -s 4095 "$work/damaged"
+run apply "$work/damaged"
+check_says "a file of 4,095 bytes" 1 "not a cache"
+: >"$work/empty"
+run apply "$work/empty"
+check_says "an empty file" 1 "not a cache"
+head -c 528384 /dev/zero >"$work/zeros"
+run apply "$work/zeros"
+check_says "a file of zeros" 1 "not a cache"
+head -c 528384 /dev/zero | cmp -s - "$work/zeros"
+check_last "a file of zeros stays"
+
+run apply "$work/nothing"
+check_says "a missing path" 3 device "$work/nothing"
+run apply "$work/empty/below"
+check_says "a path below a file" 3 device "$work/empty/below"
+mkdir "$work/folder"
+run apply "$work/folder"
+check_says "a folder" 3 device "$work/folder"
+mkfifo "$work/fifo"
+timeout 10 "$program" apply "$work/fifo" <"$work/in" >"$work/got" 2>"$work/errors"
+status=$?
+check_says "a FIFO" 3 device "$work/fifo"
+run format "$work/folder"
+check_says "format on a folder" 1 exists
+run format "$work/fifo"
+check_says "format on a FIFO" 1 exists
+ln -s "$work/nothing" "$work/dangling"
+run format "$work/dangling"
+check_says "format on a link that leads nowhere" 1 exists
+run format "$work/missing/cache"
+check_says "format in a missing folder" 3 device "$work/missing/cache"
+run format "$work/empty/cache"
+check_says "format below a file" 3 device "$work/empty/cache"
+[ ! -e "$work/nothing" ] && [ ! -e "$work/missing" ]
+check_last "nothing was made"
+ln -s "$cache" "$work/linked"
+printf 'find a A\n' >"$work/in"
+run apply "$work/linked"
+printf 'class A flags 0021 super java/lang/Object words 20\n' >"$work/want"
+check "a link to a cache" 0
+
+# A file that the caller may not read, one that he may only read, and a folder that he may not write to.
+mine=$work/mine
+mkdir "$mine" "$mine/closed"
+cp "$(executable)" "$mine/cmcache"
+cp "$cache" "$mine/unreadable"
+cp "$cache" "$mine/unwritable"
+chmod 0000 "$mine/unreadable"
+chmod 0444 "$mine/unwritable"
+chmod 0555 "$mine/closed"
+chmod 0755 "$work" "$mine" "$mine/cmcache"
+as_nobody() {
+    local plain=()
+    if [ "$(id -u)" = 0 ]; then
+        plain=(setpriv --reuid=65534 --regid=65534 --clear-groups)
+    fi
+    "${plain[@]}" "$mine/cmcache" "$@" <"$work/in" >"$work/got" 2>"$work/errors"
+    status=$?
+}
+as_nobody apply "$mine/unreadable"
+check_says "a file without permission" 3 device "$mine/unreadable"
+as_nobody apply "$mine/unwritable"
+check_says "a file that may only be read" 3 device "$mine/unwritable"
+as_nobody format "$mine/closed/cache"
+check_says "format in a folder without permission" 3 device "$mine/closed/cache"
+
+# ---- streams that are closed: nothing that was meant for them lands in the file
+
+printf 'loader c\nloader d\n' >"$work/in"
+cp "$cache" "$work/kept"
+"$program" apply "$cache" <&- >"$work/got" 2>"$work/errors"
+status=$?
+check_status "standard input closed" 3 says
+check_streams "standard input closed: no reply" none some
+"$program" apply "$cache" <&- >&- 2>&-
+status=$?
+check_status "all streams closed" 3
+cmp -s "$cache" "$work/kept"
+check_last "closed streams leave the file as it was"
+"$program" apply "$cache" <"$work/in" >&- 2>"$work/errors"
+status=$?
+check_status "standard output closed" 3 says
+echo 'loader c' >>"$work/before"
+check_file "standard output closed: the first command is stored, and no other" "$cache"
+"$program" format "$work/unheard" <"$work/in" >&- 2>"$work/errors"
+status=$?
+check_status "format with a closed output" 3 says
+"$program" format "$work/silent" <&- >&- 2>&-
+status=$?
+check_status "format with all streams closed" 3
+python3 tests/region.py new 8 64 4096 | tee >(cmp -s - "$work/unheard" || touch "$work/differs") | cmp -s - "$work/silent" && [ ! -e "$work/differs" ]
+check_last "the files are made all the same"
+"$program" apply "$cache" </ >"$work/got" 2>"$work/errors"
+status=$?
+check_status "a folder as input" 3 says
+
+# ---- words
+
+for words in format "format $work/new $work/other" "format $work/new --top 2" "format $work/new --top 13" \
+    "format $work/new --top x" "format $work/new --top" "format $work/new --roots 0" "format $work/new --roots 257" \
+    "format $work/new --slots 255" "format $work/new --slots 65537" "format $work/new --slots -1" \
+    "format $work/new --slots 1e3" "format $work/new --slots 18446744073709551872" "format $work/new --memory" \
+    "format $work/new --top 3 --top 3" \
+    apply "apply $cache --memory" "apply $cache $work/other" "apply $cache --top 3" "check" "list" \
+    "check $cache $cache" "list $cache --memory" "forma $work/new" "$cache"; do
+    # shellcheck disable=SC2086
+    run $words
+    check_status "words: $words" 2 says
+    check_streams "words: $words" none some
+done
+run format $'\xff'
+check_status "a path that isn't UTF-8" 2 says
+[ ! -e "$work/new" ] && [ ! -e "$work/other" ]
+check_last "wrong words make no file"
+for words in --help help "format --help" "apply --help" "check --help" "list --help" "help format"; do
+    # shellcheck disable=SC2086
+    run $words
+    check_status "help: $words" 0
+    check_streams "help: $words" some none
+done
+run apply --help
+grep -q 'unload NAME' "$work/got"
+check_last "the help tells of each line"
+
+# ---- a file in the narrow form, where each class has a root of its own
+
+# The program made it while caches lay in memory only: it is what its disk held after the lines of narrow.txt.
+narrow=$work/narrow
+gzip -dc tests/data/narrow.gz >"$narrow"
+cp tests/data/narrow.txt "$work/before"
+{
+    printf 'find app A\nfind ext A\nfind ext %%C3%%A9\nfind app org/eclipse/jetty/io/ByteArrayEndPoint\nfind empty A\n'
+    printf 'loader empty\ndefine app %s\nloader new\ndefine new %s\nunload app\nfind app A\nfind new A\n' "$a" "$a"
+} >"$work/in"
+expect
+run apply "$narrow"
+check "a file in the narrow form" 1
+grep -q 'ByteArrayEndPoint flags .* words 2056$' "$work/got"
+check_last "a file in the narrow form: its largest class"
+[ "$(python3 tests/region.py check "$narrow")" = "ok loaders 3 classes 3 chunks 3 number 10" ]
+check_last "a file in the narrow form: what it holds then"
+printf 'find ext %%C3%%A9\nfind new A\nfind app A\nunload ext\n' >"$work/in"
+expect
+run apply "$narrow"
+check "a file in the narrow form, opened again" 0
+
+finish

@@ -1,0 +1,119 @@
+#!/usr/bin/env python3
+"""Kills the program at random moments while it runs scripts on a file, and looks at what the file holds then.
+
+    tests/kill.py PROGRAM KILLS SEED
+
+Each reply that came before the kill has to be the right one; the file, read by region.py and looked up by another run of the
+program, has to hold all commands that were acknowledged and, of the others, at most the one that was being run. The next run
+goes on with the file as it is. Some kills hit `format`: its file is no cache then, or the empty one, or there is none.
+"""
+import os
+import random
+import subprocess
+import sys
+import tempfile
+import threading
+import time
+
+import oracle
+import region
+import runs
+
+GEOMETRIES = [oracle.Geometry(), oracle.Geometry(top=3, roots=3, slots=2048)]
+LINES = 400
+
+
+def format_words(path, geometry):
+    return ["format", path, "--top", str(geometry.top), "--roots", str(geometry.roots), "--slots", str(geometry.slots)]
+
+
+def killed(words, lines, delay):
+    """Runs the program and kills it after so many seconds: its lines of output, and whether the kill hit it."""
+    process = subprocess.Popen(words, stdin=subprocess.PIPE, stdout=subprocess.PIPE, stderr=subprocess.DEVNULL)
+
+    def feed():
+        try:
+            process.stdin.write(b"".join(line + b"\n" for line in lines))
+            process.stdin.close()
+        except BrokenPipeError:
+            pass
+
+    feeder = threading.Thread(target=feed)
+    timer = threading.Timer(delay, process.kill)
+    feeder.start()
+    timer.start()
+    out = process.stdout.read()
+    status = process.wait()
+    timer.cancel()
+    feeder.join()
+    try:
+        process.stdin.close()
+    except BrokenPipeError:
+        pass
+    return out.split(b"\n")[:-1], status == -9
+
+
+def kill_apply(checks, program, path, cache, rng, longest):
+    """Whether the run was killed, and how many commands were acknowledged."""
+    lines = [runs.some_line(rng) for _ in range(LINES)]
+    replies, was_hit = killed([program, "apply", path], lines, rng.uniform(0, longest))
+    cache.reopened()
+    wanted = [cache.answer(line) for line in lines[:len(replies)]]
+    name = f"kill behind {cache.number} commands and {len(replies)} replies"
+    good = checks.check(f"{name}: the replies", replies == wanted)
+    under_way = lines[len(replies)] if len(replies) < len(lines) else None
+    good = runs.settle(checks, f"{name}: the file", path, cache, under_way) and good
+    good = runs.look_up(checks, f"{name}: the classes", program, path, cache) and good
+    return was_hit, good
+
+
+def kill_format(checks, program, path, rng, longest):
+    killed([program, "format", path], [], rng.uniform(0, longest))
+    if os.path.exists(path):
+        state, number = runs.state_in(path)
+        checks.check("format killed: the file", (state, number) in [("not a cache", None), ({}, 0)], f"{state} {number}")
+        os.remove(path)
+
+
+def time_of(run):
+    begin = time.monotonic()
+    run()
+    return time.monotonic() - begin
+
+
+def main(program, kills, seed):
+    rng, checks = random.Random(seed), runs.Checks()
+    with tempfile.TemporaryDirectory(dir=os.environ.get("WORK")) as folder:
+        path, other = f"{folder}/cache", f"{folder}/other"
+        # How long a run takes that only opens, and one of all lines: kills come at any moment of it.
+        runs.run(program, ["format", path])
+        lines = [runs.some_line(rng) for _ in range(LINES)]
+        longest = 1.1 * time_of(lambda: runs.run(program, ["apply", path], lines))
+        making = 1.1 * time_of(lambda: runs.run(program, ["format", other]))
+        os.remove(other)
+        hits = done = 0
+        delay = longest
+        cache = None
+        while hits < kills and done < 3 * kills:
+            if cache is None or 2 * cache.number > cache.geometry.slots * 0.9:
+                geometry = GEOMETRIES[done // 7 % 2]
+                cache = runs.new_cache(geometry)
+                os.remove(path)
+                if not checks.check("format", runs.run(program, format_words(path, geometry)) == ([b"ok"], 0, "")):
+                    break
+            was_hit, good = kill_apply(checks, program, path, cache, rng, delay)
+            hits += was_hit
+            done += 1
+            # A run that ended by itself was shorter than thought.
+            delay = min(longest, 1.05 * delay) if was_hit else 0.8 * delay
+            if not good:
+                cache = None
+            if done % 5 == 0:
+                kill_format(checks, program, other, rng, making)
+        checks.check(f"{kills} kills", hits == kills, f"{hits} of {done} runs were killed")
+        print(f"seed {seed}: {hits} of {done} runs were killed; a whole run of {LINES} lines takes {longest / 1.1:.2f} s")
+    return checks.finish()
+
+
+if __name__ == "__main__":
+    sys.exit(main(sys.argv[1], int(sys.argv[2]), int(sys.argv[3])))

@@ -1,0 +1,425 @@
+#!/usr/bin/env python3
+"""What a region file holds, worked out apart from the program.
+
+    tests/region.py check FILE             what `cmcache check FILE` has to say of it
+    tests/region.py list FILE              what `cmcache list FILE` has to say of it
+    tests/region.py new TOP ROOTS SLOTS    writes the bytes of a new file
+    tests/region.py after < SCRIPT         writes the bytes of a new file after the script, whose replies oracle.py gives
+
+It is written from docs/REGION.md and docs/CRASH.md (the order of device calls), and shares no code with the program.
+"""
+import struct
+import sys
+
+import oracle
+
+MAGIC = b"CMCACHE1"
+OPEN = 0xA5
+SUPERBLOCK = 4096
+SLOT = 64
+NUMBERS = 2 ** 63
+HEAD, GROUP, LOADER, DEFINE, UNLOAD, MOVE = 0x01, 0x02, 0x11, 0x12, 0x13, 0x14
+
+
+class NotACache(Exception):
+    def __str__(self):
+        return "not a cache"
+
+
+class Damaged(Exception):
+    def __init__(self, kind, slot):
+        self.kind = kind
+        self.slot = slot
+
+    def __str__(self):
+        return f"damaged {self.kind} {self.slot}"
+
+
+# ---- writing
+
+def spelled(kind, form, *numbers, gate=0):
+    """A slot: numbers behind its first two bytes, and zeros."""
+    return (bytes([gate, kind]) + struct.pack("<" + form, *numbers)).ljust(SLOT, b"\0")
+
+
+def head_slot(live, epoch, base, gate=0):
+    return spelled(HEAD, "HIQQ", 1, live, epoch, base, gate=gate)
+
+
+def group_slot(count, first, gate=0):
+    return spelled(GROUP, "H4xQ", count, first, gate=gate)
+
+
+def entry_slot(entry):
+    kind, *what = entry
+    if kind == "loader":
+        number, name = what
+        return spelled(LOADER, "B5xQ", len(name), number)[:16] + name.ljust(48, b"\0")
+    if kind == "define":
+        loader, (root, order, at), offset, words = what
+        return spelled(DEFINE, "2xIQIIII", len(words), loader, root, order, at, offset)
+    return spelled(UNLOAD, "6xQ", what[0])
+
+
+class Region:
+    """The bytes of a file as the commands of a cache make them, one group a command."""
+
+    def __init__(self, geometry):
+        self.geometry = geometry
+        self.slot = 1
+        numbers = struct.pack("<IIII", 1, geometry.top, geometry.roots, geometry.slots)
+        superblock = (MAGIC + numbers).ljust(SUPERBLOCK - 1, b"\0") + bytes([OPEN])
+        halves = head_slot(0, 1, 0, gate=OPEN).ljust(2 * SLOT * geometry.slots, b"\0")
+        self.bytes = bytearray(superblock + halves)
+
+    def calls(self, number, entry):
+        """The device calls that store a command: each a place and the bytes to write there, or None for a sync."""
+        size = oracle.UNIT * 8 << self.geometry.top
+        roots = SUPERBLOCK + 2 * SLOT * self.geometry.slots
+        if entry[0] == "define":
+            _, _, (root, _, at), offset, words = entry
+            for missing in range((len(self.bytes) - roots) // size, root + 1):
+                yield roots + missing * size, bytes(size)
+            yield roots + root * size + 8 * (at + offset), struct.pack(f"<{len(words)}Q", *words)
+        group = SUPERBLOCK + SLOT * self.slot
+        slots = group_slot(1, number) + entry_slot(entry) + bytes(SLOT)
+        room = self.geometry.slots - self.slot
+        yield group + 1, slots[1:SLOT * room]
+        yield None
+        yield group, bytes([OPEN])
+        yield None
+
+    def store(self, number, entry):
+        for call in self.calls(number, entry):
+            if call:
+                at, data = call
+                self.bytes[at:at + len(data)] = data
+        self.slot += 2
+
+
+def file_of(cache):
+    """The bytes of the file that holds a cache, made new and by its commands one after another."""
+    region = Region(cache.geometry)
+    for number, entry in enumerate(cache.entries, 1):
+        region.store(number, entry)
+    return bytes(region.bytes)
+
+
+# ---- reading
+
+class Row:
+    """A live loader, or a live class and where its record lies."""
+
+    def __init__(self, slot, loader, name=None, chunk=None, offset=0, words=0):
+        self.slot = slot
+        self.loader = loader
+        self.name = name
+        self.chunk = chunk
+        self.offset = offset
+        self.words = words
+
+
+def number(data, at, size):
+    return int.from_bytes(data[at:at + size], "little")
+
+
+def meet(chunk, other):
+    (root, order, at), (other_root, other_order, other_at) = chunk, other
+    return root == other_root and at < other_at + (oracle.UNIT << other_order) and other_at < at + (oracle.UNIT << order)
+
+
+class File:
+    """A file that is read; making one raises its first damage."""
+
+    def __init__(self, data):
+        self.data = data
+        self.rows = []
+        self.read_superblock()
+        self.choose_half()
+        self.walk()
+        for row in self.rows:
+            if row.chunk:
+                self.read_record(row)
+
+    def read_superblock(self):
+        data = self.data
+        if len(data) < SUPERBLOCK or data[:8] != MAGIC or data[SUPERBLOCK - 1] != OPEN:
+            raise NotACache
+        version, self.top, self.limit, self.slots = struct.unpack("<IIII", data[8:24])
+        within = 3 <= self.top <= 12 and 1 <= self.limit <= 256 and 256 <= self.slots <= 65_536
+        if version != 1 or not within or any(data[24:SUPERBLOCK - 1]):
+            raise Damaged(1, 0)
+        self.start = SUPERBLOCK + 2 * SLOT * self.slots
+        if len(data) < self.start:
+            raise Damaged(2, 0)
+        self.root_words = oracle.UNIT << self.top
+        self.roots = (len(data) - self.start) // (8 * self.root_words)
+
+    def slot(self, index):
+        return self.data[SUPERBLOCK + SLOT * index:SUPERBLOCK + SLOT * (index + 1)]
+
+    def choose_half(self):
+        halves = {}
+        for half in (0, 1):
+            index = self.slots * half
+            slot = self.slot(index)
+            if slot[0] != OPEN:
+                continue
+            live, epoch, base = number(slot, 4, 4), number(slot, 8, 8), number(slot, 16, 8)
+            good = slot == head_slot(live, epoch, base, gate=OPEN)
+            if not (good and live <= self.slots // 2 and base <= NUMBERS and 1 <= epoch <= base + 1):
+                raise Damaged(4, index)
+            halves[half] = (epoch, live, base)
+        if not halves or len(halves) == 2 and halves[0][0] == halves[1][0]:
+            raise Damaged(3, 0)
+        self.half = max(halves, key=lambda half: halves[half][0])
+        self.epoch, self.live, self.number = halves[self.half]
+
+    def walk(self):
+        first = self.slots * self.half
+        for place in range(1, self.live + 1):
+            self.read_entry(first + place, None)
+        place = 1 + self.live
+        while place < self.slots and self.slot(first + place)[0] == OPEN:
+            slot = self.slot(first + place)
+            count, begins = number(slot, 2, 2), number(slot, 8, 8)
+            good = slot == group_slot(count, begins, gate=OPEN) and 1 <= count <= 64
+            good = good and place + count <= self.slots - 1 and begins == self.number + 1
+            if not good or self.number + count > NUMBERS:
+                raise Damaged(4, first + place)
+            for entry in range(1, count + 1):
+                self.number += 1
+                self.read_entry(first + place + entry, self.number)
+            place += count + 1
+        self.end = place
+
+    def read_entry(self, index, own):
+        """An entry of a group has a number of its own; a live row has none."""
+        slot = self.slot(index)
+        kind = slot[1]
+        if kind == LOADER and slot[0] == 0:
+            length, loader = slot[2], number(slot, 8, 8)
+            name = slot[16:16 + min(length, 48)]
+            if length > 48 or slot != entry_slot(("loader", loader, name)):
+                raise Damaged(5, index)
+            self.add_loader(index, own, loader, name)
+        elif kind == DEFINE and slot[0] == 0:
+            words, loader, root, order, at, offset = struct.unpack("<IQIIII", slot[4:32])
+            if slot != spelled(DEFINE, "2xIQIIII", words, loader, root, order, at, offset):
+                raise Damaged(5, index)
+            self.add_class(index, loader, (root, order, at), offset, words)
+        elif kind == UNLOAD and slot[0] == 0 and own is not None:
+            if slot != entry_slot(("unload", number(slot, 8, 8))):
+                raise Damaged(5, index)
+            self.unload(index, number(slot, 8, 8))
+        elif kind == MOVE and slot[0] == 0 and own is not None:
+            loader, *places = struct.unpack("<QIIIIII", slot[8:40])
+            if slot != spelled(MOVE, "6xQIIIIII", loader, *places):
+                raise Damaged(5, index)
+            self.move(index, loader, tuple(places[:3]), tuple(places[3:]))
+        else:
+            raise Damaged(5, index)
+
+    def loaders(self):
+        return [row for row in self.rows if not row.chunk]
+
+    def classes(self, loader):
+        return [row for row in self.rows if row.chunk and row.loader == loader]
+
+    def lives(self, loader):
+        return any(row.loader == loader for row in self.loaders())
+
+    def has_room(self):
+        return len(self.rows) < self.slots // 2
+
+    def add_loader(self, index, own, loader, name):
+        good = 1 <= len(name) <= 48 and all(0x21 <= byte <= 0x7E for byte in name) and self.has_room()
+        good = good and all(row.name != name for row in self.loaders())
+        if own is None:
+            good = good and 1 <= loader <= self.number and all(row.loader < loader for row in self.loaders())
+        else:
+            good = good and loader == own
+        if not good:
+            raise Damaged(6, index)
+        self.rows.append(Row(index, loader, name=name))
+
+    def is_chunk(self, chunk):
+        root, order, at = chunk
+        if order > self.top or root >= self.limit:
+            return False
+        size = oracle.UNIT << order
+        return at % size == 0 and at + size <= self.root_words
+
+    def last_chunk(self, loader):
+        """A loader's last chunk and its used words."""
+        classes = self.classes(loader)
+        if not classes:
+            return None, 0
+        return classes[-1].chunk, sum(row.words for row in classes if row.chunk == classes[-1].chunk)
+
+    def is_apart(self, chunk):
+        return not any(row.chunk and meet(chunk, row.chunk) for row in self.rows)
+
+    def add_class(self, index, loader, chunk, offset, words):
+        if not self.lives(loader) or not self.has_room():
+            raise Damaged(6, index)
+        good = self.is_chunk(chunk) and words >= 1 and offset + words <= oracle.UNIT << chunk[1]
+        if not good or ((chunk, offset) != self.last_chunk(loader) and not (offset == 0 and self.is_apart(chunk))):
+            raise Damaged(7, index)
+        self.rows.append(Row(index, loader, chunk=chunk, offset=offset, words=words))
+
+    def unload(self, index, loader):
+        if not self.lives(loader):
+            raise Damaged(6, index)
+        self.rows = [row for row in self.rows if row.loader != loader]
+
+    def move(self, index, loader, old, new):
+        if not self.lives(loader):
+            raise Damaged(6, index)
+        last, used = self.last_chunk(loader)
+        if last is None or last != old or not self.is_chunk(new) or not self.is_apart(new) or used > oracle.UNIT << new[1]:
+            raise Damaged(7, index)
+        for row in self.classes(loader):
+            if row.chunk == old:
+                row.chunk = new
+
+    def read_record(self, row):
+        root, _, at = row.chunk
+        if root >= self.roots:
+            raise Damaged(7, row.slot)
+        begin = self.start + 8 * (root * self.root_words + at + row.offset)
+        words = list(struct.unpack(f"<{row.words}Q", self.data[begin:begin + 8 * row.words]))
+        row.read = class_of(words)
+        if not row.read:
+            raise Damaged(8, row.slot)
+        row.name = row.read.class_name(row.read.this_class)
+        for earlier in self.classes(row.loader):
+            if earlier is row:
+                break
+            if earlier.name == row.name:
+                raise Damaged(9, row.slot)
+
+    def report(self):
+        classes = [row for row in self.rows if row.chunk]
+        chunks = {row.chunk for row in classes}
+        return f"ok loaders {len(self.loaders())} classes {len(classes)} chunks {len(chunks)} number {self.number}"
+
+    def listed(self):
+        for loader in sorted(self.loaders(), key=lambda row: row.name):
+            yield b"loader %s" % loader.name
+            for row in sorted(self.classes(loader.loader), key=lambda row: row.name):
+                place = row.chunk[2] + row.offset
+                yield b"class %s words %d root %d at %d" % (oracle.escaped(row.name), row.words, row.chunk[0], place)
+
+    def state(self):
+        """Each loader's classes, by their records' words."""
+        return {loader.name: {row.name: row.read.record() for row in self.classes(loader.loader)}
+                for loader in self.loaders()}
+
+
+def state_of(cache):
+    """The same of a cache that the commands made."""
+    return {name: {class_name: live.words for class_name, live in loader.classes.items()}
+            for name, loader in cache.loaders.items()}
+
+
+def class_of(words):
+    """The class that keeps the rules and has this record; None where there is none."""
+    try:
+        data = class_file_of(words)
+    except (IndexError, struct.error):
+        return None
+    found, fault = oracle.read_shape(data)
+    if fault or len(words) > oracle.RECORD_LIMIT or found.record() != words or oracle.first_fault(found):
+        return None
+    return found
+
+
+def parts(word):
+    return struct.unpack("<HHHH", struct.pack("<Q", word))
+
+
+def class_file_of(words):
+    """The class file that a record would be of, if it is one; where it is none, any bytes or an IndexError."""
+    flags, this_class, super_class, interface_count = parts(words[1])
+    count, field_count, method_count, attribute_count = parts(words[2])
+    _, interfaces, members, rows, _ = words[3:8]
+
+    def run(at, length):
+        used = words[at:at + (length + 7) // 8]
+        if len(used) * 8 < length:
+            raise IndexError
+        return struct.pack(f"<{len(used)}Q", *used)[:length]
+
+    def constant(index):
+        word = words[8 + index]
+        tag = word & 0xFFFF
+        if tag == oracle.UTF8:
+            length = parts(word)[1]
+            return struct.pack(">BH", tag, length) + run(word >> 32, length)
+        if tag in (oracle.LONG, oracle.DOUBLE):
+            return struct.pack(">BQ", tag, words[8 + index + 1])
+        sizes = oracle.BODIES.get(tag)
+        if not sizes:
+            raise IndexError
+        numbers = [word >> 32 & 0xFFFF, word >> 48] if len(sizes) == 2 else [word >> 32]
+        return bytes([tag]) + b"".join((n & (1 << 8 * size) - 1).to_bytes(size, "big") for n, size in zip(numbers, sizes))
+
+    def attributes(begin, how_many):
+        out = struct.pack(">H", how_many)
+        for at in range(begin, begin + 2 * how_many, 2):
+            length = words[at] >> 32
+            out += struct.pack(">HI", words[at] & 0xFFFF, length) + run(words[at + 1], length)
+        return out
+
+    pool, index = b"", 1
+    while index < count:
+        pool += constant(index)
+        index += 2 if words[8 + index] & 0xFFFF in (oracle.LONG, oracle.DOUBLE) else 1
+    spelled_members, at, taken = [], members, rows
+    for _ in range(field_count + method_count):
+        member = parts(words[at])
+        spelled_members.append(struct.pack(">HHH", *member[:3]) + attributes(taken, member[3]))
+        taken += 2 * member[3]
+        at += 2
+    own = words[interfaces:interfaces + interface_count]
+    return b"".join([
+        b"\xca\xfe\xba\xbe\0\0\0\x34", struct.pack(">H", count), pool,
+        struct.pack(">HHHH", flags, this_class, super_class, interface_count),
+        b"".join(struct.pack(">H", i & 0xFFFF) for i in own),
+        struct.pack(">H", field_count), *spelled_members[:field_count],
+        struct.pack(">H", method_count), *spelled_members[field_count:],
+        attributes(taken, attribute_count),
+    ])
+
+
+def read(path):
+    with open(path, "rb") as file:
+        return File(file.read())
+
+
+def main(words):
+    out = sys.stdout.buffer
+    if words[0] == "new":
+        out.write(Region(oracle.Geometry(*map(int, words[1:]))).bytes)
+        return 0
+    if words[0] == "after":
+        cache = oracle.Cache()
+        for line in oracle.lines_of(sys.stdin.buffer.read()):
+            cache.answer(line)
+        out.write(file_of(cache))
+        return 0
+    try:
+        file = read(words[1])
+    except (NotACache, Damaged) as verdict:
+        print(verdict)
+        return 1
+    if words[0] == "check":
+        print(file.report())
+    else:
+        out.writelines(line + b"\n" for line in file.listed())
+    return 0
+
+
+if __name__ == "__main__":
+    sys.exit(main(sys.argv[1:]))
