@@ -68,9 +68,9 @@ told_methods() {
 }
 
 # The records of these classes tell the same.
-(cd crates/cm_bench && rt run </dev/null) >"$work/errors" 2>&1 || cat "$work/errors"
+bench=$(built cm_bench)
 for name in "${names[@]}"; do told_methods "$work/classes/$name.class"; done >"$work/want"
-bench/bench_classes.py "$work/classes" | crates/cm_bench/out/cm_bench --methods >"$work/got"
+bench/bench_classes.py "$work/classes" | "$bench" --methods >"$work/got"
 status=$?
 check "the code of $(wc -l <"$work/want") compiled methods" 0
 

@@ -59,6 +59,15 @@ executable() {
     echo "$top/crates/cmcache/out/cmcache"
 }
 
+# built CRATE: the path of a crate's executable, which is built where it is missing or older than what it is made of.
+built() {
+    local made=$top/crates/$1/out/$1
+    if [ ! -x "$made" ] || [ -n "$(find "$top/crates" -path '*/out' -prune -o -type f -newer "$made" -print -quit)" ]; then
+        if (cd "$top/crates/$1" && rt run -- --help </dev/null) >"$work/log" 2>&1; then touch "$made"; else cat "$work/log" >&2; fi
+    fi
+    echo "$made"
+}
+
 finish() {
     echo "$passed passed, $failed failed"
     [ "$failed" = 0 ]
