@@ -53,10 +53,14 @@ sweep_program() {
 sweep_program 289 apply --memory
 sweep_program 288 apply FILE
 sweep_program 83 format FILE
+# Opening a file alone, and looking at it.
+: >"$work/in"
+sweep_program 285 apply FILE
+sweep_program 212 check FILE
+sweep_program 300 list FILE
 
 # asks NAME HEX: reading, judging and recording this class asks for no more than 4,096 bytes at once, though it claims more.
-bench=$top/crates/cm_bench/out/cm_bench
-[ -x "$bench" ] || (cd crates/cm_bench && rt run </dev/null) >"$work/log" 2>&1 || cat "$work/log"
+bench=$(built cm_bench)
 asks() {
     local length=$((${#2} / 2))
     printf '%08x%s' "$length" "$2" | python3 -c 'import sys; sys.stdout.buffer.write(bytes.fromhex(sys.stdin.read()))' >"$work/in"

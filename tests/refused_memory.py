@@ -3,11 +3,13 @@
 
     tests/refused_memory.py PROGRAM ALLOCATIONS_LIBRARY REFUSALS WORD.. <SCRIPT
 
-The words are the program's; FILE among them is a file: for `format` none that is there, else that of an empty cache. Each run
-has to end, and to write replies that are true: a line is answered as ever, or `refused 9 memory` where nothing else refuses
-it, or, of a cache in memory, `unsure N` as the last reply (a disk in memory that can't grow is a device that failed); fewer
-replies than lines come with status 3 alone. A file holds what was acknowledged then, or that and the next command; one that
-`format` didn't make isn't there. REFUSALS is how many runs have to meet a refusal; the first that meets none ends the sweep.
+The words are the program's; FILE among them is a file: for `format` none that is there, for a script that of an empty cache,
+and for `check`, `list` and a script without lines, which only opens it, that of a cache with classes. Each run has to end,
+and to write replies that are true: a line is answered as ever, or `refused 9 memory` where nothing else refuses it, or, of a
+cache in memory, `unsure N` as the last reply (a disk in memory that can't grow is a device that failed); fewer replies than
+lines come with status 3 alone. A file holds what was acknowledged then, or that and the next command; one that `format` didn't
+make isn't there, and one that is only looked at has its bytes. REFUSALS is how many runs have to meet a refusal; the first
+that meets none ends the sweep.
 """
 import copy
 import os
@@ -45,6 +47,17 @@ def is_true(lines, replies, status, cache, has_file):
     return status == (worst if len(replies) == len(lines) else 3)
 
 
+def held_cache():
+    """A cache with classes in two loaders, and one that was unloaded."""
+    cache = oracle.Cache()
+    for line in [b"loader web", b"loader app", b"loader old"]:
+        cache.answer(line)
+    for loader, name in (b"web", b"B"), (b"web", b"A"), (b"app", b"A"), (b"old", b"A"):
+        cache.answer(runs.define(loader, name, 8))
+    cache.answer(b"unload old")
+    return cache
+
+
 class Sweep:
     def __init__(self, program, library, words, lines, folder):
         self.program = program
@@ -54,6 +67,9 @@ class Sweep:
         self.lines = lines
         self.counts = f"{folder}/counts"
         self.checks = runs.Checks()
+        # Whether the file is only looked at.
+        self.looks = words[0] in ("check", "list") or not lines
+        self.begins = region.file_of(held_cache()) if self.looks else bytes(region.Region(oracle.Geometry()).bytes)
 
     def run(self, refuse):
         """What came of the run with that allocation refused, and whether there was one."""
@@ -61,7 +77,7 @@ class Sweep:
             os.remove(self.path)
         if self.path and self.words[0] != "format":
             with open(self.path, "wb") as file:
-                file.write(region.Region(oracle.Geometry()).bytes)
+                file.write(self.begins)
         env = {"LD_PRELOAD": self.library, "ALLOCATIONS": self.counts, "REFUSE": str(refuse)}
         ran = runs.run(self.program, self.words, self.lines, env)
         with open(self.counts, "rb") as file:
@@ -85,12 +101,24 @@ class Sweep:
             good = ran[0] in ([], [b"memory"]) and ran[1] == 3 and not os.path.exists(self.path)
         self.checks.check(name, good, f"{ran}")
 
+    def check_look(self, name, ran):
+        """All is told, or the beginning of it with status 3; the file has its bytes."""
+        file = region.File(self.begins)
+        due = {"check": [file.report().encode()], "list": [*file.listed()]}.get(self.words[0], [])
+        replies, status, errors = ran
+        cut = status == 3 and (errors or replies == [b"memory"]) and (replies == [b"memory"] or replies == due[:len(replies)])
+        self.checks.check(name, ran == (due, 0, "") or cut, f"{ran}")
+        with open(self.path, "rb") as held:
+            self.checks.check(f"{name}: the file", held.read() == self.begins)
+
     def sweep(self, wanted):
         for refuse in range(1, MOST):
             ran, has_met = self.run(refuse)
             name = f"{self.words[0]}, allocation {refuse} refused"
             if self.words[0] == "format":
                 self.check_format(name, ran)
+            elif self.looks:
+                self.check_look(name, ran)
             else:
                 self.check_script(name, ran)
             if not has_met:
