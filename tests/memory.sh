@@ -56,8 +56,8 @@ sweep_program 83 format FILE
 # Opening a file alone, and looking at it.
 : >"$work/in"
 sweep_program 285 apply FILE
-sweep_program 212 check FILE
-sweep_program 300 list FILE
+sweep_program 219 check FILE
+sweep_program 323 list FILE
 
 # asks NAME HEX: reading, judging and recording this class asks for no more than 4,096 bytes at once, though it claims more.
 bench=$(built cm_bench)
