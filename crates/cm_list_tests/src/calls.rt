@@ -1,0 +1,84 @@
+//! Commands as values, so that a test is a table of commands and what is listed then, and accepted
+//! caches after them. Where an allocation failed a call is made once more: the cache is as it was, so
+//! the answer is the one that was due.
+
+use cm_front::Front;
+use cm_pool::Geometry;
+use cm_prepare::{Command, Prepared, Refusal, prepare};
+use cm_rows::Book;
+use std::alloc::{AllocError, Global};
+use std::test::Fail;
+
+/// A command. Classes have names of up to five bytes.
+#[derive(Clone, Copy, Debug)]
+pub enum Call {
+    Loader(&'static [u8]),
+    Define(&'static [u8], &'static [u8]),
+    Unload(&'static [u8]),
+}
+
+/// A class whose record has 16 words where its name has up to eight bytes: what stands before the
+/// name's length, and behind the name.
+const BEFORE_NAME: &[u8] = b"cafebabe00000034000507000201";
+
+const BEHIND_NAME: &[u8] =
+    b"0700040100106a6176612f6c616e672f4f626a6563740021000100030000000000000000";
+
+fn bytes_of(alloc: Global, name: &[u8]) -> Option<Vec<u8>> {
+    let mut bytes = hex::decode(alloc, BEFORE_NAME).ok()?;
+    let long = u16::try_from(name.len()).ok()?;
+    bytes.extend_from_slice(&long.to_be_bytes()).ok()?;
+    bytes.extend_from_slice(name).ok()?;
+    let behind = hex::decode(alloc, BEHIND_NAME).ok()?;
+    bytes.extend_from_slice(&behind).ok()?;
+    Some(bytes)
+}
+
+fn class(alloc: Global, name: &[u8]) -> Result<Prepared, Fail> {
+    let bytes = match bytes_of(alloc, name) {
+        Some(bytes) => bytes,
+        None => bytes_of(alloc, name).ok_or("bytes")?,
+    };
+    let class = match prepare(alloc, &bytes) {
+        Ok(class) => class,
+        Err(_) => prepare(alloc, &bytes).ok().ok_or("a class")?,
+    };
+    Ok(class)
+}
+
+fn accept(alloc: Global, front: &mut Front, call: Call) -> Result<Result<u64, Refusal>, Fail> {
+    Ok(match call {
+        Call::Loader(loader) => front.accept(Command::AddLoader(loader)),
+        Call::Define(loader, name) => front.accept(Command::Define(loader, class(alloc, name)?)),
+        Call::Unload(loader) => front.accept(Command::Unload(loader)),
+    })
+}
+
+fn open(alloc: Global, geometry: Geometry) -> Result<Front, AllocError> {
+    let book = Book::new(alloc, geometry)?;
+    Front::restore(alloc, geometry, book, 0, 1)
+}
+
+// A cache of two roots of 1,024 words with nothing in it.
+fn empty(alloc: Global) -> Result<Front, Fail> {
+    let geometry = Geometry::new(3, 2, 256).ok_or("sizes")?;
+    match open(alloc, geometry) {
+        Ok(front) => Ok(front),
+        Err(_) => Ok(open(alloc, geometry)?),
+    }
+}
+
+/// A cache that accepted these commands, one after another.
+pub fn front_after(alloc: Global, calls: &[Call]) -> Result<Front, Fail> {
+    let mut front = empty(alloc)?;
+    for call in calls {
+        let accepted = match accept(alloc, &mut front, *call)? {
+            Err(Refusal::NoMemory) => accept(alloc, &mut front, *call)?,
+            answer => answer,
+        };
+        if accepted.is_err() {
+            return Err("no command is refused".into());
+        }
+    }
+    Ok(front)
+}
