@@ -1,13 +1,16 @@
 #!/usr/bin/env python3
-"""Says of each of many small files, sound and damaged, what `cmcache check FILE` and `list FILE` have to say, and compares.
+"""Says of many small files, sound and damaged, what `cmcache check FILE` and `list FILE` have to say, and compares.
 
     check.py PROGRAM COUNT SEED
 
-The files are those of region.py; of each damaged one some bytes were changed at places drawn by the seed, most of them in
-its slots, its superblock and its records. What is right is said by region.py, which shares no code with the program.
+The first files are those of region.py; of each damaged one some bytes were changed at places drawn by the seed, most of them
+in its slots, its superblock and its records. Then comes a file that has an entry of each kind, of which each byte that is in
+use has each of some other values in turn. What is right is said by region.py, which shares no code with the program.
 """
+import multiprocessing
 import os
 import random
+import struct
 import subprocess
 import sys
 
@@ -56,10 +59,91 @@ def damage(data, draw):
         del data[draw.randrange(len(data)):]
 
 
-def main(program, count, seed):
+# ---- each byte in turn
+
+HALVES = region.SUPERBLOCK, region.SUPERBLOCK + 256 * region.SLOT
+ROOTS = region.SUPERBLOCK + 2 * 256 * region.SLOT
+VALUES = 0x00, 0x01, 0x02, 0x11, 0x7F, 0x80, 0xA4, 0xA5, 0xFE, 0xFF
+
+
+def whole_file():
+    """A file with an entry of each kind. Half 1 counts, of which a loader and a class live; half 0 is an older one."""
+    one, two = (oracle.read_shape(bytes.fromhex(text))[0].record() for text in (A, B))
+    first, second, third = (0, 0, 0), (0, 0, 128), (0, 1, 256)
+    slots = [
+        region.head_slot(2, 2, 3, gate=region.OPEN),
+        region.entry_slot(("loader", 1, b"a")),
+        region.entry_slot(("define", 1, first, 0, one)),
+        region.group_slot(5, 4, gate=region.OPEN),
+        region.entry_slot(("loader", 4, b"b")),
+        region.entry_slot(("define", 4, second, 0, one)),
+        region.entry_slot(("loader", 6, b"c")),
+        region.entry_slot(("unload", 6)),
+        region.spelled(region.MOVE, "6xQIIIIII", 1, *first, *third),
+        region.group_slot(1, 9, gate=region.OPEN),
+        region.entry_slot(("define", 1, third, len(one), two)),
+    ]
+    data = region.Region(oracle.Geometry(3, 1, 256)).bytes + bytes(8 * 1024)
+    data[HALVES[1]:HALVES[1] + region.SLOT * len(slots)] = b"".join(slots)
+    for at, words in ((128, one), (256, one), (256 + len(one), two)):
+        data[ROOTS + 8 * at:ROOTS + 8 * (at + len(words))] = struct.pack(f"<{len(words)}Q", *words)
+    return data
+
+
+WHOLE = b"ok loaders 2 classes 3 chunks 2 number 9\n"
+
+
+def changes():
+    """Places and the bytes that are to stand there: in the superblock, in both halves' heads with the slots behind them, and
+    in records. Of the zeros in the superblock each has one other value."""
+    data = whole_file()
+    zeros = range(32, region.SUPERBLOCK - 8)
+    used = [*range(32), *range(zeros.stop, HALVES[0] + 2 * region.SLOT), *range(HALVES[1], HALVES[1] + 12 * region.SLOT)]
+    used += [ROOTS + 8 * at + byte for begin, end in ((128, 145), (256, 289)) for at in range(begin, end) for byte in range(8)]
+    for at in used:
+        for value in sorted({*VALUES, (data[at] + 1) % 256} - {data[at]}):
+            yield at, value
+    for at in zeros:
+        yield at, 1
+
+
+def check_changed(program, path, some):
+    """Checks the file with each of some changes alone; tells how many were right, and which weren't."""
+    data = whole_file()
+    with open(path, "wb") as file:
+        file.write(data)
+    wrong = []
+    with open(path, "r+b", buffering=0) as file:
+        for at, value in some:
+            was, data[at] = data[at], value
+            os.pwrite(file.fileno(), bytes([value]), at)
+            words, status = wanted(data)
+            ran = subprocess.run([program, "check", path], capture_output=True, check=False)
+            is_same = os.pread(file.fileno(), len(data) + 1, 0) == data
+            if (ran.stdout, ran.returncode, ran.stderr) != (words["check"], status, b"") or not is_same:
+                wrong.append(f"check with {value:#x} at {at}: {ran.stdout!r}, status {ran.returncode}; wanted {words['check']}")
+            data[at] = was
+            os.pwrite(file.fileno(), bytes([was]), at)
+    os.remove(path)
+    return len(some) - len(wrong), wrong
+
+
+def each_byte(program, folder):
+    """As check_changed, of all changes, on all processors."""
+    if wanted(whole_file())[0]["check"] != WHOLE:
+        return 0, ["the file of each kind of entry isn't sound"]
+    count = 4 * os.cpu_count()
+    every = list(changes())
+    parts = [(program, os.path.join(folder, f"changed-{part}"), every[part::count]) for part in range(count)]
+    with multiprocessing.Pool() as pool:
+        found = pool.starmap(check_changed, parts, chunksize=1)
+    return sum(right for right, _ in found), [line for _, wrong in found for line in wrong]
+
+
+def drawn(program, path, count, seed):
+    """Checks and lists so many files, most of them with some bytes changed; tells how many were right, and which weren't."""
     draw = random.Random(seed)
-    path = os.path.join(os.environ["WORK"], "checked")
-    passed = failed = 0
+    passed, wrong = 0, []
     for number in range(count):
         data = new_file(SCRIPTS[number % len(SCRIPTS)])
         if number >= len(SCRIPTS):
@@ -74,10 +158,18 @@ def main(program, count, seed):
             if (ran.stdout, ran.returncode, ran.stderr) == (said, status, b"") and is_same:
                 passed += 1
             else:
-                failed += 1
-                print(f"FAILED: {verb} of file {number}, seed {seed}: {ran.stdout!r}, status {ran.returncode}; wanted {said}, {status}")
-    print(f"{passed} passed, {failed} failed")
-    return failed != 0
+                wrong.append(f"{verb} of file {number}, seed {seed}: {ran.stdout!r}, status {ran.returncode}; wanted {said}, {status}")
+    return passed, wrong
+
+
+def main(program, count, seed):
+    folder = os.environ["WORK"]
+    passed, wrong = drawn(program, os.path.join(folder, "checked"), count, seed)
+    changed, more = each_byte(program, folder)
+    for line in wrong + more:
+        print(f"FAILED: {line}")
+    print(f"{passed + changed} passed, {len(wrong + more)} failed")
+    return bool(wrong or more)
 
 
 if __name__ == "__main__":

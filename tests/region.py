@@ -274,8 +274,6 @@ class File:
         self.rows = [row for row in self.rows if row.loader != loader]
 
     def move(self, index, loader, old, new):
-        if not self.lives(loader):
-            raise Damaged(6, index)
         last, used = self.last_chunk(loader)
         if last is None or last != old or not self.is_chunk(new) or not self.is_apart(new) or used > oracle.UNIT << new[1]:
             raise Damaged(7, index)
