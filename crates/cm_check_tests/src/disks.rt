@@ -1,0 +1,23 @@
+//! The bytes of disks, and disks of bytes.
+
+use cm_disk::{Disk, SimDisk};
+use std::alloc::Global;
+use std::test::Fail;
+
+/// All bytes of a disk.
+pub fn bytes_of(alloc: Global, disk: &mut SimDisk) -> Result<Vec<u8>, Fail> {
+    let long = disk.len()?;
+    let mut bytes = Vec::from_elem(alloc, 0, long as usize)?;
+    disk.read(0, &mut bytes)?;
+    Ok(bytes)
+}
+
+/// A disk of these bytes, which are stored.
+pub fn disk_of(alloc: Global, bytes: &[u8]) -> Result<SimDisk, Fail> {
+    let mut disk = SimDisk::new(alloc);
+    if bytes.len() < 100_000 {
+        disk.write_at(0, bytes)?;
+    }
+    disk.sync()?;
+    Ok(disk)
+}
