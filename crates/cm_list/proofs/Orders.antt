@@ -89,7 +89,7 @@ gathering_ends rows left g none h =
 
 -- ---- listing
 
-loaders_numbered : {A : Type 0} (shows : Shows A) (all rows : List (Row A))
+pub loaders_numbered : {A : Type 0} (shows : Shows A) (all rows : List (Row A))
     → entries (loaders_among shows all rows)
     ≡ map (λ e. (e.0, classes_of shows e.1 all)) (entries (numbers_among rows))
 loaders_numbered {A} shows all [] =
@@ -104,7 +104,7 @@ loaders_numbered {A} shows all (Loader r ∷ rows) =
     (sym (entries-insert nat_list_cmp_total (numbers_among rows) r.name r.number))))
 loaders_numbered shows all (Class r c ∷ rows) = loaders_numbered shows all rows
 
-same_numbers : (rows : List (Row (List ℕ))) → numbers_among (placed rows) ≡ numbers_among rows
+pub same_numbers : (rows : List (Row (List ℕ))) → numbers_among (placed rows) ≡ numbers_among rows
 same_numbers [] = refl
 same_numbers (Loader r ∷ rows) =
     ap (λ (m : ByName ℕ). insert m r.name r.number) (same_numbers rows)
@@ -116,7 +116,7 @@ abbrev pub listed_by : BTreeMap ℕ (BTreeMap (Vec ℕ) ListedClass) → List (L
 listed_by classes numbers =
     map (λ n. (n.0, map (λ (e : List ℕ × ListedClass). e.1) (kept_of classes n.1))) numbers
 
-each_same : {A B : Type 0} (f g : A → B) → ((a : A) → f a ≡ g a) → (l : List A) → map f l ≡ map g l
+pub each_same : {A B : Type 0} (f g : A → B) → ((a : A) → f a ≡ g a) → (l : List A) → map f l ≡ map g l
 each_same f g same [] = refl
 each_same f g same (a ∷ l) = λ i. same a i ∷ each_same f g same l i
 

@@ -2,6 +2,8 @@
 #![tactic(auto)]
 
 mod gathered;
+mod laws;
 mod listing;
 
+pub use laws::listing_is_state;
 pub use listing::{ListedClass, ListedLoader, list, list_accepted};
