@@ -90,6 +90,7 @@ begun sizes r disk w made m = record {
   new = record {
     contents = m.opens.contents_stay ∙ made;
     stored = m.opens.stored;
+    images = m.images;
     machine = m.opens.reopens.reopens.next_is ∙ (λ i. record {
       base = empty_machine.base;
       commands = none i;

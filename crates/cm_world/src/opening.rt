@@ -53,8 +53,10 @@ fn make_disk(alloc: Global, geometry: Geometry) -> Result<SimDisk, OpenFault>
 }
 
 impl World {
-    /// The world of a new file of these sizes.
-    pub(crate) fn new(alloc: Global, geometry: Geometry) -> Result<World, OpenFault>
+    /// The world of a new file of these sizes, in which nothing was accepted yet.
+    ///
+    /// It is an `Err` only where the device or an allocation failed.
+    pub fn new(alloc: Global, geometry: Geometry) -> Result<World, OpenFault>
         ensures begun { IfOk result (IsBegun geometry) }
         ensures fault { IfErr result IsOutside }
     {

@@ -22,8 +22,12 @@ pub struct World {
 }
 
 impl World {
-    /// One event.
-    fn step(mut self, event: Event<'_>) -> Result<(World, Reply), OpenFault>
+    /// One event, and its reply. The machine that the world goes with makes a step over the world's
+    /// own disk, and the world that is handed back goes with the machine after it.
+    ///
+    /// It is an `Err`, with no world, only where the device or an allocation failed while the file
+    /// was opened again.
+    pub fn step(mut self, event: Event<'_>) -> Result<(World, Reply), OpenFault>
         ensures moved { (k : Machine) → GoesWith k self.session
             → IfOk result (λ p. Moves k event.entry p.1 self p.0) }
         ensures fault { (k : Machine) → GoesWith k self.session → IfErr result IsOutside }
