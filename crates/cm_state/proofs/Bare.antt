@@ -11,7 +11,8 @@ use Rattle.cm_layout.specs.declared.row.Row.TheVariants.{Loader, Class}
 use Rattle.cm_layout.specs.declared.entry.Entry.{Entry}
 use Rattle.cm_layout.specs.declared.entry.Entry.TheVariants as entry
 use Rattle.cm_layout.specs.Rows.{name_of, number_of, numbers_in, classes_in, slots_of_rows}
-use Rattle.cm_layout.specs.Rows.{without_loader, moved, rows_after, row_with, entry_with, bare}
+use Rattle.cm_layout.specs.Rows.{without_loader, moved, rows_after, row_with, rows_with, entry_with}
+use Rattle.cm_layout.specs.Rows.{bare}
 use Rattle.cm_layout.specs.Rules.{broken_rule}
 use Rattle.cm_layout.specs.Loaders.{LoadersDiffer}
 use Rattle.cm_layout.specs.Frames.{BareRow, BareEntry}
@@ -22,6 +23,11 @@ bare_row {A} row = row_with (λ (c : A). tt {0}) row
 
 abbrev pub bare_entry : {A : Type 0} → Entry A → BareEntry
 bare_entry {A} e = entry_with (λ (c : A). tt {0}) e
+
+pub bare-with : {A B : Type 0} (f : A → B) (rows : List (Row A)) → bare (rows_with f rows) ≡ bare rows
+bare-with f [] = refl
+bare-with f (Loader r ∷ rows) = ap (λ l. Loader r ∷ l) (bare-with f rows)
+bare-with f (Class r c ∷ rows) = ap (λ l. Class r (tt {0}) ∷ l) (bare-with f rows)
 
 pub number-bare : {A : Type 0} (x : List ℕ) (rows : List (Row A))
     → number_of x (bare rows) ≡ number_of x rows

@@ -6,3 +6,4 @@ pub mod Differ
 pub mod EntrySteps
 pub mod Folds
 pub mod OneCache
+pub mod Arenas

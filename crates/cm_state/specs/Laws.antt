@@ -1,12 +1,16 @@
 -- What holds of the definitions themselves.
-use Rattle.std.specs.Prelude.{◌≡◌, ℕ, ◌+◌, ◌^◌, ◌<◌, List, ◌++◌, length, Some, Ok, is_some}
+use Rattle.std.specs.Prelude.{◌≡◌, ◌≢◌, ℕ, ◌+◌, ◌^◌, ◌<◌, List, ◌++◌, length, Some, Ok, is_some}
 use Rattle.std.specs.Option.{option_and_then}
 use Rattle.std.specs.FinMap as map
 use Rattle.cm_class.specs.declared.class_file.ClassFile.{ClassFile}
 use Rattle.cm_pool.specs.Geometry.{Sizes}
+use Rattle.cm_pool.specs.declared.chunk.Chunk.{Chunk}
+use Rattle.cm_pool.specs.Chunks.{Meets}
+use Rattle.cm_pool.specs.Lists.{Among, Pairwise}
+use Rattle.cm_layout.specs.declared.class_row.ClassRow.{ClassRow}
 use Rattle.cm_layout.specs.declared.row.Row.{Row}
 use Rattle.cm_layout.specs.declared.entry.Entry.{Entry}
-use Rattle.cm_layout.specs.Rows.{number_of, slots_of_rows, rows_after}
+use Rattle.cm_layout.specs.Rows.{name_of, number_of, classes_in, slots_of_rows, rows_after}
 use Rattle.cm_state.specs.State.{CacheState, Shows, class_shows, class_in, class_among, size}
 use Rattle.cm_state.specs.State.{state_of}
 use Rattle.cm_state.specs.Step.{Change, step}
@@ -68,3 +72,31 @@ StandForOne =
     (s t : Sizes) (contents : List ℕ) (m k : CacheState) (a b : Arenas) (n l : ℕ)
     → Stands s contents m a n → Stands t contents k b l
     → (s ≡ t) × ((m ≡ k) × ((a ≡ b) × (n ≡ l)))
+
+-- Chunks of arenas share no word: none of one loader with one of another, and none with another of
+-- its own loader.
+pub record ShareNoWord (arenas : Arenas) : Type 0 where
+  pub between : (x y : List ℕ) (cs ds : List Chunk) → x ≢ y → map.get arenas x ≡ Some cs
+      → map.get arenas y ≡ Some ds → (c d : Chunk) → Among c cs → Among d ds → ¬ Meets c d
+  pub within : (x : List ℕ) (cs : List Chunk) → map.get arenas x ≡ Some cs
+      → Pairwise (λ a b. ¬ Meets a b) cs
+
+abbrev pub ArenasAreApart : Type 0
+ArenasAreApart =
+    (sizes : Sizes) (contents : List ℕ) (m : CacheState) (arenas : Arenas) (n : ℕ)
+    → Stands sizes contents m arenas n → ShareNoWord arenas
+
+-- The loader of a record has a name, and under it an arena that has the record's chunk.
+pub record IsInItsArena (arenas : Arenas) (rows : List (Row ClassFile))
+    (r : ClassRow) : Type 0 where
+  pub name : List ℕ
+  pub chunks : List Chunk
+  pub named : name_of r.loader rows ≡ Some name
+  pub arena : map.get arenas name ≡ Some chunks
+  pub held : Among r.place.chunk chunks
+
+abbrev pub EachRecordIsInItsArena : Type 0
+EachRecordIsInItsArena =
+    (sizes : Sizes) (contents : List ℕ) (m : CacheState) (arenas : Arenas) (n : ℕ)
+    (stands : Stands sizes contents m arenas n) (r : ClassRow)
+    → Among r (classes_in stands.rows) → IsInItsArena arenas stands.rows r

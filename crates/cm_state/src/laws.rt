@@ -6,8 +6,9 @@ ghost use Rattle.cm_class.specs.declared.class_file.ClassFile.{ClassFile};
 ghost use Rattle.cm_state.specs.Laws.{ChangesGoOn, NumbersFollow, StandForOne};
 ghost use Rattle.cm_state.specs.Laws.{LoadersAreFound, ClassesAreFound, SizesAgree};
 ghost use Rattle.cm_state.specs.Laws.{EntriesAreSteps};
+ghost use Rattle.cm_state.specs.Laws.{ArenasAreApart, EachRecordIsInItsArena};
 
-use cm_layout::{contents_determine_rows, live_rows_go_on, loaders_are_own};
+use cm_layout::{contents_determine_rows, live_rows_go_on, loaders_are_own, rows_stay_live};
 use cm_record::layout_determines_class;
 
 /// Changes behind others go on from what those came to, so each beginning of a list of changes has
@@ -45,5 +46,15 @@ pub fn entries_are_steps()
     ensures words { EntriesAreSteps (List ℕ) }
 {
     live_rows_go_on();
+    loaders_are_own();
+}
+
+/// Where contents stand for a cache, no two chunks of its arenas share a word, be they of two
+/// loaders, by name, or of one; and each record lies in a chunk of its own loader's arena.
+pub fn arenas_are_apart()
+    ensures apart { ArenasAreApart }
+    ensures held { EachRecordIsInItsArena }
+{
+    rows_stay_live();
     loaders_are_own();
 }
