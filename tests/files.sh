@@ -261,6 +261,30 @@ check_says "a file that may only be read" 3 device "$mine/unwritable"
 as_nobody format "$mine/closed/cache"
 check_says "format in a folder without permission" 3 device "$mine/closed/cache"
 
+# ---- check and list of what isn't a cache, or isn't the caller's
+
+python3 tests/region.py check "$cache" >"$work/report"
+python3 tests/region.py list "$cache" >"$work/list"
+for verb in check list; do
+    run $verb "$work/empty"
+    check_says "$verb of an empty file" 1 "not a cache"
+    run $verb "$work/zeros"
+    check_says "$verb of a file of zeros" 1 "not a cache"
+    run $verb "$work/nothing"
+    check_says "$verb of a missing path" 3 device "$work/nothing"
+    run $verb "$work/folder"
+    check_says "$verb of a folder" 3 device "$work/folder"
+    timeout 10 "$program" $verb "$work/fifo" <"$work/in" >"$work/got" 2>"$work/errors"
+    status=$?
+    check_says "$verb of a FIFO" 3 device "$work/fifo"
+    as_nobody $verb "$mine/unreadable"
+    check_says "$verb of a file without permission" 3 device "$mine/unreadable"
+    # Neither needs the right to write.
+    as_nobody $verb "$mine/unwritable"
+    if [ $verb = check ]; then cp "$work/report" "$work/want"; else cp "$work/list" "$work/want"; fi
+    check "$verb of a file that may only be read" 0
+done
+
 # ---- streams that are closed: nothing that was meant for them lands in the file
 
 printf 'loader c\nloader d\n' >"$work/in"

@@ -3,7 +3,7 @@
 
     tests/kill.py PROGRAM KILLS SEED
 
-Each reply that came before the kill has to be the right one; the file, read by region.py and looked up by another run of the
+Each reply that came before the kill has to be the right one; the file, read by region.py, checked, listed and looked up by the
 program, has to hold all commands that were acknowledged and, of the others, at most the one that was being run. The next run
 goes on with the file as it is. Some kills hit `format`: its file is no cache then, or the empty one, or there is none.
 """
@@ -63,6 +63,7 @@ def kill_apply(checks, program, path, cache, rng, longest):
     good = checks.check(f"{name}: the replies", replies == wanted)
     under_way = lines[len(replies)] if len(replies) < len(lines) else None
     good = runs.settle(checks, f"{name}: the file", path, cache, under_way) and good
+    good = good and runs.tell(checks, f"{name}: the file", program, path)
     good = runs.look_up(checks, f"{name}: the classes", program, path, cache) and good
     return was_hit, good
 

@@ -104,5 +104,13 @@ def look_up(checks, name, program, path, cache):
     return checks.check(name, got == (wanted, status, ""), f"got {got}, wanted {wanted}")
 
 
+def tell(checks, name, program, path):
+    """Checks and lists the file by the program, each in a run of its own."""
+    file = region.read(path)
+    checked, listed = run(program, ["check", path]), run(program, ["list", path])
+    good = checks.check(f"{name}, checked", checked == ([file.report().encode()], 0, ""), f"got {checked}")
+    return checks.check(f"{name}, listed", listed == ([*file.listed()], 0, ""), f"got {listed}") and good
+
+
 def new_cache(geometry=None):
     return oracle.Cache(geometry)
