@@ -7,7 +7,8 @@
 # It builds cm_bench, runs it over ordinary class files (version 52.0, from jars of Debian packages) and over hostile
 # ones (bench/bench_classes.py says what they are), and lets mature libraries (ASM, Javassist, BCEL) read the same
 # ordinary files whole. Each row has the best of PASSES passes (20; of hostile files 3). "ratio" is the time for each byte
-# of class file, compared with the same step on ordinary files. Then cm_bench_front makes its calls, the best of PASSES passes.
+# of class file, compared with the same step on ordinary files. Then cm_bench_front makes its calls, the best of PASSES passes,
+# and bench/files.sh stores classes in files, beside SQLite and LMDB.
 set -eu
 top=$(cd "$(dirname "${BASH_SOURCE[0]}")/.." && pwd)
 passes=${1:-20}
@@ -79,3 +80,4 @@ done
     }'
 "$top/crates/cm_bench_front/out/cm_bench_front" --times "$passes"
 echo "load of the machine at the end: $(cut -d' ' -f1 /proc/loadavg) on $(nproc) cores"
+"$top/bench/files.sh"

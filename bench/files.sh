@@ -1,0 +1,115 @@
+#!/usr/bin/env bash
+# Measures what storing classes in a file costs, beside SQLite and LMDB, and what opening a file costs, beside reading its
+# classes. It isn't part of the gate.
+#
+#     bench/files.sh [RUNS] [FOLDER]
+#
+# cm_bench_file defines ordinary classes (those of bench/run.sh) in a new file in FOLDER (the crate's out/), one a commit and 64
+# a commit. The same records, as they stand in that file, are then stored by SQLite (write-ahead log, synchronous=FULL), by
+# LMDB, and by the bare device calls that the same commits make (bench/stores.c), on the same file system. Each row has the
+# best of RUNS runs (5), and the worst for the machine's noise; all take turns, so that a busy disk slows all of them.
+#
+# Then files of 10,000, 20,000 and 30,000 classes (bench/many_classes.py) are opened; beside it are cm_bench's rows on the
+# same classes: read_class (reading and judging) and Record::read (checking records).
+#
+# What isn't installed is fetched, if the machine reaches Debian's packages. A store that still isn't there is named and left
+# out.
+set -eu
+top=$(cd "$(dirname "${BASH_SOURCE[0]}")/.." && pwd)
+runs=${1:-5}
+packages=(libasm-java libcommons-io-java libcommons-lang3-java libguava-java libsqlite3-dev liblmdb-dev)
+jars=(/usr/share/java/{asm,asm-analysis,asm-commons,asm-tree,asm-util,commons-io,commons-lang3,guava}.jar)
+sizes=(--top 12 --roots 64 --slots 16384)
+
+fetch() {
+    dpkg -s "${packages[@]}" >/dev/null 2>&1 && return
+    { apt-get update -qq && apt-get install -y -qq "${packages[@]}"; } >&2 || true
+}
+
+# build CRATE
+build() {
+    (cd "$top/crates/$1" && rt run </dev/null) >"$work/log" 2>&1 || [ -x "$top/crates/$1/out/$1" ] || {
+        cat "$work/log" >&2
+        exit 1
+    }
+}
+
+# has HEADER: whether the C compiler finds it
+has() {
+    echo "#include <$1>" | gcc -E - >/dev/null 2>&1
+}
+
+work=$(mktemp -d)
+folder=
+trap 'rm -rf "$work" ${folder:+"$folder"}' EXIT
+
+fetch
+for jar in "${jars[@]}"; do
+    [ -e "$jar" ] || { echo "missing: $jar (of ${packages[*]:0:4}): no classes to measure" >&2; exit 1; }
+done
+stores=(bare)
+flags=()
+if has sqlite3.h; then stores+=(sqlite) flags+=(-DWITH_SQLITE -lsqlite3); else echo "missing: libsqlite3-dev: no row of SQLite"; fi
+if has lmdb.h; then stores+=(lmdb) flags+=(-DWITH_LMDB -llmdb); else echo "missing: liblmdb-dev: no row of LMDB"; fi
+gcc -O2 -o "$work/stores" "$top/bench/stores.c" "${flags[@]}"
+build cm_bench_file
+build cm_bench
+bench=$top/crates/cm_bench_file/out/cm_bench_file
+folder=$(mktemp -d -p "${2:-$top/crates/cm_bench_file/out}")
+
+"$top/bench/bench_classes.py" --only-52 "${jars[@]}" >"$work/classes"
+"$bench" put "$folder/first" --group 64 "${sizes[@]}" <"$work/classes"
+"$top/bench/records.py" "$folder/first" >"$work/records"
+rm "$folder/first"
+
+for group in 1 64; do
+    for ((run = 0; run < runs; run++)); do
+        "$bench" put "$folder/cache" --group "$group" "${sizes[@]}" --times <"$work/classes" |
+            awk -v g="$group" '{ print "cmcache", g, $2, $6, $15; print "cmcache+prepare", g, $2, $6, $20 }'
+        rm "$folder/cache"
+        for store in "${stores[@]}"; do
+            "$work/stores" "$store" "$folder/$store" "$group" <"$work/records" |
+                awk -v g="$group" '{ print $1, g, $3, $5, $7 }'
+            rm "$folder/$store"*
+        done
+    done
+done | awk '
+    # STORE GROUP RECORDS COMMITS NS
+    {
+        key = $2 " " $1
+        if (!(key in best) || $5 < best[key]) best[key] = $5
+        if (!(key in worst) || $5 > worst[key]) worst[key] = $5
+        commits[key] = $4
+        records[key] = $3
+    }
+    END {
+        for (key in best) {
+            split(key, part, " ")
+            printf "%2d a commit  %-16s %6d records %6d commits %11.0f ns (worst %.2f)  %9.0f ns a commit  %5.2f of the bare calls\n",
+                part[1], part[2], records[key], commits[key], best[key], worst[key] / best[key],
+                best[key] / commits[key], best[key] / best[part[1] " bare"]
+        }
+    }' | sort
+
+for count in 10000 20000 30000; do
+    "$top/bench/many_classes.py" "$count" <"$work/classes" >"$work/many"
+    "$bench" put "$folder/many" --group 64 --top 12 --roots 256 --slots 65536 <"$work/many"
+    {
+        "$top/crates/cm_bench/out/cm_bench" --passes "$runs" <"$work/many"
+        for ((run = 0; run < runs; run++)); do "$bench" read "$folder/many" --times; done
+    } | awk '
+        $1 == "read_class" || $1 == "Record::read" { alone += $9 }
+        $1 == "classes" {
+            if (!opened || $7 < opened) opened = $7
+            if ($7 > worst) worst = $7
+            if (!found || $12 < found) found = $12
+            classes = $2
+        }
+        END {
+            printf "read: %d classes opened in %.0f ns (worst %.2f), %.0f ns a class, %.2f of reading, judging and checking alone;",
+                classes, opened, worst / opened, opened / classes, opened / alone
+            printf " each found in %.0f ns\n", found / classes
+        }'
+    rm "$folder/many"
+done
+echo "load of the machine at the end: $(cut -d' ' -f1 /proc/loadavg) on $(nproc) cores"

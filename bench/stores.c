@@ -1,0 +1,264 @@
+/* Stores records one commit after another, for comparison with `cm_bench_file put`:
+ *
+ *     stores sqlite|lmdb|bare FILE GROUP < RECORDS
+ *
+ * RECORDS are records one behind another, each behind its length in four bytes and its place in the cache's file in
+ * eight, big-endian. GROUP of them make a commit, which is on the disk when it returns: SQLite with a write-ahead log
+ * and synchronous=FULL, LMDB as it comes. `bare` makes the device calls that a commit of the cache makes, and nothing
+ * else: zeros where the file has too few roots, each record in its place, the group's slots, fdatasync, the gate's
+ * byte, fdatasync. It prints the records, the commits and the nanoseconds of all commits together; making and opening
+ * the file isn't counted, in none of the three. Each of the two libraries is there where WITH_SQLITE or WITH_LMDB is
+ * defined. */
+#include <fcntl.h>
+#include <stdint.h>
+#include <stdio.h>
+#include <stdlib.h>
+#include <string.h>
+#include <time.h>
+#include <unistd.h>
+#ifdef WITH_LMDB
+#include <lmdb.h>
+#endif
+#ifdef WITH_SQLITE
+#include <sqlite3.h>
+#endif
+
+/* The sizes of files.sh: top 12, 16384 slots. Zeros are written in pieces, as the cache writes them. */
+enum { SLOT = 64, GROUP_LIMIT = 64, SLOTS = 16384, JOURNAL = 4096, ROOTS = JOURNAL + 2 * SLOTS * SLOT };
+enum { ROOT = 8 * 128 << 12, PIECE = 65536, HEAD = 12 };
+
+struct record {
+    const unsigned char *bytes;
+    uint32_t length;
+    off_t place;
+};
+
+struct records {
+    struct record *all;
+    size_t count;
+};
+
+static void fail(const char *what)
+{
+    fprintf(stderr, "stores: %s failed\n", what);
+    exit(3);
+}
+
+static unsigned char *read_all(FILE *from, size_t *length)
+{
+    size_t room = 1 << 20;
+    unsigned char *bytes = malloc(room);
+    *length = 0;
+    for (;;) {
+        size_t got = fread(bytes + *length, 1, room - *length, from);
+        if (got == 0)
+            return bytes;
+        *length += got;
+        if (*length == room)
+            bytes = realloc(bytes, room *= 2);
+    }
+}
+
+static uint64_t number_of(const unsigned char *bytes, size_t length)
+{
+    uint64_t number = 0;
+    for (size_t i = 0; i < length; i++)
+        number = number << 8 | bytes[i];
+    return number;
+}
+
+static struct records read_records(void)
+{
+    size_t length, at = 0;
+    unsigned char *bytes = read_all(stdin, &length);
+    struct records records = { malloc(sizeof(struct record) * (length / HEAD + 1)), 0 };
+    while (at + HEAD <= length) {
+        uint32_t size = (uint32_t)number_of(bytes + at, 4);
+        off_t place = (off_t)number_of(bytes + at + 4, 8);
+        at += HEAD;
+        if (size > length - at)
+            fail("a record's length");
+        records.all[records.count++] = (struct record){ bytes + at, size, place };
+        at += size;
+    }
+    return records;
+}
+
+static uint64_t now(void)
+{
+    struct timespec t;
+    clock_gettime(CLOCK_MONOTONIC, &t);
+    return (uint64_t)t.tv_sec * 1000000000u + (uint64_t)t.tv_nsec;
+}
+
+#if defined WITH_SQLITE || defined WITH_LMDB
+static int name_of(char *name, size_t size, size_t number)
+{
+    return snprintf(name, size, "app/class%zu", number);
+}
+#endif
+
+#ifdef WITH_SQLITE
+/* ---- SQLite */
+
+static sqlite3 *database;
+static sqlite3_stmt *insert;
+
+static void run_sql(const char *text)
+{
+    if (sqlite3_exec(database, text, NULL, NULL, NULL) != SQLITE_OK)
+        fail(text);
+}
+
+static void sqlite_open(const char *path)
+{
+    if (sqlite3_open(path, &database) != SQLITE_OK)
+        fail("sqlite3_open");
+    run_sql("PRAGMA journal_mode=WAL");
+    run_sql("PRAGMA synchronous=FULL");
+    run_sql("CREATE TABLE records (name TEXT PRIMARY KEY, record BLOB) WITHOUT ROWID");
+    if (sqlite3_prepare_v2(database, "INSERT INTO records VALUES (?, ?)", -1, &insert, NULL) != SQLITE_OK)
+        fail("sqlite3_prepare_v2");
+}
+
+static void sqlite_commit(const struct record *group, size_t count, size_t number)
+{
+    char name[64];
+    run_sql("BEGIN IMMEDIATE");
+    for (size_t i = 0; i < count; i++) {
+        int length = name_of(name, sizeof name, number + i);
+        sqlite3_bind_text(insert, 1, name, length, SQLITE_STATIC);
+        sqlite3_bind_blob(insert, 2, group[i].bytes, (int)group[i].length, SQLITE_STATIC);
+        if (sqlite3_step(insert) != SQLITE_DONE)
+            fail("an insert");
+        sqlite3_reset(insert);
+    }
+    run_sql("COMMIT");
+}
+#endif
+
+#ifdef WITH_LMDB
+/* ---- LMDB */
+
+static MDB_env *environment;
+static MDB_dbi table;
+
+static void lmdb_open(const char *path)
+{
+    MDB_txn *open;
+    if (mdb_env_create(&environment) || mdb_env_set_mapsize(environment, (size_t)1 << 31)
+        || mdb_env_open(environment, path, MDB_NOSUBDIR, 0644) || mdb_txn_begin(environment, NULL, 0, &open)
+        || mdb_dbi_open(open, NULL, MDB_CREATE, &table) || mdb_txn_commit(open))
+        fail("opening LMDB");
+}
+
+static void lmdb_commit(const struct record *group, size_t count, size_t number)
+{
+    char name[64];
+    MDB_txn *open;
+    if (mdb_txn_begin(environment, NULL, 0, &open))
+        fail("mdb_txn_begin");
+    for (size_t i = 0; i < count; i++) {
+        MDB_val key = { (size_t)name_of(name, sizeof name, number + i), name };
+        MDB_val value = { group[i].length, (void *)group[i].bytes };
+        if (mdb_put(open, table, &key, &value, 0))
+            fail("mdb_put");
+    }
+    if (mdb_txn_commit(open))
+        fail("mdb_txn_commit");
+}
+#endif
+
+/* ---- the device calls alone */
+
+static int file;
+static off_t journal_end, file_end;
+
+static void write_at(const void *bytes, size_t length, off_t at)
+{
+    if (pwrite(file, bytes, length, at) != (ssize_t)length)
+        fail("pwrite");
+}
+
+static void sync_file(void)
+{
+    if (fdatasync(file))
+        fail("fdatasync");
+}
+
+static void grow_to(off_t end)
+{
+    static const unsigned char zeros[PIECE];
+    for (; file_end < end; file_end += PIECE) {
+        size_t left = (size_t)(end - file_end);
+        write_at(zeros, left < PIECE ? left : PIECE, file_end);
+    }
+    file_end = end;
+}
+
+static void bare_open(const char *path)
+{
+    file = open(path, O_RDWR | O_CREAT | O_EXCL, 0644);
+    if (file < 0)
+        fail("making the file");
+    grow_to(ROOTS);
+    if (fsync(file))
+        fail("fsync");
+    journal_end = JOURNAL + 3 * SLOT; /* behind the half's head and the group that makes the loader */
+}
+
+static void bare_commit(const struct record *group, size_t count, size_t number)
+{
+    static unsigned char slots[SLOT * (GROUP_LIMIT + 2)];
+    const unsigned char gate = 0xa5;
+    (void)number;
+    for (size_t i = 0; i < count; i++)
+        while (group[i].place >= file_end)
+            grow_to(file_end + ROOT);
+    for (size_t i = 0; i < count; i++)
+        write_at(group[i].bytes, group[i].length, group[i].place);
+    write_at(slots, SLOT * (count + 2) - 1, journal_end + 1);
+    sync_file();
+    write_at(&gate, 1, journal_end);
+    sync_file();
+    journal_end += SLOT * (off_t)(count + 1);
+}
+
+/* ---- */
+
+int main(int count, char **words)
+{
+    static const struct {
+        const char *name;
+        void (*open)(const char *);
+        void (*commit)(const struct record *, size_t, size_t);
+    } stores[] = {
+#ifdef WITH_SQLITE
+        { "sqlite", sqlite_open, sqlite_commit },
+#endif
+#ifdef WITH_LMDB
+        { "lmdb", lmdb_open, lmdb_commit },
+#endif
+        { "bare", bare_open, bare_commit },
+    };
+    size_t group = count == 4 ? strtoul(words[3], NULL, 10) : 0;
+    if (group < 1 || group > GROUP_LIMIT) {
+        fprintf(stderr, "stores sqlite|lmdb|bare FILE GROUP < RECORDS\n");
+        return 2;
+    }
+    for (size_t i = 0; i < sizeof stores / sizeof *stores; i++) {
+        if (strcmp(words[1], stores[i].name))
+            continue;
+        struct records records = read_records();
+        size_t commits = 0;
+        stores[i].open(words[2]);
+        uint64_t start = now();
+        for (size_t at = 0; at < records.count; at += group, commits++)
+            stores[i].commit(records.all + at, records.count - at < group ? records.count - at : group, at);
+        printf("%s records %zu commits %zu ns %llu\n", words[1], records.count, commits,
+               (unsigned long long)(now() - start));
+        return 0;
+    }
+    fprintf(stderr, "stores: no store %s\n", words[1]);
+    return 2;
+}

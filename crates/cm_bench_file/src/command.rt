@@ -1,0 +1,171 @@
+//! The command line.
+
+use anyhow::Result;
+use clap::{Arg, ArgAction, ArgMatches, Command, value_parser};
+use cm_pool::Geometry;
+use std::alloc::{AllocError, Global};
+use std::env;
+use std::rt::Env;
+use thiserror::Error;
+
+/// The words ask for nothing that is known.
+#[derive(Clone, Copy, Debug, PartialEq, Eq, Error)]
+#[error("the words are not known")]
+struct UnknownWords;
+
+/// How classes are put into a file.
+#[derive(Clone, Copy, Debug)]
+pub struct Putting {
+    pub geometry: Geometry,
+    /// How many classes a commit takes.
+    pub group: u32,
+}
+
+/// What is done with a file.
+#[derive(Clone, Copy, Debug)]
+pub enum Task {
+    /// It is made, and the classes on standard input are defined in it.
+    Put(Putting),
+    /// It is opened, and each of its classes is looked up.
+    Read,
+}
+
+/// A task on the file of a path, and whether its times are printed.
+#[derive(Debug, Drop)]
+pub struct Job {
+    pub path: String,
+    pub task: Task,
+    pub is_timed: bool,
+}
+
+/// What the command line asks for.
+#[derive(Debug, Drop)]
+pub enum Request {
+    Do(Job),
+    /// Nothing more: the help or a usage text was printed. The status to end with.
+    Printed(u8),
+}
+
+/// An option that takes a whole number.
+fn number<'a>(alloc: Global, name: &'a str, usual: &'a str, help: &'a str) -> Arg<'a> {
+    Arg::new(alloc, name)
+        .long(name)
+        .value_name("N")
+        .help(help)
+        .action(ArgAction::Set)
+        .default_value(usual)
+}
+
+fn file<'a>(alloc: Global, help: &'a str) -> Arg<'a> {
+    Arg::new(alloc, "FILE")
+        .value_name("FILE")
+        .help(help)
+        .action(ArgAction::Set)
+        .required(true)
+}
+
+fn times<'a>(alloc: Global) -> Arg<'a> {
+    Arg::new(alloc, "times")
+        .long("times")
+        .help("Print how long it took, too")
+        .action(ArgAction::SetTrue)
+}
+
+fn put_command<'a>(alloc: Global) -> Result<Command<'a>> {
+    let group = number(alloc, "group", "1", "How many classes a commit takes");
+    let top = number(
+        alloc,
+        "top",
+        "8",
+        "The order of a root: it has 128 * 2^N words",
+    );
+    let roots = number(alloc, "roots", "64", "How many roots the cache may have");
+    let slots = number(
+        alloc,
+        "slots",
+        "4096",
+        "How many slots each half of the journal has",
+    );
+    let command = Command::new(alloc, "put")
+        .about("Defines the classes on standard input in a new file")
+        .arg(file(alloc, "The file to make"))?
+        .arg(times(alloc))?
+        .arg(group.value_parser(value_parser!(u32).range(1..=64)))?
+        .arg(top.value_parser(value_parser!(u32).range(3..=12)))?
+        .arg(roots.value_parser(value_parser!(u32).range(1..=256)))?
+        .arg(slots.value_parser(value_parser!(u32).range(256..=65_536)))?;
+    Ok(command)
+}
+
+fn read_command<'a>(alloc: Global) -> Result<Command<'a>> {
+    let command = Command::new(alloc, "read")
+        .about("Opens a file, and looks up each of its classes")
+        .arg(file(alloc, "The file to open"))?
+        .arg(times(alloc))?;
+    Ok(command)
+}
+
+fn whole_command<'a>(alloc: Global) -> Result<Command<'a>> {
+    let command = Command::new(alloc, "cm_bench_file")
+        .about("What storing classes in a file costs, and finding them there")
+        .subcommand_required(true)
+        .subcommand(put_command(alloc)?)?
+        .subcommand(read_command(alloc)?)?;
+    Ok(command)
+}
+
+fn geometry_of(given: &ArgMatches<'_>) -> Option<Geometry> {
+    Geometry::new(
+        given.get_one("top")?,
+        given.get_one("roots")?,
+        given.get_one("slots")?,
+    )
+}
+
+fn putting_of(given: &ArgMatches<'_>) -> Option<Putting> {
+    Some(Putting {
+        geometry: geometry_of(given)?,
+        group: given.get_one("group")?,
+    })
+}
+
+fn task_of(name: &str, given: &ArgMatches<'_>) -> Option<Task> {
+    if name == "read" {
+        return Some(Task::Read);
+    }
+    Some(Task::Put(putting_of(given)?))
+}
+
+/// The job that is asked for; none of words that aren't known.
+fn job_of(alloc: Global, matches: &ArgMatches<'_>) -> Result<Option<Job>, AllocError> {
+    let Some((name, given)) = matches.subcommand() else {
+        return Ok(None);
+    };
+    let Some(task) = task_of(name, given) else {
+        return Ok(None);
+    };
+    let Some(file) = given.get_str("FILE") else {
+        return Ok(None);
+    };
+    Ok(Some(Job {
+        path: String::from_str(alloc, file)?,
+        task,
+        is_timed: given.get_flag("times"),
+    }))
+}
+
+/// Reads the command line; prints the help, or what is wrong with it.
+pub fn read_words(rt: &(impl Env + Print + Eprint + AllocGlobal)) -> Result<Request> {
+    let alloc = rt.alloc();
+    let words: Vec<String> = env::args(rt)?.collect(alloc)?;
+    match whole_command(alloc)?.try_get_matches_from(words.as_slice()) {
+        Ok(matches) => match job_of(alloc, &matches)? {
+            Some(job) => Ok(Request::Do(job)),
+            None => Err(UnknownWords.into()),
+        },
+        Err(error) => {
+            error.print(rt)?;
+            Ok(Request::Printed(if error.exit_code() == 0 { 0 } else { 2 }))
+        }
+    }
+}

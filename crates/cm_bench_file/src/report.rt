@@ -1,0 +1,74 @@
+//! What is printed.
+
+use crate::command::Putting;
+use crate::counted::Counts;
+use crate::put::Stored;
+use crate::read::{open_file, shuffled_names};
+use crate::timed::{find_timed, prepare_timed, put_timed};
+use anyhow::Result;
+use cm_prepare::Prepared;
+use cm_stream::classes_in;
+use std::fs::{File, Files};
+use std::io::Read;
+use std::rt::Clock;
+use std::time::Instant;
+
+/// The bytes on standard input.
+fn read_input(rt: &(impl Input + AllocGlobal)) -> Result<Vec<u8>> {
+    let mut bytes = Vec::new(rt.alloc());
+    rt.reader().read_to_end(&mut bytes)?;
+    Ok(bytes)
+}
+
+/// The classes on standard input, prepared.
+fn prepare_input(rt: &(impl Clock + Input + AllocGlobal)) -> Result<(Vec<Prepared>, u128)> {
+    let bytes = read_input(rt)?;
+    let classes = classes_in(rt.alloc(), &bytes)?;
+    prepare_timed(rt, &classes)
+}
+
+fn print_counts(rt: &impl Print, stored: Stored, counts: Counts) -> Result<()> {
+    let (records, bytes, commits) = (stored.records, stored.bytes, stored.commits);
+    let (syncs, writes, written) = (counts.syncs, counts.writes, counts.bytes);
+    print!(rt; "records {records} bytes {bytes} commits {commits} ")?;
+    print!(rt; "syncs {syncs} writes {writes} written {written}")?;
+    Ok(())
+}
+
+/// Stores the classes on standard input in a new file, and prints what that took.
+pub fn put_classes(
+    rt: &(impl Clock + Files<File = File> + Input + Print + AllocGlobal),
+    path: &str,
+    putting: Putting,
+    is_timed: bool,
+) -> Result<()> {
+    let (prepared, preparing) = prepare_input(rt)?;
+    let (stored, counts, storing) = put_timed(rt, path, putting, prepared)?;
+    print_counts(rt, stored, counts)?;
+    if is_timed {
+        let both = preparing.saturating_add(storing);
+        print!(rt; " stored in {storing} ns, with preparing in {both} ns")?;
+    }
+    println!(rt;)?;
+    Ok(())
+}
+
+/// Opens a file, looks up each of its classes, and prints what that took.
+pub fn read_classes(
+    rt: &(impl Clock + Files<File = File> + Print + AllocGlobal),
+    path: &str,
+    is_timed: bool,
+) -> Result<()> {
+    let start = Instant::now(rt)?;
+    let front = open_file(rt, path)?;
+    let opening = start.elapsed(rt)?.as_nanos();
+    let names = shuffled_names(rt.alloc(), &front)?;
+    let (found, finding) = find_timed(rt, &front, &names)?;
+    let classes = names.len();
+    print!(rt; "classes {classes} found {found}")?;
+    if is_timed {
+        print!(rt; " opened in {opening} ns, looked up in {finding} ns")?;
+    }
+    println!(rt;)?;
+    Ok(())
+}
