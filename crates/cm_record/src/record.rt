@@ -5,7 +5,8 @@ ghost use Rattle.cm_record_writing.specs.declared.refusal.RecordRefusal.TheVaria
 ghost use Rattle.cm_record_reading.specs.declared.fault.RecordFault.TheVariants as fault;
 ghost use Rattle.cm_class.specs.declared.class_file.ClassFile.{ClassFile};
 ghost use Rattle.cm_record_layout.specs.Packing.{word_bytes, packed_into, first_of};
-ghost use Rattle.cm_record.specs.Names.{class_name_of, super_name_of};
+ghost use Rattle.cm_record.specs.Names.{class_name_of, super_name_of, IsNameRun};
+ghost use Rattle.cm_record.specs.Runs.{HasRun};
 ghost use Rattle.cm_record_layout.specs.Layout.{lay, limit, IsRecord, IsRecordOf};
 ghost use Rattle.std.specs.Ordering.{nat_cmp};
 ghost use Rattle.std.specs.Cmp.Lexicographic.{slice_cmp};
@@ -35,17 +36,38 @@ use std::marker::Model;
 #[derive(Debug, Drop)]
 pub struct Record {
     words: WordBuf,
+    /// Where the bytes of its class's name lie: at which word they begin, and how many there are. A
+    /// name is looked at far more often than anything else of a record, so it is found once.
+    name: (usize, usize),
 }
 
 impl Model for Record {
     ghost use Rattle.std.specs.Prelude.{List, ℕ};
     ghost use Rattle.cm_record_layout.specs.Layout.{IsRecord};
+    ghost use Rattle.cm_record.specs.Names.{IsNameRun};
 
     ghost Value = { List ℕ };
 
     ghost view = { λ r. r.words.words };
 
-    ghost invariant = { λ r. IsRecord r.words.words };
+    ghost invariant = { λ r. IsRecord r.words.words × IsNameRun r.words.words r.name };
+}
+
+/// The words of a class, as its record.
+fn record_of(words: WordBuf) -> Record
+    requires { IsRecord words.words }
+    ensures { result ≡ words.words }
+{
+    let name = class_name_run(words.as_slice());
+    Record { words, name }
+}
+
+/// Where the bytes of the class's name lie in the words of its record.
+fn class_name_run(words: &[u64]) -> (usize, usize)
+    requires { IsRecord words.now }
+    ensures { IsNameRun words.now result }
+{
+    name_run(words, second(words[1]))
 }
 
 /// The class's record. `TooLong` comes exactly where its layout has more than 524,288 words.
@@ -54,7 +76,7 @@ pub fn build(alloc: Global, class: &Class) -> Result<Record, RecordRefusal>
     ensures too_long { IsErrOf result RecordRefusal.TooLong ↔ (limit < length (lay class.now)) }
 {
     let words = write_class(alloc, class)?;
-    Ok(Record { words })
+    Ok(record_of(words))
 }
 
 impl Record {
@@ -65,6 +87,14 @@ impl Record {
         ensures directory { 8 + first_of (get_or result.now 2 0) ≤ length result.now }
     {
         self.words.as_slice()
+    }
+
+    /// Where the bytes of its class's name lie.
+    fn name_run(&self) -> (usize, usize)
+        ensures name { IsNameRun self.now result }
+        ensures run { HasRun self.now result }
+    {
+        self.name
     }
 
     /// The record of these words. `NotARecord` comes exactly where no class has them as its record,
@@ -79,7 +109,7 @@ impl Record {
             return Err(RecordFault::NotARecord);
         }
         let words = WordBuf::from_slice(alloc, words)?;
-        Ok(Record { words })
+        Ok(record_of(words))
     }
 
     /// How many words it has.
@@ -142,8 +172,7 @@ impl Record {
         ensures { (c : ClassFile) → IsRecordOf c self.now → IfOk result
             (λ name. name.items ≡ class_name_of c) }
     {
-        let words = self.as_slice();
-        run_bytes(alloc, words, name_run(words, second(words[1])))
+        run_bytes(alloc, self.as_slice(), self.name_run())
     }
 
     /// The name of the super class, as that of the class; none where there is no super class.
@@ -216,8 +245,7 @@ impl Record {
             → result ≡ slice_cmp nat_cmp (class_name_of c) (class_name_of d) }
     {
         let (words, others) = (self.as_slice(), other.as_slice());
-        let name = name_run(words, second(words[1]));
-        cmp_runs(words, name, others, name_run(others, second(others[1])))
+        cmp_runs(words, self.name_run(), others, other.name_run())
     }
 
     /// The order of its class's name and of these bytes.
@@ -225,8 +253,7 @@ impl Record {
         ensures { (c : ClassFile) → IsRecordOf c self.now
             → result ≡ slice_cmp nat_cmp (class_name_of c) name.now }
     {
-        let words = self.as_slice();
-        cmp_run_to(words, name_run(words, second(words[1])), name)
+        cmp_run_to(self.as_slice(), self.name_run(), name)
     }
 
     /// The fingerprint of its class's name, as [`fingerprint`] makes it of the name's bytes.
@@ -236,8 +263,7 @@ impl Record {
         ensures { (c : ClassFile) → IsRecordOf c self.now
             → result ≡ fingerprint seed (class_name_of c) }
     {
-        let words = self.as_slice();
-        run_fingerprint(seed, words, name_run(words, second(words[1])))
+        run_fingerprint(seed, self.as_slice(), self.name_run())
     }
 
     /// Whether the class of another record has the same name.
@@ -246,7 +272,6 @@ impl Record {
             → IsTrue result ↔ (class_name_of c ≡ class_name_of d) }
     {
         let (words, others) = (self.as_slice(), other.as_slice());
-        let name = name_run(words, second(words[1]));
-        is_same_run(words, name, others, name_run(others, second(others[1])))
+        is_same_run(words, self.name_run(), others, other.name_run())
     }
 }
