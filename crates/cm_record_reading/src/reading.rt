@@ -12,6 +12,13 @@ use cm_class::{Attribute, Constant, Items, Member, Slot};
 use cm_record_layout::{SECOND, bytes_of, first, fourth, second, third, upper, word_of};
 use std::alloc::Global;
 
+/// How many bytes there is to be room for: no more than the words hold, whatever the count says.
+fn bytes_within(count: usize, words: &[u64]) -> usize
+    ensures { result ≤ count }
+{
+    count.min(words.len().saturating_mul(8))
+}
+
 /// A run of so many bytes, and the words behind it.
 pub fn read_run<'a>(
     alloc: Global,
@@ -21,7 +28,7 @@ pub fn read_run<'a>(
     ensures read { Gives (λ x. (x.0.items, x.1.now)) result (run_at count words.now) }
     ensures suffix { IfOk result (λ x. length x.1.now ≤ length words.now) }
 {
-    let mut bytes = Vec::new(alloc);
+    let mut bytes = Vec::with_capacity(alloc, bytes_within(count, words))?;
     let mut left = count;
     let mut rest = words;
     while left > 0 {
@@ -93,7 +100,7 @@ pub(crate) fn read_slots<'a, 'b>(
         (λ x. (x.0.items, x.1.now, x.2.now)) result (slots_at total false count main.now runs.now) }
     ensures suffix { IfOk result (λ x. length x.2.now ≤ length runs.now) }
 {
-    let mut slots = Vec::new(alloc);
+    let mut slots = Vec::with_capacity(alloc, count.min(main.len()))?;
     let mut second = false;
     let (mut main, mut runs) = (main, runs);
     for _ in 0..count {
@@ -122,7 +129,7 @@ pub(crate) fn read_interfaces<'a>(
 ) -> Result<(Vec<u16>, &'a [u64]), RecordFault>
     ensures { Gives (λ x. (x.0.items, x.1.now)) result (interfaces_from count words.now) }
 {
-    let mut these = Vec::new(alloc);
+    let mut these = Vec::with_capacity(alloc, count.min(words.len()))?;
     let mut rest = words;
     for _ in 0..count {
         let [word, behind @ ..] = rest else {
@@ -177,7 +184,7 @@ pub(crate) fn read_attributes<'a, 'b>(
     ensures suffixes { IfOk result (λ x. (length x.1.now ≤ length attributes.now)
         × (length x.2.now ≤ length runs.now)) }
 {
-    let mut these = Vec::new(alloc);
+    let mut these = Vec::with_capacity(alloc, count.min(attributes.len()))?;
     let (mut attributes, mut runs) = (attributes, runs);
     for _ in 0..count {
         let (attribute, behind, runs_behind) = read_attribute(alloc, total, attributes, runs)?;
@@ -237,7 +244,7 @@ pub(crate) fn read_members<'a, 'b, 'c>(
     ensures suffixes { IfOk result (λ x. (length x.2.now ≤ length attributes.now)
         × (length x.3.now ≤ length runs.now)) }
 {
-    let mut these = Vec::new(alloc);
+    let mut these = Vec::with_capacity(alloc, count.min(main.len()))?;
     let (mut main, mut attributes, mut runs) = (main, attributes, runs);
     for _ in 0..count {
         let (member, behind, attributes_behind, runs_behind) = read_member(

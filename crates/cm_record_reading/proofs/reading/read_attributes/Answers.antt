@@ -8,7 +8,7 @@ use Rattle.cm_record_reading.proofs.reading.read_attributes.Goals as goal
 pub returns-in_err-attribute-clause-read : goal.returns-in_err-attribute-clause-read
 returns-in_err-attribute-clause-read c =
     let all = attributes_from c.args.total c.args.count c.args.attributes.now c.args.runs.now in
-    let p = err_from_is_err_and c.from_residual.result c.from_residual.ensures.1 in
+    let p = err_from_is_err_and c.from_residual-in_err-attribute.result c.from_residual-in_err-attribute.ensures.1 in
     rw (p.1, p.2) (fails_through c.in_err-attribute.field-0.0 (attribute_at c.args.total c.loop.attributes.now c.loop.runs.now) all
     (attributes_wrong c.args.total c.loop.these.items all c.loop.attributes.now c.loop.runs.now (c.args.count - c.loop.counter) c.loop.invariant.kept (omega (arith, c.loop-test.true)))
     c.in_err-attribute.ensures.read)

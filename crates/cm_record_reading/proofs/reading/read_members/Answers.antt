@@ -7,7 +7,7 @@ use Rattle.cm_record_reading.proofs.reading.read_members.Goals as goal
 pub returns-in_err-member-clause-read : goal.returns-in_err-member-clause-read
 returns-in_err-member-clause-read c =
     let all = members_from c.args.total c.args.count c.args.main.now c.args.attributes.now c.args.runs.now in
-    let p = err_from_is_err_and c.from_residual.result c.from_residual.ensures.1 in
+    let p = err_from_is_err_and c.from_residual-in_err-member.result c.from_residual-in_err-member.ensures.1 in
     rw (p.1, p.2) (fails_through c.in_err-member.field-0.0 (member_at c.args.total c.loop.main.now c.loop.attributes.now c.loop.runs.now) all
     (members_wrong c.args.total c.loop.these.items all c.loop.main.now c.loop.attributes.now c.loop.runs.now (c.args.count - c.loop.counter) c.loop.invariant.kept (omega (arith, c.loop-test.true)))
     c.in_err-member.ensures.read)
