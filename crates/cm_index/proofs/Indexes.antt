@@ -33,7 +33,8 @@ use Rattle.cm_index.proofs.Lists.{among-append, among-left, among-right, among-m
 use Rattle.cm_index.proofs.Tests.{both_true}
 use Rattle.cm_index.proofs.Tests.{ne-eqb}
 use Rattle.cm_index.proofs.Living.{living-append, living-push, living-moved}
-use Rattle.cm_index.proofs.Sorted.{Below, Above, below-to, above-from, equal-itself, all-among}
+use Rattle.cm_index.specs.Index.{Below, Above}
+use Rattle.cm_index.proofs.Sorted.{below-to, above-from, equal-itself, all-among}
 use Rattle.cm_index.proofs.Sorted.{equal-is, all-take, all-drop, all-append, all-at, rise-insert, parted}
 
 -- ---- lists
@@ -512,6 +513,30 @@ module _ {P : Type 0} (mark : ℕ → List ℕ → ℕ) (name_of : P → List �
             };
         few = omega (arith, h.few, length-map slots (moved_slot {P = P} from to));
       }
+
+-- ---- an entry in the place of one that leads to a dead row
+
+get-there : {X : Type 0} (xs : List X) (i : ℕ) (x : X) → i < length xs → x ≡ get_or xs i x
+    → slice_get xs i ≡ Some x
+get-there [] i x lt is = absurd (omega arith)
+get-there (y ∷ xs) zero x lt is = ap Some (sym is)
+get-there (y ∷ xs) (suc i) x lt is = get-there xs i x (omega arith) is
+
+module _ {P : Type 0} (slots : List (Slot (Row P))) (es : List IndexEntry) (i : ℕ) (e before : IndexEntry) (s : Slot (Row P)) where
+  leads-at : before ≡ get_or es i e → before.at < length slots → s ≡ get_or slots before.at s
+      → leads_to_life slots (get_or es i e) ≡ s.live
+  leads-at is lt there =
+      ap (leads_to_life slots) (sym is) ∙ leads-is slots before s (get-there slots before.at s lt there)
+
+  pub renewed-dead : before ≡ get_or es i e → before.at < length slots → s ≡ get_or slots before.at s
+      → s.live ≡ false → set es i e ≡ renewed slots es i e
+  renewed-dead is lt there dead =
+      sym (ap (λ (t : Bool). cond t es (set es i e)) (leads-at is lt there ∙ dead))
+
+  pub renewed-living : before ≡ get_or es i e → before.at < length slots → s ≡ get_or slots before.at s
+      → s.live ≡ true → es ≡ renewed slots es i e
+  renewed-living is lt there lives =
+      sym (ap (λ (t : Bool). cond t es (set es i e)) (leads-at is lt there ∙ lives))
 
 -- ---- the steps of a search
 

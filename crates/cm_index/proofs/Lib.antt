@@ -1,7 +1,9 @@
 pub mod Tests
 pub mod Lists
+pub mod Joined
 pub mod Sorted
 pub mod Living
 pub mod Indexes
+pub mod Searching
 pub mod Sweeping
 pub mod Unloading

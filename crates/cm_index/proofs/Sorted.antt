@@ -5,13 +5,15 @@ use Rattle.std.specs.List.{AllByRecursion}
 use Rattle.std.specs.Ordering.{nat_cmp, ordering_reverse, is_eq}
 use Rattle.std.specs.Cmp.{tied_itself}
 use Rattle.std.specs.Cmp.Lexicographic.{slice_cmp}
+use Rattle.std.proofs.Common.{length-append, refl, ◌+◌, ◌≤◌}
+use Rattle.std.proofs.lemmas.List.{take-append-le, drop-append-le}
 use Rattle.std.proofs.lemmas.Cmp.{nat_list_cmp_total}
 use Rattle.std.proofs.lemmas.Map.Text.{is_eq-slice_cmp}
 use Rattle.std.proofs.lemmas.Slice.Eq.{bytes_eq-Decides}
 use Rattle.std.specs.declared.cmp.Ordering.{Ordering}
 use Rattle.std.specs.declared.cmp.Ordering.TheVariants.{Less, Equal, Greater}
 use Rattle.cm_pool.specs.Lists.{Among}
-use Rattle.cm_index.specs.Index.{Rise, Parts}
+use Rattle.cm_index.specs.Index.{Rise, Parts, Below, Above}
 
 abbrev goes : List ℕ → List ℕ → Ordering
 goes a b = slice_cmp nat_cmp a b
@@ -30,12 +32,6 @@ turned-above a b e = nat_list_cmp_total.antisymm b a ∙ ap ordering_reverse e
 
 turned-below : (a b : List ℕ) → goes a b ≡ Less → goes b a ≡ Greater
 turned-below a b e = nat_list_cmp_total.antisymm b a ∙ ap ordering_reverse e
-
-abbrev pub Below : List ℕ → List ℕ → Type 0
-Below k a = goes a k ≡ Less
-
-abbrev pub Above : List ℕ → List ℕ → Type 0
-Above k a = goes a k ≡ Greater
 
 all-weaker : {X : Type 0} (Q R : X → Type 0) (xs : List X) → ((x : X) → Q x → R x)
     → AllByRecursion Q xs → AllByRecursion R xs
@@ -71,6 +67,24 @@ all-among Q [] x h none = absurd none
 all-among Q (y ∷ ys) x h (inl e) = subst Q (sym e) h.0
 all-among Q (y ∷ ys) x h (inr m) = all-among Q ys x h.1 m
 
+pub all-left : {X : Type 0} (Q : X → Type 0) (xs ys : List X) → AllByRecursion Q (xs ++ ys)
+    → AllByRecursion Q xs
+all-left Q [] ys h = tt
+all-left Q (x ∷ xs) ys h = (h.0, all-left Q xs ys h.1)
+
+pub all-right : {X : Type 0} (Q : X → Type 0) (xs ys : List X) → AllByRecursion Q (xs ++ ys)
+    → AllByRecursion Q ys
+all-right Q [] ys h = h
+all-right Q (x ∷ xs) ys h = all-right Q xs ys h.1
+
+pub rise-left : (ks ls : List (List ℕ)) → Rise (ks ++ ls) → Rise ks
+rise-left [] ls h = tt
+rise-left (k ∷ ks) ls h = (all-left (λ b. goes k b ≡ Less) ks ls h.0, rise-left ks ls h.1)
+
+pub rise-right : (ks ls : List (List ℕ)) → Rise (ks ++ ls) → Rise ls
+rise-right [] ls h = h
+rise-right (k ∷ ks) ls h = rise-right ks ls h.1
+
 -- ---- a comparison with one key
 
 -- those before a key below k are below it too
@@ -88,6 +102,22 @@ above-from [] m k d h lt more = absurd (omega arith)
 above-from (a ∷ ks) zero k d h lt more =
     (more, all-weaker (λ b. goes a b ≡ Less) (Above k) ks (λ b less. turned-below k b (below-through k a b (turned-above a k more) less)) h.0)
 above-from (a ∷ ks) (suc m) k d h lt more = above-from ks m k d h.1 (omega arith) more
+
+less-through : (a b k : List ℕ) → goes a b ≡ Less → ¬ (goes b k ≡ Greater) → goes a k ≡ Less
+less-through a b k less not = by_order (goes b k) refl
+  where
+    by_order : (o : Ordering) → goes b k ≡ o → goes a k ≡ Less
+    by_order Less e = below-through a b k less e
+    by_order Equal e = subst (λ (c : List ℕ). goes a c ≡ Less) (equal-is b k e) less
+    by_order Greater e = absurd (not e)
+
+-- those before a key that isn't above k are below it
+pub before-to : (ks : List (List ℕ)) (m : ℕ) (k d : List ℕ) → Rise ks → m < length ks
+    → ¬ (goes (get_or ks m d) k ≡ Greater) → AllByRecursion (Below k) (take m ks)
+before-to [] m k d h lt not = absurd (omega arith)
+before-to (a ∷ ks) zero k d h lt not = tt
+before-to (a ∷ ks) (suc m) k d h lt not =
+    (less-through a (get_or ks m d) k (all-at (λ b. goes a b ≡ Less) ks m d h.0 (omega arith)) not, before-to ks m k d h.1 (omega arith) not)
 
 -- ---- a key more
 
@@ -117,3 +147,25 @@ among-parts (a ∷ ks) (suc i) k below above (inr m) = among-parts ks i k below.
 
 pub parted : (ks : List (List ℕ)) (i : ℕ) (k : List ℕ) → Parts ks i k → ¬ Among k ks
 parted ks i k p = among-parts ks i k p.below p.above
+
+-- keys that part those of a block, among those of all blocks
+pub parts-inside : (before ks behind : List (List ℕ)) (i : ℕ) (k : List ℕ)
+    → AllByRecursion (Below k) before → Parts ks i k → AllByRecursion (Above k) behind
+    → Parts (before ++ (ks ++ behind)) (length before + i) k
+parts-inside [] ks behind i k below p above =
+    let within : i ≤ length ks = p.within in
+    let here : Parts (ks ++ behind) i k = record {
+      within = omega (arith, length-append ks behind, within);
+      below = subst (AllByRecursion (Below k)) (sym (take-append-le i ks behind within)) p.below;
+      above = subst (AllByRecursion (Above k)) (sym (drop-append-le i ks behind within)) (all-append (Above k) (drop i ks) behind p.above above);
+    } in
+    subst (λ (n : ℕ). Parts (ks ++ behind) n k) (omega arith) here
+parts-inside (a ∷ before) ks behind i k below p above =
+    let rest = parts-inside before ks behind i k below.1 p above in
+    let within : length before + i ≤ length (before ++ (ks ++ behind)) = rest.within in
+    let here : Parts (a ∷ (before ++ (ks ++ behind))) (suc (length before + i)) k = record {
+      within = omega (arith, within);
+      below = (below.0, rest.below);
+      above = rest.above;
+    } in
+    subst (λ (n : ℕ). Parts (a ∷ (before ++ (ks ++ behind))) n k) (omega arith) here

@@ -6,7 +6,9 @@ use Rattle.std.specs.Prelude.{filter}
 use Rattle.std.specs.List.{AllByRecursion, find, slice_get}
 use Rattle.std.specs.Ordering.{nat_cmp}
 use Rattle.std.specs.Cmp.Lexicographic.{slice_cmp}
-use Rattle.std.proofs.lemmas.List.{length-map}
+use Rattle.std.proofs.lemmas.List.{length-map, map-append}
+use Rattle.std.proofs.lemmas.List.Elements.{filter-append}
+use Rattle.cm_index.specs.Blocks.{joined}
 use Rattle.std.proofs.lemmas.Option.{slice_get_within}
 use Rattle.std.specs.declared.cmp.Ordering.TheVariants.{Less, Equal}
 use Rattle.cm_pool.specs.Lists.{Among}
@@ -16,7 +18,7 @@ use Rattle.cm_index.specs.declared.slot.Slot.{Slot}
 use Rattle.cm_index.specs.Living.{swept}
 use Rattle.cm_index.specs.Index.{owner_of, rank, name_in, is_named, key, tail_at, key_at, keys_at}
 use Rattle.cm_index.specs.Index.{IsEntry, IsIndex, Rise, leads_to_life}
-use Rattle.cm_index.specs.Sweep.{places_from, shifted}
+use Rattle.cm_index.specs.Sweep.{places_from, shifted, swept_entries}
 use Rattle.cm_index.proofs.Lists.{among-map, among-map_from, among-filter}
 use Rattle.cm_index.proofs.Living.{living-swept}
 use Rattle.cm_index.proofs.Sorted.{equal-itself, all-among}
@@ -225,6 +227,28 @@ all-kept p Q (x ∷ xs) h = by_test (all-kept p Q xs h.1) (p x)
         → AllByRecursion Q (cond t (x ∷ filter p xs) (filter p xs))
     by_test behind true = (h.0, behind)
     by_test behind false = behind
+
+length-kept : {X : Type 0} (p : X → Bool) (xs : List X) → length (filter p xs) ≤ length xs
+length-kept p [] = omega arith
+length-kept p (x ∷ xs) = by_test (length-kept p xs) (p x)
+  where
+    by_test : length (filter p xs) ≤ length xs → (t : Bool)
+        → length (cond t (x ∷ filter p xs) (filter p xs)) ≤ suc (length xs)
+    by_test behind true = omega (arith, behind)
+    by_test behind false = omega (arith, behind)
+
+pub fewer-swept : {P : Type 0} (slots : List (Slot (Row P))) (places : List ℕ) (es : List IndexEntry)
+    → length (swept_entries slots places es) ≤ length es
+fewer-swept slots places es =
+    omega (arith, length-kept (leads_to_life slots) es, length-map (filter (leads_to_life slots) es) (shifted places))
+
+-- block by block, or all at once
+pub joined-swept : {P : Type 0} (slots : List (Slot (Row P))) (places : List ℕ) (bs : List (List IndexEntry))
+    → joined (map (swept_entries slots places) bs) ≡ swept_entries slots places (joined bs)
+joined-swept slots places [] = refl
+joined-swept slots places (b ∷ bs) =
+    ap (λ l. swept_entries slots places b ++ l) (joined-swept slots places bs)
+    ∙ sym (ap (map (shifted places)) (filter-append (leads_to_life slots) b (joined bs)) ∙ map-append (shifted places) (filter (leads_to_life slots) b) (filter (leads_to_life slots) (joined bs)))
 
 -- ---- each of a list changed in turn
 

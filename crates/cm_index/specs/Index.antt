@@ -121,11 +121,18 @@ abbrev pub renewed : {P : Type 0} → List (Slot (Row P)) → List IndexEntry �
 renewed slots es place e =
     if leads_to_life slots (get_or es place e) then es else slice_set es place e
 
+-- a key is below another, or above it
+abbrev pub Below : List ℕ → List ℕ → Type 0
+Below k a = slice_cmp nat_cmp a k ≡ Less
+
+abbrev pub Above : List ℕ → List ℕ → Type 0
+Above k a = slice_cmp nat_cmp a k ≡ Greater
+
 -- the keys before this place are below this one, and the others above it
 pub record Parts (keys : List (List ℕ)) (place : ℕ) (k : List ℕ) : Type 0 where
   pub within : place ≤ length keys
-  pub below : AllByRecursion (λ a. slice_cmp nat_cmp a k ≡ Less) (take place keys)
-  pub above : AllByRecursion (λ a. slice_cmp nat_cmp a k ≡ Greater) (drop place keys)
+  pub below : AllByRecursion (Below k) (take place keys)
+  pub above : AllByRecursion (Above k) (drop place keys)
 
 -- no two live loaders have one name
 pub record AreUnique {P : Type 0} (rows : List (Row P)) : Type 0 where

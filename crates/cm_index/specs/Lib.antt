@@ -1,5 +1,6 @@
 pub mod Living
 pub mod Marks
+pub mod Blocks
 pub mod Index
 pub mod Sought
 pub mod Sweep

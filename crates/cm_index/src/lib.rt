@@ -2,16 +2,18 @@
 //! without a scan and without memory.
 #![tactic(auto)]
 
+mod block;
+mod blocks;
 mod index;
 mod kept;
 mod names;
 mod records;
+mod search;
 mod slot;
 mod sought;
 mod sweep;
 
-pub use index::{IndexEntry, index_rows, push_row};
+pub use index::{Index, index_rows, push_row, sweep_index};
 pub use kept::Kept;
 pub use names::{class_in, class_like, is_new, loader_of};
 pub use slot::Slot;
-pub use sweep::sweep_index;

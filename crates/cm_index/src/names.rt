@@ -8,15 +8,15 @@ ghost use Rattle.cm_index.specs.Index.{class_of};
 ghost use Rattle.cm_index.specs.Living.{living};
 ghost use Rattle.cm_index.specs.Index.{IsIndex, number_in, kept_in};
 
-use crate::index::{IndexEntry, find_row};
+use crate::index::{Index, find_row};
 use crate::kept::Kept;
 use crate::slot::Slot;
 use crate::sought::Sought;
 use cm_layout::{Row, is_loader_name};
 
 /// The number of the live loader of a name.
-pub fn loader_of<P: Kept>(index: &[IndexEntry], slots: &[Slot<Row<P>>], name: &[u8]) -> Option<u64>
-    requires { IsIndex P.mark P.name slots.now index.now }
+pub fn loader_of<P: Kept>(index: &Index, slots: &[Slot<Row<P>>], name: &[u8]) -> Option<u64>
+    requires { IsIndex P.mark P.name slots.now index.now.items }
     ensures { result ≡ number_of name.now (living slots.now) }
 {
     let Some(row) = find_row(index, slots, &Sought::named(None, name)) else {
@@ -36,12 +36,12 @@ fn number_in<P>(row: &Row<P>) -> Option<u64>
 
 /// What is kept of the class of a name in the loader of a number.
 pub fn class_in<'a, P: Kept>(
-    index: &[IndexEntry],
+    index: &Index,
     slots: &'a [Slot<Row<P>>],
     loader: u64,
     name: &[u8],
 ) -> Option<&'a P>
-    requires { IsIndex P.mark P.name slots.now index.now }
+    requires { IsIndex P.mark P.name slots.now index.now.items }
     ensures { option_copied result ≡ class_of P.name loader name.now (living slots.now) }
 {
     let Some(row) = find_row(index, slots, &Sought::named(Some(loader), name)) else {
@@ -52,12 +52,12 @@ pub fn class_in<'a, P: Kept>(
 
 /// What is kept of the class that has the name of this one in the loader of a number.
 pub fn class_like<'a, P: Kept>(
-    index: &[IndexEntry],
+    index: &Index,
     slots: &'a [Slot<Row<P>>],
     loader: u64,
     class: &P,
 ) -> Option<&'a P>
-    requires { IsIndex P.mark P.name slots.now index.now }
+    requires { IsIndex P.mark P.name slots.now index.now.items }
     ensures { option_copied result ≡ class_of P.name loader (P.name class.now) (living slots.now) }
 {
     let Some(row) = find_row(index, slots, &Sought::class(loader, class)) else {
@@ -77,13 +77,8 @@ fn kept_in<P>(row: &Row<P>) -> Option<&P>
 
 /// Whether a loader of this name can be added to the rows: the name is one, no live loader has it,
 /// and there is room for a row more.
-pub fn is_new<P: Kept>(
-    index: &[IndexEntry],
-    slots: &[Slot<Row<P>>],
-    room: bool,
-    name: &[u8],
-) -> bool
-    requires { IsIndex P.mark P.name slots.now index.now }
+pub fn is_new<P: Kept>(index: &Index, slots: &[Slot<Row<P>>], room: bool, name: &[u8]) -> bool
+    requires { IsIndex P.mark P.name slots.now index.now.items }
     ensures { result ≡ (is_loader_name name.now && is_none (number_of name.now (living slots.now))
         && room) }
 {

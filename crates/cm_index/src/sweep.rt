@@ -1,36 +1,18 @@
-//! An index of what lives alone.
+//! What lives alone: its places, and the entries that lead to it.
 
 ghost use Rattle.std.specs.Prelude.{◌≡◌, ◌^◌, ◌<◌, ◌≤◌, length, map, filter, vec_capacity};
 ghost use Rattle.std.specs.List.{AllByRecursion};
-ghost use Rattle.cm_index.specs.Index.{IsIndex, leads_to_life};
-ghost use Rattle.cm_index.specs.Living.{swept};
-ghost use Rattle.cm_index.specs.Sweep.{places_from, shifted};
+ghost use Rattle.cm_index.specs.Index.{leads_to_life};
+ghost use Rattle.cm_index.specs.Sweep.{places_from, shifted, swept_entries};
+ghost use Rattle.cm_index.specs.Blocks.{joined};
 
+use crate::block::Block;
 use crate::index::IndexEntry;
-use crate::kept::Kept;
 use crate::slot::Slot;
 use cm_layout::Row;
 
-/// Makes the index of all places that of the places of what lives alone. `places` is overwritten.
-pub fn sweep_index<P: Kept>(
-    index: &mut Vec<IndexEntry>,
-    places: &mut Vec<u32>,
-    slots: &[Slot<Row<P>>],
-)
-    requires index { IsIndex P.mark P.name slots.now index.old.items }
-    requires fits { length slots.now ≤ 2 ^ 31 }
-    requires room { length slots.now ≤ vec_capacity places.old }
-    ensures index { IsIndex P.mark P.name (swept slots.now) index.new.items }
-    ensures capacity { vec_capacity index.new ≡ vec_capacity index.old }
-    ensures places { vec_capacity places.old ≤ vec_capacity places.new }
-{
-    count_places(places, slots);
-    keep_living(index, slots);
-    move_up(index, places);
-}
-
-// Where each stands once the places are swept.
-fn count_places<T>(places: &mut Vec<u32>, slots: &[Slot<T>])
+/// Where each stands once the places are swept.
+pub fn count_places<T>(places: &mut Vec<u32>, slots: &[Slot<T>])
     requires fits { length slots.now ≤ 2 ^ 31 }
     requires room { length slots.now ≤ vec_capacity places.old }
     ensures places { places.new.items ≡ places_from 0 slots.now }
@@ -44,6 +26,27 @@ fn count_places<T>(places: &mut Vec<u32>, slots: &[Slot<T>])
             kept += 1;
         }
     }
+}
+
+/// Keeps the entries that lead to rows that live, and lets each lead to its row's new place.
+pub fn sweep_blocks<P>(blocks: &mut Vec<Block>, places: &[u32], slots: &[Slot<Row<P>>])
+    requires { AllByRecursion (λ e. e.at < length places.now) (joined blocks.old.items) }
+    ensures blocks { blocks.new.items ≡ map (swept_entries slots.now places.now) blocks.old.items }
+    ensures capacity { vec_capacity blocks.new ≡ vec_capacity blocks.old }
+{
+    for at in 0..blocks.len() {
+        blocks[at].sweep(slots, places);
+    }
+}
+
+/// The same with the entries of one block.
+pub fn sweep_entries<P>(entries: &mut Vec<IndexEntry>, slots: &[Slot<Row<P>>], places: &[u32])
+    requires { AllByRecursion (λ e. e.at < length places.now) entries.old.items }
+    ensures entries { entries.new.items ≡ swept_entries slots.now places.now entries.old.items }
+    ensures capacity { vec_capacity entries.new ≡ vec_capacity entries.old }
+{
+    keep_living(entries, slots);
+    move_up(entries, places);
 }
 
 // Keeps the entries that lead to rows that live.

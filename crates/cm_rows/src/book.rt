@@ -11,9 +11,7 @@ use crate::place_rules::{has_room, is_free, is_inside, row_limit, take_place};
 use crate::rows::{copy_rows, give_all, take_all};
 use crate::walk::Walk;
 use crate::whole_pool::whole_pool;
-use cm_index::{
-    IndexEntry, Kept, Slot, class_in, class_like, index_rows, is_new, loader_of, push_row,
-};
+use cm_index::{Index, Kept, Slot, class_in, class_like, index_rows, is_new, loader_of, push_row};
 use cm_layout::{ClassRow, Entry, EntryRule, LoaderRow, Move, Row};
 use cm_pool::{Chunk, Geometry, Pool};
 use std::alloc::{AllocError, Global};
@@ -39,7 +37,7 @@ pub struct Book<P: Kept> {
     count: usize,
     /// Beside each living row the place of the row of its loader before it.
     before: Vec<Option<u32>>,
-    index: Vec<IndexEntry>,
+    index: Index,
     /// Room to count places in while they are swept.
     places: Vec<u32>,
     /// The loaders, and between them those that live no more.
@@ -63,7 +61,7 @@ impl<P: Kept> Model for Book<P> {
     ghost view = { λ b. record { sizes = b.geometry; rows = living b.slots.items } };
 
     ghost invariant = { λ b. IsBook b.geometry (living b.slots.items) (vec_capacity b.slots) (living b.loaders.items) (vec_capacity b.loaders) b.pool
-        × HasIndex P.mark P.name b.geometry b.slots.items b.index.items (vec_capacity b.index) (vec_capacity b.places)
+        × HasIndex P.mark P.name b.geometry b.slots.items b.index.items b.index.room (vec_capacity b.places)
         × HasLinks b.geometry b.slots.items (vec_capacity b.slots) b.count b.before.items (vec_capacity b.before) (items b.loaders.items) b.newest.items (vec_capacity b.newest)
         × HasLoaders b.geometry b.loaders.items (vec_capacity b.loaders) (length b.slots.items) };
 }
@@ -85,7 +83,7 @@ impl<P: Kept> Book<P> {
         let limit = row_limit(geometry);
         let slots = Vec::with_capacity(alloc, 2 * limit)?;
         let before = Vec::with_capacity(alloc, 2 * limit)?;
-        let index = Vec::with_capacity(alloc, 2 * limit)?;
+        let index = Index::with_room(alloc, 2 * limit)?;
         let places = Vec::with_capacity(alloc, 2 * limit)?;
         let loaders = Vec::with_capacity(alloc, 2 * limit)?;
         let newest = Vec::with_capacity(alloc, 2 * limit)?;

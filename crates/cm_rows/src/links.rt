@@ -17,7 +17,7 @@ ghost use Rattle.cm_layout.specs.Rules.{row_limit as row_limit_of};
 use crate::live_loader::{LiveLoader, find};
 use crate::place_rules::row_limit;
 use crate::rows::{move_row, own_chunk};
-use cm_index::{IndexEntry, Kept, Slot, sweep_index};
+use cm_index::{Index, Kept, Slot, sweep_index};
 use cm_layout::Row;
 use cm_pool::{Chunk, Geometry, Pool};
 
@@ -173,7 +173,7 @@ pub fn make_room<P: Kept>(
     geometry: Geometry,
     slots: &mut Vec<Slot<Row<P>>>,
     before: &mut Vec<Option<u32>>,
-    index: &mut Vec<IndexEntry>,
+    index: &mut Index,
     places: &mut Vec<u32>,
     loaders: &mut Vec<Slot<LiveLoader>>,
     newest: &mut Vec<Option<u32>>,
@@ -182,13 +182,13 @@ pub fn make_room<P: Kept>(
     requires few { length (living slots.old.items) < row_limit_of geometry }
     requires loaders_few { length (living loaders.old.items) ≤ length (living slots.old.items) }
     requires links { HasLinks geometry slots.old.items (vec_capacity slots.old) (length (living slots.old.items)) before.old.items (vec_capacity before.old) (items loaders.old.items) newest.old.items (vec_capacity newest.old) }
-    requires index { HasIndex P.mark P.name geometry slots.old.items index.old.items (vec_capacity index.old) (vec_capacity places.old) }
+    requires index { HasIndex P.mark P.name geometry slots.old.items index.old.items index.old.room (vec_capacity places.old) }
     requires loaders { HasLoaders geometry loaders.old.items (vec_capacity loaders.old) (length slots.old.items) }
     requires owned { AllByRecursion (λ row. Among (loader_in row) (numbers_of (living loaders.old.items))) (living slots.old.items) }
     ensures rows { living slots.new.items ≡ living slots.old.items }
     ensures living_loaders { living loaders.new.items ≡ living loaders.old.items }
     ensures links { HasLinks geometry slots.new.items (vec_capacity slots.new) (length (living slots.new.items)) before.new.items (vec_capacity before.new) (items loaders.new.items) newest.new.items (vec_capacity newest.new) }
-    ensures index { HasIndex P.mark P.name geometry slots.new.items index.new.items (vec_capacity index.new) (vec_capacity places.new) }
+    ensures index { HasIndex P.mark P.name geometry slots.new.items index.new.items index.new.room (vec_capacity places.new) }
     ensures loaders { HasLoaders geometry loaders.new.items (vec_capacity loaders.new) (length slots.new.items) }
     ensures room { length slots.new.items < 2 * row_limit_of geometry }
     ensures capacity { vec_capacity slots.new ≡ vec_capacity slots.old }

@@ -1,4 +1,4 @@
-use Rattle.std.proofs.Common.{◌≤◌, take, vec_capacity}
+use Rattle.std.proofs.Common.{◌≡◌, take}
 use Rattle.cm_index.specs.Index.{IsIndex}
 use Rattle.cm_index.proofs.index.index_rows.Given as goal
 
@@ -6,5 +6,5 @@ abbrev pub invariant-loop-at : goal.invariant-loop-at
 invariant-loop-at g l =
     record {
       index : IsIndex g.P.Kept.mark g.P.Kept.name (take l.at l.slots) l.index.items;
-      capacity : vec_capacity l.fn.index ≤ vec_capacity l.index;
+      room : l.index.room ≡ l.fn.index.room;
     }

@@ -44,7 +44,7 @@ returns-then-len-row_limit-clause-index g c =
     rw (c.sweep.ensures.slots) (record {
       index = index;
       unique = subst AreUnique (sym (living-swept c.args.slots.now.items)) h.unique;
-      room = omega (arith, h.room, c.sweep_index.ensures.capacity);
+      room = omega (arith, h.room, c.sweep_index.ensures.room);
       places_room = omega (arith, h.places_room, c.sweep_index.ensures.places);
     })
 

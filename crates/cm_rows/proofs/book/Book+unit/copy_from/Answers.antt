@@ -104,7 +104,7 @@ invariant_of-self g c =
       record {
         index = index;
         unique = subst AreUnique (sym is) (unique-bare (living o.slots.items) c.other.invariant.1.unique);
-        room = omega (arith, c.self.invariant.1.room, c.index_rows.ensures.capacity);
+        room = omega (arith, c.self.invariant.1.room, c.index_rows.ensures.room);
         places_room = c.self.invariant.1.places_room;
       },
       record {

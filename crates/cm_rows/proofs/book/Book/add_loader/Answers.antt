@@ -27,7 +27,7 @@ use Rattle.cm_rows.proofs.book.Book.add_loader.Goals.{After-is_new, After-push_r
 tested : (g : Over) (c : After-is_new g)
     → c.is_new.result ≡ is_new_loader c.self.inside.geometry (living c.self.inside.slots.items) c.args.row
 tested g c =
-    let e = rw (c.as_bytes.ensures.value, c.deref-2.ensures.value, c.row_limit.ensures, c.self.invariant.2.counted) at c.is_new.ensures in
+    let e = rw (c.as_bytes.ensures.value, c.deref.ensures.value, c.row_limit.ensures, c.self.invariant.2.counted) at c.is_new.ensures in
     e ∙ sym (new-is c.self.inside.geometry (living c.self.inside.slots.items) c.args.row)
 
 refused : (t : Bool) → t ≡ false → Some OnRows ≡ cond t None (Some OnRows)
@@ -114,7 +114,7 @@ invariant_of-self g c =
       record {
         index = rw (c.push_row.ensures.slots) c.push_row.ensures.index;
         unique = subst AreUnique (sym is) (unique-loader rows r c.self.invariant.1.unique none);
-        room = omega (arith, m.index.room, c.push_row.ensures.index_capacity);
+        room = omega (arith, m.index.room, c.push_row.ensures.index_room);
         places_room = m.index.places_room;
       },
       rw (c.push_row.ensures.slots, c.push_place.ensures.places, c.push_place-2.ensures.places, at_end, ← count, items-push ls s)

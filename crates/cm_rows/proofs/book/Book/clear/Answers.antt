@@ -26,7 +26,7 @@ invariant_of-self g c =
       record {
         index = index-none g.P.Kept.mark g.P.Kept.name;
         unique = record { names = λ r s m n e. absurd m };
-        room = omega (arith, c.self.invariant.1.room, c.clear-3.ensures.capacity);
+        room = omega (arith, c.self.invariant.1.room, c.clear-3.ensures.room);
         places_room = c.self.invariant.1.places_room;
       },
       record {

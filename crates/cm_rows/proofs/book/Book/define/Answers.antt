@@ -165,7 +165,7 @@ invariant_of-self-2 g c =
       record {
         index = rw (c.push_row.ensures.slots) c.push_row.ensures.index;
         unique = subst AreUnique (sym is) (unique-class rows r c.args.kept c.self.invariant.1.unique);
-        room = omega (arith, m.index.room, c.push_row.ensures.index_capacity);
+        room = omega (arith, m.index.room, c.push_row.ensures.index_room);
         places_room = m.index.places_room;
       },
       rw (c.push_row.ensures.slots, c.link.ensures.before, c.link.ensures.newest, at_end, ← count, items-set left here s)

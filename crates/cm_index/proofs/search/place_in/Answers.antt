@@ -4,9 +4,9 @@ use Rattle.std.specs.List.{AllByRecursion}
 use Rattle.cm_index.specs.declared.index.IndexEntry.{IndexEntry}
 use Rattle.cm_index.specs.Index.{keys_at, key_at}
 use Rattle.cm_index.specs.Sought.{key_sought}
-use Rattle.cm_index.proofs.Sorted.{Above}
+use Rattle.cm_index.specs.Index.{Above}
 use Rattle.cm_index.proofs.Indexes.{lower, upper}
-use Rattle.cm_index.proofs.index.search.Goals as goal
+use Rattle.cm_index.proofs.search.place_in.Goals as goal
 
 pub loop-low-preserved-in-Less : goal.loop-low-preserved-in-Less
 loop-low-preserved-in-Less g c =

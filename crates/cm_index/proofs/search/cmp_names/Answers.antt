@@ -2,7 +2,7 @@ use Rattle.std.proofs.Common.{ap, sym, ◌∙◌}
 use Rattle.std.specs.Ordering.{nat_cmp, ordering_reverse}
 use Rattle.std.specs.Cmp.Lexicographic.{slice_cmp}
 use Rattle.std.proofs.lemmas.Cmp.{nat_list_cmp_total}
-use Rattle.cm_index.proofs.index.cmp_names.Goals as goal
+use Rattle.cm_index.proofs.search.cmp_names.Goals as goal
 
 pub returns-in-Loader-Of : goal.returns-in-Loader-Of
 returns-in-Loader-Of g c =

@@ -2,8 +2,8 @@ use Rattle.std.proofs.Common.{◌-◌, ◌≤◌, length, take, drop}
 use Rattle.std.specs.List.{AllByRecursion}
 use Rattle.cm_index.specs.Index.{keys_at}
 use Rattle.cm_index.specs.Sought.{key_sought}
-use Rattle.cm_index.proofs.Sorted.{Below, Above}
-use Rattle.cm_index.proofs.index.search.Given as goal
+use Rattle.cm_index.specs.Index.{Below, Above}
+use Rattle.cm_index.proofs.search.place_in.Given as goal
 
 abbrev pub invariant-loop-low : goal.invariant-loop-low
 invariant-loop-low g l =
