@@ -49,28 +49,37 @@ fn book_of_classes(alloc: Global) -> Result<Book<Arc<Record, Global>>, Fail> {
     Ok(book)
 }
 
+// No loader has these.
+const NONE: [(u64, &[u8]); 5] = [
+    (2, b"B"),
+    (1, b""),
+    (3, b"A"),
+    (4, b"A"),
+    (1, b"java/lang/"),
+];
+
+type Classes = Book<Arc<Record, Global>>;
+
+// Whether a loader has a class of this name, by the name and by a class that has it; what is found
+// has that name.
+fn has(alloc: Global, book: &Classes, loader: u64, name: &[u8]) -> Result<bool, Fail> {
+    let class = record_named(alloc, name)?;
+    match (book.class(loader, name), book.class_like(loader, &class)) {
+        (Some(one), Some(other)) if one.same_name(&class) && other.same_name(&class) => Ok(true),
+        (None, None) => Ok(false),
+        _ => Err("another class".into()),
+    }
+}
+
 #[test]
 fn finds_each_class_in_its_loader(rt: HostRuntime) -> Result<(), Fail> {
     let alloc = rt.alloc();
     let book = book_of_classes(alloc)?;
     for (loader, name) in CLASSES {
-        let found = book.class(loader, name).ok_or("it was added")?;
-        assert_eq!(rt; found.class_name(alloc)?.as_slice(), name);
-        let class = record_named(alloc, name)?;
-        let like = book.class_like(loader, &class).ok_or("it was added")?;
-        assert_eq!(rt; like.class_name(alloc)?.as_slice(), name);
+        assert!(rt; has(alloc, &book, loader, name)?);
     }
-    let none: [(u64, &[u8]); 5] = [
-        (2, b"B"),
-        (1, b""),
-        (3, b"A"),
-        (4, b"A"),
-        (1, b"java/lang/"),
-    ];
-    for (loader, name) in none {
-        assert!(rt; book.class(loader, name).is_none());
-        let class = record_named(alloc, name)?;
-        assert!(rt; book.class_like(loader, &class).is_none());
+    for (loader, name) in NONE {
+        assert!(rt; !has(alloc, &book, loader, name)?);
     }
     Ok(())
 }

@@ -1,142 +1,200 @@
 //! Worked entries, one after another, with the rule that each breaks.
-use crate::samples::{
-    CHUNKS, ROWS, chunk, class, class_row, loader, loader_row, move_of, offer, small_book, unload,
-};
-use cm_layout::Row;
+
+ghost use Rattle.std.specs.Prelude.{◌≡◌, IfOk};
+
+use crate::samples::Sample::{Class, Loader, Move, Unload};
+use crate::samples::{CHUNKS, Case, ROWS, chunk, class_row, first_wrong, loader_row, small_book};
+use cm_layout::{EntryRule, Row};
+use cm_pool::Chunk;
 use cm_rows::{Book, LastChunk};
+use std::alloc::Global;
 use std::test::*;
+
+// Chunks by their orders and first words.
+const FIRST: (u32, u32) = (0, 0);
+
+const PAIR: (u32, u32) = (1, 0);
+
+const FOUR: (u32, u32) = (2, 0);
+
+const SECOND: (u32, u32) = (0, 128);
+
+const FIFTH: (u32, u32) = (0, 512);
+
+const JUDGED: [Case<'_>; 22] = [
+    (1, Loader(1, b"app"), None),
+    (2, Loader(3, b"lib"), ROWS),
+    (2, Loader(2, b"app"), ROWS),
+    (2, Loader(2, b"my lib"), ROWS),
+    (2, Loader(2, b"lib"), None),
+    (3, Class(9, FIRST, 0, 16), ROWS),
+    (3, Class(1, FIRST, 1, 16), CHUNKS),
+    (3, Class(1, (0, 64), 0, 16), CHUNKS),
+    (3, Class(1, FIRST, 0, 129), CHUNKS),
+    (3, Class(1, FIRST, 0, 0), CHUNKS),
+    (3, Class(1, FIRST, 0, 100), None),
+    (4, Class(2, FIRST, 100, 8), CHUNKS),
+    (4, Class(2, PAIR, 0, 8), CHUNKS),
+    (4, Class(1, FIRST, 100, 28), None),
+    (5, Class(1, FIRST, 128, 1), CHUNKS),
+    (5, Class(2, SECOND, 0, 8), None),
+    (6, Unload(3), ROWS),
+    (6, Unload(1), None),
+    (7, Unload(1), ROWS),
+    (7, Class(2, PAIR, 0, 8), CHUNKS),
+    (7, Class(2, FIRST, 0, 8), None),
+    (8, Loader(8, b"app"), None),
+];
 
 #[test]
 fn judges_each_entry(rt: HostRuntime) -> Result<(), Fail> {
     let mut book = small_book(rt.alloc())?;
-    let cases = [
-        (1, loader(1, b"app")?, None),
-        (2, loader(3, b"lib")?, ROWS),
-        (2, loader(2, b"app")?, ROWS),
-        (2, loader(2, b"my lib")?, ROWS),
-        (2, loader(2, b"lib")?, None),
-        (3, class(9, chunk(0, 0), 0, 16), ROWS),
-        (3, class(1, chunk(0, 0), 1, 16), CHUNKS),
-        (3, class(1, chunk(0, 64), 0, 16), CHUNKS),
-        (3, class(1, chunk(0, 0), 0, 129), CHUNKS),
-        (3, class(1, chunk(0, 0), 0, 0), CHUNKS),
-        (3, class(1, chunk(0, 0), 0, 100), None),
-        (4, class(2, chunk(0, 0), 100, 8), CHUNKS),
-        (4, class(2, chunk(1, 0), 0, 8), CHUNKS),
-        (4, class(1, chunk(0, 0), 100, 28), None),
-        (5, class(1, chunk(0, 0), 128, 1), CHUNKS),
-        (5, class(2, chunk(0, 128), 0, 8), None),
-        (6, unload(3), ROWS),
-        (6, unload(1), None),
-        (7, unload(1), ROWS),
-        (7, class(2, chunk(1, 0), 0, 8), CHUNKS),
-        (7, class(2, chunk(0, 0), 0, 8), None),
-        (8, loader(8, b"app")?, None),
-    ];
-    for (number, entry, rule) in cases {
-        assert_eq!(rt; offer(&mut book, number, entry)?, rule, "at {number}");
-    }
-    assert_eq!(rt; book.loader(b"app"), Some(8));
-    assert_eq!(rt; book.loader(b"boot"), None);
-    assert!(rt; book.is_live(2));
-    assert!(rt; !book.is_live(1));
-    assert_eq!(rt; book.len(), 4);
+    assert_eq!(rt; first_wrong(&mut book, &JUDGED)?, None);
+    assert_eq!(rt;
+        (book.loader(b"app"), book.loader(b"boot")),
+        (Some(8), None)
+    );
+    assert_eq!(rt;
+        (book.is_live(2), book.is_live(1), book.len()),
+        (true, false, 4)
+    );
     Ok(())
 }
 
-#[test]
-fn moves_a_loaders_last_chunk(rt: HostRuntime) -> Result<(), Fail> {
-    let mut book = small_book(rt.alloc())?;
-    let cases = [
-        (1, loader(1, b"app")?, None),
-        (2, class(1, chunk(2, 0), 0, 100), None),
-        (3, class(1, chunk(2, 0), 100, 28), None),
-        (4, move_of(1, chunk(2, 512), chunk(0, 512)), CHUNKS),
-        (4, move_of(2, chunk(2, 0), chunk(0, 512)), CHUNKS),
-        (4, move_of(1, chunk(2, 0), chunk(0, 384)), CHUNKS),
-        (4, move_of(1, chunk(2, 0), chunk(0, 512)), None),
-        (5, class(1, chunk(2, 0), 128, 1), CHUNKS),
-        (5, class(1, chunk(0, 0), 0, 128), None),
-        (6, class(1, chunk(1, 128), 0, 200), CHUNKS),
-        (6, class(1, chunk(1, 256), 0, 129), None),
-        (7, move_of(1, chunk(1, 256), chunk(0, 128)), CHUNKS),
-    ];
-    for (number, entry, rule) in cases {
-        assert_eq!(rt; offer(&mut book, number, entry)?, rule, "at {number}");
-    }
-    let last = LastChunk {
-        chunk: chunk(1, 256),
-        used: 129,
-    };
-    assert_eq!(rt; book.last(1), Some(last));
-    assert_eq!(rt; book.last(2), None);
-    let mut chunks = Vec::new(rt.alloc());
+const MOVED: [Case<'_>; 12] = [
+    (1, Loader(1, b"app"), None),
+    (2, Class(1, FOUR, 0, 100), None),
+    (3, Class(1, FOUR, 100, 28), None),
+    (4, Move(1, (2, 512), FIFTH), CHUNKS),
+    (4, Move(2, FOUR, FIFTH), CHUNKS),
+    (4, Move(1, FOUR, (0, 384)), CHUNKS),
+    (4, Move(1, FOUR, FIFTH), None),
+    (5, Class(1, FOUR, 128, 1), CHUNKS),
+    (5, Class(1, FIRST, 0, 128), None),
+    (6, Class(1, (1, 128), 0, 200), CHUNKS),
+    (6, Class(1, (1, 256), 0, 129), None),
+    (7, Move(1, (1, 256), SECOND), CHUNKS),
+];
+
+// The chunks of a book's classes, in the order of their rows.
+fn chunks_of(alloc: Global, book: &Book<()>) -> Result<Vec<Chunk>, Fail> {
+    let mut chunks = Vec::new(alloc);
     let mut walk = book.walk();
     for _ in 0..book.len() {
         if let Some(Row::Class(row, _)) = walk.next() {
             chunks.push(row.place.chunk)?;
         }
     }
+    Ok(chunks)
+}
+
+#[test]
+fn moves_a_loaders_last_chunk(rt: HostRuntime) -> Result<(), Fail> {
+    let mut book = small_book(rt.alloc())?;
+    // a chunk that isn't the last one, another loader's, one that is too small, one that is in use
+    assert_eq!(rt; first_wrong(&mut book, &MOVED)?, None);
+    let last = LastChunk {
+        chunk: chunk(1, 256),
+        used: 129,
+    };
+    assert_eq!(rt; (book.last(1), book.last(2)), (Some(last), None));
     let moved = [chunk(0, 512), chunk(0, 512), chunk(0, 0), chunk(1, 256)];
-    assert_eq!(rt; &chunks[..], moved.as_slice());
+    assert_eq!(rt; &chunks_of(rt.alloc(), &book)?[..], moved.as_slice());
     Ok(())
 }
+
+// A live row as tables write it.
+#[derive(Clone, Copy)]
+enum LiveSample {
+    Loader(u64, &'static [u8]),
+    Class(u64, u32),
+}
+
+impl LiveSample {
+    fn row(self) -> Result<Row<()>, Fail> {
+        match self {
+            LiveSample::Loader(number, name) => loader_row(number, name),
+            LiveSample::Class(loader, words) => {
+                Ok(Row::Class(class_row(loader, chunk(0, 0), 0, words), ()))
+            }
+        }
+    }
+}
+
+const LIVE: [(LiveSample, Option<EntryRule>); 7] = [
+    (LiveSample::Loader(0, b"app"), ROWS),
+    (LiveSample::Loader(8, b"app"), ROWS),
+    (LiveSample::Class(1, 1), ROWS),
+    (LiveSample::Loader(4, b"app"), None),
+    (LiveSample::Loader(3, b"lib"), ROWS),
+    (LiveSample::Class(4, 8), None),
+    (LiveSample::Loader(7, b"lib"), None),
+];
 
 #[test]
 fn takes_live_rows_in_their_order(rt: HostRuntime) -> Result<(), Fail> {
     let mut book = small_book(rt.alloc())?;
-    let early = Row::Class(class_row(1, chunk(0, 0), 0, 1), ());
-    let class = Row::Class(class_row(4, chunk(0, 0), 0, 8), ());
-    let cases = [
-        (loader_row(0, b"app")?, ROWS),
-        (loader_row(8, b"app")?, ROWS),
-        (early, ROWS),
-        (loader_row(4, b"app")?, None),
-        (loader_row(3, b"lib")?, ROWS),
-        (class, None),
-        (loader_row(7, b"lib")?, None),
-    ];
-    for (row, rule) in cases {
-        assert_eq!(rt; book.apply_live(7, row), rule);
+    for (sample, rule) in LIVE {
+        assert_eq!(rt; book.apply_live(7, sample.row()?), rule);
     }
     Ok(())
+}
+
+// Two classes of the one loader that a book had, and what a copy of another book takes behind that
+// one's rows.
+const OLD: [Case<'_>; 2] = [
+    (1, Loader(1, b"old"), None),
+    (2, Class(1, FOUR, 0, 8), None),
+];
+
+const COPIED: [Case<'_>; 2] = [
+    (1, Loader(1, b"app"), None),
+    (2, Class(1, SECOND, 0, 8), None),
+];
+
+const BEHIND_A_COPY: [Case<'_>; 3] = [
+    (3, Class(1, SECOND, 8, 8), None),
+    (4, Class(1, FOUR, 0, 8), CHUNKS),
+    (4, Class(1, FIRST, 0, 8), None),
+];
+
+// A book that had other rows, with those of this one.
+fn copy_of(alloc: Global, book: &Book<()>) -> Result<Book<()>, Fail>
+    requires { book.now.sizes ≡ record { top = 3; roots = 1; slots = 256 } }
+    ensures { IfOk result (λ copy. copy.sizes ≡ record { top = 3; roots = 1; slots = 256 }) }
+{
+    let mut copy = small_book(alloc)?;
+    if first_wrong(&mut copy, &OLD)?.is_some() {
+        return Err("the rows that it had".into());
+    }
+    copy.copy_from(book);
+    Ok(copy)
 }
 
 #[test]
 fn a_copy_answers_as_its_book(rt: HostRuntime) -> Result<(), Fail> {
-    let mut other: Book<()> = small_book(rt.alloc())?;
-    assert_eq!(rt; offer(&mut other, 1, loader(1, b"old")?)?, None);
-    assert_eq!(rt; offer(&mut other, 2, class(1, chunk(2, 0), 0, 8))?, None);
-    let mut book: Book<()> = small_book(rt.alloc())?;
-    assert_eq!(rt; offer(&mut book, 1, loader(1, b"app")?)?, None);
-    assert_eq!(rt; offer(&mut book, 2, class(1, chunk(0, 128), 0, 8))?, None);
-    other.copy_from(&book);
-    assert_eq!(rt; other.len(), 2);
-    assert_eq!(rt; other.loader(b"old"), None);
-    assert_eq!(rt; other.loader(b"app"), Some(1));
-    assert!(rt; other.class(1, b"").is_some());
-    let cases = [
-        (3, class(1, chunk(0, 128), 8, 8), None),
-        (4, class(1, chunk(2, 0), 0, 8), CHUNKS),
-        (4, class(1, chunk(0, 0), 0, 8), None),
-    ];
-    for (number, entry, rule) in cases {
-        assert_eq!(rt; offer(&mut other, number, entry)?, rule, "at {number}");
-    }
+    let mut book = small_book(rt.alloc())?;
+    assert_eq!(rt; first_wrong(&mut book, &COPIED)?, None);
+    let mut copy = copy_of(rt.alloc(), &book)?;
+    assert_eq!(rt; copy.len(), 2);
+    assert_eq!(rt; (copy.loader(b"old"), copy.loader(b"app")), (None, Some(1)));
+    assert!(rt; copy.class(1, b"").is_some());
+    assert_eq!(rt; first_wrong(&mut copy, &BEHIND_A_COPY)?, None);
     Ok(())
 }
 
+// All of the region, once a book that had half of it is cleared.
+const WHOLE: [Case<'_>; 2] = [
+    (1, Loader(1, b"app"), None),
+    (2, Class(1, (3, 0), 0, 1024), None),
+];
+
 #[test]
 fn a_cleared_book_has_its_whole_region(rt: HostRuntime) -> Result<(), Fail> {
-    let mut book: Book<()> = small_book(rt.alloc())?;
-    let whole = class(1, chunk(3, 0), 0, 1024);
-    for (number, entry) in [(1, loader(1, b"old")?), (2, class(1, chunk(2, 0), 0, 8))] {
-        assert_eq!(rt; offer(&mut book, number, entry)?, None);
-    }
+    let mut book = small_book(rt.alloc())?;
+    assert_eq!(rt; first_wrong(&mut book, &OLD)?, None);
     book.clear();
     assert_eq!(rt; book.len(), 0);
-    for (number, entry) in [(1, loader(1, b"app")?), (2, whole)] {
-        assert_eq!(rt; offer(&mut book, number, entry)?, None);
-    }
+    assert_eq!(rt; first_wrong(&mut book, &WHOLE)?, None);
     Ok(())
 }

@@ -51,8 +51,8 @@ impl Random {
     }
 }
 
-// A name of three visible characters.
-fn name_of(number: u64) -> [u8; 3] {
+/// A name of three visible characters.
+pub fn name_of(number: u64) -> [u8; 3] {
     let digits = [number % 64, number / 64 % 64, number / 4096 % 64];
     [
         33 + digits[0] as u8,

@@ -1,32 +1,98 @@
-//! A long run of entries, beside a plain list of rows.
+//! Long runs of entries: beside a plain list of rows, and with more names than one block of the index
+//! holds.
+
+ghost use Rattle.std.specs.Prelude.{◌≡◌};
+
 use crate::plain::Plain;
-use crate::random::Random;
-use crate::samples::offer;
+use crate::random::{Random, name_of};
+use crate::samples::{loader, offer, unload};
 use cm_pool::Geometry;
 use cm_rows::Book;
 use std::test::*;
+
+// Whether both tell the same last chunk of each row's loader.
+fn lasts_agree(book: &Book<()>, plain: &Plain) -> bool {
+    plain
+        .rows
+        .iter()
+        .all(|row| book.last(row.loader) == plain.last(row.loader))
+}
+
+// Offers an entry by chance to both: whether it breaks no rule.
+fn offer_to_both(
+    book: &mut Book<()>,
+    plain: &mut Plain,
+    random: &mut Random,
+    number: u64,
+) -> Result<bool, Fail>
+    ensures { book.new.sizes ≡ book.old.sizes }
+{
+    let entry = random.entry(plain, number)?;
+    let expected = plain.apply(&entry)?;
+    if offer(book, number, entry)? != expected {
+        return Err("another rule".into());
+    }
+    if book.len() != plain.rows.len() {
+        return Err("another number of rows".into());
+    }
+    Ok(expected.is_none())
+}
+
+// Offers as many entries to both: how many of them break no rule.
+fn run(book: &mut Book<()>, plain: &mut Plain) -> Result<u32, Fail> {
+    let mut random = Random(1);
+    let mut kept = 0u32;
+    for number in 1..6000 {
+        if offer_to_both(book, plain, &mut random, number)? {
+            kept = kept.wrapping_add(1);
+        }
+        if number % 64 == 0 && !lasts_agree(book, plain) {
+            return Err("another last chunk".into());
+        }
+    }
+    Ok(kept)
+}
 
 #[test]
 fn agrees_with_a_plain_list_of_rows(rt: HostRuntime) -> Result<(), Fail> {
     let geometry = Geometry::new(3, 2, 256).ok_or("within the limits")?;
     let mut book: Book<()> = Book::new(rt.alloc(), geometry)?;
-    let mut plain = Plain::new(rt.alloc());
-    let mut random = Random(1);
-    let mut kept = 0u32;
-    for number in 1..6000 {
-        let entry = random.entry(&plain, number)?;
-        let expected = plain.apply(&entry)?;
-        assert_eq!(rt; offer(&mut book, number, entry)?, expected, "at {number}");
-        assert_eq!(rt; book.len(), plain.rows.len());
-        if expected.is_none() {
-            kept = kept.wrapping_add(1);
+    let kept = run(&mut book, &mut Plain::new(rt.alloc()))?;
+    assert!(rt; kept > 1000, "{kept}");
+    Ok(())
+}
+
+// Adds many loaders, two of three of which are unloaded at once.
+fn add_many(book: &mut Book<()>) -> Result<(), Fail> {
+    for at in 1..9000 {
+        let number = 2 * at;
+        if offer(book, number, loader(number, &name_of(at))?)?.is_some() {
+            return Err("a loader".into());
         }
-        if number % 64 == 0 {
-            for row in &plain.rows {
-                assert_eq!(rt; book.last(row.loader), plain.last(row.loader));
-            }
+        if at % 3 != 0 && offer(book, number + 1, unload(number))?.is_some() {
+            return Err("an unload".into());
         }
     }
-    assert!(rt; kept > 1000, "{kept}");
+    Ok(())
+}
+
+// Whether the third that is left is found, each by its name, and no other is.
+fn tells_a_third(book: &Book<()>) -> bool {
+    for at in 1..9000 {
+        let expected = if at % 3 == 0 { Some(2 * at) } else { None };
+        if book.loader(&name_of(at)) != expected {
+            return false;
+        }
+    }
+    true
+}
+
+// Whose names are there is told also where the index stands in many blocks, and once it was swept.
+#[test]
+fn finds_each_of_many_loaders(rt: HostRuntime) -> Result<(), Fail> {
+    let geometry = Geometry::new(3, 1, 8192).ok_or("within the limits")?;
+    let mut book: Book<()> = Book::new(rt.alloc(), geometry)?;
+    add_many(&mut book)?;
+    assert!(rt; tells_a_third(&book));
     Ok(())
 }

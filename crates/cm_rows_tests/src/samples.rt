@@ -68,3 +68,48 @@ pub fn unload<P>(loader: u64) -> Entry<P> {
 pub fn move_of<P>(loader: u64, from: Chunk, to: Chunk) -> Entry<P> {
     Entry::Move(Move { loader, from, to })
 }
+
+/// An entry as tables write it, of values alone: nothing of a table has to be dropped where it is left.
+#[derive(Clone, Copy)]
+pub enum Sample<'a> {
+    /// A loader's number and name.
+    Loader(u64, &'a [u8]),
+    /// A class's loader, its chunk by order and first word, its offset and how many words it has.
+    Class(u64, (u32, u32), u32, u32),
+    Unload(u64),
+    /// A loader's chunk moves to another, each by its order and first word.
+    Move(u64, (u32, u32), (u32, u32)),
+}
+
+impl<'a> Sample<'a> {
+    /// The entry.
+    pub fn entry(self) -> Result<Entry<()>, Fail> {
+        match self {
+            Sample::Loader(number, name) => loader(number, name),
+            Sample::Class(owner, (order, at), offset, words) => {
+                Ok(class(owner, chunk(order, at), offset, words))
+            }
+            Sample::Unload(owner) => Ok(unload(owner)),
+            Sample::Move(loader, from, to) => {
+                Ok(move_of(loader, chunk(from.0, from.1), chunk(to.0, to.1)))
+            }
+        }
+    }
+}
+
+/// A sample with its number, and the rule that it breaks.
+pub type Case<'a> = (u64, Sample<'a>, Option<EntryRule>);
+
+/// Offers entries one after another. The place of the first whose rule is another one; none where
+/// each breaks the rule beside it.
+pub fn first_wrong(book: &mut Book<()>, cases: &[Case<'_>]) -> Result<Option<usize>, Fail>
+    ensures { book.new.sizes ≡ book.old.sizes }
+{
+    for (at, case) in cases.iter().enumerate() {
+        let (number, sample, rule) = *case;
+        if offer(book, number, sample.entry()?)? != rule {
+            return Ok(Some(at));
+        }
+    }
+    Ok(None)
+}
