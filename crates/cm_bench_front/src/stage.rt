@@ -8,7 +8,6 @@ use cm_front::Front;
 use cm_group::{Group, Receipt};
 use cm_pool::Geometry;
 use cm_prepare::{Command, Prepared};
-use cm_rows::Book;
 use std::alloc::{AllocError, Global};
 use std::mem;
 
@@ -23,11 +22,6 @@ pub struct Stage {
     groups: Vec<Group>,
     /// The number of the last command before the last unloads.
     before_unloads: u64,
-}
-
-fn open(alloc: Global, geometry: Geometry) -> Result<Front, AllocError> {
-    let book = Book::new(alloc, geometry)?;
-    Front::restore(alloc, geometry, book, 0, 1)
 }
 
 /// Adds loaders of these names, and counts those that were.
@@ -102,7 +96,7 @@ impl Stage {
     /// A cache of the largest sizes, with the loaders and no classes.
     pub fn new(alloc: Global, samples: &Samples) -> Result<Stage> {
         let geometry = Geometry::new(12, 256, 65_536).ok_or(anyhow!("sizes"))?;
-        let mut front = open(alloc, geometry)?;
+        let mut front = Front::new(alloc, geometry)?;
         let _added = add_loaders(&mut front, &samples.loaders);
         Ok(Stage {
             alloc,

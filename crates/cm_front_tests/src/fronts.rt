@@ -5,7 +5,6 @@
 use cm_front::Front;
 use cm_pool::Geometry;
 use cm_prepare::{Command, Prepared, Refusal, prepare};
-use cm_rows::Book;
 use std::alloc::{AllocError, Global};
 use std::test::Fail;
 
@@ -16,17 +15,12 @@ const BEFORE_NAME: &[u8] = b"cafebabe0000003400060700020100";
 const BEHIND_NAME: &[u8] =
     b"0700040100106a6176612f6c616e672f4f626a656374010001580021000100030000000000000001";
 
-fn open(alloc: Global, geometry: Geometry) -> Result<Front, AllocError> {
-    let book = Book::new(alloc, geometry)?;
-    Front::restore(alloc, geometry, book, 0, 1)
-}
-
 /// A cache with nothing in it.
 pub fn empty(alloc: Global, top: u32, roots: u32) -> Result<Front, Fail> {
     let geometry = Geometry::new(top, roots, 65_536).ok_or("sizes")?;
-    match open(alloc, geometry) {
+    match Front::new(alloc, geometry) {
         Ok(front) => Ok(front),
-        Err(_) => Ok(open(alloc, geometry)?),
+        Err(_) => Ok(Front::new(alloc, geometry)?),
     }
 }
 

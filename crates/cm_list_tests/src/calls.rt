@@ -5,8 +5,7 @@
 use cm_front::Front;
 use cm_pool::Geometry;
 use cm_prepare::{Command, Prepared, Refusal, prepare};
-use cm_rows::Book;
-use std::alloc::{AllocError, Global};
+use std::alloc::Global;
 use std::test::Fail;
 
 /// A command. Classes have names of up to five bytes.
@@ -54,17 +53,12 @@ fn accept(alloc: Global, front: &mut Front, call: Call) -> Result<Result<u64, Re
     })
 }
 
-fn open(alloc: Global, geometry: Geometry) -> Result<Front, AllocError> {
-    let book = Book::new(alloc, geometry)?;
-    Front::restore(alloc, geometry, book, 0, 1)
-}
-
 // A cache of two roots of 1,024 words with nothing in it.
 fn empty(alloc: Global) -> Result<Front, Fail> {
     let geometry = Geometry::new(3, 2, 256).ok_or("sizes")?;
-    match open(alloc, geometry) {
+    match Front::new(alloc, geometry) {
         Ok(front) => Ok(front),
-        Err(_) => Ok(open(alloc, geometry)?),
+        Err(_) => Ok(Front::new(alloc, geometry)?),
     }
 }
 
