@@ -51,6 +51,8 @@ impl<D: Disk> Disk for CountedDisk<D> {
 
     ghost left_since = { λ d. D.left_since d.disk };
 
+    ghost called = { λ old new ok. D.called old.disk new.disk ok };
+
     ghost sound = { λ d. D.sound d.disk };
 
     ghost counts_now = { λ d. D.counts_now d.disk };

@@ -1,9 +1,10 @@
 -- What a disk behind a fuse shows, and which of its calls is to fail.
-use Rattle.std.specs.Prelude.{ℕ, List, Option, Some, None, nat_eq, if◌then◌else◌}
+use Rattle.std.specs.Prelude.{◌≡◌, ◌-◌, ℕ, Bool, List, Option, Some, None, nat_eq, if◌then◌else◌}
 use Rattle.cm_disk.specs.declared.fuse.FuseDisk.{FuseDisk}
 use Rattle.cm_disk.specs.declared.sim.SimDisk.{SimDisk}
 use Rattle.cm_disk.specs.Disk.{Unsynced}
 use Rattle.cm_disk.specs.Sim.{sim_contents, sim_unsynced, sim_failures, sim_moment, sim_left_since}
+use Rattle.cm_disk.specs.Sim.{IsOneCall}
 
 -- the disk behind the fuse
 abbrev pub behind : FuseDisk → SimDisk
@@ -35,3 +36,10 @@ fuse_stores fuse = fuse.stores
 -- where the next call is to fail: how many bytes it stores, if it is a write
 abbrev pub fuse_armed : FuseDisk → Option ℕ
 fuse_armed fuse = if nat_eq (fuse_pass fuse) 0 then Some (fuse_stores fuse) else None
+
+-- Exactly one call of the disk behind the fuse, which fails where none is let through any more. It
+-- takes one from those that are let through.
+pub record IsFuseCall (old new : FuseDisk) (ok : Bool) : Type 0 where
+  pub call : IsOneCall (fuse_armed old) (behind old) (behind new) ok
+  pub pass : fuse_pass new ≡ fuse_pass old - 1
+  pub stays : fuse_stores new ≡ fuse_stores old

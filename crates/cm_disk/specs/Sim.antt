@@ -1,6 +1,6 @@
 -- What a disk in memory shows, and when its calls fail.
 use Rattle.std.specs.Prelude.{◌≡◌, ◌⊎◌, ◌+◌, ◌||◌, ℕ, Bool, true, false, List, take, length, Result}
-use Rattle.std.specs.Prelude.{Option, Some, None, is_some, is_err, if◌then◌else◌}
+use Rattle.std.specs.Prelude.{Option, Some, None, is_some, is_err, not, if◌then◌else◌}
 use Rattle.cm_disk.specs.declared.disk.DeviceFault.{DeviceFault}
 use Rattle.cm_disk.specs.declared.sim.SimDisk.{SimDisk}
 use Rattle.cm_disk.specs.Disk.{Unsynced, IsImage, IsSettled, IsWithin, widened}
@@ -26,6 +26,10 @@ sim_left_since disk t image =
     IsImage (sim_contents disk) (sim_unsynced disk) image
     ⊎ LeftAtOne (noted_since t disk.history.moments) image
 
+-- the calls that it has had, whatever they were answered
+abbrev pub sim_calls : SimDisk → ℕ
+sim_calls disk = length disk.calls.moments
+
 -- the syncs that have succeeded
 abbrev pub sim_syncs : SimDisk → ℕ
 sim_syncs disk = disk.syncs
@@ -43,6 +47,7 @@ pub record IsFresh (disk : SimDisk) : Type 0 where
   pub settled : IsSettled (sim_contents disk) (sim_unsynced disk)
   pub armed : sim_armed disk ≡ None
   pub refused : sim_refused disk ≡ false
+  pub calls : sim_calls disk ≡ 0
   pub syncs : sim_syncs disk ≡ 0
   pub failures : sim_failures disk ≡ 0
   pub moment : sim_moment disk ≡ 0
@@ -53,6 +58,18 @@ pub record FailsFor {T : Type 0} (armed : Option ℕ) (old new : SimDisk)
   pub exactly : is_err result ≡ (is_some armed || sim_refused new)
   pub disarmed : sim_armed new ≡ None
   pub counted : sim_failures new ≡ sim_failures old + (if is_err result then 1 else 0)
+
+-- Exactly one call leads from old to new. It fails exactly where it was armed or was refused memory,
+-- and then counts as a failure. Nothing is armed behind it.
+pub record IsOneCall (armed : Option ℕ) (old new : SimDisk) (ok : Bool) : Type 0 where
+  pub once : sim_calls new ≡ sim_calls old + 1
+  pub exactly : ok ≡ not (is_some armed || sim_refused new)
+  pub disarmed : sim_armed new ≡ None
+  pub counted : sim_failures new ≡ sim_failures old + (if ok then 0 else 1)
+
+-- one call, for which the disk was armed or not
+abbrev pub sim_called : SimDisk → SimDisk → Bool → Type 0
+sim_called old new ok = IsOneCall (sim_armed old) old new ok
 
 -- what a write stores of its bytes: where it is armed only the first n
 abbrev pub stored_part : Option ℕ → List ℕ → List ℕ

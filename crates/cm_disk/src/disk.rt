@@ -1,6 +1,6 @@
 //! The trait of all disks, with the whole disk model in each of its calls.
-ghost use Rattle.std.specs.Prelude.{◌≡◌, ◌≤◌, ◌+◌, ◌^◌, List, ℕ, length, take, drop, IfOk, OnOk};
-ghost use Rattle.std.specs.Prelude.{OnErr};
+ghost use Rattle.std.specs.Prelude.{◌≡◌, ◌≤◌, ◌+◌, ◌^◌, List, ℕ, Bool, length, take, drop, IfOk};
+ghost use Rattle.std.specs.Prelude.{OnOk, OnErr, is_ok};
 ghost use Rattle.cm_disk.specs.Disk.{Unsynced, IsImage, IsSettled, IsSound, IsWithin, widened};
 ghost use Rattle.cm_disk.specs.Disk.{shortened};
 ghost use Rattle.cm_disk.specs.Calls.{overwritten, IsTorn, IsCut, Elapses, HasCause};
@@ -33,6 +33,10 @@ pub trait Disk {
     /// What a crash at some moment from that one on may have left, during a call or between two.
     ghost left_since: { Self → ℕ → List ℕ → Type 0 };
 
+    /// What a kind of disk says of each of its calls besides: one call leads from the one disk to
+    /// the other, and is answered `Ok` (true) or not.
+    ghost called: { Self → Self → Bool → Type 0 };
+
     /// The number of bytes.
     fn len(&mut self) -> Result<u64, DeviceFault>
         ensures len { IfOk result (λ n. n ≡ length (contents self.old)) }
@@ -41,7 +45,8 @@ pub trait Disk {
         ensures time { Elapses (moment self.old) (moment self.new) (left_since self.old)
             (left_since self.new)
             (IsImage (contents self.old) (unsynced self.old)) }
-        ensures cause { HasCause (failures self.old) (failures self.new) result };
+        ensures cause { HasCause (failures self.old) (failures self.new) result }
+        ensures called { called self.old self.new (is_ok result) };
 
     /// Reads as many bytes as `out` takes, from `at` on. After an `Err` there are any bytes in
     /// `out`.
@@ -54,7 +59,8 @@ pub trait Disk {
         ensures time { Elapses (moment self.old) (moment self.new) (left_since self.old)
             (left_since self.new)
             (IsImage (contents self.old) (unsynced self.old)) }
-        ensures cause { HasCause (failures self.old) (failures self.new) result };
+        ensures cause { HasCause (failures self.old) (failures self.new) result }
+        ensures called { called self.old self.new (is_ok result) };
 
     /// Writes over what is there, and past the end. After an `Err` there are any bytes in the
     /// range, and any length from the old one to the one that the write makes.
@@ -70,7 +76,8 @@ pub trait Disk {
         ensures time { Elapses (moment self.old) (moment self.new) (left_since self.old)
             (left_since self.new)
             (IsImage (contents self.old) (widened at (length bytes.now) (unsynced self.old))) }
-        ensures cause { HasCause (failures self.old) (failures self.new) result };
+        ensures cause { HasCause (failures self.old) (failures self.new) result }
+        ensures called { called self.old self.new (is_ok result) };
 
     /// Cuts to a length. After an `Err` the length is any from that one to the old one.
     fn cut(&mut self, len: u64) -> Result<(), DeviceFault>
@@ -81,7 +88,8 @@ pub trait Disk {
         ensures time { Elapses (moment self.old) (moment self.new) (left_since self.old)
             (left_since self.new)
             (IsImage (contents self.old) (shortened len (unsynced self.old))) }
-        ensures cause { HasCause (failures self.old) (failures self.new) result };
+        ensures cause { HasCause (failures self.old) (failures self.new) result }
+        ensures called { called self.old self.new (is_ok result) };
 
     /// After it, a crash leaves what a read gives. An `Err` changes nothing.
     fn sync(&mut self) -> Result<(), DeviceFault>
@@ -91,7 +99,8 @@ pub trait Disk {
         ensures time { Elapses (moment self.old) (moment self.new) (left_since self.old)
             (left_since self.new)
             (IsImage (contents self.old) (unsynced self.old)) }
-        ensures cause { HasCause (failures self.old) (failures self.new) result };
+        ensures cause { HasCause (failures self.old) (failures self.new) result }
+        ensures called { called self.old self.new (is_ok result) };
 
     /// The lengths fit together, and no disk passes the limit.
     ghost sound: { (disk : Self) → IsSound (contents disk) (unsynced disk) };

@@ -1,12 +1,12 @@
 //! A disk in memory that fails from some call on.
 ghost use Rattle.std.specs.Prelude.{◌≡◌, ◌≤◌, length, take, drop, ◌+◌, ◌-◌, ◌^◌};
-ghost use Rattle.std.specs.Prelude.{None, false, IfOk, OnOk, OnErr};
+ghost use Rattle.std.specs.Prelude.{None, false, IfOk, OnOk, OnErr, is_ok};
 ghost use Rattle.cm_disk.specs.Calls.{Elapses, HasCause, IsTorn, IsCut, overwritten};
 ghost use Rattle.std.proofs.Common.{inl};
 ghost use Rattle.cm_disk.specs.Disk.{IsImage, IsSettled, IsWithin, widened, shortened};
 ghost use Rattle.cm_disk.specs.Fuse.{behind, fuse_contents, fuse_unsynced, fuse_failures};
 ghost use Rattle.cm_disk.specs.Fuse.{fuse_moment, fuse_left_since, fuse_pass, fuse_stores};
-ghost use Rattle.cm_disk.specs.Fuse.{fuse_armed};
+ghost use Rattle.cm_disk.specs.Fuse.{fuse_armed, IsFuseCall};
 ghost use Rattle.cm_disk.specs.Moments.{none_since_now};
 ghost use Rattle.cm_disk.specs.Sim.{sim_refused, FailsFor, Stores};
 
@@ -67,6 +67,8 @@ impl Disk for FuseDisk {
 
     ghost left_since = { fuse_left_since };
 
+    ghost called = { IsFuseCall };
+
     ghost sound = { λ d. d.disk.medium.sound };
 
     ghost counts_now = { λ d t image le now. inl now };
@@ -82,6 +84,7 @@ impl Disk for FuseDisk {
             (fuse_left_since self.old) (fuse_left_since self.new)
             (IsImage (fuse_contents self.old) (fuse_unsynced self.old)) }
         ensures cause { HasCause (fuse_failures self.old) (fuse_failures self.new) result }
+        ensures called { IsFuseCall self.old self.new (is_ok result) }
         ensures fails { FailsFor (fuse_armed self.old) (behind self.old) (behind self.new) result }
         ensures no_memory { sim_refused (behind self.new) ≡ false }
         ensures pass { fuse_pass self.new ≡ fuse_pass self.old - 1 }
@@ -102,6 +105,7 @@ impl Disk for FuseDisk {
             (fuse_left_since self.old) (fuse_left_since self.new)
             (IsImage (fuse_contents self.old) (fuse_unsynced self.old)) }
         ensures cause { HasCause (fuse_failures self.old) (fuse_failures self.new) result }
+        ensures called { IsFuseCall self.old self.new (is_ok result) }
         ensures fails { FailsFor (fuse_armed self.old) (behind self.old) (behind self.new) result }
         ensures no_memory { sim_refused (behind self.new) ≡ false }
         ensures pass { fuse_pass self.new ≡ fuse_pass self.old - 1 }
@@ -126,6 +130,7 @@ impl Disk for FuseDisk {
             (IsImage (fuse_contents self.old)
             (widened at (length bytes.now) (fuse_unsynced self.old))) }
         ensures cause { HasCause (fuse_failures self.old) (fuse_failures self.new) result }
+        ensures called { IsFuseCall self.old self.new (is_ok result) }
         ensures fails { FailsFor (fuse_armed self.old) (behind self.old) (behind self.new) result }
         ensures stores { Stores at bytes.now (fuse_armed self.old) (behind self.old)
             (behind self.new) }
@@ -148,6 +153,7 @@ impl Disk for FuseDisk {
             (fuse_left_since self.old) (fuse_left_since self.new)
             (IsImage (fuse_contents self.old) (shortened len (fuse_unsynced self.old))) }
         ensures cause { HasCause (fuse_failures self.old) (fuse_failures self.new) result }
+        ensures called { IsFuseCall self.old self.new (is_ok result) }
         ensures fails { FailsFor (fuse_armed self.old) (behind self.old) (behind self.new) result }
         ensures no_memory { sim_refused (behind self.new) ≡ false }
         ensures pass { fuse_pass self.new ≡ fuse_pass self.old - 1 }
@@ -167,6 +173,7 @@ impl Disk for FuseDisk {
             (fuse_left_since self.old) (fuse_left_since self.new)
             (IsImage (fuse_contents self.old) (fuse_unsynced self.old)) }
         ensures cause { HasCause (fuse_failures self.old) (fuse_failures self.new) result }
+        ensures called { IsFuseCall self.old self.new (is_ok result) }
         ensures fails { FailsFor (fuse_armed self.old) (behind self.old) (behind self.new) result }
         ensures no_memory { sim_refused (behind self.new) ≡ false }
         ensures pass { fuse_pass self.new ≡ fuse_pass self.old - 1 }

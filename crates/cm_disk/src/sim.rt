@@ -1,14 +1,14 @@
 //! A disk in memory.
 ghost use Rattle.std.specs.Prelude.{◌≡◌, ◌≤◌, ◌⊎◌, [], length, take, drop, min, ◌+◌, ◌-◌, ◌^◌};
-ghost use Rattle.std.specs.Prelude.{true, false, Some, None, IfOk, OnOk, OnErr};
+ghost use Rattle.std.specs.Prelude.{true, false, Some, None, IfOk, OnOk, OnErr, is_ok};
 ghost use Rattle.cm_disk.specs.Calls.{Elapses, HasCause, IsTorn, IsCut, overwritten};
 ghost use Rattle.std.proofs.Common.{inl};
 ghost use Rattle.cm_disk.specs.Chosen.{IsChosen};
 ghost use Rattle.cm_disk.specs.Disk.{IsImage, IsSettled, IsWithin, widened, shortened};
 ghost use Rattle.cm_disk.specs.Moments.{noted_since, LeftAtOne, unsynced_of, none_since_now};
 ghost use Rattle.cm_disk.specs.Sim.{sim_contents, sim_unsynced, sim_failures, sim_moment};
-ghost use Rattle.cm_disk.specs.Sim.{sim_left_since, sim_syncs, sim_armed, sim_refused};
-ghost use Rattle.cm_disk.specs.Sim.{IsFresh, FailsFor, Stores, stored_part};
+ghost use Rattle.cm_disk.specs.Sim.{sim_left_since, sim_calls, sim_syncs, sim_armed, sim_refused};
+ghost use Rattle.cm_disk.specs.Sim.{sim_called, IsFresh, FailsFor, Stores, stored_part};
 
 use crate::choice::Choice;
 use crate::history::History;
@@ -28,6 +28,8 @@ pub struct SimDisk {
     history: History,
     /// What stood at each failure.
     failures: History,
+    /// What stood before each call.
+    calls: History,
 }
 
 /// What a write stores of its bytes.
@@ -55,6 +57,7 @@ impl SimDisk {
         ensures armed { sim_armed result ≡ None }
         ensures refused { sim_refused result ≡ false }
         ensures syncs { sim_syncs result ≡ 0 }
+        ensures calls { result.calls.moments ≡ [] }
         ensures failures { result.failures.moments ≡ [] }
         ensures history { result.history.moments ≡ [] }
     {
@@ -65,6 +68,7 @@ impl SimDisk {
             refused: false,
             history: History::new(),
             failures: History::new(),
+            calls: History::new(),
         }
     }
 
@@ -110,6 +114,21 @@ impl SimDisk {
         Ok(SimDisk::holding(Medium::stored(alloc, bytes)))
     }
 
+    /// A call begins: it is counted, and what was armed is for it alone.
+    fn begin_call(&mut self) -> Option<usize>
+        ensures armed { result ≡ sim_armed self.old }
+        ensures once { sim_calls self.new ≡ sim_calls self.old + 1 }
+        ensures rest { self.new ≡ record self.old {
+          armed = None;
+          refused = false;
+          calls = self.new.calls;
+        } }
+    {
+        self.calls.note(&self.medium);
+        self.refused = false;
+        self.armed.take()
+    }
+
     /// Opens the range of a write of `count` bytes, and stores those of them that are given.
     fn store(&mut self, at: u64, count: u64, stored: &[u8]) -> Result<(), AllocError>
         requires starts_within { at ≤ length (sim_contents self.old) }
@@ -127,6 +146,7 @@ impl SimDisk {
             (sim_left_since self.old) (sim_left_since self.new)
             (IsImage (sim_contents self.old) (widened at count (sim_unsynced self.old))) }
         ensures failures { self.new.failures ≡ self.old.failures }
+        ensures calls { sim_calls self.new ≡ sim_calls self.old }
         ensures syncs { sim_syncs self.new ≡ sim_syncs self.old }
         ensures armed { sim_armed self.new ≡ sim_armed self.old }
         ensures refused { sim_refused self.new ≡ sim_refused self.old }
@@ -148,6 +168,8 @@ impl Disk for SimDisk {
 
     ghost left_since = { sim_left_since };
 
+    ghost called = { sim_called };
+
     ghost sound = { λ d. d.medium.sound };
 
     ghost counts_now = { λ d t image le now. inl now };
@@ -163,12 +185,12 @@ impl Disk for SimDisk {
             (sim_left_since self.old) (sim_left_since self.new)
             (IsImage (sim_contents self.old) (sim_unsynced self.old)) }
         ensures cause { HasCause (sim_failures self.old) (sim_failures self.new) result }
+        ensures called { sim_called self.old self.new (is_ok result) }
         ensures fails { FailsFor (sim_armed self.old) self.old self.new result }
         ensures no_memory { sim_refused self.new ≡ false }
         ensures syncs { sim_syncs self.new ≡ sim_syncs self.old }
     {
-        self.refused = false;
-        if self.armed.take().is_some() {
+        if self.begin_call().is_some() {
             self.failures.note(&self.medium);
             return Err(DeviceFault);
         }
@@ -186,12 +208,12 @@ impl Disk for SimDisk {
             (sim_left_since self.old) (sim_left_since self.new)
             (IsImage (sim_contents self.old) (sim_unsynced self.old)) }
         ensures cause { HasCause (sim_failures self.old) (sim_failures self.new) result }
+        ensures called { sim_called self.old self.new (is_ok result) }
         ensures fails { FailsFor (sim_armed self.old) self.old self.new result }
         ensures no_memory { sim_refused self.new ≡ false }
         ensures syncs { sim_syncs self.new ≡ sim_syncs self.old }
     {
-        self.refused = false;
-        if self.armed.take().is_some() {
+        if self.begin_call().is_some() {
             self.failures.note(&self.medium);
             return Err(DeviceFault);
         }
@@ -215,13 +237,13 @@ impl Disk for SimDisk {
             (IsImage (sim_contents self.old)
             (widened at (length bytes.now) (sim_unsynced self.old))) }
         ensures cause { HasCause (sim_failures self.old) (sim_failures self.new) result }
+        ensures called { sim_called self.old self.new (is_ok result) }
         ensures fails { FailsFor (sim_armed self.old) self.old self.new result }
         ensures stores { Stores at bytes.now (sim_armed self.old) self.old
             self.new }
         ensures syncs { sim_syncs self.new ≡ sim_syncs self.old }
     {
-        self.refused = false;
-        let armed = self.armed.take();
+        let armed = self.begin_call();
         let Ok(()) = self.store(at, bytes.len() as u64, part_to_store(bytes, armed)) else {
             self.refused = true;
             self.failures.note(&self.medium);
@@ -245,14 +267,14 @@ impl Disk for SimDisk {
             (sim_left_since self.old) (sim_left_since self.new)
             (IsImage (sim_contents self.old) (shortened len (sim_unsynced self.old))) }
         ensures cause { HasCause (sim_failures self.old) (sim_failures self.new) result }
+        ensures called { sim_called self.old self.new (is_ok result) }
         ensures fails { FailsFor (sim_armed self.old) self.old self.new result }
         ensures no_memory { sim_refused self.new ≡ false }
         ensures uncut { OnErr result (sim_contents self.new ≡ sim_contents self.old) }
         ensures shortened { sim_unsynced self.new ≡ shortened len (sim_unsynced self.old) }
         ensures syncs { sim_syncs self.new ≡ sim_syncs self.old }
     {
-        self.refused = false;
-        let armed = self.armed.take();
+        let armed = self.begin_call();
         self.medium.begin_cut(len);
         self.history.note(&self.medium);
         if armed.is_some() {
@@ -272,14 +294,14 @@ impl Disk for SimDisk {
             (sim_left_since self.old) (sim_left_since self.new)
             (IsImage (sim_contents self.old) (sim_unsynced self.old)) }
         ensures cause { HasCause (sim_failures self.old) (sim_failures self.new) result }
+        ensures called { sim_called self.old self.new (is_ok result) }
         ensures fails { FailsFor (sim_armed self.old) self.old self.new result }
         ensures no_memory { sim_refused self.new ≡ false }
         ensures counted { OnOk result
             (sim_syncs self.new ≡ min (sim_syncs self.old + 1) (2 ^ 64 - 1)) }
         ensures not_counted { OnErr result (sim_syncs self.new ≡ sim_syncs self.old) }
     {
-        self.refused = false;
-        if self.armed.take().is_some() {
+        if self.begin_call().is_some() {
             self.failures.note(&self.medium);
             return Err(DeviceFault);
         }

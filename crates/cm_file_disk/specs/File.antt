@@ -1,6 +1,6 @@
 -- What a disk over a file shows, and when its calls fail.
-use Rattle.std.specs.Prelude.{◌≡◌, ◌<◌, ◌⊎◌, ◌^◌, ℕ, Bool, true, List, [], length, Option}
-use Rattle.std.specs.Prelude.{is_some, is_err, Result, not}
+use Rattle.std.specs.Prelude.{◌≡◌, ◌<◌, ◌⊎◌, ◌+◌, ◌^◌, ℕ, Bool, true, false, List, [], length, Option}
+use Rattle.std.specs.Prelude.{is_some, is_err, Result, not, if◌then◌else◌}
 use Rattle.std.specs.declared.io.Error.{Error}
 use Rattle.cm_disk.specs.declared.disk.DeviceFault.{DeviceFault}
 use Rattle.cm_disk.specs.Disk.{Unsynced, IsImage, IsSettled}
@@ -75,3 +75,10 @@ pub record Changes {T : Type 0} (old new : FileDisk) (result : Result T DeviceFa
   pub unsynced : is_lost old ≡ true → file_unsynced new ≡ file_unsynced old
   pub cause : is_lost old ≡ true → file_cause new ≡ file_cause old
   pub lost : is_lost new ≡ is_err result
+
+-- One call. If it fails, that counts as one failure. Once a write, a cut or a sync has failed, each
+-- call fails, and the first cause stays.
+pub record IsFileCall (old new : FileDisk) (ok : Bool) : Type 0 where
+  pub counted : file_failures new ≡ file_failures old + (if ok then 0 else 1)
+  pub fails : is_lost old ≡ true → ok ≡ false
+  pub cause : is_lost old ≡ true → file_cause new ≡ file_cause old

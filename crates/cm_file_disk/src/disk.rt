@@ -1,6 +1,6 @@
 //! A disk over a file.
 ghost use Rattle.std.specs.Prelude.{◌≡◌, ◌≤◌, ◌+◌, ◌^◌, length, take, drop, false, not};
-ghost use Rattle.std.specs.Prelude.{◌&&◌, IfOk, IfSome, OnOk, OnErr, is_none, is_err};
+ghost use Rattle.std.specs.Prelude.{◌&&◌, IfOk, IfSome, OnOk, OnErr, is_none, is_ok, is_err};
 ghost use Rattle.std.proofs.Common.{inl};
 ghost use Rattle.cm_disk.specs.Calls.{Elapses, HasCause, IsTorn, IsCut, overwritten};
 ghost use Rattle.cm_disk.specs.Disk.{IsImage, IsSettled, IsWithin, widened, shortened};
@@ -158,7 +158,7 @@ impl FileDisk {
 impl Disk for FileDisk {
     ghost use Rattle.cm_file_disk.specs.File.{file_contents, file_unsynced, file_failures};
     ghost use Rattle.cm_file_disk.specs.File.{file_moment, file_left_since, is_whole, is_lost};
-    ghost use Rattle.cm_file_disk.specs.File.{Answers, Changes};
+    ghost use Rattle.cm_file_disk.specs.File.{IsFileCall, Answers, Changes};
 
     ghost contents = { file_contents };
 
@@ -169,6 +169,8 @@ impl Disk for FileDisk {
     ghost moment = { file_moment };
 
     ghost left_since = { file_left_since };
+
+    ghost called = { IsFileCall };
 
     ghost sound = { λ d. d.sound };
 
@@ -185,6 +187,7 @@ impl Disk for FileDisk {
             (file_left_since self.old) (file_left_since self.new)
             (IsImage (file_contents self.old) (file_unsynced self.old)) }
         ensures cause { HasCause (file_failures self.old) (file_failures self.new) result }
+        ensures called { IsFileCall self.old self.new (is_ok result) }
         ensures answers { Answers (not (is_lost self.old)) self.old self.new result }
     {
         match self.known_len() {
@@ -204,6 +207,7 @@ impl Disk for FileDisk {
             (file_left_since self.old) (file_left_since self.new)
             (IsImage (file_contents self.old) (file_unsynced self.old)) }
         ensures cause { HasCause (file_failures self.old) (file_failures self.new) result }
+        ensures called { IsFileCall self.old self.new (is_ok result) }
         ensures answers { Answers (is_whole self.old && not (is_lost self.old)) self.old self.new
             result }
     {
@@ -231,6 +235,7 @@ impl Disk for FileDisk {
             (IsImage (file_contents self.old)
             (widened at (length bytes.now) (file_unsynced self.old))) }
         ensures cause { HasCause (file_failures self.old) (file_failures self.new) result }
+        ensures called { IsFileCall self.old self.new (is_ok result) }
         ensures changes { Changes self.old self.new result }
         ensures given_up { is_whole self.new ≡ false }
     {
@@ -263,6 +268,7 @@ impl Disk for FileDisk {
             (file_left_since self.old) (file_left_since self.new)
             (IsImage (file_contents self.old) (shortened len (file_unsynced self.old))) }
         ensures cause { HasCause (file_failures self.old) (file_failures self.new) result }
+        ensures called { IsFileCall self.old self.new (is_ok result) }
         ensures changes { Changes self.old self.new result }
         ensures given_up { is_whole self.new ≡ false }
     {
@@ -294,6 +300,7 @@ impl Disk for FileDisk {
             (file_left_since self.old) (file_left_since self.new)
             (IsImage (file_contents self.old) (file_unsynced self.old)) }
         ensures cause { HasCause (file_failures self.old) (file_failures self.new) result }
+        ensures called { IsFileCall self.old self.new (is_ok result) }
         ensures changes { Changes self.old self.new result }
         ensures whole { is_whole self.new ≡ (is_whole self.old && not (is_err result)) }
     {
