@@ -6,6 +6,7 @@ use crate::put::Stored;
 use crate::read::{open_file, shuffled_names};
 use crate::timed::{find_timed, prepare_timed, put_timed};
 use anyhow::Result;
+use cm_front::Front;
 use cm_prepare::Prepared;
 use cm_stream::classes_in;
 use std::fs::{File, Files};
@@ -61,9 +62,20 @@ pub fn read_classes(
 ) -> Result<()> {
     let start = Instant::now(rt)?;
     let front = open_file(rt, path)?;
+    look_up(rt, &front, start, is_timed)
+}
+
+/// Looks up each class of a cache, and prints how many there are and what it took, the opening that
+/// began at `start` too.
+fn look_up(
+    rt: &(impl Clock + Print + AllocGlobal),
+    front: &Front,
+    start: Instant,
+    is_timed: bool,
+) -> Result<()> {
     let opening = start.elapsed(rt)?.as_nanos();
-    let names = shuffled_names(rt.alloc(), &front)?;
-    let (found, finding) = find_timed(rt, &front, &names)?;
+    let names = shuffled_names(rt.alloc(), front)?;
+    let (found, finding) = find_timed(rt, front, &names)?;
     let classes = names.len();
     print!(rt; "classes {classes} found {found}")?;
     if is_timed {
