@@ -1,5 +1,5 @@
 -- What one step of a committer does.
-use Rattle.std.specs.Prelude.{◌≡◌, ℕ, ◌+◌, ◌≤◌, ◌<◌, true, false, [], length, Some, None}
+use Rattle.std.specs.Prelude.{◌≡◌, ℕ, ◌+◌, ◌≤◌, ◌<◌, Bool, true, false, [], length, Some, None}
 use Rattle.std.specs.Prelude.{Result, Ok, Err}
 use Rattle.cm_group.specs.declared.receipt.Receipt.{Receipt}
 use Rattle.cm_group.specs.Groups.{Handed, slots_taken}
@@ -58,6 +58,16 @@ Advances old (Ok Working) new = Works old new
 Advances old (Ok (Done receipt)) new = Finishes old receipt new
 Advances old (Err Device) new = Breaks old new
 Advances old (Err Broken) new = StaysBroken old new
+
+-- Where nothing is left, or an earlier call failed, no device call is made. Else exactly one is, which
+-- fails exactly where a device fault is told.
+abbrev pub CallsDevice : {D : Type 0} → (D → D → Bool → Type 0) → D → Result Progress AdvanceFault
+    → D → Type 0
+CallsDevice called old (Ok Idle) new = new ≡ old
+CallsDevice called old (Ok Working) new = called old new true
+CallsDevice called old (Ok (Done receipt)) new = called old new true
+CallsDevice called old (Err Device) new = called old new false
+CallsDevice called old (Err Broken) new = new ≡ old
 
 -- The count of failures doesn't fall, and a device fault is told only where it rose.
 abbrev pub IsDevice : Result Progress AdvanceFault → Type 0

@@ -1,6 +1,6 @@
 //! The device calls that store a group.
 
-ghost use Rattle.std.specs.Prelude.{◌≡◌, ◌≤◌, ◌<◌, ◌+◌, ◌*◌, IfOk, length, vec_capacity};
+ghost use Rattle.std.specs.Prelude.{◌≡◌, ◌≤◌, ◌<◌, ◌+◌, ◌*◌, IfOk, is_ok, length, vec_capacity};
 ghost use Rattle.cm_layout.specs.Offsets.{root_size};
 ghost use Rattle.cm_layout.specs.Slots.{open_gate};
 ghost use Rattle.cm_group.specs.Groups.{entries_in, group_limit};
@@ -32,6 +32,7 @@ fn write_root<D: Disk>(
     requires fits { TakesWrite (root_write geometry root) (length (D.contents disk.old)) }
     ensures written { WritesOnce D.contents D.unsynced D.failures D.moment D.left_since
         (root_write geometry root) disk.old disk.new result }
+    ensures answered { D.called disk.old disk.new (is_ok result) }
     ensures room { vec_capacity buffer.old ≤ vec_capacity buffer.new }
 {
     put_zeros(buffer, root_bytes(geometry) as usize);
@@ -51,6 +52,7 @@ fn write_record<D: Disk>(
         (length (D.contents disk.old)) }
     ensures written { WritesOnce D.contents D.unsynced D.failures D.moment D.left_since
         (place_write geometry place class.now) disk.old disk.new result }
+    ensures answered { D.called disk.old disk.new (is_ok result) }
     ensures room { vec_capacity buffer.old ≤ vec_capacity buffer.new }
 {
     put_record(buffer, class);
@@ -71,6 +73,7 @@ fn write_slots<D: Disk>(
     ensures written { WritesOnce D.contents D.unsynced D.failures D.moment D.left_since
         (slots_write journal.geometry journal.half journal.end journal.number
         (entries_in group.now.entries)) disk.old disk.new result }
+    ensures answered { D.called disk.old disk.new (is_ok result) }
     ensures room { vec_capacity buffer.old ≤ vec_capacity buffer.new }
 {
     let at = slot_at(journal.geometry, journal.half, journal.end) + 1;
@@ -94,6 +97,7 @@ fn write_next<D: Disk>(
         (length (D.contents disk.old)) }
     ensures called { CallsOnce D.contents D.unsynced D.failures D.moment D.left_since
         (stages_at journal group.now (step.Write roots from)) disk.old disk.new result }
+    ensures answered { D.called disk.old disk.new (is_ok result) }
     ensures next { IfOk result (λ s. stages_at journal group.now s
         ≡ after_call (stages_at journal group.now (step.Write roots from))) }
     ensures room { vec_capacity buffer.old ≤ vec_capacity buffer.new }
@@ -126,6 +130,7 @@ fn write_gate<D: Disk>(disk: &mut D, journal: Journal) -> Result<(), DeviceFault
         (length (D.contents disk.old)) }
     ensures written { WritesOnce D.contents D.unsynced D.failures D.moment D.left_since
         (gate_write (next_gate journal) open_gate) disk.old disk.new result }
+    ensures answered { D.called disk.old disk.new (is_ok result) }
 {
     let gate = slot_at(journal.geometry, journal.half, journal.end);
     disk.write_at(gate, &[OPEN_GATE])
@@ -144,6 +149,7 @@ pub(crate) fn make_call<D: Disk>(
     requires fits { TakesCall (stages_at journal group.now now) (length (D.contents disk.old)) }
     ensures called { CallsOnce D.contents D.unsynced D.failures D.moment D.left_since
         (stages_at journal group.now now) disk.old disk.new result }
+    ensures answered { D.called disk.old disk.new (is_ok result) }
     ensures next { IfOk result (λ s. stages_at journal group.now s
         ≡ after_call (stages_at journal group.now now)) }
     ensures room { vec_capacity buffer.old ≤ vec_capacity buffer.new }

@@ -14,7 +14,7 @@ ghost use Rattle.cm_commit.specs.Offers.{carries_own, rows_after_group};
 ghost use Rattle.cm_commit.specs.GroupPlans.{roots_of_entries, roots_to_add, record_writes};
 ghost use Rattle.cm_commit.specs.Keeping.{keep_rules};
 ghost use Rattle.cm_commit.specs.States.{MayLeave, Takes, with_taken};
-ghost use Rattle.cm_commit.specs.Advances.{Advances, HasRisen};
+ghost use Rattle.cm_commit.specs.Advances.{Advances, CallsDevice, HasRisen};
 ghost use Rattle.cm_layout.specs.Offsets.{root_size};
 ghost use Rattle.cm_layout.specs.Rows.{bare, rows_with};
 ghost use Rattle.cm_commit.specs.Keeps.{IsHeld, roots_then};
@@ -249,6 +249,7 @@ impl<D: Disk> Committer<D> {
         ensures any_moment { LeavesOnly D.moment D.left_since self.old.disk self.new.disk
             (MayLeave self.old) }
         ensures cause { HasRisen (D.failures self.old.disk) (D.failures self.new.disk) result }
+        ensures call { CallsDevice D.called self.old.disk result self.new.disk }
     {
         if self.is_broken {
             return Err(AdvanceFault::Broken);

@@ -6,7 +6,7 @@ ghost use Rattle.std.specs.Arc.{arc_value};
 ghost use Rattle.cm_guards.specs.Guards.{EachImage};
 ghost use Rattle.cm_guards.specs.Calls.{LeavesOnly};
 ghost use Rattle.cm_prepare.specs.Commands.{change_asked};
-ghost use Rattle.cm_commit.specs.Advances.{HasRisen};
+ghost use Rattle.cm_commit.specs.Advances.{CallsDevice, HasRisen};
 ghost use Rattle.cm_machine.specs.Machine.{Machine};
 ghost use Rattle.cm_machine.specs.Laws.{Finds};
 ghost use Rattle.cm_session.specs.Images.{StandsForSome};
@@ -158,6 +158,8 @@ impl<D: Disk> Session<D> {
             (StandsForSome self.old.committer.sizes k) }
         ensures cause { HasRisen (D.failures self.old.committer.disk)
             (D.failures self.new.committer.disk) result }
+        ensures call { CallsDevice D.called self.old.committer.disk result
+            self.new.committer.disk }
         ensures no_call { IsNoCall result → self.new.committer.disk ≡ self.old.committer.disk }
         ensures sizes { self.new.committer.sizes ≡ self.old.committer.sizes }
         ensures steps { Steps D.contents self.old.committer result self.new.committer }
@@ -249,5 +251,15 @@ impl Session<SimDisk> {
         ensures machine { (k : Machine) → GoesWith k self.old → GoesWith k self.new }
     {
         self.committer.arm(stores);
+    }
+
+    /// Lets the disk's next call pass.
+    pub fn disarm(&mut self)
+        ensures disk { self.new.committer ≡ record self.old.committer {
+          disk = record self.old.committer.disk { armed = None };
+        } }
+        ensures machine { (k : Machine) → GoesWith k self.old → GoesWith k self.new }
+    {
+        self.committer.disarm();
     }
 }

@@ -1,6 +1,6 @@
 use Rattle.std.proofs.Common.{◌≡◌, ◌+◌, [], length, Some, refl, sym, ap}
 use Rattle.std.proofs.Common.{subst, ◌∙◌, arith}
-use Rattle.std.specs.Prelude.{vec_capacity, Option, is_err}
+use Rattle.std.specs.Prelude.{vec_capacity, Option, is_ok, is_err}
 use Rattle.std.specs.Arc.{arc_value}
 use Rattle.cm_guards.proofs.Left.{leaves_none}
 use Rattle.cm_layout.specs.Rows.{rows_with, bare}
@@ -272,4 +272,6 @@ returns-in_default-step g c =
           g.D.Disk.left_since g.met.D.Disk.only_now c.make_call-called.new.disk c.make_call-called.result
           made;
       cause = record { later = k.later; device = λ d. absurd d };
+      call = subst (λ b. g.D.Disk.called s.disk c.make_call-called.new.disk b)
+          (ap is_ok c.in-Ok.is) c.make_call-called.ensures.answered;
     })

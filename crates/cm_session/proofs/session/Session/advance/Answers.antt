@@ -1,6 +1,7 @@
 use Rattle.std.proofs.Common.{Bool, subst, sym}
 use Rattle.cm_pool.specs.Geometry.{Sizes}
 use Rattle.cm_guards.specs.Calls.{LeavesOnly}
+use Rattle.cm_commit.specs.Advances.{CallsDevice}
 use Rattle.cm_commit.specs.States.{MayLeave}
 use Rattle.cm_session.specs.Images.{StandsForSome}
 use Rattle.cm_session.specs.Moves.{Leads, Advancing}
@@ -35,6 +36,11 @@ returns-clause-any_moment g c =
     (stands_for_some laws.committed laws.counted laws.rows k s.front s.committer s.queue.items
     s.sealed s.has_failed (c.offer_next.ensures.machine k i))
     c.advance-progress.ensures.any_moment))
+
+pub returns-clause-call : goal.returns-clause-call
+returns-clause-call g c =
+    subst (λ d. CallsDevice g.D.Disk.called d c.advance-progress.result
+    c.advance-progress.new.self.disk) c.offer_next.ensures.disk c.advance-progress.ensures.call
 
 pub returns-clause-steps : goal.returns-clause-steps
 returns-clause-steps g c = record {
