@@ -7,7 +7,7 @@ use Rattle.cm_world.specs.declared.event.Event.{Event}
 use Rattle.cm_world.specs.declared.reply.Reply.{Reply}
 use Rattle.cm_world.specs.declared.world.World.{World}
 use Rattle.cm_world.specs.Steps.{State, IsStep}
-use Rattle.cm_world.specs.Runs.{Step, Chain, Ran, IsAt, IsBegun, HasRun}
+use Rattle.cm_world.specs.Runs.{Step, Chain, IsBegun, HasRun}
 use Rattle.cm_world.specs.Moves.{state, Moves}
 
 chain_more : (sizes : Sizes) (first last : State) (steps : List Step) (s : Step)

@@ -1,5 +1,5 @@
 -- An event that leaves the file open.
-use Rattle.std.proofs.Common.{◌≡◌, ℕ, List, refl, sym, ap, subst, ◌∙◌, Option, Some}
+use Rattle.std.proofs.Common.{◌≡◌, ap, subst}
 use Rattle.cm_pool.specs.Geometry.{Sizes}
 use Rattle.cm_disk.specs.declared.sim.SimDisk.{SimDisk}
 use Rattle.cm_disk.specs.Sim.{sim_contents, sim_unsynced, sim_moment, sim_left_since}
@@ -12,7 +12,7 @@ use Rattle.cm_session.specs.Moves.{GoesWith}
 use Rattle.cm_world.specs.declared.event.Event.{Event}
 use Rattle.cm_world.specs.declared.reply.Reply.{Reply}
 use Rattle.cm_world.specs.declared.world.World.{World}
-use Rattle.cm_world.specs.Steps.{State, IsStep, BeginsWith, Does}
+use Rattle.cm_world.specs.Steps.{BeginsWith, Does}
 use Rattle.cm_world.specs.Moves.{state, Moves}
 use Rattle.cm_world.proofs.Kept.{still}
 

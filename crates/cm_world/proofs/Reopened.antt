@@ -1,26 +1,21 @@
 -- A file that is opened.
-use Rattle.std.proofs.Common.{◌≡◌, ℕ, ◌≤◌, List, [], length, Result, Ok, Err, refl, sym, ap, subst, ◌∙◌, arith}
-use Rattle.std.proofs.Common.{true, false, None}
-use Rattle.std.specs.Prelude.{IfOk, IfErr, ◌↔◌}
+use Rattle.std.proofs.Common.{◌≡◌, ℕ, List, [], Result, Ok, Err, refl, sym, ap, subst, ◌∙◌, arith}
+use Rattle.std.proofs.Common.{false}
+use Rattle.std.specs.Prelude.{IfOk, ◌↔◌}
 use Rattle.std.specs.FinMap as map
-use Rattle.cm_class.specs.declared.class_file.ClassFile.{ClassFile}
 use Rattle.cm_pool.specs.Geometry.{Sizes}
 use Rattle.cm_disk.specs.declared.sim.SimDisk.{SimDisk}
 use Rattle.cm_disk.specs.Disk.{Unsynced, IsImage, IsBytes, IsSettled}
 use Rattle.cm_disk.specs.Sim.{sim_contents, sim_unsynced, sim_moment, sim_left_since, IsFresh}
-use Rattle.cm_guards.specs.Calls.{LeavesOnly}
-use Rattle.cm_guards.specs.Guards.{EachImage}
-use Rattle.cm_state.specs.Step.{Change}
 use Rattle.cm_recover.specs.NewFile.{new_bytes, IsEmptyCache}
 use Rattle.cm_machine.specs.Machine.{Machine, empty_machine, commands_to}
-use Rattle.cm_session.specs.Images.{StandsFor, StandsForSome}
-use Rattle.cm_session.specs.Moves.{GoesWith}
+use Rattle.cm_session.specs.Images.{StandsForSome}
 use Rattle.cm_session.proofs.Shown.{leaves_so}
 use Rattle.cm_world.specs.declared.event.Event.{Event}
 use Rattle.cm_world.specs.declared.reply.Reply.{Reply}
 use Rattle.cm_world.specs.declared.world.World.{World}
-use Rattle.cm_world.specs.Steps.{State, BeginsWith, Does, OpenedAgain}
-use Rattle.cm_world.specs.Runs.{IsBegun, IsNew}
+use Rattle.cm_world.specs.Steps.{BeginsWith, Does, OpenedAgain}
+use Rattle.cm_world.specs.Runs.{IsBegun}
 use Rattle.cm_world.specs.Moves.{state, Moves, MovesTo}
 
 pub map_ok : {A E : Type 0} {P Q : A → Type 0} (r : Result A E) → ((x : A) → P x → Q x)
@@ -91,6 +86,7 @@ begun sizes r disk w made m = record {
     contents = m.opens.contents_stay ∙ made;
     stored = m.opens.stored;
     images = m.images;
+    disarmed = m.opens.disarmed;
     machine = m.opens.reopens.reopens.next_is ∙ (λ i. record {
       base = empty_machine.base;
       commands = none i;

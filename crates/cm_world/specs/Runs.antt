@@ -1,10 +1,10 @@
 -- A run of a world: events one after another, from an empty cache on.
-use Rattle.std.specs.Prelude.{◌≡◌, List, [], ◌∷◌, map}
+use Rattle.std.specs.Prelude.{◌≡◌, List, [], ◌∷◌, None, map}
 use Rattle.cm_pool.specs.Geometry.{Sizes}
 use Rattle.cm_disk.specs.Disk.{IsSettled}
-use Rattle.cm_disk.specs.Sim.{sim_contents, sim_unsynced}
+use Rattle.cm_disk.specs.Sim.{sim_contents, sim_unsynced, sim_armed}
 use Rattle.cm_guards.specs.Guards.{EachImage}
-use Rattle.cm_machine.specs.Machine.{Machine, empty_machine}
+use Rattle.cm_machine.specs.Machine.{empty_machine}
 use Rattle.cm_recover.specs.NewFile.{new_bytes}
 use Rattle.cm_session.specs.Images.{StandsForSome}
 use Rattle.cm_session.specs.Moves.{GoesWith}
@@ -14,11 +14,12 @@ use Rattle.cm_world.specs.declared.world.World.{World}
 use Rattle.cm_world.specs.Steps.{State, IsStep}
 
 -- a disk that holds a new file, all of it stored, which stands for the empty cache; nothing was
--- accepted yet
+-- accepted yet, and nothing is armed
 pub record IsNew (sizes : Sizes) (s : State) : Type 0 where
   pub contents : sim_contents s.disk ≡ new_bytes sizes
   pub stored : IsSettled (sim_contents s.disk) (sim_unsynced s.disk)
   pub images : EachImage (sim_contents s.disk) (sim_unsynced s.disk) (StandsForSome sizes s.machine)
+  pub disarmed : sim_armed s.disk ≡ None
   pub machine : s.machine ≡ empty_machine
 
 -- an event with its reply, and the states before and after it

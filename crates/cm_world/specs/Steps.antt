@@ -10,7 +10,7 @@ use Rattle.cm_disk.specs.declared.sim.SimDisk.{SimDisk}
 use Rattle.cm_disk.specs.Chosen.{IsChosen}
 use Rattle.cm_disk.specs.Disk.{IsSettled}
 use Rattle.cm_disk.specs.Sim.{sim_contents, sim_unsynced, sim_failures, sim_moment, sim_left_since}
-use Rattle.cm_disk.specs.Sim.{IsFresh}
+use Rattle.cm_disk.specs.Sim.{sim_armed, sim_called, IsFresh}
 use Rattle.cm_guards.specs.Calls.{LeavesOnly}
 use Rattle.cm_guards.specs.Guards.{EachImage}
 use Rattle.cm_prepare.specs.declared.refusal.Refusal.{Refusal}
@@ -20,7 +20,7 @@ use Rattle.cm_commit.specs.declared.progress.Progress.{Progress}
 use Rattle.cm_commit.specs.declared.progress.Progress.TheVariants as progress
 use Rattle.cm_commit.specs.declared.progress.AdvanceFault.{AdvanceFault}
 use Rattle.cm_commit.specs.declared.progress.AdvanceFault.TheVariants as fault
-use Rattle.cm_commit.specs.Advances.{HasRisen}
+use Rattle.cm_commit.specs.Advances.{CallsDevice, HasRisen}
 use Rattle.cm_machine.specs.Machine.{Machine, Asks}
 use Rattle.cm_machine.specs.Laws.{Finds}
 use Rattle.cm_session.specs.declared.session.Sealed.{Sealed}
@@ -72,11 +72,14 @@ pub record HandedOut (r : Reply) (before after : State) : Type 0 where
   pub seals : Sealing before.machine result after.machine
   pub disk_stays : after.disk ≡ before.disk
 
--- a device fault is told only where the device's count of failures rose
+-- The machine's step. It makes no device call where nothing is left or the device failed before, else
+-- exactly one. That fails exactly where a fault was armed for it or memory was refused in it, and
+-- nothing is armed any more then.
 pub record Advanced (r : Reply) (before after : State) : Type 0 where
   pub result : Result Progress AdvanceFault
   pub reply_is : r ≡ advance_reply result
   pub advances : Advancing before.machine result after.machine
+  pub call : CallsDevice sim_called before.disk result after.disk
   pub no_call : IsNoCall result → after.disk ≡ before.disk
   pub cause : HasRisen (sim_failures before.disk) (sim_failures after.disk) result
 
@@ -105,13 +108,14 @@ pub record Armed (stores : ℕ) (r : Reply) (before after : State) : Type 0 wher
   pub machine_stays : after.machine ≡ before.machine
   pub disk_is : after.disk ≡ record before.disk { armed = Some stores }
 
--- the file is opened that the disk then holds; all of it is stored
+-- the file is opened that the disk then holds; all of it is stored, and nothing is armed
 pub record OpenedAgain (sizes : Sizes) (r : Reply) (opened : SimDisk) (before after : State)
     : Type 0 where
   pub reopens : Reopening sizes before.machine (sim_contents opened) after.machine
   pub reply_is : r ≡ reply.Opened reopens.number
   pub contents_stay : sim_contents after.disk ≡ sim_contents opened
   pub stored : IsSettled (sim_contents after.disk) (sim_unsynced after.disk)
+  pub disarmed : sim_armed after.disk ≡ None
 
 -- the disk that the event's device calls begin with: a crash leaves another than there was, which
 -- holds the chosen image

@@ -29,7 +29,8 @@ fn open_file(alloc: Global, disk: SimDisk) -> Result<(World, Reply), OpenFault>
         → IfErr result IsOutside }
 {
     match cm_session::open(alloc, disk) {
-        Ok(session) => {
+        Ok(mut session) => {
+            session.disarm(); // as its calls have: so the proof knows it
             session.images();
             let reply = Reply::Opened(session.number());
             Ok((World { alloc, session }, reply))

@@ -1,4 +1,9 @@
-use Rattle.std.proofs.Common.{sym, ap, subst, ◌∙◌}
+use Rattle.std.proofs.Common.{◌≡◌, sym, ap, subst, ◌∙◌}
+use Rattle.cm_disk.specs.declared.sim.SimDisk.{SimDisk}
+use Rattle.cm_disk.specs.Disk.{IsImage, IsSettled}
+use Rattle.cm_disk.specs.Sim.{sim_contents, sim_unsynced, sim_armed, sim_moment, sim_left_since}
+use Rattle.cm_guards.specs.Calls.{LeavesOnly}
+use Rattle.cm_commit.specs.States.{CommitterState}
 use Rattle.cm_machine.specs.Machine.{Machine}
 use Rattle.cm_world.specs.declared.world.World.{World}
 use Rattle.cm_world.specs.declared.reply.Reply.TheVariants as reply
@@ -9,20 +14,31 @@ pub returns-in-Ok-clause-opened : goal.returns-in-Ok-clause-opened
 returns-in-Ok-clause-opened c =
     λ sizes before some.
     let o = c.in-Ok.ensures.opened sizes before.machine some in
-    let w : World = record { alloc = c.args.alloc; session = c.in-Ok.session } in
+    let d = c.in-Ok.session.committer.disk in
+    let now = c.disarm.new.self in
+    let disk = c.args.disk in
+    let same = sym c.disarm.ensures.disk in
+    let w : World = record { alloc = c.args.alloc; session = now } in
+    let goes = c.disarm.ensures.machine o.leads.next o.leads.goes in
+    let sizes_are = subst (λ (z : CommitterState SimDisk). z.sizes ≡ sizes) same o.sizes_are in
     record {
       next = o.leads.next;
       opens = record {
         reopens = o.leads.does;
         reply_is = ap reply.Opened (c.number.ensures
-            ∙ (sym o.leads.goes.acknowledged_is
+            ∙ (sym goes.acknowledged_is
             ∙ ap (λ (k : Machine). k.acknowledged) o.leads.does.reopens.next_is));
-        contents_stay = o.contents_are;
-        stored = o.settled;
+        contents_stay = subst (λ (z : CommitterState SimDisk).
+            sim_contents z.disk ≡ sim_contents disk) same o.contents_are;
+        stored = subst (λ (z : CommitterState SimDisk).
+            IsSettled (sim_contents z.disk) (sim_unsynced z.disk)) same o.settled;
+        disarmed = ap (λ (z : CommitterState SimDisk). sim_armed z.disk) c.disarm.ensures.disk;
       };
-      moments = c.in-Ok.ensures.run.images;
-      images = subst (λ z. Shows z o.leads.next w) o.sizes_are
-          (c.images.ensures o.leads.next o.leads.goes);
-      goes = o.leads.goes;
-      sizes_are = o.sizes_are;
+      moments = subst (λ (z : CommitterState SimDisk). LeavesOnly sim_moment sim_left_since disk
+          z.disk (IsImage (sim_contents disk) (sim_unsynced disk))) same
+          (let before = c.in-Ok.ensures.run.images in
+          record { later = before.later; each = before.each; before = before.before });
+      images = subst (λ z. Shows z o.leads.next w) sizes_are (c.images.ensures o.leads.next goes);
+      goes = goes;
+      sizes_are = sizes_are;
     }

@@ -17,6 +17,7 @@ returns c =
       result = c.advance-answer.result;
       reply_is = c.advance_reply.ensures;
       advances = m.does;
+      call = does.call;
       no_call = does.no_call;
       cause = does.cause;
     })

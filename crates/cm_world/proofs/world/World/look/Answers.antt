@@ -1,6 +1,5 @@
 use Rattle.std.proofs.Common.{refl}
 use Rattle.cm_world.specs.declared.event.Event.TheVariants as event
-use Rattle.cm_world.specs.declared.world.World.{World}
 use Rattle.cm_world.proofs.Moved.{stays}
 use Rattle.cm_world.proofs.world.World.look.Goals as goal
 
