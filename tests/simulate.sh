@@ -28,6 +28,6 @@ checks() {
 }
 
 checks
-checks "$library" 379
+checks "$library" 401
 
 finish
