@@ -1,3 +1,4 @@
 pub mod Refusals
 pub mod Commands
 pub mod Prepare
+pub mod Names

@@ -16,11 +16,17 @@ impl Kept for Prepared {
     ghost mark = { mark_of };
 
     fn cmp_name(&self, other: &Prepared) -> Ordering {
-        Kept::cmp_name(self.record(), other.record())
+        match (self.short_name(), other.short_name()) {
+            (Some(name), Some(other)) => name.cmp(other),
+            _ => Kept::cmp_name(self.record(), other.record()),
+        }
     }
 
     fn cmp_name_to(&self, bytes: &[u8]) -> Ordering {
-        Kept::cmp_name_to(self.record(), bytes)
+        match self.short_name() {
+            Some(name) => name.cmp(bytes),
+            None => Kept::cmp_name_to(self.record(), bytes),
+        }
     }
 
     fn fingerprint(&self, owner: Option<u64>) -> u32 {

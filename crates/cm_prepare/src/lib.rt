@@ -7,6 +7,7 @@ mod from_bytes;
 mod kept;
 mod prepared;
 mod refusal;
+mod short_name;
 
 pub use bad_class::BadClass;
 pub use command::Command;

@@ -1,10 +1,11 @@
 //! A class that is ready to be defined.
 
-ghost use Rattle.std.specs.Prelude.{◌≡◌, length, IfOk};
+ghost use Rattle.std.specs.Prelude.{◌≡◌, length, IfOk, IfSome};
 ghost use Rattle.std.specs.Arc.{arc_value};
 ghost use Rattle.cm_group.specs.Groups.{IsRightRecord};
 ghost use Rattle.cm_record.specs.Names.{class_name_in};
 
+use crate::short_name::ShortName;
 use cm_record::{Record, words_tell_name};
 use std::alloc::{AllocError, Global};
 use std::marker::Model;
@@ -15,18 +16,31 @@ use std::sync::Arc;
 #[derive(Debug, Drop)]
 pub struct Prepared {
     class: Arc<Record, Global>,
+    /// The class's name once more, where it is short, so that who compares names needn't fetch the
+    /// record; else nothing.
+    name: ShortName,
+}
+
+/// The name of a record's class.
+fn name_of(alloc: Global, class: &Record) -> Result<Vec<u8>, AllocError>
+    ensures { IfOk result (λ name. name.items ≡ class_name_in class.now) }
+{
+    words_tell_name();
+    let _words = class.words(); // brings into the proof's scope that they are a record
+    class.class_name(alloc)
 }
 
 impl Model for Prepared {
     ghost use Rattle.std.specs.Prelude.{List, ℕ};
     ghost use Rattle.std.specs.Arc.{arc_value};
     ghost use Rattle.cm_group.specs.Groups.{IsRightRecord};
+    ghost use Rattle.cm_prepare.specs.Names.{IsNameBeside};
 
     ghost Value = { List ℕ };
 
     ghost view = { λ p. arc_value p.class };
 
-    ghost invariant = { λ p. IsRightRecord (arc_value p.class) };
+    ghost invariant = { λ p. IsRightRecord (arc_value p.class) × IsNameBeside p.name (arc_value p.class) };
 }
 
 impl Prepared {
@@ -35,8 +49,9 @@ impl Prepared {
         requires { IsRightRecord class }
         ensures { IfOk result (λ p. p ≡ class) }
     {
+        let name = ShortName::of(&name_of(alloc, &class)?);
         let class = Arc::new(alloc, class)?;
-        Ok(Prepared { class })
+        Ok(Prepared { class, name })
     }
 
     /// The same class once more, by the same record.
@@ -44,16 +59,23 @@ impl Prepared {
         ensures { IfOk result (λ p. p ≡ self.now) }
     {
         let class = self.class.clone()?;
-        Ok(Prepared { class })
+        let name = ShortName::of(self.name.as_bytes());
+        Ok(Prepared { class, name })
     }
 
     /// The class's name, as its Utf8 has it.
     pub fn class_name(&self, alloc: Global) -> Result<Vec<u8>, AllocError>
         ensures { IfOk result (λ name. name.items ≡ class_name_in self.now) }
     {
-        words_tell_name();
-        let _words = self.class.words(); // brings into the proof's scope that they are a record
-        self.class.class_name(alloc)
+        name_of(alloc, &self.class)
+    }
+
+    /// The class's name without a look at its record, where it is short.
+    pub(crate) fn short_name(&self) -> Option<&[u8]>
+        ensures { IfSome result (λ name. name.now ≡ class_name_in self.now) }
+    {
+        let name = self.name.as_bytes();
+        if name.is_empty() { None } else { Some(name) }
     }
 
     /// How many words its record has.
@@ -77,7 +99,7 @@ impl Prepared {
         ensures record { arc_value result ≡ self }
         ensures right { IsRightRecord self }
     {
-        let Prepared { class } = self;
+        let Prepared { class, .. } = self;
         class
     }
 }
