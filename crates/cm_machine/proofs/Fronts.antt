@@ -27,8 +27,8 @@ use Rattle.cm_state.specs.Laws.{EntriesAreSteps, ChangesGoOn}
 use Rattle.cm_commit.specs.Offers.{filled}
 use Rattle.cm_front.specs.Front.{FrontState, IsFront, is_half_full, first_refusal}
 use Rattle.cm_front.specs.Accepting.{Accepts, IsFullFor, SpaceAfter, accepted, carried}
-use Rattle.cm_handover.specs.Ahead.{IsAhead, pending}
-use Rattle.cm_handover.proofs.Accepted.{filled_again, pending_accepted}
+use Rattle.cm_machine.specs.Ahead.{IsAhead, pending}
+use Rattle.cm_machine.proofs.Accepted.{filled_again, pending_accepted}
 use Rattle.cm_machine.specs.Machine.{Base, Machine, Holds, Asks, WantsRoom, commands_to}
 use Rattle.cm_machine.specs.Machine.{IsReason as IsMachineReason, Accepts as MachineAccepts}
 use Rattle.cm_machine.specs.Following.{IsRightEntry, Make, Follows}

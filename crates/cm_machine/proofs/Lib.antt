@@ -1,3 +1,8 @@
+pub mod Following
+pub mod Tops
+pub mod Used
+pub mod Accepted
+pub mod Handed
 pub mod Classes
 pub mod Causes
 pub mod Making

@@ -14,7 +14,7 @@ use Rattle.cm_state.specs.Step.{Change}
 use Rattle.cm_commit.specs.Offers.{filled, rows_after_group}
 use Rattle.cm_front.specs.Front.{FrontState, IsFront}
 use Rattle.cm_front.specs.Accepting.{Answers}
-use Rattle.cm_handover.specs.Ahead.{IsAhead, pending}
+use Rattle.cm_machine.specs.Ahead.{IsAhead, pending}
 use Rattle.cm_machine.specs.Machine.{Machine, Holds, Asks, Accepts, Refuses}
 use Rattle.cm_machine.specs.Machine.{accepted_to, commands_to}
 use Rattle.cm_machine.specs.Following.{Follows, AreClasses}

@@ -1,3 +1,5 @@
+pub mod Ahead
+pub mod Handover
 pub mod Machine
 pub mod Following
 pub mod Laws

@@ -12,7 +12,7 @@ use Rattle.cm_state.specs.Step.{Change, Define}
 use Rattle.cm_front.specs.Front.{FrontState, IsFront}
 use Rattle.cm_front.specs.Accepting.{Answers as FrontAnswers}
 use Rattle.cm_commit.specs.States.{CommitterState}
-use Rattle.cm_handover.specs.Laws.{AcceptedIsAhead}
+use Rattle.cm_machine.specs.Handover.{AcceptedIsAhead}
 use Rattle.cm_machine.specs.Machine.{Machine, Asks, Accepts, Refuses}
 use Rattle.cm_machine.specs.Laws.{AcceptedIsMade, RefusedIsRefused, IsAccepted, FoundIsThere, Finds}
 use Rattle.cm_session.specs.Session.{of_underway, commands_of, IsSession}

@@ -10,8 +10,8 @@ use Rattle.cm_commit.specs.States.{CommitterState}
 use Rattle.cm_front.specs.Front.{FrontState, IsFront}
 use Rattle.cm_front.specs.Accepting.{HandsOut, with_learnt}
 use Rattle.cm_front.specs.Unsealed.{Follow}
-use Rattle.cm_handover.specs.Ahead.{IsAhead, pending}
-use Rattle.cm_handover.specs.Laws.{HandedIsAhead, LearntIsAhead, FailedIsAhead}
+use Rattle.cm_machine.specs.Ahead.{IsAhead, pending}
+use Rattle.cm_machine.specs.Handover.{HandedIsAhead, LearntIsAhead, FailedIsAhead}
 use Rattle.cm_machine.specs.Following.{Follows}
 use Rattle.cm_machine.specs.Laws.{CommandsAreCounted, FollowsFront}
 use Rattle.cm_state.specs.State.{class_shows, state_of}

@@ -24,13 +24,13 @@ use Rattle.cm_recover.specs.declared.fault.OpenFault.TheVariants as open_fault
 use Rattle.cm_recover.specs.Opening.{IsFaultIn}
 use Rattle.cm_recover.specs.Opened.{Opens}
 use Rattle.cm_recover.proofs.Opened.{AreShort, are_short, IsOpened, TellsName, opened}
-use Rattle.cm_handover.specs.Laws.{OpenedIsAhead}
+use Rattle.cm_machine.specs.Handover.{OpenedIsAhead}
 use Rattle.cm_machine.specs.Machine.{Base, Machine, Reopens, Holds, commands_to}
 use Rattle.cm_machine.specs.Machine.{machine_from}
 use Rattle.cm_machine.specs.Following.{AreRight, AreClasses, Follows}
 use Rattle.cm_machine.specs.Laws.{OpenedFollows, IsAfter, FollowsFront}
 use Rattle.cm_commit.specs.Offers.{filled}
-use Rattle.cm_handover.specs.Ahead.{pending}
+use Rattle.cm_machine.specs.Ahead.{pending}
 use Rattle.cm_machine.proofs.Classes.{bare_words}
 use Rattle.cm_session.specs.Images.{StandsFor, StandsForSome}
 use Rattle.cm_session.specs.Session.{IsSession, commands_of}

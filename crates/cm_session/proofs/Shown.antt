@@ -17,7 +17,7 @@ use Rattle.cm_commit.specs.Offers.{filled, rows_after_group}
 use Rattle.cm_commit.specs.Plans.{Stage, Store, Turn, Settle}
 use Rattle.cm_commit.specs.States.{CommitterState, ShowsCache, ShowsWith, leaves, MayLeave}
 use Rattle.cm_front.specs.Front.{FrontState}
-use Rattle.cm_handover.specs.Ahead.{pending}
+use Rattle.cm_machine.specs.Ahead.{pending}
 use Rattle.cm_machine.specs.Machine.{Machine, accepted_to}
 use Rattle.cm_machine.specs.Following.{AreRight, Follows}
 use Rattle.cm_machine.specs.Laws.{CommittedFollows, CommandsAreCounted, RowsAreAfter, IsAfter}

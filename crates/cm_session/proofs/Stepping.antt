@@ -16,8 +16,8 @@ use Rattle.cm_commit.specs.declared.progress.AdvanceFault.{AdvanceFault}
 use Rattle.cm_commit.specs.Advances.{Rests, Works, Finishes, Breaks, StaysBroken, Advances}
 use Rattle.cm_commit.proofs.Committing.{one_call_less}
 use Rattle.cm_front.specs.Front.{FrontState}
-use Rattle.cm_handover.specs.Ahead.{IsAhead, pending}
-use Rattle.cm_handover.specs.Laws.{CommittedIsAhead, HandedMayBeNext, MayBeNext}
+use Rattle.cm_machine.specs.Ahead.{IsAhead, pending}
+use Rattle.cm_machine.specs.Handover.{CommittedIsAhead, HandedMayBeNext, MayBeNext}
 use Rattle.cm_machine.specs.Following.{Follows}
 use Rattle.cm_machine.specs.Laws.{CommittedFollows, FollowsFront}
 use Rattle.cm_machine.specs.Machine.{Machine}

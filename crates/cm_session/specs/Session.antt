@@ -7,7 +7,7 @@ use Rattle.cm_group.specs.Groups.{Carried, Handed, IsGroup}
 use Rattle.cm_front.specs.Front.{FrontState, IsFront}
 use Rattle.cm_commit.specs.Plans.{Stage, calls_left}
 use Rattle.cm_commit.specs.States.{CommitterState}
-use Rattle.cm_handover.specs.Ahead.{IsAhead}
+use Rattle.cm_machine.specs.Ahead.{IsAhead}
 use Rattle.cm_machine.specs.Machine.{Machine}
 use Rattle.cm_machine.specs.Laws.{FollowsFront}
 

@@ -12,8 +12,7 @@ ghost use Rattle.cm_session.specs.Moves.{Opened, Begins, IsOutside, disk_of, Mee
 use crate::laws::held_cache_begins_machine;
 use crate::session::Session;
 use cm_disk::Disk;
-use cm_handover::opened_is_ahead;
-use cm_machine::committed_rows_are_the_machines;
+use cm_machine::{committed_rows_are_the_machines, opened_is_ahead};
 use cm_record::words_tell_name;
 use cm_recover::NotOpened;
 use cm_state::contents_determine_cache;

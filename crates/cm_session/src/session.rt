@@ -18,8 +18,10 @@ use cm_commit::{AdvanceFault, Committer, Progress};
 use cm_disk::{Disk, SimDisk};
 use cm_front::Front;
 use cm_group::{Group, Receipt};
-use cm_handover::{ahead_stays_ahead, handed_groups_are_next};
-use cm_machine::{commands_follow_the_machine, committed_rows_are_the_machines};
+use cm_machine::{
+    ahead_stays_ahead, commands_follow_the_machine, committed_rows_are_the_machines,
+    handed_groups_are_next,
+};
 use cm_pool::Geometry;
 use cm_prepare::{Command, Refusal};
 use cm_record::Record;

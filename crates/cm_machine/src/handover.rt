@@ -1,8 +1,8 @@
 //! How the accepted cache goes ahead of the committed one, as laws.
 
-ghost use Rattle.cm_handover.specs.Laws.{OpenedIsAhead, AcceptedIsAhead, HandedIsAhead};
-ghost use Rattle.cm_handover.specs.Laws.{LearntIsAhead, FailedIsAhead};
-ghost use Rattle.cm_handover.specs.Laws.{HandedMayBeNext, CommittedIsAhead};
+ghost use Rattle.cm_machine.specs.Handover.{OpenedIsAhead, AcceptedIsAhead, HandedIsAhead};
+ghost use Rattle.cm_machine.specs.Handover.{LearntIsAhead, FailedIsAhead};
+ghost use Rattle.cm_machine.specs.Handover.{HandedMayBeNext, CommittedIsAhead};
 
 use cm_front::chains_go_with_rows;
 use cm_pool::{held_chunks_come_and_go, roots_are_free};

@@ -31,8 +31,8 @@ use Rattle.cm_state.specs.Laws.{EntriesAreSteps}
 use Rattle.cm_commit.specs.Offers.{filled, own_record, HasRecords, writes_apart, rows_after_group}
 use Rattle.cm_front.proofs.RowFacts.{classes_more, classes_left}
 use Rattle.cm_front.proofs.Chains.{both, either, same_chunk-true, same-itself, meets-itself}
-use Rattle.cm_handover.specs.Ahead.{AllFollow, AtEach, AllApart}
-use Rattle.cm_handover.proofs.Following.{WordRows}
+use Rattle.cm_machine.specs.Ahead.{AllFollow, AtEach, AllApart}
+use Rattle.cm_machine.proofs.Following.{WordRows}
 
 -- ---- by the rows of classes alone
 

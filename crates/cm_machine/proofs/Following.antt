@@ -10,7 +10,7 @@ use Rattle.cm_state.specs.State.{words_show}
 use Rattle.cm_state.specs.Entries.{AreCacheRows}
 use Rattle.cm_state.specs.Laws.{EntriesAreSteps}
 use Rattle.cm_commit.specs.Offers.{filled, writes_apart, rows_after_group, MayJoinAll}
-use Rattle.cm_handover.specs.Ahead.{AllFollow, AtEach, AllApart}
+use Rattle.cm_machine.specs.Ahead.{AllFollow, AtEach, AllApart}
 
 abbrev pub WordRows : Type 0
 WordRows = List (Row (List ℕ))

@@ -10,7 +10,7 @@ use Rattle.cm_commit.specs.Offers.{MayJoinAll, rows_after_group}
 use Rattle.cm_front.specs.Front.{FrontState, IsFront}
 use Rattle.cm_front.specs.Accepting.{Answers, HandsOut, with_learnt}
 use Rattle.cm_front.specs.Restoring.{Restores}
-use Rattle.cm_handover.specs.Ahead.{IsAhead}
+use Rattle.cm_machine.specs.Ahead.{IsAhead}
 
 -- ---- the accepted cache
 

@@ -1,5 +1,5 @@
-use Rattle.cm_handover.proofs.Handed.{opened_is_ahead}
-use Rattle.cm_handover.proofs.laws.opened_is_ahead.Goals as goal
+use Rattle.cm_machine.proofs.Handed.{opened_is_ahead}
+use Rattle.cm_machine.proofs.handover.opened_is_ahead.Goals as goal
 
 pub returns : goal.returns
 returns c =

@@ -1,6 +1,6 @@
-use Rattle.cm_handover.proofs.Accepted.{accepted_is_ahead}
-use Rattle.cm_handover.proofs.Handed.{handed_is_ahead, learnt_is_ahead, failed_is_ahead}
-use Rattle.cm_handover.proofs.laws.ahead_stays_ahead.Goals as goal
+use Rattle.cm_machine.proofs.Accepted.{accepted_is_ahead}
+use Rattle.cm_machine.proofs.Handed.{handed_is_ahead, learnt_is_ahead, failed_is_ahead}
+use Rattle.cm_machine.proofs.handover.ahead_stays_ahead.Goals as goal
 
 pub returns : goal.returns
 returns c = record {

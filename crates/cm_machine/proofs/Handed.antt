@@ -15,15 +15,15 @@ use Rattle.cm_commit.specs.Offers.{rows_after_group}
 use Rattle.cm_front.specs.Laws.{ChainsHaveChunks}
 use Rattle.cm_front.specs.Front.{FrontState}
 use Rattle.cm_front.specs.Unsealed.{Follow}
-use Rattle.cm_handover.specs.Ahead.{AllFollow, AtEach, AllApart, AreUsed, UseNoneDue}
-use Rattle.cm_handover.specs.Ahead.{pending, IsAhead}
-use Rattle.cm_handover.specs.Laws.{OpenedIsAhead, HandedIsAhead, LearntIsAhead, FailedIsAhead}
-use Rattle.cm_handover.specs.Laws.{HandedMayBeNext, CommittedIsAhead}
-use Rattle.cm_handover.proofs.Following.{WordRows, rows_after_two, follow_first, follow_rest}
-use Rattle.cm_handover.proofs.Following.{at_rest}
-use Rattle.cm_handover.proofs.Following.{at_each_also, apart_rest, apart_from_first, may_join}
-use Rattle.cm_handover.proofs.Following.{cache_after}
-use Rattle.cm_handover.proofs.Used.{front_uses, front_due, used_once_learnt, due_once_learnt}
+use Rattle.cm_machine.specs.Ahead.{AllFollow, AtEach, AllApart, AreUsed, UseNoneDue}
+use Rattle.cm_machine.specs.Ahead.{pending, IsAhead}
+use Rattle.cm_machine.specs.Handover.{OpenedIsAhead, HandedIsAhead, LearntIsAhead, FailedIsAhead}
+use Rattle.cm_machine.specs.Handover.{HandedMayBeNext, CommittedIsAhead}
+use Rattle.cm_machine.proofs.Following.{WordRows, rows_after_two, follow_first, follow_rest}
+use Rattle.cm_machine.proofs.Following.{at_rest}
+use Rattle.cm_machine.proofs.Following.{at_each_also, apart_rest, apart_from_first, may_join}
+use Rattle.cm_machine.proofs.Following.{cache_after}
+use Rattle.cm_machine.proofs.Used.{front_uses, front_due, used_once_learnt, due_once_learnt}
 
 -- ---- opened
 

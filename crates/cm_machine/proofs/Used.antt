@@ -20,8 +20,8 @@ use Rattle.cm_front.specs.Laws.{ChainsHaveChunks}
 use Rattle.cm_front.specs.Front.{FrontState, IsFront}
 use Rattle.cm_front.proofs.RowFacts.{classes_bare}
 use Rattle.cm_front.proofs.Places.{used-with-root}
-use Rattle.cm_handover.specs.Ahead.{AreUsed, UseNoneDue}
-use Rattle.cm_handover.proofs.Following.{WordRows}
+use Rattle.cm_machine.specs.Ahead.{AreUsed, UseNoneDue}
+use Rattle.cm_machine.proofs.Following.{WordRows}
 
 -- ---- of an accepted cache
 

@@ -40,14 +40,14 @@ use Rattle.cm_front.specs.Accepting.{Accepts, SpaceAfter, accepted, carried, joi
 use Rattle.cm_front.proofs.RowFacts.{classes_bare}
 use Rattle.cm_front.proofs.Chains.{apart-unused}
 use Rattle.cm_front.proofs.Places.{some-top, fetched_free}
-use Rattle.cm_handover.specs.Ahead.{AllFollow, AtEach, AllApart, AreUsed, UseNoneDue}
-use Rattle.cm_handover.specs.Ahead.{pending, IsAhead}
-use Rattle.cm_handover.specs.Laws.{AcceptedIsAhead}
-use Rattle.cm_handover.proofs.Following.{WordRows, rows_after_two, follow_two, at_one_more}
-use Rattle.cm_handover.proofs.Following.{at_each_also}
-use Rattle.cm_handover.proofs.Following.{apart_one_more}
-use Rattle.cm_handover.proofs.Tops.{GoesOnTop, tops_apart, or_left, used_in}
-use Rattle.cm_handover.proofs.Used.{front_uses, front_due, used_fetched}
+use Rattle.cm_machine.specs.Ahead.{AllFollow, AtEach, AllApart, AreUsed, UseNoneDue}
+use Rattle.cm_machine.specs.Ahead.{pending, IsAhead}
+use Rattle.cm_machine.specs.Handover.{AcceptedIsAhead}
+use Rattle.cm_machine.proofs.Following.{WordRows, rows_after_two, follow_two, at_one_more}
+use Rattle.cm_machine.proofs.Following.{at_each_also}
+use Rattle.cm_machine.proofs.Following.{apart_one_more}
+use Rattle.cm_machine.proofs.Tops.{GoesOnTop, tops_apart, or_left, used_in}
+use Rattle.cm_machine.proofs.Used.{front_uses, front_due, used_fetched}
 
 -- ---- the entry that waits
 

@@ -1,5 +1,0 @@
-pub mod Following
-pub mod Tops
-pub mod Used
-pub mod Accepted
-pub mod Handed
