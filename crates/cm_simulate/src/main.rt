@@ -5,12 +5,10 @@
 #![tactic(auto)]
 
 mod command;
-mod simulate;
 
 use crate::command::{Request, WordsFault, read_words};
-use crate::simulate::{SimulateFault, bytes_of, simulate};
 use cm_disk::SimDisk;
-use cm_events::SimulationFault;
+use cm_events::{SimulateFault, SimulationFault, bytes_of, simulate};
 use std::fs::{self, File, Files};
 use std::io::{self, Read, Write};
 use std::process::ExitCode;

@@ -1,6 +1,6 @@
 use Rattle.std.proofs.Common.{ap, ◌∙◌}
 use Rattle.cm_events.specs.Texts.{answers}
-use Rattle.cm_simulate.proofs.simulate.simulate.Goals as goal
+use Rattle.cm_events.proofs.running.simulate.Goals as goal
 
 pub returns-in-Ok-answer_lines-clause-done : goal.returns-in-Ok-answer_lines-clause-done
 returns-in-Ok-answer_lines-clause-done c =

@@ -2,10 +2,12 @@
 
 ghost use Rattle.std.specs.Prelude.{◌≡◌, IfOk, IfErr};
 ghost use Rattle.cm_disk.specs.Sim.{sim_contents};
-ghost use Rattle.cm_simulate.specs.Simulated.{IsSimulated, IsStopped};
+ghost use Rattle.cm_events.specs.Simulated.{IsSimulated, IsStopped};
 
+use crate::fault::SimulationFault;
+use crate::simulation::{Simulation, read_simulation};
+use crate::text::answer_lines;
 use cm_disk::{DeviceFault, Disk, SimDisk};
-use cm_events::{Simulation, SimulationFault, answer_lines, read_simulation};
 use cm_recover::OpenFault;
 use cm_world::World;
 use std::alloc::{AllocError, Global};

@@ -9,8 +9,8 @@ use Rattle.cm_world.specs.Runs.{HasRun}
 use Rattle.cm_events.specs.declared.simulation.Simulation.{Simulation}
 use Rattle.cm_events.specs.Made.{IsSimulation, IsFault}
 use Rattle.cm_events.specs.Texts.{answers}
-use Rattle.cm_simulate.specs.declared.simulate.SimulateFault.{SimulateFault}
-use Rattle.cm_simulate.specs.declared.simulate.SimulateFault.TheVariants as fault
+use Rattle.cm_events.specs.declared.running.SimulateFault.{SimulateFault}
+use Rattle.cm_events.specs.declared.running.SimulateFault.TheVariants as fault
 
 -- The events of its lines are run one after another over a new file, the replies are written, and
 -- the disk is the one that is left.
