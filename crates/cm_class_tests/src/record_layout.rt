@@ -1,7 +1,8 @@
 //! The words of records, beside their description.
-use crate::samples::{
-    ALL_TAGS, CLASS_A, RECORD_A, RECORD_ALL_TAGS, bytes_of, record_bytes, record_of, with_attribute,
+use crate::record_samples::{
+    ALL_TAGS, RECORD_A, RECORD_ALL_TAGS, bytes_of, record_bytes, record_of, with_attribute,
 };
+use crate::samples::CLASS_A;
 use cm_class::read_shape;
 use cm_record::{Record, RecordRefusal, build};
 use std::test::Fail;

@@ -1,17 +1,11 @@
 //! Classes and their records, and what makes them.
+use crate::samples::CLASS_A;
 use cm_class::read_shape;
 use cm_record::{Record, build};
 use std::alloc::Global;
 use std::test::Fail;
 
-// The class A, which extends java/lang/Object, flags 0021: pool of two classes and their names.
-pub const CLASS_A: [u8; 53] = [
-    0xca, 0xfe, 0xba, 0xbe, 0, 0, 0, 0x34, 0, 5, 7, 0, 2, 1, 0, 1, 0x41, 7, 0, 4, 1, 0, 0x10, 0x6a,
-    0x61, 0x76, 0x61, 0x2f, 0x6c, 0x61, 0x6e, 0x67, 0x2f, 0x4f, 0x62, 0x6a, 0x65, 0x63, 0x74, 0,
-    0x21, 0, 1, 0, 3, 0, 0, 0, 0, 0, 0, 0, 0,
-];
-
-// Its record, from the layout's description.
+// The record of class A, from the layout's description.
 pub const RECORD_A: [u64; 16] = [
     0x10,
     0x0000_0003_0001_0021,

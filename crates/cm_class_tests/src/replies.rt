@@ -1,3 +1,5 @@
+//! Replies to commands and questions, letter by letter.
+
 use cm_prepare::{BadClass, Refusal, prepare};
 use cm_replies::{Kind, Reply, bad_line, defined, done, found, nothing, refused, unsure};
 use cm_rules::{Broken, Rule, Spot};

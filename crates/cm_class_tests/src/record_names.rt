@@ -1,5 +1,5 @@
 //! The parts of a class, read from its record.
-use crate::samples::{RECORD_A, RECORD_ALL_TAGS};
+use crate::record_samples::{RECORD_A, RECORD_ALL_TAGS};
 use cm_record::Record;
 use std::test::Fail;
 

@@ -1,5 +1,6 @@
 //! Constants, fields, methods and code, found in records.
-use crate::samples::{ALL_TAGS, CLASS_A, POOL_END, record_bytes, record_of};
+use crate::record_samples::{ALL_TAGS, POOL_END, record_bytes, record_of};
+use crate::samples::CLASS_A;
 use cm_record::{Code, Constant, Member, Record};
 use std::alloc::Global;
 use std::cmp::Ordering;

@@ -1,5 +1,5 @@
 //! Words that are no record.
-use crate::samples::RECORD_A;
+use crate::record_samples::RECORD_A;
 use cm_record::{Record, RecordFault};
 use std::test::Fail;
 

@@ -1,5 +1,5 @@
 //! Fields and methods with the name and the descriptor of one before them.
-use crate::classes::{Indexes, class_of};
+use crate::member_samples::{Indexes, class_of};
 use cm_class::Class;
 use cm_duplicates::{first_duplicate_field, first_duplicate_method};
 use std::alloc::Global;
