@@ -35,7 +35,7 @@ sweep() {
     check_last "$1 $2: $((refuse - 1)) refusals were met, and not $3"
 }
 
-sweep cm_pool_tests pools::a_failed_allocation_leaves_the_pool_as_it_was 13
+sweep cm_space_tests pools::a_failed_allocation_leaves_the_pool_as_it_was 13
 sweep cm_arena tests::places_words 15
 sweep cm_arena tests::takes_larger_chunks_in_a_longer_chain 25
 sweep cm_class_tests faults::a_fault_behind_a_refusal 11

@@ -3,9 +3,9 @@ use Rattle.std.proofs.Common.{arith}
 use Rattle.cm_pool.specs.FreeSpace.{FreeSpace, IsUsedChunk, with_chunk}
 use Rattle.cm_pool.specs.Held.{AreHeld}
 use Rattle.cm_pool.proofs.SpaceLaws.{held_is_given}
-use Rattle.cm_pool_tests.proofs.Splits.{split_at}
-use Rattle.cm_pool_tests.proofs.held.give_held.Goals as goal
-use Rattle.cm_pool_tests.proofs.held.give_held.Goals.{After-remove-chunk}
+use Rattle.cm_space_tests.proofs.Splits.{split_at}
+use Rattle.cm_space_tests.proofs.held_chunks.give_held.Goals as goal
+use Rattle.cm_space_tests.proofs.held_chunks.give_held.Goals.{After-remove-chunk}
 
 split : (c : After-remove-chunk) → IsUsedChunk c.args.pool.now c.remove-chunk.result
     × AreHeld (with_chunk c.args.pool.now c.remove-chunk.result) (take c.args.at c.args.held.now.items ++ drop (suc c.args.at) c.args.held.now.items)

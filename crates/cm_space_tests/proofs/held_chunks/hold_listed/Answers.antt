@@ -4,7 +4,7 @@ use Rattle.cm_pool.specs.FreeSpace.{FreeSpace, without}
 use Rattle.cm_pool.specs.Held.{AreHeld}
 use Rattle.std.proofs.lemmas.List.{append-nil}
 use Rattle.cm_pool.proofs.SpaceLaws.{taken_is_held}
-use Rattle.cm_pool_tests.proofs.held.hold.Goals as goal
+use Rattle.cm_space_tests.proofs.held_chunks.hold_listed.Goals as goal
 
 pub returns : goal.returns
 returns c =

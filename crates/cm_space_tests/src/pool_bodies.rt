@@ -1,7 +1,7 @@
 // The pool by rows of bits beside the one by a sorted list: equal answers to equal calls.
 ghost use Rattle.std.specs.Prelude.{◌≤◌};
 
-use crate::held::{give_held, give_listed, hold, hold_listed};
+use crate::held_chunks::{give_held, give_listed, hold, hold_listed};
 use cm_pool::{Chunk, Geometry, Pool};
 use cm_pool_list::ListPool;
 use std::alloc::{AllocError, Global};

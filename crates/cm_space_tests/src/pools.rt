@@ -1,6 +1,6 @@
 // The worked cases of a region with one root of 1,024 words, and a long run against a plain set of
 // words.
-use crate::held::{give_held, hold};
+use crate::held_chunks::{give_held, hold};
 use cm_pool::{Chunk, Geometry, Pool};
 use std::alloc::{AllocError, Global};
 use std::collections::BTreeSet;
