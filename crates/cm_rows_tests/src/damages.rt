@@ -2,7 +2,7 @@
 
 ghost use Rattle.std.specs.Prelude.{◌≤◌};
 
-use crate::samples::{Summary, damaged, found, small_front};
+use crate::file_samples::{Summary, damaged, found, small_front};
 use cm_verdict::{Damage, FileFault};
 use std::test::*;
 
