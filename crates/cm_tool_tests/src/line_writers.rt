@@ -76,7 +76,7 @@ fn a_writer_that_fails_or_takes_nothing_has_a_beginning(rt: HostRuntime) -> Resu
 
 /// Takes everything, and can't pass it on.
 #[derive(Drop)]
-struct StuckWriter;
+pub struct StuckWriter;
 
 impl Write for StuckWriter {
     fn write(&mut self, buf: &[u8]) -> io::Result<usize> {

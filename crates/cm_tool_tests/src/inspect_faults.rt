@@ -1,6 +1,6 @@
 //! What is told of files that aren't opened.
 
-use crate::disks::{cache_after, changed_cache, empty_cache, shortened_cache, told_to_end};
+use crate::inspect_disks::{cache_after, changed_cache, empty_cache, shortened_cache, told_to_end};
 use cm_disk::{Disk, FuseDisk, SimDisk};
 use cm_inspect::{check_to, list_to};
 use std::alloc::Global;

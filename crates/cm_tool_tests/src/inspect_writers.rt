@@ -1,6 +1,7 @@
 //! Writers that take a part, or can't pass on what they took.
 
-use crate::disks::{cache_after, told_to_end};
+use crate::inspect_disks::{cache_after, told_to_end};
+use crate::line_writers::StuckWriter;
 use cm_disk::SimDisk;
 use cm_inspect::{InspectFault, NotInspected, check_to, list_to};
 use std::alloc::Global;
@@ -92,20 +93,6 @@ fn a_fault_that_is_not_written_is_no_status(rt: HostRuntime) -> Result<(), Fail>
     assert_eq!(rt; fault, InspectFault::Output);
     assert_eq!(rt; writer.bytes.as_slice(), b"not a cache".as_slice());
     Ok(())
-}
-
-/// Takes everything, and can't pass it on.
-#[derive(Drop)]
-struct StuckWriter;
-
-impl Write for StuckWriter {
-    fn write(&mut self, buf: &[u8]) -> io::Result<usize> {
-        Ok(buf.len())
-    }
-
-    fn flush(&mut self) -> io::Result<()> {
-        Err(io::Error::from(ErrorKind::Other))
-    }
 }
 
 #[test]

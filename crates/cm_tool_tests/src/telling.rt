@@ -1,6 +1,6 @@
 //! What is told of sound caches.
 
-use crate::disks::{cache_after, told_to_end};
+use crate::inspect_disks::{cache_after, told_to_end};
 use cm_disk::{Disk, SimDisk};
 use cm_inspect::{check_to, list_to};
 use std::alloc::Global;
