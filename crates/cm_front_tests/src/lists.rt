@@ -1,7 +1,7 @@
 //! What is listed of accepted caches.
 
-use crate::calls::Call::{Define, Loader, Unload};
-use crate::calls::{Call, front_after};
+use crate::list_calls::Call::{Define, Loader, Unload};
+use crate::list_calls::{Call, front_after};
 use cm_list::{ListedClass, ListedLoader, list_accepted};
 use std::alloc::Global;
 use std::test::*;

@@ -1,8 +1,8 @@
 //! What is reported of files that hold a cache.
 
-use crate::calls::Call::{Define, Loader, Unload};
-use crate::calls::{Call, disk_after, new_disk};
 use crate::disks::{bytes_of, disk_of};
+use crate::stored_calls::Call::{Define, Loader, Unload};
+use crate::stored_calls::{Call, disk_after, new_disk};
 use cm_check::{Report, check};
 use cm_disk::{Disk, FuseDisk};
 use cm_recover::OpenFault;
