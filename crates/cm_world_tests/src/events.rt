@@ -1,15 +1,12 @@
 //! Events one after another, with what is replied to each.
 
+use crate::file_samples::CLASS_A;
 use cm_disk::Choice;
 use cm_pool::Geometry;
 use cm_prepare::{Command, Prepared, Refusal, prepare};
 use cm_world::{Event, Reply, World};
 use std::alloc::Global;
 use std::test::*;
-
-/// The class `A`, whose record has 16 words.
-const CLASS_A: &[u8] = b"cafebabe000000340005070002010001410700040100106a6176612f6c616e672f4f\
-    626a6563740021000100030000000000000000";
 
 /// An event: its loader is `a`, its class `A`; a crash leaves all bytes that were written.
 #[derive(Clone, Copy, Debug)]

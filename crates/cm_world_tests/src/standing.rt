@@ -1,6 +1,6 @@
 //! What files stand for, and which damage of a record is told first.
 
-use crate::samples::{CLASS_A, CLASS_B, ROOTS_AT, disk_of, file_of};
+use crate::file_samples::{CLASS_A, CLASS_B, ROOTS_AT, disk_of, file_of};
 use cm_disk::{Disk, FuseDisk};
 use cm_recover::{OpenFault, read_standing};
 use cm_verdict::Damage;
