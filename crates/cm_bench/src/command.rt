@@ -17,23 +17,29 @@ pub enum Request {
     Printed(u8),
 }
 
-fn whole_command<'a>(alloc: Global) -> Result<Command<'a>> {
-    let passes = Arg::new(alloc, "passes")
+fn passes<'a>(alloc: Global) -> Arg<'a> {
+    Arg::new(alloc, "passes")
         .long("passes")
         .value_name("N")
         .help("Run each step N times, and print the best time too")
         .action(ArgAction::Set)
-        .value_parser(value_parser!(u32).range(1..));
-    let methods = Arg::new(alloc, "methods")
+        .value_parser(value_parser!(u32).range(1..))
+}
+
+fn methods<'a>(alloc: Global) -> Arg<'a> {
+    Arg::new(alloc, "methods")
         .long("methods")
         .help("Print each method's max stack, max locals and code length instead")
-        .action(ArgAction::SetTrue);
+        .action(ArgAction::SetTrue)
+}
+
+fn whole_command<'a>(alloc: Global) -> Result<Command<'a>> {
     let command = Command::new(alloc, "cm_bench")
         .about(
             "Reads class files from standard input, each behind its length (4 bytes, big-endian)",
         )
-        .arg(passes)?
-        .arg(methods)?;
+        .arg(passes(alloc))?
+        .arg(methods(alloc))?;
     Ok(command)
 }
 

@@ -29,15 +29,21 @@ struct Signature {
     descriptor: Vec<u8>,
 }
 
-/// A record, and what is looked for in it.
+/// What is looked for in a record.
 #[derive(Drop)]
-pub struct Subject {
-    record: Record,
+struct Wanted {
     /// One more than the pool's last index.
     pool_count: u16,
     fields: Vec<Signature>,
     methods: Vec<Signature>,
     found: Vec<Member>,
+}
+
+/// A record, and what is looked for in it.
+#[derive(Drop)]
+pub struct Subject {
+    record: Record,
+    wanted: Wanted,
 }
 
 /// What became of calls.
@@ -75,38 +81,50 @@ fn signatures(
     Ok(all)
 }
 
-/// The record of a class file with all that is looked for in it; none where it has no record.
-fn make_subject(alloc: Global, class: &[u8]) -> Result<Option<Subject>, AllocError> {
-    let Some(record) = record_of(alloc, class)? else {
-        return Ok(None);
-    };
-    let class = record.to_class(alloc)?;
-    let fields = signatures(alloc, &class, class.fields())?;
-    let methods = signatures(alloc, &class, class.methods())?;
+/// The methods of a record that have these signatures.
+fn find_methods(
+    alloc: Global,
+    record: &Record,
+    signatures: &[Signature],
+) -> Result<Vec<Member>, AllocError> {
     let mut found = Vec::new(alloc);
-    for method in &methods {
-        if let Some(member) = record.method(&method.name, &method.descriptor) {
+    for one in signatures {
+        if let Some(member) = record.method(&one.name, &one.descriptor) {
             found.push(member)?;
         }
     }
+    Ok(found)
+}
+
+/// What is looked for in the record of a class.
+fn wanted_of(alloc: Global, record: &Record, class: &Class) -> Result<Wanted, AllocError> {
+    let fields = signatures(alloc, class, class.fields())?;
+    let methods = signatures(alloc, class, class.methods())?;
+    let found = find_methods(alloc, record, &methods)?;
     let pool_count = u16::try_from(class.slots().len())
         .unwrap_or(u16::MAX)
         .saturating_add(1);
-    Ok(Some(Subject {
-        record,
+    Ok(Wanted {
         pool_count,
         fields,
         methods,
         found,
-    }))
+    })
+}
+
+/// A record with all that is looked for in it.
+fn subject_of(alloc: Global, record: Record) -> Result<Subject, AllocError> {
+    let class = record.to_class(alloc)?;
+    let wanted = wanted_of(alloc, &record, &class)?;
+    Ok(Subject { record, wanted })
 }
 
 /// The subjects of class files.
 pub fn subjects(alloc: Global, classes: &[&[u8]]) -> Result<Vec<Subject>, AllocError> {
     let mut all = Vec::new(alloc);
     for class in classes {
-        if let Some(one) = make_subject(alloc, class)? {
-            all.push(one)?;
+        if let Some(record) = record_of(alloc, class)? {
+            all.push(subject_of(alloc, record)?)?;
         }
     }
     Ok(all)
@@ -159,14 +177,14 @@ impl Lookup {
             Lookup::ClassName => tally.add(!one.record.class_name(alloc)?.is_empty()),
             Lookup::SameName => tally.add(one.record.same_name(&next.record)),
             Lookup::Constant => {
-                for index in 0..one.pool_count {
+                for index in 0..one.wanted.pool_count {
                     tally.add(one.record.constant(index).is_some());
                 }
             }
-            Lookup::Field => look_for(&one.record, &one.fields, false, tally),
-            Lookup::Method => look_for(&one.record, &one.methods, true, tally),
+            Lookup::Field => look_for(&one.record, &one.wanted.fields, false, tally),
+            Lookup::Method => look_for(&one.record, &one.wanted.methods, true, tally),
             Lookup::Code => {
-                for member in &one.found {
+                for member in &one.wanted.found {
                     tally.add(one.record.code(member).is_some());
                 }
             }

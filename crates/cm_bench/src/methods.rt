@@ -2,6 +2,7 @@
 
 use crate::samples::record_of;
 use anyhow::Result;
+use cm_class::Class;
 use cm_record::{Code, Record};
 use std::str;
 
@@ -11,26 +12,51 @@ fn code_of(record: &Record, name: &[u8], descriptor: &[u8]) -> Option<Code> {
     record.code(&member)
 }
 
-/// Prints a line for each method of a record: class, name, descriptor, and of its code max stack,
-/// max locals and how many bytes it has; or `none`.
-fn print_methods_of(rt: &(impl Print + AllocGlobal), record: &Record) -> Result<()> {
-    let alloc = rt.alloc();
-    let class_name = record.class_name(alloc)?;
-    let class = record.to_class(alloc)?;
-    for method in class.methods() {
-        let (name, descriptor) = (class.utf8(method.name), class.utf8(method.descriptor));
-        let (own, name_text) = (str::from_utf8(&class_name)?, str::from_utf8(name)?);
-        let descriptor_text = str::from_utf8(descriptor)?;
-        print!(rt; "{own} {name_text} {descriptor_text} ")?;
-        match code_of(record, name, descriptor) {
-            Some(code) => {
-                let (stack, locals, len) = (code.max_stack, code.max_locals, code.code_len);
-                println!(rt; "{stack} {locals} {len}")?;
-            }
-            None => println!(rt; "none")?,
+/// Prints the names of a method: class, name, descriptor.
+fn print_names(
+    rt: &(impl Print + AllocGlobal),
+    class: &[u8],
+    name: &[u8],
+    descriptor: &[u8],
+) -> Result<()> {
+    let (class, name) = (str::from_utf8(class)?, str::from_utf8(name)?);
+    let descriptor = str::from_utf8(descriptor)?;
+    print!(rt; "{class} {name} {descriptor} ")?;
+    Ok(())
+}
+
+/// Prints max stack, max locals and how many bytes the code has; or `none`.
+fn print_code(rt: &(impl Print + AllocGlobal), code: Option<Code>) -> Result<()> {
+    match code {
+        Some(code) => {
+            let (stack, locals, len) = (code.max_stack, code.max_locals, code.code_len);
+            println!(rt; "{stack} {locals} {len}")?;
         }
+        None => println!(rt; "none")?,
     }
     Ok(())
+}
+
+/// Prints a line for each method of a class, whose record and name these are.
+fn print_methods_in(
+    rt: &(impl Print + AllocGlobal),
+    record: &Record,
+    class: &Class,
+    class_name: &[u8],
+) -> Result<()> {
+    for method in class.methods() {
+        let (name, descriptor) = (class.utf8(method.name), class.utf8(method.descriptor));
+        print_names(rt, class_name, name, descriptor)?;
+        print_code(rt, code_of(record, name, descriptor))?;
+    }
+    Ok(())
+}
+
+/// Prints a line for each method of a record.
+fn print_methods_of(rt: &(impl Print + AllocGlobal), record: &Record) -> Result<()> {
+    let class_name = record.class_name(rt.alloc())?;
+    let class = record.to_class(rt.alloc())?;
+    print_methods_in(rt, record, &class, &class_name)
 }
 
 /// Prints the methods of those classes that have a record, in their order.

@@ -55,29 +55,43 @@ impl Crowd {
 
     /// The chunks that are used.
     fn used(self, alloc: Global) -> Result<Vec<Chunk>, AllocError> {
-        let mut used = Vec::new(alloc);
         match self {
-            Crowd::FullRoots => {
-                for root in 0..255 {
-                    let at = 0;
-                    used.push(Chunk {
-                        root,
-                        order: 12,
-                        at,
-                    })?;
-                }
-            }
-            Crowd::SingleBlocks => {
-                for root in (0..8).rev() {
-                    for pair in (0..2048).rev() {
-                        let at = 256 * pair;
-                        used.push(Chunk { root, order: 0, at })?;
-                    }
-                }
-            }
+            Crowd::FullRoots => full_roots(alloc),
+            Crowd::SingleBlocks => single_blocks(alloc),
         }
-        Ok(used)
     }
+}
+
+/// The chunks of all roots but the last.
+fn full_roots(alloc: Global) -> Result<Vec<Chunk>, AllocError> {
+    let mut used = Vec::new(alloc);
+    for root in 0..255 {
+        let at = 0;
+        used.push(Chunk {
+            root,
+            order: 12,
+            at,
+        })?;
+    }
+    Ok(used)
+}
+
+/// Every other block of order 0 of a root, the last first.
+fn push_single_blocks(used: &mut Vec<Chunk>, root: u32) -> Result<(), AllocError> {
+    for pair in (0..2048).rev() {
+        let at = 256 * pair;
+        used.push(Chunk { root, order: 0, at })?;
+    }
+    Ok(())
+}
+
+/// Every other block of order 0 of the first eight roots, the last first.
+fn single_blocks(alloc: Global) -> Result<Vec<Chunk>, AllocError> {
+    let mut used = Vec::new(alloc);
+    for root in (0..8).rev() {
+        push_single_blocks(&mut used, root)?;
+    }
+    Ok(used)
 }
 
 /// How often a block is taken and given back.

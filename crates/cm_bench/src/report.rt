@@ -88,8 +88,39 @@ pub fn report_lookup(
     Ok(())
 }
 
-/// Takes a block of a crowded pool and gives it back, many times in each pass, and prints a line
-/// for each body.
+/// The least time that a body of a pool takes, in so many passes.
+fn best_of_pools(rt: &impl Clock, pools: &mut Pools, body: Body, passes: u32) -> Result<Duration> {
+    let mut best = Duration::MAX;
+    for _ in 0..passes {
+        let start = Instant::now(rt)?;
+        let _tally = pools.run(body);
+        best = best.min(start.elapsed(rt)?);
+    }
+    Ok(best)
+}
+
+/// Takes a block of a crowded pool and gives it back, many times in each pass, and prints a line.
+fn report_body(
+    rt: &(impl Clock + Print),
+    pools: &mut Pools,
+    crowd: Crowd,
+    body: Body,
+    passes: Option<u32>,
+) -> Result<()> {
+    let (crowd_name, body_name) = (crowd.name(), body.name());
+    let tally = pools.run(body);
+    let (calls, found) = (tally.calls, tally.found);
+    print!(rt; "{crowd_name}, {body_name} calls {calls} found {found}")?;
+    if let Some(passes) = passes {
+        let nanos = best_of_pools(rt, pools, body, passes)?.as_nanos();
+        let each = nanos / (calls as u128).max(1);
+        print!(rt; " best {nanos} ns {each} ns to take and give back")?;
+    }
+    println!(rt;)?;
+    Ok(())
+}
+
+/// Takes blocks of a crowded pool and gives them back, and prints a line for each body.
 pub fn report_pools(
     rt: &(impl Clock + Print + AllocGlobal),
     crowd: Crowd,
@@ -99,22 +130,7 @@ pub fn report_pools(
         return Ok(());
     };
     for body in Body::ALL {
-        let (crowd, body_name) = (crowd.name(), body.name());
-        let tally = pools.run(body);
-        let (calls, found) = (tally.calls, tally.found);
-        print!(rt; "{crowd}, {body_name} calls {calls} found {found}")?;
-        if let Some(passes) = passes {
-            let mut best = Duration::MAX;
-            for _ in 0..passes {
-                let start = Instant::now(rt)?;
-                let _tally = pools.run(body);
-                best = best.min(start.elapsed(rt)?);
-            }
-            let nanos = best.as_nanos();
-            let each = nanos / (calls as u128).max(1);
-            print!(rt; " best {nanos} ns {each} ns to take and give back")?;
-        }
-        println!(rt;)?;
+        report_body(rt, &mut pools, crowd, body, passes)?;
     }
     Ok(())
 }
