@@ -8,26 +8,44 @@ use std::rt::Clock;
 use std::time::{Duration, Instant};
 
 /// What became of the calls of a phase, and the least time that they took in a pass.
-#[derive(Drop)]
+#[derive(Clone, Copy)]
 struct Measured {
     phase: Phase,
     tally: Tally,
     best: Duration,
 }
 
-/// Runs all phases once, on a cache of their own.
-fn pass(rt: &(impl Clock + AllocGlobal), samples: &Samples) -> Result<Vec<Measured>> {
-    let alloc = rt.alloc();
-    let mut stage = Stage::new(alloc, samples)?;
-    let mut all = Vec::with_capacity(alloc, Phase::ALL.len())?;
+/// Runs a phase on a cache.
+fn measure(
+    rt: &impl Clock,
+    stage: &mut Stage,
+    phase: Phase,
+    samples: &Samples,
+) -> Result<Measured> {
+    stage.make_ready(phase, samples)?;
+    let start = Instant::now(rt)?;
+    let tally = stage.run(phase, samples);
+    let best = start.elapsed(rt)?;
+    Ok(Measured { phase, tally, best })
+}
+
+/// Runs all phases on a cache.
+fn measure_all(
+    rt: &(impl Clock + AllocGlobal),
+    stage: &mut Stage,
+    samples: &Samples,
+) -> Result<Vec<Measured>> {
+    let mut all = Vec::with_capacity(rt.alloc(), Phase::ALL.len())?;
     for phase in Phase::ALL {
-        stage.make_ready(phase, samples)?;
-        let start = Instant::now(rt)?;
-        let tally = stage.run(phase, samples);
-        let best = start.elapsed(rt)?;
-        all.push(Measured { phase, tally, best })?;
+        all.push(measure(rt, stage, phase, samples)?)?;
     }
     Ok(all)
+}
+
+/// Runs all phases once, on a cache of their own.
+fn pass(rt: &(impl Clock + AllocGlobal), samples: &Samples) -> Result<Vec<Measured>> {
+    let mut stage = Stage::new(rt.alloc(), samples)?;
+    measure_all(rt, &mut stage, samples)
 }
 
 /// Runs all phases in so many passes.
@@ -41,6 +59,18 @@ fn passes(rt: &(impl Clock + AllocGlobal), samples: &Samples, count: u32) -> Res
     Ok(all)
 }
 
+/// Prints the line of a phase, with the nanoseconds of a call where they are asked for.
+fn print_measured(rt: &impl Print, one: Measured, is_timed: bool) -> Result<()> {
+    let (name, calls, done) = (one.phase.name(), one.tally.calls, one.tally.done);
+    print!(rt; "  {name}: calls {calls} done {done}")?;
+    if is_timed {
+        let each = one.best.as_nanos() / (calls as u128).max(1);
+        print!(rt; " {each} ns")?;
+    }
+    println!(rt;)?;
+    Ok(())
+}
+
 /// Prints a line for each phase, with the nanoseconds of a call where passes are asked for.
 pub fn report(
     rt: &(impl Clock + Print + AllocGlobal),
@@ -51,14 +81,8 @@ pub fn report(
     let (spread, naming, size) = (scene.spread.name(), scene.naming.name(), scene.size.name());
     let (classes, met) = (samples.classes.len(), samples.met);
     println!(rt; "{classes} {size}, {spread}, {naming} of which {met} meet")?;
-    for one in passes(rt, samples, times.unwrap_or(1))? {
-        let (name, calls, done) = (one.phase.name(), one.tally.calls, one.tally.done);
-        print!(rt; "  {name}: calls {calls} done {done}")?;
-        if times.is_some() {
-            let each = one.best.as_nanos() / (calls as u128).max(1);
-            print!(rt; " {each} ns")?;
-        }
-        println!(rt;)?;
+    for one in &passes(rt, samples, times.unwrap_or(1))? {
+        print_measured(rt, *one, times.is_some())?;
     }
     Ok(())
 }
