@@ -46,14 +46,22 @@ pub enum Request {
     Printed(u8),
 }
 
-/// An option that takes a whole number.
-fn number<'a>(alloc: Global, name: &'a str, usual: &'a str, help: &'a str) -> Arg<'a> {
+/// An option that takes a whole number, with the usual one and its bounds.
+fn number<'a>(
+    alloc: Global,
+    name: &'a str,
+    usual: &'a str,
+    bounds: (u32, u32),
+    help: &'a str,
+) -> Arg<'a> {
+    let (least, most) = bounds;
     Arg::new(alloc, name)
         .long(name)
         .value_name("N")
         .help(help)
         .action(ArgAction::Set)
         .default_value(usual)
+        .value_parser(value_parser!(u32).range(i64::from(least)..=i64::from(most)))
 }
 
 fn file<'a>(alloc: Global, help: &'a str) -> Arg<'a> {
@@ -71,29 +79,40 @@ fn times<'a>(alloc: Global) -> Arg<'a> {
         .action(ArgAction::SetTrue)
 }
 
+fn group<'a>(alloc: Global) -> Arg<'a> {
+    number(
+        alloc,
+        "group",
+        "1",
+        (1, 64),
+        "How many classes a commit takes",
+    )
+}
+
+fn top<'a>(alloc: Global) -> Arg<'a> {
+    let help = "The order of a root: it has 128 * 2^N words";
+    number(alloc, "top", "8", (3, 12), help)
+}
+
+fn roots<'a>(alloc: Global) -> Arg<'a> {
+    let help = "How many roots the cache may have";
+    number(alloc, "roots", "64", (1, 256), help)
+}
+
+fn slots<'a>(alloc: Global) -> Arg<'a> {
+    let help = "How many slots each half of the journal has";
+    number(alloc, "slots", "4096", (256, 65_536), help)
+}
+
 fn put_command<'a>(alloc: Global) -> Result<Command<'a>> {
-    let group = number(alloc, "group", "1", "How many classes a commit takes");
-    let top = number(
-        alloc,
-        "top",
-        "8",
-        "The order of a root: it has 128 * 2^N words",
-    );
-    let roots = number(alloc, "roots", "64", "How many roots the cache may have");
-    let slots = number(
-        alloc,
-        "slots",
-        "4096",
-        "How many slots each half of the journal has",
-    );
     let command = Command::new(alloc, "put")
         .about("Defines the classes on standard input in a new file")
         .arg(file(alloc, "The file to make"))?
         .arg(times(alloc))?
-        .arg(group.value_parser(value_parser!(u32).range(1..=64)))?
-        .arg(top.value_parser(value_parser!(u32).range(3..=12)))?
-        .arg(roots.value_parser(value_parser!(u32).range(1..=256)))?
-        .arg(slots.value_parser(value_parser!(u32).range(256..=65_536)))?;
+        .arg(group(alloc))?
+        .arg(top(alloc))?
+        .arg(roots(alloc))?
+        .arg(slots(alloc))?;
     Ok(command)
 }
 

@@ -4,6 +4,7 @@ use anyhow::Result;
 use cm_file_disk::FileDisk;
 use cm_front::Front;
 use cm_layout::Row;
+use cm_prepare::Prepared;
 use cm_recover::{NotOpened, open};
 use rand::seq::SliceRandom;
 use rand_pcg::Pcg32;
@@ -51,29 +52,63 @@ fn name_of(alloc: Global, loaders: &[LoaderName], number: u64) -> Result<Vec<u8>
     Ok(Vec::new(alloc))
 }
 
-/// The names of all classes, in a shuffled order.
-pub fn shuffled_names(alloc: Global, front: &Front) -> Result<Vec<ClassName>> {
-    let rows = front.rows();
-    let mut walk = rows.walk();
-    let mut loaders = Vec::new(alloc);
-    let mut names = Vec::new(alloc);
-    'rows: for _ in 0..rows.len() {
-        match walk.next() {
-            Some(Row::Loader(row)) => {
-                let name = Vec::from_slice(alloc, row.name.as_bytes())?;
-                loaders.push(LoaderName {
-                    number: row.number,
-                    name,
-                })?;
-            }
-            Some(Row::Class(row, class)) => {
-                let loader = name_of(alloc, &loaders, row.loader)?;
-                let class = class.class_name(alloc)?;
-                names.push(ClassName { loader, class })?;
-            }
-            None => break 'rows,
+/// The name of a class, copied, with that of its loader.
+fn class_name_of(
+    alloc: Global,
+    loaders: &[LoaderName],
+    number: u64,
+    class: &Prepared,
+) -> Result<ClassName> {
+    let loader = name_of(alloc, loaders, number)?;
+    let class = class.class_name(alloc)?;
+    Ok(ClassName { loader, class })
+}
+
+/// The names of loaders and of classes that rows were seen of.
+#[derive(Drop)]
+struct Seen {
+    loaders: Vec<LoaderName>,
+    names: Vec<ClassName>,
+}
+
+/// Adds the name of a row; the loader of a class comes before it.
+fn see(alloc: Global, seen: &mut Seen, row: &Row<Prepared>) -> Result<()> {
+    match row {
+        Row::Loader(row) => {
+            let name = Vec::from_slice(alloc, row.name.as_bytes())?;
+            seen.loaders.push(LoaderName {
+                number: row.number,
+                name,
+            })?;
+        }
+        Row::Class(row, class) => {
+            let name = class_name_of(alloc, &seen.loaders, row.loader, class)?;
+            seen.names.push(name)?;
         }
     }
+    Ok(())
+}
+
+/// The names of the rows of a cache, in their order.
+fn see_all(alloc: Global, front: &Front) -> Result<Seen> {
+    let mut seen = Seen {
+        loaders: Vec::new(alloc),
+        names: Vec::new(alloc),
+    };
+    let rows = front.rows();
+    let mut walk = rows.walk();
+    'rows: for _ in 0..rows.len() {
+        let Some(row) = walk.next() else {
+            break 'rows;
+        };
+        see(alloc, &mut seen, row)?;
+    }
+    Ok(seen)
+}
+
+/// The names of all classes, in a shuffled order.
+pub fn shuffled_names(alloc: Global, front: &Front) -> Result<Vec<ClassName>> {
+    let Seen { mut names, .. } = see_all(alloc, front)?;
     names.shuffle(&mut Pcg32::new(42, 54));
     Ok(names)
 }
