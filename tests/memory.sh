@@ -39,7 +39,7 @@ sweep cm_space_tests pools::a_failed_allocation_leaves_the_pool_as_it_was 13
 sweep cm_arena tests::places_words 15
 sweep cm_arena tests::takes_larger_chunks_in_a_longer_chain 25
 sweep cm_class_tests faults::a_fault_behind_a_refusal 11
-sweep cm_front_tests commands::a_left_chunk_waits_for_its_receipt 210
+sweep cm_front_tests commands::a_left_chunk_waits_for_its_receipt 212
 
 # The program's own: making a file, and scripts with commands that are done, refused, and looked up, in memory and on a file.
 a=cafebabe000000340005070002010001410700040100106a6176612f6c616e672f4f626a6563740021000100030000000000000000
@@ -50,14 +50,14 @@ sweep_program() {
     WORK=$work tests/refused_memory.py "$built" "$library" "$@" <"$work/in"
     check_last "the program with a refused allocation: $*"
 }
-sweep_program 324 apply --memory
-sweep_program 323 apply FILE
+sweep_program 325 apply --memory
+sweep_program 324 apply FILE
 sweep_program 83 format FILE
 # Opening a file alone, and looking at it.
 : >"$work/in"
-sweep_program 315 apply FILE
-sweep_program 240 check FILE
-sweep_program 353 list FILE
+sweep_program 318 apply FILE
+sweep_program 243 check FILE
+sweep_program 356 list FILE
 
 # asks NAME HEX: reading, judging and recording this class asks for no more than 4,096 bytes at once, though it claims more.
 bench=$(built cm_bench)

@@ -28,6 +28,6 @@ checks() {
 }
 
 checks
-checks "$library" 401
+checks "$library" 404
 
 finish
