@@ -13,9 +13,9 @@ use std::fs::{File, Files};
 
 /// A class by its names.
 #[derive(Drop)]
-pub struct ClassName {
-    pub loader: Vec<u8>,
-    pub class: Vec<u8>,
+struct ClassName {
+    loader: Vec<u8>,
+    class: Vec<u8>,
 }
 
 /// A loader by its number.
@@ -106,20 +106,67 @@ fn see_all(alloc: Global, front: &Front) -> Result<Seen> {
     Ok(seen)
 }
 
+/// Where a loader's name ends, and where the name of its class behind it does.
+#[derive(Clone, Copy)]
+struct Ends {
+    loader: usize,
+    class: usize,
+}
+
+/// The names of classes, one behind another in the order in which they are looked up, so that
+/// fetching them takes no time of its own.
+#[derive(Drop)]
+pub struct Asked {
+    bytes: Vec<u8>,
+    ends: Vec<Ends>,
+}
+
+impl Asked {
+    /// How many classes are looked up.
+    pub fn len(&self) -> usize {
+        self.ends.len()
+    }
+
+    fn push(&mut self, name: &ClassName) -> Result<(), AllocError> {
+        self.bytes.extend_from_slice(&name.loader)?;
+        let loader = self.bytes.len();
+        self.bytes.extend_from_slice(&name.class)?;
+        let class = self.bytes.len();
+        self.ends.push(Ends { loader, class })?;
+        Ok(())
+    }
+}
+
+/// These names, in their order.
+fn ask_for(alloc: Global, names: &[ClassName]) -> Result<Asked, AllocError> {
+    let mut asked = Asked {
+        bytes: Vec::new(alloc),
+        ends: Vec::new(alloc),
+    };
+    for name in names {
+        asked.push(name)?;
+    }
+    Ok(asked)
+}
+
 /// The names of all classes, in a shuffled order.
-pub fn shuffled_names(alloc: Global, front: &Front) -> Result<Vec<ClassName>> {
+pub fn shuffled_names(alloc: Global, front: &Front) -> Result<Asked> {
     let Seen { mut names, .. } = see_all(alloc, front)?;
     names.shuffle(&mut Pcg32::new(42, 54));
-    Ok(names)
+    Ok(ask_for(alloc, &names)?)
 }
 
 /// How many of the classes are found.
-pub fn find_all(front: &Front, names: &[ClassName]) -> u64 {
+pub fn find_all(front: &Front, asked: &Asked) -> u64 {
     let mut found = 0u64;
-    for name in names {
-        if front.find(&name.loader, &name.class).is_some() {
+    let mut from = 0;
+    for ends in &asked.ends {
+        let loader = asked.bytes.get(from..ends.loader).unwrap_or(&[]);
+        let class = asked.bytes.get(ends.loader..ends.class).unwrap_or(&[]);
+        if front.find(loader, class).is_some() {
             found = found.saturating_add(1);
         }
+        from = ends.class;
     }
     found
 }

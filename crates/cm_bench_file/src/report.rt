@@ -74,9 +74,9 @@ fn look_up(
     is_timed: bool,
 ) -> Result<()> {
     let opening = start.elapsed(rt)?.as_nanos();
-    let names = shuffled_names(rt.alloc(), front)?;
-    let (found, finding) = find_timed(rt, front, &names)?;
-    let classes = names.len();
+    let asked = shuffled_names(rt.alloc(), front)?;
+    let (found, finding) = find_timed(rt, front, &asked)?;
+    let classes = asked.len();
     print!(rt; "classes {classes} found {found}")?;
     if is_timed {
         print!(rt; " opened in {opening} ns, looked up in {finding} ns")?;

@@ -3,7 +3,7 @@
 use crate::command::Putting;
 use crate::counted::Counts;
 use crate::put::{Stored, close, make_cache, open_session, prepare_all, store_all};
-use crate::read::{ClassName, find_all};
+use crate::read::{Asked, find_all};
 use anyhow::Result;
 use cm_disk::Disk;
 use cm_front::Front;
@@ -51,8 +51,8 @@ pub fn put_timed(
 }
 
 /// Looks up classes.
-pub fn find_timed(rt: &impl Clock, front: &Front, names: &[ClassName]) -> Result<(u64, u128)> {
+pub fn find_timed(rt: &impl Clock, front: &Front, asked: &Asked) -> Result<(u64, u128)> {
     let start = Instant::now(rt)?;
-    let found = find_all(front, names);
+    let found = find_all(front, asked);
     Ok((found, start.elapsed(rt)?.as_nanos()))
 }
