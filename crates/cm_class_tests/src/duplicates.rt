@@ -16,11 +16,15 @@ fn found_in(alloc: Global, class: &Class) -> Result<Found, Fail> {
     Ok((field, method))
 }
 
-/// What is found where the fields are these, and where the methods are.
-fn found(alloc: Global, utf8s: &[&[u8]], members: &[Indexes]) -> Result<(Found, Found), Fail> {
-    let of_fields = found_in(alloc, &class_of(alloc, utf8s, members, &[])?)?;
-    let of_methods = found_in(alloc, &class_of(alloc, utf8s, &[], members)?)?;
-    Ok((of_fields, of_methods))
+/// What is found where the fields and the methods are these.
+fn found(
+    alloc: Global,
+    utf8s: &[&[u8]],
+    fields: &[Indexes],
+    methods: &[Indexes],
+) -> Result<Found, Fail> {
+    let class = class_of(alloc, utf8s, fields, methods)?;
+    found_in(alloc, &class)
 }
 
 /// That such a place is found among such members: the same for fields and for methods, and none
@@ -31,8 +35,13 @@ fn is_first(
     members: &[Indexes],
     place: Option<u16>,
 ) -> Result<(), Fail> {
-    let found = found(rt.alloc(), utf8s, members)?;
-    assert_eq!(rt; found, ((place, None), (None, place)), "at {members:?}");
+    let (alloc, count) = (rt.alloc(), members.len());
+    let (field, method) = found(alloc, utf8s, members, &[])?;
+    assert_eq!(rt; field, place, "among {count} fields");
+    assert_eq!(rt; method, None);
+    let (field, method) = found(alloc, utf8s, &[], members)?;
+    assert_eq!(rt; field, None);
+    assert_eq!(rt; method, place, "among {count} methods");
     Ok(())
 }
 

@@ -1,7 +1,7 @@
 //! Bytes that are no class file, and which fault they have.
-use crate::samples::{CLASS_A, each_kind};
+use crate::samples::{CLASS_A, EACH_KIND, joined, with_byte};
 use cm_class::{ShapeFault, read_shape};
-use std::alloc::Global;
+use std::alloc::{AllocError, Global};
 use std::test::Fail;
 
 /// Bytes of class A, what stands in their place, and the first byte with which no class goes on.
@@ -19,43 +19,35 @@ const WRONG: [(usize, u8, usize); 11] = [
     (20, 17, 20),
 ];
 
-fn with_byte(place: usize, byte: u8) -> [u8; 53] {
-    let mut bytes = CLASS_A;
-    if let Some(here) = bytes.get_mut(place) {
-        *here = byte;
-    }
-    bytes
-}
-
 fn fault(alloc: Global, bytes: &[u8]) -> Option<ShapeFault> {
     read_shape(alloc, bytes).err()
 }
 
-/// The fault of the first bytes of a text, so many of them.
-fn fault_of_first(alloc: Global, bytes: &[u8], len: usize) -> Result<Option<ShapeFault>, Fail> {
-    Ok(fault(alloc, bytes.get(..len).ok_or("so many bytes")?))
-}
-
 #[test]
-fn beginnings_are_truncated(rt: HostRuntime) -> Result<(), Fail> {
-    let each_kind = each_kind(rt.alloc())?;
-    for bytes in [CLASS_A.as_slice(), each_kind.as_slice()] {
+fn beginnings_are_truncated(rt: HostRuntime) {
+    for bytes in [CLASS_A.as_slice(), EACH_KIND.as_slice()] {
         for len in 0..bytes.len() {
-            let fault = fault_of_first(rt.alloc(), bytes, len)?;
+            let fault = fault(rt.alloc(), &bytes[..len]);
             assert_eq!(rt; fault, Some(ShapeFault::Truncated), "at {len}");
         }
     }
-    Ok(())
+}
+
+fn fault_with(
+    alloc: Global,
+    bytes: &[u8],
+    behind: &[u8],
+) -> Result<Option<ShapeFault>, AllocError> {
+    let bytes = joined(alloc, &[bytes, behind])?;
+    Ok(fault(alloc, &bytes))
 }
 
 #[test]
-fn what_follows_is_trailing(rt: HostRuntime) -> Result<(), Fail> {
-    let mut bytes = CLASS_A.to_vec(rt.alloc())?;
-    bytes.push(0)?;
-    assert_eq!(rt; fault(rt.alloc(), &bytes), Some(ShapeFault::Trailing(53)));
-    let mut bytes = each_kind(rt.alloc())?;
-    bytes.extend_from_slice(&[0xca, 0xfe, 0xba])?;
-    assert_eq!(rt; fault(rt.alloc(), &bytes), Some(ShapeFault::Trailing(125)));
+fn what_follows_is_trailing(rt: HostRuntime) -> Result<(), AllocError> {
+    let fault = fault_with(rt.alloc(), &CLASS_A, &[0])?;
+    assert_eq!(rt; fault, Some(ShapeFault::Trailing(53)));
+    let fault = fault_with(rt.alloc(), &EACH_KIND, &[0xca, 0xfe, 0xba])?;
+    assert_eq!(rt; fault, Some(ShapeFault::Trailing(125)));
     Ok(())
 }
 
@@ -69,28 +61,25 @@ fn the_first_wrong_byte(rt: HostRuntime) {
 
 /// A Long or a Double at the last index is wrong at its tag, wherever the bytes end behind it.
 #[test]
-fn no_second_slot(rt: HostRuntime) -> Result<(), Fail> {
+fn no_second_slot(rt: HostRuntime) {
+    let alloc = rt.alloc();
     for tag in [5, 6] {
-        let mut bytes = CLASS_A;
-        bytes[9] = 2;
+        let mut bytes = with_byte(9, 2);
         bytes[10] = tag;
-        for (len, expected) in [
-            (53, ShapeFault::Malformed(10)),
-            (11, ShapeFault::Malformed(10)),
-            (10, ShapeFault::Truncated),
-        ] {
-            assert_eq!(rt; fault_of_first(rt.alloc(), &bytes, len)?, Some(expected));
-        }
+        assert_eq!(rt; fault(alloc, &bytes), Some(ShapeFault::Malformed(10)));
+        let found = fault(alloc, &bytes[..11]);
+        assert_eq!(rt; found, Some(ShapeFault::Malformed(10)));
+        let found = fault(alloc, &bytes[..10]);
+        assert_eq!(rt; found, Some(ShapeFault::Truncated));
     }
-    Ok(())
 }
 
 /// A length of 4,294,967,295 asks for no memory.
 #[test]
-fn a_false_length(rt: HostRuntime) -> Result<(), Fail> {
-    let mut bytes = CLASS_A[..51].to_vec(rt.alloc())?;
-    bytes.extend_from_slice(&[0, 1, 0, 2, 0xff, 0xff, 0xff, 0xff])?;
-    assert_eq!(rt; fault(rt.alloc(), &bytes), Some(ShapeFault::Truncated));
+fn a_false_length(rt: HostRuntime) -> Result<(), AllocError> {
+    let behind = [0, 1, 0, 2, 0xff, 0xff, 0xff, 0xff];
+    let fault = fault_with(rt.alloc(), &CLASS_A[..51], &behind)?;
+    assert_eq!(rt; fault, Some(ShapeFault::Truncated));
     Ok(())
 }
 
@@ -103,10 +92,7 @@ fn a_fault_behind_a_refusal(rt: HostRuntime) -> Result<(), Fail> {
     let mut trailing = [0; 54];
     trailing[..53].copy_from_slice(&CLASS_A);
     assert_eq!(rt; fault(alloc, &trailing), Some(ShapeFault::Trailing(53)));
-    assert_eq!(rt;
-        fault_of_first(alloc, &CLASS_A, 52)?,
-        Some(ShapeFault::Truncated)
-    );
+    assert_eq!(rt; fault(alloc, &CLASS_A[..52]), Some(ShapeFault::Truncated));
     assert_eq!(rt;
         fault(alloc, &with_byte(20, 17)),
         Some(ShapeFault::Malformed(20))
@@ -115,6 +101,7 @@ fn a_fault_behind_a_refusal(rt: HostRuntime) -> Result<(), Fail> {
         Err(ShapeFault::NoMemory) => read_shape(alloc, &CLASS_A),
         answer => answer,
     };
-    assert_eq!(rt; class?.flags(), 0x21);
+    let flags = class?.flags();
+    assert_eq!(rt; flags, 0x21);
     Ok(())
 }

@@ -1,37 +1,33 @@
 //! Classes with given fields and methods, by their bytes.
 use cm_class::{Class, read_shape};
-use std::alloc::Global;
+use std::alloc::{AllocError, Global};
 use std::test::Fail;
 
 /// A member's name and descriptor, by their indexes.
 pub type Indexes = (u16, u16);
 
-fn put(bytes: &mut Vec<u8>, number: u16) -> Result<(), Fail> {
-    bytes.extend_from_slice(&number.to_be_bytes())?;
-    Ok(())
-}
-
-fn put_count(bytes: &mut Vec<u8>, count: usize) -> Result<(), Fail> {
-    put(bytes, u16::try_from(count)?)
+fn put(bytes: &mut Vec<u8>, number: u16) -> Result<(), AllocError> {
+    bytes.extend_from_slice(&number.to_be_bytes())
 }
 
 /// The count of a pool, which is one more than that of its constants, and these Utf8s.
 fn put_pool(bytes: &mut Vec<u8>, utf8s: &[&[u8]]) -> Result<(), Fail> {
-    put_count(bytes, utf8s.len().saturating_add(1))?;
+    put(bytes, u16::try_from(utf8s.len().saturating_add(1))?)?;
     for utf8 in utf8s {
         bytes.push(1)?;
-        put_count(bytes, utf8.len())?;
+        put(bytes, u16::try_from(utf8.len())?)?;
         bytes.extend_from_slice(utf8)?;
     }
     Ok(())
 }
 
 fn put_members(bytes: &mut Vec<u8>, members: &[Indexes]) -> Result<(), Fail> {
-    put_count(bytes, members.len())?;
+    put(bytes, u16::try_from(members.len())?)?;
     for (name, descriptor) in members {
-        for number in [0, *name, *descriptor, 0] {
-            put(bytes, number)?;
-        }
+        put(bytes, 0)?;
+        put(bytes, *name)?;
+        put(bytes, *descriptor)?;
+        put(bytes, 0)?;
     }
     Ok(())
 }
@@ -48,7 +44,7 @@ fn put_class(
     bytes.extend_from_slice(&[0; 8])?;
     put_members(bytes, fields)?;
     put_members(bytes, methods)?;
-    put_count(bytes, 0)
+    Ok(put(bytes, 0)?)
 }
 
 /// A class whose pool has these Utf8s, from index 1 on, and which has these fields and methods.

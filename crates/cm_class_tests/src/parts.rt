@@ -1,5 +1,5 @@
 //! The parts of classes, read from their bytes.
-use crate::samples::{CLASS_A, each_kind};
+use crate::samples::{CLASS_A, EACH_KIND};
 use cm_class::{Attribute, Class, Constant, Member, Slot, read_shape};
 use std::process::Abort;
 use std::test::Fail;
@@ -43,14 +43,6 @@ fn numbers(slot: &Slot) -> Option<Numbers> {
     })
 }
 
-/// The bytes of the Utf8 in a slot; none where it holds no Utf8.
-fn text(slot: &Slot) -> &[u8] {
-    match slot {
-        Slot::Usable(Constant::Utf8(text)) => text.as_slice(),
-        _ => &[],
-    }
-}
-
 /// That a class has these slots, from index 1 on, and no more.
 fn has_slots(rt: &impl Abort, class: &Class, expected: &[Option<Numbers>]) {
     assert_eq!(rt; class.slots().len(), expected.len());
@@ -59,23 +51,35 @@ fn has_slots(rt: &impl Abort, class: &Class, expected: &[Option<Numbers>]) {
     }
 }
 
+/// That the slots of a class have these texts, where a slot that holds no Utf8 has none.
+fn has_texts(rt: &impl Abort, class: &Class, expected: &[&[u8]]) {
+    for (slot, expected) in class.slots().iter().zip(expected) {
+        let text = match slot {
+            Slot::Usable(Constant::Utf8(text)) => text.as_slice(),
+            _ => &[],
+        };
+        assert_eq!(rt; text, *expected);
+    }
+}
+
 fn is_class_a(rt: &impl Abort, class: &Class) {
-    assert_eq!(rt; class.flags(), 0x21);
-    assert_eq!(rt; class.this_class(), 1);
-    assert_eq!(rt; class.super_class(), 3);
-    let expected = [
+    let numbers = [class.flags(), class.this_class(), class.super_class()];
+    assert_eq!(rt; numbers, [0x21, 1, 3]);
+    let slots = [
         Some((7, 2, 0)),
         Some((1, 0, 0)),
         Some((7, 4, 0)),
         Some((1, 0, 0)),
     ];
-    has_slots(rt, class, &expected);
-    let texts: [&[u8]; 4] = [b"", b"A", b"", b"java/lang/Object"];
-    for (slot, expected) in class.slots().iter().zip(&texts) {
-        assert_eq!(rt; text(slot), *expected);
-    }
-    assert_eq!(rt; (class.interfaces().len(), class.fields().len()), (0, 0));
-    assert_eq!(rt; (class.methods().len(), class.attributes().len()), (0, 0));
+    has_slots(rt, class, &slots);
+    has_texts(rt, class, &[b"", b"A", b"", b"java/lang/Object"]);
+    let counts = [
+        class.interfaces().len(),
+        class.fields().len(),
+        class.methods().len(),
+        class.attributes().len(),
+    ];
+    assert_eq!(rt; counts, [0, 0, 0, 0]);
 }
 
 #[test]
@@ -86,37 +90,31 @@ fn class_a(rt: HostRuntime) -> Result<(), Fail> {
     Ok(())
 }
 
+/// The constants of the class with each kind of part.
+const CONSTANTS: [Option<Numbers>; 16] = [
+    Some((1, 0, 0)),
+    Some((3, 0x0102_0304, 0)),
+    Some((4, 0x7fc0_0000, 0)),
+    Some((5, 9, 0)),
+    None,
+    Some((6, 0x0100_0000_0000_0000, 0)),
+    None,
+    Some((7, 1, 0)),
+    Some((8, 1, 0)),
+    Some((9, 8, 13)),
+    Some((10, 0xffff, 13)),
+    Some((11, 8, 13)),
+    Some((12, 1, 2)),
+    Some((15, 6, 11)),
+    Some((16, 1, 0)),
+    Some((18, 0, 13)),
+];
+
 #[test]
 fn each_kind_of_constant(rt: HostRuntime) -> Result<(), Fail> {
-    let class = read_shape(rt.alloc(), &each_kind(rt.alloc())?)?;
-    let expected = [
-        Some((1, 0, 0)),
-        Some((3, 0x0102_0304, 0)),
-        Some((4, 0x7fc0_0000, 0)),
-        Some((5, 9, 0)),
-        None,
-        Some((6, 0x0100_0000_0000_0000, 0)),
-        None,
-        Some((7, 1, 0)),
-        Some((8, 1, 0)),
-        Some((9, 8, 13)),
-        Some((10, 0xffff, 13)),
-        Some((11, 8, 13)),
-        Some((12, 1, 2)),
-        Some((15, 6, 11)),
-        Some((16, 1, 0)),
-        Some((18, 0, 13)),
-    ];
-    has_slots(&rt, &class, &expected);
+    let class = read_shape(rt.alloc(), &EACH_KIND)?;
+    has_slots(&rt, &class, &CONSTANTS);
     Ok(())
-}
-
-/// That there is one member, of these flags and these indexes of its name and descriptor.
-fn has_one_member(rt: &impl Abort, members: &[Member], expected: (u16, u16, u16)) {
-    assert_eq!(rt; members.len(), 1);
-    for member in members {
-        assert_eq!(rt; (member.flags, member.name, member.descriptor), expected);
-    }
 }
 
 /// That there is one attribute, with this name and these bytes.
@@ -128,13 +126,21 @@ fn has_one_attribute(rt: &impl Abort, attributes: &[Attribute], name: u16, bytes
     }
 }
 
+/// That there is one member, of these flags and these indexes of its name and descriptor.
+fn has_one_member(rt: &impl Abort, members: &[Member], expected: [u16; 3]) {
+    assert_eq!(rt; members.len(), 1);
+    for member in members {
+        assert_eq!(rt; [member.flags, member.name, member.descriptor], expected);
+    }
+}
+
 fn has_each_part(rt: &impl Abort, class: &Class) {
     assert_eq!(rt; class.interfaces(), [8].as_slice());
-    has_one_member(rt, class.fields(), (0x19, 1, 1));
+    has_one_member(rt, class.fields(), [0x19, 1, 1]);
     for field in class.fields() {
         has_one_attribute(rt, field.attributes.as_slice(), 1, &[0xab, 0xcd]);
     }
-    has_one_member(rt, class.methods(), (0x401, 2, 3));
+    has_one_member(rt, class.methods(), [0x401, 2, 3]);
     for method in class.methods() {
         assert_eq!(rt; method.attributes.as_slice().len(), 0);
     }
@@ -143,7 +149,7 @@ fn has_each_part(rt: &impl Abort, class: &Class) {
 
 #[test]
 fn each_kind_of_part(rt: HostRuntime) -> Result<(), Fail> {
-    let class = read_shape(rt.alloc(), &each_kind(rt.alloc())?)?;
+    let class = read_shape(rt.alloc(), &EACH_KIND)?;
     has_each_part(&rt, &class);
     Ok(())
 }

@@ -1,35 +1,11 @@
 //! Classes that are prepared, and bytes that aren't.
 
+use crate::samples::{CLASS_A, joined, with_attribute};
 use cm_prepare::{BadClass, Prepared, Refusal, prepare};
 use cm_rules::{Broken, Rule, Spot};
-use std::alloc::Global;
+use std::alloc::{AllocError, Global};
+use std::process::Abort;
 use std::test::Fail;
-
-/// Class A behind its first eight bytes: a class of this name, of 53 bytes in all.
-const BEHIND_VERSION: &[u8] =
-    b"0005070002010001410700040100106a6176612f6c616e672f4f626a6563740021000100030000000000000000";
-
-/// The class `A` with one attribute named `X`, up to the attribute's length.
-const BEFORE_LENGTH: &[u8] =
-    b"cafebabe000000340006070002010001410700040100106a6176612f6c616e672f4f626a65637401000158002100010003000000000000000100\
-    05";
-
-// The bytes that two hexadecimal digits each spell, in two parts.
-fn bytes_of(alloc: Global, front: &[u8], back: &[u8]) -> Result<Vec<u8>, Fail> {
-    let mut bytes = hex::decode(alloc, front)?;
-    bytes.extend_from_slice(&hex::decode(alloc, back)?)?;
-    Ok(bytes)
-}
-
-// The class `A` with one attribute of so many bytes 00.
-fn class_of_bytes(alloc: Global, count: u32) -> Result<Vec<u8>, Fail> {
-    let mut bytes = hex::decode(alloc, BEFORE_LENGTH)?;
-    bytes.extend_from_slice(&count.to_be_bytes())?;
-    for _byte in 0..count {
-        bytes.push(0)?;
-    }
-    Ok(bytes)
-}
 
 // Asked once more where an allocation failed: nothing is changed then.
 fn prepared(alloc: Global, bytes: &[u8]) -> Result<Prepared, Refusal> {
@@ -39,16 +15,16 @@ fn prepared(alloc: Global, bytes: &[u8]) -> Result<Prepared, Refusal> {
     }
 }
 
-#[test]
-fn a_class_is_shared(rt: HostRuntime) -> Result<(), Fail> {
-    let alloc = rt.alloc();
-    let bytes = bytes_of(alloc, b"cafebabe00000034", BEHIND_VERSION)?;
-    let class = prepared(alloc, &bytes).ok().ok_or("class A")?;
+fn is_class_a(rt: &(impl Abort + AllocGlobal), class: &Prepared) -> Result<(), Fail> {
+    assert_eq!(rt; class.words(), 16);
+    assert_eq!(rt; class.class_name(rt.alloc())?.as_slice(), b"A".as_slice());
+    Ok(())
+}
+
+fn is_shared(rt: &(impl Abort + AllocGlobal), class: &Prepared) -> Result<(), Fail> {
     let again = class.share()?;
-    for one in [&class, &again] {
-        assert_eq!(rt; one.words(), 16);
-        assert_eq!(rt; one.class_name(alloc)?.as_slice(), b"A".as_slice());
-    }
+    is_class_a(rt, class)?;
+    is_class_a(rt, &again)?;
     assert!(rt; class.record().same_name(again.record()));
     assert_eq!(rt; again.into_record().words(), 16);
     assert_eq!(rt; class.words(), 16);
@@ -56,69 +32,103 @@ fn a_class_is_shared(rt: HostRuntime) -> Result<(), Fail> {
 }
 
 #[test]
+fn a_class_is_shared(rt: HostRuntime) -> Result<(), Fail> {
+    let class = prepared(rt.alloc(), &CLASS_A).ok().ok_or("class A")?;
+    is_shared(&rt, &class)
+}
+
+/// The refusal of the bytes of these parts.
+fn refusal(alloc: Global, parts: &[&[u8]]) -> Result<Option<Refusal>, AllocError> {
+    let bytes = joined(alloc, parts)?;
+    Ok(prepared(alloc, &bytes).err())
+}
+
+#[test]
 fn bytes_that_are_no_class_are_refused(rt: HostRuntime) -> Result<(), Fail> {
     let alloc = rt.alloc();
+    // A byte more; other versions; half a heading.
+    let cases: [(&[u8], &[u8], BadClass); 4] = [
+        (
+            b"\xca\xfe\xba\xbe\x00\x00\x00\x34",
+            &[0],
+            BadClass::Trailing(53),
+        ),
+        (
+            b"\xca\xfe\xba\xbe\x00\x03\x00\x34",
+            &[],
+            BadClass::Malformed(5),
+        ),
+        (
+            b"\xca\xfe\xba\xbe\x00\x00\x00\x35",
+            &[],
+            BadClass::Malformed(7),
+        ),
+        (b"\xca\xfe", &[], BadClass::Malformed(2)),
+    ];
+    for (heading, behind, expected) in cases {
+        let answer = refusal(alloc, &[heading, &CLASS_A[8..], behind])?;
+        assert_eq!(rt; answer, Some(Refusal::BadClass(expected)));
+    }
     let broken = Broken {
         rule: Rule::EntryKinds,
         spot: Spot::This,
     };
-    // A byte more; other versions; a Long as the fifth constant, and this class at its second index.
-    let cases: [(&[u8], &[u8], BadClass); 4] = [
-        (b"cafebabe00000034", b"00", BadClass::Trailing(53)),
-        (b"cafebabe00030034", b"", BadClass::Malformed(5)),
-        (b"cafebabe00000035", b"", BadClass::Malformed(7)),
-        (b"cafe", b"", BadClass::Malformed(2)),
+    // A Long as the fifth constant, and this class at its second index.
+    let parts: [&[u8]; 5] = [
+        &CLASS_A[..9],
+        &[7],
+        &CLASS_A[10..39],
+        &[5, 0, 0, 0, 0, 0, 0, 0, 0],
+        &[0, 0x21, 0, 6, 0, 3, 0, 0, 0, 0, 0, 0, 0, 0],
     ];
-    for (front, back, expected) in cases {
-        let mut bytes = bytes_of(alloc, front, BEHIND_VERSION)?;
-        bytes.extend_from_slice(&hex::decode(alloc, back)?)?;
-        let answer = prepared(alloc, &bytes).err();
-        assert_eq!(rt; answer, Some(Refusal::BadClass(expected)));
-    }
-    let rest = b"05000000000000000000210006000300000000000000\
-        00";
-    let text = b"cafebabe000000340007070002010001410700040100106a6176612f6c616e672f4f626a656374";
-    let bytes = bytes_of(alloc, text, rest)?;
-    let answer = prepared(alloc, &bytes).err();
+    let answer = refusal(alloc, &parts)?;
     assert_eq!(rt; answer, Some(Refusal::BadClass(BadClass::Rule(broken))));
-    let none = prepared(alloc, b"").err();
-    assert_eq!(rt; none, Some(Refusal::BadClass(BadClass::Truncated)));
+    let answer = refusal(alloc, &[])?;
+    assert_eq!(rt; answer, Some(Refusal::BadClass(BadClass::Truncated)));
     Ok(())
+}
+
+/// How many words a class has that has an attribute of so many bytes.
+fn words_with(alloc: Global, count: u32) -> Result<Result<u32, Refusal>, AllocError> {
+    let bytes = with_attribute(alloc, count)?;
+    Ok(match prepared(alloc, &bytes) {
+        Ok(class) => Ok(class.words()),
+        Err(refusal) => Err(refusal),
+    })
 }
 
 #[test]
 fn records_have_a_limit(rt: HostRuntime) -> Result<(), Fail> {
     let alloc = rt.alloc();
-    let longest = prepared(alloc, &class_of_bytes(alloc, 4_194_144)?);
-    assert_eq!(rt; longest.ok().ok_or("the longest")?.words(), 524_288);
-    let longer = prepared(alloc, &class_of_bytes(alloc, 4_194_145)?);
-    assert_eq!(rt; longer.err(), Some(Refusal::RecordTooLong));
+    assert_eq!(rt; words_with(alloc, 4_194_144)?, Ok(524_288));
+    assert_eq!(rt; words_with(alloc, 4_194_145)?, Err(Refusal::RecordTooLong));
     Ok(())
 }
 
+const TOLD: [(Refusal, u8, &str); 15] = [
+    (Refusal::BadName, 1, "name"),
+    (Refusal::LoaderExists, 2, "loader exists"),
+    (Refusal::NoLoader, 3, "no loader"),
+    (Refusal::ClassExists, 4, "class exists"),
+    (Refusal::RecordTooLong, 5, "record too long"),
+    (Refusal::RegionFull, 6, "region full"),
+    (Refusal::JournalFull, 7, "journal full"),
+    (Refusal::NoMove, 8, "no move"),
+    (Refusal::NoMemory, 9, "memory"),
+    (Refusal::Broken, 10, "broken"),
+    (Refusal::Closed, 11, "closed"),
+    (Refusal::NumbersSpent, 12, "numbers spent"),
+    (Refusal::Unsure(7), 13, "unsure 7"),
+    (Refusal::BadClass(BadClass::Trailing(53)), 14, "trailing 53"),
+    (Refusal::BadLine, 15, "line"),
+];
+
 #[test]
-fn refusals_have_their_numbers_and_texts(rt: HostRuntime) -> Result<(), Fail> {
-    let alloc = rt.alloc();
-    let cases = [
-        (Refusal::BadName, 1, "name"),
-        (Refusal::LoaderExists, 2, "loader exists"),
-        (Refusal::NoLoader, 3, "no loader"),
-        (Refusal::ClassExists, 4, "class exists"),
-        (Refusal::RecordTooLong, 5, "record too long"),
-        (Refusal::RegionFull, 6, "region full"),
-        (Refusal::JournalFull, 7, "journal full"),
-        (Refusal::NoMove, 8, "no move"),
-        (Refusal::NoMemory, 9, "memory"),
-        (Refusal::Broken, 10, "broken"),
-        (Refusal::Closed, 11, "closed"),
-        (Refusal::NumbersSpent, 12, "numbers spent"),
-        (Refusal::Unsure(7), 13, "unsure 7"),
-        (Refusal::BadClass(BadClass::Trailing(53)), 14, "trailing 53"),
-        (Refusal::BadLine, 15, "line"),
-    ];
-    for (refusal, number, text) in cases {
+fn refusals_have_their_numbers_and_texts(rt: HostRuntime) -> Result<(), AllocError> {
+    for (refusal, number, text) in TOLD {
         assert_eq!(rt; refusal.number(), number);
-        assert_eq!(rt; format!(in alloc; "{refusal}")?.as_str(), text);
+        let told = format!(in rt.alloc(); "{refusal}")?;
+        assert_eq!(rt; told.as_str(), text);
     }
     Ok(())
 }

@@ -1,9 +1,10 @@
 //! Constants, fields, methods and code, found in records.
-use crate::record_samples::{ALL_TAGS, POOL_END, record_bytes, record_of};
-use crate::samples::CLASS_A;
+use crate::record_samples::{ALL_TAGS, record_bytes, record_of};
+use crate::samples::{CLASS_A, joined, with_byte};
 use cm_record::{Code, Constant, Member, Record};
 use std::alloc::Global;
 use std::cmp::Ordering;
+use std::process::Abort;
 use std::test::Fail;
 
 // The constants of the class with all tags, by their indexes; its first run begins at word 39.
@@ -64,48 +65,60 @@ const CONSTANTS: [(u16, Option<Constant>); 18] = [
     (17, None),
 ];
 
+fn has_constants(rt: &impl Abort, record: &Record, rows: &[(u16, Option<Constant>)]) {
+    for (index, constant) in rows {
+        assert_eq!(rt; record.constant(*index), *constant, "at {index}");
+    }
+}
+
+fn record_of_parts(alloc: Global, parts: &[&[u8]]) -> Result<Record, Fail> {
+    let bytes = joined(alloc, parts)?;
+    record_of(alloc, &bytes)
+}
+
 #[test]
 fn constants_stand_at_their_indexes(rt: HostRuntime) -> Result<(), Fail> {
     let record = record_of(rt.alloc(), &ALL_TAGS)?;
-    for (index, constant) in CONSTANTS {
-        assert_eq!(rt; record.constant(index), constant, "at {index}");
-    }
+    has_constants(&rt, &record, &CONSTANTS);
     assert_eq!(rt; record.constant(0xffff), None);
     Ok(())
 }
+
+// Three Longs, 5 to 7, and an Integer, 9.
+const LONGS: [u8; 32] = [
+    5, 0, 0, 0, 0, 0, 0, 0, 5, 5, 0, 0, 0, 0, 0, 0, 0, 6, 5, 0, 0, 0, 0, 0, 0, 0, 7, 3, 0, 0, 0, 9,
+];
+
+const BEHIND_LONGS: [(u16, Option<Constant>); 8] = [
+    (5, Some(Constant::Long(5))),
+    (6, None),
+    (7, Some(Constant::Long(6))),
+    (8, None),
+    (9, Some(Constant::Long(7))),
+    (10, None),
+    (11, Some(Constant::Integer(9))),
+    (12, None),
+];
 
 // Longs whose bits look like the directory words of Longs: each second slot is unusable all the
 // same.
 #[test]
 fn bits_that_look_like_constants_are_none(rt: HostRuntime) -> Result<(), Fail> {
-    let alloc = rt.alloc();
-    let mut bytes = CLASS_A[..POOL_END].to_vec(alloc)?;
-    bytes[9] = 12;
-    for last in [5, 6, 7] {
-        bytes.extend_from_slice(&[5, 0, 0, 0, 0, 0, 0, 0, last])?;
-    }
-    bytes.extend_from_slice(&[3, 0, 0, 0, 9])?;
-    bytes.extend_from_slice(&CLASS_A[POOL_END..])?;
-    let record = record_of(alloc, bytes.as_slice())?;
-    let found = [
-        (5, Some(Constant::Long(5))),
-        (6, None),
-        (7, Some(Constant::Long(6))),
-        (8, None),
-        (9, Some(Constant::Long(7))),
-        (10, None),
-        (11, Some(Constant::Integer(9))),
-        (12, None),
+    let parts: [&[u8]; 5] = [
+        &CLASS_A[..9],
+        &[12],
+        &CLASS_A[10..39],
+        &LONGS,
+        &CLASS_A[39..],
     ];
-    for (index, constant) in found {
-        assert_eq!(rt; record.constant(index), constant, "at {index}");
-    }
+    let record = record_of_parts(rt.alloc(), &parts)?;
+    has_constants(&rt, &record, &BEHIND_LONGS);
     Ok(())
 }
 
 // Slots 5 to 8 behind those of class A: `m`, `()V`, `Code` and `I`.
-const MORE_SLOTS: [u8; 18] = [
-    1, 0, 1, 0x6d, 1, 0, 3, 0x28, 0x29, 0x56, 1, 0, 4, 0x43, 0x6f, 0x64, 0x65, 1,
+const MORE_SLOTS: [u8; 21] = [
+    1, 0, 1, 0x6d, 1, 0, 3, 0x28, 0x29, 0x56, 1, 0, 4, 0x43, 0x6f, 0x64, 0x65, 1, 0, 1, 0x49,
 ];
 
 // Max stack 2, max locals 3, one byte of code, one handler, no attributes.
@@ -113,151 +126,193 @@ const BODY: [u8; 21] = [
     0, 2, 0, 3, 0, 0, 0, 1, 0xb1, 0, 1, 0, 0, 0, 1, 0, 0, 0, 0, 0, 0,
 ];
 
+// What stands between the pool and the last byte of the code's length.
+const BEFORE_CODE: [u8; 56] = [
+    0, 0x21, 0, 1, 0, 3, 0, 0, // flags, this, super, no interfaces
+    0, 2, 0, 1, 0, 5, 0, 8, 0, 0, 0, 2, 0, 5, 0, 6, 0, 0, // two fields
+    0, 3, 0, 1, 0, 5, 0, 8, 0, 0, 0, 9, 0, 5, 0, 6, 0, 3, // two of three methods
+    0, 5, 0, 0, 0, 1, 0xff, 0, 7, 0, 0, 0, // an attribute, and the code's name
+];
+
+// A second code, of no bytes, the third method, and no attributes.
+const BEHIND_CODE: [u8; 16] = [0, 7, 0, 0, 0, 0, 0, 4, 0, 5, 0, 6, 0, 0, 0, 0];
+
 // Class A with two fields `m` of I and `()V`, a method `m` of I without attributes, and two methods
 // `m` of `()V`: the first has an attribute `m` and two `Code`, of these bytes and of none.
 fn with_members(alloc: Global, body: &[u8]) -> Result<Record, Fail> {
-    let mut bytes = CLASS_A[..POOL_END].to_vec(alloc)?;
-    bytes[9] = 9;
-    bytes.extend_from_slice(&MORE_SLOTS)?;
-    bytes.extend_from_slice(&[0, 1, 0x49])?;
-    bytes.extend_from_slice(&[0, 0x21, 0, 1, 0, 3, 0, 0])?;
-    bytes.extend_from_slice(&[0, 2, 0, 1, 0, 5, 0, 8, 0, 0, 0, 2, 0, 5, 0, 6, 0, 0])?;
-    bytes.extend_from_slice(&[0, 3, 0, 1, 0, 5, 0, 8, 0, 0, 0, 9, 0, 5, 0, 6, 0, 3])?;
-    bytes.extend_from_slice(&[0, 5, 0, 0, 0, 1, 0xff])?;
-    bytes.extend_from_slice(&[0, 7, 0, 0, 0, u8::try_from(body.len()).unwrap_or(0)])?;
-    bytes.extend_from_slice(body)?;
-    bytes.extend_from_slice(&[0, 7, 0, 0, 0, 0])?;
-    bytes.extend_from_slice(&[0, 4, 0, 5, 0, 6, 0, 0, 0, 0])?;
-    record_of(alloc, bytes.as_slice())
+    let parts: [&[u8]; 8] = [
+        &CLASS_A[..9],
+        &[9],
+        &CLASS_A[10..39],
+        &MORE_SLOTS,
+        &BEFORE_CODE,
+        &[u8::try_from(body.len()).unwrap_or(0)],
+        body,
+        &BEHIND_CODE,
+    ];
+    record_of_parts(alloc, &parts)
+}
+
+fn member(is_method: bool, index: u16, flags: u16, attributes: u16) -> Member {
+    Member {
+        is_method,
+        index,
+        flags,
+        attributes,
+    }
+}
+
+fn has_members(rt: &impl Abort, record: &Record) {
+    let fields = [record.field(b"m", b"I"), record.field(b"m", b"()V")];
+    let expected = [Some(member(false, 0, 1, 0)), Some(member(false, 1, 2, 0))];
+    assert_eq!(rt; fields, expected);
+    let methods = [record.method(b"m", b"I"), record.method(b"m", b"()V")];
+    let expected = [Some(member(true, 0, 1, 0)), Some(member(true, 1, 9, 3))];
+    assert_eq!(rt; methods, expected);
+    let others: [(&[u8], &[u8]); 5] = [
+        (b"m", b"J"),
+        (b"I", b"m"),
+        (b"", b""),
+        (b"mm", b"I"),
+        (b"java/lang/Object", b"A"),
+    ];
+    for (name, descriptor) in others {
+        let found = [
+            record.field(name, descriptor),
+            record.method(name, descriptor),
+        ];
+        assert_eq!(rt; found, [None, None]);
+    }
 }
 
 #[test]
 fn members_are_found_by_name_and_descriptor(rt: HostRuntime) -> Result<(), Fail> {
     let record = with_members(rt.alloc(), &BODY)?;
-    let member = |is_method, index, flags, attributes| Member {
-        is_method,
-        index,
-        flags,
-        attributes,
-    };
-    assert_eq!(rt; record.field(b"m", b"I"), Some(member(false, 0, 1, 0)));
-    assert_eq!(rt; record.field(b"m", b"()V"), Some(member(false, 1, 2, 0)));
-    assert_eq!(rt; record.method(b"m", b"I"), Some(member(true, 0, 1, 0)));
-    assert_eq!(rt; record.method(b"m", b"()V"), Some(member(true, 1, 9, 3)));
-    for (name, descriptor) in [
-        (b"m".as_slice(), b"J".as_slice()),
-        (b"I", b"m"),
-        (b"", b""),
-        (b"mm", b"I"),
-        (b"java/lang/Object", b"A"),
-    ] {
-        assert_eq!(rt; record.field(name, descriptor), None);
-        assert_eq!(rt; record.method(name, descriptor), None);
-    }
+    has_members(&rt, &record);
     Ok(())
 }
 
-#[test]
-fn code_lies_where_it_says(rt: HostRuntime) -> Result<(), Fail> {
-    let alloc = rt.alloc();
-    let record = with_members(alloc, &BODY)?;
-    let Some(method) = record.method(b"m", b"()V") else {
-        return Err(Fail::from("it has the method"));
-    };
-    let Some(code) = record.code(&method) else {
-        return Err(Fail::from("it has a code"));
-    };
-    let Code {
-        max_stack,
-        max_locals,
-        code_at,
-        code_len,
-        handlers_at,
-        handlers,
-    } = code;
-    assert_eq!(rt; (max_stack, max_locals, code_len, handlers), (2, 3, 1, 1));
-    assert_eq!(rt; handlers_at.checked_sub(code_at), Some(3));
-    let bytes = record_bytes(alloc, &record)?;
-    let found = bytes.get(code_at as usize..code_at as usize + 11);
-    assert_eq!(rt; found, BODY.get(8..19));
+fn method_of(record: &Record) -> Result<Member, Fail> {
+    match record.method(b"m", b"()V") {
+        Some(method) => Ok(method),
+        None => Err(Fail::new("it has the method")),
+    }
+}
+
+fn others_have_no_code(rt: &impl Abort, record: &Record, method: Member) {
     let other = Member {
         is_method: false,
         ..method
     };
     assert_eq!(rt; record.code(&other), None);
     for index in [0, 2, 3, 0xffff] {
-        assert_eq!(rt;
-            record.code(&Member { index, ..method }),
-            None,
-            "method {index}"
-        );
+        let other = Member { index, ..method };
+        assert_eq!(rt; record.code(&other), None, "method {index}");
     }
+}
+
+// That the method's code has the parts of the body, which lies there among the record's bytes.
+fn has_code(rt: &impl Abort, record: &Record, bytes: &[u8]) -> Result<(), Fail> {
+    let method = method_of(record)?;
+    let Some(code) = record.code(&method) else {
+        return Err(Fail::new("it has a code"));
+    };
+    let expected = Code {
+        max_stack: 2,
+        max_locals: 3,
+        code_len: 1,
+        handlers: 1,
+        ..code
+    };
+    assert_eq!(rt; code, expected);
+    assert_eq!(rt; code.handlers_at.checked_sub(code.code_at), Some(3));
+    let (at, end) = (code.code_at as usize, code.code_at as usize + 11);
+    assert!(rt; end <= bytes.len());
+    assert_eq!(rt; &bytes[at..end], &BODY[8..19]);
+    others_have_no_code(rt, record, method);
     Ok(())
+}
+
+#[test]
+fn code_lies_where_it_says(rt: HostRuntime) -> Result<(), Fail> {
+    let record = with_members(rt.alloc(), &BODY)?;
+    let bytes = record_bytes(rt.alloc(), &record)?;
+    has_code(&rt, &record, &bytes)
+}
+
+fn is_code(alloc: Global, body: &[u8]) -> Result<bool, Fail> {
+    let record = with_members(alloc, body)?;
+    let method = method_of(&record)?;
+    Ok(record.code(&method).is_some())
 }
 
 // Ten bytes are there before the code's end is known, and the handlers begin behind a byte of code
 // and their number.
 #[test]
 fn a_code_that_ends_early_is_none(rt: HostRuntime) -> Result<(), Fail> {
-    let alloc = rt.alloc();
     for end in 0..BODY.len() {
-        let record = with_members(alloc, &BODY[..end])?;
-        let Some(method) = record.method(b"m", b"()V") else {
-            return Err(Fail::from("it has the method"));
-        };
-        assert_eq!(rt; record.code(&method).is_some(), end >= 19, "of {end} bytes");
+        let found = is_code(rt.alloc(), &BODY[..end])?;
+        assert_eq!(rt; found, end >= 19, "of {end} bytes");
+    }
+    Ok(())
+}
+
+fn same_name(one: &Record, other: Record) -> bool {
+    one.same_name(&other)
+}
+
+fn is_compared(rt: &(impl Abort + AllocGlobal), one: &Record) -> Result<(), Fail> {
+    let alloc = rt.alloc();
+    assert!(rt; same_name(one, with_members(alloc, &BODY)?));
+    assert!(rt; !same_name(one, record_of(alloc, &with_byte(16, 0x42))?));
+    // this_class 3 leads to `java/lang/Object`, and 2, a Utf8, to no name.
+    for (this_class, same) in [(3, false), (2, false), (1, true)] {
+        let other = record_of(alloc, &with_byte(42, this_class))?;
+        assert_eq!(rt; same_name(one, other), same);
     }
     Ok(())
 }
 
 #[test]
 fn names_are_compared(rt: HostRuntime) -> Result<(), Fail> {
-    let alloc = rt.alloc();
-    let (one, two) = (record_of(alloc, &CLASS_A)?, with_members(alloc, &BODY)?);
-    assert!(rt; one.same_name(&two));
-    let mut bytes = CLASS_A;
-    bytes[16] = 0x42;
-    assert!(rt; !one.same_name(&record_of(alloc, &bytes)?));
-    // this_class 3 leads to `java/lang/Object`, and 2, a Utf8, to no name.
-    for (this_class, same) in [(3, false), (2, false), (1, true)] {
-        let mut bytes = CLASS_A;
-        bytes[42] = this_class;
-        assert_eq!(rt; one.same_name(&record_of(alloc, &bytes)?), same);
-    }
-    Ok(())
+    let one = record_of(rt.alloc(), &CLASS_A)?;
+    is_compared(&rt, &one)
 }
 
-// Class A with another letter as its name.
-fn with_name(alloc: Global, letter: u8) -> Result<Record, Fail> {
-    let mut bytes = CLASS_A;
-    bytes[16] = letter;
-    record_of(alloc, &bytes)
+// The order of class A with one letter as its name, and with another.
+fn order(alloc: Global, one: u8, two: u8) -> Result<Ordering, Fail> {
+    let one = record_of(alloc, &with_byte(16, one))?;
+    let two = record_of(alloc, &with_byte(16, two))?;
+    Ok(one.cmp_name(&two))
+}
+
+const LETTERS: [(&[u8], Ordering); 5] = [
+    (b"A", Ordering::Greater),
+    (b"", Ordering::Greater),
+    (b"B", Ordering::Equal),
+    (b"BA", Ordering::Less),
+    (b"C", Ordering::Less),
+];
+
+const NINES: [(&[u8], Ordering); 3] = [
+    (&[1, 2, 3, 4, 5, 6, 7, 8, 9], Ordering::Equal),
+    (&[1, 2, 3, 4, 5, 6, 7, 8], Ordering::Greater),
+    (&[1, 2, 3, 4, 5, 6, 7, 8, 10], Ordering::Less),
+];
+
+fn are_ordered(rt: &impl Abort, record: &Record, names: &[(&[u8], Ordering)]) {
+    for (name, order) in names {
+        assert_eq!(rt; record.cmp_name_to(name), *order);
+    }
 }
 
 #[test]
 fn names_are_ordered_by_their_bytes(rt: HostRuntime) -> Result<(), Fail> {
     let alloc = rt.alloc();
-    let (one, two) = (with_name(alloc, b'B')?, with_name(alloc, 0xc3)?);
-    assert_eq!(rt; one.cmp_name(&two), Ordering::Less);
-    assert_eq!(rt; two.cmp_name(&one), Ordering::Greater);
-    assert_eq!(rt; one.cmp_name(&with_name(alloc, b'B')?), Ordering::Equal);
-    let names = [
-        (b"A".as_slice(), Ordering::Greater),
-        (b"", Ordering::Greater),
-        (b"B", Ordering::Equal),
-        (b"BA", Ordering::Less),
-        (b"C", Ordering::Less),
-    ];
-    for (name, order) in names {
-        assert_eq!(rt; one.cmp_name_to(name), order);
-    }
-    let record = record_of(alloc, &ALL_TAGS)?;
-    let nine = [1, 2, 3, 4, 5, 6, 7, 8, 9];
-    assert_eq!(rt; record.cmp_name_to(&nine), Ordering::Equal);
-    assert_eq!(rt; record.cmp_name_to(&nine[..8]), Ordering::Greater);
-    assert_eq!(rt;
-        record.cmp_name_to(&[1, 2, 3, 4, 5, 6, 7, 8, 10]),
-        Ordering::Less
-    );
+    assert_eq!(rt; order(alloc, b'B', 0xc3)?, Ordering::Less);
+    assert_eq!(rt; order(alloc, 0xc3, b'B')?, Ordering::Greater);
+    assert_eq!(rt; order(alloc, b'B', b'B')?, Ordering::Equal);
+    are_ordered(&rt, &record_of(alloc, &with_byte(16, b'B'))?, &LETTERS);
+    are_ordered(&rt, &record_of(alloc, &ALL_TAGS)?, &NINES);
     Ok(())
 }

@@ -1,8 +1,7 @@
 //! Classes and their records, and what makes them.
-use crate::samples::CLASS_A;
-use cm_class::read_shape;
+use cm_class::{Class, read_shape};
 use cm_record::{Record, build};
-use std::alloc::Global;
+use std::alloc::{AllocError, Global};
 use std::test::Fail;
 
 // The record of class A, from the layout's description.
@@ -24,9 +23,6 @@ pub const RECORD_A: [u64; 16] = [
     0x6e61_6c2f_6176_616a,
     0x7463_656a_624f_2f67,
 ];
-
-// Where the pool of class A ends.
-pub const POOL_END: usize = 39;
 
 // Each tag, an interface, a field and a method with attributes, and an attribute of the class.
 pub const ALL_TAGS: [u8; 162] = [
@@ -101,11 +97,16 @@ pub const RECORD_ALL_TAGS: [u64; 44] = [
     0x0001_0203_0405,
 ];
 
-pub fn record_of(alloc: Global, bytes: &[u8]) -> Result<Record, Fail> {
-    Ok(build(alloc, &read_shape(alloc, bytes)?)?)
+pub fn record_of_class(alloc: Global, class: &Class) -> Result<Record, Fail> {
+    Ok(build(alloc, class)?)
 }
 
-pub fn bytes_of(alloc: Global, words: &[u64]) -> Result<Vec<u8>, Fail> {
+pub fn record_of(alloc: Global, bytes: &[u8]) -> Result<Record, Fail> {
+    let class = read_shape(alloc, bytes)?;
+    record_of_class(alloc, &class)
+}
+
+pub fn bytes_of(alloc: Global, words: &[u64]) -> Result<Vec<u8>, AllocError> {
     let mut bytes = Vec::new(alloc);
     for word in words {
         bytes.extend_from_slice(&word.to_le_bytes())?;
@@ -113,22 +114,17 @@ pub fn bytes_of(alloc: Global, words: &[u64]) -> Result<Vec<u8>, Fail> {
     Ok(bytes)
 }
 
-pub fn record_bytes(alloc: Global, record: &Record) -> Result<Vec<u8>, Fail> {
+pub fn record_bytes(alloc: Global, record: &Record) -> Result<Vec<u8>, AllocError> {
     let mut bytes = Vec::from_elem(alloc, 0u8, 8 * record.words() as usize)?;
     record.bytes_into(bytes.as_mut_slice());
     Ok(bytes)
 }
 
-// Class A with one attribute of so many bytes 00: a fifth slot `X`, and its name.
-pub fn with_attribute(alloc: Global, count: u32) -> Result<Vec<u8>, Fail> {
-    let mut bytes = CLASS_A[..POOL_END].to_vec(alloc)?;
-    bytes[9] = 6;
-    bytes.extend_from_slice(&[1, 0, 1, 0x58])?;
-    bytes.extend_from_slice(&CLASS_A[POOL_END..51])?;
-    bytes.extend_from_slice(&[0, 1, 0, 5])?;
-    bytes.extend_from_slice(&count.to_be_bytes())?;
-    for _ in 0..count {
-        bytes.push(0)?;
+// Class A's record with another word at a place.
+pub fn with_word(place: usize, word: u64) -> [u64; 16] {
+    let mut words = RECORD_A;
+    if let Some(here) = words.get_mut(place) {
+        *here = word;
     }
-    Ok(bytes)
+    words
 }

@@ -8,23 +8,47 @@ pub const CLASS_A: [u8; 53] = [
     0x21, 0, 1, 0, 3, 0, 0, 0, 0, 0, 0, 0, 0,
 ];
 
-/// The heading, and one constant of each kind, with two slots for each Long and Double.
-const POOL: [u8; 79] = [
+/// A class file with each kind of part. The heading, and one constant of each kind, with two slots
+/// for each Long and Double; an interface, a field with an attribute of two bytes, a method, and an
+/// attribute with none.
+pub const EACH_KIND: [u8; 125] = [
     0xca, 0xfe, 0xba, 0xbe, 0, 0, 0, 0x34, 0, 17, 1, 0, 0, 3, 1, 2, 3, 4, 4, 0x7f, 0xc0, 0, 0, 5,
     0, 0, 0, 0, 0, 0, 0, 9, 6, 1, 0, 0, 0, 0, 0, 0, 0, 7, 0, 1, 8, 0, 1, 9, 0, 8, 0, 13, 10, 0xff,
-    0xff, 0, 13, 11, 0, 8, 0, 13, 12, 0, 1, 0, 2, 15, 6, 0, 11, 16, 0, 1, 18, 0, 0, 0, 13,
-];
-
-/// What stands behind the pool: an interface, a field with an attribute of two bytes, a method, and
-/// an attribute with none.
-const BODY: [u8; 46] = [
+    0xff, 0, 13, 11, 0, 8, 0, 13, 12, 0, 1, 0, 2, 15, 6, 0, 11, 16, 0, 1, 18, 0, 0, 0, 13, //
     2, 0, 0, 8, 0, 0, 0, 1, 0, 8, 0, 1, 0, 0x19, 0, 1, 0, 1, 0, 1, 0, 1, 0, 0, 0, 2, 0xab, 0xcd, 0,
     1, 4, 1, 0, 2, 0, 3, 0, 0, 0, 1, 0, 5, 0, 0, 0, 0,
 ];
 
-/// A class file of 125 bytes with each kind of part.
-pub fn each_kind(alloc: Global) -> Result<Vec<u8>, AllocError> {
-    let mut bytes = POOL.to_vec(alloc)?;
-    bytes.extend_from_slice(&BODY)?;
+/// Class A with another byte in the place of one of its own.
+pub fn with_byte(place: usize, byte: u8) -> [u8; 53] {
+    let mut bytes = CLASS_A;
+    if let Some(here) = bytes.get_mut(place) {
+        *here = byte;
+    }
+    bytes
+}
+
+/// The bytes of these parts, one behind another.
+pub fn joined(alloc: Global, parts: &[&[u8]]) -> Result<Vec<u8>, AllocError> {
+    let mut bytes = Vec::new(alloc);
+    for part in parts {
+        bytes.extend_from_slice(part)?;
+    }
     Ok(bytes)
+}
+
+/// Class A with one attribute of so many bytes 00: a fifth slot `X`, and its name.
+pub fn with_attribute(alloc: Global, count: u32) -> Result<Vec<u8>, AllocError> {
+    let zeros = Vec::from_elem(alloc, 0u8, count as usize)?;
+    let parts: [&[u8]; 8] = [
+        &CLASS_A[..9],
+        &[6],
+        &CLASS_A[10..39],
+        &[1, 0, 1, 0x58],
+        &CLASS_A[39..51],
+        &[0, 1, 0, 5],
+        &count.to_be_bytes(),
+        &zeros,
+    ];
+    joined(alloc, &parts)
 }
