@@ -5,9 +5,9 @@ ghost use Rattle.std.specs.Prelude.{◌≡◌, ◌≤◌, ◌<◌, [], length};
 use std::marker::Model;
 
 /// How long a name may be.
-const MOST: usize = 55;
+const MOST: usize = 87;
 
-/// A name of at most 55 bytes, or nothing. Contracts see its bytes.
+/// A name of at most 87 bytes, or nothing. Contracts see its bytes.
 ///
 /// Its length stands before its bytes, so that who looks at a name of a few letters fetches one line
 /// of memory.
@@ -24,14 +24,14 @@ impl Model for ShortName {
 
     ghost view = { λ n. take n.len n.bytes };
 
-    ghost invariant = { λ n. n.len ≤ 55 };
+    ghost invariant = { λ n. n.len ≤ 87 };
 }
 
 impl ShortName {
     /// A name, if it is short; nothing in the place of a longer one.
     pub(crate) fn of(name: &[u8]) -> ShortName
-        ensures short { length name.now ≤ 55 → result ≡ name.now }
-        ensures long { 55 < length name.now → result ≡ [] }
+        ensures short { length name.now ≤ 87 → result ≡ name.now }
+        ensures long { 87 < length name.now → result ≡ [] }
     {
         let mut bytes = [0; MOST];
         if name.len() > MOST {
