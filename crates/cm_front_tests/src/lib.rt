@@ -1,15 +1,11 @@
 //! Worked examples for `cm_front`: commands that are accepted and refused, what is found and handed
-//! out, and when chunks are free again. For `cm_list`: the order of names, and where records lie. And
-//! for `cm_check`: what files hold after some commands. Of damaged ones `tests/check.sh` says what is
-//! told.
+//! out, and when chunks are free again. And for `cm_list`: the order of names, and where records lie.
 #![tactic(auto)]
 
 #[cfg(test)]
 mod calls;
 #[cfg(test)]
 mod commands;
-#[cfg(test)]
-mod disks;
 #[cfg(test)]
 mod fronts;
 #[cfg(test)]
@@ -18,9 +14,5 @@ mod list_calls;
 mod lists;
 #[cfg(test)]
 mod random;
-#[cfg(test)]
-mod reports;
-#[cfg(test)]
-mod stored_calls;
 #[cfg(test)]
 mod words;

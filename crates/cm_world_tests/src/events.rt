@@ -1,15 +1,15 @@
 //! Events one after another, with what is replied to each.
 
-use crate::file_samples::CLASS_A;
+use crate::classes::{CLASS_A, class};
 use cm_disk::Choice;
 use cm_pool::Geometry;
-use cm_prepare::{Command, Prepared, Refusal, prepare};
+use cm_prepare::{Command, Prepared, Refusal};
 use cm_world::{Event, Reply, World};
 use std::alloc::Global;
 use std::test::*;
 
 /// An event: its loader is `a`, its class `A`; a crash leaves all bytes that were written.
-#[derive(Clone, Copy, Debug)]
+#[derive(Clone, Copy)]
 enum Happens {
     Loader,
     Define,
@@ -40,14 +40,6 @@ enum Told {
     Words(u32),
     Armed,
     Opened(u64),
-}
-
-fn class(alloc: Global) -> Result<Prepared, Fail> {
-    let bytes = hex::decode(alloc, CLASS_A)?;
-    match prepare(alloc, &bytes) {
-        Ok(class) => Ok(class),
-        Err(_) => Err("a class".into()),
-    }
 }
 
 fn event(alloc: Global, class: &Prepared, happens: Happens) -> Result<Event<'static>, Fail> {
@@ -88,28 +80,48 @@ fn summary(reply: &Reply) -> Told {
     }
 }
 
-fn events(alloc: Global, list: &[Happens]) -> Result<Vec<Event<'static>>, Fail> {
-    let class = class(alloc)?;
-    let mut events = Vec::new(alloc);
+fn push_events(
+    alloc: Global,
+    class: &Prepared,
+    list: &[Happens],
+    events: &mut Vec<Event<'static>>,
+) -> Result<(), Fail> {
     for happens in list {
-        events.push(event(alloc, &class, *happens)?)?;
+        events.push(event(alloc, class, *happens)?)?;
     }
+    Ok(())
+}
+
+fn events(alloc: Global, list: &[Happens]) -> Result<Vec<Event<'static>>, Fail> {
+    let class = class(alloc, CLASS_A)?;
+    let mut events: Vec<Event<'static>> = Vec::new(alloc);
+    push_events(alloc, &class, list, &mut events)?;
     Ok(events)
 }
 
-// What is replied to events over a file of two roots of 1,024 words and of 256 slots in each half.
-fn replies(alloc: Global, list: &[Happens]) -> Result<Vec<Told>, Fail> {
+// Runs events over a file of two roots of 1,024 words and of 256 slots in each half.
+fn run(alloc: Global, events: Vec<Event<'static>>) -> Result<Vec<Reply>, Fail> {
     let geometry = Geometry::new(3, 2, 256).ok_or("within the limits")?;
-    let events = events(alloc, list)?;
     let Ok((replies, world)) = World::run(alloc, geometry, events) else {
         return Err("no file is damaged".into());
     };
     let _disk = world.into_disk();
+    Ok(replies)
+}
+
+fn summaries(alloc: Global, replies: &[Reply]) -> Result<Vec<Told>, Fail> {
     let mut list = Vec::new(alloc);
-    for reply in &replies {
+    for reply in replies {
         list.push(summary(reply))?;
     }
     Ok(list)
+}
+
+// What is replied to events over a new file.
+fn replies(alloc: Global, list: &[Happens]) -> Result<Vec<Told>, Fail> {
+    let events = events(alloc, list)?;
+    let replies = run(alloc, events)?;
+    summaries(alloc, &replies)
 }
 
 /// A loader, stored by four device calls; and a class in it, handed out.
@@ -124,21 +136,21 @@ const HANDED_OUT: &[Happens] = &[
     Happens::Seal,
 ];
 
-// The last two replies where a crash comes behind so many device calls of the class's group, and it
-// is looked up then.
-fn crashed(alloc: Global, calls: usize) -> Result<Vec<Told>, Fail> {
-    let mut list = Vec::new(alloc);
+// A crash comes behind so many device calls of the class's group, and it is looked up then.
+fn push_crash(list: &mut Vec<Happens>, calls: usize) -> Result<(), Fail> {
     list.extend_from_slice(HANDED_OUT)?;
     for _call in 0..calls {
         list.push(Happens::Advance)?;
     }
     list.push(Happens::Crash)?;
     list.push(Happens::Look)?;
-    let told = replies(alloc, &list)?;
-    let mut last = Vec::new(alloc);
-    let from = told.len().saturating_sub(2);
-    last.extend_from_slice(told.get(from..).ok_or("two more")?)?;
-    Ok(last)
+    Ok(())
+}
+
+fn crashed(alloc: Global, calls: usize) -> Result<Vec<Told>, Fail> {
+    let mut list = Vec::new(alloc);
+    push_crash(&mut list, calls)?;
+    replies(alloc, &list)
 }
 
 #[test]
@@ -156,11 +168,8 @@ fn a_group_is_there_once_its_gate_is(rt: HostRuntime) -> Result<(), Fail> {
     ] {
         let expected = [Told::Opened(number), Told::Words(words)];
         let told = crashed(alloc, calls)?;
-        assert_eq!(rt;
-            told.as_slice(),
-            expected.as_slice(),
-            "behind {calls} calls"
-        );
+        let from = told.len().saturating_sub(2);
+        assert_eq!(rt; &told[from..], expected.as_slice(), "behind {calls} calls");
     }
     Ok(())
 }

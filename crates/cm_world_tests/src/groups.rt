@@ -1,14 +1,15 @@
 //! Groups that are made by hand, of entries that are values, so that a test is a table of groups.
 
+use crate::classes::class_of;
 use cm_group::{CarriedEntry, Group};
 use cm_layout::{ClassRow, LoaderRow, Move, SlotName, Unload};
 use cm_pool::{Chunk, Place};
-use cm_prepare::{Prepared, prepare};
+use cm_prepare::Prepared;
 use std::alloc::Global;
 use std::test::Fail;
 
 /// An entry. Loaders and classes have names of one letter; each chunk has 128 words.
-#[derive(Clone, Copy, Debug)]
+#[derive(Clone, Copy)]
 pub enum Sample {
     Loader(u64, u8),
     /// A class of a loader, by its name, with the first word of its chunk in the first root, its
@@ -32,21 +33,23 @@ const BEHIND_NAME: &[u8] = b"0700040100106a6176612f6c616e672f4f626a6563740100015
     00000000000100050000\
     0000";
 
-fn bytes_of(alloc: Global, name: u8) -> Option<Vec<u8>> {
-    let mut bytes = hex::decode(alloc, BEFORE_NAME).ok()?;
+// What follows `BEFORE_NAME`.
+fn push_rest(alloc: Global, name: u8, bytes: &mut Vec<u8>) -> Option<()> {
     bytes.extend_from_slice(&[1, name]).ok()?;
     let behind = hex::decode(alloc, BEHIND_NAME).ok()?;
-    bytes.extend_from_slice(&behind).ok()?;
+    bytes.extend_from_slice(&behind).ok()
+}
+
+fn bytes_of(alloc: Global, name: u8) -> Option<Vec<u8>> {
+    let mut bytes = hex::decode(alloc, BEFORE_NAME).ok()?;
+    push_rest(alloc, name, &mut bytes)?;
     Some(bytes)
 }
 
 /// The class of this name.
 pub fn class(alloc: Global, name: u8) -> Result<Prepared, Fail> {
     let bytes = bytes_of(alloc, name).ok_or("bytes")?;
-    match prepare(alloc, &bytes) {
-        Ok(class) => Ok(class),
-        Err(_) => Err("a class".into()),
-    }
+    class_of(alloc, &bytes)
 }
 
 fn chunk(root: u32, at: u32) -> Chunk {
@@ -112,6 +115,13 @@ fn push(group: &mut Group, entry: CarriedEntry) -> bool {
     next <= 1 << 63 && group.push(entry).is_ok()
 }
 
+fn push_all(alloc: Global, group: &mut Group, samples: &[Sample]) -> Result<(), Fail> {
+    for sample in samples {
+        let _pushed = push(group, entry_of(alloc, *sample)?);
+    }
+    Ok(())
+}
+
 /// The group of these entries, the first of which has this number.
 pub fn group_of(alloc: Global, first: u64, samples: &[Sample]) -> Result<Group, Fail> {
     if first == 0 || first > 1 << 63 {
@@ -121,8 +131,6 @@ pub fn group_of(alloc: Global, first: u64, samples: &[Sample]) -> Result<Group, 
         return Err("an entry".into());
     };
     let mut group = Group::new(alloc, first, entry_of(alloc, *one)?)?;
-    for sample in more {
-        let _pushed = push(&mut group, entry_of(alloc, *sample)?);
-    }
+    push_all(alloc, &mut group, more)?;
     Ok(group)
 }

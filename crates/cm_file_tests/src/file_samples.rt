@@ -1,6 +1,5 @@
 //! Files of one loader with two classes, each in a group of its own, with their records.
 
-use cm_disk::{Disk, SimDisk};
 use cm_layout::{
     ClassRow, GroupHead, HalfHead, LoaderRow, SLOT_BYTES, SUPERBLOCK_BYTES, SlotName, Superblock,
 };
@@ -13,6 +12,9 @@ use std::test::Fail;
 pub const CLASS_A: &[u8] = b"cafebabe000000340005070002010001410700040100106a6176612f6c616e672f4f\
     626a6563740021000100030000000000000000";
 
+// Where its name stands.
+const NAME_AT: usize = 16;
+
 /// The class `B` with an attribute of no bytes, whose record has 20 words.
 pub const CLASS_B: &[u8] = b"cafebabe000000340006070002010001420700040100106a6176612f6c616e672f4f\
     626a6563740100015800210001000300000000000000010005\
@@ -21,14 +23,19 @@ pub const CLASS_B: &[u8] = b"cafebabe000000340006070002010001420700040100106a617
 /// Where the roots begin.
 pub const ROOTS_AT: u64 = 36_864;
 
-// A class. It is asked for once more where an allocation failed.
+// The class that a text spells.
 fn class(alloc: Global, text: &[u8]) -> Result<Prepared, Fail> {
     let bytes = hex::decode(alloc, text)?;
-    let class = match prepare(alloc, &bytes) {
-        Ok(class) => class,
-        Err(_) => prepare(alloc, &bytes).ok().ok_or("a class")?,
-    };
-    Ok(class)
+    Ok(prepare(alloc, &bytes).ok().ok_or("a class")?)
+}
+
+/// The class of this name of one letter, whose record has 16 words.
+pub fn class_named(alloc: Global, name: u8) -> Result<Prepared, Fail> {
+    let mut bytes = hex::decode(alloc, CLASS_A)?;
+    if let Some(there) = bytes.get_mut(NAME_AT) {
+        *there = name;
+    }
+    Ok(prepare(alloc, &bytes).ok().ok_or("a class")?)
 }
 
 fn record_bytes(alloc: Global, class: &Prepared) -> Result<Vec<u8>, Fail> {
@@ -56,9 +63,9 @@ fn group(first: u64) -> [u8; SLOT_BYTES] {
     GroupHead { count: 1, first }.encode()
 }
 
-// A superblock and halves of 256 slots: loader `a` and both classes in slots 1 to 6 of half 0.
-fn front(alloc: Global, first: u32, second: u32) -> Result<Vec<u8>, Fail> {
-    let geometry = Geometry::new(3, 2, 256).ok_or("within the limits")?;
+/// Halves of 256 slots: loader `a` and two classes, whose records have so many words, in slots 1 to 6
+/// of half 0.
+pub fn push_halves(bytes: &mut Vec<u8>, first: u32, second: u32) -> Result<(), Fail> {
     let head = HalfHead {
         version: 1,
         live: 0,
@@ -66,7 +73,6 @@ fn front(alloc: Global, first: u32, second: u32) -> Result<Vec<u8>, Fail> {
         base: 0,
     };
     let name = SlotName::new(b"a").ok_or("a short name")?;
-    let mut bytes = Superblock { geometry }.encode(alloc)?;
     bytes.extend_from_slice(&head.encode())?;
     bytes.extend_from_slice(&group(1))?;
     bytes.extend_from_slice(&LoaderRow { number: 1, name }.encode())?;
@@ -75,25 +81,39 @@ fn front(alloc: Global, first: u32, second: u32) -> Result<Vec<u8>, Fail> {
     bytes.extend_from_slice(&group(3))?;
     bytes.extend_from_slice(&class_row(first, second).encode())?;
     bytes.resize(SUPERBLOCK_BYTES + 2 * 256 * SLOT_BYTES, 0)?;
+    Ok(())
+}
+
+fn push_record(alloc: Global, bytes: &mut Vec<u8>, class: &Prepared) -> Result<(), Fail> {
+    let record = record_bytes(alloc, class)?;
+    bytes.extend_from_slice(&record)?;
+    Ok(())
+}
+
+// All that follows the superblock.
+fn push_rest(
+    alloc: Global,
+    bytes: &mut Vec<u8>,
+    first: &Prepared,
+    second: &Prepared,
+) -> Result<(), Fail> {
+    push_halves(bytes, first.words(), second.words())?;
+    push_record(alloc, bytes, first)?;
+    push_record(alloc, bytes, second)?;
+    bytes.resize(ROOTS_AT as usize + 8_192, 0)?;
+    Ok(())
+}
+
+fn file_with(alloc: Global, first: &Prepared, second: &Prepared) -> Result<Vec<u8>, Fail> {
+    let geometry = Geometry::new(3, 2, 256).ok_or("within the limits")?;
+    let mut bytes = Superblock { geometry }.encode(alloc)?;
+    push_rest(alloc, &mut bytes, first, second)?;
     Ok(bytes)
 }
 
 /// The bytes of a file with one root, in which these classes are defined.
 pub fn file_of(alloc: Global, first: &[u8], second: &[u8]) -> Result<Vec<u8>, Fail> {
-    let (first, second) = (class(alloc, first)?, class(alloc, second)?);
-    let mut bytes = front(alloc, first.words(), second.words())?;
-    bytes.extend_from_slice(&record_bytes(alloc, &first)?)?;
-    bytes.extend_from_slice(&record_bytes(alloc, &second)?)?;
-    bytes.resize(ROOTS_AT as usize + 8_192, 0)?;
-    Ok(bytes)
-}
-
-/// A disk of these bytes.
-pub fn disk_of(alloc: Global, bytes: &[u8]) -> Result<SimDisk, Fail> {
-    let mut disk = SimDisk::new(alloc);
-    if bytes.len() < 100_000 {
-        disk.write_at(0, bytes)?;
-    }
-    disk.sync()?;
-    Ok(disk)
+    let first = class(alloc, first)?;
+    let second = class(alloc, second)?;
+    file_with(alloc, &first, &second)
 }

@@ -1,13 +1,16 @@
-//! What is found in small files, and which damage is told first.
+//! What is found in the front of a small file, and which damage is told first.
 
 ghost use Rattle.std.specs.Prelude.{◌≤◌};
 
-use crate::file_samples::{Summary, damaged, found, small_front};
+use crate::found::Summary;
+use crate::halves::{Told, damaged, found, small_front};
 use cm_verdict::{Damage, FileFault};
+use std::alloc::{AllocGlobal, Global};
+use std::process::Abort;
 use std::test::*;
 
 // How many rows live at the number of the last command, and where the groups end.
-const fn sound(rows: usize, number: u64, end: u32) -> Result<Summary, FileFault> {
+const fn sound(rows: usize, number: u64, end: u32) -> Told {
     Ok(Summary { rows, number, end })
 }
 
@@ -19,7 +22,7 @@ const fn slot(number: usize) -> usize
 }
 
 // A byte, what stands in its place, and what is found then.
-fn changes() -> [(usize, u8, Result<Summary, FileFault>); 24] {
+fn changes() -> [(usize, u8, Told); 24] {
     [
         // nothing changed
         (slot(0), 0xA5, sound(3, 3, 7)),
@@ -58,22 +61,30 @@ fn changes() -> [(usize, u8, Result<Summary, FileFault>); 24] {
     ]
 }
 
-#[test]
-fn the_first_damage_is_told(rt: HostRuntime) -> Result<(), Fail> {
-    let front = small_front(rt.alloc())?;
+// What is found with another byte at a place.
+fn found_with(alloc: Global, front: &[u8], at: usize, byte: u8) -> Result<Told, Fail> {
+    let mut bytes = Vec::from_slice(alloc, front)?;
+    if let Some(there) = bytes.get_mut(at) {
+        *there = byte;
+    }
+    found(alloc, &bytes)
+}
+
+fn change_each(rt: &(impl Abort + AllocGlobal), front: &[u8]) -> Result<(), Fail> {
     for (at, byte, expected) in changes() {
-        let mut bytes = front.clone()?;
-        if let Some(there) = bytes.get_mut(at) {
-            *there = byte;
-        }
-        assert_eq!(rt; found(rt.alloc(), &bytes)?, expected, "{byte} at {at}");
+        let told = found_with(rt.alloc(), front, at, byte)?;
+        assert_eq!(rt; told, expected, "{byte} at {at}");
     }
     Ok(())
 }
 
 #[test]
-fn a_short_file_is_no_cache_or_damaged(rt: HostRuntime) -> Result<(), Fail> {
+fn the_first_damage_is_told(rt: HostRuntime) -> Result<(), Fail> {
     let front = small_front(rt.alloc())?;
+    change_each(&rt, &front)
+}
+
+fn cut_each(rt: &(impl Abort + AllocGlobal), front: &[u8]) -> Result<(), Fail> {
     for (long, expected) in [
         (0, Err(FileFault::NotACache)),
         (4_095, Err(FileFault::NotACache)),
@@ -85,6 +96,12 @@ fn a_short_file_is_no_cache_or_damaged(rt: HostRuntime) -> Result<(), Fail> {
         assert_eq!(rt; found(rt.alloc(), bytes)?, expected, "{long} bytes");
     }
     Ok(())
+}
+
+#[test]
+fn a_short_file_is_no_cache_or_damaged(rt: HostRuntime) -> Result<(), Fail> {
+    let front = small_front(rt.alloc())?;
+    cut_each(&rt, &front)
 }
 
 #[test]

@@ -18,12 +18,14 @@ fn small(alloc: Global) -> Result<SimDisk, Fail> {
     Ok(disk)
 }
 
-fn damaged(what: Damage, slot: u32) -> Result<Summary, OpenFault> {
+type Told = Result<Summary, OpenFault>;
+
+fn damaged(what: Damage, slot: u32) -> Told {
     Err(OpenFault::Damaged { what, slot })
 }
 
 /// A byte of a new file, what stands in its place, and what is found then.
-fn changes() -> [(u64, u8, Result<Summary, OpenFault>); 9] {
+fn changes() -> [(u64, u8, Told); 9] {
     [
         (0, b'C', EMPTY),
         (0, b'c', Err(OpenFault::NotACache)),
@@ -38,22 +40,46 @@ fn changes() -> [(u64, u8, Result<Summary, OpenFault>); 9] {
     ]
 }
 
-#[test]
-fn the_first_damage_is_told(rt: HostRuntime) -> Result<(), Fail> {
-    let alloc = rt.alloc();
-    for (at, byte, expected) in changes() {
-        let mut disk = small(alloc)?;
-        if at < 40_000 && at < disk.len()? {
-            disk.write_at(at, &[byte])?;
-        }
-        assert_eq!(rt; found(alloc, &mut disk), expected, "{byte} at {at}");
+fn change(disk: &mut SimDisk, at: u64, byte: u8) -> Result<(), Fail> {
+    if at < 40_000 && at < disk.len()? {
+        disk.write_at(at, &[byte])?;
     }
     Ok(())
 }
 
+fn found_with(alloc: Global, at: u64, byte: u8) -> Result<Told, Fail> {
+    let mut disk = small(alloc)?;
+    change(&mut disk, at, byte)?;
+    Ok(found(alloc, &mut disk))
+}
+
+#[test]
+fn the_first_damage_is_told(rt: HostRuntime) -> Result<(), Fail> {
+    for (at, byte, expected) in changes() {
+        assert_eq!(rt;
+            found_with(rt.alloc(), at, byte)?,
+            expected,
+            "{byte} at {at}"
+        );
+    }
+    Ok(())
+}
+
+fn cut(disk: &mut SimDisk, len: u64) -> Result<(), Fail> {
+    if len <= disk.len()? {
+        disk.cut(len)?;
+    }
+    Ok(())
+}
+
+fn found_short(alloc: Global, len: u64) -> Result<Told, Fail> {
+    let mut disk = small(alloc)?;
+    cut(&mut disk, len)?;
+    Ok(found(alloc, &mut disk))
+}
+
 #[test]
 fn a_short_file_is_no_cache_or_damaged(rt: HostRuntime) -> Result<(), Fail> {
-    let alloc = rt.alloc();
     for (len, expected) in [
         (0, Err(OpenFault::NotACache)),
         (4_095, Err(OpenFault::NotACache)),
@@ -61,25 +87,28 @@ fn a_short_file_is_no_cache_or_damaged(rt: HostRuntime) -> Result<(), Fail> {
         (36_863, damaged(Damage::Length, 0)),
         (36_864, EMPTY),
     ] {
-        let mut disk = small(alloc)?;
-        if len <= disk.len()? {
-            disk.cut(len)?;
-        }
-        assert_eq!(rt; found(alloc, &mut disk), expected, "{len} bytes");
+        assert_eq!(rt; found_short(rt.alloc(), len)?, expected, "{len} bytes");
     }
     Ok(())
 }
 
+/// What is found where a call fails behind so many, and then where none does, with the syncs.
+fn found_behind(alloc: Global, pass: u64) -> Result<(Told, Told, u64), Fail> {
+    let mut fuse = FuseDisk::new(small(alloc)?, pass, 0);
+    let broken = found(alloc, &mut fuse);
+    let mut disk = fuse.into_inner();
+    disk.disarm();
+    let whole = found(alloc, &mut disk);
+    Ok((broken, whole, disk.syncs()))
+}
+
 #[test]
 fn a_failing_read_is_told(rt: HostRuntime) -> Result<(), Fail> {
-    let alloc = rt.alloc();
     for pass in 0..4 {
-        let mut fuse = FuseDisk::new(small(alloc)?, pass, 0);
-        assert_eq!(rt; found(alloc, &mut fuse), Err(OpenFault::Device));
-        let mut disk = fuse.into_inner();
-        disk.disarm();
-        assert_eq!(rt; found(alloc, &mut disk), EMPTY);
-        assert_eq!(rt; disk.syncs(), 2);
+        let (broken, whole, syncs) = found_behind(rt.alloc(), pass)?;
+        assert_eq!(rt; broken, Err(OpenFault::Device));
+        assert_eq!(rt; whole, EMPTY);
+        assert_eq!(rt; syncs, 2);
     }
     Ok(())
 }

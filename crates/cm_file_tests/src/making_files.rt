@@ -4,37 +4,48 @@ use crate::found::{EMPTY, Summary, found};
 use cm_disk::{Choice, Disk, FuseDisk, SimDisk};
 use cm_pool::Geometry;
 use cm_recover::{FormatFault, OpenFault, format};
-use std::alloc::Global;
+use std::alloc::{AllocGlobal, Global};
+use std::process::Abort;
 use std::test::*;
 
 const NONE: Result<Summary, OpenFault> = Err(OpenFault::NotACache);
 
+// An empty disk becomes a file of these sizes, which is so long.
+fn make(
+    rt: &(impl Abort + AllocGlobal),
+    disk: &mut SimDisk,
+    geometry: Geometry,
+    long: u64,
+) -> Result<(), Fail> {
+    assert_eq!(rt; format(rt.alloc(), disk, geometry), Ok(()));
+    assert_eq!(rt; disk.len()?, long);
+    assert_eq!(rt; disk.syncs(), 2);
+    assert_eq!(rt; found(rt.alloc(), disk), EMPTY);
+    Ok(())
+}
+
 #[test]
 fn a_new_file_is_the_empty_cache(rt: HostRuntime) -> Result<(), Fail> {
-    let alloc = rt.alloc();
     for (top, roots, slots, long) in [
         (8, 64, 4_096, 528_384),
         (3, 1, 256, 36_864),
         (12, 256, 65_536, 8_392_704),
     ] {
         let geometry = Geometry::new(top, roots, slots).ok_or("within the limits")?;
-        let mut disk = SimDisk::new(alloc);
-        assert_eq!(rt; format(alloc, &mut disk, geometry), Ok(()));
-        assert_eq!(rt; disk.len()?, long);
-        assert_eq!(rt; disk.syncs(), 2);
-        assert_eq!(rt; found(alloc, &mut disk), EMPTY);
+        make(&rt, &mut SimDisk::new(rt.alloc()), geometry, long)?;
     }
     Ok(())
 }
 
-#[test]
-fn a_file_that_has_bytes_stays(rt: HostRuntime) -> Result<(), Fail> {
-    let alloc = rt.alloc();
-    let geometry = Geometry::new(3, 1, 256).ok_or("within the limits")?;
-    let mut disk = SimDisk::new(alloc);
+// A disk of one byte doesn't become a file, and stays as it was.
+fn stays(
+    rt: &(impl Abort + AllocGlobal),
+    disk: &mut SimDisk,
+    geometry: Geometry,
+) -> Result<(), Fail> {
     disk.write_at(0, b"x")?;
     assert_eq!(rt;
-        format(alloc, &mut disk, geometry),
+        format(rt.alloc(), disk, geometry),
         Err(FormatFault::NotEmpty)
     );
     assert_eq!(rt; disk.len()?, 1);
@@ -45,6 +56,12 @@ fn a_file_that_has_bytes_stays(rt: HostRuntime) -> Result<(), Fail> {
     assert_eq!(rt; byte, *b"x");
     assert_eq!(rt; disk.syncs(), 0);
     Ok(())
+}
+
+#[test]
+fn a_file_that_has_bytes_stays(rt: HostRuntime) -> Result<(), Fail> {
+    let geometry = Geometry::new(3, 1, 256).ok_or("within the limits")?;
+    stays(&rt, &mut SimDisk::new(rt.alloc()), geometry)
 }
 
 /// Lets so many calls through; a write that fails stores so many bytes.
@@ -82,18 +99,27 @@ const LEFT: [(u64, usize, u64, &[u8], Result<Summary, OpenFault>); 14] = [
     (5, 0, 0, b"\0", EMPTY),
 ];
 
+// Whether the file is made, and what is found where this is chosen at the crash.
+fn crashed(
+    alloc: Global,
+    pass: u64,
+    stores: usize,
+    choice: &Choice,
+) -> Result<(bool, Result<Summary, OpenFault>), Fail> {
+    let (made, disk) = stopped(alloc, pass, stores)?;
+    let mut left = disk.crash(alloc, choice)?;
+    Ok((made.is_ok(), found(alloc, &mut left)))
+}
+
 #[test]
 fn a_crash_leaves_no_cache_or_the_empty_one(rt: HostRuntime) -> Result<(), Fail> {
-    let alloc = rt.alloc();
-    for (pass, stores, len, fill, expected) in &LEFT {
-        let (made, disk) = stopped(alloc, *pass, *stores)?;
-        assert_eq!(rt; made.is_ok(), *pass == 5);
+    for (pass, stores, len, fill, expected) in LEFT {
         let choice = Choice {
-            len: *len,
-            fill: Vec::from_slice(alloc, fill)?,
+            len,
+            fill: Vec::from_slice(rt.alloc(), fill)?,
         };
-        let mut disk = disk.crash(alloc, &choice)?;
-        assert_eq!(rt; found(alloc, &mut disk), *expected, "{pass} calls");
+        let told = crashed(rt.alloc(), pass, stores, &choice)?;
+        assert_eq!(rt; told, (pass == 5, expected), "{pass} calls");
     }
     Ok(())
 }

@@ -1,0 +1,206 @@
+//! What is reported of files that hold a cache.
+
+use crate::disks::{bytes_of, disk_of};
+use crate::stored_calls::Call::{Define, Loader, Unload};
+use crate::stored_calls::{Call, disk_after, new_disk};
+use cm_check::{Report, check};
+use cm_disk::{Disk, FuseDisk, SimDisk};
+use cm_recover::OpenFault;
+use std::alloc::{AllocGlobal, Global};
+use std::process::Abort;
+use std::test::*;
+
+const fn report(
+    loaders: usize,
+    classes: usize,
+    chunks: usize,
+    number: u64,
+) -> Result<Report, OpenFault> {
+    Ok(Report {
+        loaders,
+        classes,
+        chunks,
+        number,
+    })
+}
+
+/// A class in each of two loaders.
+const TWO: [Call; 4] = [
+    Loader(b'a'),
+    Loader(b'b'),
+    Define(b'a', b'A'),
+    Define(b'b', b'A'),
+];
+
+/// Commands, and how many loaders, classes and chunks there are after them, with the number of the
+/// last.
+const CASES: [(&[Call], [usize; 3], u64); 9] = [
+    (&[], [0, 0, 0], 0),
+    (&[Loader(b'a')], [1, 0, 0], 1),
+    (&TWO, [2, 2, 2], 4),
+    // a loader that is gone, with its classes and chunks
+    (&[Loader(b'a'), Unload(b'a')], [0, 0, 0], 2),
+    (
+        &[Loader(b'a'), Define(b'a', b'A'), Unload(b'a')],
+        [0, 0, 0],
+        3,
+    ),
+    (
+        &[
+            Loader(b'a'),
+            Loader(b'b'),
+            Define(b'a', b'A'),
+            Define(b'b', b'A'),
+            Unload(b'a'),
+        ],
+        [1, 1, 1],
+        5,
+    ),
+    // and one more of its name
+    (
+        &[
+            Loader(b'a'),
+            Define(b'a', b'A'),
+            Define(b'a', b'B'),
+            Unload(b'a'),
+            Loader(b'a'),
+            Define(b'a', b'A'),
+        ],
+        [1, 1, 1],
+        6,
+    ),
+    // eight records of 16 words fill a chunk of 128
+    (
+        &[
+            Loader(b'a'),
+            Define(b'a', b'A'),
+            Define(b'a', b'B'),
+            Define(b'a', b'C'),
+            Define(b'a', b'D'),
+            Define(b'a', b'E'),
+            Define(b'a', b'F'),
+            Define(b'a', b'G'),
+            Define(b'a', b'H'),
+        ],
+        [1, 8, 1],
+        9,
+    ),
+    (
+        &[
+            Loader(b'a'),
+            Define(b'a', b'A'),
+            Define(b'a', b'B'),
+            Define(b'a', b'C'),
+            Define(b'a', b'D'),
+            Define(b'a', b'E'),
+            Define(b'a', b'F'),
+            Define(b'a', b'G'),
+            Define(b'a', b'H'),
+            Define(b'a', b'I'),
+        ],
+        [1, 9, 2],
+        10,
+    ),
+];
+
+/// What a file tells.
+type Told = Result<Report, OpenFault>;
+
+fn told_after(alloc: Global, calls: &[Call]) -> Result<Told, Fail> {
+    let mut disk = disk_after(alloc, calls)?;
+    Ok(check(alloc, &mut disk))
+}
+
+#[test]
+fn what_commands_leave_is_counted(rt: HostRuntime) -> Result<(), Fail> {
+    for (calls, [loaders, classes, chunks], number) in CASES {
+        let told = told_after(rt.alloc(), calls)?;
+        let expected = report(loaders, classes, chunks, number);
+        assert_eq!(rt; told, expected, "behind {number} commands");
+    }
+    Ok(())
+}
+
+fn push_loaders(calls: &mut Vec<Call>) -> Result<(), Fail> {
+    for number in 0..92 {
+        calls.push(Loader(b'!' + number))?;
+    }
+    Ok(())
+}
+
+// Chunks of 128, 256 and 512 words take 8, 16 and 11 records of 16 words.
+fn push_classes(calls: &mut Vec<Call>) -> Result<(), Fail> {
+    for number in 0..35 {
+        calls.push(Define(b'!', b'\\' + number))?;
+    }
+    Ok(())
+}
+
+// 127 groups of two slots, behind the half's head, fill all but one of its 256 slots.
+fn told_of_many(alloc: Global) -> Result<Told, Fail> {
+    let mut calls = Vec::new(alloc);
+    push_loaders(&mut calls)?;
+    push_classes(&mut calls)?;
+    told_after(alloc, &calls)
+}
+
+#[test]
+fn a_full_journal_is_counted(rt: HostRuntime) -> Result<(), Fail> {
+    assert_eq!(rt; told_of_many(rt.alloc())?, report(92, 35, 3, 127));
+    Ok(())
+}
+
+// What a file tells, and whether its bytes and its syncs are what they were.
+fn look(alloc: Global, disk: &mut SimDisk) -> Result<(Told, bool, bool), Fail> {
+    let (before, syncs) = (bytes_of(alloc, disk)?, disk.syncs());
+    let told = check(alloc, disk);
+    let is_same = bytes_of(alloc, disk)? == before;
+    Ok((told, is_same, disk.syncs() == syncs))
+}
+
+fn look_after(alloc: Global, calls: &[Call]) -> Result<(Told, bool, bool), Fail> {
+    let mut disk = disk_after(alloc, calls)?;
+    look(alloc, &mut disk)
+}
+
+#[test]
+fn a_file_is_looked_at_by_reads_alone(rt: HostRuntime) -> Result<(), Fail> {
+    let (told, has_same_bytes, has_same_syncs) = look_after(rt.alloc(), &TWO)?;
+    assert_eq!(rt; told, report(2, 2, 2, 4));
+    assert!(rt; has_same_bytes);
+    assert!(rt; has_same_syncs);
+    Ok(())
+}
+
+// What a file of these bytes tells where a call fails behind so many, and then where none does.
+fn told_behind(alloc: Global, bytes: &[u8], pass: u64) -> Result<(Told, Told), Fail> {
+    let mut fuse = FuseDisk::new(disk_of(alloc, bytes)?, pass, 0);
+    let told = check(alloc, &mut fuse);
+    let mut disk = fuse.into_inner();
+    disk.disarm();
+    Ok((told, check(alloc, &mut disk)))
+}
+
+fn is_told(rt: &(impl Abort + AllocGlobal), bytes: &[u8]) -> Result<(), Fail> {
+    let whole = report(2, 2, 2, 4);
+    // the length, the superblock, both halves, the length again, and two records
+    for pass in 0..7 {
+        let (broken, then) = told_behind(rt.alloc(), bytes, pass)?;
+        assert_eq!(rt; broken, Err(OpenFault::Device), "{pass} calls");
+        assert_eq!(rt; then, whole);
+    }
+    let (told, _) = told_behind(rt.alloc(), bytes, 7)?;
+    assert_eq!(rt; told, whole);
+    Ok(())
+}
+
+fn bytes_after(alloc: Global, calls: &[Call]) -> Result<Vec<u8>, Fail> {
+    let mut disk = disk_after(alloc, calls)?;
+    bytes_of(alloc, &mut disk)
+}
+
+#[test]
+fn a_failing_call_is_told(rt: HostRuntime) -> Result<(), Fail> {
+    let bytes = bytes_after(rt.alloc(), &TWO)?;
+    is_told(&rt, &bytes)
+}
