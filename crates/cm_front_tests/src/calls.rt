@@ -8,7 +8,7 @@ use cm_prepare::{Prepared, Refusal};
 
 /// A call. Loaders and classes have names of one letter; a class that is defined stands at a place of
 /// the test's list.
-#[derive(Clone, Copy, Debug)]
+#[derive(Clone, Copy)]
 pub enum Call {
     AddLoader(u8),
     Define(u8, usize),
@@ -22,7 +22,7 @@ pub enum Call {
 }
 
 /// What comes of it.
-#[derive(Clone, Copy, Debug, PartialEq, Eq)]
+#[derive(Clone, Copy, PartialEq, Eq)]
 pub enum Answer {
     Number(u64),
     Refused(Refusal),
@@ -43,15 +43,7 @@ fn numbered(answer: Result<u64, Refusal>) -> Answer {
     }
 }
 
-fn group_of(group: Option<Group>) -> Answer {
-    match group {
-        Some(group) => Answer::Group(group.first(), group.count(), group.learnt()),
-        None => Answer::Nothing,
-    }
-}
-
-fn order_of(group: Option<Group>) -> Option<Answer> {
-    let group = group?;
+fn order_of(group: &Group) -> Option<Answer> {
     match group.entries().last()?.entry() {
         Entry::Live(Row::Class(row, ())) => {
             Some(Answer::Order(row.place.chunk.order, row.place.words))
@@ -81,6 +73,18 @@ fn learn(front: &mut Front, number: u64) -> Answer {
     }
 }
 
+fn seal(front: &mut Front) -> Answer {
+    match front.seal() {
+        Some(group) => Answer::Group(group.first(), group.count(), group.learnt()),
+        None => Answer::Nothing,
+    }
+}
+
+fn seal_place(front: &mut Front) -> Option<Answer> {
+    let group = front.seal()?;
+    order_of(&group)
+}
+
 /// Makes the call.
 pub fn make(front: &mut Front, classes: &[Prepared], call: Call) -> Answer {
     match call {
@@ -88,8 +92,8 @@ pub fn make(front: &mut Front, classes: &[Prepared], call: Call) -> Answer {
         Call::Define(loader, at) => define_at(front, loader, classes, at),
         Call::Unload(loader) => numbered(unload(front, &[loader])),
         Call::Find(loader, class) => find(front, loader, class),
-        Call::Seal => group_of(front.seal()),
-        Call::SealPlace => order_of(front.seal()).unwrap_or(Answer::Nothing),
+        Call::Seal => seal(front),
+        Call::SealPlace => seal_place(front).unwrap_or(Answer::Nothing),
         Call::Learn(number) => learn(front, number),
         Call::Fail => {
             front.fail();

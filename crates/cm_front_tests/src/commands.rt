@@ -2,8 +2,10 @@
 
 use crate::calls::{Answer, Call, make};
 use crate::fronts::{add_loader, class, empty};
+use cm_front::Front;
 use cm_prepare::{Prepared, Refusal};
 use std::alloc::Global;
+use std::process::Abort;
 use std::test::Fail;
 
 /// A class with a name of one letter, and how many bytes its attribute has.
@@ -16,16 +18,34 @@ fn room(alloc: Global, count: usize) -> Result<Vec<Prepared>, Fail> {
     }
 }
 
-fn classes(alloc: Global, samples: &[Sample]) -> Result<Vec<Prepared>, Fail> {
-    let mut classes = room(alloc, samples.len())?;
+fn push_classes(
+    alloc: Global,
+    samples: &[Sample],
+    classes: &mut Vec<Prepared>,
+) -> Result<(), Fail> {
     for (name, count) in samples {
         classes.push(class(alloc, *name, *count)?)?;
     }
+    Ok(())
+}
+
+fn classes(alloc: Global, samples: &[Sample]) -> Result<Vec<Prepared>, Fail> {
+    let mut classes = room(alloc, samples.len())?;
+    push_classes(alloc, samples, &mut classes)?;
     Ok(classes)
 }
 
-// Which of these calls, made one after another on an empty cache, is the first that gives another
-// answer.
+// Which of these calls, made one after another, is the first that gives another answer.
+fn first_wrong(front: &mut Front, classes: &[Prepared], cases: &[(Call, Answer)]) -> Option<usize> {
+    for (at, (call, expected)) in cases.iter().enumerate() {
+        if make(front, classes, *call) != *expected {
+            return Some(at);
+        }
+    }
+    None
+}
+
+// The same on an empty cache.
 fn first_other(
     alloc: Global,
     roots: u32,
@@ -34,12 +54,7 @@ fn first_other(
 ) -> Result<Option<usize>, Fail> {
     let classes = classes(alloc, samples)?;
     let mut front = empty(alloc, 3, roots)?;
-    for (at, (call, expected)) in cases.iter().enumerate() {
-        if make(&mut front, &classes, *call) != *expected {
-            return Ok(Some(at));
-        }
-    }
-    Ok(None)
+    Ok(first_wrong(&mut front, &classes, cases))
 }
 
 #[test]
@@ -137,14 +152,11 @@ fn refusals_come_in_their_order(rt: HostRuntime) -> Result<(), Fail> {
     Ok(())
 }
 
-#[test]
-fn loaders_seal_in_groups_of_64(rt: HostRuntime) -> Result<(), Fail> {
-    let mut front = empty(rt.alloc(), 3, 1)?;
+// A cache gets 65 loaders, which are handed out.
+fn seal_loaders(rt: &impl Abort, front: &mut Front) {
     for number in 1..66 {
-        assert_eq!(rt;
-            add_loader(&mut front, &[number + 0x20]),
-            Ok(u64::from(number))
-        );
+        let answer = add_loader(front, &[number + 0x20]);
+        assert_eq!(rt; answer, Ok(u64::from(number)));
     }
     let cases = [
         (Call::Seal, Answer::Group(1, 64, 0)),
@@ -157,9 +169,14 @@ fn loaders_seal_in_groups_of_64(rt: HostRuntime) -> Result<(), Fail> {
         (Call::AddLoader(b'z'), Answer::Number(66)),
         (Call::Seal, Answer::Group(66, 1, 65)),
     ];
-    for (call, expected) in cases {
-        assert_eq!(rt; make(&mut front, &[], call), expected);
-    }
-    assert_eq!(rt; (front.number(), front.geometry().top()), (66, 3));
+    assert_eq!(rt; first_wrong(front, &[], &cases), None);
+    assert_eq!(rt; front.number(), 66);
+    assert_eq!(rt; front.geometry().top(), 3);
+}
+
+#[test]
+fn loaders_seal_in_groups_of_64(rt: HostRuntime) -> Result<(), Fail> {
+    let mut front = empty(rt.alloc(), 3, 1)?;
+    seal_loaders(&rt, &mut front);
     Ok(())
 }

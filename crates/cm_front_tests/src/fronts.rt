@@ -15,17 +15,22 @@ const BEFORE_NAME: &[u8] = b"cafebabe0000003400060700020100";
 const BEHIND_NAME: &[u8] =
     b"0700040100106a6176612f6c616e672f4f626a656374010001580021000100030000000000000001";
 
-/// A cache with nothing in it.
-pub fn empty(alloc: Global, top: u32, roots: u32) -> Result<Front, Fail> {
-    let geometry = Geometry::new(top, roots, 65_536).ok_or("sizes")?;
+/// A cache of these sizes with nothing in it.
+pub fn empty_of(alloc: Global, geometry: Geometry) -> Result<Front, Fail> {
     match Front::new(alloc, geometry) {
         Ok(front) => Ok(front),
         Err(_) => Ok(Front::new(alloc, geometry)?),
     }
 }
 
-fn bytes_of(alloc: Global, name: u8, count: u32) -> Option<Vec<u8>> {
-    let mut bytes = hex::decode(alloc, BEFORE_NAME).ok()?;
+/// One with so many roots of this order.
+pub fn empty(alloc: Global, top: u32, roots: u32) -> Result<Front, Fail> {
+    let geometry = Geometry::new(top, roots, 65_536).ok_or("sizes")?;
+    empty_of(alloc, geometry)
+}
+
+// What follows `BEFORE_NAME`.
+fn push_rest(alloc: Global, bytes: &mut Vec<u8>, name: u8, count: u32) -> Option<()> {
     bytes.extend_from_slice(&[1, name]).ok()?;
     let behind = hex::decode(alloc, BEHIND_NAME).ok()?;
     bytes.extend_from_slice(&behind).ok()?;
@@ -34,7 +39,21 @@ fn bytes_of(alloc: Global, name: u8, count: u32) -> Option<Vec<u8>> {
     for _byte in 0..count {
         bytes.push(0).ok()?;
     }
+    Some(())
+}
+
+fn bytes_of(alloc: Global, name: u8, count: u32) -> Option<Vec<u8>> {
+    let mut bytes = hex::decode(alloc, BEFORE_NAME).ok()?;
+    push_rest(alloc, &mut bytes, name, count)?;
     Some(bytes)
+}
+
+/// The class that has these bytes.
+pub fn class_of(alloc: Global, bytes: &[u8]) -> Result<Prepared, Fail> {
+    match prepare(alloc, bytes) {
+        Ok(class) => Ok(class),
+        Err(_) => Ok(prepare(alloc, bytes).ok().ok_or("a class")?),
+    }
 }
 
 /// The class of this name with so many bytes in its attribute: its record has 20 words and one for
@@ -44,11 +63,7 @@ pub fn class(alloc: Global, name: u8, count: u32) -> Result<Prepared, Fail> {
         Some(bytes) => bytes,
         None => bytes_of(alloc, name, count).ok_or("bytes")?,
     };
-    let class = match prepare(alloc, &bytes) {
-        Ok(class) => class,
-        Err(_) => prepare(alloc, &bytes).ok().ok_or("a class")?,
-    };
-    Ok(class)
+    class_of(alloc, &bytes)
 }
 
 pub fn add_loader(front: &mut Front, name: &[u8]) -> Result<u64, Refusal> {

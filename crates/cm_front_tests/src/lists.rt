@@ -2,8 +2,10 @@
 
 use crate::list_calls::Call::{Define, Loader, Unload};
 use crate::list_calls::{Call, front_after};
+use cm_front::Front;
 use cm_list::{ListedClass, ListedLoader, list_accepted};
-use std::alloc::Global;
+use std::alloc::{AllocGlobal, Global};
+use std::process::Abort;
 use std::test::*;
 
 /// Commands, and what is listed then, as text: each loader's name in a line, and behind it each class
@@ -82,19 +84,25 @@ const CASES: [(&[Call], &[u8]); 8] = [
     ),
 ];
 
-fn write_class(alloc: Global, class: &ListedClass, text: &mut Vec<u8>) -> Result<(), Fail> {
-    let place = class.place;
-    let chunk = place.chunk;
-    let numbers = format!(in alloc;
-        " {} {} {} {}\n",
-        class.class.words(),
-        chunk.root,
-        chunk.at,
-        place.offset
-    )?;
+fn write_name(alloc: Global, class: &ListedClass, text: &mut Vec<u8>) -> Result<(), Fail> {
     text.push(b' ')?;
     text.extend_from_slice(&class.class.class_name(alloc)?)?;
-    text.extend_from_slice(numbers.as_bytes())?;
+    Ok(())
+}
+
+fn write_number(alloc: Global, number: u32, text: &mut Vec<u8>) -> Result<(), Fail> {
+    let digits = format!(in alloc; " {number}")?;
+    text.extend_from_slice(digits.as_bytes())?;
+    Ok(())
+}
+
+fn write_class(alloc: Global, class: &ListedClass, text: &mut Vec<u8>) -> Result<(), Fail> {
+    write_name(alloc, class, text)?;
+    write_number(alloc, class.class.words(), text)?;
+    write_number(alloc, class.place.chunk.root, text)?;
+    write_number(alloc, class.place.chunk.at, text)?;
+    write_number(alloc, class.place.offset, text)?;
+    text.push(b'\n')?;
     Ok(())
 }
 
@@ -107,20 +115,31 @@ fn write_loader(alloc: Global, loader: &ListedLoader, text: &mut Vec<u8>) -> Res
     Ok(())
 }
 
+fn write_front(alloc: Global, front: &Front, text: &mut Vec<u8>) -> Result<(), Fail> {
+    for loader in &list_accepted(alloc, front)? {
+        write_loader(alloc, loader, text)?;
+    }
+    Ok(())
+}
+
 fn text_after(alloc: Global, calls: &[Call]) -> Result<Vec<u8>, Fail> {
     let front = front_after(alloc, calls)?;
     let mut text = Vec::new(alloc);
-    for loader in &list_accepted(alloc, &front)? {
-        write_loader(alloc, loader, &mut text)?;
-    }
+    write_front(alloc, &front, &mut text)?;
     Ok(text)
+}
+
+// That such a text is listed after these commands.
+fn is_listed(rt: &(impl Abort + AllocGlobal), calls: &[Call], expected: &[u8]) -> Result<(), Fail> {
+    let text = text_after(rt.alloc(), calls)?;
+    assert_eq!(rt; text.as_slice(), expected);
+    Ok(())
 }
 
 #[test]
 fn names_come_in_byte_order_with_places(rt: HostRuntime) -> Result<(), Fail> {
     for (calls, expected) in CASES {
-        let text = text_after(rt.alloc(), calls)?;
-        assert_eq!(rt; text.as_slice(), expected);
+        is_listed(&rt, calls, expected)?;
     }
     Ok(())
 }
@@ -129,17 +148,20 @@ fn names_come_in_byte_order_with_places(rt: HostRuntime) -> Result<(), Fail> {
 const LETTERS: &[u8] = b"!#$%&'()*+-./0123456789:;<=>?@ABCDEFGHIJKLMNOPQRSTUVWXYZ[]^_`\
     abcdefghijklmnopqrstuvwxyz{|}~";
 
-#[test]
-fn many_loaders_come_in_byte_order(rt: HostRuntime) -> Result<(), Fail> {
-    let alloc = rt.alloc();
-    let (mut calls, mut expected) = (Vec::new(alloc), Vec::new(alloc));
+fn push_loaders(calls: &mut Vec<Call>, lines: &mut Vec<u8>) -> Result<(), Fail> {
     for at in 0..91 {
         // each comes once, and neighbours come apart
         let place = at * 37 % 91;
         calls.push(Loader(LETTERS.get(place..place + 1).ok_or("a letter")?))?;
-        expected.extend_from_slice(LETTERS.get(at..at + 1).ok_or("a letter")?)?;
-        expected.push(b'\n')?;
+        lines.extend_from_slice(LETTERS.get(at..at + 1).ok_or("a letter")?)?;
+        lines.push(b'\n')?;
     }
-    assert_eq!(rt; text_after(alloc, &calls)?.as_slice(), expected.as_slice());
     Ok(())
+}
+
+#[test]
+fn many_loaders_come_in_byte_order(rt: HostRuntime) -> Result<(), Fail> {
+    let (mut calls, mut expected) = (Vec::new(rt.alloc()), Vec::new(rt.alloc()));
+    push_loaders(&mut calls, &mut expected)?;
+    is_listed(&rt, &calls, &expected)
 }

@@ -11,6 +11,7 @@ use cm_pool::Place;
 use cm_prepare::{Prepared, Refusal};
 use std::alloc::{AllocError, Global};
 use std::collections::VecDeque;
+use std::process::Abort;
 use std::test::Fail;
 
 /// How many loaders and classes there are to choose from.
@@ -37,6 +38,18 @@ struct Model {
 }
 
 impl Model {
+    fn new(alloc: Global) -> Model {
+        Model {
+            lives: [None; LOADERS],
+            has: [[false; CLASSES]; LOADERS],
+            chains: [Chain::EMPTY; LOADERS],
+            region: Region::new(),
+            places: VecDeque::new(alloc),
+            number: 0,
+            sealed: 0,
+        }
+    }
+
     // The next number, whose command has a record at this place.
     fn accept(&mut self, place: Option<Place>) -> Result<u64, Refusal> {
         self.places.push_back(place).map_err(AllocError::from)?;
@@ -112,15 +125,18 @@ fn lie_there(group: &Group, model: &mut Model) -> bool {
     true
 }
 
-// Whether the next group begins behind the last one, and has the model's places.
+// Whether a group begins behind the last one, and has the model's places.
+fn is_next(group: &Group, model: &mut Model) -> bool {
+    let is_behind = group.first() == model.sealed.wrapping_add(1);
+    model.sealed = model.sealed.wrapping_add(group.count() as u64);
+    is_behind && lie_there(group, model) && model.sealed <= model.number
+}
+
+// Whether the next group is the model's.
 fn seals(front: &mut Front, model: &mut Model) -> bool {
     match front.seal() {
         None => model.sealed == model.number,
-        Some(group) => {
-            let is_next = group.first() == model.sealed.wrapping_add(1);
-            model.sealed = model.sealed.wrapping_add(group.count() as u64);
-            is_next && lie_there(&group, model) && model.sealed <= model.number
-        }
+        Some(group) => is_next(&group, model),
     }
 }
 
@@ -164,34 +180,31 @@ fn first_other(front: &mut Front, model: &mut Model, classes: &[Prepared]) -> Op
     None
 }
 
+fn push_classes(alloc: Global, classes: &mut Vec<Prepared>) -> Result<(), Fail> {
+    for (letter, words) in WORDS.into_iter().enumerate() {
+        let count = words.wrapping_sub(20).wrapping_mul(8);
+        classes.push(class(alloc, letter as u8 + 0x41, count)?)?;
+    }
+    Ok(())
+}
+
 fn classes(alloc: Global) -> Result<Vec<Prepared>, Fail> {
     let mut classes = Vec::new(alloc);
-    for (letter, words) in WORDS.into_iter().enumerate() {
-        classes.push(class(
-            alloc,
-            letter as u8 + 0x41,
-            words.wrapping_sub(20).wrapping_mul(8),
-        )?)?;
-    }
+    push_classes(alloc, &mut classes)?;
     Ok(classes)
+}
+
+fn agree(rt: &impl Abort, front: &mut Front, model: &mut Model, classes: &[Prepared]) {
+    assert!(rt; classes.len() >= 8);
+    assert_eq!(rt; first_other(front, model, classes), None);
+    assert!(rt; model.number > 3_000);
+    assert!(rt; model.region.full > 300);
 }
 
 #[test]
 fn random_commands_agree_with_a_plain_model(rt: HostRuntime) -> Result<(), Fail> {
     let classes = classes(rt.alloc())?;
     let mut front = empty(rt.alloc(), TOP, ROOTS)?;
-    let mut model = Model {
-        lives: [None; LOADERS],
-        has: [[false; CLASSES]; LOADERS],
-        chains: [Chain::EMPTY; LOADERS],
-        region: Region::new(),
-        places: VecDeque::new(rt.alloc()),
-        number: 0,
-        sealed: 0,
-    };
-    assert!(rt; classes.len() >= 8);
-    assert_eq!(rt; first_other(&mut front, &mut model, &classes), None);
-    assert!(rt; model.number > 3_000);
-    assert!(rt; model.region.full > 300);
+    agree(&rt, &mut front, &mut Model::new(rt.alloc()), &classes);
     Ok(())
 }

@@ -15,7 +15,7 @@ const ROOT_BLOCKS: usize = 32;
 const BLOCKS: usize = 128;
 
 /// What the words of a block are; those of one block are all alike.
-#[derive(Clone, Copy, Debug, PartialEq, Eq)]
+#[derive(Clone, Copy, PartialEq, Eq)]
 enum Words {
     /// Their root isn't present.
     Absent,

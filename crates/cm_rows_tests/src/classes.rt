@@ -4,19 +4,30 @@ use cm_class::read_shape;
 use cm_layout::{Entry, Row};
 use cm_record::{Record, build};
 use cm_rows::Book;
-use std::alloc::Global;
+use std::alloc::{AllocGlobal, Global};
+use std::process::Abort;
 use std::sync::Arc;
 use std::test::*;
 
-// The record of a class of this name that has no super class.
-fn record_named(alloc: Global, name: &[u8]) -> Result<Arc<Record, Global>, Fail> {
-    let mut bytes = Vec::new(alloc);
+// The bytes of a class of this name that has no super class.
+fn push_class(bytes: &mut Vec<u8>, name: &[u8]) -> Result<(), Fail> {
     bytes.extend_from_slice(&[0xca, 0xfe, 0xba, 0xbe, 0, 0, 0, 0x34, 0, 3, 1])?;
     bytes.extend_from_slice(&u16::try_from(name.len())?.to_be_bytes())?;
     bytes.extend_from_slice(name)?;
     bytes.extend_from_slice(&[7, 0, 1, 0, 0x21, 0, 2, 0, 0, 0, 0, 0, 0, 0, 0, 0, 0])?;
-    let record = build(alloc, &read_shape(alloc, &bytes)?)?;
-    Ok(Arc::new(alloc, record)?)
+    Ok(())
+}
+
+fn record_of(alloc: Global, bytes: &[u8]) -> Result<Record, Fail> {
+    let class = read_shape(alloc, bytes)?;
+    Ok(build(alloc, &class)?)
+}
+
+// And its record.
+fn record_named(alloc: Global, name: &[u8]) -> Result<Arc<Record, Global>, Fail> {
+    let mut bytes = Vec::new(alloc);
+    push_class(&mut bytes, name)?;
+    Ok(Arc::new(alloc, record_of(alloc, &bytes)?)?)
 }
 
 // Three loaders, with classes of the names beside them, one word each.
@@ -30,22 +41,39 @@ const CLASSES: [(u64, &[u8]); 7] = [
     (3, b""),
 ];
 
-fn book_of_classes(alloc: Global) -> Result<Book<Arc<Record, Global>>, Fail> {
-    let mut book = small_book(alloc)?;
+type Classes = Book<Arc<Record, Global>>;
+
+fn add_loaders(book: &mut Classes) -> Result<(), Fail> {
     for (number, name) in [(1, b"app"), (2, b"lib"), (3, b"web")] {
-        if offer(&mut book, number, loader(number, name)?)?.is_some() {
+        if offer(book, number, loader(number, name)?)?.is_some() {
             return Err("a loader".into());
         }
     }
-    for (loader, name) in CLASSES {
-        let offset = book.last(loader).map_or(0, |last| last.used);
-        let at = (loader as u32).wrapping_mul(128);
-        let row = class_row(loader, chunk(0, at), offset, 1);
-        let entry = Entry::Live(Row::Class(row, record_named(alloc, name)?));
-        if offer(&mut book, 4, entry)?.is_some() {
-            return Err("a class".into());
-        }
+    Ok(())
+}
+
+fn add_class(alloc: Global, book: &mut Classes, loader: u64, name: &[u8]) -> Result<(), Fail> {
+    let offset = book.last(loader).map_or(0, |last| last.used);
+    let at = u32::try_from(loader)?.wrapping_mul(128);
+    let row = class_row(loader, chunk(0, at), offset, 1);
+    let entry = Entry::Live(Row::Class(row, record_named(alloc, name)?));
+    if offer(book, 4, entry)?.is_some() {
+        return Err("a class".into());
     }
+    Ok(())
+}
+
+fn add_all(alloc: Global, book: &mut Classes) -> Result<(), Fail> {
+    add_loaders(book)?;
+    for (loader, name) in CLASSES {
+        add_class(alloc, book, loader, name)?;
+    }
+    Ok(())
+}
+
+fn book_of_classes(alloc: Global) -> Result<Classes, Fail> {
+    let mut book = small_book(alloc)?;
+    add_all(alloc, &mut book)?;
     Ok(book)
 }
 
@@ -58,38 +86,52 @@ const NONE: [(u64, &[u8]); 5] = [
     (1, b"java/lang/"),
 ];
 
-type Classes = Book<Arc<Record, Global>>;
-
 // Whether a loader has a class of this name, by the name and by a class that has it; what is found
 // has that name.
-fn has(alloc: Global, book: &Classes, loader: u64, name: &[u8]) -> Result<bool, Fail> {
-    let class = record_named(alloc, name)?;
-    match (book.class(loader, name), book.class_like(loader, &class)) {
-        (Some(one), Some(other)) if one.same_name(&class) && other.same_name(&class) => Ok(true),
+fn has_like(
+    book: &Classes,
+    loader: u64,
+    name: &[u8],
+    class: &Arc<Record, Global>,
+) -> Result<bool, Fail> {
+    match (book.class(loader, name), book.class_like(loader, class)) {
+        (Some(one), Some(other)) if one.same_name(class) && other.same_name(class) => Ok(true),
         (None, None) => Ok(false),
         _ => Err("another class".into()),
     }
 }
 
-#[test]
-fn finds_each_class_in_its_loader(rt: HostRuntime) -> Result<(), Fail> {
-    let alloc = rt.alloc();
-    let book = book_of_classes(alloc)?;
+fn has(alloc: Global, book: &Classes, loader: u64, name: &[u8]) -> Result<bool, Fail> {
+    let class = record_named(alloc, name)?;
+    has_like(book, loader, name, &class)
+}
+
+fn finds_each(rt: &(impl Abort + AllocGlobal), book: &Classes) -> Result<(), Fail> {
     for (loader, name) in CLASSES {
-        assert!(rt; has(alloc, &book, loader, name)?);
+        assert!(rt; has(rt.alloc(), book, loader, name)?);
     }
     for (loader, name) in NONE {
-        assert!(rt; !has(alloc, &book, loader, name)?);
+        assert!(rt; !has(rt.alloc(), book, loader, name)?);
     }
+    Ok(())
+}
+
+#[test]
+fn finds_each_class_in_its_loader(rt: HostRuntime) -> Result<(), Fail> {
+    let book = book_of_classes(rt.alloc())?;
+    finds_each(&rt, &book)
+}
+
+fn finds_others(rt: &impl Abort, book: &mut Classes) -> Result<(), Fail> {
+    assert_eq!(rt; offer(book, 4, unload(2))?, None);
+    assert!(rt; book.class(2, b"A").is_none());
+    assert!(rt; book.class(1, b"A").is_some());
+    assert!(rt; book.class(3, b"java/lang/String").is_some());
     Ok(())
 }
 
 #[test]
 fn finds_no_class_of_an_unloaded_loader(rt: HostRuntime) -> Result<(), Fail> {
     let mut book = book_of_classes(rt.alloc())?;
-    assert_eq!(rt; offer(&mut book, 4, unload(2))?, None);
-    assert!(rt; book.class(2, b"A").is_none());
-    assert!(rt; book.class(1, b"A").is_some());
-    assert!(rt; book.class(3, b"java/lang/String").is_some());
-    Ok(())
+    finds_others(&rt, &mut book)
 }

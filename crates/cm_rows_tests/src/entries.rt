@@ -7,7 +7,8 @@ use crate::samples::{CHUNKS, Case, ROWS, chunk, class_row, first_wrong, loader_r
 use cm_layout::{EntryRule, Row};
 use cm_pool::Chunk;
 use cm_rows::{Book, LastChunk};
-use std::alloc::Global;
+use std::alloc::{AllocGlobal, Global};
+use std::process::Abort;
 use std::test::*;
 
 // Chunks by their orders and first words.
@@ -46,10 +47,8 @@ const JUDGED: [Case<'_>; 22] = [
     (8, Loader(8, b"app"), None),
 ];
 
-#[test]
-fn judges_each_entry(rt: HostRuntime) -> Result<(), Fail> {
-    let mut book = small_book(rt.alloc())?;
-    assert_eq!(rt; first_wrong(&mut book, &JUDGED)?, None);
+fn judge_each(rt: &impl Abort, book: &mut Book<()>) -> Result<(), Fail> {
+    assert_eq!(rt; first_wrong(book, &JUDGED)?, None);
     assert_eq!(rt;
         (book.loader(b"app"), book.loader(b"boot")),
         (Some(8), None)
@@ -59,6 +58,12 @@ fn judges_each_entry(rt: HostRuntime) -> Result<(), Fail> {
         (true, false, 4)
     );
     Ok(())
+}
+
+#[test]
+fn judges_each_entry(rt: HostRuntime) -> Result<(), Fail> {
+    let mut book = small_book(rt.alloc())?;
+    judge_each(&rt, &mut book)
 }
 
 const MOVED: [Case<'_>; 12] = [
@@ -88,19 +93,23 @@ fn chunks_of(alloc: Global, book: &Book<()>) -> Result<Vec<Chunk>, Fail> {
     Ok(chunks)
 }
 
-#[test]
-fn moves_a_loaders_last_chunk(rt: HostRuntime) -> Result<(), Fail> {
-    let mut book = small_book(rt.alloc())?;
+fn move_last(rt: &(impl Abort + AllocGlobal), book: &mut Book<()>) -> Result<(), Fail> {
     // a chunk that isn't the last one, another loader's, one that is too small, one that is in use
-    assert_eq!(rt; first_wrong(&mut book, &MOVED)?, None);
+    assert_eq!(rt; first_wrong(book, &MOVED)?, None);
     let last = LastChunk {
         chunk: chunk(1, 256),
         used: 129,
     };
     assert_eq!(rt; (book.last(1), book.last(2)), (Some(last), None));
     let moved = [chunk(0, 512), chunk(0, 512), chunk(0, 0), chunk(1, 256)];
-    assert_eq!(rt; &chunks_of(rt.alloc(), &book)?[..], moved.as_slice());
+    assert_eq!(rt; &chunks_of(rt.alloc(), book)?[..], moved.as_slice());
     Ok(())
+}
+
+#[test]
+fn moves_a_loaders_last_chunk(rt: HostRuntime) -> Result<(), Fail> {
+    let mut book = small_book(rt.alloc())?;
+    move_last(&rt, &mut book)
 }
 
 // A live row as tables write it.
@@ -131,13 +140,17 @@ const LIVE: [(LiveSample, Option<EntryRule>); 7] = [
     (LiveSample::Loader(7, b"lib"), None),
 ];
 
-#[test]
-fn takes_live_rows_in_their_order(rt: HostRuntime) -> Result<(), Fail> {
-    let mut book = small_book(rt.alloc())?;
+fn take_each(rt: &impl Abort, book: &mut Book<()>) -> Result<(), Fail> {
     for (sample, rule) in LIVE {
         assert_eq!(rt; book.apply_live(7, sample.row()?), rule);
     }
     Ok(())
+}
+
+#[test]
+fn takes_live_rows_in_their_order(rt: HostRuntime) -> Result<(), Fail> {
+    let mut book = small_book(rt.alloc())?;
+    take_each(&rt, &mut book)
 }
 
 // Two classes of the one loader that a book had, and what a copy of another book takes behind that
@@ -171,16 +184,26 @@ fn copy_of(alloc: Global, book: &Book<()>) -> Result<Book<()>, Fail>
     Ok(copy)
 }
 
-#[test]
-fn a_copy_answers_as_its_book(rt: HostRuntime) -> Result<(), Fail> {
-    let mut book = small_book(rt.alloc())?;
-    assert_eq!(rt; first_wrong(&mut book, &COPIED)?, None);
-    let mut copy = copy_of(rt.alloc(), &book)?;
+fn answer_as_book(rt: &impl Abort, copy: &mut Book<()>) -> Result<(), Fail> {
     assert_eq!(rt; copy.len(), 2);
     assert_eq!(rt; (copy.loader(b"old"), copy.loader(b"app")), (None, Some(1)));
     assert!(rt; copy.class(1, b"").is_some());
-    assert_eq!(rt; first_wrong(&mut copy, &BEHIND_A_COPY)?, None);
+    assert_eq!(rt; first_wrong(copy, &BEHIND_A_COPY)?, None);
     Ok(())
+}
+
+fn copy_and_answer(rt: &(impl Abort + AllocGlobal), book: &mut Book<()>) -> Result<(), Fail>
+    requires { book.old.sizes ≡ record { top = 3; roots = 1; slots = 256 } }
+{
+    assert_eq!(rt; first_wrong(book, &COPIED)?, None);
+    let mut copy = copy_of(rt.alloc(), book)?;
+    answer_as_book(rt, &mut copy)
+}
+
+#[test]
+fn a_copy_answers_as_its_book(rt: HostRuntime) -> Result<(), Fail> {
+    let mut book = small_book(rt.alloc())?;
+    copy_and_answer(&rt, &mut book)
 }
 
 // All of the region, once a book that had half of it is cleared.
@@ -189,12 +212,16 @@ const WHOLE: [Case<'_>; 2] = [
     (2, Class(1, (3, 0), 0, 1024), None),
 ];
 
+fn clear_and_fill(rt: &impl Abort, book: &mut Book<()>) -> Result<(), Fail> {
+    assert_eq!(rt; first_wrong(book, &OLD)?, None);
+    book.clear();
+    assert_eq!(rt; book.len(), 0);
+    assert_eq!(rt; first_wrong(book, &WHOLE)?, None);
+    Ok(())
+}
+
 #[test]
 fn a_cleared_book_has_its_whole_region(rt: HostRuntime) -> Result<(), Fail> {
     let mut book = small_book(rt.alloc())?;
-    assert_eq!(rt; first_wrong(&mut book, &OLD)?, None);
-    book.clear();
-    assert_eq!(rt; book.len(), 0);
-    assert_eq!(rt; first_wrong(&mut book, &WHOLE)?, None);
-    Ok(())
+    clear_and_fill(&rt, &mut book)
 }

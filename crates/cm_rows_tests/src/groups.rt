@@ -1,7 +1,8 @@
 //! Groups of entries: how many they take, and which join.
 use cm_group::{CarriedEntry, Group};
 use cm_layout::Unload;
-use std::alloc::Global;
+use std::alloc::{AllocGlobal, Global};
+use std::process::Abort;
 use std::test::Fail;
 
 /// So many entries, the first of which has this number.
@@ -25,40 +26,56 @@ fn unloading(alloc: Global, loader: u64) -> CarriedEntry {
     CarriedEntry::unload(alloc, Unload { loader })
 }
 
-#[test]
-fn a_group_takes_64_entries_and_no_more(rt: HostRuntime) -> Result<(), Fail> {
-    let mut group = group_of(rt.alloc(), 5, 64)?;
+fn takes_64(rt: &(impl Abort + AllocGlobal), group: &mut Group) {
     assert_eq!(rt; group.count(), 64);
     assert_eq!(rt; group.first(), 5);
     assert_eq!(rt; group.learnt(), 0);
-    assert_eq!(rt; push_one(rt.alloc(), &mut group), false);
+    assert_eq!(rt; push_one(rt.alloc(), group), false);
     assert_eq!(rt; group.count(), 64);
+}
+
+#[test]
+fn a_group_takes_64_entries_and_no_more(rt: HostRuntime) -> Result<(), Fail> {
+    let mut group = group_of(rt.alloc(), 5, 64)?;
+    takes_64(&rt, &mut group);
     Ok(())
+}
+
+// Whether a group joins that has learnt such a number.
+fn is_taken(group: &mut Group, mut other: Group, learnt: u64) -> bool {
+    if learnt < other.first() {
+        other.set_learnt(learnt);
+    }
+    group.add(other).is_ok()
+}
+
+// First number and length of two groups, and what the second has learnt.
+type Pair = (u64, u64, u64, u64, u64);
+
+// Whether they join, and first number, length and what is learnt of the first then.
+fn joined(alloc: Global, pair: Pair) -> Result<(bool, u64, u64, u64), Fail> {
+    let (first, count, next, more, learnt) = pair;
+    let mut group = group_of(alloc, first, count)?;
+    let joins = is_taken(&mut group, group_of(alloc, next, more)?, learnt);
+    Ok((joins, group.first(), group.count() as u64, group.learnt()))
 }
 
 #[test]
 fn groups_join_where_one_goes_on(rt: HostRuntime) -> Result<(), Fail> {
-    let alloc = rt.alloc();
-    // first number and length of two groups, what the second has learnt, and whether they join
-    let cases = [
-        (5, 3, 8, 2, 4, true),
-        (5, 3, 9, 2, 4, false),
-        (5, 3, 7, 2, 4, false),
-        (5, 3, 8, 2, 5, false),
-        (5, 32, 37, 32, 0, true),
-        (5, 32, 37, 33, 0, false),
-    ];
-    for (first, count, next, more, learnt, joins) in cases {
-        let mut group = group_of(alloc, first, count)?;
-        let mut other = group_of(alloc, next, more)?;
-        if learnt < other.first() {
-            other.set_learnt(learnt);
-        }
-        assert_eq!(rt; group.add(other).is_ok(), joins);
-        let entries = if joins { count + more } else { count };
-        assert_eq!(rt; group.count() as u64, entries);
-        assert_eq!(rt; group.first(), first);
-        assert_eq!(rt; group.learnt(), if joins { learnt } else { 0 });
+    for (pair, joins) in [
+        ((5, 3, 8, 2, 4), true),
+        ((5, 3, 9, 2, 4), false),
+        ((5, 3, 7, 2, 4), false),
+        ((5, 3, 8, 2, 5), false),
+        ((5, 32, 37, 32, 0), true),
+        ((5, 32, 37, 33, 0), false),
+    ] {
+        let (first, count, _, more, learnt) = pair;
+        let (is_joined, begin, entries, known) = joined(rt.alloc(), pair)?;
+        assert_eq!(rt; is_joined, joins);
+        assert_eq!(rt; entries, if joins { count + more } else { count });
+        assert_eq!(rt; begin, first);
+        assert_eq!(rt; known, if joins { learnt } else { 0 });
     }
     Ok(())
 }

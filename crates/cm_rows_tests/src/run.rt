@@ -8,6 +8,7 @@ use crate::random::{Random, name_of};
 use crate::samples::{loader, offer, unload};
 use cm_pool::Geometry;
 use cm_rows::Book;
+use std::alloc::Global;
 use std::test::*;
 
 // Whether both tell the same last chunk of each row's loader.
@@ -53,11 +54,15 @@ fn run(book: &mut Book<()>, plain: &mut Plain) -> Result<u32, Fail> {
     Ok(kept)
 }
 
+fn run_both(alloc: Global) -> Result<u32, Fail> {
+    let geometry = Geometry::new(3, 2, 256).ok_or("within the limits")?;
+    let mut book: Book<()> = Book::new(alloc, geometry)?;
+    run(&mut book, &mut Plain::new(alloc))
+}
+
 #[test]
 fn agrees_with_a_plain_list_of_rows(rt: HostRuntime) -> Result<(), Fail> {
-    let geometry = Geometry::new(3, 2, 256).ok_or("within the limits")?;
-    let mut book: Book<()> = Book::new(rt.alloc(), geometry)?;
-    let kept = run(&mut book, &mut Plain::new(rt.alloc()))?;
+    let kept = run_both(rt.alloc())?;
     assert!(rt; kept > 1000, "{kept}");
     Ok(())
 }
@@ -87,12 +92,16 @@ fn tells_a_third(book: &Book<()>) -> bool {
     true
 }
 
+fn adds_and_tells(alloc: Global) -> Result<bool, Fail> {
+    let geometry = Geometry::new(3, 1, 8192).ok_or("within the limits")?;
+    let mut book: Book<()> = Book::new(alloc, geometry)?;
+    add_many(&mut book)?;
+    Ok(tells_a_third(&book))
+}
+
 // Whose names are there is told also where the index stands in many blocks, and once it was swept.
 #[test]
 fn finds_each_of_many_loaders(rt: HostRuntime) -> Result<(), Fail> {
-    let geometry = Geometry::new(3, 1, 8192).ok_or("within the limits")?;
-    let mut book: Book<()> = Book::new(rt.alloc(), geometry)?;
-    add_many(&mut book)?;
-    assert!(rt; tells_a_third(&book));
+    assert!(rt; adds_and_tells(rt.alloc())?);
     Ok(())
 }

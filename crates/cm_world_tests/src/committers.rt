@@ -5,6 +5,7 @@ use crate::groups::{Sample, group_of};
 use cm_commit::{Committer, Progress};
 use cm_disk::SimDisk;
 use cm_front::Front;
+use cm_group::Group;
 use cm_pool::Geometry;
 use cm_recover::{NotOpened, format, open};
 use std::alloc::Global;
@@ -33,6 +34,16 @@ pub fn opened(alloc: Global, disk: SimDisk) -> Result<(Front, Committer<SimDisk>
     }
 }
 
+/// A committer of a new file.
+pub fn new_committer(alloc: Global) -> Result<Committer<SimDisk>, Fail> {
+    let (_front, committer) = opened(alloc, new_file(alloc)?)?;
+    Ok(committer)
+}
+
+fn is_whole(group: &Group, first: u64, count: usize) -> bool {
+    group.first() == first && group.count() == count
+}
+
 /// Offers a group: how many device calls it takes, or, where it is refused, whether it came back.
 pub fn offer(
     alloc: Global,
@@ -43,10 +54,7 @@ pub fn offer(
     let group = group_of(alloc, first, samples)?;
     match committer.offer(group) {
         Ok(()) => Ok(Ok(committer.steps_left())),
-        Err(mismatch) => {
-            let back = mismatch.group;
-            Ok(Err(back.first() == first && back.count() == samples.len()))
-        }
+        Err(mismatch) => Ok(Err(is_whole(&mismatch.group, first, samples.len()))),
     }
 }
 

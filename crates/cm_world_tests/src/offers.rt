@@ -1,6 +1,6 @@
 //! Which groups a committer takes.
 
-use crate::committers::{new_file, offer, opened, store};
+use crate::committers::{new_committer, offer, store};
 use crate::groups::Sample::{Class, Far, Loader, Move, Unload};
 use crate::groups::{Sample, WORDS};
 use cm_commit::{AdvanceFault, Committer};
@@ -37,7 +37,7 @@ fn offer_both(
 }
 
 fn answers(alloc: Global, first: u64, samples: &[Sample]) -> Result<Answers, Fail> {
-    let (_front, mut committer) = opened(alloc, new_file(alloc)?)?;
+    let mut committer = new_committer(alloc)?;
     let answers = offer_both(alloc, &mut committer, first, samples);
     let _disk = committer.into_disk();
     answers
@@ -154,7 +154,7 @@ fn fill_and_offer(
 }
 
 fn filled(alloc: Global) -> Result<(u64, Answer), Fail> {
-    let (_front, mut committer) = opened(alloc, new_file(alloc)?)?;
+    let mut committer = new_committer(alloc)?;
     let told = fill_and_offer(alloc, &mut committer);
     let _disk = committer.into_disk();
     told
@@ -186,7 +186,7 @@ fn fail_behind(
 }
 
 fn failed_behind(alloc: Global, calls: u64) -> Result<(bool, Answer, u64), Fail> {
-    let (_front, mut committer) = opened(alloc, new_file(alloc)?)?;
+    let mut committer = new_committer(alloc)?;
     let told = fail_behind(alloc, &mut committer, calls);
     let _disk = committer.into_disk();
     told

@@ -1,7 +1,7 @@
 //! Commands that are accepted, handed over as groups and stored, and found when the file is opened
 //! again.
 
-use crate::committers::{new_file, offer, opened, store};
+use crate::committers::{new_committer, new_file, offer, opened, store};
 use crate::groups::{Sample, WORDS, class};
 use cm_commit::Committer;
 use cm_disk::{Choice, SimDisk};
@@ -12,7 +12,7 @@ use std::alloc::Global;
 use std::test::*;
 
 /// A command. Loaders and classes have names of one letter.
-#[derive(Clone, Copy, Debug)]
+#[derive(Clone, Copy)]
 enum Call {
     AddLoader(u8),
     Define(u8, u8),
@@ -46,6 +46,14 @@ fn accept(alloc: Global, front: &mut Front, call: Call) -> Result<bool, Fail> {
     Ok(answer.is_ok())
 }
 
+fn accept_all(alloc: Global, front: &mut Front, calls: &[Call]) -> Result<bool, Fail> {
+    let mut accepted = true;
+    for call in calls {
+        accepted &= accept(alloc, front, *call)?;
+    }
+    Ok(accepted)
+}
+
 /// Hands over what was accepted, and stores it: how many device calls that takes, and the number
 /// that is stored.
 fn commit(front: &mut Front, committer: &mut Committer<SimDisk>) -> Option<(u64, u64)> {
@@ -68,10 +76,7 @@ fn first_other(
     committer: &mut Committer<SimDisk>,
 ) -> Result<Option<usize>, Fail> {
     for (at, (calls, steps, number)) in GROUPS.iter().enumerate() {
-        let mut accepted = true;
-        for call in *calls {
-            accepted &= accept(alloc, front, *call)?;
-        }
+        let accepted = accept_all(alloc, front, calls)?;
         if !accepted || commit(front, committer) != Some((*steps, *number)) {
             return Ok(Some(at));
         }
@@ -98,28 +103,48 @@ fn found_again(alloc: Global, disk: SimDisk) -> Result<([Option<u32>; 3], u64), 
     Ok((found, number))
 }
 
-#[test]
-fn what_is_stored_is_found_when_the_file_is_opened(rt: HostRuntime) -> Result<(), Fail> {
-    let alloc = rt.alloc();
+/// Which group goes another way on a new file, and the disk behind them.
+fn stored(alloc: Global) -> Result<(Option<usize>, SimDisk), Fail> {
     let (mut front, mut committer) = opened(alloc, new_file(alloc)?)?;
     let other = first_other(alloc, &mut front, &mut committer);
     let disk = committer.into_disk();
-    assert_eq!(rt; other?, None);
-    assert_eq!(rt;
-        found_again(alloc, disk)?,
-        ([None, Some(WORDS), Some(WORDS)], 7)
-    );
+    Ok((other?, disk))
+}
+
+#[test]
+fn what_is_stored_is_found_when_the_file_is_opened(rt: HostRuntime) -> Result<(), Fail> {
+    let (other, disk) = stored(rt.alloc())?;
+    let found = found_again(rt.alloc(), disk)?;
+    assert_eq!(rt; other, None);
+    assert_eq!(rt; found, ([None, Some(WORDS), Some(WORDS)], 7));
     Ok(())
 }
 
 /// Makes so many device calls of a group of two commands.
-fn begin(alloc: Global, committer: &mut Committer<SimDisk>, calls: u64) -> Result<bool, Fail> {
+fn begin(alloc: Global, committer: &mut Committer<SimDisk>, calls: u64) -> Result<(), Fail> {
     let group = [Sample::Loader(1, b'a'), Sample::Class(1, b'A', 0, 0, WORDS)];
-    let taken = offer(alloc, committer, 1, &group)?;
+    if offer(alloc, committer, 1, &group)?.is_err() {
+        return Err("the group may come".into());
+    }
     for _call in 0..calls {
         let _working = committer.advance();
     }
-    Ok(taken.is_ok())
+    Ok(())
+}
+
+/// The disk behind them.
+fn begun(alloc: Global, calls: u64) -> Result<SimDisk, Fail> {
+    let mut committer = new_committer(alloc)?;
+    let begun = begin(alloc, &mut committer, calls);
+    let disk = committer.into_disk();
+    begun?;
+    Ok(disk)
+}
+
+fn found_crashed(alloc: Global, calls: u64, choice: &Choice) -> Result<u64, Fail> {
+    let disk = begun(alloc, calls)?.crash(alloc, choice)?;
+    let (_found, number) = found_again(alloc, disk)?;
+    Ok(number)
 }
 
 /// The number that is found after a crash behind so many device calls of a group, where bytes that
@@ -129,14 +154,7 @@ fn found_after(alloc: Global, calls: u64, fill: &[u8]) -> Result<u64, Fail> {
         len: 1 << 20,
         fill: Vec::from_slice(alloc, fill)?,
     };
-    let (_front, mut committer) = opened(alloc, new_file(alloc)?)?;
-    let begun = begin(alloc, &mut committer, calls);
-    let disk = committer.into_disk();
-    if !begun? {
-        return Err("the group may come".into());
-    }
-    let (_found, number) = found_again(alloc, disk.crash(alloc, &choice)?)?;
-    Ok(number)
+    found_crashed(alloc, calls, &choice)
 }
 
 #[test]
