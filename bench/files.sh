@@ -6,8 +6,9 @@
 #
 # cm_bench_file defines ordinary classes (those of bench/run.sh) in a new file in FOLDER (the crate's out/), one a commit and 64
 # a commit. The same records, as they stand in that file, are then stored by SQLite (write-ahead log, synchronous=FULL), by
-# LMDB, and by the bare device calls that the same commits make (bench/stores.c), on the same file system. Each row has the
-# best of RUNS runs (5), and the worst for the machine's noise; all take turns, so that a busy disk slows all of them.
+# LMDB, by the bare device calls that the same commits make (bench/stores.c), and by two other choices of these calls, on the
+# same file system. Each row has the best of RUNS runs (5), and the worst for the machine's noise; all take turns, so that a
+# busy disk slows all of them.
 #
 # Then files of 10,000, 20,000 and 30,000 classes (bench/many_classes.py) are opened; beside it are cm_bench's rows on the
 # same classes: read_class (reading and judging) and Record::read (checking records).
@@ -47,7 +48,7 @@ fetch
 for jar in "${jars[@]}"; do
     [ -e "$jar" ] || { echo "missing: $jar (of ${packages[*]:0:4}): no classes to measure" >&2; exit 1; }
 done
-stores=(bare)
+stores=(bare joined holes)
 flags=()
 if has sqlite3.h; then stores+=(sqlite) flags+=(-DWITH_SQLITE -lsqlite3); else echo "missing: libsqlite3-dev: no row of SQLite"; fi
 if has lmdb.h; then stores+=(lmdb) flags+=(-DWITH_LMDB -llmdb); else echo "missing: liblmdb-dev: no row of LMDB"; fi

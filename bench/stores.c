@@ -1,12 +1,13 @@
 /* Stores records one commit after another, for comparison with `cm_bench_file put`:
  *
- *     stores sqlite|lmdb|bare FILE GROUP < RECORDS
+ *     stores sqlite|lmdb|bare|joined|holes FILE GROUP < RECORDS
  *
  * RECORDS are records one behind another, each behind its length in four bytes and its place in the cache's file in
  * eight, big-endian. GROUP of them make a commit, which is on the disk when it returns: SQLite with a write-ahead log
  * and synchronous=FULL, LMDB as it comes. `bare` makes the device calls that a commit of the cache makes, and nothing
  * else: zeros where the file has too few roots, each record in its place, the group's slots, fdatasync, the gate's
- * byte, fdatasync. It prints the records, the commits and the nanoseconds of all commits together; making and opening
+ * byte, fdatasync. `joined` makes one write of records that lie one behind another, and `holes` that and grows the file
+ * without writing zeros, as the cache doesn't: they tell what that would bring. It prints the records, the commits and the nanoseconds of all commits together; making and opening
  * the file isn't counted, in none of the three. Each of the two libraries is there where WITH_SQLITE or WITH_LMDB is
  * defined. */
 #include <fcntl.h>
@@ -207,21 +208,62 @@ static void bare_open(const char *path)
     journal_end = JOURNAL + 3 * SLOT; /* behind the half's head and the group that makes the loader */
 }
 
-static void bare_commit(const struct record *group, size_t count, size_t number)
+/* The group's slots and its gate, once its records are written. */
+static void write_journal(size_t count)
 {
     static unsigned char slots[SLOT * (GROUP_LIMIT + 2)];
     const unsigned char gate = 0xa5;
+    write_at(slots, SLOT * (count + 2) - 1, journal_end + 1);
+    sync_file();
+    write_at(&gate, 1, journal_end);
+    sync_file();
+    journal_end += SLOT * (off_t)(count + 1);
+}
+
+static void bare_commit(const struct record *group, size_t count, size_t number)
+{
     (void)number;
     for (size_t i = 0; i < count; i++)
         while (group[i].place >= file_end)
             grow_to(file_end + ROOT);
     for (size_t i = 0; i < count; i++)
         write_at(group[i].bytes, group[i].length, group[i].place);
-    write_at(slots, SLOT * (count + 2) - 1, journal_end + 1);
-    sync_file();
-    write_at(&gate, 1, journal_end);
-    sync_file();
-    journal_end += SLOT * (off_t)(count + 1);
+    write_journal(count);
+}
+
+static void write_joined(const struct record *group, size_t count)
+{
+    static unsigned char buffer[ROOT];
+    for (size_t i = 0; i < count;) {
+        size_t length = 0;
+        off_t place = group[i].place;
+        for (; i < count && group[i].place == place + (off_t)length && length + group[i].length <= sizeof buffer; i++) {
+            memcpy(buffer + length, group[i].bytes, group[i].length);
+            length += group[i].length;
+        }
+        write_at(buffer, length, place);
+    }
+}
+
+static void joined_commit(const struct record *group, size_t count, size_t number)
+{
+    (void)number;
+    for (size_t i = 0; i < count; i++)
+        while (group[i].place >= file_end)
+            grow_to(file_end + ROOT);
+    write_joined(group, count);
+    write_journal(count);
+}
+
+static void holes_commit(const struct record *group, size_t count, size_t number)
+{
+    (void)number;
+    for (size_t i = 0; i < count; i++)
+        while (group[i].place >= file_end)
+            if (ftruncate(file, file_end += ROOT))
+                fail("ftruncate");
+    write_joined(group, count);
+    write_journal(count);
 }
 
 /* ---- */
@@ -240,10 +282,12 @@ int main(int count, char **words)
         { "lmdb", lmdb_open, lmdb_commit },
 #endif
         { "bare", bare_open, bare_commit },
+        { "joined", bare_open, joined_commit },
+        { "holes", bare_open, holes_commit },
     };
     size_t group = count == 4 ? strtoul(words[3], NULL, 10) : 0;
     if (group < 1 || group > GROUP_LIMIT) {
-        fprintf(stderr, "stores sqlite|lmdb|bare FILE GROUP < RECORDS\n");
+        fprintf(stderr, "stores sqlite|lmdb|bare|joined|holes FILE GROUP < RECORDS\n");
         return 2;
     }
     for (size_t i = 0; i < sizeof stores / sizeof *stores; i++) {
