@@ -1,0 +1,143 @@
+#!/usr/bin/env python3
+"""Looks whether README.md and docs/ name what is there: reads the repository at the current folder, prints a line for each thing
+named that isn't, and last how many were looked at: 'N passed, M failed'.
+
+    tests/docs.py
+"""
+import re
+import sys
+from pathlib import Path
+
+TOP = Path(".")
+PROOFS = TOP / "docs/PROOFS.md"
+DOCUMENTS = [TOP / "README.md", *sorted((TOP / "docs").glob("*.md"))]
+NAME = r"[A-Za-z_][A-Za-z_0-9]*"
+CRATES = [line.split()[0].rstrip(":") for line in (TOP / "crates.txt").read_text().splitlines() if line and line[0] != "#"]
+
+
+def lines_of(path):
+    return enumerate(path.read_text().splitlines(), 1)
+
+
+def cells(line):
+    """The cells of a table's row, without their spaces; none of another line. A bar inside a code span is no end of a cell."""
+    if not line.startswith("|"):
+        return []
+    hidden = re.sub(r"`[^`]*`", lambda span: span.group().replace("|", "\0"), line)
+    return [cell.strip().replace("\0", "|") for cell in hidden.strip().strip("|").split("|")]
+
+
+def spans(text):
+    return re.findall(r"`([^`]+)`", text)
+
+
+def anchor(heading):
+    return re.sub(r"[^\w\- ]", "", heading.lower()).replace(" ", "-")
+
+
+def anchors(path):
+    return {anchor(line.lstrip("#").strip()) for _, line in lines_of(path) if line.startswith("#")}
+
+
+def edits(folder):
+    return {path.stem for path in (TOP / folder).glob("*.edit")}
+
+
+def links():
+    """Each relative link leads to a file, and to a heading of it where it names one."""
+    for document in DOCUMENTS:
+        for number, line in lines_of(document):
+            for target, heading in re.findall(r"\]\(([^)#:]*)(?:#([^)]*))?\)", line):
+                path = document.parent / target if target else document
+                there = path.exists() and (not heading or heading in anchors(path))
+                yield there, f"{document}:{number}: the link to {target}#{heading}"
+
+
+def map_rows():
+    """Each crate has one row in the map, and begins to be read at files that it has."""
+    path = TOP / "docs/MAP.md"
+    rows = {}
+    for number, line in lines_of(path):
+        row = cells(line)
+        if len(row) == 4 and len(spans(row[0])) == 1:
+            rows.setdefault(spans(row[0])[0], []).append((number, row[3]))
+    for crate in CRATES:
+        if not crate.endswith("_tests"):
+            yield len(rows.get(crate, [])) == 1, f"{path}: one row for {crate}"
+    for crate, found in rows.items():
+        for number, last in found:
+            yield crate in CRATES, f"{path}:{number}: the crate {crate}"
+            for name in spans(last):
+                yield (TOP / "crates" / crate / name).exists(), f"{path}:{number}: {name} in {crate}"
+
+
+def claims():
+    """The rows of the tables of claims, each with its line's number."""
+    is_table = False
+    for number, line in lines_of(PROOFS):
+        row = cells(line)
+        if row[2:3] == ["The edit that shows it"]:
+            is_table = True
+        elif len(row) != 4:
+            is_table = False
+        elif is_table:
+            yield number, row
+
+
+def contracts():
+    """Contracts and worked examples that the proofs' tables name: files, or names that stand in sources or definitions."""
+    sources = [path for kind in ("src", "specs") for path in (TOP / "crates").glob(f"*/{kind}/**/*") if path.is_file()]
+    known = set().union(*(re.findall(NAME, path.read_text()) for path in sources), CRATES)
+    for number, (_, contract, _, example) in claims():
+        for span in spans(contract) + spans(example):
+            if "/" in span:
+                there = any((folder / span).exists() for folder in (TOP, TOP / "crates", *(TOP / "crates").iterdir()))
+            else:
+                there = known.issuperset(re.findall(NAME, span))
+            yield there, f"{PROOFS}:{number}: the name {span}"
+
+
+def planted():
+    """The planted bugs that the proofs' tables name, in the gate or by their path in the audit."""
+    in_gate = set().union(*(edits(f"crates/{crate}/must-fail") for crate in CRATES))
+    audited = {f"audit/{crate}/{name}" for crate in CRATES for name in edits(f"audit/{crate}")}
+    in_audit = {name.split("/")[2] for name in audited}
+    for number, (_, _, column, _) in claims():
+        named, _, behind = column.partition("in the audit")
+        for name in spans(named):
+            yield name in in_gate | audited or name in CRATES, f"{PROOFS}:{number}: the edit {name}"
+        for name in spans(behind):
+            yield name in in_audit, f"{PROOFS}:{number}: the edit {name} in the audit"
+
+
+def costs_rows():
+    """The table of what each crate takes has a row for each, with its number of edits in the gate."""
+    path = TOP / "docs/CONTRIBUTING.md"
+    rows = {spans(row[0])[0]: row for _, line in lines_of(path) if len(row := cells(line)) == 5 and spans(row[0])}
+    for crate in CRATES:
+        yield crate in rows, f"{path}: a row for {crate}"
+        count = str(len(edits(f"crates/{crate}/must-fail")) or "-")
+        if crate in rows:
+            yield rows[crate][3] == count, f"{path}: {crate} has {count} edits"
+    for crate in rows:
+        yield crate in CRATES, f"{path}: the crate {crate}"
+
+
+def main():
+    passed = failed = 0
+    for look in (links, map_rows, contracts, planted, costs_rows):
+        looked = list(look())
+        if not looked:
+            failed += 1
+            print(f"FAILED: nothing to look at: {look.__doc__}")
+        for is_there, what in looked:
+            passed += is_there
+            failed += not is_there
+            if not is_there:
+                print(f"FAILED: {what}")
+    print(f"{passed} passed, {failed} failed")
+    return failed > 0
+
+
+if __name__ == "__main__":
+    sys.exit(main())
