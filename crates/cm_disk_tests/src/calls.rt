@@ -1,6 +1,18 @@
 use crate::held::fill;
-use cm_disk::{Disk, SimDisk};
+use cm_disk::{DeviceFault, Disk, SimDisk};
 use std::test::Fail;
+
+// All eight bytes, and three of them.
+fn whole_and_part(disk: &mut SimDisk) -> Result<([u8; 8], [u8; 3]), DeviceFault> {
+    if disk.len()? != 8 {
+        return Err(DeviceFault);
+    }
+    let mut whole = [0; 8];
+    disk.read(0, &mut whole)?;
+    let mut part = [0; 3];
+    disk.read(3, &mut part)?;
+    Ok((whole, part))
+}
 
 #[test]
 fn writes_over_and_past_the_end(rt: HostRuntime) -> Result<(), Fail> {
@@ -11,13 +23,7 @@ fn writes_over_and_past_the_end(rt: HostRuntime) -> Result<(), Fail> {
     assert!(rt; !disk.was_refused());
     disk.write_at(1, b"-")?;
     disk.sync()?;
-    assert_eq!(rt; disk.len()?, 8);
-    let mut out = [0; 8];
-    disk.read(0, &mut out)?;
-    assert_eq!(rt; out.as_slice(), b"a-cdWXYZ".as_slice());
-    let mut part = [0; 3];
-    disk.read(3, &mut part)?;
-    assert_eq!(rt; part.as_slice(), b"dWX".as_slice());
+    assert_eq!(rt; whole_and_part(&mut disk)?, (*b"a-cdWXYZ", *b"dWX"));
     Ok(())
 }
 

@@ -1,35 +1,47 @@
 //! What reaches the file, and what is read of it.
 
-use cm_disk::Disk;
+use cm_disk::{DeviceFault, Disk};
 use cm_file_disk::FileDisk;
 use std::fs;
 use std::test::*;
+
+/// Stores eight bytes by two writes, and cuts the last one off.
+fn store_seven(disk: &mut FileDisk) -> Result<(), DeviceFault> {
+    if disk.len()? != 0 {
+        return Err(DeviceFault);
+    }
+    disk.write_at(0, b"abcdef")?;
+    disk.write_at(4, b"WXYZ")?;
+    disk.sync()?;
+    disk.cut(7)?;
+    disk.sync()
+}
+
+/// The four bytes in the middle and the last one, which is read behind a sync.
+fn middle_and_end(disk: &mut FileDisk) -> Result<([u8; 4], [u8; 1]), DeviceFault> {
+    if disk.len()? != 7 {
+        return Err(DeviceFault);
+    }
+    let mut middle = [0; 4];
+    disk.read(2, &mut middle)?;
+    disk.sync()?;
+    let mut end = [0; 1];
+    disk.read(6, &mut end)?;
+    Ok((middle, end))
+}
 
 #[test]
 fn stored_bytes_are_read_when_it_is_opened_again(rt: HostRuntime) -> Result<(), Fail> {
     let path = "cm_file_disk_stored.tmp";
     let _ = fs::remove_file(&rt, path);
     let mut disk = FileDisk::create(&rt, rt.alloc(), path)?;
-    assert_eq!(rt; disk.len(), Ok(0));
-    disk.write_at(0, b"abcdef")?;
-    disk.write_at(4, b"WXYZ")?;
-    assert_eq!(rt; disk.len(), Ok(8));
-    disk.sync()?;
-    disk.cut(7)?;
-    disk.sync()?;
+    store_seven(&mut disk)?;
     assert_eq!(rt; disk.len(), Ok(7));
     drop(disk);
     for _ in 0..2 {
         let mut disk = FileDisk::open(&rt, rt.alloc(), path)?;
-        assert_eq!(rt; disk.len(), Ok(7));
-        let mut middle = [0; 4];
-        assert_eq!(rt; disk.read(2, &mut middle), Ok(()));
-        assert_eq!(rt; middle, *b"cdWX");
-        disk.sync()?;
-        let mut end = [0; 1];
-        assert_eq!(rt; disk.read(6, &mut end), Ok(()));
-        assert_eq!(rt; end, *b"Y");
-        assert_eq!(rt; disk.cause().is_none(), true);
+        assert_eq!(rt; middle_and_end(&mut disk)?, (*b"cdWX", *b"Y"));
+        assert!(rt; disk.cause().is_none());
     }
     fs::remove_file(&rt, path)?;
     Ok(())
@@ -55,19 +67,26 @@ fn a_write_of_many_pieces_is_written_whole(rt: HostRuntime) -> Result<(), Fail> 
     Ok(())
 }
 
+/// Whether a write gives up the bytes that were read, and leaves the length and no failure.
+fn gives_up_bytes_alone(disk: &mut FileDisk) -> Result<bool, DeviceFault> {
+    if disk.len()? != 6 {
+        return Ok(false);
+    }
+    let mut byte = [0; 1];
+    disk.read(0, &mut byte)?;
+    disk.write_at(1, b"X")?;
+    let is_given_up = disk.read(0, &mut byte).is_err();
+    Ok(is_given_up && disk.len() == Ok(6) && disk.cause().is_none())
+}
+
 #[test]
 fn a_write_gives_the_bytes_up_and_leaves_the_length(rt: HostRuntime) -> Result<(), Fail> {
     let path = "cm_file_disk_given_up.tmp";
     fs::write(&rt, path, b"abcdef".as_slice())?;
     let mut disk = FileDisk::open(&rt, rt.alloc(), path)?;
-    assert_eq!(rt; disk.len(), Ok(6));
-    let mut byte = [0; 1];
-    assert_eq!(rt; disk.read(0, &mut byte), Ok(()));
-    disk.write_at(1, b"X")?;
-    assert_eq!(rt; disk.read(0, &mut byte).is_err(), true);
-    assert_eq!(rt; disk.len(), Ok(6));
+    assert!(rt; gives_up_bytes_alone(&mut disk)?);
     // It is no failure of the file: what follows still reaches it.
-    assert_eq!(rt; disk.cause().is_none(), true);
+    assert_eq!(rt; disk.len(), Ok(6));
     disk.write_at(6, b"g")?;
     disk.sync()?;
     assert_eq!(rt; fs::read_to_string(&rt, path)?.as_str(), "aXcdefg");

@@ -65,24 +65,42 @@ impl Both {
     }
 }
 
+// Whether both hand out these chunks, or none, for these orders.
+fn hand_out(both: &mut Both, cases: &[(u32, Option<Chunk>)]) -> Result<bool, AllocError> {
+    let mut equal = true;
+    for (order, first) in cases {
+        equal = both.hold(*order)? == (*first, *first) && equal;
+    }
+    Ok(equal)
+}
+
+// How many of so many chunks, the first ones that are held, are the same where they are given back.
+fn give_first(both: &mut Both, times: u32) -> u32 {
+    let mut equal = 0;
+    for _ in 0..times {
+        if let Some((given, listed)) = both.give(0) {
+            equal = u32::from(given == listed).saturating_add(equal);
+        }
+    }
+    equal
+}
+
+fn chunk(order: u32, at: u32) -> Option<Chunk> {
+    Some(Chunk { root: 0, order, at })
+}
+
 #[test]
 fn both_hand_out_the_first_chunk(rt: HostRuntime) -> Result<(), Fail> {
     let mut both = Both::whole(rt.alloc(), 3, 1)?;
-    let chunk = |order, at| Some(Chunk { root: 0, order, at });
-    let cases = [
+    let taken = [
         (0, chunk(0, 0)),
         (1, chunk(1, 256)),
         (0, chunk(0, 128)),
         (3, None),
     ];
-    for (order, first) in cases {
-        assert_eq!(rt; both.hold(order)?, (first, first));
-    }
-    for _ in 0..3 {
-        let (given, listed) = both.give(0).ok_or("held")?;
-        assert_eq!(rt; given, listed);
-    }
-    assert_eq!(rt; both.hold(3)?, (chunk(3, 0), chunk(3, 0)));
+    assert!(rt; hand_out(&mut both, &taken)?);
+    assert_eq!(rt; give_first(&mut both, 3), 3);
+    assert!(rt; hand_out(&mut both, &[(3, chunk(3, 0))])?);
     Ok(())
 }
 
@@ -113,20 +131,31 @@ fn both_answer_alike(rt: HostRuntime) -> Result<(), Fail> {
     Ok(())
 }
 
+// Takes so many of the smallest blocks: how many of these calls both answer with the same block.
+fn take_smallest(both: &mut Both, times: u32) -> Result<u32, AllocError> {
+    let mut equal = 0;
+    for _ in 0..times {
+        let (chunk, listed) = both.hold(0)?;
+        equal = u32::from(chunk.is_some() && chunk == listed).saturating_add(equal);
+    }
+    Ok(equal)
+}
+
+// The root of the chunk at a place, which both hand out again once it was given back.
+fn root_of_the_only_free(both: &mut Both, at: usize) -> Result<u32, Fail> {
+    let (given, listed) = both.give(at).ok_or("held")?;
+    if both.hold(0)? != (Some(given), Some(listed)) {
+        return Err("another chunk".into());
+    }
+    Ok(given.root)
+}
+
 // Every word is taken, one of each order at least, down to the last block of the last row.
 #[test]
 fn both_are_empty_at_once(rt: HostRuntime) -> Result<(), Fail> {
     let mut both = Both::whole(rt.alloc(), 9, 9)?;
-    let mut taken = 0;
-    for _ in 0..9 * 512 {
-        let (chunk, listed) = both.hold(0)?;
-        assert_eq!(rt; chunk, listed);
-        taken = u32::from(chunk.is_some()).saturating_add(taken);
-    }
-    assert_eq!(rt; taken, 9 * 512);
+    assert_eq!(rt; take_smallest(&mut both, 9 * 512)?, 9 * 512);
     assert_eq!(rt; both.hold(0)?, (None, None));
-    let last = both.give(9 * 512 - 1).ok_or("held")?;
-    assert_eq!(rt; last.0.root, 8);
-    assert_eq!(rt; both.hold(0)?, (Some(last.0), Some(last.1)));
+    assert_eq!(rt; root_of_the_only_free(&mut both, 9 * 512 - 1)?, 8);
     Ok(())
 }

@@ -55,21 +55,48 @@ fn not_told(
     }
 }
 
+/// Whether a check into so much room fails behind the report's beginning, and the disk.
+fn check_is_cut(alloc: Global, disk: SimDisk, room: usize) -> Result<(bool, SimDisk), Fail> {
+    let mut writer = narrow(alloc, room);
+    let (fault, disk) = not_told(check_to(alloc, &mut writer, disk))?;
+    let is_beginning = Some(writer.bytes.as_slice()) == REPORT.get(..room);
+    Ok((fault == InspectFault::Output && is_beginning, disk))
+}
+
+/// The same of a list.
+fn list_is_cut(alloc: Global, disk: SimDisk, room: usize) -> Result<(bool, SimDisk), Fail> {
+    let mut writer = narrow(alloc, room);
+    let (fault, disk) = not_told(list_to(alloc, &mut writer, disk))?;
+    let is_beginning = Some(writer.bytes.as_slice()) == LIST.get(..room);
+    Ok((fault == InspectFault::Output && is_beginning, disk))
+}
+
+/// How many of the 40 rooms that are less than the list takes cut both short, and the disk.
+fn rooms_that_cut(alloc: Global, disk: SimDisk) -> Result<(u32, SimDisk), Fail> {
+    let mut disk = disk;
+    let mut cuts = 0;
+    for room in 0..40 {
+        let (check, left) = check_is_cut(alloc, disk, room)?;
+        let (list, left) = list_is_cut(alloc, left, room)?;
+        cuts = u32::from(check && list).saturating_add(cuts);
+        disk = left;
+    }
+    Ok((cuts, disk))
+}
+
 #[test]
 fn a_writer_that_fails_has_a_beginning(rt: HostRuntime) -> Result<(), Fail> {
     let alloc = rt.alloc();
-    let mut disk = cache_after(alloc, b"loader app\ndefine app <0141>\n")?;
-    for room in 0..40 {
-        let mut writer = narrow(alloc, room);
-        let (fault, left) = not_told(check_to(alloc, &mut writer, disk))?;
-        assert_eq!(rt; fault, InspectFault::Output);
-        assert_eq!(rt; Some(writer.bytes.as_slice()), REPORT.get(..room));
-        let mut writer = narrow(alloc, room);
-        let (fault, left) = not_told(list_to(alloc, &mut writer, left))?;
-        assert_eq!(rt; fault, InspectFault::Output);
-        assert_eq!(rt; Some(writer.bytes.as_slice()), LIST.get(..room));
-        disk = left;
-    }
+    let disk = cache_after(alloc, b"loader app\ndefine app <0141>\n")?;
+    let (cuts, _) = rooms_that_cut(alloc, disk)?;
+    assert_eq!(rt; cuts, 40);
+    Ok(())
+}
+
+#[test]
+fn a_writer_of_just_enough_room_has_it_all(rt: HostRuntime) -> Result<(), Fail> {
+    let alloc = rt.alloc();
+    let disk = cache_after(alloc, b"loader app\ndefine app <0141>\n")?;
     let mut writer = narrow(alloc, 41);
     let (status, disk) = told_to_end(check_to(alloc, &mut writer, disk))?;
     assert_eq!(rt; status, 0);
