@@ -10,8 +10,8 @@
 # same file system. Each row has the best of RUNS runs (5), and the worst for the machine's noise; all take turns, so that a
 # busy disk slows all of them.
 #
-# Then files of 10,000, 20,000 and 30,000 classes (bench/many_classes.py) are opened; beside it are cm_bench's rows on the
-# same classes: read_class (reading and judging) and Record::read (checking records).
+# Then files of 10,000, 20,000 and 30,000 classes (bench/many_classes.py) are read into memory and opened; beside the opening are
+# cm_bench's rows on the same classes: read_class (reading and judging) and Record::read (checking records).
 #
 # What isn't installed is fetched, if the machine reaches Debian's packages. A store that still isn't there is named and left
 # out.
@@ -100,16 +100,18 @@ for count in 10000 20000 30000; do
         for ((run = 0; run < runs; run++)); do "$bench" read "$folder/many" --times; done
     } | awk '
         $1 == "read_class" || $1 == "Record::read" { alone += $9 }
+        # classes N found N read in N ns, opened in N ns, looked up in N ns
         $1 == "classes" {
-            if (!opened || $7 < opened) opened = $7
-            if ($7 > worst) worst = $7
-            if (!found || $12 < found) found = $12
+            if (!read || $7 < read) read = $7
+            if (!opened || $11 < opened) opened = $11
+            if ($11 > worst) worst = $11
+            if (!found || $16 < found) found = $16
             classes = $2
         }
         END {
-            printf "read: %d classes opened in %.0f ns (worst %.2f), %.0f ns a class, %.2f of reading, judging and checking alone;",
-                classes, opened, worst / opened, opened / classes, opened / alone
-            printf " each found in %.0f ns\n", found / classes
+            printf "read: file of %d classes read in %.0f ns, opened in %.0f ns (worst %.2f), %.0f ns a class,",
+                classes, read, opened, worst / opened, opened / classes
+            printf " %.2f of reading, judging and checking alone; each found in %.0f ns\n", opened / alone, found / classes
         }'
     rm "$folder/many"
 done

@@ -1,6 +1,7 @@
 //! Classes that are found in a file.
 
 use anyhow::Result;
+use cm_commit::Committer;
 use cm_file_disk::FileDisk;
 use cm_front::Front;
 use cm_layout::Row;
@@ -9,7 +10,6 @@ use cm_recover::{NotOpened, open};
 use rand::seq::SliceRandom;
 use rand_pcg::Pcg32;
 use std::alloc::{AllocError, Global};
-use std::fs::{File, Files};
 
 /// A class by its names.
 #[derive(Drop)]
@@ -25,21 +25,12 @@ struct LoaderName {
     name: Vec<u8>,
 }
 
-/// The cache that a disk holds, as it is accepted.
-fn front_of(alloc: Global, disk: FileDisk) -> Result<Front> {
+/// The cache that a disk holds, as it is accepted, and the committer of the disk.
+pub fn open_disk(alloc: Global, disk: FileDisk) -> Result<(Front, Committer<FileDisk>)> {
     match open(alloc, disk) {
-        Ok((front, committer)) => {
-            let _disk = committer.into_disk();
-            Ok(front)
-        }
+        Ok(opened) => Ok(opened),
         Err(NotOpened { fault, disk: _disk }) => Err(fault.into()),
     }
-}
-
-/// Opens a file.
-pub fn open_file(rt: &(impl Files<File = File> + AllocGlobal), path: &str) -> Result<Front> {
-    let disk = FileDisk::open(rt, rt.alloc(), path)?;
-    front_of(rt.alloc(), disk)
 }
 
 /// The name of the loader of a number, copied; of none the empty name.

@@ -3,8 +3,8 @@
 use crate::command::Putting;
 use crate::counted::Counts;
 use crate::put::Stored;
-use crate::read::{open_file, shuffled_names};
-use crate::timed::{find_timed, prepare_timed, put_timed};
+use crate::read::{open_disk, shuffled_names};
+use crate::timed::{find_timed, prepare_timed, put_timed, read_timed};
 use anyhow::Result;
 use cm_front::Front;
 use cm_prepare::Prepared;
@@ -54,22 +54,26 @@ pub fn put_classes(
     Ok(())
 }
 
-/// Opens a file, looks up each of its classes, and prints what that took.
+/// Reads a file, opens it, looks up each of its classes, and prints what that took.
 pub fn read_classes(
     rt: &(impl Clock + Files<File = File> + Print + AllocGlobal),
     path: &str,
     is_timed: bool,
 ) -> Result<()> {
+    let (disk, reading) = read_timed(rt, path)?;
     let start = Instant::now(rt)?;
-    let front = open_file(rt, path)?;
-    look_up(rt, &front, start, is_timed)
+    let (front, committer) = open_disk(rt.alloc(), disk)?;
+    let told = look_up(rt, &front, reading, start, is_timed);
+    let _disk = committer.into_disk();
+    told
 }
 
 /// Looks up each class of a cache, and prints how many there are and what it took, the opening that
-/// began at `start` too.
+/// began at `start` and the reading before it too.
 fn look_up(
     rt: &(impl Clock + Print + AllocGlobal),
     front: &Front,
+    reading: u128,
     start: Instant,
     is_timed: bool,
 ) -> Result<()> {
@@ -79,7 +83,7 @@ fn look_up(
     let classes = asked.len();
     print!(rt; "classes {classes} found {found}")?;
     if is_timed {
-        print!(rt; " opened in {opening} ns, looked up in {finding} ns")?;
+        print!(rt; " read in {reading} ns, opened in {opening} ns, looked up in {finding} ns")?;
     }
     println!(rt;)?;
     Ok(())

@@ -6,6 +6,7 @@ use crate::put::{Stored, close, make_cache, open_session, prepare_all, store_all
 use crate::read::{Asked, find_all};
 use anyhow::Result;
 use cm_disk::Disk;
+use cm_file_disk::FileDisk;
 use cm_front::Front;
 use cm_prepare::Prepared;
 use cm_session::Session;
@@ -48,6 +49,16 @@ pub fn put_timed(
     let counts = close(session);
     let (stored, storing) = stored?;
     Ok((stored, counts, storing))
+}
+
+/// Reads the bytes of a file into memory.
+pub fn read_timed(
+    rt: &(impl Clock + Files<File = File> + AllocGlobal),
+    path: &str,
+) -> Result<(FileDisk, u128)> {
+    let start = Instant::now(rt)?;
+    let disk = FileDisk::open(rt, rt.alloc(), path)?;
+    Ok((disk, start.elapsed(rt)?.as_nanos()))
 }
 
 /// Looks up classes.

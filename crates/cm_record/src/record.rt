@@ -108,6 +108,14 @@ impl Record {
         if !is_record(words) {
             return Err(RecordFault::NotARecord);
         }
+        Ok(Record::of_words(alloc, words)?)
+    }
+
+    /// The record of these words, which are known to be one, so nothing is looked at.
+    pub fn of_words(alloc: Global, words: &[u64]) -> Result<Record, AllocError>
+        requires { IsRecord words.now }
+        ensures { IfOk result (λ r. r ≡ words.now) }
+    {
         let words = WordBuf::from_slice(alloc, words)?;
         Ok(record_of(words))
     }

@@ -348,6 +348,17 @@ no_record words short none = by_class (class_kept words) refl
         let k = is_kept words c is in
         absurd (none (c, record { spelled = k.keeps.spelled; laid = k.laid; short = short }))
 
+-- words that are kept are a class's record
+pub a_record : (words : List ℕ) → length words ≤ limit → is_some (class_kept words) ≡ true
+    → IsRecord words
+a_record words short kept = by_class (class_kept words) refl kept
+  where
+    by_class : (o : Option ClassFile) → class_kept words ≡ o → is_some o ≡ true → IsRecord words
+    by_class None is e = absurd (cc)
+    by_class (Some c) is e =
+        let k = is_kept words c is in
+        (c, record { spelled = k.keeps.spelled; laid = k.laid; short = short })
+
 pub kept_by : (words : List ℕ) (c : ClassFile) (o : Option Broken) → IsRecordOf c words
     → o ≡ fault c → is_none o ≡ is_some (class_kept words)
 unfolding class_kept

@@ -5,15 +5,22 @@ ghost use Rattle.cm_record_layout.specs.Layout.{limit};
 ghost use Rattle.cm_verdict.specs.Verdict.{class_kept};
 ghost use Rattle.cm_verdict.specs.Kept.{IsKeptRecord};
 
+use cm_class::Class;
 use cm_record::{Record, RecordFault};
+use cm_record_reading::read_class;
 use cm_rules::first_fault;
 use std::alloc::{AllocError, Global};
 
-// Whether the class of a record keeps the class rules.
-fn keeps_rules(alloc: Global, kept: &Record) -> Result<bool, AllocError>
-    ensures { IfOk result (λ keeps. keeps ≡ is_some (class_kept kept.now)) }
+// Whether these words are the record of a class that keeps the class rules.
+fn are_kept(alloc: Global, words: &[u64]) -> Result<bool, AllocError>
+    requires { length words.now ≤ limit }
+    ensures { IfOk result (λ kept. kept ≡ is_some (class_kept words.now)) }
 {
-    let class = kept.to_class(alloc)?;
+    let class = match read_class(alloc, words) {
+        Ok(file) => Class::from_file(file),
+        Err(RecordFault::NotARecord) => return Ok(false),
+        Err(RecordFault::NoMemory) => return Err(AllocError),
+    };
     let broken = first_fault(alloc, &class)?;
     match broken {
         None => Ok(true),
@@ -26,13 +33,9 @@ pub fn read_record(alloc: Global, words: &[u64]) -> Result<Option<Record>, Alloc
     requires { length words.now ≤ limit }
     ensures { IfOk result (IsKeptRecord words.now) }
 {
-    let record = match Record::read(alloc, words) {
-        Ok(record) => record,
-        Err(RecordFault::NotARecord) => return Ok(None),
-        Err(RecordFault::NoMemory) => return Err(AllocError),
-    };
-    if !keeps_rules(alloc, &record)? {
+    if !are_kept(alloc, words)? {
         return Ok(None);
     }
+    let record = Record::of_words(alloc, words)?;
     Ok(Some(record))
 }

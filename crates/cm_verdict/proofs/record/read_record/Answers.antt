@@ -1,8 +1,9 @@
-use Rattle.cm_verdict.proofs.Records.{no_record}
+use Rattle.std.proofs.Common.{◌≡◌, true, sym, ◌∙◌}
+use Rattle.cm_verdict.proofs.Records.{a_record}
 use Rattle.cm_verdict.proofs.record.read_record.Goals as goal
 
-pub returns-in-Err-NotARecord : goal.returns-in-Err-NotARecord
-returns-in-Err-NotARecord c =
-    let e = c.in-Err-NotARecord.ensures {u = tt} in
-    no_record c.args.words.now c.requires
-    (e.not_a_record.0 (let is = c.in-Err-NotARecord.field-0-is in cc))
+pub of_words-requires : goal.of_words-requires
+of_words-requires c =
+    let is = c.in_ok-are_kept.ensures {u = tt} in
+    let kept : c.in_ok-are_kept.field-0 ≡ true = let not_so = c.if-not-branch.false in cc in
+    a_record c.args.words.now c.requires (sym is ∙ kept)
