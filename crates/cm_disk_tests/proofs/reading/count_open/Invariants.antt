@@ -1,6 +1,6 @@
 use Rattle.std.proofs.Common.{◌≤◌}
 use Rattle.cm_guards.specs.Calls.{Reads}
-use Rattle.cm_guards_tests.proofs.reading.count_open.Given as goal
+use Rattle.cm_disk_tests.proofs.reading.count_open.Given as goal
 
 abbrev pub invariant-loop-slot : goal.invariant-loop-slot
 invariant-loop-slot g l = record {

@@ -1,5 +1,5 @@
 use Rattle.cm_guards.proofs.Steps.{gate_leaves}
-use Rattle.cm_guards_tests.proofs.turning.write_gate.Goals as goal
+use Rattle.cm_disk_tests.proofs.turning.write_gate.Goals as goal
 
 pub returns-clause-any_moment : goal.returns-clause-any_moment
 returns-clause-any_moment g c =
