@@ -1,6 +1,6 @@
 #!/usr/bin/env bash
 # The command line and the program's edges: wrong words, help, failing inputs and outputs, and their statuses.
-# Needs /dev/full (Linux).
+# Needs /dev/full (Linux) and Python 3.
 set -u
 . "$(dirname "$0")/lib.sh"
 
@@ -37,6 +37,77 @@ check_status "wrong words with a full standard error" 2
 "$program" nonsense >"$work/got" 2>&-
 status=$?
 check_status "wrong words with a closed standard error" 2
+
+# Help is asked for before and behind a command; it is no mistake.
+for words in -h "format new --help" "apply -h"; do
+    # shellcheck disable=SC2086
+    run $words
+    check_status "help: $words" 0
+    check_streams "help: $words" some none
+done
+
+# Numbers are whole, within their limits, and nothing else; each of them is told by its option. Words that stand in no
+# place are told with the usage text.
+mkdir "$work/folder"
+cd "$work/folder" || exit 1
+# wrong_words TEXT WORD..: the words are wrong, and standard error tells the text.
+wrong_words() {
+    run "${@:2}"
+    check_status "wrong words: ${*:2}" 2 says
+    grep -qF -e "$1" "$work/errors"
+    check_last "wrong words: ${*:2}: \"$1\" is told"
+}
+for number in 8.0 eight "" " 8" 4294967304 18446744073709551624; do
+    wrong_words "--top <N>" format new --top "$number"
+    wrong_words "--roots <N>" format new --roots "$number"
+done
+wrong_words "--slots <N>" format new --slots 4294967552
+for words in "format new --top -8" --version "check -a" "list new --top 8"; do
+    # shellcheck disable=SC2086
+    wrong_words "Usage: cmcache" $words
+done
+[ -z "$(ls -A)" ]
+check_last "wrong words make no file"
+
+# A path is the word that stands in its place, whatever it looks like: behind `--` an option's name too.
+mkdir folder
+run format folder/a
+check_status "a path with a folder" 0
+run check folder/a
+check_status "check: a path with a folder" 0
+run format list
+check_status "a path that is a command's name" 0
+run list list
+check_status "list: a path that is a command's name" 0
+run format --top 3 -- -a
+check_status "a path that begins with -" 0
+run check -- -a
+check_status "check: a path that begins with -" 0
+run format -- --memory
+check_status "a path that is an option's name" 0
+echo "loader app" >"$work/in"
+echo "ok 1" >"$work/want"
+run apply -- --memory
+check "apply -- --memory: the file" 0
+run apply --memory
+check "apply --memory: no file" 0
+run apply --memory
+check "apply --memory: nothing is kept" 0
+echo "refused 2 loader exists" >"$work/want"
+run apply -- --memory
+check "apply -- --memory: the file keeps it" 1
+
+# Options stand on either side of the path.
+: >"$work/in"
+run format --top 3 small --roots=1 --slots 256
+check_status "options on both sides" 0
+python3 "$top/tests/region.py" new 3 1 256 | cmp -s - small
+check_last "options on both sides: the file's sizes"
+run format large --slots 65536 --roots 256 --top=12
+check_status "the greatest sizes" 0
+python3 "$top/tests/region.py" new 12 256 65536 | cmp -s - large
+check_last "the greatest sizes: the file's sizes"
+cd "$top" || exit 1
 
 printf 'loader app\nfind app A\n' >"$work/in"
 "$program" apply --memory <"$work/in" >/dev/full 2>"$work/errors"

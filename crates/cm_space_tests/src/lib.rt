@@ -1,14 +1,10 @@
 //! Pools: the worked cases of a region with one root, a long run against a plain set of words, and
 //! both bodies on equal calls. Spaces: a left chunk waits for its number, and what was placed is
-//! found again. And what the words of a command line ask for, with the sizes of a region.
+//! found again.
 #![tactic(auto)]
 
 #[cfg(test)]
 mod held_chunks;
-#[cfg(test)]
-mod plan_faults;
-#[cfg(test)]
-mod plans;
 #[cfg(test)]
 mod pool_bodies;
 #[cfg(test)]
