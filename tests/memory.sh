@@ -36,8 +36,8 @@ sweep() {
 }
 
 sweep cm_space_tests pools::a_failed_allocation_leaves_the_pool_as_it_was 13
-sweep cm_arena tests::places_words 15
-sweep cm_arena tests::takes_larger_chunks_in_a_longer_chain 25
+sweep cm_space_tests arenas::places_words 15
+sweep cm_space_tests arenas::takes_larger_chunks_in_a_longer_chain 25
 sweep cm_class_tests faults::a_fault_behind_a_refusal 11
 sweep cm_front_tests commands::a_left_chunk_waits_for_its_receipt 212
 

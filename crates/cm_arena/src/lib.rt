@@ -8,6 +8,3 @@ mod refusal;
 
 pub use arena::Arena;
 pub use refusal::Refusal;
-
-#[cfg(test)]
-mod tests;

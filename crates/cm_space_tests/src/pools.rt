@@ -1,67 +1,61 @@
 // The worked cases of a region with one root of 1,024 words, and a long run against a plain set of
 // words.
 use crate::held_chunks::{give_held, hold};
+use crate::samples::{Parts, chunk, empty_pool};
 use cm_pool::{Chunk, Geometry, Pool};
 use std::alloc::{AllocError, Global};
 use std::collections::BTreeSet;
 use std::ops::Range;
 use std::test::Fail;
 
-fn chunk(root: u32, order: u32, at: u32) -> Chunk {
-    Chunk { root, order, at }
+// The order of a root, the roots, the slots, and whether there is such a region.
+const SIZES: [(u32, u32, u32, bool); 8] = [
+    (3, 1, 256, true),
+    (12, 256, 65_536, true),
+    (2, 1, 256, false),
+    (13, 1, 256, false),
+    (3, 0, 256, false),
+    (3, 257, 256, false),
+    (3, 1, 255, false),
+    (3, 1, 65_537, false),
+];
+
+fn sizes_of(geometry: Geometry) -> (u32, u32, u32) {
+    (geometry.top(), geometry.roots(), geometry.slots())
 }
 
 #[test]
 fn keeps_sizes_within_limits(rt: HostRuntime) {
-    let cases = [
-        (3, 1, 256, true),
-        (12, 256, 65_536, true),
-        (2, 1, 256, false),
-        (13, 1, 256, false),
-        (3, 0, 256, false),
-        (3, 257, 256, false),
-        (3, 1, 255, false),
-        (3, 1, 65_537, false),
-    ];
-    for (top, roots, slots, within) in cases {
-        let geometry = Geometry::new(top, roots, slots);
-        assert_eq!(rt; geometry.is_some(), within, "at {top} {roots} {slots}");
-        if let Some(geometry) = geometry {
-            assert_eq!(rt; geometry.top(), top);
-            assert_eq!(rt; geometry.roots(), roots);
-            assert_eq!(rt; geometry.slots(), slots);
-        }
+    for (top, roots, slots, within) in &SIZES {
+        let sizes = Geometry::new(*top, *roots, *slots).map(sizes_of);
+        let expected = within.then_some((*top, *roots, *slots));
+        assert_eq!(rt; sizes, expected, "at {top} {roots} {slots}");
     }
 }
+
+// Two chunks, and whether they share a word.
+const MEETING: [(Parts, Parts, bool); 12] = [
+    ((0, 0, 0), (0, 0, 0), true),
+    ((0, 0, 0), (0, 0, 128), false),
+    ((0, 0, 128), (0, 1, 0), true),
+    ((0, 2, 0), (0, 0, 384), true),
+    ((0, 2, 0), (0, 0, 512), false),
+    ((0, 0, 0), (1, 0, 0), false),
+    // Chunks that no region has, as a damaged file may name them.
+    ((0, 4_000_000_000, 0), (0, 0, 4_294_967_168), true),
+    ((0, 4_000_000_000, 1), (0, 0, 0), true),
+    ((0, 4_000_000_000, 128), (0, 0, 0), false),
+    ((0, 25, 4_294_967_295), (0, 25, 0), true),
+    ((0, 31, 0), (0, 0, u32::MAX), true),
+    ((0, 32, 0), (0, 32, u32::MAX), true),
+];
 
 #[test]
 fn meets_where_a_word_is_shared(rt: HostRuntime) {
-    let cases = [
-        (chunk(0, 0, 0), chunk(0, 0, 0), true),
-        (chunk(0, 0, 0), chunk(0, 0, 128), false),
-        (chunk(0, 0, 128), chunk(0, 1, 0), true),
-        (chunk(0, 2, 0), chunk(0, 0, 384), true),
-        (chunk(0, 2, 0), chunk(0, 0, 512), false),
-        (chunk(0, 0, 0), chunk(1, 0, 0), false),
-        // Chunks that no region has, as a damaged file may name them.
-        (chunk(0, 4_000_000_000, 0), chunk(0, 0, 4_294_967_168), true),
-        (chunk(0, 4_000_000_000, 1), chunk(0, 0, 0), true),
-        (chunk(0, 4_000_000_000, 128), chunk(0, 0, 0), false),
-        (chunk(0, 25, 4_294_967_295), chunk(0, 25, 0), true),
-        (chunk(0, 31, 0), chunk(0, 0, u32::MAX), true),
-        (chunk(0, 32, 0), chunk(0, 32, u32::MAX), true),
-    ];
-    for (a, b, meets) in cases {
-        assert_eq!(rt; a.meets(&b), meets, "at {a:?} {b:?}");
-        assert_eq!(rt; b.meets(&a), meets, "at {b:?} {a:?}");
-    }
-}
-
-// An empty pool; asked for once more where an allocation failed.
-fn empty_pool(alloc: Global, geometry: Geometry) -> Result<Pool, AllocError> {
-    match Pool::new(alloc, geometry) {
-        Ok(pool) => Ok(pool),
-        Err(AllocError) => Pool::new(alloc, geometry),
+    for (a, b, meets) in &MEETING {
+        let (a, b) = (chunk(*a), chunk(*b));
+        assert_eq!(rt; a.meets(&b), *meets, "at {a:?} {b:?}");
+        assert_eq!(rt; b.meets(&a), *meets, "at {b:?} {a:?}");
     }
 }
 
@@ -90,9 +84,9 @@ fn hands_out_the_first_chunk(rt: HostRuntime) -> Result<(), Fail> {
     assert!(rt; !pool.add_root()?);
     assert_eq!(rt; pool.roots(), 1);
     let cases = [
-        (0, Some(chunk(0, 0, 0))),
-        (1, Some(chunk(0, 1, 256))),
-        (0, Some(chunk(0, 0, 128))),
+        (0, Some(chunk((0, 0, 0)))),
+        (1, Some(chunk((0, 1, 256)))),
+        (0, Some(chunk((0, 0, 128)))),
         (3, None),
     ];
     for (order, first) in cases {
@@ -101,30 +95,32 @@ fn hands_out_the_first_chunk(rt: HostRuntime) -> Result<(), Fail> {
     while !held.is_empty() {
         let _given = give_held(&mut pool, &mut held, 0);
     }
-    assert_eq!(rt; hold(&mut pool, &mut held, 3)?, Some(chunk(0, 3, 0)));
+    assert_eq!(rt; hold(&mut pool, &mut held, 3)?, Some(chunk((0, 3, 0))));
     Ok(())
 }
+
+// Chunks that are asked for in turn, and whether each is taken.
+const TAKEN: [(Parts, bool); 12] = [
+    ((0, 1, 256), true),
+    ((0, 1, 256), false),
+    ((0, 0, 384), false),
+    ((0, 2, 0), false),
+    ((0, 1, 0), true),
+    // No chunks of a present root.
+    ((1, 0, 0), false),
+    ((0, 0, 640 + 1), false),
+    ((0, 1, 640), false),
+    ((0, 0, 1024), false),
+    ((0, 4, 0), false),
+    ((0, 4_000_000_000, 0), false),
+    ((0, 2, 512), true),
+];
 
 #[test]
 fn takes_what_is_free(rt: HostRuntime) -> Result<(), Fail> {
     let mut pool = whole_pool(rt.alloc(), 3, 1)?;
-    let cases = [
-        (chunk(0, 1, 256), true),
-        (chunk(0, 1, 256), false),
-        (chunk(0, 0, 384), false),
-        (chunk(0, 2, 0), false),
-        (chunk(0, 1, 0), true),
-        // No chunks of a present root.
-        (chunk(1, 0, 0), false),
-        (chunk(0, 0, 640 + 1), false),
-        (chunk(0, 1, 640), false),
-        (chunk(0, 0, 1024), false),
-        (chunk(0, 4, 0), false),
-        (chunk(0, 4_000_000_000, 0), false),
-        (chunk(0, 2, 512), true),
-    ];
-    for (wanted, taken) in cases {
-        assert_eq!(rt; pool.take(&wanted), taken, "at {wanted:?}");
+    for (wanted, taken) in &TAKEN {
+        assert_eq!(rt; pool.take(&chunk(*wanted)), *taken, "at {wanted:?}");
     }
     assert_eq!(rt; hold(&mut pool, &mut Vec::new(rt.alloc()), 0)?, None);
     Ok(())
@@ -146,7 +142,7 @@ fn words_of(chunk: &Chunk) -> Range<u64> {
 fn first_in(free: &BTreeSet<u64>, order: u32) -> Option<Chunk> {
     for root in 0..2 {
         for at in 0..16 {
-            let candidate = chunk(root, order, at * 128);
+            let candidate = chunk((root, order, at * 128));
             if candidate.at % (128 << order.min(4)) == 0
                 && words_of(&candidate).all(|word| free.contains(&word))
             {
@@ -192,8 +188,8 @@ fn agrees_with_a_set_of_words(rt: HostRuntime) -> Result<(), Fail> {
 fn a_failed_allocation_leaves_the_pool_as_it_was(rt: HostRuntime) -> Result<(), Fail> {
     let mut pool = whole_pool(rt.alloc(), 3, 2)?;
     assert_eq!(rt; pool.roots(), 2);
-    assert_eq!(rt; pool.alloc(3), Some(chunk(0, 3, 0)));
-    assert_eq!(rt; pool.alloc(0), Some(chunk(1, 0, 0)));
+    assert_eq!(rt; pool.alloc(3), Some(chunk((0, 3, 0))));
+    assert_eq!(rt; pool.alloc(0), Some(chunk((1, 0, 0))));
     assert_eq!(rt; add_root(&mut pool)?, false);
     Ok(())
 }

@@ -4,16 +4,13 @@ ghost use Rattle.std.specs.Prelude.{◌≡◌, ◌≤◌, ℕ, [], IfOk, OnOk};
 ghost use Rattle.std.specs.List.{AllByRecursion};
 ghost use Rattle.cm_space.specs.Space.{Waits};
 
+use crate::samples::{Parts, chunk};
 use cm_arena::Refusal;
 use cm_pool::{Chunk, Geometry, Place};
 use cm_space::Space;
 use std::alloc::Global;
 use std::process::Abort;
 use std::test::Fail;
-
-fn chunk(root: u32, order: u32, at: u32) -> Chunk {
-    Chunk { root, order, at }
-}
 
 // An empty space. Like all that follows it is asked for once more where an allocation failed: a
 // space is as it was then, so the answer is the one that was due.
@@ -98,7 +95,7 @@ fn leave_and_learn(rt: &impl Abort, space: &mut Space) -> Result<(), Fail>
 {
     add_loader(space, 1)?;
     let whole = Place {
-        chunk: chunk(0, 3, 0),
+        chunk: chunk((0, 3, 0)),
         offset: 0,
         words: 1024,
     };
@@ -108,7 +105,7 @@ fn leave_and_learn(rt: &impl Abort, space: &mut Space) -> Result<(), Fail>
     assert!(rt; !space.is_known(1));
     assert!(rt; space.chunks(1).is_none());
     let front = Place {
-        chunk: chunk(0, 0, 0),
+        chunk: chunk((0, 0, 0)),
         offset: 0,
         words: 16,
     };
@@ -118,9 +115,12 @@ fn leave_and_learn(rt: &impl Abort, space: &mut Space) -> Result<(), Fail>
         assert_eq!(rt; is_full(space, 3, 16)?, expected == full, "at {number}");
         assert_eq!(rt; place(space, 3, 16)?, expected, "at {number}");
     }
-    assert_eq!(rt; space.chunks(3).unwrap_or(&[]), [chunk(0, 0, 0)].as_slice());
-    assert_eq!(rt; space.used(3, &chunk(0, 0, 0)), Some(16));
-    assert_eq!(rt; space.used(1, &chunk(0, 0, 0)), None);
+    assert_eq!(rt;
+        space.chunks(3).unwrap_or(&[]),
+        [chunk((0, 0, 0))].as_slice()
+    );
+    assert_eq!(rt; space.used(3, &chunk((0, 0, 0))), Some(16));
+    assert_eq!(rt; space.used(1, &chunk((0, 0, 0))), None);
     assert_eq!(rt; space.roots(), 1);
     Ok(())
 }
@@ -151,7 +151,7 @@ fn learn_each(rt: &impl Abort, space: &mut Space) -> Result<(), Fail> {
         space.learn(number);
         let at_number = place(space, 3, 512)?;
         let found = at_number.ok().map(|place| place.chunk);
-        assert_eq!(rt; found, at.map(|at| chunk(0, 2, at)), "at {number}");
+        assert_eq!(rt; found, at.map(|at| chunk((0, 2, at))), "at {number}");
     }
     Ok(())
 }
@@ -164,28 +164,30 @@ fn places_that_are_found_again_make_the_same_space(rt: HostRuntime) -> Result<()
     go_on(&rt, &mut first, &mut second)
 }
 
+// A loader, and how many words are placed for it.
+const PLACED: [(u64, u32); 8] = [
+    (1, 128),
+    (3, 4000),
+    (1, 200),
+    (1, 56),
+    (3, 1),
+    (1, 500),
+    (3, 96),
+    (1, 12),
+];
+
 // What the first space places the second one adopts, once.
 fn find_again(rt: &impl Abort, first: &mut Space, second: &mut Space) -> Result<(), Fail> {
     for loader in [1, 3] {
         add_loader(first, loader)?;
         add_loader(second, loader)?;
     }
-    let cases = [
-        (1, 128),
-        (3, 4000),
-        (1, 200),
-        (1, 56),
-        (3, 1),
-        (1, 500),
-        (3, 96),
-        (1, 12),
-    ];
-    for (loader, words) in cases {
-        let found = place(first, loader, words)?.map_err(|_| "refused")?;
-        assert_eq!(rt; adopt(second, loader, found)?, true, "at {found:?}");
-        assert_eq!(rt; adopt(second, loader, found)?, false, "again {found:?}");
-        let used = first.used(loader, &found.chunk);
-        assert_eq!(rt; second.used(loader, &found.chunk), used, "at {found:?}");
+    for (loader, words) in &PLACED {
+        let found = place(first, *loader, *words)?.ok().ok_or("refused")?;
+        assert_eq!(rt; adopt(second, *loader, found)?, true, "at {found:?}");
+        assert_eq!(rt; adopt(second, *loader, found)?, false, "again {found:?}");
+        let used = first.used(*loader, &found.chunk);
+        assert_eq!(rt; second.used(*loader, &found.chunk), used, "at {found:?}");
     }
     Ok(())
 }
@@ -211,24 +213,26 @@ fn adopts_the_next_place_of_a_free_chunk(rt: HostRuntime) -> Result<(), Fail> {
     adopt_or_refuse(&rt, &mut space)
 }
 
+// A chunk, an offset in it and a number of words, which are no place where no root is.
+const REFUSED: [(Parts, u32, u32); 7] = [
+    ((2, 1, 1), 0, 256),
+    ((2, 4, 0), 0, 256),
+    ((3, 1, 0), 0, 256),
+    ((2, 1, 1024), 0, 256),
+    ((2, 1, 0), 0, 257),
+    ((2, 1, 0), 0, 0),
+    ((2, 1, 0), 1, 255),
+];
+
 // No root is added for a place that is refused.
 fn refuse_before_roots(rt: &impl Abort, space: &mut Space) -> Result<(), Fail> {
     add_loader(space, 1)?;
     add_loader(space, 2)?;
-    let cases = [
-        (chunk(2, 1, 1), 0, 256),
-        (chunk(2, 4, 0), 0, 256),
-        (chunk(3, 1, 0), 0, 256),
-        (chunk(2, 1, 1024), 0, 256),
-        (chunk(2, 1, 0), 0, 257),
-        (chunk(2, 1, 0), 0, 0),
-        (chunk(2, 1, 0), 1, 255),
-    ];
-    for (chunk, offset, words) in cases {
+    for (parts, offset, words) in &REFUSED {
         let place = Place {
-            chunk,
-            offset,
-            words,
+            chunk: chunk(*parts),
+            offset: *offset,
+            words: *words,
         };
         assert_eq!(rt; adopt(space, 1, place)?, false, "at {place:?}");
         assert_eq!(rt; space.roots(), 0);
@@ -236,35 +240,36 @@ fn refuse_before_roots(rt: &impl Abort, space: &mut Space) -> Result<(), Fail> {
     Ok(())
 }
 
+// The loader, the place, whether it is taken over, and the roots that are present then.
+const ADOPTED: [(u64, Parts, u32, u32, bool, u32); 11] = [
+    (1, (1, 1, 0), 0, 100, true, 2),
+    (2, (1, 1, 0), 0, 100, false, 2),
+    (2, (1, 1, 0), 100, 156, false, 2),
+    (2, (1, 0, 128), 0, 100, false, 2),
+    (2, (1, 2, 0), 0, 100, false, 2),
+    (1, (1, 1, 0), 100, 156, true, 2),
+    (1, (1, 1, 0), 0, 100, false, 2),
+    (2, (1, 1, 256), 0, 1, true, 2),
+    (2, (2, 3, 0), 0, 1024, true, 3),
+    (2, (1, 1, 256), 1, 1, false, 3),
+    (2, (0, 3, 0), 0, 1, true, 3),
+];
+
 fn adopt_or_refuse(rt: &impl Abort, space: &mut Space) -> Result<(), Fail> {
-    // The loader, the place, whether it is taken over, and the roots that are present then.
-    let cases = [
-        (1, chunk(1, 1, 0), 0, 100, true, 2),
-        (2, chunk(1, 1, 0), 0, 100, false, 2),
-        (2, chunk(1, 1, 0), 100, 156, false, 2),
-        (2, chunk(1, 0, 128), 0, 100, false, 2),
-        (2, chunk(1, 2, 0), 0, 100, false, 2),
-        (1, chunk(1, 1, 0), 100, 156, true, 2),
-        (1, chunk(1, 1, 0), 0, 100, false, 2),
-        (2, chunk(1, 1, 256), 0, 1, true, 2),
-        (2, chunk(2, 3, 0), 0, 1024, true, 3),
-        (2, chunk(1, 1, 256), 1, 1, false, 3),
-        (2, chunk(0, 3, 0), 0, 1, true, 3),
-    ];
-    for (loader, chunk, offset, words, taken, roots) in cases {
+    for (loader, parts, offset, words, taken, roots) in &ADOPTED {
         let place = Place {
-            chunk,
-            offset,
-            words,
+            chunk: chunk(*parts),
+            offset: *offset,
+            words: *words,
         };
-        assert_eq!(rt;
-            adopt(space, loader, place)?,
-            taken,
-            "at {loader} {place:?}"
-        );
-        assert_eq!(rt; space.roots(), roots, "at {loader} {place:?}");
+        let found = adopt(space, *loader, place)?;
+        assert_eq!(rt; found, *taken, "at {loader} {place:?}");
+        assert_eq!(rt; space.roots(), *roots, "at {loader} {place:?}");
     }
-    assert_eq!(rt; space.chunks(1).unwrap_or(&[]), [chunk(1, 1, 0)].as_slice());
-    assert_eq!(rt; space.used(1, &chunk(1, 1, 0)), Some(256));
+    assert_eq!(rt;
+        space.chunks(1).unwrap_or(&[]),
+        [chunk((1, 1, 0))].as_slice()
+    );
+    assert_eq!(rt; space.used(1, &chunk((1, 1, 0))), Some(256));
     Ok(())
 }
