@@ -56,21 +56,23 @@ fn pairs(alloc: Global) -> Result<Vec<Indexes>, Fail> {
     Ok(pairs)
 }
 
+/// Members by the indexes of `a`, `b`, `a`, `I` and `J`, and the first duplicate.
+const FEW: [(&[Indexes], Option<u16>); 7] = [
+    (&[], None),
+    (&[(1, 4)], None),
+    (&[(1, 4), (2, 4), (1, 5)], None),
+    (&[(1, 4), (2, 4), (1, 4)], Some(2)),
+    (&[(1, 4), (3, 4)], Some(1)),
+    (&[(1, 4), (2, 4), (2, 4), (1, 4)], Some(2)),
+    // Indexes that name nothing have no bytes.
+    (&[(0, 4), (9, 4)], Some(1)),
+];
+
 #[test]
 fn few_members(rt: HostRuntime) -> Result<(), Fail> {
     let utf8s: [&[u8]; 5] = [b"a", b"b", b"a", b"I", b"J"];
-    let rows: [(&[Indexes], Option<u16>); 7] = [
-        (&[], None),
-        (&[(1, 4)], None),
-        (&[(1, 4), (2, 4), (1, 5)], None),
-        (&[(1, 4), (2, 4), (1, 4)], Some(2)),
-        (&[(1, 4), (3, 4)], Some(1)),
-        (&[(1, 4), (2, 4), (2, 4), (1, 4)], Some(2)),
-        // Indexes that name nothing have no bytes.
-        (&[(0, 4), (9, 4)], Some(1)),
-    ];
-    for (members, place) in rows {
-        is_first(&rt, &utf8s, members, place)?;
+    for (members, place) in &FEW {
+        is_first(&rt, &utf8s, members, *place)?;
     }
     Ok(())
 }

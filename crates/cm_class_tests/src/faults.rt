@@ -53,9 +53,9 @@ fn what_follows_is_trailing(rt: HostRuntime) -> Result<(), AllocError> {
 
 #[test]
 fn the_first_wrong_byte(rt: HostRuntime) {
-    for (place, byte, at) in WRONG {
-        let fault = fault(rt.alloc(), &with_byte(place, byte));
-        assert_eq!(rt; fault, Some(ShapeFault::Malformed(at)), "at {place}");
+    for (place, byte, at) in &WRONG {
+        let fault = fault(rt.alloc(), &with_byte(*place, *byte));
+        assert_eq!(rt; fault, Some(ShapeFault::Malformed(*at)), "at {place}");
     }
 }
 

@@ -43,32 +43,41 @@ fn refusal(alloc: Global, parts: &[&[u8]]) -> Result<Option<Refusal>, AllocError
     Ok(prepared(alloc, &bytes).err())
 }
 
+/// What class A begins with here, what stands behind it, and why it is no class: a byte more; other
+/// versions; half a heading.
+const NO_CLASS: [(&[u8], &[u8], BadClass); 4] = [
+    (
+        b"\xca\xfe\xba\xbe\x00\x00\x00\x34",
+        &[0],
+        BadClass::Trailing(53),
+    ),
+    (
+        b"\xca\xfe\xba\xbe\x00\x03\x00\x34",
+        &[],
+        BadClass::Malformed(5),
+    ),
+    (
+        b"\xca\xfe\xba\xbe\x00\x00\x00\x35",
+        &[],
+        BadClass::Malformed(7),
+    ),
+    (b"\xca\xfe", &[], BadClass::Malformed(2)),
+];
+
 #[test]
 fn bytes_that_are_no_class_are_refused(rt: HostRuntime) -> Result<(), Fail> {
     let alloc = rt.alloc();
-    // A byte more; other versions; half a heading.
-    let cases: [(&[u8], &[u8], BadClass); 4] = [
-        (
-            b"\xca\xfe\xba\xbe\x00\x00\x00\x34",
-            &[0],
-            BadClass::Trailing(53),
-        ),
-        (
-            b"\xca\xfe\xba\xbe\x00\x03\x00\x34",
-            &[],
-            BadClass::Malformed(5),
-        ),
-        (
-            b"\xca\xfe\xba\xbe\x00\x00\x00\x35",
-            &[],
-            BadClass::Malformed(7),
-        ),
-        (b"\xca\xfe", &[], BadClass::Malformed(2)),
-    ];
-    for (heading, behind, expected) in cases {
+    for (heading, behind, expected) in &NO_CLASS {
         let answer = refusal(alloc, &[heading, &CLASS_A[8..], behind])?;
-        assert_eq!(rt; answer, Some(Refusal::BadClass(expected)));
+        assert_eq!(rt; answer, Some(Refusal::BadClass(*expected)));
     }
+    let answer = refusal(alloc, &[])?;
+    assert_eq!(rt; answer, Some(Refusal::BadClass(BadClass::Truncated)));
+    Ok(())
+}
+
+#[test]
+fn a_class_that_breaks_a_rule_is_refused(rt: HostRuntime) -> Result<(), Fail> {
     let broken = Broken {
         rule: Rule::EntryKinds,
         spot: Spot::This,
@@ -81,10 +90,8 @@ fn bytes_that_are_no_class_are_refused(rt: HostRuntime) -> Result<(), Fail> {
         &[5, 0, 0, 0, 0, 0, 0, 0, 0],
         &[0, 0x21, 0, 6, 0, 3, 0, 0, 0, 0, 0, 0, 0, 0],
     ];
-    let answer = refusal(alloc, &parts)?;
+    let answer = refusal(rt.alloc(), &parts)?;
     assert_eq!(rt; answer, Some(Refusal::BadClass(BadClass::Rule(broken))));
-    let answer = refusal(alloc, &[])?;
-    assert_eq!(rt; answer, Some(Refusal::BadClass(BadClass::Truncated)));
     Ok(())
 }
 
@@ -125,10 +132,10 @@ const TOLD: [(Refusal, u8, &str); 15] = [
 
 #[test]
 fn refusals_have_their_numbers_and_texts(rt: HostRuntime) -> Result<(), AllocError> {
-    for (refusal, number, text) in TOLD {
-        assert_eq!(rt; refusal.number(), number);
+    for (refusal, number, text) in &TOLD {
+        assert_eq!(rt; refusal.number(), *number);
         let told = format!(in rt.alloc(); "{refusal}")?;
-        assert_eq!(rt; told.as_str(), text);
+        assert_eq!(rt; told.as_str(), *text);
     }
     Ok(())
 }

@@ -32,18 +32,21 @@ fn name_len(alloc: Global, words: &[u64]) -> Result<usize, Fail> {
     Ok(record.class_name(alloc)?.len())
 }
 
+// The second word of class A's record with another this_class.
+const NAMELESS: [u64; 4] = [
+    0x0000_0003_0000_0021,
+    0x0000_0003_0002_0021,
+    0x0000_0003_0005_0021,
+    0x0000_0003_ffff_0021,
+];
+
 // this_class may lead nowhere, to a Utf8, or, at the second slot of a Long, to bits that look like
 // a Class.
 #[test]
 fn a_name_that_leads_to_no_utf8_is_empty(rt: HostRuntime) -> Result<(), Fail> {
     let alloc = rt.alloc();
-    for word in [
-        0x0000_0003_0000_0021,
-        0x0000_0003_0002_0021,
-        0x0000_0003_0005_0021,
-        0x0000_0003_ffff_0021,
-    ] {
-        assert_eq!(rt; name_len(alloc, &with_word(1, word))?, 0);
+    for word in &NAMELESS {
+        assert_eq!(rt; name_len(alloc, &with_word(1, *word))?, 0);
     }
     let mut words = RECORD_ALL_TAGS;
     words[13] = 0x0000_0001_0000_0007;

@@ -162,6 +162,15 @@ fn member(is_method: bool, index: u16, flags: u16, attributes: u16) -> Member {
     }
 }
 
+// Names and descriptors that no member has.
+const OTHERS: [(&[u8], &[u8]); 5] = [
+    (b"m", b"J"),
+    (b"I", b"m"),
+    (b"", b""),
+    (b"mm", b"I"),
+    (b"java/lang/Object", b"A"),
+];
+
 fn has_members(rt: &impl Abort, record: &Record) {
     let fields = [record.field(b"m", b"I"), record.field(b"m", b"()V")];
     let expected = [Some(member(false, 0, 1, 0)), Some(member(false, 1, 2, 0))];
@@ -169,14 +178,7 @@ fn has_members(rt: &impl Abort, record: &Record) {
     let methods = [record.method(b"m", b"I"), record.method(b"m", b"()V")];
     let expected = [Some(member(true, 0, 1, 0)), Some(member(true, 1, 9, 3))];
     assert_eq!(rt; methods, expected);
-    let others: [(&[u8], &[u8]); 5] = [
-        (b"m", b"J"),
-        (b"I", b"m"),
-        (b"", b""),
-        (b"mm", b"I"),
-        (b"java/lang/Object", b"A"),
-    ];
-    for (name, descriptor) in others {
+    for (name, descriptor) in &OTHERS {
         let found = [
             record.field(name, descriptor),
             record.method(name, descriptor),
@@ -266,9 +268,9 @@ fn is_compared(rt: &(impl Abort + AllocGlobal), one: &Record) -> Result<(), Fail
     assert!(rt; same_name(one, with_members(alloc, &BODY)?));
     assert!(rt; !same_name(one, record_of(alloc, &with_byte(16, 0x42))?));
     // this_class 3 leads to `java/lang/Object`, and 2, a Utf8, to no name.
-    for (this_class, same) in [(3, false), (2, false), (1, true)] {
-        let other = record_of(alloc, &with_byte(42, this_class))?;
-        assert_eq!(rt; same_name(one, other), same);
+    for (this_class, same) in &[(3, false), (2, false), (1, true)] {
+        let other = record_of(alloc, &with_byte(42, *this_class))?;
+        assert_eq!(rt; same_name(one, other), *same);
     }
     Ok(())
 }

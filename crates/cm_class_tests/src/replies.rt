@@ -116,8 +116,8 @@ const REFUSED: [(Refusal, &[u8]); 22] = [
 
 #[test]
 fn refusals_are_told_by_number_and_text(rt: HostRuntime) -> Result<(), AllocError> {
-    for (refusal, line) in REFUSED {
-        is_told(&rt, refused(rt.alloc(), refusal), Kind::Refused, line)?;
+    for (refusal, line) in &REFUSED {
+        is_told(&rt, refused(rt.alloc(), *refusal), Kind::Refused, line)?;
     }
     let reply = bad_line(rt.alloc())?;
     assert_eq!(rt; reply.line.as_slice(), b"refused 15 line\n".as_slice());

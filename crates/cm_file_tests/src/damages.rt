@@ -104,19 +104,21 @@ fn a_short_file_is_no_cache_or_damaged(rt: HostRuntime) -> Result<(), Fail> {
     cut_each(&rt, &front)
 }
 
+const NUMBERS: [(Damage, u8); 9] = [
+    (Damage::Superblock, 1),
+    (Damage::Length, 2),
+    (Damage::Halves, 3),
+    (Damage::Head, 4),
+    (Damage::Slot, 5),
+    (Damage::Rows, 6),
+    (Damage::Chunks, 7),
+    (Damage::Record, 8),
+    (Damage::ClassTwice, 9),
+];
+
 #[test]
 fn damages_have_their_numbers(rt: HostRuntime) {
-    for (what, number) in [
-        (Damage::Superblock, 1),
-        (Damage::Length, 2),
-        (Damage::Halves, 3),
-        (Damage::Head, 4),
-        (Damage::Slot, 5),
-        (Damage::Rows, 6),
-        (Damage::Chunks, 7),
-        (Damage::Record, 8),
-        (Damage::ClassTwice, 9),
-    ] {
-        assert_eq!(rt; what.number(), number);
+    for (what, number) in &NUMBERS {
+        assert_eq!(rt; what.number(), *number);
     }
 }

@@ -24,15 +24,18 @@ fn make(
     Ok(())
 }
 
+/// The order of a root, the roots, the slots, and how long a new file is.
+const SIZES: [(u32, u32, u32, u64); 3] = [
+    (8, 64, 4_096, 528_384),
+    (3, 1, 256, 36_864),
+    (12, 256, 65_536, 8_392_704),
+];
+
 #[test]
 fn a_new_file_is_the_empty_cache(rt: HostRuntime) -> Result<(), Fail> {
-    for (top, roots, slots, long) in [
-        (8, 64, 4_096, 528_384),
-        (3, 1, 256, 36_864),
-        (12, 256, 65_536, 8_392_704),
-    ] {
-        let geometry = Geometry::new(top, roots, slots).ok_or("within the limits")?;
-        make(&rt, &mut SimDisk::new(rt.alloc()), geometry, long)?;
+    for (top, roots, slots, long) in &SIZES {
+        let geometry = Geometry::new(*top, *roots, *slots).ok_or("within the limits")?;
+        make(&rt, &mut SimDisk::new(rt.alloc()), geometry, *long)?;
     }
     Ok(())
 }
@@ -113,25 +116,27 @@ fn crashed(
 
 #[test]
 fn a_crash_leaves_no_cache_or_the_empty_one(rt: HostRuntime) -> Result<(), Fail> {
-    for (pass, stores, len, fill, expected) in LEFT {
+    for (pass, stores, len, fill, expected) in &LEFT {
         let choice = Choice {
-            len,
+            len: *len,
             fill: Vec::from_slice(rt.alloc(), fill)?,
         };
-        let told = crashed(rt.alloc(), pass, stores, &choice)?;
-        assert_eq!(rt; told, (pass == 5, expected), "{pass} calls");
+        let told = crashed(rt.alloc(), *pass, *stores, &choice)?;
+        assert_eq!(rt; told, (*pass == 5, *expected), "{pass} calls");
     }
     Ok(())
 }
 
+const TEXTS: [(FormatFault, &str); 3] = [
+    (FormatFault::NotEmpty, "exists"),
+    (FormatFault::Device, "device"),
+    (FormatFault::NoMemory, "memory"),
+];
+
 #[test]
 fn faults_have_their_texts(rt: HostRuntime) -> Result<(), Fail> {
-    for (fault, text) in [
-        (FormatFault::NotEmpty, "exists"),
-        (FormatFault::Device, "device"),
-        (FormatFault::NoMemory, "memory"),
-    ] {
-        assert_eq!(rt; fault.to_string(rt.alloc())?.as_str(), text);
+    for (fault, text) in &TEXTS {
+        assert_eq!(rt; fault.to_string(rt.alloc())?.as_str(), *text);
     }
     Ok(())
 }

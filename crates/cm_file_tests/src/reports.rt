@@ -113,9 +113,10 @@ fn told_after(alloc: Global, calls: &[Call]) -> Result<Told, Fail> {
 
 #[test]
 fn what_commands_leave_is_counted(rt: HostRuntime) -> Result<(), Fail> {
-    for (calls, [loaders, classes, chunks], number) in CASES {
+    for (calls, counts, number) in &CASES {
         let told = told_after(rt.alloc(), calls)?;
-        let expected = report(loaders, classes, chunks, number);
+        let [loaders, classes, chunks] = *counts;
+        let expected = report(loaders, classes, chunks, *number);
         assert_eq!(rt; told, expected, "behind {number} commands");
     }
     Ok(())

@@ -97,19 +97,21 @@ fn a_byte_that_has_to_be_0_counts(rt: HostRuntime) {
     assert_eq!(rt; GroupHead::decode(&slot), None);
 }
 
+/// Names, and whether a loader may have them.
+const NAMES: [(&[u8], bool); 6] = [
+    (b"app", true),
+    (b"", false),
+    (&[b'~'; 48], true),
+    (&[b'!'; 49], false),
+    (b"my app", false),
+    (b"caf\xc3\xa9", false),
+];
+
 #[test]
 fn names_of_49_bytes_are_refused(rt: HostRuntime) {
     assert!(rt; SlotName::new(&[b'a'; 48]).is_some());
     assert!(rt; SlotName::new(&[b'a'; 49]).is_none());
-    let cases: [(&[u8], bool); 6] = [
-        (b"app", true),
-        (b"", false),
-        (&[b'~'; 48], true),
-        (&[b'!'; 49], false),
-        (b"my app", false),
-        (b"caf\xc3\xa9", false),
-    ];
-    for (name, expected) in cases {
-        assert_eq!(rt; is_loader_name(name), expected);
+    for (name, expected) in &NAMES {
+        assert_eq!(rt; is_loader_name(name), *expected);
     }
 }

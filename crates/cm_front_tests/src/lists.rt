@@ -138,7 +138,7 @@ fn is_listed(rt: &(impl Abort + AllocGlobal), calls: &[Call], expected: &[u8]) -
 
 #[test]
 fn names_come_in_byte_order_with_places(rt: HostRuntime) -> Result<(), Fail> {
-    for (calls, expected) in CASES {
+    for (calls, expected) in &CASES {
         is_listed(&rt, calls, expected)?;
     }
     Ok(())

@@ -44,8 +44,8 @@ const CLASSES: [(u64, &[u8]); 7] = [
 type Classes = Book<Arc<Record, Global>>;
 
 fn add_loaders(book: &mut Classes) -> Result<(), Fail> {
-    for (number, name) in [(1, b"app"), (2, b"lib"), (3, b"web")] {
-        if offer(book, number, loader(number, name)?)?.is_some() {
+    for (number, name) in &[(1, b"app"), (2, b"lib"), (3, b"web")] {
+        if offer(book, *number, loader(*number, *name)?)?.is_some() {
             return Err("a loader".into());
         }
     }
@@ -65,8 +65,8 @@ fn add_class(alloc: Global, book: &mut Classes, loader: u64, name: &[u8]) -> Res
 
 fn add_all(alloc: Global, book: &mut Classes) -> Result<(), Fail> {
     add_loaders(book)?;
-    for (loader, name) in CLASSES {
-        add_class(alloc, book, loader, name)?;
+    for (loader, name) in &CLASSES {
+        add_class(alloc, book, *loader, name)?;
     }
     Ok(())
 }
@@ -107,11 +107,11 @@ fn has(alloc: Global, book: &Classes, loader: u64, name: &[u8]) -> Result<bool, 
 }
 
 fn finds_each(rt: &(impl Abort + AllocGlobal), book: &Classes) -> Result<(), Fail> {
-    for (loader, name) in CLASSES {
-        assert!(rt; has(rt.alloc(), book, loader, name)?);
+    for (loader, name) in &CLASSES {
+        assert!(rt; has(rt.alloc(), book, *loader, name)?);
     }
-    for (loader, name) in NONE {
-        assert!(rt; !has(rt.alloc(), book, loader, name)?);
+    for (loader, name) in &NONE {
+        assert!(rt; !has(rt.alloc(), book, *loader, name)?);
     }
     Ok(())
 }

@@ -141,8 +141,8 @@ const LIVE: [(LiveSample, Option<EntryRule>); 7] = [
 ];
 
 fn take_each(rt: &impl Abort, book: &mut Book<()>) -> Result<(), Fail> {
-    for (sample, rule) in LIVE {
-        assert_eq!(rt; book.apply_live(7, sample.row()?), rule);
+    for (sample, rule) in &LIVE {
+        assert_eq!(rt; book.apply_live(7, sample.row()?), *rule);
     }
     Ok(())
 }

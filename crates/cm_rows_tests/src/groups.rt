@@ -60,22 +60,25 @@ fn joined(alloc: Global, pair: Pair) -> Result<(bool, u64, u64, u64), Fail> {
     Ok((joins, group.first(), group.count() as u64, group.learnt()))
 }
 
+const PAIRS: [(Pair, bool); 6] = [
+    ((5, 3, 8, 2, 4), true),
+    ((5, 3, 9, 2, 4), false),
+    ((5, 3, 7, 2, 4), false),
+    ((5, 3, 8, 2, 5), false),
+    ((5, 32, 37, 32, 0), true),
+    ((5, 32, 37, 33, 0), false),
+];
+
 #[test]
 fn groups_join_where_one_goes_on(rt: HostRuntime) -> Result<(), Fail> {
-    for (pair, joins) in [
-        ((5, 3, 8, 2, 4), true),
-        ((5, 3, 9, 2, 4), false),
-        ((5, 3, 7, 2, 4), false),
-        ((5, 3, 8, 2, 5), false),
-        ((5, 32, 37, 32, 0), true),
-        ((5, 32, 37, 33, 0), false),
-    ] {
-        let (first, count, _, more, learnt) = pair;
-        let (is_joined, begin, entries, known) = joined(rt.alloc(), pair)?;
-        assert_eq!(rt; is_joined, joins);
-        assert_eq!(rt; entries, if joins { count + more } else { count });
-        assert_eq!(rt; begin, first);
-        assert_eq!(rt; known, if joins { learnt } else { 0 });
+    for (pair, joins) in &PAIRS {
+        let (first, count, _, more, learnt) = *pair;
+        let found = joined(rt.alloc(), *pair)?;
+        let (entries, known) = match *joins {
+            true => (count.saturating_add(more), learnt),
+            false => (count, 0),
+        };
+        assert_eq!(rt; found, (*joins, first, entries, known));
     }
     Ok(())
 }

@@ -48,8 +48,8 @@ fn is_read_with(mut bytes: Vec<u8>, at: usize, byte: u8) -> bool {
 fn a_superblock_has_no_other_spelling(rt: HostRuntime) -> Result<(), Fail> {
     let geometry = Geometry::new(3, 1, 256).ok_or("within the limits")?;
     let bytes = Superblock { geometry }.encode(rt.alloc())?;
-    for (at, byte) in WRONG {
-        assert!(rt; !is_read_with(bytes.clone()?, at, byte), "at {at}");
+    for (at, byte) in &WRONG {
+        assert!(rt; !is_read_with(bytes.clone()?, *at, *byte), "at {at}");
     }
     let (_, shorter) = bytes.split_last().ok_or("4,096 bytes")?;
     assert_eq!(rt; Superblock::decode(shorter), None);

@@ -133,14 +133,15 @@ fn lines_that_are_not_passed_on_are_a_fault(rt: HostRuntime) -> Result<(), Fail>
     Ok(())
 }
 
+const TEXTS: [(InspectFault, &str); 2] = [
+    (InspectFault::Output, "the output failed"),
+    (InspectFault::Memory, "out of memory"),
+];
+
 #[test]
 fn faults_have_their_texts(rt: HostRuntime) -> Result<(), Fail> {
-    let alloc = rt.alloc();
-    for (fault, text) in [
-        (InspectFault::Output, "the output failed"),
-        (InspectFault::Memory, "out of memory"),
-    ] {
-        assert_eq!(rt; fault.to_string(alloc)?.as_str(), text);
+    for (fault, text) in &TEXTS {
+        assert_eq!(rt; fault.to_string(rt.alloc())?.as_str(), *text);
     }
     Ok(())
 }

@@ -153,21 +153,23 @@ fn crashed(alloc: Global, calls: usize) -> Result<Vec<Told>, Fail> {
     replies(alloc, &list)
 }
 
+/// How many calls are made, of zeros of a root, the record, the slots, a sync, the gate and a sync;
+/// and the number and the words that are found behind a crash then.
+const STOPPED: [(usize, u64, u32); 7] = [
+    (0, 1, 0),
+    (1, 1, 0),
+    (2, 1, 0),
+    (3, 1, 0),
+    (4, 1, 0),
+    (5, 2, 16),
+    (6, 2, 16),
+];
+
 #[test]
 fn a_group_is_there_once_its_gate_is(rt: HostRuntime) -> Result<(), Fail> {
-    let alloc = rt.alloc();
-    // zeros of a root, the record, the slots, a sync, the gate, a sync
-    for (calls, number, words) in [
-        (0, 1, 0),
-        (1, 1, 0),
-        (2, 1, 0),
-        (3, 1, 0),
-        (4, 1, 0),
-        (5, 2, 16),
-        (6, 2, 16),
-    ] {
-        let expected = [Told::Opened(number), Told::Words(words)];
-        let told = crashed(alloc, calls)?;
+    for (calls, number, words) in &STOPPED {
+        let expected = [Told::Opened(*number), Told::Words(*words)];
+        let told = crashed(rt.alloc(), *calls)?;
         let from = told.len().saturating_sub(2);
         assert_eq!(rt; &told[from..], expected.as_slice(), "behind {calls} calls");
     }

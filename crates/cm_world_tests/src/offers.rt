@@ -70,11 +70,11 @@ const TAKEN: [(&[Sample], u64, u64); 7] = [
 
 #[test]
 fn a_group_that_may_come_next_is_taken(rt: HostRuntime) -> Result<(), Fail> {
-    for (samples, steps, number) in TAKEN {
+    for (samples, steps, number) in &TAKEN {
         // the class behind it is refused while it is under way
         assert_eq!(rt;
             answers(rt.alloc(), 3, samples)?,
-            (Ok(steps), REFUSED, Some(number))
+            (Ok(*steps), REFUSED, Some(*number))
         );
     }
     Ok(())
@@ -122,9 +122,9 @@ const REFUSALS: [(u64, &[Sample]); 14] = [
 
 #[test]
 fn another_group_comes_back_and_nothing_is_changed(rt: HostRuntime) -> Result<(), Fail> {
-    for (first, samples) in REFUSALS {
+    for (first, samples) in &REFUSALS {
         assert_eq!(rt;
-            answers(rt.alloc(), first, samples)?,
+            answers(rt.alloc(), *first, samples)?,
             (REFUSED, Ok(5), Some(3))
         );
     }
