@@ -5,8 +5,8 @@ use Rattle.std.proofs.lemmas.List.{get_or_push, length-replicate}
 use Rattle.std.proofs.lemmas.Bool.{cases_lt, cases_eq}
 use Rattle.std.proofs.lemmas.Nat.{pow-add}
 use Rattle.std.proofs.Math.Nat.{lt_of_mul-lt-mul_right}
-use Rattle.cm_bits.specs.Bits.{bit}
-use Rattle.cm_bits.proofs.BitFacts.{bit-replicate}
+use Rattle.cm_pool.specs.Bits.{bit}
+use Rattle.cm_pool.proofs.BitFacts.{bit-replicate}
 use Rattle.cm_pool.specs.Geometry.{Sizes, IsGeometry}
 use Rattle.cm_pool.specs.Rows.{row, AreEmpty}
 use Rattle.cm_pool.proofs.Marks.{no-mark_past}

@@ -3,7 +3,7 @@ use Rattle.std.proofs.Common.{◌≡◌, ℕ, ◌+◌, ◌*◌, ◌^◌, ◌<◌
 use Rattle.std.proofs.Common.{None, IfSome, IfNone, sym, ap, ◌∙◌, subst, inl, inr, ◌⊎◌, arith}
 use Rattle.std.proofs.lemmas.Bool.{both_ways, cases_lt}
 use Rattle.std.proofs.Math.Nat.{mul-le-mul_right}
-use Rattle.cm_bits.specs.Bits.{bit, IsFirstBit}
+use Rattle.cm_pool.specs.Bits.{bit, IsFirstBit}
 use Rattle.cm_pool.specs.declared.block.Block.{Block}
 use Rattle.cm_pool.specs.Blocks.{start}
 use Rattle.cm_pool.specs.Rows.{row, is_marked, IsFirst, IsFirstFrom}

@@ -13,3 +13,4 @@ pub mod HeldFacts
 pub mod Largest
 pub mod NoneLost
 pub mod SpaceLaws
+pub mod BitFacts

@@ -6,8 +6,8 @@ use Rattle.std.proofs.lemmas.List.{get_or-set_same, get_or-set_other, get_or_pas
 use Rattle.std.proofs.lemmas.Nat.{shr-shr}
 use Rattle.std.proofs.lemmas.Bool.{cases_eq, cases_lt, eq-eqb, eqb-true, eqb-false, both_ways}
 use Rattle.std.proofs.lemmas.Bool.{or_cases, or_left, or_right, and_parts, not-true}
-use Rattle.cm_bits.specs.Bits.{bit, with_bit, without_bit}
-use Rattle.cm_bits.proofs.BitFacts.{bit-with, bit-without, bit-past, bit-within}
+use Rattle.cm_pool.specs.Bits.{bit, with_bit, without_bit}
+use Rattle.cm_pool.proofs.BitFacts.{bit-with, bit-without, bit-past, bit-within}
 use Rattle.cm_pool.specs.declared.block.Block.{Block}
 use Rattle.cm_pool.specs.Blocks.{is_in}
 use Rattle.cm_pool.specs.Rows.{row, is_marked, with_mark, without_mark, HasPlace, is_covered}

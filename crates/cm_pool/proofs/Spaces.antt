@@ -10,8 +10,8 @@ use Rattle.std.proofs.lemmas.List.Folds.{list_any-append}
 use Rattle.std.proofs.lemmas.Bool.{false_from_ne_true, cases_lt, cases_order, lt-ltb, le-ltb}
 use Rattle.std.proofs.lemmas.Bool.{eq-eqb, ne_eqb, eqb-true}
 use Rattle.std.proofs.lemmas.Bool.Decides.{same_from_decides, nat_tests}
-use Rattle.cm_bits.specs.Bits.{bit}
-use Rattle.cm_bits.proofs.BitFacts.{bit-past}
+use Rattle.cm_pool.specs.Bits.{bit}
+use Rattle.cm_pool.proofs.BitFacts.{bit-past}
 use Rattle.cm_pool.specs.declared.block.Block.{Block}
 use Rattle.cm_pool.specs.declared.chunk.Chunk.{Chunk}
 use Rattle.cm_pool.specs.Geometry.{Sizes}

@@ -8,3 +8,4 @@ pub mod Rows
 pub mod Laws
 pub mod Places
 pub mod SpaceLaws
+pub mod Bits

@@ -5,7 +5,7 @@ use Rattle.std.specs.Prelude.{List, [], ◌∷◌, ◌++◌, length, set, slice_
 use Rattle.std.specs.Prelude.{if◌then◌else◌, zero, suc}
 use Rattle.std.specs.List.{range_with_len, flat_map}
 use Rattle.std.specs.FinSet.{from_list}
-use Rattle.cm_bits.specs.Bits.{bit, with_bit, without_bit}
+use Rattle.cm_pool.specs.Bits.{bit, with_bit, without_bit}
 use Rattle.cm_pool.specs.declared.block.Block.{Block}
 use Rattle.cm_pool.specs.Geometry.{Sizes, IsGeometry}
 use Rattle.cm_pool.specs.FreeSpace.{FreeSpace}

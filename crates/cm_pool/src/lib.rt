@@ -2,6 +2,8 @@
 //! scheme of OpenJDK JEP 387).
 #![tactic(auto)]
 
+mod bit_row;
+mod bit_words;
 mod block;
 mod chunk;
 mod geometry;
@@ -10,6 +12,9 @@ mod place;
 mod pool;
 mod rows;
 
+// A crate can name a pool in a contract only if the types of its fields are exported.
+#[doc(hidden)]
+pub use bit_row::Row;
 pub use chunk::Chunk;
 pub use geometry::Geometry;
 pub use laws::{

@@ -3,11 +3,11 @@ ghost use Rattle.std.specs.Prelude.{◌≡◌, ◌<◌, ◌≤◌, ◌↔◌, Is
 ghost use Rattle.std.specs.Prelude.{MatchOption, MatchResult, if◌then◌else◌};
 ghost use Rattle.std.specs.FinSet as set;
 
+use crate::Row;
 use crate::block::Block;
 use crate::chunk::Chunk;
 use crate::geometry::Geometry;
 use crate::rows::{empty_rows, first_of_order, give_back, holder_of, mark, take_out};
-use cm_bits::Row;
 use std::alloc::{AllocError, Global};
 use std::marker::Model;
 

@@ -6,9 +6,9 @@ ghost use Rattle.cm_pool.specs.Blocks.{is_in, start, Inside, other_half};
 ghost use Rattle.cm_pool.specs.Rows.{is_marked as is_marked_in, is_covered, with_mark};
 ghost use Rattle.cm_pool.specs.Rows.{without_mark, HasPlace, IsKept, AreEmpty, IsFirstFrom};
 
+use crate::Row;
 use crate::block::Block;
 use crate::geometry::Geometry;
-use cm_bits::Row;
 use std::alloc::{AllocError, Global};
 
 /// Rows for all blocks of a region, with no bit set.

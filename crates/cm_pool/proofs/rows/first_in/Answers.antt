@@ -1,6 +1,6 @@
 use Rattle.std.proofs.Common.{◌≡◌, ℕ, List, [], ◌∙◌, subst}
 use Rattle.std.proofs.lemmas.List.{get_or_default}
-use Rattle.cm_bits.specs.Bits.{IsFirstBit}
+use Rattle.cm_pool.specs.Bits.{IsFirstBit}
 use Rattle.cm_pool.specs.Rows.{row}
 use Rattle.cm_pool.proofs.Firsts.{first-from}
 use Rattle.cm_pool.proofs.rows.first_in.Goals as goal

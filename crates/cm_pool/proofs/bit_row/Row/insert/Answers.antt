@@ -1,8 +1,8 @@
 use Rattle.std.proofs.Common.{◌≡◌, ◌*◌, ◌/◌, ◌<◌, ◌≤◌, List, length, sym, ap, ◌∙◌, subst, arith}
 use Rattle.std.proofs.Common.{length-set, ℕ}
-use Rattle.cm_bits.specs.Bits.{with_bit, IsRow}
-use Rattle.cm_bits.proofs.BitFacts.{row-with}
-use Rattle.cm_bits.proofs.row.Row.insert.Goals as goal
+use Rattle.cm_pool.specs.Bits.{with_bit, IsRow}
+use Rattle.cm_pool.proofs.BitFacts.{row-with}
+use Rattle.cm_pool.proofs.bit_row.Row.insert.Goals as goal
 
 pub invariant_of-self : goal.invariant_of-self
 invariant_of-self c =

@@ -10,8 +10,8 @@ use Rattle.std.proofs.lemmas.Nat.{one_shl}
 use Rattle.std.proofs.lemmas.Nat.Bits.{bit_at-zero, bit_at_set_same, bit_at_set_other}
 use Rattle.std.proofs.lemmas.Nat.Bits.{bit_at_clear_same, bit_at_clear_other, bit_at-trailing_zeros}
 use Rattle.std.proofs.lemmas.Bool.{cases_eq, cases_lt, eq-eqb, ne_eqb, eqb-true, both_ways}
-use Rattle.cm_bits.specs.Bits.{word, bit, with_bit, without_bit, IsFirstBit, IsFirstWord, IsSummary}
-use Rattle.cm_bits.specs.Bits.{IsRow}
+use Rattle.cm_pool.specs.Bits.{word, bit, with_bit, without_bit, IsFirstBit, IsFirstWord, IsSummary}
+use Rattle.cm_pool.specs.Bits.{IsRow}
 
 -- the one word that changes, and the others
 pub word-with : (ws : List ℕ) (i : ℕ) → i < 64 * length ws

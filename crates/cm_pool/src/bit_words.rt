@@ -1,7 +1,7 @@
 // Bits in words of 64.
 ghost use Rattle.std.specs.Prelude.{◌≡◌, ℕ, ◌*◌, ◌/◌, ◌<◌, ◌≤◌, ◌==◌, length, slice_index_or};
 ghost use Rattle.std.specs.Prelude.{vec_len, IfSome, IfNone};
-ghost use Rattle.cm_bits.specs.Bits.{bit, with_bit, without_bit, IsFirstWord, IsFirstBit};
+ghost use Rattle.cm_pool.specs.Bits.{bit, with_bit, without_bit, IsFirstWord, IsFirstBit};
 
 /// Whether a bit is set. Behind the last word none is.
 pub fn has_bit(words: &[u64], at: u32) -> bool

@@ -1,9 +1,9 @@
 // A row of bits, with a summary above it.
 ghost use Rattle.std.specs.Prelude.{◌≡◌, ℕ, ◌*◌, ◌<◌, ◌≤◌, List, false, length, replicate, IfOk};
 ghost use Rattle.std.specs.Prelude.{IfSome, IfNone};
-ghost use Rattle.cm_bits.specs.Bits.{bit, with_bit, without_bit, IsFirstBit};
+ghost use Rattle.cm_pool.specs.Bits.{bit, with_bit, without_bit, IsFirstBit};
 
-use crate::words::{clear_bit, first_word, has_bit, lowest_bit, set_bit};
+use crate::bit_words::{clear_bit, first_word, has_bit, lowest_bit, set_bit};
 use std::alloc::{AllocError, Global};
 use std::marker::Model;
 
@@ -21,7 +21,7 @@ pub struct Row {
 
 impl Model for Row {
     ghost use Rattle.std.specs.Prelude.{ℕ, List};
-    ghost use Rattle.cm_bits.specs.Bits.{IsRow};
+    ghost use Rattle.cm_pool.specs.Bits.{IsRow};
 
     ghost Value = { List ℕ };
 
