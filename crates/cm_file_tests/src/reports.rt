@@ -3,8 +3,8 @@
 use crate::disks::{bytes_of, disk_of};
 use crate::stored_calls::Call::{Define, Loader, Unload};
 use crate::stored_calls::{Call, disk_after, new_disk};
-use cm_check::{Report, check};
 use cm_disk::{Disk, FuseDisk, SimDisk};
+use cm_inspect::{Report, check};
 use cm_recover::OpenFault;
 use std::alloc::{AllocGlobal, Global};
 use std::process::Abort;

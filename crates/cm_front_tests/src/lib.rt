@@ -1,5 +1,5 @@
 //! Worked examples for `cm_front`: commands that are accepted and refused, what is found and handed
-//! out, and when chunks are free again. And for `cm_list`: the order of names, and where records lie.
+//! out, and when chunks are free again. And for listing: the order of names, and where records lie.
 #![tactic(auto)]
 
 #[cfg(test)]

@@ -3,7 +3,7 @@
 use crate::list_calls::Call::{Define, Loader, Unload};
 use crate::list_calls::{Call, front_after};
 use cm_front::Front;
-use cm_list::{ListedClass, ListedLoader, list_accepted};
+use cm_inspect::{ListedClass, ListedLoader, list_accepted};
 use std::alloc::{AllocGlobal, Global};
 use std::process::Abort;
 use std::test::*;

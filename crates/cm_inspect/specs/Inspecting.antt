@@ -8,9 +8,9 @@ use Rattle.cm_verdict.specs.Verdict.{Standing, state_in, arenas_in, verdict}
 use Rattle.cm_recover.specs.declared.fault.OpenFault.{OpenFault}
 use Rattle.cm_recover.specs.declared.fault.OpenFault.TheVariants as open_fault
 use Rattle.cm_recover.specs.Standing.{Answers}
-use Rattle.cm_check.specs.Report.{Reports}
-use Rattle.cm_list.specs.declared.listing.ListedClass.{ListedClass}
-use Rattle.cm_list.specs.Listing.{listing}
+use Rattle.cm_inspect.specs.Report.{Reports}
+use Rattle.cm_inspect.specs.declared.listing.ListedClass.{ListedClass}
+use Rattle.cm_inspect.specs.Listing.{listing}
 use Rattle.cm_lines.specs.Streams.{WritesPart}
 use Rattle.cm_inspect.specs.declared.fault.InspectFault.{InspectFault}
 use Rattle.cm_inspect.specs.declared.fault.InspectFault.TheVariants as fault

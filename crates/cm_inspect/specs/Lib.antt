@@ -1,2 +1,6 @@
 pub mod Texts
 pub mod Inspecting
+pub mod Listing
+pub mod Gathered
+pub mod Laws
+pub mod Report

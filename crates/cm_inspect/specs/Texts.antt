@@ -7,8 +7,8 @@ use Rattle.cm_record.specs.Names.{class_name_in}
 use Rattle.cm_verdict.specs.Faults.{damage_number}
 use Rattle.cm_recover.specs.declared.fault.OpenFault.{OpenFault}
 use Rattle.cm_recover.specs.declared.fault.OpenFault.TheVariants as open_fault
-use Rattle.cm_check.specs.declared.report.Report.{Report}
-use Rattle.cm_list.specs.declared.listing.ListedClass.{ListedClass}
+use Rattle.cm_inspect.specs.declared.report.Report.{Report}
+use Rattle.cm_inspect.specs.declared.listing.ListedClass.{ListedClass}
 use Rattle.cm_lines.specs.Escapes.{escaped}
 
 -- ---- of a file that is checked

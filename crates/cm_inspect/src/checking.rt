@@ -1,55 +1,36 @@
-//! Telling whether a cache would open from a file.
+//! Checking a file.
 
-ghost use Rattle.std.specs.Prelude.{◌<◌};
+ghost use Rattle.std.specs.Prelude.{◌≡◌, Err};
 ghost use Rattle.cm_guards.specs.Calls.{Reads};
-ghost use Rattle.cm_inspect.specs.Texts.{report_line};
-ghost use Rattle.cm_inspect.specs.Inspecting.{Writes, told, status_of, ChecksTo, status_in};
-ghost use Rattle.cm_inspect.specs.Inspecting.{disk_left};
+ghost use Rattle.cm_verdict.specs.Verdict.{verdict};
+ghost use Rattle.cm_recover.specs.declared.fault.OpenFault.TheVariants as open_fault;
+ghost use Rattle.cm_recover.specs.Standing.{Answers};
+ghost use Rattle.cm_inspect.specs.Report.{Reports};
 
-use crate::fault::{InspectFault, NotInspected};
-use crate::telling::{DONE, tell, tell_fault, with_disk};
-use crate::texts::line_of_report;
-use cm_check::{Report, check};
+use crate::report::{Report, count};
 use cm_disk::Disk;
-use cm_recover::OpenFault;
+use cm_layout::loaders_are_own;
+use cm_recover::{OpenFault, read_standing};
+use cm_state::rows_tell_state;
+use cm_verdict::{found_is_framed, found_is_live, verdict_is_exact};
 use std::alloc::Global;
-use std::io::Write;
 
-/// Writes what the cache holds that would open from this file, or why none would, and gives the
-/// status and the disk: `ok loaders L classes C chunks K number N` with 0, `not a cache` or
-/// `damaged KIND SLOT` with 1, `device` or `memory` with 3. The file is only read, and nothing is
-/// synced.
+/// What the cache holds that would open from this file, by a run of reads alone: no byte changes,
+/// and nothing is synced.
 ///
-/// It is an `Err` where the writer fails (`Output`), or an allocation failed for the line
-/// (`Memory`).
-pub fn check_to<W: Write, D: Disk>(
-    alloc: Global,
-    writer: &mut W,
-    mut disk: D,
-) -> Result<(u8, D), NotInspected<D>>
-    ensures told { ChecksTo (D.contents disk) (D.failures disk < D.failures (disk_left result))
-        (W.contents writer.old) (W.contents writer.new) (status_in result) }
-    ensures reads { Reads D.contents D.unsynced D.failures D.moment D.left_since disk
-        (disk_left result) ⊥ }
+/// `NotACache` and `Damaged` exactly where the verdict on the file's bytes says so, as when the
+/// file is opened; `Device` where the device failed; `NoMemory` where an allocation failed.
+pub fn check<D: Disk>(alloc: Global, disk: &mut D) -> Result<Report, OpenFault>
+    ensures verdict { Answers (Reports (D.contents disk.old)) result
+        (verdict (D.contents disk.old)) }
+    ensures reads { Reads D.contents D.unsynced D.failures D.moment D.left_since disk.old disk.new
+        (result ≡ Err open_fault.Device) }
 {
-    let answer = check(alloc, &mut disk);
-    let status = tell_answer(alloc, writer, answer);
-    with_disk(status, disk)
-}
-
-fn tell_answer<W: Write>(
-    alloc: Global,
-    writer: &mut W,
-    answer: Result<Report, OpenFault>,
-) -> Result<u8, InspectFault>
-    ensures { Writes (W.contents writer.old) (W.contents writer.new)
-        (told report_line answer) (status_of answer) result }
-{
-    match answer {
-        Ok(report) => match line_of_report(alloc, report) {
-            Ok(line) => tell(writer, &line, DONE),
-            Err(_) => Err(InspectFault::Memory),
-        },
-        Err(fault) => tell_fault(alloc, writer, fault),
-    }
+    found_is_live();
+    found_is_framed();
+    verdict_is_exact();
+    rows_tell_state();
+    loaders_are_own();
+    let file = read_standing(alloc, disk)?;
+    Ok(count(&file.rows, file.number))
 }

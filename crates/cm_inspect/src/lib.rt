@@ -1,12 +1,21 @@
-//! What a cache's file holds, told as lines to a writer, without a change of the file.
+//! What a cache or its file holds, found without a change of it, and told as lines to a writer.
 #![tactic(auto)]
 
+mod check_lines;
 mod checking;
 mod fault;
+mod gathered;
+mod laws;
+mod list_lines;
 mod listing;
+mod report;
 mod telling;
 mod texts;
 
-pub use checking::check_to;
+pub use check_lines::check_to;
+pub use checking::check;
 pub use fault::{InspectFault, NotInspected};
-pub use listing::list_to;
+pub use laws::listing_is_state;
+pub use list_lines::list_to;
+pub use listing::{ListedClass, ListedLoader, list, list_accepted};
+pub use report::Report;

@@ -1,63 +1,65 @@
-//! Telling the loaders and classes of a file's cache.
+//! The loaders and classes that live, in the order of their names.
 
-ghost use Rattle.std.specs.Prelude.{◌≡◌, ◌<◌, Ok};
-ghost use Rattle.cm_disk.specs.Disk.{IsSettled};
-ghost use Rattle.cm_recover.specs.Opened.{SyncsAndReads};
-ghost use Rattle.cm_list.specs.Listing.{listing};
-ghost use Rattle.cm_inspect.specs.Texts.{list_lines};
-ghost use Rattle.cm_inspect.specs.Inspecting.{Writes, ListsTo, status_in, disk_left};
+ghost use Rattle.std.specs.Prelude.{◌≡◌, IfOk};
+ghost use Rattle.cm_inspect.specs.Listing.{listing, shown};
 
-use crate::fault::{InspectFault, NotInspected};
-use crate::telling::{DONE, tell, tell_fault, with_disk};
-use crate::texts::lines_of_list;
-use cm_disk::Disk;
+use crate::gathered::{Gathered, classes_of, gather};
 use cm_front::Front;
-use cm_list::list_accepted;
-use cm_recover::{NotOpened, open};
-use std::alloc::Global;
-use std::io::Write;
+use cm_pool::Place;
+use cm_prepare::Prepared;
+use cm_rows::Book;
+use std::alloc::{AllocError, Global};
 
-/// Writes which loaders and classes the cache of a file has, or why it isn't opened, and gives the
-/// status and the disk: in byte order of their names `loader NAME`, and behind each those of its
-/// classes, `class CLASS words W root R at P`, with 0; of a file that isn't opened what
-/// [`crate::check_to`] writes. The file is opened as for a script, with a sync, so no crash takes
-/// back what is listed; nothing is written to it.
-///
-/// It is an `Err` where the writer fails (`Output`), or an allocation failed for the lines
-/// (`Memory`).
-pub fn list_to<W: Write, D: Disk>(
-    alloc: Global,
-    writer: &mut W,
-    disk: D,
-) -> Result<(u8, D), NotInspected<D>>
-    ensures told { ListsTo (D.contents disk) (D.failures disk < D.failures (disk_left result))
-        (W.contents writer.old) (W.contents writer.new) (status_in result) }
-    ensures stored { status_in result ≡ Ok 0
-        → IsSettled (D.contents (disk_left result)) (D.unsynced (disk_left result)) }
-    ensures run { SyncsAndReads D.contents D.unsynced D.failures D.moment D.left_since disk
-        (disk_left result) ⊥ }
-{
-    match open(alloc, disk) {
-        Ok((front, committer)) => {
-            let status = tell_list(alloc, writer, &front);
-            with_disk(status, committer.into_disk())
-        }
-        Err(NotOpened { fault, disk }) => {
-            let status = tell_fault(alloc, writer, fault);
-            with_disk(status, disk)
-        }
+/// A class that lives: its record, and where that lies.
+#[derive(Drop)]
+pub struct ListedClass {
+    pub class: Prepared,
+    pub place: Place,
+}
+
+impl ListedClass {
+    /// The same class once more, by the same record.
+    pub(crate) fn share(&self) -> Result<ListedClass, AllocError>
+        ensures { IfOk result (λ c. c ≡ self.now) }
+    {
+        let class = self.class.share()?;
+        Ok(ListedClass {
+            class,
+            place: self.place,
+        })
     }
 }
 
-fn tell_list<W: Write>(alloc: Global, writer: &mut W, front: &Front) -> Result<u8, InspectFault>
-    ensures { Writes (W.contents writer.old) (W.contents writer.new)
-        (list_lines (listing front.now.rows)) 0 result }
+/// A loader that lives, with its classes in byte order of their names.
+#[derive(Drop)]
+pub struct ListedLoader {
+    pub name: Vec<u8>,
+    pub classes: Vec<ListedClass>,
+}
+
+/// The loaders and classes of rows, in byte order of their names: each class with its record and
+/// the place of its row.
+///
+/// The time goes with the rows times the logarithm of their number, and the lengths of the names.
+/// An `Err` comes where an allocation failed.
+pub fn list(alloc: Global, rows: &Book<Prepared>) -> Result<Vec<ListedLoader>, AllocError>
+    ensures { IfOk result (λ list. shown list.items ≡ listing rows.now.rows) }
 {
-    let Ok(loaders) = list_accepted(alloc, front) else {
-        return Err(InspectFault::Memory);
-    };
-    match lines_of_list(alloc, &loaders) {
-        Ok(lines) => tell(writer, &lines, DONE),
-        Err(_) => Err(InspectFault::Memory),
+    let Gathered {
+        mut numbers,
+        classes,
+    } = gather(alloc, rows)?;
+    let mut list = Vec::new(alloc);
+    while let Some((name, number)) = numbers.pop_first() {
+        let classes = classes_of(alloc, &classes, number)?;
+        list.push(ListedLoader { name, classes })?;
     }
+    Ok(list)
+}
+
+/// The loaders and classes that are accepted, as [`list`] has them.
+pub fn list_accepted(alloc: Global, front: &Front) -> Result<Vec<ListedLoader>, AllocError>
+    ensures { IfOk result (λ list. shown list.items ≡ listing front.now.rows) }
+{
+    list(alloc, front.rows())
 }

@@ -4,12 +4,11 @@ ghost use Rattle.std.specs.Prelude.{◌≡◌, ◌+◌, ◌++◌, [], ◌∷◌,
 ghost use Rattle.std.specs.Fmt.{decimal};
 ghost use Rattle.std.specs.List.{flat_map};
 ghost use Rattle.cm_recover.specs.declared.fault.OpenFault.TheVariants as open_fault;
-ghost use Rattle.cm_list.specs.Listing.{shown};
+ghost use Rattle.cm_inspect.specs.Listing.{shown};
 ghost use Rattle.cm_inspect.specs.Texts.{report_line, listed_line, list_lines, fault_line};
 
-use cm_check::Report;
+use crate::{ListedClass, ListedLoader, Report};
 use cm_lines::escape_into;
-use cm_list::{ListedClass, ListedLoader};
 use cm_pool::Place;
 use cm_verdict::Damage;
 use std::alloc::{AllocError, Global};

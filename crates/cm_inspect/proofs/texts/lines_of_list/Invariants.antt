@@ -1,5 +1,5 @@
 use Rattle.std.proofs.Common.{◌≡◌, take}
-use Rattle.cm_list.specs.Listing.{shown}
+use Rattle.cm_inspect.specs.Listing.{shown}
 use Rattle.cm_inspect.specs.Texts.{list_lines}
 use Rattle.cm_inspect.proofs.texts.lines_of_list.Given as goal
 

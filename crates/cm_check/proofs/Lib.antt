@@ -1,3 +1,0 @@
-mod Tallies
-mod Counts
-mod Checked

@@ -1,0 +1,71 @@
+use Rattle.std.proofs.Common.{◌≡◌, ◌<◌, ◌∙◌, ℕ, List, Option, Result, Ok, Err, refl, sym, ap, subst}
+use Rattle.cm_record.specs.Layout.{lay}
+use Rattle.cm_layout.specs.declared.row.Row.{Row}
+use Rattle.cm_layout.specs.Rows.{rows_with}
+use Rattle.cm_front.specs.Front.{FrontState}
+use Rattle.cm_recover.specs.declared.fault.OpenFault.{OpenFault}
+use Rattle.cm_recover.specs.declared.fault.OpenFault.TheVariants as open_fault
+use Rattle.cm_inspect.specs.Listing.{listing}
+use Rattle.cm_inspect.specs.declared.fault.InspectFault.{InspectFault}
+use Rattle.cm_inspect.specs.Texts.{list_lines, fault_line}
+use Rattle.cm_inspect.specs.Inspecting.{Writes, fault_status}
+use Rattle.cm_inspect.proofs.list_lines.list_to.Goals as goal
+
+pub returns-in-Ok-clause-told : goal.returns-in-Ok-clause-told
+returns-in-Ok-clause-told g c =
+    let held = g.W.Write.contents c.args.writer.now in
+    let holds = g.W.Write.contents c.tell_list-status.new.writer in
+    let opens = c.in-Ok.ensures.opened in
+    let rows = rows_with lay opens.standing.rows in
+    let same : c.in-Ok.front.rows ≡ rows =
+    ap (λ (f : FrontState). f.rows) opens.front_is.front_is in
+    record {
+      answer = Ok (listing rows);
+      answers = record {
+        told = opens.standing;
+        verdict_is = opens.verdict_is;
+        alike = record { stands = opens.stands; listed = refl };
+      };
+      device = λ e. absurd (cc);
+      written = subst (λ (r : Result ℕ InspectFault). Writes held holds (list_lines (listing rows)) 0 r)
+          (sym c.with_disk.ensures.status)
+          (subst (λ (l : List (Row (List ℕ))).
+          Writes held holds (list_lines (listing l)) 0 c.tell_list-status.result) same
+          c.tell_list-status.ensures);
+    }
+
+pub returns-in-Err-clause-told : goal.returns-in-Err-clause-told
+returns-in-Err-clause-told g c =
+    let held = g.W.Write.contents c.args.writer.now in
+    let holds = g.W.Write.contents c.tell_fault-status.new.writer in
+    let failures = g.D.Disk.failures in
+    let fault = c.in-Err.field-0.fault in
+    record {
+      answer = Err fault;
+      answers = c.in-Err.ensures.fault;
+      device = λ e.
+          let device : fault ≡ open_fault.Device = cc in
+          subst (λ d. failures c.args.disk < failures d) (sym c.with_disk-in-Err.ensures.disk)
+          (c.in-Err.ensures.run.cause device);
+      written = subst (λ (r : Result ℕ InspectFault).
+          Writes held holds (fault_line fault) (fault_status fault) r)
+          (sym c.with_disk-in-Err.ensures.status) c.tell_fault-status.ensures;
+    }
+
+not_done : (f : OpenFault) → fault_status f ≡ 0 → ⊥
+not_done open_fault.NotACache e = cc
+not_done (open_fault.Damaged what slot) e = cc
+not_done open_fault.Device e = cc
+not_done open_fault.NoMemory e = cc
+
+never_done : (held holds : Option (List ℕ)) (lines : List ℕ) (f : OpenFault)
+    (r : Result ℕ InspectFault) → Writes held holds lines (fault_status f) r → r ≡ Ok 0 → ⊥
+never_done held holds lines f (Ok given) written e =
+    let done : given ≡ 0 = cc in not_done f (sym written.0 ∙ done)
+never_done held holds lines f (Err x) written e = cc
+
+pub returns-in-Err-clause-stored : goal.returns-in-Err-clause-stored
+returns-in-Err-clause-stored g c =
+    λ done. absurd
+    (never_done _ _ _ c.in-Err.field-0.fault c.tell_fault-status.result c.tell_fault-status.ensures
+    (sym c.with_disk-in-Err.ensures.status ∙ done))

@@ -1,0 +1,63 @@
+//! Telling the loaders and classes of a file's cache.
+
+ghost use Rattle.std.specs.Prelude.{◌≡◌, ◌<◌, Ok};
+ghost use Rattle.cm_disk.specs.Disk.{IsSettled};
+ghost use Rattle.cm_recover.specs.Opened.{SyncsAndReads};
+ghost use Rattle.cm_inspect.specs.Listing.{listing};
+ghost use Rattle.cm_inspect.specs.Texts.{list_lines};
+ghost use Rattle.cm_inspect.specs.Inspecting.{Writes, ListsTo, status_in, disk_left};
+
+use crate::fault::{InspectFault, NotInspected};
+use crate::list_accepted;
+use crate::telling::{DONE, tell, tell_fault, with_disk};
+use crate::texts::lines_of_list;
+use cm_disk::Disk;
+use cm_front::Front;
+use cm_recover::{NotOpened, open};
+use std::alloc::Global;
+use std::io::Write;
+
+/// Writes which loaders and classes the cache of a file has, or why it isn't opened, and gives the
+/// status and the disk: in byte order of their names `loader NAME`, and behind each those of its
+/// classes, `class CLASS words W root R at P`, with 0; of a file that isn't opened what
+/// [`crate::check_to`] writes. The file is opened as for a script, with a sync, so no crash takes
+/// back what is listed; nothing is written to it.
+///
+/// It is an `Err` where the writer fails (`Output`), or an allocation failed for the lines
+/// (`Memory`).
+pub fn list_to<W: Write, D: Disk>(
+    alloc: Global,
+    writer: &mut W,
+    disk: D,
+) -> Result<(u8, D), NotInspected<D>>
+    ensures told { ListsTo (D.contents disk) (D.failures disk < D.failures (disk_left result))
+        (W.contents writer.old) (W.contents writer.new) (status_in result) }
+    ensures stored { status_in result ≡ Ok 0
+        → IsSettled (D.contents (disk_left result)) (D.unsynced (disk_left result)) }
+    ensures run { SyncsAndReads D.contents D.unsynced D.failures D.moment D.left_since disk
+        (disk_left result) ⊥ }
+{
+    match open(alloc, disk) {
+        Ok((front, committer)) => {
+            let status = tell_list(alloc, writer, &front);
+            with_disk(status, committer.into_disk())
+        }
+        Err(NotOpened { fault, disk }) => {
+            let status = tell_fault(alloc, writer, fault);
+            with_disk(status, disk)
+        }
+    }
+}
+
+fn tell_list<W: Write>(alloc: Global, writer: &mut W, front: &Front) -> Result<u8, InspectFault>
+    ensures { Writes (W.contents writer.old) (W.contents writer.new)
+        (list_lines (listing front.now.rows)) 0 result }
+{
+    let Ok(loaders) = list_accepted(alloc, front) else {
+        return Err(InspectFault::Memory);
+    };
+    match lines_of_list(alloc, &loaders) {
+        Ok(lines) => tell(writer, &lines, DONE),
+        Err(_) => Err(InspectFault::Memory),
+    }
+}
