@@ -1,5 +1,5 @@
 //! Classes, over what is public of `cm_class`, `cm_duplicates`, `cm_record`, `cm_prepare` and
-//! `cm_replies`: how they are read, which members stand twice, their records, which bytes are
+//! `cm_tool`: how they are read, which members stand twice, their records, which bytes are
 //! prepared and which are refused, and the replies that tell of them.
 #![tactic(auto)]
 

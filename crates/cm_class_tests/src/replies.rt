@@ -2,8 +2,8 @@
 
 use crate::samples::CLASS_A;
 use cm_prepare::{BadClass, Refusal, prepare};
-use cm_replies::{Kind, Reply, bad_line, defined, done, found, nothing, refused, unsure};
 use cm_rules::{Broken, Rule, Spot};
+use cm_tool::{Kind, Reply, bad_line, defined, done, found, nothing, refused, unsure};
 use std::alloc::AllocError;
 use std::process::Abort;
 use std::test::Fail;

@@ -22,10 +22,10 @@ use Rattle.cm_session.specs.Moves.{Leads}
 use Rattle.cm_session.specs.Storing.{IsAtRest, Storing, Stores, FailsOnly, MakesNoCall}
 use Rattle.cm_lines.specs.Escapes.{unescaped}
 use Rattle.cm_lines.specs.Lines.{Asked, AsksLoader, AsksUnload, AsksDefine, AsksFind}
-use Rattle.cm_replies.specs.declared.reply.Reply.{Reply}
-use Rattle.cm_replies.specs.Texts.{ReplyText, number_reply, defined_reply, none_reply, class_reply}
-use Rattle.cm_replies.specs.Texts.{refusal_reply, unsure_reply, bad_line_reply}
-use Rattle.cm_replies.specs.Replies.{IsReply, is_unsure}
+use Rattle.cm_tool.specs.declared.reply.Reply.{Reply}
+use Rattle.cm_tool.specs.Texts.{ReplyText, number_reply, defined_reply, none_reply, class_reply}
+use Rattle.cm_tool.specs.Texts.{refusal_reply, unsure_reply, bad_line_reply}
+use Rattle.cm_tool.specs.Replies.{IsReply, is_unsure}
 use Rattle.cm_tool.specs.Answers.{Served, served, AnswersCommand, AnswersAsked, AnswersDefine}
 use Rattle.cm_tool.specs.Answers.{AnswersFind, AnswersName, TellsClass, IsChangeOf, IsDefineOf}
 use Rattle.cm_tool.specs.Answers.{IsUnstored}

@@ -16,10 +16,10 @@ use Rattle.cm_lines.specs.declared.line.Line.{Line}
 use Rattle.cm_lines.specs.declared.line_buffer.LineBuffer.{LineBuffer}
 use Rattle.cm_lines.specs.Lines.{lines_of, asked_by, seen}
 use Rattle.cm_lines.specs.Streams.{io, TakesLines, HasNoLine, Begins, Holds, ReadsLine, WritesPart}
-use Rattle.cm_replies.specs.declared.reply.Kind.{Kind}
-use Rattle.cm_replies.specs.declared.reply.Reply.{Reply}
-use Rattle.cm_replies.specs.Texts.{ReplyText}
-use Rattle.cm_replies.specs.Replies.{is_refused, is_unsure, reply_line, reply_lines}
+use Rattle.cm_tool.specs.declared.reply.Kind.{Kind}
+use Rattle.cm_tool.specs.declared.reply.Reply.{Reply}
+use Rattle.cm_tool.specs.Texts.{ReplyText}
+use Rattle.cm_tool.specs.Replies.{is_refused, is_unsure, reply_line, reply_lines}
 use Rattle.cm_tool.specs.declared.script.Outcome.{Outcome}
 use Rattle.cm_tool.specs.declared.script.ToolFault.{ToolFault}
 use Rattle.cm_tool.specs.declared.script.ToolFault.TheVariants as fault

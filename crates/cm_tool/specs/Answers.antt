@@ -16,9 +16,9 @@ use Rattle.cm_machine.specs.Machine.{Machine, Accepts, Refuses}
 use Rattle.cm_machine.specs.Laws.{Finds}
 use Rattle.cm_lines.specs.Escapes.{unescaped}
 use Rattle.cm_lines.specs.Lines.{Asked, AsksLoader, AsksUnload, AsksDefine, AsksFind, asked_by}
-use Rattle.cm_replies.specs.Texts.{ReplyText, number_reply, defined_reply, none_reply, class_reply}
-use Rattle.cm_replies.specs.Texts.{refusal_reply, unsure_reply, bad_line_reply}
-use Rattle.cm_replies.specs.Replies.{is_unsure}
+use Rattle.cm_tool.specs.Texts.{ReplyText, number_reply, defined_reply, none_reply, class_reply}
+use Rattle.cm_tool.specs.Texts.{refusal_reply, unsure_reply, bad_line_reply}
+use Rattle.cm_tool.specs.Replies.{is_unsure}
 
 -- What a script runs on: the machine that the cache goes with, and how often its disk has failed.
 pub record Served : Type 0 where

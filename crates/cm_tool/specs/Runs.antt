@@ -10,9 +10,9 @@ use Rattle.cm_lines.specs.declared.fault.LineFault.{LineFault}
 use Rattle.cm_lines.specs.declared.fault.LineFault.TheVariants as line_fault
 use Rattle.cm_lines.specs.Lines.{lines_of, asked_by}
 use Rattle.cm_lines.specs.Streams.{Io, TakesLines, HasNoLine, Begins, WritesPart}
-use Rattle.cm_replies.specs.declared.reply.Kind.{Kind}
-use Rattle.cm_replies.specs.Texts.{ReplyText}
-use Rattle.cm_replies.specs.Replies.{is_refused, is_unsure, reply_line, reply_lines}
+use Rattle.cm_tool.specs.declared.reply.Kind.{Kind}
+use Rattle.cm_tool.specs.Texts.{ReplyText}
+use Rattle.cm_tool.specs.Replies.{is_refused, is_unsure, reply_line, reply_lines}
 use Rattle.cm_tool.specs.declared.script.Outcome.{Outcome}
 use Rattle.cm_tool.specs.declared.script.ToolFault.{ToolFault}
 use Rattle.cm_tool.specs.declared.script.ToolFault.TheVariants as fault

@@ -9,9 +9,9 @@ use Rattle.cm_session.specs.declared.storing.NotStored.TheVariants.{Refused, NoM
 use Rattle.cm_session.specs.Images.{StandsForSome}
 use Rattle.cm_session.specs.Storing.{IsAtRest}
 use Rattle.cm_lines.specs.Lines.{Asked}
-use Rattle.cm_replies.specs.declared.reply.Reply.{Reply}
-use Rattle.cm_replies.specs.Texts.{ReplyText, refusal_reply, unsure_reply}
-use Rattle.cm_replies.specs.Replies.{IsReply, is_unsure}
+use Rattle.cm_tool.specs.declared.reply.Reply.{Reply}
+use Rattle.cm_tool.specs.Texts.{ReplyText, refusal_reply, unsure_reply}
+use Rattle.cm_tool.specs.Replies.{IsReply, is_unsure}
 use Rattle.cm_tool.specs.Answers.{Served, served, AnswersAsked, IsUnstored}
 
 -- everything that was accepted is acknowledged, and the device works

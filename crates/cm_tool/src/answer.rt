@@ -10,15 +10,15 @@ ghost use Rattle.cm_rules.specs.Answer.{IsRight};
 ghost use Rattle.cm_machine.specs.Machine.{Machine};
 ghost use Rattle.cm_session.specs.Moves.{GoesWith};
 ghost use Rattle.cm_lines.specs.Lines.{seen, AsksLoader, AsksUnload, AsksDefine, AsksFind};
-ghost use Rattle.cm_replies.specs.Texts.{number_reply, defined_reply};
+ghost use Rattle.cm_tool.specs.Texts.{number_reply, defined_reply};
 ghost use Rattle.cm_tool.specs.Answers.{served};
 ghost use Rattle.cm_tool.specs.Serving.{IsReady, LedTo, Replies, Tells, TellsNotStored};
 
+use crate::{Reply, bad_line, defined, done, found, nothing, refused, unsure};
 use cm_disk::Disk;
 use cm_lines::{Line, NameFault, unescape};
 use cm_prepare::{Command, Prepared, prepare};
 use cm_record::{layout_determines_class, words_tell_name};
-use cm_replies::{Reply, bad_line, defined, done, found, nothing, refused, unsure};
 use cm_session::{NotStored, Session};
 use hex::FromHexError;
 use std::alloc::{AllocError, Global};

@@ -1,9 +1,12 @@
-//! Scripts on a cache: lines that are read, run and answered one after another.
+//! Scripts on a cache: lines that are read, run and answered one after another, and the replies.
 #![tactic(auto)]
 
 mod answer;
 mod apply;
+mod reply;
 mod script;
+mod texts;
 
 pub use apply::{ApplyFault, apply_script};
+pub use reply::{Kind, Reply, bad_line, defined, done, found, nothing, refused, unsure};
 pub use script::{Outcome, ToolFault, run_script, run_to_end};

@@ -4,15 +4,15 @@ ghost use Rattle.std.specs.Prelude.{◌≡◌, ◌||◌, IfOk, IfErr};
 ghost use Rattle.cm_machine.specs.Machine.{Machine};
 ghost use Rattle.cm_session.specs.Moves.{GoesWith};
 ghost use Rattle.cm_lines.specs.Streams.{io};
-ghost use Rattle.cm_replies.specs.Replies.{is_refused, is_unsure};
+ghost use Rattle.cm_tool.specs.Replies.{is_refused, is_unsure};
 ghost use Rattle.cm_tool.specs.Answers.{Served, served};
 ghost use Rattle.cm_tool.specs.Runs.{fault_of, Turns, IsRun};
 ghost use Rattle.cm_tool.specs.Serving.{IsReady, LedTo, medium, LeavesDisk};
 
+use crate::Kind;
 use crate::answer::answer;
 use cm_disk::Disk;
 use cm_lines::{LineBuffer, LineFault, read_line, write_line};
-use cm_replies::Kind;
 use cm_session::Session;
 use std::alloc::Global;
 use std::io::{BufRead, Write};

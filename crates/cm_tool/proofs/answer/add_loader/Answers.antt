@@ -2,7 +2,7 @@ use Rattle.std.proofs.Common.{Some, ap}
 use Rattle.cm_state.specs.Step.{AddLoader}
 use Rattle.cm_commit.specs.States.{CommitterState}
 use Rattle.cm_lines.specs.Lines.{AsksLoader}
-use Rattle.cm_replies.specs.Texts.{number_reply}
+use Rattle.cm_tool.specs.Texts.{number_reply}
 use Rattle.cm_tool.proofs.Commands.{command_replies, loader_fits}
 use Rattle.cm_tool.proofs.answer.add_loader.Goals as goal
 

@@ -2,7 +2,7 @@ use Rattle.std.proofs.Common.{Some, None, refl, sym, ap, subst}
 use Rattle.std.specs.Option.{option_map}
 use Rattle.cm_session.specs.Moves.{GoesWith}
 use Rattle.cm_lines.specs.Lines.{seen}
-use Rattle.cm_replies.specs.Texts.{bad_line_reply}
+use Rattle.cm_tool.specs.Texts.{bad_line_reply}
 use Rattle.cm_tool.specs.Answers.{served, AnswersAsked}
 use Rattle.cm_tool.specs.Serving.{LedTo, Replies}
 use Rattle.cm_tool.proofs.Commands.{stays, replies_same}

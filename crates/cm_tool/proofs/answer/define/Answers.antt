@@ -4,7 +4,7 @@ use Rattle.hex.specs.Hex.{decode_of}
 use Rattle.hex.specs.declared.error.FromHexError.{FromHexError}
 use Rattle.hex.specs.declared.error.FromHexError.TheVariants.{OutOfMemory}
 use Rattle.cm_lines.specs.Lines.{AsksDefine}
-use Rattle.cm_replies.specs.Texts.{bad_line_reply}
+use Rattle.cm_tool.specs.Texts.{bad_line_reply}
 use Rattle.cm_tool.specs.Answers.{served}
 use Rattle.cm_tool.proofs.Commands.{stays, replies_same, answers_bad_digits, not_memory}
 use Rattle.cm_tool.proofs.answer.define.Goals as goal

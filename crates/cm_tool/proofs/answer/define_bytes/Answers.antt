@@ -1,6 +1,6 @@
 use Rattle.std.proofs.Common.{Some}
 use Rattle.cm_lines.specs.Lines.{AsksDefine}
-use Rattle.cm_replies.specs.Texts.{refusal_reply}
+use Rattle.cm_tool.specs.Texts.{refusal_reply}
 use Rattle.cm_tool.specs.Answers.{served}
 use Rattle.cm_tool.proofs.Commands.{stays, replies_same, answers_fault}
 use Rattle.cm_tool.proofs.answer.define_bytes.Goals as goal

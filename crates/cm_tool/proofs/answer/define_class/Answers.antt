@@ -3,7 +3,7 @@ use Rattle.cm_record.specs.Layout.{lay}
 use Rattle.cm_state.specs.Step.{Define}
 use Rattle.cm_commit.specs.States.{CommitterState}
 use Rattle.cm_lines.specs.Lines.{AsksDefine}
-use Rattle.cm_replies.specs.Texts.{defined_reply}
+use Rattle.cm_tool.specs.Texts.{defined_reply}
 use Rattle.cm_tool.proofs.Commands.{command_replies, define_fits, class_named, stays}
 use Rattle.cm_tool.proofs.answer.define_class.Goals as goal
 

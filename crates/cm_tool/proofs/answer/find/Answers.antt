@@ -5,8 +5,8 @@ use Rattle.cm_class.specs.declared.class_file.ClassFile.{ClassFile}
 use Rattle.cm_record.specs.Layout.{IsRecordOf}
 use Rattle.cm_machine.specs.Laws.{Finds}
 use Rattle.cm_lines.specs.Lines.{AsksFind}
-use Rattle.cm_replies.specs.Texts.{class_reply, none_reply, bad_line_reply}
-use Rattle.cm_replies.specs.Replies.{IsReply}
+use Rattle.cm_tool.specs.Texts.{class_reply, none_reply, bad_line_reply}
+use Rattle.cm_tool.specs.Replies.{IsReply}
 use Rattle.cm_tool.specs.Answers.{served}
 use Rattle.cm_tool.proofs.Commands.{stays, replies_same, replies_found, finds_none, answers_bad_name}
 use Rattle.cm_tool.proofs.answer.find.Goals as goal

@@ -2,7 +2,7 @@ use Rattle.std.proofs.Common.{Some, ap}
 use Rattle.cm_state.specs.Step.{Unload}
 use Rattle.cm_commit.specs.States.{CommitterState}
 use Rattle.cm_lines.specs.Lines.{AsksUnload}
-use Rattle.cm_replies.specs.Texts.{number_reply}
+use Rattle.cm_tool.specs.Texts.{number_reply}
 use Rattle.cm_tool.proofs.Commands.{command_replies, unload_fits}
 use Rattle.cm_tool.proofs.answer.unload.Goals as goal
 

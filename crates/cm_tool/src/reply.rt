@@ -3,10 +3,10 @@
 ghost use Rattle.std.specs.Prelude.{◌≡◌, ◌++◌, length, IfOk, OnOk};
 ghost use Rattle.cm_class.specs.declared.class_file.ClassFile.{ClassFile};
 ghost use Rattle.cm_record.specs.Layout.{IsRecord, IsRecordOf};
-ghost use Rattle.cm_replies.specs.Texts.{number_reply, defined_reply, none_reply, class_reply};
-ghost use Rattle.cm_replies.specs.Texts.{refused_reply, unsure_reply, refusal_reply};
-ghost use Rattle.cm_replies.specs.Texts.{bad_line_reply};
-ghost use Rattle.cm_replies.specs.Replies.{IsReply};
+ghost use Rattle.cm_tool.specs.Texts.{number_reply, defined_reply, none_reply, class_reply};
+ghost use Rattle.cm_tool.specs.Texts.{refused_reply, unsure_reply, refusal_reply};
+ghost use Rattle.cm_tool.specs.Texts.{bad_line_reply};
+ghost use Rattle.cm_tool.specs.Replies.{IsReply};
 
 use crate::texts::{numbered, push_flags, push_number, text, text_of_refusal};
 use cm_lines::escape_into;

@@ -14,8 +14,8 @@ use Rattle.cm_prepare.specs.declared.refusal.Refusal.{Refusal}
 use Rattle.cm_prepare.specs.declared.refusal.Refusal.TheVariants as refusal
 use Rattle.cm_prepare.specs.Refusals.{refusal_number}
 use Rattle.cm_lines.specs.Escapes.{escaped}
-use Rattle.cm_replies.specs.declared.reply.Kind.{Kind}
-use Rattle.cm_replies.specs.declared.reply.Kind.TheVariants as kind
+use Rattle.cm_tool.specs.declared.reply.Kind.{Kind}
+use Rattle.cm_tool.specs.declared.reply.Kind.TheVariants as kind
 
 -- what a reply tells of its command, and its text
 pub record ReplyText : Type 0 where

@@ -1,10 +1,10 @@
 -- Replies as they are written.
 use Rattle.std.specs.Prelude.{◌≡◌, ℕ, ◌++◌, Bool, true, false, List, [], ◌∷◌}
 use Rattle.std.specs.List.{flat_map}
-use Rattle.cm_replies.specs.declared.reply.Kind.{Kind}
-use Rattle.cm_replies.specs.declared.reply.Kind.TheVariants as kind
-use Rattle.cm_replies.specs.declared.reply.Reply.{Reply}
-use Rattle.cm_replies.specs.Texts.{ReplyText}
+use Rattle.cm_tool.specs.declared.reply.Kind.{Kind}
+use Rattle.cm_tool.specs.declared.reply.Kind.TheVariants as kind
+use Rattle.cm_tool.specs.declared.reply.Reply.{Reply}
+use Rattle.cm_tool.specs.Texts.{ReplyText}
 
 -- what is written of a reply, and of replies
 abbrev pub reply_line : ReplyText → List ℕ

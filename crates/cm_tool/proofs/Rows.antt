@@ -9,9 +9,9 @@ use Rattle.cm_rules.specs.declared.rule.Rule.TheVariants as rules
 use Rattle.cm_rules.specs.declared.rule.Spot.TheVariants as spot
 use Rattle.cm_prepare.specs.declared.bad_class.BadClass.TheVariants as bad
 use Rattle.cm_prepare.specs.declared.refusal.Refusal.TheVariants as refusal
-use Rattle.cm_replies.specs.declared.reply.Kind.TheVariants as kind
-use Rattle.cm_replies.specs.Texts.{number_reply, defined_reply, none_reply, class_reply}
-use Rattle.cm_replies.specs.Texts.{bad_line_reply, refusal_reply}
+use Rattle.cm_tool.specs.declared.reply.Kind.TheVariants as kind
+use Rattle.cm_tool.specs.Texts.{number_reply, defined_reply, none_reply, class_reply}
+use Rattle.cm_tool.specs.Texts.{bad_line_reply, refusal_reply}
 
 abbrev class_a : ClassFile
 class_a = record {

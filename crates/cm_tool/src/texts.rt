@@ -2,8 +2,8 @@
 
 ghost use Rattle.std.specs.Prelude.{◌≡◌, ◌<◌, ◌++◌, IfOk, OnOk};
 ghost use Rattle.std.specs.Fmt.{decimal};
-ghost use Rattle.cm_replies.specs.Texts.{refusal_text, bad_class_text, broken_text, spot_text};
-ghost use Rattle.cm_replies.specs.Texts.{flags_text, lower_digit};
+ghost use Rattle.cm_tool.specs.Texts.{refusal_text, bad_class_text, broken_text, spot_text};
+ghost use Rattle.cm_tool.specs.Texts.{flags_text, lower_digit};
 
 use cm_prepare::{BadClass, Refusal};
 use cm_rules::{Broken, Spot};
