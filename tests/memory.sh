@@ -39,7 +39,7 @@ sweep cm_space_tests pools::a_failed_allocation_leaves_the_pool_as_it_was 13
 sweep cm_space_tests arenas::places_words 15
 sweep cm_space_tests arenas::takes_larger_chunks_in_a_longer_chain 25
 sweep cm_class_tests faults::a_fault_behind_a_refusal 11
-sweep cm_front_tests commands::a_left_chunk_waits_for_its_receipt 212
+sweep cm_world_tests commands::a_left_chunk_waits_for_its_receipt 212
 
 # The program's own: making a file, and scripts with commands that are done, refused, and looked up, in memory and on a file.
 a=cafebabe000000340005070002010001410700040100106a6176612f6c616e672f4f626a6563740021000100030000000000000000

@@ -1,6 +1,7 @@
-//! Classes, over what is public of `cm_class`, `cm_duplicates`, `cm_record`, `cm_prepare` and
-//! `cm_tool`: how they are read, which members stand twice, their records, which bytes are
-//! prepared and which are refused, and the replies that tell of them.
+//! Classes, over what is public of `cm_stream`, `cm_names`, `cm_class`, `cm_duplicates`, `cm_record`,
+//! `cm_prepare` and `cm_tool`: streams of them, their names and descriptors, how they are read, which
+//! members stand twice, their records, which bytes are prepared and which are refused, and the replies
+//! that tell of them.
 #![tactic(auto)]
 
 #[cfg(test)]
@@ -9,6 +10,8 @@ mod duplicates;
 mod faults;
 #[cfg(test)]
 mod member_samples;
+#[cfg(test)]
+mod names;
 #[cfg(test)]
 mod not_records;
 #[cfg(test)]
@@ -27,3 +30,5 @@ mod record_samples;
 mod replies;
 #[cfg(test)]
 mod samples;
+#[cfg(test)]
+mod streams;

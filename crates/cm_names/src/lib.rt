@@ -19,6 +19,3 @@ pub use laws::{
 };
 pub use names::{is_class_name, is_method_name, is_unqualified_name};
 pub use utf8::has_utf8_form;
-
-#[cfg(test)]
-mod tests;

@@ -1,4 +1,4 @@
-//! Pools: the worked cases of a region with one root, a long run against a plain set of words, and
+//! Buffers of words. Pools: the worked cases of a region with one root, a long run against a plain set of words, and
 //! both bodies on equal calls. Arenas: where words are placed, and which places are found again.
 //! Spaces: a left chunk waits for its number, and what was placed is found again.
 #![tactic(auto)]
@@ -15,3 +15,5 @@ mod pools;
 mod samples;
 #[cfg(test)]
 mod spaces;
+#[cfg(test)]
+mod words;

@@ -2,7 +2,5 @@
 #![tactic(auto)]
 
 mod stream;
-#[cfg(test)]
-mod tests;
 
 pub use stream::{StreamFault, classes_in};

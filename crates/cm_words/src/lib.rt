@@ -9,6 +9,3 @@ mod word_buf;
 #[doc(hidden)]
 pub use block::{Base, Cells, Deed};
 pub use word_buf::WordBuf;
-
-#[cfg(test)]
-mod tests;

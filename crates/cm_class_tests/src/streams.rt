@@ -1,4 +1,6 @@
-use crate::stream::{StreamFault, classes_in};
+//! Streams of class files: taken apart, and cut short.
+
+use cm_stream::{StreamFault, classes_in};
 use std::test::Fail;
 
 // Three classes, as far as a stream knows: of two bytes, of none, and of one.

@@ -1,5 +1,9 @@
-use super::*;
-use std::test::*;
+//! Which bytes are a Utf8, a name or a descriptor, one by one and all at once.
+
+use cm_names::{
+    Judgement, begins_with, ends_in_void, first, has_utf8_form, is_class_name, is_field_descriptor,
+    is_method_name, is_unqualified_name, judge, method_units,
+};
 
 /// Bytes, and whether they are a text's.
 const FORMS: [(&[u8], bool); 12] = [

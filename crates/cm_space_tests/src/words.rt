@@ -1,4 +1,6 @@
-use crate::WordBuf;
+//! Buffers of words: what they hold, as words and as bytes, and threads that read one.
+
+use cm_words::WordBuf;
 use std::alloc::Global;
 use std::test::Fail;
 use std::thread;
