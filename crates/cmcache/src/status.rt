@@ -11,9 +11,6 @@ pub const DONE: u8 = 0;
 /// Some line was refused, a file is no cache or damaged, or a name is taken.
 pub const REFUSED: u8 = 1;
 
-/// The command line asks for nothing that can be done.
-pub const WRONG_WORDS: u8 = 2;
-
 /// The device, memory, the input or the output failed.
 pub const FAILED: u8 = 3;
 

@@ -1,6 +1,6 @@
 //! The words of the command line, and what is said where they ask for nothing that can be done.
 
-use crate::status::{DONE, FAILED, OUTPUT_FAILED, WRONG_WORDS, tell};
+use crate::status::{FAILED, OUTPUT_FAILED, tell};
 use cm_plan::{UsageFault, wrong_words};
 use std::rt::Env;
 use std::{env, io};
@@ -17,21 +17,21 @@ pub fn read_words(rt: &(impl Env + AllocGlobal)) -> Result<Vec<String>, UsageFau
     }
 }
 
-/// Prints the help, or what is wrong with the words, and gives the status. Of wrong words it is the
-/// same whether or not their text reaches anyone.
+/// Prints the help, or what is wrong with the words, and gives the fault's status. Of wrong words it
+/// is the same whether or not their text reaches anyone.
 pub fn tell_fault(rt: &(impl Print + Eprint), fault: &UsageFault) -> u8 {
     match fault {
-        UsageFault::Help(text) => match print!(rt; "{text}") {
-            Ok(()) => DONE,
-            Err(_) => tell(rt, OUTPUT_FAILED, FAILED),
-        },
+        UsageFault::Help(text) => {
+            if print!(rt; "{text}").is_err() {
+                return tell(rt, OUTPUT_FAILED, FAILED);
+            }
+        }
         UsageFault::Words(text) => {
             let _ = eprint!(rt; "{text}");
-            WRONG_WORDS
         }
         UsageFault::NoMemory => {
             let _ = eprintln!(rt; "cmcache: {fault}");
-            FAILED
         }
     }
+    fault.status()
 }
