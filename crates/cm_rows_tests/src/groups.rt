@@ -74,9 +74,10 @@ fn groups_join_where_one_goes_on(rt: HostRuntime) -> Result<(), Fail> {
     for (pair, joins) in &PAIRS {
         let (first, count, _, more, learnt) = *pair;
         let found = joined(rt.alloc(), *pair)?;
-        let (entries, known) = match *joins {
-            true => (count.saturating_add(more), learnt),
-            false => (count, 0),
+        let (entries, known) = if *joins {
+            (count.saturating_add(more), learnt)
+        } else {
+            (count, 0)
         };
         assert_eq!(rt; found, (*joins, first, entries, known));
     }
