@@ -174,6 +174,31 @@ two_at make first bytes = made_at (λ x. make x.0 x.1) (both_at first (number_at
 unfoldable pub text_at : List ℕ → Result (Constant × List ℕ) Stop
 text_at bytes = made_at constant.Utf8 (sized_at 2) bytes
 
+-- the kinds that have a number behind their tag
+abbrev pub is_number : Kind → Bool
+is_number kinds.Integer = true
+is_number kinds.Float = true
+is_number kinds.Long = true
+is_number kinds.Double = true
+is_number _ = false
+
+-- those that name a field or a method
+abbrev pub is_member : Kind → Bool
+is_member kinds.Fieldref = true
+is_member kinds.Methodref = true
+is_member kinds.InterfaceMethodref = true
+is_member _ = false
+
+-- those that have other indexes of the pool there, one or two
+abbrev pub has_indexes : Kind → Bool
+has_indexes kinds.Class = true
+has_indexes kinds.String = true
+has_indexes kinds.NameAndType = true
+has_indexes kinds.MethodHandle = true
+has_indexes kinds.MethodType = true
+has_indexes kinds.InvokeDynamic = true
+has_indexes _ = false
+
 -- what stands behind a tag
 abbrev pub info_at : Kind → List ℕ → Result (Constant × List ℕ) Stop
 info_at kinds.Utf8 bytes = text_at bytes

@@ -1,7 +1,8 @@
 //! Readers of the constant pool.
-ghost use Rattle.std.specs.Prelude.{◌≡◌, false};
+ghost use Rattle.std.specs.Prelude.{◌≡◌, true, false};
 ghost use Rattle.cm_class.specs.Reading.{GivesTo, GivesExactly, tag_at, info_at, constant_at};
 ghost use Rattle.cm_class.specs.Reading.{slots_at, pool_at, both_at, number_at, made_at};
+ghost use Rattle.cm_class.specs.Reading.{is_number, is_member, has_indexes};
 ghost use Rattle.cm_class.specs.Spelling.{is_wide};
 
 use crate::constant::{Constant, Slot};
@@ -37,18 +38,13 @@ fn two(bytes: &[u8]) -> Result<(u16, u16, &[u8]), Stop>
     Ok((first, second, rest))
 }
 
-/// What stands behind a tag (JVMS 4.4.1 to 4.4.10).
-#[tactic(auto, unfolding(crate::specs::Reading::one_at, crate::specs::Reading::two_at, crate::specs::Reading::text_at))]
-fn info<S: Sink>(sink: S, kind: Kind, bytes: &[u8]) -> Result<(Constant, &[u8]), Stop>
-    ensures read { GivesTo S.keeps (λ x. (x.0, x.1.now)) result (info_at kind bytes.now) }
-    ensures wide { S.keeps ≡ false → GivesExactly (λ x. (is_wide x.0, x.1.now)) result
-        (made_at is_wide (info_at kind) bytes.now) }
+/// A number behind its tag (JVMS 4.4.4, 4.4.5).
+#[tactic(auto, unfolding(crate::specs::Reading::one_at))]
+fn number(kind: Kind, bytes: &[u8]) -> Result<(Constant, &[u8]), Stop>
+    requires { is_number kind ≡ true }
+    ensures { GivesExactly (λ x. (x.0, x.1.now)) result (info_at kind bytes.now) }
 {
     match kind {
-        Kind::Utf8 => {
-            let (text, rest) = text(bytes)?;
-            Ok((Constant::Utf8(sink.bytes(text)?), rest))
-        }
         Kind::Integer => {
             let (bits, rest) = read_u32(bytes)?;
             Ok((Constant::Integer(bits), rest))
@@ -65,23 +61,17 @@ fn info<S: Sink>(sink: S, kind: Kind, bytes: &[u8]) -> Result<(Constant, &[u8]),
             let (bits, rest) = read_u64(bytes)?;
             Ok((Constant::Double(bits), rest))
         }
-        Kind::Class => {
-            let (name, rest) = read_u16(bytes)?;
-            Ok((Constant::Class { name }, rest))
-        }
-        Kind::String => {
-            let (text, rest) = read_u16(bytes)?;
-            Ok((Constant::String { text }, rest))
-        }
-        Kind::MethodType => {
-            let (descriptor, rest) = read_u16(bytes)?;
-            Ok((Constant::MethodType { descriptor }, rest))
-        }
-        Kind::MethodHandle => {
-            let (kind, rest) = read_u8(bytes)?;
-            let (reference, rest) = read_u16(rest)?;
-            Ok((Constant::MethodHandle { kind, reference }, rest))
-        }
+        _ => unreachable!(),
+    }
+}
+
+/// What names a field, a method or an interface's method, behind its tag (JVMS 4.4.2).
+#[tactic(auto, unfolding(crate::specs::Reading::two_at))]
+fn member(kind: Kind, bytes: &[u8]) -> Result<(Constant, &[u8]), Stop>
+    requires { is_member kind ≡ true }
+    ensures { GivesExactly (λ x. (x.0, x.1.now)) result (info_at kind bytes.now) }
+{
+    match kind {
         Kind::Fieldref => {
             let (class, name_and_type, rest) = two(bytes)?;
             Ok((
@@ -112,9 +102,37 @@ fn info<S: Sink>(sink: S, kind: Kind, bytes: &[u8]) -> Result<(Constant, &[u8]),
                 rest,
             ))
         }
+        _ => unreachable!(),
+    }
+}
+
+/// The other indexes behind a tag (JVMS 4.4.1, 4.4.3, 4.4.6, 4.4.8 to 4.4.10).
+#[tactic(auto, unfolding(crate::specs::Reading::one_at, crate::specs::Reading::two_at))]
+fn indexes(kind: Kind, bytes: &[u8]) -> Result<(Constant, &[u8]), Stop>
+    requires { has_indexes kind ≡ true }
+    ensures { GivesExactly (λ x. (x.0, x.1.now)) result (info_at kind bytes.now) }
+{
+    match kind {
+        Kind::Class => {
+            let (name, rest) = read_u16(bytes)?;
+            Ok((Constant::Class { name }, rest))
+        }
+        Kind::String => {
+            let (text, rest) = read_u16(bytes)?;
+            Ok((Constant::String { text }, rest))
+        }
         Kind::NameAndType => {
             let (name, descriptor, rest) = two(bytes)?;
             Ok((Constant::NameAndType { name, descriptor }, rest))
+        }
+        Kind::MethodHandle => {
+            let (kind, rest) = read_u8(bytes)?;
+            let (reference, rest) = read_u16(rest)?;
+            Ok((Constant::MethodHandle { kind, reference }, rest))
+        }
+        Kind::MethodType => {
+            let (descriptor, rest) = read_u16(bytes)?;
+            Ok((Constant::MethodType { descriptor }, rest))
         }
         Kind::InvokeDynamic => {
             let (bootstrap_method, name_and_type, rest) = two(bytes)?;
@@ -126,6 +144,25 @@ fn info<S: Sink>(sink: S, kind: Kind, bytes: &[u8]) -> Result<(Constant, &[u8]),
                 rest,
             ))
         }
+        _ => unreachable!(),
+    }
+}
+
+/// What stands behind a tag.
+#[tactic(auto, unfolding(crate::specs::Reading::text_at))]
+fn info<S: Sink>(sink: S, kind: Kind, bytes: &[u8]) -> Result<(Constant, &[u8]), Stop>
+    ensures read { GivesTo S.keeps (λ x. (x.0, x.1.now)) result (info_at kind bytes.now) }
+    ensures wide { S.keeps ≡ false → GivesExactly (λ x. (is_wide x.0, x.1.now)) result
+        (made_at is_wide (info_at kind) bytes.now) }
+{
+    match kind {
+        Kind::Utf8 => {
+            let (text, rest) = text(bytes)?;
+            Ok((Constant::Utf8(sink.bytes(text)?), rest))
+        }
+        Kind::Integer | Kind::Float | Kind::Long | Kind::Double => number(kind, bytes),
+        Kind::Fieldref | Kind::Methodref | Kind::InterfaceMethodref => member(kind, bytes),
+        _ => indexes(kind, bytes),
     }
 }
 
