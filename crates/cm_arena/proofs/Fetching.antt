@@ -1,22 +1,12 @@
 -- A chunk that comes out of a pool.
-use Rattle.std.proofs.Common.{◌≡◌, ℕ, ◌≤◌, inl, inr, ◌⊎◌, arith}
+use Rattle.std.proofs.Common.{ℕ, ◌≤◌, inl, inr, ◌⊎◌, arith}
 use Rattle.cm_pool.specs.declared.chunk.Chunk.{Chunk}
-use Rattle.cm_pool.specs.FreeSpace.{FreeSpace, IsFreeChunk, HasFree, without}
+use Rattle.cm_pool.specs.FreeSpace.{FreeSpace, HasFree}
 use Rattle.cm_pool.proofs.SpaceLaws.{large_has_small}
 use Rattle.cm_arena.specs.Placing.{IsWanted, IsNeeded, Fetches}
 
 abbrev pub IsTaken : FreeSpace → ℕ → ℕ → Chunk → FreeSpace → Type 0
 IsTaken old wanted need c new = IsWanted old wanted c new ⊎ IsNeeded old wanted need c new
-
-pub taken-free : (old new : FreeSpace) (wanted need : ℕ) (c : Chunk)
-    → IsTaken old wanted need c new → IsFreeChunk old c
-taken-free old new wanted need c (inl h) = h.first.free
-taken-free old new wanted need c (inr h) = h.first.free
-
-pub taken-left : (old new : FreeSpace) (wanted need : ℕ) (c : Chunk)
-    → IsTaken old wanted need c new → new ≡ without old c
-taken-left old new wanted need c (inl h) = h.left
-taken-left old new wanted need c (inr h) = h.left
 
 pub taken-has_free : (old new : FreeSpace) (wanted need : ℕ) (c : Chunk) → need ≤ wanted
     → IsTaken old wanted need c new → HasFree old need

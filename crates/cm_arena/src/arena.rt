@@ -102,10 +102,16 @@ impl Arena {
         if let Some(place) = place_on_top(&self.chunks, &mut self.used, words) {
             return Ok(place);
         }
-        let keeps = reserve_one(&mut self.chunks, &mut self.used);
+        if !reserve_one(&mut self.chunks, &mut self.used) {
+            return Err(if self.is_full(words, pool) {
+                Refusal::RegionFull
+            } else {
+                Refusal::NoMemory
+            });
+        }
         let need = order_for(words);
         let wanted = need.max((self.chunks.len().min(4) as u32).min(top));
-        let chunk = fetch(pool, wanted, need, keeps)?;
+        let chunk = fetch(pool, wanted, need)?;
         append(&mut self.chunks, &mut self.used, chunk, words);
         Ok(Place {
             chunk,

@@ -1,6 +1,6 @@
 // Which chunk an arena takes from a pool.
-ghost use Rattle.std.specs.Prelude.{◌≡◌, ◌≢◌, ℕ, ◌≤◌, ◌⊎◌, ◌↔◌, IsTrue, IfOk, IfSome, IfNone, OnOk};
-ghost use Rattle.std.specs.Prelude.{OnErr, IsErrOf};
+ghost use Rattle.std.specs.Prelude.{◌≡◌, ◌≢◌, ℕ, ◌≤◌, ◌⊎◌, ◌↔◌, IsTrue, IfOk, IfSome, IfNone, OnErr};
+ghost use Rattle.std.specs.Prelude.{IsErrOf};
 ghost use Rattle.cm_pool.specs.Chunks.{chunk_size};
 ghost use Rattle.cm_pool.specs.FreeSpace.{HasFree};
 ghost use Rattle.cm_arena.specs.Placing.{IsNeed, IsWanted, IsNeeded, Fetches};
@@ -50,26 +50,18 @@ fn first_of(pool: &mut Pool, wanted: u32, need: u32) -> Option<Chunk>
 }
 
 /// A chunk of the order wanted, or else of the one needed, or else of the one wanted out of a new
-/// root. The caller says whether it can keep one.
-pub fn fetch(pool: &mut Pool, wanted: u32, need: u32, keeps: bool) -> Result<Chunk, Refusal>
+/// root.
+pub fn fetch(pool: &mut Pool, wanted: u32, need: u32) -> Result<Chunk, Refusal>
     requires needed { need ≤ wanted }
     requires wanted { wanted ≤ pool.old.geometry.top }
     ensures ok { IfOk result (λ chunk. Fetches pool.old wanted need chunk pool.new) }
-    ensures kept { OnOk result (IsTrue keeps) }
     ensures full { IsErrOf result Refusal.RegionFull ↔ ((¬ HasFree pool.old need)
         × (pool.old.geometry.roots ≤ pool.old.roots)) }
     ensures not_long { result ≢ Err Refusal.RecordTooLong }
     ensures err { OnErr result (pool.new ≡ pool.old) }
 {
     if let Some(chunk) = first_of(pool, wanted, need) {
-        if !keeps {
-            pool.give(chunk);
-            return Err(Refusal::NoMemory);
-        }
         return Ok(chunk);
-    }
-    if !keeps && pool.roots() < pool.geometry().roots() {
-        return Err(Refusal::NoMemory);
     }
     match pool.add_root() {
         Ok(true) => Ok(pool.alloc(wanted).unwrap()),

@@ -1,33 +1,10 @@
 use Rattle.std.proofs.Common.{◌≡◌, ◌≤◌, sym, ap, ◌∙◌, subst, cond}
 use Rattle.std.specs.Option.{is_some}
 use Rattle.std.proofs.lemmas.Bool.{true_from_ne_false}
-use Rattle.cm_pool.specs.FreeSpace.{FreeSpace, IsUsedChunk, HasFree, with_chunk, with_root}
-use Rattle.cm_pool.proofs.SpaceLaws.{taken_is_used, giving_back_restores, roots_are_free}
-use Rattle.cm_arena.proofs.Fetching.{taken-free, taken-left, taken-has_free}
+use Rattle.cm_pool.specs.FreeSpace.{FreeSpace, HasFree, with_root}
+use Rattle.cm_pool.proofs.SpaceLaws.{roots_are_free}
+use Rattle.cm_arena.proofs.Fetching.{taken-has_free}
 use Rattle.cm_arena.proofs.fetch.fetch.Goals as goal
-
-pub give-requires : goal.give-requires
-give-requires c =
-    let old = c.args.pool.now in
-    let chunk = c.in-Some.chunk in
-    let taken = c.in-Some.ensures.some in
-    subst (λ (p : FreeSpace). IsUsedChunk p chunk) (sym (taken-left old c.first_of.new.pool c.args.wanted c.args.need chunk taken))
-    (taken_is_used old chunk (taken-free old c.first_of.new.pool c.args.wanted c.args.need chunk taken))
-
-pub returns-then-not-keeps-clause-full : goal.returns-then-not-keeps-clause-full
-returns-then-not-keeps-clause-full c = (
-  λ e. cc,
-  λ h. absurd (h.0 (taken-has_free c.args.pool.now c.first_of.new.pool c.args.wanted c.args.need c.in-Some.chunk c.requires.needed c.in-Some.ensures.some)),
-)
-
-pub returns-then-not-keeps-clause-err : goal.returns-then-not-keeps-clause-err
-returns-then-not-keeps-clause-err c =
-    let old = c.args.pool.now in
-    let chunk = c.in-Some.chunk in
-    let taken = c.in-Some.ensures.some in
-    c.give.ensures
-    ∙ ap (λ p. with_chunk p chunk) (taken-left old c.first_of.new.pool c.args.wanted c.args.need chunk taken)
-    ∙ giving_back_restores old chunk (taken-free old c.first_of.new.pool c.args.wanted c.args.need chunk taken)
 
 pub returns-in-Some-clause-full : goal.returns-in-Some-clause-full
 returns-in-Some-clause-full c = (

@@ -1,4 +1,4 @@
-use Rattle.std.proofs.Common.{◌≡◌, ℕ, ◌*◌, ◌%◌, ◌^◌, ◌<◌, ◌≤◌, List, [], ◌∷◌, ◌++◌, length, refl}
+use Rattle.std.proofs.Common.{◌≡◌, ℕ, ◌*◌, ◌%◌, ◌^◌, ◌≤◌, List, [], ◌∷◌, ◌++◌, length, refl}
 use Rattle.std.proofs.Common.{sym, ap, ◌∙◌, subst, inl, inr, arith, length-append}
 use Rattle.std.specs.List.{AllByRecursion}
 use Rattle.std.proofs.Math.Nat.{pow-le-pow_right, mod-eq_of_lt}
@@ -23,15 +23,15 @@ order_for-need-requires c =
 chunks : (c : After-append)
     → c.append.new.chunks.items ≡ c.self.inside.chunks.items ++ c.in_ok-chunk.chunk ∷ []
 chunks c = c.append.ensures.chunks ∙ ap
-    (λ (cs : List Chunk). cs ++ c.in_ok-chunk.chunk ∷ []) c.reserve_one-keeps.ensures.chunks
+    (λ (cs : List Chunk). cs ++ c.in_ok-chunk.chunk ∷ []) c.reserve_one.ensures.chunks
 
 used : (c : After-append) → c.append.new.used.items ≡ c.self.inside.used.items ++ c.args.words ∷ []
-used c = c.append.ensures.used ∙ ap (λ (us : List ℕ). us ++ c.args.words ∷ []) (c.reserve_one-keeps.ensures.used ∙ c.in_default.ensures.none.1)
+used c = c.append.ensures.used ∙ ap (λ (us : List ℕ). us ++ c.args.words ∷ []) (c.reserve_one.ensures.used ∙ c.in_default.ensures.none.1)
 
 len : (c : After-append) → c.len.result ≡ length c.args.self.now
 len c =
-    let reserved = c.reserve_one-keeps.new.chunks in
-    let items : length reserved.items ≡ length c.self.inside.chunks.items = ap length c.reserve_one-keeps.ensures.chunks in
+    let reserved = c.reserve_one.new.chunks in
+    let items : length reserved.items ≡ length c.self.inside.chunks.items = ap length c.reserve_one.ensures.chunks in
     let chain : length (chain_of c.self.inside.chunks.items c.self.inside.used.items) ≡ length c.args.self.now = ap length c.self.view_is in
     omega (arith, c.len.ensures, reserved.ok.0, items, chain, length-chain_of c.self.inside.chunks.items c.self.inside.used.items c.self.invariant.pairs)
 
