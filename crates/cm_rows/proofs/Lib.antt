@@ -12,3 +12,4 @@ pub mod Ending
 pub mod Verdicts
 pub mod Books
 pub mod Placed
+pub mod ClassPlaces

@@ -30,6 +30,7 @@ use Rattle.cm_rows.specs.Rows.{last_of, is_above}
 use Rattle.cm_rows.specs.Loaders.{IsAt, IsAbsent}
 use Rattle.cm_rows.specs.Held.{first_chunks, AreFounded}
 use Rattle.cm_rows.specs.Book.{AreLoadersOf, AreLiveRows}
+use Rattle.cm_rows.specs.Placing.{is_inside}
 use Rattle.cm_rows.proofs.Chunks.{both_true, either_true, same_chunk-true, same_chunk-is}
 use Rattle.cm_rows.proofs.Chunks.{meets-true}
 use Rattle.cm_index.proofs.Lists.{among-map, among-map_from}
@@ -331,10 +332,6 @@ on_none true true true false l r i p = absurd (cc)
 on_none true true false place l r i p = absurd (cc)
 on_none true false inside place l r i p = absurd (cc)
 on_none false room inside place l r i p = absurd (cc)
-
--- the tests of a place that no other row has a part in
-abbrev pub is_inside : Sizes → ClassRow → Bool
-is_inside sizes r = is_chunk sizes r.place.chunk && nat_le 1 r.place.words && nat_le (r.place.offset + r.place.words) (chunk_size r.place.chunk.order)
 
 pub inside-chunk : (sizes : Sizes) (r : ClassRow) → is_inside sizes r ≡ true
     → (is_chunk sizes r.place.chunk ≡ true) × (1 ≤ r.place.words)

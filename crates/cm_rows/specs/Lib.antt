@@ -2,4 +2,5 @@ pub mod Rows
 pub mod Loaders
 pub mod Links
 pub mod Held
+pub mod Placing
 pub mod Book

@@ -7,7 +7,8 @@ use crate::links::{link, make_room, move_rows, push_place, relink, unload_rows};
 use crate::live_loader::{
     LastChunk, LiveLoader, copy_loaders, end_loader, find, push_loader, set_last,
 };
-use crate::place_rules::{has_room, is_free, is_inside, row_limit, take_place};
+use crate::place_rules::{has_room, is_free, row_limit};
+use crate::placing::place_class;
 use crate::rows::{copy_rows, give_all, take_all};
 use crate::walk::Walk;
 use crate::whole_pool::whole_pool;
@@ -254,17 +255,9 @@ impl<P: Kept> Book<P> {
         ensures broken { result ≡ broken_live_rule self.old.sizes 0 self.old.rows (Class row kept) }
         ensures left { self.new ≡ (if is_none result then record self.old { rows = self.old.rows ++ Class row kept ∷ [] } else self.old) }
     {
-        let Some(at) = find(&self.loaders, row.loader) else {
-            return Some(EntryRule::OnRows);
-        };
-        if self.count >= row_limit(self.geometry) {
-            return Some(EntryRule::OnRows);
-        }
-        if !is_inside(self.geometry, &row.place) {
-            return Some(EntryRule::OnChunks);
-        }
-        if !take_place(self.loaders[at].item.last, &row.place, &mut self.pool) {
-            return Some(EntryRule::OnChunks);
+        let (count, loaders) = (self.count, &self.loaders);
+        if let Some(rule) = place_class(self.geometry, count, loaders, &row, &mut self.pool) {
+            return Some(rule);
         }
         let used = row.place.offset + row.place.words;
         make_room(

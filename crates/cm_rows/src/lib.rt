@@ -6,6 +6,7 @@ mod book;
 mod links;
 mod live_loader;
 mod place_rules;
+mod placing;
 mod rows;
 mod walk;
 mod whole_pool;

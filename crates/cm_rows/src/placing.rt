@@ -1,0 +1,41 @@
+//! Taking the place of a class's record.
+
+ghost use Rattle.std.specs.Prelude.{◌≡◌, IfSome, IfNone};
+ghost use Rattle.cm_rows.specs.Loaders.{Rises, items};
+ghost use Rattle.cm_rows.specs.Placing.{IsPlaced, Breaks};
+
+use crate::live_loader::{LiveLoader, find};
+use crate::place_rules::{is_inside, row_limit, take_place};
+use cm_index::Slot;
+use cm_layout::{ClassRow, EntryRule};
+use cm_pool::{Geometry, Pool};
+
+/// Takes the place of a class's record, where its row may come behind so many rows with these
+/// loaders; or tells the first rule that the row breaks, and nothing is taken.
+pub fn place_class(
+    geometry: Geometry,
+    count: usize,
+    loaders: &[Slot<LiveLoader>],
+    row: &ClassRow,
+    pool: &mut Pool,
+) -> Option<EntryRule>
+    requires { Rises (items loaders.now) }
+    ensures broken { IfSome result (Breaks geometry count loaders.now row.now pool.old pool.new) }
+    ensures same { IfSome result (λ rule. pool.new ≡ pool.old) }
+    ensures placed { IfNone result (IsPlaced geometry count loaders.now row.now pool.old pool.new) }
+{
+    let Some(at) = find(loaders, row.loader) else {
+        return Some(EntryRule::OnRows);
+    };
+    let last = loaders[at].item.last;
+    if count >= row_limit(geometry) {
+        return Some(EntryRule::OnRows);
+    }
+    if !is_inside(geometry, &row.place) {
+        return Some(EntryRule::OnChunks);
+    }
+    if !take_place(last, &row.place, pool) {
+        return Some(EntryRule::OnChunks);
+    }
+    None
+}
