@@ -43,6 +43,10 @@ def edits(folder):
     return {path.stem for path in (TOP / folder).glob("*.edit")}
 
 
+def crates_in(text):
+    return {span for span in spans(text) if span in CRATES}
+
+
 def links():
     """Each relative link leads to a file, and to a heading of it where it names one."""
     for document in DOCUMENTS:
@@ -72,23 +76,25 @@ def map_rows():
 
 
 def claims():
-    """The rows of the tables of claims, each with its line's number."""
+    """The rows of the tables of claims, each with its line's number and the crates that the text above its table names."""
     is_table = False
+    crates = set()
     for number, line in lines_of(PROOFS):
         row = cells(line)
         if row[2:3] == ["The edit that shows it"]:
             is_table = True
         elif len(row) != 4:
             is_table = False
+            crates = set() if line.startswith("#") else crates | crates_in(line)
         elif is_table:
-            yield number, row
+            yield number, crates, row
 
 
 def contracts():
     """Contracts and worked examples that the proofs' tables name: files, or names that stand in sources or definitions."""
     sources = [path for kind in ("src", "specs") for path in (TOP / "crates").glob(f"*/{kind}/**/*") if path.is_file()]
     known = set().union(*(re.findall(NAME, path.read_text()) for path in sources), CRATES)
-    for number, (_, contract, _, example) in claims():
+    for number, _, (_, contract, _, example) in claims():
         for span in spans(contract) + spans(example):
             if "/" in span:
                 there = any((folder / span).exists() for folder in (TOP, TOP / "crates", *(TOP / "crates").iterdir()))
@@ -97,17 +103,34 @@ def contracts():
             yield there, f"{PROOFS}:{number}: the name {span}"
 
 
+def having(kinds):
+    """The names of the items of these kinds in the sources, each with the crates that have one."""
+    there = {}
+    for crate in CRATES:
+        for path in (TOP / "crates" / crate / "src").glob("**/*.rt"):
+            for name in re.findall(rf"\b(?:{kinds}) ({NAME})", path.read_text()):
+                there.setdefault(name, set()).add(crate)
+    return there
+
+
 def planted():
-    """The planted bugs that the proofs' tables name, in the gate or by their path in the audit."""
-    in_gate = set().union(*(edits(f"crates/{crate}/must-fail") for crate in CRATES))
-    audited = {f"audit/{crate}/{name}" for crate in CRATES for name in edits(f"audit/{crate}")}
-    in_audit = {name.split("/")[2] for name in audited}
-    for number, (_, _, column, _) in claims():
+    """The planted bugs that the proofs' tables name, by their path in the audit or in a crate of their row: one that the row or
+    the text above its table names, or whose type the contract names; where there is none, one that has a function named there."""
+    in_gate = {crate: edits(f"crates/{crate}/must-fail") for crate in CRATES}
+    in_audit = {crate: edits(f"audit/{crate}") for crate in CRATES}
+    audited = {f"audit/{crate}/{name}" for crate in CRATES for name in in_audit[crate]}
+    types, functions = having("struct|enum|trait"), having("fn")
+    for number, above, (claim, contract, column, _) in claims():
+        names = [span.split("::")[0] for span in spans(contract)]
+        crates = above.union(crates_in(claim + contract + column), *(types.get(name, ()) for name in names))
+        crates = crates or set().union(*(functions.get(name, ()) for name in names))
+        of = f"of {', '.join(sorted(crates)) or 'no crate'}"
         named, _, behind = column.partition("in the audit")
         for name in spans(named):
-            yield name in in_gate | audited or name in CRATES, f"{PROOFS}:{number}: the edit {name}"
+            there = name in audited or name in CRATES or any(name in in_gate[crate] for crate in crates)
+            yield there, f"{PROOFS}:{number}: the edit {name} {of}"
         for name in spans(behind):
-            yield name in in_audit, f"{PROOFS}:{number}: the edit {name} in the audit"
+            yield any(name in in_audit[crate] for crate in crates), f"{PROOFS}:{number}: the edit {name} in the audit {of}"
 
 
 def costs_rows():
