@@ -31,12 +31,4 @@ impl<T> Items<T> {
     {
         self.values.as_slice()
     }
-
-    /// Its values, given up.
-    pub fn into_vec(self) -> Vec<T>
-        ensures { result.items ≡ self }
-    {
-        let Items { values } = self;
-        values
-    }
 }
