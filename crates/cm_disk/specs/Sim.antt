@@ -1,9 +1,9 @@
 -- What a disk in memory shows, and when its calls fail.
-use Rattle.std.specs.Prelude.{◌≡◌, ◌⊎◌, ◌+◌, ◌||◌, ℕ, Bool, true, false, List, take, length, Result}
+use Rattle.std.specs.Prelude.{◌≡◌, ◌≤◌, ◌⊎◌, ◌+◌, ◌||◌, ℕ, Bool, true, false, List, take, length, Result}
 use Rattle.std.specs.Prelude.{Option, Some, None, is_some, is_err, not, if◌then◌else◌}
 use Rattle.cm_disk.specs.declared.disk.DeviceFault.{DeviceFault}
 use Rattle.cm_disk.specs.declared.sim.SimDisk.{SimDisk}
-use Rattle.cm_disk.specs.Disk.{Unsynced, IsImage, IsSettled, IsWithin, widened}
+use Rattle.cm_disk.specs.Disk.{Unsynced, IsImage, IsSettled, IsWithin, widened, shortened}
 use Rattle.cm_disk.specs.Calls.{overwritten}
 use Rattle.cm_disk.specs.Medium.{medium_unsynced}
 use Rattle.cm_disk.specs.Moments.{LeftAtOne, noted_since}
@@ -59,18 +59,6 @@ pub record FailsFor {T : Type 0} (armed : Option ℕ) (old new : SimDisk)
   pub disarmed : sim_armed new ≡ None
   pub counted : sim_failures new ≡ sim_failures old + (if is_err result then 1 else 0)
 
--- Exactly one call leads from old to new. It fails exactly where it was armed or was refused memory,
--- and then counts as a failure. Nothing is armed behind it.
-pub record IsOneCall (armed : Option ℕ) (old new : SimDisk) (ok : Bool) : Type 0 where
-  pub once : sim_calls new ≡ sim_calls old + 1
-  pub exactly : ok ≡ not (is_some armed || sim_refused new)
-  pub disarmed : sim_armed new ≡ None
-  pub counted : sim_failures new ≡ sim_failures old + (if ok then 0 else 1)
-
--- one call, for which the disk was armed or not
-abbrev pub sim_called : SimDisk → SimDisk → Bool → Type 0
-sim_called old new ok = IsOneCall (sim_armed old) old new ok
-
 -- what a write stores of its bytes: where it is armed only the first n
 abbrev pub stored_part : Option ℕ → List ℕ → List ℕ
 stored_part None bytes = bytes
@@ -84,3 +72,48 @@ pub record Stores (at : ℕ) (bytes : List ℕ) (armed : Option ℕ) (old new : 
   pub opened : sim_refused new ≡ false
       → IsWithin (sim_unsynced new) (widened at (length bytes) (sim_unsynced old))
   pub refused : sim_refused new ≡ true → sim_contents new ≡ sim_contents old
+
+-- ---- what one call does to a disk, of whatever kind it is
+
+-- a length, a read, or a sync that failed
+pub record OnlyReads (old new : SimDisk) : Type 0 where
+  pub contents_stay : sim_contents new ≡ sim_contents old
+  pub unsynced_stay : sim_unsynced new ≡ sim_unsynced old
+
+-- a write
+pub record HasWritten (armed : Option ℕ) (old new : SimDisk) : Type 0 where
+  pub at : ℕ
+  pub bytes : List ℕ
+  pub starts_within : at ≤ length (sim_contents old)
+  pub stores : Stores at bytes armed old new
+  pub within : IsWithin (widened at (length bytes) (sim_unsynced old)) (sim_unsynced new)
+
+-- a cut: one that fails cuts nothing, but a crash may
+pub record HasCut (old new : SimDisk) (ok : Bool) : Type 0 where
+  pub len : ℕ
+  pub contents_are : sim_contents new
+      ≡ (if ok then take len (sim_contents old) else sim_contents old)
+  pub unsynced_is : sim_unsynced new ≡ shortened len (sim_unsynced old)
+
+-- a sync that succeeded
+pub record HasSynced (old new : SimDisk) (ok : Bool) : Type 0 where
+  pub succeeded : ok ≡ true
+  pub contents_stay : sim_contents new ≡ sim_contents old
+  pub settled : IsSettled (sim_contents new) (sim_unsynced new)
+
+abbrev pub DoesOne : Option ℕ → SimDisk → SimDisk → Bool → Type 0
+DoesOne armed old new ok =
+    OnlyReads old new ⊎ (HasWritten armed old new ⊎ (HasCut old new ok ⊎ HasSynced old new ok))
+
+-- Exactly one call leads from old to new. It fails exactly where it was armed or was refused memory,
+-- and then counts as a failure. Nothing is armed behind it.
+pub record IsOneCall (armed : Option ℕ) (old new : SimDisk) (ok : Bool) : Type 0 where
+  pub once : sim_calls new ≡ sim_calls old + 1
+  pub exactly : ok ≡ not (is_some armed || sim_refused new)
+  pub disarmed : sim_armed new ≡ None
+  pub counted : sim_failures new ≡ sim_failures old + (if ok then 0 else 1)
+  pub does : DoesOne armed old new ok
+
+-- one call, for which the disk was armed or not
+abbrev pub sim_called : SimDisk → SimDisk → Bool → Type 0
+sim_called old new ok = IsOneCall (sim_armed old) old new ok
