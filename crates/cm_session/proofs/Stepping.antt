@@ -21,7 +21,8 @@ use Rattle.cm_machine.specs.Handover.{CommittedIsAhead, HandedMayBeNext, MayBeNe
 use Rattle.cm_machine.specs.Following.{Follows}
 use Rattle.cm_machine.specs.Laws.{CommittedFollows, FollowsFront}
 use Rattle.cm_machine.specs.Machine.{Machine}
-use Rattle.cm_session.specs.Session.{of_underway, commands_of, GoBehind, IsBusyWith, IsSession}
+use Rattle.cm_session.specs.Session.{of_underway, commands_of, GoBehind, NoneGoesOn, IsBusyWith}
+use Rattle.cm_session.specs.Session.{IsSession}
 use Rattle.cm_session.specs.Moves.{Leads, Advancing, is_device, MayTake}
 use Rattle.cm_session.proofs.Handing.{same_commands}
 
@@ -34,20 +35,21 @@ no_calls true calls n same sound none = absurd (cc)
 no_calls false calls n same sound none = omega (arith, same, none)
 
 -- no step is left of this committer, to which a group is offered
-pub may_take : {D : Type 0} {E : Type 0} (contents : D → List ℕ) (old new : CommitterState D)
-    (group : Handed) (calls : ℕ) → calls ≡ cond old.broken 0 (calls_left old.left) → calls ≡ 0
+pub may_take : {D : Type 0} {E : Type 0} (contents : D → List ℕ) (waiting : List Handed)
+    (old new : CommitterState D) (group : Handed) (calls : ℕ)
+    → calls ≡ cond old.broken 0 (calls_left old.left) → calls ≡ 0 → NoneGoesOn group waiting
     → (result : Result (Unit {0}) E) → (IsOk result ↔ Takes old group)
     → OnOk result (new ≡ with_taken contents old group) → OnErr result (new ≡ old)
-    → MayTake contents old new
-may_take contents old new group calls counted none (Ok x) takes taken same =
+    → MayTake contents waiting old new
+may_take contents waiting old new group calls counted none all (Ok x) takes taken same =
     let may = takes.0 refl in
     inr (
       may.idle,
       no_calls old.broken (calls_left old.left) calls counted may.sound none,
       group,
-      taken,
+      (taken, all),
     )
-may_take contents old new group calls counted none (Err e) takes taken same = inl same
+may_take contents waiting old new group calls counted none all (Err e) takes taken same = inl same
 
 -- ---- what is under way
 

@@ -8,6 +8,7 @@ use Rattle.std.proofs.lemmas.List.{length-append}
 use Rattle.cm_class.specs.declared.class_file.ClassFile.{ClassFile}
 use Rattle.cm_pool.specs.Geometry.{Sizes}
 use Rattle.cm_state.specs.Step.{Change}
+use Rattle.cm_group.specs.Groups.{Handed}
 use Rattle.cm_commit.specs.declared.progress.Progress.{Progress}
 use Rattle.cm_commit.specs.declared.progress.Progress.TheVariants.{Idle, Working, Done}
 use Rattle.cm_commit.specs.declared.progress.AdvanceFault.{AdvanceFault}
@@ -39,25 +40,26 @@ not_empty : (left : List Stage) → 1 ≤ calls_left left → left ≡ [] → �
 not_empty left some none = let calls = ap calls_left none in omega (arith, some, calls)
 
 -- while calls are made, some are left
-pub some_left : {D : Type 0} (contents : D → List ℕ) (old new : CommitterState D)
-    (result : Result Progress AdvanceFault) → Steps contents old result new → IsWorking result
-    → 1 ≤ calls_left new.left
-some_left contents old new (Ok Idle) s working = absurd (cc)
-some_left contents old new (Ok Working) s working =
+pub some_left : {D : Type 0} (contents : D → List ℕ) (waiting : List Handed)
+    (old new : CommitterState D) (result : Result Progress AdvanceFault)
+    → Steps contents waiting old result new → IsWorking result → 1 ≤ calls_left new.left
+some_left contents waiting old new (Ok Idle) s working = absurd (cc)
+some_left contents waiting old new (Ok Working) s working =
     let left = s.begun.left in
     let more = s.moved.more in
     let less = one_call_less left (not_empty left (omega (arith, more))) in
     let same = ap (λ (c : CommitterState _). calls_left c.left) s.moved.new_is in
     omega (arith, more, less, same)
-some_left contents old new (Ok (Done receipt)) s working = absurd (cc)
-some_left contents old new (Err Device) s working = absurd (cc)
-some_left contents old new (Err Broken) s working = absurd (cc)
+some_left contents waiting old new (Ok (Done receipt)) s working = absurd (cc)
+some_left contents waiting old new (Err Device) s working = absurd (cc)
+some_left contents waiting old new (Err Broken) s working = absurd (cc)
 
 -- a committer with calls left takes no group
-same_begun : {D : Type 0} (contents : D → List ℕ) (old begun : CommitterState D)
-    → 1 ≤ calls_left old.left → MayTake contents old begun → begun ≡ old
-same_begun contents old begun some (inl same) = same
-same_begun contents old begun some (inr taken) =
+same_begun : {D : Type 0} (contents : D → List ℕ) (waiting : List Handed)
+    (old begun : CommitterState D) → 1 ≤ calls_left old.left
+    → MayTake contents waiting old begun → begun ≡ old
+same_begun contents waiting old begun some (inl same) = same
+same_begun contents waiting old begun some (inr taken) =
     let none = taken.1 in absurd (omega (arith, some, none))
 
 fewer_of : {D : Type 0} (old new : CommitterState D) (result : Result Progress AdvanceFault)
@@ -85,11 +87,12 @@ weight_working (Err Device) left working = absurd (cc)
 weight_working (Err Broken) left working = absurd (cc)
 
 -- one call less
-pub fewer : {D : Type 0} (contents : D → List ℕ) (old new : CommitterState D)
-    (before result : Result Progress AdvanceFault) → IsWorking before → 1 ≤ calls_left old.left
-    → Steps contents old result new → weight result new.left < weight before old.left
-fewer contents old new before result working some s =
-    let same = same_begun contents old s.begun some s.takes in
+pub fewer : {D : Type 0} (contents : D → List ℕ) (waiting : List Handed)
+    (old new : CommitterState D) (before result : Result Progress AdvanceFault) → IsWorking before
+    → 1 ≤ calls_left old.left → Steps contents waiting old result new
+    → weight result new.left < weight before old.left
+fewer contents waiting old new before result working some s =
+    let same = same_begun contents waiting old s.begun some s.takes in
     let less =
     fewer_of old new result some (subst (λ (c : CommitterState _). Advances c result new) same s.moved)
     in

@@ -24,7 +24,7 @@ use Rattle.cm_machine.specs.Machine.{Reopens, accepted_to, machine_from}
 use Rattle.cm_session.specs.declared.session.Session.{Session}
 use Rattle.cm_session.specs.declared.session.Sealed.{Sealed}
 use Rattle.cm_session.specs.Images.{StandsFor}
-use Rattle.cm_session.specs.Session.{IsSession}
+use Rattle.cm_session.specs.Session.{NoneGoesOn, IsSession}
 
 -- the session goes with the machine
 abbrev pub GoesWith : {D : Type 0} → Machine → Session D → Type 0
@@ -87,19 +87,22 @@ IsNoCall (Ok (Done receipt)) = ⊥
 IsNoCall (Err Device) = ⊥
 IsNoCall (Err Broken) = Unit {0}
 
--- the committer is as it was, or it had no group under way, no call was left, and it took one
-abbrev pub MayTake : {D : Type 0} → (D → List ℕ) → CommitterState D → CommitterState D → Type 0
-MayTake contents old begun =
+-- The committer is as it was, or it had no group under way, no call was left, and it took one: with
+-- all groups behind it that one group holds, so the oldest that still waits goes beyond it.
+abbrev pub MayTake : {D : Type 0} → (D → List ℕ) → List Handed → CommitterState D
+    → CommitterState D → Type 0
+MayTake contents waiting old begun =
     (begun ≡ old)
-    ⊎ ((old.underway ≡ None) × (calls_left old.left ≡ 0)
-    × (group : Handed) × (begun ≡ with_taken contents old group))
+    ⊎ ((old.underway ≡ None) × (calls_left old.left ≡ 0) × (group : Handed)
+    × ((begun ≡ with_taken contents old group) × NoneGoesOn group waiting))
 
 -- The committer may first take a group, and then makes one step: exactly one device call where some
 -- is left.
-pub record Steps {D : Type 0} (contents : D → List ℕ) (old : CommitterState D)
-    (result : Result Progress AdvanceFault) (new : CommitterState D) : Type 0 where
+pub record Steps {D : Type 0} (contents : D → List ℕ) (waiting : List Handed)
+    (old : CommitterState D) (result : Result Progress AdvanceFault) (new : CommitterState D)
+    : Type 0 where
   pub begun : CommitterState D
-  pub takes : MayTake contents old begun
+  pub takes : MayTake contents waiting old begun
   pub moved : Advances begun result new
 
 -- the device failed in this call

@@ -3,7 +3,7 @@
 use Rattle.std.specs.Prelude.{◌≡◌, ℕ, ◌+◌, ◌≤◌, Bool, false, List, [], ◌∷◌, ◌++◌, length}
 use Rattle.std.specs.Prelude.{Option, Some, None}
 use Rattle.std.specs.List.{flat_map}
-use Rattle.cm_group.specs.Groups.{Carried, Handed, IsGroup}
+use Rattle.cm_group.specs.Groups.{Carried, Handed, IsGroup, GoesOn}
 use Rattle.cm_front.specs.Front.{FrontState, IsFront}
 use Rattle.cm_commit.specs.Plans.{Stage, calls_left}
 use Rattle.cm_commit.specs.States.{CommitterState}
@@ -26,6 +26,11 @@ abbrev pub GoBehind : ℕ → List Handed → Type 0
 GoBehind n [] = Unit {0}
 GoBehind n (group ∷ groups) =
     (group.first ≡ n + 1) × IsGroup group × GoBehind (n + length group.entries) groups
+
+-- the oldest group that waits, if one does, goes beyond what one group holds with this one
+abbrev pub NoneGoesOn : Handed → List Handed → Type 0
+NoneGoesOn group [] = Unit {0}
+NoneGoesOn group (next ∷ queue) = ¬ GoesOn group next
 
 -- calls are left exactly while a group is under way
 abbrev pub IsBusyWith : Option Handed → List Stage → Type 0

@@ -1,7 +1,7 @@
 //! Groups that are joined on their way.
 
-ghost use Rattle.std.specs.Prelude.{◌≡◌, ◌<◌, ◌∷◌, ℕ, IsTrue, length};
-ghost use Rattle.cm_session.specs.Session.{commands_of, GoBehind};
+ghost use Rattle.std.specs.Prelude.{◌≡◌, ◌<◌, ◌∷◌, ℕ, IsTrue, false, length};
+ghost use Rattle.cm_session.specs.Session.{commands_of, GoBehind, NoneGoesOn};
 
 use cm_group::Group;
 use std::collections::VecDeque;
@@ -13,6 +13,7 @@ fn join_next(group: &mut Group, queue: &mut VecDeque<Group>) -> bool
     ensures behind { (n : ℕ) → GoBehind n (group.old ∷ queue.old.items)
         → GoBehind n (group.new ∷ queue.new.items) }
     ensures fewer { IsTrue result → length queue.new.items < length queue.old.items }
+    ensures none { result ≡ false → NoneGoesOn group.new queue.new.items }
 {
     let Some(next) = queue.pop_front() else {
         return false;
@@ -29,12 +30,14 @@ fn join_next(group: &mut Group, queue: &mut VecDeque<Group>) -> bool
     }
 }
 
-/// Joins those of the groups that wait to this one that one group holds with it.
+/// Joins those of the groups that wait to this one that one group holds with it, up to the first
+/// that goes beyond it.
 pub(crate) fn join_queued(mut group: Group, queue: &mut VecDeque<Group>) -> Group
     ensures commands { commands_of (result ∷ queue.new.items)
         ≡ commands_of (group ∷ queue.old.items) }
     ensures behind { (n : ℕ) → GoBehind n (group ∷ queue.old.items)
         → GoBehind n (result ∷ queue.new.items) }
+    ensures all { NoneGoesOn result queue.new.items }
 {
     while join_next(&mut group, queue) {}
     group

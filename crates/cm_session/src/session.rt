@@ -6,6 +6,7 @@ ghost use Rattle.std.specs.Arc.{arc_value};
 ghost use Rattle.cm_guards.specs.Guards.{EachImage};
 ghost use Rattle.cm_guards.specs.Calls.{LeavesOnly};
 ghost use Rattle.cm_prepare.specs.Commands.{change_asked};
+ghost use Rattle.cm_front.specs.Accepting.{Answers as AnswersAsFront};
 ghost use Rattle.cm_commit.specs.Advances.{CallsDevice, HasRisen};
 ghost use Rattle.cm_machine.specs.Machine.{Machine};
 ghost use Rattle.cm_machine.specs.Laws.{Finds};
@@ -83,12 +84,14 @@ impl<D: Disk> Session<D> {
         self.committer.geometry()
     }
 
-    /// Accepts a command and gives it the next number, or refuses it, as [`Front::accept`] does. The
-    /// disk isn't touched.
+    /// Accepts a command and gives it the next number, or refuses it, exactly as [`Front::accept`]
+    /// does. The disk isn't touched.
     pub fn accept(&mut self, command: Command<'_>) -> Result<u64, Refusal>
         ensures machine { (k : Machine) → GoesWith k self.old
             → Accepting self.old.committer.sizes k (change_asked command.entry) result
             (λ next. GoesWith next self.new) }
+        ensures as_front { AnswersAsFront self.old.front (change_asked command.entry) result
+            self.new.front }
         ensures disk { self.new.committer ≡ self.old.committer }
     {
         commands_follow_the_machine();
@@ -134,7 +137,8 @@ impl<D: Disk> Session<D> {
             → self.new.committer.underway ≡ None → self.new.queue.items ≡ [] }
         ensures disk { self.new.committer.disk ≡ self.old.committer.disk }
         ensures sizes { self.new.committer.sizes ≡ self.old.committer.sizes }
-        ensures takes { MayTake D.contents self.old.committer self.new.committer }
+        ensures takes { MayTake D.contents self.new.queue.items self.old.committer
+            self.new.committer }
     {
         handed_groups_are_next();
         if self.has_failed {
@@ -164,7 +168,8 @@ impl<D: Disk> Session<D> {
             self.new.committer.disk }
         ensures no_call { IsNoCall result → self.new.committer.disk ≡ self.old.committer.disk }
         ensures sizes { self.new.committer.sizes ≡ self.old.committer.sizes }
-        ensures steps { Steps D.contents self.old.committer result self.new.committer }
+        ensures steps { Steps D.contents self.new.queue.items self.old.committer result
+            self.new.committer }
     {
         committed_rows_are_the_machines();
         handed_groups_are_next();
@@ -211,8 +216,8 @@ impl<D: Disk> Session<D> {
         self.front.find(loader, class)
     }
 
-    /// What a crash leaves now: all commands that were acknowledged, and none that wasn't handed
-    /// out.
+    /// Does nothing: its clause says what a crash leaves now. That is all commands that were
+    /// acknowledged, and none that wasn't handed out.
     pub fn images(&self)
         ensures { (k : Machine) → GoesWith k self.now
             → EachImage (D.contents self.now.committer.disk) (D.unsynced self.now.committer.disk)

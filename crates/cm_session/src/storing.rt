@@ -1,8 +1,9 @@
 //! One command after another: each is stored before the next is accepted.
 
-ghost use Rattle.std.specs.Prelude.{◌≡◌, true};
+ghost use Rattle.std.specs.Prelude.{◌≡◌, true, Err};
 ghost use Rattle.cm_guards.specs.Calls.{LeavesOnly};
 ghost use Rattle.cm_prepare.specs.Commands.{change_asked};
+ghost use Rattle.cm_front.specs.Accepting.{IsReason};
 ghost use Rattle.cm_commit.specs.Advances.{HasRisen};
 ghost use Rattle.cm_machine.specs.Machine.{Machine};
 ghost use Rattle.cm_session.specs.Images.{StandsForSome};
@@ -56,6 +57,8 @@ impl<D: Disk> Session<D> {
 
     /// Accepts a command and stores it: at `Ok`, with its number, no crash loses it any more.
     ///
+    /// A refusal is exactly that of [`Front::accept`](cm_front::Front::accept).
+    ///
     /// For a session in which everything accepted is stored, as it is when it was opened, and as
     /// it is again after an `Ok` or a refusal.
     pub fn store(&mut self, command: Command<'_>) -> Result<u64, NotStored>
@@ -66,6 +69,8 @@ impl<D: Disk> Session<D> {
         ensures cause { (k : Machine) → GoesWith k self.old → IsAtRest k
             → FailsOnly (D.failures self.old.committer.disk) (D.failures self.new.committer.disk)
             result }
+        ensures refused { (refusal : Refusal) → result ≡ Err (NotStored.Refused refusal)
+            → IsReason self.old.front (change_asked command.entry) refusal }
         ensures no_call { MakesNoCall result → self.new.committer ≡ self.old.committer }
         ensures sizes { self.new.committer.sizes ≡ self.old.committer.sizes }
     {

@@ -18,7 +18,8 @@ loop-progress-preserved g c =
     let working = c.is_working.ensures.is c.loop-progress-test.true in (
       λ k goes. does.machine k
           (goes_on k c.loop-progress.progress working (kept.0 k goes)),
-      λ again. some_left disk.contents now new call.result does.steps again,
+      λ again. some_left disk.contents call.new.self.queue.items now new call.result does.steps
+          again,
       λ k goes. leaves_on disk.moment disk.left_since old.disk now.disk new.disk
           (StandsForSome old.sizes k) (kept.2 k goes)
           (subst (λ (z : Sizes). LeavesOnly disk.moment disk.left_since now.disk new.disk
