@@ -10,6 +10,7 @@ use Rattle.cm_machine.specs.Machine.{Machine}
 use Rattle.cm_session.specs.Images.{StandsForSome}
 use Rattle.cm_session.specs.Moves.{GoesWith}
 use Rattle.cm_world.specs.declared.event.Event.{Event}
+use Rattle.cm_world.specs.declared.event.Event.TheVariants as event
 use Rattle.cm_world.specs.declared.reply.Reply.{Reply}
 use Rattle.cm_world.specs.declared.world.World.{World}
 use Rattle.cm_world.specs.Steps.{State, IsStep, OpenedAgain}
@@ -17,6 +18,12 @@ use Rattle.cm_world.specs.Steps.{State, IsStep, OpenedAgain}
 -- the world's disk, with what a machine is at
 abbrev pub state : World → Machine → State
 state w k = record { disk = w.session.committer.disk; machine = k }
+
+-- the events that open the file again
+abbrev pub OpensAgain : Event → Type 0
+OpensAgain event.Reopen = Unit {0}
+OpensAgain (event.Crash choice) = Unit {0}
+OpensAgain other = ⊥
 
 -- The event is a step of the machine, and the world goes with the one that it leads to.
 pub record Moves (k : Machine) (e : Event) (r : Reply) (old new : World) : Type 0 where

@@ -1,10 +1,10 @@
 //! A world, and the events that happen to it.
 
-ghost use Rattle.std.specs.Prelude.{◌≡◌, IfOk, IfErr};
+ghost use Rattle.std.specs.Prelude.{◌≡◌, IfOk, IfErr, IsErr};
 ghost use Rattle.cm_machine.specs.Machine.{Machine};
 ghost use Rattle.cm_session.specs.Moves.{GoesWith, IsOutside};
 ghost use Rattle.cm_world.specs.Runs.{HasRun};
-ghost use Rattle.cm_world.specs.Moves.{Moves};
+ghost use Rattle.cm_world.specs.Moves.{Moves, OpensAgain};
 
 use crate::event::Event;
 use crate::reply::Reply;
@@ -25,12 +25,13 @@ impl World {
     /// One event, and its reply. The machine that the world goes with makes a step over the world's
     /// own disk, and the world that is handed back goes with the machine after it.
     ///
-    /// It is an `Err`, with no world, only where the device or an allocation failed while the file
-    /// was opened again.
+    /// It is an `Err`, with no world, only where the event opens the file again and the device or an
+    /// allocation failed in that.
     pub fn step(mut self, event: Event<'_>) -> Result<(World, Reply), OpenFault>
         ensures moved { (k : Machine) → GoesWith k self.session
             → IfOk result (λ p. Moves k event.entry p.1 self p.0) }
         ensures fault { (k : Machine) → GoesWith k self.session → IfErr result IsOutside }
+        ensures goes_on { IsErr result → OpensAgain event.entry }
     {
         let reply = match event {
             Event::Accept(command) => self.accept(command),
