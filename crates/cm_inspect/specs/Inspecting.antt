@@ -51,7 +51,7 @@ status_of (Err f) = fault_status f
 abbrev pub Writes : Option (List ℕ) → Option (List ℕ) → List ℕ → ℕ → Result ℕ InspectFault → Type 0
 Writes held holds lines status (Ok given) = (given ≡ status) × Appends held holds lines
 Writes held holds lines status (Err fault.Output) = WritesPart held holds lines
-Writes held holds lines status (Err fault.Memory) = holds ≡ held
+Writes held holds lines status (Err fault.NoMemory) = holds ≡ held
 
 -- Of a file with these contents the verdict is answered, or that the device or an allocation failed:
 -- the device only where it did. The lines and the status are those of the answer.

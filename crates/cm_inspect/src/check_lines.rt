@@ -21,7 +21,7 @@ use std::io::Write;
 /// synced.
 ///
 /// It is an `Err` where the writer fails (`Output`), or an allocation failed for the line
-/// (`Memory`).
+/// (`NoMemory`).
 pub fn check_to<W: Write, D: Disk>(
     alloc: Global,
     writer: &mut W,
@@ -48,7 +48,7 @@ fn tell_answer<W: Write>(
     match answer {
         Ok(report) => match line_of_report(alloc, report) {
             Ok(line) => tell(writer, &line, DONE),
-            Err(_) => Err(InspectFault::Memory),
+            Err(_) => Err(InspectFault::NoMemory),
         },
         Err(fault) => tell_fault(alloc, writer, fault),
     }

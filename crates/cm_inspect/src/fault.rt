@@ -11,7 +11,7 @@ pub enum InspectFault {
     Output,
     /// An allocation failed. Nothing is written.
     #[error("out of memory")]
-    Memory,
+    NoMemory,
 }
 
 /// A file that isn't told of to the end: why, and its disk.

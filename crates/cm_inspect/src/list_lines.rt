@@ -24,7 +24,7 @@ use std::io::Write;
 /// back what is listed; nothing is written to it.
 ///
 /// It is an `Err` where the writer fails (`Output`), or an allocation failed for the lines
-/// (`Memory`).
+/// (`NoMemory`).
 pub fn list_to<W: Write, D: Disk>(
     alloc: Global,
     writer: &mut W,
@@ -54,10 +54,10 @@ fn tell_list<W: Write>(alloc: Global, writer: &mut W, front: &Front) -> Result<u
         (list_lines (listing front.now.rows)) 0 result }
 {
     let Ok(loaders) = list_accepted(alloc, front) else {
-        return Err(InspectFault::Memory);
+        return Err(InspectFault::NoMemory);
     };
     match lines_of_list(alloc, &loaders) {
         Ok(lines) => tell(writer, &lines, DONE),
-        Err(_) => Err(InspectFault::Memory),
+        Err(_) => Err(InspectFault::NoMemory),
     }
 }

@@ -43,7 +43,7 @@ pub(crate) fn tell_fault<W: Write>(
         OpenFault::NotACache => tell(writer, b"not a cache\n", REFUSED),
         OpenFault::Damaged { what, slot } => match line_of_damage(alloc, what, slot) {
             Ok(line) => tell(writer, &line, REFUSED),
-            Err(_) => Err(InspectFault::Memory),
+            Err(_) => Err(InspectFault::NoMemory),
         },
         OpenFault::Device => tell(writer, b"device\n", FAILED),
         OpenFault::NoMemory => tell(writer, b"memory\n", FAILED),

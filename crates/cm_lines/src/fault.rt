@@ -13,5 +13,5 @@ pub enum LineFault {
     Output,
     /// An allocation failed.
     #[error("out of memory")]
-    Memory,
+    NoMemory,
 }

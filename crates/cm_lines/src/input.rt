@@ -22,7 +22,7 @@ enum Piece {
 /// Reads up to the next newline and takes it too, and answers whether there was a line: at a
 /// script's end, a rest that isn't empty is one. What `line` held before is gone.
 ///
-/// `Input` comes where the reader fails, `Memory` where an allocation failed. How much was taken is
+/// `Input` comes where the reader fails, `NoMemory` where an allocation failed. How much was taken is
 /// then left open.
 pub fn read_line<R: BufRead>(reader: &mut R, line: &mut LineBuffer) -> Result<bool, LineFault>
     ensures read { IfOk result
@@ -55,7 +55,7 @@ fn take_piece<R: BufRead>(reader: &mut R, line: &mut LineBuffer) -> Result<Piece
     };
     let (count, piece) = match push_shown(line, shown) {
         Ok(pushed) => pushed,
-        Err(_) => return Err(LineFault::Memory),
+        Err(_) => return Err(LineFault::NoMemory),
     };
     reader.consume(count);
     Ok(piece)

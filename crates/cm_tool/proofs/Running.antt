@@ -291,9 +291,9 @@ module _ (sizes : Sizes) (a b h k m : Option (List ℕ)) (s t u : Served) (o : O
   unfolding late
   broken fault.Input breaks = early breaks
   broken fault.Output breaks = late breaks
-  broken fault.Memory (inl breaks) = inl (early breaks)
-  broken fault.Memory (inr (inl breaks)) = inr (inl (late breaks.0, breaks.1))
-  broken fault.Memory (inr (inr leaves)) = inr (inr (unstored leaves))
+  broken fault.NoMemory (inl breaks) = inl (early breaks)
+  broken fault.NoMemory (inr (inl breaks)) = inr (inl (late breaks.0, breaks.1))
+  broken fault.NoMemory (inr (inr leaves)) = inr (inr (unstored leaves))
 
   run_broken : (e : ToolFault) → Breaks sizes e (io b k m) t u → EndsEarly sizes (io a h m) e s u
   run_broken e breaks =
@@ -395,7 +395,7 @@ pub unread : (sizes : Sizes) (a h : Option (List ℕ)) (s : Served) (e : LineFau
     → (e ≡ line_fault.Output → ⊥) → Breaks sizes (fault_of e) (io a h h) s s
 unread sizes a h s line_fault.Input never = record { same = refl; nothing = Keeps-refl h }
 unread sizes a h s line_fault.Output never = absurd (never refl)
-unread sizes a h s line_fault.Memory never = inl (record { same = refl; nothing = Keeps-refl h })
+unread sizes a h s line_fault.NoMemory never = inl (record { same = refl; nothing = Keeps-refl h })
 
 -- the answer to the question is the answer to the line
 asked_line : {E : Type 0} (sizes : Sizes) (a b : Option (List ℕ)) (buffer : LineBuffer)
@@ -410,7 +410,7 @@ asked_line sizes a b buffer question result old new read says replies =
 -- no memory for the reply, or for the command
 unmade : {E : Type 0} (sizes : Sizes) (a b h : Option (List ℕ)) (s u : Served) (line : List ℕ)
     (e : E) → TakesLines a b (line ∷ []) → Replies sizes (asked_by line) (Err e) s u
-    → Breaks sizes fault.Memory (io a h h) s u
+    → Breaks sizes fault.NoMemory (io a h h) s u
 unmade sizes a b h s u line e taken (inl same) =
     inl (record { same = same; nothing = Keeps-refl h })
 unmade sizes a b h s u line e taken (inr (inl answered)) =
@@ -442,7 +442,7 @@ module _ (sizes : Sizes) (a b h : Option (List ℕ)) (old : Served) (now : ℕ)
     (says : (line : List ℕ) → Holds line buffer → option_map seen question ≡ asked_by line) where
   pub line_unmade : {E : Type 0} (e : E)
       → LedTo (Replies {E = E} sizes (option_map seen question) (Err e) old) now Goes
-      → LedTo (Turns sizes b (io a h h) (Err fault.Memory) old) now Goes
+      → LedTo (Turns sizes b (io a h h) (Err fault.NoMemory) old) now Goes
   line_unmade e led = record {
     next = led.next;
     does = unmade sizes a b h old (served led.next now) read.0 e read.1

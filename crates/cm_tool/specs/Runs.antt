@@ -21,7 +21,7 @@ use Rattle.cm_tool.specs.Answers.{Served, AnswersLine, AnswersEach, Answers, IsU
 abbrev pub fault_of : LineFault → ToolFault
 fault_of line_fault.Input = fault.Input
 fault_of line_fault.Output = fault.Output
-fault_of line_fault.Memory = fault.Memory
+fault_of line_fault.NoMemory = fault.NoMemory
 
 -- ---- one line
 
@@ -67,7 +67,7 @@ pub record BreaksBefore (io : Io) (old new : Served) : Type 0 where
 abbrev pub Breaks : Sizes → ToolFault → Io → Served → Served → Type 0
 Breaks sizes fault.Input io old new = BreaksBefore io old new
 Breaks sizes fault.Output io old new = BreaksIn sizes io old new
-Breaks sizes fault.Memory io old new =
+Breaks sizes fault.NoMemory io old new =
     BreaksBefore io old new
     ⊎ (((b : BreaksIn sizes io old new) × (b.written.part ≡ [])) ⊎ LeavesUnstored sizes io old new)
 
@@ -122,7 +122,7 @@ pub record EndsUnstored (sizes : Sizes) (io : Io) (lines : List (List ℕ)) (rep
 abbrev pub Ends : Sizes → ToolFault → Io → List (List ℕ) → List ReplyText → Served → Served → Type 0
 Ends sizes fault.Input io lines replies between new = EndsBefore io replies between new
 Ends sizes fault.Output io lines replies between new = EndsIn sizes io lines replies between new
-Ends sizes fault.Memory io lines replies between new =
+Ends sizes fault.NoMemory io lines replies between new =
     EndsBefore io replies between new
     ⊎ (((e : EndsIn sizes io lines replies between new) × (e.part ≡ []))
     ⊎ EndsUnstored sizes io lines replies between new)

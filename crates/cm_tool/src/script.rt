@@ -30,12 +30,16 @@ pub struct Outcome {
 /// Why a script ended before its end.
 #[derive(Clone, Copy, Debug, PartialEq, Eq, Error)]
 pub enum ToolFault {
+    /// A line couldn't be read.
     #[error("the input failed")]
     Input,
+    /// A reply couldn't be written.
     #[error("the output failed")]
     Output,
+    /// An allocation failed for a line, a reply, or a command that was accepted and not handed out
+    /// yet.
     #[error("out of memory")]
-    Memory,
+    NoMemory,
 }
 
 impl From<LineFault> for ToolFault {
@@ -45,7 +49,7 @@ impl From<LineFault> for ToolFault {
         match fault {
             LineFault::Input => ToolFault::Input,
             LineFault::Output => ToolFault::Output,
-            LineFault::Memory => ToolFault::Memory,
+            LineFault::NoMemory => ToolFault::NoMemory,
         }
     }
 }
@@ -69,7 +73,7 @@ impl Outcome {
 /// A line ends at a newline; a rest that isn't empty is a line too. The run ends at an unsure
 /// command, since no further one would be accepted. It is an `Err` where the reader fails
 /// (`Input`), where the writer does (`Output`), or where an allocation failed for a line, a reply,
-/// or a command that was accepted and not handed out yet (`Memory`): what was acknowledged is
+/// or a command that was accepted and not handed out yet (`NoMemory`): what was acknowledged is
 /// stored.
 pub fn run_script<R: BufRead, W: Write, D: Disk>(
     alloc: Global,
@@ -150,7 +154,7 @@ fn run_line<R: BufRead, W: Write, D: Disk>(
     let question = line.question();
     let reply = match answer(alloc, session, question) {
         Ok(reply) => reply,
-        Err(_) => return Err(ToolFault::Memory),
+        Err(_) => return Err(ToolFault::NoMemory),
     };
     match write_line(writer, &reply.line) {
         Ok(()) => Ok(Some(reply.kind)),

@@ -135,7 +135,7 @@ fn lines_that_are_not_passed_on_are_a_fault(rt: HostRuntime) -> Result<(), Fail>
 
 const TEXTS: [(InspectFault, &str); 2] = [
     (InspectFault::Output, "the output failed"),
-    (InspectFault::Memory, "out of memory"),
+    (InspectFault::NoMemory, "out of memory"),
 ];
 
 #[test]
