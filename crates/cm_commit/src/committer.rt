@@ -279,8 +279,8 @@ impl<D: Disk> Committer<D> {
         }
     }
 
-    /// What a crash leaves now: the cache that is committed, or, once the gate's byte may be
-    /// written, that or the one with the group that is under way.
+    /// Does nothing: its clause says what a crash leaves now. That is the cache that is committed, or,
+    /// once the gate's byte may be written, that or the one with the group that is under way.
     pub fn images(&self)
         ensures { EachImage (D.contents self.now.disk) (D.unsynced self.now.disk)
             (MayLeave self.now) }

@@ -102,7 +102,7 @@ impl SimDisk {
     }
 
     /// The disk that a crash leaves: it holds the chosen image, all of it stored. Nothing has
-    /// happened to it yet.
+    /// happened to it yet. At an `Err`, where an allocation failed, there is no disk any more.
     pub fn crash(self, alloc: Global, choice: &Choice) -> Result<SimDisk, AllocError>
         ensures chosen { IfOk result (λ disk. IsChosen (sim_contents self) (sim_unsynced self)
             choice.now.len choice.now.fill.items (sim_contents disk)) }

@@ -14,7 +14,7 @@ pub enum OpenError {
     #[error("not a regular file")]
     NotRegular,
     /// It has more than 2^40 bytes.
-    #[error("longer than a disk may be")]
+    #[error("longer than 2^40 bytes, the most that a disk has")]
     TooLong,
     /// The system doesn't find, open or read it.
     #[error("{0}")]

@@ -29,7 +29,8 @@ impl Front {
 
     /// The cache of the rows of a book, as recovery finds them: all commands up to `number` are
     /// stored, nothing is to be handed out, and as many roots are present as the rows use. The half
-    /// that counts is used up to `slot`.
+    /// that counts is used up to `slot`. It is an `Err`, and there is no cache, only where an
+    /// allocation failed.
     pub fn restore(
         alloc: Global,
         geometry: Geometry,

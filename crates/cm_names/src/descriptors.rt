@@ -83,6 +83,7 @@ pub fn is_field_descriptor(bytes: &[u8]) -> bool
     }
 }
 
+/// Whether there are bytes, and the first is this one.
 pub fn begins_with(byte: u8, bytes: &[u8]) -> bool
     ensures { result ≡ begins_with byte bytes.now }
 {

@@ -32,6 +32,7 @@ impl Block {
         part.order <= self.order && part.index >> (self.order - part.order) == self.index
     }
 
+    /// Its two halves, of the next smaller order, the one of lower words first.
     #[tactic(auto, unfolding(crate::specs::Blocks::left_half, crate::specs::Blocks::right_half))]
     pub fn halves(self) -> (Block, Block)
         requires splits { 0 < self.order }

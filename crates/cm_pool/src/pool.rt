@@ -53,6 +53,7 @@ impl Pool {
         })
     }
 
+    /// The sizes of its region.
     pub fn geometry(&self) -> Geometry
         ensures value { result ≡ self.now.geometry }
         ensures lawful { IsFreeSpace self.now }

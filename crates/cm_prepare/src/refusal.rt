@@ -33,7 +33,7 @@ pub enum Refusal {
     /// The journal has no room for what would live then.
     #[error("journal full")]
     JournalFull,
-    /// The loader's last chunk can't be moved to a better one.
+    /// The loader's last chunk can't be moved to a better one. No command answers it yet.
     #[error("no move")]
     NoMove,
     /// An allocation failed.

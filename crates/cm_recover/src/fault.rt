@@ -10,7 +10,7 @@ use cm_verdict::{Damage, FileFault};
 use std::alloc::AllocError;
 use thiserror::Error;
 
-/// Why a file isn't made. `Display` gives the text that the program prints.
+/// Why a file isn't made.
 #[derive(Clone, Copy, Debug, PartialEq, Eq, Error)]
 pub enum FormatFault {
     /// The disk isn't empty. It stays as it was.

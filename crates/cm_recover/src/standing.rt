@@ -195,6 +195,9 @@ impl SecondPass {
 
 /// What a file stands for, or its first damage, by a run of reads: what is found without records
 /// first, then the records of the classes that live, in the order of their rows. Nothing changes.
+///
+/// `NotACache` and `Damaged` are the first that the contents have. `Device` where the device failed,
+/// `NoMemory` where an allocation did: they say nothing of the contents.
 pub fn read_standing<D: Disk>(alloc: Global, disk: &mut D) -> Result<StandingFile, OpenFault>
     ensures standing { Answers (IsStanding (D.contents disk.old)) result
         (verdict (D.contents disk.old)) }

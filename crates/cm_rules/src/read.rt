@@ -57,7 +57,8 @@ fn first_of(findings: &Findings, rules: &[Rule]) -> Option<Broken>
 
 /// The first rule that a class breaks, with the first spot where it does; `None` where it keeps
 /// them all. Each Utf8 is judged once, however many constants and members name it. Only where one
-/// pass finds that the class breaks some rule is the first of them looked for.
+/// pass finds that the class breaks some rule is the first of them looked for. It is an `Err` only
+/// where an allocation failed, and then says nothing of the class.
 #[tactic(auto, unfolding(crate::specs::Fault::fault))]
 pub fn first_fault(alloc: Global, class: &Class) -> Result<Option<Broken>, AllocError>
     ensures { IfOk result (λ found. found ≡ fault class.now) }

@@ -63,6 +63,7 @@ impl Space {
         })
     }
 
+    /// The sizes of its region.
     pub fn geometry(&self) -> Geometry
         ensures value { result ≡ self.now.pool.geometry }
         ensures lawful { IsSpace self.now }

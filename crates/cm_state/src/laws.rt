@@ -1,5 +1,5 @@
-//! What holds of the definitions themselves. Each law is the contract of a function with an empty
-//! body.
+//! What holds of the definitions themselves. Each law is the contract of a function whose body is
+//! empty, or only cites other laws.
 
 ghost use Rattle.std.specs.Prelude.{ℕ, List};
 ghost use Rattle.cm_class.specs.declared.class_file.ClassFile.{ClassFile};
