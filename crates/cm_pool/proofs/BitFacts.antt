@@ -1,6 +1,6 @@
 -- One bit of a list of words, and what a summary says of it.
 use Rattle.std.proofs.Common.{◌≡◌, ◌≢◌, ℕ, ◌+◌, ◌*◌, ◌/◌, ◌%◌, ◌^◌, ◌<◌, ◌≤◌, Bool, true, false}
-use Rattle.std.proofs.Common.{not, ◌||◌, ◌&&◌, eqb, List, length, get_or, set, replicate, bit_and}
+use Rattle.std.proofs.Common.{not, ◌||◌, ◌&&◌, eqb, List, length, replicate, bit_and}
 use Rattle.std.proofs.Common.{bit_or, refl, sym, ap, ◌∙◌, subst, inl, inr, arith, length-set, w64}
 use Rattle.std.specs.Int.{bit_at, bit_not, trailing_zeros}
 use Rattle.std.specs.Int.Bits.{and_zero_l}

@@ -1,4 +1,4 @@
-use Rattle.std.proofs.Common.{List, ℕ, ap, sym, subst}
+use Rattle.std.proofs.Common.{List, ℕ, sym, subst}
 use Rattle.cm_pool.specs.Bits.{IsFirstBit, IsFirstWord}
 use Rattle.cm_pool.proofs.BitFacts.{first-word}
 use Rattle.cm_pool.proofs.bit_row.Row.first.Goals as goal

@@ -1,6 +1,5 @@
-use Rattle.std.proofs.Common.{◌≡◌, ◌*◌, ◌/◌, ◌<◌, ◌≤◌, List, length, sym, ap, ◌∙◌, subst, arith}
-use Rattle.std.proofs.Common.{length-set, ℕ}
-use Rattle.cm_pool.specs.Bits.{with_bit, IsRow}
+use Rattle.std.proofs.Common.{◌*◌, ◌<◌, List, length, sym, subst}
+use Rattle.std.proofs.Common.{ℕ}
 use Rattle.cm_pool.proofs.BitFacts.{row-with}
 use Rattle.cm_pool.proofs.bit_row.Row.insert.Goals as goal
 

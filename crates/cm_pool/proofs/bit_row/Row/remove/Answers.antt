@@ -1,7 +1,6 @@
-use Rattle.std.proofs.Common.{◌≡◌, ◌≢◌, ℕ, ◌*◌, ◌/◌, ◌<◌, List, length, sym, ap, ◌∙◌, subst, true}
-use Rattle.std.proofs.Common.{false, eqb}
+use Rattle.std.proofs.Common.{ℕ, ◌*◌, ◌/◌, ◌<◌, List, length, sym, ap, ◌∙◌, subst}
 use Rattle.std.proofs.lemmas.Bool.{eqb-true, eq-eqb, both_ways}
-use Rattle.cm_pool.specs.Bits.{word, without_bit}
+use Rattle.cm_pool.specs.Bits.{word}
 use Rattle.cm_pool.proofs.BitFacts.{row-without, row-without_group, row-without_word}
 use Rattle.cm_pool.proofs.bit_row.Row.remove.Goals as goal
 use Rattle.cm_pool.proofs.bit_row.Row.remove.Goals.{After-clear_bit}
