@@ -5,6 +5,8 @@
 #![tactic(auto)]
 
 #[cfg(test)]
+mod crowded_records;
+#[cfg(test)]
 mod duplicates;
 #[cfg(test)]
 mod faults;

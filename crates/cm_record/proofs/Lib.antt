@@ -6,3 +6,4 @@ pub mod RunTests
 pub mod MemberPlaces
 pub mod AttributePlaces
 pub use Rattle.cm_record_layout.proofs.Packed
+mod Utf8Words

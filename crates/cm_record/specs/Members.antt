@@ -1,14 +1,20 @@
 -- Fields and methods, found by name and descriptor.
-use Rattle.std.specs.Prelude.{◌≡◌, ℕ, ◌<◌, Bool, true, false, ◌&&◌, List, length, slice_get, Option}
-use Rattle.std.specs.Prelude.{Some, None}
+use Rattle.std.specs.Prelude.{◌≡◌, ℕ, ◌<◌, ◌^◌, Bool, true, false, ◌&&◌, List, length, slice_get}
+use Rattle.std.specs.Prelude.{get_or, Option, Some, None}
 use Rattle.cm_class.specs.declared.class_file.Member.{Member as ClassMember}
 use Rattle.cm_class.specs.declared.class_file.ClassFile.{ClassFile}
 use Rattle.cm_class.specs.Names.{names_utf8}
+use Rattle.cm_record_layout.specs.Layout.{IsRecordOf}
 use Rattle.cm_record.specs.declared.member.Member.{Member}
 
 -- the indexes lead to Utf8 of these bytes
 abbrev pub leads_to : ClassFile → List ℕ → List ℕ → ℕ → ℕ → Bool
 leads_to c name descriptor name_index descriptor_index = names_utf8 c name_index name && names_utf8 c descriptor_index descriptor
+
+-- for each index, whether it leads to a Utf8 of these bytes
+abbrev pub AreMarksOf : List ℕ → List ℕ → List Bool → Type 0
+AreMarksOf words bytes leads = (c : ClassFile) → IsRecordOf c words → (index : ℕ) → index < 2 ^ 16
+    → get_or leads index false ≡ names_utf8 c index bytes
 
 -- the member has this name and this descriptor
 abbrev pub has_both : ClassFile → List ℕ → List ℕ → ClassMember → Bool

@@ -11,7 +11,8 @@ ghost use Rattle.cm_record.specs.Runs.{IsRunOf, HasRun};
 ghost use Rattle.cm_record.specs.Members.{IsFirst};
 ghost use Rattle.cm_record.specs.Code.{code_name, code_in, u2_at, u4_at, attributes_place};
 
-use crate::utf8::is_utf8_of;
+use crate::marks::Marks;
+use crate::utf8::{is_utf8_of, words_looked_at};
 use cm_record_layout::{bytes_of, first, fourth, second, upper};
 
 /// Where the code of a method lies (JVMS 4.7.3). Places count bytes from the record's first one; a
@@ -88,7 +89,26 @@ pub(crate) fn code_in_run(words: &[u64], run: (usize, usize)) -> Option<Code>
     })
 }
 
-/// Which of so many attributes, whose words begin at `at`, is the first Code.
+/// As [`find_code`], with one pass over the pool, whatever the attributes' indexes are.
+fn find_code_by_marks(words: &[u64], at: usize, count: usize) -> Option<usize>
+    requires record { IsRecord words.now }
+    requires within { at + 2 * count ≤ length words.now }
+    ensures none { (c : ClassFile) → IsRecordOf c words.now → IsNone result → (k : ℕ) → k < count
+        → names_utf8 c (first_of (get_or words.now (at + 2 * k) 0)) code_name ≡ false }
+    ensures some { (c : ClassFile) → IsRecordOf c words.now → IfSome result (IsFirst
+        (λ k. names_utf8 c (first_of (get_or words.now (at + 2 * k) 0)) code_name) count) }
+{
+    let names = Marks::of(words, &CODE);
+    for index in 0..count {
+        if names.has(first(words[at + 2 * index])) {
+            return Some(index);
+        }
+    }
+    None
+}
+
+/// Which of so many attributes, whose words begin at `at`, is the first Code. Once it has looked at
+/// as many words as the record has, it finds it by marks.
 pub(crate) fn find_code(words: &[u64], at: usize, count: usize) -> Option<usize>
     requires record { IsRecord words.now }
     requires within { at + 2 * count ≤ length words.now }
@@ -97,8 +117,15 @@ pub(crate) fn find_code(words: &[u64], at: usize, count: usize) -> Option<usize>
     ensures some { (c : ClassFile) → IsRecordOf c words.now → IfSome result (IsFirst
         (λ k. names_utf8 c (first_of (get_or words.now (at + 2 * k) 0)) code_name) count) }
 {
+    let mut left = words.len();
     for index in 0..count {
-        if is_utf8_of(words, first(words[at + 2 * index]), &CODE) {
+        let name = first(words[at + 2 * index]);
+        let cost = words_looked_at(words, name, &CODE);
+        if cost > left {
+            return find_code_by_marks(words, at, count);
+        }
+        left -= cost;
+        if is_utf8_of(words, name, &CODE) {
             return Some(index);
         }
     }

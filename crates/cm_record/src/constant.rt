@@ -1,5 +1,5 @@
 //! The constants of a record, one look at the directory each.
-ghost use Rattle.std.specs.Prelude.{◌≡◌, ◌≤◌, ◌+◌, length, get_or};
+ghost use Rattle.std.specs.Prelude.{◌≡◌, ◌≤◌, ◌+◌, ◌%◌, ◌==◌, ◌&&◌, not, length, get_or};
 ghost use Rattle.cm_record_layout.specs.Packing.{first_of};
 ghost use Rattle.cm_record.specs.Constants.{is_wide_word as is_wide_word_of};
 ghost use Rattle.cm_record.specs.Constants.{is_second_word as is_second_word_of};
@@ -125,19 +125,53 @@ fn is_wide_word(word: u64) -> bool
     word == 5 || word == 6
 }
 
-/// Whether a word of the directory is the second of a Long or a Double. It goes back over the words
-/// that could be those of Longs and Doubles, and in most classes there is none.
-fn is_second_word(words: &[u64], place: usize) -> bool
+/// How many words stand before a place of the directory that could all be those of Longs and
+/// Doubles, with none of another kind between. In most classes there is none.
+pub(crate) fn wide_words_before(words: &[u64], place: usize) -> usize
+    requires { place ≤ length words.now }
+    ensures within { result ≤ place }
+    ensures odd { is_second_word_of words.now place ≡ (result % 2 == 1) }
+{
+    let mut before = place;
+    while before > 0 && is_wide_word(words[before - 1]) {
+        before -= 1;
+    }
+    place - before
+}
+
+/// Whether a word of the directory is the second of a Long or a Double: that goes by how many such
+/// words could stand before it.
+pub(crate) fn is_second_word(words: &[u64], place: usize) -> bool
     requires { place ≤ length words.now }
     ensures { result ≡ is_second_word_of words.now place }
 {
-    let mut second = false;
-    let mut place = place;
-    while place > 0 && is_wide_word(words[place - 1]) {
-        second = !second;
-        place -= 1;
+    wide_words_before(words, place) % 2 == 1
+}
+
+/// Whether the word behind one of the directory is the second of a Long or a Double.
+pub(crate) fn is_next_second(word: u64, is_second: bool) -> bool
+    ensures { result ≡ (is_wide_word_of word && not is_second) }
+{
+    is_wide_word(word) && !is_second
+}
+
+/// The constant at an index of the pool, where it is known whether its word is the second of a Long
+/// or a Double.
+pub(crate) fn constant_at(words: &[u64], index: u16, is_second: bool) -> Option<Constant>
+    requires within { 8 + first_of (get_or words.now 2 0) ≤ length words.now }
+    requires second { is_second ≡ is_second_word_of words.now (8 + index) }
+    ensures { result ≡ constant_at_index_of words.now index }
+{
+    if is_second || index == 0 || index >= first(words[2]) {
+        return None;
     }
-    second
+    let place = 8 + index as usize;
+    let next = if place + 1 < words.len() {
+        words[place + 1]
+    } else {
+        0
+    };
+    word_kept(words[place], next)
 }
 
 /// The constant at an index of the pool.
@@ -145,14 +179,8 @@ pub(crate) fn constant_at_index(words: &[u64], index: u16) -> Option<Constant>
     requires { 8 + first_of (get_or words.now 2 0) ≤ length words.now }
     ensures { result ≡ constant_at_index_of words.now index }
 {
-    let place = 8 + index as usize;
-    if index == 0 || index >= first(words[2]) || is_second_word(words, place) {
+    if index >= first(words[2]) {
         return None;
     }
-    let next = if place + 1 < words.len() {
-        words[place + 1]
-    } else {
-        0
-    };
-    word_kept(words[place], next)
+    constant_at(words, index, is_second_word(words, 8 + index as usize))
 }

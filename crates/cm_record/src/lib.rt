@@ -6,6 +6,7 @@ mod code;
 mod constant;
 mod fingerprints;
 mod laws;
+mod marks;
 mod member;
 mod names;
 mod order;

@@ -1,12 +1,13 @@
 //! The fields and methods of a record, by name and descriptor.
-ghost use Rattle.std.specs.Prelude.{◌≡◌, ◌≤◌, ◌<◌, ◌+◌, ◌*◌, ◌^◌, ℕ, false, length, get_or, IsNone};
+ghost use Rattle.std.specs.Prelude.{◌≡◌, ◌≤◌, ◌<◌, ◌+◌, ◌*◌, ◌^◌, ◌&&◌, ℕ, false, length, get_or, IsNone};
 ghost use Rattle.std.specs.Prelude.{IfSome};
 ghost use Rattle.cm_class.specs.declared.class_file.ClassFile.{ClassFile};
 ghost use Rattle.cm_record_layout.specs.Layout.{IsRecord, IsRecordOf};
 ghost use Rattle.cm_record_layout.specs.Packing.{first_of, second_of, third_of, fourth_of};
 ghost use Rattle.cm_record.specs.Members.{leads_to, IsFirst};
 
-use crate::utf8::is_utf8_of;
+use crate::marks::Marks;
+use crate::utf8::{is_utf8_of, words_looked_at};
 use cm_record_layout::{first, fourth, second, third};
 
 /// A field or a method, as a record names it (JVMS 4.5, 4.6).
@@ -30,7 +31,42 @@ fn is_word_of(words: &[u64], word: u64, name: &[u8], descriptor: &[u8]) -> bool
     is_utf8_of(words, second(word), name) && is_utf8_of(words, third(word), descriptor)
 }
 
+/// The same where the indexes are marked that lead to the name, and those that lead to the
+/// descriptor.
+fn is_word_marked(word: u64, names: &Marks, descriptors: &Marks) -> bool
+    ensures { result ≡ (get_or names.now.leads (second_of word) false
+        && get_or descriptors.now.leads (third_of word) false) }
+{
+    names.has(second(word)) && descriptors.has(third(word))
+}
+
+/// As [`find_member`], with one pass over the pool for the name and one for the descriptor, whatever
+/// the members' indexes are.
+fn find_member_by_marks(
+    words: &[u64],
+    at: usize,
+    count: usize,
+    name: &[u8],
+    descriptor: &[u8],
+) -> Option<usize>
+    requires record { IsRecord words.now }
+    requires within { at + 2 * count ≤ length words.now }
+    ensures none { (c : ClassFile) → IsRecordOf c words.now → IsNone result → (k : ℕ) → k < count
+        → leads_to c name.now descriptor.now (second_of (get_or words.now (at + 2 * k) 0)) (third_of (get_or words.now (at + 2 * k) 0)) ≡ false }
+    ensures some { (c : ClassFile) → IsRecordOf c words.now → IfSome result (IsFirst
+        (λ k. leads_to c name.now descriptor.now (second_of (get_or words.now (at + 2 * k) 0)) (third_of (get_or words.now (at + 2 * k) 0))) count) }
+{
+    let (names, descriptors) = (Marks::of(words, name), Marks::of(words, descriptor));
+    for index in 0..count {
+        if is_word_marked(words[at + 2 * index], &names, &descriptors) {
+            return Some(index);
+        }
+    }
+    None
+}
+
 /// The least of so many members, whose words begin at `at`, that has this name and this descriptor.
+/// Once it has looked at as many words as the record has, it finds it by marks.
 pub(crate) fn find_member(
     words: &[u64],
     at: usize,
@@ -45,8 +81,16 @@ pub(crate) fn find_member(
     ensures some { (c : ClassFile) → IsRecordOf c words.now → IfSome result (IsFirst
         (λ k. leads_to c name.now descriptor.now (second_of (get_or words.now (at + 2 * k) 0)) (third_of (get_or words.now (at + 2 * k) 0))) count) }
 {
+    let mut left = words.len();
     for index in 0..count {
-        if is_word_of(words, words[at + 2 * index], name, descriptor) {
+        let word = words[at + 2 * index];
+        let cost = words_looked_at(words, second(word), name)
+            + words_looked_at(words, third(word), descriptor);
+        if cost > left {
+            return find_member_by_marks(words, at, count, name, descriptor);
+        }
+        left -= cost;
+        if is_word_of(words, word, name, descriptor) {
             return Some(index);
         }
     }

@@ -196,7 +196,8 @@ impl Record {
         Ok(Some(run_bytes(alloc, words, name_run(words, index))?))
     }
 
-    /// The least field that has this name and this descriptor.
+    /// The least field that has this name and this descriptor. It takes at most 128 KiB of the
+    /// stack, and some passes over the words.
     pub fn field(&self, name: &[u8], descriptor: &[u8]) -> Option<Member>
         ensures { (c : ClassFile) → IsRecordOf c self.now
             → FindsMember c c.fields false name.now descriptor.now result }
@@ -209,7 +210,7 @@ impl Record {
         Some(member_at(words, at, index, false))
     }
 
-    /// The least method that has this name and this descriptor.
+    /// The least method that has this name and this descriptor, as [`Record::field`] finds fields.
     pub fn method(&self, name: &[u8], descriptor: &[u8]) -> Option<Member>
         ensures { (c : ClassFile) → IsRecordOf c self.now
             → FindsMember c c.methods true name.now descriptor.now result }

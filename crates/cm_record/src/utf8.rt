@@ -1,14 +1,16 @@
 //! Whether an index of a record's pool leads to given bytes.
-ghost use Rattle.std.specs.Prelude.{◌≡◌, ◌≤◌, ◌↔◌, ℕ, List, length, drop, min, IsTrue};
+ghost use Rattle.std.specs.Prelude.{◌≡◌, ◌≤◌, ◌<◌, ◌^◌, ◌↔◌, ℕ, List, length, drop, min, get_or};
+ghost use Rattle.std.specs.Prelude.{IsTrue, false};
 ghost use Rattle.cm_class.specs.declared.class_file.ClassFile.{ClassFile};
 ghost use Rattle.cm_class.specs.Names.{names_utf8};
-ghost use Rattle.cm_record_layout.specs.Packing.{packed};
+ghost use Rattle.cm_record_layout.specs.Packing.{packed, first_of};
 ghost use Rattle.cm_record_layout.specs.Layout.{IsRecord, IsRecordOf};
+ghost use Rattle.cm_record.specs.Constants.{constant_at_index as constant_at_index_of};
 ghost use Rattle.cm_record.specs.Runs.{IsRunOf, HasRun, utf8_place as utf8_place_of};
 
-use crate::constant::{Constant, constant_at_index};
+use crate::constant::{Constant, constant_at_index, wide_words_before};
 use crate::names::run_slice;
-use cm_record_layout::word_of;
+use cm_record_layout::{first, second, word_of};
 
 /// The bytes behind the first eight.
 #[tactic(auto, using(std::proofs::lemmas::List::take_rest))]
@@ -54,13 +56,49 @@ fn utf8_place(constant: Option<Constant>) -> Option<(usize, usize)>
     }
 }
 
+/// Whether the constant at an index of the pool is a Utf8 of these bytes.
+pub(crate) fn is_utf8(words: &[u64], constant: Option<Constant>, bytes: &[u8]) -> bool
+    requires record { IsRecord words.now }
+    requires index { (index : ℕ) × (constant ≡ constant_at_index_of words.now index) }
+    ensures { (c : ClassFile) (index : ℕ) → IsRecordOf c words.now
+        → constant ≡ constant_at_index_of words.now index → result ≡ names_utf8 c index bytes.now }
+{
+    match utf8_place(constant) {
+        Some(run) => is_run_of(words, run, bytes),
+        None => false,
+    }
+}
+
+/// Whether the word of an index looks as that of a Utf8 of as many bytes. It may be the second of a
+/// Long or a Double all the same.
+fn may_be_utf8_of(words: &[u64], index: u16, bytes: &[u8]) -> bool
+    requires { IsRecord words.now }
+    ensures there { IsTrue result → index < first_of (get_or words.now 2 0) }
+    ensures only { (c : ClassFile) → IsRecordOf c words.now → result ≡ false
+        → names_utf8 c index bytes.now ≡ false }
+{
+    if index >= first(words[2]) {
+        return false;
+    }
+    let word = words[8 + index as usize];
+    first(word) == 1 && second(word) as usize == bytes.len()
+}
+
 /// Whether a Utf8 of these bytes stands at an index of the pool.
 pub(crate) fn is_utf8_of(words: &[u64], index: u16, bytes: &[u8]) -> bool
     requires { IsRecord words.now }
     ensures { (c : ClassFile) → IsRecordOf c words.now → result ≡ names_utf8 c index bytes.now }
 {
-    let Some(run) = utf8_place(constant_at_index(words, index)) else {
-        return false;
-    };
-    is_run_of(words, run, bytes)
+    may_be_utf8_of(words, index, bytes) && is_utf8(words, constant_at_index(words, index), bytes)
+}
+
+/// How many words [`is_utf8_of`] may look at.
+pub(crate) fn words_looked_at(words: &[u64], index: u16, bytes: &[u8]) -> usize
+    requires { IsRecord words.now }
+    ensures { result < 2 ^ 62 }
+{
+    if !may_be_utf8_of(words, index, bytes) {
+        return 1;
+    }
+    2 + wide_words_before(words, 8 + index as usize) + bytes.len() / 8
 }

@@ -1,4 +1,4 @@
-use Rattle.std.proofs.Common.{◌∙◌, ◌+◌, ap, sym, subst, ℕ, arith}
+use Rattle.std.proofs.Common.{◌∙◌, ap, sym, subst, ℕ, arith}
 use Rattle.cm_record_layout.proofs.Sections.{directory_within}
 use Rattle.cm_record.specs.Names.{class_name_of}
 use Rattle.cm_record.specs.Runs.{IsRunOf, name_run}

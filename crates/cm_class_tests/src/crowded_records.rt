@@ -1,0 +1,126 @@
+//! Members and code of records whose indexes cost much to look at, so that they are found by marks.
+use crate::member_samples::{Indexes, class_of};
+use crate::record_samples::{record_of, record_of_class};
+use cm_record::{Constant, Record};
+use std::alloc::Global;
+use std::process::Abort;
+use std::test::Fail;
+
+const DESCRIPTORS: [&[u8]; 5] = [b"()B", b"()C", b"()D", b"()F", b"()B"];
+
+const MEMBERS: [Indexes; 5] = [(1, 2), (1, 3), (1, 4), (1, 5), (1, 6)];
+
+// Fields and methods of one name, each with another descriptor but for the last one.
+fn overloads(alloc: Global, name: &[u8]) -> Result<Record, Fail> {
+    let mut utf8s = Vec::new(alloc);
+    utf8s.push(name)?;
+    utf8s.extend_from_slice(&DESCRIPTORS)?;
+    record_of_class(alloc, &class_of(alloc, &utf8s, &MEMBERS, &MEMBERS)?)
+}
+
+fn indexes(record: &Record, name: &[u8], descriptor: &[u8]) -> [Option<u16>; 2] {
+    let found = [
+        record.field(name, descriptor),
+        record.method(name, descriptor),
+    ];
+    found.map(|member| member.map(|member| member.index))
+}
+
+const EXPECTED: [(&[u8], Option<u16>); 6] = [
+    (b"()B", Some(0)),
+    (b"()C", Some(1)),
+    (b"()D", Some(2)),
+    (b"()F", Some(3)),
+    (b"()J", None),
+    (b"()", None),
+];
+
+// Two comparisons of the name are more words than the record has.
+#[test]
+fn members_of_one_long_name_are_found(rt: HostRuntime) -> Result<(), Fail> {
+    let mut name = Vec::from_elem(rt.alloc(), b'n', 4_000)?;
+    let record = overloads(rt.alloc(), &name)?;
+    for (descriptor, index) in &EXPECTED {
+        assert_eq!(rt; indexes(&record, &name, descriptor), [*index; 2]);
+    }
+    name[3_999] = b'm';
+    assert_eq!(rt; indexes(&record, &name, b"()B"), [None; 2]);
+    assert_eq!(rt; indexes(&record, &name[..3_999], b"()B"), [None; 2]);
+    Ok(())
+}
+
+const LONGS: u16 = 100;
+
+// The first index behind the Longs, that of `Junk`.
+const JUNK: u16 = 2 * LONGS + 1;
+
+const UTF8S: [u8; 20] = *b"\x01\0\x04Junk\x01\0\x04Code\x01\0\x03()V";
+
+fn put_attribute(bytes: &mut Vec<u8>, name: u16, content: &[u8]) -> Result<(), Fail> {
+    bytes.extend_from_slice(&name.to_be_bytes())?;
+    bytes.extend_from_slice(&u32::try_from(content.len())?.to_be_bytes())?;
+    Ok(bytes.extend_from_slice(content)?)
+}
+
+// Max stack 1, max locals 2, no code, no handlers, no attributes.
+const BODY: [u8; 12] = [0, 1, 0, 2, 0, 0, 0, 0, 0, 0, 0, 0];
+
+// A method `Junk` of `()V` with three attributes: `Junk`, one whose name stands at this index, and
+// `Code`.
+fn put_method(bytes: &mut Vec<u8>, second_name: u16) -> Result<(), Fail> {
+    for number in [1, 0, JUNK, JUNK + 2, 3] {
+        bytes.extend_from_slice(&u16::to_be_bytes(number))?;
+    }
+    put_attribute(bytes, JUNK, b"")?;
+    put_attribute(bytes, second_name, b"")?;
+    put_attribute(bytes, JUNK + 1, &BODY)
+}
+
+// A class with that method, and in front of the Utf8s in its pool Longs of value 5, as the word of a
+// Long is, but for the last one, which has these bits.
+fn behind_longs(alloc: Global, last: u64, second_name: u16) -> Result<Record, Fail> {
+    let mut bytes = Vec::new(alloc);
+    bytes.extend_from_slice(&[0xca, 0xfe, 0xba, 0xbe, 0, 0, 0, 0x34])?;
+    bytes.extend_from_slice(&u16::to_be_bytes(JUNK + 3))?;
+    for at in 1..=LONGS {
+        let bits = if at == LONGS { last } else { 5 };
+        bytes.push(5)?;
+        bytes.extend_from_slice(&bits.to_be_bytes())?;
+    }
+    bytes.extend_from_slice(&UTF8S)?;
+    // No flags, no class of its own, no super class, no interfaces, no fields.
+    bytes.extend_from_slice(&[0; 10])?;
+    put_method(&mut bytes, second_name)?;
+    bytes.extend_from_slice(&[0, 0])?;
+    record_of(alloc, &bytes)
+}
+
+// The index of the method, and the stack and the locals of its code.
+fn found(record: &Record) -> Option<(u16, u16, u16)> {
+    let method = record.method(b"Junk", b"()V")?;
+    let code = record.code(&method)?;
+    Some((method.index, code.max_stack, code.max_locals))
+}
+
+#[test]
+fn what_stands_behind_longs_is_found(rt: HostRuntime) -> Result<(), Fail> {
+    let record = behind_longs(rt.alloc(), 5, JUNK)?;
+    assert_eq!(rt; found(&record), Some((0, 1, 2)));
+    assert_eq!(rt; record.method(b"Code", b"()V"), None);
+    assert_eq!(rt; record.constant(JUNK - 1), None);
+    Ok(())
+}
+
+// The second slot of the last Long has the word of `Code`, and is none.
+#[test]
+fn a_second_slot_leads_to_no_name(rt: HostRuntime) -> Result<(), Fail> {
+    let record = behind_longs(rt.alloc(), 5, JUNK)?;
+    let Some(Constant::Utf8 { at, len }) = record.constant(JUNK + 1) else {
+        return Err(Fail::new("it has the name"));
+    };
+    let word = 1 + (u64::from(len) << 16) + (u64::from(at / 8) << 32);
+    let record = behind_longs(rt.alloc(), word, JUNK - 1)?;
+    assert_eq!(rt; record.constant(JUNK - 1), None);
+    assert_eq!(rt; found(&record), Some((0, 1, 2)));
+    Ok(())
+}

@@ -1,0 +1,11 @@
+use Rattle.std.proofs.Common.{◌≡◌, ◌<◌, ◌+◌, ◌*◌, ℕ, false, get_or}
+use Rattle.cm_class.specs.declared.class_file.ClassFile.{ClassFile}
+use Rattle.cm_record_layout.specs.Layout.{IsRecordOf}
+use Rattle.cm_record_layout.specs.Packing.{first_of}
+use Rattle.cm_class.specs.Names.{names_utf8}
+use Rattle.cm_record.specs.Code.{code_name}
+use Rattle.cm_record.proofs.code.find_code_by_marks.Given as goal
+
+abbrev pub invariant-loop-index : goal.invariant-loop-index
+invariant-loop-index l = (c : ClassFile) → IsRecordOf c l.words → (k : ℕ) → k < l.index
+    → names_utf8 c (first_of (get_or l.words (l.at + 2 * k) 0)) code_name ≡ false

@@ -1,0 +1,47 @@
+//! Which indexes of a record's pool lead to given bytes, found in one pass over the pool.
+ghost use Rattle.std.specs.Prelude.{◌≡◌, get_or, replicate, false};
+ghost use Rattle.cm_record_layout.specs.Layout.{IsRecord};
+ghost use Rattle.cm_record.specs.Members.{AreMarksOf};
+
+use crate::constant::{constant_at, is_next_second, is_second_word};
+use crate::utf8::is_utf8;
+use cm_record_layout::first;
+
+/// How many indexes a pool may have.
+const INDEXES: usize = 65_536;
+
+/// No index is marked.
+fn no_marks() -> [bool; INDEXES]
+    ensures { result ≡ replicate 65_536 false }
+{
+    [false; INDEXES]
+}
+
+/// For each index, whether a Utf8 of some bytes stands there.
+#[derive(Drop)]
+pub(crate) struct Marks {
+    leads: [bool; INDEXES],
+}
+
+impl Marks {
+    /// The marks of these bytes. Each Utf8 of as many bytes is compared once.
+    pub(crate) fn of(words: &[u64], bytes: &[u8]) -> Marks
+        requires { IsRecord words.now }
+        ensures { AreMarksOf words.now bytes.now result.leads }
+    {
+        let mut leads = no_marks();
+        let mut is_second = is_second_word(words, 9);
+        for index in 1..first(words[2]) {
+            leads[index as usize] = is_utf8(words, constant_at(words, index, is_second), bytes);
+            is_second = is_next_second(words[8 + index as usize], is_second);
+        }
+        Marks { leads }
+    }
+
+    /// Whether a Utf8 of the bytes stands at the index.
+    pub(crate) fn has(&self, index: u16) -> bool
+        ensures { result ≡ get_or self.now.leads index false }
+    {
+        self.leads[index as usize]
+    }
+}
