@@ -1,11 +1,11 @@
 -- The chain that rows make of a loader.
-use Rattle.std.proofs.Common.{◌≡◌, ℕ, ◌+◌, ◌^◌, ◌<◌, ◌⊎◌, Bool, true, false, cond, List, []}
+use Rattle.std.proofs.Common.{◌≡◌, ℕ, ◌+◌, ◌^◌, ◌<◌, ◌≤◌, ◌⊎◌, Bool, true, false, cond, List, []}
 use Rattle.std.proofs.Common.{◌∷◌, ◌++◌, map, Option, Some, None, inl, inr, refl, sym, ap}
 use Rattle.std.proofs.Common.{subst, ◌∙◌, arith, eqb}
 use Rattle.std.specs.Prelude.{◌&&◌, ◌||◌, not, filter, sum, nat_le, nat_lt, max, min}
 use Rattle.std.specs.List.{list_any}
 use Rattle.std.specs.Option.{option_map, option_map_or}
-use Rattle.std.proofs.lemmas.Bool.{eqb-true, eq-eqb, lt-ltb, ltb-true}
+use Rattle.std.proofs.lemmas.Bool.{eqb-true, eq-eqb, lt-ltb, ltb-true, leb-true}
 use Rattle.std.proofs.lemmas.List.{map-append}
 use Rattle.std.proofs.lemmas.List.Sums.{sum_by-append}
 use Rattle.std.proofs.lemmas.List.Elements.{filter-append}
@@ -131,7 +131,7 @@ chain_grows u rows r e =
     ∙ (chain-more [] u (classes_in rows) r
     ∙ ap (λ t. cond t (with_place (chain_of u rows) r.place) (chain_of u rows)) (eq-eqb r.loader u e))
 
-chain_stays : (u : ℕ) (rows : List BareRow) (r : ClassRow) → eqb r.loader u ≡ false
+pub chain_stays : (u : ℕ) (rows : List BareRow) (r : ClassRow) → eqb r.loader u ≡ false
     → chain_of u (rows ++ Class r (tt {0}) ∷ []) ≡ chain_of u rows
 chain_stays u rows r e =
     ap (chain_from [] u) (classes-more rows (Class r (tt {0})))
@@ -269,6 +269,12 @@ last-row u (r ∷ classes) c h = by_rest (last_chunk u classes) (last-row u clas
     by_rest (Some d) later is = let found = later is in (found.0, inr found.1, found.2, found.3)
     by_rest None later is = by_first (eqb r.loader u) refl is
 
+-- the last chunk, by the test on it
+pub last-is : (u : ℕ) (c : Chunk) (o : Option Chunk)
+    → option_map_or (λ last. same_chunk last c) o false ≡ true → o ≡ Some c
+last-is u c (Some d) h = ap Some (same_chunk-true d c h)
+last-is u c None h = absurd (cc)
+
 -- a chunk that no row uses is none of theirs
 pub unused-apart : (c : Chunk) (classes : List ClassRow) (s : ClassRow)
     → not (list_any (meets c) (map (λ (r : ClassRow). r.place.chunk) classes)) ≡ true
@@ -310,22 +316,33 @@ never-on c classes h s m =
     not_same s.place.chunk c (λ e. unused-apart c classes s h m
     (subst (λ (d : Chunk). Meets c d) (sym e) (meets-itself c)))
 
+class_kept : (a b : Bool) → broken_of a b ≡ None → b ≡ true
+class_kept true true e = refl
+class_kept true false e = absurd (cc)
+class_kept false b e = absurd (cc)
+
 -- where a class's record lies among those before it
 pub place_of : (sizes : Sizes) (pre : List BareRow) (r : ClassRow)
     → broken_of (is_live r.loader pre && has_room sizes pre (Class r tt)) (class_fits sizes pre r) ≡ None
     → has_place pre r ≡ true
 place_of sizes pre r h =
-    let on_rows = is_live r.loader pre && has_room sizes pre (Class r tt) in
     let chunk = is_chunk sizes r.place.chunk in
     let words = nat_le 1 r.place.words in
     let within = nat_le (r.place.offset + r.place.words) (chunk_size r.place.chunk.order) in
     (both (chunk && words && within) (has_place pre r)
-    (chunks_kept on_rows (class_fits sizes pre r) h)).1
-  where
-    chunks_kept : (a b : Bool) → broken_of a b ≡ None → b ≡ true
-    chunks_kept true true e = refl
-    chunks_kept true false e = absurd (cc)
-    chunks_kept false b e = absurd (cc)
+    (class_kept (is_live r.loader pre && has_room sizes pre (Class r tt)) (class_fits sizes pre r) h)).1
+
+-- and that it has a word
+pub some_words : (sizes : Sizes) (pre : List BareRow) (r : ClassRow)
+    → broken_of (is_live r.loader pre && has_room sizes pre (Class r tt)) (class_fits sizes pre r) ≡ None
+    → 1 ≤ r.place.words
+some_words sizes pre r h =
+    let chunk = is_chunk sizes r.place.chunk in
+    let words = nat_le 1 r.place.words in
+    let within = nat_le (r.place.offset + r.place.words) (chunk_size r.place.chunk.order) in
+    let fits = both (chunk && words && within) (has_place pre r)
+    (class_kept (is_live r.loader pre && has_room sizes pre (Class r tt)) (class_fits sizes pre r) h) in
+    leb-true 1 r.place.words (both chunk words (both (chunk && words) within fits.0).0).1
 
 -- the chain of a loader ends at its top
 abbrev pub EndsAtTop : ℕ → List BareRow → Type 0
@@ -362,12 +379,6 @@ own_class u pre r mine place before =
         ∙ ap (λ t. cond t (Some r.place.chunk) (last_chunk u (classes_in pre))) (eq-eqb r.loader u mine)))
         ∙ ap (top_with r.place.chunk) used_now
 
-    last_is : (o : Option Chunk) → last_chunk r.loader (classes_in pre) ≡ o
-        → option_map_or (λ last. same_chunk last r.place.chunk) o false ≡ true
-        → last_chunk r.loader (classes_in pre) ≡ Some r.place.chunk
-    last_is (Some d) is h = is ∙ ap Some (same_chunk-true d r.place.chunk h)
-    last_is None is h = absurd (cc)
-
     by_place : (on_top ≡ true) ⊎ (new ≡ true)
         → last_of (with_place (chain_of u pre) r.place)
         ≡ top_with r.place.chunk (used_words r.place.chunk pre + r.place.words)
@@ -376,7 +387,7 @@ own_class u pre r mine place before =
         (eqb r.place.offset (used_words r.place.chunk pre)) h in
         let last : last_chunk u (classes_in pre) ≡ Some r.place.chunk =
         subst (λ (v : ℕ). last_chunk v (classes_in pre) ≡ Some r.place.chunk) mine
-        (last_is (last_chunk r.loader (classes_in pre)) refl parts.0) in
+        (last-is r.loader r.place.chunk (last_chunk r.loader (classes_in pre)) parts.0) in
         let here : last_of (chain_of u pre) ≡ top_with r.place.chunk (used_words r.place.chunk pre) =
         before ∙ ap (option_map (λ c. record { chunk = c; used = used_words c pre })) last in
         with_place-last (chain_of u pre) r.place r.place.chunk (used_words r.place.chunk pre) here

@@ -5,3 +5,4 @@ pub mod Accepting
 pub mod Unsealed
 pub mod Refusing
 pub mod Restoring
+pub mod Arenas

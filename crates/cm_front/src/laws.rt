@@ -1,5 +1,6 @@
 //! How arenas go with rows. Each law is the contract of a function.
 
+ghost use Rattle.cm_front.specs.Arenas.{ArenasAreOfRows};
 ghost use Rattle.cm_front.specs.Laws.{ChainsEndAtTop, ChainsHaveChunks, PlacesKeepRules};
 
 use cm_pool::roots_are_free;
@@ -10,6 +11,12 @@ use cm_space::held_chunks_are_used;
 pub fn chains_go_with_rows()
     ensures tops { ChainsEndAtTop }
     ensures chunks { ChainsHaveChunks }
+{}
+
+/// A loader's arena in a cache has the chunks that the loader's classes begin, in order, and no
+/// others.
+pub fn arenas_are_of_rows()
+    ensures { ArenasAreOfRows }
 {}
 
 /// A place that a space finds, whose arenas are those of the rows, is one that the entry rules

@@ -10,5 +10,5 @@ mod restore;
 mod unsealed;
 
 pub use front::{Front, Stranger};
-pub use laws::{chains_go_with_rows, places_keep_rules};
+pub use laws::{arenas_are_of_rows, chains_go_with_rows, places_keep_rules};
 pub use opened::Opened;

@@ -3,6 +3,7 @@ use Rattle.std.proofs.Common.{◌≡◌, ℕ, ◌+◌, ◌*◌, ◌^◌, ◌≤�
 use Rattle.std.proofs.Common.{◌++◌, length, drop, Option, Some, None, Ok, refl, sym, ap, subst, ◌∙◌}
 use Rattle.std.proofs.Common.{arith, eqb}
 use Rattle.std.specs.Prelude.{◌&&◌}
+use Rattle.std.specs.FinMap as map
 use Rattle.std.specs.List.{AllByRecursion}
 use Rattle.std.specs.Str.{bytes_eq}
 use Rattle.std.proofs.lemmas.List.{map-append}
@@ -14,13 +15,14 @@ use Rattle.cm_pool.specs.Geometry.{Sizes, IsGeometry}
 use Rattle.cm_layout.specs.declared.row.Row.{Row}
 use Rattle.cm_layout.specs.Offsets.{roots_at}
 use Rattle.cm_layout.specs.declared.row.Row.TheVariants.{Loader, Class}
-use Rattle.cm_layout.specs.Rows.{rows_with, row_with, bare}
+use Rattle.cm_layout.specs.declared.class_row.ClassRow.{ClassRow}
+use Rattle.cm_layout.specs.Rows.{rows_with, row_with, bare, classes_in}
 use Rattle.cm_layout.specs.Frames.{BareRow, LiveRowsKeep, HoldsRow}
 use Rattle.cm_layout.specs.Framing.{Framing, IsRight, Matches}
 use Rattle.cm_commit.specs.Committed.{end_slot}
 use Rattle.cm_commit.proofs.Slots.{end_is as ends_with_slots}
 use Rattle.cm_state.specs.State.{NamesDiffer, class_shows, words_show, class_among}
-use Rattle.cm_state.specs.Stands.{EachKeepsRules}
+use Rattle.cm_state.specs.Stands.{EachKeepsRules, arenas_among, chunks_of as chunks_begun}
 use Rattle.cm_state.specs.Entries.{AreCacheRows}
 use Rattle.cm_front.specs.Front.{AreRight}
 use Rattle.cm_verdict.specs.Found.{Found}
@@ -33,11 +35,12 @@ use Rattle.cm_rows.specs.Rows.{LiveRows}
 use Rattle.cm_commit.specs.GroupPlans.{whole_roots}
 use Rattle.cm_commit.specs.Keeps.{IsHeld, AreRight as AreCommittedRight}
 use Rattle.cm_commit.specs.States.{CommitterState}
-use Rattle.cm_front.specs.Front.{FrontState}
+use Rattle.cm_front.specs.Front.{FrontState, IsFront}
+use Rattle.cm_front.specs.Arenas.{ArenasAreOfRows, chunks_owned}
 use Rattle.cm_front.specs.Restoring.{Restores}
 use Rattle.cm_recover.specs.declared.standing.StandingFile.{StandingFile}
 use Rattle.cm_recover.specs.Standing.{TellNames, Tells, IsStanding}
-use Rattle.cm_recover.specs.Opened.{Opens}
+use Rattle.cm_recover.specs.Opened.{Opens, arenas_by_name}
 use Rattle.cm_recover.proofs.RecordPlaces.{place_of, short_enough}
 use Rattle.cm_recover.proofs.Passing.{more_named}
 
@@ -80,6 +83,23 @@ pub are_right : (classes : List (Row ClassFile)) → EachKeepsRules classes
 are_right [] kept = tt
 are_right (Loader r ∷ rows) kept = are_right rows kept
 are_right (Class r c ∷ rows) kept = ((c, kept.0, refl), are_right rows kept.1)
+
+-- ---- arenas
+
+-- the places of classes don't go by what is kept of them
+same_places : (rows : List (Row ClassFile)) → classes_in (rows_with lay rows) ≡ classes_in rows
+same_places [] = refl
+same_places (Loader r ∷ rows) = same_places rows
+same_places (Class r c ∷ rows) = ap (λ l. r ∷ l) (same_places rows)
+
+-- arenas by their loaders' names, where they are those of the loaders' numbers
+arenas_told : (front : FrontState) (classes : List ClassRow)
+    → ((u : ℕ) → chunks_owned front u ≡ chunks_begun u classes) → (rows : List (Row ClassFile))
+    → arenas_by_name rows front ≡ arenas_among classes rows
+arenas_told front classes each [] = refl
+arenas_told front classes each (Loader r ∷ rows) =
+    (λ i. map.insert (arenas_told front classes each rows i) r.name (each r.number i))
+arenas_told front classes each (Class r c ∷ rows) = arenas_told front classes each rows
 
 -- ---- names
 
@@ -247,8 +267,8 @@ module _ (live : FoundIsLive) (framed : FoundIsFramed) (stands : VerdictStands) 
         roots_are = ap (λ (l : List ℕ). whole_roots told.found.sizes (length l)) (sym same);
       })
 
-  pub opens : {D : Type 0} (disk : D) (front : FrontState) (committer : CommitterState D)
-      → Restores file.rows file.number file.end front
+  pub opens : {D : Type 0} (arenas : ArenasAreOfRows) (disk : D) (front : FrontState)
+      (committer : CommitterState D) → IsFront front → Restores file.rows file.number file.end front
       → committer ≡ record {
         disk = disk;
         sizes = file.geometry;
@@ -261,7 +281,7 @@ module _ (live : FoundIsLive) (framed : FoundIsFramed) (stands : VerdictStands) 
         broken = false;
       }
       → Opens contents front committer
-  opens {D = D} disk front committer restored made = record {
+  opens {D = D} arenas disk front committer is restored made = record {
     standing = told;
     verdict_is = t.verdict_is;
     stands = (stands contents told t.verdict_is).stands;
@@ -275,6 +295,10 @@ module _ (live : FoundIsLive) (framed : FoundIsFramed) (stands : VerdictStands) 
         }) n file.end front) t.alike.number
         (subst (λ (l : LiveRows (List ℕ)). Restores l file.number file.end front) t.alike.rows
         restored));
+    arenas_are = arenas_told front (classes_in told.rows)
+        (λ u. arenas front is u ∙ (ap (λ (f : FrontState). chunks_begun u (classes_in f.rows)) restored.front_is
+        ∙ (ap (λ (l : LiveRows (List ℕ)). chunks_begun u (classes_in l.rows)) t.alike.rows
+        ∙ ap (chunks_begun u) (same_places told.rows)))) told.rows;
     committer_is = made ∙ (λ i. record {
       disk = sym (ap (λ (c : CommitterState D). c.disk) made) i;
       sizes = t.alike.geometry i;

@@ -1,19 +1,32 @@
 -- What a file is opened as: the accepted cache and its committer, both with what the file stands for.
-use Rattle.std.specs.Prelude.{◌≡◌, ◌<◌, ◌≤◌, ℕ, List, [], None, Result, Ok, Err, false}
+use Rattle.std.specs.Prelude.{◌≡◌, ◌<◌, ◌≤◌, ℕ, List, [], ◌∷◌, None, Result, Ok, Err, false}
+use Rattle.std.specs.FinMap as map
+use Rattle.cm_class.specs.declared.class_file.ClassFile.{ClassFile}
 use Rattle.cm_record.specs.Layout.{lay}
+use Rattle.cm_layout.specs.declared.row.Row.{Row}
+use Rattle.cm_layout.specs.declared.row.Row.TheVariants.{Loader, Class}
 use Rattle.cm_layout.specs.Rows.{rows_with}
 use Rattle.cm_disk.specs.Disk.{Unsynced, IsImage, IsSettled, IsWithin}
 use Rattle.cm_guards.specs.Calls.{LeavesOnly}
-use Rattle.cm_state.specs.Stands.{Stands}
+use Rattle.cm_state.specs.Stands.{Stands, Arenas}
 use Rattle.cm_verdict.specs.Verdict.{Standing, state_in, arenas_in, verdict}
 use Rattle.cm_front.specs.Front.{FrontState}
+use Rattle.cm_front.specs.Arenas.{chunks_owned}
 use Rattle.cm_front.specs.Restoring.{Restores}
 use Rattle.cm_commit.specs.States.{CommitterState}
 use Rattle.cm_recover.specs.declared.opening.NotOpened.{NotOpened}
 use Rattle.cm_recover.specs.declared.fault.OpenFault.TheVariants as open_fault
 
+-- each loader's name, to the chunks of its arena in the accepted cache
+abbrev pub arenas_by_name : List (Row ClassFile) → FrontState → Arenas
+arenas_by_name [] front = map.empty
+arenas_by_name (Loader r ∷ rows) front =
+    map.insert (arenas_by_name rows front) r.name (chunks_owned front r.number)
+arenas_by_name (Class r c ∷ rows) front = arenas_by_name rows front
+
 -- the contents stand for this, and both have its rows with the words of their records, and its
--- number: the accepted cache has nothing to hand out, the committer has nothing under way
+-- number: the accepted cache has the arenas that they stand for, and nothing to hand out; the
+-- committer has nothing under way
 pub record Opens {D : Type 0} (contents : List ℕ) (front : FrontState) (committer : CommitterState D)
     : Type 0 where
   pub standing : Standing
@@ -23,6 +36,7 @@ pub record Opens {D : Type 0} (contents : List ℕ) (front : FrontState) (commit
   pub front_is : Restores
       (record { sizes = standing.found.sizes; rows = rows_with lay standing.rows })
       standing.found.number standing.found.end front
+  pub arenas_are : arenas_by_name standing.rows front ≡ arenas_in standing
   pub committer_is : committer ≡ record {
     disk = committer.disk;
     sizes = standing.found.sizes;

@@ -12,7 +12,7 @@ use crate::fault::OpenFault;
 use crate::standing::{StandingFile, read_standing};
 use cm_commit::{Committer, NotMade};
 use cm_disk::Disk;
-use cm_front::Front;
+use cm_front::{Front, arenas_are_of_rows};
 use cm_record::words_tell_name;
 use cm_verdict::{found_is_framed, found_is_live, verdict_is_exact};
 use std::alloc::Global;
@@ -38,7 +38,8 @@ fn read_synced<D: Disk>(alloc: Global, disk: &mut D) -> Result<StandingFile, Ope
 }
 
 /// Opens the cache of a file: the accepted cache, and the committer of its disk, both with the rows
-/// that the file stands for and the number of its last command. It begins with a sync, so a crash
+/// that the file stands for and the number of its last command; each loader's arena has the chunks
+/// that the file stands for, and no others. It begins with a sync, so a crash
 /// leaves what was opened, and nothing else; the rest are reads.
 ///
 /// `NotACache` and `Damaged` exactly where the verdict on the file's bytes says so; `Device` where
@@ -56,6 +57,7 @@ pub fn open<D: Disk>(alloc: Global, mut disk: D) -> Result<(Front, Committer<D>)
     found_is_framed();
     verdict_is_exact();
     words_tell_name();
+    arenas_are_of_rows();
     let file = match read_synced(alloc, &mut disk) {
         Ok(file) => file,
         Err(fault) => return Err(NotOpened { fault, disk }),
@@ -66,6 +68,7 @@ pub fn open<D: Disk>(alloc: Global, mut disk: D) -> Result<(Front, Committer<D>)
             disk,
         });
     };
+    let _is_cache = front.geometry(); // so the proof knows that its arenas are those of its rows
     match Committer::new(
         alloc,
         disk,

@@ -32,5 +32,6 @@ returns-in-Ok-new-clause-opened g c =
     opens c.found_is_live.ensures c.found_is_framed.ensures.framed
     c.verdict_is_exact.ensures.stands c.words_tell_name.ensures
     (g.D.Disk.contents c.args.disk) c.in-Ok.file c.in-Ok.ensures.standing
-    c.read_synced.new.disk c.in-Ok-restore.front c.in-Ok-new.committer c.in-Ok-restore.ensures
+    c.arenas_are_of_rows.ensures c.read_synced.new.disk c.in-Ok-restore.front c.in-Ok-new.committer
+    c.geometry-is_cache.ensures.lawful c.in-Ok-restore.ensures
     c.in-Ok-new.ensures.made
