@@ -1,8 +1,7 @@
 -- Contents that agree on what is guarded match the same framing.
-use Rattle.std.proofs.Common.{◌≡◌, ℕ, ◌+◌, ◌*◌, ◌<◌, ◌≤◌, Bool, true, false, cond, List, [], ◌∷◌}
-use Rattle.std.proofs.Common.{length, take, drop, get_or, Option, Some, None, refl, sym, ap, subst}
+use Rattle.std.proofs.Common.{◌≡◌, ℕ, ◌+◌, ◌*◌, ◌≤◌, Bool, cond, List, [], ◌∷◌}
+use Rattle.std.proofs.Common.{length, take, drop, get_or, Option, Some, None, sym, ap, subst}
 use Rattle.std.proofs.Common.{◌∙◌, arith, drop-drop, length-drop}
-use Rattle.std.specs.Prelude.{nat_lt, max}
 use Rattle.std.specs.List.{AllByRecursion}
 use Rattle.std.proofs.lemmas.Bool.{lt-ltb}
 use Rattle.std.proofs.lemmas.List.{get_or-drop, get_or-take}
@@ -12,10 +11,10 @@ use Rattle.cm_layout.specs.declared.heads.HalfHead.{HalfHead}
 use Rattle.cm_layout.specs.declared.class_row.ClassRow.{ClassRow}
 use Rattle.cm_layout.specs.declared.row.Row.{Row}
 use Rattle.cm_layout.specs.declared.row.Row.TheVariants.{Loader, Class}
-use Rattle.cm_layout.specs.Offsets.{half_size, half_at, roots_at, root_at, root_size, record_at}
+use Rattle.cm_layout.specs.Offsets.{half_size, half_at, roots_at, record_at}
 use Rattle.cm_layout.specs.Offsets.{record_in_roots}
-use Rattle.cm_layout.specs.Frames.{HoldsRow, HoldsRecord}
-use Rattle.cm_layout.specs.Framing.{Framing, Matches, HasOlder, Agree, part, needs, guards}
+use Rattle.cm_layout.specs.Frames.{HoldsRow}
+use Rattle.cm_layout.specs.Framing.{HasOlder, Agree, part, needs}
 use Rattle.cm_layout.specs.Framing.{record_ranges, older_size, other_half, used_size}
 use Rattle.cm_layout.specs.Laws.{AgreementMatches}
 

@@ -1,28 +1,24 @@
 -- Contents frame rows exactly where they match a framing that is right for them.
-use Rattle.std.proofs.Common.{◌≡◌, ◌≢◌, ℕ, ◌+◌, ◌-◌, ◌*◌, ◌<◌, ◌≤◌, ◌⊎◌, Bool, true, false, List, []}
+use Rattle.std.proofs.Common.{◌≡◌, ◌≢◌, ℕ, ◌+◌, ◌<◌, ◌≤◌, ◌⊎◌, List, []}
 use Rattle.std.proofs.Common.{◌∷◌, ◌++◌, length, take, drop, get_or, Option, Some, None, inl, inr, refl}
-use Rattle.std.proofs.Common.{sym, ap, subst, ◌∙◌, arith, append_assoc, append-nil, drop-drop}
+use Rattle.std.proofs.Common.{sym, ap, subst, ◌∙◌, arith, append_assoc, drop-drop}
 use Rattle.std.proofs.Common.{length-drop, length-take}
-use Rattle.std.specs.Prelude.{max}
 use Rattle.std.specs.List.{flat_map, AllByRecursion}
-use Rattle.std.proofs.lemmas.List.{take_at, drop_at, take_all, take-append-drop, length-append}
+use Rattle.std.proofs.lemmas.List.{take_at, drop_at, take-append-drop, length-append}
 use Rattle.std.proofs.lemmas.List.{get_or-drop, get_or-take, get_or_append_left, take-take}
-use Rattle.std.proofs.lemmas.Nat.{pow_pos}
 use Rattle.cm_pool.specs.Geometry.{Sizes, IsGeometry}
 use Rattle.cm_layout.specs.declared.half.Half.{Half}
 use Rattle.cm_layout.specs.declared.half.Half.TheVariants.{Zero, One}
 use Rattle.cm_layout.specs.declared.heads.HalfHead.{HalfHead}
-use Rattle.cm_layout.specs.declared.class_row.ClassRow.{ClassRow}
 use Rattle.cm_layout.specs.declared.row.Row.{Row}
 use Rattle.cm_layout.specs.declared.row.Row.TheVariants.{Loader, Class}
-use Rattle.cm_layout.specs.Offsets.{superblock_size, slot_size, half_size, half_at, roots_at, root_at}
-use Rattle.cm_layout.specs.Offsets.{root_size}
+use Rattle.cm_layout.specs.Offsets.{superblock_size, slot_size, half_size, half_at, roots_at}
 use Rattle.cm_layout.specs.Slots.{open_gate, half_head_slot, row_slot}
 use Rattle.cm_layout.specs.Superblock.{superblock_bytes, superblock_front, blank}
 use Rattle.cm_layout.specs.Superblock.{superblock_zeros}
-use Rattle.cm_layout.specs.Rows.{classes_in, bare}
+use Rattle.cm_layout.specs.Rows.{bare}
 use Rattle.cm_layout.specs.Frames.{Frames, Region, region_bytes, Counts, OpenHalf, IsGoodHalf, IsEnd}
-use Rattle.cm_layout.specs.Frames.{IsOlder, IsGoodHead, HoldsRow, half_bytes, groups_slots}
+use Rattle.cm_layout.specs.Frames.{IsOlder, HoldsRow, half_bytes, groups_slots}
 use Rattle.cm_layout.specs.Framing.{Framing, IsRight, Matches, HasOlder, IsRightOlder, part, needs}
 use Rattle.cm_layout.specs.Framing.{used_bytes, used_size, open_half, other_half}
 use Rattle.cm_layout.specs.Laws.{IsFramed, FramesAreMatched, MatchesFrame}

@@ -1,4 +1,4 @@
-use Rattle.std.proofs.Common.{◌≡◌, List, Some, IsTrue, ◌↔◌, sym, ap, ◌∙◌, subst, []}
+use Rattle.std.proofs.Common.{◌≡◌, List, IsTrue, ◌↔◌, sym, ap, ◌∙◌, subst, []}
 use Rattle.std.specs.Option.{unwrap_or, option_copied}
 use Rattle.cm_pool.specs.FreeSpace.{FreeSpace}
 use Rattle.cm_arena.specs.Chains.{Filled}
