@@ -5,9 +5,9 @@ ghost use Rattle.cm_lines.specs.Lines.{pieces};
 ghost use Rattle.cm_events.specs.Numbers.{number_in};
 ghost use Rattle.cm_events.specs.Asked.{geometry_of_line, geometry_of_words, sizes_of};
 
-use crate::cuts::cut;
 use crate::line::is_long;
 use crate::number::number_in;
+use cm_lines::cut;
 use cm_pool::Geometry;
 
 /// The sizes that `geometry TOP ROOTS SLOTS` gives, if they are within their limits.

@@ -2,10 +2,10 @@
 //! the lines of its replies.
 #![tactic(auto)]
 
-mod cuts;
 mod fault;
 mod geometry;
 mod line;
+mod lines;
 mod made;
 mod number;
 mod running;

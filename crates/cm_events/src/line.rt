@@ -7,11 +7,8 @@ ghost use Rattle.cm_events.specs.Numbers.{number_in};
 ghost use Rattle.cm_events.specs.Asked.{seen, asked_alone, asked_of_one, asked_of_two};
 ghost use Rattle.cm_events.specs.Asked.{asked_of_words, event_of_line, AsksFault, crash_of};
 
-use crate::cuts::cut;
 use crate::number::number_in;
-
-/// How many bytes a line may have, without its newline.
-const LINE_LIMIT: usize = 16_777_216;
+use cm_lines::{LINE_LIMIT, cut};
 
 /// What a line asks for. Hexadecimal digits aren't read yet.
 #[derive(Clone, Copy, Debug, PartialEq, Eq)]

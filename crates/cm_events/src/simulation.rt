@@ -5,9 +5,9 @@ ghost use Rattle.cm_lines.specs.Lines.{lines_of};
 ghost use Rattle.cm_events.specs.Made.{IsSimulation, IsFault, first_bad_from, AreOf};
 ghost use Rattle.cm_events.specs.declared.fault.SimulationFault.TheVariants as fault;
 
-use crate::cuts::next_line;
 use crate::fault::SimulationFault;
 use crate::geometry::geometry_of;
+use crate::lines::next_line;
 use crate::made::{LineFault, Made, make};
 use cm_pool::Geometry;
 use cm_prepare::Refusal;

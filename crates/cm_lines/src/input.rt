@@ -3,8 +3,8 @@
 ghost use Rattle.std.specs.Prelude.{◌≡◌, ◌≢◌, ◌≤◌, ℕ, List, length, take, IfOk, IfErr};
 ghost use Rattle.cm_lines.specs.Streams.{IsPiece, TakesPiece, ReadsLine, Grows};
 
+use crate::cutting::cut;
 use crate::fault::LineFault;
-use crate::line::cut;
 use crate::line_buffer::LineBuffer;
 use std::alloc::AllocError;
 use std::io::{BufRead, ErrorKind};

@@ -2,6 +2,7 @@
 //! and reading and writing line by line.
 #![tactic(auto)]
 
+mod cutting;
 mod escape;
 mod fault;
 mod input;
@@ -10,6 +11,7 @@ mod line;
 mod line_buffer;
 mod output;
 
+pub use cutting::cut;
 pub use escape::{NameFault, escape_into, unescape};
 pub use fault::LineFault;
 pub use input::read_line;
@@ -18,5 +20,5 @@ pub use laws::{
     unescaping_undoes_escaping,
 };
 pub use line::{Line, parse};
-pub use line_buffer::LineBuffer;
+pub use line_buffer::{LINE_LIMIT, LineBuffer};
 pub use output::write_line;

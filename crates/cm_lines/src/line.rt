@@ -1,9 +1,10 @@
 //! The lines of a script.
 
-ghost use Rattle.std.specs.Prelude.{◌≡◌, ◌≢◌, [], ◌∷◌, ◌++◌, IfSome, IfNone};
-ghost use Rattle.std.specs.List.{All};
+ghost use Rattle.std.specs.Prelude.{◌≡◌, [], ◌∷◌};
 ghost use Rattle.std.specs.Option.{option_map};
 ghost use Rattle.cm_lines.specs.Lines.{question_in, question_of_words, seen};
+
+use crate::cutting::cut;
 
 /// What a line asks for.
 #[derive(Clone, Copy, Debug, PartialEq, Eq)]
@@ -16,20 +17,6 @@ pub enum Line<'a> {
     Define(&'a [u8], &'a [u8]),
     /// `find NAME CLASS`
     Find(&'a [u8], &'a [u8]),
-}
-
-/// What is in front of the first such byte, and what is behind it.
-pub(crate) fn cut(text: &[u8], at: u8) -> Option<(&[u8], &[u8])>
-    ensures found { IfSome result (λ parts. text.now ≡ parts.0.now ++ at ∷ parts.1.now) }
-    ensures first { IfSome result (λ parts. All (λ b. b ≢ at) parts.0.now) }
-    ensures none { IfNone result (All (λ b. b ≢ at) text.now) }
-{
-    for (i, byte) in text.iter().enumerate() {
-        if *byte == at {
-            return Some((&text[..i], &text[i + 1..]));
-        }
-    }
-    None
 }
 
 /// What a line asks for, if it has one of the known forms: words with one space between, none

@@ -7,7 +7,7 @@ use crate::line::{Line, parse};
 use std::alloc::{AllocError, Global};
 
 /// How many bytes a line may have, without its newline.
-const LINE_LIMIT: usize = 16_777_216;
+pub const LINE_LIMIT: usize = 16_777_216;
 
 /// A line that is read: its bytes, or that it has more of them than a line may have. It keeps no
 /// more bytes than a line may have.
