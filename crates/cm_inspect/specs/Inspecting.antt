@@ -15,40 +15,43 @@ use Rattle.cm_lines.specs.Streams.{WritesPart}
 use Rattle.cm_inspect.specs.declared.fault.InspectFault.{InspectFault}
 use Rattle.cm_inspect.specs.declared.fault.InspectFault.TheVariants as fault
 use Rattle.cm_inspect.specs.declared.fault.NotInspected.{NotInspected}
+use Rattle.cm_inspect.specs.declared.status.Status.{Status}
+use Rattle.cm_inspect.specs.declared.status.Status.TheVariants as status
 use Rattle.cm_inspect.specs.Texts.{report_line, list_lines, fault_line}
 
 -- ---- a result with its disk
 
 -- the status, or why there is none
-abbrev pub status_in : {D : Type 0} → Result (ℕ × D) (NotInspected D) → Result ℕ InspectFault
+abbrev pub status_in : {D : Type 0} → Result (Status × D) (NotInspected D) → Result Status InspectFault
 status_in (Ok given) = Ok given.0
 status_in (Err not_inspected) = Err not_inspected.fault
 
 -- the disk that is given back
-abbrev pub disk_left : {D : Type 0} → Result (ℕ × D) (NotInspected D) → D
+abbrev pub disk_left : {D : Type 0} → Result (Status × D) (NotInspected D) → D
 disk_left (Ok given) = given.1
 disk_left (Err not_inspected) = not_inspected.disk
 
 -- ---- what is told of an answer
 
--- 1 where the file has a fault, 3 where the device or an allocation failed
-abbrev pub fault_status : OpenFault → ℕ
-fault_status open_fault.NotACache = 1
-fault_status (open_fault.Damaged what slot) = 1
-fault_status open_fault.Device = 3
-fault_status open_fault.NoMemory = 3
+-- refused where the file has a fault, failed where the device or an allocation did
+abbrev pub fault_status : OpenFault → Status
+fault_status open_fault.NotACache = status.Refused
+fault_status (open_fault.Damaged what slot) = status.Refused
+fault_status open_fault.Device = status.Failed
+fault_status open_fault.NoMemory = status.Failed
 
 abbrev pub told : {A : Type 0} → (A → List ℕ) → Result A OpenFault → List ℕ
 told lines (Ok value) = lines value
 told lines (Err f) = fault_line f
 
-abbrev pub status_of : {A : Type 0} → Result A OpenFault → ℕ
-status_of (Ok value) = 0
+abbrev pub status_of : {A : Type 0} → Result A OpenFault → Status
+status_of (Ok value) = status.Done
 status_of (Err f) = fault_status f
 
 -- These lines are written, and nothing else, and the status is given. Where the writer failed, a
 -- beginning of them is written; where an allocation did, nothing.
-abbrev pub Writes : Option (List ℕ) → Option (List ℕ) → List ℕ → ℕ → Result ℕ InspectFault → Type 0
+abbrev pub Writes : Option (List ℕ) → Option (List ℕ) → List ℕ → Status → Result Status InspectFault
+    → Type 0
 Writes held holds lines status (Ok given) = (given ≡ status) × Appends held holds lines
 Writes held holds lines status (Err fault.Output) = WritesPart held holds lines
 Writes held holds lines status (Err fault.NoMemory) = holds ≡ held
@@ -57,7 +60,7 @@ Writes held holds lines status (Err fault.NoMemory) = holds ≡ held
 -- the device only where it did. The lines and the status are those of the answer.
 pub record Tells {A : Type 0} (Alike : A → Standing → Type 0) (lines : A → List ℕ)
     (contents : List ℕ) (Failed : Type 0) (held holds : Option (List ℕ))
-    (result : Result ℕ InspectFault) : Type 0 where
+    (result : Result Status InspectFault) : Type 0 where
   pub answer : Result A OpenFault
   pub answers : Answers Alike answer (verdict contents)
   pub device : answer ≡ Err open_fault.Device → Failed
@@ -65,7 +68,7 @@ pub record Tells {A : Type 0} (Alike : A → Standing → Type 0) (lines : A →
 
 -- ---- checking
 
-abbrev pub ChecksTo : List ℕ → Type 0 → Option (List ℕ) → Option (List ℕ) → Result ℕ InspectFault
+abbrev pub ChecksTo : List ℕ → Type 0 → Option (List ℕ) → Option (List ℕ) → Result Status InspectFault
     → Type 0
 ChecksTo contents Failed held holds result =
     Tells (Reports contents) report_line contents Failed held holds result
@@ -79,7 +82,7 @@ pub record Lists (contents : List ℕ) (loaders : List (List ℕ × List ListedC
   pub stands : Stands s.found.sizes contents (state_in s) (arenas_in s) s.found.number
   pub listed : loaders ≡ listing (rows_with lay s.rows)
 
-abbrev pub ListsTo : List ℕ → Type 0 → Option (List ℕ) → Option (List ℕ) → Result ℕ InspectFault
+abbrev pub ListsTo : List ℕ → Type 0 → Option (List ℕ) → Option (List ℕ) → Result Status InspectFault
     → Type 0
 ListsTo contents Failed held holds result =
     Tells (Lists contents) list_lines contents Failed held holds result

@@ -7,7 +7,8 @@ ghost use Rattle.cm_inspect.specs.Inspecting.{Writes, told, status_of, ChecksTo,
 ghost use Rattle.cm_inspect.specs.Inspecting.{disk_left};
 
 use crate::fault::{InspectFault, NotInspected};
-use crate::telling::{DONE, tell, tell_fault, with_disk};
+use crate::status::Status;
+use crate::telling::{tell, tell_fault, with_disk};
 use crate::texts::line_of_report;
 use crate::{Report, check};
 use cm_disk::Disk;
@@ -16,9 +17,9 @@ use std::alloc::Global;
 use std::io::Write;
 
 /// Writes what the cache holds that would open from this file, or why none would, and gives the
-/// status and the disk: `ok loaders L classes C chunks K number N` with 0, `not a cache` or
-/// `damaged KIND SLOT` with 1, `device` or `memory` with 3. The file is only read, and nothing is
-/// synced.
+/// status and the disk: `ok loaders L classes C chunks K number N` with `Done`, `not a cache` or
+/// `damaged KIND SLOT` with `Refused`, `device` or `memory` with `Failed`. The file is only read, and
+/// nothing is synced.
 ///
 /// It is an `Err` where the writer fails (`Output`), or an allocation failed for the line
 /// (`NoMemory`).
@@ -26,7 +27,7 @@ pub fn check_to<W: Write, D: Disk>(
     alloc: Global,
     writer: &mut W,
     mut disk: D,
-) -> Result<(u8, D), NotInspected<D>>
+) -> Result<(Status, D), NotInspected<D>>
     ensures told { ChecksTo (D.contents disk) (D.failures disk < D.failures (disk_left result))
         (W.contents writer.old) (W.contents writer.new) (status_in result) }
     ensures reads { Reads D.contents D.unsynced D.failures D.moment D.left_since disk
@@ -41,13 +42,13 @@ fn tell_answer<W: Write>(
     alloc: Global,
     writer: &mut W,
     answer: Result<Report, OpenFault>,
-) -> Result<u8, InspectFault>
+) -> Result<Status, InspectFault>
     ensures { Writes (W.contents writer.old) (W.contents writer.new)
         (told report_line answer) (status_of answer) result }
 {
     match answer {
         Ok(report) => match line_of_report(alloc, report) {
-            Ok(line) => tell(writer, &line, DONE),
+            Ok(line) => tell(writer, &line, Status::Done),
             Err(_) => Err(InspectFault::NoMemory),
         },
         Err(fault) => tell_fault(alloc, writer, fault),

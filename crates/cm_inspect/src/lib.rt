@@ -9,6 +9,7 @@ mod laws;
 mod list_lines;
 mod listing;
 mod report;
+mod status;
 mod telling;
 mod texts;
 
@@ -19,3 +20,4 @@ pub use laws::listing_is_state;
 pub use list_lines::list_to;
 pub use listing::{ListedClass, ListedLoader, list, list_accepted};
 pub use report::Report;
+pub use status::Status;

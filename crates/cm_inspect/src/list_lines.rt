@@ -9,7 +9,8 @@ ghost use Rattle.cm_inspect.specs.Inspecting.{Writes, ListsTo, status_in, disk_l
 
 use crate::fault::{InspectFault, NotInspected};
 use crate::list_accepted;
-use crate::telling::{DONE, tell, tell_fault, with_disk};
+use crate::status::Status;
+use crate::telling::{tell, tell_fault, with_disk};
 use crate::texts::lines_of_list;
 use cm_disk::Disk;
 use cm_front::Front;
@@ -19,7 +20,7 @@ use std::io::Write;
 
 /// Writes which loaders and classes the cache of a file has, or why it isn't opened, and gives the
 /// status and the disk: in byte order of their names `loader NAME`, and behind each those of its
-/// classes, `class CLASS words W root R at P`, with 0; of a file that isn't opened what
+/// classes, `class CLASS words W root R at P`, with `Done`; of a file that isn't opened what
 /// [`crate::check_to`] writes. The file is opened as for a script, with a sync, so no crash takes
 /// back what is listed; nothing is written to it.
 ///
@@ -29,10 +30,10 @@ pub fn list_to<W: Write, D: Disk>(
     alloc: Global,
     writer: &mut W,
     disk: D,
-) -> Result<(u8, D), NotInspected<D>>
+) -> Result<(Status, D), NotInspected<D>>
     ensures told { ListsTo (D.contents disk) (D.failures disk < D.failures (disk_left result))
         (W.contents writer.old) (W.contents writer.new) (status_in result) }
-    ensures stored { status_in result ≡ Ok 0
+    ensures stored { status_in result ≡ Ok Status.Done
         → IsSettled (D.contents (disk_left result)) (D.unsynced (disk_left result)) }
     ensures run { SyncsAndReads D.contents D.unsynced D.failures D.moment D.left_since disk
         (disk_left result) ⊥ }
@@ -49,15 +50,15 @@ pub fn list_to<W: Write, D: Disk>(
     }
 }
 
-fn tell_list<W: Write>(alloc: Global, writer: &mut W, front: &Front) -> Result<u8, InspectFault>
+fn tell_list<W: Write>(alloc: Global, writer: &mut W, front: &Front) -> Result<Status, InspectFault>
     ensures { Writes (W.contents writer.old) (W.contents writer.new)
-        (list_lines (listing front.now.rows)) 0 result }
+        (list_lines (listing front.now.rows)) Status.Done result }
 {
     let Ok(loaders) = list_accepted(alloc, front) else {
         return Err(InspectFault::NoMemory);
     };
     match lines_of_list(alloc, &loaders) {
-        Ok(lines) => tell(writer, &lines, DONE),
+        Ok(lines) => tell(writer, &lines, Status::Done),
         Err(_) => Err(InspectFault::NoMemory),
     }
 }

@@ -5,23 +5,19 @@ ghost use Rattle.cm_inspect.specs.Texts.{fault_line};
 ghost use Rattle.cm_inspect.specs.Inspecting.{Writes, fault_status, status_in, disk_left};
 
 use crate::fault::{InspectFault, NotInspected};
+use crate::status::Status;
 use crate::texts::line_of_damage;
 use cm_lines::write_line;
 use cm_recover::OpenFault;
 use std::alloc::Global;
 use std::io::Write;
 
-/// The file stands for a cache.
-pub(crate) const DONE: u8 = 0;
-
-/// The file is no cache, or damaged.
-const REFUSED: u8 = 1;
-
-/// The device or memory failed.
-const FAILED: u8 = 3;
-
 /// Writes lines, and gives the status that goes with them.
-pub(crate) fn tell<W: Write>(writer: &mut W, lines: &[u8], status: u8) -> Result<u8, InspectFault>
+pub(crate) fn tell<W: Write>(
+    writer: &mut W,
+    lines: &[u8],
+    status: Status,
+) -> Result<Status, InspectFault>
     ensures { Writes (W.contents writer.old) (W.contents writer.new) lines.now status result }
 {
     match write_line(writer, lines) {
@@ -35,26 +31,26 @@ pub(crate) fn tell_fault<W: Write>(
     alloc: Global,
     writer: &mut W,
     fault: OpenFault,
-) -> Result<u8, InspectFault>
+) -> Result<Status, InspectFault>
     ensures { Writes (W.contents writer.old) (W.contents writer.new) (fault_line fault)
         (fault_status fault) result }
 {
     match fault {
-        OpenFault::NotACache => tell(writer, b"not a cache\n", REFUSED),
+        OpenFault::NotACache => tell(writer, b"not a cache\n", Status::Refused),
         OpenFault::Damaged { what, slot } => match line_of_damage(alloc, what, slot) {
-            Ok(line) => tell(writer, &line, REFUSED),
+            Ok(line) => tell(writer, &line, Status::Refused),
             Err(_) => Err(InspectFault::NoMemory),
         },
-        OpenFault::Device => tell(writer, b"device\n", FAILED),
-        OpenFault::NoMemory => tell(writer, b"memory\n", FAILED),
+        OpenFault::Device => tell(writer, b"device\n", Status::Failed),
+        OpenFault::NoMemory => tell(writer, b"memory\n", Status::Failed),
     }
 }
 
 /// What came of telling, with the disk.
 pub(crate) fn with_disk<D>(
-    status: Result<u8, InspectFault>,
+    status: Result<Status, InspectFault>,
     disk: D,
-) -> Result<(u8, D), NotInspected<D>>
+) -> Result<(Status, D), NotInspected<D>>
     ensures status { status_in result ≡ status }
     ensures disk { disk_left result ≡ disk }
 {

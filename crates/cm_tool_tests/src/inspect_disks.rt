@@ -1,7 +1,7 @@
 //! Disks that hold a cache.
 
 use cm_disk::{Disk, SimDisk};
-use cm_inspect::NotInspected;
+use cm_inspect::{NotInspected, Status};
 use cm_pool::Geometry;
 use cm_recover::format;
 use cm_tool::apply_script;
@@ -66,7 +66,9 @@ pub fn shortened_cache(alloc: Global, len: u64) -> Result<SimDisk, Fail> {
 }
 
 /// The status and the disk of what was told to the end.
-pub fn told_to_end<D: Drop>(told: Result<(u8, D), NotInspected<D>>) -> Result<(u8, D), Fail> {
+pub fn told_to_end<D: Drop>(
+    told: Result<(Status, D), NotInspected<D>>,
+) -> Result<(Status, D), Fail> {
     match told {
         Ok(given) => Ok(given),
         Err(

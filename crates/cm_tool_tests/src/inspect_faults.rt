@@ -2,7 +2,7 @@
 
 use crate::inspect_disks::{cache_after, changed_cache, empty_cache, shortened_cache, told_to_end};
 use cm_disk::{Disk, FuseDisk, SimDisk};
-use cm_inspect::{check_to, list_to};
+use cm_inspect::{Status, check_to, list_to};
 use std::alloc::Global;
 use std::test::*;
 
@@ -11,17 +11,18 @@ fn told<D: Disk + Drop>(
     alloc: Global,
     checked: D,
     listed: D,
-) -> Result<(Vec<u8>, u8, Vec<u8>, u8), Fail> {
+) -> Result<(Vec<u8>, Status, Vec<u8>, Status), Fail> {
     let (mut check, mut list) = (Vec::new(alloc), Vec::new(alloc));
     let (check_status, _checked) = told_to_end(check_to(alloc, &mut check, checked))?;
     let (list_status, _listed) = told_to_end(list_to(alloc, &mut list, listed))?;
     Ok((check, check_status, list, list_status))
 }
 
-/// Whether both verbs tell this line of two like disks, with status 1.
+/// Whether both verbs tell this line of two like disks, and that they are refused.
 fn is_refused(alloc: Global, checked: SimDisk, listed: SimDisk, line: &[u8]) -> Result<bool, Fail> {
     let (check, check_status, list, list_status) = told(alloc, checked, listed)?;
-    Ok(check.as_slice() == line && list.as_slice() == line && check_status == 1 && list_status == 1)
+    let is_told = check.as_slice() == line && list.as_slice() == line;
+    Ok(is_told && check_status == Status::Refused && list_status == Status::Refused)
 }
 
 /// A byte of the empty cache, what stands in its place, and what is told then.
@@ -77,8 +78,8 @@ fn a_failing_device_is_told(rt: HostRuntime) -> Result<(), Fail> {
         let checked = FuseDisk::new(cache_after(alloc, script)?, pass, 0);
         let listed = FuseDisk::new(cache_after(alloc, script)?, pass, 0);
         let (check, check_status, list, list_status) = told(alloc, checked, listed)?;
-        if list_status == 0 {
-            assert_eq!(rt; check_status, 0);
+        if list_status == Status::Done {
+            assert_eq!(rt; check_status, Status::Done);
             assert_eq!(rt;
                 check.as_slice(),
                 b"ok loaders 1 classes 1 chunks 1 number 2\n".as_slice()
@@ -90,10 +91,10 @@ fn a_failing_device_is_told(rt: HostRuntime) -> Result<(), Fail> {
             assert!(rt; pass > 2);
             return Ok(());
         }
-        assert_eq!(rt; list_status, 3);
+        assert_eq!(rt; list_status, Status::Failed);
         assert_eq!(rt; list.as_slice(), b"device\n".as_slice());
-        if check_status != 0 {
-            assert_eq!(rt; check_status, 3);
+        if check_status != Status::Done {
+            assert_eq!(rt; check_status, Status::Failed);
             assert_eq!(rt; check.as_slice(), b"device\n".as_slice());
         }
     }
@@ -106,11 +107,11 @@ fn a_disk_that_failed_is_given_back(rt: HostRuntime) -> Result<(), Fail> {
     let fuse = FuseDisk::new(empty_cache(alloc)?, 0, 0);
     let mut line = Vec::new(alloc);
     let (status, fuse) = told_to_end(check_to(alloc, &mut line, fuse))?;
-    assert_eq!(rt; status, 3);
+    assert_eq!(rt; status, Status::Failed);
     let mut disk = fuse.into_inner();
     disk.disarm();
     let mut again = Vec::new(alloc);
     let (status, _) = told_to_end(check_to(alloc, &mut again, disk))?;
-    assert_eq!(rt; status, 0);
+    assert_eq!(rt; status, Status::Done);
     Ok(())
 }

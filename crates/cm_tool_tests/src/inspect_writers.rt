@@ -3,7 +3,7 @@
 use crate::inspect_disks::{cache_after, told_to_end};
 use crate::line_writers::StuckWriter;
 use cm_disk::SimDisk;
-use cm_inspect::{InspectFault, NotInspected, check_to, list_to};
+use cm_inspect::{InspectFault, NotInspected, Status, check_to, list_to};
 use std::alloc::Global;
 use std::io::{self, ErrorKind, Write};
 use std::test::*;
@@ -47,7 +47,7 @@ fn narrow(alloc: Global, room: usize) -> NarrowWriter {
 
 /// Why nothing was told to the end, and the disk.
 fn not_told(
-    told: Result<(u8, SimDisk), NotInspected<SimDisk>>,
+    told: Result<(Status, SimDisk), NotInspected<SimDisk>>,
 ) -> Result<(InspectFault, SimDisk), Fail> {
     match told {
         Ok(_) => Err("a fault".into()),
@@ -99,11 +99,11 @@ fn a_writer_of_just_enough_room_has_it_all(rt: HostRuntime) -> Result<(), Fail> 
     let disk = cache_after(alloc, b"loader app\ndefine app <0141>\n")?;
     let mut writer = narrow(alloc, 41);
     let (status, disk) = told_to_end(check_to(alloc, &mut writer, disk))?;
-    assert_eq!(rt; status, 0);
+    assert_eq!(rt; status, Status::Done);
     assert_eq!(rt; writer.bytes.as_slice(), REPORT);
     let mut writer = narrow(alloc, 40);
     let (status, _) = told_to_end(list_to(alloc, &mut writer, disk))?;
-    assert_eq!(rt; status, 0);
+    assert_eq!(rt; status, Status::Done);
     assert_eq!(rt; writer.bytes.as_slice(), LIST);
     Ok(())
 }

@@ -2,7 +2,7 @@
 
 use crate::inspect_disks::{cache_after, told_to_end};
 use cm_disk::{Disk, SimDisk};
-use cm_inspect::{check_to, list_to};
+use cm_inspect::{Status, check_to, list_to};
 use std::alloc::Global;
 use std::test::*;
 
@@ -44,14 +44,14 @@ const CASES: [Case<'_>; 5] = [
 ];
 
 /// What a check tells of a disk, with the status, and the disk.
-fn checked(alloc: Global, disk: SimDisk) -> Result<(Vec<u8>, u8, SimDisk), Fail> {
+fn checked(alloc: Global, disk: SimDisk) -> Result<(Vec<u8>, Status, SimDisk), Fail> {
     let mut told = Vec::new(alloc);
     let (status, disk) = told_to_end(check_to(alloc, &mut told, disk))?;
     Ok((told, status, disk))
 }
 
 /// What a list tells of a disk, with the status, and the disk.
-fn listed(alloc: Global, disk: SimDisk) -> Result<(Vec<u8>, u8, SimDisk), Fail> {
+fn listed(alloc: Global, disk: SimDisk) -> Result<(Vec<u8>, Status, SimDisk), Fail> {
     let mut told = Vec::new(alloc);
     let (status, disk) = told_to_end(list_to(alloc, &mut told, disk))?;
     Ok((told, status, disk))
@@ -63,10 +63,10 @@ fn caches_are_checked_and_listed(rt: HostRuntime) -> Result<(), Fail> {
     for (script, report, list) in &CASES {
         let (told, status, disk) = checked(alloc, cache_after(alloc, script)?)?;
         assert_eq!(rt; told.as_slice(), *report);
-        assert_eq!(rt; status, 0);
+        assert_eq!(rt; status, Status::Done);
         let (told, status, disk) = listed(alloc, disk)?;
         assert_eq!(rt; told.as_slice(), *list);
-        assert_eq!(rt; status, 0);
+        assert_eq!(rt; status, Status::Done);
         let (told, _, _) = checked(alloc, disk)?;
         assert_eq!(rt; told.as_slice(), *report);
     }
@@ -97,5 +97,15 @@ fn lines_go_behind_what_is_written(rt: HostRuntime) -> Result<(), Fail> {
         told.as_slice(),
         b"before\nloader app\nok loaders 1 classes 0 chunks 0 number 1\n".as_slice()
     );
+    Ok(())
+}
+
+const NUMBERS: [(Status, u8); 3] = [(Status::Done, 0), (Status::Refused, 1), (Status::Failed, 3)];
+
+#[test]
+fn statuses_have_their_numbers(rt: HostRuntime) -> Result<(), Fail> {
+    for (status, number) in &NUMBERS {
+        assert_eq!(rt; status.number(), *number);
+    }
     Ok(())
 }

@@ -1,8 +1,9 @@
 //! Caches that lie in files.
 
 use crate::scripts::run_script;
-use crate::status::{DONE, FAILED, REFUSED, say};
+use crate::status::say;
 use cm_file_disk::{CreateError, FileDisk, OpenError};
+use cm_inspect::Status;
 use cm_pool::Geometry;
 use cm_recover::{FormatFault, format};
 use std::fs::{self, File, Files};
@@ -13,25 +14,25 @@ pub fn format_file(
     rt: &(impl Print + Eprint + Files<File = File> + AllocGlobal),
     path: &str,
     geometry: Geometry,
-) -> u8 {
+) -> Status {
     let mut disk = match FileDisk::create(rt, rt.alloc(), path) {
         Ok(disk) => disk,
-        Err(CreateError::Exists) => return say(rt, "exists", REFUSED),
+        Err(CreateError::Exists) => return say(rt, "exists", Status::Refused),
         Err(CreateError::Device(cause)) => {
             tell_cause(rt, path, cause);
-            return say(rt, "device", FAILED);
+            return say(rt, "device", Status::Failed);
         }
     };
     match format(rt.alloc(), &mut disk, geometry) {
-        Ok(()) => say(rt, "ok", DONE),
-        Err(FormatFault::NotEmpty) => say(rt, "exists", REFUSED),
+        Ok(()) => say(rt, "ok", Status::Done),
+        Err(FormatFault::NotEmpty) => say(rt, "exists", Status::Refused),
         Err(FormatFault::Device) => {
             give_up(rt, path, disk);
-            say(rt, "device", FAILED)
+            say(rt, "device", Status::Failed)
         }
         Err(FormatFault::NoMemory) => {
             give_up(rt, path, disk);
-            say(rt, "memory", FAILED)
+            say(rt, "memory", Status::Failed)
         }
     }
 }
@@ -49,7 +50,7 @@ fn give_up(rt: &(impl Eprint + Files<File = File>), path: &str, disk: FileDisk) 
 pub fn apply_file(
     rt: &(impl Input + Print + Eprint + Files<File = File> + AllocGlobal),
     path: &str,
-) -> u8 {
+) -> Status {
     match FileDisk::open(rt, rt.alloc(), path) {
         Ok(disk) => {
             let (status, disk) = run_script(rt, disk);
@@ -61,12 +62,12 @@ pub fn apply_file(
 }
 
 /// Says that a file can't be opened, and tells why.
-pub fn say_not_opened(rt: &(impl Print + Eprint), path: &str, error: OpenError) -> u8 {
+pub fn say_not_opened(rt: &(impl Print + Eprint), path: &str, error: OpenError) -> Status {
     if let OpenError::NoMemory = error {
-        return say(rt, "memory", FAILED);
+        return say(rt, "memory", Status::Failed);
     }
     let _ = eprintln!(rt; "cmcache: {path}: {error}");
-    say(rt, "device", FAILED)
+    say(rt, "device", Status::Failed)
 }
 
 /// Tells why a file's first call that failed did so, if one has.

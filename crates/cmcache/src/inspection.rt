@@ -1,14 +1,17 @@
 //! What a cache's file holds, without a change of it.
 
 use crate::files::{say_not_opened, tell_failure};
-use crate::status::FAILED;
+use crate::status::fail;
 use cm_file_disk::FileDisk;
-use cm_inspect::{NotInspected, check_to, list_to};
+use cm_inspect::{NotInspected, Status, check_to, list_to};
 use std::fs::{File, Files};
 use std::io;
 
 /// Looks for damage in the cache in a file, and gives the status. The file is only read.
-pub fn check_file(rt: &(impl Print + Eprint + Files<File = File> + AllocGlobal), path: &str) -> u8 {
+pub fn check_file(
+    rt: &(impl Print + Eprint + Files<File = File> + AllocGlobal),
+    path: &str,
+) -> Status {
     match FileDisk::open_read_only(rt, rt.alloc(), path) {
         Ok(disk) => {
             let told = check_to(rt.alloc(), &mut io::writer(rt), disk);
@@ -20,7 +23,10 @@ pub fn check_file(rt: &(impl Print + Eprint + Files<File = File> + AllocGlobal),
 
 /// Lists what the cache in a file holds, and gives the status. The file is opened as for a script,
 /// with a sync, and nothing is written.
-pub fn list_file(rt: &(impl Print + Eprint + Files<File = File> + AllocGlobal), path: &str) -> u8 {
+pub fn list_file(
+    rt: &(impl Print + Eprint + Files<File = File> + AllocGlobal),
+    path: &str,
+) -> Status {
     match FileDisk::open_read_only(rt, rt.alloc(), path) {
         Ok(disk) => {
             let told = list_to(rt.alloc(), &mut io::writer(rt), disk);
@@ -34,8 +40,8 @@ pub fn list_file(rt: &(impl Print + Eprint + Files<File = File> + AllocGlobal), 
 fn status_of_told(
     rt: &impl Eprint,
     path: &str,
-    told: Result<(u8, FileDisk), NotInspected<FileDisk>>,
-) -> u8 {
+    told: Result<(Status, FileDisk), NotInspected<FileDisk>>,
+) -> Status {
     match told {
         Ok((status, disk)) => {
             tell_failure(rt, path, &disk);
@@ -43,8 +49,7 @@ fn status_of_told(
         }
         Err(NotInspected { fault, disk }) => {
             tell_failure(rt, path, &disk);
-            let _ = eprintln!(rt; "cmcache: {fault}");
-            FAILED
+            fail(rt, fault)
         }
     }
 }

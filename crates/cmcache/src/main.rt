@@ -12,6 +12,7 @@ use crate::files::{apply_file, format_file};
 use crate::inspection::{check_file, list_file};
 use crate::memory::apply_in_memory;
 use crate::words::{read_words, tell_fault};
+use cm_inspect::Status;
 use cm_plan::{Plan, UsageFault, plan};
 use std::alloc::{AllocError, Global};
 use std::fs::{File, Files};
@@ -22,7 +23,7 @@ fn main(rt: HostRuntime) -> ExitCode {
     ExitCode::from(run(&rt))
 }
 
-/// Does what the command line asks for, and gives the status.
+/// Does what the command line asks for, and gives the number of the status.
 fn run(rt: &(impl Env + Input + Print + Eprint + Files<File = File> + AllocGlobal)) -> u8 {
     let words = match read_words(rt) {
         Ok(words) => words,
@@ -32,7 +33,7 @@ fn run(rt: &(impl Env + Input + Print + Eprint + Files<File = File> + AllocGloba
         return tell_fault(rt, &UsageFault::NoMemory);
     };
     match plan(rt.alloc(), &texts) {
-        Ok(plan) => carry_out(rt, &plan),
+        Ok(plan) => carry_out(rt, &plan).number(),
         Err(fault) => tell_fault(rt, &fault),
     }
 }
@@ -49,7 +50,7 @@ fn texts_of(alloc: Global, words: &[String]) -> Result<Vec<&str>, AllocError> {
 fn carry_out(
     rt: &(impl Input + Print + Eprint + Files<File = File> + AllocGlobal),
     plan: &Plan<'_>,
-) -> u8 {
+) -> Status {
     match plan {
         Plan::Format(path, geometry) => format_file(rt, path, *geometry),
         Plan::Check(path) => check_file(rt, path),

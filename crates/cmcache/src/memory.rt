@@ -1,8 +1,9 @@
 //! Caches that lie in memory for one run.
 
 use crate::scripts::run_script;
-use crate::status::{FAILED, say};
+use crate::status::say;
 use cm_disk::SimDisk;
+use cm_inspect::Status;
 use cm_pool::Geometry;
 use cm_recover::{FormatFault, format};
 
@@ -14,15 +15,15 @@ const ROOTS: u32 = 64;
 const SLOTS: u32 = 4096;
 
 /// Runs the script on standard input on a fresh cache in memory, and gives the status.
-pub fn apply_in_memory(rt: &(impl Input + Print + Eprint + AllocGlobal)) -> u8 {
+pub fn apply_in_memory(rt: &(impl Input + Print + Eprint + AllocGlobal)) -> Status {
     let Some(geometry) = Geometry::new(TOP, ROOTS, SLOTS) else {
-        return say(rt, "memory", FAILED);
+        return say(rt, "memory", Status::Failed);
     };
     let mut disk = SimDisk::new(rt.alloc());
     match format(rt.alloc(), &mut disk, geometry) {
         Ok(()) => run_script(rt, disk).0,
-        Err(FormatFault::NotEmpty) => say(rt, "exists", FAILED),
-        Err(FormatFault::Device) => say(rt, "device", FAILED),
-        Err(FormatFault::NoMemory) => say(rt, "memory", FAILED),
+        Err(FormatFault::NotEmpty) => say(rt, "exists", Status::Failed),
+        Err(FormatFault::Device) => say(rt, "device", Status::Failed),
+        Err(FormatFault::NoMemory) => say(rt, "memory", Status::Failed),
     }
 }

@@ -1,6 +1,6 @@
 //! The words of the command line, and what is said where they ask for nothing that can be done.
 
-use crate::status::{FAILED, OUTPUT_FAILED, tell};
+use crate::status::{OUTPUT_FAILED, fail};
 use cm_plan::{UsageFault, wrong_words};
 use std::rt::Env;
 use std::{env, io};
@@ -17,13 +17,13 @@ pub fn read_words(rt: &(impl Env + AllocGlobal)) -> Result<Vec<String>, UsageFau
     }
 }
 
-/// Prints the help, or what is wrong with the words, and gives the fault's status. Of wrong words it
-/// is the same whether or not their text reaches anyone.
+/// Prints the help, or what is wrong with the words, and gives the number of the fault's status.
+/// Of wrong words it is the same whether or not their text reaches anyone.
 pub fn tell_fault(rt: &(impl Print + Eprint), fault: &UsageFault) -> u8 {
     match fault {
         UsageFault::Help(text) => {
             if print!(rt; "{text}").is_err() {
-                return tell(rt, OUTPUT_FAILED, FAILED);
+                return fail(rt, OUTPUT_FAILED).number();
             }
         }
         UsageFault::Words(text) => {

@@ -1,6 +1,7 @@
 use Rattle.std.proofs.Common.{◌∙◌, ℕ, List, Result, sym, subst}
 use Rattle.cm_recover.specs.declared.fault.OpenFault.{OpenFault}
 use Rattle.cm_inspect.specs.declared.report.Report.{Report}
+use Rattle.cm_inspect.specs.declared.status.Status.TheVariants.{Done}
 use Rattle.cm_inspect.specs.Texts.{report_line}
 use Rattle.cm_inspect.specs.Inspecting.{Writes, told, status_of}
 use Rattle.cm_inspect.proofs.check_lines.tell_answer.Goals as goal
@@ -11,5 +12,5 @@ returns-in-Ok-line_of_report g c =
     let holds = g.W.Write.contents c.tell.new.writer in
     subst (λ (a : Result Report OpenFault).
     Writes held holds (told report_line a) (status_of a) c.tell.result) (sym c.in-Ok.is)
-    (subst (λ (lines : List ℕ). Writes held holds lines 0 c.tell.result)
+    (subst (λ (lines : List ℕ). Writes held holds lines Done c.tell.result)
     (c.deref.ensures.value ∙ c.in-Ok-line_of_report.ensures) c.tell.ensures)

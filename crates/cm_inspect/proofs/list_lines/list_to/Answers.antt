@@ -7,6 +7,8 @@ use Rattle.cm_recover.specs.declared.fault.OpenFault.{OpenFault}
 use Rattle.cm_recover.specs.declared.fault.OpenFault.TheVariants as open_fault
 use Rattle.cm_inspect.specs.Listing.{listing}
 use Rattle.cm_inspect.specs.declared.fault.InspectFault.{InspectFault}
+use Rattle.cm_inspect.specs.declared.status.Status.{Status}
+use Rattle.cm_inspect.specs.declared.status.Status.TheVariants.{Done}
 use Rattle.cm_inspect.specs.Texts.{list_lines, fault_line}
 use Rattle.cm_inspect.specs.Inspecting.{Writes, fault_status}
 use Rattle.cm_inspect.proofs.list_lines.list_to.Goals as goal
@@ -27,10 +29,10 @@ returns-in-Ok-clause-told g c =
         alike = record { stands = opens.stands; listed = refl };
       };
       device = λ e. absurd (cc);
-      written = subst (λ (r : Result ℕ InspectFault). Writes held holds (list_lines (listing rows)) 0 r)
+      written = subst (λ (r : Result Status InspectFault). Writes held holds (list_lines (listing rows)) Done r)
           (sym c.with_disk.ensures.status)
           (subst (λ (l : List (Row (List ℕ))).
-          Writes held holds (list_lines (listing l)) 0 c.tell_list-status.result) same
+          Writes held holds (list_lines (listing l)) Done c.tell_list-status.result) same
           c.tell_list-status.ensures);
     }
 
@@ -47,21 +49,21 @@ returns-in-Err-clause-told g c =
           let device : fault ≡ open_fault.Device = cc in
           subst (λ d. failures c.args.disk < failures d) (sym c.with_disk-in-Err.ensures.disk)
           (c.in-Err.ensures.run.cause device);
-      written = subst (λ (r : Result ℕ InspectFault).
+      written = subst (λ (r : Result Status InspectFault).
           Writes held holds (fault_line fault) (fault_status fault) r)
           (sym c.with_disk-in-Err.ensures.status) c.tell_fault-status.ensures;
     }
 
-not_done : (f : OpenFault) → fault_status f ≡ 0 → ⊥
+not_done : (f : OpenFault) → fault_status f ≡ Done → ⊥
 not_done open_fault.NotACache e = cc
 not_done (open_fault.Damaged what slot) e = cc
 not_done open_fault.Device e = cc
 not_done open_fault.NoMemory e = cc
 
 never_done : (held holds : Option (List ℕ)) (lines : List ℕ) (f : OpenFault)
-    (r : Result ℕ InspectFault) → Writes held holds lines (fault_status f) r → r ≡ Ok 0 → ⊥
+    (r : Result Status InspectFault) → Writes held holds lines (fault_status f) r → r ≡ Ok Done → ⊥
 never_done held holds lines f (Ok given) written e =
-    let done : given ≡ 0 = cc in not_done f (sym written.0 ∙ done)
+    let done : given ≡ Done = cc in not_done f (sym written.0 ∙ done)
 never_done held holds lines f (Err x) written e = cc
 
 pub returns-in-Err-clause-stored : goal.returns-in-Err-clause-stored

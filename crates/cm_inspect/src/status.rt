@@ -1,0 +1,29 @@
+//! What comes of a run, and the number that it ends with.
+
+ghost use Rattle.std.specs.Prelude.{◌≡◌};
+
+/// What came of all that a run was to do.
+#[derive(Clone, Copy, Debug, PartialEq, Eq)]
+pub enum Status {
+    /// All was done.
+    Done,
+    /// A line was refused, a file is no cache or damaged, or a name is taken.
+    Refused,
+    /// The device, memory, the input or the output failed.
+    Failed,
+}
+
+impl Status {
+    /// The number that a process ends with. 2 is that of wrong words of a command line.
+    pub fn number(self) -> u8
+        ensures done { self ≡ Status.Done → result ≡ 0 }
+        ensures refused { self ≡ Status.Refused → result ≡ 1 }
+        ensures failed { self ≡ Status.Failed → result ≡ 3 }
+    {
+        match self {
+            Status::Done => 0,
+            Status::Refused => 1,
+            Status::Failed => 3,
+        }
+    }
+}
