@@ -21,3 +21,4 @@ pub use list_lines::list_to;
 pub use listing::{ListedClass, ListedLoader, list, list_accepted};
 pub use report::Report;
 pub use status::Status;
+pub use telling::tell_fault;

@@ -26,8 +26,9 @@ pub(crate) fn tell<W: Write>(
     }
 }
 
-/// Tells why a file isn't opened. Only a damage's line takes memory.
-pub(crate) fn tell_fault<W: Write>(
+/// Writes why a file isn't opened, and gives the status, as [`crate::check_to`] does. Only a damage's
+/// line takes memory.
+pub fn tell_fault<W: Write>(
     alloc: Global,
     writer: &mut W,
     fault: OpenFault,

@@ -24,7 +24,10 @@ pub fn run_script<D: Disk>(
 }
 
 /// Says why a script wasn't run to its end, and gives the status.
-fn status_of_run(rt: &(impl Print + Eprint), run: Result<Outcome, ApplyFault>) -> Status {
+fn status_of_run(
+    rt: &(impl Print + Eprint + AllocGlobal),
+    run: Result<Outcome, ApplyFault>,
+) -> Status {
     match run {
         Ok(outcome) => status_of(outcome),
         Err(ApplyFault::Open(fault)) => say_fault(rt, fault),

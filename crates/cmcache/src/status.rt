@@ -2,10 +2,11 @@
 
 ghost use Rattle.std.specs.Prelude.{◌≡◌, true, false};
 
-use cm_inspect::Status;
+use cm_inspect::{Status, tell_fault};
 use cm_recover::OpenFault;
 use cm_tool::Outcome;
 use std::fmt::Display;
+use std::io;
 
 pub const OUTPUT_FAILED: &str = "the output failed";
 
@@ -26,16 +27,6 @@ pub fn status_of(outcome: Outcome) -> Status
     }
 }
 
-/// The status of a file that isn't opened.
-pub fn status_of_fault(fault: OpenFault) -> Status {
-    match fault {
-        OpenFault::NotACache => Status::Refused,
-        OpenFault::Damaged { what: _, slot: _ } => Status::Refused,
-        OpenFault::Device => Status::Failed,
-        OpenFault::NoMemory => Status::Failed,
-    }
-}
-
 /// Writes a word of the program's own to standard output, and gives the status: this one, or that
 /// of a failure where the output fails.
 pub fn say(rt: &(impl Print + Eprint), word: &str, status: Status) -> Status {
@@ -46,14 +37,10 @@ pub fn say(rt: &(impl Print + Eprint), word: &str, status: Status) -> Status {
 }
 
 /// Says why a file isn't opened, as [`say`] does.
-pub fn say_fault(rt: &(impl Print + Eprint), fault: OpenFault) -> Status {
-    let printed = match fault {
-        OpenFault::Damaged { what, slot } => println!(rt; "damaged {} {slot}", what.number()),
-        _ => println!(rt; "{fault}"),
-    };
-    match printed {
-        Ok(()) => status_of_fault(fault),
-        Err(_) => fail(rt, OUTPUT_FAILED),
+pub fn say_fault(rt: &(impl Print + Eprint + AllocGlobal), fault: OpenFault) -> Status {
+    match tell_fault(rt.alloc(), &mut io::writer(rt), fault) {
+        Ok(status) => status,
+        Err(fault) => fail(rt, fault),
     }
 }
 
