@@ -10,7 +10,7 @@ ghost use Rattle.cm_group.specs.Groups.{entries_in};
 ghost use Rattle.cm_commit.specs.Keeping.{keep_rules};
 
 use cm_group::CarriedEntry;
-use cm_layout::{Entry, LoaderRow, Row, SlotName};
+use cm_layout::{Entry, Row};
 use cm_record::Record;
 use cm_rows::Book;
 use std::alloc::Global;
@@ -21,10 +21,7 @@ fn copy_entry(entry: &Entry<()>) -> Entry<()>
     ensures { result ≡ entry.now }
 {
     match entry {
-        Entry::Live(Row::Loader(row)) => Entry::Live(Row::Loader(LoaderRow {
-            number: row.number,
-            name: SlotName::new(row.name.as_bytes()).unwrap(),
-        })),
+        Entry::Live(Row::Loader(row)) => Entry::Live(Row::Loader(*row)),
         Entry::Live(Row::Class(row, ())) => Entry::Live(Row::Class(*row, ())),
         Entry::Unload(entry) => Entry::Unload(*entry),
         Entry::Move(entry) => Entry::Move(*entry),

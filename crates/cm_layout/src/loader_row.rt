@@ -6,7 +6,7 @@ use crate::name::{NAME_BYTES, SlotName};
 use crate::slot::{SLOT_BYTES, is_same_slot};
 
 /// A live loader.
-#[derive(Debug, Drop)]
+#[derive(Clone, Copy, Debug)]
 pub struct LoaderRow {
     /// The number of the command that made it, by which all else in the journal names it.
     pub number: u64,

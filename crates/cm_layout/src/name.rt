@@ -10,22 +10,34 @@ use std::marker::Model;
 pub const NAME_BYTES: usize = 48;
 
 /// A name of at most 48 bytes, kept in place.
-#[derive(Debug, Drop)]
+#[derive(Clone, Copy, Debug)]
 pub struct SlotName {
     bytes: [u8; NAME_BYTES],
     len: usize,
 }
 
 impl Model for SlotName {
-    ghost use Rattle.std.specs.Prelude.{◌≡◌, ◌≤◌, ◌-◌, ◌++◌, List, ℕ, take, replicate};
+    ghost use Rattle.std.specs.Prelude.{◌≡◌, ◌≤◌, ◌-◌, ◌++◌, List, ℕ, length, take, replicate};
+    ghost use Rattle.std.proofs.Common.{ap, sym, ◌∙◌, arith, length-take-le};
     ghost use Rattle.cm_layout.specs.Names.{name_limit};
 
     ghost Value = { List ℕ };
 
     ghost view = { λ n. take n.len n.bytes };
 
-    ghost invariant = { λ n. (n.len ≤ name_limit)
+    ghost invariant = { λ n. (n.len ≤ name_limit) × (length n.bytes ≡ name_limit)
         × (n.bytes ≡ take n.len n.bytes ++ replicate (name_limit - n.len) 0) };
+
+    ghost inverse = { λ name. record {
+      bytes = name ++ replicate (name_limit - length name) 0;
+      len = length name;
+    } };
+
+    ghost inverse_ok = { λ n h i.
+        let fits = length-take-le n.len n.bytes (omega (arith, h.0, h.1)) in record {
+          bytes = (ap (λ len. take n.len n.bytes ++ replicate (name_limit - len) 0) fits ∙ sym h.2) i;
+          len = fits i;
+        } };
 }
 
 impl SlotName {

@@ -8,7 +8,7 @@ ghost use Rattle.cm_layout.specs.Rules.{broken_live_rule};
 ghost use Rattle.cm_record.specs.Names.{class_name_in};
 ghost use Rattle.cm_rows.specs.Rows.{class_of};
 
-use cm_layout::{ClassRow, LoaderRow, Row, SlotName};
+use cm_layout::{ClassRow, LoaderRow, Row};
 use cm_pool::Geometry;
 use cm_prepare::Prepared;
 use cm_record::Record;
@@ -39,16 +39,6 @@ impl Model for SharedRows {
         × (rows_with arc_value r.committed.rows ≡ r.accepted.rows) };
 }
 
-// The row once more.
-fn copy_loader(row: &LoaderRow) -> LoaderRow
-    ensures { result ≡ row.now }
-{
-    LoaderRow {
-        number: row.number,
-        name: SlotName::new(row.name.as_bytes()).unwrap(),
-    }
-}
-
 impl SharedRows {
     /// No rows.
     pub(crate) fn new(alloc: Global, geometry: Geometry) -> Result<SharedRows, AllocError>
@@ -75,12 +65,8 @@ impl SharedRows {
         requires { broken_live_rule self.old.sizes base self.old.rows (Loader row.now) ≡ None }
         ensures { self.new ≡ record self.old { rows = self.old.rows ++ Loader row.now ∷ [] } }
     {
-        let _accepted = self
-            .accepted
-            .apply_live(base, Row::Loader(copy_loader(row)));
-        let _committed = self
-            .committed
-            .apply_live(base, Row::Loader(copy_loader(row)));
+        let _accepted = self.accepted.apply_live(base, Row::Loader(*row));
+        let _committed = self.committed.apply_live(base, Row::Loader(*row));
     }
 
     /// A class more, which keeps them.

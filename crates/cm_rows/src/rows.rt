@@ -9,25 +9,15 @@ ghost use Rattle.cm_layout.specs.Rows.{row_with, bare};
 ghost use Rattle.cm_rows.specs.Held.{Holds, CanBeHeld, first_chunks, own_chunk, living_chunk};
 
 use cm_index::Slot;
-use cm_layout::{LoaderRow, Row, SlotName};
+use cm_layout::Row;
 use cm_pool::{Chunk, Pool};
-
-/// The same row once more.
-pub fn copy_loader(row: &LoaderRow) -> LoaderRow
-    ensures { result ≡ row.now }
-{
-    LoaderRow {
-        number: row.number,
-        name: SlotName::new(row.name.as_bytes()).unwrap(),
-    }
-}
 
 // The row once more, with nothing kept of a class.
 fn bare_row<Q>(row: &Row<Q>) -> Row<()>
     ensures { result ≡ row_with (λ q. tt) row.now }
 {
     match row {
-        Row::Loader(row) => Row::Loader(copy_loader(row)),
+        Row::Loader(row) => Row::Loader(*row),
         Row::Class(row, _) => Row::Class(*row, ()),
     }
 }
