@@ -4,7 +4,6 @@ use Rattle.std.specs.Prelude.{Option, Some, None}
 use Rattle.std.specs.List.{AllByRecursion}
 use Rattle.cm_disk.specs.Disk.{Unsynced, IsSettled}
 use Rattle.cm_pool.specs.Geometry.{Sizes}
-use Rattle.cm_layout.specs.declared.half.Half.{Half}
 use Rattle.cm_layout.specs.declared.row.Row.{Row}
 use Rattle.cm_layout.specs.declared.row.Row.TheVariants.{Loader, Class}
 use Rattle.cm_layout.specs.Offsets.{root_size}
@@ -14,6 +13,7 @@ use Rattle.cm_group.specs.Groups.{Handed, IsGroup, IsRightRecord, entries_in}
 use Rattle.cm_rows.specs.Rows.{LiveRows}
 use Rattle.cm_state.specs.State.{words_show}
 use Rattle.cm_state.specs.Entries.{AreCacheRows}
+use Rattle.cm_commit.specs.declared.journal.Journal.{Journal}
 use Rattle.cm_commit.specs.Plans.{Stage}
 use Rattle.cm_commit.specs.Committed.{Committed, end_slot}
 use Rattle.cm_commit.specs.Offers.{IsNext, rows_after_group, committed_after}
@@ -30,20 +30,20 @@ HasRightRecord (Class r words) = IsRightRecord words
 abbrev pub AreRight : List (Row (List ℕ)) → Type 0
 AreRight rows = AllByRecursion HasRightRecord rows
 
--- Contents hold the cache of these rows and this number: they match a framing whose half that
--- counts ends at this slot, they have so many whole roots, and all of it is stored.
-pub record IsHeld (contents : List ℕ) (unsynced : Unsynced) (sizes : Sizes)
-    (rows : List (Row (List ℕ))) (number : ℕ) (half : Half) (end roots : ℕ) : Type 0 where
+-- Contents hold the cache of these rows, and the journal goes on there: they match a framing whose
+-- half that counts ends at its slot, they have so many whole roots, and all of it is stored.
+pub record IsHeld (contents : List ℕ) (unsynced : Unsynced) (journal : Journal)
+    (rows : List (Row (List ℕ))) (roots : ℕ) : Type 0 where
   pub settled : IsSettled contents unsynced
   pub framing : Framing
-  pub counting_is : framing.counting ≡ half
-  pub end_is : end_slot framing ≡ end
-  pub right : IsRight sizes framing rows number
-  pub matches : Matches sizes framing rows contents
-  pub cache : AreCacheRows words_show sizes number rows
+  pub counting_is : framing.counting ≡ journal.half
+  pub end_is : end_slot framing ≡ journal.end
+  pub right : IsRight journal.geometry framing rows journal.number
+  pub matches : Matches journal.geometry framing rows contents
+  pub cache : AreCacheRows words_show journal.geometry journal.number rows
   pub records : AreRight rows
-  pub number_is : number ≤ 2 ^ 63
-  pub roots_are : roots ≡ whole_roots sizes (length contents)
+  pub number_is : journal.number ≤ 2 ^ 63
+  pub roots_are : roots ≡ whole_roots journal.geometry (length contents)
 
 -- ---- the committer's own
 

@@ -29,7 +29,7 @@ use crate::progress::{AdvanceFault, Progress};
 use crate::step::Step;
 use cm_disk::{Disk, SimDisk};
 use cm_group::{Group, Receipt};
-use cm_layout::{Half, root_bytes};
+use cm_layout::root_bytes;
 use cm_pool::Geometry;
 use cm_record::Record;
 use cm_rows::Book;
@@ -154,46 +154,37 @@ fn finish(
 }
 
 impl<D: Disk> Committer<D> {
-    /// The committer of a disk that holds the cache of these rows and this number: the half that
-    /// counts, the slot where it ends, and the whole roots of the file are as given. An `Err` hands
-    /// the disk back as it was.
+    /// The committer of a disk that holds the cache of these rows, whose journal goes on as given,
+    /// and that has so many whole roots. An `Err` hands the disk back as it was.
     pub fn new(
         alloc: Global,
         disk: D,
-        geometry: Geometry,
+        journal: Journal,
         rows: Book<Arc<Record, Global>>,
-        number: u64,
-        half: Half,
-        end: u32,
         roots: u32,
     ) -> Result<Committer<D>, NotMade<D>>
-        requires sizes { rows.sizes ≡ geometry }
-        requires held { IsHeld (D.contents disk) (D.unsynced disk) geometry
-            (rows_with arc_value rows.rows) number half end roots }
+        requires sizes { rows.sizes ≡ journal.geometry }
+        requires held { IsHeld (D.contents disk) (D.unsynced disk) journal
+            (rows_with arc_value rows.rows) roots }
         ensures made { IfOk result (λ c. c ≡ record {
           disk = disk;
-          sizes = geometry;
+          sizes = journal.geometry;
           rows = rows_with arc_value rows.rows;
-          number = number;
-          half = half;
-          end = end;
+          number = journal.number;
+          half = journal.half;
+          end = journal.end;
           underway = None;
           left = [];
           broken = false;
         }) }
         ensures not_made { IfErr result (λ e. e.disk ≡ disk) }
     {
-        let Ok((next, buffer)) = take_memory(alloc, geometry, &rows) else {
+        let Ok((next, buffer)) = take_memory(alloc, journal.geometry, &rows) else {
             return Err(NotMade { disk });
         };
         Ok(Committer {
             disk,
-            journal: Journal {
-                geometry,
-                half,
-                end,
-                number,
-            },
+            journal,
             rows,
             next,
             roots,

@@ -6,9 +6,12 @@ use cm_pool::Geometry;
 /// Where the journal goes on: the half that counts ends at this slot, behind the command of this
 /// number.
 #[derive(Clone, Copy, Debug, PartialEq, Eq)]
-pub(crate) struct Journal {
-    pub(crate) geometry: Geometry,
-    pub(crate) half: Half,
-    pub(crate) end: u32,
-    pub(crate) number: u64,
+pub struct Journal {
+    pub geometry: Geometry,
+    /// The half that counts.
+    pub half: Half,
+    /// The slot where the half's groups end.
+    pub end: u32,
+    /// The number of the last command.
+    pub number: u64,
 }

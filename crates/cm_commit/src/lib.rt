@@ -15,6 +15,7 @@ mod progress;
 mod step;
 
 pub use committer::{Committer, NotMade};
+pub use journal::Journal;
 pub use laws::{committed_is_guarded, groups_turn, plans_have_steps};
 pub use mismatch::Mismatch;
 pub use progress::{AdvanceFault, Progress};

@@ -42,8 +42,8 @@ fn summary_of(file: &StandingFile) -> Summary {
         rows: file.rows.len(),
         committed: file.committed.len(),
         words: [words(file, b"A"), words(file, b"B")],
-        number: file.number,
-        end: file.end,
+        number: file.journal.number,
+        end: file.journal.end,
         roots: file.roots,
     }
 }

@@ -106,7 +106,7 @@ module _ (live : FoundIsLive) (framed : FoundIsFramed) (stands : VerdictStands)
 
 -- the count of the file's rows is that of what it stands for
 pub counted : (contents : List ℕ) (file : StandingFile) (s : Standing) (report : Report)
-    → IsStanding contents file s → IsCount file.rows.rows file.number report
+    → IsStanding contents file s → IsCount file.rows.rows file.journal.number report
     → IsCount s.rows s.found.number report
 counted contents file s report is count =
     let rows : file.rows.rows ≡ rows_with lay s.rows =

@@ -32,5 +32,5 @@ pub fn check<D: Disk>(alloc: Global, disk: &mut D) -> Result<Report, OpenFault>
     rows_tell_state();
     loaders_are_own();
     let file = read_standing(alloc, disk)?;
-    Ok(count(&file.rows, file.number))
+    Ok(count(&file.rows, file.journal.number))
 }

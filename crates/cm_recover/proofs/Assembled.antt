@@ -16,10 +16,10 @@ use Rattle.cm_recover.proofs.Verdicts.{stands_for}
 -- what is put together of what was found and of rows
 pub record IsMadeOf (contents : List ℕ) (file : StandingFile) (f : Found)
     (rows : LiveRows (List ℕ)) : Type 0 where
-  pub geometry : file.geometry ≡ f.sizes
-  pub half : file.half ≡ f.half
-  pub number : file.number ≡ f.number
-  pub end : file.end ≡ f.end
+  pub geometry : file.journal.geometry ≡ f.sizes
+  pub half : file.journal.half ≡ f.half
+  pub number : file.journal.number ≡ f.number
+  pub end : file.journal.end ≡ f.end
   pub roots : file.roots ≡ whole_roots f.sizes (length contents)
   pub rows_are : file.rows ≡ rows
   pub committed_sizes : file.committed.sizes ≡ rows.sizes

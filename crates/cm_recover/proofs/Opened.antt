@@ -32,6 +32,7 @@ use Rattle.cm_verdict.proofs.Parts.{bare_words}
 use Rattle.std.specs.Arc.{arc_value}
 use Rattle.cm_disk.specs.Disk.{Unsynced, IsSettled}
 use Rattle.cm_rows.specs.Rows.{LiveRows}
+use Rattle.cm_commit.specs.declared.journal.Journal.{Journal}
 use Rattle.cm_commit.specs.GroupPlans.{whole_roots}
 use Rattle.cm_commit.specs.Keeps.{IsHeld, AreRight as AreCommittedRight}
 use Rattle.cm_commit.specs.States.{CommitterState}
@@ -229,7 +230,7 @@ module _ (live : FoundIsLive) (framed : FoundIsFramed) (stands : VerdictStands) 
   o : IsOpened contents told (rows_with lay told.rows)
   o = opened live framed stands tells contents told t.verdict_is
 
-  pub front_rows : AreCacheRows words_show file.rows.sizes file.number file.rows.rows
+  pub front_rows : AreCacheRows words_show file.rows.sizes file.journal.number file.rows.rows
   front_rows =
       subst (λ (n : ℕ). AreCacheRows words_show file.rows.sizes n file.rows.rows)
       (sym t.alike.number)
@@ -239,21 +240,28 @@ module _ (live : FoundIsLive) (framed : FoundIsFramed) (stands : VerdictStands) 
   pub front_right : AreRight file.rows.rows
   front_right = subst (λ (l : LiveRows (List ℕ)). AreRight l.rows) (sym t.alike.rows) o.records
 
-  pub front_last : file.number ≤ 2 ^ 63
+  pub front_last : file.journal.number ≤ 2 ^ 63
   front_last = let n = t.alike.number in omega (arith, n, o.number_is)
 
+  journal_is : file.journal ≡ record {
+    geometry = told.found.sizes;
+    half = told.found.half;
+    end = told.found.end;
+    number = told.found.number;
+  }
+  journal_is = λ i. record {
+    geometry = t.alike.geometry i;
+    half = t.alike.half i;
+    end = t.alike.end i;
+    number = t.alike.number i;
+  }
+
   pub held : (now : List ℕ) (unsynced : Unsynced) → IsSettled now unsynced → now ≡ contents
-      → IsHeld now unsynced file.geometry (rows_with arc_value file.committed.rows) file.number
-      file.half file.end file.roots
+      → IsHeld now unsynced file.journal (rows_with arc_value file.committed.rows) file.roots
   held now unsynced settled same =
-      rw (
-        t.alike.geometry,
-        t.alike.committed,
-        t.alike.number,
-        t.alike.half,
-        t.alike.end,
-        t.alike.roots,
-      ) (record {
+      rw (t.alike.committed, t.alike.roots)
+      (subst (λ (j : Journal). IsHeld now unsynced j (rows_with lay told.rows)
+      (whole_roots told.found.sizes (length contents))) (sym journal_is) (record {
         settled = settled;
         framing = o.framing;
         counting_is = o.counting_is;
@@ -265,17 +273,18 @@ module _ (live : FoundIsLive) (framed : FoundIsFramed) (stands : VerdictStands) 
         records = committed_right (rows_with lay told.rows) o.records;
         number_is = o.number_is;
         roots_are = ap (λ (l : List ℕ). whole_roots told.found.sizes (length l)) (sym same);
-      })
+      }))
 
   pub opens : {D : Type 0} (arenas : ArenasAreOfRows) (disk : D) (front : FrontState)
-      (committer : CommitterState D) → IsFront front → Restores file.rows file.number file.end front
+      (committer : CommitterState D) → IsFront front
+      → Restores file.rows file.journal.number file.journal.end front
       → committer ≡ record {
         disk = disk;
-        sizes = file.geometry;
+        sizes = file.journal.geometry;
         rows = rows_with arc_value file.committed.rows;
-        number = file.number;
-        half = file.half;
-        end = file.end;
+        number = file.journal.number;
+        half = file.journal.half;
+        end = file.journal.end;
         underway = None;
         left = [];
         broken = false;
@@ -292,9 +301,9 @@ module _ (live : FoundIsLive) (framed : FoundIsFramed) (stands : VerdictStands) 
         (subst (λ (n : ℕ). Restores (record {
           sizes = told.found.sizes;
           rows = rows_with lay told.rows;
-        }) n file.end front) t.alike.number
-        (subst (λ (l : LiveRows (List ℕ)). Restores l file.number file.end front) t.alike.rows
-        restored));
+        }) n file.journal.end front) t.alike.number
+        (subst (λ (l : LiveRows (List ℕ)). Restores l file.journal.number file.journal.end front)
+        t.alike.rows restored));
     arenas_are = arenas_told front (classes_in told.rows)
         (λ u. arenas front is u ∙ (ap (λ (f : FrontState). chunks_begun u (classes_in f.rows)) restored.front_is
         ∙ (ap (λ (l : LiveRows (List ℕ)). chunks_begun u (classes_in l.rows)) t.alike.rows

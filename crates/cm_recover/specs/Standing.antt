@@ -107,10 +107,10 @@ row_found sizes contents before (Class r at) =
 
 -- in memory, what a file with these contents stands for
 pub record IsStanding (contents : List ℕ) (file : StandingFile) (s : Standing) : Type 0 where
-  pub geometry : file.geometry ≡ s.found.sizes
-  pub half : file.half ≡ s.found.half
-  pub number : file.number ≡ s.found.number
-  pub end : file.end ≡ s.found.end
+  pub geometry : file.journal.geometry ≡ s.found.sizes
+  pub half : file.journal.half ≡ s.found.half
+  pub number : file.journal.number ≡ s.found.number
+  pub end : file.journal.end ≡ s.found.end
   pub roots : file.roots ≡ whole_roots s.found.sizes (length contents)
   pub rows : file.rows ≡ record { sizes = s.found.sizes; rows = rows_with lay s.rows }
   pub committed_sizes : file.committed.sizes ≡ s.found.sizes

@@ -62,23 +62,21 @@ pub fn open<D: Disk>(alloc: Global, mut disk: D) -> Result<(Front, Committer<D>)
         Ok(file) => file,
         Err(fault) => return Err(NotOpened { fault, disk }),
     };
-    let Ok(front) = Front::restore(alloc, file.geometry, file.rows, file.number, file.end) else {
+    let journal = file.journal;
+    let Ok(front) = Front::restore(
+        alloc,
+        journal.geometry,
+        file.rows,
+        journal.number,
+        journal.end,
+    ) else {
         return Err(NotOpened {
             fault: OpenFault::NoMemory,
             disk,
         });
     };
     let _is_cache = front.geometry(); // so the proof knows that its arenas are those of its rows
-    match Committer::new(
-        alloc,
-        disk,
-        file.geometry,
-        file.committed,
-        file.number,
-        file.half,
-        file.end,
-        file.roots,
-    ) {
+    match Committer::new(alloc, disk, journal, file.committed, file.roots) {
         Ok(committer) => Ok((front, committer)),
         Err(NotMade { disk }) => Err(NotOpened {
             fault: OpenFault::NoMemory,

@@ -20,8 +20,9 @@ use crate::fault::OpenFault;
 use crate::reading::read_found;
 use crate::record_words::RecordWords;
 use crate::shared_rows::SharedRows;
+use cm_commit::Journal;
 use cm_disk::Disk;
-use cm_layout::{ClassRow, Half, Row, record_at, root_at, root_bytes, roots_at};
+use cm_layout::{ClassRow, Row, record_at, root_at, root_bytes, roots_at};
 use cm_pool::{Geometry, Place};
 use cm_prepare::Prepared;
 use cm_record::{Record, words_tell_name};
@@ -30,15 +31,11 @@ use cm_verdict::{Damage, DefinedAt, found_is_live, read_record};
 use std::alloc::{AllocError, Global};
 use std::sync::Arc;
 
-/// What a file stands for: its sizes, the half that counts, the number of the last command, and the
-/// rows that live, each class with its record.
+/// What a file stands for: where its journal goes on, with its sizes and the number of the last
+/// command, and the rows that live, each class with its record.
 #[derive(Drop)]
 pub struct StandingFile {
-    pub geometry: Geometry,
-    pub half: Half,
-    /// The slot where the half's groups end.
-    pub end: u32,
-    pub number: u64,
+    pub journal: Journal,
     /// How many whole roots the file has.
     pub roots: u32,
     /// The rows, for the accepted cache.
@@ -217,10 +214,12 @@ pub fn read_standing<D: Disk>(alloc: Global, disk: &mut D) -> Result<StandingFil
     let rows = pass.take_all(disk, &found.walk.into_book())?;
     let (rows, committed) = rows.into_books();
     Ok(StandingFile {
-        geometry: found.geometry,
-        half: found.counts.half,
-        end,
-        number: pass.number,
+        journal: Journal {
+            geometry: found.geometry,
+            half: found.counts.half,
+            end,
+            number: pass.number,
+        },
         roots: whole_roots(found.geometry, long),
         rows,
         committed,

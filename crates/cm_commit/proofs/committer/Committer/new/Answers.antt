@@ -18,7 +18,7 @@ invariant_of-result g c =
       sizes_are = c.requires.sizes;
       next_is = c.in-Ok.next-is
           ∙ (c.in-Ok.ensures.next
-          ∙ ap (λ (l : List BareRow). record { sizes = c.args.geometry; rows = l })
+          ∙ ap (λ (l : List BareRow). record { sizes = c.args.journal.geometry; rows = l })
           (sym (bare-with arc_value c.args.rows.rows)));
       room_is = rw c.in-Ok.buffer-is c.in-Ok.ensures.room;
       at = record {
