@@ -39,8 +39,8 @@ fn read_synced<D: Disk>(alloc: Global, disk: &mut D) -> Result<StandingFile, Ope
 
 /// Opens the cache of a file: the accepted cache, and the committer of its disk, both with the rows
 /// that the file stands for and the number of its last command; each loader's arena has the chunks
-/// that the file stands for, and no others. It begins with a sync, so a crash
-/// leaves what was opened, and nothing else; the rest are reads.
+/// that the file stands for, and no others. It begins with a sync, so a crash leaves what was
+/// opened, and nothing else; the rest are reads.
 ///
 /// `NotACache` and `Damaged` exactly where the verdict on the file's bytes says so; `Device` where
 /// the device failed; `NoMemory` where an allocation failed. The disk is handed back then, as it
