@@ -57,9 +57,9 @@ impl Phase {
             Phase::AddLoader => "new loader",
             Phase::DefineFew => "define in a new loader",
             Phase::Unload => "unload a new loader",
-            Phase::Learn => "learn it",
+            Phase::Learn => "learn that a new one went",
             Phase::UnloadFirst => "unload an old loader",
-            Phase::LearnFirst => "learn it",
+            Phase::LearnFirst => "learn that an old one went",
         }
     }
 }
