@@ -12,7 +12,7 @@ ghost use Rattle.cm_record.specs.Members.{IsFirst};
 ghost use Rattle.cm_record.specs.Code.{code_name, code_in, u2_at, u4_at, attributes_place};
 
 use crate::marks::Marks;
-use crate::utf8::{is_utf8_of, words_looked_at};
+use crate::utf8::is_utf8_of;
 use cm_record_layout::{bytes_of, first, fourth, second, upper};
 
 /// Where the code of a method lies (JVMS 4.7.3). Places count bytes from the record's first one; a
@@ -89,7 +89,9 @@ pub(crate) fn code_in_run(words: &[u64], run: (usize, usize)) -> Option<Code>
     })
 }
 
-/// As [`find_code`], with one pass over the pool, whatever the attributes' indexes are.
+/// As [`find_code`], with one pass over the pool, whatever the attributes' indexes are; a function of
+/// its own at run time too, as [`crate::member`] has it.
+#[inline(never)]
 fn find_code_by_marks(words: &[u64], at: usize, count: usize) -> Option<usize>
     requires record { IsRecord words.now }
     requires within { at + 2 * count ≤ length words.now }
@@ -120,12 +122,10 @@ pub(crate) fn find_code(words: &[u64], at: usize, count: usize) -> Option<usize>
     let mut left = words.len();
     for index in 0..count {
         let name = first(words[at + 2 * index]);
-        let cost = words_looked_at(words, name, &CODE);
-        if cost > left {
+        let Some(is_found) = is_utf8_of(words, name, &CODE, &mut left) else {
             return find_code_by_marks(words, at, count);
-        }
-        left -= cost;
-        if is_utf8_of(words, name, &CODE) {
+        };
+        if is_found {
             return Some(index);
         }
     }

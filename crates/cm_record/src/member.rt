@@ -7,7 +7,7 @@ ghost use Rattle.cm_record_layout.specs.Packing.{first_of, second_of, third_of, 
 ghost use Rattle.cm_record.specs.Members.{leads_to, IsFirst};
 
 use crate::marks::Marks;
-use crate::utf8::{is_utf8_of, words_looked_at};
+use crate::utf8::is_utf8_of;
 use cm_record_layout::{first, fourth, second, third};
 
 /// A field or a method, as a record names it (JVMS 4.5, 4.6).
@@ -22,13 +22,23 @@ pub struct Member {
     pub attributes: u16,
 }
 
-/// Whether the word of a member leads to this name and this descriptor.
-fn is_word_of(words: &[u64], word: u64, name: &[u8], descriptor: &[u8]) -> bool
+/// Whether the word of a member leads to this name and this descriptor; `None` as in [`is_utf8_of`].
+#[inline(always)]
+fn is_word_of(
+    words: &[u64],
+    word: u64,
+    name: &[u8],
+    descriptor: &[u8],
+    left: &mut usize,
+) -> Option<bool>
     requires { IsRecord words.now }
-    ensures { (c : ClassFile) → IsRecordOf c words.now
-        → result ≡ leads_to c name.now descriptor.now (second_of word) (third_of word) }
+    ensures { (c : ClassFile) → IsRecordOf c words.now → IfSome result
+        (λ r. r ≡ leads_to c name.now descriptor.now (second_of word) (third_of word)) }
 {
-    is_utf8_of(words, second(word), name) && is_utf8_of(words, third(word), descriptor)
+    if !is_utf8_of(words, second(word), name, left)? {
+        return Some(false);
+    }
+    is_utf8_of(words, third(word), descriptor, left)
 }
 
 /// The same where the indexes are marked that lead to the name, and those that lead to the
@@ -41,7 +51,9 @@ fn is_word_marked(word: u64, names: &Marks, descriptors: &Marks) -> bool
 }
 
 /// As [`find_member`], with one pass over the pool for the name and one for the descriptor, whatever
-/// the members' indexes are.
+/// the members' indexes are. A function of its own at run time too: its marks take 128 KiB of the
+/// stack, which the ordinary search needn't touch.
+#[inline(never)]
 fn find_member_by_marks(
     words: &[u64],
     at: usize,
@@ -83,14 +95,11 @@ pub(crate) fn find_member(
 {
     let mut left = words.len();
     for index in 0..count {
-        let word = words[at + 2 * index];
-        let cost = words_looked_at(words, second(word), name)
-            + words_looked_at(words, third(word), descriptor);
-        if cost > left {
+        let Some(is_found) = is_word_of(words, words[at + 2 * index], name, descriptor, &mut left)
+        else {
             return find_member_by_marks(words, at, count, name, descriptor);
-        }
-        left -= cost;
-        if is_word_of(words, word, name, descriptor) {
+        };
+        if is_found {
             return Some(index);
         }
     }

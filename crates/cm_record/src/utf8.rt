@@ -1,6 +1,6 @@
 //! Whether an index of a record's pool leads to given bytes.
-ghost use Rattle.std.specs.Prelude.{◌≡◌, ◌≤◌, ◌<◌, ◌^◌, ◌↔◌, ℕ, List, length, drop, min, get_or};
-ghost use Rattle.std.specs.Prelude.{IsTrue, false};
+ghost use Rattle.std.specs.Prelude.{◌≡◌, ◌≤◌, ◌<◌, ◌↔◌, ℕ, List, length, drop, min, get_or};
+ghost use Rattle.std.specs.Prelude.{IsTrue, IfSome, false};
 ghost use Rattle.cm_class.specs.declared.class_file.ClassFile.{ClassFile};
 ghost use Rattle.cm_class.specs.Names.{names_utf8};
 ghost use Rattle.cm_record_layout.specs.Packing.{packed, first_of};
@@ -8,7 +8,7 @@ ghost use Rattle.cm_record_layout.specs.Layout.{IsRecord, IsRecordOf};
 ghost use Rattle.cm_record.specs.Constants.{constant_at_index as constant_at_index_of};
 ghost use Rattle.cm_record.specs.Runs.{IsRunOf, HasRun, utf8_place as utf8_place_of};
 
-use crate::constant::{Constant, constant_at_index, wide_words_before};
+use crate::constant::{Constant, constant_at, wide_words_before};
 use crate::names::run_slice;
 use cm_record_layout::{first, second, word_of};
 
@@ -71,6 +71,7 @@ pub(crate) fn is_utf8(words: &[u64], constant: Option<Constant>, bytes: &[u8]) -
 
 /// Whether the word of an index looks as that of a Utf8 of as many bytes. It may be the second of a
 /// Long or a Double all the same.
+#[inline(always)]
 fn may_be_utf8_of(words: &[u64], index: u16, bytes: &[u8]) -> bool
     requires { IsRecord words.now }
     ensures there { IsTrue result → index < first_of (get_or words.now 2 0) }
@@ -84,21 +85,19 @@ fn may_be_utf8_of(words: &[u64], index: u16, bytes: &[u8]) -> bool
     first(word) == 1 && second(word) as usize == bytes.len()
 }
 
-/// Whether a Utf8 of these bytes stands at an index of the pool.
-pub(crate) fn is_utf8_of(words: &[u64], index: u16, bytes: &[u8]) -> bool
+/// Whether a Utf8 of these bytes stands at an index of the pool; `None` where it takes more words to
+/// tell than are left to be looked at, from which the others go off.
+#[inline(always)]
+pub(crate) fn is_utf8_of(words: &[u64], index: u16, bytes: &[u8], left: &mut usize) -> Option<bool>
     requires { IsRecord words.now }
-    ensures { (c : ClassFile) → IsRecordOf c words.now → result ≡ names_utf8 c index bytes.now }
-{
-    may_be_utf8_of(words, index, bytes) && is_utf8(words, constant_at_index(words, index), bytes)
-}
-
-/// How many words [`is_utf8_of`] may look at.
-pub(crate) fn words_looked_at(words: &[u64], index: u16, bytes: &[u8]) -> usize
-    requires { IsRecord words.now }
-    ensures { result < 2 ^ 62 }
+    ensures { (c : ClassFile) → IsRecordOf c words.now
+        → IfSome result (λ r. r ≡ names_utf8 c index bytes.now) }
 {
     if !may_be_utf8_of(words, index, bytes) {
-        return 1;
+        return Some(false);
     }
-    2 + wide_words_before(words, 8 + index as usize) + bytes.len() / 8
+    let wide = wide_words_before(words, 8 + index as usize);
+    *left = left.checked_sub(1 + wide + bytes.len() / 8)?;
+    let constant = constant_at(words, index, wide % 2 == 1);
+    Some(is_utf8(words, constant, bytes))
 }

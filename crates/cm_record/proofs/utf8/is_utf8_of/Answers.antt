@@ -1,5 +1,9 @@
+use Rattle.std.proofs.Common.{arith}
 use Rattle.cm_record_layout.proofs.Sections.{directory_within}
 use Rattle.cm_record.proofs.utf8.is_utf8_of.Goals as goal
 
-pub constant_at_index-requires : goal.constant_at_index-requires
-constant_at_index-requires c = directory_within c.args.words.now c.requires
+pub wide_words_before-wide-requires : goal.wide_words_before-wide-requires
+wide_words_before-wide-requires c = omega (arith, directory_within c.args.words.now c.requires, c.may_be_utf8_of.ensures.there c.if-not-may_be_utf8_of.false)
+
+pub constant_at-constant-requires-clause-within : goal.constant_at-constant-requires-clause-within
+constant_at-constant-requires-clause-within c = directory_within c.args.words.now c.requires
