@@ -270,10 +270,18 @@ last-row u (r ∷ classes) c h = by_rest (last_chunk u classes) (last-row u clas
     by_rest None later is = by_first (eqb r.loader u) refl is
 
 -- the last chunk, by the test on it
-pub last-is : (u : ℕ) (c : Chunk) (o : Option Chunk)
+last-is : (c : Chunk) (o : Option Chunk)
     → option_map_or (λ last. same_chunk last c) o false ≡ true → o ≡ Some c
-last-is u c (Some d) h = ap Some (same_chunk-true d c h)
-last-is u c None h = absurd (cc)
+last-is c (Some d) h = ap Some (same_chunk-true d c h)
+last-is c None h = absurd (cc)
+
+-- of a loader that has a class there
+pub own-last : (u : ℕ) (rows : List BareRow) (r : ClassRow) → r.loader ≡ u
+    → is_last_chunk r.loader r.place.chunk rows ≡ true
+    → last_chunk u (classes_in rows) ≡ Some r.place.chunk
+own-last u rows r mine h =
+    subst (λ (v : ℕ). last_chunk v (classes_in rows) ≡ Some r.place.chunk) mine
+    (last-is r.place.chunk (last_chunk r.loader (classes_in rows)) h)
 
 -- a chunk that no row uses is none of theirs
 pub unused-apart : (c : Chunk) (classes : List ClassRow) (s : ClassRow)
@@ -385,9 +393,7 @@ own_class u pre r mine place before =
     by_place (inl h) =
         let parts = both (is_last_chunk r.loader r.place.chunk pre)
         (eqb r.place.offset (used_words r.place.chunk pre)) h in
-        let last : last_chunk u (classes_in pre) ≡ Some r.place.chunk =
-        subst (λ (v : ℕ). last_chunk v (classes_in pre) ≡ Some r.place.chunk) mine
-        (last-is r.loader r.place.chunk (last_chunk r.loader (classes_in pre)) parts.0) in
+        let last = own-last u pre r mine parts.0 in
         let here : last_of (chain_of u pre) ≡ top_with r.place.chunk (used_words r.place.chunk pre) =
         before ∙ ap (option_map (λ c. record { chunk = c; used = used_words c pre })) last in
         with_place-last (chain_of u pre) r.place r.place.chunk (used_words r.place.chunk pre) here

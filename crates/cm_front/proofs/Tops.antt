@@ -27,7 +27,7 @@ use Rattle.cm_state.specs.Stands.{chunks_of as chunks_begun}
 use Rattle.cm_front.specs.Chains.{chain_from, chain_of}
 use Rattle.cm_front.specs.Laws.{ChainsEndAtTop, ChainsHaveChunks}
 use Rattle.cm_front.proofs.Chains.{EndsAtTop, own_class, other_class, place_of, some_words}
-use Rattle.cm_front.proofs.Chains.{classes-more, chain_grows, chain_stays, last-is, last-row}
+use Rattle.cm_front.proofs.Chains.{classes-more, chain_grows, chain_stays, own-last, last-row}
 use Rattle.cm_front.proofs.Chains.{never-on, same-itself, same_chunk-true, both, either}
 
 -- ---- tops
@@ -189,9 +189,7 @@ own-chunks u pre r mine place before = by_place (either on_top new place)
     by_place (inl h) =
         let parts = both (is_last_chunk r.loader r.place.chunk pre)
         (eqb r.place.offset (used_words r.place.chunk pre)) h in
-        let last : last_chunk u (classes_in pre) ≡ Some r.place.chunk =
-        subst (λ (v : ℕ). last_chunk v (classes_in pre) ≡ Some r.place.chunk) mine
-        (last-is r.loader r.place.chunk (last_chunk r.loader (classes_in pre)) parts.0) in
+        let last = own-last u pre r mine parts.0 in
         let row = last-row u (classes_in pre) r.place.chunk last in
         let used = some-used r.place.chunk (classes_in pre) row.0 before.words row.1 row.3 in
         let offset = eqb-true r.place.offset (used_words r.place.chunk pre) parts.1 in
