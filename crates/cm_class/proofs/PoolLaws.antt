@@ -16,8 +16,10 @@ use Rattle.cm_class.specs.declared.constant.Slot.TheVariants.{Usable, Unusable}
 use Rattle.cm_class.specs.Spelling.{u1, u2, u4, u8, IsU1, IsU2, IsU4, IsU8, AreBytes, tag, info}
 use Rattle.cm_class.specs.Spelling.{constant_bytes, slot_bytes, is_wide, ConstantFits, SlotsFit}
 use Rattle.cm_class.specs.Spelling.{heading}
+use Rattle.cm_class.specs.Names.{kind_of}
 use Rattle.cm_class.specs.Reading.{◌>>=◌, both_at, made_at, number_at, byte_at, sized_at}
-use Rattle.cm_class.specs.Reading.{expected_at, count_at, tag_of, takes_two, tag_found, tag_at}
+use Rattle.cm_class.specs.Reading.{expected_at, count_at, tag_of, tag_number, takes_two}
+use Rattle.cm_class.specs.Reading.{tag_found, tag_at}
 use Rattle.cm_class.specs.Reading.{one_at, two_at, text_at, info_at, constant_at, slots_at, pool_at}
 use Rattle.cm_class.proofs.Readers.{Read, Reads, Says, reads_then, reads_done, reads_made}
 use Rattle.cm_class.proofs.Readers.{reads_both, reads_as}
@@ -26,23 +28,7 @@ use Rattle.cm_class.proofs.Lists.{expected_reads, count_reads, rest_of}
 
 -- ---- tags
 
-abbrev pub number_of : Kind → ℕ
-number_of kinds.Utf8 = 1
-number_of kinds.Integer = 3
-number_of kinds.Float = 4
-number_of kinds.Long = 5
-number_of kinds.Double = 6
-number_of kinds.Class = 7
-number_of kinds.String = 8
-number_of kinds.Fieldref = 9
-number_of kinds.Methodref = 10
-number_of kinds.InterfaceMethodref = 11
-number_of kinds.NameAndType = 12
-number_of kinds.MethodHandle = 15
-number_of kinds.MethodType = 16
-number_of kinds.InvokeDynamic = 18
-
-number_again : (t : Kind) → tag_of (number_of t) ≡ Some t
+number_again : (t : Kind) → tag_of (tag_number t) ≡ Some t
 number_again kinds.Utf8 = refl
 number_again kinds.Integer = refl
 number_again kinds.Float = refl
@@ -59,16 +45,16 @@ number_again kinds.MethodType = refl
 number_again kinds.InvokeDynamic = refl
 
 -- one test of `tag_of`
-tested : (n : ℕ) (t : Kind) (others : Option Kind) → IfSome others (λ u. number_of u ≡ n)
-    → IfSome (cond (eqb n (number_of t)) (Some t) others) (λ u. number_of u ≡ n)
-tested n t others h = by_test (eqb n (number_of t)) refl
+tested : (n : ℕ) (t : Kind) (others : Option Kind) → IfSome others (λ u. tag_number u ≡ n)
+    → IfSome (cond (eqb n (tag_number t)) (Some t) others) (λ u. tag_number u ≡ n)
+tested n t others h = by_test (eqb n (tag_number t)) refl
   where
-    by_test : (b : Bool) → eqb n (number_of t) ≡ b
-        → IfSome (cond b (Some t) others) (λ u. number_of u ≡ n)
-    by_test true e = sym (eqb-true n (number_of t) e)
+    by_test : (b : Bool) → eqb n (tag_number t) ≡ b
+        → IfSome (cond b (Some t) others) (λ u. tag_number u ≡ n)
+    by_test true e = sym (eqb-true n (tag_number t) e)
     by_test false e = h
 
-number_is : (n : ℕ) → IfSome (tag_of n) (λ t. number_of t ≡ n)
+number_is : (n : ℕ) → IfSome (tag_of n) (λ t. tag_number t ≡ n)
 number_is n =
     tested n kinds.Utf8 _
     (tested n kinds.Integer _
@@ -89,13 +75,13 @@ abbrev pub TagFits : ℕ → Kind → Type 0
 TagFits left t = (takes_two t && nat_lt left 2) ≡ false
 
 -- two tags of one byte
-one_tag : (t u : Kind) → number_of t ≡ number_of u → t ≡ u
+one_tag : (t u : Kind) → tag_number t ≡ tag_number u → t ≡ u
 one_tag t u e =
     let same : Some t ≡ Some u = sym (number_again t) ∙ ap tag_of e ∙ number_again u in cc
 
 says_found : (left b : ℕ) (bytes : List ℕ) (found : Option Kind) → tag_of b ≡ found
-    → IfSome found (λ t. number_of t ≡ b)
-    → Says (λ t. u1 (number_of t)) (TagFits left) (b ∷ bytes) (tag_found left found bytes)
+    → IfSome found (λ t. tag_number t ≡ b)
+    → Says (λ t. u1 (tag_number t)) (TagFits left) (b ∷ bytes) (tag_found left found bytes)
 says_found left b bytes None e h = record {
   front = [];
   at = b;
@@ -107,14 +93,14 @@ says_found left b bytes None e h = record {
   more = 3 ∷ [];
   begins = refl;
   stuck = λ t fits x y same.
-      let heads : number_of t ≡ b = cc in
+      let heads : tag_number t ≡ b = cc in
       let both : Some t ≡ None = sym (number_again t) ∙ ap tag_of heads ∙ e in
       absurd cc;
 }
 says_found left b bytes (Some t) e h = by_test (takes_two t && nat_lt left 2) refl
   where
     by_test : (w : Bool) → (takes_two t && nat_lt left 2) ≡ w
-        → Says (λ u. u1 (number_of u)) (TagFits left) (b ∷ bytes)
+        → Says (λ u. u1 (tag_number u)) (TagFits left) (b ∷ bytes)
         (cond {A = Read Kind} w (Err (Bad (length bytes + 1))) (Ok (t, bytes)))
     by_test true g = record {
       front = [];
@@ -127,7 +113,7 @@ says_found left b bytes (Some t) e h = by_test (takes_two t && nat_lt left 2) re
       more = 3 ∷ [];
       begins = refl;
       stuck = λ u fits x y same.
-          let heads : number_of u ≡ b = cc in
+          let heads : tag_number u ≡ b = cc in
           let one : t ≡ u = one_tag t u (h ∙ sym heads) in
           let both : true ≡ false =
           sym g ∙ ap (λ (v : Kind). takes_two v && nat_lt left 2) one ∙ fits in
@@ -136,13 +122,13 @@ says_found left b bytes (Some t) e h = by_test (takes_two t && nat_lt left 2) re
     by_test false g = (g, ap (λ (n : ℕ). n ∷ bytes) (sym h))
 
 tag_says : (left : ℕ) (bytes : List ℕ) → AreBytes bytes
-    → Says (λ t. u1 (number_of t)) (TagFits left) bytes (tag_at left bytes)
+    → Says (λ t. u1 (tag_number t)) (TagFits left) bytes (tag_at left bytes)
 unfolding tag_at
 tag_says left [] are =
     record { value = kinds.Integer; fits = refl; next = 3; more = []; parts = refl }
 tag_says left (b ∷ bytes) are = says_found left b bytes (tag_of b) refl (number_is b)
 
-tag_reads : (left : ℕ) → Reads (tag_at left) (λ t. u1 (number_of t)) (TagFits left)
+tag_reads : (left : ℕ) → Reads (tag_at left) (λ t. u1 (tag_number t)) (TagFits left)
 unfolding tag_at
 tag_reads left = record {
   says = tag_says left;
@@ -153,23 +139,7 @@ tag_reads left = record {
 
 -- ---- constants
 
-abbrev pub kind : Constant → Kind
-kind (constant.Utf8 v) = kinds.Utf8
-kind (constant.Integer v) = kinds.Integer
-kind (constant.Float v) = kinds.Float
-kind (constant.Long v) = kinds.Long
-kind (constant.Double v) = kinds.Double
-kind (constant.Class v) = kinds.Class
-kind (constant.String v) = kinds.String
-kind (constant.Fieldref v w) = kinds.Fieldref
-kind (constant.Methodref v w) = kinds.Methodref
-kind (constant.InterfaceMethodref v w) = kinds.InterfaceMethodref
-kind (constant.NameAndType v w) = kinds.NameAndType
-kind (constant.MethodHandle v w) = kinds.MethodHandle
-kind (constant.MethodType v) = kinds.MethodType
-kind (constant.InvokeDynamic v w) = kinds.InvokeDynamic
-
-tag-kind : (c : Constant) → tag c ≡ number_of (kind c)
+tag-kind : (c : Constant) → tag c ≡ tag_number (kind_of c)
 tag-kind (constant.Utf8 v) = refl
 tag-kind (constant.Integer v) = refl
 tag-kind (constant.Float v) = refl
@@ -185,7 +155,7 @@ tag-kind (constant.MethodHandle v w) = refl
 tag-kind (constant.MethodType v) = refl
 tag-kind (constant.InvokeDynamic v w) = refl
 
-is_wide-kind : (c : Constant) → is_wide c ≡ takes_two (kind c)
+is_wide-kind : (c : Constant) → is_wide c ≡ takes_two (kind_of c)
 is_wide-kind (constant.Utf8 v) = refl
 is_wide-kind (constant.Integer v) = refl
 is_wide-kind (constant.Float v) = refl
@@ -218,7 +188,7 @@ OfKind kinds.MethodHandle c = (v : ℕ) × (w : ℕ) × (c ≡ constant.MethodHa
 OfKind kinds.MethodType c = (v : ℕ) × (c ≡ constant.MethodType v)
 OfKind kinds.InvokeDynamic c = (v : ℕ) × (w : ℕ) × (c ≡ constant.InvokeDynamic v w)
 
-of_kind : (c : Constant) → OfKind (kind c) c
+of_kind : (c : Constant) → OfKind (kind_of c) c
 of_kind (constant.Utf8 v) = (v, refl)
 of_kind (constant.Integer v) = (v, refl)
 of_kind (constant.Float v) = (v, refl)
@@ -236,10 +206,10 @@ of_kind (constant.InvokeDynamic v w) = (v, w, refl)
 
 -- a constant of this kind that fits
 abbrev FitsAs : Kind → Constant → Type 0
-FitsAs t c = ConstantFits c × (kind c ≡ t)
+FitsAs t c = ConstantFits c × (kind_of c ≡ t)
 
 -- the fields of such a constant
-fields_of : (t : Kind) (c : Constant) → kind c ≡ t → OfKind t c
+fields_of : (t : Kind) (c : Constant) → kind_of c ≡ t → OfKind t c
 fields_of t c e = subst (λ (u : Kind). OfKind u c) e (of_kind c)
 
 info_reads : (t : Kind) → Reads (info_at t) info (FitsAs t)
@@ -339,12 +309,12 @@ pub constant_reads : (left : ℕ)
     → Reads (constant_at left) constant_bytes (λ c. ConstantFits c × HasRoom left c)
 unfolding constant_at
 constant_reads left =
-    reads_then (tag_at left) (λ t. u1 (number_of t)) (TagFits left) info_at (λ t c. info c) FitsAs
+    reads_then (tag_at left) (λ t. u1 (tag_number t)) (TagFits left) info_at (λ t c. info c) FitsAs
     constant_bytes (λ c. ConstantFits c × HasRoom left c)
     (tag_reads left) (λ t fits. info_reads t)
     (λ c fits. record {
       first =
-          kind c;
+          kind_of c;
       first_fits =
           ap (λ (b : Bool). b && nat_lt left 2) (sym (is_wide-kind c)) ∙ fits.1;
       rest_fits =
@@ -354,7 +324,7 @@ constant_reads left =
     (λ t c room fits.
     let wide : is_wide c ≡ takes_two t = is_wide-kind c ∙ ap takes_two fits.1 in (
       (fits.0, ap (λ (b : Bool). b && nat_lt left 2) wide ∙ room),
-      ap (λ (n : ℕ). n ∷ info c) (tag-kind c ∙ ap number_of fits.1),
+      ap (λ (n : ℕ). n ∷ info c) (tag-kind c ∙ ap tag_number fits.1),
     ))
 
 -- ---- slots

@@ -24,6 +24,23 @@ constant_named c (suc i) = option_and_then constant_in (slice_get c.slots i)
 
 -- ---- kinds
 
+-- a constant's kind, the one with its tag
+abbrev pub kind_of : Constant → Kind
+kind_of (constant.Utf8 bytes) = kinds.Utf8
+kind_of (constant.Integer bits) = kinds.Integer
+kind_of (constant.Float bits) = kinds.Float
+kind_of (constant.Long bits) = kinds.Long
+kind_of (constant.Double bits) = kinds.Double
+kind_of (constant.Class name) = kinds.Class
+kind_of (constant.String text) = kinds.String
+kind_of (constant.Fieldref class name_and_type) = kinds.Fieldref
+kind_of (constant.Methodref class name_and_type) = kinds.Methodref
+kind_of (constant.InterfaceMethodref class name_and_type) = kinds.InterfaceMethodref
+kind_of (constant.NameAndType name descriptor) = kinds.NameAndType
+kind_of (constant.MethodHandle kind reference) = kinds.MethodHandle
+kind_of (constant.MethodType descriptor) = kinds.MethodType
+kind_of (constant.InvokeDynamic bootstrap_method name_and_type) = kinds.InvokeDynamic
+
 abbrev pub is_kind : Kind → Constant → Bool
 is_kind kinds.Utf8 (constant.Utf8 bytes) = true
 is_kind kinds.Integer (constant.Integer bits) = true

@@ -122,6 +122,7 @@ counted_at item bytes = do
 
 -- ---- the constant pool
 
+-- the kind that a tag tells (JVMS 4.4, table 4.4-A)
 abbrev pub tag_of : ℕ → Option Kind
 tag_of n =
     if n == 1 then Some kinds.Utf8
@@ -139,6 +140,23 @@ tag_of n =
     else if n == 16 then Some kinds.MethodType
     else if n == 18 then Some kinds.InvokeDynamic
     else None
+
+-- the tag of a kind, which tells it
+abbrev pub tag_number : Kind → ℕ
+tag_number kinds.Utf8 = 1
+tag_number kinds.Integer = 3
+tag_number kinds.Float = 4
+tag_number kinds.Long = 5
+tag_number kinds.Double = 6
+tag_number kinds.Class = 7
+tag_number kinds.String = 8
+tag_number kinds.Fieldref = 9
+tag_number kinds.Methodref = 10
+tag_number kinds.InterfaceMethodref = 11
+tag_number kinds.NameAndType = 12
+tag_number kinds.MethodHandle = 15
+tag_number kinds.MethodType = 16
+tag_number kinds.InvokeDynamic = 18
 
 -- how many slots a constant of this kind takes
 abbrev pub takes_two : Kind → Bool

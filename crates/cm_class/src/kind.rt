@@ -20,11 +20,11 @@ pub enum Kind {
 }
 
 impl Kind {
-    ghost use Rattle.std.specs.Prelude.{◌≡◌};
-    ghost use Rattle.cm_class.specs.Reading.{tag_of, takes_two};
+    ghost use Rattle.std.specs.Prelude.{◌≡◌, Some};
+    ghost use Rattle.cm_class.specs.Reading.{tag_of, tag_number, takes_two};
 
-    /// The kind that a tag tells (JVMS 4.4, table 4.4-A).
-    pub(crate) fn from_tag(tag: u8) -> Option<Kind>
+    /// The kind that a tag tells; none of a number that is no tag (JVMS 4.4, table 4.4-A).
+    pub fn from_tag(tag: u16) -> Option<Kind>
         ensures { result ≡ tag_of tag }
     {
         match tag {
@@ -43,6 +43,29 @@ impl Kind {
             16 => Some(Kind::MethodType),
             18 => Some(Kind::InvokeDynamic),
             _ => None,
+        }
+    }
+
+    /// The tag of this kind's constants (JVMS 4.4, table 4.4-A).
+    pub fn tag(self) -> u16
+        ensures number { result ≡ tag_number self }
+        ensures told { tag_of result ≡ Some self }
+    {
+        match self {
+            Kind::Utf8 => 1,
+            Kind::Integer => 3,
+            Kind::Float => 4,
+            Kind::Long => 5,
+            Kind::Double => 6,
+            Kind::Class => 7,
+            Kind::String => 8,
+            Kind::Fieldref => 9,
+            Kind::Methodref => 10,
+            Kind::InterfaceMethodref => 11,
+            Kind::NameAndType => 12,
+            Kind::MethodHandle => 15,
+            Kind::MethodType => 16,
+            Kind::InvokeDynamic => 18,
         }
     }
 

@@ -6,28 +6,38 @@ use crate::kind::Kind;
 
 impl Constant {
     ghost use Rattle.std.specs.Prelude.{◌≡◌};
-    ghost use Rattle.cm_class.specs.Names.{is_kind};
+    ghost use Rattle.cm_class.specs.Names.{kind_of, is_kind};
+    ghost use Rattle.cm_class.specs.Reading.{tag_number};
+    ghost use Rattle.cm_class.specs.Spelling.{tag};
+
+    /// Its kind, which has the tag that its spelling begins with (JVMS 4.4, table 4.4-A).
+    pub fn kind(&self) -> Kind
+        ensures kind { result ≡ kind_of self.now }
+        ensures tag { tag_number result ≡ tag self.now }
+    {
+        match self {
+            Constant::Utf8(_) => Kind::Utf8,
+            Constant::Integer(_) => Kind::Integer,
+            Constant::Float(_) => Kind::Float,
+            Constant::Long(_) => Kind::Long,
+            Constant::Double(_) => Kind::Double,
+            Constant::Class { .. } => Kind::Class,
+            Constant::String { .. } => Kind::String,
+            Constant::Fieldref { .. } => Kind::Fieldref,
+            Constant::Methodref { .. } => Kind::Methodref,
+            Constant::InterfaceMethodref { .. } => Kind::InterfaceMethodref,
+            Constant::NameAndType { .. } => Kind::NameAndType,
+            Constant::MethodHandle { .. } => Kind::MethodHandle,
+            Constant::MethodType { .. } => Kind::MethodType,
+            Constant::InvokeDynamic { .. } => Kind::InvokeDynamic,
+        }
+    }
 
     /// Whether it is of this kind.
     pub fn is_kind(&self, kind: Kind) -> bool
         ensures { result ≡ is_kind kind self.now }
     {
-        match kind {
-            Kind::Utf8 => matches!(self, Constant::Utf8(_)),
-            Kind::Integer => matches!(self, Constant::Integer(_)),
-            Kind::Float => matches!(self, Constant::Float(_)),
-            Kind::Long => matches!(self, Constant::Long(_)),
-            Kind::Double => matches!(self, Constant::Double(_)),
-            Kind::Class => matches!(self, Constant::Class { .. }),
-            Kind::String => matches!(self, Constant::String { .. }),
-            Kind::Fieldref => matches!(self, Constant::Fieldref { .. }),
-            Kind::Methodref => matches!(self, Constant::Methodref { .. }),
-            Kind::InterfaceMethodref => matches!(self, Constant::InterfaceMethodref { .. }),
-            Kind::NameAndType => matches!(self, Constant::NameAndType { .. }),
-            Kind::MethodHandle => matches!(self, Constant::MethodHandle { .. }),
-            Kind::MethodType => matches!(self, Constant::MethodType { .. }),
-            Kind::InvokeDynamic => matches!(self, Constant::InvokeDynamic { .. }),
-        }
+        self.kind() == kind
     }
 }
 

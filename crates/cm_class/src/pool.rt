@@ -22,7 +22,7 @@ fn tag(left: u16, bytes: &[u8]) -> Result<(Kind, &[u8]), Stop>
     let [byte, rest @ ..] = bytes else {
         return Err(Stop::Short);
     };
-    match Kind::from_tag(*byte) {
+    match Kind::from_tag(u16::from(*byte)) {
         Some(tag) if !(tag.is_wide() && left < 2) => Ok((tag, rest)),
         _ => Err(Stop::Bad(bytes.len())),
     }
