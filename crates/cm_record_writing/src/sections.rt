@@ -8,7 +8,7 @@ ghost use Rattle.cm_record_layout.specs.Layout.{utf8_runs, members, member_attri
 ghost use Rattle.cm_record_layout.specs.Layout.{attribute_run, attribute_runs, limit};
 
 use crate::runs::push_run;
-use cm_class::{Attribute, Constant, Member, Slot};
+use cm_class::{Attribute, Constant, Kind, Member, Slot};
 use cm_record_layout::{SECOND, THIRD, four_numbers, run_words, whole_word};
 use cm_words::WordBuf;
 
@@ -17,7 +17,7 @@ fn utf8_word(at: u64, bytes: &[u8]) -> u64
     requires { at + run_words_of (length bytes.now) ≤ limit }
     ensures { result ≡ 1 + 2 ^ 16 * length bytes.now + 2 ^ 32 * at }
 {
-    1 + SECOND * bytes.len() as u64 + THIRD * at
+    u64::from(Kind::Utf8.tag()) + SECOND * bytes.len() as u64 + THIRD * at
 }
 
 /// Adds a constant's words in the directory, where its run begins at `at`.
