@@ -1,9 +1,9 @@
 -- What is read was laid out so.
-use Rattle.std.proofs.Common.{◌≡◌, ◌<◌, ◌+◌, ◌-◌, ◌*◌, ◌/◌, ◌%◌, ◌^◌, ℕ, zero, suc, Bool, true}
+use Rattle.std.proofs.Common.{◌≡◌, ◌<◌, ◌+◌, ◌-◌, ◌*◌, ◌^◌, ℕ, zero, suc, Bool, true}
 use Rattle.std.proofs.Common.{false, List, [], ◌∷◌, ◌++◌, length, take, min, Option, Some, None}
 use Rattle.std.proofs.Common.{inl, inr, refl, sym, ◌∙◌, ap, subst, arith, append_assoc}
 use Rattle.std.proofs.Common.{length-append}
-use Rattle.std.specs.Prelude.{◌==◌, nat_lt, if◌then◌else◌}
+use Rattle.std.specs.Prelude.{◌==◌, nat_lt}
 use Rattle.std.specs.List.{AllByRecursion}
 use Rattle.std.proofs.lemmas.List.{length-take, get_or_append_left, get_or_past, drop_at}
 use Rattle.std.proofs.lemmas.Bool.{eqb-true, ltb-true, cases_lt}
@@ -13,6 +13,9 @@ use Rattle.cm_class.specs.declared.constant.Slot.{Slot}
 use Rattle.cm_class.specs.declared.constant.Slot.TheVariants.{Usable, Unusable}
 use Rattle.cm_class.specs.declared.class_file.Attribute.{Attribute}
 use Rattle.cm_class.specs.declared.class_file.Member.{Member}
+use Rattle.cm_class.specs.declared.kind.Kind.{Kind}
+use Rattle.cm_class.specs.declared.kind.Kind.TheVariants as kinds
+use Rattle.cm_class.specs.Reading.{tag_of}
 use Rattle.cm_class.specs.Spelling.{is_wide, IsU2, AreBytes, ConstantFits, SlotsFit, AttributeFits}
 use Rattle.cm_class.specs.Spelling.{MemberFits}
 use Rattle.cm_record_reading.specs.declared.entry.Entry.{Entry}
@@ -23,9 +26,10 @@ use Rattle.cm_record_layout.specs.Layout.{constant_words, constant_run, director
 use Rattle.cm_record_layout.specs.Layout.{members, member_attributes, attributes, attribute_run}
 use Rattle.cm_record_layout.specs.Layout.{attribute_runs, whole_word}
 use Rattle.cm_record_reading.specs.Reading.{◌>>=◌, only_if, front_of, run_from, run_at, candidate}
-use Rattle.cm_record_reading.specs.Reading.{entry_word, entry_of, wide_from, constant_from}
-use Rattle.cm_record_reading.specs.Reading.{constant_at, slots_at, interfaces_from, attribute_word}
-use Rattle.cm_record_reading.specs.Reading.{attribute_at, attributes_from, member_at, members_from}
+use Rattle.cm_record_reading.specs.Reading.{entry_of_kind, entry_word, entry_of, wide_from}
+use Rattle.cm_record_reading.specs.Reading.{constant_from, constant_at, slots_at, interfaces_from}
+use Rattle.cm_record_reading.specs.Reading.{attribute_word, attribute_at, attributes_from}
+use Rattle.cm_record_reading.specs.Reading.{member_at, members_from}
 use Rattle.cm_record_layout.proofs.Packed.{packed_more, word_same, length-bytes_of}
 use Rattle.cm_record_layout.proofs.Lengths.{attributes_append, attribute_runs_append}
 use Rattle.cm_record_layout.proofs.Lengths.{attributes_len}
@@ -123,59 +127,31 @@ EntryFits (Some entry.Long) = Unit {0}
 EntryFits (Some entry.Double) = Unit {0}
 EntryFits (Some (entry.Whole c)) = IsPlain c
 
-chosen : (b : Bool) (x y : Option Entry) → EntryFits x → EntryFits y
-    → EntryFits (if b then x else y)
-chosen true x y fx fy = fx
-chosen false x y fx fy = fy
+-- what stands in the parts of a word fits
+fits_of_kind : (kind : Kind) (word : ℕ) → EntryFits (Some (entry_of_kind kind word))
+fits_of_kind kinds.Utf8 word = omega arith
+fits_of_kind kinds.Integer word = record { narrow = refl; no_run = refl; word = λ at. refl; fits = omega arith }
+fits_of_kind kinds.Float word = record { narrow = refl; no_run = refl; word = λ at. refl; fits = omega arith }
+fits_of_kind kinds.Long word = tt
+fits_of_kind kinds.Double word = tt
+fits_of_kind kinds.Class word = record { narrow = refl; no_run = refl; word = λ at. refl; fits = omega arith }
+fits_of_kind kinds.String word = record { narrow = refl; no_run = refl; word = λ at. refl; fits = omega arith }
+fits_of_kind kinds.Fieldref word = record { narrow = refl; no_run = refl; word = λ at. refl; fits = (omega arith, omega arith) }
+fits_of_kind kinds.Methodref word = record { narrow = refl; no_run = refl; word = λ at. refl; fits = (omega arith, omega arith) }
+fits_of_kind kinds.InterfaceMethodref word = record { narrow = refl; no_run = refl; word = λ at. refl; fits = (omega arith, omega arith) }
+fits_of_kind kinds.NameAndType word = record { narrow = refl; no_run = refl; word = λ at. refl; fits = (omega arith, omega arith) }
+fits_of_kind kinds.MethodHandle word = record { narrow = refl; no_run = refl; word = λ at. refl; fits = (omega arith, omega arith) }
+fits_of_kind kinds.MethodType word = record { narrow = refl; no_run = refl; word = λ at. refl; fits = omega arith }
+fits_of_kind kinds.InvokeDynamic word = record { narrow = refl; no_run = refl; word = λ at. refl; fits = (omega arith, omega arith) }
 
 candidate_fits : (word : ℕ) → EntryFits (candidate word)
 unfolding candidate
-candidate_fits word =
-    let third : third_of word < 2 ^ 16 = omega arith in
-    let fourth : fourth_of word < 2 ^ 16 = omega arith in
-    let upper : upper_of word < 2 ^ 32 = omega arith in
-    let kind : word / 2 ^ 32 % 2 ^ 8 < 2 ^ 8 = omega arith in
-    let second : second_of word < 2 ^ 16 = omega arith in
-    let p18 : IsPlain (constant.InvokeDynamic (third_of word) (fourth_of word)) = record { narrow = refl; no_run = refl; word = λ at. refl; fits = (third, fourth) } in
-    let o18 : Option Entry = if first_of word == 18 then Some (entry.Whole (constant.InvokeDynamic (third_of word) (fourth_of word))) else None in
-    let f18 : EntryFits o18 = chosen (first_of word == 18) (Some (entry.Whole (constant.InvokeDynamic (third_of word) (fourth_of word)))) None p18 tt in
-    let p16 : IsPlain (constant.MethodType (third_of word)) = record { narrow = refl; no_run = refl; word = λ at. refl; fits = third } in
-    let o16 : Option Entry = if first_of word == 16 then Some (entry.Whole (constant.MethodType (third_of word))) else o18 in
-    let f16 : EntryFits o16 = chosen (first_of word == 16) (Some (entry.Whole (constant.MethodType (third_of word)))) o18 p16 f18 in
-    let p15 : IsPlain (constant.MethodHandle (word / 2 ^ 32 % 2 ^ 8) (fourth_of word)) = record { narrow = refl; no_run = refl; word = λ at. refl; fits = (kind, fourth) } in
-    let o15 : Option Entry = if first_of word == 15 then Some (entry.Whole (constant.MethodHandle (word / 2 ^ 32 % 2 ^ 8) (fourth_of word))) else o16 in
-    let f15 : EntryFits o15 = chosen (first_of word == 15) (Some (entry.Whole (constant.MethodHandle (word / 2 ^ 32 % 2 ^ 8) (fourth_of word)))) o16 p15 f16 in
-    let p12 : IsPlain (constant.NameAndType (third_of word) (fourth_of word)) = record { narrow = refl; no_run = refl; word = λ at. refl; fits = (third, fourth) } in
-    let o12 : Option Entry = if first_of word == 12 then Some (entry.Whole (constant.NameAndType (third_of word) (fourth_of word))) else o15 in
-    let f12 : EntryFits o12 = chosen (first_of word == 12) (Some (entry.Whole (constant.NameAndType (third_of word) (fourth_of word)))) o15 p12 f15 in
-    let p11 : IsPlain (constant.InterfaceMethodref (third_of word) (fourth_of word)) = record { narrow = refl; no_run = refl; word = λ at. refl; fits = (third, fourth) } in
-    let o11 : Option Entry = if first_of word == 11 then Some (entry.Whole (constant.InterfaceMethodref (third_of word) (fourth_of word))) else o12 in
-    let f11 : EntryFits o11 = chosen (first_of word == 11) (Some (entry.Whole (constant.InterfaceMethodref (third_of word) (fourth_of word)))) o12 p11 f12 in
-    let p10 : IsPlain (constant.Methodref (third_of word) (fourth_of word)) = record { narrow = refl; no_run = refl; word = λ at. refl; fits = (third, fourth) } in
-    let o10 : Option Entry = if first_of word == 10 then Some (entry.Whole (constant.Methodref (third_of word) (fourth_of word))) else o11 in
-    let f10 : EntryFits o10 = chosen (first_of word == 10) (Some (entry.Whole (constant.Methodref (third_of word) (fourth_of word)))) o11 p10 f11 in
-    let p9 : IsPlain (constant.Fieldref (third_of word) (fourth_of word)) = record { narrow = refl; no_run = refl; word = λ at. refl; fits = (third, fourth) } in
-    let o9 : Option Entry = if first_of word == 9 then Some (entry.Whole (constant.Fieldref (third_of word) (fourth_of word))) else o10 in
-    let f9 : EntryFits o9 = chosen (first_of word == 9) (Some (entry.Whole (constant.Fieldref (third_of word) (fourth_of word)))) o10 p9 f10 in
-    let p8 : IsPlain (constant.String (third_of word)) = record { narrow = refl; no_run = refl; word = λ at. refl; fits = third } in
-    let o8 : Option Entry = if first_of word == 8 then Some (entry.Whole (constant.String (third_of word))) else o9 in
-    let f8 : EntryFits o8 = chosen (first_of word == 8) (Some (entry.Whole (constant.String (third_of word)))) o9 p8 f9 in
-    let p7 : IsPlain (constant.Class (third_of word)) = record { narrow = refl; no_run = refl; word = λ at. refl; fits = third } in
-    let o7 : Option Entry = if first_of word == 7 then Some (entry.Whole (constant.Class (third_of word))) else o8 in
-    let f7 : EntryFits o7 = chosen (first_of word == 7) (Some (entry.Whole (constant.Class (third_of word)))) o8 p7 f8 in
-    let o6 : Option Entry = if first_of word == 6 then Some (entry.Double) else o7 in
-    let f6 : EntryFits o6 = chosen (first_of word == 6) (Some (entry.Double)) o7 tt f7 in
-    let o5 : Option Entry = if first_of word == 5 then Some (entry.Long) else o6 in
-    let f5 : EntryFits o5 = chosen (first_of word == 5) (Some (entry.Long)) o6 tt f6 in
-    let p4 : IsPlain (constant.Float (upper_of word)) = record { narrow = refl; no_run = refl; word = λ at. refl; fits = upper } in
-    let o4 : Option Entry = if first_of word == 4 then Some (entry.Whole (constant.Float (upper_of word))) else o5 in
-    let f4 : EntryFits o4 = chosen (first_of word == 4) (Some (entry.Whole (constant.Float (upper_of word)))) o5 p4 f5 in
-    let p3 : IsPlain (constant.Integer (upper_of word)) = record { narrow = refl; no_run = refl; word = λ at. refl; fits = upper } in
-    let o3 : Option Entry = if first_of word == 3 then Some (entry.Whole (constant.Integer (upper_of word))) else o4 in
-    let f3 : EntryFits o3 = chosen (first_of word == 3) (Some (entry.Whole (constant.Integer (upper_of word)))) o4 p3 f4 in
-    let o1 : Option Entry = if first_of word == 1 then Some (entry.Utf8 (second_of word)) else o3 in
-    let f1 : EntryFits o1 = chosen (first_of word == 1) (Some (entry.Utf8 (second_of word))) o3 second f3 in
-    f1
+candidate_fits word = by_kind (tag_of (first_of word))
+  where
+    by_kind : (found : Option Kind)
+        → EntryFits (found >>= (λ kind. Some (entry_of_kind kind word)))
+    by_kind None = tt
+    by_kind (Some kind) = fits_of_kind kind word
 
 record EntryTaken (at word : ℕ) (e : Entry) : Type 0 where
   pub word_is : entry_word at e ≡ word

@@ -3,7 +3,7 @@
 -- the law of this crate and in `Record::read`.
 use Rattle.std.specs.Prelude.{◌≡◌, ℕ, zero, suc, ◌+◌, ◌-◌, ◌*◌, ◌/◌, ◌%◌, ◌^◌, Bool, true, false}
 use Rattle.std.specs.Prelude.{List, [], ◌∷◌, ◌++◌, length, take, drop, get_or, Option, Some, None}
-use Rattle.std.specs.Prelude.{Result, Ok, Err, nat_lt, nat_le, ◌==◌, ◌&&◌, if◌then◌else◌}
+use Rattle.std.specs.Prelude.{Result, Ok, Err, nat_lt, nat_le, ◌==◌, ◌&&◌}
 use Rattle.cm_class.specs.declared.constant.Constant.{Constant}
 use Rattle.cm_class.specs.declared.constant.Constant.TheVariants as constant
 use Rattle.cm_class.specs.declared.constant.Slot.{Slot}
@@ -11,7 +11,10 @@ use Rattle.cm_class.specs.declared.constant.Slot.TheVariants.{Usable, Unusable}
 use Rattle.cm_class.specs.declared.class_file.Attribute.{Attribute}
 use Rattle.cm_class.specs.declared.class_file.Member.{Member}
 use Rattle.cm_class.specs.declared.class_file.ClassFile.{ClassFile}
+use Rattle.cm_class.specs.declared.kind.Kind.{Kind}
+use Rattle.cm_class.specs.declared.kind.Kind.TheVariants as kinds
 use Rattle.cm_class.specs.Spelling.{is_wide}
+use Rattle.cm_class.specs.Reading.{tag_of}
 use Rattle.cm_record_reading.specs.declared.entry.Entry.{Entry}
 use Rattle.cm_record_reading.specs.declared.entry.Entry.TheVariants as entry
 use Rattle.cm_record_reading.specs.declared.fault.RecordFault.{RecordFault}
@@ -60,24 +63,33 @@ run_at count words = run_from (run_words count) count words
 
 -- ---- the constant pool
 
+-- what a directory word of this kind stands for
+abbrev pub entry_of_kind : Kind → ℕ → Entry
+entry_of_kind kinds.Utf8 word = entry.Utf8 (second_of word)
+entry_of_kind kinds.Integer word = entry.Whole (constant.Integer (upper_of word))
+entry_of_kind kinds.Float word = entry.Whole (constant.Float (upper_of word))
+entry_of_kind kinds.Long word = entry.Long
+entry_of_kind kinds.Double word = entry.Double
+entry_of_kind kinds.Class word = entry.Whole (constant.Class (third_of word))
+entry_of_kind kinds.String word = entry.Whole (constant.String (third_of word))
+entry_of_kind kinds.Fieldref word = entry.Whole (constant.Fieldref (third_of word) (fourth_of word))
+entry_of_kind kinds.Methodref word =
+    entry.Whole (constant.Methodref (third_of word) (fourth_of word))
+entry_of_kind kinds.InterfaceMethodref word =
+    entry.Whole (constant.InterfaceMethodref (third_of word) (fourth_of word))
+entry_of_kind kinds.NameAndType word =
+    entry.Whole (constant.NameAndType (third_of word) (fourth_of word))
+entry_of_kind kinds.MethodHandle word =
+    entry.Whole (constant.MethodHandle (word / 2 ^ 32 % 2 ^ 8) (fourth_of word))
+entry_of_kind kinds.MethodType word = entry.Whole (constant.MethodType (third_of word))
+entry_of_kind kinds.InvokeDynamic word =
+    entry.Whole (constant.InvokeDynamic (third_of word) (fourth_of word))
+
 -- what a directory word may stand for, by its tag
 unfoldable pub candidate : ℕ → Option Entry
-candidate word =
-    if first_of word == 1 then Some (entry.Utf8 (second_of word))
-    else if first_of word == 3 then Some (entry.Whole (constant.Integer (upper_of word)))
-    else if first_of word == 4 then Some (entry.Whole (constant.Float (upper_of word)))
-    else if first_of word == 5 then Some entry.Long
-    else if first_of word == 6 then Some entry.Double
-    else if first_of word == 7 then Some (entry.Whole (constant.Class (third_of word)))
-    else if first_of word == 8 then Some (entry.Whole (constant.String (third_of word)))
-    else if first_of word == 9 then Some (entry.Whole (constant.Fieldref (third_of word) (fourth_of word)))
-    else if first_of word == 10 then Some (entry.Whole (constant.Methodref (third_of word) (fourth_of word)))
-    else if first_of word == 11 then Some (entry.Whole (constant.InterfaceMethodref (third_of word) (fourth_of word)))
-    else if first_of word == 12 then Some (entry.Whole (constant.NameAndType (third_of word) (fourth_of word)))
-    else if first_of word == 15 then Some (entry.Whole (constant.MethodHandle (word / 2 ^ 32 % 2 ^ 8) (fourth_of word)))
-    else if first_of word == 16 then Some (entry.Whole (constant.MethodType (third_of word)))
-    else if first_of word == 18 then Some (entry.Whole (constant.InvokeDynamic (third_of word) (fourth_of word)))
-    else None
+candidate word = do
+  kind ← tag_of (first_of word)
+  Some (entry_of_kind kind word)
 
 -- the directory word of an entry whose run would begin at `at`
 abbrev pub entry_word : ℕ → Entry → ℕ

@@ -7,7 +7,7 @@ ghost use Rattle.cm_record_reading.specs.Reading.{attribute_at, attributes_from,
 ghost use Rattle.cm_record_reading.specs.Reading.{members_from, pool_from, pool_left, body_from};
 ghost use Rattle.cm_record_reading.specs.Reading.{body_left, class_at};
 
-use crate::entry::{Entry, attribute_word, entry_at, is_wide};
+use crate::entry::{Entry, attribute_word, entry_at};
 use crate::whole::{head_is_right, sections_end};
 use cm_record_layout::{
     MAX_WORDS, SECOND, bytes_of, first, fourth, second, third, upper, word_of, words_from,
@@ -73,7 +73,7 @@ fn skip_constant<'a, 'b>(
             let _bits = *bits;
             Some((true, main, runs))
         }
-        Entry::Whole(constant) => Some((is_wide(&constant), main, runs)),
+        Entry::Whole(constant) => Some((constant.is_wide(), main, runs)),
     }
 }
 

@@ -1,14 +1,14 @@
 //! The words of the directory, one by one.
 ghost use Rattle.std.specs.Prelude.{◌≡◌, ◌≤◌, ◌<◌, ◌+◌, ◌*◌, ◌^◌};
-ghost use Rattle.cm_class.specs.Spelling.{is_wide as is_wide_of};
 ghost use Rattle.cm_record_layout.specs.Layout.{limit};
 ghost use Rattle.cm_record_layout.specs.Packing.{first_of, second_of, third_of, fourth_of};
 ghost use Rattle.cm_record_layout.specs.Packing.{upper_of};
 ghost use Rattle.cm_record_reading.specs.Reading.{candidate as candidate_of};
+ghost use Rattle.cm_record_reading.specs.Reading.{entry_of_kind as entry_of_kind_of};
 ghost use Rattle.cm_record_reading.specs.Reading.{entry_word as entry_word_of, entry_of};
 ghost use Rattle.cm_record_reading.specs.Reading.{attribute_word as attribute_word_of};
 
-use cm_class::Constant;
+use cm_class::{Constant, Kind};
 use cm_record_layout::{SECOND, THIRD, first, fourth, second, third, upper, whole_word};
 
 /// What a word of the directory stands for: a Utf8 with its length, the beginning of a wide
@@ -21,48 +21,55 @@ pub(crate) enum Entry {
     Whole(Constant),
 }
 
+/// What a word of this kind stands for.
+fn entry_of_kind(kind: Kind, word: u64) -> Entry
+    ensures { result ≡ entry_of_kind_of kind word }
+{
+    let (one, two) = (third(word), fourth(word));
+    let whole = match kind {
+        Kind::Utf8 => return Entry::Utf8(second(word)),
+        Kind::Long => return Entry::Long,
+        Kind::Double => return Entry::Double,
+        Kind::Integer => Constant::Integer(upper(word)),
+        Kind::Float => Constant::Float(upper(word)),
+        Kind::Class => Constant::Class { name: one },
+        Kind::String => Constant::String { text: one },
+        Kind::Fieldref => Constant::Fieldref {
+            class: one,
+            name_and_type: two,
+        },
+        Kind::Methodref => Constant::Methodref {
+            class: one,
+            name_and_type: two,
+        },
+        Kind::InterfaceMethodref => Constant::InterfaceMethodref {
+            class: one,
+            name_and_type: two,
+        },
+        Kind::NameAndType => Constant::NameAndType {
+            name: one,
+            descriptor: two,
+        },
+        Kind::MethodHandle => Constant::MethodHandle {
+            kind: (word / THIRD % 256) as u8,
+            reference: two,
+        },
+        Kind::MethodType => Constant::MethodType { descriptor: one },
+        Kind::InvokeDynamic => Constant::InvokeDynamic {
+            bootstrap_method: one,
+            name_and_type: two,
+        },
+    };
+    Entry::Whole(whole)
+}
+
 /// What a word may stand for, by its tag.
 #[tactic(auto, unfolding(crate::specs::Reading::candidate))]
 fn candidate(word: u64) -> Option<Entry>
     ensures { result ≡ candidate_of word }
 {
-    let (one, two) = (third(word), fourth(word));
-    let whole = match first(word) {
-        1 => return Some(Entry::Utf8(second(word))),
-        3 => Constant::Integer(upper(word)),
-        4 => Constant::Float(upper(word)),
-        5 => return Some(Entry::Long),
-        6 => return Some(Entry::Double),
-        7 => Constant::Class { name: one },
-        8 => Constant::String { text: one },
-        9 => Constant::Fieldref {
-            class: one,
-            name_and_type: two,
-        },
-        10 => Constant::Methodref {
-            class: one,
-            name_and_type: two,
-        },
-        11 => Constant::InterfaceMethodref {
-            class: one,
-            name_and_type: two,
-        },
-        12 => Constant::NameAndType {
-            name: one,
-            descriptor: two,
-        },
-        15 => Constant::MethodHandle {
-            kind: (word / THIRD % 256) as u8,
-            reference: two,
-        },
-        16 => Constant::MethodType { descriptor: one },
-        18 => Constant::InvokeDynamic {
-            bootstrap_method: one,
-            name_and_type: two,
-        },
-        _ => return None,
-    };
-    Some(Entry::Whole(whole))
+    let kind = Kind::from_tag(first(word))?;
+    Some(entry_of_kind(kind, word))
 }
 
 /// The word of an entry whose run would begin at `at`.
@@ -71,9 +78,11 @@ fn entry_word(at: u64, entry: &Entry) -> u64
     ensures { result ≡ entry_word_of at entry.now }
 {
     match entry {
-        Entry::Utf8(count) => 1 + SECOND * u64::from(*count) + THIRD * at,
-        Entry::Long => 5,
-        Entry::Double => 6,
+        Entry::Utf8(count) => {
+            u64::from(Kind::Utf8.tag()) + SECOND * u64::from(*count) + THIRD * at
+        }
+        Entry::Long => u64::from(Kind::Long.tag()),
+        Entry::Double => u64::from(Kind::Double.tag()),
         Entry::Whole(constant) => whole_word(constant),
     }
 }
@@ -97,11 +106,4 @@ pub(crate) fn attribute_word(name: u16, count: u32) -> u64
     ensures { result ≡ attribute_word_of name count }
 {
     u64::from(name) + THIRD * u64::from(count)
-}
-
-/// A Long or a Double, which takes two slots.
-pub(crate) fn is_wide(constant: &Constant) -> bool
-    ensures { result ≡ is_wide_of constant.now }
-{
-    matches!(constant, Constant::Long(_) | Constant::Double(_))
 }

@@ -6,7 +6,7 @@ ghost use Rattle.cm_record_reading.specs.Reading.{Gives, run_at, constant_at, sl
 ghost use Rattle.cm_record_reading.specs.Reading.{interfaces_from, attribute_at, attributes_from};
 ghost use Rattle.cm_record_reading.specs.Reading.{member_at, members_from};
 
-use crate::entry::{Entry, attribute_word, entry_at, is_wide};
+use crate::entry::{Entry, attribute_word, entry_at};
 use crate::fault::RecordFault;
 use cm_class::{Attribute, Constant, Items, Member, Slot};
 use cm_record_layout::{SECOND, bytes_of, first, fourth, second, third, upper, word_of};
@@ -110,7 +110,7 @@ pub(crate) fn read_slots<'a, 'b>(
             continue;
         }
         let (constant, main_behind, runs_behind) = read_constant(alloc, total, main, runs)?;
-        second = is_wide(&constant);
+        second = constant.is_wide();
         slots.push(Slot::Usable(constant))?;
         main = main_behind;
         runs = runs_behind;
