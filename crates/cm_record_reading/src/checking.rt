@@ -10,7 +10,8 @@ ghost use Rattle.cm_record_reading.specs.Reading.{body_left, class_at};
 use crate::entry::{Entry, attribute_word, entry_at};
 use crate::whole::{head_is_right, sections_end};
 use cm_record_layout::{
-    MAX_WORDS, SECOND, bytes_of, first, fourth, second, third, upper, word_of, words_from,
+    HEAD_ATTRIBUTES_AT, HEAD_CLASS, HEAD_COUNTS, HEAD_RUNS_AT, MAX_WORDS, SECOND, SLOT_1_AT,
+    bytes_of, first, fourth, second, third, upper, word_of, words_from,
 };
 
 /// The words behind a run of so many bytes.
@@ -272,16 +273,16 @@ fn sections_fit(words: &[u64]) -> Option<()>
         return None;
     }
     let total = words.len();
-    let (numbers, counts) = (words[1], words[2]);
-    let (count, interfaces) = (first(counts) as usize - 1, fourth(numbers) as usize);
-    let runs = words_from(words, words[7] as usize);
-    let (main, runs) = skip_pool(total, count, interfaces, words_from(words, 9), runs)?;
+    let (class, counts) = (words[HEAD_CLASS], words[HEAD_COUNTS]);
+    let (count, interfaces) = (first(counts) as usize - 1, fourth(class) as usize);
+    let runs = words_from(words, words[HEAD_RUNS_AT] as usize);
+    let (main, runs) = skip_pool(total, count, interfaces, words_from(words, SLOT_1_AT), runs)?;
     let members = (
         second(counts) as usize,
         third(counts) as usize,
         fourth(counts) as usize,
     );
-    let attributes = words_from(words, words[6] as usize);
+    let attributes = words_from(words, words[HEAD_ATTRIBUTES_AT] as usize);
     let (main, attributes, runs) = skip_body(total, members, main, attributes, runs)?;
     if sections_end(words, main, attributes, runs) {
         Some(())

@@ -9,7 +9,11 @@ ghost use Rattle.cm_record_layout.specs.Packing.{first_of};
 use crate::fault::RecordFault;
 use crate::reading::{read_attributes, read_interfaces, read_members, read_slots};
 use cm_class::{Attribute, ClassFile, Items, Member, Slot};
-use cm_record_layout::{first, fourth, second, third, words_from};
+use cm_record_layout::{
+    DIRECTORY_AT, HEAD_ATTRIBUTES_AT, HEAD_CLASS, HEAD_COUNTS, HEAD_DIRECTORY_AT,
+    HEAD_INTERFACES_AT, HEAD_MEMBERS_AT, HEAD_RUNS_AT, HEAD_TOTAL, SLOT_1_AT, first, fourth,
+    second, third, words_from,
+};
 use std::alloc::Global;
 
 /// The numbers in the first words, and where the sections begin, fit together.
@@ -20,21 +24,22 @@ pub(crate) fn head_is_right(words: &[u64]) -> bool
     ensures attributes { IsTrue result → slice_index words.now 6 ≤ length words.now }
     ensures runs { IsTrue result → slice_index words.now 7 ≤ length words.now }
 {
-    if words.len() < 9 {
+    if words.len() < SLOT_1_AT {
         return false;
     }
     let total = words.len() as u64;
-    let (numbers, counts) = (words[1], words[2]);
+    let (class, counts) = (words[HEAD_CLASS], words[HEAD_COUNTS]);
+    let (slots, interfaces) = (u64::from(first(counts)), u64::from(fourth(class)));
     let members = u64::from(second(counts)) + u64::from(third(counts));
-    words[0] == total
-        && words[3] == 8
-        && words[8] == 0
-        && first(counts) >= 1
-        && words[4] == 8 + u64::from(first(counts))
-        && words[5] == words[4] + u64::from(fourth(numbers))
-        && words[6] == words[5] + 2 * members
-        && words[6] <= total
-        && words[7] <= total
+    let starts_right = words[HEAD_TOTAL] == total
+        && words[HEAD_DIRECTORY_AT] == DIRECTORY_AT as u64
+        && words[DIRECTORY_AT] == 0
+        && slots >= 1;
+    let sections_follow = words[HEAD_INTERFACES_AT] == DIRECTORY_AT as u64 + slots
+        && words[HEAD_MEMBERS_AT] == words[HEAD_INTERFACES_AT] + interfaces
+        && words[HEAD_ATTRIBUTES_AT] == words[HEAD_MEMBERS_AT] + 2 * members;
+    let sections_lie_within = words[HEAD_ATTRIBUTES_AT] <= total && words[HEAD_RUNS_AT] <= total;
+    starts_right && sections_follow && sections_lie_within
 }
 
 /// Each section ended where the next began.
@@ -44,8 +49,8 @@ pub(crate) fn sections_end(words: &[u64], main: &[u64], attributes: &[u64], runs
     requires runs { slice_index words.now 7 ≤ length words.now }
     ensures { result ≡ sections_end_of words.now main.now attributes.now runs.now }
 {
-    main.len() == words.len() - words[6] as usize
-        && attributes.len() == words.len() - words[7] as usize
+    main.len() == words.len() - words[HEAD_ATTRIBUTES_AT] as usize
+        && attributes.len() == words.len() - words[HEAD_RUNS_AT] as usize
         && runs.is_empty()
 }
 
@@ -124,14 +129,14 @@ fn class_of_words(alloc: Global, words: &[u64]) -> Result<ClassFile, RecordFault
         return Err(RecordFault::NotARecord);
     }
     let total = words.len();
-    let (numbers, counts) = (words[1], words[2]);
-    let runs = words_from(words, words[7] as usize);
+    let (class, counts) = (words[HEAD_CLASS], words[HEAD_COUNTS]);
+    let runs = words_from(words, words[HEAD_RUNS_AT] as usize);
     let (slots, interfaces, main, runs) = read_pool(
         alloc,
         total,
         first(counts) as usize - 1,
-        fourth(numbers) as usize,
-        words_from(words, 9),
+        fourth(class) as usize,
+        words_from(words, SLOT_1_AT),
         runs,
     )?;
     let members = (
@@ -139,16 +144,16 @@ fn class_of_words(alloc: Global, words: &[u64]) -> Result<ClassFile, RecordFault
         third(counts) as usize,
         fourth(counts) as usize,
     );
-    let attributes = words_from(words, words[6] as usize);
+    let attributes = words_from(words, words[HEAD_ATTRIBUTES_AT] as usize);
     let body = read_body(alloc, total, members, main, attributes, runs)?;
     if !sections_end(words, body.main, body.attributes, body.runs) {
         return Err(RecordFault::NotARecord);
     }
     Ok(ClassFile {
         slots: Items::from_vec(slots),
-        flags: first(numbers),
-        this_class: second(numbers),
-        super_class: third(numbers),
+        flags: first(class),
+        this_class: second(class),
+        super_class: third(class),
         interfaces: Items::from_vec(interfaces),
         fields: Items::from_vec(body.fields),
         methods: Items::from_vec(body.methods),

@@ -12,7 +12,7 @@ use crate::sections::{
     push_utf8_runs,
 };
 use cm_class::{Class, Member};
-use cm_record_layout::four_numbers;
+use cm_record_layout::{DIRECTORY_AT, four_numbers};
 use cm_words::WordBuf;
 
 /// Adds the attributes of members. It gives where the run of the next would begin.
@@ -68,7 +68,7 @@ pub(crate) fn push_head(words: &mut WordBuf, class: &Class, places: &Places)
             class.methods().len() as u16,
             class.attributes().len() as u16,
         ),
-        8,
+        DIRECTORY_AT as u64,
         places.interfaces,
         places.members,
         places.attributes,

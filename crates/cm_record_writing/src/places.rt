@@ -6,7 +6,7 @@ ghost use Rattle.cm_record_layout.specs.Layout.{record_len, lay, limit};
 
 use crate::sections::{attribute_run_words, slot_run_words};
 use cm_class::{Attribute, Class, Member, Slot};
-use cm_record_layout::MAX_WORDS;
+use cm_record_layout::{MAX_WORDS, SLOT_1_AT};
 
 /// How many words the runs of the pool take; the greatest u64 stands for more.
 fn utf8_words(slots: &[Slot]) -> u64
@@ -75,7 +75,7 @@ fn words_of(class: &Class) -> u64
     ensures { result ≡ min (record_len class.now) (2 ^ 64 - 1) }
 {
     let _spelled = class.flags(); // brings the class's invariant into the proof's scope
-    let counted = 9 + class.slots().len() as u64 + class.interfaces().len() as u64;
+    let counted = SLOT_1_AT as u64 + class.slots().len() as u64 + class.interfaces().len() as u64;
     counted
         .saturating_add(utf8_words(class.slots()))
         .saturating_add(member_words(class.fields()))
@@ -100,7 +100,7 @@ impl Places {
         if len > MAX_WORDS {
             return None;
         }
-        let interfaces = 9 + class.slots().len() as u64;
+        let interfaces = SLOT_1_AT as u64 + class.slots().len() as u64;
         let members = interfaces + class.interfaces().len() as u64;
         let attributes = members + 2 * (class.fields().len() + class.methods().len()) as u64;
         let own = class.attributes().len() as u64;
