@@ -8,7 +8,7 @@ ghost use Rattle.cm_record_reading.specs.Reading.{members_from, pool_from, pool_
 ghost use Rattle.cm_record_reading.specs.Reading.{body_left, class_at};
 
 use crate::entry::{Entry, attribute_word, entry_at};
-use crate::whole::{head_is_right, sections_end};
+use crate::whole::{Counts, head_is_right, sections_end};
 use cm_record_layout::{
     HEAD_ATTRIBUTES_AT, HEAD_CLASS, HEAD_COUNTS, HEAD_RUNS_AT, MAX_WORDS, SECOND, SLOT_1_AT,
     bytes_of, first, fourth, second, third, upper, word_of, words_from,
@@ -247,7 +247,7 @@ fn skip_pool<'a, 'b>(
 #[tactic(auto, unfolding(crate::specs::Reading::body_from))]
 fn skip_body<'a, 'b, 'c>(
     total: usize,
-    counts: (usize, usize, usize),
+    counts: Counts,
     main: &'a [u64],
     attributes: &'b [u64],
     runs: &'c [u64],
@@ -255,11 +255,11 @@ fn skip_body<'a, 'b, 'c>(
     requires attributes { length attributes.now ≤ total }
     requires runs { length runs.now ≤ total }
     ensures { Leaves (λ x. (x.0.now, x.1.now, x.2.now)) result
-        (body_left (body_from total counts.0 counts.1 counts.2 main.now attributes.now runs.now)) }
+        (body_left (body_from total counts.fields counts.methods counts.attributes main.now attributes.now runs.now)) }
 {
-    let (main, attributes, runs) = skip_members(total, counts.0, main, attributes, runs)?;
-    let (main, attributes, runs) = skip_members(total, counts.1, main, attributes, runs)?;
-    let (attributes, runs) = skip_attributes(total, counts.2, attributes, runs)?;
+    let (main, attributes, runs) = skip_members(total, counts.fields, main, attributes, runs)?;
+    let (main, attributes, runs) = skip_members(total, counts.methods, main, attributes, runs)?;
+    let (attributes, runs) = skip_attributes(total, counts.attributes, attributes, runs)?;
     Some((main, attributes, runs))
 }
 
@@ -277,13 +277,8 @@ fn sections_fit(words: &[u64]) -> Option<()>
     let (count, interfaces) = (first(counts) as usize - 1, fourth(class) as usize);
     let runs = words_from(words, words[HEAD_RUNS_AT] as usize);
     let (main, runs) = skip_pool(total, count, interfaces, words_from(words, SLOT_1_AT), runs)?;
-    let members = (
-        second(counts) as usize,
-        third(counts) as usize,
-        fourth(counts) as usize,
-    );
     let attributes = words_from(words, words[HEAD_ATTRIBUTES_AT] as usize);
-    let (main, attributes, runs) = skip_body(total, members, main, attributes, runs)?;
+    let (main, attributes, runs) = skip_body(total, Counts::of(counts), main, attributes, runs)?;
     if sections_end(words, main, attributes, runs) {
         Some(())
     } else {

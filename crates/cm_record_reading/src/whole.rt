@@ -42,6 +42,32 @@ pub(crate) fn head_is_right(words: &[u64]) -> bool
     starts_right && sections_follow && sections_lie_within
 }
 
+/// How many fields, methods and attributes a class has of its own.
+#[derive(Clone, Copy)]
+pub(crate) struct Counts {
+    pub fields: usize,
+    pub methods: usize,
+    pub attributes: usize,
+}
+
+impl Counts {
+    ghost use Rattle.std.specs.Prelude.{◌≡◌};
+    ghost use Rattle.cm_record_layout.specs.Packing.{second_of, third_of, fourth_of};
+
+    /// Those in the head's word of counts.
+    pub(crate) fn of(word: u64) -> Counts
+        ensures fields { result.fields ≡ second_of word }
+        ensures methods { result.methods ≡ third_of word }
+        ensures attributes { result.attributes ≡ fourth_of word }
+    {
+        Counts {
+            fields: usize::from(second(word)),
+            methods: usize::from(third(word)),
+            attributes: usize::from(fourth(word)),
+        }
+    }
+}
+
 /// Each section ended where the next began.
 pub(crate) fn sections_end(words: &[u64], main: &[u64], attributes: &[u64], runs: &[u64]) -> bool
     requires long { 9 ≤ length words.now }
@@ -91,7 +117,7 @@ struct Body<'a, 'b, 'c> {
 fn read_body<'a, 'b, 'c>(
     alloc: Global,
     total: usize,
-    counts: (usize, usize, usize),
+    counts: Counts,
     main: &'a [u64],
     attributes: &'b [u64],
     runs: &'c [u64],
@@ -100,15 +126,31 @@ fn read_body<'a, 'b, 'c>(
     requires runs { length runs.now ≤ total }
     ensures { Gives
         (λ x. (x.fields.items, x.methods.items, x.own.items, x.main.now, x.attributes.now, x.runs.now)) result
-        (body_from total counts.0 counts.1 counts.2 main.now attributes.now runs.now) }
+        (body_from total counts.fields counts.methods counts.attributes main.now attributes.now runs.now) }
 {
     let (fields, main, attributes, runs) = read_members(
-        alloc, total, counts.0, main, attributes, runs,
+        alloc,
+        total,
+        counts.fields,
+        main,
+        attributes,
+        runs,
     )?;
     let (methods, main, attributes, runs) = read_members(
-        alloc, total, counts.1, main, attributes, runs,
+        alloc,
+        total,
+        counts.methods,
+        main,
+        attributes,
+        runs,
     )?;
-    let (own, attributes, runs) = read_attributes(alloc, total, counts.2, attributes, runs)?;
+    let (own, attributes, runs) = read_attributes(
+        alloc,
+        total,
+        counts.attributes,
+        attributes,
+        runs,
+    )?;
     Ok(Body {
         fields,
         methods,
@@ -139,13 +181,8 @@ fn class_of_words(alloc: Global, words: &[u64]) -> Result<ClassFile, RecordFault
         words_from(words, SLOT_1_AT),
         runs,
     )?;
-    let members = (
-        second(counts) as usize,
-        third(counts) as usize,
-        fourth(counts) as usize,
-    );
     let attributes = words_from(words, words[HEAD_ATTRIBUTES_AT] as usize);
-    let body = read_body(alloc, total, members, main, attributes, runs)?;
+    let body = read_body(alloc, total, Counts::of(counts), main, attributes, runs)?;
     if !sections_end(words, body.main, body.attributes, body.runs) {
         return Err(RecordFault::NotARecord);
     }
