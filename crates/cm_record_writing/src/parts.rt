@@ -12,7 +12,10 @@ use crate::sections::{
     push_utf8_runs,
 };
 use cm_class::{Class, Member};
-use cm_record_layout::{DIRECTORY_AT, four_numbers};
+use cm_record_layout::{
+    DIRECTORY_AT, HEAD_ATTRIBUTES_AT, HEAD_CLASS, HEAD_COUNTS, HEAD_DIRECTORY_AT,
+    HEAD_INTERFACES_AT, HEAD_MEMBERS_AT, HEAD_RUNS_AT, HEAD_TOTAL, four_numbers,
+};
 use cm_words::WordBuf;
 
 /// Adds the attributes of members. It gives where the run of the next would begin.
@@ -49,31 +52,26 @@ pub(crate) fn push_head(words: &mut WordBuf, class: &Class, places: &Places)
     ensures capacity { words.new.capacity ≡ words.old.capacity }
 {
     let _spelled = class.flags(); // brings the class's invariant into the proof's scope
-    let counts = (
-        class.interfaces().len(),
-        class.slots().len() + 1,
-        class.fields().len(),
+    let interfaces = class.interfaces().len() as u16;
+    let slots = (class.slots().len() + 1) as u16;
+    let fields = class.fields().len() as u16;
+    let methods = class.methods().len() as u16;
+    let attributes = class.attributes().len() as u16;
+    let mut head = [0; DIRECTORY_AT];
+    head[HEAD_TOTAL] = places.len;
+    head[HEAD_CLASS] = four_numbers(
+        class.flags(),
+        class.this_class(),
+        class.super_class(),
+        interfaces,
     );
-    words.extend_from_slice(&[
-        places.len,
-        four_numbers(
-            class.flags(),
-            class.this_class(),
-            class.super_class(),
-            counts.0 as u16,
-        ),
-        four_numbers(
-            counts.1 as u16,
-            counts.2 as u16,
-            class.methods().len() as u16,
-            class.attributes().len() as u16,
-        ),
-        DIRECTORY_AT as u64,
-        places.interfaces,
-        places.members,
-        places.attributes,
-        places.runs,
-    ]);
+    head[HEAD_COUNTS] = four_numbers(slots, fields, methods, attributes);
+    head[HEAD_DIRECTORY_AT] = DIRECTORY_AT as u64;
+    head[HEAD_INTERFACES_AT] = places.interfaces;
+    head[HEAD_MEMBERS_AT] = places.members;
+    head[HEAD_ATTRIBUTES_AT] = places.attributes;
+    head[HEAD_RUNS_AT] = places.runs;
+    words.extend_from_slice(&head);
 }
 
 /// Adds the directory, the interfaces and the members.
