@@ -115,6 +115,31 @@ head c =
     ∷ four_numbers (length c.slots + 1) (length c.fields) (length c.methods) (length c.attributes)
     ∷ 8 ∷ interfaces_at c ∷ members_at c ∷ attributes_at c ∷ runs_at c ∷ []
 
+-- the words of a head, by the names that code has for their places
+abbrev pub head_total : List ℕ → ℕ
+head_total words = get_or words 0 0
+
+abbrev pub head_class : List ℕ → ℕ
+head_class words = get_or words 1 0
+
+abbrev pub head_counts : List ℕ → ℕ
+head_counts words = get_or words 2 0
+
+abbrev pub head_directory_at : List ℕ → ℕ
+head_directory_at words = get_or words 3 0
+
+abbrev pub head_interfaces_at : List ℕ → ℕ
+head_interfaces_at words = get_or words 4 0
+
+abbrev pub head_members_at : List ℕ → ℕ
+head_members_at words = get_or words 5 0
+
+abbrev pub head_attributes_at : List ℕ → ℕ
+head_attributes_at words = get_or words 6 0
+
+abbrev pub head_runs_at : List ℕ → ℕ
+head_runs_at words = get_or words 7 0
+
 -- Behind the head: the directory, whose slot 0 is 0, the interfaces, the members, the attributes,
 -- and the runs, first those of the pool.
 unfoldable pub lay : ClassFile → List ℕ

@@ -19,7 +19,9 @@ use Rattle.cm_record_reading.specs.declared.entry.Entry.{Entry}
 use Rattle.cm_record_reading.specs.declared.entry.Entry.TheVariants as entry
 use Rattle.cm_record_reading.specs.declared.fault.RecordFault.{RecordFault}
 use Rattle.cm_record_reading.specs.declared.fault.RecordFault.TheVariants.{NotARecord, NoMemory}
-use Rattle.cm_record_layout.specs.Layout.{whole_word}
+use Rattle.cm_record_layout.specs.Layout.{whole_word, head_total, head_class, head_counts}
+use Rattle.cm_record_layout.specs.Layout.{head_directory_at, head_interfaces_at, head_members_at}
+use Rattle.cm_record_layout.specs.Layout.{head_attributes_at, head_runs_at}
 use Rattle.cm_record_layout.specs.Packing.{word_from, bytes_of, run_words, four_numbers, first_of}
 use Rattle.cm_record_layout.specs.Packing.{second_of, third_of, fourth_of, upper_of}
 
@@ -184,20 +186,28 @@ members_from total (suc n) main attrs runs = do
 
 -- ---- the whole record
 
+-- how many fields and methods there are
+abbrev pub member_count : List ℕ → ℕ
+member_count words = second_of (head_counts words) + third_of (head_counts words)
+
 -- the numbers of classes, and where the sections begin, fit together
 abbrev pub head_is_right : List ℕ → Bool
 head_is_right words =
-    nat_le 9 (length words) && get_or words 0 0 == length words && get_or words 3 0 == 8 && get_or words 8 0 == 0
-    && nat_le 1 (first_of (get_or words 2 0))
-    && get_or words 4 0 == 8 + first_of (get_or words 2 0)
-    && get_or words 5 0 == get_or words 4 0 + fourth_of (get_or words 1 0)
-    && get_or words 6 0 == get_or words 5 0 + 2 * (second_of (get_or words 2 0) + third_of (get_or words 2 0))
-    && nat_le (get_or words 6 0) (length words) && nat_le (get_or words 7 0) (length words)
+    nat_le 9 (length words) && head_total words == length words
+    && head_directory_at words == 8 && get_or words 8 0 == 0
+    && nat_le 1 (first_of (head_counts words))
+    && head_interfaces_at words == 8 + first_of (head_counts words)
+    && head_members_at words == head_interfaces_at words + fourth_of (head_class words)
+    && head_attributes_at words == head_members_at words + 2 * member_count words
+    && nat_le (head_attributes_at words) (length words)
+    && nat_le (head_runs_at words) (length words)
 
 -- each section ended where the next began
 abbrev pub sections_end : List ℕ → List ℕ → List ℕ → List ℕ → Bool
 sections_end words main attrs runs =
-    length main + get_or words 6 0 == length words && length attrs + get_or words 7 0 == length words && length runs == 0
+    length main + head_attributes_at words == length words
+    && length attrs + head_runs_at words == length words
+    && length runs == 0
 
 -- the slots of the pool and the interfaces, and what is left behind them
 unfoldable pub pool_from : ℕ → ℕ → ℕ → List ℕ → List ℕ → Option (List Slot × List ℕ × List ℕ
@@ -218,12 +228,17 @@ body_from total fields methods own main attrs runs = do
 
 -- the pool and the interfaces, from where the head says that they are
 abbrev pub pool_of : List ℕ → Option (List Slot × List ℕ × List ℕ × List ℕ)
-pool_of words = pool_from (length words) (first_of (get_or words 2 0) - 1) (fourth_of (get_or words 1 0)) (drop 9 words) (drop (get_or words 7 0) words)
+pool_of words =
+    pool_from (length words) (first_of (head_counts words) - 1) (fourth_of (head_class words))
+    (drop 9 words) (drop (head_runs_at words) words)
 
 -- what stands behind them, from what they leave
 abbrev pub body_of : List ℕ → List ℕ → List ℕ → Option (List Member × List Member
     × List Attribute × List ℕ × List ℕ × List ℕ)
-body_of words main runs = body_from (length words) (second_of (get_or words 2 0)) (third_of (get_or words 2 0)) (fourth_of (get_or words 2 0)) main (drop (get_or words 6 0) words) runs
+body_of words main runs =
+    body_from (length words)
+    (second_of (head_counts words)) (third_of (head_counts words)) (fourth_of (head_counts words))
+    main (drop (head_attributes_at words) words) runs
 
 unfoldable pub class_at : List ℕ → Option ClassFile
 class_at words = only_if (head_is_right words) (do
@@ -231,9 +246,9 @@ class_at words = only_if (head_is_right words) (do
   body ← body_of words pool.2 pool.3
   only_if (sections_end words body.3 body.4 body.5) (Some (record {
     slots = pool.0;
-    flags = first_of (get_or words 1 0);
-    this_class = second_of (get_or words 1 0);
-    super_class = third_of (get_or words 1 0);
+    flags = first_of (head_class words);
+    this_class = second_of (head_class words);
+    super_class = third_of (head_class words);
     interfaces = pool.1;
     fields = body.0;
     methods = body.1;
