@@ -15,7 +15,9 @@ use Rattle.cm_record_layout.specs.Layout.{lay, limit, directory, utf8_runs, memb
 use Rattle.cm_record_layout.specs.Layout.{member_attributes, attributes, attribute_runs}
 use Rattle.cm_record_layout.specs.Layout.{attributes_at, runs_at, record_len, IsRecord, IsRecordOf}
 use Rattle.cm_record_reading.specs.Reading.{slots_at, interfaces_from, attributes_from}
-use Rattle.cm_record_reading.specs.Reading.{members_from, head_is_right, sections_end, pool_from}
+use Rattle.cm_record_reading.specs.Reading.{members_from, starts_right, sections_follow}
+use Rattle.cm_record_reading.specs.Reading.{sections_lie_within, head_is_right, sections_end}
+use Rattle.cm_record_reading.specs.Reading.{pool_from}
 use Rattle.cm_record_reading.specs.Reading.{body_from, pool_of, body_of, class_at, Gives}
 use Rattle.cm_record_reading.specs.declared.fault.RecordFault.{RecordFault}
 use Rattle.cm_record_reading.specs.declared.fault.RecordFault.TheVariants.{NotARecord}
@@ -59,12 +61,12 @@ pub record IsHead (w : List ℕ) : Type 0 where
 
 pub head_facts : (w : List ℕ) → head_is_right w ≡ true → IsHead w
 head_facts w e =
-    let t9 = and_parts _ (nat_le (get_or w 7 0) (length w)) e in
-    let t8 = and_parts _ (nat_le (get_or w 6 0) (length w)) t9.0 in
-    let t7 = and_parts _ (get_or w 6 0 == get_or w 5 0 + 2 * (second_of (get_or w 2 0) + third_of (get_or w 2 0))) t8.0 in
-    let t6 = and_parts _ (get_or w 5 0 == get_or w 4 0 + fourth_of (get_or w 1 0)) t7.0 in
-    let t5 = and_parts _ (get_or w 4 0 == 8 + first_of (get_or w 2 0)) t6.0 in
-    let t4 = and_parts _ (nat_le 1 (first_of (get_or w 2 0))) t5.0 in
+    let groups = and_parts _ (sections_lie_within w) e in
+    let first = and_parts (starts_right w) (sections_follow w) groups.0 in
+    let t8 = and_parts (nat_le (get_or w 6 0) (length w)) (nat_le (get_or w 7 0) (length w)) groups.1 in
+    let t7 = and_parts _ (get_or w 6 0 == get_or w 5 0 + 2 * (second_of (get_or w 2 0) + third_of (get_or w 2 0))) first.1 in
+    let t6 = and_parts (get_or w 4 0 == 8 + first_of (get_or w 2 0)) (get_or w 5 0 == get_or w 4 0 + fourth_of (get_or w 1 0)) t7.0 in
+    let t4 = and_parts _ (nat_le 1 (first_of (get_or w 2 0))) first.0 in
     let t3 = and_parts _ (get_or w 8 0 == 0) t4.0 in
     let t2 = and_parts _ (get_or w 3 0 == 8) t3.0 in
     let t1 = and_parts (nat_le 9 (length w)) (get_or w 0 0 == length w) t2.0 in
@@ -74,11 +76,11 @@ head_facts w e =
       directory = eqb-true (get_or w 3 0) 8 t2.1;
       slot_0 = eqb-true (get_or w 8 0) 0 t3.1;
       count = leb-true 1 (first_of (get_or w 2 0)) t4.1;
-      interfaces = eqb-true (get_or w 4 0) (8 + first_of (get_or w 2 0)) t5.1;
+      interfaces = eqb-true (get_or w 4 0) (8 + first_of (get_or w 2 0)) t6.0;
       members = eqb-true (get_or w 5 0) (get_or w 4 0 + fourth_of (get_or w 1 0)) t6.1;
       attributes = eqb-true (get_or w 6 0) (get_or w 5 0 + 2 * (second_of (get_or w 2 0) + third_of (get_or w 2 0))) t7.1;
-      attributes_in = leb-true (get_or w 6 0) (length w) t8.1;
-      runs_in = leb-true (get_or w 7 0) (length w) t9.1;
+      attributes_in = leb-true (get_or w 6 0) (length w) t8.0;
+      runs_in = leb-true (get_or w 7 0) (length w) t8.1;
     }
 
 pub record IsEnd (w main attrs runs : List ℕ) : Type 0 where

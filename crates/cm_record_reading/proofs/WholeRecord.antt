@@ -32,12 +32,13 @@ pub head_right : (words : List ℕ) → 9 ≤ length words → get_or words 0 0 
     → get_or words 6 0 ≡ get_or words 5 0 + 2 * (second_of (get_or words 2 0) + third_of (get_or words 2 0))
     → get_or words 6 0 ≤ length words → get_or words 7 0 ≤ length words → head_is_right words ≡ true
 head_right words h0 h1 h2 h3 h4 h5 h6 h7 h8 h9 =
-    and_from _ _ (and_from _ _ (and_from _ _ (and_from _ _ (and_from _ _ (and_from _ _ (and_from _ _ (and_from _ _ (and_from _ _
-    (le-leb 9 (length words) h0) (eq-eqb (get_or words 0 0) (length words) h1)) (eq-eqb (get_or words 3 0) 8 h2)) (eq-eqb (get_or words 8 0) 0 h3))
-    (le-leb 1 (first_of (get_or words 2 0)) h4)) (eq-eqb (get_or words 4 0) (8 + first_of (get_or words 2 0)) h5))
+    and_from _ _ (and_from _ _
+    (and_from _ _ (and_from _ _ (and_from _ _ (and_from _ _ (le-leb 9 (length words) h0) (eq-eqb (get_or words 0 0) (length words) h1))
+    (eq-eqb (get_or words 3 0) 8 h2)) (eq-eqb (get_or words 8 0) 0 h3)) (le-leb 1 (first_of (get_or words 2 0)) h4))
+    (and_from _ _ (and_from _ _ (eq-eqb (get_or words 4 0) (8 + first_of (get_or words 2 0)) h5)
     (eq-eqb (get_or words 5 0) (get_or words 4 0 + fourth_of (get_or words 1 0)) h6))
-    (eq-eqb (get_or words 6 0) (get_or words 5 0 + 2 * (second_of (get_or words 2 0) + third_of (get_or words 2 0))) h7))
-    (le-leb (get_or words 6 0) (length words) h8)) (le-leb (get_or words 7 0) (length words) h9)
+    (eq-eqb (get_or words 6 0) (get_or words 5 0 + 2 * (second_of (get_or words 2 0) + third_of (get_or words 2 0))) h7)))
+    (and_from _ _ (le-leb (get_or words 6 0) (length words) h8) (le-leb (get_or words 7 0) (length words) h9))
 
 pub ends_right : (words main attrs runs : List ℕ) → length main + get_or words 6 0 ≡ length words
     → length attrs + get_or words 7 0 ≡ length words → length runs ≡ 0

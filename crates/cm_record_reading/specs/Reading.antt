@@ -190,17 +190,30 @@ members_from total (suc n) main attrs runs = do
 abbrev pub member_count : List ℕ → ℕ
 member_count words = second_of (head_counts words) + third_of (head_counts words)
 
--- the numbers of classes, and where the sections begin, fit together
-abbrev pub head_is_right : List ℕ → Bool
-head_is_right words =
+-- the words are counted, and the directory begins behind the head, with its slot 0
+abbrev pub starts_right : List ℕ → Bool
+starts_right words =
     nat_le 9 (length words) && head_total words == length words
     && head_directory_at words == 8 && get_or words 8 0 == 0
     && nat_le 1 (first_of (head_counts words))
-    && head_interfaces_at words == 8 + first_of (head_counts words)
+
+-- each next section begins where the one before it ends, as far as counts tell
+abbrev pub sections_follow : List ℕ → Bool
+sections_follow words =
+    head_interfaces_at words == 8 + first_of (head_counts words)
     && head_members_at words == head_interfaces_at words + fourth_of (head_class words)
     && head_attributes_at words == head_members_at words + 2 * member_count words
-    && nat_le (head_attributes_at words) (length words)
+
+-- the last sections begin within the words
+abbrev pub sections_lie_within : List ℕ → Bool
+sections_lie_within words =
+    nat_le (head_attributes_at words) (length words)
     && nat_le (head_runs_at words) (length words)
+
+-- the numbers of classes, and where the sections begin, fit together
+abbrev pub head_is_right : List ℕ → Bool
+head_is_right words =
+    starts_right words && sections_follow words && sections_lie_within words
 
 -- each section ended where the next began
 abbrev pub sections_end : List ℕ → List ℕ → List ℕ → List ℕ → Bool

@@ -2,6 +2,9 @@
 ghost use Rattle.std.specs.Prelude.{◌≡◌, ◌≤◌, ◌+◌, ◌↔◌, length, slice_index, IsTrue, IfOk, IsErrOf};
 ghost use Rattle.cm_record_layout.specs.Layout.{limit, IsRecord, IsRecordOf};
 ghost use Rattle.cm_record_reading.specs.Reading.{Gives, head_is_right as head_is_right_of};
+ghost use Rattle.cm_record_reading.specs.Reading.{starts_right as starts_right_of};
+ghost use Rattle.cm_record_reading.specs.Reading.{sections_follow as sections_follow_of};
+ghost use Rattle.cm_record_reading.specs.Reading.{sections_lie_within as sections_lie_within_of};
 ghost use Rattle.cm_record_reading.specs.Reading.{sections_end as sections_end_of, pool_from};
 ghost use Rattle.cm_record_reading.specs.Reading.{body_from, class_at};
 ghost use Rattle.cm_record_layout.specs.Packing.{first_of};
@@ -16,6 +19,42 @@ use cm_record_layout::{
 };
 use std::alloc::Global;
 
+/// The words are counted, and the directory begins behind the head, with its slot 0.
+fn starts_right(words: &[u64]) -> bool
+    ensures test { result ≡ starts_right_of words.now }
+    ensures long { IsTrue result → 9 ≤ length words.now }
+    ensures slots { IsTrue result → 1 ≤ first_of (slice_index words.now 2) }
+{
+    words.len() >= SLOT_1_AT
+        && words[HEAD_TOTAL] == words.len() as u64
+        && words[HEAD_DIRECTORY_AT] == DIRECTORY_AT as u64
+        && words[DIRECTORY_AT] == 0
+        && first(words[HEAD_COUNTS]) >= 1
+}
+
+/// Each next section begins where the one before it ends, as far as counts tell.
+fn sections_follow(words: &[u64]) -> bool
+    requires { 9 ≤ length words.now }
+    ensures { result ≡ sections_follow_of words.now }
+{
+    let (class, counts) = (words[HEAD_CLASS], words[HEAD_COUNTS]);
+    let members = u64::from(second(counts)) + u64::from(third(counts));
+    words[HEAD_INTERFACES_AT] == DIRECTORY_AT as u64 + u64::from(first(counts))
+        && words[HEAD_MEMBERS_AT] == words[HEAD_INTERFACES_AT] + u64::from(fourth(class))
+        && words[HEAD_ATTRIBUTES_AT] == words[HEAD_MEMBERS_AT] + 2 * members
+}
+
+/// The last sections begin within the words.
+fn sections_lie_within(words: &[u64]) -> bool
+    requires { 9 ≤ length words.now }
+    ensures test { result ≡ sections_lie_within_of words.now }
+    ensures attributes { IsTrue result → slice_index words.now 6 ≤ length words.now }
+    ensures runs { IsTrue result → slice_index words.now 7 ≤ length words.now }
+{
+    let total = words.len() as u64;
+    words[HEAD_ATTRIBUTES_AT] <= total && words[HEAD_RUNS_AT] <= total
+}
+
 /// The numbers in the first words, and where the sections begin, fit together.
 pub(crate) fn head_is_right(words: &[u64]) -> bool
     ensures test { result ≡ head_is_right_of words.now }
@@ -24,22 +63,7 @@ pub(crate) fn head_is_right(words: &[u64]) -> bool
     ensures attributes { IsTrue result → slice_index words.now 6 ≤ length words.now }
     ensures runs { IsTrue result → slice_index words.now 7 ≤ length words.now }
 {
-    if words.len() < SLOT_1_AT {
-        return false;
-    }
-    let total = words.len() as u64;
-    let (class, counts) = (words[HEAD_CLASS], words[HEAD_COUNTS]);
-    let (slots, interfaces) = (u64::from(first(counts)), u64::from(fourth(class)));
-    let members = u64::from(second(counts)) + u64::from(third(counts));
-    let starts_right = words[HEAD_TOTAL] == total
-        && words[HEAD_DIRECTORY_AT] == DIRECTORY_AT as u64
-        && words[DIRECTORY_AT] == 0
-        && slots >= 1;
-    let sections_follow = words[HEAD_INTERFACES_AT] == DIRECTORY_AT as u64 + slots
-        && words[HEAD_MEMBERS_AT] == words[HEAD_INTERFACES_AT] + interfaces
-        && words[HEAD_ATTRIBUTES_AT] == words[HEAD_MEMBERS_AT] + 2 * members;
-    let sections_lie_within = words[HEAD_ATTRIBUTES_AT] <= total && words[HEAD_RUNS_AT] <= total;
-    starts_right && sections_follow && sections_lie_within
+    starts_right(words) && sections_follow(words) && sections_lie_within(words)
 }
 
 /// How many fields, methods and attributes a class has of its own.
