@@ -15,8 +15,9 @@ use Rattle.cm_record_layout.specs.Layout.{attribute_run, attribute_runs, all_att
 use Rattle.cm_record_layout.specs.Layout.{members_at, attributes_at, runs_at, attribute_runs_at}
 use Rattle.cm_record_layout.specs.Layout.{IsRecordOf}
 use Rattle.cm_class.specs.Names.{names_utf8}
+use Rattle.cm_record.specs.declared.run.Run.{Run}
 use Rattle.cm_record.specs.Members.{IsFirst}
-use Rattle.cm_record.specs.Runs.{IsRunOf}
+use Rattle.cm_record.specs.Runs.{IsRunOf, attribute_run_at}
 use Rattle.cm_record.specs.Code.{code_name, attributes_before, attributes_place, run_place}
 use Rattle.cm_record_layout.proofs.Digits.{first-attribute, upper-attribute}
 use Rattle.cm_record_layout.proofs.Lengths.{all_attributes_len, attributes_append}
@@ -149,7 +150,7 @@ module _ (c : ClassFile) (spelled : HasSpelling c) (i : ℕ) (own : ClassMember)
     run_word = sym (get_or-drop ((attributes_place c i) + 2 * j) (lay c) 1 0) ∙ ap
         (λ w. get_or w 1 0) words_there.1
 
-    pub run_there : IsRunOf (lay c) (run_place c i own j, length a.bytes) a.bytes
+    pub run_there : IsRunOf (lay c) (record { at = run_place c i own j; len = length a.bytes }) a.bytes
     run_there =
         let fits = item_fits own.attributes j a own_fits.attributes.1 there in
         let all = attribute_runs (all_attributes c) in
@@ -194,15 +195,15 @@ module _ (c : ClassFile) (words : List ℕ) (is : IsRecordOf c words) (i : ℕ) 
     name_found = ap
         (λ w. first_of (get_or w (attributes_place c i + 2 * j) 0)) is.laid ∙ name_word c is.spelled i own method j a there
 
-    pub run_found : IsRunOf words (get_or words (attributes_place c i + 2 * j + 1) 0, upper_of (get_or words (attributes_place c i + 2 * j) 0)) a.bytes
+    pub run_found : IsRunOf words (attribute_run_at words (attributes_place c i + 2 * j)) a.bytes
     run_found =
         let k = attributes_place c i + 2 * j in
         let at : get_or words (k + 1) 0 ≡ run_place c i own j = ap
         (λ w. get_or w (k + 1) 0) is.laid ∙ run_word c is.spelled i own method j a there in
         let count : upper_of (get_or words k 0) ≡ length a.bytes = ap
         (λ w. upper_of (get_or w k 0)) is.laid ∙ count_word c is.spelled i own method j a there in
-        subst (λ (r : ℕ × ℕ). IsRunOf words r a.bytes) (λ n. (sym at n, sym count n)) (subst
-        (λ (w : List ℕ). IsRunOf w (run_place c i own j, length a.bytes) a.bytes) (sym is.laid) (run_there c is.spelled i own method j a there))
+        subst (λ (r : Run). IsRunOf words r a.bytes) (λ n. record { at = sym at n; len = sym count n }) (subst
+        (λ (w : List ℕ). IsRunOf w (record { at = run_place c i own j; len = length a.bytes }) a.bytes) (sym is.laid) (run_there c is.spelled i own method j a there))
 
     pub run_at_place : get_or words (attributes_place c i + 2 * j + 1) 0 ≡ run_place c i own j
     run_at_place = ap
@@ -241,18 +242,16 @@ module _ (c : ClassFile) (words : List ℕ) (is : IsRecordOf c words) (i : ℕ) 
       (a.0, a.1, sym (tested found a.0 a.1) ∙ first.passes)
 
   pub found_run : (found : ℕ) (a : Attribute) → slice_get own.attributes found ≡ Some a
-      → (run : ℕ × ℕ)
-      → run ≡ (get_or words (at + 2 * found + 1) 0, upper_of (get_or words (at + 2 * found) 0))
+      → (run : Run) → run ≡ attribute_run_at words (at + 2 * found)
       → IsRunOf words run a.bytes
   found_run found a there run er =
-      subst (λ (r : ℕ × ℕ). IsRunOf words r a.bytes) (sym (er ∙ ap
-      (λ n. (get_or words (n + 2 * found + 1) 0, upper_of (get_or words (n + 2 * found) 0))) place)) (run_found c words is i own method found a there)
+      subst (λ (r : Run). IsRunOf words r a.bytes) (sym (er ∙ ap
+      (λ n. attribute_run_at words (n + 2 * found)) place)) (run_found c words is i own method found a there)
 
   pub found_place : (found : ℕ) (a : Attribute) → slice_get own.attributes found ≡ Some a
-      → (run : ℕ × ℕ)
-      → run ≡ (get_or words (at + 2 * found + 1) 0, upper_of (get_or words (at + 2 * found) 0))
-      → run.0 ≡ run_place c i own found
-  found_place found a there run er = ap (λ (r : ℕ × ℕ). r.0) er ∙ (ap
+      → (run : Run) → run ≡ attribute_run_at words (at + 2 * found)
+      → run.at ≡ run_place c i own found
+  found_place found a there run er = ap (λ (r : Run). r.at) er ∙ (ap
       (λ n. get_or words (n + 2 * found + 1) 0) place ∙ run_at_place c words is i own method found a there)
 
   pub found_is : (found : ℕ) → IsFirst (code_test c words at) count found

@@ -5,6 +5,7 @@ use Rattle.std.proofs.Common.{get_or-take, get_or-drop}
 use Rattle.std.proofs.lemmas.List.{get_or_append_left}
 use Rattle.cm_class.specs.Spelling.{AreBytes}
 use Rattle.cm_record_layout.specs.Packing.{bytes_of, word_from, packed_into, packed, run_words}
+use Rattle.cm_record.specs.declared.run.Run.{Run}
 use Rattle.cm_record.specs.Runs.{IsRunOf}
 use Rattle.cm_record_layout.proofs.Packed.{packed_len}
 use Rattle.cm_record_layout.proofs.Runs.{byte_at, bytes_from, front_back}
@@ -30,52 +31,52 @@ drop_fits n bytes are = bytes_from (drop n bytes)
     (λ i lt. omega (arith, get_or-drop n bytes i 0, byte_at bytes are (n + i)))
 
 -- a run ends where its words do
-pub run_fits : (words : List ℕ) (run : ℕ × ℕ) (bytes : List ℕ) → IsRunOf words run bytes
-    → 8 * run.0 + run.1 ≤ 8 * length words
-run_fits words run bytes is = omega (arith, (run_words_there words run bytes is).0, length-drop run.0 words, is.within)
+pub run_fits : (words : List ℕ) (run : Run) (bytes : List ℕ) → IsRunOf words run bytes
+    → 8 * run.at + run.len ≤ 8 * length words
+run_fits words run bytes is = omega (arith, (run_words_there words run bytes is).0, length-drop run.at words, is.within)
 
 -- byte i of a run
-pub byte_there : (words : List ℕ) (run : ℕ × ℕ) (bytes : List ℕ) → IsRunOf words run bytes
-    → (i : ℕ) → i < run.1
-    → get_or (bytes_of (get_or words (run.0 + i / 8) 0)) (i % 8) 0 ≡ get_or bytes i 0
+pub byte_there : (words : List ℕ) (run : Run) (bytes : List ℕ) → IsRunOf words run bytes
+    → (i : ℕ) → i < run.len
+    → get_or (bytes_of (get_or words (run.at + i / 8) 0)) (i % 8) 0 ≡ get_or bytes i 0
 byte_there words run bytes is i lt =
     let k = i / 8 in
     let j = i % 8 in
     let whole : 8 * k + j ≡ i = omega arith in
     let size = packed_len bytes in
     let inside : k < length (packed bytes) = omega (arith, size, is.count) in
-    let word : get_or words (run.0 + k) 0 ≡ word_from (drop (8 * k) bytes) =
-    sym (get_or-drop run.0 words k 0) ∙ (ap
+    let word : get_or words (run.at + k) 0 ≡ word_from (drop (8 * k) bytes) =
+    sym (get_or-drop run.at words k 0) ∙ (ap
     (λ w. get_or w k 0) is.split ∙ (get_or_append_left (packed bytes) is.rest 0 k inside ∙ packed_at (run_words (length bytes)) k bytes (omega (arith, size)))) in
     ap (λ w. get_or (bytes_of w) j 0) word
     ∙ (word_byte (drop (8 * k) bytes) (drop_fits (8 * k) bytes is.fits) j (omega arith) (omega (arith, length-drop (8 * k) bytes, is.count, whole))
     ∙ (get_or-drop (8 * k) bytes j 0 ∙ ap (λ n. get_or bytes n 0) whole))
 
 -- where the first words of two runs are the same, their bytes are
-pub same_in_runs : (words others : List ℕ) (run other : ℕ × ℕ) (xs ys : List ℕ)
+pub same_in_runs : (words others : List ℕ) (run other : Run) (xs ys : List ℕ)
     → IsRunOf words run xs → IsRunOf others other ys
-    → (n : ℕ) → 8 * n ≤ run.1 → 8 * n ≤ other.1
-    → ((k : ℕ) → k < n → get_or (drop run.0 words) k 0 ≡ get_or (drop other.0 others) k 0)
+    → (n : ℕ) → 8 * n ≤ run.len → 8 * n ≤ other.len
+    → ((k : ℕ) → k < n → get_or (drop run.at words) k 0 ≡ get_or (drop other.at others) k 0)
     → (i : ℕ) → i < 8 * n → get_or xs i 0 ≡ get_or ys i 0
 same_in_runs words others run other xs ys of_xs of_ys n le also same i lt =
     let k = i / 8 in
-    let word : get_or words (run.0 + k) 0 ≡ get_or others (other.0 + k) 0 =
-    sym (get_or-drop run.0 words k 0) ∙ (same k (omega arith) ∙ get_or-drop other.0 others k 0) in
+    let word : get_or words (run.at + k) 0 ≡ get_or others (other.at + k) 0 =
+    sym (get_or-drop run.at words k 0) ∙ (same k (omega arith) ∙ get_or-drop other.at others k 0) in
     sym (byte_there words run xs of_xs i (omega arith))
     ∙ (ap (λ w. get_or (bytes_of w) (i % 8) 0) word
     ∙ byte_there others other ys of_ys i (omega arith))
 
 -- where the first words of a run are made of these bytes, its bytes are these
-pub same_in_run : (words : List ℕ) (run : ℕ × ℕ) (xs ys : List ℕ) → IsRunOf words run xs → AreBytes ys
-    → (n : ℕ) → 8 * n ≤ run.1 → 8 * n ≤ length ys
-    → ((k : ℕ) → k < n → get_or (drop run.0 words) k 0 ≡ word_from (drop (8 * k) ys))
+pub same_in_run : (words : List ℕ) (run : Run) (xs ys : List ℕ) → IsRunOf words run xs → AreBytes ys
+    → (n : ℕ) → 8 * n ≤ run.len → 8 * n ≤ length ys
+    → ((k : ℕ) → k < n → get_or (drop run.at words) k 0 ≡ word_from (drop (8 * k) ys))
     → (i : ℕ) → i < 8 * n → get_or xs i 0 ≡ get_or ys i 0
 same_in_run words run xs ys of_xs are n le also same i lt =
     let k = i / 8 in
     let j = i % 8 in
     let whole : 8 * k + j ≡ i = omega arith in
-    let word : get_or words (run.0 + k) 0 ≡ word_from (drop (8 * k) ys) =
-    sym (get_or-drop run.0 words k 0) ∙ same k (omega arith) in
+    let word : get_or words (run.at + k) 0 ≡ word_from (drop (8 * k) ys) =
+    sym (get_or-drop run.at words k 0) ∙ same k (omega arith) in
     sym (byte_there words run xs of_xs i (omega arith))
     ∙ (ap (λ w. get_or (bytes_of w) j 0) word
     ∙ (word_byte (drop (8 * k) ys) (drop_fits (8 * k) ys are) j (omega arith) (omega (arith, length-drop (8 * k) ys, whole))

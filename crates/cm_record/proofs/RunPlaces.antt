@@ -15,6 +15,7 @@ use Rattle.cm_class.specs.Names.{constant_in, constant_named, utf8, utf8_in, cla
 use Rattle.cm_class.specs.Names.{class_name_index, class_name_of}
 use Rattle.cm_record_layout.specs.Packing.{packed, run_words, second_of, third_of}
 use Rattle.cm_record_layout.specs.Layout.{lay, slot_run, utf8_runs, runs_at, limit, IsRecordOf}
+use Rattle.cm_record.specs.declared.run.Run.{Run}
 use Rattle.cm_record.specs.Constants.{kept_constant, constant_at_index, utf8_at}
 use Rattle.cm_record.specs.Runs.{IsRunOf, constant_run_place, utf8_run, class_link, name_run}
 use Rattle.cm_record_reading.specs.Reading.{run_at}
@@ -42,11 +43,11 @@ named_usable (Some Unusable) d e = absurd (cc)
 named_usable (Some (Usable x)) d e = let same : x ≡ d = cc in ap (λ y. Some (Usable y)) same
 
 -- no bytes have a run wherever one looks
-empty_run : (words : List ℕ) → IsRunOf words (0, 0) []
+empty_run : (words : List ℕ) → IsRunOf words (record { at = 0; len = 0 }) []
 empty_run words = record { fits = tt; count = refl; within = omega arith; rest = words; split = refl }
 
 by_constant : (words : List ℕ) (at : ℕ) (o : Option Spelled) → ((bytes : List ℕ)
-    → o ≡ Some (constant.Utf8 bytes) → IsRunOf words (8 * at / 8, length bytes) bytes)
+    → o ≡ Some (constant.Utf8 bytes) → IsRunOf words (record { at = 8 * at / 8; len = length bytes }) bytes)
     → IsRunOf words (constant_run_place (option_map (kept_constant at) o)) (option_map_or utf8_in o [])
 by_constant words at None h = empty_run words
 by_constant words at (Some (constant.Utf8 bytes)) h = h bytes refl
@@ -99,7 +100,7 @@ module _ (c : ClassFile) (spelled : HasSpelling c) (short : length (lay c) ≤ l
 
   utf8_run_found : (index : ℕ) (bytes : List ℕ)
       → constant_named c index ≡ Some (constant.Utf8 bytes)
-      → IsRunOf (lay c) (8 * utf8_at c index / 8, length bytes) bytes
+      → IsRunOf (lay c) (record { at = 8 * utf8_at c index / 8; len = length bytes }) bytes
   utf8_run_found zero bytes e = absurd (cc)
   utf8_run_found (suc i) bytes e =
       let slot = named_usable (slice_get c.slots i) (constant.Utf8 bytes) e in
@@ -108,7 +109,7 @@ module _ (c : ClassFile) (spelled : HasSpelling c) (short : length (lay c) ≤ l
       let place : 8 * utf8_at c (suc i) / 8 ≡ words_at c spelled i = ap
       (λ n. 8 * words_at c spelled n / 8) same ∙ omega arith in
       let fits = fits_at false c.slots i (constant.Utf8 bytes) spelled.slots slot in
-      subst (λ (n : ℕ). IsRunOf (lay c) (n, length bytes) bytes) (sym place)
+      subst (λ (n : ℕ). IsRunOf (lay c) (record { at = n; len = length bytes }) bytes) (sym place)
       (record { fits = fits.1; count = refl; within = words_within c spelled i; rest = found.0; split = found.1 })
 
   pub utf8_run_is : (index : ℕ) → IsRunOf (lay c) (utf8_run (lay c) index) (utf8 c index)
@@ -124,13 +125,13 @@ module _ (c : ClassFile) (spelled : HasSpelling c) (short : length (lay c) ≤ l
 -- ---- what a run tells
 
 -- the bytes are read from it
-pub run_read : (words : List ℕ) (run : ℕ × ℕ) (bytes : List ℕ) (is : IsRunOf words run bytes)
-    → run_at run.1 (drop run.0 words) ≡ Some (bytes, is.rest)
+pub run_read : (words : List ℕ) (run : Run) (bytes : List ℕ) (is : IsRunOf words run bytes)
+    → run_at run.len (drop run.at words) ≡ Some (bytes, is.rest)
 run_read words run bytes is = ap
-    (λ n. run_at n (drop run.0 words)) is.count ∙ (ap (run_at (length bytes)) is.split ∙ run_again bytes is.rest is.fits)
+    (λ n. run_at n (drop run.at words)) is.count ∙ (ap (run_at (length bytes)) is.split ∙ run_again bytes is.rest is.fits)
 
 -- so it has one list of bytes
-pub one_run : (words : List ℕ) (run : ℕ × ℕ) (xs ys : List ℕ) → IsRunOf words run xs
+pub one_run : (words : List ℕ) (run : Run) (xs ys : List ℕ) → IsRunOf words run xs
     → IsRunOf words run ys → xs ≡ ys
 one_run words run xs ys of_xs of_ys =
     let both : Some (xs, of_xs.rest) ≡ Some (ys, of_ys.rest) = sym (run_read words run xs of_xs) ∙ run_read words run ys of_ys in
@@ -144,14 +145,13 @@ packed_same xs ys of_xs of_ys count same =
     ap (λ (p : List ℕ × List ℕ). p.0) (some_same (xs, []) (ys, []) both)
 
 -- the words of a run
-pub run_words_there : (words : List ℕ) (run : ℕ
-    × ℕ) (bytes : List ℕ) (is : IsRunOf words run bytes)
-    → (run_words run.1 ≤ length (drop run.0 words))
-    × (take (run_words run.1) (drop run.0 words) ≡ packed bytes)
+pub run_words_there : (words : List ℕ) (run : Run) (bytes : List ℕ) (is : IsRunOf words run bytes)
+    → (run_words run.len ≤ length (drop run.at words))
+    × (take (run_words run.len) (drop run.at words) ≡ packed bytes)
 run_words_there words run bytes is =
-    let size : length (packed bytes) ≡ run_words run.1 = packed_len bytes ∙ ap run_words (sym is.count) in (
+    let size : length (packed bytes) ≡ run_words run.len = packed_len bytes ∙ ap run_words (sym is.count) in (
       omega (arith, size, ap length is.split, length-append (packed bytes) is.rest),
-      ap (take (run_words run.1)) is.split ∙ take_at (packed bytes) is.rest (run_words run.1) size,
+      ap (take (run_words run.len)) is.split ∙ take_at (packed bytes) is.rest (run_words run.len) size,
     )
 
 -- ---- names in a record

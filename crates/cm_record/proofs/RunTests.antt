@@ -14,6 +14,7 @@ use Rattle.cm_class.specs.declared.class_file.ClassFile.{ClassFile}
 use Rattle.cm_class.specs.Names.{is_kind, names_utf8, utf8, constant_named}
 use Rattle.cm_record_layout.specs.Packing.{packed, word_from}
 use Rattle.cm_record_layout.specs.Layout.{IsRecordOf}
+use Rattle.cm_record.specs.declared.run.Run.{Run}
 use Rattle.cm_record.specs.Constants.{kept_constant, constant_at_index, constant_kept, utf8_at}
 use Rattle.cm_record.specs.Runs.{IsRunOf, constant_run_place, utf8_place, utf8_run}
 use Rattle.cm_record_layout.proofs.Packed.{packed_more}
@@ -70,12 +71,12 @@ no_place at (Some (constant.MethodHandle a b)) e = refl
 no_place at (Some (constant.MethodType descriptor)) e = refl
 no_place at (Some (constant.InvokeDynamic a b)) e = refl
 
-a_place : (at : ℕ) (o : Option Spelled) (run : ℕ × ℕ)
+a_place : (at : ℕ) (o : Option Spelled) (run : Run)
     → utf8_place (option_map (kept_constant at) o) ≡ Some run
     → (option_map_or (is_kind kinds.Utf8) o false ≡ true)
     × (constant_run_place (option_map (kept_constant at) o) ≡ run)
 a_place at None run e = absurd (cc)
-a_place at (Some (constant.Utf8 bytes)) run e = let same : (8 * at / 8, length bytes) ≡ run = cc in (refl, same)
+a_place at (Some (constant.Utf8 bytes)) run e = let same : record { at = 8 * at / 8; len = length bytes } ≡ run = cc in (refl, same)
 a_place at (Some (constant.Integer bits)) run e = absurd (cc)
 a_place at (Some (constant.Float bits)) run e = absurd (cc)
 a_place at (Some (constant.Long bits)) run e = absurd (cc)
@@ -96,7 +97,7 @@ same_verdict true false a b = sym (b.1 (a.0 refl))
 same_verdict false true a b = a.1 (b.0 refl)
 same_verdict false false a b = refl
 
-module _ (c : ClassFile) (words : List ℕ) (is : IsRecordOf c words) (index : ℕ) (place : Option (ℕ × ℕ)) (found : place ≡ utf8_place (constant_at_index words index)) where
+module _ (c : ClassFile) (words : List ℕ) (is : IsRecordOf c words) (index : ℕ) (place : Option Run) (found : place ≡ utf8_place (constant_at_index words index)) where
   kept : utf8_place (constant_kept c index) ≡ place
   kept = ap utf8_place (sym (ap
       (λ w. constant_at_index w index) is.laid ∙ constant_is c is.spelled (lay_short c words is) index)) ∙ sym found
@@ -105,15 +106,15 @@ module _ (c : ClassFile) (words : List ℕ) (is : IsRecordOf c words) (index : �
   no_utf8 none bytes = sym (ap
       (λ b. b && bytes_eq (utf8 c index) bytes) (no_place (utf8_at c index) (constant_named c index) (kept ∙ none)))
 
-  pub utf8_there : (run : ℕ × ℕ) → place ≡ Some run → IsRunOf words run (utf8 c index)
+  pub utf8_there : (run : Run) → place ≡ Some run → IsRunOf words run (utf8 c index)
   utf8_there run some =
       let at = a_place (utf8_at c index) (constant_named c index) run (kept ∙ some) in
       let there : utf8_run words index ≡ run = ap
       (λ w. utf8_run w index) is.laid ∙ (ap constant_run_place (constant_is c is.spelled (lay_short c words is) index) ∙ at.1) in
-      subst (λ (r : ℕ × ℕ). IsRunOf words r (utf8 c index)) there (subst
+      subst (λ (r : Run). IsRunOf words r (utf8 c index)) there (subst
       (λ (w : List ℕ). IsRunOf w (utf8_run w index) (utf8 c index)) (sym is.laid) (utf8_run_is c is.spelled (lay_short c words is) index))
 
-  pub utf8_compared : (run : ℕ × ℕ) → place ≡ Some run → (bytes : List ℕ) (result : Bool)
+  pub utf8_compared : (run : Run) → place ≡ Some run → (bytes : List ℕ) (result : Bool)
       → Decides result (utf8 c index ≡ bytes) → result ≡ names_utf8 c index bytes
   utf8_compared run some bytes result decides =
       let at = a_place (utf8_at c index) (constant_named c index) run (kept ∙ some) in

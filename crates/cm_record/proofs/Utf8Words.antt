@@ -7,6 +7,7 @@ use Rattle.cm_class.specs.declared.class_file.ClassFile.{ClassFile}
 use Rattle.cm_class.specs.Names.{names_utf8, utf8}
 use Rattle.cm_record_layout.specs.Packing.{first_of, second_of, third_of, fourth_of, upper_of}
 use Rattle.cm_record_layout.specs.Layout.{IsRecordOf}
+use Rattle.cm_record.specs.declared.run.Run.{Run}
 use Rattle.cm_record.specs.declared.constant.Constant.{Constant}
 use Rattle.cm_record.specs.declared.constant.Constant.TheVariants as kept
 use Rattle.cm_record.specs.Constants.{constant_at_index, is_second_word, word_kept}
@@ -53,16 +54,16 @@ pub record IsUtf8Word (word count : ℕ) : Type 0 where
   pub tag : first_of word ≡ 1
   pub count_is : second_of word ≡ count
 
-of_word : (word next : ℕ) (run : ℕ × ℕ) → utf8_place (word_kept word next) ≡ Some run
-    → IsUtf8Word word run.1
+of_word : (word next : ℕ) (run : Run) → utf8_place (word_kept word next) ≡ Some run
+    → IsUtf8Word word run.len
 unfolding word_kept
 of_word word next run e = by_tag (first_of word == 1) refl e
   where
     by_tag : (t : Bool) → (first_of word == 1) ≡ t
         → utf8_place (if t then Some (kept.Utf8 (upper_of word * 8 % 2 ^ 32) (second_of word)) else other_kept word next)
-        ≡ Some run → IsUtf8Word word run.1
-    by_tag true is e = let same : (upper_of word * 8 % 2 ^ 32 / 8, second_of word) ≡ run = cc in
-        record { tag = eqb-true (first_of word) 1 is; count_is = ap (λ (r : ℕ × ℕ). r.1) same }
+        ≡ Some run → IsUtf8Word word run.len
+    by_tag true is e = let same : record { at = upper_of word * 8 % 2 ^ 32 / 8; len = second_of word } ≡ run = cc in
+        record { tag = eqb-true (first_of word) 1 is; count_is = ap (λ (r : Run). r.len) same }
     by_tag false is e = let none : None ≡ Some run = sym (no_other word next) ∙ e in absurd (cc)
 
 -- ---- the index of a Utf8
@@ -71,8 +72,8 @@ pub record IsUtf8Index (words : List ℕ) (index count : ℕ) : Type 0 where
   pub within : index < first_of (get_or words 2 0)
   pub word : IsUtf8Word (get_or words (8 + index) 0) count
 
-of_index : (words : List ℕ) (index : ℕ) (run : ℕ × ℕ)
-    → utf8_place (constant_at_index words index) ≡ Some run → IsUtf8Index words index run.1
+of_index : (words : List ℕ) (index : ℕ) (run : Run)
+    → utf8_place (constant_at_index words index) ≡ Some run → IsUtf8Index words index run.len
 of_index words index run e = by_zero (index == 0) e
   where
     word : ℕ
@@ -83,20 +84,20 @@ of_index words index run e = by_zero (index == 0) e
 
     by_second : (t : Bool) → index < first_of (get_or words 2 0)
         → utf8_place (if t then None else word_kept word next) ≡ Some run
-        → IsUtf8Index words index run.1
+        → IsUtf8Index words index run.len
     by_second true within e = absurd (cc)
     by_second false within e = record { within = within; word = of_word word next run e }
 
     by_count : (t : Bool) → nat_le (first_of (get_or words 2 0)) index ≡ t
         → utf8_place (if t then None else if is_second_word words (8 + index) then None else word_kept word next) ≡ Some run
-        → IsUtf8Index words index run.1
+        → IsUtf8Index words index run.len
     by_count true is e = absurd (cc)
     by_count false is e = by_second (is_second_word words (8 + index))
         (omega (arith, leb-false (first_of (get_or words 2 0)) index is)) e
 
     by_zero : (t : Bool)
         → utf8_place (if t then None else if nat_le (first_of (get_or words 2 0)) index then None else if is_second_word words (8 + index) then None else word_kept word next) ≡ Some run
-        → IsUtf8Index words index run.1
+        → IsUtf8Index words index run.len
     by_zero true e = absurd (cc)
     by_zero false e = by_count (nat_le (first_of (get_or words 2 0)) index) refl e
 
@@ -105,7 +106,7 @@ pub leads_to_none : (c : ClassFile) (words : List ℕ) → IsRecordOf c words �
     → ¬ IsUtf8Index words index (length bytes) → names_utf8 c index bytes ≡ false
 leads_to_none c words is index bytes differs = by_place (utf8_place (constant_at_index words index)) refl
   where
-    by_place : (o : Option (ℕ × ℕ)) → o ≡ utf8_place (constant_at_index words index)
+    by_place : (o : Option Run) → o ≡ utf8_place (constant_at_index words index)
         → names_utf8 c index bytes ≡ false
     by_place None e = sym (no_utf8 c words is index None e refl bytes)
     by_place (Some run) e =

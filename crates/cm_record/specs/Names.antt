@@ -5,15 +5,16 @@ use Rattle.cm_record_layout.specs.Packing.{second_of}
 use Rattle.cm_record_reading.specs.Reading.{run_at}
 use Rattle.cm_record_layout.specs.Layout.{IsRecordOf}
 use Rattle.cm_class.specs.declared.class_file.ClassFile.{ClassFile}
+use Rattle.cm_record.specs.declared.run.Run.{Run}
 use Rattle.cm_record.specs.Runs.{name_run, IsRunOf}
 pub use Rattle.cm_class.specs.Names.{class_name_of, super_name_of}
 
 -- the bytes of a run; none where there is no such run
-abbrev pub bytes_in : List ℕ → ℕ × ℕ → List ℕ
-bytes_in words run = elim (run_at run.1 (drop run.0 words)) [ Some r ↦ r.0 | None ↦ [] ]
+abbrev pub bytes_in : List ℕ → Run → List ℕ
+bytes_in words run = elim (run_at run.len (drop run.at words)) [ Some r ↦ r.0 | None ↦ [] ]
 
 -- the run of the class's name, in the words of its record
-abbrev pub IsNameRun : List ℕ → ℕ × ℕ → Type 0
+abbrev pub IsNameRun : List ℕ → Run → Type 0
 IsNameRun words run = (c : ClassFile) → IsRecordOf c words → IsRunOf words run (class_name_of c)
 
 -- the name of the class whose record these words are

@@ -1,34 +1,40 @@
 -- Where the bytes of a Utf8 lie among the words of a record.
-use Rattle.std.specs.Prelude.{◌≡◌, ◌≤◌, ℕ, ◌/◌, List, ◌++◌, length, drop, Option, Some, None}
+use Rattle.std.specs.Prelude.{◌≡◌, ◌≤◌, ℕ, ◌+◌, ◌/◌, List, ◌++◌, length, drop, get_or, Option}
+use Rattle.std.specs.Prelude.{Some, None}
 use Rattle.cm_class.specs.Spelling.{AreBytes}
 use Rattle.cm_record.specs.declared.constant.Constant.{Constant}
 use Rattle.cm_record.specs.declared.constant.Constant.TheVariants as kept
-use Rattle.cm_record_layout.specs.Packing.{packed}
+use Rattle.cm_record.specs.declared.run.Run.{Run}
+use Rattle.cm_record_layout.specs.Packing.{packed, upper_of}
 use Rattle.cm_record.specs.Constants.{constant_at_index}
 
--- the words from the word run.0 on begin with the run of these bytes, run.1 of them
-pub record IsRunOf (words : List ℕ) (run : ℕ × ℕ) (bytes : List ℕ) : Type 0 where
+-- the words from run.at on begin with the run of these bytes, run.len of them
+pub record IsRunOf (words : List ℕ) (run : Run) (bytes : List ℕ) : Type 0 where
   pub fits : AreBytes bytes
-  pub count : run.1 ≡ length bytes
-  pub within : run.0 ≤ length words
+  pub count : run.len ≡ length bytes
+  pub within : run.at ≤ length words
   pub rest : List ℕ
-  pub split : drop run.0 words ≡ packed bytes ++ rest
+  pub split : drop run.at words ≡ packed bytes ++ rest
 
-abbrev pub HasRun : List ℕ → ℕ × ℕ → Type 0
+abbrev pub HasRun : List ℕ → Run → Type 0
 HasRun words run = (bytes : List ℕ) × IsRunOf words run bytes
 
 -- the run of a Utf8; that of no bytes for anything else
-abbrev pub constant_run_place : Option Constant → ℕ × ℕ
-constant_run_place (Some (kept.Utf8 at count)) = (at / 8, count)
-constant_run_place _ = (0, 0)
+abbrev pub constant_run_place : Option Constant → Run
+constant_run_place (Some (kept.Utf8 at count)) = record { at = at / 8; len = count }
+constant_run_place _ = record { at = 0; len = 0 }
 
 -- the run of a Utf8, where it is one
-abbrev pub utf8_place : Option Constant → Option (ℕ × ℕ)
-utf8_place (Some (kept.Utf8 at count)) = Some (at / 8, count)
+abbrev pub utf8_place : Option Constant → Option Run
+utf8_place (Some (kept.Utf8 at count)) = Some (record { at = at / 8; len = count })
 utf8_place _ = None
 
-abbrev pub utf8_run : List ℕ → ℕ → ℕ × ℕ
+abbrev pub utf8_run : List ℕ → ℕ → Run
 utf8_run words index = constant_run_place (constant_at_index words index)
+
+-- the run of an attribute, from its two words
+abbrev pub attribute_run_at : List ℕ → ℕ → Run
+attribute_run_at words at = record { at = get_or words (at + 1) 0; len = upper_of (get_or words at 0) }
 
 -- the index that a Class holds
 abbrev pub class_link : Option Constant → ℕ
@@ -36,5 +42,5 @@ class_link (Some (kept.Class name)) = name
 class_link _ = 0
 
 -- the run of a class's name
-abbrev pub name_run : List ℕ → ℕ → ℕ × ℕ
+abbrev pub name_run : List ℕ → ℕ → Run
 name_run words index = utf8_run words (class_link (constant_at_index words index))

@@ -5,13 +5,13 @@ ghost use Rattle.cm_class.specs.declared.class_file.ClassFile.{ClassFile};
 ghost use Rattle.cm_class.specs.declared.class_file.Member.{Member as ClassMember};
 ghost use Rattle.cm_class.specs.Names.{names_utf8};
 ghost use Rattle.cm_record_layout.specs.Packing.{bytes_of as word_bytes_of, first_of, third_of};
-ghost use Rattle.cm_record_layout.specs.Packing.{upper_of};
 ghost use Rattle.cm_record_layout.specs.Layout.{IsRecord, IsRecordOf, limit};
-ghost use Rattle.cm_record.specs.Runs.{IsRunOf, HasRun};
+ghost use Rattle.cm_record.specs.Runs.{IsRunOf, HasRun, attribute_run_at};
 ghost use Rattle.cm_record.specs.Members.{IsFirst};
 ghost use Rattle.cm_record.specs.Code.{code_name, code_in, u2_at, u4_at, attributes_place};
 
 use crate::marks::Marks;
+use crate::run::Run;
 use crate::utf8::is_utf8_of;
 use cm_record_layout::{bytes_of, first, fourth, second, upper};
 
@@ -41,19 +41,19 @@ pub(crate) fn byte_at(words: &[u64], at: usize, i: usize) -> u8
 }
 
 /// A number of two bytes in a run, the highest first.
-fn u2(words: &[u64], run: (usize, usize), i: usize) -> u16
+fn u2(words: &[u64], run: Run, i: usize) -> u16
     requires run { HasRun words.now run }
-    requires within { i + 1 < run.1 }
+    requires within { i + 1 < run.len }
     requires short { length words.now ≤ limit }
     ensures { (bytes : List ℕ) → IsRunOf words.now run bytes → result ≡ u2_at bytes i }
 {
-    256 * u16::from(byte_at(words, run.0, i)) + u16::from(byte_at(words, run.0, i + 1))
+    256 * u16::from(byte_at(words, run.at, i)) + u16::from(byte_at(words, run.at, i + 1))
 }
 
 /// A number of four bytes in a run, the highest first.
-fn u4(words: &[u64], run: (usize, usize), i: usize) -> u32
+fn u4(words: &[u64], run: Run, i: usize) -> u32
     requires run { HasRun words.now run }
-    requires within { i + 3 < run.1 }
+    requires within { i + 3 < run.len }
     requires short { length words.now ≤ limit }
     ensures { (bytes : List ℕ) → IsRunOf words.now run bytes → result ≡ u4_at bytes i }
 {
@@ -61,24 +61,24 @@ fn u4(words: &[u64], run: (usize, usize), i: usize) -> u32
 }
 
 /// The code in a run; none where the run ends before its lengths, its code or its handlers do.
-pub(crate) fn code_in_run(words: &[u64], run: (usize, usize)) -> Option<Code>
+pub(crate) fn code_in_run(words: &[u64], run: Run) -> Option<Code>
     requires run { HasRun words.now run }
     requires short { length words.now ≤ limit }
-    ensures { (bytes : List ℕ) → IsRunOf words.now run bytes → result ≡ code_in (8 * run.0) bytes }
+    ensures { (bytes : List ℕ) → IsRunOf words.now run bytes → result ≡ code_in (8 * run.at) bytes }
 {
-    if run.1 < 8 {
+    if run.len < 8 {
         return None;
     }
     let code_len = u4(words, run, 4);
     let before = 10 + code_len as usize;
-    if run.1 < before {
+    if run.len < before {
         return None;
     }
     let handlers = u2(words, run, before - 2);
-    if run.1 < before + 8 * handlers as usize {
+    if run.len < before + 8 * handlers as usize {
         return None;
     }
-    let at = 8 * run.0 as u32;
+    let at = 8 * run.at as u32;
     Some(Code {
         max_stack: u2(words, run, 0),
         max_locals: u2(words, run, 2),
@@ -146,9 +146,12 @@ pub(crate) fn method_attributes(words: &[u64], index: usize) -> (usize, usize)
 }
 
 /// The run of an attribute, from its two words.
-pub(crate) fn attribute_run(words: &[u64], at: usize) -> (usize, usize)
+pub(crate) fn attribute_run(words: &[u64], at: usize) -> Run
     requires { at + 1 < length words.now }
-    ensures { result ≡ (get_or words.now (at + 1) 0, upper_of (get_or words.now at 0)) }
+    ensures { result ≡ attribute_run_at words.now at }
 {
-    (words[at + 1] as usize, upper(words[at]) as usize)
+    Run {
+        at: words[at + 1] as usize,
+        len: upper(words[at]) as usize,
+    }
 }

@@ -5,7 +5,7 @@ ghost use Rattle.cm_record.specs.Fingerprints.{further, folded, upper_half};
 ghost use Rattle.cm_record.specs.Fingerprints.{fingerprint as fingerprint_of};
 ghost use Rattle.cm_record.specs.Runs.{IsRunOf, HasRun};
 
-use crate::names::run_slice;
+use crate::run::{Run, run_slice};
 use crate::utf8::behind_eight;
 use cm_record_layout::word_of;
 
@@ -64,10 +64,10 @@ pub fn fingerprint(seed: u64, bytes: &[u8]) -> u32
 }
 
 /// The same of the bytes of a run.
-pub(crate) fn run_fingerprint(seed: u64, words: &[u64], run: (usize, usize)) -> u32
+pub(crate) fn run_fingerprint(seed: u64, words: &[u64], run: Run) -> u32
     requires { HasRun words.now run }
     ensures { (bytes : List ℕ) → IsRunOf words.now run bytes → result ≡ fingerprint_of seed bytes }
 {
-    let from = further(seed, run.1 as u64);
+    let from = further(seed, run.len as u64);
     upper_half(folded(from, run_slice(words, run)))
 }

@@ -11,6 +11,7 @@ mod member;
 mod names;
 mod order;
 mod record;
+mod run;
 mod utf8;
 
 pub use cm_record_reading::{RecordFault, layout_determines_class};

@@ -7,6 +7,7 @@ ghost use Rattle.cm_record_layout.specs.Packing.{word_from};
 ghost use Rattle.cm_record.specs.Runs.{IsRunOf, HasRun};
 
 use crate::code::byte_at;
+use crate::run::Run;
 use cm_record_layout::{word_of, words_from};
 use std::cmp::Ordering;
 
@@ -41,12 +42,7 @@ fn same_as_bytes(words: &[u64], bytes: &[u8], count: usize) -> usize
 }
 
 /// The order of the bytes of two runs.
-pub(crate) fn cmp_runs(
-    words: &[u64],
-    run: (usize, usize),
-    others: &[u64],
-    other: (usize, usize),
-) -> Ordering
+pub(crate) fn cmp_runs(words: &[u64], run: Run, others: &[u64], other: Run) -> Ordering
     requires one { HasRun words.now run }
     requires two { HasRun others.now other }
     requires short_one { length words.now ≤ limit }
@@ -54,34 +50,34 @@ pub(crate) fn cmp_runs(
     ensures { (xs ys : List ℕ) → IsRunOf words.now run xs → IsRunOf others.now other ys
         → result ≡ slice_cmp nat_cmp xs ys }
 {
-    let shared = run.1.min(other.1);
+    let shared = run.len.min(other.len);
     let same = same_words(
-        words_from(words, run.0),
-        words_from(others, other.0),
+        words_from(words, run.at),
+        words_from(others, other.at),
         shared / 8,
     );
     for i in 8 * same..shared {
-        let (one, two) = (byte_at(words, run.0, i), byte_at(others, other.0, i));
+        let (one, two) = (byte_at(words, run.at, i), byte_at(others, other.at, i));
         if one != two {
             return one.cmp(&two);
         }
     }
-    run.1.cmp(&other.1)
+    run.len.cmp(&other.len)
 }
 
 /// The order of the bytes of a run and of these bytes.
-pub(crate) fn cmp_run_to(words: &[u64], run: (usize, usize), bytes: &[u8]) -> Ordering
+pub(crate) fn cmp_run_to(words: &[u64], run: Run, bytes: &[u8]) -> Ordering
     requires run { HasRun words.now run }
     requires short { length words.now ≤ limit }
     ensures { (xs : List ℕ) → IsRunOf words.now run xs → result ≡ slice_cmp nat_cmp xs bytes.now }
 {
-    let shared = run.1.min(bytes.len());
-    let same = same_as_bytes(words_from(words, run.0), bytes, shared / 8);
+    let shared = run.len.min(bytes.len());
+    let same = same_as_bytes(words_from(words, run.at), bytes, shared / 8);
     for i in 8 * same..shared {
-        let (one, two) = (byte_at(words, run.0, i), bytes[i]);
+        let (one, two) = (byte_at(words, run.at, i), bytes[i]);
         if one != two {
             return one.cmp(&two);
         }
     }
-    run.1.cmp(&bytes.len())
+    run.len.cmp(&bytes.len())
 }

@@ -21,8 +21,9 @@ use crate::code::{Code, attribute_run, code_in_run, find_code, method_attributes
 use crate::constant::{Constant, constant_at_index};
 use crate::fingerprints::run_fingerprint;
 use crate::member::{Member, find_member, member_at};
-use crate::names::{is_same_run, name_run, run_bytes};
+use crate::names::name_run;
 use crate::order::{cmp_run_to, cmp_runs};
+use crate::run::{Run, is_same_run, run_bytes};
 use cm_class::Class;
 use cm_record_layout::{bytes_tell_words, first, second, third};
 use cm_record_reading::{RecordFault, is_record, read_class};
@@ -36,9 +37,9 @@ use std::marker::Model;
 #[derive(Debug, Drop)]
 pub struct Record {
     words: WordBuf,
-    /// Where the bytes of its class's name lie: at which word they begin, and how many there are. A
-    /// name is looked at far more often than anything else of a record, so it is found once.
-    name: (usize, usize),
+    /// Where the bytes of its class's name lie. A name is looked at far more often than anything else
+    /// of a record, so it is found once.
+    name: Run,
 }
 
 impl Model for Record {
@@ -63,7 +64,7 @@ fn record_of(words: WordBuf) -> Record
 }
 
 /// Where the bytes of the class's name lie in the words of its record.
-fn class_name_run(words: &[u64]) -> (usize, usize)
+fn class_name_run(words: &[u64]) -> Run
     requires { IsRecord words.now }
     ensures { IsNameRun words.now result }
 {
@@ -90,7 +91,7 @@ impl Record {
     }
 
     /// Where the bytes of its class's name lie.
-    fn name_run(&self) -> (usize, usize)
+    fn name_run(&self) -> Run
         ensures name { IsNameRun self.now result }
         ensures run { HasRun self.now result }
     {

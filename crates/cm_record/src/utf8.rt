@@ -9,7 +9,7 @@ ghost use Rattle.cm_record.specs.Constants.{constant_at_index as constant_at_ind
 ghost use Rattle.cm_record.specs.Runs.{IsRunOf, HasRun, utf8_place as utf8_place_of};
 
 use crate::constant::{Constant, constant_at, wide_words_before};
-use crate::names::run_slice;
+use crate::run::{Run, run_slice};
 use cm_record_layout::{first, second, word_of};
 
 /// The bytes behind the first eight.
@@ -39,19 +39,22 @@ fn is_run(words: &[u64], bytes: &[u8]) -> bool
 }
 
 /// Whether a run has these bytes.
-fn is_run_of(words: &[u64], run: (usize, usize), bytes: &[u8]) -> bool
+fn is_run_of(words: &[u64], run: Run, bytes: &[u8]) -> bool
     requires { HasRun words.now run }
     ensures { (xs : List ℕ) → IsRunOf words.now run xs → IsTrue result ↔ (xs ≡ bytes.now) }
 {
-    run.1 == bytes.len() && is_run(run_slice(words, run), bytes)
+    run.len == bytes.len() && is_run(run_slice(words, run), bytes)
 }
 
 /// The run of a Utf8; none of anything else.
-fn utf8_place(constant: Option<Constant>) -> Option<(usize, usize)>
+fn utf8_place(constant: Option<Constant>) -> Option<Run>
     ensures { result ≡ utf8_place_of constant }
 {
     match constant {
-        Some(Constant::Utf8 { at, len }) => Some((at as usize / 8, len as usize)),
+        Some(Constant::Utf8 { at, len }) => Some(Run {
+            at: at as usize / 8,
+            len: len as usize,
+        }),
         _ => None,
     }
 }

@@ -1,5 +1,6 @@
-use Rattle.std.proofs.Common.{◌∙◌, ap, sym, subst, ℕ, arith}
+use Rattle.std.proofs.Common.{◌∙◌, ap, sym, subst, arith}
 use Rattle.cm_record_layout.proofs.Sections.{directory_within}
+use Rattle.cm_record.specs.declared.run.Run.{Run}
 use Rattle.cm_record.specs.Names.{class_name_of}
 use Rattle.cm_record.specs.Runs.{IsRunOf, name_run}
 use Rattle.cm_record.proofs.RunPlaces.{own_name}
@@ -14,5 +15,4 @@ name_run-requires c = directory_within c.args.words.now c.requires
 pub returns : goal.returns
 returns c = λ d is.
     let words = c.args.words.now in
-    subst (λ (r : ℕ
-    × ℕ). IsRunOf words r (class_name_of d)) (sym (c.name_run.ensures ∙ ap (name_run words) c.second.ensures)) (own_name d words is)
+    subst (λ (r : Run). IsRunOf words r (class_name_of d)) (sym (c.name_run.ensures ∙ ap (name_run words) c.second.ensures)) (own_name d words is)

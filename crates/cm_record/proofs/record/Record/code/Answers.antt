@@ -1,8 +1,8 @@
-use Rattle.std.proofs.Common.{◌≡◌, ◌∙◌, ◌*◌, ◌+◌, get_or, ap, sym, subst, refl, arith, true, false}
+use Rattle.std.proofs.Common.{◌≡◌, ◌∙◌, ◌*◌, ◌+◌, ap, sym, subst, refl, arith, true, false}
 use Rattle.std.proofs.Common.{ℕ}
 use Rattle.cm_record_layout.specs.Layout.{IsRecordOf}
-use Rattle.cm_record_layout.specs.Packing.{upper_of}
 use Rattle.cm_record.specs.Code.{code_in}
+use Rattle.cm_record.specs.Runs.{attribute_run_at}
 use Rattle.cm_record.proofs.MemberPlaces.{index_there, item_there, methods_count}
 use Rattle.cm_record.proofs.AttributePlaces.{none_named, code_there, found_run, found_place}
 use Rattle.cm_record.proofs.AttributePlaces.{found_is}
@@ -44,7 +44,7 @@ returns-clause-code c = λ d own j a is has.
     let same : found ≡ j = found_is d words of i own has.method at count (λ n. (those n).0)
     (λ n. (those n).1) found (c.in-Some.ensures.some d of) j a has.there has.named has.first in
     let run = c.attribute_run.result in
-    let er : run ≡ (get_or words (at + 2 * j + 1) 0, upper_of (get_or words (at + 2 * j) 0)) = c.attribute_run.ensures ∙ ap (λ (n : ℕ). (get_or words (at + 2 * n + 1) 0, upper_of (get_or words (at + 2 * n) 0))) same in
+    let er : run ≡ attribute_run_at words (at + 2 * j) = c.attribute_run.ensures ∙ ap (λ (n : ℕ). attribute_run_at words (at + 2 * n)) same in
     c.code_in_run.ensures a.bytes (found_run d words of i own has.method at count
     (λ n. (those n).0) (λ n. (those n).1) j a has.there run er)
     ∙ ap (λ n. code_in (8 * n) a.bytes) (found_place d words of i own has.method at count

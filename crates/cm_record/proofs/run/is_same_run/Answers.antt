@@ -3,7 +3,7 @@ use Rattle.std.proofs.lemmas.Bool.Decides.{Decides-eqb}
 use Rattle.std.proofs.lemmas.Slice.Eq.{slice_eq-Decides}
 use Rattle.cm_record_layout.specs.Packing.{packed}
 use Rattle.cm_record.proofs.RunPlaces.{packed_same}
-use Rattle.cm_record.proofs.names.is_same_run.Goals as goal
+use Rattle.cm_record.proofs.run.is_same_run.Goals as goal
 
 pub returns-then-run-other : goal.returns-then-run-other
 returns-then-run-other c = λ xs ys of_xs of_ys.
