@@ -14,7 +14,7 @@ use Rattle.cm_class.specs.declared.constant.Slot.TheVariants.{Usable, Unusable}
 use Rattle.cm_class.specs.declared.class_file.ClassFile.{ClassFile}
 use Rattle.cm_class.specs.Spelling.{is_wide, ConstantFits, SlotsFit, HasSpelling}
 use Rattle.cm_record_layout.specs.Layout.{lay, constant_words, constant_run, slot_run, directory}
-use Rattle.cm_record_layout.specs.Layout.{utf8_runs, members, runs_at, attributes_at, limit}
+use Rattle.cm_record_layout.specs.Layout.{utf8_runs, members, runs_at, attributes_at, limit, IsRecordOf}
 use Rattle.cm_record_layout.specs.Packing.{first_of, second_of, third_of, fourth_of, upper_of}
 use Rattle.cm_record.specs.Constants.{kept_constant, is_wide_word, is_second_word, word_kept}
 use Rattle.cm_record.specs.Constants.{constant_at_index, constant_kept, utf8_at}
@@ -217,6 +217,13 @@ runs_up_to (s ∷ slots) zero = omega arith
 runs_up_to (s ∷ slots) (suc i) = omega (arith, runs_up_to slots i, length-append (slot_run s) (utf8_runs (take i slots)), length-append (slot_run s) (utf8_runs slots))
 
 -- ---- the constants of a class
+
+-- word 8 is 0, so the word at index 1 is no second one
+pub first_is_no_second : (c : ClassFile) (words : List ℕ) → IsRecordOf c words
+    → is_second_word words 9 ≡ false
+first_is_no_second c words is = ap
+    (λ w. is_wide_word (get_or w 8 0) && not (is_second_word words 8)) is.laid
+    ∙ ap (λ n. is_wide_word n && not (is_second_word words 8)) (word_8 c)
 
 module _ (c : ClassFile) (spelled : HasSpelling c) where
   abbrev pub words_at : ℕ → ℕ

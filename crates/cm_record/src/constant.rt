@@ -126,7 +126,8 @@ fn is_wide_word(word: u64) -> bool
 }
 
 /// How many words stand before a place of the directory that could all be those of Longs and
-/// Doubles, with none of another kind between. In most classes there is none.
+/// Doubles, with none of another kind between. In most classes there is none. The word at the place
+/// is the second of a Long or a Double where they are odd.
 pub(crate) fn wide_words_before(words: &[u64], place: usize) -> usize
     requires { place ≤ length words.now }
     ensures within { result ≤ place }
@@ -137,15 +138,6 @@ pub(crate) fn wide_words_before(words: &[u64], place: usize) -> usize
         before -= 1;
     }
     place - before
-}
-
-/// Whether a word of the directory is the second of a Long or a Double: that goes by how many such
-/// words could stand before it.
-pub(crate) fn is_second_word(words: &[u64], place: usize) -> bool
-    requires { place ≤ length words.now }
-    ensures { result ≡ is_second_word_of words.now place }
-{
-    wide_words_before(words, place) % 2 == 1
 }
 
 /// Whether the word behind one of the directory is the second of a Long or a Double.
@@ -182,5 +174,6 @@ pub(crate) fn constant_at_index(words: &[u64], index: u16) -> Option<Constant>
     if index >= first(words[2]) {
         return None;
     }
-    constant_at(words, index, is_second_word(words, 8 + index as usize))
+    let is_second = wide_words_before(words, 8 + index as usize) % 2 == 1;
+    constant_at(words, index, is_second)
 }

@@ -3,7 +3,7 @@ ghost use Rattle.std.specs.Prelude.{◌≡◌, get_or, replicate, false};
 ghost use Rattle.cm_record_layout.specs.Layout.{IsRecord};
 ghost use Rattle.cm_record.specs.Members.{AreMarksOf};
 
-use crate::constant::{constant_at, is_next_second, is_second_word};
+use crate::constant::{constant_at, is_next_second};
 use crate::utf8::is_utf8;
 use cm_record_layout::first;
 
@@ -30,7 +30,7 @@ impl Marks {
         ensures { AreMarksOf words.now bytes.now result.leads }
     {
         let mut leads = no_marks();
-        let mut is_second = is_second_word(words, 9);
+        let mut is_second = false; // at index 1, since word 8 is 0
         for index in 1..first(words[2]) {
             leads[index as usize] = is_utf8(words, constant_at(words, index, is_second), bytes);
             is_second = is_next_second(words[8 + index as usize], is_second);

@@ -1,14 +1,14 @@
 //! The fields and methods of a record, by name and descriptor.
-ghost use Rattle.std.specs.Prelude.{◌≡◌, ◌≤◌, ◌<◌, ◌+◌, ◌*◌, ◌^◌, ◌&&◌, ℕ, false, length, get_or, IsNone};
+ghost use Rattle.std.specs.Prelude.{◌≡◌, ◌≤◌, ◌<◌, ◌+◌, ◌*◌, ◌&&◌, ℕ, false, length, get_or, IsNone};
 ghost use Rattle.std.specs.Prelude.{IfSome};
 ghost use Rattle.cm_class.specs.declared.class_file.ClassFile.{ClassFile};
 ghost use Rattle.cm_record_layout.specs.Layout.{IsRecord, IsRecordOf};
-ghost use Rattle.cm_record_layout.specs.Packing.{first_of, second_of, third_of, fourth_of};
+ghost use Rattle.cm_record_layout.specs.Packing.{second_of, third_of};
 ghost use Rattle.cm_record.specs.Members.{leads_to, IsFirst};
 
 use crate::marks::Marks;
 use crate::utf8::is_utf8_of;
-use cm_record_layout::{first, fourth, second, third};
+use cm_record_layout::{second, third};
 
 /// A field or a method, as a record names it (JVMS 4.5, 4.6).
 #[derive(Clone, Copy, Debug, PartialEq, Eq)]
@@ -104,24 +104,4 @@ pub(crate) fn find_member(
         }
     }
     None
-}
-
-/// A member, from its word, which is the first of two at its place behind the word `at`.
-pub(crate) fn member_at(words: &[u64], at: usize, index: usize, is_method: bool) -> Member
-    requires within { at + 2 * index < length words.now }
-    requires small { index < 2 ^ 16 }
-    ensures { result ≡ record {
-      is_method = is_method;
-      index = index;
-      flags = first_of (get_or words.now (at + 2 * index) 0);
-      attributes = fourth_of (get_or words.now (at + 2 * index) 0);
-    } }
-{
-    let word = words[at + 2 * index];
-    Member {
-        is_method,
-        index: index as u16,
-        flags: first(word),
-        attributes: fourth(word),
-    }
 }

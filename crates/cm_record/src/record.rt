@@ -20,12 +20,12 @@ ghost use Rattle.cm_class.specs.declared.class_file.Attribute.{Attribute};
 use crate::code::{Code, attribute_run, code_in_run, find_code, method_attributes};
 use crate::constant::{Constant, constant_at_index};
 use crate::fingerprints::run_fingerprint;
-use crate::member::{Member, find_member, member_at};
+use crate::member::{Member, find_member};
 use crate::names::name_run;
 use crate::order::{cmp_run_to, cmp_runs};
 use crate::run::{Run, is_same_run, run_bytes};
 use cm_class::Class;
-use cm_record_layout::{bytes_tell_words, first, second, third};
+use cm_record_layout::{bytes_tell_words, first, fourth, second, third};
 use cm_record_reading::{RecordFault, is_record, read_class};
 use cm_record_writing::{RecordRefusal, write_class};
 use cm_words::WordBuf;
@@ -208,7 +208,13 @@ impl Record {
         let Some(index) = find_member(words, at, count, name, descriptor) else {
             return None;
         };
-        Some(member_at(words, at, index, false))
+        let word = words[at + 2 * index];
+        Some(Member {
+            is_method: false,
+            index: index as u16,
+            flags: first(word),
+            attributes: fourth(word),
+        })
     }
 
     /// The least method that has this name and this descriptor, as [`Record::field`] finds fields.
@@ -222,7 +228,13 @@ impl Record {
         let Some(index) = find_member(words, at, count, name, descriptor) else {
             return None;
         };
-        Some(member_at(words, at, index, true))
+        let word = words[at + 2 * index];
+        Some(Member {
+            is_method: true,
+            index: index as u16,
+            flags: first(word),
+            attributes: fourth(word),
+        })
     }
 
     /// Where the code of a method lies; none of a field, where there is no such method, where it

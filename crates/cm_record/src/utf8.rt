@@ -101,6 +101,6 @@ pub(crate) fn is_utf8_of(words: &[u64], index: u16, bytes: &[u8], left: &mut usi
     }
     let wide = wide_words_before(words, 8 + index as usize);
     *left = left.checked_sub(1 + wide + bytes.len() / 8)?;
-    let constant = constant_at(words, index, wide % 2 == 1);
-    Some(is_utf8(words, constant, bytes))
+    let is_second = wide % 2 == 1;
+    Some(is_utf8(words, constant_at(words, index, is_second), bytes))
 }

@@ -7,12 +7,10 @@ use Rattle.std.proofs.lemmas.List.{length-set, length-replicate}
 use Rattle.cm_class.specs.Names.{names_utf8}
 use Rattle.cm_record_layout.proofs.Sections.{directory_within, record_long}
 use Rattle.cm_record.specs.Constants.{is_second_word, is_wide_word}
+use Rattle.cm_record.proofs.Constants.{first_is_no_second}
 use Rattle.cm_record.proofs.RunTests.{no_utf8}
 use Rattle.cm_record.proofs.Utf8Words.{leads_to_none}
 use Rattle.cm_record.proofs.marks.Marks.of.Goals as goal
-
-pub is_second_word-is_second-requires : goal.is_second_word-is_second-requires
-is_second_word-is_second-requires c = record_long c.args.words.now c.requires
 
 pub bounds-words-2 : goal.bounds-words-2
 bounds-words-2 c = omega (arith, record_long c.args.words.now c.requires)
@@ -29,7 +27,7 @@ loop-index-init c =
     let none = λ (k : ℕ) (small : k < 2 ^ 16). ap (λ l. get_or l k false) empty ∙ get_or-replicate (2 ^ 16) k false false small in
     record {
       long = ap length empty ∙ length-replicate (2 ^ 16) false;
-      second = c.is_second_word-is_second.ensures;
+      second = sym (first_is_no_second c.requires.0 c.args.words.now c.requires.1);
       marked = λ d is k first.
           let zero : k ≡ 0 = omega arith in
           none k (omega arith) ∙ (no_utf8 d c.args.words.now is 0 None refl refl c.args.bytes.now ∙ ap (λ n. names_utf8 d n c.args.bytes.now) (sym zero));

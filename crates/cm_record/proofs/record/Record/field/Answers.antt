@@ -21,6 +21,6 @@ pub returns : goal.returns
 returns c = λ d is.
     let words = c.as_slice-words.result.now in
     let of : IsRecordOf d words = subst (IsRecordOf d) (sym c.as_slice-words.ensures.words) is in
-    subst (IsLeastMember d d.fields false c.args.name.now c.args.descriptor.now) (sym c.member_at.ensures)
+    subst (IsLeastMember d d.fields false c.args.name.now c.args.descriptor.now) (λ i. record { is_method = false; index = c.in-Some.index; flags = sym c.first.ensures i; attributes = sym c.fourth.ensures i })
     (least_found d words (get_or words 5 0) c.second.result d.fields c.args.name.now c.args.descriptor.now (fields_have d words of (get_or words 5 0) refl) (c.second.ensures ∙ fields_count d words of)
     false c.in-Some.index (c.in-Some.ensures.some d of))

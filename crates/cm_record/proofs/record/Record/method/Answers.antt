@@ -28,6 +28,6 @@ returns c = λ d is.
     let words = c.as_slice-words.result.now in
     let at = get_or words 5 0 + 2 * c.second-fields.result in
     let of : IsRecordOf d words = subst (IsRecordOf d) (sym c.as_slice-words.ensures.words) is in
-    subst (IsLeastMember d d.methods true c.args.name.now c.args.descriptor.now) (sym c.member_at.ensures)
+    subst (IsLeastMember d d.methods true c.args.name.now c.args.descriptor.now) (λ i. record { is_method = true; index = c.in-Some.index; flags = sym c.first.ensures i; attributes = sym c.fourth.ensures i })
     (least_found d words at c.third.result d.methods c.args.name.now c.args.descriptor.now (methods_have d words of at c.second-fields.result refl c.second-fields.ensures) (c.third.ensures ∙ methods_count d words of)
     true c.in-Some.index (c.in-Some.ensures.some d of))
