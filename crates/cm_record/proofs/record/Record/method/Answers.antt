@@ -23,6 +23,35 @@ returns-in_default c = λ d is.
     none_found d words at c.third.result d.methods c.args.name.now c.args.descriptor.now (methods_have d words of at c.second-fields.result refl c.second-fields.ensures) (c.third.ensures ∙ methods_count d words of)
     (c.in_default.ensures.none d of refl)
 
+pub overflow_mul-word : goal.overflow_mul-word
+overflow_mul-word c =
+    let words = c.as_slice-words.result.now in
+    let is = c.as_slice-words.ensures.record in
+    record { fits = omega (arith, (c.in-Some.ensures.some is.0 is.1).there, c.second-fields.ensures, c.third.ensures, members_fit is.0 words is.1, is.1.short) }
+
+pub overflow_add-word : goal.overflow_add-word
+overflow_add-word c =
+    let words = c.as_slice-words.result.now in
+    let is = c.as_slice-words.ensures.record in
+    record { fits = omega (arith, (c.in-Some.ensures.some is.0 is.1).there, c.second-fields.ensures, c.third.ensures, members_fit is.0 words is.1, is.1.short) }
+
+pub offset_bounds-words-at : goal.offset_bounds-words-at
+offset_bounds-words-at c =
+    let words = c.as_slice-words.result.now in
+    let is = c.as_slice-words.ensures.record in
+    record { fits = omega (arith, (c.in-Some.ensures.some is.0 is.1).there, c.second-fields.ensures, c.third.ensures, members_fit is.0 words is.1, is.1.short) }
+
+pub bounds-words-at : goal.bounds-words-at
+bounds-words-at c =
+    let words = c.as_slice-words.result.now in
+    let is = c.as_slice-words.ensures.record in
+    omega (arith, (c.in-Some.ensures.some is.0 is.1).there, c.second-fields.ensures, c.third.ensures, members_fit is.0 words is.1)
+
+pub overflow_cast-result : goal.overflow_cast-result
+overflow_cast-result c =
+    let is = c.as_slice-words.ensures.record in
+    record { fits = omega (arith, (c.in-Some.ensures.some is.0 is.1).there, c.third.type_inv) }
+
 pub returns : goal.returns
 returns c = λ d is.
     let words = c.as_slice-words.result.now in
