@@ -132,17 +132,29 @@ pub(crate) fn find_code(words: &[u64], at: usize, count: usize) -> Option<usize>
     None
 }
 
-/// The word at which the attributes of a method begin, and how many there are.
-pub(crate) fn method_attributes(words: &[u64], index: usize) -> (usize, usize)
+/// Where the attributes of a method lie.
+#[derive(Clone, Copy)]
+pub(crate) struct Attributes {
+    /// The word at which theirs begin, two each.
+    pub(crate) at: usize,
+    /// How many there are.
+    pub(crate) count: usize,
+}
+
+/// The attributes of the method at an index.
+pub(crate) fn method_attributes(words: &[u64], index: usize) -> Attributes
     requires record { IsRecord words.now }
     requires there { index < third_of (get_or words.now 2 0) }
     ensures attributes { (c : ClassFile) (own : ClassMember) → IsRecordOf c words.now
         → slice_get c.methods index ≡ Some own
-        → result ≡ (attributes_place c index, length own.attributes) }
-    ensures within { result.0 + 2 * result.1 ≤ length words.now }
+        → result ≡ record { at = attributes_place c index; count = length own.attributes } }
+    ensures within { result.at + 2 * result.count ≤ length words.now }
 {
     let place = words[5] as usize + 2 * (second(words[2]) as usize + index);
-    (words[place + 1] as usize, fourth(words[place]) as usize)
+    Attributes {
+        at: words[place + 1] as usize,
+        count: fourth(words[place]) as usize,
+    }
 }
 
 /// The run of an attribute, from its two words.

@@ -17,7 +17,7 @@ ghost use Rattle.cm_record.specs.Code.{HasCode, HasNoCode, code_in, run_place};
 ghost use Rattle.cm_class.specs.declared.class_file.Member.{Member as ClassMember};
 ghost use Rattle.cm_class.specs.declared.class_file.Attribute.{Attribute};
 
-use crate::code::{Code, attribute_run, code_in_run, find_code, method_attributes};
+use crate::code::{Attributes, Code, attribute_run, code_in_run, find_code, method_attributes};
 use crate::constant::{Constant, constant_at_index};
 use crate::fingerprints::run_fingerprint;
 use crate::member::{Member, find_member};
@@ -254,7 +254,7 @@ impl Record {
         if member.index >= third(words[2]) {
             return None;
         }
-        let (at, count) = method_attributes(words, member.index as usize);
+        let Attributes { at, count } = method_attributes(words, member.index as usize);
         let Some(found) = find_code(words, at, count) else {
             return None;
         };

@@ -34,7 +34,7 @@ returns-clause-attributes c = λ d own is method.
     let here = ap (λ n. get_or w 5 0 + 2 * (n + i)) c.second.ensures in
     let at = attributes_found d w is i own method place here in
     let count = c.fourth.ensures ∙ attributes_counted d w is i own method place here in
-    λ n. (at n, count n)
+    λ n. record { at = at n; count = count n }
 
 pub returns-clause-within : goal.returns-clause-within
 returns-clause-within c =
