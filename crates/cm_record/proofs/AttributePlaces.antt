@@ -241,6 +241,13 @@ module _ (c : ClassFile) (words : List ℕ) (is : IsRecordOf c words) (i : ℕ) 
       let a = item_there own.attributes found (omega (arith, within, all)) in
       (a.0, a.1, sym (tested found a.0 a.1) ∙ first.passes)
 
+  pub none_there : (found : ℕ) → IsFirst (code_test c words at) count found
+      → ((j : ℕ) (a : Attribute) → slice_get own.attributes j ≡ Some a
+      → names_utf8 c a.name code_name ≡ false) → ⊥
+  none_there found first none =
+      let it = code_there found first in
+      let both : false ≡ true = sym (none found it.0 it.1) ∙ it.2 in cc
+
   pub found_run : (found : ℕ) (a : Attribute) → slice_get own.attributes found ≡ Some a
       → (run : Run) → run ≡ attribute_run_at words (at + 2 * found)
       → IsRunOf words run a.bytes

@@ -14,7 +14,8 @@ use Rattle.cm_class.specs.declared.constant.Slot.TheVariants.{Usable, Unusable}
 use Rattle.cm_class.specs.declared.class_file.ClassFile.{ClassFile}
 use Rattle.cm_class.specs.Spelling.{is_wide, ConstantFits, SlotsFit, HasSpelling}
 use Rattle.cm_record_layout.specs.Layout.{lay, constant_words, constant_run, slot_run, directory}
-use Rattle.cm_record_layout.specs.Layout.{utf8_runs, members, runs_at, attributes_at, limit, IsRecordOf}
+use Rattle.cm_record_layout.specs.Layout.{utf8_runs, members, runs_at, attributes_at, limit}
+use Rattle.cm_record_layout.specs.Layout.{IsRecordOf}
 use Rattle.cm_record_layout.specs.Packing.{first_of, second_of, third_of, fourth_of, upper_of}
 use Rattle.cm_record.specs.Constants.{kept_constant, is_wide_word, is_second_word, word_kept}
 use Rattle.cm_record.specs.Constants.{constant_at_index, constant_kept, utf8_at}

@@ -4,6 +4,9 @@ use Rattle.cm_record.proofs.RunPlaces.{run_read}
 use Rattle.cm_record_reading.proofs.Taken.{some_same}
 use Rattle.cm_record.proofs.run.run_bytes.Goals as goal
 
+not_none : {A : Type 0} (x : A) → Some x ≡ None → ⊥
+not_none x e = cc
+
 pub words_from-requires : goal.words_from-requires
 words_from-requires c = c.requires.1.within
 
@@ -13,8 +16,7 @@ unreachable-requires c =
     let is = c.requires.1 in
     let read : run_at c.args.run.len c.words_from.result.now ≡ Some (bytes, is.rest) = ap (run_at c.args.run.len) c.words_from.ensures ∙ run_read c.args.words.now c.args.run bytes is in
     let none : run_at c.args.run.len c.words_from.result.now ≡ None = rw c.in-Err-NotARecord.field-0-is at c.in-Err-NotARecord.ensures.read in
-    let both : Some (bytes, is.rest) ≡ None = sym read ∙ none in
-    cc
+    not_none (bytes, is.rest) (sym read ∙ none)
 
 pub returns-in-Ok : goal.returns-in-Ok
 returns-in-Ok c = λ bytes is.

@@ -1,11 +1,11 @@
-use Rattle.std.proofs.Common.{◌≡◌, ◌∙◌, ◌*◌, ◌+◌, ap, sym, subst, refl, arith, true, false}
+use Rattle.std.proofs.Common.{◌≡◌, ◌∙◌, ◌*◌, ◌+◌, ap, sym, subst, refl, arith}
 use Rattle.std.proofs.Common.{ℕ}
 use Rattle.cm_record_layout.specs.Layout.{IsRecordOf}
 use Rattle.cm_record.specs.Code.{code_in}
 use Rattle.cm_record.specs.Runs.{attribute_run_at}
 use Rattle.cm_record.proofs.MemberPlaces.{index_there, item_there, methods_count}
 use Rattle.cm_record.proofs.AttributePlaces.{none_named, code_there, found_run, found_place}
-use Rattle.cm_record.proofs.AttributePlaces.{found_is}
+use Rattle.cm_record.proofs.AttributePlaces.{found_is, none_there}
 use Rattle.cm_record.proofs.record.Record.code.Goals as goal
 
 pub returns-in_default-clause-code : goal.returns-in_default-clause-code
@@ -57,9 +57,8 @@ returns-clause-none c = λ d is no.
     let i = c.args.member.now.index in
     let own = item_there d.methods i (omega (arith, c.if-member-third.false, c.third.ensures, methods_count d words of)) in
     let those = c.method_attributes-at.ensures.attributes d own.0 of own.1 in
-    let it = code_there d words of i own.0 own.1 c.method_attributes-at.result.at c.method_attributes-at.result.count (λ n. (those n).at) (λ n. (those n).count) c.in-Some.found (c.in-Some.ensures.some d of) in
-    let both : false ≡ true = sym (no own.0 c.in-Some.found it.0 c.if-not-member.false own.1 it.1) ∙ it.2 in
-    absurd (cc)
+    absurd (none_there d words of i own.0 own.1 c.method_attributes-at.result.at c.method_attributes-at.result.count (λ n. (those n).at) (λ n. (those n).count)
+    c.in-Some.found (c.in-Some.ensures.some d of) (λ j a there. no own.0 j a c.if-not-member.false own.1 there))
 
 pub returns-then-member-third-clause-code : goal.returns-then-member-third-clause-code
 returns-then-member-third-clause-code c = λ d own j a is has.
