@@ -2,7 +2,7 @@
 use Rattle.std.proofs.Common.{false, ◌≡◌, ◌≤◌, ◌-◌, ◌*◌, ◌/◌, ℕ, zero, suc, List, [], ◌∷◌, ◌++◌}
 use Rattle.std.proofs.Common.{length, take, drop, get_or, slice_get, Option, Some, None, refl, sym}
 use Rattle.std.proofs.Common.{◌∙◌, ap, subst, arith, length-append, append_assoc, drop-drop}
-use Rattle.std.specs.Prelude.{option_map, option_and_then}
+use Rattle.std.specs.Prelude.{option_map, option_and_then, unwrap_or}
 use Rattle.std.specs.Option.{option_map_or}
 use Rattle.std.proofs.lemmas.List.{drop_at, take_at}
 use Rattle.cm_class.specs.declared.constant.Constant.{Constant as Spelled}
@@ -17,7 +17,7 @@ use Rattle.cm_record_layout.specs.Packing.{packed, run_words, second_of, third_o
 use Rattle.cm_record_layout.specs.Layout.{lay, slot_run, utf8_runs, runs_at, limit, IsRecordOf}
 use Rattle.cm_record.specs.declared.run.Run.{Run}
 use Rattle.cm_record.specs.Constants.{kept_constant, constant_at_index, utf8_at}
-use Rattle.cm_record.specs.Runs.{IsRunOf, constant_run_place, utf8_run, class_link, name_run}
+use Rattle.cm_record.specs.Runs.{IsRunOf, run_of_utf8, no_bytes, utf8_run, class_link, name_run}
 use Rattle.cm_record_reading.specs.Reading.{run_at}
 use Rattle.cm_record_reading.proofs.RunsBack.{run_again}
 use Rattle.cm_record_layout.proofs.Sections.{runs_tail, runs_there, lay_short, this_there}
@@ -43,12 +43,12 @@ named_usable (Some Unusable) d e = absurd (cc)
 named_usable (Some (Usable x)) d e = let same : x ≡ d = cc in ap (λ y. Some (Usable y)) same
 
 -- no bytes have a run wherever one looks
-empty_run : (words : List ℕ) → IsRunOf words (record { at = 0; len = 0 }) []
+empty_run : (words : List ℕ) → IsRunOf words no_bytes []
 empty_run words = record { fits = tt; count = refl; within = omega arith; rest = words; split = refl }
 
 by_constant : (words : List ℕ) (at : ℕ) (o : Option Spelled) → ((bytes : List ℕ)
     → o ≡ Some (constant.Utf8 bytes) → IsRunOf words (record { at = 8 * at / 8; len = length bytes }) bytes)
-    → IsRunOf words (constant_run_place (option_map (kept_constant at) o)) (option_map_or utf8_in o [])
+    → IsRunOf words (unwrap_or (run_of_utf8 (option_map (kept_constant at) o)) no_bytes) (option_map_or utf8_in o [])
 by_constant words at None h = empty_run words
 by_constant words at (Some (constant.Utf8 bytes)) h = h bytes refl
 by_constant words at (Some (constant.Integer bits)) h = empty_run words
@@ -114,7 +114,7 @@ module _ (c : ClassFile) (spelled : HasSpelling c) (short : length (lay c) ≤ l
 
   pub utf8_run_is : (index : ℕ) → IsRunOf (lay c) (utf8_run (lay c) index) (utf8 c index)
   utf8_run_is index =
-      subst (λ (o : _). IsRunOf (lay c) (constant_run_place o) (utf8 c index)) (sym (constant_is c spelled short index))
+      subst (λ (o : _). IsRunOf (lay c) (unwrap_or (run_of_utf8 o) no_bytes) (utf8 c index)) (sym (constant_is c spelled short index))
       (by_constant (lay c) (utf8_at c index) (constant_named c index) (utf8_run_found index))
 
   pub name_run_is : (index : ℕ) → IsRunOf (lay c) (name_run (lay c) index) (class_name c index)

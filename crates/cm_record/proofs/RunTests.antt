@@ -1,8 +1,8 @@
 -- Runs compared with bytes, and Utf8 with names.
-use Rattle.std.proofs.Common.{◌≡◌, ◌<◌, ◌≤◌, ◌-◌, ◌*◌, ◌/◌, ℕ, Bool, true, false, List, [], ◌∷◌}
+use Rattle.std.proofs.Common.{◌≡◌, ◌<◌, ◌≤◌, ◌-◌, ℕ, Bool, true, false, List, [], ◌∷◌}
 use Rattle.std.proofs.Common.{length, take, drop, get_or, min, Option, Some, None, refl, sym, ◌∙◌}
 use Rattle.std.proofs.Common.{ap, subst, arith}
-use Rattle.std.specs.Prelude.{option_map, ◌&&◌, bytes_eq}
+use Rattle.std.specs.Prelude.{option_map, ◌&&◌, bytes_eq, unwrap_or}
 use Rattle.std.specs.Bool.{Decides}
 use Rattle.std.specs.Option.{option_map_or}
 use Rattle.std.proofs.lemmas.List.{take_rest}
@@ -16,7 +16,7 @@ use Rattle.cm_record_layout.specs.Packing.{packed, word_from}
 use Rattle.cm_record_layout.specs.Layout.{IsRecordOf}
 use Rattle.cm_record.specs.declared.run.Run.{Run}
 use Rattle.cm_record.specs.Constants.{kept_constant, constant_at_index, constant_kept, utf8_at}
-use Rattle.cm_record.specs.Runs.{IsRunOf, constant_run_place, utf8_place, utf8_run}
+use Rattle.cm_record.specs.Runs.{IsRunOf, run_of_utf8, no_bytes, utf8_run}
 use Rattle.cm_record_layout.proofs.Packed.{packed_more}
 use Rattle.cm_record_layout.proofs.Sections.{lay_short}
 use Rattle.cm_record.proofs.Constants.{constant_is}
@@ -53,43 +53,42 @@ module _ (words bytes rest left : List ℕ) (onward : words ≡ packed bytes
 
 -- ---- which constants are Utf8
 
-no_place : (at : ℕ) (o : Option Spelled) → utf8_place (option_map (kept_constant at) o) ≡ None
+without_run : (at : ℕ) (o : Option Spelled) → run_of_utf8 (option_map (kept_constant at) o) ≡ None
     → option_map_or (is_kind kinds.Utf8) o false ≡ false
-no_place at None e = refl
-no_place at (Some (constant.Utf8 bytes)) e = absurd (cc)
-no_place at (Some (constant.Integer bits)) e = refl
-no_place at (Some (constant.Float bits)) e = refl
-no_place at (Some (constant.Long bits)) e = refl
-no_place at (Some (constant.Double bits)) e = refl
-no_place at (Some (constant.Class name)) e = refl
-no_place at (Some (constant.String text)) e = refl
-no_place at (Some (constant.Fieldref a b)) e = refl
-no_place at (Some (constant.Methodref a b)) e = refl
-no_place at (Some (constant.InterfaceMethodref a b)) e = refl
-no_place at (Some (constant.NameAndType a b)) e = refl
-no_place at (Some (constant.MethodHandle a b)) e = refl
-no_place at (Some (constant.MethodType descriptor)) e = refl
-no_place at (Some (constant.InvokeDynamic a b)) e = refl
+without_run at None e = refl
+without_run at (Some (constant.Utf8 bytes)) e = absurd (cc)
+without_run at (Some (constant.Integer bits)) e = refl
+without_run at (Some (constant.Float bits)) e = refl
+without_run at (Some (constant.Long bits)) e = refl
+without_run at (Some (constant.Double bits)) e = refl
+without_run at (Some (constant.Class name)) e = refl
+without_run at (Some (constant.String text)) e = refl
+without_run at (Some (constant.Fieldref a b)) e = refl
+without_run at (Some (constant.Methodref a b)) e = refl
+without_run at (Some (constant.InterfaceMethodref a b)) e = refl
+without_run at (Some (constant.NameAndType a b)) e = refl
+without_run at (Some (constant.MethodHandle a b)) e = refl
+without_run at (Some (constant.MethodType descriptor)) e = refl
+without_run at (Some (constant.InvokeDynamic a b)) e = refl
 
-a_place : (at : ℕ) (o : Option Spelled) (run : Run)
-    → utf8_place (option_map (kept_constant at) o) ≡ Some run
-    → (option_map_or (is_kind kinds.Utf8) o false ≡ true)
-    × (constant_run_place (option_map (kept_constant at) o) ≡ run)
-a_place at None run e = absurd (cc)
-a_place at (Some (constant.Utf8 bytes)) run e = let same : record { at = 8 * at / 8; len = length bytes } ≡ run = cc in (refl, same)
-a_place at (Some (constant.Integer bits)) run e = absurd (cc)
-a_place at (Some (constant.Float bits)) run e = absurd (cc)
-a_place at (Some (constant.Long bits)) run e = absurd (cc)
-a_place at (Some (constant.Double bits)) run e = absurd (cc)
-a_place at (Some (constant.Class name)) run e = absurd (cc)
-a_place at (Some (constant.String text)) run e = absurd (cc)
-a_place at (Some (constant.Fieldref a b)) run e = absurd (cc)
-a_place at (Some (constant.Methodref a b)) run e = absurd (cc)
-a_place at (Some (constant.InterfaceMethodref a b)) run e = absurd (cc)
-a_place at (Some (constant.NameAndType a b)) run e = absurd (cc)
-a_place at (Some (constant.MethodHandle a b)) run e = absurd (cc)
-a_place at (Some (constant.MethodType descriptor)) run e = absurd (cc)
-a_place at (Some (constant.InvokeDynamic a b)) run e = absurd (cc)
+with_run : (at : ℕ) (o : Option Spelled) (run : Run)
+    → run_of_utf8 (option_map (kept_constant at) o) ≡ Some run
+    → option_map_or (is_kind kinds.Utf8) o false ≡ true
+with_run at None run e = absurd (cc)
+with_run at (Some (constant.Utf8 bytes)) run e = refl
+with_run at (Some (constant.Integer bits)) run e = absurd (cc)
+with_run at (Some (constant.Float bits)) run e = absurd (cc)
+with_run at (Some (constant.Long bits)) run e = absurd (cc)
+with_run at (Some (constant.Double bits)) run e = absurd (cc)
+with_run at (Some (constant.Class name)) run e = absurd (cc)
+with_run at (Some (constant.String text)) run e = absurd (cc)
+with_run at (Some (constant.Fieldref a b)) run e = absurd (cc)
+with_run at (Some (constant.Methodref a b)) run e = absurd (cc)
+with_run at (Some (constant.InterfaceMethodref a b)) run e = absurd (cc)
+with_run at (Some (constant.NameAndType a b)) run e = absurd (cc)
+with_run at (Some (constant.MethodHandle a b)) run e = absurd (cc)
+with_run at (Some (constant.MethodType descriptor)) run e = absurd (cc)
+with_run at (Some (constant.InvokeDynamic a b)) run e = absurd (cc)
 
 pub same_verdict : {P : Type 0} (r s : Bool) → Decides r P → Decides s P → r ≡ s
 same_verdict true true a b = refl
@@ -97,25 +96,23 @@ same_verdict true false a b = sym (b.1 (a.0 refl))
 same_verdict false true a b = a.1 (b.0 refl)
 same_verdict false false a b = refl
 
-module _ (c : ClassFile) (words : List ℕ) (is : IsRecordOf c words) (index : ℕ) (place : Option Run) (found : place ≡ utf8_place (constant_at_index words index)) where
-  kept : utf8_place (constant_kept c index) ≡ place
-  kept = ap utf8_place (sym (ap
+module _ (c : ClassFile) (words : List ℕ) (is : IsRecordOf c words) (index : ℕ) (place : Option Run) (found : place ≡ run_of_utf8 (constant_at_index words index)) where
+  kept : run_of_utf8 (constant_kept c index) ≡ place
+  kept = ap run_of_utf8 (sym (ap
       (λ w. constant_at_index w index) is.laid ∙ constant_is c is.spelled (lay_short c words is) index)) ∙ sym found
 
   pub no_utf8 : place ≡ None → (bytes : List ℕ) → false ≡ names_utf8 c index bytes
   no_utf8 none bytes = sym (ap
-      (λ b. b && bytes_eq (utf8 c index) bytes) (no_place (utf8_at c index) (constant_named c index) (kept ∙ none)))
+      (λ b. b && bytes_eq (utf8 c index) bytes) (without_run (utf8_at c index) (constant_named c index) (kept ∙ none)))
 
   pub utf8_there : (run : Run) → place ≡ Some run → IsRunOf words run (utf8 c index)
   utf8_there run some =
-      let at = a_place (utf8_at c index) (constant_named c index) run (kept ∙ some) in
-      let there : utf8_run words index ≡ run = ap
-      (λ w. utf8_run w index) is.laid ∙ (ap constant_run_place (constant_is c is.spelled (lay_short c words is) index) ∙ at.1) in
+      let there : utf8_run words index ≡ run = ap (λ o. unwrap_or o no_bytes) (sym found ∙ some) in
       subst (λ (r : Run). IsRunOf words r (utf8 c index)) there (subst
       (λ (w : List ℕ). IsRunOf w (utf8_run w index) (utf8 c index)) (sym is.laid) (utf8_run_is c is.spelled (lay_short c words is) index))
 
   pub utf8_compared : (run : Run) → place ≡ Some run → (bytes : List ℕ) (result : Bool)
       → Decides result (utf8 c index ≡ bytes) → result ≡ names_utf8 c index bytes
   utf8_compared run some bytes result decides =
-      let at = a_place (utf8_at c index) (constant_named c index) run (kept ∙ some) in
-      same_verdict result (bytes_eq (utf8 c index) bytes) decides (bytes_eq-Decides (utf8 c index) bytes) ∙ sym (ap (λ b. b && bytes_eq (utf8 c index) bytes) at.0)
+      let is_one = with_run (utf8_at c index) (constant_named c index) run (kept ∙ some) in
+      same_verdict result (bytes_eq (utf8 c index) bytes) decides (bytes_eq-Decides (utf8 c index) bytes) ∙ sym (ap (λ b. b && bytes_eq (utf8 c index) bytes) is_one)

@@ -1,6 +1,6 @@
 -- Where the bytes of a Utf8 lie among the words of a record.
 use Rattle.std.specs.Prelude.{◌≡◌, ◌≤◌, ℕ, ◌+◌, ◌/◌, List, ◌++◌, length, drop, get_or, Option}
-use Rattle.std.specs.Prelude.{Some, None}
+use Rattle.std.specs.Prelude.{Some, None, unwrap_or}
 use Rattle.cm_class.specs.Spelling.{AreBytes}
 use Rattle.cm_record.specs.declared.constant.Constant.{Constant}
 use Rattle.cm_record.specs.declared.constant.Constant.TheVariants as kept
@@ -19,18 +19,18 @@ pub record IsRunOf (words : List ℕ) (run : Run) (bytes : List ℕ) : Type 0 wh
 abbrev pub HasRun : List ℕ → Run → Type 0
 HasRun words run = (bytes : List ℕ) × IsRunOf words run bytes
 
--- the run of a Utf8; that of no bytes for anything else
-abbrev pub constant_run_place : Option Constant → Run
-constant_run_place (Some (kept.Utf8 at count)) = record { at = at / 8; len = count }
-constant_run_place _ = record { at = 0; len = 0 }
+-- the run of a Utf8; none of anything else
+abbrev pub run_of_utf8 : Option Constant → Option Run
+run_of_utf8 (Some (kept.Utf8 at count)) = Some (record { at = at / 8; len = count })
+run_of_utf8 _ = None
 
--- the run of a Utf8, where it is one
-abbrev pub utf8_place : Option Constant → Option Run
-utf8_place (Some (kept.Utf8 at count)) = Some (record { at = at / 8; len = count })
-utf8_place _ = None
+-- the run of no bytes
+abbrev pub no_bytes : Run
+no_bytes = record { at = 0; len = 0 }
 
+-- the run of the Utf8 at an index; that of no bytes where it is no Utf8
 abbrev pub utf8_run : List ℕ → ℕ → Run
-utf8_run words index = constant_run_place (constant_at_index words index)
+utf8_run words index = unwrap_or (run_of_utf8 (constant_at_index words index)) no_bytes
 
 -- the run of an attribute, from its two words
 abbrev pub attribute_run_at : List ℕ → ℕ → Run

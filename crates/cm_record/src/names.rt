@@ -1,23 +1,30 @@
 //! The runs of a Utf8 and of a class's name, found in the words of a record.
 ghost use Rattle.std.specs.Prelude.{◌≡◌, ◌≤◌, ◌+◌, length, get_or};
 ghost use Rattle.cm_record_layout.specs.Packing.{first_of};
-ghost use Rattle.cm_record.specs.Runs.{utf8_run as utf8_run_of, name_run as name_run_of};
+ghost use Rattle.cm_record.specs.Runs.{run_of_utf8, utf8_run as utf8_run_of, name_run as name_run_of};
 
 use crate::constant::{Constant, constant_at_index};
 use crate::run::Run;
+
+/// The run of a Utf8; none of anything else.
+pub(crate) fn run_of_utf8(constant: Option<Constant>) -> Option<Run>
+    ensures { result ≡ run_of_utf8 constant }
+{
+    match constant {
+        Some(Constant::Utf8 { at, len }) => Some(Run {
+            at: at as usize / 8,
+            len: len as usize,
+        }),
+        _ => None,
+    }
+}
 
 /// The run of the Utf8 at an index; that of no bytes where it is no Utf8.
 pub(crate) fn utf8_run(words: &[u64], index: u16) -> Run
     requires { 8 + first_of (get_or words.now 2 0) ≤ length words.now }
     ensures { result ≡ utf8_run_of words.now index }
 {
-    match constant_at_index(words, index) {
-        Some(Constant::Utf8 { at, len }) => Run {
-            at: at as usize / 8,
-            len: len as usize,
-        },
-        _ => Run { at: 0, len: 0 },
-    }
+    run_of_utf8(constant_at_index(words, index)).unwrap_or(Run { at: 0, len: 0 })
 }
 
 /// The run of the name that the Class at an index leads to.

@@ -6,9 +6,10 @@ ghost use Rattle.cm_class.specs.Names.{names_utf8};
 ghost use Rattle.cm_record_layout.specs.Packing.{packed, first_of};
 ghost use Rattle.cm_record_layout.specs.Layout.{IsRecord, IsRecordOf};
 ghost use Rattle.cm_record.specs.Constants.{constant_at_index as constant_at_index_of};
-ghost use Rattle.cm_record.specs.Runs.{IsRunOf, HasRun, utf8_place as utf8_place_of};
+ghost use Rattle.cm_record.specs.Runs.{IsRunOf, HasRun};
 
 use crate::constant::{Constant, constant_at, wide_words_before};
+use crate::names::run_of_utf8;
 use crate::run::{Run, run_slice};
 use cm_record_layout::{first, second, word_of};
 
@@ -46,19 +47,6 @@ fn is_run_of(words: &[u64], run: Run, bytes: &[u8]) -> bool
     run.len == bytes.len() && is_run(run_slice(words, run), bytes)
 }
 
-/// The run of a Utf8; none of anything else.
-fn utf8_place(constant: Option<Constant>) -> Option<Run>
-    ensures { result ≡ utf8_place_of constant }
-{
-    match constant {
-        Some(Constant::Utf8 { at, len }) => Some(Run {
-            at: at as usize / 8,
-            len: len as usize,
-        }),
-        _ => None,
-    }
-}
-
 /// Whether the constant at an index of the pool is a Utf8 of these bytes.
 pub(crate) fn is_utf8(words: &[u64], constant: Option<Constant>, bytes: &[u8]) -> bool
     requires record { IsRecord words.now }
@@ -66,7 +54,7 @@ pub(crate) fn is_utf8(words: &[u64], constant: Option<Constant>, bytes: &[u8]) -
     ensures { (c : ClassFile) (index : ℕ) → IsRecordOf c words.now
         → constant ≡ constant_at_index_of words.now index → result ≡ names_utf8 c index bytes.now }
 {
-    match utf8_place(constant) {
+    match run_of_utf8(constant) {
         Some(run) => is_run_of(words, run, bytes),
         None => false,
     }
