@@ -2,7 +2,7 @@
 use Rattle.std.proofs.Common.{◌≡◌, ◌<◌, ◌≤◌, ◌-◌, ℕ, Bool, true, false, List, [], ◌∷◌}
 use Rattle.std.proofs.Common.{length, take, drop, get_or, min, Option, Some, None, refl, sym, ◌∙◌}
 use Rattle.std.proofs.Common.{ap, subst, arith}
-use Rattle.std.specs.Prelude.{option_map, ◌&&◌, bytes_eq, unwrap_or}
+use Rattle.std.specs.Prelude.{option_map, ◌&&◌, bytes_eq, unwrap_or, is_some}
 use Rattle.std.specs.Bool.{Decides}
 use Rattle.std.specs.Option.{option_map_or}
 use Rattle.std.proofs.lemmas.List.{take_rest}
@@ -53,42 +53,23 @@ module _ (words bytes rest left : List ℕ) (onward : words ≡ packed bytes
 
 -- ---- which constants are Utf8
 
-without_run : (at : ℕ) (o : Option Spelled) → run_of_utf8 (option_map (kept_constant at) o) ≡ None
-    → option_map_or (is_kind kinds.Utf8) o false ≡ false
-without_run at None e = refl
-without_run at (Some (constant.Utf8 bytes)) e = absurd (cc)
-without_run at (Some (constant.Integer bits)) e = refl
-without_run at (Some (constant.Float bits)) e = refl
-without_run at (Some (constant.Long bits)) e = refl
-without_run at (Some (constant.Double bits)) e = refl
-without_run at (Some (constant.Class name)) e = refl
-without_run at (Some (constant.String text)) e = refl
-without_run at (Some (constant.Fieldref a b)) e = refl
-without_run at (Some (constant.Methodref a b)) e = refl
-without_run at (Some (constant.InterfaceMethodref a b)) e = refl
-without_run at (Some (constant.NameAndType a b)) e = refl
-without_run at (Some (constant.MethodHandle a b)) e = refl
-without_run at (Some (constant.MethodType descriptor)) e = refl
-without_run at (Some (constant.InvokeDynamic a b)) e = refl
-
-with_run : (at : ℕ) (o : Option Spelled) (run : Run)
-    → run_of_utf8 (option_map (kept_constant at) o) ≡ Some run
-    → option_map_or (is_kind kinds.Utf8) o false ≡ true
-with_run at None run e = absurd (cc)
-with_run at (Some (constant.Utf8 bytes)) run e = refl
-with_run at (Some (constant.Integer bits)) run e = absurd (cc)
-with_run at (Some (constant.Float bits)) run e = absurd (cc)
-with_run at (Some (constant.Long bits)) run e = absurd (cc)
-with_run at (Some (constant.Double bits)) run e = absurd (cc)
-with_run at (Some (constant.Class name)) run e = absurd (cc)
-with_run at (Some (constant.String text)) run e = absurd (cc)
-with_run at (Some (constant.Fieldref a b)) run e = absurd (cc)
-with_run at (Some (constant.Methodref a b)) run e = absurd (cc)
-with_run at (Some (constant.InterfaceMethodref a b)) run e = absurd (cc)
-with_run at (Some (constant.NameAndType a b)) run e = absurd (cc)
-with_run at (Some (constant.MethodHandle a b)) run e = absurd (cc)
-with_run at (Some (constant.MethodType descriptor)) run e = absurd (cc)
-with_run at (Some (constant.InvokeDynamic a b)) run e = absurd (cc)
+kind_kept : (at : ℕ) (o : Option Spelled)
+    → option_map_or (is_kind kinds.Utf8) o false ≡ is_some (run_of_utf8 (option_map (kept_constant at) o))
+kind_kept at None = refl
+kind_kept at (Some (constant.Utf8 bytes)) = refl
+kind_kept at (Some (constant.Integer bits)) = refl
+kind_kept at (Some (constant.Float bits)) = refl
+kind_kept at (Some (constant.Long bits)) = refl
+kind_kept at (Some (constant.Double bits)) = refl
+kind_kept at (Some (constant.Class name)) = refl
+kind_kept at (Some (constant.String text)) = refl
+kind_kept at (Some (constant.Fieldref a b)) = refl
+kind_kept at (Some (constant.Methodref a b)) = refl
+kind_kept at (Some (constant.InterfaceMethodref a b)) = refl
+kind_kept at (Some (constant.NameAndType a b)) = refl
+kind_kept at (Some (constant.MethodHandle a b)) = refl
+kind_kept at (Some (constant.MethodType descriptor)) = refl
+kind_kept at (Some (constant.InvokeDynamic a b)) = refl
 
 pub same_verdict : {P : Type 0} (r s : Bool) → Decides r P → Decides s P → r ≡ s
 same_verdict true true a b = refl
@@ -103,7 +84,7 @@ module _ (c : ClassFile) (words : List ℕ) (is : IsRecordOf c words) (index : �
 
   pub no_utf8 : place ≡ None → (bytes : List ℕ) → false ≡ names_utf8 c index bytes
   no_utf8 none bytes = sym (ap
-      (λ b. b && bytes_eq (utf8 c index) bytes) (without_run (utf8_at c index) (constant_named c index) (kept ∙ none)))
+      (λ b. b && bytes_eq (utf8 c index) bytes) (kind_kept (utf8_at c index) (constant_named c index) ∙ ap is_some (kept ∙ none)))
 
   pub utf8_there : (run : Run) → place ≡ Some run → IsRunOf words run (utf8 c index)
   utf8_there run some =
@@ -114,5 +95,5 @@ module _ (c : ClassFile) (words : List ℕ) (is : IsRecordOf c words) (index : �
   pub utf8_compared : (run : Run) → place ≡ Some run → (bytes : List ℕ) (result : Bool)
       → Decides result (utf8 c index ≡ bytes) → result ≡ names_utf8 c index bytes
   utf8_compared run some bytes result decides =
-      let is_one = with_run (utf8_at c index) (constant_named c index) run (kept ∙ some) in
+      let is_one = kind_kept (utf8_at c index) (constant_named c index) ∙ ap is_some (kept ∙ some) in
       same_verdict result (bytes_eq (utf8 c index) bytes) decides (bytes_eq-Decides (utf8 c index) bytes) ∙ sym (ap (λ b. b && bytes_eq (utf8 c index) bytes) is_one)
