@@ -1,5 +1,5 @@
 //! Which indexes of a record's pool lead to given bytes, found in one pass over the pool.
-ghost use Rattle.std.specs.Prelude.{◌≡◌, get_or, replicate, false};
+ghost use Rattle.std.specs.Prelude.{◌≡◌, get_or, false};
 ghost use Rattle.cm_record_layout.specs.Layout.{IsRecord};
 ghost use Rattle.cm_record.specs.Members.{AreMarksOf};
 
@@ -9,13 +9,6 @@ use cm_record_layout::first;
 
 /// How many indexes a pool may have.
 const INDEXES: usize = 65_536;
-
-/// No index is marked.
-fn no_marks() -> [bool; INDEXES]
-    ensures { result ≡ replicate 65_536 false }
-{
-    [false; INDEXES]
-}
 
 /// For each index, whether a Utf8 of some bytes stands there.
 #[derive(Drop)]
@@ -29,7 +22,7 @@ impl Marks {
         requires { IsRecord words.now }
         ensures { AreMarksOf words.now bytes.now result.leads }
     {
-        let mut leads = no_marks();
+        let mut leads = [false; INDEXES];
         let mut is_second = false; // at index 1, since word 8 is 0
         for index in 1..first(words[2]) {
             leads[index as usize] = is_utf8(words, constant_at(words, index, is_second), bytes);

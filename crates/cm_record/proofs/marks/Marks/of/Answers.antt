@@ -23,10 +23,9 @@ bounds-words-index c = omega (arith, directory_within c.args.words.now c.require
 
 pub loop-index-init : goal.loop-index-init
 loop-index-init c =
-    let empty = c.no_marks-leads.ensures in
-    let none = λ (k : ℕ) (small : k < 2 ^ 16). ap (λ l. get_or l k false) empty ∙ get_or-replicate (2 ^ 16) k false false small in
+    let none = λ (k : ℕ) (small : k < 2 ^ 16). get_or-replicate (2 ^ 16) k false false small in
     record {
-      long = ap length empty ∙ length-replicate (2 ^ 16) false;
+      long = length-replicate (2 ^ 16) false;
       second = sym (first_is_no_second c.requires.0 c.args.words.now c.requires.1);
       marked = λ d is k first.
           let zero : k ≡ 0 = omega arith in
