@@ -34,7 +34,8 @@ utf8_run words index = unwrap_or (run_of_utf8 (constant_at_index words index)) n
 
 -- the run of an attribute, from its two words
 abbrev pub attribute_run_at : List ℕ → ℕ → Run
-attribute_run_at words at = record { at = get_or words (at + 1) 0; len = upper_of (get_or words at 0) }
+attribute_run_at words at =
+    record { at = get_or words (at + 1) 0; len = upper_of (get_or words at 0) }
 
 -- the index that a Class holds
 abbrev pub class_link : Option Constant → ℕ

@@ -1,7 +1,8 @@
 //! The runs of a Utf8 and of a class's name, found in the words of a record.
 ghost use Rattle.std.specs.Prelude.{◌≡◌, ◌≤◌, ◌+◌, length, get_or};
 ghost use Rattle.cm_record_layout.specs.Packing.{first_of};
-ghost use Rattle.cm_record.specs.Runs.{run_of_utf8, utf8_run as utf8_run_of, name_run as name_run_of};
+ghost use Rattle.cm_record.specs.Runs.{run_of_utf8, utf8_run as utf8_run_of};
+ghost use Rattle.cm_record.specs.Runs.{name_run as name_run_of};
 
 use crate::constant::{Constant, constant_at_index};
 use crate::run::Run;

@@ -37,8 +37,8 @@ use std::marker::Model;
 #[derive(Debug, Drop)]
 pub struct Record {
     words: WordBuf,
-    /// Where the bytes of its class's name lie. A name is looked at far more often than anything else
-    /// of a record, so it is found once.
+    /// Where the bytes of its class's name lie. A name is looked at far more often than anything
+    /// else of a record, so it is found once.
     name: Run,
 }
 
