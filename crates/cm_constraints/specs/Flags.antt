@@ -116,10 +116,13 @@ interface_method_agrees flags =
     one_if (has flags acc_public) + one_if (has flags acc_private) == 1
     && not (has flags not_of_interface_method)
 
--- in a class of these flags, of a constructor or of another method
-unfoldable pub method_flags_agree : ℕ → Bool → ℕ → Bool
-method_flags_agree of_class is_constructor flags =
+-- in a class of these flags
+unfoldable pub method_flags_agree : ℕ → ℕ → Bool
+method_flags_agree of_class flags =
     nat_le (visibilities flags) 1
     && implies (has flags acc_abstract) (not (has flags not_with_abstract))
     && implies (has of_class acc_interface) (interface_method_agrees flags)
-    && implies is_constructor (not (has flags not_of_constructor))
+
+-- asked of a constructor too
+abbrev pub constructor_flags_agree : ℕ → Bool
+constructor_flags_agree flags = not (has flags not_of_constructor)

@@ -12,8 +12,8 @@ use Rattle.cm_names.specs.Forms.{is_method_descriptor, method_units, init, clini
 use Rattle.cm_attributes.specs.declared.known.Known.TheVariants as known
 use Rattle.cm_attributes.specs.Names.{count_of, with_name}
 use Rattle.cm_attributes.specs.Contents.{is_content}
-use Rattle.cm_constraints.specs.Flags.{acc_static, acc_native, acc_abstract, has}
-use Rattle.cm_constraints.specs.Flags.{method_flags_agree}
+use Rattle.cm_constraints.specs.Flags.{acc_static, acc_native, acc_abstract, has, implies}
+use Rattle.cm_constraints.specs.Flags.{method_flags_agree, constructor_flags_agree}
 
 -- its name, its descriptor and the names of its attributes are Utf8s
 abbrev pub names_utf8s : ClassFile → Member → Bool
@@ -43,7 +43,10 @@ units_fit c m =
     || option_map_or (λ n. nat_le n 254) (method_units (utf8 c m.descriptor)) false
 
 abbrev pub flags_fit_method : ClassFile → Member → Bool
-flags_fit_method c m = is_clinit c m || method_flags_agree c.flags (is_init c m) m.flags
+flags_fit_method c m =
+    is_clinit c m
+    || (method_flags_agree c.flags m.flags
+    && implies (is_init c m) (constructor_flags_agree m.flags))
 
 -- how many codes a method has (JVMS 4.7.3)
 abbrev pub code_count_is_right : ClassFile → Member → Bool

@@ -3,6 +3,7 @@ ghost use Rattle.std.specs.Prelude.{◌≡◌};
 ghost use Rattle.cm_constraints.specs.Flags.{has, one_if, visibilities, class_flags_agree};
 ghost use Rattle.cm_constraints.specs.Flags.{interface_field_agrees, field_flags_agree};
 ghost use Rattle.cm_constraints.specs.Flags.{interface_method_agrees, method_flags_agree};
+ghost use Rattle.cm_constraints.specs.Flags.{constructor_flags_agree};
 
 const ACC_PUBLIC: u16 = 0x0001;
 
@@ -122,14 +123,19 @@ fn interface_method_agrees(flags: u16) -> bool
         && !has(flags, NOT_OF_INTERFACE_METHOD)
 }
 
-/// Whether the flags agree of a constructor or of another method, in a class of these flags (JVMS
-/// 4.6).
+/// Whether a method's flags agree, in a class of these flags (JVMS 4.6).
 #[tactic(auto, unfolding(crate::specs::Flags::method_flags_agree))]
-pub(crate) fn method_flags_agree(of_class: u16, is_constructor: bool, flags: u16) -> bool
-    ensures { result ≡ method_flags_agree of_class is_constructor flags }
+pub(crate) fn method_flags_agree(of_class: u16, flags: u16) -> bool
+    ensures { result ≡ method_flags_agree of_class flags }
 {
     visibilities(flags) <= 1
         && (!has(flags, ACC_ABSTRACT) || !has(flags, NOT_WITH_ABSTRACT))
         && (!has(of_class, ACC_INTERFACE) || interface_method_agrees(flags))
-        && (!is_constructor || !has(flags, NOT_OF_CONSTRUCTOR))
+}
+
+/// Whether a constructor may have these flags of a method (JVMS 4.6).
+pub(crate) fn constructor_flags_agree(flags: u16) -> bool
+    ensures { result ≡ constructor_flags_agree flags }
+{
+    !has(flags, NOT_OF_CONSTRUCTOR)
 }

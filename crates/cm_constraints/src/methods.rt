@@ -4,7 +4,9 @@ ghost use Rattle.cm_constraints.specs.Members.{method_is_named, is_clinit, is_in
 ghost use Rattle.cm_constraints.specs.Members.{flags_fit_method, code_count_is_right};
 ghost use Rattle.cm_constraints.specs.Members.{code_has_form};
 
-use crate::flags::{ACC_ABSTRACT, ACC_NATIVE, ACC_STATIC, has, method_flags_agree};
+use crate::flags::{
+    ACC_ABSTRACT, ACC_NATIVE, ACC_STATIC, constructor_flags_agree, has, method_flags_agree,
+};
 use crate::subject::Subject;
 use cm_attributes::{Known, count, is_content, is_known};
 use cm_class::{Class, Member};
@@ -46,7 +48,8 @@ pub fn flags_fit_method(class: &Class, method: &Member) -> bool
     ensures { result ≡ flags_fit_method class.now method.now }
 {
     is_clinit(class, method)
-        || method_flags_agree(class.flags(), is_init(class, method), method.flags)
+        || (method_flags_agree(class.flags(), method.flags)
+            && (!is_init(class, method) || constructor_flags_agree(method.flags)))
 }
 
 /// Whether a native or abstract method has no code, any other exactly one, `<clinit>` at most one
