@@ -1,16 +1,19 @@
 -- What is asked of one constant of the pool (JVMS SE 8, sections 4.4.1 to 4.4.10). Each is read
 -- only where those above it hold.
-use Rattle.std.specs.Prelude.{ℕ, Bool, true, ◌&&◌, ◌||◌, not, ◌==◌, if◌then◌else◌, bytes_eq, nat_lt}
+use Rattle.std.specs.Prelude.{ℕ, Bool, true, false, ◌&&◌, ◌||◌, not, ◌==◌, if◌then◌else◌}
+use Rattle.std.specs.Prelude.{List, Option, Some, None, bytes_eq, nat_lt}
 use Rattle.cm_class.specs.declared.constant.Constant.{Constant}
 use Rattle.cm_class.specs.declared.constant.Constant.TheVariants as constant
 use Rattle.cm_class.specs.declared.constant.Slot.{Slot}
 use Rattle.cm_class.specs.declared.class_file.ClassFile.{ClassFile}
 use Rattle.cm_attributes.specs.Contents.{bootstrap_count}
-use Rattle.cm_names.specs.Forms.{is_within, has_utf8_form, is_unqualified_name, is_method_name}
+use Rattle.cm_names.specs.Forms.{has_utf8_form, is_unqualified_name, is_method_name}
 use Rattle.cm_names.specs.Forms.{is_class_name, is_field_descriptor, is_array_descriptor}
 use Rattle.cm_names.specs.Forms.{is_method_descriptor, begins_with, ends_in_void, init, clinit}
 use Rattle.cm_names.specs.Forms.{less}
 use Rattle.cm_class.specs.declared.kind.Kind.TheVariants as kinds
+use Rattle.cm_constraints.specs.declared.reference_kind.ReferenceKind.{ReferenceKind}
+use Rattle.cm_constraints.specs.declared.reference_kind.ReferenceKind.TheVariants as handles
 use Rattle.std.specs.Option.{option_map_or}
 use Rattle.cm_class.specs.Names.{constant_in, is_kind, names, names_such, pair_descriptor}
 use Rattle.cm_class.specs.Names.{pair_name, reference_name, utf8}
@@ -29,7 +32,7 @@ abbrev pub names_member : ClassFile → ℕ → ℕ → Bool
 names_member c class name_and_type =
     names kinds.Class c class && names kinds.NameAndType c name_and_type
 
--- each index names a constant of its kind (of method handles the next speaks)
+-- each index names a constant of its kind (what method handles name says `handle_has_kind`)
 abbrev pub names_kinds : ClassFile → Constant → Bool
 names_kinds c (constant.Class name) = names kinds.Utf8 c name
 names_kinds c (constant.String text) = names kinds.Utf8 c text
@@ -43,18 +46,37 @@ names_kinds c (constant.InvokeDynamic bootstrap_method name_and_type) =
     names kinds.NameAndType c name_and_type
 names_kinds c _ = true
 
+-- the kinds of method handles by their numbers (JVMS 5.4.3.5, table 5.4.3.5-A)
+abbrev pub reference_kind : ℕ → Option ReferenceKind
+reference_kind n =
+    if n == 1 then Some handles.GetField
+    else if n == 2 then Some handles.GetStatic
+    else if n == 3 then Some handles.PutField
+    else if n == 4 then Some handles.PutStatic
+    else if n == 5 then Some handles.InvokeVirtual
+    else if n == 6 then Some handles.InvokeStatic
+    else if n == 7 then Some handles.InvokeSpecial
+    else if n == 8 then Some handles.NewInvokeSpecial
+    else if n == 9 then Some handles.InvokeInterface
+    else None
+
 -- what a method handle of each kind names (JVMS 4.4.8)
-abbrev pub handle_names : ℕ → Constant → Bool
-handle_names kind target =
-    if is_within 1 4 kind then is_kind kinds.Fieldref target
-    else if kind == 5 || kind == 8 then is_kind kinds.Methodref target
-    else if kind == 6 || kind == 7
-    then is_kind kinds.Methodref target || is_kind kinds.InterfaceMethodref target
-    else kind == 9 && is_kind kinds.InterfaceMethodref target
+abbrev pub handle_names : ReferenceKind → Constant → Bool
+handle_names handles.GetField target = is_kind kinds.Fieldref target
+handle_names handles.GetStatic target = is_kind kinds.Fieldref target
+handle_names handles.PutField target = is_kind kinds.Fieldref target
+handle_names handles.PutStatic target = is_kind kinds.Fieldref target
+handle_names handles.InvokeVirtual target = is_kind kinds.Methodref target
+handle_names handles.InvokeStatic target =
+    is_kind kinds.Methodref target || is_kind kinds.InterfaceMethodref target
+handle_names handles.InvokeSpecial target =
+    is_kind kinds.Methodref target || is_kind kinds.InterfaceMethodref target
+handle_names handles.NewInvokeSpecial target = is_kind kinds.Methodref target
+handle_names handles.InvokeInterface target = is_kind kinds.InterfaceMethodref target
 
 abbrev pub handle_has_kind : ClassFile → Constant → Bool
 handle_has_kind c (constant.MethodHandle kind reference) =
-    names_such (handle_names kind) c reference
+    option_map_or (λ k. names_such (handle_names k) c reference) (reference_kind kind) false
 handle_has_kind c _ = true
 
 abbrev pub class_has_name : ClassFile → Constant → Bool
@@ -91,13 +113,18 @@ abbrev pub method_type_is_formed : ClassFile → Constant → Bool
 method_type_is_formed c (constant.MethodType descriptor) = is_method_descriptor (utf8 c descriptor)
 method_type_is_formed c _ = true
 
--- kind 8 makes an object, and the other kinds that call a method make none (JVMS 4.4.8)
+-- one kind makes an object, and the others that call a method make none (JVMS 4.4.8)
+abbrev pub name_fits : Option ReferenceKind → List ℕ → Bool
+name_fits (Some handles.GetField) name = true
+name_fits (Some handles.GetStatic) name = true
+name_fits (Some handles.PutField) name = true
+name_fits (Some handles.PutStatic) name = true
+name_fits (Some handles.NewInvokeSpecial) name = bytes_eq name init
+name_fits _ name = not (bytes_eq name init || bytes_eq name clinit)
+
 abbrev pub handle_has_name : ClassFile → Constant → Bool
 handle_has_name c (constant.MethodHandle kind reference) =
-    if kind == 8 then bytes_eq (reference_name c reference) init
-    else is_within 1 4 kind
-    || not (bytes_eq (reference_name c reference) init
-    || bytes_eq (reference_name c reference) clinit)
+    name_fits (reference_kind kind) (reference_name c reference)
 handle_has_name c _ = true
 
 -- a dynamic call names one of the bootstrap methods (JVMS 4.4.10, 4.7.23)

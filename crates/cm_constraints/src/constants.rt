@@ -1,12 +1,15 @@
 //! What is asked of one constant of the pool.
 ghost use Rattle.std.specs.Prelude.{◌≡◌};
+ghost use Rattle.cm_class.specs.Names.{names_such};
 ghost use Rattle.cm_constraints.specs.Constants.{utf8_has_form, names_member, names_kinds};
 ghost use Rattle.cm_constraints.specs.Constants.{handle_names, handle_has_kind, class_has_name};
 ghost use Rattle.cm_constraints.specs.Constants.{field_reference_is_formed, names_method};
 ghost use Rattle.cm_constraints.specs.Constants.{is_callable, method_reference_is_formed};
 ghost use Rattle.cm_constraints.specs.Constants.{dynamic_call_is_formed, method_type_is_formed};
-ghost use Rattle.cm_constraints.specs.Constants.{handle_has_name, dynamic_call_is_bound};
+ghost use Rattle.cm_constraints.specs.Constants.{name_fits, handle_has_name};
+ghost use Rattle.cm_constraints.specs.Constants.{dynamic_call_is_bound};
 
+use crate::reference_kind::ReferenceKind;
 use crate::subject::Subject;
 use cm_class::{Class, Constant, Kind};
 use cm_names::{begins_with, ends_in_void, has_utf8_form};
@@ -59,21 +62,36 @@ pub fn names_kinds(class: &Class, constant: &Constant) -> bool
     }
 }
 
-/// Whether a method handle's kind is 1 to 9, and it names a reference of that kind's sort (JVMS
-/// 4.4.8).
+/// Whether an index names what a method handle of this kind has to name (JVMS 4.4.8).
+fn handle_names(class: &Class, kind: ReferenceKind, reference: u16) -> bool
+    ensures { result ≡ names_such (handle_names kind) class.now reference }
+{
+    match kind {
+        ReferenceKind::GetField
+        | ReferenceKind::GetStatic
+        | ReferenceKind::PutField
+        | ReferenceKind::PutStatic => class.names(reference, Kind::Fieldref),
+        ReferenceKind::InvokeVirtual | ReferenceKind::NewInvokeSpecial => {
+            class.names(reference, Kind::Methodref)
+        }
+        ReferenceKind::InvokeStatic | ReferenceKind::InvokeSpecial => {
+            class.names(reference, Kind::Methodref)
+                || class.names(reference, Kind::InterfaceMethodref)
+        }
+        ReferenceKind::InvokeInterface => class.names(reference, Kind::InterfaceMethodref),
+    }
+}
+
+/// Whether a method handle has one of the kinds, and names what that kind has to name (JVMS 4.4.8).
 pub fn handle_has_kind(class: &Class, constant: &Constant) -> bool
     ensures { result ≡ handle_has_kind class.now constant.now }
 {
     let Constant::MethodHandle { kind, reference } = constant else {
         return true;
     };
-    match *kind {
-        1..=4 => class.names(*reference, Kind::Fieldref),
-        5 | 8 => class.names(*reference, Kind::Methodref),
-        6 | 7 => class.names(*reference, Kind::Methodref)
-            || class.names(*reference, Kind::InterfaceMethodref),
-        9 => class.names(*reference, Kind::InterfaceMethodref),
-        _ => false,
+    match ReferenceKind::from_number(*kind) {
+        Some(kind) => handle_names(class, kind, *reference),
+        None => false,
     }
 }
 
@@ -151,7 +169,7 @@ pub fn method_type_is_formed(subject: &Subject, constant: &Constant) -> bool
     }
 }
 
-/// Whether a method handle of kind 8 names `<init>`, and one of another kind that calls a method
+/// Whether a method handle that makes an object names `<init>`, and any other that calls a method
 /// neither that nor `<clinit>` (JVMS 4.4.8).
 pub fn handle_has_name(class: &Class, constant: &Constant) -> bool
     ensures { result ≡ handle_has_name class.now constant.now }
@@ -160,9 +178,14 @@ pub fn handle_has_name(class: &Class, constant: &Constant) -> bool
         return true;
     };
     let name = class.reference_name(*reference);
-    match *kind {
-        8 => name == b"<init>".as_slice(),
-        1..=4 => true,
+    match ReferenceKind::from_number(*kind) {
+        Some(ReferenceKind::NewInvokeSpecial) => name == b"<init>".as_slice(),
+        Some(
+            ReferenceKind::GetField
+            | ReferenceKind::GetStatic
+            | ReferenceKind::PutField
+            | ReferenceKind::PutStatic,
+        ) => true,
         _ => !(name == b"<init>".as_slice() || name == b"<clinit>".as_slice()),
     }
 }

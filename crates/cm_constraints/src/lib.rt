@@ -8,6 +8,7 @@ mod fields;
 mod flags;
 mod itself;
 mod methods;
+mod reference_kind;
 mod subject;
 mod utf8s;
 
