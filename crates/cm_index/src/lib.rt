@@ -15,5 +15,5 @@ mod sweep;
 
 pub use index::{Index, index_rows, push_row, sweep_index};
 pub use kept::Kept;
-pub use names::{class_in, class_like, is_new, loader_of};
+pub use names::{class_in, class_like, is_new_loader_name, loader_of};
 pub use slot::Slot;

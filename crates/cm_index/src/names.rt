@@ -75,12 +75,11 @@ fn kept_in<P>(row: &Row<P>) -> Option<&P>
     }
 }
 
-/// Whether a loader of this name can be added to the rows: the name is one, no live loader has it,
-/// and there is room for a row more.
-pub fn is_new<P: Kept>(index: &Index, slots: &[Slot<Row<P>>], room: bool, name: &[u8]) -> bool
+/// Whether a loader can be given this name: it is a loader's name, and no live loader has it.
+pub fn is_new_loader_name<P: Kept>(index: &Index, slots: &[Slot<Row<P>>], name: &[u8]) -> bool
     requires { IsIndex P.mark P.name slots.now index.now.items }
-    ensures { result ≡ (is_loader_name name.now && is_none (number_of name.now (living slots.now))
-        && room) }
+    ensures { result
+        ≡ (is_loader_name name.now && is_none (number_of name.now (living slots.now))) }
 {
-    is_loader_name(name) && loader_of(index, slots, name).is_none() && room
+    is_loader_name(name) && loader_of(index, slots, name).is_none()
 }

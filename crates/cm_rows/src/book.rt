@@ -12,7 +12,9 @@ use crate::placing::place_class;
 use crate::rows::{copy_rows, give_all, take_all};
 use crate::walk::Walk;
 use crate::whole_pool::whole_pool;
-use cm_index::{Index, Kept, Slot, class_in, class_like, index_rows, is_new, loader_of, push_row};
+use cm_index::{
+    Index, Kept, Slot, class_in, class_like, index_rows, is_new_loader_name, loader_of, push_row,
+};
 use cm_layout::{ClassRow, Entry, EntryRule, LoaderRow, Move, Row};
 use cm_pool::{Chunk, Geometry, Pool};
 use std::alloc::{AllocError, Global};
@@ -220,13 +222,20 @@ impl<P: Kept> Book<P> {
         self.count
     }
 
+    /// Whether a loader can be added: its name is new, and there is room for a row more.
+    fn is_new_loader(&self, row: &LoaderRow) -> bool
+        ensures { result ≡ is_new_loader self.now.sizes self.now.rows row.now }
+    {
+        self.count < row_limit(self.geometry)
+            && is_new_loader_name(&self.index, &self.slots, row.name.as_bytes())
+    }
+
     fn add_loader(&mut self, row: LoaderRow) -> Option<EntryRule>
         requires { IsTrue (is_above row.number self.old.rows) }
         ensures broken { result ≡ (if is_new_loader self.old.sizes self.old.rows row then None else Some OnRows) }
         ensures left { self.new ≡ (if is_none result then record self.old { rows = self.old.rows ++ Loader row ∷ [] } else self.old) }
     {
-        let room = self.count < row_limit(self.geometry);
-        if !is_new(&self.index, &self.slots, room, row.name.as_bytes()) {
+        if !self.is_new_loader(&row) {
             return Some(EntryRule::OnRows);
         }
         make_room(

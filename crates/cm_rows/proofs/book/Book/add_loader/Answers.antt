@@ -3,7 +3,7 @@ use Rattle.std.proofs.Common.{◌<◌, ◌≤◌, List, length, refl, sym, ap, s
 use Rattle.cm_layout.specs.declared.row.Row.TheVariants.{Loader}
 use Rattle.cm_layout.specs.declared.entry_rule.EntryRule.TheVariants.{OnRows}
 use Rattle.cm_layout.specs.Rules.{is_new_loader, row_limit}
-use Rattle.cm_rows.proofs.Verdicts.{new-is, new-few, new-name}
+use Rattle.cm_rows.proofs.Verdicts.{new-few, new-name}
 use Rattle.cm_layout.specs.declared.row.Row.{Row}
 use Rattle.cm_index.specs.Index.{AreUnique}
 use Rattle.cm_index.proofs.Living.{living-push}
@@ -22,13 +22,7 @@ use Rattle.cm_index.proofs.Unloading.{unique-loader}
 use Rattle.cm_index.specs.Living.{living}
 use Rattle.cm_rows.proofs.book.Book.add_loader.Given.{Over}
 use Rattle.cm_rows.proofs.book.Book.add_loader.Goals as goal
-use Rattle.cm_rows.proofs.book.Book.add_loader.Goals.{After-is_new, After-push_row}
-
-tested : (g : Over) (c : After-is_new g)
-    → c.is_new.result ≡ is_new_loader c.self.inside.geometry (living c.self.inside.slots.items) c.args.row
-tested g c =
-    let e = rw (c.as_bytes.ensures.value, c.deref.ensures.value, c.row_limit.ensures, c.self.invariant.2.counted) at c.is_new.ensures in
-    e ∙ sym (new-is c.self.inside.geometry (living c.self.inside.slots.items) c.args.row)
+use Rattle.cm_rows.proofs.book.Book.add_loader.Goals.{After-is_new_loader, After-push_row}
 
 refused : (t : Bool) → t ≡ false → Some OnRows ≡ cond t None (Some OnRows)
 refused true e = absurd (cc)
@@ -38,18 +32,24 @@ added : (t : Bool) → t ≡ true → None ≡ cond t None (Some OnRows)
 added true e = refl
 added false e = absurd (cc)
 
-pub returns-then-not-is_new-clause-broken : goal.returns-then-not-is_new-clause-broken
-returns-then-not-is_new-clause-broken g c =
-    let at = goal.at.returns-then-not-is_new-clause-broken g c in
-    rw (← c.self.view_is) (refused (is_new_loader c.self.inside.geometry (living c.self.inside.slots.items) c.args.row) (sym (tested g at.After-is_new) ∙ c.if-not-is_new.true))
+pub returns-then-not-is_new_loader-clause-broken : goal.returns-then-not-is_new_loader-clause-broken
+returns-then-not-is_new_loader-clause-broken g c =
+    refused (is_new_loader c.args.self.now.sizes c.args.self.now.rows c.args.row) (sym c.is_new_loader.ensures ∙ c.if-not-is_new_loader.true)
 
 pub returns-clause-broken : goal.returns-clause-broken
 returns-clause-broken g c =
-    let at = goal.at.returns-clause-broken g c in
-    rw (← c.self.view_is) (added (is_new_loader c.self.inside.geometry (living c.self.inside.slots.items) c.args.row) (sym (tested g at.After-is_new) ∙ c.if-not-is_new.false))
+    added (is_new_loader c.args.self.now.sizes c.args.self.now.rows c.args.row) (sym c.is_new_loader.ensures ∙ c.if-not-is_new_loader.false)
 
-few : (g : Over) (c : After-is_new g) → c.is_new.result ≡ true → length (living c.self.inside.slots.items) < row_limit c.self.inside.geometry
-few g c e = new-few c.self.inside.geometry (living c.self.inside.slots.items) c.args.row (sym (tested g c) ∙ e)
+new : (g : Over) (c : After-is_new_loader g) → c.is_new_loader.result ≡ true
+    → is_new_loader c.self.inside.geometry (living c.self.inside.slots.items) c.args.row ≡ true
+new g c is = sym (rw (← c.self.view_is) at c.is_new_loader.ensures) ∙ is
+
+few : (g : Over) (c : After-is_new_loader g) → c.is_new_loader.result ≡ true → length (living c.self.inside.slots.items) < row_limit c.self.inside.geometry
+few g c is = new-few c.self.inside.geometry (living c.self.inside.slots.items) c.args.row (new g c is)
+
+pub make_room-requires-clause-few : goal.make_room-requires-clause-few
+make_room-requires-clause-few g c =
+    few g (goal.at.make_room-requires-clause-few g c).After-is_new_loader c.if-not-is_new_loader.false
 
 pub make_room-requires-clause-loaders_few : goal.make_room-requires-clause-loaders_few
 make_room-requires-clause-loaders_few g c =
@@ -93,7 +93,7 @@ invariant_of-self g c =
     let slots = c.make_room.new.slots.items in
     let ls = c.make_room.new.loaders.items in
     let is = next g at.After-push_row in
-    let fresh = sym (tested g at.After-is_new) ∙ c.if-not-is_new.false in
+    let fresh = new g at.After-is_new_loader c.if-not-is_new_loader.false in
     let above = rw (← c.self.view_is) at c.requires in
     let none = new-name sizes rows r fresh in
     let l : LiveLoader = record { number = r.number; last = None } in
@@ -110,7 +110,7 @@ invariant_of-self g c =
           (subst (λ k. IsBook sizes k (vec_capacity c.push_row.new.slots) (living a.loaders.items ++ l ∷ []) (vec_capacity c.push_loader.new.loaders) a.pool) (sym is)
           (roomier sizes (rows ++ Loader r ∷ []) (vec_capacity a.slots) (vec_capacity c.push_row.new.slots) (living a.loaders.items ++ l ∷ []) (vec_capacity a.loaders) (vec_capacity c.push_loader.new.loaders) a.pool
           slots_room room
-          (add-loader sizes rows (vec_capacity a.slots) (living a.loaders.items) (vec_capacity a.loaders) a.pool r c.self.invariant.0 (few g at.After-is_new c.if-not-is_new.false) above))),
+          (add-loader sizes rows (vec_capacity a.slots) (living a.loaders.items) (vec_capacity a.loaders) a.pool r c.self.invariant.0 (few g at.After-is_new_loader c.if-not-is_new_loader.false) above))),
       record {
         index = rw (c.push_row.ensures.slots) c.push_row.ensures.index;
         unique = subst AreUnique (sym is) (unique-loader rows r c.self.invariant.1.unique none);
