@@ -172,8 +172,8 @@ fn are_new(rows: &Book<Arc<Record, Global>>, entries: &[CarriedEntry]) -> bool
     requires own { list_all carries_own entries.now ≡ true }
     ensures { result ≡ are_new (rows_with arc_value rows.now.rows) [] entries.now }
 {
-    for at in 0..entries.len() {
-        if !is_new(rows, &entries[..at], &entries[at]) {
+    for (at, carried) in entries.iter().enumerate() {
+        if !is_new(rows, &entries[..at], carried) {
             return false;
         }
     }
