@@ -85,9 +85,8 @@ pub(crate) fn next_record<'a>(
 {
     for at in from..entries.len() {
         let carried = &entries[at];
-        match own_place(carried.entry()) {
-            Some(place) => return Some((at, place, own_record(carried))),
-            None => {}
+        if let Some(place) = own_place(carried.entry()) {
+            return Some((at, place, own_record(carried)));
         }
     }
     None

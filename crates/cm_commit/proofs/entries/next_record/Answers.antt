@@ -20,7 +20,7 @@ loop-at-preserved c =
     let at = c.loop-at.at in
     let item = c.index-entries-at.result in
     let none : own_place item.entry ≡ None =
-    sym (ap own_place c.entry.ensures) ∙ (sym c.own_place.ensures ∙ c.in-None.is) in
+    sym (ap own_place c.entry.ensures) ∙ (sym c.own_place.ensures ∙ c.in_default.is) in
     record {
       skipped = λ sizes.
           c.loop-at.invariant.skipped sizes
