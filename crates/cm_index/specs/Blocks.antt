@@ -39,9 +39,10 @@ pub record IsBetween {X : Type 0} (blocks : List (List X)) (s : Spot) : Type 0 w
 abbrev pub IsFilled : {X : Type 0} → List X → List X → Type 0
 IsFilled before block = (length before ≡ 0) ⊎ (half_size ≤ length block)
 
--- all blocks behind this one are at least half full, so there are never more than there is room for;
--- those to spare are empty, and either list has room for all
-pub record AreBlocks {X : Type 0} (first : ℕ) (blocks spare : List (List X)) (capacity spare_capacity : ℕ) : Type 0 where
+-- all blocks behind this one are at least half full, so there are never more than there is room
+-- for; those to spare are empty, and either list has room for all
+pub record AreBlocks {X : Type 0} (first : ℕ) (blocks spare : List (List X))
+    (capacity spare_capacity : ℕ) : Type 0 where
   pub within : first < length blocks
   pub half : AllByRecursion (λ b. half_size ≤ length b) (drop (first + 1) blocks)
   pub empty : AllByRecursion (λ b. length b ≡ 0) spare
@@ -59,4 +60,5 @@ with_entry blocks s x = set blocks s.block (set (get_or blocks s.block []) s.pla
 -- a block is halved, and its upper half put behind it
 abbrev pub halved : {X : Type 0} → List (List X) → ℕ → List (List X)
 halved blocks i =
-    insert (set blocks i (take half_size (get_or blocks i []))) (i + 1) (drop half_size (get_or blocks i []))
+    insert (set blocks i (take half_size (get_or blocks i []))) (i + 1)
+    (drop half_size (get_or blocks i []))

@@ -1,6 +1,7 @@
 -- Rows by name: an index that rises by fingerprint, owner and name, and what it finds.
 use Rattle.std.specs.Prelude.{◌≡◌, ◌≤◌, ◌<◌, ℕ, suc, List, [], ◌∷◌, map, length, take, drop, Option}
-use Rattle.std.specs.Prelude.{Some, None, Bool, true, false, ◌==◌, ◌&&◌, if◌then◌else◌, ◌*◌, get_or, slice_set}
+use Rattle.std.specs.Prelude.{Some, None, Bool, true, false, ◌==◌, ◌&&◌, if◌then◌else◌, ◌*◌, get_or}
+use Rattle.std.specs.Prelude.{slice_set}
 use Rattle.std.specs.List.{find, slice_get, HoldsAt, AllByRecursion}
 use Rattle.std.specs.Option.{option_map_or}
 use Rattle.std.specs.Str.{bytes_eq}
@@ -85,7 +86,8 @@ pub record IsEntry {P : Type 0} (mark : ℕ → List ℕ → ℕ) (name_of : P �
   pub there : slice_get slots e.at ≡ Some slot
   pub fingerprint : e.fingerprint ≡ mark (rank (owner_of slot.item)) (name_in name_of slot.item)
   pub first : slot.live ≡ true
-      → find (is_named name_of (rank (owner_of slot.item)) (name_in name_of slot.item)) (living slots) ≡ Some slot.item
+      → find (is_named name_of (rank (owner_of slot.item)) (name_in name_of slot.item))
+      (living slots) ≡ Some slot.item
 
 -- an entry of this key leads to a row that lives
 pub record Leads {P : Type 0} (name_of : P → List ℕ) (slots : List (Slot (Row P)))
@@ -102,7 +104,8 @@ pub record IsIndex {P : Type 0} (mark : ℕ → List ℕ → ℕ) (name_of : P �
   pub each : AllByRecursion (IsEntry mark name_of slots) es
   pub rises : Rise (keys_at name_of slots es)
   pub complete : (o : ℕ) (x : List ℕ) (row : Row P)
-      → find (is_named name_of o x) (living slots) ≡ Some row → Leads name_of slots es (key mark o x)
+      → find (is_named name_of o x) (living slots) ≡ Some row
+      → Leads name_of slots es (key mark o x)
   pub few : length es ≤ length slots
 
 -- the entry at this place has this key
@@ -141,7 +144,8 @@ pub record AreUnique {P : Type 0} (rows : List (Row P)) : Type 0 where
 
 -- an index of the rows, with room for all places
 pub record HasIndex {P : Type 0} (mark : ℕ → List ℕ → ℕ) (name_of : P → List ℕ)
-    (sizes : Sizes) (slots : List (Slot (Row P))) (es : List IndexEntry) (capacity places : ℕ) : Type 0 where
+    (sizes : Sizes) (slots : List (Slot (Row P))) (es : List IndexEntry)
+    (capacity places : ℕ) : Type 0 where
   pub index : IsIndex mark name_of slots es
   pub unique : AreUnique (living slots)
   pub room : 2 * row_limit sizes ≤ capacity

@@ -13,5 +13,6 @@ abbrev pub key_sought : {P : Type 0} → (P → List ℕ) → Sought P → List 
 key_sought name_of s = s.fingerprint ∷ rank s.owner ∷ name_sought name_of s.name
 
 -- the fingerprint is that of the owner and the name
-pub record IsKey {P : Type 0} (mark : ℕ → List ℕ → ℕ) (name_of : P → List ℕ) (s : Sought P) : Type 0 where
+pub record IsKey {P : Type 0} (mark : ℕ → List ℕ → ℕ) (name_of : P → List ℕ)
+    (s : Sought P) : Type 0 where
   pub is : key_sought name_of s ≡ key mark (rank s.owner) (name_sought name_of s.name)

@@ -14,5 +14,6 @@ abbrev pub shifted : List ℕ → IndexEntry → IndexEntry
 shifted places e = record { fingerprint = e.fingerprint; at = get_or places e.at 0 }
 
 -- the entries that lead to rows that live, each to its row's new place
-abbrev pub swept_entries : {P : Type 0} → List (Slot (Row P)) → List ℕ → List IndexEntry → List IndexEntry
+abbrev pub swept_entries : {P : Type 0} → List (Slot (Row P)) → List ℕ → List IndexEntry
+    → List IndexEntry
 swept_entries slots places es = map (shifted places) (filter (leads_to_life slots) es)

@@ -1,6 +1,7 @@
 //! A block of an index's entries.
 
-ghost use Rattle.std.specs.Prelude.{◌≡◌, ◌≤◌, ◌<◌, ◌++◌, ◌==◌, List, [], length, take, drop, get_or, IfOk};
+ghost use Rattle.std.specs.Prelude.{◌≡◌, ◌≤◌, ◌<◌, ◌++◌, ◌==◌, List, [], length, take, drop};
+ghost use Rattle.std.specs.Prelude.{get_or, IfOk};
 ghost use Rattle.std.specs.Prelude.{slice_set, vec_capacity};
 ghost use Rattle.std.specs.List.{insert, AllByRecursion};
 ghost use Rattle.cm_index.specs.Sweep.{swept_entries};

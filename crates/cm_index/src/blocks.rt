@@ -1,6 +1,7 @@
 //! The blocks of an index. Only `empty_blocks` takes memory: entries come and go without.
 
-ghost use Rattle.std.specs.Prelude.{◌≡◌, ◌+◌, ◌-◌, ◌*◌, ◌<◌, ◌≤◌, length, vec_capacity, vec_len, [], get_or};
+ghost use Rattle.std.specs.Prelude.{◌≡◌, ◌+◌, ◌-◌, ◌*◌, ◌<◌, ◌≤◌, length, vec_capacity, vec_len};
+ghost use Rattle.std.specs.Prelude.{[], get_or};
 ghost use Rattle.std.specs.Prelude.{IfOk};
 ghost use Rattle.std.specs.List.{insert, AllByRecursion};
 ghost use Rattle.cm_index.specs.Blocks.{block_size, half_size, joined, place_of, room_of};
@@ -36,7 +37,8 @@ pub fn empty_blocks(alloc: Global, used: usize, room: usize) -> Result<Vec<Block
 /// The entry at a spot.
 pub fn entry_at(blocks: &[Block], spot: &Spot) -> IndexEntry
     requires { IsTaken blocks.now spot.now }
-    ensures { (d : IndexEntry) → result ≡ get_or (joined blocks.now) (place_of blocks.now spot.now) d }
+    ensures { (d : IndexEntry)
+        → result ≡ get_or (joined blocks.now) (place_of blocks.now spot.now) d }
 {
     blocks[spot.block].at(spot.place)
 }
@@ -52,28 +54,35 @@ pub fn set_entry(blocks: &mut Vec<Block>, spot: &Spot, entry: IndexEntry)
 
 /// Puts an entry at a spot, before those from there on.
 pub fn put_entry(blocks: &mut Vec<Block>, spare: &mut Vec<Block>, spot: Spot, entry: IndexEntry)
-    requires blocks { AreBlocks 0 blocks.old.items spare.old.items (vec_capacity blocks.old) (vec_capacity spare.old) }
+    requires blocks { AreBlocks 0 blocks.old.items spare.old.items (vec_capacity blocks.old)
+        (vec_capacity spare.old) }
     requires between { IsBetween blocks.old.items spot }
     requires room { length (joined blocks.old.items) < room_of blocks.old.items spare.old.items }
-    ensures items { joined blocks.new.items ≡ insert (joined blocks.old.items) (place_of blocks.old.items spot) entry }
-    ensures room { room_of blocks.new.items spare.new.items ≡ room_of blocks.old.items spare.old.items }
-    ensures blocks { AreBlocks 0 blocks.new.items spare.new.items (vec_capacity blocks.new) (vec_capacity spare.new) }
+    ensures items { joined blocks.new.items
+        ≡ insert (joined blocks.old.items) (place_of blocks.old.items spot) entry }
+    ensures room { room_of blocks.new.items spare.new.items
+        ≡ room_of blocks.old.items spare.old.items }
+    ensures blocks { AreBlocks 0 blocks.new.items spare.new.items (vec_capacity blocks.new)
+        (vec_capacity spare.new) }
 {
     let spot = open(blocks, spare, spot);
     blocks[spot.block].insert(spot.place, entry);
 }
 
-// Sees to it that the block of a spot has room for an entry more, and says where the spot is then.
+/// Sees to it that the block of a spot has room for an entry more, and says where the spot is then.
 fn open(blocks: &mut Vec<Block>, spare: &mut Vec<Block>, spot: Spot) -> Spot
-    requires blocks { AreBlocks 0 blocks.old.items spare.old.items (vec_capacity blocks.old) (vec_capacity spare.old) }
+    requires blocks { AreBlocks 0 blocks.old.items spare.old.items (vec_capacity blocks.old)
+        (vec_capacity spare.old) }
     requires between { IsBetween blocks.old.items spot }
     requires room { length (joined blocks.old.items) < room_of blocks.old.items spare.old.items }
     ensures items { joined blocks.new.items ≡ joined blocks.old.items }
     ensures place { place_of blocks.new.items result ≡ place_of blocks.old.items spot }
     ensures between { IsBetween blocks.new.items result }
     ensures open { length (get_or blocks.new.items result.block []) < block_size }
-    ensures room { room_of blocks.new.items spare.new.items ≡ room_of blocks.old.items spare.old.items }
-    ensures blocks { AreBlocks 0 blocks.new.items spare.new.items (vec_capacity blocks.new) (vec_capacity spare.new) }
+    ensures room { room_of blocks.new.items spare.new.items
+        ≡ room_of blocks.old.items spare.old.items }
+    ensures blocks { AreBlocks 0 blocks.new.items spare.new.items (vec_capacity blocks.new)
+        (vec_capacity spare.new) }
 {
     if !blocks[spot.block].is_full() {
         return spot;
@@ -88,15 +97,18 @@ fn open(blocks: &mut Vec<Block>, spare: &mut Vec<Block>, spot: Spot) -> Spot
     }
 }
 
-// Gives the upper half of a full block to a spare one, which is put behind it.
+/// Gives the upper half of a full block to a spare one, which is put behind it.
 fn split(blocks: &mut Vec<Block>, spare: &mut Vec<Block>, at: usize)
-    requires blocks { AreBlocks 0 blocks.old.items spare.old.items (vec_capacity blocks.old) (vec_capacity spare.old) }
+    requires blocks { AreBlocks 0 blocks.old.items spare.old.items (vec_capacity blocks.old)
+        (vec_capacity spare.old) }
     requires within { at < length blocks.old.items }
     requires full { length (get_or blocks.old.items at []) ≡ block_size }
     requires spare { 0 < length spare.old.items }
     ensures items { blocks.new.items ≡ halved blocks.old.items at }
-    ensures room { room_of blocks.new.items spare.new.items ≡ room_of blocks.old.items spare.old.items }
-    ensures blocks { AreBlocks 0 blocks.new.items spare.new.items (vec_capacity blocks.new) (vec_capacity spare.new) }
+    ensures room { room_of blocks.new.items spare.new.items
+        ≡ room_of blocks.old.items spare.old.items }
+    ensures blocks { AreBlocks 0 blocks.new.items spare.new.items (vec_capacity blocks.new)
+        (vec_capacity spare.new) }
 {
     let mut upper = spare.pop().unwrap();
     blocks[at].halve(&mut upper);
@@ -106,10 +118,13 @@ fn split(blocks: &mut Vec<Block>, spare: &mut Vec<Block>, at: usize)
 /// Moves entries to the blocks behind theirs, so that all blocks but the first are at least half
 /// full, and those with no entries are to spare.
 pub fn pack(blocks: &mut Vec<Block>, spare: &mut Vec<Block>)
-    requires { AreBlocks (vec_len blocks.old - 1) blocks.old.items spare.old.items (vec_capacity blocks.old) (vec_capacity spare.old) }
+    requires { AreBlocks (vec_len blocks.old - 1) blocks.old.items spare.old.items
+        (vec_capacity blocks.old) (vec_capacity spare.old) }
     ensures items { joined blocks.new.items ≡ joined blocks.old.items }
-    ensures room { room_of blocks.new.items spare.new.items ≡ room_of blocks.old.items spare.old.items }
-    ensures blocks { AreBlocks 0 blocks.new.items spare.new.items (vec_capacity blocks.new) (vec_capacity spare.new) }
+    ensures room { room_of blocks.new.items spare.new.items
+        ≡ room_of blocks.old.items spare.old.items }
+    ensures blocks { AreBlocks 0 blocks.new.items spare.new.items (vec_capacity blocks.new)
+        (vec_capacity spare.new) }
 {
     let mut at = blocks.len() - 1;
     while at > 0 {
@@ -118,12 +133,15 @@ pub fn pack(blocks: &mut Vec<Block>, spare: &mut Vec<Block>)
     }
 }
 
-// Moves entries of one block to the one behind it, as many as that has room for.
+/// Moves entries of one block to the one behind it, as many as that has room for.
 fn pack_one(blocks: &mut Vec<Block>, spare: &mut Vec<Block>, at: usize)
-    requires { AreBlocks (at + 1) blocks.old.items spare.old.items (vec_capacity blocks.old) (vec_capacity spare.old) }
+    requires { AreBlocks (at + 1) blocks.old.items spare.old.items (vec_capacity blocks.old)
+        (vec_capacity spare.old) }
     ensures items { joined blocks.new.items ≡ joined blocks.old.items }
-    ensures room { room_of blocks.new.items spare.new.items ≡ room_of blocks.old.items spare.old.items }
-    ensures blocks { AreBlocks at blocks.new.items spare.new.items (vec_capacity blocks.new) (vec_capacity spare.new) }
+    ensures room { room_of blocks.new.items spare.new.items
+        ≡ room_of blocks.old.items spare.old.items }
+    ensures blocks { AreBlocks at blocks.new.items spare.new.items (vec_capacity blocks.new)
+        (vec_capacity spare.new) }
 {
     let mut before = blocks.remove(at);
     blocks[at].fill(&mut before);
@@ -136,16 +154,19 @@ fn pack_one(blocks: &mut Vec<Block>, spare: &mut Vec<Block>, at: usize)
 
 /// Leaves no entry.
 pub fn clear(blocks: &mut Vec<Block>, spare: &mut Vec<Block>)
-    requires { AreBlocks 0 blocks.old.items spare.old.items (vec_capacity blocks.old) (vec_capacity spare.old) }
+    requires { AreBlocks 0 blocks.old.items spare.old.items (vec_capacity blocks.old)
+        (vec_capacity spare.old) }
     ensures items { joined blocks.new.items ≡ [] }
-    ensures room { room_of blocks.new.items spare.new.items ≡ room_of blocks.old.items spare.old.items }
-    ensures blocks { AreBlocks 0 blocks.new.items spare.new.items (vec_capacity blocks.new) (vec_capacity spare.new) }
+    ensures room { room_of blocks.new.items spare.new.items
+        ≡ room_of blocks.old.items spare.old.items }
+    ensures blocks { AreBlocks 0 blocks.new.items spare.new.items (vec_capacity blocks.new)
+        (vec_capacity spare.new) }
 {
     clear_each(blocks);
     pack(blocks, spare);
 }
 
-// Leaves no entry in any block.
+/// Leaves no entry in any block.
 fn clear_each(blocks: &mut Vec<Block>)
     ensures items { joined blocks.new.items ≡ [] }
     ensures count { length blocks.new.items ≡ length blocks.old.items }

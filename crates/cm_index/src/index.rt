@@ -1,6 +1,7 @@
 //! Rows by name: an index that rises by fingerprint, owner and name.
 
-ghost use Rattle.std.specs.Prelude.{◌≡◌, ◌+◌, ◌^◌, ◌<◌, ◌≤◌, IfOk, take, length, vec_len, vec_capacity};
+ghost use Rattle.std.specs.Prelude.{◌≡◌, ◌+◌, ◌^◌, ◌<◌, ◌≤◌, IfOk, take, length, vec_len};
+ghost use Rattle.std.specs.Prelude.{vec_capacity};
 ghost use Rattle.std.specs.Prelude.{[], ◌∷◌, ◌++◌, true, get_or, drop};
 ghost use Rattle.std.specs.List.{find, AllByRecursion};
 ghost use Rattle.std.specs.Option.{option_copied};
@@ -27,11 +28,11 @@ pub struct IndexEntry {
     pub at: u32,
 }
 
-/// The entries of an index in order. Contracts see them as one list, and how many there is room for;
-/// the memory for these is taken when the index is made.
+/// The entries of an index in order. Contracts see them as one list, and how many there is room
+/// for; the memory for these is taken when the index is made.
 ///
-/// They stand in blocks, so that to put one among the others moves at most a block's. A block that is
-/// full gives half of its entries to one that was to spare, which is put behind it.
+/// They stand in blocks, so that to put one among the others moves at most a block's. A block that
+/// is full gives half of its entries to one that was to spare, which is put behind it.
 #[derive(Drop)]
 pub struct Index {
     /// The blocks in order, of which all but the first are at least half full.
@@ -46,9 +47,13 @@ impl Model for Index {
 
     ghost Value = { Entries };
 
-    ghost view = { λ i. record { items = joined i.blocks.items; room = room_of i.blocks.items i.spare.items } };
+    ghost view = { λ i. record {
+      items = joined i.blocks.items;
+      room = room_of i.blocks.items i.spare.items;
+    } };
 
-    ghost invariant = { λ i. AreBlocks 0 i.blocks.items i.spare.items (vec_capacity i.blocks) (vec_capacity i.spare) };
+    ghost invariant = { λ i. AreBlocks 0 i.blocks.items i.spare.items (vec_capacity i.blocks)
+        (vec_capacity i.spare) };
 }
 
 impl Index {
@@ -81,7 +86,8 @@ pub fn find_row<'a, P: Kept>(
     requires index { IsIndex P.mark P.name slots.now index.now.items }
     requires key { IsKey P.mark P.name sought.now }
     ensures { option_copied result ≡ find
-        (is_named P.name (rank sought.now.owner) (name_sought P.name sought.now.name)) (living slots.now) }
+        (is_named P.name (rank sought.now.owner) (name_sought P.name sought.now.name))
+        (living slots.now) }
 {
     let Ok(spot) = search(&index.blocks, slots, sought) else {
         return None;
@@ -105,22 +111,25 @@ pub fn add_row<P: Kept>(index: &mut Index, slots: &[Slot<Row<P>>], at: usize)
     add_entry(&mut index.blocks, &mut index.spare, slots, at);
 }
 
-// The same with the blocks of the index.
+/// The same with the blocks of the index.
 fn add_entry<P: Kept>(
     blocks: &mut Vec<Block>,
     spare: &mut Vec<Block>,
     slots: &[Slot<Row<P>>],
     at: usize,
 )
-    requires blocks { AreBlocks 0 blocks.old.items spare.old.items (vec_capacity blocks.old) (vec_capacity spare.old) }
+    requires blocks { AreBlocks 0 blocks.old.items spare.old.items (vec_capacity blocks.old)
+        (vec_capacity spare.old) }
     requires index { IsIndex P.mark P.name (take at slots.now) (joined blocks.old.items) }
     requires within { at < length slots.now }
     requires lives { LivesAt slots.now at }
     requires fits { at < 2 ^ 32 }
     requires room { at < room_of blocks.old.items spare.old.items }
     ensures index { IsIndex P.mark P.name (take (at + 1) slots.now) (joined blocks.new.items) }
-    ensures room { room_of blocks.new.items spare.new.items ≡ room_of blocks.old.items spare.old.items }
-    ensures blocks { AreBlocks 0 blocks.new.items spare.new.items (vec_capacity blocks.new) (vec_capacity spare.new) }
+    ensures room { room_of blocks.new.items spare.new.items
+        ≡ room_of blocks.old.items spare.old.items }
+    ensures blocks { AreBlocks 0 blocks.new.items spare.new.items (vec_capacity blocks.new)
+        (vec_capacity spare.new) }
 {
     let sought = Sought::row(&slots[at].item);
     let entry = IndexEntry {
@@ -133,12 +142,14 @@ fn add_entry<P: Kept>(
     }
 }
 
-// Puts an entry in the place of one that leads to a dead row.
+/// Puts an entry in the place of one that leads to a dead row.
 fn renew<P>(blocks: &mut Vec<Block>, slots: &[Slot<Row<P>>], spot: &Spot, entry: IndexEntry)
     requires taken { IsTaken blocks.old.items spot.now }
-    requires leads { (d : IndexEntry) → (get_or (joined blocks.old.items) (place_of blocks.old.items spot.now) d).at < length slots.now }
+    requires leads { (d : IndexEntry) → (get_or (joined blocks.old.items)
+        (place_of blocks.old.items spot.now) d).at < length slots.now }
     requires half { AllByRecursion (λ b. half_size ≤ length b) (drop 1 blocks.old.items) }
-    ensures items { joined blocks.new.items ≡ renewed slots.now (joined blocks.old.items) (place_of blocks.old.items spot.now) entry }
+    ensures items { joined blocks.new.items
+        ≡ renewed slots.now (joined blocks.old.items) (place_of blocks.old.items spot.now) entry }
     ensures half { AllByRecursion (λ b. half_size ≤ length b) (drop 1 blocks.new.items) }
     ensures count { length blocks.new.items ≡ length blocks.old.items }
     ensures capacity { vec_capacity blocks.new ≡ vec_capacity blocks.old }
@@ -156,7 +167,8 @@ pub fn push_row<P: Kept>(slots: &mut Vec<Slot<Row<P>>>, index: &mut Index, row: 
     requires room { vec_len slots.old < vec_capacity slots.old }
     requires index_room { vec_len slots.old < index.old.room }
     ensures slots { slots.new.items ≡ slots.old.items ++ record { item = row; live = true } ∷ [] }
-    ensures index { IsIndex P.mark P.name (slots.old.items ++ record { item = row; live = true } ∷ []) index.new.items }
+    ensures index { IsIndex P.mark P.name
+        (slots.old.items ++ record { item = row; live = true } ∷ []) index.new.items }
     ensures capacity { vec_capacity slots.old ≤ vec_capacity slots.new }
     ensures index_room { index.new.room ≡ index.old.room }
 {

@@ -24,7 +24,7 @@ pub struct Spot {
     pub place: usize,
 }
 
-// Whose row it is: a class's loader.
+/// Whose row it is: a class's loader.
 fn owner_of<P>(row: &Row<P>) -> Option<u64>
     ensures { result ≡ owner_in row.now }
 {
@@ -34,7 +34,7 @@ fn owner_of<P>(row: &Row<P>) -> Option<u64>
     }
 }
 
-// The order of two owners: nobody stands before all loaders.
+/// The order of two owners: nobody stands before all loaders.
 fn cmp_owners(one: Option<u64>, other: Option<u64>) -> Ordering
     ensures { result ≡ nat_cmp (rank one) (rank other) }
 {
@@ -46,7 +46,7 @@ fn cmp_owners(one: Option<u64>, other: Option<u64>) -> Ordering
     }
 }
 
-// The order of a row's name and of another.
+/// The order of a row's name and of another.
 fn cmp_names<P: Kept>(row: &Row<P>, name: &Name<P>) -> Ordering
     ensures { result ≡ slice_cmp nat_cmp (name_in P.name row.now) (name_sought P.name name.now) }
 {
@@ -58,8 +58,8 @@ fn cmp_names<P: Kept>(row: &Row<P>, name: &Name<P>) -> Ordering
     }
 }
 
-// The order of the key of an entry and of what is looked for; a row is looked at only where the
-// fingerprints are the same.
+/// The order of the key of an entry and of what is looked for; a row is looked at only where the
+/// fingerprints are the same.
 fn cmp_keys<P: Kept>(entry: &IndexEntry, slots: &[Slot<Row<P>>], sought: &Sought<P>) -> Ordering
     requires { entry.now.at < length slots.now }
     ensures { result
@@ -76,7 +76,7 @@ fn cmp_keys<P: Kept>(entry: &IndexEntry, slots: &[Slot<Row<P>>], sought: &Sought
     cmp_names(row, &sought.name)
 }
 
-// Where the entry stands that has this key, or would stand, among those of one block.
+/// Where the entry stands that has this key, or would stand, among those of one block.
 fn place_in<P: Kept>(
     index: &[IndexEntry],
     slots: &[Slot<Row<P>>],
@@ -102,15 +102,17 @@ fn place_in<P: Kept>(
     Err(low)
 }
 
-// The block in which the entry of this key stands, or would stand: the last whose first key isn't
-// above it, or the first of all. So of each other block but this one key is looked at.
+/// The block in which the entry of this key stands, or would stand: the last whose first key isn't
+/// above it, or the first of all. So of each other block but this one key is looked at.
 fn block_of<P: Kept>(blocks: &[Block], slots: &[Slot<Row<P>>], sought: &Sought<P>) -> usize
     requires index { IsIndex P.mark P.name slots.now (joined blocks.now) }
     requires some { 0 < length blocks.now }
     requires half { AllByRecursion (λ b. half_size ≤ length b) (drop 1 blocks.now) }
     ensures within { result < length blocks.now }
-    ensures below { AllByRecursion (Below (key_sought P.name sought.now)) (keys_at P.name slots.now (joined (take result blocks.now))) }
-    ensures above { AllByRecursion (Above (key_sought P.name sought.now)) (keys_at P.name slots.now (joined (drop (result + 1) blocks.now))) }
+    ensures below { AllByRecursion (Below (key_sought P.name sought.now))
+        (keys_at P.name slots.now (joined (take result blocks.now))) }
+    ensures above { AllByRecursion (Above (key_sought P.name sought.now))
+        (keys_at P.name slots.now (joined (drop (result + 1) blocks.now))) }
 {
     let mut at = 0;
     let mut above = blocks.len();
@@ -135,9 +137,11 @@ pub fn search<P: Kept>(
     requires some { 0 < length blocks.now }
     requires half { AllByRecursion (λ b. half_size ≤ length b) (drop 1 blocks.now) }
     ensures taken { IfOk result (λ s. IsTaken blocks.now s) }
-    ensures found { IfOk result (λ s. IsKeyAt P.name slots.now (joined blocks.now) (place_of blocks.now s) (key_sought P.name sought.now)) }
+    ensures found { IfOk result (λ s. IsKeyAt P.name slots.now (joined blocks.now)
+        (place_of blocks.now s) (key_sought P.name sought.now)) }
     ensures between { IfErr result (λ s. IsBetween blocks.now s) }
-    ensures absent { IfErr result (λ s. Parts (keys_at P.name slots.now (joined blocks.now)) (place_of blocks.now s) (key_sought P.name sought.now)) }
+    ensures absent { IfErr result (λ s. Parts (keys_at P.name slots.now (joined blocks.now))
+        (place_of blocks.now s) (key_sought P.name sought.now)) }
 {
     let block = block_of(blocks, slots, sought);
     match place_in(blocks[block].entries(), slots, sought) {

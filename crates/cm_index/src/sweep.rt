@@ -49,7 +49,7 @@ pub fn sweep_entries<P>(entries: &mut Vec<IndexEntry>, slots: &[Slot<Row<P>>], p
     move_up(entries, places);
 }
 
-// Keeps the entries that lead to rows that live.
+/// Keeps the entries that lead to rows that live.
 fn keep_living<P>(index: &mut Vec<IndexEntry>, slots: &[Slot<Row<P>>])
     ensures index { index.new.items ≡ filter (leads_to_life slots.now) index.old.items }
     ensures capacity { vec_capacity index.new ≡ vec_capacity index.old }
@@ -66,7 +66,7 @@ fn leads_to_life<P>(entry: &IndexEntry, slots: &[Slot<Row<P>>]) -> bool
     }
 }
 
-// Lets each entry lead to its row's new place.
+/// Lets each entry lead to its row's new place.
 fn move_up(index: &mut Vec<IndexEntry>, places: &[u32])
     requires { AllByRecursion (λ e. e.at < length places.now) index.old.items }
     ensures index { index.new.items ≡ map (shifted places.now) index.old.items }
