@@ -111,7 +111,8 @@ fn records_from(entries: &[CarriedEntry], from: usize) -> u64
 /// How many device calls of a group with these entries are left at a step.
 pub(crate) fn calls_at(now: Step, entries: &[CarriedEntry]) -> u64
     requires { roots_of_entries (entries_in entries.now) < 2 ^ 32 }
-    ensures { (j : Journal) (first learnt : ℕ) → result ≡ calls_left (stages_at j (record { first = first; learnt = learnt; entries = entries.now }) now) }
+    ensures { (j : Journal) (first learnt : ℕ) → result ≡ calls_left (stages_at j
+        (record { first = first; learnt = learnt; entries = entries.now }) now) }
 {
     match now {
         Step::Write { roots, from } => {

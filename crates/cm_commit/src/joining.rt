@@ -92,7 +92,7 @@ fn writes_apart(rows: &mut Book<Arc<Record, Global>>, entry: &Entry<()>) -> bool
     }
 }
 
-/// Whether each entry does.
+/// Whether each entry writes where [`writes_apart`] lets it.
 fn all_write_apart(rows: &mut Book<Arc<Record, Global>>, entries: &[CarriedEntry]) -> bool
     requires inside { are_inside rows.old.sizes entries.now ≡ true }
     ensures apart { result ≡ are_apart rows.old.rows entries.now }
@@ -128,7 +128,7 @@ fn makes_class(loader: u64, class: &Record, carried: &CarriedEntry) -> bool
     }
 }
 
-/// Whether one of the entries does.
+/// Whether one of the entries makes a class in this loader that has the name of this one.
 fn is_made(loader: u64, class: &Record, entries: &[CarriedEntry]) -> bool
     requires own { list_all carries_own entries.now ≡ true }
     ensures { result ≡ list_any (makes_class loader (class_name_in class.now)) entries.now }

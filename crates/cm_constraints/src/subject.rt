@@ -88,7 +88,7 @@ impl<'a> Subject<'a> {
         self.judgement(index).class_name
     }
 
-    /// Whether it is an unqualified name.
+    /// Whether the Utf8 at an index is an unqualified name.
     #[tactic(auto, unfolding(cm_names::specs::Judgement::judgement))]
     pub(crate) fn names_unqualified_name(&self, index: u16) -> bool
         ensures { result ≡ is_unqualified_name (utf8 self.now.class.now index) }
@@ -96,7 +96,7 @@ impl<'a> Subject<'a> {
         self.judgement(index).unqualified_name
     }
 
-    /// Whether it is a method's name.
+    /// Whether the Utf8 at an index is a method's name.
     #[tactic(auto, unfolding(cm_names::specs::Judgement::judgement))]
     pub(crate) fn names_method_name(&self, index: u16) -> bool
         ensures { result ≡ is_method_name (utf8 self.now.class.now index) }
@@ -104,7 +104,7 @@ impl<'a> Subject<'a> {
         self.judgement(index).method_name
     }
 
-    /// Whether it is a field descriptor.
+    /// Whether the Utf8 at an index is a field descriptor.
     #[tactic(auto, unfolding(cm_names::specs::Judgement::judgement))]
     pub(crate) fn names_field_descriptor(&self, index: u16) -> bool
         ensures { result ≡ is_field_descriptor (utf8 self.now.class.now index) }
@@ -120,14 +120,14 @@ impl<'a> Subject<'a> {
         self.judgement(index).method_units
     }
 
-    /// Whether it is a method descriptor.
+    /// Whether the Utf8 at an index is a method descriptor.
     pub(crate) fn names_method_descriptor(&self, index: u16) -> bool
         ensures { result ≡ is_method_descriptor (utf8 self.now.class.now index) }
     {
         self.method_units(index).is_some()
     }
 
-    /// Whether it is the descriptor of an array.
+    /// Whether the Utf8 at an index is the descriptor of an array.
     pub(crate) fn names_array_descriptor(&self, index: u16) -> bool
         ensures { result ≡ is_array_descriptor (utf8 self.now.class.now index) }
     {

@@ -111,7 +111,7 @@ pub fn add_row<P: Kept>(index: &mut Index, slots: &[Slot<Row<P>>], at: usize)
     add_entry(&mut index.blocks, &mut index.spare, slots, at);
 }
 
-/// The same with the blocks of the index.
+/// Puts the next row's entry among those in an index's blocks.
 fn add_entry<P: Kept>(
     blocks: &mut Vec<Block>,
     spare: &mut Vec<Block>,

@@ -39,7 +39,8 @@ pub fn sweep_blocks<P>(blocks: &mut Vec<Block>, places: &[u32], slots: &[Slot<Ro
     }
 }
 
-/// The same with the entries of one block.
+/// Keeps those entries of one block that lead to rows that live, and lets each lead to its row's
+/// new place.
 pub fn sweep_entries<P>(entries: &mut Vec<IndexEntry>, slots: &[Slot<Row<P>>], places: &[u32])
     requires { AllByRecursion (λ e. e.at < length places.now) entries.old.items }
     ensures entries { entries.new.items ≡ swept_entries slots.now places.now entries.old.items }
