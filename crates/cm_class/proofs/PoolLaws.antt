@@ -54,7 +54,8 @@ tested n t others h = by_test (eqb n (tag_number t)) refl
     by_test true e = sym (eqb-true n (tag_number t) e)
     by_test false e = h
 
-number_is : (n : ℕ) → IfSome (tag_of n) (λ t. tag_number t ≡ n)
+-- a tag tells the kind that has it
+pub number_is : (n : ℕ) → IfSome (tag_of n) (λ t. tag_number t ≡ n)
 number_is n =
     tested n kinds.Utf8 _
     (tested n kinds.Integer _

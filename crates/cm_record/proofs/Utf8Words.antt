@@ -1,53 +1,23 @@
 -- Which words of the directory can be those of a Utf8 of given bytes.
 use Rattle.std.proofs.Common.{◌≡◌, ◌<◌, ◌+◌, ◌*◌, ◌/◌, ◌%◌, ◌^◌, ℕ, Bool, true, false, List, length}
 use Rattle.std.proofs.Common.{get_or, Option, Some, None, refl, sym, ◌∙◌, ap, arith}
-use Rattle.std.specs.Prelude.{◌==◌, if◌then◌else◌, nat_le}
-use Rattle.std.proofs.lemmas.Bool.{eqb-true, leb-false}
+use Rattle.std.specs.Prelude.{◌==◌, if◌then◌else◌, nat_le, option_map}
+use Rattle.std.specs.Option.{IfSome}
+use Rattle.std.proofs.lemmas.Bool.{leb-false}
 use Rattle.cm_class.specs.declared.class_file.ClassFile.{ClassFile}
+use Rattle.cm_class.specs.declared.kind.Kind.{Kind}
+use Rattle.cm_class.specs.declared.kind.Kind.TheVariants as kinds
 use Rattle.cm_class.specs.Names.{names_utf8, utf8}
+use Rattle.cm_class.specs.Reading.{tag_of, tag_number}
+use Rattle.cm_class.proofs.PoolLaws.{number_is}
 use Rattle.cm_record_layout.specs.Packing.{first_of, second_of, third_of, fourth_of, upper_of}
 use Rattle.cm_record_layout.specs.Layout.{IsRecordOf}
 use Rattle.cm_record.specs.declared.run.Run.{Run}
-use Rattle.cm_record.specs.declared.constant.Constant.{Constant}
-use Rattle.cm_record.specs.declared.constant.Constant.TheVariants as kept
-use Rattle.cm_record.specs.Constants.{constant_at_index, is_second_word, word_kept}
+use Rattle.cm_record.specs.Constants.{constant_at_index, is_second_word, kept_of_kind, word_kept}
 use Rattle.cm_record.specs.Runs.{run_of_utf8}
 use Rattle.cm_record.proofs.RunTests.{no_utf8, utf8_there, utf8_compared}
 
 -- ---- a word that is kept as a Utf8
-
-neither : (t : Bool) (x y : Option Constant) → run_of_utf8 x ≡ None → run_of_utf8 y ≡ None
-    → run_of_utf8 (if t then x else y) ≡ None
-neither true x y of_x of_y = of_x
-neither false x y of_x of_y = of_y
-
--- what a word is kept as whose tag isn't that of a Utf8
-abbrev other_kept : ℕ → ℕ → Option Constant
-other_kept word next =
-    if first_of word == 3 then Some (kept.Integer (upper_of word))
-    else if first_of word == 4 then Some (kept.Float (upper_of word))
-    else if first_of word == 5 then Some (kept.Long next)
-    else if first_of word == 6 then Some (kept.Double next)
-    else if first_of word == 7 then Some (kept.Class (third_of word))
-    else if first_of word == 8 then Some (kept.String (third_of word))
-    else if first_of word == 9 then Some (kept.Fieldref (third_of word) (fourth_of word))
-    else if first_of word == 10 then Some (kept.Methodref (third_of word) (fourth_of word))
-    else if first_of word == 11 then Some (kept.InterfaceMethodref (third_of word) (fourth_of word))
-    else if first_of word == 12 then Some (kept.NameAndType (third_of word) (fourth_of word))
-    else if first_of word == 15 then Some (kept.MethodHandle (word / 2 ^ 32 % 2 ^ 8) (fourth_of word))
-    else if first_of word == 16 then Some (kept.MethodType (third_of word))
-    else if first_of word == 18 then Some (kept.InvokeDynamic (third_of word) (fourth_of word))
-    else None
-
-no_other : (word next : ℕ) → run_of_utf8 (other_kept word next) ≡ None
-no_other word next =
-    neither (first_of word == 3) _ _ refl (neither (first_of word == 4) _ _ refl
-    (neither (first_of word == 5) _ _ refl (neither (first_of word == 6) _ _ refl
-    (neither (first_of word == 7) _ _ refl (neither (first_of word == 8) _ _ refl
-    (neither (first_of word == 9) _ _ refl (neither (first_of word == 10) _ _ refl
-    (neither (first_of word == 11) _ _ refl (neither (first_of word == 12) _ _ refl
-    (neither (first_of word == 15) _ _ refl (neither (first_of word == 16) _ _ refl
-    (neither (first_of word == 18) _ _ refl refl))))))))))))
 
 -- the word of a Utf8 with this many bytes
 pub record IsUtf8Word (word count : ℕ) : Type 0 where
@@ -57,14 +27,28 @@ pub record IsUtf8Word (word count : ℕ) : Type 0 where
 of_word : (word next : ℕ) (run : Run) → run_of_utf8 (word_kept word next) ≡ Some run
     → IsUtf8Word word run.len
 unfolding word_kept
-of_word word next run e = by_tag (first_of word == 1) refl e
+of_word word next run e = by_kind (tag_of (first_of word)) (number_is (first_of word)) e
   where
-    by_tag : (t : Bool) → (first_of word == 1) ≡ t
-        → run_of_utf8 (if t then Some (kept.Utf8 (upper_of word * 8 % 2 ^ 32) (second_of word)) else other_kept word next)
-        ≡ Some run → IsUtf8Word word run.len
-    by_tag true is e = let same : record { at = upper_of word * 8 % 2 ^ 32 / 8; len = second_of word } ≡ run = cc in
-        record { tag = eqb-true (first_of word) 1 is; count_is = ap (λ (r : Run). r.len) same }
-    by_tag false is e = let none : None ≡ Some run = sym (no_other word next) ∙ e in absurd (cc)
+    by_kind : (found : Option Kind) → IfSome found (λ k. tag_number k ≡ first_of word)
+        → run_of_utf8 (option_map (λ k. kept_of_kind k word next) found) ≡ Some run
+        → IsUtf8Word word run.len
+    by_kind None h e = absurd (cc)
+    by_kind (Some kinds.Utf8) h e =
+        let same : record { at = upper_of word * 8 % 2 ^ 32 / 8; len = second_of word } ≡ run = cc in
+        record { tag = sym h; count_is = ap (λ (r : Run). r.len) same }
+    by_kind (Some kinds.Integer) h e = absurd (cc)
+    by_kind (Some kinds.Float) h e = absurd (cc)
+    by_kind (Some kinds.Long) h e = absurd (cc)
+    by_kind (Some kinds.Double) h e = absurd (cc)
+    by_kind (Some kinds.Class) h e = absurd (cc)
+    by_kind (Some kinds.String) h e = absurd (cc)
+    by_kind (Some kinds.Fieldref) h e = absurd (cc)
+    by_kind (Some kinds.Methodref) h e = absurd (cc)
+    by_kind (Some kinds.InterfaceMethodref) h e = absurd (cc)
+    by_kind (Some kinds.NameAndType) h e = absurd (cc)
+    by_kind (Some kinds.MethodHandle) h e = absurd (cc)
+    by_kind (Some kinds.MethodType) h e = absurd (cc)
+    by_kind (Some kinds.InvokeDynamic) h e = absurd (cc)
 
 -- ---- the index of a Utf8
 

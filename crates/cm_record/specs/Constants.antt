@@ -5,7 +5,10 @@ use Rattle.std.specs.Prelude.{nat_le, ◌==◌, if◌then◌else◌}
 use Rattle.cm_class.specs.declared.constant.Constant.{Constant as Spelled}
 use Rattle.cm_class.specs.declared.constant.Constant.TheVariants as constant
 use Rattle.cm_class.specs.declared.class_file.ClassFile.{ClassFile}
+use Rattle.cm_class.specs.declared.kind.Kind.{Kind}
+use Rattle.cm_class.specs.declared.kind.Kind.TheVariants as kinds
 use Rattle.cm_class.specs.Names.{constant_named}
+use Rattle.cm_class.specs.Reading.{tag_of}
 use Rattle.cm_record.specs.declared.constant.Constant.{Constant}
 use Rattle.cm_record.specs.declared.constant.Constant.TheVariants as kept
 use Rattle.cm_record_layout.specs.Layout.{utf8_runs, runs_at}
@@ -50,24 +53,28 @@ abbrev pub is_second_word : List ℕ → ℕ → Bool
 is_second_word words zero = false
 is_second_word words (suc k) = is_wide_word (get_or words k 0) && not (is_second_word words k)
 
+-- what a directory word of this kind stands for, with the word behind it
+abbrev pub kept_of_kind : Kind → ℕ → ℕ → Constant
+kept_of_kind kinds.Utf8 word next = kept.Utf8 (upper_of word * 8 % 2 ^ 32) (second_of word)
+kept_of_kind kinds.Integer word next = kept.Integer (upper_of word)
+kept_of_kind kinds.Float word next = kept.Float (upper_of word)
+kept_of_kind kinds.Long word next = kept.Long next
+kept_of_kind kinds.Double word next = kept.Double next
+kept_of_kind kinds.Class word next = kept.Class (third_of word)
+kept_of_kind kinds.String word next = kept.String (third_of word)
+kept_of_kind kinds.Fieldref word next = kept.Fieldref (third_of word) (fourth_of word)
+kept_of_kind kinds.Methodref word next = kept.Methodref (third_of word) (fourth_of word)
+kept_of_kind kinds.InterfaceMethodref word next =
+    kept.InterfaceMethodref (third_of word) (fourth_of word)
+kept_of_kind kinds.NameAndType word next = kept.NameAndType (third_of word) (fourth_of word)
+kept_of_kind kinds.MethodHandle word next =
+    kept.MethodHandle (word / 2 ^ 32 % 2 ^ 8) (fourth_of word)
+kept_of_kind kinds.MethodType word next = kept.MethodType (third_of word)
+kept_of_kind kinds.InvokeDynamic word next = kept.InvokeDynamic (third_of word) (fourth_of word)
+
 -- a constant, by its directory word and the one behind it
 unfoldable pub word_kept : ℕ → ℕ → Option Constant
-word_kept word next =
-    if first_of word == 1 then Some (kept.Utf8 (upper_of word * 8 % 2 ^ 32) (second_of word))
-    else if first_of word == 3 then Some (kept.Integer (upper_of word))
-    else if first_of word == 4 then Some (kept.Float (upper_of word))
-    else if first_of word == 5 then Some (kept.Long next)
-    else if first_of word == 6 then Some (kept.Double next)
-    else if first_of word == 7 then Some (kept.Class (third_of word))
-    else if first_of word == 8 then Some (kept.String (third_of word))
-    else if first_of word == 9 then Some (kept.Fieldref (third_of word) (fourth_of word))
-    else if first_of word == 10 then Some (kept.Methodref (third_of word) (fourth_of word))
-    else if first_of word == 11 then Some (kept.InterfaceMethodref (third_of word) (fourth_of word))
-    else if first_of word == 12 then Some (kept.NameAndType (third_of word) (fourth_of word))
-    else if first_of word == 15 then Some (kept.MethodHandle (word / 2 ^ 32 % 2 ^ 8) (fourth_of word))
-    else if first_of word == 16 then Some (kept.MethodType (third_of word))
-    else if first_of word == 18 then Some (kept.InvokeDynamic (third_of word) (fourth_of word))
-    else None
+word_kept word next = option_map (λ kind. kept_of_kind kind word next) (tag_of (first_of word))
 
 abbrev pub constant_at_index : List ℕ → ℕ → Option Constant
 constant_at_index words index =

@@ -13,7 +13,7 @@ ghost use Rattle.cm_record.specs.Code.{code_name, code_in, u2_at, u4_at, attribu
 use crate::marks::Marks;
 use crate::run::Run;
 use crate::utf8::is_utf8_of;
-use cm_record_layout::{bytes_of, first, fourth, second, upper};
+use cm_record_layout::{HEAD_COUNTS, HEAD_MEMBERS_AT, bytes_of, first, fourth, second, upper};
 
 /// Where the code of a method lies (JVMS 4.7.3). Places count bytes from the record's first one; a
 /// byte is the number of eight bits there in its word, the lowest first.
@@ -150,7 +150,7 @@ pub(crate) fn method_attributes(words: &[u64], index: usize) -> Attributes
         → result ≡ record { at = attributes_place c index; count = length own.attributes } }
     ensures within { result.at + 2 * result.count ≤ length words.now }
 {
-    let place = words[5] as usize + 2 * (second(words[2]) as usize + index);
+    let place = words[HEAD_MEMBERS_AT] as usize + 2 * (second(words[HEAD_COUNTS]) as usize + index);
     Attributes {
         at: words[place + 1] as usize,
         count: fourth(words[place]) as usize,

@@ -3,10 +3,12 @@ ghost use Rattle.std.specs.Prelude.{◌≡◌, ◌≤◌, ◌+◌, ◌%◌, ◌=
 ghost use Rattle.cm_record_layout.specs.Packing.{first_of};
 ghost use Rattle.cm_record.specs.Constants.{is_wide_word as is_wide_word_of};
 ghost use Rattle.cm_record.specs.Constants.{is_second_word as is_second_word_of};
+ghost use Rattle.cm_record.specs.Constants.{kept_of_kind as kept_of_kind_of};
 ghost use Rattle.cm_record.specs.Constants.{word_kept as word_kept_of};
 ghost use Rattle.cm_record.specs.Constants.{constant_at_index as constant_at_index_of};
 
-use cm_record_layout::{THIRD, first, fourth, second, third, upper};
+use cm_class::Kind;
+use cm_record_layout::{DIRECTORY_AT, HEAD_COUNTS, THIRD, first, fourth, second, third, upper};
 
 /// A constant of the pool (JVMS 4.4), as a record keeps it. Each index is one of the pool, from 1
 /// on.
@@ -70,59 +72,65 @@ pub enum Constant {
     },
 }
 
+/// What a directory word of this kind stands for, with the word behind it.
+fn kept_of_kind(kind: Kind, word: u64, next: u64) -> Constant
+    ensures { result ≡ kept_of_kind_of kind word next }
+{
+    let (one, two) = (third(word), fourth(word));
+    match kind {
+        Kind::Utf8 => Constant::Utf8 {
+            // A record has fewer than 2^29 words.
+            at: (u64::from(upper(word)) * 8 % THIRD) as u32,
+            len: second(word),
+        },
+        Kind::Integer => Constant::Integer(upper(word)),
+        Kind::Float => Constant::Float(upper(word)),
+        Kind::Long => Constant::Long(next),
+        Kind::Double => Constant::Double(next),
+        Kind::Class => Constant::Class { name: one },
+        Kind::String => Constant::String { text: one },
+        Kind::Fieldref => Constant::Fieldref {
+            class: one,
+            name_and_type: two,
+        },
+        Kind::Methodref => Constant::Methodref {
+            class: one,
+            name_and_type: two,
+        },
+        Kind::InterfaceMethodref => Constant::InterfaceMethodref {
+            class: one,
+            name_and_type: two,
+        },
+        Kind::NameAndType => Constant::NameAndType {
+            name: one,
+            descriptor: two,
+        },
+        Kind::MethodHandle => Constant::MethodHandle {
+            kind: (word / THIRD % 256) as u8,
+            reference: two,
+        },
+        Kind::MethodType => Constant::MethodType { descriptor: one },
+        Kind::InvokeDynamic => Constant::InvokeDynamic {
+            bootstrap_method: one,
+            name_and_type: two,
+        },
+    }
+}
+
 /// A constant, by its directory word and the one behind it.
 #[tactic(auto, unfolding(crate::specs::Constants::word_kept))]
 fn word_kept(word: u64, next: u64) -> Option<Constant>
     ensures { result ≡ word_kept_of word next }
 {
-    let (one, two) = (third(word), fourth(word));
-    let constant = match first(word) {
-        1 => Constant::Utf8 {
-            // A record has fewer than 2^29 words.
-            at: (u64::from(upper(word)) * 8 % THIRD) as u32,
-            len: second(word),
-        },
-        3 => Constant::Integer(upper(word)),
-        4 => Constant::Float(upper(word)),
-        5 => Constant::Long(next),
-        6 => Constant::Double(next),
-        7 => Constant::Class { name: one },
-        8 => Constant::String { text: one },
-        9 => Constant::Fieldref {
-            class: one,
-            name_and_type: two,
-        },
-        10 => Constant::Methodref {
-            class: one,
-            name_and_type: two,
-        },
-        11 => Constant::InterfaceMethodref {
-            class: one,
-            name_and_type: two,
-        },
-        12 => Constant::NameAndType {
-            name: one,
-            descriptor: two,
-        },
-        15 => Constant::MethodHandle {
-            kind: (word / THIRD % 256) as u8,
-            reference: two,
-        },
-        16 => Constant::MethodType { descriptor: one },
-        18 => Constant::InvokeDynamic {
-            bootstrap_method: one,
-            name_and_type: two,
-        },
-        _ => return None,
-    };
-    Some(constant)
+    let kind = Kind::from_tag(first(word))?;
+    Some(kept_of_kind(kind, word, next))
 }
 
 /// The directory word of a Long or a Double.
 fn is_wide_word(word: u64) -> bool
     ensures { result ≡ is_wide_word_of word }
 {
-    word == 5 || word == 6
+    word == u64::from(Kind::Long.tag()) || word == u64::from(Kind::Double.tag())
 }
 
 /// How many words stand before a place of the directory that could all be those of Longs and
@@ -154,10 +162,10 @@ pub(crate) fn constant_at(words: &[u64], index: u16, is_second: bool) -> Option<
     requires second { is_second ≡ is_second_word_of words.now (8 + index) }
     ensures { result ≡ constant_at_index_of words.now index }
 {
-    if is_second || index == 0 || index >= first(words[2]) {
+    if is_second || index == 0 || index >= first(words[HEAD_COUNTS]) {
         return None;
     }
-    let place = 8 + index as usize;
+    let place = DIRECTORY_AT + index as usize;
     let next = if place + 1 < words.len() {
         words[place + 1]
     } else {
@@ -171,9 +179,9 @@ pub(crate) fn constant_at_index(words: &[u64], index: u16) -> Option<Constant>
     requires { 8 + first_of (get_or words.now 2 0) ≤ length words.now }
     ensures { result ≡ constant_at_index_of words.now index }
 {
-    if index >= first(words[2]) {
+    if index >= first(words[HEAD_COUNTS]) {
         return None;
     }
-    let is_second = wide_words_before(words, 8 + index as usize) % 2 == 1;
+    let is_second = wide_words_before(words, DIRECTORY_AT + index as usize) % 2 == 1;
     constant_at(words, index, is_second)
 }

@@ -5,7 +5,7 @@ ghost use Rattle.cm_record.specs.Members.{AreMarksOf};
 
 use crate::constant::{constant_at, is_next_second};
 use crate::utf8::is_utf8;
-use cm_record_layout::first;
+use cm_record_layout::{DIRECTORY_AT, HEAD_COUNTS, first};
 
 /// How many indexes a pool may have.
 const INDEXES: usize = 65_536;
@@ -24,9 +24,9 @@ impl Marks {
     {
         let mut leads = [false; INDEXES];
         let mut is_second = false; // at index 1, since word 8 is 0
-        for index in 1..first(words[2]) {
+        for index in 1..first(words[HEAD_COUNTS]) {
             leads[index as usize] = is_utf8(words, constant_at(words, index, is_second), bytes);
-            is_second = is_next_second(words[8 + index as usize], is_second);
+            is_second = is_next_second(words[DIRECTORY_AT + index as usize], is_second);
         }
         Marks { leads }
     }

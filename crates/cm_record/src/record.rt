@@ -25,7 +25,9 @@ use crate::names::name_run;
 use crate::order::{cmp_run_to, cmp_runs};
 use crate::run::{Run, is_same_run, run_bytes};
 use cm_class::Class;
-use cm_record_layout::{bytes_tell_words, first, fourth, second, third};
+use cm_record_layout::{
+    HEAD_CLASS, HEAD_COUNTS, HEAD_MEMBERS_AT, bytes_tell_words, first, fourth, second, third,
+};
 use cm_record_reading::{RecordFault, is_record, read_class};
 use cm_record_writing::{RecordRefusal, write_class};
 use cm_words::WordBuf;
@@ -68,7 +70,7 @@ fn class_name_run(words: &[u64]) -> Run
     requires { IsRecord words.now }
     ensures { IsNameRun words.now result }
 {
-    name_run(words, second(words[1]))
+    name_run(words, second(words[HEAD_CLASS]))
 }
 
 /// The class's record. `TooLong` comes exactly where its layout has more than 524,288 words.
@@ -190,7 +192,7 @@ impl Record {
             → IfOk result (λ name. option_map (λ bytes. bytes.items) name ≡ super_name_of c) }
     {
         let words = self.as_slice();
-        let index = third(words[1]);
+        let index = third(words[HEAD_CLASS]);
         if index == 0 {
             return Ok(None);
         }
@@ -204,7 +206,10 @@ impl Record {
             → FindsMember c c.fields false name.now descriptor.now result }
     {
         let words = self.as_slice();
-        let (at, count) = (words[5] as usize, second(words[2]) as usize);
+        let (at, count) = (
+            words[HEAD_MEMBERS_AT] as usize,
+            second(words[HEAD_COUNTS]) as usize,
+        );
         let Some(index) = find_member(words, at, count, name, descriptor) else {
             return None;
         };
@@ -223,8 +228,11 @@ impl Record {
             → FindsMember c c.methods true name.now descriptor.now result }
     {
         let words = self.as_slice();
-        let fields = second(words[2]) as usize;
-        let (at, count) = (words[5] as usize + 2 * fields, third(words[2]) as usize);
+        let fields = second(words[HEAD_COUNTS]) as usize;
+        let (at, count) = (
+            words[HEAD_MEMBERS_AT] as usize + 2 * fields,
+            third(words[HEAD_COUNTS]) as usize,
+        );
         let Some(index) = find_member(words, at, count, name, descriptor) else {
             return None;
         };
@@ -251,7 +259,7 @@ impl Record {
             return None;
         }
         let words = self.as_slice();
-        if member.index >= third(words[2]) {
+        if member.index >= third(words[HEAD_COUNTS]) {
             return None;
         }
         let Attributes { at, count } = method_attributes(words, member.index as usize);

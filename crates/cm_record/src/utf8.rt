@@ -11,7 +11,8 @@ ghost use Rattle.cm_record.specs.Runs.{IsRunOf, HasRun};
 use crate::constant::{Constant, constant_at, wide_words_before};
 use crate::names::run_of_utf8;
 use crate::run::{Run, run_slice};
-use cm_record_layout::{first, second, word_of};
+use cm_class::Kind;
+use cm_record_layout::{DIRECTORY_AT, HEAD_COUNTS, first, second, word_of};
 
 /// The bytes behind the first eight.
 #[tactic(auto, using(std::proofs::lemmas::List::take_rest))]
@@ -69,11 +70,11 @@ fn may_be_utf8_of(words: &[u64], index: u16, bytes: &[u8]) -> bool
     ensures only { (c : ClassFile) → IsRecordOf c words.now → result ≡ false
         → names_utf8 c index bytes.now ≡ false }
 {
-    if index >= first(words[2]) {
+    if index >= first(words[HEAD_COUNTS]) {
         return false;
     }
-    let word = words[8 + index as usize];
-    first(word) == 1 && second(word) as usize == bytes.len()
+    let word = words[DIRECTORY_AT + index as usize];
+    first(word) == Kind::Utf8.tag() && second(word) as usize == bytes.len()
 }
 
 /// Whether a Utf8 of these bytes stands at an index of the pool; `None` where it takes more words to
@@ -87,7 +88,7 @@ pub(crate) fn is_utf8_of(words: &[u64], index: u16, bytes: &[u8], left: &mut usi
     if !may_be_utf8_of(words, index, bytes) {
         return Some(false);
     }
-    let wide = wide_words_before(words, 8 + index as usize);
+    let wide = wide_words_before(words, DIRECTORY_AT + index as usize);
     *left = left.checked_sub(1 + wide + bytes.len() / 8)?;
     let is_second = wide % 2 == 1;
     Some(is_utf8(words, constant_at(words, index, is_second), bytes))
