@@ -1,5 +1,5 @@
 -- From what a session answers to a command to what is replied.
-use Rattle.std.proofs.Common.{◌≡◌, ◌≤◌, ◌<◌, ◌⊎◌, ℕ, Bool, true, false, List, length, Option, Some, None}
+use Rattle.std.proofs.Common.{◌≡◌, ◌≤◌, ◌⊎◌, ℕ, Bool, true, false, List, length, Option, Some, None}
 use Rattle.std.proofs.Common.{Result, Ok, Err, IfOk, OnOk, inl, inr, refl, sym, ap, subst, ◌∙◌}
 use Rattle.hex.specs.Hex.{decode_of}
 use Rattle.hex.specs.declared.error.FromHexError.{FromHexError}
@@ -7,6 +7,7 @@ use Rattle.hex.specs.declared.error.FromHexError.TheVariants.{OutOfMemory}
 use Rattle.cm_class.specs.declared.class_file.ClassFile.{ClassFile}
 use Rattle.cm_class.specs.Spelling.{HasSpelling}
 use Rattle.cm_pool.specs.Geometry.{Sizes}
+use Rattle.cm_guards.specs.Calls.{LeavesOnly}
 use Rattle.cm_record.specs.Layout.{lay, limit, IsRecord, IsRecordOf}
 use Rattle.cm_record.specs.Names.{class_name_of, class_name_in}
 use Rattle.cm_rules.specs.Answer.{IsRight}
@@ -16,20 +17,21 @@ use Rattle.cm_prepare.specs.declared.refusal.Refusal.TheVariants as refusal
 use Rattle.cm_prepare.specs.Prepare.{IsUnprepared}
 use Rattle.cm_machine.specs.Machine.{Machine, Asks, Refuses}
 use Rattle.cm_machine.specs.Laws.{Finds}
+use Rattle.cm_session.specs.declared.session.Session.{Session}
 use Rattle.cm_session.specs.declared.storing.NotStored.{NotStored}
 use Rattle.cm_session.specs.declared.storing.NotStored.TheVariants.{Refused, NoMemory, Unsure}
-use Rattle.cm_session.specs.Moves.{Leads}
-use Rattle.cm_session.specs.Storing.{IsAtRest, Storing, Stores, FailsOnly, MakesNoCall}
+use Rattle.cm_session.specs.Moves.{GoesWith}
+use Rattle.cm_session.specs.Storing.{Storing, Stores, FailsOnly, MakesNoCall}
 use Rattle.cm_lines.specs.Escapes.{unescaped}
 use Rattle.cm_lines.specs.Lines.{Asked, AsksLoader, AsksUnload, AsksDefine, AsksFind}
 use Rattle.cm_tool.specs.declared.reply.Reply.{Reply}
 use Rattle.cm_tool.specs.Texts.{ReplyText, number_reply, defined_reply, none_reply, class_reply}
 use Rattle.cm_tool.specs.Texts.{refusal_reply, unsure_reply, bad_line_reply}
-use Rattle.cm_tool.specs.Replies.{IsReply, is_unsure}
+use Rattle.cm_tool.specs.Replies.{IsReply}
 use Rattle.cm_tool.specs.Answers.{Served, served, AnswersCommand, AnswersAsked, AnswersDefine}
-use Rattle.cm_tool.specs.Answers.{AnswersFind, AnswersName, TellsClass, IsChangeOf, IsDefineOf}
-use Rattle.cm_tool.specs.Answers.{IsUnstored}
-use Rattle.cm_tool.specs.Serving.{IsReady, LedTo, IsLeft, Replies, Tells}
+use Rattle.cm_tool.specs.Answers.{AnswersFind, IsChangeOf, IsDefineOf}
+use Rattle.cm_tool.specs.Serving.{IsReady, LedTo, MayGoOn, IsLeft, Replies, Tells}
+use Rattle.cm_tool.proofs.Moments.{stored_goes_on}
 
 -- ---- lines that change nothing
 
@@ -259,22 +261,28 @@ module _ (sizes : Sizes) (question : Option Asked) (told : ℕ → ReplyText) (k
       }))
   store_replies (Err (Unsure n)) result s fails same says = was_lost n result s fails says
 
-pub command_replies : {E : Type 0} {Goes : Machine → Type 0}
-    {Moments : (List ℕ → Type 0) → Type 0} (sizes : Sizes)
-    (question : Option Asked) (told : ℕ → ReplyText) (k : Machine) (asked : Change (List ℕ))
-    (before now : ℕ) (stored : Result ℕ NotStored)
-    (result : Result Reply E)
-    → IsReady k → Fits sizes question told asked → Storing sizes k asked Moments stored Goes
-    → FailsOnly before now stored → (MakesNoCall stored → now ≡ before) → Tells told stored result
-    → LedTo (Replies sizes question result (served k before)) now Goes
-command_replies {Moments = Moments} sizes question told k asked before now stored result ready fits s
-    fails same says =
-    record {
-      next = s.leads.next;
-      does = store_replies sizes question told k asked Moments before now ready fits s.change s.asks
-          s.leads.next stored result s.leads.does fails same says;
-      goes = s.leads.goes;
-    }
+module _ {D : Type 0} (moment : D → ℕ) (left_since : D → ℕ → List ℕ → Type 0) where
+  pub command_replies : {E : Type 0} (question : Option Asked) (told : ℕ → ReplyText) (k : Machine)
+      (asked : Change (List ℕ)) (before now : ℕ) (old new : Session D)
+      (stored : Result ℕ NotStored) (result : Result Reply E)
+      → IsReady k → Fits old.committer.sizes question told asked
+      → Storing old.committer.sizes k asked
+      (LeavesOnly moment left_since old.committer.disk new.committer.disk) stored
+      (λ next. GoesWith next new)
+      → FailsOnly before now stored → (MakesNoCall stored → now ≡ before)
+      → (MakesNoCall stored → new.committer ≡ old.committer) → Tells told stored result
+      → LedTo (Replies old.committer.sizes question result (served k before)) now
+      (MayGoOn moment left_since k old new)
+  command_replies question told k asked before now old new stored result ready fits s fails same none
+      says =
+      record {
+        next = s.leads.next;
+        does = store_replies old.committer.sizes question told k asked
+            (LeavesOnly moment left_since old.committer.disk new.committer.disk) before now ready
+            fits s.change s.asks s.leads.next stored result s.leads.does fails same says;
+        goes = stored_goes_on moment left_since k s.leads.next old new s.change ready s.leads.goes
+            stored s.leads.does none;
+      }
 
 -- ---- looking up
 

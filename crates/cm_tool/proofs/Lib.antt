@@ -1,3 +1,4 @@
 pub mod Commands
+pub mod Moments
 pub mod Running
 pub mod Rows

@@ -1,5 +1,5 @@
 -- A script that is run line by line.
-use Rattle.std.proofs.Common.{◌≡◌, ◌||◌, ◌⊎◌, ℕ, Bool, true, false, List, [], ◌∷◌, ◌++◌, Option}
+use Rattle.std.proofs.Common.{◌≡◌, ◌||◌, ℕ, Bool, true, false, List, [], ◌∷◌, ◌++◌, Option}
 use Rattle.std.proofs.Common.{Some, None, Result, Ok, Err, inl, inr, refl, sym, ap, subst, ◌∙◌}
 use Rattle.std.proofs.Common.{append_assoc, append-nil, arith}
 use Rattle.std.specs.List.{list_any}
@@ -9,7 +9,10 @@ use Rattle.std.proofs.lemmas.Grind.{flat_map-append}
 use Rattle.std.proofs.KnownBytes.{Appends-nil, Appends-trans, Appends-kept, Keeps-refl}
 use Rattle.std.specs.Io.KnownBytes.{Appends}
 use Rattle.cm_pool.specs.Geometry.{Sizes}
+use Rattle.cm_guards.specs.Calls.{LeavesOnly}
 use Rattle.cm_machine.specs.Machine.{Base, Machine, machine_from}
+use Rattle.cm_session.specs.declared.session.Session.{Session}
+use Rattle.cm_session.specs.Moves.{GoesWith}
 use Rattle.cm_lines.specs.declared.fault.LineFault.{LineFault}
 use Rattle.cm_lines.specs.declared.fault.LineFault.TheVariants as line_fault
 use Rattle.cm_lines.specs.declared.line.Line.{Line}
@@ -23,8 +26,9 @@ use Rattle.cm_tool.specs.Replies.{is_refused, is_unsure, reply_line, reply_lines
 use Rattle.cm_tool.specs.declared.script.Outcome.{Outcome}
 use Rattle.cm_tool.specs.declared.script.ToolFault.{ToolFault}
 use Rattle.cm_tool.specs.declared.script.ToolFault.TheVariants as fault
-use Rattle.cm_tool.specs.Answers.{Served, served, AnswersLine, AnswersEach, EndsUnsure, IsUnstored}
-use Rattle.cm_tool.specs.Serving.{IsReady, LedTo, Replies}
+use Rattle.cm_tool.specs.Answers.{Served, served, Pause, pause}
+use Rattle.cm_tool.specs.Answers.{StandsBetween, RunsLine, AnswersEach, EndsUnsure}
+use Rattle.cm_tool.specs.Serving.{IsReady, LedTo, GoesOn, Replies}
 use Rattle.cm_tool.specs.Runs.{fault_of, Turned, HasEnded, BreaksIn, BreaksBefore, LeavesUnstored}
 use Rattle.cm_tool.specs.Runs.{Breaks, Turns, IsAnswered, EndsEarly, EndsBefore, EndsIn}
 use Rattle.cm_tool.specs.Runs.{EndsUnstored, Ends, IsRun}
@@ -76,31 +80,32 @@ all_lines (Some x) (Some y) lines p = sym p
 
 -- ---- answers
 
-answered_more : (sizes : Sizes) (lines : List (List ℕ)) (replies : List ReplyText) (a b c : Served)
-    (line : List ℕ) (given : ReplyText)
-    → AnswersEach sizes lines a replies b → AnswersLine sizes line b given c
-    → is_unsure given.kind ≡ false
-    → AnswersEach sizes (lines ++ line ∷ []) a (replies ++ given ∷ []) c
-answered_more sizes [] [] a b c line given each answer sure =
-    (c, subst (λ s. AnswersLine sizes line s given c) each answer, sure, refl)
-answered_more sizes [] (first ∷ replies) a b c line given each answer sure = absurd each
-answered_more sizes (next ∷ lines) [] a b c line given each answer sure = absurd each
-answered_more sizes (next ∷ lines) (first ∷ replies) a b c line given each answer sure = (
-  each.0,
-  each.1,
-  each.2,
-  answered_more sizes lines replies each.0 b c line given each.3 answer sure,
-)
+module _ {D : Type 0} (Leaves : D → D → (List ℕ → Type 0) → Type 0) (sizes : Sizes) where
+  answered_more : (lines : List (List ℕ)) (replies : List ReplyText) (a b c : Pause D)
+      (line : List ℕ) (given : ReplyText)
+      → AnswersEach Leaves sizes lines a replies b → RunsLine Leaves sizes line b given c
+      → is_unsure given.kind ≡ false
+      → AnswersEach Leaves sizes (lines ++ line ∷ []) a (replies ++ given ∷ []) c
+  answered_more [] [] a b c line given each runs sure =
+      (c, subst (λ s. RunsLine Leaves sizes line s given c) each runs, sure, refl)
+  answered_more [] (first ∷ replies) a b c line given each runs sure = absurd each
+  answered_more (next ∷ lines) [] a b c line given each runs sure = absurd each
+  answered_more (next ∷ lines) (first ∷ replies) a b c line given each runs sure = (
+    each.0,
+    each.1,
+    each.2,
+    answered_more lines replies each.0 b c line given each.3 runs sure,
+  )
 
-none_unsure : (sizes : Sizes) (lines : List (List ℕ)) (replies : List ReplyText) (a b : Served)
-    → AnswersEach sizes lines a replies b
-    → list_any (λ given. is_unsure given.kind) replies ≡ false
-none_unsure sizes [] [] a b each = refl
-none_unsure sizes [] (first ∷ replies) a b each = absurd each
-none_unsure sizes (next ∷ lines) [] a b each = absurd each
-none_unsure sizes (next ∷ lines) (first ∷ replies) a b each =
-    ap (λ t. t || list_any (λ given. is_unsure given.kind) replies) each.2
-    ∙ none_unsure sizes lines replies each.0 b each.3
+  none_unsure : (lines : List (List ℕ)) (replies : List ReplyText) (a b : Pause D)
+      → AnswersEach Leaves sizes lines a replies b
+      → list_any (λ given. is_unsure given.kind) replies ≡ false
+  none_unsure [] [] a b each = refl
+  none_unsure [] (first ∷ replies) a b each = absurd each
+  none_unsure (next ∷ lines) [] a b each = absurd each
+  none_unsure (next ∷ lines) (first ∷ replies) a b each =
+      ap (λ t. t || list_any (λ given. is_unsure given.kind) replies) each.2
+      ∙ none_unsure lines replies each.0 b each.3
 
 written_lines : (replies : List ReplyText) (given : ReplyText)
     → reply_lines (replies ++ given ∷ []) ≡ reply_lines replies ++ reply_line given
@@ -122,16 +127,17 @@ any_more test replies given so now one p q r =
 
 -- ---- a run so far
 
-pub record SoFar (sizes : Sizes) (script now held holds : Option (List ℕ)) (outcome : Outcome)
-    (first between : Served) : Type 0 where
+pub record SoFar {D : Type 0} (Leaves : D → D → (List ℕ → Type 0) → Type 0) (sizes : Sizes)
+    (script now held holds : Option (List ℕ)) (outcome : Outcome) (first between : Pause D)
+    : Type 0 where
   pub lines : List (List ℕ)
   pub replies : List ReplyText
   pub taken : TakesLines script now lines
-  pub answered : AnswersEach sizes lines first replies between
+  pub answered : AnswersEach Leaves sizes lines first replies between
   pub written : Appends held holds (reply_lines replies)
   pub refused : outcome.refused ≡ list_any (λ given. is_refused given.kind) replies
   pub unsure : outcome.unsure ≡ list_any (λ given. is_unsure given.kind) replies
-  pub ready : IsReady between.machine
+  pub ready : IsReady between.served.machine
 
 -- the outcome with one more reply
 pub record IsAfter (old : Outcome) (k : Kind) (new : Outcome) : Type 0 where
@@ -153,28 +159,36 @@ written_more h k m replies given p q =
     subst (Appends h m) (sym (written_lines replies given))
     (Appends-trans h k m (reply_lines replies) (reply_line given) p q)
 
-run_start : (sizes : Sizes) (a h : Option (List ℕ)) (s : Served) (o : Outcome)
-    → o.refused ≡ false → o.unsure ≡ false → IsReady s.machine → SoFar sizes a a h h o s s
-run_start sizes a h s o p q ready =
-    record {
-      lines =
-          [];
-      replies =
-          [];
-      taken = takes_none a;
-      answered =
-          refl;
-      written = Appends-nil h;
-      refused = p;
-      unsure = q;
-      ready = ready;
-    }
+module _ {D : Type 0} (Leaves : D → D → (List ℕ → Type 0) → Type 0) (sizes : Sizes) where
+  run_start : (a h : Option (List ℕ)) (s : Pause D) (o : Outcome)
+      → o.refused ≡ false → o.unsure ≡ false → IsReady s.served.machine
+      → SoFar Leaves sizes a a h h o s s
+  run_start a h s o p q ready =
+      record {
+        lines =
+            [];
+        replies =
+            [];
+        taken = takes_none a;
+        answered =
+            refl;
+        written = Appends-nil h;
+        refused = p;
+        unsure = q;
+        ready = ready;
+      }
 
-module _ (sizes : Sizes) (a b c h k m : Option (List ℕ)) (s t u : Served) (o n : Outcome)
-    (kind : Kind) (so : SoFar sizes a b h k o s t) (turned : Turned sizes c (io b k m) kind t u)
+module _ {D : Type 0} (Leaves : D → D → (List ℕ → Type 0) → Type 0) (sizes : Sizes)
+    (a b c h k m : Option (List ℕ)) (s t u : Pause D) (o n : Outcome) (kind : Kind)
+    (so : SoFar Leaves sizes a b h k o s t)
+    (turned : Turned sizes c (io b k m) kind t.served u.served)
+    (moments : Leaves t.disk u.disk (StandsBetween sizes t.served.machine u.served.machine))
     (after : IsAfter o kind n) where
   abbrev given : ReplyText
   given = turned.given
+
+  abbrev runs : RunsLine Leaves sizes turned.line t given u
+  runs = record { answer = turned.answer; moments = moments }
 
   refused_now : n.refused ≡ list_any (λ r. is_refused r.kind) (so.replies ++ given ∷ [])
   refused_now =
@@ -189,7 +203,7 @@ module _ (sizes : Sizes) (a b c h k m : Option (List ℕ)) (s t u : Served) (o n
   taken_now : TakesLines a c (so.lines ++ turned.line ∷ [])
   taken_now = takes_more a b c so.lines (turned.line ∷ []) so.taken turned.taken
 
-  run_more : n.unsure ≡ false → SoFar sizes a c h m n s u
+  run_more : n.unsure ≡ false → SoFar Leaves sizes a c h m n s u
   run_more sure =
       let fine = sym (ap is_unsure turned.kind)
       ∙ is_sure o.unsure (is_unsure kind) n.unsure after.unsure sure in
@@ -197,8 +211,8 @@ module _ (sizes : Sizes) (a b c h k m : Option (List ℕ)) (s t u : Served) (o n
         lines = so.lines ++ turned.line ∷ [];
         replies = so.replies ++ given ∷ [];
         taken = taken_now;
-        answered = answered_more sizes so.lines so.replies s t u turned.line given so.answered
-            turned.answer fine;
+        answered = answered_more Leaves sizes so.lines so.replies s t u turned.line given so.answered
+            runs fine;
         written = written_more h k m so.replies given so.written turned.written;
         refused = refused_now;
         unsure = unsure_now;
@@ -206,9 +220,9 @@ module _ (sizes : Sizes) (a b c h k m : Option (List ℕ)) (s t u : Served) (o n
       }
 
   ends_unsure : n.unsure ≡ true
-      → EndsUnsure sizes (so.lines ++ turned.line ∷ behind c) s (so.replies ++ given ∷ []) u
+      → EndsUnsure Leaves sizes (so.lines ++ turned.line ∷ behind c) s (so.replies ++ given ∷ []) u
   ends_unsure lost =
-      let working = so.unsure ∙ none_unsure sizes so.lines so.replies s t so.answered in
+      let working = so.unsure ∙ none_unsure Leaves sizes so.lines so.replies s t so.answered in
       record {
         before = so.lines;
         line = turned.line;
@@ -219,12 +233,12 @@ module _ (sizes : Sizes) (a b c h k m : Option (List ℕ)) (s t u : Served) (o n
         replies_are = refl;
         between = t;
         answered = so.answered;
-        answer = turned.answer;
+        runs = runs;
         unsure = sym (ap is_unsure turned.kind)
             ∙ is_lost o.unsure (is_unsure kind) n.unsure working after.unsure lost;
       }
 
-  run_lost : n.unsure ≡ true → IsAnswered sizes (io a h m) n s u
+  run_lost : n.unsure ≡ true → IsAnswered Leaves sizes (io a h m) n s u
   run_lost lost =
       record {
         lines = so.lines ++ turned.line ∷ behind c;
@@ -239,22 +253,25 @@ module _ (sizes : Sizes) (a b c h k m : Option (List ℕ)) (s t u : Served) (o n
         rest = turned.rest_is;
       }
 
-module _ (sizes : Sizes) (a b h k m : Option (List ℕ)) (s t u : Served) (o : Outcome)
-    (so : SoFar sizes a b h k o s t) where
-  run_end : HasEnded (io b k m) t u → IsAnswered sizes (io a h m) o s u
+module _ {D : Type 0} (Leaves : D → D → (List ℕ → Type 0) → Type 0) (sizes : Sizes)
+    (a b h k m : Option (List ℕ)) (s t u : Pause D) (o : Outcome)
+    (so : SoFar Leaves sizes a b h k o s t) where
+  run_end : HasEnded (io b k m) t u → IsAnswered Leaves sizes (io a h m) o s u
   run_end ended =
       record {
         lines = so.lines;
         lines_are = takes_all a b so.lines so.taken ended.none;
         replies = so.replies;
-        answers = inl (subst (AnswersEach sizes so.lines s so.replies) (sym ended.same) so.answered);
+        answers = inl (subst (AnswersEach Leaves sizes so.lines s so.replies) (sym ended.same)
+            so.answered);
         written = Appends-kept h k m (reply_lines so.replies) so.written ended.nothing;
         refused = so.refused;
         unsure = so.unsure;
-        rest = (subst (λ (v : Served). IsReady v.machine) (sym ended.same) so.ready).rest;
+        rest = (subst (λ (v : Pause D). IsReady v.served.machine) (sym ended.same) so.ready).rest;
       }
 
-  early : BreaksBefore (io b k m) t u → EndsBefore (io a h m) so.replies t u
+  early : BreaksBefore (io b k m) t.served u.served
+      → EndsBefore (io a h m) so.replies t.served u.served
   early breaks =
       record {
         same =
@@ -262,7 +279,8 @@ module _ (sizes : Sizes) (a b h k m : Option (List ℕ)) (s t u : Served) (o : O
         written = Appends-kept h k m (reply_lines so.replies) so.written breaks.nothing;
       }
 
-  late : BreaksIn sizes (io b k m) t u → EndsIn sizes (io a h m) so.lines so.replies t u
+  late : BreaksIn sizes (io b k m) t.served u.served
+      → EndsIn sizes (io a h m) so.lines so.replies t.served u.served
   late breaks =
       let w = breaks.written in
       record {
@@ -276,8 +294,8 @@ module _ (sizes : Sizes) (a b h k m : Option (List ℕ)) (s t u : Served) (o : O
         written = Appends-trans h k m (reply_lines so.replies) w.part so.written w.written;
       }
 
-  unstored : LeavesUnstored sizes (io b k m) t u
-      → EndsUnstored sizes (io a h m) so.lines so.replies t u
+  unstored : LeavesUnstored sizes (io b k m) t.served u.served
+      → EndsUnstored sizes (io a h m) so.lines so.replies t.served u.served
   unstored leaves =
       record {
         line = leaves.line;
@@ -286,8 +304,8 @@ module _ (sizes : Sizes) (a b h k m : Option (List ℕ)) (s t u : Served) (o : O
         written = Appends-kept h k m (reply_lines so.replies) so.written leaves.nothing;
       }
 
-  broken : (e : ToolFault) → Breaks sizes e (io b k m) t u
-      → Ends sizes e (io a h m) so.lines so.replies t u
+  broken : (e : ToolFault) → Breaks sizes e (io b k m) t.served u.served
+      → Ends sizes e (io a h m) so.lines so.replies t.served u.served
   unfolding late
   broken fault.Input breaks = early breaks
   broken fault.Output breaks = late breaks
@@ -295,8 +313,10 @@ module _ (sizes : Sizes) (a b h k m : Option (List ℕ)) (s t u : Served) (o : O
   broken fault.NoMemory (inr (inl breaks)) = inr (inl (late breaks.0, breaks.1))
   broken fault.NoMemory (inr (inr leaves)) = inr (inr (unstored leaves))
 
-  run_broken : (e : ToolFault) → Breaks sizes e (io b k m) t u → EndsEarly sizes (io a h m) e s u
-  run_broken e breaks =
+  run_broken : (e : ToolFault) → Breaks sizes e (io b k m) t.served u.served
+      → Leaves t.disk u.disk (StandsBetween sizes t.served.machine u.served.machine)
+      → EndsEarly Leaves sizes (io a h m) e s u
+  run_broken e breaks moments =
       record {
         lines = so.lines;
         begins = begins_with a b so.lines so.taken;
@@ -304,6 +324,7 @@ module _ (sizes : Sizes) (a b h k m : Option (List ℕ)) (s t u : Served) (o : O
         between = t;
         answered = so.answered;
         ends = broken e breaks;
+        moments = moments;
       }
 
 -- a cache that was just opened
@@ -315,78 +336,103 @@ ready_from base = record {
 
 -- ---- the session that a run leads from machine to machine
 
-module _ (sizes : Sizes) (a b c h k m : Option (List ℕ)) (first : Served) (o : Outcome)
-    (f now : ℕ) (Goes Next : Machine → Type 0)
-    (so : LedTo (SoFar sizes a b h k o first) f Goes) where
-  pub lines_more : (n : Outcome) (kind : Kind)
-      → ((j : Machine) → Goes j → IsReady j
-      → LedTo (Turns sizes c (io b k m) (Ok (Some kind)) (served j f)) now Next)
-      → IsAfter o kind n → n.unsure ≡ false → LedTo (SoFar sizes a c h m n first) now Next
+-- a line leads from one machine to the next, and at each moment of it a crash left what it may
+pub record Went {D : Type 0} (Leaves : D → D → (List ℕ → Type 0) → Type 0) (sizes : Sizes)
+    (d e : D) (Next : Machine → Type 0) (j next : Machine) : Type 0 where
+  pub goes : Next next
+  pub moments : Leaves d e (StandsBetween sizes j next)
+
+pub went : {D : Type 0} {Does : Served → Type 0} (moment : D → ℕ)
+    (left_since : D → ℕ → List ℕ → Type 0) (now : ℕ) (k : Machine) (old new : Session D)
+    → LedTo Does now (GoesOn moment left_since k old new)
+    → LedTo Does now (Went (LeavesOnly moment left_since) old.committer.sizes old.committer.disk
+    new.committer.disk (λ next. GoesWith next new) k)
+went moment left_since now k old new led = record {
+  next = led.next;
+  does = led.does;
+  goes = record { goes = led.goes.goes; moments = led.goes.moments };
+}
+
+module _ {D : Type 0} (Leaves : D → D → (List ℕ → Type 0) → Type 0) (sizes : Sizes)
+    (a b c h k m : Option (List ℕ)) (first : Pause D) (o : Outcome) (f now : ℕ) (d e : D)
+    (Goes Next : Machine → Type 0)
+    (so : LedTo (λ s. SoFar Leaves sizes a b h k o first (pause s d)) f Goes) where
+  -- what a line comes to, from whichever machine
+  abbrev LedBy : Result (Option Kind) ToolFault → Type 0
+  LedBy result =
+      (j : Machine) → Goes j → IsReady j
+      → LedTo (λ s. Turns sizes c (io b k m) result (pause (served j f) d) (pause s e)) now
+      (Went Leaves sizes d e Next j)
+
+  pub lines_more : (n : Outcome) (kind : Kind) → LedBy (Ok (Some kind)) → IsAfter o kind n
+      → n.unsure ≡ false
+      → LedTo (λ s. SoFar Leaves sizes a c h m n first (pause s e)) now Next
   lines_more n kind turn after sure =
       let t = turn so.next so.goes so.does.ready in
       record {
         next = t.next;
-        does = run_more sizes a b c h k m first (served so.next f) (served t.next now) o n kind
-            so.does t.does after sure;
-        goes = t.goes;
+        does = run_more Leaves sizes a b c h k m first (pause (served so.next f) d)
+            (pause (served t.next now) e) o n kind so.does t.does t.goes.moments after sure;
+        goes = t.goes.goes;
       }
 
-  pub lines_lost : (n : Outcome) (kind : Kind)
-      → ((j : Machine) → Goes j → IsReady j
-      → LedTo (Turns sizes c (io b k m) (Ok (Some kind)) (served j f)) now Next)
-      → IsAfter o kind n → n.unsure ≡ true
-      → LedTo (IsRun sizes (io a h m) (Ok n) first) now Next
+  pub lines_lost : (n : Outcome) (kind : Kind) → LedBy (Ok (Some kind)) → IsAfter o kind n
+      → n.unsure ≡ true
+      → LedTo (λ s. IsRun Leaves sizes (io a h m) (Ok n) first (pause s e)) now Next
   lines_lost n kind turn after lost =
       let t = turn so.next so.goes so.does.ready in
       record {
         next = t.next;
-        does = run_lost sizes a b c h k m first (served so.next f) (served t.next now) o n kind
-            so.does t.does after lost;
-        goes = t.goes;
+        does = run_lost Leaves sizes a b c h k m first (pause (served so.next f) d)
+            (pause (served t.next now) e) o n kind so.does t.does t.goes.moments after lost;
+        goes = t.goes.goes;
       }
 
-  pub lines_end : ((j : Machine) → Goes j → IsReady j
-      → LedTo (Turns sizes c (io b k m) (Ok None) (served j f)) now Next)
-      → LedTo (IsRun sizes (io a h m) (Ok o) first) now Next
+  pub lines_end : LedBy (Ok None)
+      → LedTo (λ s. IsRun Leaves sizes (io a h m) (Ok o) first (pause s e)) now Next
   lines_end turn =
       let t = turn so.next so.goes so.does.ready in
       record {
         next = t.next;
-        does = run_end sizes a b h k m first (served so.next f) (served t.next now) o so.does t.does;
-        goes = t.goes;
+        does = run_end Leaves sizes a b h k m first (pause (served so.next f) d)
+            (pause (served t.next now) e) o so.does t.does;
+        goes = t.goes.goes;
       }
 
-  pub lines_broken : (e : ToolFault) → ((j : Machine) → Goes j → IsReady j
-      → LedTo (Turns sizes c (io b k m) (Err e) (served j f)) now Next)
-      → LedTo (IsRun sizes (io a h m) (Err e) first) now Next
-  lines_broken e turn =
+  pub lines_broken : (x : ToolFault) → LedBy (Err x)
+      → LedTo (λ s. IsRun Leaves sizes (io a h m) (Err x) first (pause s e)) now Next
+  lines_broken x turn =
       let t = turn so.next so.goes so.does.ready in
       record {
         next = t.next;
-        does = run_broken sizes a b h k m first (served so.next f) (served t.next now) o so.does e
-            t.does;
-        goes = t.goes;
+        does = run_broken Leaves sizes a b h k m first (pause (served so.next f) d)
+            (pause (served t.next now) e) o so.does x t.does t.goes.moments;
+        goes = t.goes.goes;
       }
 
-pub lines_start : (sizes : Sizes) (a h : Option (List ℕ)) (k : Machine) (f : ℕ) (o : Outcome)
-    (Goes : Machine → Type 0) → o.refused ≡ false → o.unsure ≡ false → IsReady k → Goes k
-    → LedTo (SoFar sizes a a h h o (served k f)) f Goes
-lines_start sizes a h k f o Goes p q ready goes = record {
-  next = k;
-  does = run_start sizes a h (served k f) o p q ready;
-  goes = goes;
-}
+module _ {D : Type 0} (Leaves : D → D → (List ℕ → Type 0) → Type 0) (sizes : Sizes) where
+  pub lines_start : (a h : Option (List ℕ)) (k : Machine) (f : ℕ) (d : D) (o : Outcome)
+      (Goes : Machine → Type 0) → o.refused ≡ false → o.unsure ≡ false → IsReady k → Goes k
+      → LedTo (λ s. SoFar Leaves sizes a a h h o (pause (served k f) d) (pause s d)) f Goes
+  lines_start a h k f d o Goes p q ready goes = record {
+    next = k;
+    does = run_start Leaves sizes a h (pause (served k f) d) o p q ready;
+    goes = goes;
+  }
 
--- the run gave up before the end
-pub lines_given_up : (sizes : Sizes) (a b h k : Option (List ℕ)) (first : Served) (o : Outcome)
-    (f : ℕ) (Goes : Machine → Type 0) → LedTo (SoFar sizes a b h k o first) f Goes
-    → LedTo (IsRun sizes (io a h k) (Err fault.Input) first) f Goes
-lines_given_up sizes a b h k first o f Goes so = record {
-  next = so.next;
-  does = run_broken sizes a b h k k first (served so.next f) (served so.next f) o so.does
-      fault.Input (record { same = refl; nothing = Keeps-refl k });
-  goes = so.goes;
-}
+  -- the run gave up before the end
+  pub lines_given_up : (a b h k : Option (List ℕ)) (first : Pause D) (o : Outcome) (f : ℕ) (d : D)
+      (Goes : Machine → Type 0)
+      → ((j : Machine) → Goes j → Leaves d d (StandsBetween sizes j j))
+      → LedTo (λ s. SoFar Leaves sizes a b h k o first (pause s d)) f Goes
+      → LedTo (λ s. IsRun Leaves sizes (io a h k) (Err fault.Input) first (pause s d)) f Goes
+  lines_given_up a b h k first o f d Goes still so = record {
+    next = so.next;
+    does = run_broken Leaves sizes a b h k k first (pause (served so.next f) d)
+        (pause (served so.next f) d) o so.does fault.Input
+        (record { same = refl; nothing = Keeps-refl k }) (still so.next so.goes);
+    goes = so.goes;
+  }
 
 -- ---- one line
 
@@ -436,24 +482,24 @@ unmade sizes a b h s u line e taken (inr (inr left)) =
       nothing = Keeps-refl h;
     }))
 
-module _ (sizes : Sizes) (a b h : Option (List ℕ)) (old : Served) (now : ℕ)
-    (Goes : Machine → Type 0) (buffer : LineBuffer) (question : Option Line)
+module _ {D : Type 0} (sizes : Sizes) (a b h : Option (List ℕ)) (old : Served) (now : ℕ)
+    (d e : D) (Goes : Machine → Type 0) (buffer : LineBuffer) (question : Option Line)
     (read : ReadsLine a b buffer true)
     (says : (line : List ℕ) → Holds line buffer → option_map seen question ≡ asked_by line) where
-  pub line_unmade : {E : Type 0} (e : E)
-      → LedTo (Replies {E = E} sizes (option_map seen question) (Err e) old) now Goes
-      → LedTo (Turns sizes b (io a h h) (Err fault.NoMemory) old) now Goes
-  line_unmade e led = record {
+  pub line_unmade : {E : Type 0} (x : E)
+      → LedTo (Replies {E = E} sizes (option_map seen question) (Err x) old) now Goes
+      → LedTo (λ s. Turns sizes b (io a h h) (Err fault.NoMemory) (pause old d) (pause s e)) now Goes
+  line_unmade x led = record {
     next = led.next;
-    does = unmade sizes a b h old (served led.next now) read.0 e read.1
-        (asked_line sizes a b buffer question (Err e) old (served led.next now) read says led.does);
+    does = unmade sizes a b h old (served led.next now) read.0 x read.1
+        (asked_line sizes a b buffer question (Err x) old (served led.next now) read says led.does);
     goes = led.goes;
   }
 
   pub line_answered : (E : Type 0) (m : Option (List ℕ)) (reply : Reply)
       → LedTo (Replies {E = E} sizes (option_map seen question) (Ok reply) old) now Goes
       → Appends h m reply.line.items
-      → LedTo (Turns sizes b (io a h m) (Ok (Some reply.kind)) old) now Goes
+      → LedTo (λ s. Turns sizes b (io a h m) (Ok (Some reply.kind)) (pause old d) (pause s e)) now Goes
   line_answered E m reply led written =
       let r = asked_line {E = E} sizes a b buffer question (Ok reply) old (served led.next now) read
       says led.does in
@@ -475,7 +521,7 @@ module _ (sizes : Sizes) (a b h : Option (List ℕ)) (old : Served) (now : ℕ)
   pub line_unwritten : (E : Type 0) (m : Option (List ℕ)) (reply : Reply)
       → LedTo (Replies {E = E} sizes (option_map seen question) (Ok reply) old) now Goes
       → WritesPart h m reply.line.items
-      → LedTo (Turns sizes b (io a h m) (Err fault.Output) old) now Goes
+      → LedTo (λ s. Turns sizes b (io a h m) (Err fault.Output) (pause old d) (pause s e)) now Goes
   line_unwritten E m reply led written =
       let r = asked_line {E = E} sizes a b buffer question (Ok reply) old (served led.next now) read
       says led.does in

@@ -14,6 +14,7 @@ use Rattle.cm_prepare.specs.declared.refusal.Refusal.{Refusal}
 use Rattle.cm_prepare.specs.Prepare.{IsUnprepared}
 use Rattle.cm_machine.specs.Machine.{Machine, Accepts, Refuses}
 use Rattle.cm_machine.specs.Laws.{Finds}
+use Rattle.cm_session.specs.Images.{StandsFor}
 use Rattle.cm_lines.specs.Escapes.{unescaped}
 use Rattle.cm_lines.specs.Lines.{Asked, AsksLoader, AsksUnload, AsksDefine, AsksFind, asked_by}
 use Rattle.cm_tool.specs.Texts.{ReplyText, number_reply, defined_reply, none_reply, class_reply}
@@ -159,18 +160,46 @@ pub record IsUnstored (sizes : Sizes) (question : Option Asked) (old new : Serve
 
 -- ---- a script
 
+-- where a script stands between two lines: what it runs on, and the disk
+pub record Pause (D : Type 0) : Type 0 where
+  pub served : Served
+  pub disk : D
+
+abbrev pub pause : {D : Type 0} → Served → D → Pause D
+pause served disk = record { served = served; disk = disk }
+
+-- The contents stand for what some number of the commands came to: all of them that were
+-- acknowledged before, and none that wasn't handed out by now.
+pub record StandsBetween (sizes : Sizes) (before now : Machine) (contents : List ℕ)
+    : Type 0 where
+  pub number : ℕ
+  pub least : before.acknowledged ≤ number
+  pub most : number ≤ now.sealed
+  pub stands : StandsFor sizes now number contents
+
+-- A line was answered, and at each moment on the way a crash left what stands for all that was
+-- acknowledged before it, and for nothing that wasn't handed out by its end. What a crash leaves
+-- between two disks is an argument.
+pub record RunsLine {D : Type 0} (Leaves : D → D → (List ℕ → Type 0) → Type 0) (sizes : Sizes)
+    (line : List ℕ) (old : Pause D) (given : ReplyText) (new : Pause D) : Type 0 where
+  pub answer : AnswersLine sizes line old.served given new.served
+  pub moments : Leaves old.disk new.disk
+      (StandsBetween sizes old.served.machine new.served.machine)
+
 -- one reply to each line, none of them unsure
-abbrev pub AnswersEach : Sizes → List (List ℕ) → Served → List ReplyText → Served → Type 0
-AnswersEach sizes [] old [] new = new ≡ old
-AnswersEach sizes [] old (given ∷ more) new = ⊥
-AnswersEach sizes (line ∷ lines) old [] new = ⊥
-AnswersEach sizes (line ∷ lines) old (given ∷ more) new =
-    (next : Served) × AnswersLine sizes line old given next × (is_unsure given.kind ≡ false)
-    × AnswersEach sizes lines next more new
+abbrev pub AnswersEach : {D : Type 0} → (D → D → (List ℕ → Type 0) → Type 0) → Sizes
+    → List (List ℕ) → Pause D → List ReplyText → Pause D → Type 0
+AnswersEach Leaves sizes [] old [] new = new ≡ old
+AnswersEach Leaves sizes [] old (given ∷ more) new = ⊥
+AnswersEach Leaves sizes (line ∷ lines) old [] new = ⊥
+AnswersEach {D = D} Leaves sizes (line ∷ lines) old (given ∷ more) new =
+    (next : Pause D) × RunsLine Leaves sizes line old given next × (is_unsure given.kind ≡ false)
+    × AnswersEach Leaves sizes lines next more new
 
 -- the reply to some line is unsure, and nothing follows it
-pub record EndsUnsure (sizes : Sizes) (lines : List (List ℕ)) (old : Served)
-    (replies : List ReplyText) (new : Served) : Type 0 where
+pub record EndsUnsure {D : Type 0} (Leaves : D → D → (List ℕ → Type 0) → Type 0) (sizes : Sizes)
+    (lines : List (List ℕ)) (old : Pause D) (replies : List ReplyText) (new : Pause D)
+    : Type 0 where
   pub before : List (List ℕ)
   pub line : List ℕ
   pub behind : List (List ℕ)
@@ -178,11 +207,13 @@ pub record EndsUnsure (sizes : Sizes) (lines : List (List ℕ)) (old : Served)
   pub earlier : List ReplyText
   pub last : ReplyText
   pub replies_are : replies ≡ earlier ++ last ∷ []
-  pub between : Served
-  pub answered : AnswersEach sizes before old earlier between
-  pub answer : AnswersLine sizes line between last new
+  pub between : Pause D
+  pub answered : AnswersEach Leaves sizes before old earlier between
+  pub runs : RunsLine Leaves sizes line between last new
   pub unsure : is_unsure last.kind ≡ true
 
-abbrev pub Answers : Sizes → List (List ℕ) → Served → List ReplyText → Served → Type 0
-Answers sizes lines old replies new =
-    AnswersEach sizes lines old replies new ⊎ EndsUnsure sizes lines old replies new
+abbrev pub Answers : {D : Type 0} → (D → D → (List ℕ → Type 0) → Type 0) → Sizes
+    → List (List ℕ) → Pause D → List ReplyText → Pause D → Type 0
+Answers Leaves sizes lines old replies new =
+    AnswersEach Leaves sizes lines old replies new
+    ⊎ EndsUnsure Leaves sizes lines old replies new

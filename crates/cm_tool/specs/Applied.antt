@@ -1,7 +1,7 @@
 -- What comes of a script on the cache that stands on a disk.
-use Rattle.std.specs.Prelude.{◌≡◌, ◌<◌, ◌≤◌, ℕ}
+use Rattle.std.specs.Prelude.{◌≡◌, ◌<◌, ◌≤◌, ℕ, List}
 use Rattle.cm_pool.specs.Geometry.{Sizes}
-use Rattle.cm_disk.specs.Disk.{IsWithin}
+use Rattle.cm_disk.specs.Disk.{IsImage, IsWithin}
 use Rattle.cm_state.specs.Stands.{Arenas, Stands}
 use Rattle.cm_verdict.specs.Verdict.{verdict}
 use Rattle.cm_recover.specs.declared.fault.OpenFault.{OpenFault}
@@ -11,35 +11,44 @@ use Rattle.cm_machine.specs.Machine.{Base, machine_from}
 use Rattle.cm_lines.specs.Streams.{Io}
 use Rattle.cm_tool.specs.declared.apply.ApplyFault.{ApplyFault}
 use Rattle.cm_tool.specs.declared.apply.ApplyFault.TheVariants as apply
-use Rattle.cm_tool.specs.Answers.{Served, served}
+use Rattle.cm_tool.specs.Answers.{Served, served, Pause, pause}
 use Rattle.cm_tool.specs.Runs.{EndsEarly}
 use Rattle.cm_tool.specs.Serving.{Medium, LeavesDisk}
 
 -- A run that begins with the cache that the disk's bytes stand for, and the disk that it leaves.
-pub record RunsFromOpened (disk left : Medium) (Came : Sizes → Served → Served → Type 0)
+-- While the cache is opened a crash leaves what it might have left before.
+pub record RunsFromOpened {D : Type 0} (Leaves : D → D → (List ℕ → Type 0) → Type 0)
+    (begun ended : D) (disk left : Medium) (Came : Sizes → Pause D → Pause D → Type 0)
     : Type 0 where
   pub sizes : Sizes
   pub base : Base
   pub arenas : Arenas
   pub stands : Stands sizes disk.bytes base.state arenas base.number
+  pub opened : D
+  pub opening : Leaves begun opened (IsImage disk.bytes disk.unsynced)
   -- how often the disk had failed when the cache was opened
-  pub opened : ℕ
-  pub later : disk.failures ≤ opened
+  pub failures : ℕ
+  pub later : disk.failures ≤ failures
   pub new : Served
-  pub came : Came sizes (served (machine_from base) opened) new
+  pub came : Came sizes (pause (served (machine_from base) failures) opened) (pause new ended)
   pub leaves : LeavesDisk sizes left new
 
--- Nothing was run: the disk has its bytes, a crash leaves no more than it did before, nothing is
--- written, and the fault is the one that the bytes have, or of the device or of memory.
-pub record IsUntouched (io : Io) (disk left : Medium) (f : OpenFault) : Type 0 where
+-- Nothing was run: the disk has its bytes, at each moment a crash left no more than it did before,
+-- nothing is written, and the fault is the one that the bytes have, or of the device or of memory.
+pub record IsUntouched {D : Type 0} (Leaves : D → D → (List ℕ → Type 0) → Type 0)
+    (begun ended : D) (io : Io) (disk left : Medium) (f : OpenFault) : Type 0 where
   pub bytes_stay : left.bytes ≡ disk.bytes
   pub no_more : IsWithin disk.unsynced left.unsynced
+  pub moments : Leaves begun ended (IsImage disk.bytes disk.unsynced)
   pub nothing : io.after ≡ io.before
   pub fault_is : IsFaultIn f (verdict disk.bytes)
   pub device : f ≡ open_fault.Device → disk.failures < left.failures
 
 -- why a run isn't there, or ended early
-abbrev pub IsStopped : Io → Medium → Medium → ApplyFault → Type 0
-IsStopped io disk left (apply.Open f) = IsUntouched io disk left f
-IsStopped io disk left (apply.Script e) =
-    RunsFromOpened disk left (λ sizes old new. EndsEarly sizes io e old new)
+abbrev pub IsStopped : {D : Type 0} → (D → D → (List ℕ → Type 0) → Type 0) → D → D → Io → Medium
+    → Medium → ApplyFault → Type 0
+IsStopped Leaves begun ended io disk left (apply.Open f) =
+    IsUntouched Leaves begun ended io disk left f
+IsStopped Leaves begun ended io disk left (apply.Script e) =
+    RunsFromOpened Leaves begun ended disk left
+    (λ sizes old new. EndsEarly Leaves sizes io e old new)

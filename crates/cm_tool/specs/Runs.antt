@@ -1,6 +1,6 @@
 -- What a run of a script takes from its reader and gives to its writer, where those tell their
 -- bytes.
-use Rattle.std.specs.Prelude.{◌≡◌, ◌⊎◌, ℕ, ◌++◌, true, false, List, [], ◌∷◌, Option, Some, None}
+use Rattle.std.specs.Prelude.{◌≡◌, ◌⊎◌, ℕ, ◌++◌, false, List, [], ◌∷◌, Option, Some, None}
 use Rattle.std.specs.Prelude.{IfSome, Result, Ok, Err}
 use Rattle.std.specs.List.{list_any}
 use Rattle.std.specs.Io.KnownBytes.{Appends, Keeps}
@@ -16,7 +16,8 @@ use Rattle.cm_tool.specs.Replies.{is_refused, is_unsure, reply_line, reply_lines
 use Rattle.cm_tool.specs.declared.script.Outcome.{Outcome}
 use Rattle.cm_tool.specs.declared.script.ToolFault.{ToolFault}
 use Rattle.cm_tool.specs.declared.script.ToolFault.TheVariants as fault
-use Rattle.cm_tool.specs.Answers.{Served, AnswersLine, AnswersEach, Answers, IsUnstored}
+use Rattle.cm_tool.specs.Answers.{Served, AnswersLine, IsUnstored, Pause, StandsBetween}
+use Rattle.cm_tool.specs.Answers.{AnswersEach, Answers}
 
 abbrev pub fault_of : LineFault → ToolFault
 fault_of line_fault.Input = fault.Input
@@ -37,7 +38,7 @@ pub record Turned (sizes : Sizes) (rest : Option (List ℕ)) (io : Io) (k : Kind
   pub rest_is : IsAtRest new.machine
   pub works : is_unsure given.kind ≡ false → new.machine.failed ≡ false
 
-pub record HasEnded (io : Io) (old new : Served) : Type 0 where
+pub record HasEnded {D : Type 0} (io : Io) (old new : Pause D) : Type 0 where
   pub none : HasNoLine io.script
   pub same : new ≡ old
   pub nothing : Keeps io.before io.after
@@ -72,27 +73,27 @@ Breaks sizes fault.NoMemory io old new =
     ⊎ (((b : BreaksIn sizes io old new) × (b.written.part ≡ [])) ⊎ LeavesUnstored sizes io old new)
 
 -- the rest is what the reader gives behind the line
-abbrev pub Turns : Sizes → Option (List ℕ) → Io → Result (Option Kind) ToolFault → Served → Served
-    → Type 0
-Turns sizes rest io (Ok (Some k)) old new = Turned sizes rest io k old new
+abbrev pub Turns : {D : Type 0} → Sizes → Option (List ℕ) → Io → Result (Option Kind) ToolFault
+    → Pause D → Pause D → Type 0
+Turns sizes rest io (Ok (Some k)) old new = Turned sizes rest io k old.served new.served
 Turns sizes rest io (Ok None) old new = HasEnded io old new
-Turns sizes rest io (Err e) old new = Breaks sizes e io old new
+Turns sizes rest io (Err e) old new = Breaks sizes e io old.served new.served
 
 -- ---- a whole script
 
 -- Where the reader tells its script, the lines are that script's; the replies are answers to them,
 -- and they are what is written. The outcome tells whether some reply is a refusal, and whether one
 -- is unsure. All that was answered `ok` is acknowledged.
-pub record IsAnswered (sizes : Sizes) (io : Io) (outcome : Outcome) (old new : Served)
-    : Type 0 where
+pub record IsAnswered {D : Type 0} (Leaves : D → D → (List ℕ → Type 0) → Type 0) (sizes : Sizes)
+    (io : Io) (outcome : Outcome) (old new : Pause D) : Type 0 where
   pub lines : List (List ℕ)
   pub lines_are : IfSome io.script (λ script. lines ≡ lines_of script)
   pub replies : List ReplyText
-  pub answers : Answers sizes lines old replies new
+  pub answers : Answers Leaves sizes lines old replies new
   pub written : Appends io.before io.after (reply_lines replies)
   pub refused : outcome.refused ≡ list_any (λ given. is_refused given.kind) replies
   pub unsure : outcome.unsure ≡ list_any (λ given. is_unsure given.kind) replies
-  pub rest : IsAtRest new.machine
+  pub rest : IsAtRest new.served.machine
 
 -- nothing more was run, and nothing more is written
 pub record EndsBefore (io : Io) (replies : List ReplyText) (between new : Served) : Type 0 where
@@ -129,15 +130,20 @@ Ends sizes fault.NoMemory io lines replies between new =
 
 -- The script's first lines were answered, each reply is written, and none is unsure. Then the run
 -- broke: by a failing reader before the next line was run, by a failing writer in it, and by a
--- failed allocation before it, or in it with nothing of its reply written.
-pub record EndsEarly (sizes : Sizes) (io : Io) (e : ToolFault) (old new : Served) : Type 0 where
+-- failed allocation before it, or in it with nothing of its reply written. In it as in the others,
+-- at each moment a crash left what stands for all that was acknowledged before.
+pub record EndsEarly {D : Type 0} (Leaves : D → D → (List ℕ → Type 0) → Type 0) (sizes : Sizes)
+    (io : Io) (e : ToolFault) (old new : Pause D) : Type 0 where
   pub lines : List (List ℕ)
   pub begins : Begins io.script lines
   pub replies : List ReplyText
-  pub between : Served
-  pub answered : AnswersEach sizes lines old replies between
-  pub ends : Ends sizes e io lines replies between new
+  pub between : Pause D
+  pub answered : AnswersEach Leaves sizes lines old replies between
+  pub ends : Ends sizes e io lines replies between.served new.served
+  pub moments : Leaves between.disk new.disk
+      (StandsBetween sizes between.served.machine new.served.machine)
 
-abbrev pub IsRun : Sizes → Io → Result Outcome ToolFault → Served → Served → Type 0
-IsRun sizes io (Ok outcome) old new = IsAnswered sizes io outcome old new
-IsRun sizes io (Err e) old new = EndsEarly sizes io e old new
+abbrev pub IsRun : {D : Type 0} → (D → D → (List ℕ → Type 0) → Type 0) → Sizes → Io
+    → Result Outcome ToolFault → Pause D → Pause D → Type 0
+IsRun Leaves sizes io (Ok outcome) old new = IsAnswered Leaves sizes io outcome old new
+IsRun Leaves sizes io (Err e) old new = EndsEarly Leaves sizes io e old new

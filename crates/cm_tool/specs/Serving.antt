@@ -1,18 +1,21 @@
 -- What the functions of a script do to the session that they run on.
-use Rattle.std.specs.Prelude.{◌≡◌, ◌⊎◌, ℕ, false, List, Option, Result, Ok, Err, IfOk}
+use Rattle.std.specs.Prelude.{◌≡◌, ◌≤◌, ◌⊎◌, ℕ, false, List, Option, Result, Ok, Err, IfOk}
 use Rattle.cm_pool.specs.Geometry.{Sizes}
 use Rattle.cm_disk.specs.Disk.{Unsynced}
 use Rattle.cm_guards.specs.Guards.{EachImage}
+use Rattle.cm_guards.specs.Calls.{LeavesOnly}
 use Rattle.cm_machine.specs.Machine.{Machine}
+use Rattle.cm_session.specs.declared.session.Session.{Session}
 use Rattle.cm_session.specs.declared.storing.NotStored.{NotStored}
 use Rattle.cm_session.specs.declared.storing.NotStored.TheVariants.{Refused, NoMemory, Unsure}
 use Rattle.cm_session.specs.Images.{StandsForSome}
+use Rattle.cm_session.specs.Moves.{GoesWith}
 use Rattle.cm_session.specs.Storing.{IsAtRest}
 use Rattle.cm_lines.specs.Lines.{Asked}
 use Rattle.cm_tool.specs.declared.reply.Reply.{Reply}
 use Rattle.cm_tool.specs.Texts.{ReplyText, refusal_reply, unsure_reply}
 use Rattle.cm_tool.specs.Replies.{IsReply, is_unsure}
-use Rattle.cm_tool.specs.Answers.{Served, served, AnswersAsked, IsUnstored}
+use Rattle.cm_tool.specs.Answers.{Served, served, AnswersAsked, IsUnstored, StandsBetween}
 
 -- everything that was accepted is acknowledged, and the device works
 pub record IsReady (k : Machine) : Type 0 where
@@ -24,6 +27,23 @@ pub record LedTo (Does : Served → Type 0) (failures : ℕ) (Goes : Machine →
   pub next : Machine
   pub does : Does (served next failures)
   pub goes : Goes next
+
+-- The session goes with the machine, and at each moment on the way a crash left what stands for all
+-- that was acknowledged before, and for nothing that wasn't handed out by now.
+pub record GoesOn {D : Type 0} (moment : D → ℕ) (left_since : D → ℕ → List ℕ → Type 0)
+    (k : Machine) (old new : Session D) (next : Machine) : Type 0 where
+  pub goes : GoesWith next new
+  pub moments : LeavesOnly moment left_since old.committer.disk new.committer.disk
+      (StandsBetween old.committer.sizes k next)
+
+-- the same, where it may be that the disk wasn't touched
+pub record MayGoOn {D : Type 0} (moment : D → ℕ) (left_since : D → ℕ → List ℕ → Type 0)
+    (k : Machine) (old new : Session D) (next : Machine) : Type 0 where
+  pub goes : GoesWith next new
+  pub no_less : k.acknowledged ≤ next.acknowledged
+  pub moments : (new.committer.disk ≡ old.committer.disk)
+      ⊎ LeavesOnly moment left_since old.committer.disk new.committer.disk
+      (StandsBetween old.committer.sizes k next)
 
 -- ---- replies
 

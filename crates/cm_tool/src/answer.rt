@@ -12,7 +12,7 @@ ghost use Rattle.cm_session.specs.Moves.{GoesWith};
 ghost use Rattle.cm_lines.specs.Lines.{seen, AsksLoader, AsksUnload, AsksDefine, AsksFind};
 ghost use Rattle.cm_tool.specs.Texts.{number_reply, defined_reply};
 ghost use Rattle.cm_tool.specs.Answers.{served};
-ghost use Rattle.cm_tool.specs.Serving.{IsReady, LedTo, Replies, Tells, TellsNotStored};
+ghost use Rattle.cm_tool.specs.Serving.{IsReady, LedTo, MayGoOn, Replies, Tells, TellsNotStored};
 
 use crate::{Reply, bad_line, defined, done, found, nothing, refused, unsure};
 use cm_disk::Disk;
@@ -33,7 +33,8 @@ pub fn answer<D: Disk>(
     ensures machine { (k : Machine) → GoesWith k session.old → IsReady k
         → LedTo (Replies session.old.committer.sizes (option_map seen question.entry) result
         (served k (D.failures session.old.committer.disk)))
-        (D.failures session.new.committer.disk) (λ next. GoesWith next session.new) }
+        (D.failures session.new.committer.disk)
+        (MayGoOn D.moment D.left_since k session.old session.new) }
     ensures sizes { session.new.committer.sizes ≡ session.old.committer.sizes }
 {
     match question {
@@ -50,7 +51,8 @@ fn answer_question<D: Disk>(
     ensures machine { (k : Machine) → GoesWith k session.old → IsReady k
         → LedTo (Replies session.old.committer.sizes (Some (seen question.entry)) result
         (served k (D.failures session.old.committer.disk)))
-        (D.failures session.new.committer.disk) (λ next. GoesWith next session.new) }
+        (D.failures session.new.committer.disk)
+        (MayGoOn D.moment D.left_since k session.old session.new) }
     ensures sizes { session.new.committer.sizes ≡ session.old.committer.sizes }
 {
     match question {
@@ -69,7 +71,8 @@ fn add_loader<D: Disk>(
     ensures machine { (k : Machine) → GoesWith k session.old → IsReady k
         → LedTo (Replies session.old.committer.sizes (Some (AsksLoader name.now)) result
         (served k (D.failures session.old.committer.disk)))
-        (D.failures session.new.committer.disk) (λ next. GoesWith next session.new) }
+        (D.failures session.new.committer.disk)
+        (MayGoOn D.moment D.left_since k session.old session.new) }
     ensures sizes { session.new.committer.sizes ≡ session.old.committer.sizes }
 {
     let stored = session.store(Command::AddLoader(name));
@@ -84,7 +87,8 @@ fn unload<D: Disk>(
     ensures machine { (k : Machine) → GoesWith k session.old → IsReady k
         → LedTo (Replies session.old.committer.sizes (Some (AsksUnload name.now)) result
         (served k (D.failures session.old.committer.disk)))
-        (D.failures session.new.committer.disk) (λ next. GoesWith next session.new) }
+        (D.failures session.new.committer.disk)
+        (MayGoOn D.moment D.left_since k session.old session.new) }
     ensures sizes { session.new.committer.sizes ≡ session.old.committer.sizes }
 {
     let stored = session.store(Command::Unload(name));
@@ -120,7 +124,8 @@ fn define<D: Disk>(
     ensures machine { (k : Machine) → GoesWith k session.old → IsReady k
         → LedTo (Replies session.old.committer.sizes (Some (AsksDefine loader.now digits.now)) result
         (served k (D.failures session.old.committer.disk)))
-        (D.failures session.new.committer.disk) (λ next. GoesWith next session.new) }
+        (D.failures session.new.committer.disk)
+        (MayGoOn D.moment D.left_since k session.old session.new) }
     ensures sizes { session.new.committer.sizes ≡ session.old.committer.sizes }
 {
     match hex::decode(alloc, digits) {
@@ -152,7 +157,8 @@ fn define_bytes<D: Disk>(
         → (k : Machine) → GoesWith k session.old → IsReady k
         → LedTo (Replies session.old.committer.sizes (Some (AsksDefine loader.now digits)) result
         (served k (D.failures session.old.committer.disk)))
-        (D.failures session.new.committer.disk) (λ next. GoesWith next session.new) }
+        (D.failures session.new.committer.disk)
+        (MayGoOn D.moment D.left_since k session.old session.new) }
     ensures sizes { session.new.committer.sizes ≡ session.old.committer.sizes }
 {
     match prepare(alloc, bytes) {
@@ -172,7 +178,8 @@ fn define_class<D: Disk>(
         → (k : Machine) → GoesWith k session.old → IsReady k
         → LedTo (Replies session.old.committer.sizes (Some (AsksDefine loader.now digits)) result
         (served k (D.failures session.old.committer.disk)))
-        (D.failures session.new.committer.disk) (λ next. GoesWith next session.new) }
+        (D.failures session.new.committer.disk)
+        (MayGoOn D.moment D.left_since k session.old session.new) }
     ensures sizes { session.new.committer.sizes ≡ session.old.committer.sizes }
 {
     layout_determines_class();
@@ -204,7 +211,8 @@ fn find<D: Disk>(
     ensures { (k : Machine) → GoesWith k session.now → IsReady k
         → LedTo (Replies session.now.committer.sizes (Some (AsksFind loader.now class.now)) result
         (served k (D.failures session.now.committer.disk)))
-        (D.failures session.now.committer.disk) (λ next. GoesWith next session.now) }
+        (D.failures session.now.committer.disk)
+        (MayGoOn D.moment D.left_since k session.now session.now) }
 {
     let name = match unescape(alloc, class) {
         Ok(name) => name,

@@ -1,6 +1,7 @@
 //! Scripts on the cache that stands on a disk.
 
 ghost use Rattle.std.specs.Prelude.{IfOk, IfErr};
+ghost use Rattle.cm_guards.specs.Calls.{LeavesOnly};
 ghost use Rattle.cm_lines.specs.Streams.{io};
 ghost use Rattle.cm_tool.specs.Runs.{IsAnswered};
 ghost use Rattle.cm_tool.specs.Serving.{medium};
@@ -27,6 +28,9 @@ pub enum ApplyFault {
 /// Opens the cache on a disk, and runs a script on it: reads its lines, and writes the reply to
 /// each as soon as it is there. A command's `ok` is written once the command is stored.
 ///
+/// A crash at any moment of a line leaves all that was acknowledged before that line, and nothing
+/// that wasn't handed out by its end; while the cache is opened, what it might have left before.
+///
 /// The disk is handed back in any case. After `Open` it has the bytes that it had; after `Script`
 /// all that was acknowledged is stored.
 pub fn apply_script<R: BufRead, W: Write, D: Disk>(
@@ -35,13 +39,14 @@ pub fn apply_script<R: BufRead, W: Write, D: Disk>(
     writer: &mut W,
     disk: D,
 ) -> (Result<Outcome, ApplyFault>, D)
-    ensures ok { IfOk result.0 (λ outcome. RunsFromOpened
+    ensures ok { IfOk result.0 (λ outcome.
+        RunsFromOpened (LeavesOnly D.moment D.left_since) disk result.1
         (medium (D.contents disk) (D.unsynced disk) (D.failures disk))
         (medium (D.contents result.1) (D.unsynced result.1) (D.failures result.1))
-        (λ sizes old new. IsAnswered sizes
+        (λ sizes old new. IsAnswered (LeavesOnly D.moment D.left_since) sizes
         (io (R.remaining reader.old) (W.contents writer.old) (W.contents writer.new))
         outcome old new)) }
-    ensures err { IfErr result.0 (IsStopped
+    ensures err { IfErr result.0 (IsStopped (LeavesOnly D.moment D.left_since) disk result.1
         (io (R.remaining reader.old) (W.contents writer.old) (W.contents writer.new))
         (medium (D.contents disk) (D.unsynced disk) (D.failures disk))
         (medium (D.contents result.1) (D.unsynced result.1) (D.failures result.1))) }

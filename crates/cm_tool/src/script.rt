@@ -1,13 +1,14 @@
 //! Scripts: lines that are read, run and answered one after another.
 
 ghost use Rattle.std.specs.Prelude.{◌≡◌, ◌||◌, IfOk, IfErr};
+ghost use Rattle.cm_guards.specs.Calls.{LeavesOnly};
 ghost use Rattle.cm_machine.specs.Machine.{Machine};
 ghost use Rattle.cm_session.specs.Moves.{GoesWith};
 ghost use Rattle.cm_lines.specs.Streams.{io};
 ghost use Rattle.cm_tool.specs.Replies.{is_refused, is_unsure};
-ghost use Rattle.cm_tool.specs.Answers.{Served, served};
+ghost use Rattle.cm_tool.specs.Answers.{Served, served, pause};
 ghost use Rattle.cm_tool.specs.Runs.{fault_of, Turns, IsRun};
-ghost use Rattle.cm_tool.specs.Serving.{IsReady, LedTo, medium, LeavesDisk};
+ghost use Rattle.cm_tool.specs.Serving.{IsReady, LedTo, GoesOn, MayGoOn, medium, LeavesDisk};
 
 use crate::Kind;
 use crate::answer::answer;
@@ -82,9 +83,10 @@ pub fn run_script<R: BufRead, W: Write, D: Disk>(
     session: &mut Session<D>,
 ) -> Result<Outcome, ToolFault>
     ensures machine { (k : Machine) → GoesWith k session.old → IsReady k
-        → LedTo (IsRun session.old.committer.sizes
+        → LedTo (λ next. IsRun (LeavesOnly D.moment D.left_since) session.old.committer.sizes
         (io (R.remaining reader.old) (W.contents writer.old) (W.contents writer.new)) result
-        (served k (D.failures session.old.committer.disk)))
+        (pause (served k (D.failures session.old.committer.disk)) session.old.committer.disk)
+        (pause next session.new.committer.disk))
         (D.failures session.new.committer.disk) (λ next. GoesWith next session.new) }
     ensures sizes { session.new.committer.sizes ≡ session.old.committer.sizes }
 {
@@ -106,6 +108,7 @@ pub fn run_script<R: BufRead, W: Write, D: Disk>(
         }
     }
     // No script has 2^64 lines: the bound only shows that the loop ends.
+    session.images(); // so the proof knows what a crash leaves now
     Err(ToolFault::Input)
 }
 
@@ -119,9 +122,10 @@ pub fn run_to_end<R: BufRead, W: Write, D: Disk>(
 ) -> (Result<Outcome, ToolFault>, D)
     ensures { (k : Machine) → GoesWith k session → IsReady k
         → (new : Served)
-        × IsRun session.committer.sizes
+        × IsRun (LeavesOnly D.moment D.left_since) session.committer.sizes
         (io (R.remaining reader.old) (W.contents writer.old) (W.contents writer.new)) result.0
-        (served k (D.failures session.committer.disk)) new
+        (pause (served k (D.failures session.committer.disk)) session.committer.disk)
+        (pause new result.1)
         × LeavesDisk session.committer.sizes
         (medium (D.contents result.1) (D.unsynced result.1) (D.failures result.1)) new }
 {
@@ -131,7 +135,7 @@ pub fn run_to_end<R: BufRead, W: Write, D: Disk>(
     (result, session.into_disk())
 }
 
-/// Reads a line, runs it and writes its reply. `None` says that there was no line.
+/// Takes a line, and tells what a crash may have left at each moment of it.
 fn run_line<R: BufRead, W: Write, D: Disk>(
     alloc: Global,
     reader: &mut R,
@@ -140,10 +144,34 @@ fn run_line<R: BufRead, W: Write, D: Disk>(
     line: &mut LineBuffer,
 ) -> Result<Option<Kind>, ToolFault>
     ensures machine { (k : Machine) → GoesWith k session.old → IsReady k
-        → LedTo (Turns session.old.committer.sizes (R.remaining reader.new)
+        → LedTo (λ next. Turns session.old.committer.sizes (R.remaining reader.new)
         (io (R.remaining reader.old) (W.contents writer.old) (W.contents writer.new)) result
-        (served k (D.failures session.old.committer.disk)))
-        (D.failures session.new.committer.disk) (λ next. GoesWith next session.new) }
+        (pause (served k (D.failures session.old.committer.disk)) session.old.committer.disk)
+        (pause next session.new.committer.disk))
+        (D.failures session.new.committer.disk)
+        (GoesOn D.moment D.left_since k session.old session.new) }
+    ensures sizes { session.new.committer.sizes ≡ session.old.committer.sizes }
+{
+    let turned = take_line(alloc, reader, writer, session, line);
+    session.images(); // so the proof knows what a crash leaves now
+    turned
+}
+
+/// Reads a line, runs it and writes its reply. `None` says that there was no line.
+fn take_line<R: BufRead, W: Write, D: Disk>(
+    alloc: Global,
+    reader: &mut R,
+    writer: &mut W,
+    session: &mut Session<D>,
+    line: &mut LineBuffer,
+) -> Result<Option<Kind>, ToolFault>
+    ensures machine { (k : Machine) → GoesWith k session.old → IsReady k
+        → LedTo (λ next. Turns session.old.committer.sizes (R.remaining reader.new)
+        (io (R.remaining reader.old) (W.contents writer.old) (W.contents writer.new)) result
+        (pause (served k (D.failures session.old.committer.disk)) session.old.committer.disk)
+        (pause next session.new.committer.disk))
+        (D.failures session.new.committer.disk)
+        (MayGoOn D.moment D.left_since k session.old session.new) }
     ensures sizes { session.new.committer.sizes ≡ session.old.committer.sizes }
 {
     match read_line(reader, line) {

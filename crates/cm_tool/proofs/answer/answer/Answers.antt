@@ -1,11 +1,11 @@
-use Rattle.std.proofs.Common.{Some, None, refl, sym, ap, subst}
+use Rattle.std.proofs.Common.{refl, sym, subst}
 use Rattle.std.specs.Option.{option_map}
-use Rattle.cm_session.specs.Moves.{GoesWith}
 use Rattle.cm_lines.specs.Lines.{seen}
 use Rattle.cm_tool.specs.Texts.{bad_line_reply}
 use Rattle.cm_tool.specs.Answers.{served, AnswersAsked}
-use Rattle.cm_tool.specs.Serving.{LedTo, Replies}
+use Rattle.cm_tool.specs.Serving.{LedTo, MayGoOn, Replies}
 use Rattle.cm_tool.proofs.Commands.{stays, replies_same}
+use Rattle.cm_tool.proofs.Moments.{still}
 use Rattle.cm_tool.proofs.answer.answer.Goals as goal
 
 pub returns-in-Some-clause-machine : goal.returns-in-Some-clause-machine
@@ -16,7 +16,7 @@ returns-in-Some-clause-machine g c =
     λ k goes ready.
     subst (λ q. LedTo (Replies s.committer.sizes (option_map seen q) c.answer_question.result
     (served k (failures s.committer.disk))) (failures new.committer.disk)
-    (λ next. GoesWith next new)) (sym c.in-Some.is) (c.answer_question.ensures.machine k goes ready)
+    (MayGoOn g.D.Disk.moment g.D.Disk.left_since k s new)) (sym c.in-Some.is) (c.answer_question.ensures.machine k goes ready)
 
 pub returns-in-None-clause-machine : goal.returns-in-None-clause-machine
 returns-in-None-clause-machine g c =
@@ -28,4 +28,5 @@ returns-in-None-clause-machine g c =
     (replies_same sizes (option_map seen c.args.question) k f bad_line_reply c.bad_line.result ready
     c.bad_line.ensures
     (subst (λ q. AnswersAsked sizes (option_map seen q) (served k f) bad_line_reply (served k f))
-    (sym c.in-None.is) (refl, refl))) goes
+    (sym c.in-None.is) (refl, refl)))
+    (still g.D.Disk.moment g.D.Disk.left_since k s goes)

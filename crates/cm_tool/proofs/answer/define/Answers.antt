@@ -1,12 +1,10 @@
-use Rattle.std.proofs.Common.{◌≡◌, ◌⊎◌, ◌∙◌, Ok, Err, inl, inr, refl, ap, sym}
+use Rattle.std.proofs.Common.{◌∙◌, Ok, inl, refl, ap, sym}
 use Rattle.std.specs.Prelude.{Some}
-use Rattle.hex.specs.Hex.{decode_of}
-use Rattle.hex.specs.declared.error.FromHexError.{FromHexError}
-use Rattle.hex.specs.declared.error.FromHexError.TheVariants.{OutOfMemory}
 use Rattle.cm_lines.specs.Lines.{AsksDefine}
 use Rattle.cm_tool.specs.Texts.{bad_line_reply}
 use Rattle.cm_tool.specs.Answers.{served}
 use Rattle.cm_tool.proofs.Commands.{stays, replies_same, answers_bad_digits, not_memory}
+use Rattle.cm_tool.proofs.Moments.{still}
 use Rattle.cm_tool.proofs.answer.define.Goals as goal
 
 pub returns-in-Ok-clause-machine : goal.returns-in-Ok-clause-machine
@@ -16,7 +14,11 @@ returns-in-Ok-clause-machine g c =
 
 pub returns-then-is_memory-clause-machine : goal.returns-then-is_memory-clause-machine
 returns-then-is_memory-clause-machine g c =
-    λ k goes ready. stays k (g.D.Disk.failures c.args.session.now.committer.disk) (inl refl) goes
+    let s = c.args.session.now in
+    let disk = g.D.Disk in
+    λ k goes ready.
+    stays k (disk.failures s.committer.disk) (inl refl)
+    (still disk.moment disk.left_since k s goes)
 
 pub returns-else-is_memory-clause-machine : goal.returns-else-is_memory-clause-machine
 returns-else-is_memory-clause-machine g c =
@@ -31,4 +33,5 @@ returns-else-is_memory-clause-machine g c =
     c.bad_line.ensures
     (answers_bad_digits sizes loader digits c.in-Err.fault (served k f)
     (not_memory digits c.in-Err.fault c.is_memory.result c.is_memory.ensures.whenever
-    c.if-is_memory.false c.in-Err.ensures.err))) goes
+    c.if-is_memory.false c.in-Err.ensures.err)))
+    (still g.D.Disk.moment g.D.Disk.left_since k s goes)

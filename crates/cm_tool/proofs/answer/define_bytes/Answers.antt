@@ -3,6 +3,7 @@ use Rattle.cm_lines.specs.Lines.{AsksDefine}
 use Rattle.cm_tool.specs.Texts.{refusal_reply}
 use Rattle.cm_tool.specs.Answers.{served}
 use Rattle.cm_tool.proofs.Commands.{stays, replies_same, answers_fault}
+use Rattle.cm_tool.proofs.Moments.{still}
 use Rattle.cm_tool.proofs.answer.define_bytes.Goals as goal
 
 pub returns-in-Ok-clause-machine : goal.returns-in-Ok-clause-machine
@@ -22,4 +23,5 @@ returns-in-Err-clause-machine g c =
     (replies_same sizes (Some (AsksDefine loader digits)) k f (refusal_reply refusal)
     c.refused.result ready c.refused.ensures
     (answers_fault sizes loader digits c.args.bytes.now refusal (served k f) decoded
-    c.in-Err.ensures.refused)) goes
+    c.in-Err.ensures.refused))
+    (still g.D.Disk.moment g.D.Disk.left_since k s goes)

@@ -1,10 +1,10 @@
 use Rattle.std.proofs.Common.{Some, ap, inl, refl, ◌∙◌}
-use Rattle.cm_record.specs.Layout.{lay}
 use Rattle.cm_state.specs.Step.{Define}
 use Rattle.cm_commit.specs.States.{CommitterState}
 use Rattle.cm_lines.specs.Lines.{AsksDefine}
 use Rattle.cm_tool.specs.Texts.{defined_reply}
 use Rattle.cm_tool.proofs.Commands.{command_replies, define_fits, class_named, stays}
+use Rattle.cm_tool.proofs.Moments.{still}
 use Rattle.cm_tool.proofs.answer.define_class.Goals as goal
 
 pub returns-clause-machine : goal.returns-clause-machine
@@ -13,21 +13,24 @@ returns-clause-machine g c =
     let loader = c.args.loader.now in
     let words = c.args.class in
     let call = c.store-stored in
-    let failures = g.D.Disk.failures in
+    let disk = g.D.Disk in
     let name = c.deref.result.now in
     λ digits bytes class decoded right laid k goes ready.
     let name_is = c.deref.ensures.value ∙ c.in-Ok.ensures in
-    command_replies s.committer.sizes (Some (AsksDefine loader digits)) (λ n. defined_reply n name) k
-    (Define loader words) (failures s.committer.disk) (failures call.new.self.committer.disk)
-    call.result c.named.result ready
+    command_replies disk.moment disk.left_since (Some (AsksDefine loader digits))
+    (λ n. defined_reply n name) k (Define loader words) (disk.failures s.committer.disk)
+    (disk.failures call.new.self.committer.disk) s call.new.self call.result c.named.result ready
     (define_fits c.layout_determines_class.ensures s.committer.sizes loader digits bytes words name
     class decoded right laid
     (λ short. name_is ∙ class_named bytes words class c.words_tell_name.ensures right laid short))
     (call.ensures.machine k goes ready.rest) (call.ensures.cause k goes ready.rest)
-    (λ none. ap (λ (x : CommitterState _). failures x.disk) (call.ensures.no_call none))
-    c.named.ensures
+    (λ none. ap (λ (x : CommitterState _). disk.failures x.disk) (call.ensures.no_call none))
+    call.ensures.no_call c.named.ensures
 
 pub returns-in-Err-clause-machine : goal.returns-in-Err-clause-machine
 returns-in-Err-clause-machine g c =
+    let s = c.args.session.now in
+    let disk = g.D.Disk in
     λ digits bytes class decoded right laid k goes ready.
-    stays k (g.D.Disk.failures c.args.session.now.committer.disk) (inl refl) goes
+    stays k (disk.failures s.committer.disk) (inl refl)
+    (still disk.moment disk.left_since k s goes)

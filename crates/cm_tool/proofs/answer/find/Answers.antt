@@ -1,4 +1,4 @@
-use Rattle.std.proofs.Common.{◌≡◌, Some, None, Err, inl, length, sym, ap, refl, subst}
+use Rattle.std.proofs.Common.{Some, None, Err, inl, length, sym, ap, refl, subst}
 use Rattle.std.specs.Prelude.{IfOk}
 use Rattle.std.specs.Arc.{arc_value}
 use Rattle.cm_class.specs.declared.class_file.ClassFile.{ClassFile}
@@ -9,6 +9,7 @@ use Rattle.cm_tool.specs.Texts.{class_reply, none_reply, bad_line_reply}
 use Rattle.cm_tool.specs.Replies.{IsReply}
 use Rattle.cm_tool.specs.Answers.{served}
 use Rattle.cm_tool.proofs.Commands.{stays, replies_same, replies_found, finds_none, answers_bad_name}
+use Rattle.cm_tool.proofs.Moments.{still}
 use Rattle.cm_tool.proofs.answer.find.Goals as goal
 
 pub returns-in-Err-BadEscape : goal.returns-in-Err-BadEscape
@@ -23,11 +24,16 @@ returns-in-Err-BadEscape g c =
     (replies_same sizes (Some (AsksFind loader word)) k f bad_line_reply c.bad_line.result ready
     c.bad_line.ensures
     (answers_bad_name sizes loader word (served k f)
-    (c.in-Err-BadEscape.ensures.bad (ap Err c.in-Err-BadEscape.field-0-is)))) goes
+    (c.in-Err-BadEscape.ensures.bad (ap Err c.in-Err-BadEscape.field-0-is))))
+    (still g.D.Disk.moment g.D.Disk.left_since k s goes)
 
 pub returns-in-Err-NoMemory : goal.returns-in-Err-NoMemory
 returns-in-Err-NoMemory g c =
-    λ k goes ready. stays k (g.D.Disk.failures c.args.session.now.committer.disk) (inl refl) goes
+    let s = c.args.session.now in
+    let disk = g.D.Disk in
+    λ k goes ready.
+    stays k (disk.failures s.committer.disk) (inl refl)
+    (still disk.moment disk.left_since k s goes)
 
 pub returns-in-Some : goal.returns-in-Some
 returns-in-Some g c =
@@ -46,7 +52,8 @@ returns-in-Some g c =
     (subst (λ n. Finds sizes k loader n (Some (arc_value c.in-Some.class.now))) c.deref.ensures.value (c.in-Some.ensures k goes)) in
     stays k f
     (replies_found sizes loader word c.in-Ok.name.items words k f c.found.result ready
-    c.in-Ok.ensures.name finds says c.found.ensures.laid) goes
+    c.in-Ok.ensures.name finds says c.found.ensures.laid)
+    (still g.D.Disk.moment g.D.Disk.left_since k s goes)
 
 pub returns : goal.returns
 returns g c =
@@ -60,4 +67,5 @@ returns g c =
     stays k f
     (replies_same sizes (Some (AsksFind loader word)) k f none_reply c.nothing.result ready
     c.nothing.ensures
-    (finds_none sizes loader word c.in-Ok.name.items k f c.in-Ok.ensures.name finds)) goes
+    (finds_none sizes loader word c.in-Ok.name.items k f c.in-Ok.ensures.name finds))
+    (still g.D.Disk.moment g.D.Disk.left_since k s goes)

@@ -11,11 +11,11 @@ returns-clause-machine g c =
     let s = c.args.session.now in
     let name = c.args.name.now in
     let call = c.store-stored in
-    let failures = g.D.Disk.failures in
+    let disk = g.D.Disk in
     λ k goes ready.
-    command_replies s.committer.sizes (Some (AsksUnload name)) number_reply k (Unload name)
-    (failures s.committer.disk) (failures call.new.self.committer.disk) call.result c.numbered.result
-    ready (unload_fits s.committer.sizes name) (call.ensures.machine k goes ready.rest)
-    (call.ensures.cause k goes ready.rest)
-    (λ none. ap (λ (x : CommitterState _). failures x.disk) (call.ensures.no_call none))
-    c.numbered.ensures
+    command_replies disk.moment disk.left_since (Some (AsksUnload name)) number_reply k (Unload name)
+    (disk.failures s.committer.disk) (disk.failures call.new.self.committer.disk) s call.new.self
+    call.result c.numbered.result ready (unload_fits s.committer.sizes name)
+    (call.ensures.machine k goes ready.rest) (call.ensures.cause k goes ready.rest)
+    (λ none. ap (λ (x : CommitterState _). disk.failures x.disk) (call.ensures.no_call none))
+    call.ensures.no_call c.numbered.ensures

@@ -1,7 +1,8 @@
 use Rattle.std.proofs.Common.{subst}
+use Rattle.cm_guards.specs.Calls.{LeavesOnly}
 use Rattle.cm_machine.specs.Machine.{machine_from}
 use Rattle.cm_lines.specs.Streams.{io}
-use Rattle.cm_tool.specs.Answers.{served}
+use Rattle.cm_tool.specs.Answers.{served, pause}
 use Rattle.cm_tool.specs.Runs.{IsRun}
 use Rattle.cm_tool.proofs.Running.{ready_from}
 use Rattle.cm_tool.proofs.apply.apply_script.Goals as goal
@@ -17,13 +18,16 @@ returns-in-Ok-default-clause-ok g c =
       base = begins.base;
       arenas = begins.arenas;
       stands = begins.stands;
-      opened = opened;
+      opened = s.committer.disk;
+      opening = c.in-Ok.ensures.run.images;
+      failures = opened;
       later = c.in-Ok.ensures.run.later;
       new = run.0;
-      came = subst (λ r. IsRun s.committer.sizes
+      came = subst (λ r. IsRun (LeavesOnly g.D.Disk.moment g.D.Disk.left_since) s.committer.sizes
           (io (g.R.Read.remaining c.args.reader.now) (g.W.Write.contents c.args.writer.now)
-          (g.W.Write.contents c.run_to_end.new.writer)) r (served (machine_from begins.base) opened)
-          run.0) c.in-Ok-default.is-0 run.1;
+          (g.W.Write.contents c.run_to_end.new.writer)) r
+          (pause (served (machine_from begins.base) opened) s.committer.disk)
+          (pause run.0 c.run_to_end.result.1)) c.in-Ok-default.is-0 run.1;
       leaves = run.2;
     }
 
@@ -38,12 +42,15 @@ returns-in-Err-default-clause-err g c =
       base = begins.base;
       arenas = begins.arenas;
       stands = begins.stands;
-      opened = opened;
+      opened = s.committer.disk;
+      opening = c.in-Ok.ensures.run.images;
+      failures = opened;
       later = c.in-Ok.ensures.run.later;
       new = run.0;
-      came = subst (λ r. IsRun s.committer.sizes
+      came = subst (λ r. IsRun (LeavesOnly g.D.Disk.moment g.D.Disk.left_since) s.committer.sizes
           (io (g.R.Read.remaining c.args.reader.now) (g.W.Write.contents c.args.writer.now)
-          (g.W.Write.contents c.run_to_end.new.writer)) r (served (machine_from begins.base) opened)
-          run.0) c.in-Err-default.is-0 run.1;
+          (g.W.Write.contents c.run_to_end.new.writer)) r
+          (pause (served (machine_from begins.base) opened) s.committer.disk)
+          (pause run.0 c.run_to_end.result.1)) c.in-Err-default.is-0 run.1;
       leaves = run.2;
     }

@@ -1,88 +1,27 @@
-use Rattle.std.proofs.Common.{◌≡◌, ◌∙◌, Ok, Some, Err, refl, sym, ap, subst}
-use Rattle.std.specs.declared.alloc.AllocError.{AllocError}
-use Rattle.std.specs.Io.KnownBytes.{Appends}
-use Rattle.std.proofs.KnownBytes.{Keeps-refl}
-use Rattle.cm_session.specs.Moves.{GoesWith}
-use Rattle.cm_lines.specs.Streams.{io, ReadsLine, WritesPart}
-use Rattle.cm_tool.specs.Answers.{served}
-use Rattle.cm_tool.specs.Runs.{fault_of, Breaks, Turns}
-use Rattle.cm_tool.specs.Serving.{LedTo}
-use Rattle.cm_tool.proofs.Commands.{stays}
-use Rattle.cm_tool.proofs.Running.{unread, line_unmade, line_answered, line_unwritten}
+use Rattle.std.proofs.Common.{subst}
+use Rattle.cm_pool.specs.Geometry.{Sizes}
+use Rattle.cm_guards.specs.Guards.{EachImage}
+use Rattle.cm_session.specs.Images.{StandsForSome}
+use Rattle.cm_tool.proofs.Moments.{moments_of}
 use Rattle.cm_tool.proofs.script.run_line.Goals as goal
-
-pub returns-in-Ok-false-clause-machine : goal.returns-in-Ok-false-clause-machine
-returns-in-Ok-false-clause-machine g c =
-    let a = g.R.Read.remaining c.args.reader.now in
-    let b = g.R.Read.remaining c.read_line.new.reader in
-    let h = g.W.Write.contents c.args.writer.now in
-    let read = subst (ReadsLine a b c.read_line.new.line) c.in-Ok-false.field-0-test
-    c.in-Ok-false.ensures.read in
-    λ k goes ready.
-    stays k (g.D.Disk.failures c.args.session.now.committer.disk)
-    (record { none = read; same = refl; nothing = Keeps-refl h }) goes
-
-pub returns-in-Err-clause-machine : goal.returns-in-Err-clause-machine
-returns-in-Err-clause-machine g c =
-    let s = c.args.session.now in
-    let f = g.D.Disk.failures s.committer.disk in
-    let a = g.R.Read.remaining c.args.reader.now in
-    let h = g.W.Write.contents c.args.writer.now in
-    λ k goes ready.
-    stays k f
-    (subst (λ e. Breaks s.committer.sizes e (io a h h) (served k f) (served k f))
-    (sym c.from.ensures)
-    (unread s.committer.sizes a h (served k f) c.in-Err.fault c.in-Err.ensures.fault)) goes
-
-pub returns-in-Err-answer-clause-machine : goal.returns-in-Err-answer-clause-machine
-returns-in-Err-answer-clause-machine g c =
-    let s = c.args.session.now in
-    let new = c.answer.new.session in
-    let failures = g.D.Disk.failures in
-    let a = g.R.Read.remaining c.args.reader.now in
-    let b = g.R.Read.remaining c.read_line.new.reader in
-    let h = g.W.Write.contents c.args.writer.now in
-    let buffer = c.read_line.new.line in
-    let read = subst (ReadsLine a b buffer) c.in-Ok-true.field-0-test c.in-Ok-true.ensures.read in
-    λ k goes ready.
-    line_unmade s.committer.sizes a b h (served k (failures s.committer.disk))
-    (failures new.committer.disk) (λ next. GoesWith next new) buffer c.question-question.result read
-    c.question-question.ensures c.in-Err-answer.field-0 (c.in-Err-answer.ensures.machine k goes ready)
-
-pub returns-in-Ok-write_line-clause-machine : goal.returns-in-Ok-write_line-clause-machine
-returns-in-Ok-write_line-clause-machine g c =
-    let s = c.args.session.now in
-    let new = c.answer.new.session in
-    let failures = g.D.Disk.failures in
-    let a = g.R.Read.remaining c.args.reader.now in
-    let b = g.R.Read.remaining c.read_line.new.reader in
-    let h = g.W.Write.contents c.args.writer.now in
-    let m = g.W.Write.contents c.write_line.new.writer in
-    let buffer = c.read_line.new.line in
-    let read = subst (ReadsLine a b buffer) c.in-Ok-true.field-0-test c.in-Ok-true.ensures.read in
-    λ k goes ready.
-    line_answered s.committer.sizes a b h (served k (failures s.committer.disk))
-    (failures new.committer.disk) (λ next. GoesWith next new) buffer c.question-question.result read
-    c.question-question.ensures AllocError m c.in-Ok.reply (c.in-Ok.ensures.machine k goes ready)
-    (subst (Appends h m) c.deref.ensures.value c.in-Ok-write_line.ensures.ok)
 
 pub returns-clause-machine : goal.returns-clause-machine
 returns-clause-machine g c =
-    let s = c.args.session.now in
-    let new = c.answer.new.session in
-    let failures = g.D.Disk.failures in
-    let a = g.R.Read.remaining c.args.reader.now in
-    let b = g.R.Read.remaining c.read_line.new.reader in
-    let h = g.W.Write.contents c.args.writer.now in
-    let m = g.W.Write.contents c.write_line.new.writer in
-    let buffer = c.read_line.new.line in
-    let read = subst (ReadsLine a b buffer) c.in-Ok-true.field-0-test c.in-Ok-true.ensures.read in
-    let output = c.from-in-Err-write_line.ensures ∙ ap fault_of c.in-Err-write_line.ensures.fault in
+    let disk = g.D.Disk in
+    let old = c.args.session.now in
+    let call = c.take_line-turned in
+    let new = call.new.session in
     λ k goes ready.
-    subst (λ e. LedTo (Turns s.committer.sizes b (io a h m) (Err e)
-    (served k (failures s.committer.disk))) (failures new.committer.disk) (λ next. GoesWith next new))
-    (sym output)
-    (line_unwritten s.committer.sizes a b h (served k (failures s.committer.disk))
-    (failures new.committer.disk) (λ next. GoesWith next new) buffer c.question-question.result read
-    c.question-question.ensures AllocError m c.in-Ok.reply (c.in-Ok.ensures.machine k goes ready)
-    (subst (WritesPart h m) c.deref.ensures.value c.in-Err-write_line.ensures.err))
+    let led = call.ensures.machine k goes ready in
+    let images = subst (λ (z : Sizes). EachImage (disk.contents new.committer.disk)
+    (disk.unsynced new.committer.disk) (StandsForSome z led.next)) call.ensures.sizes
+    (c.images.ensures led.next led.goes.goes) in
+    record {
+      next = led.next;
+      does = led.does;
+      goes = record {
+        goes = led.goes.goes;
+        moments = moments_of disk.moment disk.left_since disk.contents disk.unsynced
+            g.met.D.Disk.only_now k led.next old new images led.goes;
+      };
+    }

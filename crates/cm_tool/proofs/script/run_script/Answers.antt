@@ -1,12 +1,15 @@
-use Rattle.std.proofs.Common.{◌≡◌, ◌∙◌, Ok, Err, Some, None, refl, subst}
+use Rattle.std.proofs.Common.{◌∙◌, Ok, Err, Some, None, refl, subst}
+use Rattle.cm_guards.specs.Calls.{LeavesOnly}
 use Rattle.cm_machine.specs.Machine.{Machine}
 use Rattle.cm_session.specs.Moves.{GoesWith}
 use Rattle.cm_lines.specs.Streams.{io}
-use Rattle.cm_tool.specs.Answers.{served}
+use Rattle.cm_pool.specs.Geometry.{Sizes}
+use Rattle.cm_tool.specs.Answers.{served, pause, StandsBetween}
 use Rattle.cm_tool.specs.Runs.{Turns}
-use Rattle.cm_tool.specs.Serving.{IsReady, LedTo}
-use Rattle.cm_tool.proofs.Running.{lines_start, lines_more, lines_lost, lines_end, lines_broken}
-use Rattle.cm_tool.proofs.Running.{lines_given_up}
+use Rattle.cm_tool.specs.Serving.{IsReady, LedTo, GoesOn}
+use Rattle.cm_tool.proofs.Moments.{rests}
+use Rattle.cm_tool.proofs.Running.{Went, went, lines_start, lines_more, lines_lost, lines_end}
+use Rattle.cm_tool.proofs.Running.{lines_broken, lines_given_up}
 use Rattle.cm_tool.proofs.script.run_script.Goals as goal
 
 pub lines-init : goal.lines-init
@@ -14,9 +17,10 @@ lines-init g c =
     let s = c.args.session.now in (
       refl,
       λ k goes ready.
-          lines_start s.committer.sizes (g.R.Read.remaining c.args.reader.now)
-          (g.W.Write.contents c.args.writer.now) k (g.D.Disk.failures s.committer.disk) _
-          (λ next. GoesWith next s) refl refl ready goes,
+          lines_start (LeavesOnly g.D.Disk.moment g.D.Disk.left_since) s.committer.sizes
+          (g.R.Read.remaining c.args.reader.now) (g.W.Write.contents c.args.writer.now) k
+          (g.D.Disk.failures s.committer.disk) s.committer.disk _ (λ next. GoesWith next s) refl refl
+          ready goes,
     )
 
 pub returns-then-outcome-clause-machine : goal.returns-then-outcome-clause-machine
@@ -25,7 +29,9 @@ returns-then-outcome-clause-machine g c =
     let old = c.lines.session in
     let new = c.run_line.new.session in
     let sizes = s.committer.sizes in
-    let failures = g.D.Disk.failures in
+    let disk = g.D.Disk in
+    let leaves = LeavesOnly disk.moment disk.left_since in
+    let failures = disk.failures in
     let f = failures old.committer.disk in
     let now = failures new.committer.disk in
     let a = g.R.Read.remaining c.args.reader.now in
@@ -35,15 +41,24 @@ returns-then-outcome-clause-machine g c =
     let x = g.W.Write.contents c.lines.writer in
     let m = g.W.Write.contents c.run_line.new.writer in
     let turn : (j : Machine) → GoesWith j old → IsReady j
-    → LedTo (Turns sizes d (io b x m) (Ok (Some c.in-Ok-Some.kind)) (served j f)) now (λ next. GoesWith next new) =
+    → LedTo (λ t. Turns sizes d (io b x m) (Ok (Some c.in-Ok-Some.kind)) (pause (served j f) old.committer.disk)
+    (pause t new.committer.disk)) now
+    (Went leaves sizes old.committer.disk new.committer.disk (λ next. GoesWith next new) j) =
     subst (λ z. (j : Machine) → GoesWith j old → IsReady j
-    → LedTo (Turns z d (io b x m) (Ok (Some c.in-Ok-Some.kind)) (served j f)) now (λ next. GoesWith next new))
-    c.lines.invariant.0 (subst (λ o. (j : Machine) → GoesWith j old → IsReady j
-    → LedTo (Turns old.committer.sizes d (io b x m) (Ok o) (served j f)) now
-    (λ next. GoesWith next new)) c.in-Ok-Some.field-0-is c.in-Ok-Some.ensures.machine) in
+    → LedTo (λ t. Turns z d (io b x m) (Ok (Some c.in-Ok-Some.kind)) (pause (served j f) old.committer.disk)
+    (pause t new.committer.disk)) now
+    (Went leaves z old.committer.disk new.committer.disk (λ next. GoesWith next new) j))
+    c.lines.invariant.0
+    (λ j goes ready. went disk.moment disk.left_since now j old new
+    (subst (λ o. LedTo (λ t. Turns old.committer.sizes d (io b x m) (Ok o)
+    (pause (served j f) old.committer.disk) (pause t new.committer.disk)) now
+    (GoesOn disk.moment disk.left_since j old new)) c.in-Ok-Some.field-0-is
+    (c.in-Ok-Some.ensures.machine j goes ready))) in
     λ k goes ready.
-    lines_lost sizes a b d h x m (served k (failures s.committer.disk)) c.lines.outcome f now
-    (λ next. GoesWith next old) (λ next. GoesWith next new) (c.lines.invariant.1 k goes ready)
+    lines_lost leaves sizes a b d h x m
+    (pause (served k (failures s.committer.disk)) s.committer.disk) c.lines.outcome f now
+    old.committer.disk new.committer.disk (λ next. GoesWith next old) (λ next. GoesWith next new)
+    (c.lines.invariant.1 k goes ready)
     c.after-outcome.result c.in-Ok-Some.kind turn
     (record { refused = c.after-outcome.ensures.refused; unsure = c.after-outcome.ensures.unsure })
     c.if-outcome.true
@@ -54,7 +69,9 @@ returns-in-Ok-None-clause-machine g c =
     let old = c.lines.session in
     let new = c.run_line.new.session in
     let sizes = s.committer.sizes in
-    let failures = g.D.Disk.failures in
+    let disk = g.D.Disk in
+    let leaves = LeavesOnly disk.moment disk.left_since in
+    let failures = disk.failures in
     let f = failures old.committer.disk in
     let now = failures new.committer.disk in
     let a = g.R.Read.remaining c.args.reader.now in
@@ -64,15 +81,24 @@ returns-in-Ok-None-clause-machine g c =
     let x = g.W.Write.contents c.lines.writer in
     let m = g.W.Write.contents c.run_line.new.writer in
     let turn : (j : Machine) → GoesWith j old → IsReady j
-    → LedTo (Turns sizes d (io b x m) (Ok None) (served j f)) now (λ next. GoesWith next new) =
+    → LedTo (λ t. Turns sizes d (io b x m) (Ok None) (pause (served j f) old.committer.disk)
+    (pause t new.committer.disk)) now
+    (Went leaves sizes old.committer.disk new.committer.disk (λ next. GoesWith next new) j) =
     subst (λ z. (j : Machine) → GoesWith j old → IsReady j
-    → LedTo (Turns z d (io b x m) (Ok None) (served j f)) now (λ next. GoesWith next new))
-    c.lines.invariant.0 (subst (λ o. (j : Machine) → GoesWith j old → IsReady j
-    → LedTo (Turns old.committer.sizes d (io b x m) (Ok o) (served j f)) now
-    (λ next. GoesWith next new)) c.in-Ok-None.field-0-is c.in-Ok-None.ensures.machine) in
+    → LedTo (λ t. Turns z d (io b x m) (Ok None) (pause (served j f) old.committer.disk)
+    (pause t new.committer.disk)) now
+    (Went leaves z old.committer.disk new.committer.disk (λ next. GoesWith next new) j))
+    c.lines.invariant.0
+    (λ j goes ready. went disk.moment disk.left_since now j old new
+    (subst (λ o. LedTo (λ t. Turns old.committer.sizes d (io b x m) (Ok o)
+    (pause (served j f) old.committer.disk) (pause t new.committer.disk)) now
+    (GoesOn disk.moment disk.left_since j old new)) c.in-Ok-None.field-0-is
+    (c.in-Ok-None.ensures.machine j goes ready))) in
     λ k goes ready.
-    lines_end sizes a b d h x m (served k (failures s.committer.disk)) c.lines.outcome f now
-    (λ next. GoesWith next old) (λ next. GoesWith next new) (c.lines.invariant.1 k goes ready)
+    lines_end leaves sizes a b d h x m
+    (pause (served k (failures s.committer.disk)) s.committer.disk) c.lines.outcome f now
+    old.committer.disk new.committer.disk (λ next. GoesWith next old) (λ next. GoesWith next new)
+    (c.lines.invariant.1 k goes ready)
     turn
 
 pub returns-in-Err-clause-machine : goal.returns-in-Err-clause-machine
@@ -81,7 +107,9 @@ returns-in-Err-clause-machine g c =
     let old = c.lines.session in
     let new = c.run_line.new.session in
     let sizes = s.committer.sizes in
-    let failures = g.D.Disk.failures in
+    let disk = g.D.Disk in
+    let leaves = LeavesOnly disk.moment disk.left_since in
+    let failures = disk.failures in
     let f = failures old.committer.disk in
     let now = failures new.committer.disk in
     let a = g.R.Read.remaining c.args.reader.now in
@@ -91,13 +119,22 @@ returns-in-Err-clause-machine g c =
     let x = g.W.Write.contents c.lines.writer in
     let m = g.W.Write.contents c.run_line.new.writer in
     let turn : (j : Machine) → GoesWith j old → IsReady j
-    → LedTo (Turns sizes d (io b x m) (Err c.in-Err.fault) (served j f)) now (λ next. GoesWith next new) =
+    → LedTo (λ t. Turns sizes d (io b x m) (Err c.in-Err.fault) (pause (served j f) old.committer.disk)
+    (pause t new.committer.disk)) now
+    (Went leaves sizes old.committer.disk new.committer.disk (λ next. GoesWith next new) j) =
     subst (λ z. (j : Machine) → GoesWith j old → IsReady j
-    → LedTo (Turns z d (io b x m) (Err c.in-Err.fault) (served j f)) now (λ next. GoesWith next new))
-    c.lines.invariant.0 c.in-Err.ensures.machine in
+    → LedTo (λ t. Turns z d (io b x m) (Err c.in-Err.fault) (pause (served j f) old.committer.disk)
+    (pause t new.committer.disk)) now
+    (Went leaves z old.committer.disk new.committer.disk (λ next. GoesWith next new) j))
+    c.lines.invariant.0
+    (λ j goes ready. went {Does = λ t. Turns old.committer.sizes d (io b x m) (Err c.in-Err.fault)
+    (pause (served j f) old.committer.disk) (pause t new.committer.disk)} disk.moment disk.left_since now
+    j old new (c.in-Err.ensures.machine j goes ready)) in
     λ k goes ready.
-    lines_broken sizes a b d h x m (served k (failures s.committer.disk)) c.lines.outcome f now
-    (λ next. GoesWith next old) (λ next. GoesWith next new) (c.lines.invariant.1 k goes ready)
+    lines_broken leaves sizes a b d h x m
+    (pause (served k (failures s.committer.disk)) s.committer.disk) c.lines.outcome f now
+    old.committer.disk new.committer.disk (λ next. GoesWith next old) (λ next. GoesWith next new)
+    (c.lines.invariant.1 k goes ready)
     c.in-Err.fault turn
 
 pub lines-preserved : goal.lines-preserved
@@ -106,7 +143,9 @@ lines-preserved g c =
     let old = c.lines.session in
     let new = c.run_line.new.session in
     let sizes = s.committer.sizes in
-    let failures = g.D.Disk.failures in
+    let disk = g.D.Disk in
+    let leaves = LeavesOnly disk.moment disk.left_since in
+    let failures = disk.failures in
     let f = failures old.committer.disk in
     let now = failures new.committer.disk in
     let a = g.R.Read.remaining c.args.reader.now in
@@ -116,16 +155,25 @@ lines-preserved g c =
     let x = g.W.Write.contents c.lines.writer in
     let m = g.W.Write.contents c.run_line.new.writer in
     let turn : (j : Machine) → GoesWith j old → IsReady j
-    → LedTo (Turns sizes d (io b x m) (Ok (Some c.in-Ok-Some.kind)) (served j f)) now (λ next. GoesWith next new) =
+    → LedTo (λ t. Turns sizes d (io b x m) (Ok (Some c.in-Ok-Some.kind)) (pause (served j f) old.committer.disk)
+    (pause t new.committer.disk)) now
+    (Went leaves sizes old.committer.disk new.committer.disk (λ next. GoesWith next new) j) =
     subst (λ z. (j : Machine) → GoesWith j old → IsReady j
-    → LedTo (Turns z d (io b x m) (Ok (Some c.in-Ok-Some.kind)) (served j f)) now (λ next. GoesWith next new))
-    c.lines.invariant.0 (subst (λ o. (j : Machine) → GoesWith j old → IsReady j
-    → LedTo (Turns old.committer.sizes d (io b x m) (Ok o) (served j f)) now
-    (λ next. GoesWith next new)) c.in-Ok-Some.field-0-is c.in-Ok-Some.ensures.machine) in (
+    → LedTo (λ t. Turns z d (io b x m) (Ok (Some c.in-Ok-Some.kind)) (pause (served j f) old.committer.disk)
+    (pause t new.committer.disk)) now
+    (Went leaves z old.committer.disk new.committer.disk (λ next. GoesWith next new) j))
+    c.lines.invariant.0
+    (λ j goes ready. went disk.moment disk.left_since now j old new
+    (subst (λ o. LedTo (λ t. Turns old.committer.sizes d (io b x m) (Ok o)
+    (pause (served j f) old.committer.disk) (pause t new.committer.disk)) now
+    (GoesOn disk.moment disk.left_since j old new)) c.in-Ok-Some.field-0-is
+    (c.in-Ok-Some.ensures.machine j goes ready))) in (
       c.run_line.ensures.sizes ∙ c.lines.invariant.0,
       λ k goes ready.
-          lines_more sizes a b d h x m (served k (failures s.committer.disk)) c.lines.outcome f now
-          (λ next. GoesWith next old) (λ next. GoesWith next new) (c.lines.invariant.1 k goes ready)
+          lines_more leaves sizes a b d h x m
+          (pause (served k (failures s.committer.disk)) s.committer.disk) c.lines.outcome f now
+          old.committer.disk new.committer.disk (λ next. GoesWith next old) (λ next. GoesWith next new)
+          (c.lines.invariant.1 k goes ready)
           c.after-outcome.result c.in-Ok-Some.kind turn
           (record { refused = c.after-outcome.ensures.refused; unsure = c.after-outcome.ensures.unsure })
           c.if-outcome.false,
@@ -134,10 +182,19 @@ lines-preserved g c =
 pub returns-clause-machine : goal.returns-clause-machine
 returns-clause-machine g c =
     let s = c.args.session.now in
-    let failures = g.D.Disk.failures in
+    let old = c.lines.session in
+    let disk = g.D.Disk in
+    let still : (j : Machine) → GoesWith j old
+    → LeavesOnly disk.moment disk.left_since old.committer.disk old.committer.disk
+    (StandsBetween s.committer.sizes j j) =
+    λ j goes. subst (λ (z : Sizes). LeavesOnly disk.moment disk.left_since old.committer.disk
+    old.committer.disk (StandsBetween z j j)) c.lines.invariant.0
+    (rests disk.moment disk.left_since disk.contents disk.unsynced g.met.D.Disk.only_now j old
+    (c.images.ensures j goes) goes) in
     λ k goes ready.
-    lines_given_up s.committer.sizes (g.R.Read.remaining c.args.reader.now)
-    (g.R.Read.remaining c.lines.reader) (g.W.Write.contents c.args.writer.now)
-    (g.W.Write.contents c.lines.writer) (served k (failures s.committer.disk)) c.lines.outcome
-    (failures c.lines.session.committer.disk) (λ next. GoesWith next c.lines.session)
+    lines_given_up (LeavesOnly disk.moment disk.left_since) s.committer.sizes
+    (g.R.Read.remaining c.args.reader.now) (g.R.Read.remaining c.lines.reader)
+    (g.W.Write.contents c.args.writer.now) (g.W.Write.contents c.lines.writer)
+    (pause (served k (disk.failures s.committer.disk)) s.committer.disk) c.lines.outcome
+    (disk.failures old.committer.disk) old.committer.disk (λ next. GoesWith next old) still
     (c.lines.invariant.1 k goes ready)

@@ -1,7 +1,10 @@
 use Rattle.std.proofs.Common.{sym, ap, subst}
 use Rattle.cm_guards.specs.Guards.{EachImage}
+use Rattle.cm_guards.specs.Calls.{LeavesOnly}
 use Rattle.cm_session.specs.Images.{StandsForSome}
-use Rattle.cm_tool.specs.Answers.{served}
+use Rattle.cm_lines.specs.Streams.{io}
+use Rattle.cm_tool.specs.Answers.{served, pause}
+use Rattle.cm_tool.specs.Runs.{IsRun}
 use Rattle.cm_tool.proofs.script.run_to_end.Goals as goal
 
 pub returns : goal.returns
@@ -14,7 +17,13 @@ returns g c =
     (StandsForSome new.committer.sizes led.next)) (sym c.into_disk.ensures)
     (c.images.ensures led.next led.goes) in (
       served led.next (disk.failures new.committer.disk),
-      led.does,
+      subst (λ d. IsRun (LeavesOnly disk.moment disk.left_since) c.args.session.committer.sizes
+          (io (g.R.Read.remaining c.args.reader.now) (g.W.Write.contents c.args.writer.now)
+          (g.W.Write.contents c.run_script-result.new.writer)) c.run_script-result.result
+          (pause (served k (disk.failures c.args.session.committer.disk))
+          c.args.session.committer.disk)
+          (pause (served led.next (disk.failures new.committer.disk)) d))
+          (sym c.into_disk.ensures) led.does,
       record {
         failures_are = ap disk.failures (sym c.into_disk.ensures);
         images = subst (λ z. EachImage (disk.contents c.into_disk.result)

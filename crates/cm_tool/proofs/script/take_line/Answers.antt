@@ -1,0 +1,99 @@
+use Rattle.std.proofs.Common.{◌∙◌, Err, refl, sym, ap, subst}
+use Rattle.std.specs.declared.alloc.AllocError.{AllocError}
+use Rattle.std.specs.Io.KnownBytes.{Appends}
+use Rattle.std.proofs.KnownBytes.{Keeps-refl}
+use Rattle.cm_lines.specs.Streams.{io, ReadsLine, WritesPart}
+use Rattle.cm_tool.specs.Answers.{served, pause}
+use Rattle.cm_tool.specs.Runs.{fault_of, HasEnded, Breaks, Turns}
+use Rattle.cm_tool.specs.Serving.{LedTo, MayGoOn}
+use Rattle.cm_tool.proofs.Commands.{stays}
+use Rattle.cm_tool.proofs.Moments.{still}
+use Rattle.cm_tool.proofs.Running.{unread, line_unmade, line_answered, line_unwritten}
+use Rattle.cm_tool.proofs.script.take_line.Goals as goal
+
+pub returns-in-Ok-false-clause-machine : goal.returns-in-Ok-false-clause-machine
+returns-in-Ok-false-clause-machine g c =
+    let a = g.R.Read.remaining c.args.reader.now in
+    let b = g.R.Read.remaining c.read_line.new.reader in
+    let h = g.W.Write.contents c.args.writer.now in
+    let read = subst (ReadsLine a b c.read_line.new.line) c.in-Ok-false.field-0-test
+    c.in-Ok-false.ensures.read in
+    let s = c.args.session.now in
+    let disk = g.D.Disk in
+    λ k goes ready.
+    let f = disk.failures s.committer.disk in
+    stays {Does = λ t. HasEnded (io a h h) (pause (served k f) s.committer.disk)
+    (pause t s.committer.disk)} k f (record { none = read; same = refl; nothing = Keeps-refl h })
+    (still disk.moment disk.left_since k s goes)
+
+pub returns-in-Err-clause-machine : goal.returns-in-Err-clause-machine
+returns-in-Err-clause-machine g c =
+    let s = c.args.session.now in
+    let disk = s.committer.disk in
+    let f = g.D.Disk.failures disk in
+    let a = g.R.Read.remaining c.args.reader.now in
+    let h = g.W.Write.contents c.args.writer.now in
+    λ k goes ready.
+    stays {Does = λ t. Turns s.committer.sizes (g.R.Read.remaining c.read_line.new.reader) (io a h h)
+    (Err c.from.result) (pause (served k f) disk) (pause t disk)} k f
+    (subst (λ e. Breaks s.committer.sizes e (io a h h) (served k f) (served k f))
+    (sym c.from.ensures)
+    (unread s.committer.sizes a h (served k f) c.in-Err.fault c.in-Err.ensures.fault))
+    (still g.D.Disk.moment g.D.Disk.left_since k s goes)
+
+pub returns-in-Err-answer-clause-machine : goal.returns-in-Err-answer-clause-machine
+returns-in-Err-answer-clause-machine g c =
+    let s = c.args.session.now in
+    let new = c.answer.new.session in
+    let failures = g.D.Disk.failures in
+    let a = g.R.Read.remaining c.args.reader.now in
+    let b = g.R.Read.remaining c.read_line.new.reader in
+    let h = g.W.Write.contents c.args.writer.now in
+    let buffer = c.read_line.new.line in
+    let read = subst (ReadsLine a b buffer) c.in-Ok-true.field-0-test c.in-Ok-true.ensures.read in
+    λ k goes ready.
+    line_unmade s.committer.sizes a b h (served k (failures s.committer.disk))
+    (failures new.committer.disk) s.committer.disk new.committer.disk
+    (MayGoOn g.D.Disk.moment g.D.Disk.left_since k s new) buffer c.question-question.result read
+    c.question-question.ensures c.in-Err-answer.field-0 (c.in-Err-answer.ensures.machine k goes ready)
+
+pub returns-in-Ok-write_line-clause-machine : goal.returns-in-Ok-write_line-clause-machine
+returns-in-Ok-write_line-clause-machine g c =
+    let s = c.args.session.now in
+    let new = c.answer.new.session in
+    let failures = g.D.Disk.failures in
+    let a = g.R.Read.remaining c.args.reader.now in
+    let b = g.R.Read.remaining c.read_line.new.reader in
+    let h = g.W.Write.contents c.args.writer.now in
+    let m = g.W.Write.contents c.write_line.new.writer in
+    let buffer = c.read_line.new.line in
+    let read = subst (ReadsLine a b buffer) c.in-Ok-true.field-0-test c.in-Ok-true.ensures.read in
+    λ k goes ready.
+    line_answered s.committer.sizes a b h (served k (failures s.committer.disk))
+    (failures new.committer.disk) s.committer.disk new.committer.disk
+    (MayGoOn g.D.Disk.moment g.D.Disk.left_since k s new) buffer c.question-question.result read
+    c.question-question.ensures AllocError m c.in-Ok.reply (c.in-Ok.ensures.machine k goes ready)
+    (subst (Appends h m) c.deref.ensures.value c.in-Ok-write_line.ensures.ok)
+
+pub returns-clause-machine : goal.returns-clause-machine
+returns-clause-machine g c =
+    let s = c.args.session.now in
+    let new = c.answer.new.session in
+    let failures = g.D.Disk.failures in
+    let a = g.R.Read.remaining c.args.reader.now in
+    let b = g.R.Read.remaining c.read_line.new.reader in
+    let h = g.W.Write.contents c.args.writer.now in
+    let m = g.W.Write.contents c.write_line.new.writer in
+    let buffer = c.read_line.new.line in
+    let read = subst (ReadsLine a b buffer) c.in-Ok-true.field-0-test c.in-Ok-true.ensures.read in
+    let output = c.from-in-Err-write_line.ensures ∙ ap fault_of c.in-Err-write_line.ensures.fault in
+    λ k goes ready.
+    subst (λ e. LedTo (λ next. Turns s.committer.sizes b (io a h m) (Err e)
+    (pause (served k (failures s.committer.disk)) s.committer.disk) (pause next new.committer.disk))
+    (failures new.committer.disk) (MayGoOn g.D.Disk.moment g.D.Disk.left_since k s new))
+    (sym output)
+    (line_unwritten s.committer.sizes a b h (served k (failures s.committer.disk))
+    (failures new.committer.disk) s.committer.disk new.committer.disk
+    (MayGoOn g.D.Disk.moment g.D.Disk.left_since k s new) buffer c.question-question.result read
+    c.question-question.ensures AllocError m c.in-Ok.reply (c.in-Ok.ensures.machine k goes ready)
+    (subst (WritesPart h m) c.deref.ensures.value c.in-Err-write_line.ensures.err))
