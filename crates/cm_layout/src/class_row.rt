@@ -2,8 +2,20 @@
 
 ghost use Rattle.std.specs.Prelude.{◌≡◌, IfSome, Some};
 
-use crate::slot::{SLOT_BYTES, is_same_slot};
-use cm_pool::{Chunk, Place};
+use crate::chunk_field::{read_chunk, write_chunk};
+use crate::kind;
+use crate::slot::{KIND_AT, SLOT_BYTES, is_same_slot};
+use byteorder::{ByteOrder, LittleEndian};
+use cm_pool::Place;
+
+// Where a class's slot has its fields.
+const WORDS_AT: usize = 4;
+
+const LOADER_AT: usize = 8;
+
+const CHUNK_AT: usize = 16;
+
+const OFFSET_AT: usize = 28;
 
 /// A live class: whose it is, and where its record lies.
 #[derive(Clone, Copy, Debug, PartialEq, Eq)]
@@ -20,18 +32,13 @@ impl ClassRow {
     pub fn encode(&self) -> [u8; SLOT_BYTES]
         ensures { result ≡ class_slot self.now }
     {
-        let w = self.place.words.to_le_bytes();
-        let l = self.loader.to_le_bytes();
-        let r = self.place.chunk.root.to_le_bytes();
-        let o = self.place.chunk.order.to_le_bytes();
-        let a = self.place.chunk.at.to_le_bytes();
-        let f = self.place.offset.to_le_bytes();
-        [
-            0, 0x12, 0, 0, w[0], w[1], w[2], w[3], l[0], l[1], l[2], l[3], l[4], l[5], l[6], l[7],
-            r[0], r[1], r[2], r[3], o[0], o[1], o[2], o[3], a[0], a[1], a[2], a[3], f[0], f[1],
-            f[2], f[3], 0, 0, 0, 0, 0, 0, 0, 0, 0, 0, 0, 0, 0, 0, 0, 0, 0, 0, 0, 0, 0, 0, 0, 0, 0,
-            0, 0, 0, 0, 0, 0, 0,
-        ]
+        let mut slot = [0; SLOT_BYTES];
+        slot[KIND_AT] = kind::CLASS;
+        LittleEndian::write_u32(&mut slot[WORDS_AT..], self.place.words);
+        LittleEndian::write_u64(&mut slot[LOADER_AT..], self.loader);
+        write_chunk(&mut slot[CHUNK_AT..], self.place.chunk);
+        LittleEndian::write_u32(&mut slot[OFFSET_AT..], self.place.offset);
+        slot
     }
 
     /// The row that a slot spells, if it spells one of a class.
@@ -52,22 +59,12 @@ impl ClassRow {
     fn at_its_places(slot: &[u8; SLOT_BYTES]) -> ClassRow
         ensures { (row : _) → FitsClass row → slot.now ≡ class_slot row → result ≡ row }
     {
-        let words = u32::from_le_bytes([slot[4], slot[5], slot[6], slot[7]]);
-        let loader = u64::from_le_bytes([
-            slot[8], slot[9], slot[10], slot[11], slot[12], slot[13], slot[14], slot[15],
-        ]);
-        let chunk = Chunk {
-            root: u32::from_le_bytes([slot[16], slot[17], slot[18], slot[19]]),
-            order: u32::from_le_bytes([slot[20], slot[21], slot[22], slot[23]]),
-            at: u32::from_le_bytes([slot[24], slot[25], slot[26], slot[27]]),
-        };
-        let offset = u32::from_le_bytes([slot[28], slot[29], slot[30], slot[31]]);
         ClassRow {
-            loader,
+            loader: LittleEndian::read_u64(&slot[LOADER_AT..]),
             place: Place {
-                chunk,
-                offset,
-                words,
+                chunk: read_chunk(&slot[CHUNK_AT..]),
+                offset: LittleEndian::read_u32(&slot[OFFSET_AT..]),
+                words: LittleEndian::read_u32(&slot[WORDS_AT..]),
             },
         }
     }

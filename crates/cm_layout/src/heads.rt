@@ -2,7 +2,23 @@
 
 ghost use Rattle.std.specs.Prelude.{◌≡◌, IfSome, Some};
 
-use crate::slot::{OPEN_GATE, SLOT_BYTES, is_same_slot};
+use crate::kind;
+use crate::slot::{GATE_AT, KIND_AT, OPEN_GATE, SLOT_BYTES, is_same_slot};
+use byteorder::{ByteOrder, LittleEndian};
+
+// Where the head of a half has its fields.
+const VERSION_AT: usize = 2;
+
+const LIVE_AT: usize = 4;
+
+const EPOCH_AT: usize = 8;
+
+const BASE_AT: usize = 16;
+
+// Where the head of a group has its fields.
+const COUNT_AT: usize = 2;
+
+const FIRST_AT: usize = 8;
 
 /// The head of a half of the journal, its slot 0.
 #[derive(Clone, Copy, Debug, PartialEq, Eq)]
@@ -33,16 +49,14 @@ impl HalfHead {
     pub fn encode(&self) -> [u8; SLOT_BYTES]
         ensures { result ≡ half_head_slot self.now }
     {
-        let v = self.version.to_le_bytes();
-        let l = self.live.to_le_bytes();
-        let e = self.epoch.to_le_bytes();
-        let b = self.base.to_le_bytes();
-        [
-            OPEN_GATE, 1, v[0], v[1], l[0], l[1], l[2], l[3], e[0], e[1], e[2], e[3], e[4], e[5],
-            e[6], e[7], b[0], b[1], b[2], b[3], b[4], b[5], b[6], b[7], 0, 0, 0, 0, 0, 0, 0, 0, 0,
-            0, 0, 0, 0, 0, 0, 0, 0, 0, 0, 0, 0, 0, 0, 0, 0, 0, 0, 0, 0, 0, 0, 0, 0, 0, 0, 0, 0, 0,
-            0, 0,
-        ]
+        let mut slot = [0; SLOT_BYTES];
+        slot[GATE_AT] = OPEN_GATE;
+        slot[KIND_AT] = kind::HALF_HEAD;
+        LittleEndian::write_u16(&mut slot[VERSION_AT..], self.version);
+        LittleEndian::write_u32(&mut slot[LIVE_AT..], self.live);
+        LittleEndian::write_u64(&mut slot[EPOCH_AT..], self.epoch);
+        LittleEndian::write_u64(&mut slot[BASE_AT..], self.base);
+        slot
     }
 
     /// The head that a slot with an open gate spells, if it does.
@@ -63,14 +77,10 @@ impl HalfHead {
         ensures { (h : _) → FitsHalfHead h → slot.now ≡ half_head_slot h → result ≡ h }
     {
         HalfHead {
-            version: u16::from_le_bytes([slot[2], slot[3]]),
-            live: u32::from_le_bytes([slot[4], slot[5], slot[6], slot[7]]),
-            epoch: u64::from_le_bytes([
-                slot[8], slot[9], slot[10], slot[11], slot[12], slot[13], slot[14], slot[15],
-            ]),
-            base: u64::from_le_bytes([
-                slot[16], slot[17], slot[18], slot[19], slot[20], slot[21], slot[22], slot[23],
-            ]),
+            version: LittleEndian::read_u16(&slot[VERSION_AT..]),
+            live: LittleEndian::read_u32(&slot[LIVE_AT..]),
+            epoch: LittleEndian::read_u64(&slot[EPOCH_AT..]),
+            base: LittleEndian::read_u64(&slot[BASE_AT..]),
         }
     }
 }
@@ -82,13 +92,12 @@ impl GroupHead {
     pub fn encode(&self) -> [u8; SLOT_BYTES]
         ensures { result ≡ group_head_slot self.now }
     {
-        let c = self.count.to_le_bytes();
-        let f = self.first.to_le_bytes();
-        [
-            OPEN_GATE, 2, c[0], c[1], 0, 0, 0, 0, f[0], f[1], f[2], f[3], f[4], f[5], f[6], f[7],
-            0, 0, 0, 0, 0, 0, 0, 0, 0, 0, 0, 0, 0, 0, 0, 0, 0, 0, 0, 0, 0, 0, 0, 0, 0, 0, 0, 0, 0,
-            0, 0, 0, 0, 0, 0, 0, 0, 0, 0, 0, 0, 0, 0, 0, 0, 0, 0, 0,
-        ]
+        let mut slot = [0; SLOT_BYTES];
+        slot[GATE_AT] = OPEN_GATE;
+        slot[KIND_AT] = kind::GROUP_HEAD;
+        LittleEndian::write_u16(&mut slot[COUNT_AT..], self.count);
+        LittleEndian::write_u64(&mut slot[FIRST_AT..], self.first);
+        slot
     }
 
     /// The head that a slot with an open gate spells, if it does.
@@ -109,10 +118,8 @@ impl GroupHead {
         ensures { (h : _) → FitsGroupHead h → slot.now ≡ group_head_slot h → result ≡ h }
     {
         GroupHead {
-            count: u16::from_le_bytes([slot[2], slot[3]]),
-            first: u64::from_le_bytes([
-                slot[8], slot[9], slot[10], slot[11], slot[12], slot[13], slot[14], slot[15],
-            ]),
+            count: LittleEndian::read_u16(&slot[COUNT_AT..]),
+            first: LittleEndian::read_u64(&slot[FIRST_AT..]),
         }
     }
 }

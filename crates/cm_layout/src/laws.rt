@@ -61,9 +61,9 @@ pub fn frames_are_matched()
     ensures to { MatchesFrame }
 {}
 
-/// Contents that are long enough, and agree with others on what is guarded (the superblock, the half
-/// that counts and the byte behind its end, the other half's gate with its head where that is open,
-/// and the records), match the same framing. So they frame the same rows and number.
+/// Contents that are long enough, and agree with others on what is guarded (the superblock, the
+/// half that counts and the byte behind its end, the other half's gate with its head where that is
+/// open, and the records), match the same framing. So they frame the same rows and number.
 pub fn agreement_frames()
     ensures { AgreementMatches }
 {}

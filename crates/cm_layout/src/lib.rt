@@ -2,11 +2,13 @@
 //! rows.
 #![tactic(auto)]
 
+mod chunk_field;
 mod class_row;
 mod entry;
 mod entry_rule;
 mod half;
 mod heads;
+mod kind;
 mod laws;
 mod loader_row;
 mod name;

@@ -2,8 +2,17 @@
 
 ghost use Rattle.std.specs.Prelude.{◌≡◌, ◌≤◌, length, IfSome, Some};
 
+use crate::kind;
 use crate::name::{NAME_BYTES, SlotName};
-use crate::slot::{SLOT_BYTES, is_same_slot};
+use crate::slot::{KIND_AT, SLOT_BYTES, is_same_slot};
+use byteorder::{ByteOrder, LittleEndian};
+
+// Where a loader's slot has its fields.
+const LENGTH_AT: usize = 2;
+
+const NUMBER_AT: usize = 8;
+
+const NAME_AT: usize = 16;
 
 /// A live loader.
 #[derive(Clone, Copy, Debug)]
@@ -20,14 +29,11 @@ impl LoaderRow {
     pub fn encode(&self) -> [u8; SLOT_BYTES]
         ensures { result ≡ loader_slot self.now }
     {
-        let n = self.number.to_le_bytes();
-        let len = self.name.as_bytes().len() as u8;
-        let mut slot = [
-            0, 0x11, len, 0, 0, 0, 0, 0, n[0], n[1], n[2], n[3], n[4], n[5], n[6], n[7], 0, 0, 0,
-            0, 0, 0, 0, 0, 0, 0, 0, 0, 0, 0, 0, 0, 0, 0, 0, 0, 0, 0, 0, 0, 0, 0, 0, 0, 0, 0, 0, 0,
-            0, 0, 0, 0, 0, 0, 0, 0, 0, 0, 0, 0, 0, 0, 0, 0,
-        ];
-        slot[16..].copy_from_slice(&self.name.padded());
+        let mut slot = [0; SLOT_BYTES];
+        slot[KIND_AT] = kind::LOADER;
+        slot[LENGTH_AT] = self.name.as_bytes().len() as u8;
+        LittleEndian::write_u64(&mut slot[NUMBER_AT..], self.number);
+        slot[NAME_AT..].copy_from_slice(&self.name.padded());
         slot
     }
 
@@ -49,14 +55,13 @@ impl LoaderRow {
     fn at_its_places(slot: &[u8; SLOT_BYTES]) -> Option<LoaderRow>
         ensures { (row : _) → FitsLoader row → slot.now ≡ loader_slot row → result ≡ Some row }
     {
-        let len = usize::from(slot[2]);
+        let len = usize::from(slot[LENGTH_AT]);
         if len > NAME_BYTES {
             return None;
         }
-        let number = u64::from_le_bytes([
-            slot[8], slot[9], slot[10], slot[11], slot[12], slot[13], slot[14], slot[15],
-        ]);
-        let name = SlotName::new(&slot[16..16 + len])?;
-        Some(LoaderRow { number, name })
+        Some(LoaderRow {
+            number: LittleEndian::read_u64(&slot[NUMBER_AT..]),
+            name: SlotName::new(&slot[NAME_AT..NAME_AT + len])?,
+        })
     }
 }

@@ -35,7 +35,8 @@ impl Model for SlotName {
 
     ghost inverse_ok = { λ n h i.
         let fits = length-take-le n.len n.bytes (omega (arith, h.0, h.1)) in record {
-          bytes = (ap (λ len. take n.len n.bytes ++ replicate (name_limit - len) 0) fits ∙ sym h.2) i;
+          bytes =
+              (ap (λ len. take n.len n.bytes ++ replicate (name_limit - len) 0) fits ∙ sym h.2) i;
           len = fits i;
         } };
 }

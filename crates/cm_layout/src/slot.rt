@@ -8,6 +8,12 @@ pub const OPEN_GATE: u8 = 0xA5;
 /// The length of a slot in bytes.
 pub const SLOT_BYTES: usize = 64;
 
+/// Where a head has its gate.
+pub(crate) const GATE_AT: usize = 0;
+
+/// Where a slot says what it is.
+pub(crate) const KIND_AT: usize = 1;
+
 /// The length of a superblock in bytes. Its last one is its gate.
 pub const SUPERBLOCK_BYTES: usize = 4096;
 

@@ -8,11 +8,24 @@ ghost use Rattle.cm_layout.specs.Superblock.{superblock_front, superblock_bytes,
 ghost use Rattle.cm_layout.specs.Superblock.{superblock_zeros};
 
 use crate::slot::{OPEN_GATE, SUPERBLOCK_BYTES};
+use byteorder::{ByteOrder, LittleEndian};
 use cm_pool::Geometry;
 use std::alloc::{AllocError, Global};
 
 /// How many bytes of a superblock aren't zeros, but for the gate.
 pub const FRONT_BYTES: usize = 24;
+
+/// The version of region files.
+const VERSION: u32 = 1;
+
+// Where a superblock has its version and its sizes, behind its text.
+const VERSION_AT: usize = 8;
+
+const TOP_AT: usize = 12;
+
+const ROOTS_AT: usize = 16;
+
+const SLOTS_AT: usize = 20;
 
 /// What the first 4,096 bytes of a region file say: the sizes of the region. Its gate, the last of
 /// them, is open.
@@ -58,9 +71,9 @@ fn sizes_at_their_places(front: &[u8; FRONT_BYTES]) -> Option<Geometry>
         → IsSomeAnd result (λ g. g ≡ sizes) }
 {
     Geometry::new(
-        u32::from_le_bytes([front[12], front[13], front[14], front[15]]),
-        u32::from_le_bytes([front[16], front[17], front[18], front[19]]),
-        u32::from_le_bytes([front[20], front[21], front[22], front[23]]),
+        LittleEndian::read_u32(&front[TOP_AT..]),
+        LittleEndian::read_u32(&front[ROOTS_AT..]),
+        LittleEndian::read_u32(&front[SLOTS_AT..]),
     )
 }
 
@@ -99,11 +112,11 @@ fn is_each_zero(bytes: &[u8]) -> bool
 fn encode_front(geometry: Geometry) -> [u8; FRONT_BYTES]
     ensures { result ≡ superblock_front geometry }
 {
-    let t = geometry.top().to_le_bytes();
-    let r = geometry.roots().to_le_bytes();
-    let s = geometry.slots().to_le_bytes();
-    [
-        b'C', b'M', b'C', b'A', b'C', b'H', b'E', b'1', 1, 0, 0, 0, t[0], t[1], t[2], t[3], r[0],
-        r[1], r[2], r[3], s[0], s[1], s[2], s[3],
-    ]
+    let mut front = [0; FRONT_BYTES];
+    front[..VERSION_AT].copy_from_slice(b"CMCACHE1");
+    LittleEndian::write_u32(&mut front[VERSION_AT..], VERSION);
+    LittleEndian::write_u32(&mut front[TOP_AT..], geometry.top());
+    LittleEndian::write_u32(&mut front[ROOTS_AT..], geometry.roots());
+    LittleEndian::write_u32(&mut front[SLOTS_AT..], geometry.slots());
+    front
 }

@@ -2,7 +2,12 @@
 
 ghost use Rattle.std.specs.Prelude.{◌≡◌, IfSome, Some};
 
-use crate::slot::{SLOT_BYTES, is_same_slot};
+use crate::kind;
+use crate::slot::{KIND_AT, SLOT_BYTES, is_same_slot};
+use byteorder::{ByteOrder, LittleEndian};
+
+// Where the slot of an unloading has its field.
+const LOADER_AT: usize = 8;
 
 /// A loader is unloaded: its rows go.
 #[derive(Clone, Copy, Debug, PartialEq, Eq)]
@@ -18,12 +23,10 @@ impl Unload {
     pub fn encode(&self) -> [u8; SLOT_BYTES]
         ensures { result ≡ unload_slot self.now }
     {
-        let l = self.loader.to_le_bytes();
-        [
-            0, 0x13, 0, 0, 0, 0, 0, 0, l[0], l[1], l[2], l[3], l[4], l[5], l[6], l[7], 0, 0, 0, 0,
-            0, 0, 0, 0, 0, 0, 0, 0, 0, 0, 0, 0, 0, 0, 0, 0, 0, 0, 0, 0, 0, 0, 0, 0, 0, 0, 0, 0, 0,
-            0, 0, 0, 0, 0, 0, 0, 0, 0, 0, 0, 0, 0, 0, 0,
-        ]
+        let mut slot = [0; SLOT_BYTES];
+        slot[KIND_AT] = kind::UNLOAD;
+        LittleEndian::write_u64(&mut slot[LOADER_AT..], self.loader);
+        slot
     }
 
     /// The entry that a slot spells, if it spells the unloading of a loader.
@@ -44,9 +47,8 @@ impl Unload {
     fn at_its_places(slot: &[u8; SLOT_BYTES]) -> Unload
         ensures { (entry : _) → FitsUnload entry → slot.now ≡ unload_slot entry → result ≡ entry }
     {
-        let loader = u64::from_le_bytes([
-            slot[8], slot[9], slot[10], slot[11], slot[12], slot[13], slot[14], slot[15],
-        ]);
-        Unload { loader }
+        Unload {
+            loader: LittleEndian::read_u64(&slot[LOADER_AT..]),
+        }
     }
 }

@@ -1,13 +1,11 @@
-use Rattle.std.proofs.Common.{◌≡◌, ◌∙◌}
-use Rattle.std.proofs.lemmas.Nat.{from_le_bytes-to_le_bytes_2, from_le_bytes-to_le_bytes_8}
+use Rattle.std.proofs.Common.{◌≡◌, ◌∙◌, []}
+use Rattle.byteorder.specs.Numbers.{little_number-reads_back}
 use Rattle.cm_layout.proofs.heads.GroupHead.at_its_places.Goals as goal
 
 pub returns : goal.returns
 returns c h fits e =
-    let count = rw e at c.from_le_bytes.ensures in
-    let first = rw e at c.from_le_bytes-2.ensures in
-    let a : c.from_le_bytes.result ≡ h.count =
-    count ∙ from_le_bytes-to_le_bytes_2 h.count fits.count in
-    let b : c.from_le_bytes-2.result ≡ h.first =
-    first ∙ from_le_bytes-to_le_bytes_8 h.first fits.first in
-    λ i. record { count = a i; first = b i }
+    let count : c.read_u16.result ≡ h.count =
+    (rw e at c.read_u16.ensures) ∙ little_number-reads_back 2 h.count [] fits.count in
+    let first : c.read_u64.result ≡ h.first =
+    (rw e at c.read_u64.ensures) ∙ little_number-reads_back 8 h.first [] fits.first in
+    λ i. record { count = count i; first = first i }

@@ -1,20 +1,15 @@
-use Rattle.std.proofs.Common.{◌≡◌, ◌∙◌}
-use Rattle.std.proofs.lemmas.Nat.{from_le_bytes-to_le_bytes_2, from_le_bytes-to_le_bytes_4}
-use Rattle.std.proofs.lemmas.Nat.{from_le_bytes-to_le_bytes_8}
+use Rattle.std.proofs.Common.{◌≡◌, ◌∙◌, []}
+use Rattle.byteorder.specs.Numbers.{little_number-reads_back}
 use Rattle.cm_layout.proofs.heads.HalfHead.at_its_places.Goals as goal
 
 pub returns : goal.returns
 returns c h fits e =
-    let version = rw e at c.from_le_bytes.ensures in
-    let live = rw e at c.from_le_bytes-2.ensures in
-    let epoch = rw e at c.from_le_bytes-3.ensures in
-    let base = rw e at c.from_le_bytes-4.ensures in
-    let v : c.from_le_bytes.result ≡ h.version =
-    version ∙ from_le_bytes-to_le_bytes_2 h.version fits.version in
-    let a : c.from_le_bytes-2.result ≡ h.live =
-    live ∙ from_le_bytes-to_le_bytes_4 h.live fits.live in
-    let b : c.from_le_bytes-3.result ≡ h.epoch =
-    epoch ∙ from_le_bytes-to_le_bytes_8 h.epoch fits.epoch in
-    let d : c.from_le_bytes-4.result ≡ h.base =
-    base ∙ from_le_bytes-to_le_bytes_8 h.base fits.base in
-    λ i. record { version = v i; live = a i; epoch = b i; base = d i }
+    let version : c.read_u16.result ≡ h.version =
+    (rw e at c.read_u16.ensures) ∙ little_number-reads_back 2 h.version [] fits.version in
+    let live : c.read_u32.result ≡ h.live =
+    (rw e at c.read_u32.ensures) ∙ little_number-reads_back 4 h.live [] fits.live in
+    let epoch : c.read_u64.result ≡ h.epoch =
+    (rw e at c.read_u64.ensures) ∙ little_number-reads_back 8 h.epoch [] fits.epoch in
+    let base : c.read_u64-2.result ≡ h.base =
+    (rw e at c.read_u64-2.ensures) ∙ little_number-reads_back 8 h.base [] fits.base in
+    λ i. record { version = version i; live = live i; epoch = epoch i; base = base i }
