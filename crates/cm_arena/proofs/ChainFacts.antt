@@ -18,18 +18,25 @@ chunks-chain_of (c ∷ cs) [] h = absurd (omega arith)
 chunks-chain_of (c ∷ cs) (n ∷ us) h = ap (λ ds. c ∷ ds) (chunks-chain_of cs us (omega arith))
 
 pub same_chunk-refl : (c : Chunk) → same_chunk c c ≡ true
-same_chunk-refl c = rw (eq-eqb c.root c.root refl, eq-eqb c.order c.order refl, eq-eqb c.at c.at refl)
+same_chunk-refl c =
+    rw (eq-eqb c.root c.root refl, eq-eqb c.order c.order refl, eq-eqb c.at c.at refl)
 
 pub same_chunk-eq : (a b : Chunk) → same_chunk a b ≡ true → a ≡ b
 same_chunk-eq a b h =
     let first = and_parts (eqb a.root b.root) _ h in
     let second = and_parts (eqb a.order b.order) _ first.1 in
-    λ i. record { root = eqb-true a.root b.root first.0 i; order = eqb-true a.order b.order second.0 i; at = eqb-true a.at b.at second.1 i }
+    λ i. record {
+      root = eqb-true a.root b.root first.0 i;
+      order = eqb-true a.order b.order second.0 i;
+      at = eqb-true a.at b.at second.1 i;
+    }
 
 -- the first chunk that is left, and the others
 pub used_of-drop : (cs : List Chunk) (us : List ℕ) (at : ℕ) (d c : Chunk) (e : ℕ)
     → length cs ≡ length us → at < length cs
-    → used_of (chain_of (drop at cs) (drop at us)) c ≡ cond (same_chunk (get_or cs at d) c) (Some (get_or us at e)) (used_of (chain_of (drop (at + 1) cs) (drop (at + 1) us)) c)
+    → used_of (chain_of (drop at cs) (drop at us)) c
+    ≡ cond (same_chunk (get_or cs at d) c) (Some (get_or us at e))
+    (used_of (chain_of (drop (at + 1) cs) (drop (at + 1) us)) c)
 used_of-drop cs us at d c e same lt =
     let also : at < length us = omega arith in
     rw (drop_more cs at d lt, drop_more us at e also) refl
@@ -43,12 +50,14 @@ last-chain_of (c ∷ cs) [] k d e same len = absurd (omega arith)
 last-chain_of (c ∷ []) (n ∷ us) zero d e same len = single us (omega arith)
   where
     single : (us : List ℕ) → length us ≡ 0
-        → last_of (record { chunk = c; used = n } ∷ chain_of [] us) ≡ Some (record { chunk = c; used = n })
+        → last_of (record { chunk = c; used = n } ∷ chain_of [] us)
+        ≡ Some (record { chunk = c; used = n })
     single us h = refl
 last-chain_of (c ∷ []) (n ∷ us) (suc k) d e same len = absurd (omega arith)
 last-chain_of (c ∷ b ∷ cs) (n ∷ []) k d e same len = absurd (omega arith)
 last-chain_of (c ∷ b ∷ cs) (n ∷ m ∷ us) zero d e same len = absurd (omega arith)
-last-chain_of (c ∷ b ∷ cs) (n ∷ m ∷ us) (suc k) d e same len = last-chain_of (b ∷ cs) (m ∷ us) k d e (omega arith) (omega arith)
+last-chain_of (c ∷ b ∷ cs) (n ∷ m ∷ us) (suc k) d e same len =
+    last-chain_of (b ∷ cs) (m ∷ us) k d e (omega arith) (omega arith)
 
 -- more words of the last chunk
 pub more-chain_of : (cs : List Chunk) (us : List ℕ) (k words e : ℕ) → length cs ≡ length us
@@ -61,7 +70,8 @@ more-chain_of (c ∷ []) (n ∷ us) (suc k) words e same len = absurd (omega ari
 more-chain_of (c ∷ b ∷ cs) (n ∷ []) k words e same len = absurd (omega arith)
 more-chain_of (c ∷ b ∷ cs) (n ∷ m ∷ us) zero words e same len = absurd (omega arith)
 more-chain_of (c ∷ b ∷ cs) (n ∷ m ∷ us) (suc k) words e same len =
-    ap (λ rest. record { chunk = c; used = n } ∷ rest) (more-chain_of (b ∷ cs) (m ∷ us) k words e (omega arith) (omega arith))
+    ap (λ rest. record { chunk = c; used = n } ∷ rest)
+    (more-chain_of (b ∷ cs) (m ∷ us) k words e (omega arith) (omega arith))
 
 pub filled-at : (cs : List Chunk) (us : List ℕ) (k : ℕ) (d : Chunk) (e : ℕ)
     → length cs ≡ length us → k < length cs → AllByRecursion IsFilled (chain_of cs us)
@@ -69,7 +79,8 @@ pub filled-at : (cs : List Chunk) (us : List ℕ) (k : ℕ) (d : Chunk) (e : ℕ
 filled-at [] us k d e same lt h = absurd (omega arith)
 filled-at (c ∷ cs) [] k d e same lt h = absurd (omega arith)
 filled-at (c ∷ cs) (n ∷ us) zero d e same lt h = h.0
-filled-at (c ∷ cs) (n ∷ us) (suc k) d e same lt h = filled-at cs us k d e (omega arith) (omega arith) h.1
+filled-at (c ∷ cs) (n ∷ us) (suc k) d e same lt h =
+    filled-at cs us k d e (omega arith) (omega arith) h.1
 
 pub filled-set : (cs : List Chunk) (us : List ℕ) (k n : ℕ) (d : Chunk) → length cs ≡ length us
     → k < length cs → AllByRecursion IsFilled (chain_of cs us)
@@ -78,7 +89,8 @@ pub filled-set : (cs : List Chunk) (us : List ℕ) (k n : ℕ) (d : Chunk) → l
 filled-set [] us k n d same lt h new = absurd (omega arith)
 filled-set (c ∷ cs) [] k n d same lt h new = absurd (omega arith)
 filled-set (c ∷ cs) (m ∷ us) zero n d same lt h new = (new, h.1)
-filled-set (c ∷ cs) (m ∷ us) (suc k) n d same lt h new = (h.0, filled-set cs us k n d (omega arith) (omega arith) h.1 new)
+filled-set (c ∷ cs) (m ∷ us) (suc k) n d same lt h new =
+    (h.0, filled-set cs us k n d (omega arith) (omega arith) h.1 new)
 
 -- one chunk more
 pub chain_of-push : (cs : List Chunk) (us : List ℕ) (c : Chunk) (n : ℕ) → length cs ≡ length us
@@ -110,7 +122,8 @@ next-chain_of (b ∷ []) (n ∷ us) zero d c e same len = refl
 next-chain_of (b ∷ []) (n ∷ us) (suc k) d c e same len = absurd (omega arith)
 next-chain_of (b ∷ a ∷ cs) (n ∷ []) k d c e same len = absurd (omega arith)
 next-chain_of (b ∷ a ∷ cs) (n ∷ m ∷ us) zero d c e same len = absurd (omega arith)
-next-chain_of (b ∷ a ∷ cs) (n ∷ m ∷ us) (suc k) d c e same len = next-chain_of (a ∷ cs) (m ∷ us) k d c e (omega arith) (omega arith)
+next-chain_of (b ∷ a ∷ cs) (n ∷ m ∷ us) (suc k) d c e same len =
+    next-chain_of (a ∷ cs) (m ∷ us) k d c e (omega arith) (omega arith)
 
 -- a place at the front of a chunk is in a new one, as no chunk of a chain is empty
 pub place-in_new : (chain : List Filled) (place : Place) → AllByRecursion IsFilled chain
@@ -119,7 +132,9 @@ pub place-in_new : (chain : List Filled) (place : Place) → AllByRecursion IsFi
 place-in_new [] place h e = refl
 place-in_new (f ∷ []) place h e =
     elim (same_chunk f.chunk place.chunk) as (λ b. cond b f.used 0 ≡ 0
-    → cond b (record { chunk = f.chunk; used = f.used + place.words } ∷ []) (f ∷ record { chunk = place.chunk; used = place.words } ∷ []) ≡ f ∷ record { chunk = place.chunk; used = place.words } ∷ []) [
+    → cond b (record { chunk = f.chunk; used = f.used + place.words } ∷ [])
+    (f ∷ record { chunk = place.chunk; used = place.words } ∷ [])
+    ≡ f ∷ record { chunk = place.chunk; used = place.words } ∷ []) [
       | true ↦ λ none. absurd (omega (arith, h.0.some, none))
       | false ↦ λ _. refl
     ] e
@@ -130,7 +145,9 @@ pub place-on_top : (chain : List Filled) (place : Place) → 0 < next_offset cha
 place-on_top [] place h = absurd (omega (arith, h))
 place-on_top (f ∷ []) place h =
     elim (same_chunk f.chunk place.chunk) as (λ b. 0 < cond b f.used 0
-    → cond b (record { chunk = f.chunk; used = f.used + place.words } ∷ []) (f ∷ record { chunk = place.chunk; used = place.words } ∷ []) ≡ record { chunk = f.chunk; used = f.used + place.words } ∷ []) [
+    → cond b (record { chunk = f.chunk; used = f.used + place.words } ∷ [])
+    (f ∷ record { chunk = place.chunk; used = place.words } ∷ [])
+    ≡ record { chunk = f.chunk; used = f.used + place.words } ∷ []) [
       | true ↦ λ _. refl
       | false ↦ λ none. absurd (omega (arith, none))
     ] h

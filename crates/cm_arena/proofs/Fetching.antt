@@ -10,7 +10,8 @@ IsTaken old wanted need c new = IsWanted old wanted c new ⊎ IsNeeded old wante
 
 pub taken-has_free : (old new : FreeSpace) (wanted need : ℕ) (c : Chunk) → need ≤ wanted
     → IsTaken old wanted need c new → HasFree old need
-taken-has_free old new wanted need c le (inl h) = large_has_small old need wanted le (c, h.first.of_order, h.first.free)
+taken-has_free old new wanted need c le (inl h) =
+    large_has_small old need wanted le (c, h.first.of_order, h.first.free)
 taken-has_free old new wanted need c le (inr h) = (c, h.first.of_order, h.first.free)
 
 -- a chunk that was fetched is of the order wanted or of the order needed, and has few words

@@ -46,16 +46,26 @@ pub place-inside : (chain new : List Filled) (pool left : FreeSpace) (words : �
     → AllByRecursion IsFilled chain → 1 ≤ words → pool.geometry.top ≤ 12
     → Places chain pool words place new left → IsInside place × Among place.chunk (chunks_of new)
 place-inside chain new pool left words place filled some small (inl (on, same)) = (
-  record { small = (filled-last chain _ filled on.last).small; some = omega (arith, on.amount); within = omega (arith, on.room, on.amount) },
-  subst (Among place.chunk) (sym (ap chunks_of on.after ∙ chunks-with_more chain words)) (among-last chain _ on.last),
+  record {
+    small = (filled-last chain _ filled on.last).small;
+    some = omega (arith, on.amount);
+    within = omega (arith, on.room, on.amount);
+  },
+  subst (Among place.chunk) (sym (ap chunks_of on.after ∙ chunks-with_more chain words))
+      (among-last chain _ on.last),
 )
 place-inside chain new pool left words place filled some small (inr h) = (
   record {
-    small = omega (arith, fetched-small pool left (order_wanted h.need (length chain) pool.geometry.top) h.need place.chunk h.fetches);
+    small = omega (
+      arith,
+      fetched-small pool left
+          (order_wanted h.need (length chain) pool.geometry.top) h.need place.chunk h.fetches,
+    );
     some = omega (arith, h.in_new.amount);
     within = omega (arith, h.in_new.front, h.in_new.room, h.in_new.amount);
   },
-  subst (Among place.chunk) (sym (ap chunks_of h.in_new.after ∙ chunks-push chain _)) (among-push (chunks_of chain) place.chunk),
+  subst (Among place.chunk) (sym (ap chunks_of h.in_new.after ∙ chunks-push chain _))
+      (among-push (chunks_of chain) place.chunk),
 )
 
 -- a fetched chunk is held with those that were
@@ -63,37 +73,59 @@ fetched-held : (pool left : FreeSpace) (wanted need : ℕ) (c : Chunk) (mine oth
     → Fetches pool wanted need c left → AreHeld pool (mine ++ others)
     → AreHeld left (mine ++ c ∷ others)
 fetched-held pool left wanted need c mine others (inl h) held = subst
-    (λ (p : FreeSpace). AreHeld p (mine ++ c ∷ others)) (sym h.left) (taken_is_held pool mine c others held h.first.free)
+    (λ (p : FreeSpace). AreHeld p (mine ++ c ∷ others)) (sym h.left)
+    (taken_is_held pool mine c others held h.first.free)
 fetched-held pool left wanted need c mine others (inr (inl h)) held = subst
-    (λ (p : FreeSpace). AreHeld p (mine ++ c ∷ others)) (sym h.left) (taken_is_held pool mine c others held h.first.free)
+    (λ (p : FreeSpace). AreHeld p (mine ++ c ∷ others)) (sym h.left)
+    (taken_is_held pool mine c others held h.first.free)
 fetched-held pool left wanted need c mine others (inr (inr h)) held =
-    subst (λ (p : FreeSpace). AreHeld p (mine ++ c ∷ others)) (sym h.left) (taken_is_held (with_root pool) mine c others (roots_keep_held pool (mine ++ others) held) h.first.free)
+    subst (λ (p : FreeSpace). AreHeld p (mine ++ c ∷ others)) (sym h.left)
+    (taken_is_held (with_root pool) mine c others (roots_keep_held pool (mine ++ others) held)
+    h.first.free)
 
-pub place-held : (chain new : List Filled) (pool left : FreeSpace) (words : ℕ) (place : Place) (others : List Chunk) → Places chain pool words place new left → AreHeld pool (chunks_of chain ++ others) → AreHeld left (chunks_of new ++ others)
+pub place-held : (chain new : List Filled) (pool left : FreeSpace) (words : ℕ) (place : Place)
+    (others : List Chunk) → Places chain pool words place new left
+    → AreHeld pool (chunks_of chain ++ others) → AreHeld left (chunks_of new ++ others)
 place-held chain new pool left words place others (inl (on, same)) held =
     subst (λ (p : FreeSpace). AreHeld p (chunks_of new ++ others)) (sym same)
-    (subst (λ (cs : List Chunk). AreHeld pool (cs ++ others)) (sym (ap chunks_of on.after ∙ chunks-with_more chain words)) held)
+    (subst (λ (cs : List Chunk). AreHeld pool (cs ++ others))
+    (sym (ap chunks_of on.after ∙ chunks-with_more chain words)) held)
 place-held chain new pool left words place others (inr h) held =
     let chunks : chunks_of new ++ others ≡ chunks_of chain ++ place.chunk ∷ others =
-    ap (λ (cs : List Chunk). cs ++ others) (ap chunks_of h.in_new.after ∙ chunks-push chain _) ∙ append_assoc (chunks_of chain) (place.chunk ∷ []) others
+    ap (λ (cs : List Chunk). cs ++ others) (ap chunks_of h.in_new.after ∙ chunks-push chain _)
+    ∙ append_assoc (chunks_of chain) (place.chunk ∷ []) others
     in
-    subst (AreHeld left) (sym chunks) (fetched-held pool left (order_wanted h.need (length chain) pool.geometry.top) h.need place.chunk (chunks_of chain) others h.fetches held)
+    subst (AreHeld left) (sym chunks)
+    (fetched-held pool left (order_wanted h.need (length chain) pool.geometry.top) h.need
+    place.chunk (chunks_of chain) others h.fetches held)
 
 -- and no word is lost
-fetched-none_lost : (pool left : FreeSpace) (wanted need : ℕ) (c : Chunk) (mine others : List Chunk) → Fetches pool wanted need c left → NoneIsLost pool (mine ++ others) → NoneIsLost left (mine ++ c ∷ others)
+fetched-none_lost : (pool left : FreeSpace) (wanted need : ℕ) (c : Chunk) (mine others : List Chunk)
+    → Fetches pool wanted need c left → NoneIsLost pool (mine ++ others)
+    → NoneIsLost left (mine ++ c ∷ others)
 fetched-none_lost pool left wanted need c mine others (inl h) kept = subst
-    (λ (p : FreeSpace). NoneIsLost p (mine ++ c ∷ others)) (sym h.left) (taking_loses_none pool mine c others kept h.first.free)
+    (λ (p : FreeSpace). NoneIsLost p (mine ++ c ∷ others)) (sym h.left)
+    (taking_loses_none pool mine c others kept h.first.free)
 fetched-none_lost pool left wanted need c mine others (inr (inl h)) kept = subst
-    (λ (p : FreeSpace). NoneIsLost p (mine ++ c ∷ others)) (sym h.left) (taking_loses_none pool mine c others kept h.first.free)
+    (λ (p : FreeSpace). NoneIsLost p (mine ++ c ∷ others)) (sym h.left)
+    (taking_loses_none pool mine c others kept h.first.free)
 fetched-none_lost pool left wanted need c mine others (inr (inr h)) kept =
-    subst (λ (p : FreeSpace). NoneIsLost p (mine ++ c ∷ others)) (sym h.left) (taking_loses_none (with_root pool) mine c others (roots_lose_none pool (mine ++ others) kept) h.first.free)
+    subst (λ (p : FreeSpace). NoneIsLost p (mine ++ c ∷ others)) (sym h.left)
+    (taking_loses_none (with_root pool) mine c others (roots_lose_none pool (mine ++ others) kept)
+    h.first.free)
 
-pub place-none_lost : (chain new : List Filled) (pool left : FreeSpace) (words : ℕ) (place : Place) (others : List Chunk) → Places chain pool words place new left → NoneIsLost pool (chunks_of chain ++ others) → NoneIsLost left (chunks_of new ++ others)
+pub place-none_lost : (chain new : List Filled) (pool left : FreeSpace) (words : ℕ) (place : Place)
+    (others : List Chunk) → Places chain pool words place new left
+    → NoneIsLost pool (chunks_of chain ++ others) → NoneIsLost left (chunks_of new ++ others)
 place-none_lost chain new pool left words place others (inl (on, same)) kept =
     subst (λ (p : FreeSpace). NoneIsLost p (chunks_of new ++ others)) (sym same)
-    (subst (λ (cs : List Chunk). NoneIsLost pool (cs ++ others)) (sym (ap chunks_of on.after ∙ chunks-with_more chain words)) kept)
+    (subst (λ (cs : List Chunk). NoneIsLost pool (cs ++ others))
+    (sym (ap chunks_of on.after ∙ chunks-with_more chain words)) kept)
 place-none_lost chain new pool left words place others (inr h) kept =
     let chunks : chunks_of new ++ others ≡ chunks_of chain ++ place.chunk ∷ others =
-    ap (λ (cs : List Chunk). cs ++ others) (ap chunks_of h.in_new.after ∙ chunks-push chain _) ∙ append_assoc (chunks_of chain) (place.chunk ∷ []) others
+    ap (λ (cs : List Chunk). cs ++ others) (ap chunks_of h.in_new.after ∙ chunks-push chain _)
+    ∙ append_assoc (chunks_of chain) (place.chunk ∷ []) others
     in
-    subst (NoneIsLost left) (sym chunks) (fetched-none_lost pool left (order_wanted h.need (length chain) pool.geometry.top) h.need place.chunk (chunks_of chain) others h.fetches kept)
+    subst (NoneIsLost left) (sym chunks)
+    (fetched-none_lost pool left (order_wanted h.need (length chain) pool.geometry.top) h.need
+    place.chunk (chunks_of chain) others h.fetches kept)

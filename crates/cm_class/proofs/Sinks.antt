@@ -94,7 +94,8 @@ module _ (count i : ℕ) (now : List ℕ) {keeps : Bool} {front : List Slot} {al
       walked = λ k. slots_stop stop count i now (rest_of all) lt (walked k) (so_far.walked k);
     }
 
-    pub slots_full : {Z : Type 0} (second : Bool) (seen : Z → List Slot × List ℕ) (z : Z) → count ≤ i
+    pub slots_full : {Z : Type 0} (second : Bool) (seen : Z → List Slot × List ℕ) (z : Z)
+        → count ≤ i
         → IsSplit keeps front (slots_at second (count - i) now) all → seen z ≡ (front, now)
         → GivesTo keeps seen (Ok z) all
     slots_full second seen z le so_far e = record {

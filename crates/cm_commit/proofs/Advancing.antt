@@ -1,6 +1,6 @@
 -- What one device call makes of a committer.
-use Rattle.std.proofs.Common.{◌≡◌, ℕ, ◌+◌, ◌≤◌, Bool, true, false, cond, List, [], ◌∷◌, length, Option, Some}
-use Rattle.std.proofs.Common.{None, refl, sym, ap, subst, ◌∙◌, arith}
+use Rattle.std.proofs.Common.{◌≡◌, ℕ, ◌+◌, ◌≤◌, Bool, true, false, cond, List, [], ◌∷◌, length}
+use Rattle.std.proofs.Common.{Option, Some, None, refl, sym, ap, subst, ◌∙◌, arith}
 use Rattle.std.specs.Prelude.{Result, Ok, Err, OnOk, OnErr}
 use Rattle.cm_disk.specs.Disk.{Unsynced, IsImage, IsSound}
 use Rattle.cm_pool.specs.Geometry.{Sizes}
@@ -40,7 +40,8 @@ use Rattle.cm_commit.specs.declared.journal.Journal.{Journal}
 use Rattle.cm_commit.specs.declared.step.Step.{Step}
 use Rattle.cm_commit.specs.declared.step.Step.TheVariants as step
 use Rattle.cm_commit.specs.Steps.{FitsJournal, stages_at, stages_left}
-use Rattle.cm_commit.proofs.Committing.{fits_journal, cache_after, right_rows_after, end_after, leaves_so}
+use Rattle.cm_commit.proofs.Committing.{fits_journal, cache_after, right_rows_after, end_after}
+use Rattle.cm_commit.proofs.Committing.{leaves_so}
 
 of_ok : {T E : Type 0} (r : Result T E) (A : Type 0) (x : T) → r ≡ Ok x → OnOk r A → A
 of_ok (Ok y) A x e a = a

@@ -1,5 +1,6 @@
 -- What one device call makes of what stands on a disk, and what a crash leaves while it runs.
-use Rattle.std.proofs.Common.{◌≡◌, ℕ, List, [], ◌∷◌, length, inl, inr, refl, sym, ap, subst, ◌∙◌, arith}
+use Rattle.std.proofs.Common.{◌≡◌, ℕ, List, [], ◌∷◌, length, inl, inr, refl, sym, ap, subst, ◌∙◌}
+use Rattle.std.proofs.Common.{arith}
 use Rattle.std.specs.Prelude.{Result, Ok, Err, OnOk, OnErr}
 use Rattle.cm_disk.specs.Disk.{Unsynced, IsImage, IsSettled, IsSound}
 use Rattle.cm_disk.specs.Calls.{overwritten}
@@ -10,8 +11,8 @@ use Rattle.cm_guards.specs.Calls.{LeavesOnly}
 use Rattle.cm_guards.specs.Laws.{Stays}
 use Rattle.cm_guards.proofs.Gated.{settled_images, turned}
 use Rattle.cm_guards.proofs.Planned.{plan_goes_on, written_goes_on, overwritten_size}
-use Rattle.cm_guards.proofs.Steps.{write_leaves, gate_leaves, sync_leaves, stays_written, stays_synced}
-use Rattle.cm_guards.proofs.Steps.{gate_images, images_synced, stays_images}
+use Rattle.cm_guards.proofs.Steps.{write_leaves, gate_leaves, sync_leaves, stays_written}
+use Rattle.cm_guards.proofs.Steps.{stays_synced, gate_images, images_synced, stays_images}
 use Rattle.cm_commit.specs.Plans.{Stage, Store, Turn, Settle, after_call}
 use Rattle.cm_commit.specs.States.{leaves}
 use Rattle.cm_commit.specs.Standing.{CallsOnce, TakesCall}
@@ -52,7 +53,8 @@ each_stage g P Q long (Store writes ∷ behind) contents unsynced guards some st
 each_stage g P Q long (Turn gate byte ∷ behind) contents unsynced guards some stands =
     record {
       each = λ image is. record {
-        which = inl ((settled_images P contents unsynced stands.settled stands.holds).each image is);
+        which = inl ((settled_images P contents unsynced stands.settled stands.holds).each image
+            is);
       };
     }
 each_stage g P Q long (Settle ∷ behind) contents unsynced guards some stands =
@@ -66,7 +68,8 @@ each_broken P Q (Store writes ∷ behind) contents unsynced broken = record { ea
 each_broken P Q (Turn gate byte ∷ behind) contents unsynced broken = record { each = broken.each }
 each_broken P Q (Settle ∷ behind) contents unsynced broken = record { each = broken.each }
 
-module _ {D T E : Type 0} (contents : D → List ℕ) (unsynced : D → Unsynced) (failures moment : D → ℕ)
+module _ {D T E : Type 0} (contents : D → List ℕ) (unsynced : D → Unsynced)
+    (failures moment : D → ℕ)
     (left_since : D → ℕ → List ℕ → Type 0)
     (only_now : (disk : D) (image : List ℕ) → left_since disk (moment disk) image
     → IsImage (contents disk) (unsynced disk) image) (g : Guard) (P Q : List ℕ → Type 0) (long : ℕ)

@@ -44,7 +44,8 @@ own_one : (e : BareEntry) (records : List (List ℕ)) → HasRecords e records
     → carries_own (record { entry = e; records = records }) ≡ true
 own_one (entry.Live (Loader r)) records has = eq-eqb (length records) 0 (ap length has)
 own_one (entry.Live (Class r p)) records has =
-    subst (λ (l : List (List ℕ)). carries_own (record { entry = entry.Live (Class r p); records = l })
+    subst (λ (l : List (List ℕ)). carries_own
+    (record { entry = entry.Live (Class r p); records = l })
     ≡ true) (sym has.1) (eq-eqb (length has.0) r.place.words has.2)
 own_one (entry.Unload e) records has = eq-eqb (length records) 0 (ap length has)
 own_one (entry.Move e) records has = absurd has

@@ -67,7 +67,8 @@ pub one_filled : {P : Type 0} (f : P → List ℕ) (old : LiveRows P) (first : �
     → result ≡ broken_rule book.sizes book.rows number e
     → new ≡ cond (is_none result) (record book { rows = rows_after book.rows e }) book
     → AreFilled f old first carried new (number + 1) (count + 1)
-one_filled {P} f old first carried book number count c e result new some are lt is same broken left =
+one_filled {P} f old first carried book number count c e result new some are lt is same
+    broken left =
     let rest = drop (count + 1) carried in
     let split = next_is carried count c lt is in
     let own = and_parts (carries_own c) (list_all carries_own rest)

@@ -53,9 +53,13 @@ moved-with {P} {Q} f from to (Class r p ∷ rows) =
     by_test (same_chunk r.place.chunk from) (moved-with f from to rows)
   where
     by_test : (t : Bool) → rows_with f (moved from to rows) ≡ moved from to (rows_with f rows)
-        → row_with f (cond t (Class (record r { place = record r.place { chunk = to } }) p) (Class r p)) ∷ rows_with f (moved from to rows)
-        ≡ cond t (Class (record r { place = record r.place { chunk = to } }) (f p)) (Class r (f p)) ∷ moved from to (rows_with f rows)
-    by_test true rest = ap (λ (l : List (Row Q)). Class (record r { place = record r.place { chunk = to } }) (f p) ∷ l) rest
+        → row_with f (cond t (Class (record r { place = record r.place { chunk = to } }) p)
+        (Class r p)) ∷ rows_with f (moved from to rows)
+        ≡ cond t (Class (record r { place = record r.place { chunk = to } }) (f p)) (Class r (f p))
+        ∷ moved from to (rows_with f rows)
+    by_test true rest =
+        ap (λ (l : List (Row Q)). Class (record r { place = record r.place { chunk = to } })
+        (f p) ∷ l) rest
     by_test false rest = ap (λ (l : List (Row Q)). Class r (f p) ∷ l) rest
 
 pub after-with : {P Q : Type 0} (f : P → Q) (rows : List (Row P)) (e : Entry P)

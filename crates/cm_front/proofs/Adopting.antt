@@ -1,7 +1,8 @@
--- A class's place is the next one of its loader's arena, where the arenas are those of the rows before.
-use Rattle.std.proofs.Common.{◌≡◌, ℕ, zero, suc, ◌+◌, ◌-◌, ◌%◌, ◌<◌, ◌≤◌, ◌⊎◌, Bool, true, false, cond}
-use Rattle.std.proofs.Common.{List, [], ◌∷◌, ◌++◌, map, Option, Some, None, inl, inr, refl, sym}
-use Rattle.std.proofs.Common.{ap, subst, ◌∙◌, arith, eqb}
+-- A class's place is the next one of its loader's arena, where the arenas are those of the rows
+-- before.
+use Rattle.std.proofs.Common.{◌≡◌, ℕ, zero, suc, ◌+◌, ◌-◌, ◌%◌, ◌<◌, ◌≤◌, ◌⊎◌, Bool, true, false}
+use Rattle.std.proofs.Common.{cond, List, [], ◌∷◌, ◌++◌, map, Option, Some, None, inl, inr, refl}
+use Rattle.std.proofs.Common.{sym, ap, subst, ◌∙◌, arith, eqb}
 use Rattle.std.specs.Prelude.{◌&&◌, nat_le, nat_lt, filter, sum, max}
 use Rattle.std.specs.Option.{option_map, option_map_or}
 use Rattle.std.proofs.lemmas.Bool.{eqb-true, ltb-true, leb-true}
@@ -62,7 +63,8 @@ row_from : (chain : List Filled) (u : ℕ) (classes : List ClassRow) (d : Chunk)
     → Among d (chunks_of chain) ⊎ ((s : ClassRow) × Among s classes × (s.place.chunk ≡ d))
 row_from chain u [] d m = inl m
 row_from chain u (r ∷ classes) d m =
-    by_test (λ h. row_from (with_place chain r.place) u classes d h) (λ h. row_from chain u classes d h)
+    by_test (λ h. row_from (with_place chain r.place) u classes d h)
+    (λ h. row_from chain u classes d h)
     (eqb r.loader u) m
   where
     later : (s : ClassRow) × Among s classes × (s.place.chunk ≡ d)
@@ -146,14 +148,16 @@ some_words sizes n pre (Loader r ∷ rows) k s m =
 some_words sizes n pre (Class r p ∷ rows) k s (inr m) =
     some_words sizes n (pre ++ Class r p ∷ []) rows k.2 s m
 some_words sizes n pre (Class r p ∷ rows) k s (inl e) =
-    let fits = fits_kept (is_live r.loader pre && has_room sizes pre (Class r p)) (class_fits sizes pre r)
+    let fits =
+    fits_kept (is_live r.loader pre && has_room sizes pre (Class r p)) (class_fits sizes pre r)
     k.1 in
     let chunk = is_chunk sizes r.place.chunk in
     let words = nat_le 1 r.place.words in
     let within = nat_le (r.place.offset + r.place.words) (chunk_size r.place.chunk.order) in
     let front = both (chunk && words) within
     (both (chunk && words && within) (has_place pre r) fits).0 in
-    subst (λ (t : ClassRow). 1 ≤ t.place.words) (sym e) (leb-true 1 r.place.words (both chunk words front.0).1)
+    subst (λ (t : ClassRow). 1 ≤ t.place.words) (sym e)
+    (leb-true 1 r.place.words (both chunk words front.0).1)
 
 words_at_least : (c : Chunk) (classes : List ClassRow) (s : ClassRow) → Among s classes
     → s.place.chunk ≡ c → s.place.words ≤ words_of c classes
@@ -185,7 +189,8 @@ words_at_least c (r ∷ classes) s m e =
 
 -- ---- where a class's record goes
 
-pub last_is : (o : Option Chunk) (c : Chunk) → option_map_or (λ last. same_chunk last c) o false ≡ true
+pub last_is : (o : Option Chunk) (c : Chunk)
+    → option_map_or (λ last. same_chunk last c) o false ≡ true
     → o ≡ Some c
 last_is (Some d) c h = ap Some (same_chunk-true d c h)
 last_is None c h = absurd (cc)
@@ -205,7 +210,8 @@ pub record SpaceLaws : Type 0 where
   pub reach : RootsReach
 
 -- the chunk of each word that isn't free is one of a row
-owned_by_row : (sizes : Sizes) (n : ℕ) (pre : List BareRow) (space : SpaceState) → Stands sizes n pre space
+owned_by_row : (sizes : Sizes) (n : ℕ) (pre : List BareRow) (space : SpaceState)
+    → Stands sizes n pre space
     → (v : ℕ) (d : Chunk) → Owns space v d
     → (s : ClassRow) × Among s (classes_in pre) × (s.place.chunk ≡ d)
 owned_by_row sizes n pre space h v d owns =
@@ -217,7 +223,8 @@ owned_by_row sizes n pre space h v d owns =
     by_row (inl none) = absurd none
     by_row (inr found) = found
 
-chunk_block : (sizes : Sizes) (c : Chunk) → is_chunk sizes c ≡ true → IsBlock sizes.top sizes.roots c
+chunk_block : (sizes : Sizes) (c : Chunk) → is_chunk sizes c ≡ true
+    → IsBlock sizes.top sizes.roots c
 chunk_block sizes c e =
     let small = nat_le c.order sizes.top in
     let root = nat_lt c.root sizes.roots in
@@ -252,7 +259,8 @@ free_there laws sizes n pre space h c chunk unused =
       };
       words = λ word from to. by_word word from to
           (laws.each (record space { pool = reaching space.pool c.root })
-          (with_roots_space laws.keep laws.lose space (suc c.root - space.pool.roots) h.goes.is) c.root
+          (with_roots_space laws.keep laws.lose space (suc c.root - space.pool.roots) h.goes.is)
+          c.root
           word (omega (arith, roots))
           (subst (λ (z : Sizes). word < chunk_size z.top) (sym top)
           (let inside = block.inside in omega (arith, to, inside))));
@@ -290,7 +298,8 @@ adoptable laws sizes n pre space h r fits = by_place (either on_top new place)
 
     on_top : Bool
     on_top =
-        is_last_chunk r.loader r.place.chunk pre && eqb r.place.offset (used_words r.place.chunk pre)
+        is_last_chunk r.loader r.place.chunk pre
+        && eqb r.place.offset (used_words r.place.chunk pre)
 
     new : Bool
     new = eqb r.place.offset 0 && is_unused r.place.chunk pre
@@ -312,7 +321,8 @@ adoptable laws sizes n pre space h r fits = by_place (either on_top new place)
         let small = nat_le r.place.chunk.order sizes.top in
         let root = nat_lt r.place.chunk.root sizes.roots in
         let aligned = eqb (r.place.chunk.at % chunk_size r.place.chunk.order) 0 in
-        let end = nat_le (r.place.chunk.at + chunk_size r.place.chunk.order) (chunk_size sizes.top) in
+        let end = nat_le (r.place.chunk.at + chunk_size r.place.chunk.order)
+        (chunk_size sizes.top) in
         let order = leb-true r.place.chunk.order sizes.top
         (both small root (both (small && root) aligned
         (both (small && root && aligned) end chunk_is).0).0).0 in
@@ -320,7 +330,8 @@ adoptable laws sizes n pre space h r fits = by_place (either on_top new place)
         record {
           small = omega (arith, order, top);
           some = leb-true 1 r.place.words (both chunk words front.0).1;
-          within = leb-true (r.place.offset + r.place.words) (chunk_size r.place.chunk.order) front.1;
+          within = leb-true (r.place.offset + r.place.words)
+              (chunk_size r.place.chunk.order) front.1;
         }
 
     tops : last_of (arena_of space r.loader) ≡ top_of r.loader pre

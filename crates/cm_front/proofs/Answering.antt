@@ -1,6 +1,7 @@
 -- What an accepted cache answers, and what it is then.
-use Rattle.std.proofs.Common.{◌≡◌, ℕ, ◌+◌, ◌^◌, ◌<◌, ◌≤◌, Bool, true, false, cond, List, [], ◌∷◌, arith}
-use Rattle.std.proofs.Common.{length, Option, Some, None, inl, inr, refl, sym, ap, subst, ◌∙◌}
+use Rattle.std.proofs.Common.{◌≡◌, ℕ, ◌+◌, ◌^◌, ◌<◌, ◌≤◌, Bool, true, false, cond, List, [], ◌∷◌}
+use Rattle.std.proofs.Common.{arith, length, Option, Some, None, inl, inr, refl, sym, ap, subst}
+use Rattle.std.proofs.Common.{◌∙◌}
 use Rattle.std.specs.Prelude.{is_none, Result, Ok, Err, IsTrue, ◌↔◌}
 use Rattle.std.specs.List.{AllByRecursion}
 use Rattle.std.specs.Option.{option_map}
@@ -99,7 +100,8 @@ next_follows s groups f e = record {
 
 -- ---- answers
 
-none_refused : (a : Result ℕ Refusal) (n : ℕ) → ◌≡◌ {A = Result ℕ Refusal} a (Ok n) → refused a ≡ None
+none_refused : (a : Result ℕ Refusal) (n : ℕ) → ◌≡◌ {A = Result ℕ Refusal} a (Ok n)
+    → refused a ≡ None
 none_refused a n e = ap refused e
 
 pub told : (s : FrontState) (change : Change (List ℕ)) (a : Result ℕ Refusal) (r : Refusal)
@@ -141,7 +143,8 @@ accepts s new change n e space is keeps after new_is some = record {
 
 -- ---- the cache with an entry more
 
-pub record Went (s : FrontState) (change : Change (List ℕ)) (n : ℕ) (new : FrontState) : Type 0 where
+pub record Went (s : FrontState) (change : Change (List ℕ)) (n : ℕ)
+    (new : FrontState) : Type 0 where
   pub front : IsFront new
   pub accepts : Accepts s change n new
 
@@ -157,7 +160,8 @@ pub went_all : EntriesAreSteps (List ℕ) → (book next : LiveRows (List ℕ)) 
     → mid.groups ≡ old.groups → new.groups ≡ joined_by n mid.groups (carried e)
     → Went (front_of book space old number sealed learnt broken closed opened) change n
     (front_of next left new n sealed learnt broken closed opened)
-went_all steps book next space left old mid new number n sealed learnt broken closed opened e change o
+went_all steps book next space left old mid new number n sealed learnt broken closed
+    opened e change o
     f below is keeps after some rule rows same groups =
     let s : FrontState = front_of book space old number sealed learnt broken closed opened in
     let none : o ≡ None =
@@ -235,10 +239,12 @@ pub class_keeps : PlacesKeepRules → LoadersAreOwn → (s : FrontState) (x word
     → IsSpace left → IsFreeSpace left.pool
     → Keeps s (entry.Live (Class (record { loader = u; place = place }) words)) left
 class_keeps keep own s x words u k place left f free right amount placed others is pool =
-    subst (λ t. Keeps s (entry.Live (Class (record { loader = u; place = place }) words)) t) (sym others)
+    subst (λ t. Keeps s (entry.Live (Class (record { loader = u; place = place }) words)) t)
+    (sym others)
     (keeps_class keep own s x words u place (arena_of left u) left.pool f free right
     (record {
-      places = subst (λ n. Places (arena_of s.space u) s.space.pool n place (arena_of left u) left.pool)
+      places = subst (λ n. Places (arena_of s.space u) s.space.pool n place
+          (arena_of left u) left.pool)
           amount placed;
       some = words_some words right;
     })
@@ -281,7 +287,8 @@ pub place_answer : (s new : FrontState) (x words : List ℕ) (u k : ℕ)
     → (r ≡ of_place.RegionFull → IsFull (arena_of s.space u) s.space.pool k)
     → (IsFull (arena_of s.space u) s.space.pool k → r ≡ of_place.RegionFull)
     → Answers s (Define x words) (Err (refusal_of_place r)) new
-place_answer s new x words u k first is same amount f free of_place.RecordTooLong long full is_full =
+place_answer s new x words u k first is same amount f free of_place.RecordTooLong long
+    full is_full =
     absurd (too_short (long refl) (ltb-false (chunk_size s.sizes.top) (length words) free.fits))
   where
     too_short : chunk_size s.space.pool.geometry.top < k → length words ≤ chunk_size s.sizes.top → ⊥

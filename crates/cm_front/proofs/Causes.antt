@@ -40,7 +40,8 @@ abbrev made : Bool → Bool → Bool → Bool → Bool → ℕ → Result ℕ Re
 made named spent found full h n =
     cond (not named) (Err refusal.BadName)
     (cond spent (Err refusal.NumbersSpent)
-    (cond found (Err refusal.LoaderExists) (cond (cond full true h) (Err refusal.JournalFull) (Ok n))))
+    (cond found (Err refusal.LoaderExists)
+    (cond (cond full true h) (Err refusal.JournalFull) (Ok n))))
 
 abbrev loader_step : Bool → Bool → Bool → Bool → Loaders (List ℕ) → Result (Loaders (List ℕ)) Cause
 loader_step named spent found full next =
@@ -78,7 +79,8 @@ size_is sizes s f = sizes words_show s.sizes s.number s.rows f.rows ∙ slots_ar
 -- a running cache's first refusal is that of the step
 running : (s : FrontState) (change : Change (List ℕ)) → s.closed ≡ false → s.broken ≡ false
     → first_refusal s change
-    ≡ first (step.step words_show s.sizes (state_of words_show s.rows) s.number change) (is_half_full s)
+    ≡ first (step.step words_show s.sizes (state_of words_show s.rows) s.number change)
+    (is_half_full s)
 running s change closed broken = rw closed (rw broken
     (by_answer (step.step words_show s.sizes (state_of words_show s.rows) s.number change)))
   where
@@ -141,7 +143,8 @@ free_as_step false false false false next u = refl
 
 class_as_step : (named spent : Bool) (o : Option ℕ) (among : ℕ → Option (List ℕ))
     (long full h : Bool) (next : Loaders (List ℕ))
-    → first (class_step named spent (is_some o) (is_some (option_and_then among o)) long full next) h
+    → first (class_step named spent (is_some o) (is_some (option_and_then among o)) long full next)
+    h
     ≡ refused (elim (asked named spent o)
     [ Err r ↦ Err r | Ok u ↦ free (is_some (among u)) long full h u ])
 class_as_step false spent o among long full h next = refl
@@ -156,12 +159,14 @@ pub class_refused : LoadersAreFound (List ℕ) → ClassesAreFound (List ℕ) �
 class_refused loaders classes sizes s x words f closed broken =
     running s (Define x words) closed broken
     ∙ (ap (λ (b : Bool). first (class_step named spent b
-    (is_some (class_in m x (class_name_in words))) long (nat_le (row_limit s.sizes) (size m)) next) half)
+    (is_some (class_in m x (class_name_in words))) long (nat_le (row_limit s.sizes) (size m)) next)
+    half)
     (loaders words_show s.rows x)
     ∙ (ap (λ (o : Option (List ℕ)). first (class_step named spent (is_some o_x) (is_some o) long
     (nat_le (row_limit s.sizes) (size m)) next) half)
     (classes words_show s.rows x (class_name_in words))
-    ∙ (ap (λ (k : ℕ). first (class_step named spent (is_some o_x) (is_some (option_and_then among o_x))
+    ∙ (ap (λ (k : ℕ). first (class_step named spent (is_some o_x)
+    (is_some (option_and_then among o_x))
     long (nat_le (row_limit s.sizes) k) next) half) (size_is sizes s f)
     ∙ (class_as_step named spent o_x among long full half next
     ∙ ap (λ (g : ℕ → Option (List ℕ)). refused (elim (asked named spent o_x)
@@ -339,7 +344,8 @@ was_left s x u e = by_answer (loader_asked s x) refl e
     is_left false v p = ok_same v u p
 
     by_answer : (a : Result ℕ Refusal) → loader_asked s x ≡ a
-        → ◌≡◌ {A = Result ℕ Refusal} (elim a [ Err r ↦ Err r | Ok v ↦ left (is_half_full s) v ]) (Ok u)
+        → ◌≡◌ {A = Result ℕ Refusal}
+        (elim a [ Err r ↦ Err r | Ok v ↦ left (is_half_full s) v ]) (Ok u)
         → IsAsked s x u
     by_answer (Err r) a h = err_not_ok r u h
     by_answer (Ok v) a h =

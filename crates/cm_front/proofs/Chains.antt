@@ -45,7 +45,8 @@ same_chunk-true a b h =
     (λ i. record { root = root i; order = order i; at = at_is i })
 
 pub same-itself : (a : Chunk) → same_chunk a a ≡ true
-same-itself a = rw (eq-eqb a.root a.root refl) (rw (eq-eqb a.order a.order refl) (eq-eqb a.at a.at refl))
+same-itself a =
+    rw (eq-eqb a.root a.root refl) (rw (eq-eqb a.order a.order refl) (eq-eqb a.at a.at refl))
 
 pub not_same : (c d : Chunk) → (c ≡ d → ⊥) → same_chunk c d ≡ false
 not_same c d differ = by_test (same_chunk c d) refl
@@ -94,10 +95,12 @@ classes-more (Class s p ∷ rows) row = ap (λ l. s ∷ l) (classes-more rows ro
 
 chain-more : (chain : List Filled) (u : ℕ) (classes : List ClassRow) (r : ClassRow)
     → chain_from chain u (classes ++ r ∷ [])
-    ≡ cond (eqb r.loader u) (with_place (chain_from chain u classes) r.place) (chain_from chain u classes)
+    ≡ cond (eqb r.loader u) (with_place (chain_from chain u classes) r.place)
+    (chain_from chain u classes)
 chain-more chain u [] r = by_test (eqb r.loader u)
   where
-    by_test : (t : Bool) → cond t (chain_from (with_place chain r.place) u []) (chain_from chain u [])
+    by_test : (t : Bool) → cond t (chain_from (with_place chain r.place) u [])
+        (chain_from chain u [])
         ≡ cond t (with_place chain r.place) chain
     by_test true = refl
     by_test false = refl
@@ -110,7 +113,8 @@ chain-more chain u (s ∷ classes) r =
 
     by_test : (t : Bool)
         → chain_from (with_place chain s.place) u (classes ++ r ∷ [])
-        ≡ cond (eqb r.loader u) (with_place (chain_from (with_place chain s.place) u classes) r.place)
+        ≡ cond (eqb r.loader u) (with_place
+        (chain_from (with_place chain s.place) u classes) r.place)
         (chain_from (with_place chain s.place) u classes)
         → chain_from chain u (classes ++ r ∷ [])
         ≡ cond (eqb r.loader u) (with_place (chain_from chain u classes) r.place)
@@ -129,7 +133,8 @@ pub chain_grows : (u : ℕ) (rows : List BareRow) (r : ClassRow) → r.loader �
 chain_grows u rows r e =
     ap (chain_from [] u) (classes-more rows (Class r (tt {0})))
     ∙ (chain-more [] u (classes_in rows) r
-    ∙ ap (λ t. cond t (with_place (chain_of u rows) r.place) (chain_of u rows)) (eq-eqb r.loader u e))
+    ∙ ap (λ t. cond t (with_place (chain_of u rows) r.place) (chain_of u rows))
+    (eq-eqb r.loader u e))
 
 pub chain_stays : (u : ℕ) (rows : List BareRow) (r : ClassRow) → eqb r.loader u ≡ false
     → chain_of u (rows ++ Class r (tt {0}) ∷ []) ≡ chain_of u rows
@@ -174,7 +179,8 @@ words-more c classes r =
     ap (map words) (filter-append test classes (r ∷ []))
     ∙ map-append words (filter test classes) (filter test (r ∷ [])) in
     ap sum listed
-    ∙ (sum_by-append (λ (n : ℕ). n) (map words (filter test classes)) (map words (filter test (r ∷ [])))
+    ∙ (sum_by-append (λ (n : ℕ). n) (map words (filter test classes))
+    (map words (filter test (r ∷ [])))
     ∙ by_test (same_chunk r.place.chunk c))
   where
     by_test : (t : Bool)
@@ -196,7 +202,8 @@ used-more c rows r =
 
 -- no record is on a chunk that no row uses
 unused-words : (c : Chunk) (classes : List ClassRow)
-    → ((s : ClassRow) → Among s classes → same_chunk s.place.chunk c ≡ false) → words_on c classes ≡ 0
+    → ((s : ClassRow) → Among s classes → same_chunk s.place.chunk c ≡ false)
+    → words_on c classes ≡ 0
 unfolding words_on
 unused-words c [] no_one = refl
 unused-words c (r ∷ classes) no_one =
@@ -223,7 +230,8 @@ with_place-last (f ∷ []) place c used e =
   where
     by_test : (t : Bool)
         → last_of (cond t (record { chunk = c; used = used + place.words } ∷ [])
-        (record { chunk = c; used = used } ∷ record { chunk = place.chunk; used = place.words } ∷ []))
+        (record { chunk = c; used = used }
+        ∷ record { chunk = place.chunk; used = place.words } ∷ []))
         ≡ cond t (Some (record { chunk = c; used = used + place.words }))
         (Some (record { chunk = place.chunk; used = place.words }))
     by_test true = refl
@@ -231,7 +239,8 @@ with_place-last (f ∷ []) place c used e =
 with_place-last (f ∷ g ∷ rest) place c used e =
     last-behind f (g ∷ rest) place ∙ with_place-last (g ∷ rest) place c used e
   where
-    last-behind : (f : Filled) (chain : List Filled) (place : Place) → last_of (f ∷ with_place chain place)
+    last-behind : (f : Filled) (chain : List Filled) (place : Place)
+        → last_of (f ∷ with_place chain place)
         ≡ last_of (with_place chain place)
     last-behind f [] place = refl
     last-behind f (g ∷ []) place = by_test (same_chunk g.chunk place.chunk)
@@ -331,25 +340,29 @@ class_kept false b e = absurd (cc)
 
 -- where a class's record lies among those before it
 pub place_of : (sizes : Sizes) (pre : List BareRow) (r : ClassRow)
-    → broken_of (is_live r.loader pre && has_room sizes pre (Class r tt)) (class_fits sizes pre r) ≡ None
+    → broken_of (is_live r.loader pre && has_room sizes pre (Class r tt)) (class_fits sizes pre r)
+    ≡ None
     → has_place pre r ≡ true
 place_of sizes pre r h =
     let chunk = is_chunk sizes r.place.chunk in
     let words = nat_le 1 r.place.words in
     let within = nat_le (r.place.offset + r.place.words) (chunk_size r.place.chunk.order) in
     (both (chunk && words && within) (has_place pre r)
-    (class_kept (is_live r.loader pre && has_room sizes pre (Class r tt)) (class_fits sizes pre r) h)).1
+    (class_kept (is_live r.loader pre && has_room sizes pre (Class r tt))
+    (class_fits sizes pre r) h)).1
 
 -- and that it has a word
 pub some_words : (sizes : Sizes) (pre : List BareRow) (r : ClassRow)
-    → broken_of (is_live r.loader pre && has_room sizes pre (Class r tt)) (class_fits sizes pre r) ≡ None
+    → broken_of (is_live r.loader pre && has_room sizes pre (Class r tt)) (class_fits sizes pre r)
+    ≡ None
     → 1 ≤ r.place.words
 some_words sizes pre r h =
     let chunk = is_chunk sizes r.place.chunk in
     let words = nat_le 1 r.place.words in
     let within = nat_le (r.place.offset + r.place.words) (chunk_size r.place.chunk.order) in
     let fits = both (chunk && words && within) (has_place pre r)
-    (class_kept (is_live r.loader pre && has_room sizes pre (Class r tt)) (class_fits sizes pre r) h) in
+    (class_kept (is_live r.loader pre && has_room sizes pre (Class r tt))
+    (class_fits sizes pre r) h) in
     leb-true 1 r.place.words (both chunk words (both (chunk && words) within fits.0).0).1
 
 -- the chain of a loader ends at its top
@@ -367,7 +380,8 @@ own_class u pre r mine place before =
     ∙ (by_place (either on_top new place) ∙ sym top)
   where
     on_top : Bool
-    on_top = is_last_chunk r.loader r.place.chunk pre && eqb r.place.offset (used_words r.place.chunk pre)
+    on_top = is_last_chunk r.loader r.place.chunk pre
+        && eqb r.place.offset (used_words r.place.chunk pre)
 
     new : Bool
     new = eqb r.place.offset 0 && is_unused r.place.chunk pre
@@ -376,15 +390,20 @@ own_class u pre r mine place before =
         ≡ used_words r.place.chunk pre + r.place.words
     used_now =
         used-more r.place.chunk pre r
-        ∙ ap (λ t. used_words r.place.chunk pre + cond t r.place.words 0) (same-itself r.place.chunk)
+        ∙ ap (λ t. used_words r.place.chunk pre + cond t r.place.words 0)
+        (same-itself r.place.chunk)
 
     top : top_of u (pre ++ Class r (tt {0}) ∷ [])
         ≡ top_with r.place.chunk (used_words r.place.chunk pre + r.place.words)
     top =
-        ap (option_map (λ c. record { chunk = c; used = used_words c (pre ++ Class r (tt {0}) ∷ []) }))
+        ap (option_map (λ c. record {
+          chunk = c;
+          used = used_words c (pre ++ Class r (tt {0}) ∷ []);
+        }))
         (ap (last_chunk u) (classes-more pre (Class r (tt {0})))
         ∙ (last-more u (classes_in pre) r
-        ∙ ap (λ t. cond t (Some r.place.chunk) (last_chunk u (classes_in pre))) (eq-eqb r.loader u mine)))
+        ∙ ap (λ t. cond t (Some r.place.chunk) (last_chunk u (classes_in pre)))
+        (eq-eqb r.loader u mine)))
         ∙ ap (top_with r.place.chunk) used_now
 
     by_place : (on_top ≡ true) ⊎ (new ≡ true)
@@ -394,7 +413,8 @@ own_class u pre r mine place before =
         let parts = both (is_last_chunk r.loader r.place.chunk pre)
         (eqb r.place.offset (used_words r.place.chunk pre)) h in
         let last = own-last u pre r mine parts.0 in
-        let here : last_of (chain_of u pre) ≡ top_with r.place.chunk (used_words r.place.chunk pre) =
+        let here : last_of (chain_of u pre)
+        ≡ top_with r.place.chunk (used_words r.place.chunk pre) =
         before ∙ ap (option_map (λ c. record { chunk = c; used = used_words c pre })) last in
         with_place-last (chain_of u pre) r.place r.place.chunk (used_words r.place.chunk pre) here
         ∙ ap (λ t. cond t (top_with r.place.chunk (used_words r.place.chunk pre + r.place.words))
@@ -402,7 +422,8 @@ own_class u pre r mine place before =
     by_place (inr h) =
         let parts = both (eqb r.place.offset 0) (is_unused r.place.chunk pre) h in
         let none : used_words r.place.chunk pre ≡ 0 =
-        unused-words r.place.chunk (classes_in pre) (never-on r.place.chunk (classes_in pre) parts.1) in
+        unused-words r.place.chunk (classes_in pre)
+        (never-on r.place.chunk (classes_in pre) parts.1) in
         by_last (last_chunk u (classes_in pre)) refl parts.1
         ∙ ap (top_with r.place.chunk) (omega (arith, none))
       where

@@ -5,7 +5,8 @@ use Rattle.std.proofs.Common.{subst, ◌∙◌, arith, eqb, IsSome}
 use Rattle.std.specs.Prelude.{◌&&◌, ◌↔◌, unwrap_or, nat_le, nat_lt, is_some}
 use Rattle.std.specs.List.{AllByRecursion}
 use Rattle.std.specs.FinMap as fin
-use Rattle.std.proofs.lemmas.Bool.{eqb-true, eq-eqb, ltb-true, leb-true, le-leb, leb-false, ltb-false}
+use Rattle.std.proofs.lemmas.Bool.{eqb-true, eq-eqb, ltb-true, leb-true, le-leb, leb-false}
+use Rattle.std.proofs.lemmas.Bool.{ltb-false}
 use Rattle.cm_pool.specs.FreeSpace.{IsFreeSpace}
 use Rattle.cm_pool.specs.Lists.{Among}
 use Rattle.cm_layout.specs.declared.loader_row.LoaderRow.{LoaderRow}
@@ -125,7 +126,8 @@ room_left s e =
     slots_are [] = refl
     slots_are (row ∷ rows) = let rest = slots_are rows in omega (arith, rest)
 
-    below : nat_le (row_limit s.sizes) (length s.rows) ≡ false → length s.rows + 1 ≤ row_limit s.sizes
+    below : nat_le (row_limit s.sizes) (length s.rows) ≡ false
+        → length s.rows + 1 ≤ row_limit s.sizes
     below e = let less = leb-false (row_limit s.sizes) (length s.rows) e in omega (arith, less)
 
 loader_row : FrontState → List ℕ → LoaderRow

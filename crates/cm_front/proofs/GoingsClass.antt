@@ -1,6 +1,6 @@
 -- The cache goes on with a class.
-use Rattle.std.proofs.Common.{◌≡◌, ℕ, ◌+◌, ◌%◌, ◌^◌, ◌<◌, ◌≤◌, Bool, true, false, cond, not, List, []}
-use Rattle.std.proofs.Common.{◌∷◌, ◌++◌, length, map, Some, None, inl, inr, refl, sym, ap}
+use Rattle.std.proofs.Common.{◌≡◌, ℕ, ◌+◌, ◌%◌, ◌^◌, ◌<◌, ◌≤◌, Bool, true, false, cond, not, List}
+use Rattle.std.proofs.Common.{[], ◌∷◌, ◌++◌, length, map, Some, None, inl, inr, refl, sym, ap}
 use Rattle.std.proofs.Common.{subst, ◌∙◌, arith, eqb, IsSome}
 use Rattle.std.specs.Prelude.{◌&&◌, ◌||◌, ◌↔◌, unwrap_or, nat_le, nat_lt, is_some, filter, sum}
 use Rattle.std.specs.FinMap as fin
@@ -57,7 +57,8 @@ number_bare x (Class r p ∷ rows) = number_bare x rows
 same_some : (n k : ℕ) → Some n ≡ Some k → n ≡ k
 same_some n k e = cc
 
-pub number_lives : {A : Type 0} (x : List ℕ) (u : ℕ) (rows : List (Row A)) → number_of x rows ≡ Some u
+pub number_lives : {A : Type 0} (x : List ℕ) (u : ℕ) (rows : List (Row A))
+    → number_of x rows ≡ Some u
     → is_live u rows ≡ true
 number_lives x u [] e = absurd (cc)
 number_lives x u (Loader r ∷ rows) e =
@@ -121,7 +122,8 @@ fits_bare {A} sizes rows r = ap by_classes (sym (classes_bare rows))
     by_classes classes =
         is_chunk sizes r.place.chunk && nat_le 1 r.place.words
         && nat_le (r.place.offset + r.place.words) (chunk_size r.place.chunk.order)
-        && ((option_map_or (λ last. same_chunk last r.place.chunk) (last_chunk r.loader classes) false
+        && ((option_map_or (λ last. same_chunk last r.place.chunk)
+        (last_chunk r.loader classes) false
         && eqb r.place.offset (sum (map (λ (k : ClassRow). k.place.words)
         (filter (λ (k : ClassRow). same_chunk k.place.chunk r.place.chunk) classes))))
         || (eqb r.place.offset 0
@@ -222,7 +224,8 @@ turned a b d = by_eq (eqb b a) refl
     by_eq true e = sym (eq-eqb a b (sym (eqb-true b a e))) ∙ d
     by_eq false e = refl
 
-pub known_class : (rows : List (Row (List ℕ))) (space : SpaceState) (r : ClassRow) (words : List ℕ) (chain : List Filled) (left : FreeSpace)
+pub known_class : (rows : List (Row (List ℕ))) (space : SpaceState) (r : ClassRow) (words : List ℕ)
+    (chain : List Filled) (left : FreeSpace)
     → ((u : ℕ) → IsKnown space u ↔ (is_live u rows ≡ true)) → is_live r.loader rows ≡ true
     → (v : ℕ)
     → IsKnown (with_chain space r.loader chain left) v
@@ -287,7 +290,8 @@ keeps_class keep own s x words u place chain left f free right p is pool =
         is = is;
         pool = pool;
         geometry =
-            placed_geometry (arena_of s.space u) s.space.pool (length words) place chain left p.places
+            placed_geometry (arena_of s.space u) s.space.pool (length words) place chain
+            left p.places
             ∙ f.space.geometry;
         chains = chains_class s.rows s.space r words chain left f.space.chains at.chain_is;
       };

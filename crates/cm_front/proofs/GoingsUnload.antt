@@ -37,7 +37,8 @@ due_more : (learnt n : ℕ) (ws : List Waits) (w : Waits) → AllByRecursion (Is
 due_more learnt n [] w h d = (d, tt)
 due_more learnt n (v ∷ ws) w h d = (h.0, due_more learnt n ws w h.1 d)
 
-right_without : (u : ℕ) (rows : List (Row (List ℕ))) → AreRight rows → AreRight (without_loader u rows)
+right_without : (u : ℕ) (rows : List (Row (List ℕ))) → AreRight rows
+    → AreRight (without_loader u rows)
 right_without u [] a = tt
 right_without u (Loader r ∷ rows) a = by_test (right_without u rows a) (eqb r.number u)
   where

@@ -1,6 +1,6 @@
 -- Groups that aren't handed out: one entry more, and the oldest taken out.
-use Rattle.std.proofs.Common.{◌≡◌, ℕ, ◌+◌, ◌≤◌, Bool, true, false, cond, List, [], ◌∷◌, ◌++◌, length}
-use Rattle.std.proofs.Common.{Option, Some, None, refl, sym, ap, subst, ◌∙◌, arith}
+use Rattle.std.proofs.Common.{◌≡◌, ℕ, ◌+◌, ◌≤◌, Bool, true, false, cond, List, [], ◌∷◌, ◌++◌}
+use Rattle.std.proofs.Common.{length, Option, Some, None, refl, sym, ap, subst, ◌∙◌, arith}
 use Rattle.std.specs.Prelude.{nat_le, option_to_list}
 use Rattle.std.proofs.lemmas.List.{length-append}
 use Rattle.std.proofs.lemmas.Bool.{leb-true}
@@ -8,7 +8,8 @@ use Rattle.cm_group.specs.Groups.{Carried, Handed, next_number, slots_taken, gro
 use Rattle.cm_front.specs.Unsealed.{Follow, GoUpTo, NewestIsLast}
 use Rattle.cm_front.specs.Accepting.{begun_by, with_entry, joined_by}
 
-next_more : (group : Handed) (c : Carried) → next_number (with_entry group c) ≡ next_number group + 1
+next_more : (group : Handed) (c : Carried) → next_number (with_entry group c)
+    ≡ next_number group + 1
 next_more group c =
     let more : length (group.entries ++ c ∷ []) ≡ length group.entries + 1 =
     length-append group.entries (c ∷ []) in
@@ -21,7 +22,8 @@ begun_up_to n c from e = (sym e, refl, refl)
 pub follow_joined : (groups : List Handed) (from to : ℕ) (c : Carried) → Follow from groups to
     → Follow from (joined_by to groups c) (to + 1)
 follow_joined [] from to c f = begun_up_to to c from f
-follow_joined (g ∷ []) from to c f = by_room (nat_le (slots_taken (g.entries ++ c ∷ [])) group_limit)
+follow_joined (g ∷ []) from to c f =
+    by_room (nat_le (slots_taken (g.entries ++ c ∷ [])) group_limit)
   where
     by_room : (t : Bool)
         → Follow from (cond t (with_entry g c ∷ []) (g ∷ begun_by to c ∷ [])) (to + 1)
@@ -38,7 +40,8 @@ follow_from (g ∷ groups) from to f =
     omega (arith, rest, first)
 
 -- the newest group goes up to before the number
-pub follow_last : (groups : List Handed) (g : Handed) (from to : ℕ) → Follow from (groups ++ g ∷ []) to
+pub follow_last : (groups : List Handed) (g : Handed) (from to : ℕ)
+    → Follow from (groups ++ g ∷ []) to
     → next_number g ≡ to
 follow_last [] g from to f = f.2
 follow_last (h ∷ groups) g from to f = follow_last groups g (next_number h) to f.2

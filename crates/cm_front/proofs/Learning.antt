@@ -13,8 +13,8 @@ use Rattle.cm_rows.specs.Rows.{LiveRows}
 use Rattle.cm_record.specs.Names.{class_name_in}
 use Rattle.cm_index.specs.Index.{class_of}
 use Rattle.cm_group.specs.Groups.{Handed, next_number}
-use Rattle.cm_space.specs.Space.{SpaceState, Waits as WaitingChunks, with_chunks, waiting_chunks, due}
-use Rattle.cm_space.specs.Space.{not_due, learnt}
+use Rattle.cm_space.specs.Space.{SpaceState, Waits as WaitingChunks, with_chunks, waiting_chunks}
+use Rattle.cm_space.specs.Space.{due, not_due, learnt}
 use Rattle.cm_space.specs.Ownership.{IsSpace}
 use Rattle.cm_state.specs.State.{words_show, state_of, class_in, class_among}
 use Rattle.cm_state.specs.Laws.{ClassesAreFound}
@@ -32,7 +32,8 @@ nothing_there classes rows x name none =
     classes words_show rows x name
     ∙ ap (option_and_then (λ u. class_among words_show u name rows)) none
 
-pub what_is_there : ClassesAreFound (List ℕ) → (rows : List (Row (List ℕ))) (x name : List ℕ) (u : ℕ)
+pub what_is_there : ClassesAreFound (List ℕ)
+    → (rows : List (Row (List ℕ))) (x name : List ℕ) (u : ℕ)
     (o : Option (List ℕ)) → number_of x rows ≡ Some u → class_of class_name_in u name rows ≡ o
     → class_in (state_of words_show rows) x name ≡ o
 what_is_there classes rows x name u o found is =
@@ -49,7 +50,8 @@ pub handed : (book : LiveRows (List ℕ)) (space : SpaceState) (old new : Waits)
     → k ≡ next_number oldest - 1
     → HandsOut (front_of book space old number sealed learnt broken closed opened) group
     (front_of book space new number k learnt broken closed opened)
-handed book space old new number sealed learnt k broken closed opened oldest group is group_is k_is =
+handed book space old new number sealed learnt k broken closed opened oldest group is
+    group_is k_is =
     record {
       oldest = oldest;
       rest = new.groups;
@@ -89,10 +91,12 @@ pub learnt_front : (book : LiveRows (List ℕ)) (space left : SpaceState) (unsea
     → IsFront (front_of book space unsealed number sealed old broken closed opened)
     → m ≡ max old k → k ≤ sealed → left ≡ learnt space m → IsSpace left → IsFreeSpace left.pool
     → IsFront (front_of book left unsealed number sealed m broken closed opened)
-learnt_front book space left unsealed number sealed old m k broken closed opened f is below left_is whole
+learnt_front book space left unsealed number sealed old m k broken closed opened f is below
+    left_is whole
     free =
     let before = f.learnt in
-    subst (λ t. IsFront (front_of book t unsealed number sealed m broken closed opened)) (sym left_is)
+    subst (λ t. IsFront (front_of book t unsealed number sealed m broken closed opened))
+    (sym left_is)
     (record {
       lawful = f.lawful;
       rows = f.rows;
@@ -100,7 +104,8 @@ learnt_front book space left unsealed number sealed old m k broken closed opened
       space = record {
         is = subst IsSpace left_is whole;
         pool = subst (λ (t : SpaceState). IsFreeSpace t.pool) left_is free;
-        geometry = same_geometry space.pool (waiting_chunks (due m space.waiting)) ∙ f.space.geometry;
+        geometry =
+            same_geometry space.pool (waiting_chunks (due m space.waiting)) ∙ f.space.geometry;
         chains = f.space.chains;
       };
       known = f.known;

@@ -1,7 +1,8 @@
--- A place that a space finds, whose arenas are those of the rows, is one that the entry rules allow.
-use Rattle.std.proofs.Common.{◌≡◌, ℕ, ◌+◌, ◌%◌, ◌≤◌, Bool, true, false, cond, List}
-use Rattle.std.proofs.Common.{[], ◌∷◌, ◌++◌, Option, Some, None, inl, inr, refl, sym, ap, subst, ◌∙◌}
-use Rattle.std.proofs.Common.{arith, eqb, length}
+-- A place that a space finds, whose arenas are those of the rows, is one that the entry rules
+-- allow.
+use Rattle.std.proofs.Common.{◌≡◌, ℕ, ◌+◌, ◌%◌, ◌≤◌, Bool, true, false, cond, List, [], ◌∷◌, ◌++◌}
+use Rattle.std.proofs.Common.{Option, Some, None, inl, inr, refl, sym, ap, subst, ◌∙◌, arith, eqb}
+use Rattle.std.proofs.Common.{length}
 use Rattle.std.specs.Prelude.{◌&&◌, ◌||◌, nat_le, nat_lt}
 use Rattle.std.specs.Option.{option_map, option_map_or}
 use Rattle.std.proofs.lemmas.Bool.{eq-eqb, lt-ltb, le-leb}
@@ -37,14 +38,16 @@ or_right true b p = refl
 or_right false b p = p
 
 -- the test for a chunk that a region can have
-is_chunk_of : (sizes : Sizes) (c : Chunk) → IsBlock sizes.top sizes.roots c → is_chunk sizes c ≡ true
+is_chunk_of : (sizes : Sizes) (c : Chunk) → IsBlock sizes.top sizes.roots c
+    → is_chunk sizes c ≡ true
 is_chunk_of sizes c b =
     let order = nat_le c.order sizes.top in
     let root = nat_lt c.root sizes.roots in
     let aligned = eqb (c.at % chunk_size c.order) 0 in
     and_true (order && root && aligned) (nat_le (c.at + chunk_size c.order) (chunk_size sizes.top))
     (and_true (order && root) aligned
-    (and_true order root (le-leb c.order sizes.top b.within_top) (lt-ltb c.root sizes.roots b.in_a_root))
+    (and_true order root (le-leb c.order sizes.top b.within_top)
+    (lt-ltb c.root sizes.roots b.in_a_root))
     (eq-eqb (c.at % chunk_size c.order) 0 b.aligned))
     (le-leb (c.at + chunk_size c.order) (chunk_size sizes.top) b.inside)
 
@@ -117,7 +120,8 @@ free-apart p c d free used m =
 
 pub used-with-root : RootsKeepHeld → (p : FreeSpace) (d : Chunk) → IsUsedChunk p d
     → IsUsedChunk (with_root p) d
-used-with-root keep p d used = (keep p (d ∷ []) (record { each = (used, tt); apart = (tt, tt) })).each.0
+used-with-root keep p d used =
+    (keep p (d ∷ []) (record { each = (used, tt); apart = (tt, tt) })).each.0
 
 -- what is fetched is free, in the pool or in one with a root more
 pub record IsFetchedFree (p : FreeSpace) (c : Chunk) : Type 0 where
@@ -177,15 +181,19 @@ some-top u rows c used e = by_last (last_chunk u (classes_in rows)) e
             → ◌≡◌ {A = Option Filled} (Some (record { chunk = d; used = m }))
             (Some (record { chunk = c; used = n })) → (d ≡ c) × (m ≡ n)
         filled-is d c m n e =
-            let same = unwrapped (record { chunk = d; used = m }) (record { chunk = c; used = n }) e in
+            let same =
+            unwrapped (record { chunk = d; used = m }) (record { chunk = c; used = n }) e in
             (ap (λ (f : Filled). f.chunk) same, ap (λ (f : Filled). f.used) same)
 
 pub places_keep_rules : OwnedIsUsed → RootsKeepHeld → PlacesKeepRules
-places_keep_rules owned keep sizes n rows space u words place chain left live apart goes some (inl on) =
+places_keep_rules owned keep sizes n rows space u words place chain left live apart goes
+    some (inl on) =
     let t = on.0 in
     let row : ClassRow = record { loader = u; place = place } in
-    let here : last_of (chain_of u rows) ≡ Some (record { chunk = place.chunk; used = place.offset }) =
-    subst (λ (l : List Filled). last_of l ≡ Some (record { chunk = place.chunk; used = place.offset }))
+    let here : last_of (chain_of u rows)
+    ≡ Some (record { chunk = place.chunk; used = place.offset }) =
+    subst (λ (l : List Filled). last_of l
+    ≡ Some (record { chunk = place.chunk; used = place.offset }))
     (goes.chains u) t.last in
     let top = some-top u rows place.chunk place.offset
     (sym (chains_end_at_top sizes n rows live apart u) ∙ here) in
@@ -202,19 +210,23 @@ places_keep_rules owned keep sizes n rows space u words place chain left live ap
       amount = t.amount;
       fits = fits_of sizes rows row block (omega (arith, t.amount, some))
           (omega (arith, t.room, t.amount))
-          (or_left (is_last_chunk u place.chunk rows && eqb place.offset (used_words place.chunk rows))
+          (or_left (is_last_chunk u place.chunk rows
+          && eqb place.offset (used_words place.chunk rows))
           (eqb place.offset 0 && is_unused place.chunk rows)
-          (and_true (is_last_chunk u place.chunk rows) (eqb place.offset (used_words place.chunk rows))
+          (and_true (is_last_chunk u place.chunk rows)
+          (eqb place.offset (used_words place.chunk rows))
           top.0 (eq-eqb place.offset (used_words place.chunk rows) top.1)));
       chain_is = t.after ∙ (more-placed (arena_of space u) place words t.last t.amount
           ∙ (ap (λ (l : List Filled). with_place l place) (goes.chains u)
           ∙ sym (chain_grows u rows row refl)));
     }
-places_keep_rules owned keep sizes n rows space u words place chain left live apart goes some (inr f) =
+places_keep_rules owned keep sizes n rows space u words place chain left live apart goes
+    some (inr f) =
     let row : ClassRow = record { loader = u; place = place } in
     let t = f.in_new in
     let free = fetched_free keep space.pool
-    (order_wanted f.need (length (arena_of space u)) space.pool.geometry.top) f.need place.chunk left
+    (order_wanted f.need (length (arena_of space u)) space.pool.geometry.top) f.need
+    place.chunk left
     goes.pool f.fetches in
     let block : IsBlock sizes.top sizes.roots place.chunk =
     subst (λ (z : Sizes). IsBlock z.top z.roots place.chunk) goes.geometry free.block in
@@ -227,14 +239,17 @@ places_keep_rules owned keep sizes n rows space u words place chain left live ap
       amount = t.amount;
       fits = fits_of sizes rows row block (omega (arith, t.amount, some))
           (omega (arith, t.front, t.room, t.amount))
-          (or_right (is_last_chunk u place.chunk rows && eqb place.offset (used_words place.chunk rows))
+          (or_right (is_last_chunk u place.chunk rows
+          && eqb place.offset (used_words place.chunk rows))
           (eqb place.offset 0 && is_unused place.chunk rows)
-          (and_true (eqb place.offset 0) (is_unused place.chunk rows) (eq-eqb place.offset 0 t.front)
+          (and_true (eqb place.offset 0) (is_unused place.chunk rows)
+          (eq-eqb place.offset 0 t.front)
           unused));
       chain_is = t.after ∙ (new-placed (arena_of space u) place words
           (λ g last. not_same g.chunk place.chunk (λ same.
           free.apart g.chunk (owned space goes.is u g.chunk (last-among (arena_of space u) g last))
-          (subst (λ (c : Chunk). Meets place.chunk c) (sym same) (meets-itself place.chunk)))) t.amount
+          (subst (λ (c : Chunk). Meets place.chunk c) (sym same) (meets-itself place.chunk))))
+          t.amount
           ∙ (ap (λ (l : List Filled). with_place l place) (goes.chains u)
           ∙ sym (chain_grows u rows row refl)));
     }

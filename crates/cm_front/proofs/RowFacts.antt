@@ -26,7 +26,8 @@ numbers_bare [] = refl
 numbers_bare (Loader r ∷ rows) = ap (λ l. r.number ∷ l) (numbers_bare rows)
 numbers_bare (Class r p ∷ rows) = numbers_bare rows
 
-pub chain_bare : {A : Type 0} (u : ℕ) (rows : List (Row A)) → chain_of u (bare rows) ≡ chain_of u rows
+pub chain_bare : {A : Type 0} (u : ℕ) (rows : List (Row A)) → chain_of u (bare rows)
+    ≡ chain_of u rows
 chain_bare u rows = ap (chain_from [] u) (classes_bare rows)
 
 -- ---- one row more
@@ -112,7 +113,8 @@ classes_left u (Class r p ∷ rows) = by_test (classes_left u rows) (eqb r.loade
     by_test rest true = rest
     by_test rest false = ap (λ l. r ∷ l) rest
 
-pub name_gone : {A : Type 0} (u : ℕ) (rows : List (Row A)) → name_of u (without_loader u rows) ≡ None
+pub name_gone : {A : Type 0} (u : ℕ) (rows : List (Row A))
+    → name_of u (without_loader u rows) ≡ None
 name_gone u [] = refl
 name_gone u (Loader r ∷ rows) = by_test (name_gone u rows) (eqb r.number u) refl
   where
@@ -123,7 +125,8 @@ name_gone u (Loader r ∷ rows) = by_test (name_gone u rows) (eqb r.number u) re
 name_gone u (Class r p ∷ rows) = by_test (name_gone u rows) (eqb r.loader u)
   where
     by_test : name_of u (without_loader u rows) ≡ None → (t : Bool)
-        → name_of u (cond (not t) (Class r p ∷ without_loader u rows) (without_loader u rows)) ≡ None
+        → name_of u (cond (not t) (Class r p ∷ without_loader u rows) (without_loader u rows))
+        ≡ None
     by_test rest true = rest
     by_test rest false = rest
 
@@ -214,7 +217,8 @@ left_from chain v u (r ∷ classes) d =
         absurd (true_not (sym (eq-eqb v u same) ∙ d))
     differs e false f = refl
 
-    kept : chain_from (with_place chain r.place) v rest ≡ chain_from (with_place chain r.place) v classes
+    kept : chain_from (with_place chain r.place) v rest
+        ≡ chain_from (with_place chain r.place) v classes
         → chain_from chain v rest ≡ chain_from chain v classes → (t : Bool)
         → cond t (chain_from (with_place chain r.place) v rest) (chain_from chain v rest)
         ≡ cond t (chain_from (with_place chain r.place) v classes) (chain_from chain v classes)
@@ -230,7 +234,8 @@ left_from chain v u (r ∷ classes) d =
     by_test here there true e = there ∙ differs e (eqb r.loader v) refl
     by_test here there false e = kept here there (eqb r.loader v)
 
-pub chain_gone : {A : Type 0} (u : ℕ) (rows : List (Row A)) → chain_of u (without_loader u rows) ≡ []
+pub chain_gone : {A : Type 0} (u : ℕ) (rows : List (Row A))
+    → chain_of u (without_loader u rows) ≡ []
 chain_gone u rows = ap (chain_from [] u) (classes_left u rows) ∙ gone_from [] u (classes_in rows)
 
 pub chain_left : {A : Type 0} (v u : ℕ) (rows : List (Row A)) → eqb v u ≡ false

@@ -1,7 +1,7 @@
 -- Rows are taken into a space one after another.
-use Rattle.std.proofs.Common.{◌≡◌, ℕ, suc, ◌+◌, ◌-◌, ◌<◌, ◌≤◌, ◌⊎◌, Bool, true, false, cond, List, []}
-use Rattle.std.proofs.Common.{◌∷◌, ◌++◌, Some, None, inl, inr, refl, sym, ap, subst, ◌∙◌}
-use Rattle.std.proofs.Common.{arith, eqb, append_assoc, append-nil}
+use Rattle.std.proofs.Common.{◌≡◌, ℕ, suc, ◌+◌, ◌-◌, ◌<◌, ◌≤◌, ◌⊎◌, Bool, true, false, cond, List}
+use Rattle.std.proofs.Common.{[], ◌∷◌, ◌++◌, Some, None, inl, inr, refl, sym, ap, subst, ◌∙◌, arith}
+use Rattle.std.proofs.Common.{eqb, append_assoc, append-nil}
 use Rattle.std.specs.Prelude.{◌&&◌, nat_le, nat_lt, max, is_some, unwrap_or}
 use Rattle.std.specs.List.{list_all}
 use Rattle.std.specs.FinMap as fin
@@ -33,16 +33,19 @@ use Rattle.cm_front.proofs.Chains.{both, either, last-row, chain_grows}
 use Rattle.cm_front.proofs.RowFacts.{classes_bare, numbers_bare, among_named, classes_more}
 use Rattle.cm_front.proofs.Goings.{known_loader, chains_loader}
 use Rattle.cm_front.proofs.GoingsClass.{known_class, chains_class, name_bare}
-use Rattle.cm_front.proofs.Adopting.{SpaceLaws, Stands, adoptable, roots_geometry, fits_kept, last_is}
+use Rattle.cm_front.proofs.Adopting.{SpaceLaws, Stands, adoptable, roots_geometry, fits_kept}
+use Rattle.cm_front.proofs.Adopting.{last_is}
 
 -- ---- the rows before one
 
-live_front : (sizes : Sizes) (n : ℕ) (pre xs ys : List BareRow) → LiveRowsKeep sizes n pre (xs ++ ys)
+live_front : (sizes : Sizes) (n : ℕ) (pre xs ys : List BareRow)
+    → LiveRowsKeep sizes n pre (xs ++ ys)
     → LiveRowsKeep sizes n pre xs
 live_front sizes n pre [] ys k = tt
 live_front sizes n pre (x ∷ xs) ys k = (k.0, k.1, live_front sizes n (pre ++ x ∷ []) xs ys k.2)
 
-live_behind : (sizes : Sizes) (n : ℕ) (pre xs ys : List BareRow) → LiveRowsKeep sizes n pre (xs ++ ys)
+live_behind : (sizes : Sizes) (n : ℕ) (pre xs ys : List BareRow)
+    → LiveRowsKeep sizes n pre (xs ++ ys)
     → LiveRowsKeep sizes n (pre ++ xs) ys
 live_behind sizes n pre [] ys k =
     subst (λ l. LiveRowsKeep sizes n l ys) (sym (append-nil pre)) k
@@ -58,13 +61,15 @@ still_among s (Class r p ∷ xs) ys (inl e) = inl e
 still_among s (Class r p ∷ xs) ys (inr m) = inr (still_among s xs ys m)
 
 -- what holds of a row and those before it
-record IsNextRow (sizes : Sizes) (n : ℕ) (taken : List (Row (List ℕ))) (row : Row (List ℕ)) : Type 0 where
+record IsNextRow (sizes : Sizes) (n : ℕ) (taken : List (Row (List ℕ)))
+    (row : Row (List ℕ)) : Type 0 where
   live : LiveRowsKeep sizes n [] (bare taken)
   apart : AreApart (classes_in (bare taken))
   keeps : broken_live_rule sizes n (bare taken) (row_with (λ p. tt {0}) row) ≡ None
 
 next_row : (sizes : Sizes) (n : ℕ) (rows taken rest : List (Row (List ℕ))) (row : Row (List ℕ))
-    → AreCacheRows words_show sizes n rows → taken ++ row ∷ rest ≡ rows → IsNextRow sizes n taken row
+    → AreCacheRows words_show sizes n rows → taken ++ row ∷ rest ≡ rows
+    → IsNextRow sizes n taken row
 next_row sizes n rows taken rest row cache split =
     let all = subst (λ l. AreCacheRows words_show sizes n l) (sym split) cache in
     let live = subst (λ l. LiveRowsKeep sizes n [] l)
@@ -87,11 +92,13 @@ below_all : (m : ℕ) (numbers : List ℕ) → list_all (λ u. nat_lt u m) numbe
     → Among u numbers → u < m
 below_all m [] h u a = absurd a
 below_all m (v ∷ numbers) h u (inl e) =
-    subst (λ w. w < m) (sym e) (ltb-true v m (both (nat_lt v m) (list_all (λ w. nat_lt w m) numbers) h).0)
+    subst (λ w. w < m) (sym e)
+    (ltb-true v m (both (nat_lt v m) (list_all (λ w. nat_lt w m) numbers) h).0)
 below_all m (v ∷ numbers) h u (inr a) =
     below_all m numbers (both (nat_lt v m) (list_all (λ w. nat_lt w m) numbers) h).1 u a
 
-never_before : (sizes : Sizes) (n : ℕ) (taken : List (Row (List ℕ))) (r : LoaderRow) (space : SpaceState)
+never_before : (sizes : Sizes) (n : ℕ) (taken : List (Row (List ℕ))) (r : LoaderRow)
+    (space : SpaceState)
     → broken_live_rule sizes n (bare taken) (Loader r) ≡ None → IsSpaceOf sizes taken space
     → IsKnown space r.number → ⊥
 never_before sizes n taken r space keeps s known =
@@ -135,7 +142,8 @@ roots_least : (classes : List ClassRow) (s : ClassRow) → Among s classes
     → s.place.chunk.root + 1 ≤ roots_of classes
 roots_least [] s m = absurd m
 roots_least (r ∷ classes) s (inl e) =
-    let same : s.place.chunk.root ≡ r.place.chunk.root = ap (λ (k : ClassRow). k.place.chunk.root) e in
+    let same : s.place.chunk.root ≡ r.place.chunk.root =
+    ap (λ (k : ClassRow). k.place.chunk.root) e in
     omega (arith, same)
 roots_least (r ∷ classes) s (inr m) =
     let rest = roots_least classes s m in omega (arith, rest)
@@ -144,7 +152,8 @@ fits_live : (sizes : Sizes) (n : ℕ) (pre : List BareRow) (r : ClassRow)
     → broken_live_rule sizes n pre (Class r (tt {0})) ≡ None → is_live r.loader pre ≡ true
 fits_live sizes n pre r keeps =
     (both (is_live r.loader pre) (has_room sizes pre (Class r (tt {0})))
-    (rows_kept (is_live r.loader pre && has_room sizes pre (Class r (tt {0}))) (class_fits sizes pre r)
+    (rows_kept (is_live r.loader pre && has_room sizes pre (Class r (tt {0})))
+    (class_fits sizes pre r)
     keeps)).0
   where
     rows_kept : (a b : Bool) → broken_of a b ≡ None → a ≡ true
@@ -154,7 +163,8 @@ fits_live sizes n pre r keeps =
 fits_there : (sizes : Sizes) (n : ℕ) (pre : List BareRow) (r : ClassRow)
     → broken_live_rule sizes n pre (Class r (tt {0})) ≡ None → class_fits sizes pre r ≡ true
 fits_there sizes n pre r keeps =
-    fits_kept (is_live r.loader pre && has_room sizes pre (Class r (tt {0}))) (class_fits sizes pre r) keeps
+    fits_kept (is_live r.loader pre && has_room sizes pre (Class r (tt {0})))
+    (class_fits sizes pre r) keeps
 
 after_geometry : (p : FreeSpace) (place : Place) → (pool_after p place).geometry ≡ p.geometry
 after_geometry p place = by_test (eqb place.offset 0)
@@ -198,7 +208,8 @@ after_roots : SpaceLaws → (sizes : Sizes) (pre : List BareRow) (r : ClassRow) 
     → (pool_after p r.place).roots ≡ roots_of (classes_in pre ++ r ∷ [])
 after_roots laws sizes pre r p fits roots = by_test (eqb r.place.offset 0) refl ∙ sym more
   where
-    more : roots_of (classes_in pre ++ r ∷ []) ≡ max (roots_of (classes_in pre)) (r.place.chunk.root + 1)
+    more : roots_of (classes_in pre ++ r ∷ [])
+        ≡ max (roots_of (classes_in pre)) (r.place.chunk.root + 1)
     more = roots_more (classes_in pre) r
 
     by_test : (t : Bool) → eqb r.place.offset 0 ≡ t
@@ -210,7 +221,8 @@ after_roots laws sizes pre r p fits roots = by_test (eqb r.place.offset 0) refl 
         let least = on_row sizes pre r fits e in
         omega (arith, roots, least)
 
-stands : (sizes : Sizes) (n : ℕ) (taken : List (Row (List ℕ))) (row : Row (List ℕ)) (space : SpaceState)
+stands : (sizes : Sizes) (n : ℕ) (taken : List (Row (List ℕ))) (row : Row (List ℕ))
+    (space : SpaceState)
     → IsGeometry sizes → IsNextRow sizes n taken row → IsSpaceOf sizes taken space
     → Stands sizes n (bare taken) space
 stands sizes n taken row space lawful next s = record {
@@ -252,7 +264,8 @@ took_class laws sizes n taken r words old new next s t =
 
 -- ---- any row
 
-pub can_take : SpaceLaws → (sizes : Sizes) (n : ℕ) (rows rest : List (Row (List ℕ))) (row : Row (List ℕ))
+pub can_take : SpaceLaws
+    → (sizes : Sizes) (n : ℕ) (rows rest : List (Row (List ℕ))) (row : Row (List ℕ))
     (space : SpaceState) → IsGeometry sizes → AreCacheRows words_show sizes n rows
     → IsOnTheWay sizes rows (row ∷ rest) space → CanTake row space
 can_take laws sizes n rows rest (Loader r) space lawful cache way =
@@ -269,7 +282,8 @@ can_take laws sizes n rows rest (Class r words) space lawful cache way =
           (fits_there sizes n (bare way.taken) r next.keeps),
     )
 
-pub took : SpaceLaws → (sizes : Sizes) (n : ℕ) (rows rest : List (Row (List ℕ))) (row : Row (List ℕ))
+pub took : SpaceLaws → (sizes : Sizes) (n : ℕ) (rows rest : List (Row (List ℕ)))
+    (row : Row (List ℕ))
     (old new : SpaceState) → IsGeometry sizes → AreCacheRows words_show sizes n rows
     → IsOnTheWay sizes rows (row ∷ rest) old → Takes row old new → IsOnTheWay sizes rows rest new
 took laws sizes n rows rest row old new lawful cache way t = record {
@@ -288,7 +302,8 @@ took laws sizes n rows rest row old new lawful cache way t = record {
 -- ---- no row
 
 pub none_taken : (sizes geometry : Sizes) (space : SpaceState) → sizes ≡ geometry
-    → space ≡ empty_space geometry → IsSpace space → IsFreeSpace space.pool → IsSpaceOf sizes [] space
+    → space ≡ empty_space geometry → IsSpace space → IsFreeSpace space.pool
+    → IsSpaceOf sizes [] space
 none_taken sizes geometry space same is whole free =
     subst (λ z. IsSpaceOf sizes [] z) (sym is)
     (record {
@@ -298,7 +313,10 @@ none_taken sizes geometry space same is whole free =
         geometry = sym same;
         chains = λ u. ap (λ o. unwrap_or o []) (nothing u);
       };
-      known = λ u. (λ h. absurd (not_there (sym (ap is_some (nothing u)) ∙ h)), λ h. absurd (not_there h));
+      known = λ u. (
+        λ h. absurd (not_there (sym (ap is_some (nothing u)) ∙ h)),
+        λ h. absurd (not_there h),
+      );
       waiting = refl;
       roots = refl;
     })

@@ -1,8 +1,8 @@
--- Chains end at the top of their loader's last chunk, have the chunk of each class, and are the chunks
--- that its classes begin.
+-- Chains end at the top of their loader's last chunk, have the chunk of each class, and are the
+-- chunks that its classes begin.
 use Rattle.std.proofs.Common.{◌≡◌, ◌≤◌, ℕ, ◌+◌, ◌⊎◌, Bool, true, false, cond, List, [], ◌∷◌, ◌++◌}
-use Rattle.std.proofs.Common.{map, Option, Some, None, inl, inr, refl, sym, ap, subst, ◌∙◌, arith, eqb}
-use Rattle.std.proofs.Common.{append_assoc, append-nil}
+use Rattle.std.proofs.Common.{map, Option, Some, None, inl, inr, refl, sym, ap, subst, ◌∙◌, arith}
+use Rattle.std.proofs.Common.{eqb, append_assoc, append-nil}
 use Rattle.std.specs.Prelude.{◌&&◌, filter, sum}
 use Rattle.std.specs.Option.{option_map}
 use Rattle.std.proofs.lemmas.Bool.{eqb-true, eq-eqb, ne_eqb}
@@ -51,13 +51,15 @@ same-classes u xs ys e h =
 
 begun-more : (u : ℕ) (classes : List ClassRow) (r : ClassRow)
     → chunks_begun u (classes ++ r ∷ [])
-    ≡ chunks_begun u classes ++ cond (eqb r.loader u && eqb r.place.offset 0) (r.place.chunk ∷ []) []
+    ≡ chunks_begun u classes
+    ++ cond (eqb r.loader u && eqb r.place.offset 0) (r.place.chunk ∷ []) []
 begun-more u classes r =
     let test = λ (s : ClassRow). eqb s.loader u && eqb s.place.offset 0 in
     let chunk = λ (s : ClassRow). s.place.chunk in
     ap (map chunk) (filter-append test classes (r ∷ []))
     ∙ (map-append chunk (filter test classes) (filter test (r ∷ []))
-    ∙ ap (λ l. map chunk (filter test classes) ++ l) (by_test (eqb r.loader u && eqb r.place.offset 0)))
+    ∙ ap (λ l. map chunk (filter test classes) ++ l)
+    (by_test (eqb r.loader u && eqb r.place.offset 0)))
   where
     by_test : (t : Bool) → map (λ (s : ClassRow). s.place.chunk) (cond t (r ∷ []) [])
         ≡ cond t (r.place.chunk ∷ []) []
@@ -110,7 +112,8 @@ some-used c (r ∷ classes) s words m is =
         let first = words r (inl refl) in
         let parts : sum (r.place.words ∷ map (λ (t : ClassRow). t.place.words) behind)
         ≡ sum (r.place.words ∷ []) + sum (map (λ (t : ClassRow). t.place.words) behind) =
-        sum_by-append (λ (n : ℕ). n) (r.place.words ∷ []) (map (λ (t : ClassRow). t.place.words) behind) in
+        sum_by-append (λ (n : ℕ). n) (r.place.words ∷ [])
+        (map (λ (t : ClassRow). t.place.words) behind) in
         omega (arith, first, parts)
     by_test rest false e (inl here) =
         let itself : same_chunk r.place.chunk c ≡ true =
@@ -156,7 +159,8 @@ own-chunks : (u : ℕ) (pre : List BareRow) (r : ClassRow) → r.loader ≡ u �
 own-chunks u pre r mine place before = by_place (either on_top new place)
   where
     on_top : Bool
-    on_top = is_last_chunk r.loader r.place.chunk pre && eqb r.place.offset (used_words r.place.chunk pre)
+    on_top = is_last_chunk r.loader r.place.chunk pre
+        && eqb r.place.offset (used_words r.place.chunk pre)
 
     new : Bool
     new = eqb r.place.offset 0 && is_unused r.place.chunk pre
@@ -174,10 +178,12 @@ own-chunks u pre r mine place before = by_place (either on_top new place)
         by_last : (o : Option Chunk) → last_chunk u (classes_in pre) ≡ o
             → same_chunk f.chunk r.place.chunk ≡ false
         by_last None is =
-            let none : Some f ≡ None = sym e ∙ (before.top ∙ ap (option_map filled) is) in absurd (cc)
+            let none : Some f ≡ None = sym e ∙ (before.top ∙ ap (option_map filled) is) in
+            absurd (cc)
         by_last (Some d) is =
             let row = last-row u (classes_in pre) d is in
-            let here : Some f ≡ Some (filled d) = sym e ∙ (before.top ∙ ap (option_map filled) is) in
+            let here : Some f ≡ Some (filled d) =
+            sym e ∙ (before.top ∙ ap (option_map filled) is) in
             let same : f ≡ filled d = cc in
             ap (λ (c : Chunk). same_chunk c r.place.chunk)
             (ap (λ (g : Filled). g.chunk) same ∙ sym row.3)
@@ -206,7 +212,8 @@ own-chunks u pre r mine place before = by_place (either on_top new place)
         ∙ sym (ap (λ t. begun ++ cond t (r.place.chunk ∷ []) []) parts.0))
 
 class-kept : (sizes : Sizes) (u : ℕ) (pre : List BareRow) (r : ClassRow)
-    → broken_of (is_live r.loader pre && has_room sizes pre (Class r tt)) (class_fits sizes pre r) ≡ None
+    → broken_of (is_live r.loader pre && has_room sizes pre (Class r tt)) (class_fits sizes pre r)
+    ≡ None
     → AreApart (classes_in (pre ++ Class r (tt {0}) ∷ [])) → GoesOn u pre
     → GoesOn u (pre ++ Class r (tt {0}) ∷ [])
 class-kept sizes u pre r kept apart before = by_loader (eqb r.loader u) refl
@@ -215,7 +222,8 @@ class-kept sizes u pre r kept apart before = by_loader (eqb r.loader u) refl
     words = more-words pre r before.words (some_words sizes pre r kept)
 
     begun : chunks_begun u (classes_in (pre ++ Class r (tt {0}) ∷ []))
-        ≡ chunks_begun u (classes_in pre) ++ cond (eqb r.loader u && eqb r.place.offset 0) (r.place.chunk ∷ []) []
+        ≡ chunks_begun u (classes_in pre)
+        ++ cond (eqb r.loader u && eqb r.place.offset 0) (r.place.chunk ∷ []) []
     begun = ap (chunks_begun u) (classes-more pre (Class r tt)) ∙ begun-more u (classes_in pre) r
 
     by_loader : (t : Bool) → eqb r.loader u ≡ t → GoesOn u (pre ++ Class r (tt {0}) ∷ [])
@@ -227,7 +235,8 @@ class-kept sizes u pre r kept apart before = by_loader (eqb r.loader u) refl
           chunks =
               ap chunks_of (chain_grows u pre r mine)
               ∙ (own-chunks u pre r mine place before
-              ∙ sym (begun ∙ ap (λ t. chunks_begun u (classes_in pre) ++ cond (t && eqb r.place.offset 0) (r.place.chunk ∷ []) []) e));
+              ∙ sym (begun ∙ ap (λ t. chunks_begun u (classes_in pre)
+              ++ cond (t && eqb r.place.offset 0) (r.place.chunk ∷ []) []) e));
           words = words;
         }
     by_loader false e =
@@ -236,7 +245,8 @@ class-kept sizes u pre r kept apart before = by_loader (eqb r.loader u) refl
           chunks =
               ap chunks_of (chain_stays u pre r e)
               ∙ (before.chunks
-              ∙ sym (begun ∙ (ap (λ t. chunks_begun u (classes_in pre) ++ cond (t && eqb r.place.offset 0) (r.place.chunk ∷ []) []) e
+              ∙ sym (begun ∙ (ap (λ t. chunks_begun u (classes_in pre)
+              ++ cond (t && eqb r.place.offset 0) (r.place.chunk ∷ []) []) e
               ∙ append-nil (chunks_begun u (classes_in pre)))));
           words = words;
         }
@@ -268,8 +278,10 @@ goes_on_from sizes n pre (Class r p ∷ rows) k apart u before =
 
     front_apart : AreApart (classes_in (pre ++ Class r (tt {0}) ∷ []))
     front_apart s t ms mt = apart s t
-        (subst (λ l. Among s (classes_in l)) assoc (in-front (pre ++ Class r (tt {0}) ∷ []) rows s ms))
-        (subst (λ l. Among t (classes_in l)) assoc (in-front (pre ++ Class r (tt {0}) ∷ []) rows t mt))
+        (subst (λ l. Among s (classes_in l)) assoc
+        (in-front (pre ++ Class r (tt {0}) ∷ []) rows s ms))
+        (subst (λ l. Among t (classes_in l)) assoc
+        (in-front (pre ++ Class r (tt {0}) ∷ []) rows t mt))
 
 all_go_on : (sizes : Sizes) (n : ℕ) (rows : List BareRow) → LiveRowsKeep sizes n [] rows
     → AreApart (classes_in rows) → (u : ℕ) → GoesOn u rows
@@ -307,7 +319,8 @@ placed-new [] place = inl refl
 placed-new (f ∷ []) place = by_test (same_chunk f.chunk place.chunk) refl
   where
     by_test : (t : Bool) → same_chunk f.chunk place.chunk ≡ t
-        → Among place.chunk (chunks_of (cond t (record { chunk = f.chunk; used = f.used + place.words } ∷ [])
+        → Among place.chunk (chunks_of
+        (cond t (record { chunk = f.chunk; used = f.used + place.words } ∷ [])
         (f ∷ record { chunk = place.chunk; used = place.words } ∷ [])))
     by_test true e = inl (sym (same_chunk-true f.chunk place.chunk e))
     by_test false e = inr (inl refl)
@@ -335,7 +348,8 @@ has_chunk chain (s ∷ classes) r (inl e) =
     let own : eqb s.loader r.loader ≡ true =
     ap (λ (t : ClassRow). eqb t.loader r.loader) (sym e) ∙ eq-eqb r.loader r.loader refl in
     subst (λ (t : Bool). Among r.place.chunk (chunks_of (cond t
-    (chain_from (with_place chain s.place) r.loader classes) (chain_from chain r.loader classes)))) (sym own)
+    (chain_from (with_place chain s.place) r.loader classes) (chain_from chain r.loader classes))))
+    (sym own)
     (still-there (with_place chain s.place) r.loader classes r.place.chunk
     (subst (λ (t : ClassRow). Among r.place.chunk (chunks_of (with_place chain t.place))) e
     (placed-new chain r.place)))
@@ -346,7 +360,8 @@ has_chunk chain (s ∷ classes) r (inr m) =
     by_test : (t : Bool)
         → Among r.place.chunk (chunks_of (chain_from (with_place chain s.place) r.loader classes))
         → Among r.place.chunk (chunks_of (chain_from chain r.loader classes))
-        → Among r.place.chunk (chunks_of (cond t (chain_from (with_place chain s.place) r.loader classes)
+        → Among r.place.chunk (chunks_of
+        (cond t (chain_from (with_place chain s.place) r.loader classes)
         (chain_from chain r.loader classes)))
     by_test true here there = here
     by_test false here there = there

@@ -28,7 +28,8 @@ right-append : (xs ys : List Carried) → AllByRecursion CarriesRight xs
 right-append [] ys hx hy = hy
 right-append (x ∷ xs) ys hx hy = (hx.0, right-append xs ys hx.1 hy)
 
-pub with_entry : (capacity slots more room : ℕ) (group : Handed) (c : Carried) (grown : List Carried)
+pub with_entry : (capacity slots more room : ℕ) (group : Handed) (c : Carried)
+    (grown : List Carried)
     → KeepsGroup capacity slots group → more ≡ slots_of c.entry → CarriesRight c
     → slots + more ≤ 64 → group.first + length group.entries ≤ 2 ^ 63 → capacity ≤ room
     → grown ≡ group.entries ++ c ∷ []

@@ -17,7 +17,8 @@ pub among-append : {X : Type 0} (x : X) (xs ys : List X) → Among x (xs ++ ys) 
     ⊎ Among x ys
 among-append x [] ys m = inr m
 among-append x (y ∷ xs) ys (inl e) = inl (inl e)
-among-append x (y ∷ xs) ys (inr m) = elim (among-append x xs ys m) [ inl a ↦ inl (inr a) | inr b ↦ inr b ]
+among-append x (y ∷ xs) ys (inr m) =
+    elim (among-append x xs ys m) [ inl a ↦ inl (inr a) | inr b ↦ inr b ]
 
 -- the last of a list that one was put behind, or one before
 pub among-push : {X : Type 0} (x y : X) (xs : List X) → Among x (xs ++ y ∷ []) → Among x xs
@@ -38,7 +39,8 @@ pub among-map_from : {X Y : Type 0} (f : X → Y) (y : Y) (xs : List X) → Amon
     → (x : X) × Among x xs × (y ≡ f x)
 among-map_from f y [] none = absurd none
 among-map_from f y (x ∷ xs) (inl e) = (x, inl refl, e)
-among-map_from f y (x ∷ xs) (inr m) = let found = among-map_from f y xs m in (found.0, inr found.1, found.2)
+among-map_from f y (x ∷ xs) (inr m) = let found = among-map_from f y xs m in
+    (found.0, inr found.1, found.2)
 
 pub among-filter : {X : Type 0} (p : X → Bool) (x : X) (xs : List X) → Among x xs → p x ≡ true
     → Among x (filter p xs)

@@ -15,7 +15,8 @@ module _ {X : Type 0} where
   living-append (s ∷ xs) ys = by_test s.live (living-append xs ys)
     where
       by_test : (t : Bool) → living (xs ++ ys) ≡ living xs ++ living ys
-          → cond t (s.item ∷ living (xs ++ ys)) (living (xs ++ ys)) ≡ cond t (s.item ∷ living xs) (living xs) ++ living ys
+          → cond t (s.item ∷ living (xs ++ ys)) (living (xs ++ ys))
+          ≡ cond t (s.item ∷ living xs) (living xs) ++ living ys
       by_test true behind = ap (λ l. s.item ∷ l) behind
       by_test false behind = behind
 
@@ -51,7 +52,8 @@ module _ {X : Type 0} where
   length-swept (s ∷ xs) = by_test s.live (length-swept xs)
     where
       by_test : (t : Bool) → length (swept xs) ≡ length (living xs)
-          → length (cond t (s ∷ swept xs) (swept xs)) ≡ length (cond t (s.item ∷ living xs) (living xs))
+          → length (cond t (s ∷ swept xs) (swept xs))
+          ≡ length (cond t (s.item ∷ living xs) (living xs))
       by_test true behind = ap suc behind
       by_test false behind = behind
 
@@ -70,8 +72,10 @@ module _ {P : Type 0} where
   living-unloaded u [] = refl
   living-unloaded u (s ∷ xs) = by_tests s.live (is_of u s.item) refl (living-unloaded u xs)
     where
-      by_tests : (t o : Bool) → is_of u s.item ≡ o → living (map (unloaded u) xs) ≡ without_loader u (living xs)
-          → cond (t && not o) (s.item ∷ living (map (unloaded u) xs)) (living (map (unloaded u) xs)) ≡ without_loader u (cond t (s.item ∷ living xs) (living xs))
+      by_tests : (t o : Bool) → is_of u s.item ≡ o → living (map (unloaded u) xs)
+          ≡ without_loader u (living xs)
+          → cond (t && not o) (s.item ∷ living (map (unloaded u) xs)) (living (map (unloaded u) xs))
+          ≡ without_loader u (cond t (s.item ∷ living xs) (living xs))
       by_tests true true e behind = rw (e) behind
       by_tests true false e behind = rw (e) (ap (λ l. s.item ∷ l) behind)
       by_tests false o e behind = behind
@@ -82,6 +86,8 @@ module _ {P : Type 0} where
   living-moved from to (s ∷ xs) = by_test s.live (living-moved from to xs)
     where
       by_test : (t : Bool) → living (map (moved_slot from to) xs) ≡ moved from to (living xs)
-          → cond t (cond t (moved_row from to s.item) s.item ∷ living (map (moved_slot from to) xs)) (living (map (moved_slot from to) xs)) ≡ moved from to (cond t (s.item ∷ living xs) (living xs))
+          → cond t (cond t (moved_row from to s.item) s.item ∷ living (map (moved_slot from to) xs))
+          (living (map (moved_slot from to) xs))
+          ≡ moved from to (cond t (s.item ∷ living xs) (living xs))
       by_test true behind = ap (λ l. moved_row from to s.item ∷ l) behind
       by_test false behind = behind

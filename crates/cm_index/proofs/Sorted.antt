@@ -92,15 +92,21 @@ pub below-to : (ks : List (List ℕ)) (m : ℕ) (k d : List ℕ) → Rise ks →
     → goes (get_or ks m d) k ≡ Less → AllByRecursion (Below k) (take (suc m) ks)
 below-to [] m k d h lt less = absurd (omega arith)
 below-to (a ∷ ks) zero k d h lt less = (less, tt)
-below-to (a ∷ ks) (suc m) k d h lt less =
-    (below-through a (get_or ks m d) k (all-at (λ b. goes a b ≡ Less) ks m d h.0 (omega arith)) less, below-to ks m k d h.1 (omega arith) less)
+below-to (a ∷ ks) (suc m) k d h lt less = (
+  below-through a (get_or ks m d) k (all-at (λ b. goes a b ≡ Less) ks m d h.0 (omega arith))
+      less,
+  below-to ks m k d h.1 (omega arith) less,
+)
 
 -- those behind a key above k are above it too
 pub above-from : (ks : List (List ℕ)) (m : ℕ) (k d : List ℕ) → Rise ks → m < length ks
     → goes (get_or ks m d) k ≡ Greater → AllByRecursion (Above k) (drop m ks)
 above-from [] m k d h lt more = absurd (omega arith)
-above-from (a ∷ ks) zero k d h lt more =
-    (more, all-weaker (λ b. goes a b ≡ Less) (Above k) ks (λ b less. turned-below k b (below-through k a b (turned-above a k more) less)) h.0)
+above-from (a ∷ ks) zero k d h lt more = (
+  more,
+  all-weaker (λ b. goes a b ≡ Less) (Above k) ks
+      (λ b less. turned-below k b (below-through k a b (turned-above a k more) less)) h.0,
+)
 above-from (a ∷ ks) (suc m) k d h lt more = above-from ks m k d h.1 (omega arith) more
 
 less-through : (a b k : List ℕ) → goes a b ≡ Less → ¬ (goes b k ≡ Greater) → goes a k ≡ Less
@@ -116,8 +122,10 @@ pub before-to : (ks : List (List ℕ)) (m : ℕ) (k d : List ℕ) → Rise ks �
     → ¬ (goes (get_or ks m d) k ≡ Greater) → AllByRecursion (Below k) (take m ks)
 before-to [] m k d h lt not = absurd (omega arith)
 before-to (a ∷ ks) zero k d h lt not = tt
-before-to (a ∷ ks) (suc m) k d h lt not =
-    (less-through a (get_or ks m d) k (all-at (λ b. goes a b ≡ Less) ks m d h.0 (omega arith)) not, before-to ks m k d h.1 (omega arith) not)
+before-to (a ∷ ks) (suc m) k d h lt not = (
+  less-through a (get_or ks m d) k (all-at (λ b. goes a b ≡ Less) ks m d h.0 (omega arith)) not,
+  before-to ks m k d h.1 (omega arith) not,
+)
 
 -- ---- a key more
 
@@ -127,8 +135,15 @@ rise-insert ks zero k h p =
     (all-weaker (Above k) (λ b. goes k b ≡ Less) ks (λ b. turned-above b k) p.above, h)
 rise-insert [] (suc i) k h p = absurd (let w = p.within in omega arith)
 rise-insert (a ∷ ks) (suc i) k h p = (
-  all-append (λ b. goes a b ≡ Less) (take i ks) (k ∷ drop i ks) (all-take (λ b. goes a b ≡ Less) i ks h.0) (p.below.0, all-drop (λ b. goes a b ≡ Less) i ks h.0),
-  rise-insert ks i k h.1 (record { within = let w = p.within in omega arith; below = p.below.1; above = p.above }),
+  all-append (λ b. goes a b ≡ Less) (take i ks) (k ∷ drop i ks)
+      (all-take (λ b. goes a b ≡ Less) i ks h.0)
+      (p.below.0, all-drop (λ b. goes a b ≡ Less) i ks h.0),
+  rise-insert ks i k h.1 (record {
+    within = let w = p.within in
+        omega arith;
+    below = p.below.1;
+    above = p.above;
+  }),
 )
 
 -- a key that parts them is none of theirs
@@ -157,7 +172,8 @@ parts-inside [] ks behind i k below p above =
     let here : Parts (ks ++ behind) i k = record {
       within = omega (arith, length-append ks behind, within);
       below = subst (AllByRecursion (Below k)) (sym (take-append-le i ks behind within)) p.below;
-      above = subst (AllByRecursion (Above k)) (sym (drop-append-le i ks behind within)) (all-append (Above k) (drop i ks) behind p.above above);
+      above = subst (AllByRecursion (Above k)) (sym (drop-append-le i ks behind within))
+          (all-append (Above k) (drop i ks) behind p.above above);
     } in
     subst (λ (n : ℕ). Parts (ks ++ behind) n k) (omega arith) here
 parts-inside (a ∷ before) ks behind i k below p above =

@@ -59,7 +59,11 @@ record TakenOut (x : List ℕ) (ys : List (List ℕ)) : Type 0 where
 take-out : (x : List ℕ) (ys : List (List ℕ)) → Among x ys → TakenOut x ys
 take-out x [] none = absurd none
 take-out x (y ∷ ys) (inl e) =
-    record { rest = ys; count = refl; others = λ z m. elim m [ inl f ↦ inl (f ∙ sym e) | inr there ↦ inr there ] }
+    record {
+      rest = ys;
+      count = refl;
+      others = λ z m. elim m [ inl f ↦ inl (f ∙ sym e) | inr there ↦ inr there ];
+    }
 take-out x (y ∷ ys) (inr m) =
     let t = take-out x ys m in
     record {
@@ -78,7 +82,9 @@ few-in (k ∷ ks) ys h all =
     let t = take-out k ys (all k (inl refl)) in
     let fewer = few-in ks t.rest h.1 (λ y m. elim (t.others y (all y (inr m))) [
       | inl e ↦ absurd (
-          let less : slice_cmp nat_cmp k k ≡ Less = subst (λ (z : List ℕ). slice_cmp nat_cmp k z ≡ Less) e (all-among (λ b. slice_cmp nat_cmp k b ≡ Less) ks y h.0 m) in
+          let less : slice_cmp nat_cmp k k ≡ Less =
+          subst (λ (z : List ℕ). slice_cmp nat_cmp k z ≡ Less) e
+          (all-among (λ b. slice_cmp nat_cmp k b ≡ Less) ks y h.0 m) in
           let same : slice_cmp nat_cmp k k ≡ Equal = equal-itself k in
           cc)
       | inr there ↦ there
@@ -99,14 +105,25 @@ module _ {X : Type 0} where
   placed k (y ∷ slots) zero s h n =
       let is : y ≡ s = cc in
       let own : y.live ≡ true = ap (λ (z : Slot X). z.live) is ∙ n in
-      record { place = 0; is = omega arith; there = ap (λ (t : Bool). slice_get (cond t (y ∷ swept slots) (swept slots)) 0) own ∙ ap Some is }
+      record {
+        place = 0;
+        is = omega arith;
+        there = ap (λ (t : Bool). slice_get (cond t (y ∷ swept slots) (swept slots)) 0) own
+            ∙ ap Some is;
+      }
   placed k (y ∷ slots) (suc i) s h n =
       by_test (placed k slots i s h n) (placed (k + 1) slots i s h n) y.live refl
     where
       by_test : Placed k slots i s → Placed (k + 1) slots i s → (t : Bool) → y.live ≡ t
           → Placed k (y ∷ slots) (suc i) s
-      by_test gone here false e = record { place = gone.place; is = rw (e) gone.is; there = rw (e) gone.there }
-      by_test gone here true e = record { place = suc here.place; is = rw (e) (omega (arith, here.is)); there = rw (e) here.there }
+      by_test gone here false e =
+          record { place = gone.place; is = rw (e) gone.is; there = rw (e) gone.there }
+      by_test gone here true e =
+          record {
+            place = suc here.place;
+            is = rw (e) (omega (arith, here.is));
+            there = rw (e) here.there;
+          }
 
   pub length-places : (k : ℕ) (slots : List (Slot X)) → length (places_from k slots) ≡ length slots
   length-places k [] = refl
@@ -114,7 +131,8 @@ module _ {X : Type 0} where
 
 -- ---- the entries that stay
 
-module _ {P : Type 0} (mark : ℕ → List ℕ → ℕ) (name_of : P → List ℕ) (slots : List (Slot (Row P))) where
+module _ {P : Type 0} (mark : ℕ → List ℕ → ℕ) (name_of : P → List ℕ)
+    (slots : List (Slot (Row P))) where
   abbrev moved_up : IndexEntry → IndexEntry
   moved_up e = shifted (places_from 0 slots) e
 
@@ -133,16 +151,22 @@ module _ {P : Type 0} (mark : ℕ → List ℕ → ℕ) (name_of : P → List �
         slot = h.slot;
         there = place-of e h.slot h.there live;
         fingerprint = h.fingerprint;
-        first = λ alive. ap (find (is_named name_of (rank (owner_of h.slot.item)) (name_in name_of h.slot.item))) (living-swept slots) ∙ h.first alive;
+        first = λ alive. ap (find
+            (is_named name_of (rank (owner_of h.slot.item)) (name_in name_of h.slot.item)))
+            (living-swept slots) ∙ h.first alive;
       }
 
   each-kept : (es : List IndexEntry) → AllByRecursion (IsEntry mark name_of slots) es
-      → AllByRecursion (IsEntry mark name_of (swept slots)) (map moved_up (filter (leads_to_life slots) es))
+      → AllByRecursion (IsEntry mark name_of (swept slots))
+      (map moved_up (filter (leads_to_life slots) es))
   each-kept [] h = tt
   each-kept (e ∷ es) h = by_test (each-kept es h.1) (leads_to_life slots e) refl
     where
-      by_test : AllByRecursion (IsEntry mark name_of (swept slots)) (map moved_up (filter (leads_to_life slots) es)) → (t : Bool) → leads_to_life slots e ≡ t
-          → AllByRecursion (IsEntry mark name_of (swept slots)) (map moved_up (cond t (e ∷ filter (leads_to_life slots) es) (filter (leads_to_life slots) es)))
+      by_test : AllByRecursion (IsEntry mark name_of (swept slots))
+          (map moved_up (filter (leads_to_life slots) es)) → (t : Bool) → leads_to_life slots e ≡ t
+          → AllByRecursion (IsEntry mark name_of (swept slots))
+          (map moved_up (cond t (e ∷ filter (leads_to_life slots) es)
+          (filter (leads_to_life slots) es)))
       by_test behind true s = (entry-kept e h.0 s, behind)
       by_test behind false s = behind
 
@@ -151,16 +175,27 @@ module _ {P : Type 0} (mark : ℕ → List ℕ → ℕ) (name_of : P → List �
       → key_at name_of (swept slots) (moved_up e) ≡ key_at name_of slots e
   key-kept e s there lives =
       let live : s.live ≡ true = sym (leads-is slots e s there) ∙ lives in
-      ap (λ (r : Option (Slot (Row P))). e.fingerprint ∷ tail_at name_of r) (place-of e s there live ∙ sym there)
+      ap (λ (r : Option (Slot (Row P))). e.fingerprint ∷ tail_at name_of r) (place-of e s there live
+      ∙ sym there)
 
   keys-kept : (es : List IndexEntry) → AllByRecursion (IsEntry mark name_of slots) es
-      → keys_at name_of (swept slots) (map moved_up (filter (leads_to_life slots) es)) ≡ keys_at name_of slots (filter (leads_to_life slots) es)
+      → keys_at name_of (swept slots) (map moved_up (filter (leads_to_life slots) es))
+      ≡ keys_at name_of slots (filter (leads_to_life slots) es)
   keys-kept [] h = refl
   keys-kept (e ∷ es) h = by_test (keys-kept es h.1) (leads_to_life slots e) refl
     where
-      by_test : keys_at name_of (swept slots) (map moved_up (filter (leads_to_life slots) es)) ≡ keys_at name_of slots (filter (leads_to_life slots) es) → (t : Bool) → leads_to_life slots e ≡ t
-          → keys_at name_of (swept slots) (map moved_up (cond t (e ∷ filter (leads_to_life slots) es) (filter (leads_to_life slots) es))) ≡ keys_at name_of slots (cond t (e ∷ filter (leads_to_life slots) es) (filter (leads_to_life slots) es))
-      by_test behind true s = ap (λ (k : List ℕ). k ∷ keys_at name_of (swept slots) (map moved_up (filter (leads_to_life slots) es))) (key-kept e h.0.slot h.0.there s) ∙ ap (λ (ks : List (List ℕ)). key_at name_of slots e ∷ ks) behind
+      by_test : keys_at name_of (swept slots) (map moved_up (filter (leads_to_life slots) es))
+          ≡ keys_at name_of slots (filter (leads_to_life slots) es) → (t : Bool)
+          → leads_to_life slots e ≡ t
+          → keys_at name_of (swept slots)
+          (map moved_up (cond t (e ∷ filter (leads_to_life slots) es)
+          (filter (leads_to_life slots) es)))
+          ≡ keys_at name_of slots (cond t (e ∷ filter (leads_to_life slots) es)
+          (filter (leads_to_life slots) es))
+      by_test behind true s =
+          ap (λ (k : List ℕ). k ∷ keys_at name_of (swept slots)
+          (map moved_up (filter (leads_to_life slots) es))) (key-kept e h.0.slot h.0.there s)
+          ∙ ap (λ (ks : List (List ℕ)). key_at name_of slots e ∷ ks) behind
       by_test behind false s = behind
 
 -- ---- how many entries there are
@@ -176,46 +211,62 @@ module _ {P : Type 0} (mark : ℕ → List ℕ → ℕ) (name_of : P → List �
       let e = among-map_from (key_at name_of slots) k es m in
       let h = all-among (IsEntry mark name_of slots) es e.0 each e.1 in
       let own : key_at name_of slots e.0 ≡ whole h.slot =
-      ap (λ (r : Option (Slot (Row P))). (e.0).fingerprint ∷ tail_at name_of r) h.there ∙ ap (λ (f : ℕ). f ∷ rank (owner_of h.slot.item) ∷ name_in name_of h.slot.item) h.fingerprint in
-      subst (λ (k : List ℕ). Among k (map whole slots)) (sym (e.2 ∙ own)) (among-map whole h.slot slots (get-among slots (e.0).at h.slot h.there))
+      ap (λ (r : Option (Slot (Row P))). (e.0).fingerprint ∷ tail_at name_of r) h.there
+      ∙ ap (λ (f : ℕ). f ∷ rank (owner_of h.slot.item) ∷ name_in name_of h.slot.item)
+      h.fingerprint in
+      subst (λ (k : List ℕ). Among k (map whole slots)) (sym (e.2 ∙ own))
+      (among-map whole h.slot slots (get-among slots (e.0).at h.slot h.there))
 
   few-entries : (slots : List (Slot (Row P))) (es : List IndexEntry)
       → AllByRecursion (IsEntry mark name_of slots) es → Rise (keys_at name_of slots es)
       → length es ≤ length slots
   few-entries slots es each rises =
-      omega (arith, few-in (keys_at name_of slots es) (map whole slots) rises (λ k m. entry-whole slots es k each m), length-map es (key_at name_of slots), length-map slots whole)
+      omega (
+        arith,
+        few-in (keys_at name_of slots es) (map whole slots) rises
+            (λ k m. entry-whole slots es k each m),
+        length-map es (key_at name_of slots),
+        length-map slots whole,
+      )
 
   pub index-swept : (slots : List (Slot (Row P))) (es : List IndexEntry)
       → IsIndex mark name_of slots es
-      → IsIndex mark name_of (swept slots) (map (shifted (places_from 0 slots)) (filter (leads_to_life slots) es))
+      → IsIndex mark name_of (swept slots)
+      (map (shifted (places_from 0 slots)) (filter (leads_to_life slots) es))
   index-swept slots es h =
       let keys = keys-kept mark name_of slots es h.each in
       let each = each-kept mark name_of slots es h.each in
       let up = shifted (places_from 0 slots) in
       let kept = filter (leads_to_life slots) es in
-      let rises : Rise (keys_at name_of (swept slots) (map up kept)) = rw (keys) (rise-filter (key_at name_of slots) (leads_to_life slots) es h.rises) in
+      let rises : Rise (keys_at name_of (swept slots) (map up kept)) =
+      rw (keys) (rise-filter (key_at name_of slots) (leads_to_life slots) es h.rises) in
       record {
         each = each;
         rises = rises;
         complete = λ o x row is.
-            let l = h.complete o x row (ap (find (is_named name_of o x)) (sym (living-swept slots)) ∙ is) in
+            let l = h.complete o x row
+            (ap (find (is_named name_of o x)) (sym (living-swept slots)) ∙ is) in
             let t = leads-there slots l.entry l.lives in
             let live : (t.0).live ≡ true = sym (leads-is slots l.entry t.0 t.1) ∙ l.lives in
             record {
               entry = up l.entry;
-              among = among-map up l.entry kept (among-filter (leads_to_life slots) l.entry es l.among l.lives);
+              among = among-map up l.entry kept
+                  (among-filter (leads_to_life slots) l.entry es l.among l.lives);
               key_is = key-kept mark name_of slots l.entry t.0 t.1 l.lives ∙ l.key_is;
-              lives = leads-is (swept slots) (up l.entry) t.0 (place-of mark name_of slots l.entry t.0 t.1 live) ∙ live;
+              lives = leads-is (swept slots) (up l.entry) t.0
+                  (place-of mark name_of slots l.entry t.0 t.1 live) ∙ live;
             };
         few = few-entries (swept slots) (map up kept) each rises;
       }
 
   pub within-slots : (slots : List (Slot (Row P))) (es : List IndexEntry)
-      → AllByRecursion (IsEntry mark name_of slots) es → AllByRecursion (λ e. e.at < length slots) es
+      → AllByRecursion (IsEntry mark name_of slots) es
+      → AllByRecursion (λ e. e.at < length slots) es
   within-slots slots [] h = tt
   within-slots slots (e ∷ es) h = (within slots (h.0).there, within-slots slots es h.1)
     where
-      within : (slots : List (Slot (Row P))) → {i : ℕ} {s : Slot (Row P)} → slice_get slots i ≡ Some s → i < length slots
+      within : (slots : List (Slot (Row P))) → {i : ℕ} {s : Slot (Row P)}
+          → slice_get slots i ≡ Some s → i < length slots
       within slots {i = i} {s = s} e = slice_get_within slots i s e
 
 pub all-kept : {X : Type 0} (p : X → Bool) (Q : X → Type 0) (xs : List X) → AllByRecursion Q xs
@@ -237,18 +288,26 @@ length-kept p (x ∷ xs) = by_test (length-kept p xs) (p x)
     by_test behind true = omega (arith, behind)
     by_test behind false = omega (arith, behind)
 
-pub fewer-swept : {P : Type 0} (slots : List (Slot (Row P))) (places : List ℕ) (es : List IndexEntry)
+pub fewer-swept : {P : Type 0} (slots : List (Slot (Row P))) (places : List ℕ)
+    (es : List IndexEntry)
     → length (swept_entries slots places es) ≤ length es
 fewer-swept slots places es =
-    omega (arith, length-kept (leads_to_life slots) es, length-map (filter (leads_to_life slots) es) (shifted places))
+    omega (
+      arith,
+      length-kept (leads_to_life slots) es,
+      length-map (filter (leads_to_life slots) es) (shifted places),
+    )
 
 -- block by block, or all at once
-pub joined-swept : {P : Type 0} (slots : List (Slot (Row P))) (places : List ℕ) (bs : List (List IndexEntry))
+pub joined-swept : {P : Type 0} (slots : List (Slot (Row P))) (places : List ℕ)
+    (bs : List (List IndexEntry))
     → joined (map (swept_entries slots places) bs) ≡ swept_entries slots places (joined bs)
 joined-swept slots places [] = refl
 joined-swept slots places (b ∷ bs) =
     ap (λ l. swept_entries slots places b ++ l) (joined-swept slots places bs)
-    ∙ sym (ap (map (shifted places)) (filter-append (leads_to_life slots) b (joined bs)) ∙ map-append (shifted places) (filter (leads_to_life slots) b) (filter (leads_to_life slots) (joined bs)))
+    ∙ sym (ap (map (shifted places)) (filter-append (leads_to_life slots) b (joined bs))
+    ∙ map-append (shifted places) (filter (leads_to_life slots) b)
+    (filter (leads_to_life slots) (joined bs)))
 
 -- ---- each of a list changed in turn
 
@@ -271,5 +330,7 @@ pub change-more : {X : Type 0} (f : X → X) (xs items : List X) (i : ℕ) (d y 
     → items ≡ half_changed f xs i → y ≡ f (get_or xs i d)
     → set items i y ≡ half_changed f xs (i + 1)
 change-more f xs items i d y lt e is =
-    let next : half_changed f xs (suc i) ≡ half_changed f xs (i + 1) = ap (half_changed f xs) (sym (add-one i)) in
-    ap (λ l. set l i y) e ∙ ap (λ x. set (half_changed f xs i) i x) is ∙ change-set f xs i d lt ∙ next
+    let next : half_changed f xs (suc i) ≡ half_changed f xs (i + 1) =
+    ap (half_changed f xs) (sym (add-one i)) in
+    ap (λ l. set l i y) e ∙ ap (λ x. set (half_changed f xs i) i x) is
+    ∙ change-set f xs i d lt ∙ next

@@ -77,7 +77,9 @@ module _ {P : Type 0} (mark : ℕ → List ℕ → ℕ) (name_of : P → List �
   same-loader : (rows : List (Row P)) → AreUnique rows → (r s : Row P) → Among r rows → Among s rows
       → rank (owner_of r) ≡ rank (owner_of s) → name_in name_of r ≡ name_in name_of s
       → is_of u r ≡ is_of u s
-  same-loader rows unique (Loader a) (Loader b) m n o x = ap (λ (v : ℕ). is_of {P = P} u (Loader (record { number = v; name = a.name }))) (unique.names a b m n x)
+  same-loader rows unique (Loader a) (Loader b) m n o x =
+      ap (λ (v : ℕ). is_of {P = P} u (Loader (record { number = v; name = a.name })))
+      (unique.names a b m n x)
   same-loader rows unique (Loader a) (Class b q) m n o x = absurd (omega (arith, o))
   same-loader rows unique (Class a p) (Loader b) m n o x = absurd (omega (arith, o))
   same-loader rows unique (Class a p) (Class b q) m n o x =
@@ -103,7 +105,9 @@ module _ {P : Type 0} (mark : ℕ → List ℕ → ℕ) (name_of : P → List �
         fingerprint = h.fingerprint;
         first = λ live.
             let on = living-on h.slot live in
-            ap (find test) (living-unloaded u slots) ∙ find-filter test (λ row. not (is_of u row)) (living slots) h.slot.item (h.first on.0) (ap not on.1);
+            ap (find test) (living-unloaded u slots)
+            ∙ find-filter test (λ row. not (is_of u row)) (living slots) h.slot.item
+            (h.first on.0) (ap not on.1);
       }
 
   each-unloaded : (slots : List (Slot (Row P))) (es : List IndexEntry)
@@ -116,7 +120,8 @@ module _ {P : Type 0} (mark : ℕ → List ℕ → ℕ) (name_of : P → List �
       → slice_get slots e.at ≡ Some s
       → key_at name_of (map (unloaded u) slots) e ≡ key_at name_of slots e
   key-unloaded slots e s is =
-      ap (λ (r : Option (Slot (Row P))). e.fingerprint ∷ tail_at name_of r) (get-map (unloaded u) slots e.at ∙ ap (option_map (unloaded u)) is)
+      ap (λ (r : Option (Slot (Row P))). e.fingerprint ∷ tail_at name_of r)
+      (get-map (unloaded u) slots e.at ∙ ap (option_map (unloaded u)) is)
       ∙ ap (λ (r : Option (Slot (Row P))). e.fingerprint ∷ tail_at name_of r) (sym is)
 
   keys-unloaded : (slots : List (Slot (Row P))) (es : List IndexEntry)
@@ -124,10 +129,12 @@ module _ {P : Type 0} (mark : ℕ → List ℕ → ℕ) (name_of : P → List �
       → keys_at name_of (map (unloaded u) slots) es ≡ keys_at name_of slots es
   keys-unloaded slots [] h = refl
   keys-unloaded slots (e ∷ es) h =
-      ap (λ (k : List ℕ). k ∷ keys_at name_of (map (unloaded u) slots) es) (key-unloaded slots e h.0.slot h.0.there)
+      ap (λ (k : List ℕ). k ∷ keys_at name_of (map (unloaded u) slots) es)
+      (key-unloaded slots e h.0.slot h.0.there)
       ∙ ap (λ (ks : List (List ℕ)). key_at name_of slots e ∷ ks) (keys-unloaded slots es h.1)
 
-  complete-unloaded : (slots : List (Slot (Row P))) (es : List IndexEntry) → AreUnique (living slots)
+  complete-unloaded : (slots : List (Slot (Row P))) (es : List IndexEntry)
+      → AreUnique (living slots)
       → IsIndex mark name_of slots es → (o : ℕ) (x : List ℕ) (row : Row P)
       → find (is_named name_of o x) (without_loader u (living slots)) ≡ Some row
       → Leads name_of (map (unloaded u) slots) es (key mark o x)
@@ -140,17 +147,25 @@ module _ {P : Type 0} (mark : ℕ → List ℕ → ℕ) (name_of : P → List �
       let entry = all-among (IsEntry mark name_of slots) es l.entry h.each l.among in
       let s = entry.slot in
       let live : s.live ≡ true = sym (leads-is slots l.entry s entry.there) ∙ l.lives in
-      let keys : l.entry.fingerprint ∷ rank (owner_of s.item) ∷ name_in name_of s.item ≡ mark o x ∷ o ∷ x = ap
-      (λ (r : Option (Slot (Row P))). l.entry.fingerprint ∷ tail_at name_of r) (sym entry.there) ∙ l.key_is in
+      let keys : l.entry.fingerprint ∷ rank (owner_of s.item) ∷ name_in name_of s.item
+      ≡ mark o x ∷ o ∷ x = ap
+      (λ (r : Option (Slot (Row P))). l.entry.fingerprint ∷ tail_at name_of r) (sym entry.there)
+      ∙ l.key_is in
       let owner : rank (owner_of s.item) ≡ o = cc in
       let name : name_in name_of s.item ≡ x = cc in
       let first = entry.first live in
-      let among = among-filter_from (λ row. not (is_of u row)) row rows (find-among test (without_loader u rows) row is) in
+      let among =
+      among-filter_from (λ row. not (is_of u row)) row rows
+      (find-among test (without_loader u rows) row is) in
       let two = named-is name_of o x row (find-true test (without_loader u rows) row is) in
-      let there = find-among (is_named name_of (rank (owner_of s.item)) (name_in name_of s.item)) rows s.item first in
-      let loaders : is_of u s.item ≡ is_of u row = same-loader rows unique s.item row there among.0 (owner ∙ sym two.0) (name ∙ sym two.1) in
+      let there =
+      find-among (is_named name_of (rank (owner_of s.item)) (name_in name_of s.item)) rows
+      s.item first in
+      let loaders : is_of u s.item ≡ is_of u row =
+      same-loader rows unique s.item row there among.0 (owner ∙ sym two.0) (name ∙ sym two.1) in
       let other : is_of u s.item ≡ false = loaders ∙ not-not (is_of u row) among.1 in
-      let gone : slice_get all l.entry.at ≡ Some (unloaded u s) = get-map (unloaded u) slots l.entry.at ∙ ap (option_map (unloaded u)) entry.there in
+      let gone : slice_get all l.entry.at ≡ Some (unloaded u s) =
+      get-map (unloaded u) slots l.entry.at ∙ ap (option_map (unloaded u)) entry.there in
       record {
         entry = l.entry;
         among = l.among;
@@ -158,14 +173,17 @@ module _ {P : Type 0} (mark : ℕ → List ℕ → ℕ) (name_of : P → List �
         lives = leads-is all l.entry (unloaded u s) gone ∙ (λ i. live i && not (other i));
       }
 
-  pub index-unloaded : (slots : List (Slot (Row P))) (es : List IndexEntry) → AreUnique (living slots)
+  pub index-unloaded : (slots : List (Slot (Row P))) (es : List IndexEntry)
+      → AreUnique (living slots)
       → IsIndex mark name_of slots es → IsIndex mark name_of (map (unloaded u) slots) es
   index-unloaded slots es unique h =
       let keys = keys-unloaded slots es h.each in
       record {
         each = each-unloaded slots es h.each;
         rises = rw (keys) h.rises;
-        complete = λ o x row is. complete-unloaded slots es unique h o x row (ap (find (is_named name_of o x)) (sym (living-unloaded u slots)) ∙ is);
+        complete =
+            λ o x row is. complete-unloaded slots es unique h o x row
+            (ap (find (is_named name_of o x)) (sym (living-unloaded u slots)) ∙ is);
         few = omega (arith, h.few, length-map slots (unloaded {P = P} u));
       }
 
@@ -180,7 +198,8 @@ module _ {P : Type 0} where
   named-among r [] m = absurd m
   named-among r (Loader s ∷ rows) m = by_test (named-among r rows) m (bytes_eq s.name r.name) refl
     where
-      by_test : (Among (Loader r) rows → ¬ (number_of r.name rows ≡ None)) → Among (Loader r) (Loader s ∷ rows) → (t : Bool) → bytes_eq s.name r.name ≡ t
+      by_test : (Among (Loader r) rows → ¬ (number_of r.name rows ≡ None))
+          → Among (Loader r) (Loader s ∷ rows) → (t : Bool) → bytes_eq s.name r.name ≡ t
           → ¬ (cond t (Some s.number) (number_of r.name rows) ≡ None)
       by_test behind m true e = λ none. absurd (cc)
       by_test behind (inl is) false e =
@@ -203,21 +222,36 @@ module _ {P : Type 0} where
 
   pub unique-loader : (rows : List (Row P)) (r : LoaderRow) → AreUnique rows
       → number_of r.name rows ≡ None → AreUnique (rows ++ Loader r ∷ [])
-  unique-loader rows r h none = record { names = λ a b m n x. by_place a b x (among-push (Loader a) (Loader r) rows m) (among-push (Loader b) (Loader r) rows n) }
+  unique-loader rows r h none =
+      record {
+        names = λ a b m n x. by_place a b x (among-push (Loader a) (Loader r) rows m)
+            (among-push (Loader b) (Loader r) rows n);
+      }
     where
-      by_place : (a b : LoaderRow) → a.name ≡ b.name → Among (own_row a) rows ⊎ (own_row a ≡ own_row r) → Among (own_row b) rows ⊎ (own_row b ≡ own_row r) → a.number ≡ b.number
+      by_place : (a b : LoaderRow) → a.name ≡ b.name → Among (own_row a) rows
+          ⊎ (own_row a ≡ own_row r) → Among (own_row b) rows ⊎ (own_row b ≡ own_row r)
+          → a.number ≡ b.number
       by_place a b x (inl m) (inl n) = h.names a b m n x
       by_place a b x (inl m) (inr f) =
           let is = loader-same b r f in
-          absurd (named-among a rows m (ap (λ (y : List ℕ). number_of y rows) (x ∙ ap (λ (l : LoaderRow). l.name) is) ∙ none))
+          absurd (named-among a rows m
+          (ap (λ (y : List ℕ). number_of y rows) (x ∙ ap (λ (l : LoaderRow). l.name) is)
+          ∙ none))
       by_place a b x (inr e) (inl n) =
           let is = loader-same a r e in
-          absurd (named-among b rows n (ap (λ (y : List ℕ). number_of y rows) (sym x ∙ ap (λ (l : LoaderRow). l.name) is) ∙ none))
-      by_place a b x (inr e) (inr f) = ap (λ (l : LoaderRow). l.number) (loader-same a r e ∙ sym (loader-same b r f))
+          absurd (named-among b rows n
+          (ap (λ (y : List ℕ). number_of y rows) (sym x ∙ ap (λ (l : LoaderRow). l.name) is)
+          ∙ none))
+      by_place a b x (inr e) (inr f) =
+          ap (λ (l : LoaderRow). l.number) (loader-same a r e ∙ sym (loader-same b r f))
 
   pub unique-class : (rows : List (Row P)) (r : ClassRow) (k : P) → AreUnique rows
       → AreUnique (rows ++ Class r k ∷ [])
-  unique-class rows r k h = record { names = λ a b m n x. h.names a b (old a (among-push (Loader a) (Class r k) rows m)) (old b (among-push (Loader b) (Class r k) rows n)) x }
+  unique-class rows r k h =
+      record {
+        names = λ a b m n x. h.names a b (old a (among-push (Loader a) (Class r k) rows m))
+            (old b (among-push (Loader b) (Class r k) rows n)) x;
+      }
     where
       old : (a : LoaderRow) → Among (Loader a) rows ⊎ (Loader a ≡ Class r k) → Among (Loader a) rows
       old a (inl m) = m
@@ -225,23 +259,34 @@ module _ {P : Type 0} where
 
   pub unique-without : (u : ℕ) (rows : List (Row P)) → AreUnique rows
       → AreUnique (without_loader u rows)
-  unique-without u rows h = record { names = λ a b m n x. h.names a b (among-filter_from (λ row. not (is_of u row)) (Loader a) rows m).0 (among-filter_from (λ row. not (is_of u row)) (Loader b) rows n).0 x }
+  unique-without u rows h =
+      record {
+        names = λ a b m n x.
+            h.names a b (among-filter_from (λ row. not (is_of u row)) (Loader a) rows m).0
+            (among-filter_from (λ row. not (is_of u row)) (Loader b) rows n).0 x;
+      }
 
   moved-loader : (from to : Chunk) (a : LoaderRow) (rows : List (Row P))
       → Among (Loader a) (moved from to rows) → Among (Loader a) rows
   moved-loader from to a [] m = absurd m
   moved-loader from to a (Loader r ∷ rows) (inl e) = inl e
   moved-loader from to a (Loader r ∷ rows) (inr m) = inr (moved-loader from to a rows m)
-  moved-loader from to a (Class r p ∷ rows) (inl e) = absurd (by_test (same_chunk r.place.chunk from) e)
+  moved-loader from to a (Class r p ∷ rows) (inl e) =
+      absurd (by_test (same_chunk r.place.chunk from) e)
     where
-      by_test : (t : Bool) → Loader a ≡ cond t (Class (record r { place = record r.place { chunk = to } }) p) (Class r p) → ⊥
+      by_test : (t : Bool) → Loader a
+          ≡ cond t (Class (record r { place = record r.place { chunk = to } }) p) (Class r p) → ⊥
       by_test true e = absurd (cc)
       by_test false e = absurd (cc)
   moved-loader from to a (Class r p ∷ rows) (inr m) = inr (moved-loader from to a rows m)
 
   pub unique-moved : (from to : Chunk) (rows : List (Row P)) → AreUnique rows
       → AreUnique (moved from to rows)
-  unique-moved from to rows h = record { names = λ a b m n x. h.names a b (moved-loader from to a rows m) (moved-loader from to b rows n) x }
+  unique-moved from to rows h =
+      record {
+        names = λ a b m n x. h.names a b (moved-loader from to a rows m)
+            (moved-loader from to b rows n) x;
+      }
 
   bare-loader : (a : LoaderRow) (rows : List (Row P)) → Among (Loader a) (bare rows)
       → Among (Loader a) rows
@@ -252,4 +297,5 @@ module _ {P : Type 0} where
   bare-loader a (Class r p ∷ rows) (inr m) = inr (bare-loader a rows m)
 
   pub unique-bare : (rows : List (Row P)) → AreUnique rows → AreUnique (bare rows)
-  unique-bare rows h = record { names = λ a b m n x. h.names a b (bare-loader a rows m) (bare-loader b rows n) x }
+  unique-bare rows h =
+      record { names = λ a b m n x. h.names a b (bare-loader a rows m) (bare-loader b rows n) x }

@@ -51,7 +51,8 @@ pub adds_class : {X : Type 0} (old mid new : BTreeMap ℕ (BTreeMap (Vec ℕ) X)
     → k.items ≡ name → AddsClass old new u name v
 adds_class {X} old mid new u k name v taken more front out grown back named = record {
   each = λ q. ap kept_in (back q)
-      ∙ (ap (λ (o : Option (BTreeMap (Vec ℕ) X)). kept_in (cond (is_at (nat_cmp u) q) (Some more) o)) (out q)
+      ∙ (ap (λ (o : Option (BTreeMap (Vec ℕ) X)). kept_in
+      (cond (is_at (nat_cmp u) q) (Some more) o)) (out q)
       ∙ by_test q (is_at (nat_cmp u) q) (unsigned_tied u q));
 }
   where

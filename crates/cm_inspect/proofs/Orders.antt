@@ -52,7 +52,8 @@ one_more (Class r words) rows old new adds had = record {
 
     by_test : (u : ℕ) (t : Bool)
         → kept_of old.classes u ≡ entries (classes_of listed_shows u (placed rows))
-        → cond t (with_entry (class_name_in words) c (kept_of old.classes u)) (kept_of old.classes u)
+        → cond t (with_entry (class_name_in words) c (kept_of old.classes u))
+        (kept_of old.classes u)
         ≡ entries (cond t (insert (classes_of listed_shows u (placed rows)) (class_name_in words) c)
         (classes_of listed_shows u (placed rows)))
     by_test u true kept =
@@ -99,7 +100,8 @@ loaders_numbered {A} shows all (Loader r ∷ rows) =
     entries-insert nat_list_cmp_total (loaders_among shows all rows) r.name
     (classes_of shows r.number all)
     ∙ (ap (with_entry r.name (classes_of shows r.number all)) (loaders_numbered shows all rows)
-    ∙ (sym (put-map (λ (u : ℕ). classes_of shows u all) r.name r.number (entries (numbers_among rows)))
+    ∙ (sym (put-map (λ (u : ℕ). classes_of shows u all) r.name r.number
+    (entries (numbers_among rows)))
     ∙ ap (map (λ (e : List ℕ × ℕ). (e.0, classes_of shows e.1 all)))
     (sym (entries-insert nat_list_cmp_total (numbers_among rows) r.name r.number))))
 loaders_numbered shows all (Class r c ∷ rows) = loaders_numbered shows all rows
@@ -116,7 +118,8 @@ abbrev pub listed_by : BTreeMap ℕ (BTreeMap (Vec ℕ) ListedClass) → List (L
 listed_by classes numbers =
     map (λ n. (n.0, map (λ (e : List ℕ × ListedClass). e.1) (kept_of classes n.1))) numbers
 
-pub each_same : {A B : Type 0} (f g : A → B) → ((a : A) → f a ≡ g a) → (l : List A) → map f l ≡ map g l
+pub each_same : {A B : Type 0} (f g : A → B) → ((a : A) → f a ≡ g a) → (l : List A)
+    → map f l ≡ map g l
 each_same f g same [] = refl
 each_same f g same (a ∷ l) = λ i. same a i ∷ each_same f g same l i
 
@@ -124,14 +127,17 @@ pub listed : (rows : List (Row (List ℕ))) (g : Gathered) → Gathers rows g
     → listed_by g.classes (by_bytes g.numbers.entries) ≡ listing rows
 listed rows g h =
     ap (listed_by g.classes) h.numbers
-    ∙ (each_same (λ (n : List ℕ × ℕ). (n.0, map (λ (e : List ℕ × ListedClass). e.1) (kept_of g.classes n.1)))
+    ∙ (each_same (λ (n : List ℕ × ℕ).
+    (n.0, map (λ (e : List ℕ × ListedClass). e.1) (kept_of g.classes n.1)))
     (λ (n : List ℕ × ℕ). (n.0, values (classes_of listed_shows n.1 (placed rows))))
-    (λ n. ap (λ (l : List (List ℕ × ListedClass)). (n.0, map (λ (e : List ℕ × ListedClass). e.1) l)) (h.classes n.1))
+    (λ n. ap (λ (l : List (List ℕ × ListedClass)). (n.0, map (λ (e : List ℕ × ListedClass). e.1) l))
+    (h.classes n.1))
     (entries (numbers_among rows))
     ∙ (sym (map-map (λ (l : List ℕ × ByName ListedClass). (l.0, values l.1))
     (λ (n : List ℕ × ℕ). (n.0, classes_of listed_shows n.1 (placed rows)))
     (entries (numbers_among rows)))
     ∙ ap (map (λ (l : List ℕ × ByName ListedClass). (l.0, values l.1)))
     (sym (loaders_numbered listed_shows (placed rows) (placed rows)
-    ∙ ap (λ (m : ByName ℕ). map (λ (n : List ℕ × ℕ). (n.0, classes_of listed_shows n.1 (placed rows))) (entries m))
+    ∙ ap (λ (m : ByName ℕ). map
+    (λ (n : List ℕ × ℕ). (n.0, classes_of listed_shows n.1 (placed rows))) (entries m))
     (same_numbers rows)))))

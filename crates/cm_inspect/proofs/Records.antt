@@ -38,7 +38,8 @@ records_of u (Class r words ∷ rows) = by_test (eqb r.loader u) (records_of u r
     there = classes_of words_show u rows
 
     by_test : (t : Bool) → map (λ e. (e.0, record_of e.1)) (entries here) ≡ entries there
-        → map (λ e. (e.0, record_of e.1)) (entries (cond t (insert here (class_name_in words) c) here))
+        → map (λ e. (e.0, record_of e.1))
+        (entries (cond t (insert here (class_name_in words) c) here))
         ≡ entries (cond t (insert there (class_name_in words) words) there)
     by_test true rest =
         ap (map (λ (e : List ℕ × ListedClass). (e.0, record_of e.1)))
@@ -72,12 +73,15 @@ in_order_numbered {A} shows all rows =
 pub lists_state : ListsState
 lists_state rows =
     ap without_places (in_order_numbered listed_shows (placed rows) (placed rows))
-    ∙ (ap (λ (m : ByName ℕ). without_places (map (λ (n : List ℕ × ℕ). (n.0, values (classes_of listed_shows n.1 (placed rows)))) (entries m)))
+    ∙ (ap (λ (m : ByName ℕ). without_places
+    (map (λ (n : List ℕ × ℕ). (n.0, values (classes_of listed_shows n.1 (placed rows))))
+    (entries m)))
     (same_numbers rows)
     ∙ (map-map (λ (l : List ℕ × List ListedClass). (l.0, map (λ (c : ListedClass). c.class) l.1))
     (λ (n : List ℕ × ℕ). (n.0, values (classes_of listed_shows n.1 (placed rows))))
     (entries (numbers_among rows))
-    ∙ (each_same (λ (n : List ℕ × ℕ). (n.0, map record_of (values (classes_of listed_shows n.1 (placed rows)))))
+    ∙ (each_same (λ (n : List ℕ × ℕ).
+    (n.0, map record_of (values (classes_of listed_shows n.1 (placed rows)))))
     (λ (n : List ℕ × ℕ). (n.0, values (classes_of words_show n.1 rows)))
     (λ n. ap (λ (l : List (List ℕ)). (n.0, l)) (values_without n.1 rows))
     (entries (numbers_among rows))

@@ -53,7 +53,8 @@ escaped_name = refl
 no_cache : fault_line open_fault.NotACache ≡ codes "not a cache" ++ 10 ∷ []
 no_cache = refl
 
-bad_superblock : fault_line (open_fault.Damaged damage.Superblock 0) ≡ codes "damaged 1 0" ++ 10 ∷ []
+bad_superblock : fault_line (open_fault.Damaged damage.Superblock 0)
+    ≡ codes "damaged 1 0" ++ 10 ∷ []
 unfolding digits
 bad_superblock = refl
 

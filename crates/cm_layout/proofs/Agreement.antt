@@ -30,13 +30,15 @@ same_byte at a b e =
 
 -- a record, behind the beginning of the roots
 record_part : (sizes : Sizes) (r : ClassRow) (contents : List ℕ)
-    → take (8 * r.place.words) (drop (record_in_roots sizes r.place) (drop (roots_at sizes) contents))
+    → take (8 * r.place.words)
+    (drop (record_in_roots sizes r.place) (drop (roots_at sizes) contents))
     ≡ part (record_at sizes r.place) (8 * r.place.words) contents
 record_part sizes r contents =
     ap (take (8 * r.place.words))
     (drop-drop (record_in_roots sizes r.place) (roots_at sizes) contents)
 
-same_rows : (sizes : Sizes) (rows : List (Row (List ℕ))) (a b : List ℕ) → needs sizes rows ≤ length b
+same_rows : (sizes : Sizes) (rows : List (Row (List ℕ))) (a b : List ℕ)
+    → needs sizes rows ≤ length b
     → Agree (record_ranges sizes rows) a b
     → AllByRecursion (HoldsRow sizes (drop (roots_at sizes) a)) rows
     → AllByRecursion (HoldsRow sizes (drop (roots_at sizes) b)) rows

@@ -1,8 +1,7 @@
 -- Contents frame rows exactly where they match a framing that is right for them.
-use Rattle.std.proofs.Common.{◌≡◌, ◌≢◌, ℕ, ◌+◌, ◌<◌, ◌≤◌, ◌⊎◌, List, []}
-use Rattle.std.proofs.Common.{◌∷◌, ◌++◌, length, take, drop, get_or, Option, Some, None, inl, inr, refl}
-use Rattle.std.proofs.Common.{sym, ap, subst, ◌∙◌, arith, append_assoc, drop-drop}
-use Rattle.std.proofs.Common.{length-drop, length-take}
+use Rattle.std.proofs.Common.{◌≡◌, ◌≢◌, ℕ, ◌+◌, ◌<◌, ◌≤◌, ◌⊎◌, List, [], ◌∷◌, ◌++◌, length, take}
+use Rattle.std.proofs.Common.{drop, get_or, Option, Some, None, inl, inr, refl, sym, ap, subst, ◌∙◌}
+use Rattle.std.proofs.Common.{arith, append_assoc, drop-drop, length-drop, length-take}
 use Rattle.std.specs.List.{flat_map, AllByRecursion}
 use Rattle.std.proofs.lemmas.List.{take_at, drop_at, take-append-drop, length-append}
 use Rattle.std.proofs.lemmas.List.{get_or-drop, get_or-take, get_or_append_left, take-take}
@@ -17,8 +16,8 @@ use Rattle.cm_layout.specs.Slots.{open_gate, half_head_slot, row_slot}
 use Rattle.cm_layout.specs.Superblock.{superblock_bytes, superblock_front, blank}
 use Rattle.cm_layout.specs.Superblock.{superblock_zeros}
 use Rattle.cm_layout.specs.Rows.{bare}
-use Rattle.cm_layout.specs.Frames.{Frames, Region, region_bytes, Counts, OpenHalf, IsGoodHalf, IsEnd}
-use Rattle.cm_layout.specs.Frames.{IsOlder, HoldsRow, half_bytes, groups_slots}
+use Rattle.cm_layout.specs.Frames.{Frames, Region, region_bytes, Counts, OpenHalf, IsGoodHalf}
+use Rattle.cm_layout.specs.Frames.{IsEnd, IsOlder, HoldsRow, half_bytes, groups_slots}
 use Rattle.cm_layout.specs.Framing.{Framing, IsRight, Matches, HasOlder, IsRightOlder, part, needs}
 use Rattle.cm_layout.specs.Framing.{used_bytes, used_size, open_half, other_half}
 use Rattle.cm_layout.specs.Laws.{IsFramed, FramesAreMatched, MatchesFrame}
@@ -53,10 +52,13 @@ lies sizes contents r bytes count_0 count_1 =
     let sb = superblock_bytes sizes in
     let rest = r.half_0 ++ (r.half_1 ++ r.roots) in
     let size = length-superblock sizes in
-    let zero : drop superblock_size contents ≡ rest = ap (drop superblock_size) bytes ∙ drop_at sb rest superblock_size size in
+    let zero : drop superblock_size contents ≡ rest =
+    ap (drop superblock_size) bytes ∙ drop_at sb rest superblock_size size in
     let one : drop (superblock_size + half_size sizes) contents ≡ r.half_1 ++ r.roots =
-    ap (λ (n : ℕ). drop n contents) (omega arith) ∙ sym (drop-drop (half_size sizes) superblock_size contents)
-    ∙ (ap (drop (half_size sizes)) zero ∙ drop_at r.half_0 (r.half_1 ++ r.roots) (half_size sizes) count_0) in
+    ap (λ (n : ℕ). drop n contents) (omega arith)
+    ∙ sym (drop-drop (half_size sizes) superblock_size contents)
+    ∙ (ap (drop (half_size sizes)) zero
+    ∙ drop_at r.half_0 (r.half_1 ++ r.roots) (half_size sizes) count_0) in
     record {
       front = ap (take superblock_size) bytes ∙ take_at sb rest superblock_size size;
       zero = zero;
@@ -128,7 +130,8 @@ found at size f contents half behind rest there split count end =
     }
 
 -- the other half
-older_of : (sizes : Sizes) (epoch : ℕ) (bytes : List ℕ) → IsOlder sizes epoch bytes → Option HalfHead
+older_of : (sizes : Sizes) (epoch : ℕ) (bytes : List ℕ) → IsOlder sizes epoch bytes
+    → Option HalfHead
 older_of sizes epoch bytes (inl shut) = None
 older_of sizes epoch bytes (inr open_half) = Some open_half.0
 
@@ -172,7 +175,8 @@ half_some : (sizes : Sizes) → IsGeometry sizes → 0 < half_size sizes
 half_some sizes g = omega (arith, g.slots_from)
 
 matched : (sizes : Sizes) (contents : List ℕ) (rows : List (Row (List ℕ))) (n : ℕ)
-    (f : Frames sizes contents rows n) (counting : Half) (half other : List ℕ) (rest behind : List ℕ)
+    (f : Frames sizes contents rows n) (counting : Half) (half other : List ℕ)
+    (rest behind : List ℕ)
     → Lies sizes contents f.region.half_0 f.region.half_1 f.region.roots
     → (c : Counts sizes half other (bare rows) n)
     → drop (half_at sizes counting) contents ≡ half ++ rest → length half ≡ half_size sizes
@@ -180,10 +184,12 @@ matched : (sizes : Sizes) (contents : List ℕ) (rows : List (Row (List ℕ))) (
     → length other ≡ half_size sizes
     → IsFramed sizes contents rows n
 unfolding framing_of
-matched sizes contents rows n f counting half other rest behind parts c there count beside other_count =
+matched sizes contents rows n f counting half other rest behind parts c there count beside
+    other_count =
     let older = older_of sizes c.half.head.epoch other c.older in
     let framing = framing_of counting c.half older in
-    let here = found (half_at sizes counting) (half_size sizes) framing contents half c.half.behind rest
+    let here =
+    found (half_at sizes counting) (half_size sizes) framing contents half c.half.behind rest
     there (c.bytes ∙ half_split counting c.half older) count c.good.end in
     let some : 0 < length other = omega (arith, other_count, half_some sizes f.lawful) in
     let second = older_found sizes c.half.head.epoch (half_at sizes (other_half counting)) contents
@@ -222,7 +228,8 @@ frames_are_matched sizes contents rows n f =
         → IsFramed sizes contents rows n
     by_half (inl c) =
         matched sizes contents rows n f Zero f.region.half_0 f.region.half_1
-        (f.region.half_1 ++ f.region.roots) f.region.roots parts c parts.zero f.half_0 parts.one f.half_1
+        (f.region.half_1 ++ f.region.roots) f.region.roots parts c parts.zero f.half_0
+        parts.one f.half_1
     by_half (inr c) =
         matched sizes contents rows n f One f.region.half_1 f.region.half_0 f.region.roots
         (f.region.half_1 ++ f.region.roots) parts c parts.one f.half_1 parts.zero f.half_0
@@ -236,7 +243,8 @@ region_of sizes contents = record {
   roots = drop (roots_at sizes) contents;
 }
 
-joined_parts : (sizes : Sizes) (contents : List ℕ) → take superblock_size contents ≡ superblock_bytes sizes
+joined_parts : (sizes : Sizes) (contents : List ℕ) → take superblock_size contents
+    ≡ superblock_bytes sizes
     → contents ≡ region_bytes sizes (region_of sizes contents)
 unfolding region_of
 joined_parts sizes contents front =
@@ -246,7 +254,8 @@ joined_parts sizes contents front =
     let second : drop half one ≡ two =
     drop-drop half superblock_size contents ∙ ap (λ (n : ℕ). drop n contents) (omega arith) in
     let third : drop half two ≡ drop (roots_at sizes) contents =
-    drop-drop half (superblock_size + half) contents ∙ ap (λ (n : ℕ). drop n contents) (omega arith) in
+    drop-drop half (superblock_size + half) contents
+    ∙ ap (λ (n : ℕ). drop n contents) (omega arith) in
     sym (take-append-drop superblock_size contents)
     ∙ (ap (λ (l : List ℕ). l ++ one) front
     ∙ ap (λ (l : List ℕ). superblock_bytes sizes ++ l)
@@ -280,10 +289,16 @@ half_back sizes f at contents long fits used end =
       sym (take-append-drop (used_size f) half) ∙ ap (λ (l : List ℕ). l ++ behind) front,
       end_from behind (λ some.
           let goes_on : used_size f < half_size sizes =
-          omega (arith, some, length-drop (used_size f) half, part_long at (half_size sizes) contents long) in
+          omega (
+            arith,
+            some,
+            length-drop (used_size f) half,
+            part_long at (half_size sizes) contents long,
+          ) in
           let byte : get_or behind 0 0 ≡ get_or contents (at + used_size f) 0 =
           get_or-drop (used_size f) half 0 0
-          ∙ (get_or-take (half_size sizes) (drop at contents) (used_size f + 0) 0 (omega (arith, goes_on))
+          ∙ (get_or-take (half_size sizes) (drop at contents) (used_size f + 0) 0
+          (omega (arith, goes_on))
           ∙ (get_or-drop at contents (used_size f + 0) 0
           ∙ ap (λ (i : ℕ). get_or contents i 0) (omega arith))) in
           λ is_open. end goes_on (sym byte ∙ is_open)),
@@ -321,7 +336,8 @@ counts_back : (sizes : Sizes) (f : Framing) (rows : List (Row (List ℕ))) (n : 
     → IsOlder sizes f.head.epoch other → Counts sizes half other (bare rows) n
 unfolding framing_of
 counts_back sizes f rows n half other right split older =
-    let h : OpenHalf = record { head = f.head; live = f.live; groups = f.groups; behind = split.0 } in
+    let h : OpenHalf =
+    record { head = f.head; live = f.live; groups = f.groups; behind = split.0 } in
     record {
       half = h;
       bytes = split.1 ∙ sym (half_split f.counting h f.older);
@@ -345,7 +361,8 @@ matches_frame sizes contents rows n framed =
       region = region_of sizes contents;
       bytes = joined_parts sizes contents m.superblock;
       half_0 = part_long superblock_size (half_size sizes) contents (omega (arith, long));
-      half_1 = part_long (superblock_size + half_size sizes) (half_size sizes) contents (omega (arith, long));
+      half_1 = part_long (superblock_size + half_size sizes) (half_size sizes) contents
+          (omega (arith, long));
       counts = by_half framed.framing right m;
       records = m.records;
       apart = right.apart;
@@ -379,20 +396,26 @@ matches_frame sizes contents rows n framed =
             inl (counts_back sizes f rows n (part superblock_size (half_size sizes) contents)
             (part (superblock_size + half_size sizes) (half_size sizes) contents) r
             (half_back sizes f superblock_size contents (omega (arith, long)) r.fits
-            (subst (λ (h : Half). part (half_at sizes h) (used_size f) contents ≡ used_bytes f) is k.used)
+            (subst (λ (h : Half). part (half_at sizes h) (used_size f) contents
+            ≡ used_bytes f) is k.used)
             (subst (λ (h : Half). used_size f < half_size sizes
             → get_or contents (half_at sizes h + used_size f) 0 ≢ open_gate) is k.end))
-            (older_back sizes f.head.epoch (superblock_size + half_size sizes) f.older contents slots
-            (subst (λ (h : Half). HasOlder (half_at sizes (other_half h)) f.older contents) is k.other)
+            (older_back sizes f.head.epoch (superblock_size + half_size sizes) f.older
+            contents slots
+            (subst (λ (h : Half). HasOlder (half_at sizes (other_half h)) f.older contents)
+            is k.other)
             r.older))
         by_counting One is =
             inr (counts_back sizes f rows n
             (part (superblock_size + half_size sizes) (half_size sizes) contents)
             (part superblock_size (half_size sizes) contents) r
-            (half_back sizes f (superblock_size + half_size sizes) contents (omega (arith, long)) r.fits
-            (subst (λ (h : Half). part (half_at sizes h) (used_size f) contents ≡ used_bytes f) is k.used)
+            (half_back sizes f (superblock_size + half_size sizes) contents
+            (omega (arith, long)) r.fits
+            (subst (λ (h : Half). part (half_at sizes h) (used_size f) contents
+            ≡ used_bytes f) is k.used)
             (subst (λ (h : Half). used_size f < half_size sizes
             → get_or contents (half_at sizes h + used_size f) 0 ≢ open_gate) is k.end))
             (older_back sizes f.head.epoch superblock_size f.older contents slots
-            (subst (λ (h : Half). HasOlder (half_at sizes (other_half h)) f.older contents) is k.other)
+            (subst (λ (h : Half). HasOlder (half_at sizes (other_half h)) f.older contents)
+            is k.other)
             r.older))

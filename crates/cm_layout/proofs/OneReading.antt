@@ -68,7 +68,8 @@ slot_count (entry.Move e) fits = refl
 first_slot : (d e : BareEntry) (x y : List ℕ) → FitsEntry d → FitsEntry e
     → entry_slot d ++ x ≡ entry_slot e ++ y → (d ≡ e) × (x ≡ y)
 first_slot d e x y fd fe h =
-    let p = same_parts (entry_slot d) (entry_slot e) x y (slot_count d fd ∙ sym (slot_count e fe)) h in
+    let p = same_parts (entry_slot d) (entry_slot e) x y
+    (slot_count d fd ∙ sym (slot_count e fe)) h in
     (same_entry d e fd fe p.0, p.1)
 
 abbrev live_of : BareEntry → BareRow → BareRow
@@ -86,7 +87,8 @@ same_rows sizes base p q [] [] x y kx ky count h = (refl, h)
 same_rows sizes base p q [] (s ∷ ys) x y kx ky count h = absurd (omega (arith, count))
 same_rows sizes base p q (r ∷ xs) [] x y kx ky count h = absurd (omega (arith, count))
 same_rows sizes base p q (r ∷ xs) (s ∷ ys) x y kx ky count h =
-    let apart : row_slot r ++ (flat_map row_slot xs ++ x) ≡ row_slot s ++ (flat_map row_slot ys ++ y) =
+    let apart : row_slot r ++ (flat_map row_slot xs ++ x) ≡ row_slot s
+    ++ (flat_map row_slot ys ++ y) =
     sym (append_assoc (row_slot r) (flat_map row_slot xs) x) ∙ h
     ∙ append_assoc (row_slot s) (flat_map row_slot ys) y in
     let first = first_slot (entry.Live r) (entry.Live s) (flat_map row_slot xs ++ x)
@@ -103,15 +105,19 @@ some_slots (entry.Live r) = omega arith
 some_slots (entry.Unload e) = omega arith
 some_slots (entry.Move e) = omega arith
 
-same_entries : (sizes : Sizes) (n m : ℕ) (p q : List BareRow) (xs ys : List BareEntry) (x y : List ℕ)
+same_entries : (sizes : Sizes) (n m : ℕ) (p q : List BareRow) (xs ys : List BareEntry)
+    (x y : List ℕ)
     → EntriesKeep sizes p n xs → EntriesKeep sizes q m ys
     → slots_of_entries xs ≡ slots_of_entries ys
     → flat_map entry_slot xs ++ x ≡ flat_map entry_slot ys ++ y → (xs ≡ ys) × (x ≡ y)
 same_entries sizes n m p q [] [] x y kx ky count h = (refl, h)
-same_entries sizes n m p q [] (d ∷ ys) x y kx ky count h = absurd (omega (arith, count, some_slots d))
-same_entries sizes n m p q (e ∷ xs) [] x y kx ky count h = absurd (omega (arith, count, some_slots e))
+same_entries sizes n m p q [] (d ∷ ys) x y kx ky count h =
+    absurd (omega (arith, count, some_slots d))
+same_entries sizes n m p q (e ∷ xs) [] x y kx ky count h =
+    absurd (omega (arith, count, some_slots e))
 same_entries sizes n m p q (e ∷ xs) (d ∷ ys) x y kx ky count h =
-    let apart : entry_slot e ++ (flat_map entry_slot xs ++ x) ≡ entry_slot d ++ (flat_map entry_slot ys ++ y) =
+    let apart : entry_slot e ++ (flat_map entry_slot xs ++ x) ≡ entry_slot d
+    ++ (flat_map entry_slot ys ++ y) =
     sym (append_assoc (entry_slot e) (flat_map entry_slot xs) x) ∙ h
     ∙ append_assoc (entry_slot d) (flat_map entry_slot ys) y in
     let first = first_slot e d (flat_map entry_slot xs ++ x) (flat_map entry_slot ys ++ y) kx.0 ky.0
@@ -190,7 +196,8 @@ same_half sizes h g kh kg e =
     kh.live live_g count head.1 in
     let groups_g : GroupsKeep sizes h.live h.head.base g.groups =
     subst (λ (b : ℕ). GroupsKeep sizes h.live b g.groups) (sym base)
-    (subst (λ (l : List BareRow). GroupsKeep sizes l g.head.base g.groups) (sym live.0) kg.groups) in
+    (subst (λ (l : List BareRow). GroupsKeep sizes l g.head.base g.groups) (sym live.0)
+    kg.groups) in
     let from_here : groups_slots h.head.base h.groups ++ h.behind
     ≡ groups_slots h.head.base g.groups ++ g.behind =
     live.1 ∙ (λ i. groups_slots (sym base i) g.groups ++ g.behind) in

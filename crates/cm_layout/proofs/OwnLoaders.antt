@@ -1,4 +1,5 @@
--- Live rows that keep the rules: their loaders differ, have numbers of the past, and own each class.
+-- Live rows that keep the rules: their loaders differ, have numbers of the past, and own each
+-- class.
 use Rattle.std.proofs.Common.{◌≡◌, ℕ, ◌<◌, ◌≤◌, Bool, true, false, cond, List, [], ◌∷◌, ◌++◌}
 use Rattle.std.proofs.Common.{Option, Some, None, inl, inr, refl, sym, subst, ◌∙◌, ap, arith}
 use Rattle.std.proofs.Common.{append_assoc, eqb, is_some, is_none}
@@ -71,7 +72,8 @@ number-more x pre row h =
     ap is_some (number_of-append x pre (row ∷ []))
     ∙ some_first (number_of x pre) (number_of x (row ∷ [])) h
 
-live-more : (u : ℕ) (pre more : List BareRow) → is_live u pre ≡ true → is_live u (pre ++ more) ≡ true
+live-more : (u : ℕ) (pre more : List BareRow) → is_live u pre ≡ true
+    → is_live u (pre ++ more) ≡ true
 live-more u pre more h =
     ap is_some (name_of-append u pre more) ∙ some_first (name_of u pre) (name_of u more) h
 
@@ -138,17 +140,20 @@ number-apart : (sizes : Sizes) (n : ℕ) (pre rows : List BareRow) (u : ℕ)
 number-apart sizes n pre [] u k had = refl
 number-apart sizes n pre (Loader r ∷ rows) u k had =
     by_test (eqb r.number u) refl
-    (number-apart sizes n (pre ++ Loader r ∷ []) rows u k.2 (numbers-among u pre (Loader r ∷ []) had))
+    (number-apart sizes n (pre ++ Loader r ∷ []) rows u k.2
+    (numbers-among u pre (Loader r ∷ []) had))
   where
     by_test : (t : Bool) → eqb r.number u ≡ t → name_of u rows ≡ None
         → cond t (Some r.name) (name_of u rows) ≡ None
     by_test true is rest =
         let same = eqb-true r.number u is in
-        let above = all-among r.number (numbers_in pre) u (loader_keeps sizes n pre r k.1).above had in
+        let above =
+        all-among r.number (numbers_in pre) u (loader_keeps sizes n pre r k.1).above had in
         absurd (omega (arith, same, above))
     by_test false is rest = rest
 number-apart sizes n pre (Class r p ∷ rows) u k had =
-    number-apart sizes n (pre ++ Class r p ∷ []) rows u k.2 (numbers-among u pre (Class r p ∷ []) had)
+    number-apart sizes n (pre ++ Class r p ∷ []) rows u k.2
+    (numbers-among u pre (Class r p ∷ []) had)
 
 differ : (sizes : Sizes) (n : ℕ) (pre rows : List BareRow) → LiveRowsKeep sizes n pre rows
     → LoadersDiffer rows
@@ -180,7 +185,8 @@ named sizes n pre (Loader r ∷ rows) k u x e =
     by_test : (t : Bool) → (name_of u rows ≡ Some x → is_loader_name x ≡ true)
         → cond t (Some r.name) (name_of u rows) ≡ Some x → is_loader_name x ≡ true
     by_test true rest h =
-        subst (λ (y : List ℕ). is_loader_name y ≡ true) (own x h) (loader_keeps sizes n pre r k.1).name
+        subst (λ (y : List ℕ). is_loader_name y ≡ true) (own x h)
+        (loader_keeps sizes n pre r k.1).name
     by_test false rest h = rest h
 named sizes n pre (Class r p ∷ rows) k u x e = named sizes n (pre ++ Class r p ∷ []) rows k.2 u x e
 
@@ -192,7 +198,8 @@ owned sizes n pre (Loader s ∷ rows) k r m =
     (owned sizes n (pre ++ Loader s ∷ []) rows k.2 r m)
 owned sizes n pre (Class s p ∷ rows) k r (inl e) =
     live-more r.loader pre (Class s p ∷ rows)
-    (subst (λ (t : ClassRow). is_live t.loader pre ≡ true) (sym e) (class_keeps sizes pre s k.1).live)
+    (subst (λ (t : ClassRow). is_live t.loader pre ≡ true) (sym e)
+    (class_keeps sizes pre s k.1).live)
 owned sizes n pre (Class s p ∷ rows) k r (inr m) =
     subst (λ (l : List BareRow). is_live r.loader l ≡ true) (append_assoc pre (Class s p ∷ []) rows)
     (owned sizes n (pre ++ Class s p ∷ []) rows k.2 r m)

@@ -72,7 +72,8 @@ not_same c d differ = by_test (same_chunk c d) refl
 
 -- ---- the rules in parts
 
-pub record LoaderKeeps (sizes : Sizes) (base : ℕ) (pre : List BareRow) (r : LoaderRow) : Type 0 where
+pub record LoaderKeeps (sizes : Sizes) (base : ℕ) (pre : List BareRow)
+    (r : LoaderRow) : Type 0 where
   pub from : nat_le 1 r.number ≡ true
   pub to : nat_le r.number base ≡ true
   pub above : list_all (λ u. nat_lt u r.number) (numbers_in pre) ≡ true
@@ -216,7 +217,8 @@ numbers-without p u (Loader r ∷ rows) h =
         → list_all p (numbers_in
         (cond (not t) (Loader r ∷ without_loader u rows) (without_loader u rows))) ≡ true
     by_test true one rest = rest
-    by_test false one rest = and_true (p r.number) (list_all p (numbers_in (without_loader u rows))) one rest
+    by_test false one rest =
+        and_true (p r.number) (list_all p (numbers_in (without_loader u rows))) one rest
 numbers-without p u (Class r c ∷ rows) h = by_test (eqb r.loader u) (numbers-without p u rows h)
   where
     by_test : (t : Bool) → list_all p (numbers_in (without_loader u rows)) ≡ true
@@ -263,7 +265,11 @@ room-without : (sizes : Sizes) (u : ℕ) (pre : List BareRow) (row : BareRow)
     → has_room sizes pre row ≡ true → has_room sizes (without_loader u pre) row ≡ true
 room-without sizes u pre row h =
     le-leb (slots_of_rows (without_loader u pre) + slots_of_row row) (row_limit sizes)
-    (omega (arith, slots-without u pre, leb-true (slots_of_rows pre + slots_of_row row) (row_limit sizes) h))
+    (omega (
+      arith,
+      slots-without u pre,
+      leb-true (slots_of_rows pre + slots_of_row row) (row_limit sizes) h,
+    ))
 
 live-without : (v u : ℕ) (rows : List BareRow) → (v ≡ u → ⊥) → is_some (name_of v rows) ≡ true
     → is_some (name_of v (without_loader u rows)) ≡ true
@@ -330,7 +336,10 @@ last-without v u (Class r c ∷ rows) other =
         (not_eqb r.loader v (λ e. other (sym e ∙ loader))) in
         rest ∙ sym behind
     by_test false is rest =
-        ap (λ (o : Option Chunk). elim o [ Some d ↦ Some d | None ↦ cond (eqb r.loader v) (Some r.place.chunk) None ]) rest
+        ap (λ (o : Option Chunk). elim o [
+          | Some d ↦ Some d
+          | None ↦ cond (eqb r.loader v) (Some r.place.chunk) None
+        ]) rest
 
 -- rows on a chunk that has none of the loader's
 on : Chunk → List ClassRow → List ClassRow
@@ -519,7 +528,8 @@ numbers-moved from to (Class r p ∷ rows) =
     by_test (same_chunk r.place.chunk from) (numbers-moved from to rows)
   where
     by_test : (t : Bool) → numbers_in (moved from to rows) ≡ numbers_in rows
-        → numbers_in (cond t (Class (record r { place = record r.place { chunk = to } }) p) (Class r p)
+        → numbers_in (cond t (Class (record r { place = record r.place { chunk = to } }) p)
+        (Class r p)
         ∷ moved from to rows) ≡ numbers_in rows
     by_test true rest = rest
     by_test false rest = rest
@@ -533,7 +543,8 @@ new-moved x from to (Class r p ∷ rows) =
     by_test (same_chunk r.place.chunk from) (new-moved x from to rows)
   where
     by_test : (t : Bool) → number_of x (moved from to rows) ≡ number_of x rows
-        → number_of x (cond t (Class (record r { place = record r.place { chunk = to } }) p) (Class r p)
+        → number_of x (cond t (Class (record r { place = record r.place { chunk = to } }) p)
+        (Class r p)
         ∷ moved from to rows) ≡ number_of x rows
     by_test true rest = rest
     by_test false rest = rest
@@ -547,7 +558,8 @@ name-moved u from to (Class r p ∷ rows) =
     by_test (same_chunk r.place.chunk from) (name-moved u from to rows)
   where
     by_test : (t : Bool) → name_of u (moved from to rows) ≡ name_of u rows
-        → name_of u (cond t (Class (record r { place = record r.place { chunk = to } }) p) (Class r p)
+        → name_of u (cond t (Class (record r { place = record r.place { chunk = to } }) p)
+        (Class r p)
         ∷ moved from to rows) ≡ name_of u rows
     by_test true rest = rest
     by_test false rest = rest
@@ -566,8 +578,13 @@ last-moved v from to (r ∷ classes) =
     (last-moved v from to classes)
   where
     by_rest : (p o : Option Chunk) → p ≡ option_map (there from to) o
-        → elim p [ Some d ↦ Some d | None ↦ cond (eqb (moved_class from to r).loader v) (Some (moved_class from to r).place.chunk) None ]
-        ≡ option_map (there from to) (elim o [ Some d ↦ Some d | None ↦ cond (eqb r.loader v) (Some r.place.chunk) None ])
+        → elim p [
+          | Some d ↦ Some d
+          | None ↦ cond (eqb (moved_class from to r).loader v)
+              (Some (moved_class from to r).place.chunk) None
+        ]
+        ≡ option_map (there from to)
+        (elim o [ Some d ↦ Some d | None ↦ cond (eqb r.loader v) (Some r.place.chunk) None ])
     by_rest p (Some d) e = rw e refl
     by_rest p None e =
         rw e (rw (class_loader from to r) (rw (class_there from to r) (by_test (eqb r.loader v))))
@@ -592,18 +609,22 @@ words-elsewhere c from to (r ∷ classes) f t =
   where
     by_test : (s : Bool) → same_chunk r.place.chunk from ≡ s
         → words_on c (map (moved_class from to) classes) ≡ words_on c classes
-        → words_on c (cond s (record r { place = record r.place { chunk = to } }) r ∷ map (moved_class from to) classes)
+        → words_on c (cond s (record r { place = record r.place { chunk = to } }) r
+        ∷ map (moved_class from to) classes)
         ≡ words_on c (r ∷ classes)
     by_test true is rest =
         let here : same_chunk r.place.chunk c ≡ false =
-        subst (λ (d : Chunk). same_chunk d c ≡ false) (sym (same_chunk-true r.place.chunk from is)) f in
+        subst (λ (d : Chunk). same_chunk d c ≡ false)
+        (sym (same_chunk-true r.place.chunk from is)) f in
         rw t (rw here rest)
     by_test false is rest =
         by_chunk (same_chunk r.place.chunk c)
       where
         by_chunk : (q : Bool)
             → map (λ (d : ClassRow). d.place.words) (cond q (r ∷ filter
-            (λ (d : ClassRow). same_chunk d.place.chunk c) (map (moved_class from to) classes)) (filter (λ (d : ClassRow). same_chunk d.place.chunk c) (map (moved_class from to) classes)))
+            (λ (d : ClassRow). same_chunk d.place.chunk c) (map (moved_class from to) classes))
+            (filter (λ (d : ClassRow). same_chunk d.place.chunk c)
+            (map (moved_class from to) classes)))
             ≡ map (λ (d : ClassRow). d.place.words) (cond q (r ∷ filter
             (λ (d : ClassRow). same_chunk d.place.chunk c) classes) (filter
             (λ (d : ClassRow). same_chunk d.place.chunk c) classes))
@@ -613,7 +634,8 @@ words-elsewhere c from to (r ∷ classes) f t =
 same-itself : (c : Chunk) → same_chunk c c ≡ true
 same-itself c = and_true (eqb c.root c.root) (eqb c.order c.order && eqb c.at c.at)
     (eq-eqb c.root c.root refl)
-    (and_true (eqb c.order c.order) (eqb c.at c.at) (eq-eqb c.order c.order refl) (eq-eqb c.at c.at refl))
+    (and_true (eqb c.order c.order) (eqb c.at c.at) (eq-eqb c.order c.order refl)
+    (eq-eqb c.at c.at refl))
 
 words-onto : (from to : Chunk) (classes : List ClassRow)
     → ((s : ClassRow) → Among s classes → same_chunk s.place.chunk to ≡ false)
@@ -626,7 +648,9 @@ words-onto from to (r ∷ classes) none =
     by_test : (s : Bool)
         → words_on to (map (moved_class from to) classes) ≡ words_on from classes
         → map (λ (d : ClassRow). d.place.words) (filter
-        (λ (d : ClassRow). same_chunk d.place.chunk to) (cond s (record r { place = record r.place { chunk = to } }) r ∷ map (moved_class from to) classes))
+        (λ (d : ClassRow). same_chunk d.place.chunk to)
+        (cond s (record r { place = record r.place { chunk = to } }) r
+        ∷ map (moved_class from to) classes))
         ≡ map (λ (d : ClassRow). d.place.words) (cond s (r ∷ filter
         (λ (d : ClassRow). same_chunk d.place.chunk from) classes) (filter
         (λ (d : ClassRow). same_chunk d.place.chunk from) classes))
@@ -669,7 +693,8 @@ none_moved from to (r ∷ classes) h =
         → map (moved_class from to) classes ≡ classes)
         → (s q : Bool) → same_chunk r.place.chunk from ≡ s → meets from r.place.chunk ≡ q
         → not (q || list_any (meets from) (map (λ (d : ClassRow). d.place.chunk) classes)) ≡ true
-        → cond s (record r { place = record r.place { chunk = to } }) r ∷ map (moved_class from to) classes
+        → cond s (record r { place = record r.place { chunk = to } }) r
+        ∷ map (moved_class from to) classes
         ≡ r ∷ classes
     by_test rest s true is met free = absurd (cc)
     by_test rest true false is met free =
@@ -737,7 +762,8 @@ same-turned : (c d : Chunk) → same_chunk c d ≡ false → same_chunk d c ≡ 
 same-turned c d differ = not_same d c (λ e. no_both
     (subst (λ (x : Chunk). same_chunk c x ≡ true) (sym e) (same-itself c)) differ)
 
-used-words : (c : Chunk) (rows : List BareRow) → used_words c rows ≡ sum (words_on c (classes_in rows))
+used-words : (c : Chunk) (rows : List BareRow)
+    → used_words c rows ≡ sum (words_on c (classes_in rows))
 unfolding words_on
 used-words c rows = refl
 
@@ -760,7 +786,8 @@ last_there from to None h = absurd (cc)
 last_there from to (Some l) h = rw h (same-itself to)
 
 last_chunk-moved : (v : ℕ) (from to : Chunk) (rows : List BareRow)
-    → last_chunk v (classes_in (moved from to rows)) ≡ option_map (there from to) (last_chunk v (classes_in rows))
+    → last_chunk v (classes_in (moved from to rows))
+    ≡ option_map (there from to) (last_chunk v (classes_in rows))
 last_chunk-moved v from to rows =
     ap (last_chunk v) (classes_in-moved from to rows) ∙ last-moved v from to (classes_in rows)
 
@@ -780,7 +807,8 @@ place-kept from to pre r differ apart h =
     elim (either (on_last && behind) (front && unused) h) [
       | inl last ↦
           let parts = both on_last behind last in
-          let stays = last_kept chunk from to (last_chunk r.loader (classes_in pre)) differ parts.0 in
+          let stays =
+          last_kept chunk from to (last_chunk r.loader (classes_in pre)) differ parts.0 in
           let last' : on_last' ≡ true =
           subst (λ (o : Option Chunk). option_map_or (λ d. same_chunk d chunk) o false ≡ true)
           (sym (last_chunk-moved r.loader from to pre)) stays in
@@ -821,7 +849,8 @@ place-onto from to pre r is none h =
     let behind' = eqb r.place.offset (used_words to (moved from to pre)) in
     let unused' = is_unused to (moved from to pre) in
     let here : ((on_last && behind) || (front && unused)) ≡ true =
-    subst (λ (c : Chunk). ((is_last_chunk r.loader c pre && eqb r.place.offset (used_words c pre)) || (front && is_unused c pre)) ≡ true) is h in
+    subst (λ (c : Chunk). ((is_last_chunk r.loader c pre && eqb r.place.offset (used_words c pre))
+    || (front && is_unused c pre)) ≡ true) is h in
     elim (either (on_last && behind) (front && unused) here) [
       | inl last ↦
           let parts = both on_last behind last in
@@ -882,7 +911,8 @@ begins_behind pre r h =
     let unused = is_unused r.place.chunk pre in
     elim (either (on_last && behind) (front && unused) h) [
       | inl last ↦
-          let e = eqb-true r.place.offset (used_words r.place.chunk pre) (both on_last behind last).1 in
+          let e = eqb-true r.place.offset (used_words r.place.chunk pre)
+          (both on_last behind last).1 in
           omega (arith, e)
       | inr new ↦
           let e = eqb-true r.place.offset 0 (both front unused new).0 in omega (arith, e)
@@ -971,7 +1001,8 @@ meets-none to pre r none one s m =
 loader-none : (to : Chunk) (pre : List BareRow) (r : LoaderRow) → NoneMeets to (classes_in pre)
     → NoneMeets to (classes_in (pre ++ Loader r ∷ []))
 loader-none to pre r none =
-    subst (NoneMeets to) (sym (classes_in-append pre (Loader r ∷ []) ∙ append-nil (classes_in pre))) none
+    subst (NoneMeets to) (sym (classes_in-append pre (Loader r ∷ []) ∙ append-nil (classes_in pre)))
+    none
 
 later-none : (to : Chunk) (r : ClassRow) (classes : List ClassRow) → NoneMeets to (r ∷ classes)
     → NoneMeets to classes
@@ -1007,26 +1038,30 @@ stay-moved sizes base from to pre (Class r p ∷ rows) fits lawful none later sm
     class-onto-row : same_chunk r.place.chunk from ≡ true
         → broken_live_rule sizes base (moved from to pre)
         (Class (record r { place = record r.place { chunk = to } }) (tt {0})) ≡ None
-    class-onto-row is = class-onto' sizes base from to pre rows r (same_chunk-true r.place.chunk from is)
+    class-onto-row is =
+        class-onto' sizes base from to pre rows r (same_chunk-true r.place.chunk from is)
         none lawful small k.1
 
     by_test : (t : Bool) → same_chunk r.place.chunk from ≡ t
         → LiveRowsKeep sizes base (moved from to pre ++ moved_row from to (Class r (tt {0})) ∷ [])
         (moved from to rows)
         → LiveRowsKeep sizes base (moved from to pre)
-        (cond t (Class (record r { place = record r.place { chunk = to } }) (tt {0})) (Class r (tt {0}))
+        (cond t (Class (record r { place = record r.place { chunk = to } }) (tt {0}))
+        (Class r (tt {0}))
         ∷ moved from to rows)
     by_test true is rest = (
       record { words = k.0.words; loader = k.0.loader; chunk = fits; offset = k.0.offset },
       class-onto-row is,
-      subst (λ (x : BareRow). LiveRowsKeep sizes base (moved from to pre ++ x ∷ []) (moved from to rows))
+      subst (λ (x : BareRow). LiveRowsKeep sizes base (moved from to pre ++ x ∷ [])
+          (moved from to rows))
           (rw is refl) rest,
     )
     by_test false is rest = (
       k.0,
       class-kept sizes base from to pre r is
           (none-of to (r ∷ classes_in rows) later r (inl refl)) k.1,
-      subst (λ (x : BareRow). LiveRowsKeep sizes base (moved from to pre ++ x ∷ []) (moved from to rows))
+      subst (λ (x : BareRow). LiveRowsKeep sizes base (moved from to pre ++ x ∷ [])
+          (moved from to rows))
           (rw is refl) rest,
     )
 
@@ -1048,9 +1083,12 @@ numbers-past : (sizes : Sizes) (n : ℕ) (pre rows : List BareRow) → LiveRowsK
     → AreBelow n (numbers_in rows)
 unfolding AreBelow
 numbers-past sizes n pre [] k = tt
-numbers-past sizes n pre (Loader r ∷ rows) k =
-    (leb-true r.number n (loader_keeps sizes n pre r k.1).to, numbers-past sizes n (pre ++ Loader r ∷ []) rows k.2)
-numbers-past sizes n pre (Class r p ∷ rows) k = numbers-past sizes n (pre ++ Class r p ∷ []) rows k.2
+numbers-past sizes n pre (Loader r ∷ rows) k = (
+  leb-true r.number n (loader_keeps sizes n pre r k.1).to,
+  numbers-past sizes n (pre ++ Loader r ∷ []) rows k.2,
+)
+numbers-past sizes n pre (Class r p ∷ rows) k =
+    numbers-past sizes n (pre ++ Class r p ∷ []) rows k.2
 
 below_all : (n : ℕ) (numbers : List ℕ) → AreBelow n numbers
     → list_all (λ u. nat_lt u (n + 1)) numbers ≡ true
@@ -1086,10 +1124,12 @@ pub entry-live : (sizes : Sizes) (rows : List BareRow) (n : ℕ) (e : BareEntry)
     → AreApart (classes_in rows) → LiveRowsKeep sizes n [] rows → FitsEntry e
     → broken_rule sizes rows (n + 1) e ≡ None → LiveRowsKeep sizes (n + 1) [] (rows_after rows e)
 entry-live sizes rows n (entry.Live (Loader r)) apart k fits h =
-    live-append sizes (n + 1) [] rows (Loader r) (live-higher sizes n (n + 1) [] rows (omega arith) k)
+    live-append sizes (n + 1) [] rows (Loader r)
+    (live-higher sizes n (n + 1) [] rows (omega arith) k)
     fits (loader-live sizes n rows r k h)
 entry-live sizes rows n (entry.Live (Class r p)) apart k fits h =
-    live-append sizes (n + 1) [] rows (Class r p) (live-higher sizes n (n + 1) [] rows (omega arith) k)
+    live-append sizes (n + 1) [] rows (Class r p)
+    (live-higher sizes n (n + 1) [] rows (omega arith) k)
     fits h
 entry-live sizes rows n (entry.Unload e) apart k fits h =
     stay-without sizes (n + 1) e.loader [] rows none_apart
@@ -1099,9 +1139,11 @@ entry-live sizes rows n (entry.Move e) apart k fits h =
     let lawful = is_chunk sizes e.to in
     let unused = is_unused e.to rows in
     let room = nat_le (used_words e.from rows) (chunk_size e.to.order) in
-    let parts = both (last && lawful && unused) room (rule_kept (move_fits sizes rows e) OnChunks h) in
+    let parts =
+    both (last && lawful && unused) room (rule_kept (move_fits sizes rows e) OnChunks h) in
     let front = both (last && lawful) unused parts.0 in
-    stay-moved sizes (n + 1) e.from e.to [] rows fits.to (both last lawful front.0).1 (none_at_all e.to)
+    stay-moved sizes (n + 1) e.from e.to [] rows fits.to (both last lawful front.0).1
+    (none_at_all e.to)
     (none_meets e.to (classes_in rows) front.1)
     (leb-true (used_words e.from rows) (chunk_size e.to.order) parts.1)
     (live-higher sizes n (n + 1) [] rows (omega arith) k)
@@ -1112,9 +1154,11 @@ entries-live : (sizes : Sizes) (rows : List BareRow) (n : ℕ) (entries : List B
 entries-live sizes rows n [] apart k keep =
     subst (λ (m : ℕ). LiveRowsKeep sizes m [] rows) (omega arith) k
 entries-live sizes rows n (e ∷ entries) apart k keep =
-    subst (λ (m : ℕ). LiveRowsKeep sizes m [] (rows_after_all (rows_after rows e) entries)) (omega arith)
+    subst (λ (m : ℕ). LiveRowsKeep sizes m [] (rows_after_all (rows_after rows e) entries))
+    (omega arith)
     (entries-live sizes (rows_after rows e) (n + 1) entries
-    (entry-apart sizes rows (n + 1) e apart keep.1) (entry-live sizes rows n e apart k keep.0 keep.1)
+    (entry-apart sizes rows (n + 1) e apart keep.1)
+    (entry-live sizes rows n e apart k keep.0 keep.1)
     keep.2)
 
 groups-live : (sizes : Sizes) (rows : List BareRow) (n : ℕ) (groups : List (List BareEntry))

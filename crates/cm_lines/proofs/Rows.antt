@@ -2,7 +2,8 @@
 use Rattle.std.proofs.Common.{◌≡◌, [], ◌∷◌, ◌++◌, Some, None, refl}
 use Rattle.std.specs.Prelude.{codes}
 use Rattle.cm_lines.specs.Escapes.{escaped, unescaped}
-use Rattle.cm_lines.specs.Lines.{question_in, lines_of, AsksLoader, AsksUnload, AsksDefine, AsksFind}
+use Rattle.cm_lines.specs.Lines.{question_in, lines_of, AsksLoader, AsksUnload, AsksDefine}
+use Rattle.cm_lines.specs.Lines.{AsksFind}
 
 -- ---- lines
 

@@ -430,7 +430,8 @@ commands_are_counted sizes k rows number pend f =
     let both = length-append f.first f.rest in
     let makes = makes_as_many sizes f.classes number f.entries f.rest f.make in
     let entries : length pend ≡ length f.entries =
-    sym (map_length filled pend) ∙ (sym (ap length f.words) ∙ map_length (entry_with lay) f.entries) in
+    sym (map_length filled pend)
+    ∙ (sym (ap length f.words) ∙ map_length (entry_with lay) f.entries) in
     let all = ap length f.commands in
     omega (arith, all, count, both, makes, entries)
 

@@ -43,7 +43,8 @@ in-without n k h = ap
 in-without_other : (n k i : ℕ) → k < 64 → i < 64 → i ≢ k
     → bit_at (bit_and n (bit_not w64 (2 ^ k))) i ≡ bit_at n i
 in-without_other n k i h low other = ap
-    (λ m. bit_at (bit_and n (bit_not w64 m)) i) (sym (one_shl k 64 h)) ∙ bit_at_clear_other w64 n k h i low other
+    (λ m. bit_at (bit_and n (bit_not w64 m)) i) (sym (one_shl k 64 h))
+    ∙ bit_at_clear_other w64 n k h i low other
 
 -- a bit after a change
 pub bit-with_same : (ws : List ℕ) (i : ℕ) → i < 64 * length ws → bit (with_bit ws i) i ≡ true
@@ -58,7 +59,8 @@ bit-with_other ws i j h other =
           let place : j % 64 ≢ i % 64 = λ e. other (omega arith) in
           ap (λ k. eqb (bit_at (word (with_bit ws i) k) (j % 64)) 1) same
           ∙ ap (λ n. eqb (bit_at n (j % 64)) 1) (word-with ws i h)
-          ∙ ap (λ b. eqb b 1) (in-with_other (word ws (i / 64)) (i % 64) (j % 64) (omega arith) place)
+          ∙ ap (λ b. eqb b 1) (in-with_other (word ws (i / 64)) (i % 64) (j % 64)
+          (omega arith) place)
           ∙ ap (λ k. eqb (bit_at (word ws k) (j % 64)) 1) (sym same)
       | inr apart ↦ ap (λ n. eqb (bit_at n (j % 64)) 1) (other-with ws i (j / 64) apart)
     ]
@@ -75,7 +77,8 @@ bit-without_other ws i j h other =
           let place : j % 64 ≢ i % 64 = λ e. other (omega arith) in
           ap (λ k. eqb (bit_at (word (without_bit ws i) k) (j % 64)) 1) same
           ∙ ap (λ n. eqb (bit_at n (j % 64)) 1) (word-without ws i h)
-          ∙ ap (λ b. eqb b 1) (in-without_other (word ws (i / 64)) (i % 64) (j % 64) (omega arith) (omega arith) place)
+          ∙ ap (λ b. eqb b 1) (in-without_other (word ws (i / 64)) (i % 64) (j % 64) (omega arith)
+          (omega arith) place)
           ∙ ap (λ k. eqb (bit_at (word ws k) (j % 64)) 1) (sym same)
       | inr apart ↦ ap (λ n. eqb (bit_at n (j % 64)) 1) (other-without ws i (j / 64) apart)
     ]
@@ -121,7 +124,8 @@ pub bit-replicate : (n i : ℕ) → bit (replicate n 0) i ≡ false
 bit-replicate n i =
     bit-zero_word (replicate n 0) i (elim (cases_lt (i / 64) n) [
       | inl lt ↦ get_or-replicate n (i / 64) 0 0 lt
-      | inr ge ↦ get_or_past (replicate n 0) (i / 64) 0 (omega (arith, length-replicate n (◌+◌ 0 0)))
+      | inr ge ↦ get_or_past (replicate n 0) (i / 64) 0
+          (omega (arith, length-replicate n (◌+◌ 0 0)))
     ])
 
 -- a word with a bit isn't 0
@@ -138,11 +142,17 @@ summary-with ws up i h within =
     let k = i / 64 in
     let above : k < 64 * length up = omega (arith, h.long) in
     record {
-      long = omega (arith, h.long, length-set ws k (bit_or (word ws k) (2 ^ (i % 64))), length-set up (k / 64) (bit_or (word up (k / 64)) (2 ^ (k % 64))));
+      long = omega (
+        arith,
+        h.long,
+        length-set ws k (bit_or (word ws k) (2 ^ (i % 64))),
+        length-set up (k / 64) (bit_or (word up (k / 64)) (2 ^ (k % 64))),
+      );
       each = λ j. elim (cases_eq j k) [
         | inl same ↦
             ap (bit (with_bit up k)) same ∙ bit-with_same up k above
-            ∙ sym (ap (λ n. not (eqb n 0)) (ap (word (with_bit ws i)) same ∙ word-with ws i within) ∙ ap not (ne_eqb _ 0 (with-some (word ws k) (i % 64) (omega arith))))
+            ∙ sym (ap (λ n. not (eqb n 0)) (ap (word (with_bit ws i)) same ∙ word-with ws i within)
+            ∙ ap not (ne_eqb _ 0 (with-some (word ws k) (i % 64) (omega arith))))
         | inr other ↦ bit-with_other up k j above other ∙ h.each j ∙ sym (ap
             (λ n. not (eqb n 0)) (other-with ws i j other))
       ];
@@ -155,7 +165,12 @@ summary-without ws up i h within none =
     let k = i / 64 in
     let above : k < 64 * length up = omega (arith, h.long) in
     record {
-      long = omega (arith, h.long, length-set ws k (bit_and (word ws k) (bit_not w64 (2 ^ (i % 64)))), length-set up (k / 64) (bit_and (word up (k / 64)) (bit_not w64 (2 ^ (k % 64)))));
+      long = omega (
+        arith,
+        h.long,
+        length-set ws k (bit_and (word ws k) (bit_not w64 (2 ^ (i % 64)))),
+        length-set up (k / 64) (bit_and (word up (k / 64)) (bit_not w64 (2 ^ (k % 64)))),
+      );
       each = λ j. elim (cases_eq j k) [
         | inl same ↦
             ap (bit (without_bit up k)) same ∙ bit-without_same up k above
@@ -173,12 +188,17 @@ summary-left ws up i h within some =
     let was : word ws k ≢ 0 = λ e. some (word-without ws i within ∙ ap
     (λ n. bit_and n (bit_not w64 (2 ^ (i % 64)))) e ∙ and_zero_l (bit_not w64 (2 ^ (i % 64)))) in
     record {
-      long = omega (arith, h.long, length-set ws k (bit_and (word ws k) (bit_not w64 (2 ^ (i % 64)))));
+      long = omega (
+        arith,
+        h.long,
+        length-set ws k (bit_and (word ws k) (bit_not w64 (2 ^ (i % 64)))),
+      );
       each = λ j. elim (cases_eq j k) [
         | inl same ↦
             h.each j
             ∙ ap (λ n. not (eqb n 0)) (ap (word ws) same) ∙ ap not (ne_eqb (word ws k) 0 was)
-            ∙ sym (ap (λ n. not (eqb n 0)) (ap (word (without_bit ws i)) same) ∙ ap not (ne_eqb _ 0 some))
+            ∙ sym (ap (λ n. not (eqb n 0)) (ap (word (without_bit ws i)) same)
+            ∙ ap not (ne_eqb _ 0 some))
         | inr other ↦ h.each j ∙ sym (ap (λ n. not (eqb n 0)) (other-without ws i j other))
       ];
     }

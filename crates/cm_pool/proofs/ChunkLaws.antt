@@ -21,7 +21,8 @@ use Rattle.cm_pool.proofs.Pools.{block_of, same-block_of}
 pub covers-in : (top roots : ℕ) (c : Chunk) (root word : ℕ) → IsBlock top roots c
     → Covers c root word → is_in (block_of top c) (word_number top root word / 128) ≡ true
 covers-in top roots c root word block h =
-    sym (words-is_in top c (block_of top c) (word_number top root word) (same-block_of top roots c block))
+    sym (words-is_in top c (block_of top c) (word_number top root word)
+    (same-block_of top roots c block))
     ∙ (words-covers top c root word block.inside (omega (arith, h.to, block.inside))).1 h
 
 in-covers : (top roots : ℕ) (c : Chunk) (root word : ℕ) → IsBlock top roots c
@@ -29,13 +30,15 @@ in-covers : (top roots : ℕ) (c : Chunk) (root word : ℕ) → IsBlock top root
     → Covers c root word
 in-covers top roots c root word block within h =
     (words-covers top c root word block.inside within).0
-    (words-is_in top c (block_of top c) (word_number top root word) (same-block_of top roots c block) ∙ h)
+    (words-is_in top c (block_of top c) (word_number top root word)
+    (same-block_of top roots c block) ∙ h)
 
 pub inside-part : (top roots : ℕ) (a b : Chunk) → IsBlock top roots a → IsBlock top roots b
     → Inside (block_of top a) (block_of top b) → IsPartOf a b
 inside-part top roots a b block_a block_b h = λ root word covers.
     in-covers top roots b root word block_b (omega (arith, covers.to, block_a.inside))
-    (inside-is_in (block_of top a) (block_of top b) (word_number top root word / 128) h (covers-in top roots a root word block_a covers))
+    (inside-is_in (block_of top a) (block_of top b) (word_number top root word / 128) h
+    (covers-in top roots a root word block_a covers))
 
 -- the smaller one is a part of the other, or shares nothing with it
 part-or_apart : (top roots : ℕ) (a b : Chunk) → IsBlock top roots a → IsBlock top roots b
@@ -44,10 +47,13 @@ part-or_apart top roots a b block_a block_b le =
     let x = block_of top a in
     let y = block_of top b in
     elim (is_in y (start x)) as (λ v. is_in y (start x) ≡ v → IsPartOf a b ⊎ (¬ Meets a b)) [
-      | true ↦ λ e. inl (inside-part top roots a b block_a block_b (inside-from_shared x y (start x) le (is_in-start x) e))
+      | true ↦ λ e. inl (inside-part top roots a b block_a block_b
+          (inside-from_shared x y (start x) le (is_in-start x) e))
       | false ↦ λ e. inr (λ meets.
           let g = word_number top meets.0 meets.1 / 128 in
-          let nested = inside-from_shared x y g le (covers-in top roots a meets.0 meets.1 block_a meets.2) (covers-in top roots b meets.0 meets.1 block_b meets.3) in
+          let nested =
+          inside-from_shared x y g le (covers-in top roots a meets.0 meets.1 block_a meets.2)
+          (covers-in top roots b meets.0 meets.1 block_b meets.3) in
           both_ways _ e (inside-is_in x y (start x) nested (is_in-start x)))
     ] refl
 
@@ -57,8 +63,12 @@ turned a b h meets = h (meets.0, meets.1, meets.3, meets.2)
 pub nested_or_apart : NestedOrApart
 nested_or_apart top roots a b block_a block_b =
     elim (cases_lt a.order b.order) [
-      | inl lt ↦ elim (part-or_apart top roots a b block_a block_b (omega arith)) [ inl part ↦ inl part | inr apart ↦ inr (inr apart) ]
-      | inr le ↦ elim (part-or_apart top roots b a block_b block_a le) [ inl part ↦ inr (inl part) | inr apart ↦ inr (inr (turned b a apart)) ]
+      | inl lt ↦ elim (part-or_apart top roots a b block_a block_b (omega arith))
+          [ inl part ↦ inl part | inr apart ↦ inr (inr apart) ]
+      | inr le ↦ elim (part-or_apart top roots b a block_b block_a le) [
+        | inl part ↦ inr (inl part)
+        | inr apart ↦ inr (inr (turned b a apart))
+      ]
     ]
 
 pub giving_back_restores : GivingBackRestores
@@ -79,12 +89,16 @@ heads : (c d : Chunk) (cs ds : List Chunk) → AllByRecursion (LiesBefore c) cs
     → AllByRecursion (LiesBefore d) ds → Among c (d ∷ ds) → Among d (c ∷ cs) → c ≡ d
 heads c d cs ds p q (inl e) n = e
 heads c d cs ds p q (inr m) (inl f) = sym f
-heads c d cs ds p q (inr m) (inr n) = absurd (before-asymmetric c d (each-among (LiesBefore c) cs d p n) (each-among (LiesBefore d) ds c q m))
+heads c d cs ds p q (inr m) (inr n) =
+    absurd (before-asymmetric c d (each-among (LiesBefore c) cs d p n)
+    (each-among (LiesBefore d) ds c q m))
 
 tail-among : (x c d : Chunk) (cs ds : List Chunk) → c ≡ d → AllByRecursion (LiesBefore c) cs
     → Among x cs → Among x (d ∷ ds) → Among x ds
 tail-among x c d cs ds e p m (inr n) = n
-tail-among x c d cs ds e p m (inl f) = absurd (before-irreflexive c (subst (LiesBefore c) (f ∙ sym e) (each-among (LiesBefore c) cs x p m)))
+tail-among x c d cs ds e p m (inl f) =
+    absurd (before-irreflexive c
+    (subst (LiesBefore c) (f ∙ sym e) (each-among (LiesBefore c) cs x p m)))
 
 same-members : (cs ds : List Chunk) → Pairwise LiesBefore cs → Pairwise LiesBefore ds
     → ((x : Chunk) → Among x cs → Among x ds) → ((x : Chunk) → Among x ds → Among x cs) → cs ≡ ds
@@ -141,7 +155,13 @@ halves-lie c aligned =
           let other : (buddy c).at ≡ c.at - size = ap
           (λ b. cond b (c.at + size) (c.at - size)) (ne_eqb (q % 2) 0 odd) in
           let whole : q * size ≡ (2 * (q / 2) + 1) * size = ap (λ n. n * size) (sym half) in
-          record { lies = inr (above-at c ∙ omega (arith, at, aligned, whole) ∙ sym other, omega (arith, at, aligned, whole, other)) }
+          record {
+            lies =
+                inr (
+                  above-at c ∙ omega (arith, at, aligned, whole) ∙ sym other,
+                  omega (arith, at, aligned, whole, other),
+                );
+          }
     ]
 
 -- the halves of the chunk above
@@ -153,22 +173,56 @@ halves_make_whole top roots c block root word =
     elim lie.lies [
       | inl (above, other) ↦ (
         λ h. elim (cases_lt word (c.at + chunk_size c.order)) [
-          | inl lt ↦ inl (record { same_root = h.same_root; from = omega (arith, h.from, above); to = lt })
-          | inr le ↦ inr (record { same_root = h.same_root; from = omega (arith, other); to = omega (arith, h.to, above, other, double) })
+          | inl lt ↦ inl (record {
+            same_root = h.same_root;
+            from = omega (arith, h.from, above);
+            to = lt;
+          })
+          | inr le ↦ inr (record {
+            same_root = h.same_root;
+            from = omega (arith, other);
+            to = omega (arith, h.to, above, other, double);
+          })
         ],
         λ h. elim h [
-          | inl mine ↦ record { same_root = mine.same_root; from = omega (arith, mine.from, above); to = omega (arith, mine.to, above, double) }
-          | inr its ↦ record { same_root = its.same_root; from = omega (arith, its.from, above, other); to = omega (arith, its.to, above, other, double) }
+          | inl mine ↦ record {
+            same_root = mine.same_root;
+            from = omega (arith, mine.from, above);
+            to = omega (arith, mine.to, above, double);
+          }
+          | inr its ↦ record {
+            same_root = its.same_root;
+            from = omega (arith, its.from, above, other);
+            to =
+                omega (arith, its.to, above, other, double);
+          }
         ],
       )
       | inr (above, other) ↦ (
         λ h. elim (cases_lt word c.at) [
-          | inl lt ↦ inr (record { same_root = h.same_root; from = omega (arith, h.from, above); to = omega (arith, other) })
-          | inr le ↦ inl (record { same_root = h.same_root; from = le; to = omega (arith, h.to, above, other, double) })
+          | inl lt ↦ inr (record {
+            same_root = h.same_root;
+            from = omega (arith, h.from, above);
+            to = omega (arith, other);
+          })
+          | inr le ↦ inl (record {
+            same_root = h.same_root;
+            from = le;
+            to = omega (arith, h.to, above, other, double);
+          })
         ],
         λ h. elim h [
-          | inl mine ↦ record { same_root = mine.same_root; from = omega (arith, mine.from, above, other); to = omega (arith, mine.to, above, other, double) }
-          | inr its ↦ record { same_root = its.same_root; from = omega (arith, its.from, above); to = omega (arith, its.to, above, other, double) }
+          | inl mine ↦ record {
+            same_root = mine.same_root;
+            from = omega (arith, mine.from, above, other);
+            to =
+                omega (arith, mine.to, above, other, double);
+          }
+          | inr its ↦ record {
+            same_root = its.same_root;
+            from = omega (arith, its.from, above);
+            to = omega (arith, its.to, above, other, double);
+          }
         ],
       )
     ]

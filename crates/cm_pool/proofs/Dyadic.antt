@@ -25,7 +25,9 @@ pub is_in-start : (b : Block) → is_in b (start b) ≡ true
 is_in-start b = is_in-from_bounds b (start b) (omega arith) (omega (arith, pow_pos b.order))
 
 pub is_in-last : (b : Block) → is_in b (stop b - 1) ≡ true
-is_in-last b = is_in-from_bounds b (stop b - 1) (omega (arith, pow_pos b.order)) (omega (arith, pow_pos b.order))
+is_in-last b =
+    is_in-from_bounds b (stop b - 1) (omega (arith, pow_pos b.order))
+    (omega (arith, pow_pos b.order))
 
 -- a number's half
 pub half_eq : (x i : ℕ) → eqb (x / 2) i ≡ (eqb x (2 * i) || eqb x (2 * i + 1))
@@ -82,7 +84,8 @@ inside-from_shared w b g le in_w in_b =
     record {
       smaller = le;
       same_part = ap
-          (λ x. x / 2 ^ (b.order - w.order)) (sym part) ∙ shr-shr g w.order (b.order - w.order) ∙ ap (λ k. g / 2 ^ k) (sym order) ∙ whole;
+          (λ x. x / 2 ^ (b.order - w.order)) (sym part) ∙ shr-shr g w.order (b.order - w.order)
+          ∙ ap (λ k. g / 2 ^ k) (sym order) ∙ whole;
     }
 
 pub same_block : (a b : Block) → a.index ≡ b.index → a.order ≡ b.order → a ≡ b
@@ -159,10 +162,13 @@ pub in-above : (b : Block) (g : ℕ) → is_in (block_above b) g ≡ (is_in b g 
 unfolding block_above
 in-above b g =
     let part = g / 2 ^ b.order in
-    let both : eqb (g / 2 ^ (b.order + 1)) (b.index / 2) ≡ (eqb part (2 * (b.index / 2)) || eqb part (2 * (b.index / 2) + 1)) =
+    let both : eqb (g / 2 ^ (b.order + 1)) (b.index / 2)
+    ≡ (eqb part (2 * (b.index / 2)) || eqb part (2 * (b.index / 2) + 1)) =
     ap (λ x. eqb x (b.index / 2)) (sym (shr-shr g b.order 1)) ∙ half_eq part (b.index / 2)
     in
-    let order : eqb (g / 2 ^ (other_half b).order) (other_half b).index ≡ eqb part (other_half b).index = ap (λ k. eqb (g / 2 ^ k) (other_half b).index) (other-order b) in
+    let order : eqb (g / 2 ^ (other_half b).order) (other_half b).index
+    ≡ eqb part (other_half b).index =
+    ap (λ k. eqb (g / 2 ^ k) (other_half b).index) (other-order b) in
     elim (other-index b) [
       | inl (even, next) ↦
           let here : 2 * (b.index / 2) ≡ b.index = omega arith in
@@ -172,7 +178,8 @@ in-above b g =
       | inr (odd, before) ↦
           let here : 2 * (b.index / 2) + 1 ≡ b.index = omega arith in
           let there : 2 * (b.index / 2) ≡ (other_half b).index = omega arith in
-          both ∙ (λ i. eqb part (there i) || eqb part (here i)) ∙ or_turned (eqb part (other_half b).index) (eqb part b.index)
+          both ∙ (λ i. eqb part (there i) || eqb part (here i))
+          ∙ or_turned (eqb part (other_half b).index) (eqb part b.index)
           ∙ ap (λ t. eqb part b.index || t) (sym order)
     ]
 
@@ -199,7 +206,8 @@ other-right b =
     let odd : (2 * b.index + 1) % 2 ≡ 0 → ⊥ = λ e. absurd (omega arith) in
     let before : 2 * b.index + 1 - 1 ≡ 2 * b.index = omega arith in
     same_block _ _ (ap
-    (λ t. cond t (2 * b.index + 1 + 1) (2 * b.index + 1 - 1)) (ne_eqb ((2 * b.index + 1) % 2) 0 odd) ∙ before) refl
+    (λ t. cond t (2 * b.index + 1 + 1) (2 * b.index + 1 - 1)) (ne_eqb ((2 * b.index + 1) % 2) 0 odd)
+    ∙ before) refl
 
 pub order-left : (b : Block) → (left_half b).order ≡ b.order - 1
 unfolding left_half
@@ -217,12 +225,14 @@ order-block_above b = refl
 pub inside-above : (b c : Block) → Inside b c → b.order < c.order → Inside (block_above b) c
 inside-above b c h lt =
     inside-from_shared (block_above b) c (start b) (omega (arith, order-block_above b))
-    (in-above b (start b) ∙ or_left (is_in b (start b)) _ (is_in-start b)) (inside-is_in b c (start b) h (is_in-start b))
+    (in-above b (start b) ∙ or_left (is_in b (start b)) _ (is_in-start b))
+    (inside-is_in b c (start b) h (is_in-start b))
 
 pub inside-other : (b c : Block) → Inside b c → b.order < c.order → (g : ℕ)
     → is_in (other_half b) g ≡ true → is_in c g ≡ true
 inside-other b c h lt g e =
-    inside-is_in (block_above b) c g (inside-above b c h lt) (in-above b g ∙ or_right (is_in b g) _ e)
+    inside-is_in (block_above b) c g (inside-above b c h lt)
+    (in-above b g ∙ or_right (is_in b g) _ e)
 
 -- a block that lies low has a low index
 pub index-below : (b : Block) (limit : ℕ) → start b < limit → b.index < limit

@@ -18,7 +18,12 @@ pub record AreZeros (sizes : Sizes) (count : ℕ) (rows : List (List ℕ)) : Typ
   pub room : (o : ℕ) → o < count → sizes.roots * 2 ^ (sizes.top - o) ≤ 64 * length (row rows o)
 
 pub none-yet : (sizes : Sizes) → AreZeros sizes 0 []
-none-yet sizes = record { orders = refl; zeros = λ o lt. absurd (omega arith); room = λ o lt. absurd (omega arith) }
+none-yet sizes =
+    record {
+      orders = refl;
+      zeros = λ o lt. absurd (omega arith);
+      room = λ o lt. absurd (omega arith);
+    }
 
 at-end : (rows : List (List ℕ)) (r : List ℕ) (count : ℕ) → length rows ≡ count
     → row (rows ++ r ∷ []) count ≡ r
@@ -42,20 +47,25 @@ one-more sizes count words rows h enough =
       zeros = λ o lt. elim (cases_eq o count) [
         | inl e ↦
             let here : row (rows ++ new ∷ []) o ≡ new = ap (row (rows ++ new ∷ [])) e ∙ last in
-            let len : words ≡ length (row (rows ++ new ∷ []) o) = sym words_len ∙ ap length (sym here) in
+            let len : words ≡ length (row (rows ++ new ∷ []) o) =
+            sym words_len ∙ ap length (sym here) in
             here ∙ ap (λ n. replicate {A = ℕ} n 0) len
         | inr other ↦
-            let before : row (rows ++ new ∷ []) o ≡ row rows o = before-end rows new o (omega (arith, h.orders)) in
+            let before : row (rows ++ new ∷ []) o ≡ row rows o =
+            before-end rows new o (omega (arith, h.orders)) in
             before ∙ h.zeros o (omega arith) ∙ ap
             (λ (r : List ℕ). replicate {A = ℕ} (length r) 0) (sym before)
       ];
       room = λ o lt. elim (cases_eq o count) [
         | inl e ↦
-            let here : length (row (rows ++ new ∷ []) o) ≡ words = ap length (ap (row (rows ++ new ∷ [])) e ∙ last) ∙ words_len in
-            let same : sizes.roots * 2 ^ (sizes.top - o) ≡ sizes.roots * 2 ^ (sizes.top - count) = ap (λ k. sizes.roots * 2 ^ (sizes.top - k)) e in
+            let here : length (row (rows ++ new ∷ []) o) ≡ words =
+            ap length (ap (row (rows ++ new ∷ [])) e ∙ last) ∙ words_len in
+            let same : sizes.roots * 2 ^ (sizes.top - o) ≡ sizes.roots * 2 ^ (sizes.top - count) =
+            ap (λ k. sizes.roots * 2 ^ (sizes.top - k)) e in
             omega arith
         | inr other ↦
-            let before : length (row (rows ++ new ∷ []) o) ≡ length (row rows o) = ap length (before-end rows new o (omega (arith, h.orders))) in
+            let before : length (row (rows ++ new ∷ []) o) ≡ length (row rows o) =
+            ap length (before-end rows new o (omega (arith, h.orders))) in
             omega (arith, h.room o (omega arith))
       ];
     }
@@ -68,11 +78,15 @@ all-empty sizes rows sizes_ok h =
       orders = h.orders;
       none = λ b. elim (cases_lt b.order (length rows)) [
         | inl lt ↦ ap
-            (λ r. bit r b.index) (h.zeros b.order (omega (arith, h.orders))) ∙ bit-replicate (length (row rows b.order)) b.index
+            (λ r. bit r b.index) (h.zeros b.order (omega (arith, h.orders)))
+            ∙ bit-replicate (length (row rows b.order)) b.index
         | inr ge ↦ no-mark_past rows b ge
       ];
       room = λ b le lt.
-          let parts : 2 ^ sizes.top ≡ 2 ^ (sizes.top - b.order) * 2 ^ b.order = let e : sizes.top ≡ (sizes.top - b.order) + b.order = omega arith in ap (λ k. 2 ^ k) e ∙ pow-add 2 (sizes.top - b.order) b.order in
-          let below : b.index < sizes.roots * 2 ^ (sizes.top - b.order) = lt_of_mul-lt-mul_right (2 ^ b.order) (omega (arith, ap (λ s. sizes.roots * s) parts)) in
+          let parts : 2 ^ sizes.top ≡ 2 ^ (sizes.top - b.order) * 2 ^ b.order =
+          let e : sizes.top ≡ (sizes.top - b.order) + b.order =
+          omega arith in ap (λ k. 2 ^ k) e ∙ pow-add 2 (sizes.top - b.order) b.order in
+          let below : b.index < sizes.roots * 2 ^ (sizes.top - b.order) =
+          lt_of_mul-lt-mul_right (2 ^ b.order) (omega (arith, ap (λ s. sizes.roots * s) parts)) in
           omega (arith, h.room b.order (omega arith));
     }

@@ -23,7 +23,8 @@ first-from rows order index h =
           elim (cases_lt c.index index) [
             | inl less ↦ absurd (both_ways _ (h.first c.index less) here)
             | inr ge ↦
-                let most : index * 2 ^ order ≤ c.index * 2 ^ order = mul-le-mul_right (2 ^ order) ge in
+                let most : index * 2 ^ order ≤ c.index * 2 ^ order =
+                mul-le-mul_right (2 ^ order) ge in
                 subst (λ k. index * 2 ^ order ≤ c.index * 2 ^ k) (sym same) most
           ];
     }

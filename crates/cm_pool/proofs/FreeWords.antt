@@ -38,9 +38,11 @@ covers-number top c root word inside within low high =
           let same : root * chunk_size top ≡ c.root * chunk_size top = ap
           (λ r. r * chunk_size top) e in
           record { same_root = e; from = omega (arith, low, same); to = omega (arith, high, same) }
-      | inr (inl lt) ↦ absurd (omega (arith, low, number-order (chunk_size top) root c.root word c.at lt within))
+      | inr (inl lt) ↦ absurd (omega
+          (arith, low, number-order (chunk_size top) root c.root word c.at lt within))
       | inr (inr gt) ↦
-          let more : (c.root + 1) * chunk_size top ≤ root * chunk_size top = mul-le-mul_right (chunk_size top) (omega arith) in
+          let more : (c.root + 1) * chunk_size top ≤ root * chunk_size top =
+          mul-le-mul_right (chunk_size top) (omega arith) in
           absurd (omega (arith, high, inside, more))
     ]
 
@@ -60,11 +62,13 @@ range-decides a zero q =
 range-decides a (suc n) q = (
   λ e. elim (or_cases (eqb a q) _ e) [
     | inl same ↦ let is : a ≡ q = eqb-true a q same in (omega arith, omega arith)
-    | inr more ↦ let h = (range-decides (a + 1) n q).0 more in (omega (arith, h.0), omega (arith, h.1))
+    | inr more ↦ let h = (range-decides (a + 1) n q).0 more in
+        (omega (arith, h.0), omega (arith, h.1))
   ],
   λ h. elim (cases_eq a q) [
     | inl same ↦ or_left (eqb a q) _ (eq-eqb a q same)
-    | inr other ↦ or_right (eqb a q) _ ((range-decides (a + 1) n q).1 (omega (arith, h.0), omega (arith, h.1)))
+    | inr other ↦ or_right (eqb a q) _
+        ((range-decides (a + 1) n q).1 (omega (arith, h.0), omega (arith, h.1)))
   ],
 )
 
@@ -72,7 +76,9 @@ pub words-decides : (top : ℕ) (c : Chunk) (q : ℕ)
     → Decides (contains (words top c) q) ((word_number top c.root c.at ≤ q)
     × (q < word_number top c.root c.at + chunk_size c.order))
 unfolding words
-words-decides top c q = Decides-at _ _ (contains-from_list_nat _ q) (range-decides (word_number top c.root c.at) (chunk_size c.order) q)
+words-decides top c q =
+    Decides-at _ _ (contains-from_list_nat _ q)
+    (range-decides (word_number top c.root c.at) (chunk_size c.order) q)
 
 pub range-set-decides : (a n q : ℕ)
     → Decides (contains (from_list {R = nat_cmp} (range_with_len a n)) q) ((a ≤ q) × (q < a + n))
@@ -84,7 +90,8 @@ pub words-covers : (top : ℕ) (c : Chunk) (root word : ℕ)
     → Decides (contains (words top c) (word_number top root word)) (Covers c root word)
 words-covers top c root word inside within =
     Decides-like _
-    (λ h. covers-number top c root word inside within h.0 h.1) (number-covers top c root word) (words-decides top c (word_number top root word))
+    (λ h. covers-number top c root word inside within h.0 h.1) (number-covers top c root word)
+    (words-decides top c (word_number top root word))
 
 -- what is free once a chunk was taken
 pub free-without : (p : FreeSpace) (c : Chunk) (root word : ℕ)
@@ -95,7 +102,8 @@ free-without p c root word inside =
     let is = contains-difference nat_cmp_total p.free (words p.geometry.top c) n in (
       λ h. let parts = and_parts (contains p.free n) _ (sym is ∙ h.is_free) in (
         record { within = h.within; is_free = parts.0 },
-        λ covers. both_ways _ (not-true _ parts.1) ((words-covers p.geometry.top c root word inside h.within).1 covers),
+        λ covers. both_ways _ (not-true _ parts.1)
+            ((words-covers p.geometry.top c root word inside h.within).1 covers),
       ),
       λ h. record {
         within = h.0.within;
@@ -119,7 +127,12 @@ free-with_chunk p c root word inside =
         | inl free ↦ record { within = free.within; is_free = is ∙ or_left _ _ free.is_free }
         | inr covers ↦
             let within : word < chunk_size p.geometry.top = omega (arith, covers.to, inside) in
-            record { within = within; is_free = is ∙ or_right (contains p.free n) _ ((words-covers p.geometry.top c root word inside within).1 covers) }
+            record {
+              within = within;
+              is_free = is
+                  ∙ or_right (contains p.free n) _
+                  ((words-covers p.geometry.top c root word inside within).1 covers);
+            }
       ],
     )
 
@@ -133,9 +146,14 @@ free-with_root p root word =
         | inr covers ↦ inr (covers.same_root, omega (arith, covers.to))
       ],
       λ h. elim h [
-        | inl free ↦ let is = more.1 (inl free) in record { within = is.within; is_free = is.is_free }
+        | inl free ↦ let is =
+            more.1 (inl free) in record { within = is.within; is_free = is.is_free }
         | inr (same, within) ↦
-            let is = more.1 (inr (record { same_root = same; from = omega arith; to = omega arith })) in
+            let is = more.1 (inr (record {
+              same_root = same;
+              from = omega arith;
+              to = omega arith;
+            })) in
             record { within = is.within; is_free = is.is_free }
       ],
     )
@@ -146,7 +164,8 @@ same_parts p q a b c = λ i. record { geometry = a i; roots = b i; free = c i }
 
 pub same_numbers : (p q : FreeSpace) → p.geometry ≡ q.geometry → p.roots ≡ q.roots → ((n : ℕ)
     → contains p.free n ≡ contains q.free n) → p ≡ q
-same_numbers p q a b h = same_parts p q a b (same_set nat_cmp_total nat_cmp-IsAntisymmetric p.free q.free h)
+same_numbers p q a b h =
+    same_parts p q a b (same_set nat_cmp_total nat_cmp-IsAntisymmetric p.free q.free h)
 
 -- Two pools of one geometry, with as many roots and the same free words, are one value.
 pub same_space : (p q : FreeSpace) → p.geometry ≡ q.geometry → p.roots ≡ q.roots
@@ -163,9 +182,16 @@ same_space p q a b h =
     (λ s. n / size * s + n % size) (sym sizes) ∙ number in
     same_from_decides {P = contains p.free n ≡ true} (contains p.free n) (contains q.free n)
     (λ e. e, λ e. e) (
-      λ e. let free = (h (n / size) (n % size)).1 (record { within = omega (arith, within, sizes); is_free = ap (contains q.free) number_q ∙ e }) in
+      λ e. let free =
+          (h (n / size) (n % size)).1
+          (record {
+            within = omega (arith, within, sizes);
+            is_free = ap (contains q.free) number_q ∙ e;
+          }) in
           ap (contains p.free) (sym number) ∙ free.is_free,
-      λ e. let free = (h (n / size) (n % size)).0 (record { within = within; is_free = ap (contains p.free) number ∙ e }) in
+      λ e. let free =
+          (h (n / size) (n % size)).0
+          (record { within = within; is_free = ap (contains p.free) number ∙ e }) in
           ap (contains q.free) (sym number_q) ∙ free.is_free,
     ))
 
@@ -180,8 +206,10 @@ chunk-word top c n e =
 pub restores : (p : FreeSpace) (c : Chunk) → IsFreeChunk p c → with_chunk (without p c) c ≡ p
 restores p c h =
     same_numbers (with_chunk (without p c) c) p refl refl (λ n.
-    contains-union nat_cmp_total (difference p.free (words p.geometry.top c)) (words p.geometry.top c) n
-    ∙ ap (λ b. b || contains (words p.geometry.top c) n) (contains-difference nat_cmp_total p.free (words p.geometry.top c) n)
+    contains-union nat_cmp_total (difference p.free (words p.geometry.top c))
+    (words p.geometry.top c) n
+    ∙ ap (λ b. b || contains (words p.geometry.top c) n)
+    (contains-difference nat_cmp_total p.free (words p.geometry.top c) n)
     ∙ put_back (contains p.free n) (contains (words p.geometry.top c) n)
     (λ e. let at = chunk-word p.geometry.top c n e in
     ap (contains p.free) (sym at.1) ∙ (h.words at.0 at.2 at.3).is_free))
@@ -196,12 +224,18 @@ restores p c h =
 pub takes_back : (p : FreeSpace) (c : Chunk) → IsUsedChunk p c → without (with_chunk p c) c ≡ p
 takes_back p c h =
     same_numbers (without (with_chunk p c) c) p refl refl (λ n.
-    contains-difference nat_cmp_total (union p.free (words p.geometry.top c)) (words p.geometry.top c) n
-    ∙ ap (λ b. b && not (contains (words p.geometry.top c) n)) (contains-union nat_cmp_total p.free (words p.geometry.top c) n)
+    contains-difference nat_cmp_total (union p.free (words p.geometry.top c))
+    (words p.geometry.top c) n
+    ∙ ap (λ b. b && not (contains (words p.geometry.top c) n))
+    (contains-union nat_cmp_total p.free (words p.geometry.top c) n)
     ∙ taken (contains p.free n) (contains (words p.geometry.top c) n)
     (λ e. let at = chunk-word p.geometry.top c n e in
     false_from_ne_true _
-    (λ f. h.words at.0 at.2 at.3 (record { within = omega (arith, at.3, h.block.inside); is_free = ap (contains p.free) at.1 ∙ f }))))
+    (λ f. h.words at.0 at.2 at.3
+    (record {
+      within = omega (arith, at.3, h.block.inside);
+      is_free = ap (contains p.free) at.1 ∙ f;
+    }))))
   where
     taken : (f w : Bool) → (w ≡ true → f ≡ false) → ((f || w) && not w) ≡ f
     taken true true k = sym (k refl)
@@ -214,14 +248,16 @@ pub used-without : (p : FreeSpace) (c : Chunk) → IsFreeChunk p c → IsUsedChu
 used-without p c h =
     record {
       block = h.block;
-      words = λ word low high free. ((free-without p c c.root word h.block.inside).0 free).1 (record { same_root = refl; from = low; to = high });
+      words = λ word low high free. ((free-without p c c.root word h.block.inside).0 free).1
+          (record { same_root = refl; from = low; to = high });
     }
 
 -- A free chunk and a used one share no word.
 pub free-apart : (p : FreeSpace) (c d : Chunk) → IsFreeChunk p c → IsUsedChunk p d → ¬ Meets c d
 free-apart p c d free used (root, word, in_c, in_d) =
     let is_free = free.words word in_c.from in_c.to in
-    used.words word in_d.from in_d.to (subst (λ r. IsFreeWord p r word) (sym in_c.same_root ∙ in_d.same_root) is_free)
+    used.words word in_d.from in_d.to
+    (subst (λ r. IsFreeWord p r word) (sym in_c.same_root ∙ in_d.same_root) is_free)
 
 -- A chunk that shares no word with one that is taken stays as it is.
 pub free-elsewhere : (p : FreeSpace) (c d : Chunk) → IsFreeChunk p c → IsFreeChunk p d
@@ -232,7 +268,12 @@ free-elsewhere p c d taken h apart =
       words = λ word low high.
           (free-without p c d.root word taken.block.inside).1 (
             h.words word low high,
-            λ covers. apart (d.root, word, covers, record { same_root = refl; from = low; to = high }),
+            λ covers. apart (
+              d.root,
+              word,
+              covers,
+              record { same_root = refl; from = low; to = high },
+            ),
           );
     }
 
@@ -241,7 +282,8 @@ pub used-elsewhere : (p : FreeSpace) (c d : Chunk) → IsFreeChunk p c → IsUse
 used-elsewhere p c d taken h =
     record {
       block = h.block;
-      words = λ word low high free. h.words word low high ((free-without p c d.root word taken.block.inside).0 free).0;
+      words = λ word low high free.
+          h.words word low high ((free-without p c d.root word taken.block.inside).0 free).0;
     }
 
 -- A new root has free chunks of each order.
@@ -253,7 +295,12 @@ root-has_free p order le =
       c,
       refl,
       record {
-        block = record { within_top = le; in_a_root = omega arith; aligned = zero-mod (chunk_size order); inside = omega arith };
+        block = record {
+          within_top = le;
+          in_a_root = omega arith;
+          aligned = zero-mod (chunk_size order);
+          inside = omega arith;
+        };
         words = λ word low high. (free-with_root p p.roots word).1 (inr (refl, omega arith));
       },
     )
@@ -267,7 +314,8 @@ has_free-smaller p small large le (c, of_order, free) =
     let order : c.order ≡ (c.order - small) + small = omega arith in
     let size : 2 ^ c.order ≡ step * 2 ^ small = ap
     (λ k. 2 ^ k) order ∙ pow-add 2 (c.order - small) small in
-    let parts : chunk_size c.order * (c.at / chunk_size c.order) + c.at % chunk_size c.order ≡ c.at = div-add-mod c.at (chunk_size c.order) in
+    let parts : chunk_size c.order * (c.at / chunk_size c.order) + c.at % chunk_size c.order
+    ≡ c.at = div-add-mod c.at (chunk_size c.order) in
     let whole : c.at ≡ (c.at / chunk_size c.order) * step * chunk_size small =
     omega (arith, parts, free.block.aligned, ap (λ s. 128 * s * (c.at / chunk_size c.order)) size)
     in
@@ -280,7 +328,8 @@ has_free-smaller p small large le (c, of_order, free) =
           within_top = omega (arith, free.block.within_top);
           in_a_root = free.block.in_a_root;
           aligned = ap
-              (λ n. n % chunk_size small) whole ∙ mul-mod_left ((c.at / chunk_size c.order) * step) (chunk_size small);
+              (λ n. n % chunk_size small) whole
+              ∙ mul-mod_left ((c.at / chunk_size c.order) * step) (chunk_size small);
           inside = omega (arith, free.block.inside, shorter);
         };
         words = λ word low high. free.words word low (omega (arith, high, shorter));

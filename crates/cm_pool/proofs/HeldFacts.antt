@@ -28,7 +28,12 @@ used-beside p c d given h apart =
       words = λ word low high free.
           elim ((free-with_chunk p c d.root word given.block.inside).0 free) [
             | inl before ↦ h.words word low high before
-            | inr covers ↦ apart (d.root, word, covers, record { same_root = refl; from = low; to = high })
+            | inr covers ↦ apart (
+              d.root,
+              word,
+              covers,
+              record { same_root = refl; from = low; to = high },
+            )
           ];
     }
 
@@ -36,7 +41,13 @@ used-beside p c d given h apart =
 pub used-with_root : (p : FreeSpace) (d : Chunk) → IsUsedChunk p d → IsUsedChunk (with_root p) d
 used-with_root p d h =
     record {
-      block = record { within_top = h.block.within_top; in_a_root = omega (arith, h.block.in_a_root); aligned = h.block.aligned; inside = h.block.inside };
+      block = record {
+        within_top = h.block.within_top;
+        in_a_root = omega (arith, h.block.in_a_root);
+        aligned = h.block.aligned;
+        inside =
+            h.block.inside;
+      };
       words = λ word low high free.
           elim ((free-with_root p d.root word).0 free) [
             | inl before ↦ h.words word low high before
@@ -48,7 +59,9 @@ pub held-taken : (p : FreeSpace) (cs : List Chunk) (c : Chunk) → AreHeld p cs 
     → AreHeld (without p c) (cs ++ c ∷ [])
 held-taken p cs c h free =
     record {
-      each = each-join (IsUsedChunk (without p c)) cs (c ∷ []) (each-weaker (IsUsedChunk p) (IsUsedChunk (without p c)) (λ d used. used-elsewhere p c d free used) cs h.each) (used-without p c free, tt);
+      each = each-join (IsUsedChunk (without p c)) cs (c ∷ [])
+          (each-weaker (IsUsedChunk p) (IsUsedChunk (without p c))
+          (λ d used. used-elsewhere p c d free used) cs h.each) (used-without p c free, tt);
       apart = pairs-insert Apart cs c [] (subst
           (λ (ds : List Chunk). Pairwise Apart ds) (sym (append-nil cs)) h.apart)
           (each-weaker (IsUsedChunk p) (λ d. Apart d c)
@@ -60,7 +73,8 @@ both : (p : FreeSpace) (c : Chunk) (cs : List Chunk) → IsUsedChunk p c
     → AllByRecursion (IsUsedChunk p) cs → AllByRecursion (λ d. Apart c d) cs
     → AllByRecursion (IsUsedChunk (with_chunk p c)) cs
 both p c [] given used apart = tt
-both p c (d ∷ ds) given used apart = (used-beside p c d given used.0 apart.0, both p c ds given used.1 apart.1)
+both p c (d ∷ ds) given used apart =
+    (used-beside p c d given used.0 apart.0, both p c ds given used.1 apart.1)
 
 pub held-given : (p : FreeSpace) (xs : List Chunk) (c : Chunk) (ys : List Chunk)
     → AreHeld p (xs ++ c ∷ ys) → IsUsedChunk p c × AreHeld (with_chunk p c) (xs ++ ys)
@@ -78,7 +92,12 @@ held-given p xs c ys h =
     )
 
 pub held-with_root : (p : FreeSpace) (cs : List Chunk) → AreHeld p cs → AreHeld (with_root p) cs
-held-with_root p cs h = record { each = each-weaker (IsUsedChunk p) (IsUsedChunk (with_root p)) (used-with_root p) cs h.each; apart = h.apart }
+held-with_root p cs h =
+    record {
+      each = each-weaker (IsUsedChunk p) (IsUsedChunk (with_root p)) (used-with_root p) cs
+          h.each;
+      apart = h.apart;
+    }
 
 -- a free chunk that is taken is held from then on, wherever it is put
 pub held-put : (p : FreeSpace) (xs : List Chunk) (c : Chunk) (ys : List Chunk)
@@ -89,7 +108,12 @@ held-put p xs c ys h free =
     let front = each-front (IsUsedChunk p) xs ys h.each in
     let back = each-back (IsUsedChunk p) xs ys h.each in
     record {
-      each = each-join (IsUsedChunk (without p c)) xs (c ∷ ys) (each-weaker (IsUsedChunk p) (IsUsedChunk (without p c)) stays xs front) (used-without p c free, each-weaker (IsUsedChunk p) (IsUsedChunk (without p c)) stays ys back);
+      each = each-join (IsUsedChunk (without p c)) xs (c ∷ ys)
+          (each-weaker (IsUsedChunk p) (IsUsedChunk (without p c)) stays xs front) (
+            used-without p c free,
+            each-weaker (IsUsedChunk p) (IsUsedChunk (without p c))
+                stays ys back,
+          );
       apart = pairs-insert Apart xs c ys h.apart
           (each-weaker (IsUsedChunk p) (λ d. Apart d c)
           (λ d used. turned c d (free-apart p c d free used)) xs front)

@@ -41,7 +41,8 @@ free-from_test p c block h =
           let n = word_number p.geometry.top c.root word in
           record {
             within = omega (arith, high, block.inside);
-            is_free = is_subset-contains nat_cmp_total (words p.geometry.top c) p.free h n ((words-decides p.geometry.top c n).1 (omega (arith, low), omega (arith, high)));
+            is_free = is_subset-contains nat_cmp_total (words p.geometry.top c) p.free h n
+                ((words-decides p.geometry.top c n).1 (omega (arith, low), omega (arith, high)));
           };
     }
 
@@ -60,7 +61,8 @@ above-block top roots c h lt =
     (λ k. 2 ^ k) (omega arith) ∙ two-pow-succ c.order in
     let size = 2 * chunk_size c.order in
     let same : chunk_size (c.order + 1) ≡ size = omega (arith, double) in
-    let parts : 2 ^ top ≡ 2 ^ (top - (c.order + 1)) * 2 ^ (c.order + 1) = split top (c.order + 1) (omega arith) in
+    let parts : 2 ^ top ≡ 2 ^ (top - (c.order + 1)) * 2 ^ (c.order + 1) =
+    split top (c.order + 1) (omega arith) in
     let whole : chunk_size top ≡ 2 ^ (top - (c.order + 1)) * size = omega (
       arith,
       parts,
@@ -68,8 +70,10 @@ above-block top roots c h lt =
           (λ s. 2 ^ (top - (c.order + 1)) * s) double,
     ) in
     let pos : 0 < size = omega (arith, pow_pos c.order) in
-    let below : c.at / size < 2 ^ (top - (c.order + 1)) = (div-lt_iff_lt-mul pos).1 (omega (arith, whole, h.inside)) in
-    let room : (c.at / size + 1) * size ≤ 2 ^ (top - (c.order + 1)) * size = mul-le-mul_right size (omega arith) in
+    let below : c.at / size < 2 ^ (top - (c.order + 1)) =
+    (div-lt_iff_lt-mul pos).1 (omega (arith, whole, h.inside)) in
+    let room : (c.at / size + 1) * size ≤ 2 ^ (top - (c.order + 1)) * size =
+    mul-le-mul_right size (omega arith) in
     record {
       within_top = omega arith;
       in_a_root = h.in_a_root;
@@ -79,7 +83,8 @@ above-block top roots c h lt =
 
 -- whether a chunk is one of the largest
 is_largest : FreeSpace → Chunk → Bool
-is_largest p c = is_free p c && (not (ltb c.order p.geometry.top) || not (is_free p (chunk_above c)))
+is_largest p c =
+    is_free p c && (not (ltb c.order p.geometry.top) || not (is_free p (chunk_above c)))
 
 largest-from_test : (p : FreeSpace) (c : Chunk) → IsBlock p.geometry.top p.roots c
     → is_largest p c ≡ true → IsLargestFree p c
@@ -91,7 +96,8 @@ largest-from_test p c block h =
       largest = λ lt above.
           elim (or_cases (not (ltb c.order p.geometry.top)) _ parts.1) [
             | inl isnt ↦ absurd (both_ways _ (not-true _ isnt) (lt-ltb c.order p.geometry.top lt))
-            | inr isnt ↦ absurd (both_ways _ (not-true _ isnt) (test-from_free p (chunk_above c) above))
+            | inr isnt ↦ absurd (both_ways _ (not-true _ isnt)
+                (test-from_free p (chunk_above c) above))
           ];
     }
 
@@ -103,8 +109,10 @@ test-from_largest p c h =
       | inl lt ↦
           or_right (not (ltb c.order p.geometry.top)) _ (not_from_false _ (false_from_ne_true _
           (λ e.
-          h.largest lt (free-from_test p (chunk_above c) (above-block p.geometry.top p.roots c h.free.block lt) e))))
-      | inr ge ↦ or_left (not (ltb c.order p.geometry.top)) _ (not_from_false _ (le-ltb c.order p.geometry.top ge))
+          h.largest lt (free-from_test p (chunk_above c)
+          (above-block p.geometry.top p.roots c h.free.block lt) e))))
+      | inr ge ↦ or_left (not (ltb c.order p.geometry.top)) _
+          (not_from_false _ (le-ltb c.order p.geometry.top ge))
     ])
 
 -- the chunk of an order that begins at a granule, if one does
@@ -127,8 +135,10 @@ candidate-block p n o le below h =
     let i = n / 2 ^ o in
     let here : i * 2 ^ o ≡ n = eqb-true _ _ h in
     let parts : 2 ^ top ≡ 2 ^ (top - o) * 2 ^ o = split top o le in
-    let less : i < p.roots * 2 ^ (top - o) = lt_of_mul-lt-mul_right (2 ^ o) (omega (arith, below, here, ap (λ s. p.roots * s) parts)) in
-    let more : (i + 1) * 2 ^ o ≤ p.roots * 2 ^ (top - o) * 2 ^ o = mul-le-mul_right (2 ^ o) (omega arith) in
+    let less : i < p.roots * 2 ^ (top - o) =
+    lt_of_mul-lt-mul_right (2 ^ o) (omega (arith, below, here, ap (λ s. p.roots * s) parts)) in
+    let more : (i + 1) * 2 ^ o ≤ p.roots * 2 ^ (top - o) * 2 ^ o =
+    mul-le-mul_right (2 ^ o) (omega arith) in
     let b : Block = record { index = i; order = o } in (
       chunk_at-block top b p.roots le (omega (arith, more, ap (λ s. p.roots * s) parts)),
       sym (chunk_at-same top b le).place ∙ omega (arith, ap (λ m. 128 * m) here),
@@ -152,7 +162,8 @@ candidate-is p c n block number =
     let parts : 2 ^ top ≡ d * 2 ^ o = split top o block.within_top in
     let whole : chunk_size top ≡ d * size = omega (arith, parts) in
     let pos : 0 < size = omega (arith, pow_pos o) in
-    let in_root : c.at / size < d = (div-lt_iff_lt-mul pos).1 (omega (arith, whole, block.inside)) in
+    let in_root : c.at / size < d =
+    (div-lt_iff_lt-mul pos).1 (omega (arith, whole, block.inside)) in
     let at : size * (c.at / size) + c.at % size ≡ c.at = div-add-mod c.at size in
     let root : n / 2 ^ o / d ≡ c.root = ap
     (λ m. m / d) index ∙ div-mul-add c.root d (c.at / size) in_root in
@@ -211,14 +222,19 @@ none-larger p n c d h k lt =
     let block_d = k.largest.free.block in
     let small : c.order < top = omega (arith, block_d.within_top) in
     let up = above-block top p.roots c block_c small in
-    let first : Covers c c.root c.at = record { same_root = refl; from = omega arith; to = omega (arith, pow_pos c.order) } in
-    let first_d : Covers d d.root d.at = record { same_root = refl; from = omega arith; to = omega (arith, pow_pos d.order) } in
-    let in_up : Covers (chunk_above c) c.root c.at = (halves_make_whole top p.roots c block_c c.root c.at).1 (inl first) in
+    let first : Covers c c.root c.at =
+    record { same_root = refl; from = omega arith; to = omega (arith, pow_pos c.order) } in
+    let first_d : Covers d d.root d.at =
+    record { same_root = refl; from = omega arith; to = omega (arith, pow_pos d.order) } in
+    let in_up : Covers (chunk_above c) c.root c.at =
+    (halves_make_whole top p.roots c block_c c.root c.at).1 (inl first) in
     let g_up = covers-in top p.roots (chunk_above c) c.root c.at up in_up in
     let g_d = covers-in top p.roots d d.root d.at block_d first_d in
-    let same : word_number top d.root d.at ≡ word_number top c.root c.at = k.number ∙ sym h.number in
+    let same : word_number top d.root d.at ≡ word_number top c.root c.at =
+    k.number ∙ sym h.number in
     let nested =
-    inside-from_shared (block_of top (chunk_above c)) (block_of top d) (word_number top c.root c.at / 128) (omega arith) g_up
+    inside-from_shared (block_of top (chunk_above c)) (block_of top d)
+    (word_number top c.root c.at / 128) (omega arith) g_up
     (subst (λ m. is_in (block_of top d) (m / 128) ≡ true) same g_d)
     in
     let part = inside-part top p.roots (chunk_above c) d up block_d nested in
@@ -226,7 +242,8 @@ none-larger p n c d h k lt =
       block = up;
       words = λ word low high.
           let covers = part c.root word (record { same_root = refl; from = low; to = high }) in
-          subst (λ r. IsFreeWord p r word) (sym covers.same_root) (k.largest.free.words word covers.from covers.to);
+          subst (λ r. IsFreeWord p r word) (sym covers.same_root)
+          (k.largest.free.words word covers.from covers.to);
     })
 
 pick-complete : (p : FreeSpace) (n : ℕ) (c : Chunk) (o : ℕ) → o ≤ p.geometry.top
@@ -237,14 +254,17 @@ pick-complete p n c zero le below h small =
     let order : c.order ≡ 0 = omega arith in
     let same : candidate p n 0 ≡ c = ap (λ o. candidate p n o) (sym order) ∙ is.0 in
     let here : begins n 0 ≡ true = ap (begins n) (sym order) ∙ is.1 in
-    let test : passes p n 0 ≡ true = and_from _ _ here (ap (is_largest p) same ∙ test-from_largest p c h.largest) in
+    let test : passes p n 0 ≡ true =
+    and_from _ _ here (ap (is_largest p) same ∙ test-from_largest p c h.largest) in
     ap (λ b. cond b (Some (candidate p n 0)) None) test ∙ ap Some same
 pick-complete p n c (suc o) le below h small =
     elim (cases_lt c.order (suc o)) [
       | inl lt ↦
           elim (passes p n (suc o)) as (λ b. passes p n (suc o) ≡ b
           → cond b (Some (candidate p n (suc o))) (pick p n o) ≡ Some c) [
-            | true ↦ λ e. absurd (none-larger p n c (candidate p n (suc o)) h (picked p n (suc o) le below e) (subst (λ k. c.order < k) (sym (order-candidate p n (suc o))) lt))
+            | true ↦ λ e. absurd (none-larger p n c (candidate p n (suc o)) h
+                (picked p n (suc o) le below e)
+                (subst (λ k. c.order < k) (sym (order-candidate p n (suc o))) lt))
             | false ↦ λ e. pick-complete p n c o (omega arith) below h (omega arith)
           ] refl
       | inr ge ↦
@@ -252,7 +272,8 @@ pick-complete p n c (suc o) le below h small =
           let order : c.order ≡ suc o = omega arith in
           let same : candidate p n (suc o) ≡ c = ap (λ k. candidate p n k) (sym order) ∙ is.0 in
           let here : begins n (suc o) ≡ true = ap (begins n) (sym order) ∙ is.1 in
-          let test : passes p n (suc o) ≡ true = and_from _ _ here (ap (is_largest p) same ∙ test-from_largest p c h.largest) in
+          let test : passes p n (suc o) ≡ true =
+          and_from _ _ here (ap (is_largest p) same ∙ test-from_largest p c h.largest) in
           ap (λ b. cond b (Some (candidate p n (suc o))) (pick p n o)) test ∙ ap Some same
     ]
 
@@ -276,7 +297,13 @@ before-number top roots c d block_c block_d lt =
       | inl e ↦ let same : c.root * chunk_size top ≡ d.root * chunk_size top = ap
           (λ r. r * chunk_size top) e in inr (e, omega (arith, same, lt))
       | inr (inl less) ↦ inl less
-      | inr (inr more) ↦ absurd (omega (arith, lt, number-order (chunk_size top) d.root c.root d.at c.at more (omega (arith, block_d.inside, pow_pos d.order))))
+      | inr (inr more) ↦ absurd
+          (omega (
+            arith,
+            lt,
+            number-order (chunk_size top) d.root c.root d.at c.at more
+                (omega (arith, block_d.inside, pow_pos d.order)),
+          ))
     ]
 
 listed-more : (p : FreeSpace) (n : ℕ) (o : Option Chunk)
@@ -300,7 +327,8 @@ ordered-more p n (Some d) q h k =
     pairs-insert LiesBefore (all_below p n) d [] (subst
     (λ (cs : List Chunk). Pairwise LiesBefore cs) (sym (append-nil (all_below p n))) q)
     (each-weaker (IsListed p n) (λ c. LiesBefore c d)
-    (λ c l. before-number p.geometry.top p.roots c d l.largest.free.block k.largest.free.block (omega (arith, l.number, k.number))) (all_below p n) h) tt
+    (λ c l. before-number p.geometry.top p.roots c d l.largest.free.block k.largest.free.block
+    (omega (arith, l.number, k.number))) (all_below p n) h) tt
 
 listed : (p : FreeSpace) (n : ℕ) → n ≤ p.roots * 2 ^ p.geometry.top
     → Pairwise LiesBefore (all_below p n) × AllByRecursion (IsListed p n) (all_below p n)
@@ -308,8 +336,10 @@ unfolding all_below
 listed p zero le = (tt, tt)
 listed p (suc n) le =
     let before = listed p n (omega arith) in
-    let sound = pick-sound p n p.geometry.top (omega arith) (omega arith) in
-    (ordered-more p n (pick p n p.geometry.top) before.0 before.1 sound, listed-more p n (pick p n p.geometry.top) before.1 sound)
+    let sound = pick-sound p n p.geometry.top (omega arith) (omega arith) in (
+      ordered-more p n (pick p n p.geometry.top) before.0 before.1 sound,
+      listed-more p n (pick p n p.geometry.top) before.1 sound,
+    )
 
 among-front : (cs : List Chunk) (o : Option Chunk) (c : Chunk) → Among c cs
     → Among c (with_option cs o)
@@ -332,9 +362,13 @@ every p c n (suc m) h lt le =
     elim (cases_eq n m) [
       | inl e ↦
           let here : IsPicked p m c = subst (λ k. IsPicked p k c) e h in
-          let found = pick-complete p m c p.geometry.top (omega arith) (omega arith) here h.largest.free.block.within_top in
-          subst (λ o. Among c (with_option (all_below p m) o)) (sym found) (among-last (all_below p m) c)
-      | inr other ↦ among-front (all_below p m) (pick p m p.geometry.top) c (every p c n m h (omega arith) (omega arith))
+          let found =
+          pick-complete p m c p.geometry.top (omega arith) (omega arith) here
+          h.largest.free.block.within_top in
+          subst (λ o. Among c (with_option (all_below p m) o)) (sym found)
+          (among-last (all_below p m) c)
+      | inr other ↦ among-front (all_below p m) (pick p m p.geometry.top) c
+          (every p c n m h (omega arith) (omega arith))
     ]
 
 pub largest_listed : (p : FreeSpace) → (cs : List Chunk) × AreLargestFree p cs
@@ -351,7 +385,8 @@ largest_listed p =
             let b = block_of top c in
             let same = same-block_of top p.roots c h.free.block in
             let number : word_number top c.root c.at ≡ 128 * start b = omega (arith, same.place) in
-            let below : start b < all = omega (arith, same-stop top p.roots c b same h.free.block, pow_pos b.order) in
+            let below : start b < all =
+            omega (arith, same-stop top p.roots c b same h.free.block, pow_pos b.order) in
             every p c (start b) all (record { largest = h; number = number }) below (omega arith);
       },
     )

@@ -63,8 +63,10 @@ module _ {X : Type 0} where
   pub pairs-remove : (R : X → X → Type 0) (xs : List X) (b : X) (ys : List X)
       → Pairwise R (xs ++ b ∷ ys) → Pairwise R (xs ++ ys)
   pairs-remove R [] b ys p = p.1
-  pairs-remove R (x ∷ xs) b ys p =
-      (each-join (R x) xs ys (each-front (R x) xs (b ∷ ys) p.0) (each-back (R x) xs (b ∷ ys) p.0).1, pairs-remove R xs b ys p.1)
+  pairs-remove R (x ∷ xs) b ys p = (
+    each-join (R x) xs ys (each-front (R x) xs (b ∷ ys) p.0) (each-back (R x) xs (b ∷ ys) p.0).1,
+    pairs-remove R xs b ys p.1,
+  )
 
   pub pairs-before : (R : X → X → Type 0) (xs : List X) (b : X) (ys : List X)
       → Pairwise R (xs ++ b ∷ ys) → AllByRecursion (λ x. R x b) xs
@@ -94,7 +96,8 @@ module _ {X : Type 0} where
   -- one more element at the front that is known
   pub each-more : (P : X → Type 0) (xs : List X) (i : ℕ) (d : X) → i < length xs
       → AllByRecursion P (take i xs) → P (get_or xs i d) → AllByRecursion P (take (i + 1) xs)
-  each-more P xs i d h a p = rw (take_more xs i d h) (each-join P (take i xs) (get_or xs i d ∷ []) a (p, tt))
+  each-more P xs i d h a p =
+      rw (take_more xs i d h) (each-join P (take i xs) (get_or xs i d ∷ []) a (p, tt))
 
   pub each-all : (P : X → Type 0) (xs : List X) (i : ℕ) → length xs ≤ i
       → AllByRecursion P (take i xs) → AllByRecursion P xs

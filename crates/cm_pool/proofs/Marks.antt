@@ -31,19 +31,23 @@ marked-place rows b e =
 -- the row that changes
 row-with : (rows : List (List ℕ)) (b : Block) (o : ℕ) → HasPlace rows b → o ≡ b.order
     → row (with_mark rows b) o ≡ with_bit (row rows b.order) b.index
-row-with rows b o h e = ap (row (with_mark rows b)) e ∙ get_or-set_same rows b.order (with_bit (row rows b.order) b.index) [] h.order
+row-with rows b o h e = ap (row (with_mark rows b)) e
+    ∙ get_or-set_same rows b.order (with_bit (row rows b.order) b.index) [] h.order
 
 row-without : (rows : List (List ℕ)) (b : Block) (o : ℕ) → HasPlace rows b → o ≡ b.order
     → row (without_mark rows b) o ≡ without_bit (row rows b.order) b.index
-row-without rows b o h e = ap (row (without_mark rows b)) e ∙ get_or-set_same rows b.order (without_bit (row rows b.order) b.index) [] h.order
+row-without rows b o h e = ap (row (without_mark rows b)) e
+    ∙ get_or-set_same rows b.order (without_bit (row rows b.order) b.index) [] h.order
 
 other-with : (rows : List (List ℕ)) (b : Block) (o : ℕ) → o ≢ b.order
     → row (with_mark rows b) o ≡ row rows o
-other-with rows b o other = get_or-set_other rows b.order o (with_bit (row rows b.order) b.index) [] other
+other-with rows b o other =
+    get_or-set_other rows b.order o (with_bit (row rows b.order) b.index) [] other
 
 other-without : (rows : List (List ℕ)) (b : Block) (o : ℕ) → o ≢ b.order
     → row (without_mark rows b) o ≡ row rows o
-other-without rows b o other = get_or-set_other rows b.order o (without_bit (row rows b.order) b.index) [] other
+other-without rows b o other =
+    get_or-set_other rows b.order o (without_bit (row rows b.order) b.index) [] other
 
 -- each row keeps its length
 pub length-with : (rows : List (List ℕ)) (b : Block) (o : ℕ) → HasPlace rows b
@@ -100,7 +104,8 @@ marked-without rows b c h e =
 covered-bit : (rows : List (List ℕ)) (o g : ℕ) → bit (row rows o) (g / 2 ^ o) ≡ true
     → is_covered rows g ≡ true
 covered-bit [] o g e = absurd (both_ways _ (ap
-    (λ r. bit r (g / 2 ^ o)) (get_or_past [] o [] (omega arith)) ∙ bit-past [] (g / 2 ^ o) (omega arith)) e)
+    (λ r. bit r (g / 2 ^ o)) (get_or_past [] o [] (omega arith))
+    ∙ bit-past [] (g / 2 ^ o) (omega arith)) e)
 covered-bit (r ∷ rows) zero g e =
     let whole : g / 2 ^ 0 ≡ g = omega arith in
     or_left (bit r g) _ (ap (bit r) (sym whole) ∙ e)
@@ -111,7 +116,8 @@ covered-bit (r ∷ rows) (suc o) g e =
 
 pub covered-marked : (rows : List (List ℕ)) (b : Block) (g : ℕ) → is_marked rows b ≡ true
     → is_in b g ≡ true → is_covered rows g ≡ true
-covered-marked rows b g e h = covered-bit rows b.order g (ap (bit (row rows b.order)) (eqb-true _ _ h) ∙ e)
+covered-marked rows b g e h =
+    covered-bit rows b.order g (ap (bit (row rows b.order)) (eqb-true _ _ h) ∙ e)
 
 covering-bit : (rows : List (List ℕ)) (g : ℕ) → is_covered rows g ≡ true → (o : ℕ)
     × (bit (row rows o) (g / 2 ^ o) ≡ true)
@@ -132,8 +138,11 @@ covering-bit (r ∷ rows) g e =
 pub covering : (rows : List (List ℕ)) (g : ℕ) → is_covered rows g ≡ true → (b : Block)
     × (is_marked rows b ≡ true) × (is_in b g ≡ true)
 covering rows g e =
-    let found = covering-bit rows g e in
-    (record { index = g / 2 ^ found.0; order = found.0 }, found.1, eq-eqb (g / 2 ^ found.0) (g / 2 ^ found.0) refl)
+    let found = covering-bit rows g e in (
+      record { index = g / 2 ^ found.0; order = found.0 },
+      found.1,
+      eq-eqb (g / 2 ^ found.0) (g / 2 ^ found.0) refl,
+    )
 
 swap_or : (a b c : Bool) → (a || (b || c)) ≡ (b || (a || c))
 swap_or true true c = refl
@@ -154,7 +163,8 @@ covers-with : (rows : List (List ℕ)) (o i g : ℕ) → o < length rows → i <
 covers-with [] o i g order index = absurd (omega arith)
 covers-with (r ∷ rows) zero i g order index =
     let whole : g / 2 ^ 0 ≡ g = omega arith in
-    ap (λ t. t || is_covered rows (g / 2)) (bit-with r i g index) ∙ or_assoc (eqb g i) (bit r g) (is_covered rows (g / 2))
+    ap (λ t. t || is_covered rows (g / 2)) (bit-with r i g index)
+    ∙ or_assoc (eqb g i) (bit r g) (is_covered rows (g / 2))
     ∙ ap (λ n. eqb n i || (bit r g || is_covered rows (g / 2))) (sym whole)
 covers-with (r ∷ rows) (suc o) i g order index =
     let next : suc o ≡ 1 + o = omega arith in
@@ -165,7 +175,8 @@ covers-with (r ∷ rows) (suc o) i g order index =
 
 covers-without : (rows : List (List ℕ)) (o i g : ℕ) → o < length rows
     → i < 64 * length (row rows o)
-    → (eqb (g / 2 ^ o) i || is_covered (set rows o (without_bit (row rows o) i)) g) ≡ (eqb (g / 2 ^ o) i || is_covered rows g)
+    → (eqb (g / 2 ^ o) i || is_covered (set rows o (without_bit (row rows o) i)) g)
+    ≡ (eqb (g / 2 ^ o) i || is_covered rows g)
 covers-without [] o i g order index = absurd (omega arith)
 covers-without (r ∷ rows) zero i g order index =
     let whole : g / 2 ^ 0 ≡ g = omega arith in

@@ -25,7 +25,8 @@ among-without : (xs : List Chunk) (c : Chunk) (ys : List Chunk) (d : Chunk)
     → Among d (xs ++ c ∷ ys) → (d ≡ c) ⊎ Among d (xs ++ ys)
 among-without [] c ys d m = m
 among-without (x ∷ xs) c ys d (inl e) = inr (inl e)
-among-without (x ∷ xs) c ys d (inr m) = elim (among-without xs c ys d m) [ inl e ↦ inl e | inr n ↦ inr (inr n) ]
+among-without (x ∷ xs) c ys d (inr m) =
+    elim (among-without xs c ys d m) [ inl e ↦ inl e | inr n ↦ inr (inr n) ]
 
 -- a word is the chunk's, or it isn't
 covers-or_not : (p : FreeSpace) (c : Chunk) (root word : ℕ)

@@ -22,7 +22,8 @@ pub first-fits : (b : Block) (o : ℕ) → o ≤ b.order → start b < 2 ^ 20
 first-fits b o le low =
     let whole : start b ≡ b.index * (2 ^ (b.order - o) * 2 ^ o) = ap
     (λ s. b.index * s) (split b.order o le) in
-    let part : b.index * 2 ^ (b.order - o) * 1 ≤ b.index * 2 ^ (b.order - o) * 2 ^ o = mul-le-mul_left (b.index * 2 ^ (b.order - o)) (pow_pos o) in
+    let part : b.index * 2 ^ (b.order - o) * 1 ≤ b.index * 2 ^ (b.order - o) * 2 ^ o =
+    mul-le-mul_left (b.index * 2 ^ (b.order - o)) (pow_pos o) in
     mod-eq_of_lt (omega arith)
 
 pub first-start : (b : Block) (o : ℕ) → o ≤ b.order → b.index * 2 ^ (b.order - o) * 2 ^ o ≡ start b
@@ -34,27 +35,37 @@ first-inside b o le = record { smaller = le; same_part = shl-shr b.index (b.orde
 
 -- the block of a chunk
 pub root-fits : (root t o : ℕ) → root < 256 → t ≤ 12 → root * 2 ^ (t - o) ≤ 255 * 4096
-root-fits root t o lt le = mul-le root (2 ^ (t - o)) 255 4096 (omega arith) (small (t - o) (omega arith))
+root-fits root t o lt le =
+    mul-le root (2 ^ (t - o)) 255 4096 (omega arith) (small (t - o) (omega arith))
 
 pub chunk-place : (t : ℕ) (c : Chunk) → c.order ≤ t → c.at % chunk_size c.order ≡ 0
-    → (c.root * 2 ^ (t - c.order) + c.at / chunk_size c.order) * chunk_size c.order ≡ word_number t c.root c.at
+    → (c.root * 2 ^ (t - c.order) + c.at / chunk_size c.order) * chunk_size c.order
+    ≡ word_number t c.root c.at
 chunk-place t c le aligned =
     let whole = ap (λ s. c.root * (128 * s)) (split t c.order le) in
-    let at : chunk_size c.order * (c.at / chunk_size c.order) + c.at % chunk_size c.order ≡ c.at = div-add-mod c.at (chunk_size c.order) in
+    let at : chunk_size c.order * (c.at / chunk_size c.order) + c.at % chunk_size c.order ≡ c.at =
+    div-add-mod c.at (chunk_size c.order) in
     omega (arith, whole, at, aligned)
 
 -- the chunk of a block
 pub in_root-fits : (i t o : ℕ) → o ≤ t → t ≤ 12 → i % 2 ^ (t - o) * (128 * 2 ^ o) < 2 ^ 32
 in_root-fits i t o le top =
     let rest : i % 2 ^ (t - o) < 2 ^ (t - o) = mod-lt i (pow_pos (t - o)) in
-    let more : i % 2 ^ (t - o) * 2 ^ o ≤ 4096 * 4096 = mul-le (i % 2 ^ (t - o)) (2 ^ o) 4096 4096 (omega (arith, small (t - o) (omega arith))) (small o (omega arith)) in
+    let more : i % 2 ^ (t - o) * 2 ^ o ≤ 4096 * 4096 =
+    mul-le (i % 2 ^ (t - o)) (2 ^ o) 4096 4096 (omega (arith, small (t - o) (omega arith)))
+    (small o (omega arith)) in
     omega arith
 
 pub size-fits : (o : ℕ) → o ≤ 12 → 128 * 2 ^ o % 2 ^ 32 ≡ 128 * 2 ^ o
 size-fits o le = mod-eq_of_lt (omega (arith, small o le))
 
 abbrev pub chunk_at : ℕ → Block → Chunk
-chunk_at t b = record { root = b.index / 2 ^ (t - b.order); order = b.order; at = b.index % 2 ^ (t - b.order) * (128 * 2 ^ b.order) }
+chunk_at t b =
+    record {
+      root = b.index / 2 ^ (t - b.order);
+      order = b.order;
+      at = b.index % 2 ^ (t - b.order) * (128 * 2 ^ b.order);
+    }
 
 pub chunk_at-same : (t : ℕ) (b : Block) → b.order ≤ t → IsSame t (chunk_at t b) b
 chunk_at-same t b le =
@@ -83,10 +94,13 @@ chunk_at-block t b roots le within =
           (λ s. roots * s) whole,
       pow_pos b.order,
     ) in
-    let room : (b.index % d + 1) * 2 ^ b.order ≤ d * 2 ^ b.order = mul-le-mul_right (2 ^ b.order) (omega arith) in
+    let room : (b.index % d + 1) * 2 ^ b.order ≤ d * 2 ^ b.order =
+    mul-le-mul_right (2 ^ b.order) (omega arith) in
     record {
       within_top = le;
-      in_a_root = (div-lt_iff_lt-mul (pow_pos (t - b.order))).1 (lt_of_mul-lt-mul_right (2 ^ b.order) below);
+      in_a_root =
+          (div-lt_iff_lt-mul (pow_pos (t - b.order))).1
+          (lt_of_mul-lt-mul_right (2 ^ b.order) below);
       aligned = mul-mod_left (b.index % d) (128 * 2 ^ b.order);
       inside = omega (arith, whole, room);
     }

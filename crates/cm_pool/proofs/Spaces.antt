@@ -54,8 +54,10 @@ in-marked r (suc n) g =
         | inl same ↦
             (λ i. le-ltb g n (omega arith) i && bit r g)
             ∙ sym ((λ i. lt-ltb g (suc n) (omega arith) i && bit r g) ∙ ap (bit r) same ∙ e)
-        | inr (inl less) ↦ λ i. (lt-ltb g n less ∙ sym (lt-ltb g (suc n) (omega arith))) i && bit r g
-        | inr (inr more) ↦ λ i. (le-ltb g n (omega arith) ∙ sym (le-ltb g (suc n) (omega arith))) i && bit r g
+        | inr (inl less) ↦ λ i. (lt-ltb g n less ∙ sym (lt-ltb g (suc n) (omega arith))) i
+            && bit r g
+        | inr (inr more) ↦ λ i. (le-ltb g n (omega arith) ∙ sym (le-ltb g (suc n) (omega arith))) i
+            && bit r g
       ]
     ] refl
 
@@ -81,7 +83,8 @@ in-pairs (h ∷ hs) g =
     ap (λ t. nat_eq (2 * h) g || (nat_eq (2 * h + 1) g || t)) (in-pairs hs g)
     ∙ or_assoc (nat_eq (2 * h) g) (nat_eq (2 * h + 1) g) (list_any (λ y. nat_eq y (g / 2)) hs)
     ∙ ap (λ t. t || list_any
-    (λ y. nat_eq y (g / 2)) hs) ((λ i. turned (2 * h) g i || turned (2 * h + 1) g i) ∙ sym (half_eq g h) ∙ turned (g / 2) h)
+    (λ y. nat_eq y (g / 2)) hs) ((λ i. turned (2 * h) g i || turned (2 * h + 1) g i)
+    ∙ sym (half_eq g h) ∙ turned (g / 2) h)
 
 in-granules : (rows : List (List ℕ)) (g : ℕ) → list_any
     (λ y. nat_eq y g) (granules rows) ≡ is_covered rows g
@@ -103,13 +106,15 @@ numbers : (gs : List ℕ) (n : ℕ) → list_any
 numbers [] n = refl
 numbers (g ∷ gs) n =
     list_any-append (λ y. nat_eq y n) (granule_words g) (flat_map granule_words gs)
-    ∙ (λ i. same_from_decides _ _ (range-decides (128 * g) 128 n) (word-granule g n) i || numbers gs n i)
+    ∙ (λ i. same_from_decides _ _ (range-decides (128 * g) 128 n) (word-granule g n) i
+    || numbers gs n i)
 
 -- a word is free exactly where its granule is covered
 pub contains-space_of : (sizes : Sizes) (roots : ℕ) (rows : List (List ℕ)) (n : ℕ)
     → contains (space_of sizes roots rows).free n ≡ is_covered rows (n / 128)
 contains-space_of sizes roots rows n =
-    contains-from_list_nat (flat_map granule_words (granules rows)) n ∙ numbers (granules rows) n ∙ in-granules rows (n / 128)
+    contains-from_list_nat (flat_map granule_words (granules rows)) n ∙ numbers (granules rows) n
+    ∙ in-granules rows (n / 128)
 
 pub words-is_in : (top : ℕ) (c : Chunk) (b : Block) (n : ℕ) → IsSame top c b
     → contains (words top c) n ≡ is_in b (n / 128)
@@ -127,7 +132,8 @@ pub space-without : (sizes : Sizes) (roots : ℕ) (old new : List (List ℕ)) (c
 space-without sizes roots old new c b same h =
     same_numbers (space_of sizes roots new) (without (space_of sizes roots old) c) refl refl (λ n.
     contains-space_of sizes roots new n ∙ h (n / 128)
-    ∙ (λ i. sym (contains-space_of sizes roots old n) i && not (sym (words-is_in sizes.top c b n same) i))
+    ∙ (λ i. sym (contains-space_of sizes roots old n) i
+    && not (sym (words-is_in sizes.top c b n same) i))
     ∙ sym (contains-difference nat_cmp_total (space_of sizes roots old).free (words sizes.top c) n))
 
 or_swapped : (a b : Bool) → (a || b) ≡ (b || a)
@@ -136,7 +142,9 @@ or_swapped true false = refl
 or_swapped false true = refl
 or_swapped false false = refl
 
-pub space-with_chunk : (sizes : Sizes) (roots : ℕ) (old new : List (List ℕ)) (c : Chunk) (b : Block) → IsSame sizes.top c b → ((g : ℕ) → is_covered new g ≡ (is_in b g || is_covered old g)) → space_of sizes roots new ≡ with_chunk (space_of sizes roots old) c
+pub space-with_chunk : (sizes : Sizes) (roots : ℕ) (old new : List (List ℕ)) (c : Chunk) (b : Block)
+    → IsSame sizes.top c b → ((g : ℕ) → is_covered new g ≡ (is_in b g || is_covered old g))
+    → space_of sizes roots new ≡ with_chunk (space_of sizes roots old) c
 space-with_chunk sizes roots old new c b same h =
     same_numbers (space_of sizes roots new) (with_chunk (space_of sizes roots old) c) refl refl
     (λ n.
@@ -150,7 +158,8 @@ pub space-with_root : (sizes : Sizes) (roots : ℕ) (old new : List (List ℕ)) 
     → space_of sizes (roots + 1) new ≡ with_root (space_of sizes roots old)
 space-with_root sizes roots old new b same h =
     let c : Chunk = record { root = roots; order = sizes.top; at = 0 } in
-    same_numbers (space_of sizes (roots + 1) new) (with_root (space_of sizes roots old)) refl refl (λ n.
+    same_numbers (space_of sizes (roots + 1) new) (with_root (space_of sizes roots old))
+    refl refl (λ n.
     contains-space_of sizes (roots + 1) new n ∙ h (n / 128) ∙ or_swapped (is_in b (n / 128)) _
     ∙ (λ i. sym (contains-space_of sizes roots old n) i || sym (words-is_in sizes.top c b n same) i)
     ∙ sym (contains-union nat_cmp_total (space_of sizes roots old).free (words sizes.top c) n))
@@ -170,7 +179,9 @@ pub free-covered : (sizes : Sizes) (roots : ℕ) (rows : List (List ℕ)) (c : C
 free-covered sizes roots rows c b same free g h =
     let word = granule-word sizes.top c b g same h in
     let whole : 128 * g / 128 ≡ g = omega arith in
-    ap (is_covered rows) (sym whole) ∙ sym (contains-space_of sizes roots rows (128 * g)) ∙ ap (contains (space_of sizes roots rows).free) (sym word.1) ∙ (free.words word.0 word.2 word.3).is_free
+    ap (is_covered rows) (sym whole) ∙ sym (contains-space_of sizes roots rows (128 * g))
+    ∙ ap (contains (space_of sizes roots rows).free) (sym word.1)
+    ∙ (free.words word.0 word.2 word.3).is_free
 
 pub used-uncovered : (sizes : Sizes) (roots : ℕ) (rows : List (List ℕ)) (c : Chunk) (b : Block)
     → IsSame sizes.top c b → IsUsedChunk (space_of sizes roots rows) c → (g : ℕ)
@@ -180,7 +191,8 @@ used-uncovered sizes roots rows c b same used g h =
     let whole : 128 * g / 128 ≡ g = omega arith in
     false_from_ne_true _ (λ e. used.words word.0 word.2 word.3 (record {
       within = omega (arith, word.3, used.block.inside);
-      is_free = ap (contains (space_of sizes roots rows).free) word.1 ∙ contains-space_of sizes roots rows (128 * g) ∙ ap (is_covered rows) whole ∙ e;
+      is_free = ap (contains (space_of sizes roots rows).free) word.1
+          ∙ contains-space_of sizes roots rows (128 * g) ∙ ap (is_covered rows) whole ∙ e;
     }))
 
 -- and a chunk whose block is covered is free
@@ -195,6 +207,7 @@ covered-free sizes roots rows c b same block h =
           let within = (words-decides sizes.top c n).1 (omega (arith, low), omega (arith, high)) in
           record {
             within = omega (arith, high, block.inside);
-            is_free = contains-space_of sizes roots rows n ∙ h (n / 128) (sym (words-is_in sizes.top c b n same) ∙ within);
+            is_free = contains-space_of sizes roots rows n
+                ∙ h (n / 128) (sym (words-is_in sizes.top c b n same) ∙ within);
           };
     }

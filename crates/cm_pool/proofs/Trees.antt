@@ -76,7 +76,8 @@ larger : (i o : ℕ) (half c : Block) → ((g : ℕ) → is_in half g ≡ true
     → is_in (block i (suc o)) g ≡ true) → suc o ≤ c.order → Inside half c
     → Inside (block i (suc o)) c
 larger i o half c part le h =
-    inside-from_shared (block i (suc o)) c (start half) le (part (start half) (is_in-start half)) (inside-is_in half c (start half) h (is_in-start half))
+    inside-from_shared (block i (suc o)) c (start half) le (part (start half) (is_in-start half))
+    (inside-is_in half c (start half) h (is_in-start half))
 
 -- a block that is wholly covered lies in one whose bit is set
 abbrev pub Holder : List (List ℕ) → Block → Type 0
@@ -91,7 +92,8 @@ other-block i o =
 no-halves : (top : ℕ) (rows : List (List ℕ)) (o i : ℕ) → IsTree top rows → o < top
     → is_marked rows (block (2 * i) o) ≡ true → is_marked rows (block (2 * i + 1) o) ≡ true → ⊥
 no-halves top rows o i h lt left right =
-    both_ways _ (ap (is_marked rows) (sym (other-block i o)) ∙ h.unjoined (block (2 * i) o) lt left) right
+    both_ways _ (ap (is_marked rows) (sym (other-block i o))
+    ∙ h.unjoined (block (2 * i) o) lt left) right
 
 holder-cases : (top : ℕ) (rows : List (List ℕ)) (o i : ℕ) → IsTree top rows → o < top
     → Holder rows (block (2 * i) o) → Holder rows (block (2 * i + 1) o)
@@ -114,8 +116,10 @@ holder-cases top rows o i h lt (b, m, in_b) (c, n, in_c) =
             )
             | inr alike ↦
                 absurd (no-halves top rows o i h lt
-                (ap (is_marked rows) (inside-same_order (block (2 * i) o) b in_b (omega (arith, in_b.smaller))) ∙ m)
-                (ap (is_marked rows) (inside-same_order (block (2 * i + 1) o) c in_c (omega (arith, in_c.smaller))) ∙ n))
+                (ap (is_marked rows) (inside-same_order (block (2 * i) o) b in_b
+                (omega (arith, in_b.smaller))) ∙ m)
+                (ap (is_marked rows) (inside-same_order (block (2 * i + 1) o) c in_c
+                (omega (arith, in_c.smaller))) ∙ n))
           ]
     ]
 
@@ -168,7 +172,8 @@ largest-set top rows b h le (whole, no_other) =
           let below = marked-order top rows c h.orders held.1 in
           absurd (no_other (omega arith)
           (λ g e. covered-marked rows c g held.1 (inside-other b c held.2 more g e)))
-      | inr less ↦ ap (is_marked rows) (inside-same_order b c held.2 (omega (arith, held.2.smaller))) ∙ held.1
+      | inr less ↦ ap (is_marked rows)
+          (inside-same_order b c held.2 (omega (arith, held.2.smaller))) ∙ held.1
     ]
 
 pub meaning-from : (top : ℕ) (rows : List (List ℕ)) → IsTree top rows → (b : Block)
@@ -185,7 +190,10 @@ pub record IsHole (top limit : ℕ) (rows : List (List ℕ)) (b : Block) : Type 
 pub hole-place : (top limit : ℕ) (rows : List (List ℕ)) (b : Block) → IsHole top limit rows b
     → HasPlace rows b
 hole-place top limit rows b h =
-    record { order = omega (arith, h.kept.orders, h.small); index = h.kept.room b h.small (h.low (start b) (is_in-start b)) }
+    record {
+      order = omega (arith, h.kept.orders, h.small);
+      index = h.kept.room b h.small (h.low (start b) (is_in-start b));
+    }
 
 -- a set bit is cleared
 tree-without : (top : ℕ) (rows : List (List ℕ)) (b : Block) → IsTree top rows → HasPlace rows b
@@ -207,7 +215,8 @@ hole-out top limit rows b h e =
     let tree = tree-from top limit rows h in
     let new = without_mark rows b in
     let less : (g : ℕ) → is_covered new g ≡ true → is_covered rows g ≡ true =
-    λ g c. elim (or_cases (is_in b g) _ (sym (covered-without rows b g place) ∙ or_right (is_in b g) _ c)) [
+    λ g c. elim (or_cases (is_in b g) _ (sym (covered-without rows b g place)
+    ∙ or_right (is_in b g) _ c)) [
       | inl here ↦ covered-marked rows b g e here
       | inr there ↦ there
     ]
@@ -286,7 +295,12 @@ hole-fill top limit rows b h alone =
 hole-part : (top limit : ℕ) (rows : List (List ℕ)) (b c : Block) → IsHole top limit rows b
     → c.order ≤ b.order → ((g : ℕ) → is_in c g ≡ true → is_in b g ≡ true) → IsHole top limit rows c
 hole-part top limit rows b c h le part =
-    record { kept = h.kept; small = omega (arith, h.small); clear = λ g e. h.clear g (part g e); low = λ g e. h.low g (part g e) }
+    record {
+      kept = h.kept;
+      small = omega (arith, h.small);
+      clear = λ g e. h.clear g (part g e);
+      low = λ g e. h.low g (part g e);
+    }
 
 -- one half stays, and the other is taken apart further
 hole-half : (top limit : ℕ) (rows : List (List ℕ)) (b c : Block) → IsHole top limit rows b
@@ -298,7 +312,10 @@ hole-half top limit rows b c h le part other =
     let place = hole-place top limit rows c hole in
     record {
       kept = hole-fill top limit rows c hole (λ _. false_from_ne_true _ (λ e.
-          both_ways _ (h.clear (start (other_half c)) (other (start (other_half c)) (is_in-start (other_half c)))) (covered-marked rows (other_half c) (start (other_half c)) e (is_in-start (other_half c)))));
+          both_ways _ (h.clear (start (other_half c))
+          (other (start (other_half c)) (is_in-start (other_half c))))
+          (covered-marked rows (other_half c) (start (other_half c)) e
+          (is_in-start (other_half c)))));
       small = omega (arith, hole.small, other-order c);
       clear = λ g e. covered-with rows c g place ∙ or_from (is_in c g) _ (false_from_ne_true _
           (λ both. apart-other c g both e)) (h.clear g (other g e));
@@ -326,12 +343,16 @@ hole-right top limit rows b h pos =
 pub place-left : (top limit : ℕ) (rows : List (List ℕ)) (b : Block) → IsHole top limit rows b
     → 0 < b.order → HasPlace rows (left_half b)
 place-left top limit rows b h pos =
-    hole-place top limit rows (left_half b) (hole-part top limit rows b (left_half b) h (omega (arith, order-left b)) (λ g e. is_in-halves b g pos ∙ or_left _ (is_in (right_half b) g) e))
+    hole-place top limit rows (left_half b)
+    (hole-part top limit rows b (left_half b) h (omega (arith, order-left b))
+    (λ g e. is_in-halves b g pos ∙ or_left _ (is_in (right_half b) g) e))
 
 pub place-right : (top limit : ℕ) (rows : List (List ℕ)) (b : Block) → IsHole top limit rows b
     → 0 < b.order → HasPlace rows (right_half b)
 place-right top limit rows b h pos =
-    hole-place top limit rows (right_half b) (hole-part top limit rows b (right_half b) h (omega (arith, order-right b)) (λ g e. is_in-halves b g pos ∙ or_right (is_in (left_half b) g) _ e))
+    hole-place top limit rows (right_half b)
+    (hole-part top limit rows b (right_half b) h (omega (arith, order-right b))
+    (λ g e. is_in-halves b g pos ∙ or_right (is_in (left_half b) g) _ e))
 
 -- the other half is free too: the block above is taken
 pub hole-join : (top limit : ℕ) (rows : List (List ℕ)) (b : Block) → IsHole top limit rows b
@@ -343,7 +364,8 @@ hole-join top limit rows b h lt e =
     let out = hole-out top limit rows o h.kept e in
     let new = without_mark rows o in
     let less : (g : ℕ) → is_covered rows g ≡ false → is_in o g ≡ false → is_covered new g ≡ false =
-    λ g none away. (or_parts (is_in o g) _ (covered-without rows o g place ∙ or_from (is_in o g) _ away none)).1
+    λ g none away. (or_parts (is_in o g) _ (covered-without rows o g place
+    ∙ or_from (is_in o g) _ away none)).1
     in
     let parts : (g : ℕ) → is_in (block_above b) g ≡ true → (is_in b g ≡ true)
     ⊎ (is_in o g ≡ true) = λ g i. or_cases (is_in b g) _ (sym (in-above b g) ∙ i) in
@@ -370,10 +392,13 @@ or_moved a false c false e p q r = ap (λ x. x || c) p ∙ q
 
 pub covered-join : (rows : List (List ℕ)) (b : Block) (g : ℕ)
     → is_marked rows (other_half b) ≡ true
-    → (is_in (block_above b) g || is_covered (without_mark rows (other_half b)) g) ≡ (is_in b g || is_covered rows g)
+    → (is_in (block_above b) g || is_covered (without_mark rows (other_half b)) g)
+    ≡ (is_in b g || is_covered rows g)
 covered-join rows b g e =
-    or_moved (is_in (block_above b) g) (is_in b g) (is_covered (without_mark rows (other_half b)) g) (is_in (other_half b) g) (is_covered rows g)
-    (in-above b g) (covered-without rows (other_half b) g (marked-place rows (other_half b) e)) (covered-marked rows (other_half b) g e)
+    or_moved (is_in (block_above b) g) (is_in b g) (is_covered (without_mark rows (other_half b)) g)
+    (is_in (other_half b) g) (is_covered rows g)
+    (in-above b g) (covered-without rows (other_half b) g (marked-place rows (other_half b) e))
+    (covered-marked rows (other_half b) g e)
 
 or_assoc : (a b c : Bool) → (a || (b || c)) ≡ ((a || b) || c)
 or_assoc true b c = refl
@@ -388,7 +413,8 @@ or_split false false c = refl
 -- with the halves apart, the same is covered or taken
 pub covered-left : (rows : List (List ℕ)) (b : Block) (g : ℕ) → HasPlace rows (right_half b)
     → 0 < b.order
-    → (is_in (left_half b) g || is_covered (with_mark rows (right_half b)) g) ≡ (is_in b g || is_covered rows g)
+    → (is_in (left_half b) g || is_covered (with_mark rows (right_half b)) g)
+    ≡ (is_in b g || is_covered rows g)
 covered-left rows b g place pos =
     ap (λ c. is_in (left_half b) g || c) (covered-with rows (right_half b) g place)
     ∙ or_assoc (is_in (left_half b) g) (is_in (right_half b) g) (is_covered rows g)
@@ -396,7 +422,8 @@ covered-left rows b g place pos =
 
 pub covered-right : (rows : List (List ℕ)) (b : Block) (g : ℕ) → HasPlace rows (left_half b)
     → 0 < b.order
-    → (is_in (right_half b) g || is_covered (with_mark rows (left_half b)) g) ≡ (is_in b g || is_covered rows g)
+    → (is_in (right_half b) g || is_covered (with_mark rows (left_half b)) g)
+    ≡ (is_in b g || is_covered rows g)
 covered-right rows b g place pos =
     ap (λ c. is_in (right_half b) g || c) (covered-with rows (left_half b) g place)
     ∙ or_split (is_in (left_half b) g) (is_in (right_half b) g) (is_covered rows g)
@@ -406,7 +433,8 @@ covered-right rows b g place pos =
 pub covered-out : (rows : List (List ℕ)) (b : Block) (g : ℕ) → is_marked rows b ≡ true
     → (is_in b g || is_covered (without_mark rows b) g) ≡ is_covered rows g
 covered-out rows b g e =
-    covered-without rows b g (marked-place rows b e) ∙ absorbed (is_in b g) (is_covered rows g) (covered-marked rows b g e)
+    covered-without rows b g (marked-place rows b e)
+    ∙ absorbed (is_in b g) (is_covered rows g) (covered-marked rows b g e)
   where
     absorbed : (a c : Bool) → (a ≡ true → c ≡ true) → (a || c) ≡ c
     absorbed true c h = sym (h refl)

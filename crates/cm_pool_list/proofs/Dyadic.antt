@@ -23,7 +23,9 @@ pub is_in-start : (b : Block) → is_in b (start b) ≡ true
 is_in-start b = is_in-from_bounds b (start b) (omega arith) (omega (arith, pow_pos b.order))
 
 pub is_in-last : (b : Block) → is_in b (stop b - 1) ≡ true
-is_in-last b = is_in-from_bounds b (stop b - 1) (omega (arith, pow_pos b.order)) (omega (arith, pow_pos b.order))
+is_in-last b =
+    is_in-from_bounds b (stop b - 1) (omega (arith, pow_pos b.order))
+    (omega (arith, pow_pos b.order))
 
 -- a number's half
 pub half_eq : (x i : ℕ) → eqb (x / 2) i ≡ (eqb x (2 * i) || eqb x (2 * i + 1))
@@ -80,7 +82,8 @@ inside-from_shared w b g le in_w in_b =
     record {
       smaller = le;
       same_part = ap
-          (λ x. x / 2 ^ (b.order - w.order)) (sym part) ∙ shr-shr g w.order (b.order - w.order) ∙ ap (λ k. g / 2 ^ k) (sym order) ∙ whole;
+          (λ x. x / 2 ^ (b.order - w.order)) (sym part) ∙ shr-shr g w.order (b.order - w.order)
+          ∙ ap (λ k. g / 2 ^ k) (sym order) ∙ whole;
     }
 
 same_block : (a b : Block) → a.index ≡ b.index → a.order ≡ b.order → a ≡ b
@@ -126,7 +129,9 @@ is_in-block_above a b g h =
 
 pub above-halves : (a b : Block) → AreHalves a b → block_above b ≡ block_above a
 unfolding block_above
-above-halves a b h = same_block (block_above b) (block_above a) (omega (arith, h.left, h.right)) (omega (arith, h.same_order))
+above-halves a b h =
+    same_block (block_above b) (block_above a) (omega (arith, h.left, h.right))
+    (omega (arith, h.same_order))
 
 pub start-block_above : (a b : Block) → AreHalves a b → start (block_above a) ≡ start a
 unfolding block_above

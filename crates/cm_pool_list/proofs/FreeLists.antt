@@ -65,7 +65,8 @@ pub covered-append : (xs ys : List Block) (g : ℕ)
     → is_covered (xs ++ ys) g ≡ (is_covered xs g || is_covered ys g)
 covered-append [] ys g = refl
 covered-append (x ∷ xs) ys g = ap
-    (λ c. is_in x g || c) (covered-append xs ys g) ∙ or_assoc (is_in x g) (is_covered xs g) (is_covered ys g)
+    (λ c. is_in x g || c) (covered-append xs ys g)
+    ∙ or_assoc (is_in x g) (is_covered xs g) (is_covered ys g)
   where
     or_assoc : (a b c : Bool) → (a || (b || c)) ≡ ((a || b) || c)
     or_assoc true b c = refl
@@ -136,7 +137,11 @@ starts-from (b ∷ bs) = (omega arith, starts-from bs)
 pub length-below : (top : ℕ) (bs : List Block) (limit : ℕ) → 0 < top → Pairwise (Apart top) bs
     → ((g : ℕ) → is_covered bs g ≡ true → g < 2 * limit) → length bs ≤ limit
 length-below top bs limit pos p h =
-    omega (arith, length-le top bs 0 limit pos (omega arith) (starts-from bs) p (stops-below bs (2 * limit) h))
+    omega (
+      arith,
+      length-le top bs 0 limit pos (omega arith) (starts-from bs) p
+          (stops-below bs (2 * limit) h),
+    )
 
 abbrev pub block : ℕ → ℕ → Block
 block i o = record { index = i; order = o }
@@ -153,7 +158,8 @@ larger : (i o : ℕ) (half c : Block) → ((g : ℕ) → is_in half g ≡ true
     → is_in (block i (suc o)) g ≡ true) → suc o ≤ c.order → Inside half c
     → Inside (block i (suc o)) c
 larger i o half c part le h =
-    inside-from_shared (block i (suc o)) c (start half) le (part (start half) (is_in-start half)) (inside-is_in half c (start half) h (is_in-start half))
+    inside-from_shared (block i (suc o)) c (start half) le (part (start half) (is_in-start half))
+    (inside-is_in half c (start half) h (is_in-start half))
 
 -- the halves of one block stand in no such list
 no-halves : (top : ℕ) (bs : List Block) → Pairwise (Apart top) bs → (o i : ℕ) → o < top
@@ -189,8 +195,12 @@ holder-cases top bs o i p lt (b, m, in_b) (c, n, in_c) =
             )
             | inr alike ↦
                 absurd (no-halves top bs p o i lt
-                (subst (λ x. Among x bs) (sym (inside-same_order (block (2 * i) o) b in_b (omega (arith, in_b.smaller)))) m)
-                (subst (λ x. Among x bs) (sym (inside-same_order (block (2 * i + 1) o) c in_c (omega (arith, in_c.smaller)))) n))
+                (subst (λ x. Among x bs)
+                (sym (inside-same_order (block (2 * i) o) b in_b (omega (arith, in_b.smaller))))
+                m)
+                (subst (λ x. Among x bs)
+                (sym (inside-same_order (block (2 * i + 1) o) c in_c
+                (omega (arith, in_c.smaller)))) n))
           ]
     ]
 

@@ -35,7 +35,8 @@ covered-insert xs at b g = covered-middle (take at xs) b (drop at xs) g ∙ ap
 pub covered-remove : (xs : List Block) (at : ℕ) (d : Block) (g : ℕ) → at < length xs
     → is_covered xs g ≡ (is_in (get_or xs at d) g || is_covered (remove xs at) g)
 covered-remove xs at d g h = ap
-    (λ ys. is_covered ys g) (split_at xs at d h) ∙ covered-middle (take at xs) (get_or xs at d) (drop (suc at) xs) g
+    (λ ys. is_covered ys g) (split_at xs at d h)
+    ∙ covered-middle (take at xs) (get_or xs at d) (drop (suc at) xs) g
 
 -- the hole that a block leaves
 hole-of : (top : ℕ) (f : List Block) (b : Block) (r : List Block) → IsFreeList top (f ++ b ∷ r)
@@ -59,9 +60,13 @@ pub hole-remove : (top : ℕ) (xs ys : List Block) (at : ℕ) (d : Block) → at
     → IsFreeList top xs → ys ≡ remove xs at → IsHole top (take at ys) (get_or xs at d) (drop at ys)
 hole-remove top xs ys at d lt h e =
     let len : length (take at xs) ≡ at = length-take-le at xs (omega arith) in
-    let hole = hole-of top (take at xs) (get_or xs at d) (drop (suc at) xs) (subst (IsFreeList top) (split_at xs at d lt) h) in
-    let front : take at ys ≡ take at xs = ap (take at) e ∙ take_at (take at xs) (drop (suc at) xs) at len in
-    let back : drop at ys ≡ drop (suc at) xs = ap (drop at) e ∙ drop_at (take at xs) (drop (suc at) xs) at len in
+    let hole =
+    hole-of top (take at xs) (get_or xs at d) (drop (suc at) xs)
+    (subst (IsFreeList top) (split_at xs at d lt) h) in
+    let front : take at ys ≡ take at xs =
+    ap (take at) e ∙ take_at (take at xs) (drop (suc at) xs) at len in
+    let back : drop at ys ≡ drop (suc at) xs =
+    ap (drop at) e ∙ drop_at (take at xs) (drop (suc at) xs) at len in
     rw (front, back) hole
 
 -- the list alone
@@ -73,7 +78,8 @@ hole-rest top xs at b h = subst (IsFreeList top) (take-append-drop at xs) h.rest
 pub hole-apart : (top : ℕ) (xs : List Block) (at : ℕ) (b : Block) (g : ℕ)
     → IsHole top (take at xs) b (drop at xs) → is_in b g ≡ true → is_covered xs g ≡ false
 hole-apart top xs at b g h in_b =
-    ap (λ ys. is_covered ys g) (sym (take-append-drop at xs)) ∙ apart-both (take at xs) (drop at xs) b g h.before h.behind in_b
+    ap (λ ys. is_covered ys g) (sym (take-append-drop at xs))
+    ∙ apart-both (take at xs) (drop at xs) b g h.before h.behind in_b
 
 -- b is halved: the right half stays behind the left one, which was taken
 halve-left : (top : ℕ) (f : List Block) (b : Block) (r : List Block) → 0 < b.order
@@ -90,7 +96,14 @@ halve-left top f b r pos h =
             (each-weaker (λ x. stop x ≤ start b) (λ x. Apart top x (right_half b))
             (λ x before. record {
               before = omega (arith, start_left, middle, size);
-              unjoined = λ _ halves. absurd (omega (arith, halves-touch x (right_half b) halves, start_left, middle, size));
+              unjoined =
+                  λ _ halves. absurd (omega (
+                    arith,
+                    halves-touch x (right_half b) halves,
+                    start_left,
+                    middle,
+                    size,
+                  ));
             }) f h.before)
             (each-weaker (λ x. stop b ≤ start x) (Apart top (right_half b))
             (λ x behind. record {
@@ -124,7 +137,8 @@ halve-right top f b r pos h =
     let middle : stop (left_half b) ≡ start (right_half b) = stop-left_half b pos in
     let stop_right : stop (right_half b) ≡ stop b = stop-right_half b pos in
     let size = pow_pos (left_half b).order in
-    let grouped : (f ++ left_half b ∷ []) ++ r ≡ f ++ left_half b ∷ r = append_assoc f (left_half b ∷ []) r in
+    let grouped : (f ++ left_half b ∷ []) ++ r ≡ f ++ left_half b ∷ r =
+    append_assoc f (left_half b ∷ []) r in
     record {
       rest = subst (IsFreeList top) (sym grouped) (record {
         apart = pairs-insert (Apart top) f (left_half b) r h.rest.apart
@@ -136,7 +150,14 @@ halve-right top f b r pos h =
             (each-weaker (λ x. stop b ≤ start x) (Apart top (left_half b))
             (λ x behind. record {
               before = omega (arith, middle, stop_right);
-              unjoined = λ _ halves. absurd (omega (arith, halves-touch (left_half b) x halves, middle, stop_right, size));
+              unjoined =
+                  λ _ halves. absurd (omega (
+                    arith,
+                    halves-touch (left_half b) x halves,
+                    middle,
+                    stop_right,
+                    size,
+                  ));
             }) r h.behind);
         small = each-join (λ x. x.order ≤ top) f (left_half b ∷ r) (each-front
             (λ x. x.order ≤ top) f r h.rest.small) (
@@ -148,7 +169,8 @@ halve-right top f b r pos h =
       small = omega (arith, h.small);
       before = each-join (λ x. stop x ≤ start (right_half b)) f (left_half b ∷ []) (each-weaker
           (λ x. stop x ≤ start b) (λ x. stop x ≤ start (right_half b))
-          (λ x before. omega (arith, start_left, middle, size)) f h.before) (omega (arith, middle), tt);
+          (λ x before. omega (arith, start_left, middle, size)) f h.before)
+          (omega (arith, middle), tt);
       behind = each-weaker (λ x. stop b ≤ start x) (λ x. stop (right_half b) ≤ start x)
           (λ x behind. omega (arith, stop_right)) r h.behind;
     }
@@ -158,8 +180,10 @@ pub hole-put_right : (top : ℕ) (xs ys : List Block) (at : ℕ) (b : Block) →
     → IsHole top (take at ys) (left_half b) (drop at ys)
 hole-put_right top xs ys at b le pos h e =
     let len : length (take at xs) ≡ at = length-take-le at xs le in
-    let front : take at ys ≡ take at xs = ap (take at) e ∙ take_at (take at xs) (right_half b ∷ drop at xs) at len in
-    let back : drop at ys ≡ right_half b ∷ drop at xs = ap (drop at) e ∙ drop_at (take at xs) (right_half b ∷ drop at xs) at len in
+    let front : take at ys ≡ take at xs =
+    ap (take at) e ∙ take_at (take at xs) (right_half b ∷ drop at xs) at len in
+    let back : drop at ys ≡ right_half b ∷ drop at xs =
+    ap (drop at) e ∙ drop_at (take at xs) (right_half b ∷ drop at xs) at len in
     rw (front, back) (halve-left top (take at xs) b (drop at xs) pos h)
 
 pub hole-put_left : (top : ℕ) (xs ys : List Block) (at : ℕ) (b : Block) → at ≤ length xs
@@ -167,10 +191,14 @@ pub hole-put_left : (top : ℕ) (xs ys : List Block) (at : ℕ) (b : Block) → 
     → IsHole top (take (at + 1) ys) (right_half b) (drop (at + 1) ys)
 hole-put_left top xs ys at b le pos h e =
     let f = take at xs ++ left_half b ∷ [] in
-    let len : length f ≡ at + 1 = omega (arith, length-append (take at xs) (left_half b ∷ []), length-take-le at xs le) in
-    let grouped : ys ≡ f ++ drop at xs = e ∙ sym (append_assoc (take at xs) (left_half b ∷ []) (drop at xs)) in
-    let front : take (at + 1) ys ≡ f = ap (take (at + 1)) grouped ∙ take_at f (drop at xs) (at + 1) len in
-    let back : drop (at + 1) ys ≡ drop at xs = ap (drop (at + 1)) grouped ∙ drop_at f (drop at xs) (at + 1) len in
+    let len : length f ≡ at + 1 =
+    omega (arith, length-append (take at xs) (left_half b ∷ []), length-take-le at xs le) in
+    let grouped : ys ≡ f ++ drop at xs =
+    e ∙ sym (append_assoc (take at xs) (left_half b ∷ []) (drop at xs)) in
+    let front : take (at + 1) ys ≡ f =
+    ap (take (at + 1)) grouped ∙ take_at f (drop at xs) (at + 1) len in
+    let back : drop (at + 1) ys ≡ drop at xs =
+    ap (drop (at + 1)) grouped ∙ drop_at f (drop at xs) (at + 1) len in
     rw (front, back) (halve-right top (take at xs) b (drop at xs) pos h)
 
 -- what is left where a part of a whole was taken
@@ -194,14 +222,16 @@ or_turned false false c = refl
 
 -- with the halves apart, the same is covered or taken
 pub covered-put_right : (xs : List Block) (at : ℕ) (b : Block) (g : ℕ) → 0 < b.order
-    → (is_in (left_half b) g || is_covered (insert xs at (right_half b)) g) ≡ (is_in b g || is_covered xs g)
+    → (is_in (left_half b) g || is_covered (insert xs at (right_half b)) g)
+    ≡ (is_in b g || is_covered xs g)
 covered-put_right xs at b g pos =
     ap (λ c. is_in (left_half b) g || c) (covered-insert xs at (right_half b) g)
     ∙ or_assoc (is_in (left_half b) g) (is_in (right_half b) g) (is_covered xs g)
     ∙ ap (λ a. a || is_covered xs g) (sym (is_in-halves b g pos))
 
 pub covered-put_left : (xs : List Block) (at : ℕ) (b : Block) (g : ℕ) → 0 < b.order
-    → (is_in (right_half b) g || is_covered (insert xs at (left_half b)) g) ≡ (is_in b g || is_covered xs g)
+    → (is_in (right_half b) g || is_covered (insert xs at (left_half b)) g)
+    ≡ (is_in b g || is_covered xs g)
 covered-put_left xs at b g pos =
     ap (λ c. is_in (right_half b) g || c) (covered-insert xs at (left_half b) g)
     ∙ or_turned (is_in (left_half b) g) (is_in (right_half b) g) (is_covered xs g)

@@ -26,7 +26,8 @@ clear-front : (xs : List Block) (b : Block) → ((g : ℕ) → is_in b g ≡ tru
 clear-front [] b h a = tt
 clear-front (x ∷ xs) b h a = (
   elim (cases_lt (start b) (stop x)) [
-    | inl lt ↦ absurd (both_ways _ (or_parts (is_in x (start b)) _ (h (start b) (is_in-start b))).0 (is_in-from_bounds x (start b) a.0 lt))
+    | inl lt ↦ absurd (both_ways _ (or_parts (is_in x (start b)) _ (h (start b) (is_in-start b))).0
+        (is_in-from_bounds x (start b) a.0 lt))
     | inr le ↦ le
   ],
   clear-front xs b (λ g in_b. (or_parts (is_in x g) _ (h g in_b)).1) a.1,
@@ -38,7 +39,9 @@ clear-back : (ys : List Block) (b : Block) → ((g : ℕ) → is_in b g ≡ true
 clear-back [] b h a = tt
 clear-back (y ∷ ys) b h a = (
   elim (cases_lt (start y) (stop b)) [
-    | inl lt ↦ absurd (both_ways _ (or_parts (is_in y (start y)) _ (h (start y) (is_in-from_bounds b (start y) (omega (arith, a.0)) lt))).0 (is_in-start y))
+    | inl lt ↦ absurd (both_ways _
+        (or_parts (is_in y (start y)) _
+        (h (start y) (is_in-from_bounds b (start y) (omega (arith, a.0)) lt))).0 (is_in-start y))
     | inr le ↦ le
   ],
   clear-back ys b (λ g in_b. (or_parts (is_in y g) _ (h g in_b)).1) a.1,
@@ -63,9 +66,12 @@ hole-begin top xs at b listed small clear le front next =
     let whole : take at xs ++ drop at xs ≡ xs = take-append-drop at xs in
     let parts : (g : ℕ) → is_in b g ≡ true → (is_covered (take at xs) g ≡ false)
     × (is_covered (drop at xs) g ≡ false) =
-    λ g in_b. or_parts (is_covered (take at xs) g) _ (sym (covered-append (take at xs) (drop at xs) g) ∙ ap (λ ys. is_covered ys g) whole ∙ clear g in_b)
+    λ g in_b. or_parts (is_covered (take at xs) g) _
+    (sym (covered-append (take at xs) (drop at xs) g) ∙ ap (λ ys. is_covered ys g) whole
+    ∙ clear g in_b)
     in
-    let rest : IsFreeList top (take at xs ++ drop at xs) = subst (IsFreeList top) (sym whole) listed in
+    let rest : IsFreeList top (take at xs ++ drop at xs) =
+    subst (IsFreeList top) (sym whole) listed in
     let first : get_or (drop at xs) 0 b ≡ get_or xs at b = get_or-drop at xs 0 b ∙ ap
     (λ k. get_or xs k b) (omega arith) in
     record {
@@ -82,7 +88,8 @@ hole-begin top xs at b listed small clear le front next =
 join-left : (top : ℕ) (f : List Block) (x b : Block) (r : List Block)
     → IsHole top (f ++ x ∷ []) b r → AreHalves x b → b.order < top → IsHole top f (block_above b) r
 join-left top f x b r h halves lt =
-    let rest : IsFreeList top (f ++ x ∷ r) = subst (IsFreeList top) (append_assoc f (x ∷ []) r) h.rest in
+    let rest : IsFreeList top (f ++ x ∷ r) =
+    subst (IsFreeList top) (append_assoc f (x ∷ []) r) h.rest in
     let above = above-halves x b halves in
     let from : start (block_above b) ≡ start x = ap start above ∙ start-block_above x b halves in
     let to : stop (block_above b) ≡ stop b = ap stop above ∙ stop-block_above x b halves in
@@ -124,8 +131,10 @@ pub hole-join : (top : ℕ) (xs ys : List Block) (k at : ℕ) (b : Block) → at
     → IsHole top (take at xs) b (drop at xs) → IsHole top (take k ys) (block_above b) (drop k ys)
 hole-join top xs ys k at b le beside lt e h =
     let len : length (take k xs) ≡ k = length-take-le k xs (omega (arith, beside.within)) in
-    let front : take k ys ≡ take k xs = ap (take k) e ∙ take_at (take k xs) (drop (suc k) xs) k len in
-    let back : drop k ys ≡ drop (suc k) xs = ap (drop k) e ∙ drop_at (take k xs) (drop (suc k) xs) k len in
+    let front : take k ys ≡ take k xs =
+    ap (take k) e ∙ take_at (take k xs) (drop (suc k) xs) k len in
+    let back : drop k ys ≡ drop (suc k) xs =
+    ap (drop k) e ∙ drop_at (take k xs) (drop (suc k) xs) k len in
     let next : suc k ≡ k + 1 = omega arith in
     rw (front, back) (elim beside.halves [
       | inl (here, halves) ↦
@@ -171,12 +180,24 @@ fill-front : (top : ℕ) (f : List Block) (b : Block) → Pairwise (Apart top) f
     (λ x. stop x ≤ start b) f → ((k : ℕ) → length f ≡ suc k → b.order < top
     → ¬ AreHalves (get_or f k b) b) → AllByRecursion (λ x. Apart top x b) f
 fill-front top [] b p before none = tt
-fill-front top (x ∷ []) b p before none =
-    (record { before = before.0; unjoined = λ lt halves. none 0 refl (omega (arith, halves.same_order)) halves }, tt)
+fill-front top (x ∷ []) b p before none = (
+  record {
+    before = before.0;
+    unjoined = λ lt halves. none 0 refl (omega (arith, halves.same_order)) halves;
+  },
+  tt,
+)
 fill-front top (x ∷ y ∷ f) b p before none = (
   record {
     before = before.0;
-    unjoined = λ _ halves. absurd (omega (arith, halves-touch x b halves, p.0.0.before, before.1.0, pow_pos y.order));
+    unjoined =
+        λ _ halves. absurd (omega (
+          arith,
+          halves-touch x b halves,
+          p.0.0.before,
+          before.1.0,
+          pow_pos y.order,
+        ));
   },
   fill-front top (y ∷ f) b p.1 before.1 (λ k e. none (suc k) (ap suc e)),
 )
@@ -189,7 +210,14 @@ fill-back top b (y ∷ r) p behind none = (
   record { before = behind.0; unjoined = λ lt halves. none (omega arith) lt halves },
   each-weaker (Apart top y) (Apart top b) (λ z a. record {
     before = omega (arith, a.before, behind.0, pow_pos y.order);
-    unjoined = λ _ halves. absurd (omega (arith, halves-touch b z halves, a.before, behind.0, pow_pos y.order));
+    unjoined =
+        λ _ halves. absurd (omega (
+          arith,
+          halves-touch b z halves,
+          a.before,
+          behind.0,
+          pow_pos y.order,
+        ));
   }) r p.0,
 )
 
@@ -202,16 +230,20 @@ hole-fill top xs at b le h none =
     let len : length (take at xs) ≡ at = length-take-le at xs le in
     record {
       apart = pairs-insert (Apart top) (take at xs) b (drop at xs) apart
-          (fill-front top (take at xs) b (pairs-front (Apart top) (take at xs) (drop at xs) apart) h.before
+          (fill-front top (take at xs) b
+          (pairs-front (Apart top) (take at xs) (drop at xs) apart) h.before
           (λ k e lt. let last : k ≡ at - 1 = omega arith in
           let pos : 0 < at = omega arith in
           let inner : k < at = omega arith in
           subst (λ x. ¬ AreHalves x b) (ap
-          (λ n. get_or xs n b) (sym last) ∙ sym (get_or-take at xs k b inner)) ((none lt).left pos)))
-          (fill-back top b (drop at xs) (pairs-back (Apart top) (take at xs) (drop at xs) apart) h.behind
+          (λ n. get_or xs n b) (sym last) ∙ sym (get_or-take at xs k b inner))
+          ((none lt).left pos)))
+          (fill-back top b (drop at xs)
+          (pairs-back (Apart top) (take at xs) (drop at xs) apart) h.behind
           (λ some lt. let whole : at + 0 ≡ at = omega arith in
           subst (λ y. ¬ AreHalves b y) (ap
-          (λ n. get_or xs n b) (sym whole) ∙ sym (get_or-drop at xs 0 b)) ((none lt).right (omega (arith, length-drop at xs)))));
+          (λ n. get_or xs n b) (sym whole) ∙ sym (get_or-drop at xs 0 b))
+          ((none lt).right (omega (arith, length-drop at xs)))));
       small = each-join (λ x. x.order ≤ top) (take at xs) (b ∷ drop at xs) (each-front
           (λ x. x.order ≤ top) (take at xs) (drop at xs) h.rest.small) (
             h.small,

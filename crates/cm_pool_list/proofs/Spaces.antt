@@ -27,7 +27,9 @@ granule b n = (
 )
 
 block-numbers : (b : Block) (n : ℕ) → list_any (λ y. nat_eq y n) (block_words b) ≡ is_in b (n / 128)
-block-numbers b n = same_from_decides _ _ (range-decides (b.index * chunk_size b.order) (chunk_size b.order) n) (granule b n)
+block-numbers b n =
+    same_from_decides _ _ (range-decides (b.index * chunk_size b.order) (chunk_size b.order) n)
+    (granule b n)
 
 numbers : (bs : List Block) (n : ℕ) → list_any
     (λ y. nat_eq y n) (flat_map block_words bs) ≡ is_covered bs (n / 128)
@@ -39,7 +41,8 @@ numbers (b ∷ bs) n =
 -- a word is free exactly where its granule is covered
 pub contains-space_of : (sizes : Sizes) (roots : ℕ) (bs : List Block) (n : ℕ)
     → contains (space_of sizes roots bs).free n ≡ is_covered bs (n / 128)
-contains-space_of sizes roots bs n = contains-from_list_nat (flat_map block_words bs) n ∙ numbers bs n
+contains-space_of sizes roots bs n =
+    contains-from_list_nat (flat_map block_words bs) n ∙ numbers bs n
 
 pub words-is_in : (top : ℕ) (c : Chunk) (b : Block) (n : ℕ) → IsSame top c b
     → contains (words top c) n ≡ is_in b (n / 128)
@@ -57,7 +60,8 @@ pub space-without : (sizes : Sizes) (roots : ℕ) (old new : List Block) (c : Ch
 space-without sizes roots old new c b same h =
     same_numbers (space_of sizes roots new) (without (space_of sizes roots old) c) refl refl (λ n.
     contains-space_of sizes roots new n ∙ h (n / 128)
-    ∙ (λ i. sym (contains-space_of sizes roots old n) i && not (sym (words-is_in sizes.top c b n same) i))
+    ∙ (λ i. sym (contains-space_of sizes roots old n) i
+    && not (sym (words-is_in sizes.top c b n same) i))
     ∙ sym (contains-difference nat_cmp_total (space_of sizes roots old).free (words sizes.top c) n))
 
 or_swapped : (a b : Bool) → (a || b) ≡ (b || a)
@@ -82,7 +86,8 @@ pub space-with_root : (sizes : Sizes) (roots : ℕ) (old new : List Block) (b : 
     → space_of sizes (roots + 1) new ≡ with_root (space_of sizes roots old)
 space-with_root sizes roots old new b same h =
     let c : Chunk = record { root = roots; order = sizes.top; at = 0 } in
-    same_numbers (space_of sizes (roots + 1) new) (with_root (space_of sizes roots old)) refl refl (λ n.
+    same_numbers (space_of sizes (roots + 1) new) (with_root (space_of sizes roots old))
+    refl refl (λ n.
     contains-space_of sizes (roots + 1) new n ∙ h (n / 128) ∙ or_swapped (is_in b (n / 128)) _
     ∙ (λ i. sym (contains-space_of sizes roots old n) i || sym (words-is_in sizes.top c b n same) i)
     ∙ sym (contains-union nat_cmp_total (space_of sizes roots old).free (words sizes.top c) n))
@@ -102,7 +107,9 @@ pub free-covered : (sizes : Sizes) (roots : ℕ) (bs : List Block) (c : Chunk) (
 free-covered sizes roots bs c b same free g h =
     let word = granule-word sizes.top c b g same h in
     let whole : 128 * g / 128 ≡ g = omega arith in
-    ap (is_covered bs) (sym whole) ∙ sym (contains-space_of sizes roots bs (128 * g)) ∙ ap (contains (space_of sizes roots bs).free) (sym word.1) ∙ (free.words word.0 word.2 word.3).is_free
+    ap (is_covered bs) (sym whole) ∙ sym (contains-space_of sizes roots bs (128 * g))
+    ∙ ap (contains (space_of sizes roots bs).free) (sym word.1)
+    ∙ (free.words word.0 word.2 word.3).is_free
 
 pub used-uncovered : (sizes : Sizes) (roots : ℕ) (bs : List Block) (c : Chunk) (b : Block)
     → IsSame sizes.top c b → IsUsedChunk (space_of sizes roots bs) c → (g : ℕ) → is_in b g ≡ true
@@ -112,7 +119,8 @@ used-uncovered sizes roots bs c b same used g h =
     let whole : 128 * g / 128 ≡ g = omega arith in
     false_from_ne_true _ (λ e. used.words word.0 word.2 word.3 (record {
       within = omega (arith, word.3, used.block.inside);
-      is_free = ap (contains (space_of sizes roots bs).free) word.1 ∙ contains-space_of sizes roots bs (128 * g) ∙ ap (is_covered bs) whole ∙ e;
+      is_free = ap (contains (space_of sizes roots bs).free) word.1
+          ∙ contains-space_of sizes roots bs (128 * g) ∙ ap (is_covered bs) whole ∙ e;
     }))
 
 -- and a chunk whose block is covered is free
@@ -127,6 +135,7 @@ covered-free sizes roots bs c b same block h =
           let within = (words-decides sizes.top c n).1 (omega (arith, low), omega (arith, high)) in
           record {
             within = omega (arith, high, block.inside);
-            is_free = contains-space_of sizes roots bs n ∙ h (n / 128) (sym (words-is_in sizes.top c b n same) ∙ within);
+            is_free = contains-space_of sizes roots bs n
+                ∙ h (n / 128) (sym (words-is_in sizes.top c b n same) ∙ within);
           };
     }

@@ -37,7 +37,8 @@ two_indexes : (tag n k : ℕ) → tag < 2 ^ 16 → n < 2 ^ 16 → k < 2 ^ 16
 two_indexes tag n k ht hn hk = (omega arith, omega arith, omega arith)
 
 pub kept_of_word : (at : ℕ) (c : Spelled) (rest : List ℕ) → ConstantFits c → at < 2 ^ 29
-    → word_kept (get_or (constant_words at c) 0 0) (get_or (constant_words at c ++ rest) 1 0) ≡ Some (kept_constant at c)
+    → word_kept (get_or (constant_words at c) 0 0) (get_or (constant_words at c ++ rest) 1 0)
+    ≡ Some (kept_constant at c)
 unfolding word_kept
 kept_of_word at (constant.Utf8 bytes) rest fits small =
     let w = 1 + 2 ^ 16 * length bytes + 2 ^ 32 * at in
@@ -58,12 +59,18 @@ kept_of_word at (constant.Float bits) rest fits small =
     rw (tag, same) refl
 kept_of_word at (constant.Long bits) rest fits small = refl
 kept_of_word at (constant.Double bits) rest fits small = refl
-kept_of_word at (constant.Class name) rest fits small = let p = one_index 7 name 0 (omega arith) fits in rw (p.0, p.1) refl
-kept_of_word at (constant.String text) rest fits small = let p = one_index 8 text 0 (omega arith) fits in rw (p.0, p.1) refl
-kept_of_word at (constant.Fieldref a b) rest fits small = let p = two_indexes 9 a b (omega arith) fits.0 fits.1 in rw (p.0, p.1, p.2) refl
-kept_of_word at (constant.Methodref a b) rest fits small = let p = two_indexes 10 a b (omega arith) fits.0 fits.1 in rw (p.0, p.1, p.2) refl
-kept_of_word at (constant.InterfaceMethodref a b) rest fits small = let p = two_indexes 11 a b (omega arith) fits.0 fits.1 in rw (p.0, p.1, p.2) refl
-kept_of_word at (constant.NameAndType a b) rest fits small = let p = two_indexes 12 a b (omega arith) fits.0 fits.1 in rw (p.0, p.1, p.2) refl
+kept_of_word at (constant.Class name) rest fits small = let p =
+    one_index 7 name 0 (omega arith) fits in rw (p.0, p.1) refl
+kept_of_word at (constant.String text) rest fits small = let p =
+    one_index 8 text 0 (omega arith) fits in rw (p.0, p.1) refl
+kept_of_word at (constant.Fieldref a b) rest fits small = let p =
+    two_indexes 9 a b (omega arith) fits.0 fits.1 in rw (p.0, p.1, p.2) refl
+kept_of_word at (constant.Methodref a b) rest fits small = let p =
+    two_indexes 10 a b (omega arith) fits.0 fits.1 in rw (p.0, p.1, p.2) refl
+kept_of_word at (constant.InterfaceMethodref a b) rest fits small = let p =
+    two_indexes 11 a b (omega arith) fits.0 fits.1 in rw (p.0, p.1, p.2) refl
+kept_of_word at (constant.NameAndType a b) rest fits small = let p =
+    two_indexes 12 a b (omega arith) fits.0 fits.1 in rw (p.0, p.1, p.2) refl
 kept_of_word at (constant.MethodHandle n k) rest fits small =
     let w = 15 + 2 ^ 32 * n + 2 ^ 48 * k in
     let small_n = fits.0 in
@@ -72,13 +79,16 @@ kept_of_word at (constant.MethodHandle n k) rest fits small =
     let kind : w / 2 ^ 32 % 2 ^ 8 ≡ n = omega arith in
     let two : fourth_of w ≡ k = omega arith in
     rw (tag, kind, two) refl
-kept_of_word at (constant.MethodType descriptor) rest fits small = let p = one_index 16 descriptor 0 (omega arith) fits in rw (p.0, p.1) refl
-kept_of_word at (constant.InvokeDynamic a b) rest fits small = let p = two_indexes 18 a b (omega arith) fits.0 fits.1 in rw (p.0, p.1, p.2) refl
+kept_of_word at (constant.MethodType descriptor) rest fits small = let p =
+    one_index 16 descriptor 0 (omega arith) fits in rw (p.0, p.1) refl
+kept_of_word at (constant.InvokeDynamic a b) rest fits small = let p =
+    two_indexes 18 a b (omega arith) fits.0 fits.1 in rw (p.0, p.1, p.2) refl
 
 -- ---- which words are those of Longs and Doubles
 
 narrow : (w : ℕ) → (w ≡ 5 → ⊥) → (w ≡ 6 → ⊥) → is_wide_word w ≡ false
-narrow w five six = let a : (w == 5) ≡ false = ne_eqb w 5 five in let b : (w == 6) ≡ false = ne_eqb w 6 six in rw (a, b) refl
+narrow w five six = let a : (w == 5) ≡ false = ne_eqb w 5 five in let b : (w == 6) ≡ false =
+    ne_eqb w 6 six in rw (a, b) refl
 
 pub wide_by_word : (at : ℕ) (c : Spelled)
     → is_wide_word (get_or (constant_words at c) 0 0) ≡ is_wide c
@@ -117,7 +127,9 @@ behind true bits words = bits ∷ words
 behind false bits words = words
 
 words_in_front : (at : ℕ) (c : Spelled) (words : List ℕ)
-    → constant_words at c ++ words ≡ get_or (constant_words at c) 0 0 ∷ behind (is_wide c) (get_or (constant_words at c) 1 0) words
+    → constant_words at c ++ words
+    ≡ get_or (constant_words at c) 0 0
+    ∷ behind (is_wide c) (get_or (constant_words at c) 1 0) words
 words_in_front at (constant.Utf8 bytes) words = refl
 words_in_front at (constant.Integer bits) words = refl
 words_in_front at (constant.Float bits) words = refl
@@ -135,23 +147,36 @@ words_in_front at (constant.InvokeDynamic a b) words = refl
 
 -- the words of a usable slot begin at its place, and its run begins behind those of the slots
 -- before it
-pub slot_words : (second : Bool) (bits at : ℕ) (slots : List Slot) (tail : List ℕ) (i : ℕ) (c : Spelled) → SlotsFit second slots → slice_get slots i ≡ Some (Usable c)
+pub slot_words : (second : Bool) (bits at : ℕ) (slots : List Slot) (tail : List ℕ) (i : ℕ)
+    (c : Spelled) → SlotsFit second slots → slice_get slots i ≡ Some (Usable c)
     → (rest : List ℕ)
-    × (drop i (behind second bits (directory at slots ++ tail)) ≡ constant_words (at + length (utf8_runs (take i slots))) c ++ rest)
+    × (drop i (behind second bits (directory at slots ++ tail))
+    ≡ constant_words (at + length (utf8_runs (take i slots))) c ++ rest)
 slot_words second bits at [] tail i c fits e = absurd (cc)
 slot_words true bits at (Unusable ∷ slots) tail zero c fits e = absurd (cc)
-slot_words true bits at (Unusable ∷ slots) tail (suc i) c fits e = slot_words false 0 at slots tail i c fits e
+slot_words true bits at (Unusable ∷ slots) tail (suc i) c fits e =
+    slot_words false 0 at slots tail i c fits e
 slot_words true bits at (Usable d ∷ slots) tail i c fits e = absurd fits
 slot_words false bits at (Unusable ∷ slots) tail i c fits e = absurd fits
 slot_words false bits at (Usable d ∷ slots) tail zero c fits e =
     let same : d ≡ c = cc in
-    let here : at + 0 ≡ at = omega arith in
-    (directory (at + length (constant_run d)) slots ++ tail, append_assoc (constant_words at d) (directory (at + length (constant_run d)) slots) tail ∙ rw (here, same) refl)
+    let here : at + 0 ≡ at = omega arith in (
+      directory (at + length (constant_run d)) slots ++ tail,
+      append_assoc (constant_words at d) (directory (at + length (constant_run d)) slots) tail
+          ∙ rw (here, same) refl,
+    )
 slot_words false bits at (Usable d ∷ slots) tail (suc i) c fits e =
     let next = at + length (constant_run d) in
-    let more = slot_words (is_wide d) (get_or (constant_words at d) 1 0) next slots tail i c fits.1 e in
-    let place : next + length (utf8_runs (take i slots)) ≡ at + length (constant_run d ++ utf8_runs (take i slots)) = omega (arith, length-append (constant_run d) (utf8_runs (take i slots))) in
-    (more.0, ap (drop (suc i)) (append_assoc (constant_words at d) (directory next slots) tail ∙ words_in_front at d (directory next slots ++ tail)) ∙ (more.1 ∙ ap (λ n. constant_words n c ++ more.0) place))
+    let more =
+    slot_words (is_wide d) (get_or (constant_words at d) 1 0) next slots tail i c fits.1 e in
+    let place : next + length (utf8_runs (take i slots))
+    ≡ at + length (constant_run d ++ utf8_runs (take i slots)) =
+    omega (arith, length-append (constant_run d) (utf8_runs (take i slots))) in (
+      more.0,
+      ap (drop (suc i)) (append_assoc (constant_words at d) (directory next slots) tail
+          ∙ words_in_front at d (directory next slots ++ tail))
+          ∙ (more.1 ∙ ap (λ n. constant_words n c ++ more.0) place),
+    )
 
 pub fits_at : (second : Bool) (slots : List Slot) (i : ℕ) (c : Spelled) → SlotsFit second slots
     → slice_get slots i ≡ Some (Usable c) → ConstantFits c
@@ -160,7 +185,8 @@ fits_at true (Unusable ∷ slots) zero c fits e = absurd (cc)
 fits_at true (Unusable ∷ slots) (suc i) c fits e = fits_at false slots i c fits e
 fits_at true (Usable d ∷ slots) i c fits e = absurd fits
 fits_at false (Unusable ∷ slots) i c fits e = absurd fits
-fits_at false (Usable d ∷ slots) zero c fits e = let same : d ≡ c = cc in subst ConstantFits same fits.0
+fits_at false (Usable d ∷ slots) zero c fits e = let same : d ≡ c =
+    cc in subst ConstantFits same fits.0
 fits_at false (Usable d ∷ slots) (suc i) c fits e = fits_at (is_wide d) slots i c fits.1 e
 
 -- ---- which slots are unusable
@@ -176,20 +202,25 @@ is_wide_slot (Usable c) = is_wide c
 first_slot : (second : Bool) (slots : List Slot) (s : Slot) → SlotsFit second slots
     → slice_get slots 0 ≡ Some s → is_unusable s ≡ second
 first_slot second [] s fits e = absurd (cc)
-first_slot true (Unusable ∷ slots) s fits e = let same : Unusable ≡ s = cc in ap is_unusable (sym same)
+first_slot true (Unusable ∷ slots) s fits e = let same : Unusable ≡ s =
+    cc in ap is_unusable (sym same)
 first_slot true (Usable d ∷ slots) s fits e = absurd fits
 first_slot false (Unusable ∷ slots) s fits e = absurd fits
-first_slot false (Usable d ∷ slots) s fits e = let same : Usable d ≡ s = cc in ap is_unusable (sym same)
+first_slot false (Usable d ∷ slots) s fits e = let same : Usable d ≡ s =
+    cc in ap is_unusable (sym same)
 
 next_slot : (second : Bool) (slots : List Slot) (i : ℕ) (s t : Slot) → SlotsFit second slots
     → slice_get slots i ≡ Some s → slice_get slots (suc i) ≡ Some t → is_unusable t ≡ is_wide_slot s
 next_slot second [] i s t fits e f = absurd (cc)
-next_slot true (Unusable ∷ slots) zero s t fits e f = let same : Unusable ≡ s = cc in first_slot false slots t fits f ∙ ap is_wide_slot same
+next_slot true (Unusable ∷ slots) zero s t fits e f = let same : Unusable ≡ s =
+    cc in first_slot false slots t fits f ∙ ap is_wide_slot same
 next_slot true (Unusable ∷ slots) (suc i) s t fits e f = next_slot false slots i s t fits e f
 next_slot true (Usable d ∷ slots) i s t fits e f = absurd fits
 next_slot false (Unusable ∷ slots) i s t fits e f = absurd fits
-next_slot false (Usable d ∷ slots) zero s t fits e f = let same : Usable d ≡ s = cc in first_slot (is_wide d) slots t fits.1 f ∙ ap is_wide_slot same
-next_slot false (Usable d ∷ slots) (suc i) s t fits e f = next_slot (is_wide d) slots i s t fits.1 e f
+next_slot false (Usable d ∷ slots) zero s t fits e f = let same : Usable d ≡ s =
+    cc in first_slot (is_wide d) slots t fits.1 f ∙ ap is_wide_slot same
+next_slot false (Usable d ∷ slots) (suc i) s t fits e f =
+    next_slot (is_wide d) slots i s t fits.1 e f
 
 slot_before : {A : Type 0} (xs : List A) (i : ℕ) (x : A) → slice_get xs (suc i) ≡ Some x
     → (y : A) × (slice_get xs i ≡ Some y)
@@ -215,7 +246,13 @@ runs_up_to : (slots : List Slot) (i : ℕ)
 runs_up_to [] zero = omega arith
 runs_up_to [] (suc i) = omega arith
 runs_up_to (s ∷ slots) zero = omega arith
-runs_up_to (s ∷ slots) (suc i) = omega (arith, runs_up_to slots i, length-append (slot_run s) (utf8_runs (take i slots)), length-append (slot_run s) (utf8_runs slots))
+runs_up_to (s ∷ slots) (suc i) =
+    omega (
+      arith,
+      runs_up_to slots i,
+      length-append (slot_run s) (utf8_runs (take i slots)),
+      length-append (slot_run s) (utf8_runs slots),
+    )
 
 -- ---- the constants of a class
 
@@ -234,11 +271,14 @@ module _ (c : ClassFile) (spelled : HasSpelling c) where
   pub slot_there : (i k : ℕ) (d : Spelled) → k ≡ 9 + i → slice_get c.slots i ≡ Some (Usable d)
       → (rest : List ℕ) × (drop k (lay c) ≡ constant_words (words_at i) d ++ rest)
   slot_there i k d ek e =
-      let tail = c.interfaces ++ (members (attributes_at c) c.fields ++ (members (methods_at c) c.methods ++ attributes_tail c)) in
+      let tail =
+      c.interfaces ++ (members (attributes_at c) c.fields
+      ++ (members (methods_at c) c.methods ++ attributes_tail c)) in
       let found = slot_words false 0 (runs_at c) c.slots tail i d spelled.slots e in (
         found.0,
         ap
-            (λ n. drop n (lay c)) ek ∙ (sym (drop-drop i 9 (lay c)) ∙ (ap (drop i) (main_there c spelled) ∙ found.1)),
+            (λ n. drop n (lay c)) ek
+            ∙ (sym (drop-drop i 9 (lay c)) ∙ (ap (drop i) (main_there c spelled) ∙ found.1)),
       )
 
   slot_word : (i k : ℕ) (d : Spelled) → k ≡ 9 + i → slice_get c.slots i ≡ Some (Usable d)
@@ -254,9 +294,12 @@ module _ (c : ClassFile) (spelled : HasSpelling c) where
       → is_second_word (lay c) k ≡ is_unusable t
       → (is_wide_word (get_or (lay c) k 0) && not (is_second_word (lay c) k)) ≡ is_wide_slot t
   word_says i k Unusable ek there ih = ap
-      (λ b. is_wide_word (get_or (lay c) k 0) && not b) ih ∙ and_false (is_wide_word (get_or (lay c) k 0))
+      (λ b. is_wide_word (get_or (lay c) k 0) && not b) ih
+      ∙ and_false (is_wide_word (get_or (lay c) k 0))
   word_says i k (Usable d) ek there ih =
-      ap (λ b. is_wide_word (get_or (lay c) k 0) && not b) ih ∙ (and_true (is_wide_word (get_or (lay c) k 0)) ∙ (ap is_wide_word (slot_word i k d ek there) ∙ wide_by_word (words_at i) d))
+      ap (λ b. is_wide_word (get_or (lay c) k 0) && not b) ih
+      ∙ (and_true (is_wide_word (get_or (lay c) k 0))
+      ∙ (ap is_wide_word (slot_word i k d ek there) ∙ wide_by_word (words_at i) d))
 
   pub second_is : (i k : ℕ) (s : Slot) → k ≡ 9 + i → slice_get c.slots i ≡ Some s
       → is_second_word (lay c) k ≡ is_unusable s
@@ -264,11 +307,13 @@ module _ (c : ClassFile) (spelled : HasSpelling c) where
   second_is zero (suc k) s ek e =
       let same : k ≡ 8 = omega arith in
       let first : get_or (lay c) k 0 ≡ 0 = ap (λ n. get_or (lay c) n 0) same ∙ word_8 c in
-      ap (λ w. is_wide_word w && not (is_second_word (lay c) k)) first ∙ sym (first_slot false c.slots s spelled.slots e)
+      ap (λ w. is_wide_word w && not (is_second_word (lay c) k)) first
+      ∙ sym (first_slot false c.slots s spelled.slots e)
   second_is (suc i) (suc k) s ek e =
       let before = slot_before c.slots i s e in
       let same : k ≡ 9 + i = omega arith in
-      word_says i k before.0 same before.1 (second_is i k before.0 same before.1) ∙ sym (next_slot false c.slots i before.0 s spelled.slots before.1 e)
+      word_says i k before.0 same before.1 (second_is i k before.0 same before.1)
+      ∙ sym (next_slot false c.slots i before.0 s spelled.slots before.1 e)
 
   pub words_within : (i : ℕ) → words_at i ≤ length (lay c)
   words_within i = omega (arith, runs_up_to c.slots i, lay_len c spelled)
@@ -278,18 +323,25 @@ module _ (c : ClassFile) (spelled : HasSpelling c) where
     word_place_small i = omega (arith, runs_up_to c.slots i, lay_len c spelled, short)
 
     kept_at : (i k : ℕ) (d : Spelled) → k ≡ 9 + i → slice_get c.slots i ≡ Some (Usable d)
-        → word_kept (get_or (lay c) k 0) (get_or (lay c) (k + 1) 0) ≡ Some (kept_constant (words_at i) d)
+        → word_kept (get_or (lay c) k 0) (get_or (lay c) (k + 1) 0)
+        ≡ Some (kept_constant (words_at i) d)
     kept_at i k d ek e =
         let found = slot_there i k d ek e in
         let words = constant_words (words_at i) d ++ found.0 in
-        let next : get_or (lay c) (k + 1) 0 ≡ get_or words 1 0 = sym (get_or-drop k (lay c) 1 0) ∙ ap (λ w. get_or w 1 0) found.1 in
-        (λ j. word_kept (slot_word i k d ek e j) (next j)) ∙ kept_of_word (words_at i) d found.0 (fits_at false c.slots i d spelled.slots e) (word_place_small i)
+        let next : get_or (lay c) (k + 1) 0 ≡ get_or words 1 0 =
+        sym (get_or-drop k (lay c) 1 0) ∙ ap (λ w. get_or w 1 0) found.1 in
+        (λ j. word_kept (slot_word i k d ek e j) (next j))
+        ∙ kept_of_word (words_at i) d found.0 (fits_at false c.slots i d spelled.slots e)
+        (word_place_small i)
 
     -- what is found at a slot's word
     slot_found : (i k : ℕ) (s : Slot) → k ≡ 9 + i → slice_get c.slots i ≡ Some s
-        → (if is_second_word (lay c) k then None else word_kept (get_or (lay c) k 0) (get_or (lay c) (k + 1) 0)) ≡ option_map (kept_constant (words_at i)) (constant_in s)
+        → (if is_second_word (lay c) k then None
+        else word_kept (get_or (lay c) k 0) (get_or (lay c) (k + 1) 0))
+        ≡ option_map (kept_constant (words_at i)) (constant_in s)
     slot_found i k Unusable ek e = let second = second_is i k Unusable ek e in rw second refl
-    slot_found i k (Usable d) ek e = let second = second_is i k (Usable d) ek e in rw second (kept_at i k d ek e)
+    slot_found i k (Usable d) ek e = let second = second_is i k (Usable d) ek e in
+        rw second (kept_at i k d ek e)
 
     pub constant_is : (index : ℕ) → constant_at_index (lay c) index ≡ constant_kept c index
     constant_is zero = refl
@@ -297,16 +349,24 @@ module _ (c : ClassFile) (spelled : HasSpelling c) where
         let count = count_there c spelled in
         let some : (suc i == 0) ≡ false = ne_eqb (suc i) 0 (λ e. omega arith) in
         elim (leb_tells (length c.slots) i) [
-          | inl h ↦ let past = h.1 in let beyond : nat_le (first_of (get_or (lay c) 2 0)) (suc i) ≡ true = le-leb (first_of (get_or (lay c) 2 0)) (suc i) (omega (arith, count)) in
+          | inl h ↦ let past = h.1 in
+              let beyond : nat_le (first_of (get_or (lay c) 2 0)) (suc i) ≡ true =
+              le-leb (first_of (get_or (lay c) 2 0)) (suc i) (omega (arith, count)) in
               rw (some, beyond) (ap
-              (λ o. option_map (kept_constant (utf8_at c (suc i))) (option_and_then constant_in o)) (sym (slice_get_past c.slots i past)))
-          | inr h ↦ let within = h.1 in let inside : nat_le (first_of (get_or (lay c) 2 0)) (suc i) ≡ false = lt-leb (first_of (get_or (lay c) 2 0)) (suc i) (omega (arith, count)) in
+              (λ o. option_map (kept_constant (utf8_at c (suc i))) (option_and_then constant_in o))
+              (sym (slice_get_past c.slots i past)))
+          | inr h ↦ let within = h.1 in
+              let inside : nat_le (first_of (get_or (lay c) 2 0)) (suc i) ≡ false =
+              lt-leb (first_of (get_or (lay c) 2 0)) (suc i) (omega (arith, count)) in
               let s = slot_in c.slots i within in
               let place : suc i - 1 ≡ i = omega arith in
               let k : 8 + suc i ≡ 9 + i = omega arith in
               rw (some, inside) (
               let next : 9 + suc i ≡ 8 + suc i + 1 = omega arith in
-              ap (λ n. if is_second_word (lay c) (8 + suc i) then None else word_kept (get_or (lay c) (8 + suc i) 0) (get_or (lay c) n 0)) next
+              ap (λ n. if is_second_word (lay c) (8 + suc i) then None
+              else word_kept (get_or (lay c) (8 + suc i) 0) (get_or (lay c) n 0)) next
               ∙ (slot_found i (8 + suc i) s.0 k s.1 ∙ (ap
-              (λ o. option_map (kept_constant (words_at i)) (option_and_then constant_in o)) (sym s.1) ∙ ap (λ n. option_map (kept_constant (words_at n)) (constant_named c (suc i))) (sym place))))
+              (λ o. option_map (kept_constant (words_at i)) (option_and_then constant_in o))
+              (sym s.1) ∙ ap (λ n. option_map (kept_constant (words_at n))
+              (constant_named c (suc i))) (sym place))))
         ]

@@ -25,7 +25,8 @@ twice_more (suc (suc i)) j e = (i, refl, omega arith)
 -- the first word of a member
 pub member_word : (at : ℕ) (these : List ClassMember) (tail : List ℕ) (k j : ℕ) (m : ClassMember)
     → k ≡ 2 * j → slice_get these j ≡ Some m
-    → get_or (members at these ++ tail) k 0 ≡ four_numbers m.flags m.name m.descriptor (length m.attributes)
+    → get_or (members at these ++ tail) k 0
+    ≡ four_numbers m.flags m.name m.descriptor (length m.attributes)
 member_word at [] tail k j m ek e = absurd (cc)
 member_word at (x ∷ these) tail k zero m ek e =
     let same : x ≡ m = cc in
@@ -34,7 +35,8 @@ member_word at (x ∷ these) tail k zero m ek e =
     (λ (y : ClassMember). four_numbers y.flags y.name y.descriptor (length y.attributes)) same
 member_word at (x ∷ these) tail k (suc j) m ek e =
     let more = twice_more k j ek in
-    ap (λ n. get_or (members at (x ∷ these) ++ tail) n 0) more.1 ∙ member_word (at + 2 * length x.attributes) these tail more.0 j m more.2 e
+    ap (λ n. get_or (members at (x ∷ these) ++ tail) n 0) more.1
+    ∙ member_word (at + 2 * length x.attributes) these tail more.0 j m more.2 e
 
 pub fits_there : (these : List ClassMember) (j : ℕ) (m : ClassMember)
     → AllByRecursion MemberFits these → slice_get these j ≡ Some m → MemberFits m
@@ -66,66 +68,97 @@ numbers_of : (word : ℕ) (m : ClassMember) → MemberFits m
 numbers_of word m fits e =
     let n = length m.attributes in
     record {
-      flags = ap first_of e ∙ first-four_numbers m.flags m.name m.descriptor n fits.flags fits.name fits.descriptor fits.attributes.0;
-      name = ap second_of e ∙ second-four_numbers m.flags m.name m.descriptor n fits.flags fits.name fits.descriptor fits.attributes.0;
-      descriptor = ap third_of e ∙ third-four_numbers m.flags m.name m.descriptor n fits.flags fits.name fits.descriptor fits.attributes.0;
-      count = ap fourth_of e ∙ fourth-four_numbers m.flags m.name m.descriptor n fits.flags fits.name fits.descriptor fits.attributes.0;
+      flags = ap first_of e ∙ first-four_numbers m.flags m.name m.descriptor n fits.flags fits.name
+          fits.descriptor fits.attributes.0;
+      name = ap second_of e ∙ second-four_numbers m.flags m.name m.descriptor n fits.flags fits.name
+          fits.descriptor fits.attributes.0;
+      descriptor =
+          ap third_of e ∙ third-four_numbers m.flags m.name m.descriptor n fits.flags fits.name
+          fits.descriptor fits.attributes.0;
+      count = ap fourth_of e ∙ fourth-four_numbers m.flags m.name m.descriptor n fits.flags
+          fits.name fits.descriptor fits.attributes.0;
     }
 
 module _ (c : ClassFile) (spelled : HasSpelling c) where
   -- the record from the fields on, and from the methods on
-  pub fields_on : drop (members_at c) (lay c) ≡ members (attributes_at c) c.fields ++ (members (methods_at c) c.methods ++ attributes_tail c)
+  pub fields_on : drop (members_at c) (lay c) ≡ members (attributes_at c) c.fields
+      ++ (members (methods_at c) c.methods ++ attributes_tail c)
   fields_on =
       let d = directory (runs_at c) c.slots in
-      let rest = members (attributes_at c) c.fields ++ (members (methods_at c) c.methods ++ attributes_tail c) in
-      let size : length d + length c.interfaces ≡ length (d ++ c.interfaces) = sym (length-append d c.interfaces) in
-      let place : members_at c ≡ 9 + length (d ++ c.interfaces) = omega (arith, size, directory_len (runs_at c) c.slots spelled.slots) in
+      let rest =
+      members (attributes_at c) c.fields
+      ++ (members (methods_at c) c.methods ++ attributes_tail c) in
+      let size : length d + length c.interfaces ≡ length (d ++ c.interfaces) =
+      sym (length-append d c.interfaces) in
+      let place : members_at c ≡ 9 + length (d ++ c.interfaces) =
+      omega (arith, size, directory_len (runs_at c) c.slots spelled.slots) in
       ap (λ n. drop n (lay c)) place ∙ (sym (drop-drop (length (d ++ c.interfaces)) 9 (lay c))
-      ∙ (ap (drop (length (d ++ c.interfaces))) (main_there c spelled ∙ sym (append_assoc d c.interfaces rest)) ∙ drop_at (d ++ c.interfaces) rest (length (d ++ c.interfaces)) refl))
+      ∙ (ap (drop (length (d ++ c.interfaces)))
+      (main_there c spelled ∙ sym (append_assoc d c.interfaces rest))
+      ∙ drop_at (d ++ c.interfaces) rest (length (d ++ c.interfaces)) refl))
 
-  pub methods_on : drop (members_at c + 2 * length c.fields) (lay c) ≡ members (methods_at c) c.methods ++ attributes_tail c
+  pub methods_on : drop (members_at c + 2 * length c.fields) (lay c)
+      ≡ members (methods_at c) c.methods ++ attributes_tail c
   methods_on =
       let front = members (attributes_at c) c.fields in
       let rest = members (methods_at c) c.methods ++ attributes_tail c in
-      sym (drop-drop (2 * length c.fields) (members_at c) (lay c)) ∙ (ap (drop (2 * length c.fields)) fields_on ∙ drop_at front rest (2 * length c.fields) (members_len (attributes_at c) c.fields))
+      sym (drop-drop (2 * length c.fields) (members_at c) (lay c))
+      ∙ (ap (drop (2 * length c.fields)) fields_on
+      ∙ drop_at front rest (2 * length c.fields) (members_len (attributes_at c) c.fields))
 
   pub field_numbers : (at j : ℕ) (m : ClassMember) → at ≡ members_at c
       → slice_get c.fields j ≡ Some m → HasNumbers (get_or (lay c) (at + 2 * j) 0) m
   field_numbers at j m ea e =
       numbers_of (get_or (lay c) (at + 2 * j) 0) m (fits_there c.fields j m spelled.fields.1 e)
       (sym (get_or-drop at (lay c) (2 * j) 0) ∙ (ap (λ w. get_or w (2 * j) 0) (ap
-      (λ n. drop n (lay c)) ea ∙ fields_on) ∙ member_word (attributes_at c) c.fields (members (methods_at c) c.methods ++ attributes_tail c) (2 * j) j m refl e))
+      (λ n. drop n (lay c)) ea ∙ fields_on)
+      ∙ member_word (attributes_at c) c.fields
+      (members (methods_at c) c.methods ++ attributes_tail c) (2 * j) j m refl e))
 
   pub method_numbers : (at j : ℕ) (m : ClassMember) → at ≡ members_at c + 2 * length c.fields
       → slice_get c.methods j ≡ Some m → HasNumbers (get_or (lay c) (at + 2 * j) 0) m
   method_numbers at j m ea e =
       numbers_of (get_or (lay c) (at + 2 * j) 0) m (fits_there c.methods j m spelled.methods.1 e)
       (sym (get_or-drop at (lay c) (2 * j) 0) ∙ (ap (λ w. get_or w (2 * j) 0) (ap
-      (λ n. drop n (lay c)) ea ∙ methods_on) ∙ member_word (methods_at c) c.methods (attributes_tail c) (2 * j) j m refl e))
+      (λ n. drop n (lay c)) ea ∙ methods_on)
+      ∙ member_word (methods_at c) c.methods (attributes_tail c) (2 * j) j m refl e))
 
 -- ---- what is found among the words of members
 
 -- the test of the words, and that of the members
 abbrev pub word_test : ClassFile → List ℕ → List ℕ → List ℕ → ℕ → ℕ → Bool
-word_test c name descriptor words at k = leads_to c name descriptor (second_of (get_or words (at + 2 * k) 0)) (third_of (get_or words (at + 2 * k) 0))
+word_test c name descriptor words at k =
+    leads_to c name descriptor (second_of (get_or words (at + 2 * k) 0))
+    (third_of (get_or words (at + 2 * k) 0))
 
 abbrev pub HaveNumbers : List ℕ → ℕ → List ClassMember → Type 0
 HaveNumbers words at all = (j : ℕ) (m : ClassMember) → slice_get all j ≡ Some m
     → HasNumbers (get_or words (at + 2 * j) 0) m
 
-module _ (c : ClassFile) (words : List ℕ) (at count : ℕ) (all : List ClassMember) (name descriptor : List ℕ) (numbers : HaveNumbers words at all) (size : count ≡ length all) where
+module _ (c : ClassFile) (words : List ℕ) (at count : ℕ) (all : List ClassMember)
+    (name descriptor : List ℕ) (numbers : HaveNumbers words at all)
+    (size : count ≡ length all) where
   same_test : (j : ℕ) (m : ClassMember) → slice_get all j ≡ Some m
       → word_test c name descriptor words at j ≡ has_both c name descriptor m
-  same_test j m e = let n = numbers j m e in λ i. leads_to c name descriptor (n.name i) (n.descriptor i)
+  same_test j m e = let n =
+      numbers j m e in λ i. leads_to c name descriptor (n.name i) (n.descriptor i)
 
   pub none_found : ((k : ℕ) → k < count → word_test c name descriptor words at k ≡ false)
       → (k : ℕ) (other : ClassMember) → slice_get all k ≡ Some other
       → has_both c name descriptor other ≡ false
-  none_found none k other e = sym (same_test k other e) ∙ none k (omega (arith, index_there all k other e, size))
+  none_found none k other e =
+      sym (same_test k other e) ∙ none k (omega (arith, index_there all k other e, size))
 
   pub least_found : (is_method : Bool) (index : ℕ)
       → IsFirst (word_test c name descriptor words at) count index
-      → IsLeastMember c all is_method name descriptor (record { is_method = is_method; index = index; flags = first_of (get_or words (at + 2 * index) 0); attributes = fourth_of (get_or words (at + 2 * index) 0) })
+      → IsLeastMember c all is_method name descriptor
+      (record {
+        is_method = is_method;
+        index = index;
+        flags = first_of (get_or words (at + 2 * index) 0);
+        attributes =
+            fourth_of (get_or words (at + 2 * index) 0);
+      })
   least_found is_method index first =
       let within = first.there in
       let own = item_there all index (omega (arith, within, size)) in
@@ -152,12 +185,24 @@ module _ (c : ClassFile) (words : List ℕ) (is : IsRecordOf c words) where
 
   pub fields_have : (at : ℕ) → at ≡ get_or words 5 0 → HaveNumbers words at c.fields
   fields_have at ea j m e = subst
-      (λ (w : List ℕ). HasNumbers (get_or w (at + 2 * j) 0) m) (sym is.laid) (field_numbers c is.spelled at j m (ea ∙ fields_place) e)
+      (λ (w : List ℕ). HasNumbers (get_or w (at + 2 * j) 0) m) (sym is.laid)
+      (field_numbers c is.spelled at j m (ea ∙ fields_place) e)
 
   pub methods_have : (at fields : ℕ) → at ≡ get_or words 5 0 + 2 * fields
       → fields ≡ second_of (get_or words 2 0) → HaveNumbers words at c.methods
   methods_have at fields ea ef j m e =
-      subst (λ (w : List ℕ). HasNumbers (get_or w (at + 2 * j) 0) m) (sym is.laid) (method_numbers c is.spelled at j m (omega (arith, ea, ef, fields_place, fields_count)) e)
+      subst (λ (w : List ℕ). HasNumbers (get_or w (at + 2 * j) 0) m) (sym is.laid)
+      (method_numbers c is.spelled at j m (omega (arith, ea, ef, fields_place, fields_count)) e)
 
-  pub members_fit : get_or words 5 0 + 2 * second_of (get_or words 2 0) + 2 * third_of (get_or words 2 0) ≤ length words
-  members_fit = omega (arith, fields_place, fields_count, methods_count, ap length is.laid, lay_len c is.spelled, all_members_len c)
+  pub members_fit : get_or words 5 0 + 2 * second_of (get_or words 2 0)
+      + 2 * third_of (get_or words 2 0) ≤ length words
+  members_fit =
+      omega (
+        arith,
+        fields_place,
+        fields_count,
+        methods_count,
+        ap length is.laid,
+        lay_len c is.spelled,
+        all_members_len c,
+      )

@@ -13,7 +13,9 @@ abbrev order : List ℕ → List ℕ → Ordering
 order xs ys = slice_cmp nat_cmp xs ys
 
 heads : (xs ys : List ℕ) (i : ℕ) → i < length xs → i < length ys
-    → order (drop i xs) (drop i ys) ≡ ordering_then (nat_cmp (get_or xs i 0) (get_or ys i 0)) (order (drop (suc i) xs) (drop (suc i) ys))
+    → order (drop i xs) (drop i ys)
+    ≡ ordering_then (nat_cmp (get_or xs i 0) (get_or ys i 0))
+    (order (drop (suc i) xs) (drop (suc i) ys))
 heads xs ys i hx hy = λ j. order (drop-cons xs i 0 hx j) (drop-cons ys i 0 hy j)
 
 equal_numbers : (x y : ℕ) → x ≡ y → nat_cmp x y ≡ Equal
@@ -26,7 +28,9 @@ pub same_byte : (xs ys : List ℕ) (i n : ℕ) → n ≡ i + 1 → i < length xs
 same_byte xs ys i n en hx hy e so_far =
     let more : suc i ≡ n = omega arith in
     so_far ∙ (heads xs ys i hx hy ∙ (ap
-    (λ o. ordering_then o (order (drop (suc i) xs) (drop (suc i) ys))) (equal_numbers (get_or xs i 0) (get_or ys i 0) e) ∙ ap (λ k. order (drop k xs) (drop k ys)) more))
+    (λ o. ordering_then o (order (drop (suc i) xs) (drop (suc i) ys)))
+    (equal_numbers (get_or xs i 0) (get_or ys i 0) e)
+    ∙ ap (λ k. order (drop k xs) (drop k ys)) more))
 
 -- nor do the first ones where all are the same
 pub same_bytes : (n : ℕ) (xs ys : List ℕ) → n ≤ length xs → n ≤ length ys
@@ -56,19 +60,23 @@ decided x y o ne = elim (below x y ne) [
 pub other_byte : (xs ys : List ℕ) (i : ℕ) → i < length xs → i < length ys
     → (get_or xs i 0 ≡ get_or ys i 0 → ⊥) → order xs ys ≡ order (drop i xs) (drop i ys)
     → nat_cmp (get_or xs i 0) (get_or ys i 0) ≡ order xs ys
-other_byte xs ys i hx hy ne so_far = sym (so_far ∙ (heads xs ys i hx hy ∙ decided (get_or xs i 0) (get_or ys i 0) (order (drop (suc i) xs) (drop (suc i) ys)) ne))
+other_byte xs ys i hx hy ne so_far =
+    sym (so_far ∙ (heads xs ys i hx hy
+    ∙ decided (get_or xs i 0) (get_or ys i 0) (order (drop (suc i) xs) (drop (suc i) ys)) ne))
 
 below_or : (a b : ℕ) → (a ≤ b) ⊎ (b ≤ a)
 below_or zero b = inl (omega arith)
 below_or (suc a) zero = inr (omega arith)
-below_or (suc a) (suc b) = elim (below_or a b) [ inl h ↦ inl (omega arith) | inr h ↦ inr (omega arith) ]
+below_or (suc a) (suc b) =
+    elim (below_or a b) [ inl h ↦ inl (omega arith) | inr h ↦ inr (omega arith) ]
 
 at_end : (us vs : List ℕ) (i lx ly : ℕ) → lx ≡ i + length us → ly ≡ i + length vs
     → (length us ≡ 0) ⊎ (length vs ≡ 0) → order us vs ≡ nat_cmp lx ly
 at_end [] [] i lx ly ex ey h = nat_cmp_is lx ly Equal (omega arith)
 at_end [] (v ∷ vs) i lx ly ex ey h = nat_cmp_is lx ly Less (omega arith)
 at_end (u ∷ us) [] i lx ly ex ey h = nat_cmp_is lx ly Greater (omega arith)
-at_end (u ∷ us) (v ∷ vs) i lx ly ex ey h = elim h [ inl e ↦ absurd (omega arith) | inr e ↦ absurd (omega arith) ]
+at_end (u ∷ us) (v ∷ vs) i lx ly ex ey h =
+    elim h [ inl e ↦ absurd (omega arith) | inr e ↦ absurd (omega arith) ]
 
 -- and where one ends, the lengths do
 pub one_ends : (xs ys : List ℕ) (i : ℕ) → i ≡ min (length xs) (length ys)
@@ -77,5 +85,10 @@ one_ends xs ys i ei so_far =
     let dx = length-drop i xs in
     let dy = length-drop i ys in
     let ends : (length (drop i xs) ≡ 0)
-    ⊎ (length (drop i ys) ≡ 0) = elim (below_or (length xs) (length ys)) [ inl h ↦ inl (omega arith) | inr h ↦ inr (omega arith) ] in
-    sym (so_far ∙ at_end (drop i xs) (drop i ys) i (length xs) (length ys) (omega arith) (omega arith) ends)
+    ⊎ (length (drop i ys) ≡ 0) =
+    elim (below_or (length xs) (length ys)) [
+      | inl h ↦ inl (omega arith)
+      | inr h ↦ inr (omega arith)
+    ] in
+    sym (so_far ∙ at_end (drop i xs) (drop i ys) i (length xs) (length ys) (omega arith)
+    (omega arith) ends)

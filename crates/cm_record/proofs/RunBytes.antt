@@ -33,7 +33,8 @@ drop_fits n bytes are = bytes_from (drop n bytes)
 -- a run ends where its words do
 pub run_fits : (words : List ℕ) (run : Run) (bytes : List ℕ) → IsRunOf words run bytes
     → 8 * run.at + run.len ≤ 8 * length words
-run_fits words run bytes is = omega (arith, (run_words_there words run bytes is).0, length-drop run.at words, is.within)
+run_fits words run bytes is =
+    omega (arith, (run_words_there words run bytes is).0, length-drop run.at words, is.within)
 
 -- byte i of a run
 pub byte_there : (words : List ℕ) (run : Run) (bytes : List ℕ) → IsRunOf words run bytes
@@ -47,9 +48,12 @@ byte_there words run bytes is i lt =
     let inside : k < length (packed bytes) = omega (arith, size, is.count) in
     let word : get_or words (run.at + k) 0 ≡ word_from (drop (8 * k) bytes) =
     sym (get_or-drop run.at words k 0) ∙ (ap
-    (λ w. get_or w k 0) is.split ∙ (get_or_append_left (packed bytes) is.rest 0 k inside ∙ packed_at (run_words (length bytes)) k bytes (omega (arith, size)))) in
+    (λ w. get_or w k 0) is.split
+    ∙ (get_or_append_left (packed bytes) is.rest 0 k inside
+    ∙ packed_at (run_words (length bytes)) k bytes (omega (arith, size)))) in
     ap (λ w. get_or (bytes_of w) j 0) word
-    ∙ (word_byte (drop (8 * k) bytes) (drop_fits (8 * k) bytes is.fits) j (omega arith) (omega (arith, length-drop (8 * k) bytes, is.count, whole))
+    ∙ (word_byte (drop (8 * k) bytes) (drop_fits (8 * k) bytes is.fits) j (omega arith)
+    (omega (arith, length-drop (8 * k) bytes, is.count, whole))
     ∙ (get_or-drop (8 * k) bytes j 0 ∙ ap (λ n. get_or bytes n 0) whole))
 
 -- where the first words of two runs are the same, their bytes are
@@ -79,5 +83,6 @@ same_in_run words run xs ys of_xs are n le also same i lt =
     sym (get_or-drop run.at words k 0) ∙ same k (omega arith) in
     sym (byte_there words run xs of_xs i (omega arith))
     ∙ (ap (λ w. get_or (bytes_of w) j 0) word
-    ∙ (word_byte (drop (8 * k) ys) (drop_fits (8 * k) ys are) j (omega arith) (omega (arith, length-drop (8 * k) ys, whole))
+    ∙ (word_byte (drop (8 * k) ys) (drop_fits (8 * k) ys are) j (omega arith)
+    (omega (arith, length-drop (8 * k) ys, whole))
     ∙ (get_or-drop (8 * k) ys j 0 ∙ ap (λ m. get_or ys m 0) whole)))

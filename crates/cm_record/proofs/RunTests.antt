@@ -48,13 +48,15 @@ module _ (words bytes rest left : List ℕ) (onward : words ≡ packed bytes
     pub goes_back : (word : ℕ) → 1 ≤ length rest → word ≡ word_from left → word ≡ get_or rest 0 0
         → take (length rest - 1) (drop 1 rest) ≡ packed left' → words ≡ packed bytes
     goes_back word long is same e =
-        let behind : drop 1 rest ≡ packed (drop (min (length left) 8) left) = sym (take_rest rest 1) ∙ (e ∙ ap packed shorter) in
+        let behind : drop 1 rest ≡ packed (drop (min (length left) 8) left) =
+        sym (take_rest rest 1) ∙ (e ∙ ap packed shorter) in
         back (head_rest rest long ∙ ((λ i. (sym same ∙ is) i ∷ behind i) ∙ sym first))
 
 -- ---- which constants are Utf8
 
 kind_kept : (at : ℕ) (o : Option Spelled)
-    → option_map_or (is_kind kinds.Utf8) o false ≡ is_some (run_of_utf8 (option_map (kept_constant at) o))
+    → option_map_or (is_kind kinds.Utf8) o false
+    ≡ is_some (run_of_utf8 (option_map (kept_constant at) o))
 kind_kept at None = refl
 kind_kept at (Some (constant.Utf8 bytes)) = refl
 kind_kept at (Some (constant.Integer bits)) = refl
@@ -77,23 +79,30 @@ same_verdict true false a b = sym (b.1 (a.0 refl))
 same_verdict false true a b = a.1 (b.0 refl)
 same_verdict false false a b = refl
 
-module _ (c : ClassFile) (words : List ℕ) (is : IsRecordOf c words) (index : ℕ) (place : Option Run) (found : place ≡ run_of_utf8 (constant_at_index words index)) where
+module _ (c : ClassFile) (words : List ℕ) (is : IsRecordOf c words) (index : ℕ) (place : Option Run)
+    (found : place ≡ run_of_utf8 (constant_at_index words index)) where
   kept : run_of_utf8 (constant_kept c index) ≡ place
   kept = ap run_of_utf8 (sym (ap
-      (λ w. constant_at_index w index) is.laid ∙ constant_is c is.spelled (lay_short c words is) index)) ∙ sym found
+      (λ w. constant_at_index w index) is.laid
+      ∙ constant_is c is.spelled (lay_short c words is) index)) ∙ sym found
 
   pub no_utf8 : place ≡ None → (bytes : List ℕ) → false ≡ names_utf8 c index bytes
   no_utf8 none bytes = sym (ap
-      (λ b. b && bytes_eq (utf8 c index) bytes) (kind_kept (utf8_at c index) (constant_named c index) ∙ ap is_some (kept ∙ none)))
+      (λ b. b && bytes_eq (utf8 c index) bytes)
+      (kind_kept (utf8_at c index) (constant_named c index) ∙ ap is_some (kept ∙ none)))
 
   pub utf8_there : (run : Run) → place ≡ Some run → IsRunOf words run (utf8 c index)
   utf8_there run some =
       let there : utf8_run words index ≡ run = ap (λ o. unwrap_or o no_bytes) (sym found ∙ some) in
       subst (λ (r : Run). IsRunOf words r (utf8 c index)) there (subst
-      (λ (w : List ℕ). IsRunOf w (utf8_run w index) (utf8 c index)) (sym is.laid) (utf8_run_is c is.spelled (lay_short c words is) index))
+      (λ (w : List ℕ). IsRunOf w (utf8_run w index) (utf8 c index)) (sym is.laid)
+      (utf8_run_is c is.spelled (lay_short c words is) index))
 
   pub utf8_compared : (run : Run) → place ≡ Some run → (bytes : List ℕ) (result : Bool)
       → Decides result (utf8 c index ≡ bytes) → result ≡ names_utf8 c index bytes
   utf8_compared run some bytes result decides =
-      let is_one = kind_kept (utf8_at c index) (constant_named c index) ∙ ap is_some (kept ∙ some) in
-      same_verdict result (bytes_eq (utf8 c index) bytes) decides (bytes_eq-Decides (utf8 c index) bytes) ∙ sym (ap (λ b. b && bytes_eq (utf8 c index) bytes) is_one)
+      let is_one =
+      kind_kept (utf8_at c index) (constant_named c index) ∙ ap is_some (kept ∙ some) in
+      same_verdict result (bytes_eq (utf8 c index) bytes) decides
+      (bytes_eq-Decides (utf8 c index) bytes)
+      ∙ sym (ap (λ b. b && bytes_eq (utf8 c index) bytes) is_one)

@@ -34,7 +34,8 @@ of_word word next run e = by_kind (tag_of (first_of word)) (number_is (first_of 
         → IsUtf8Word word run.len
     by_kind None h e = absurd (cc)
     by_kind (Some kinds.Utf8) h e =
-        let same : record { at = upper_of word * 8 % 2 ^ 32 / 8; len = second_of word } ≡ run = cc in
+        let same : record { at = upper_of word * 8 % 2 ^ 32 / 8; len = second_of word } ≡ run =
+        cc in
         record { tag = sym h; count_is = ap (λ (r : Run). r.len) same }
     by_kind (Some kinds.Integer) h e = absurd (cc)
     by_kind (Some kinds.Float) h e = absurd (cc)
@@ -73,22 +74,26 @@ of_index words index run e = by_zero (index == 0) e
     by_second false within e = record { within = within; word = of_word word next run e }
 
     by_count : (t : Bool) → nat_le (first_of (get_or words 2 0)) index ≡ t
-        → run_of_utf8 (if t then None else if is_second_word words (8 + index) then None else word_kept word next) ≡ Some run
+        → run_of_utf8 (if t then None else if is_second_word words (8 + index) then None
+        else word_kept word next) ≡ Some run
         → IsUtf8Index words index run.len
     by_count true is e = absurd (cc)
     by_count false is e = by_second (is_second_word words (8 + index))
         (omega (arith, leb-false (first_of (get_or words 2 0)) index is)) e
 
     by_zero : (t : Bool)
-        → run_of_utf8 (if t then None else if nat_le (first_of (get_or words 2 0)) index then None else if is_second_word words (8 + index) then None else word_kept word next) ≡ Some run
+        → run_of_utf8 (if t then None else if nat_le (first_of (get_or words 2 0)) index then None
+        else if is_second_word words (8 + index) then None else word_kept word next) ≡ Some run
         → IsUtf8Index words index run.len
     by_zero true e = absurd (cc)
     by_zero false e = by_count (nat_le (first_of (get_or words 2 0)) index) refl e
 
 -- An index whose word isn't that of a Utf8 of as many bytes leads to none of these bytes.
-pub leads_to_none : (c : ClassFile) (words : List ℕ) → IsRecordOf c words → (index : ℕ) (bytes : List ℕ)
+pub leads_to_none : (c : ClassFile) (words : List ℕ) → IsRecordOf c words
+    → (index : ℕ) (bytes : List ℕ)
     → ¬ IsUtf8Index words index (length bytes) → names_utf8 c index bytes ≡ false
-leads_to_none c words is index bytes differs = by_place (run_of_utf8 (constant_at_index words index)) refl
+leads_to_none c words is index bytes differs =
+    by_place (run_of_utf8 (constant_at_index words index)) refl
   where
     by_place : (o : Option Run) → o ≡ run_of_utf8 (constant_at_index words index)
         → names_utf8 c index bytes ≡ false
@@ -98,7 +103,11 @@ leads_to_none c words is index bytes differs = by_place (run_of_utf8 (constant_a
         let looks = of_index words index run (sym e) in
         let other : utf8 c index ≡ bytes → ⊥ = λ same. differs (record {
           within = looks.within;
-          word = record { tag = looks.word.tag; count_is = looks.word.count_is ∙ (there.count ∙ ap length same) };
+          word = record {
+            tag = looks.word.tag;
+            count_is = looks.word.count_is
+                ∙ (there.count ∙ ap length same);
+          };
         }) in
         sym (utf8_compared c words is index (Some run) e run refl bytes false
         (λ yes. absurd (let both : false ≡ true = yes in cc), λ same. absurd (other same)))

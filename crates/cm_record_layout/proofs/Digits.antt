@@ -31,4 +31,6 @@ module _ (name count : ℕ) (hn : name < 2 ^ 16) (hc : count < 2 ^ 32) where
 
 pub four_numbers_test : (w : ℕ) → w < 2 ^ 64
     → (four_numbers (first_of w) (second_of w) (third_of w) (fourth_of w) == w) ≡ true
-four_numbers_test w h = eq-eqb (four_numbers (first_of w) (second_of w) (third_of w) (fourth_of w)) w (four_numbers_parts w h)
+four_numbers_test w h =
+    eq-eqb (four_numbers (first_of w) (second_of w) (third_of w) (fourth_of w)) w
+    (four_numbers_parts w h)

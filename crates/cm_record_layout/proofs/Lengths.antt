@@ -21,24 +21,40 @@ pub attribute_runs_append : (xs ys : List Attribute)
     → attribute_runs (xs ++ ys) ≡ attribute_runs xs ++ attribute_runs ys
 attribute_runs_append [] ys = refl
 attribute_runs_append (x ∷ xs) ys = ap
-    (λ w. attribute_run x ++ w) (attribute_runs_append xs ys) ∙ sym (append_assoc (attribute_run x) (attribute_runs xs) (attribute_runs ys))
+    (λ w. attribute_run x ++ w) (attribute_runs_append xs ys)
+    ∙ sym (append_assoc (attribute_run x) (attribute_runs xs) (attribute_runs ys))
 
 -- how many attributes the class has in all
 pub all_attributes_len : (c : ClassFile)
-    → length (all_attributes c) ≡ length (member_attributes c.fields) + length (member_attributes c.methods) + length c.attributes
-all_attributes_len c = omega (arith, length-append (member_attributes c.fields ++ member_attributes c.methods) c.attributes, length-append (member_attributes c.fields) (member_attributes c.methods))
+    → length (all_attributes c) ≡ length (member_attributes c.fields)
+    + length (member_attributes c.methods) + length c.attributes
+all_attributes_len c =
+    omega (
+      arith,
+      length-append (member_attributes c.fields ++ member_attributes c.methods)
+          c.attributes,
+      length-append (member_attributes c.fields) (member_attributes c.methods),
+    )
 
 -- the runs of all attributes
 pub all_runs : (c : ClassFile)
-    → attribute_runs (all_attributes c) ≡ attribute_runs (member_attributes c.fields) ++ attribute_runs (member_attributes c.methods) ++ attribute_runs c.attributes
-all_runs c = attribute_runs_append (member_attributes c.fields ++ member_attributes c.methods) c.attributes ∙ ap (λ w. w ++ attribute_runs c.attributes) (attribute_runs_append (member_attributes c.fields) (member_attributes c.methods))
+    → attribute_runs (all_attributes c) ≡ attribute_runs (member_attributes c.fields)
+    ++ attribute_runs (member_attributes c.methods) ++ attribute_runs c.attributes
+all_runs c =
+    attribute_runs_append (member_attributes c.fields ++ member_attributes c.methods) c.attributes
+    ∙ ap (λ w. w ++ attribute_runs c.attributes)
+    (attribute_runs_append (member_attributes c.fields) (member_attributes c.methods))
 
 pub all_runs_len : (c : ClassFile)
-    → length (attribute_runs (all_attributes c)) ≡ length (attribute_runs (member_attributes c.fields)) + length (attribute_runs (member_attributes c.methods)) + length (attribute_runs c.attributes)
+    → length (attribute_runs (all_attributes c))
+    ≡ length (attribute_runs (member_attributes c.fields))
+    + length (attribute_runs (member_attributes c.methods)) + length (attribute_runs c.attributes)
 all_runs_len c = ap length (all_runs c) ∙ omega (
   arith,
-  length-append (attribute_runs (member_attributes c.fields) ++ attribute_runs (member_attributes c.methods)) (attribute_runs c.attributes),
-  length-append (attribute_runs (member_attributes c.fields)) (attribute_runs (member_attributes c.methods)),
+  length-append (attribute_runs (member_attributes c.fields)
+      ++ attribute_runs (member_attributes c.methods)) (attribute_runs c.attributes),
+  length-append (attribute_runs (member_attributes c.fields))
+      (attribute_runs (member_attributes c.methods)),
 )
 
 pub all_members_len : (c : ClassFile) → length (all_members c) ≡ length c.fields + length c.methods
@@ -48,7 +64,9 @@ pub attributes_append : (at : ℕ) (xs ys : List Attribute)
     → attributes at (xs ++ ys) ≡ attributes at xs ++ attributes (at + length (attribute_runs xs)) ys
 attributes_append at [] ys = ap (λ n. attributes n ys) (omega arith)
 attributes_append at (x ∷ xs) ys =
-    let same : at + length (attribute_run x) + length (attribute_runs xs) ≡ at + length (attribute_run x ++ attribute_runs xs) = omega (arith, length-append (attribute_run x) (attribute_runs xs)) in
+    let same : at + length (attribute_run x) + length (attribute_runs xs)
+    ≡ at + length (attribute_run x ++ attribute_runs xs) =
+    omega (arith, length-append (attribute_run x) (attribute_runs xs)) in
     ap (λ w. (x.name + 2 ^ 32 * length x.bytes) ∷ at ∷ w)
     (attributes_append (at + length (attribute_run x)) xs ys ∙ ap
     (λ n. attributes (at + length (attribute_run x)) xs ++ attributes n ys) same)
@@ -57,7 +75,9 @@ pub members_append : (at : ℕ) (xs ys : List Member)
     → members at (xs ++ ys) ≡ members at xs ++ members (at + 2 * length (member_attributes xs)) ys
 members_append at [] ys = ap (λ n. members n ys) (omega arith)
 members_append at (x ∷ xs) ys =
-    let same : at + 2 * length x.attributes + 2 * length (member_attributes xs) ≡ at + 2 * length (x.attributes ++ member_attributes xs) = omega (arith, length-append x.attributes (member_attributes xs)) in
+    let same : at + 2 * length x.attributes + 2 * length (member_attributes xs)
+    ≡ at + 2 * length (x.attributes ++ member_attributes xs) =
+    omega (arith, length-append x.attributes (member_attributes xs)) in
     ap (λ w. four_numbers x.flags x.name x.descriptor (length x.attributes) ∷ at ∷ w)
     (members_append (at + 2 * length x.attributes) xs ys ∙ ap
     (λ n. members (at + 2 * length x.attributes) xs ++ members n ys) same)
@@ -88,14 +108,18 @@ constant_words_len at (constant.InvokeDynamic bootstrap_method name_and_type) = 
 directory_len_from : (at : ℕ) (second : Bool) (slots : List Slot) → SlotsFit second slots
     → length (directory at slots) + cond second 1 0 ≡ length slots
 directory_len_from at true [] fit = absurd fit
-directory_len_from at true (Unusable ∷ slots) fit = omega (arith, directory_len_from at false slots fit)
+directory_len_from at true (Unusable ∷ slots) fit =
+    omega (arith, directory_len_from at false slots fit)
 directory_len_from at true (Usable c ∷ slots) fit = absurd fit
 directory_len_from at false [] fit = refl
 directory_len_from at false (Unusable ∷ slots) fit = absurd fit
 directory_len_from at false (Usable c ∷ slots) fit =
     let more = directory_len_from (at + length (constant_run c)) (is_wide c) slots fit.1 in
-    let parts = length-append (constant_words at c) (directory (at + length (constant_run c)) slots) in
-    slot_more (is_wide c) (length slots) (length (constant_words at c)) (length (directory (at + length (constant_run c)) slots)) (length (directory at (Usable c ∷ slots))) (constant_words_len at c) more parts
+    let parts =
+    length-append (constant_words at c) (directory (at + length (constant_run c)) slots) in
+    slot_more (is_wide c) (length slots) (length (constant_words at c))
+    (length (directory (at + length (constant_run c)) slots))
+    (length (directory at (Usable c ∷ slots))) (constant_words_len at c) more parts
 
 pub directory_len : (at : ℕ) (slots : List Slot) → SlotsFit false slots
     → length (directory at slots) ≡ length slots

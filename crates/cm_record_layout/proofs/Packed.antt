@@ -20,15 +20,18 @@ pub packed_more : (bytes : List ℕ) (n : ℕ) → n ≡ min (length bytes) 8 �
 packed_more bytes n e some =
     let others : drop n bytes ≡ drop 8 bytes = ap
     (λ k. drop k bytes) (e ∙ omega arith) ∙ drop_min 8 bytes in
-    let count : run_words (length bytes) ≡ suc (run_words (length (drop n bytes))) = omega (arith, length-drop n bytes) in
+    let count : run_words (length bytes) ≡ suc (run_words (length (drop n bytes))) =
+    omega (arith, length-drop n bytes) in
     rw (count, others) refl
 
 -- words of lists that agree in the first eight bytes are the same
 pub word_same : (xs ys : List ℕ) → ((k : ℕ) → k < 8 → get_or xs k 0 ≡ get_or ys k 0)
     → from_le_bytes w64 xs ≡ word_from ys
 unfolding word_from
-word_same xs ys h = let h0 = h 0 (omega arith) in let h1 = h 1 (omega arith) in let h2 = h 2 (omega arith) in let h3 = h 3 (omega arith) in
-    let h4 = h 4 (omega arith) in let h5 = h 5 (omega arith) in let h6 = h 6 (omega arith) in let h7 = h 7 (omega arith) in omega (arith, h0, h1, h2, h3, h4, h5, h6, h7)
+word_same xs ys h = let h0 = h 0 (omega arith) in let h1 = h 1 (omega arith) in let h2 =
+    h 2 (omega arith) in let h3 = h 3 (omega arith) in
+    let h4 = h 4 (omega arith) in let h5 = h 5 (omega arith) in let h6 = h 6 (omega arith) in
+    let h7 = h 7 (omega arith) in omega (arith, h0, h1, h2, h3, h4, h5, h6, h7)
 
 pub length-bytes_of : (word : ℕ) → length (bytes_of word) ≡ 8
 unfolding bytes_of
@@ -55,5 +58,6 @@ pub words_back : (words : List ℕ) → ((j : ℕ) → j < length words
     → packed_into (length words) (word_bytes words) ≡ words
 words_back [] back = refl
 words_back (w ∷ words) back =
-    (λ i. (word_in_front w (word_bytes words) ∙ back 0 (omega arith)) i ∷ packed_into (length words) (rest_behind w (word_bytes words) i))
+    (λ i. (word_in_front w (word_bytes words) ∙ back 0 (omega arith)) i
+    ∷ packed_into (length words) (rest_behind w (word_bytes words) i))
     ∙ ap (λ ws. w ∷ ws) (words_back words (λ j small. back (suc j) (omega arith)))

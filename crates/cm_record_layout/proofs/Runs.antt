@@ -31,19 +31,30 @@ unfolding padded
 padded_at bytes k lt = elim (cases_lt k (length bytes)) [
   | inl inside ↦
       let front : k < length (take 8 bytes) = omega (arith, length-take 8 bytes) in
-      let there : get_or (padded bytes) k 0 ≡ get_or (take 8 bytes) k 0 = get_or_append_left (take 8 bytes) (replicate (8 - length bytes) 0) 0 k front in
+      let there : get_or (padded bytes) k 0 ≡ get_or (take 8 bytes) k 0 =
+      get_or_append_left (take 8 bytes) (replicate (8 - length bytes) 0) 0 k front in
       there ∙ get_or-take 8 bytes k 0 lt
   | inr past ↦
       let whole : length (take 8 bytes) ≤ k = omega (arith, length-take 8 bytes) in
-      let zeros : k - length (take 8 bytes) < 8 - length bytes = omega (arith, length-take 8 bytes) in
-      let there : get_or (padded bytes) k 0 ≡ get_or (replicate (8 - length bytes) 0) (k - length (take 8 bytes)) 0 =
-      get_or-append_right (take 8 bytes) (replicate (8 - length bytes) 0) (length (take 8 bytes)) k 0 refl whole in
-      there ∙ (get_or-replicate (8 - length bytes) (k - length (take 8 bytes)) 0 0 zeros ∙ sym (get_or_past bytes k 0 past))
+      let zeros : k - length (take 8 bytes) < 8 - length bytes =
+      omega (arith, length-take 8 bytes) in
+      let there : get_or (padded bytes) k 0
+      ≡ get_or (replicate (8 - length bytes) 0) (k - length (take 8 bytes)) 0 =
+      get_or-append_right (take 8 bytes) (replicate (8 - length bytes) 0) (length (take 8 bytes)) k
+      0 refl whole in
+      there ∙ (get_or-replicate (8 - length bytes) (k - length (take 8 bytes)) 0 0 zeros
+      ∙ sym (get_or_past bytes k 0 past))
 ]
 
 padded_len : (bytes : List ℕ) → length (padded bytes) ≡ 8
 unfolding padded
-padded_len bytes = omega (arith, length-append (take 8 bytes) (replicate (8 - length bytes) 0), length-take 8 bytes, length-replicate {A = ℕ} (8 - length bytes) 0)
+padded_len bytes =
+    omega (
+      arith,
+      length-append (take 8 bytes) (replicate (8 - length bytes) 0),
+      length-take 8 bytes,
+      length-replicate {A = ℕ} (8 - length bytes) 0,
+    )
 
 padded_small : (bytes : List ℕ) → AreBytes bytes → (i : ℕ) → get_or (padded bytes) i 0 < 256
 padded_small bytes are i = elim (cases_lt i 8) [
@@ -56,8 +67,11 @@ pub front_back : (bytes : List ℕ) → AreBytes bytes
     → take (length bytes) (bytes_of (word_from bytes)) ≡ take 8 bytes
 unfolding bytes_of padded
 front_back bytes are =
-    let same : from_le_bytes w64 (padded bytes) ≡ word_from bytes = word_same (padded bytes) bytes (padded_at bytes) in
-    let back : to_le_bytes w64 (word_from bytes) ≡ padded bytes = le_bytes_8 (padded bytes) (word_from bytes) (padded_len bytes) (padded_small bytes are) (sym same) in
+    let same : from_le_bytes w64 (padded bytes) ≡ word_from bytes =
+    word_same (padded bytes) bytes (padded_at bytes) in
+    let back : to_le_bytes w64 (word_from bytes) ≡ padded bytes =
+    le_bytes_8 (padded bytes) (word_from bytes) (padded_len bytes) (padded_small bytes are)
+    (sym same) in
     ap (take (length bytes)) back ∙ elim (cases_lt (length bytes) 8) [
       | inl short ↦ let all : take 8 bytes ≡ bytes = take_all 8 bytes (omega arith) in
           take_at (take 8 bytes) (replicate (8 - length bytes) 0) (length bytes) (ap length all)

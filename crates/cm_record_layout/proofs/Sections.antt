@@ -42,26 +42,43 @@ module _ (c : ClassFile) where
 
   -- the record from the runs on, from the attributes on, from slot 1 on
   abbrev pub runs_tail : List ℕ
-  runs_tail = utf8_runs c.slots ++ (attribute_runs of_fields ++ (attribute_runs of_methods ++ (attribute_runs c.attributes ++ [])))
+  runs_tail =
+      utf8_runs c.slots ++ (attribute_runs of_fields
+      ++ (attribute_runs of_methods ++ (attribute_runs c.attributes ++ [])))
 
   abbrev pub attributes_tail : List ℕ
-  attributes_tail = attributes (attribute_runs_at c) of_fields ++ (attributes method_runs_at of_methods ++ (attributes own_runs_at c.attributes ++ runs_tail))
+  attributes_tail =
+      attributes (attribute_runs_at c) of_fields
+      ++ (attributes method_runs_at of_methods
+      ++ (attributes own_runs_at c.attributes ++ runs_tail))
 
   abbrev pub main_tail : List ℕ
-  main_tail = directory (runs_at c) c.slots ++ (c.interfaces ++ (members (attributes_at c) c.fields ++ (members methods_at c.methods ++ attributes_tail)))
+  main_tail =
+      directory (runs_at c) c.slots
+      ++ (c.interfaces ++ (members (attributes_at c) c.fields
+      ++ (members methods_at c.methods ++ attributes_tail)))
 
-  attributes_split : attributes (attribute_runs_at c) (all_attributes c) ≡ attributes (attribute_runs_at c) of_fields ++ attributes method_runs_at of_methods ++ attributes own_runs_at c.attributes
+  attributes_split : attributes (attribute_runs_at c) (all_attributes c)
+      ≡ attributes (attribute_runs_at c) of_fields ++ attributes method_runs_at of_methods
+      ++ attributes own_runs_at c.attributes
   attributes_split =
-      let place : attribute_runs_at c + length (attribute_runs (of_fields ++ of_methods)) ≡ own_runs_at =
-      omega (arith, ap length (attribute_runs_append of_fields of_methods), length-append (attribute_runs of_fields) (attribute_runs of_methods)) in
+      let place : attribute_runs_at c + length (attribute_runs (of_fields ++ of_methods))
+      ≡ own_runs_at =
+      omega (
+        arith,
+        ap length (attribute_runs_append of_fields of_methods),
+        length-append (attribute_runs of_fields) (attribute_runs of_methods),
+      ) in
       attributes_append (attribute_runs_at c) (of_fields ++ of_methods) c.attributes
       ∙ rw (place, attributes_append (attribute_runs_at c) of_fields of_methods) refl
 
-  pub tail_joined : attributes (attribute_runs_at c) (all_attributes c) ++ utf8_runs c.slots ++ attribute_runs (all_attributes c) ≡ attributes_tail
+  pub tail_joined : attributes (attribute_runs_at c) (all_attributes c) ++ utf8_runs c.slots
+      ++ attribute_runs (all_attributes c) ≡ attributes_tail
   tail_joined = rw (attributes_split, all_runs c) (simp (append_assoc, append-nil))
 
   abbrev front : List ℕ
-  front = head c ++ (0 ∷ directory (runs_at c) c.slots) ++ c.interfaces ++ members (attributes_at c) (all_members c)
+  front = head c ++ (0 ∷ directory (runs_at c) c.slots) ++ c.interfaces
+      ++ members (attributes_at c) (all_members c)
 
   lay_split : lay c ≡ front ++ attributes_tail
   unfolding lay
@@ -87,33 +104,51 @@ module _ (c : ClassFile) where
         )
 
     pub attributes_there : drop (attributes_at c) (lay c) ≡ attributes_tail
-    attributes_there = ap (drop (attributes_at c)) lay_split ∙ drop_at front attributes_tail (attributes_at c) front_len
+    attributes_there = ap (drop (attributes_at c)) lay_split
+        ∙ drop_at front attributes_tail (attributes_at c) front_len
 
     pub attributes_tail_len : length attributes_tail + attributes_at c ≡ length (lay c)
-    attributes_tail_len = omega (arith, ap length lay_split, length-append front attributes_tail, front_len)
+    attributes_tail_len =
+        omega (arith, ap length lay_split, length-append front attributes_tail, front_len)
 
     -- the attributes without the runs
     abbrev middle : List ℕ
-    middle = attributes (attribute_runs_at c) of_fields ++ attributes method_runs_at of_methods ++ attributes own_runs_at c.attributes
+    middle = attributes (attribute_runs_at c) of_fields ++ attributes method_runs_at of_methods
+        ++ attributes own_runs_at c.attributes
 
     middle_len : length middle ≡ 2 * length (all_attributes c)
-    middle_len = sym (ap length attributes_split) ∙ attributes_len (attribute_runs_at c) (all_attributes c)
+    middle_len =
+        sym (ap length attributes_split) ∙ attributes_len (attribute_runs_at c) (all_attributes c)
 
     runs_split : lay c ≡ (front ++ middle) ++ runs_tail
-    runs_split = lay_split ∙ regroup_tail front (attributes (attribute_runs_at c) of_fields) (attributes method_runs_at of_methods) (attributes own_runs_at c.attributes) runs_tail
+    runs_split =
+        lay_split ∙ regroup_tail front (attributes (attribute_runs_at c) of_fields)
+        (attributes method_runs_at of_methods) (attributes own_runs_at c.attributes) runs_tail
 
     pub runs_there : drop (runs_at c) (lay c) ≡ runs_tail
-    runs_there = ap (drop (runs_at c)) runs_split ∙ drop_at (front ++ middle) runs_tail (runs_at c) (omega (arith, length-append front middle, front_len, middle_len))
+    runs_there = ap (drop (runs_at c)) runs_split
+        ∙ drop_at (front ++ middle) runs_tail (runs_at c)
+        (omega (arith, length-append front middle, front_len, middle_len))
 
     pub runs_tail_len : length runs_tail + runs_at c ≡ length (lay c)
-    runs_tail_len = omega (arith, ap length runs_split, length-append (front ++ middle) runs_tail, length-append front middle, front_len, middle_len)
+    runs_tail_len =
+        omega (
+          arith,
+          ap length runs_split,
+          length-append (front ++ middle) runs_tail,
+          length-append front middle,
+          front_len,
+          middle_len,
+        )
 
     pub main_there : drop 9 (lay c) ≡ main_tail
     main_there =
         let d = directory (runs_at c) c.slots in
         ap (drop 9) lay_split ∙ (ap
-        (λ w. d ++ c.interfaces ++ w ++ attributes_tail) (members_append (attributes_at c) c.fields c.methods)
-        ∙ regroup_main d c.interfaces (members (attributes_at c) c.fields) (members methods_at c.methods) attributes_tail)
+        (λ w. d ++ c.interfaces ++ w ++ attributes_tail)
+        (members_append (attributes_at c) c.fields c.methods)
+        ∙ regroup_main d c.interfaces (members (attributes_at c) c.fields)
+        (members methods_at c.methods) attributes_tail)
 
 -- the first words of a record
 module _ (c : ClassFile) where
@@ -121,11 +156,13 @@ module _ (c : ClassFile) where
   unfolding lay
   word_0 = refl
 
-  pub word_1 : get_or (lay c) 1 0 ≡ four_numbers c.flags c.this_class c.super_class (length c.interfaces)
+  pub word_1 : get_or (lay c) 1 0
+      ≡ four_numbers c.flags c.this_class c.super_class (length c.interfaces)
   unfolding lay
   word_1 = refl
 
-  pub word_2 : get_or (lay c) 2 0 ≡ four_numbers (length c.slots + 1) (length c.fields) (length c.methods) (length c.attributes)
+  pub word_2 : get_or (lay c) 2 0
+      ≡ four_numbers (length c.slots + 1) (length c.fields) (length c.methods) (length c.attributes)
   unfolding lay
   word_2 = refl
 
@@ -155,28 +192,52 @@ module _ (c : ClassFile) where
 
   module _ (spelled : HasSpelling c) where
     pub flags_there : first_of (get_or (lay c) 1 0) ≡ c.flags
-    flags_there = ap first_of word_1 ∙ first-four_numbers c.flags c.this_class c.super_class (length c.interfaces) spelled.flags spelled.this_class spelled.super_class spelled.interfaces.0
+    flags_there =
+        ap first_of word_1 ∙ first-four_numbers c.flags c.this_class c.super_class
+        (length c.interfaces) spelled.flags spelled.this_class spelled.super_class
+        spelled.interfaces.0
 
     pub this_there : second_of (get_or (lay c) 1 0) ≡ c.this_class
-    this_there = ap second_of word_1 ∙ second-four_numbers c.flags c.this_class c.super_class (length c.interfaces) spelled.flags spelled.this_class spelled.super_class spelled.interfaces.0
+    this_there =
+        ap second_of word_1 ∙ second-four_numbers c.flags c.this_class c.super_class
+        (length c.interfaces) spelled.flags spelled.this_class spelled.super_class
+        spelled.interfaces.0
 
     pub super_there : third_of (get_or (lay c) 1 0) ≡ c.super_class
-    super_there = ap third_of word_1 ∙ third-four_numbers c.flags c.this_class c.super_class (length c.interfaces) spelled.flags spelled.this_class spelled.super_class spelled.interfaces.0
+    super_there =
+        ap third_of word_1 ∙ third-four_numbers c.flags c.this_class c.super_class
+        (length c.interfaces) spelled.flags spelled.this_class spelled.super_class
+        spelled.interfaces.0
 
     pub interfaces_there : fourth_of (get_or (lay c) 1 0) ≡ length c.interfaces
-    interfaces_there = ap fourth_of word_1 ∙ fourth-four_numbers c.flags c.this_class c.super_class (length c.interfaces) spelled.flags spelled.this_class spelled.super_class spelled.interfaces.0
+    interfaces_there =
+        ap fourth_of word_1 ∙ fourth-four_numbers c.flags c.this_class c.super_class
+        (length c.interfaces) spelled.flags spelled.this_class spelled.super_class
+        spelled.interfaces.0
 
     pub count_there : first_of (get_or (lay c) 2 0) ≡ length c.slots + 1
-    count_there = ap first_of word_2 ∙ first-four_numbers (length c.slots + 1) (length c.fields) (length c.methods) (length c.attributes) spelled.count spelled.fields.0 spelled.methods.0 spelled.attributes.0
+    count_there =
+        ap first_of word_2 ∙ first-four_numbers (length c.slots + 1) (length c.fields)
+        (length c.methods) (length c.attributes) spelled.count spelled.fields.0 spelled.methods.0
+        spelled.attributes.0
 
     pub fields_there : second_of (get_or (lay c) 2 0) ≡ length c.fields
-    fields_there = ap second_of word_2 ∙ second-four_numbers (length c.slots + 1) (length c.fields) (length c.methods) (length c.attributes) spelled.count spelled.fields.0 spelled.methods.0 spelled.attributes.0
+    fields_there =
+        ap second_of word_2 ∙ second-four_numbers (length c.slots + 1) (length c.fields)
+        (length c.methods) (length c.attributes) spelled.count spelled.fields.0 spelled.methods.0
+        spelled.attributes.0
 
     pub methods_there : third_of (get_or (lay c) 2 0) ≡ length c.methods
-    methods_there = ap third_of word_2 ∙ third-four_numbers (length c.slots + 1) (length c.fields) (length c.methods) (length c.attributes) spelled.count spelled.fields.0 spelled.methods.0 spelled.attributes.0
+    methods_there =
+        ap third_of word_2 ∙ third-four_numbers (length c.slots + 1) (length c.fields)
+        (length c.methods) (length c.attributes) spelled.count spelled.fields.0 spelled.methods.0
+        spelled.attributes.0
 
     pub own_there : fourth_of (get_or (lay c) 2 0) ≡ length c.attributes
-    own_there = ap fourth_of word_2 ∙ fourth-four_numbers (length c.slots + 1) (length c.fields) (length c.methods) (length c.attributes) spelled.count spelled.fields.0 spelled.methods.0 spelled.attributes.0
+    own_there =
+        ap fourth_of word_2 ∙ fourth-four_numbers (length c.slots + 1) (length c.fields)
+        (length c.methods) (length c.attributes) spelled.count spelled.fields.0 spelled.methods.0
+        spelled.attributes.0
 
 -- ---- what a record tells of its class
 
@@ -191,7 +252,8 @@ flags_read c words is = ap (λ w. first_of (get_or w 1 0)) is.laid ∙ flags_the
 pub directory_within : (words : List ℕ) → IsRecord words
     → 8 + first_of (get_or words 2 0) ≤ length words
 directory_within words (d, is) = subst
-    (λ (w : List ℕ). 8 + first_of (get_or w 2 0) ≤ length w) (sym is.laid) (omega (arith, count_there d is.spelled, lay_len d is.spelled))
+    (λ (w : List ℕ). 8 + first_of (get_or w 2 0) ≤ length w) (sym is.laid)
+    (omega (arith, count_there d is.spelled, lay_len d is.spelled))
 
 -- the layout of a record's class isn't too long
 pub lay_short : (c : ClassFile) (words : List ℕ) → IsRecordOf c words → length (lay c) ≤ limit

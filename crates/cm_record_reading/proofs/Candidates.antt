@@ -80,7 +80,8 @@ methodref_back n k hn hk =
     rw (tag, one, two) refl
 
 pub interface_methodref_back : (n k : ℕ) → n < 2 ^ 16 → k < 2 ^ 16
-    → candidate (11 + 2 ^ 32 * n + 2 ^ 48 * k) ≡ Some (entry.Whole (constant.InterfaceMethodref n k))
+    → candidate (11 + 2 ^ 32 * n + 2 ^ 48 * k)
+    ≡ Some (entry.Whole (constant.InterfaceMethodref n k))
 unfolding candidate
 interface_methodref_back n k hn hk =
     let w = 11 + 2 ^ 32 * n + 2 ^ 48 * k in

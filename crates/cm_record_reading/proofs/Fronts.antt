@@ -34,7 +34,8 @@ run_none left some = rw (one_more left some) refl
 whole_front : (left word : ℕ) (front : List ℕ) → front ≡ take (min left 8) (bytes_of word)
     → take left (bytes_of word) ≡ front
 whole_front left word front e = sym (e ∙ (ap
-    (λ n. take (min left n) (bytes_of word)) (sym (length-bytes_of word)) ∙ take_min left (bytes_of word)))
+    (λ n. take (min left n) (bytes_of word)) (sym (length-bytes_of word))
+    ∙ take_min left (bytes_of word)))
 
 pub run_bad : (left word : ℕ) (rest front : List ℕ) → 0 < left
     → front ≡ take (min left 8) (bytes_of word) → (word_from front ≡ word → ⊥)
@@ -50,7 +51,8 @@ pub run_good : (left word : ℕ) (rest front : List ℕ) → 0 < left
 unfolding run_from
 run_good left word rest front some e same =
     let test : (word_from front == word) ≡ true = eq-eqb (word_from front) word same in
-    rw (one_more left some, whole_front left word front e, test) (go_on front (run_at (left - 8) rest))
+    rw (one_more left some, whole_front left word front e, test)
+    (go_on front (run_at (left - 8) rest))
 
 -- ---- the turns of a loop that reads a run, of which all is what it should read
 
@@ -73,14 +75,19 @@ pub run_next : (bytes bytes' rest eight : List ℕ) (left n found : ℕ) (all : 
     × List ℕ)) → with_front bytes (run_at left rest) ≡ all → 0 < left → 1 ≤ length rest
     → eight ≡ bytes_of (get_or rest 0 0) → n ≡ min left 8 → found ≡ word_from (take n eight)
     → found ≡ get_or rest 0 0 → bytes' ≡ bytes ++ take n eight
-    → with_front bytes' (run_at (left - length (take n eight)) (take (length rest - 1) (drop 1 rest))) ≡ all
-run_next bytes bytes' [] eight left n found all kept some long ee en ef same eb = absurd (omega arith)
+    → with_front bytes' (run_at (left - length (take n eight))
+    (take (length rest - 1) (drop 1 rest))) ≡ all
+run_next bytes bytes' [] eight left n found all kept some long ee en ef same eb =
+    absurd (omega arith)
 run_next bytes bytes' (w ∷ rest) eight left n found all kept some long ee en ef same eb =
     let front : take n eight ≡ take (min left 8) (bytes_of w) = rw (ee, en) refl in
-    let size : left - length (take n eight) ≡ left - 8 = omega (arith, length-take n eight, ap length ee, length-bytes_of w, en) in
-    let behind : take (length (w ∷ rest) - 1) (drop 1 (w ∷ rest)) ≡ rest = take_all (length (w ∷ rest) - 1) rest (omega arith) in
+    let size : left - length (take n eight) ≡ left - 8 =
+    omega (arith, length-take n eight, ap length ee, length-bytes_of w, en) in
+    let behind : take (length (w ∷ rest) - 1) (drop 1 (w ∷ rest)) ≡ rest =
+    take_all (length (w ∷ rest) - 1) rest (omega arith) in
     rw (eb, size, behind) (with_front-append bytes (take n eight) (run_at (left - 8) rest)
-    ∙ (ap (with_front bytes) (sym (run_good left w rest (take n eight) some front (sym ef ∙ same))) ∙ kept))
+    ∙ (ap (with_front bytes) (sym (run_good left w rest (take n eight) some front (sym ef ∙ same)))
+    ∙ kept))
 
 pub run_done : (bytes rest : List ℕ) (left : ℕ) (all : Option (List ℕ × List ℕ))
     → with_front bytes (run_at left rest) ≡ all → left ≤ 0 → all ≡ Some (bytes, rest)

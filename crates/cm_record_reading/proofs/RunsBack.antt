@@ -12,7 +12,8 @@ use Rattle.cm_record_reading.specs.Reading.{front_of, run_from, run_at}
 pub front_again : (bytes : List ℕ) → AreBytes bytes
     → front_of (length bytes) (word_from bytes) ≡ Some (take 8 bytes)
 front_again bytes are =
-    let test : (word_from (take 8 bytes) == word_from bytes) ≡ true = eq-eqb (word_from (take 8 bytes)) (word_from bytes) (front_word bytes) in
+    let test : (word_from (take 8 bytes) == word_from bytes) ≡ true =
+    eq-eqb (word_from (take 8 bytes)) (word_from bytes) (front_word bytes) in
     rw (front_back bytes are, test) refl
 
 drop_bytes : (n : ℕ) (bytes : List ℕ) → AreBytes bytes → AreBytes (drop n bytes)

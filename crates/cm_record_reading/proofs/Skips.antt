@@ -69,7 +69,8 @@ left3_none (Some read) e = absurd (cc)
 width_found : (read : Option (Constant × List ℕ × List ℕ)) (x : Bool × List ℕ × List ℕ)
     → width_left read ≡ Some x → (c : Constant) × (is_wide c ≡ x.0) × (read ≡ Some (c, x.1, x.2))
 width_found None x e = absurd (cc)
-width_found (Some read) x e = let same : (is_wide read.0, read.1, read.2) ≡ x = cc in (read.0, ap (λ p. p.0) same, ap (λ p. Some (read.0, p.1, p.2)) same)
+width_found (Some read) x e = let same : (is_wide read.0, read.1, read.2) ≡ x =
+    cc in (read.0, ap (λ p. p.0) same, ap (λ p. Some (read.0, p.1, p.2)) same)
 
 width_none : (read : Option (Constant × List ℕ × List ℕ)) → width_left read ≡ None → read ≡ None
 width_none None e = refl
@@ -99,8 +100,10 @@ pub run_next : (rest eight : List ℕ) (left n found : ℕ) (all : Option (List 
 run_next [] eight left n found all kept some long ee en ef same = absurd (omega arith)
 run_next (w ∷ rest) eight left n found all kept some long ee en ef same =
     let front : take n eight ≡ take (min left 8) (bytes_of w) = rw (ee, en) refl in
-    let size : left - length (take n eight) ≡ left - 8 = omega (arith, length-take n eight, ap length ee, length-bytes_of w, en) in
-    let behind : take (length (w ∷ rest) - 1) (drop 1 (w ∷ rest)) ≡ rest = take_all (length (w ∷ rest) - 1) rest (omega arith) in
+    let size : left - length (take n eight) ≡ left - 8 =
+    omega (arith, length-take n eight, ap length ee, length-bytes_of w, en) in
+    let behind : take (length (w ∷ rest) - 1) (drop 1 (w ∷ rest)) ≡ rest =
+    take_all (length (w ∷ rest) - 1) rest (omega arith) in
     rw (size, behind) (sym (left1-with_front (take n eight) (run_at (left - 8) rest))
     ∙ (ap left1 (sym (run_good left w rest (take n eight) some front (sym ef ∙ same))) ∙ kept))
 
@@ -137,7 +140,8 @@ interfaces_next rest all zero m kept en long small = absurd (omega arith)
 interfaces_next [] all (suc n) m kept en long small = absurd (omega arith)
 interfaces_next (w ∷ ws) all (suc n) m kept en long small =
     let test : nat_lt w (2 ^ 16) ≡ true = lt-ltb w (2 ^ 16) small in
-    let behind : take (length (w ∷ ws) - 1) (drop 1 (w ∷ ws)) ≡ ws = take_all (length (w ∷ ws) - 1) ws (omega arith) in
+    let behind : take (length (w ∷ ws) - 1) (drop 1 (w ∷ ws)) ≡ ws =
+    take_all (length (w ∷ ws) - 1) ws (omega arith) in
     let same : m ≡ n = omega arith in
     rw (same, behind) (sym (left1-more
     (λ these. w ∷ these) (interfaces_from n ws)) ∙ rw test at kept)
@@ -171,13 +175,15 @@ module _ (total : ℕ) (all : Option (List ℕ × List ℕ)) (main runs : List �
       let read = width_found (constant_at total main runs) (wide, main', runs') found in
       let c : Constant = read.0 in
       rw (same, ← read.1) (sym (left2-more
-      (λ these. Usable c ∷ these) (slots_at total (is_wide c) n main' runs')) ∙ rw (es, read.2) at kept)
+      (λ these. Usable c ∷ these) (slots_at total (is_wide c) n main' runs'))
+      ∙ rw (es, read.2) at kept)
 
   pub slots_wrong : (n : ℕ) → left2 (slots_at total second n main runs) ≡ all → second ≡ false
       → 0 < n → width_left (constant_at total main runs) ≡ None → all ≡ None
   unfolding slots_at
   slots_wrong zero kept es some none = absurd (omega arith)
-  slots_wrong (suc n) kept es some none = sym (rw (es, width_none (constant_at total main runs) none) at kept)
+  slots_wrong (suc n) kept es some none =
+      sym (rw (es, width_none (constant_at total main runs) none) at kept)
 
   pub slots_cut : (n : ℕ) → left2 (slots_at total second n main runs) ≡ all → second ≡ true
       → n ≡ 0 → all ≡ None
@@ -211,7 +217,8 @@ module _ (total : ℕ) (all : Option (List ℕ × List ℕ)) (attrs runs : List 
       → left2 (attribute_at total attrs runs) ≡ None → all ≡ None
   unfolding attributes_from
   attributes_wrong zero kept some none = absurd (omega arith)
-  attributes_wrong (suc n) kept some none = sym (rw (left2_none (attribute_at total attrs runs) none) at kept)
+  attributes_wrong (suc n) kept some none =
+      sym (rw (left2_none (attribute_at total attrs runs) none) at kept)
 
   pub attributes_done : (n : ℕ) → left2 (attributes_from total n attrs runs) ≡ all → n ≡ 0
       → all ≡ Some (attrs, runs)
@@ -239,7 +246,8 @@ module _ (total : ℕ) (all : Option (List ℕ × List ℕ × List ℕ)) (main a
       → left3 (member_at total main attrs runs) ≡ None → all ≡ None
   unfolding members_from
   members_wrong zero kept some none = absurd (omega arith)
-  members_wrong (suc n) kept some none = sym (rw (left3_none (member_at total main attrs runs) none) at kept)
+  members_wrong (suc n) kept some none =
+      sym (rw (left3_none (member_at total main attrs runs) none) at kept)
 
   pub members_done : (n : ℕ) → left3 (members_from total n main attrs runs) ≡ all → n ≡ 0
       → all ≡ Some (main, attrs, runs)

@@ -62,7 +62,19 @@ append_bytes (x ∷ xs) ys ax ay = (ax.0, append_bytes xs ys ax.1 ay)
 
 word_of_bytes : (word : ℕ) → AreBytes (bytes_of word)
 unfolding bytes_of
-word_of_bytes word = (omega arith, (omega arith, (omega arith, (omega arith, (omega arith, (omega arith, (omega arith, (omega arith, tt))))))))
+word_of_bytes word = (
+  omega arith,
+  (
+    omega arith,
+    (
+      omega arith,
+      (
+        omega arith,
+        (omega arith, (omega arith, (omega arith, (omega arith, tt)))),
+      ),
+    ),
+  ),
+)
 
 -- the bytes, and the words that are left
 pub record RunTaken (count : ℕ) (words : List ℕ) (x : List ℕ × List ℕ) : Type 0 where
@@ -76,12 +88,17 @@ run_more : (count word : ℕ) (front others : List ℕ) → 0 < count
     → packed (front ++ others) ≡ word ∷ packed others
 unfolding word_from
 run_more count word front others some ef same size =
-    let long : length front ≡ min count 8 = omega (arith, ap length ef, length-take count (bytes_of word), length-bytes_of word) in
+    let long : length front ≡ min count 8 =
+    omega (arith, ap length ef, length-take count (bytes_of word), length-bytes_of word) in
     let whole = length-append front others in
-    let split = packed_more (front ++ others) (length front) (omega (arith, whole, long, size)) (omega (arith, whole, long)) in
-    let first : word_from (front ++ others) ≡ word_from front = word_same (front ++ others) front (λ k lt. elim (cases_lt k (length front)) [
+    let split =
+    packed_more (front ++ others) (length front) (omega (arith, whole, long, size))
+    (omega (arith, whole, long)) in
+    let first : word_from (front ++ others) ≡ word_from front =
+    word_same (front ++ others) front (λ k lt. elim (cases_lt k (length front)) [
       | inl inside ↦ get_or_append_left front others 0 k inside
-      | inr past ↦ get_or_past (front ++ others) k 0 (omega (arith, whole, long, size)) ∙ sym (get_or_past front k 0 past)
+      | inr past ↦ get_or_past (front ++ others) k 0 (omega (arith, whole, long, size))
+          ∙ sym (get_or_past front k 0 past)
     ]) in
     split ∙ rw (first, same, drop_at front others (length front) refl) refl
 
@@ -90,19 +107,33 @@ run_from_taken : (n count : ℕ) (words : List ℕ) (x : List ℕ × List ℕ) �
 unfolding run_from
 run_from_taken zero count words x size e =
     let none : count ≡ 0 = omega arith in
-    subst (RunTaken count words) (some_same ([], words) x e) (record { fits = tt; many = sym none; split = refl })
+    subst (RunTaken count words) (some_same ([], words) x e)
+    (record { fits = tt; many = sym none; split = refl })
 run_from_taken (suc n) count [] x size e = absurd (cc)
 run_from_taken (suc n) count (word ∷ words) x size e =
     let one = bind_some (front_of count word) _ x e in
     let others = bind_some (run_from n (count - 8) words) _ x one.2 in
-    let tested = only_if_some (word_from (take count (bytes_of word)) == word) (Some (take count (bytes_of word))) one.0 one.1 in
-    let front : one.0 ≡ take count (bytes_of word) = sym (some_same (take count (bytes_of word)) one.0 tested.1) in
-    let same : word_from one.0 ≡ word = ap word_from front ∙ eqb-true (word_from (take count (bytes_of word))) word tested.0 in
+    let tested =
+    only_if_some (word_from (take count (bytes_of word)) == word)
+    (Some (take count (bytes_of word))) one.0 one.1 in
+    let front : one.0 ≡ take count (bytes_of word) =
+    sym (some_same (take count (bytes_of word)) one.0 tested.1) in
+    let same : word_from one.0 ≡ word =
+    ap word_from front ∙ eqb-true (word_from (take count (bytes_of word))) word tested.0 in
     let rest = run_from_taken n (count - 8) words others.0 (omega arith) others.1 in
     let some : 0 < count = omega arith in
-    subst (RunTaken count (word ∷ words)) (some_same (one.0 ++ others.0.0, others.0.1) x others.2) (record {
-      fits = append_bytes one.0 others.0.0 (rw front (take_bytes count (bytes_of word) (word_of_bytes word))) rest.fits;
-      many = omega (arith, length-append one.0 others.0.0, rest.many, ap length front, length-take count (bytes_of word), length-bytes_of word);
+    subst (RunTaken count (word ∷ words))
+    (some_same (one.0 ++ others.0.0, others.0.1) x others.2) (record {
+      fits = append_bytes one.0 others.0.0
+          (rw front (take_bytes count (bytes_of word) (word_of_bytes word))) rest.fits;
+      many = omega (
+        arith,
+        length-append one.0 others.0.0,
+        rest.many,
+        ap length front,
+        length-take count (bytes_of word),
+        length-bytes_of word,
+      );
       split = rw (run_more count word one.0 others.0.0 some front same rest.many) (ap
           (λ w. word ∷ w) rest.split);
     })
@@ -130,19 +161,30 @@ EntryFits (Some (entry.Whole c)) = IsPlain c
 -- what stands in the parts of a word fits
 fits_of_kind : (kind : Kind) (word : ℕ) → EntryFits (Some (entry_of_kind kind word))
 fits_of_kind kinds.Utf8 word = omega arith
-fits_of_kind kinds.Integer word = record { narrow = refl; no_run = refl; word = λ at. refl; fits = omega arith }
-fits_of_kind kinds.Float word = record { narrow = refl; no_run = refl; word = λ at. refl; fits = omega arith }
+fits_of_kind kinds.Integer word =
+    record { narrow = refl; no_run = refl; word = λ at. refl; fits = omega arith }
+fits_of_kind kinds.Float word =
+    record { narrow = refl; no_run = refl; word = λ at. refl; fits = omega arith }
 fits_of_kind kinds.Long word = tt
 fits_of_kind kinds.Double word = tt
-fits_of_kind kinds.Class word = record { narrow = refl; no_run = refl; word = λ at. refl; fits = omega arith }
-fits_of_kind kinds.String word = record { narrow = refl; no_run = refl; word = λ at. refl; fits = omega arith }
-fits_of_kind kinds.Fieldref word = record { narrow = refl; no_run = refl; word = λ at. refl; fits = (omega arith, omega arith) }
-fits_of_kind kinds.Methodref word = record { narrow = refl; no_run = refl; word = λ at. refl; fits = (omega arith, omega arith) }
-fits_of_kind kinds.InterfaceMethodref word = record { narrow = refl; no_run = refl; word = λ at. refl; fits = (omega arith, omega arith) }
-fits_of_kind kinds.NameAndType word = record { narrow = refl; no_run = refl; word = λ at. refl; fits = (omega arith, omega arith) }
-fits_of_kind kinds.MethodHandle word = record { narrow = refl; no_run = refl; word = λ at. refl; fits = (omega arith, omega arith) }
-fits_of_kind kinds.MethodType word = record { narrow = refl; no_run = refl; word = λ at. refl; fits = omega arith }
-fits_of_kind kinds.InvokeDynamic word = record { narrow = refl; no_run = refl; word = λ at. refl; fits = (omega arith, omega arith) }
+fits_of_kind kinds.Class word =
+    record { narrow = refl; no_run = refl; word = λ at. refl; fits = omega arith }
+fits_of_kind kinds.String word =
+    record { narrow = refl; no_run = refl; word = λ at. refl; fits = omega arith }
+fits_of_kind kinds.Fieldref word =
+    record { narrow = refl; no_run = refl; word = λ at. refl; fits = (omega arith, omega arith) }
+fits_of_kind kinds.Methodref word =
+    record { narrow = refl; no_run = refl; word = λ at. refl; fits = (omega arith, omega arith) }
+fits_of_kind kinds.InterfaceMethodref word =
+    record { narrow = refl; no_run = refl; word = λ at. refl; fits = (omega arith, omega arith) }
+fits_of_kind kinds.NameAndType word =
+    record { narrow = refl; no_run = refl; word = λ at. refl; fits = (omega arith, omega arith) }
+fits_of_kind kinds.MethodHandle word =
+    record { narrow = refl; no_run = refl; word = λ at. refl; fits = (omega arith, omega arith) }
+fits_of_kind kinds.MethodType word =
+    record { narrow = refl; no_run = refl; word = λ at. refl; fits = omega arith }
+fits_of_kind kinds.InvokeDynamic word =
+    record { narrow = refl; no_run = refl; word = λ at. refl; fits = (omega arith, omega arith) }
 
 candidate_fits : (word : ℕ) → EntryFits (candidate word)
 unfolding candidate
@@ -168,7 +210,8 @@ entry_taken at word e read =
     })
 
 -- a constant was laid out from here on, and this is left
-pub record ConstantTaken (at : ℕ) (main runs : List ℕ) (x : Constant × List ℕ × List ℕ) : Type 0 where
+pub record ConstantTaken (at : ℕ) (main runs : List ℕ)
+    (x : Constant × List ℕ × List ℕ) : Type 0 where
   pub fits : ConstantFits x.0
   pub main_split : main ≡ constant_words at x.0 ++ x.1
   pub run_split : runs ≡ constant_run x.0 ++ x.2
@@ -179,8 +222,13 @@ wide_taken : (make : ℕ → Constant) (main runs : List ℕ) (x : Constant × L
     × ((make bits, rest, runs) ≡ x)
 wide_taken make [] runs x e = absurd (cc)
 wide_taken make (bits ∷ main) runs x e =
-    let tested = only_if_some (nat_lt bits (2 ^ 64)) (Some (make bits, main, runs)) x e in
-    (bits, main, refl, ltb-true bits (2 ^ 64) tested.0, some_same (make bits, main, runs) x tested.1)
+    let tested = only_if_some (nat_lt bits (2 ^ 64)) (Some (make bits, main, runs)) x e in (
+      bits,
+      main,
+      refl,
+      ltb-true bits (2 ^ 64) tested.0,
+      some_same (make bits, main, runs) x tested.1,
+    )
 
 from_entry : (at word : ℕ) (e : Entry) (main runs : List ℕ) (x : Constant × List ℕ × List ℕ)
     → EntryTaken at word e → constant_from e main runs ≡ Some x
@@ -188,7 +236,8 @@ from_entry : (at word : ℕ) (e : Entry) (main runs : List ℕ) (x : Constant ×
 from_entry at word (entry.Utf8 count) main runs x taken read =
     let text = bind_some (run_at count runs) _ x read in
     let run = run_taken count runs text.0 text.1 in
-    subst (ConstantTaken at (word ∷ main) runs) (some_same (constant.Utf8 text.0.0, main, text.0.1) x text.2) (record {
+    subst (ConstantTaken at (word ∷ main) runs)
+    (some_same (constant.Utf8 text.0.0, main, text.0.1) x text.2) (record {
       fits = (omega (arith, run.many, taken.fits), run.fits);
       main_split = ap (λ w. w ∷ main) (sym taken.word_is ∙ ap
           (λ n. 1 + 2 ^ 16 * n + 2 ^ 32 * at) (sym run.many));
@@ -222,9 +271,11 @@ unfolding constant_at
 constant_taken total [] runs x e = absurd (cc)
 constant_taken total (word ∷ main) runs x e =
     let one = bind_some (entry_of (total - length runs) word) _ x e in
-    from_entry (total - length runs) word one.0 main runs x (entry_taken (total - length runs) word one.0 one.1) one.2
+    from_entry (total - length runs) word one.0 main runs x
+    (entry_taken (total - length runs) word one.0 one.1) one.2
 
-pub record SlotsTaken (at : ℕ) (second : Bool) (n : ℕ) (main runs : List ℕ) (x : List Slot × List ℕ × List ℕ) : Type 0 where
+pub record SlotsTaken (at : ℕ) (second : Bool) (n : ℕ) (main runs : List ℕ)
+    (x : List Slot × List ℕ × List ℕ) : Type 0 where
   pub fits : SlotsFit second x.0
   pub many : length x.0 ≡ n
   pub main_split : main ≡ directory at x.0 ++ x.1
@@ -236,11 +287,13 @@ pub slots_taken : (total at : ℕ) (second : Bool) (n : ℕ) (main runs : List �
 unfolding slots_at
 slots_taken total at true zero main runs x place e = absurd (cc)
 slots_taken total at false zero main runs x place e =
-    subst (SlotsTaken at false zero main runs) (some_same ([], main, runs) x e) (record { fits = tt; many = refl; main_split = refl; run_split = refl })
+    subst (SlotsTaken at false zero main runs) (some_same ([], main, runs) x e)
+    (record { fits = tt; many = refl; main_split = refl; run_split = refl })
 slots_taken total at true (suc n) main runs x place e =
     let others = bind_some (slots_at total false n main runs) _ x e in
     let rest = slots_taken total at false n main runs others.0 place others.1 in
-    subst (SlotsTaken at true (suc n) main runs) (some_same (Unusable ∷ others.0.0, others.0.1, others.0.2) x others.2) (record {
+    subst (SlotsTaken at true (suc n) main runs)
+    (some_same (Unusable ∷ others.0.0, others.0.1, others.0.2) x others.2) (record {
       fits = rest.fits;
       many = ap suc rest.many;
       main_split = rest.main_split;
@@ -252,16 +305,23 @@ slots_taken total at false (suc n) main runs x place e =
     let others = bind_some (slots_at total (is_wide c) n one.0.1 one.0.2) _ x one.2 in
     let here : total - length runs ≡ at = omega arith in
     let taken : ConstantTaken at main runs one.0 = subst
-    (λ (k : ℕ). ConstantTaken k main runs one.0) here (constant_taken total main runs one.0 one.1) in
+    (λ (k : ℕ). ConstantTaken k main runs one.0) here
+    (constant_taken total main runs one.0 one.1) in
     let next = at + length (constant_run c) in
-    let rest = slots_taken total next (is_wide c) n one.0.1 one.0.2 others.0 (omega (arith, place, ap length taken.run_split, length-append (constant_run c) one.0.2)) others.1 in
-    subst (SlotsTaken at false (suc n) main runs) (some_same (Usable c ∷ others.0.0, others.0.1, others.0.2) x others.2) (record {
+    let rest =
+    slots_taken total next (is_wide c) n one.0.1 one.0.2 others.0
+    (omega (arith, place, ap length taken.run_split, length-append (constant_run c) one.0.2))
+    others.1 in
+    subst (SlotsTaken at false (suc n) main runs)
+    (some_same (Usable c ∷ others.0.0, others.0.1, others.0.2) x others.2) (record {
       fits = (taken.fits, rest.fits);
       many = ap suc rest.many;
       main_split = taken.main_split ∙ (ap
-          (λ w. constant_words at c ++ w) rest.main_split ∙ sym (append_assoc (constant_words at c) (directory next others.0.0) others.0.1));
+          (λ w. constant_words at c ++ w) rest.main_split
+          ∙ sym (append_assoc (constant_words at c) (directory next others.0.0) others.0.1));
       run_split = taken.run_split ∙ (ap
-          (λ w. constant_run c ++ w) rest.run_split ∙ sym (append_assoc (constant_run c) (utf8_runs others.0.0) others.0.2));
+          (λ w. constant_run c ++ w) rest.run_split
+          ∙ sym (append_assoc (constant_run c) (utf8_runs others.0.0) others.0.2));
     })
 
 -- ---- interfaces, attributes and members
@@ -274,25 +334,30 @@ pub record InterfacesTaken (n : ℕ) (main : List ℕ) (x : List ℕ × List ℕ
 pub interfaces_taken : (n : ℕ) (main : List ℕ) (x : List ℕ × List ℕ)
     → interfaces_from n main ≡ Some x → InterfacesTaken n main x
 unfolding interfaces_from
-interfaces_taken zero main x e = subst (InterfacesTaken zero main) (some_same ([], main) x e) (record { fits = tt; many = refl; split = refl })
+interfaces_taken zero main x e =
+    subst (InterfacesTaken zero main) (some_same ([], main) x e)
+    (record { fits = tt; many = refl; split = refl })
 interfaces_taken (suc n) [] x e = absurd (cc)
 interfaces_taken (suc n) (word ∷ main) x e =
     let tested = only_if_some (nat_lt word (2 ^ 16)) _ x e in
     let others = bind_some (interfaces_from n main) _ x tested.1 in
     let rest = interfaces_taken n main others.0 others.1 in
-    subst (InterfacesTaken (suc n) (word ∷ main)) (some_same (word ∷ others.0.0, others.0.1) x others.2) (record {
+    subst (InterfacesTaken (suc n) (word ∷ main))
+    (some_same (word ∷ others.0.0, others.0.1) x others.2) (record {
       fits = (ltb-true word (2 ^ 16) tested.0, rest.fits);
       many = ap suc rest.many;
       split = ap (λ w. word ∷ w) rest.split;
     })
 
-pub record AttributesTaken (at n : ℕ) (attrs runs : List ℕ) (x : List Attribute × List ℕ × List ℕ) : Type 0 where
+pub record AttributesTaken (at n : ℕ) (attrs runs : List ℕ) (x : List Attribute × List ℕ
+    × List ℕ) : Type 0 where
   pub fits : AllByRecursion AttributeFits x.0
   pub many : length x.0 ≡ n
   pub split : attrs ≡ attributes at x.0 ++ x.1
   pub run_split : runs ≡ attribute_runs x.0 ++ x.2
 
-record AttributeTaken (at : ℕ) (attrs runs : List ℕ) (x : Attribute × List ℕ × List ℕ) : Type 0 where
+record AttributeTaken (at : ℕ) (attrs runs : List ℕ)
+    (x : Attribute × List ℕ × List ℕ) : Type 0 where
   pub fits : AttributeFits x.0
   pub split : attrs ≡ (x.0.name + 2 ^ 32 * length x.0.bytes) ∷ at ∷ x.1
   pub run_split : runs ≡ attribute_run x.0 ++ x.2
@@ -310,9 +375,11 @@ attribute_taken total (word ∷ at ∷ rest) runs x e =
     let one = bind_some (run_at (upper_of word) runs) _ x placed.1 in
     let run = run_taken (upper_of word) runs one.0 one.1 in
     let made : Attribute = record { name = first_of word; bytes = one.0.0 } in
-    let same : attribute_word (first_of word) (upper_of word) ≡ word = eqb-true (attribute_word (first_of word) (upper_of word)) word tested.0 in
+    let same : attribute_word (first_of word) (upper_of word) ≡ word =
+    eqb-true (attribute_word (first_of word) (upper_of word)) word tested.0 in
     let here : at ≡ total - length runs = eqb-true at (total - length runs) placed.0 in
-    subst (AttributeTaken (total - length runs) (word ∷ at ∷ rest) runs) (some_same (made, rest, one.0.1) x one.2) (record {
+    subst (AttributeTaken (total - length runs) (word ∷ at ∷ rest) runs)
+    (some_same (made, rest, one.0.1) x one.2) (record {
       fits = record { name = name; size = omega (arith, run.many, count); bytes = run.fits };
       split = ap (λ w. w ∷ at ∷ rest) (sym same ∙ ap
           (λ n. first_of word + 2 ^ 32 * n) (sym run.many)) ∙ ap
@@ -325,37 +392,53 @@ pub attributes_taken : (total at n : ℕ) (attrs runs : List ℕ) (x : List Attr
     → AttributesTaken at n attrs runs x
 unfolding attributes_from
 attributes_taken total at zero attrs runs x place e =
-    subst (AttributesTaken at zero attrs runs) (some_same ([], attrs, runs) x e) (record { fits = tt; many = refl; split = refl; run_split = refl })
+    subst (AttributesTaken at zero attrs runs) (some_same ([], attrs, runs) x e)
+    (record { fits = tt; many = refl; split = refl; run_split = refl })
 attributes_taken total at (suc n) attrs runs x place e =
     let one = bind_some (attribute_at total attrs runs) _ x e in
     let a = one.0.0 in
     let others = bind_some (attributes_from total n one.0.1 one.0.2) _ x one.2 in
     let here : total - length runs ≡ at = omega arith in
     let taken : AttributeTaken at attrs runs one.0 = subst
-    (λ (k : ℕ). AttributeTaken k attrs runs one.0) here (attribute_taken total attrs runs one.0 one.1) in
+    (λ (k : ℕ). AttributeTaken k attrs runs one.0) here
+    (attribute_taken total attrs runs one.0 one.1) in
     let next = at + length (attribute_run a) in
-    let rest = attributes_taken total next n one.0.1 one.0.2 others.0 (omega (arith, place, ap length taken.run_split, length-append (attribute_run a) one.0.2)) others.1 in
-    subst (AttributesTaken at (suc n) attrs runs) (some_same (a ∷ others.0.0, others.0.1, others.0.2) x others.2) (record {
+    let rest =
+    attributes_taken total next n one.0.1 one.0.2 others.0
+    (omega (arith, place, ap length taken.run_split, length-append (attribute_run a) one.0.2))
+    others.1 in
+    subst (AttributesTaken at (suc n) attrs runs)
+    (some_same (a ∷ others.0.0, others.0.1, others.0.2) x others.2) (record {
       fits = (taken.fits, rest.fits);
       many = ap suc rest.many;
       split = taken.split ∙ ap (λ w. (a.name + 2 ^ 32 * length a.bytes) ∷ at ∷ w) rest.split;
       run_split = taken.run_split ∙ (ap
-          (λ w. attribute_run a ++ w) rest.run_split ∙ sym (append_assoc (attribute_run a) (attribute_runs others.0.0) others.0.2));
+          (λ w. attribute_run a ++ w) rest.run_split
+          ∙ sym (append_assoc (attribute_run a) (attribute_runs others.0.0) others.0.2));
     })
 
 -- where the attributes and the runs of the next member begin
-next_places : (total at run_at : ℕ) (attrs runs : List ℕ) (own : List Attribute) (attrs' runs' : List ℕ) → at + length attrs ≡ total → run_at + length runs ≡ total
+next_places : (total at run_at : ℕ) (attrs runs : List ℕ) (own : List Attribute)
+    (attrs' runs' : List ℕ) → at + length attrs ≡ total → run_at + length runs ≡ total
     → attrs ≡ attributes run_at own ++ attrs' → runs ≡ attribute_runs own ++ runs'
     → (at + 2 * length own + length attrs' ≡ total)
     × (run_at + length (attribute_runs own) + length runs' ≡ total)
 next_places total at run_at attrs runs own attrs' runs' place run_place split run_split = (
-  omega (arith, place, ap length split, length-append (attributes run_at own) attrs', attributes_len run_at own),
+  omega (
+    arith,
+    place,
+    ap length split,
+    length-append (attributes run_at own) attrs',
+    attributes_len run_at own,
+  ),
   omega (arith, run_place, ap length run_split, length-append (attribute_runs own) runs'),
 )
 
-record MemberTaken (at run_at : ℕ) (main attrs runs : List ℕ) (x : Member × List ℕ × List ℕ × List ℕ) : Type 0 where
+record MemberTaken (at run_at : ℕ) (main attrs runs : List ℕ) (x : Member × List ℕ × List ℕ
+    × List ℕ) : Type 0 where
   pub fits : MemberFits x.0
-  pub main_split : main ≡ four_numbers x.0.flags x.0.name x.0.descriptor (length x.0.attributes) ∷ at ∷ x.1
+  pub main_split : main ≡ four_numbers x.0.flags x.0.name x.0.descriptor
+      (length x.0.attributes) ∷ at ∷ x.1
   pub split : attrs ≡ attributes run_at x.0.attributes ++ x.2
   pub run_split : runs ≡ attribute_runs x.0.attributes ++ x.3
 
@@ -377,17 +460,31 @@ member_taken total run_at (word ∷ at ∷ main) attrs runs x place e =
     let taken = attributes_taken total run_at (fourth_of word) attrs runs own.0 place own.1 in
     let same : parts ≡ word = eqb-true parts word tested.0 in
     let here : at ≡ total - length attrs = eqb-true at (total - length attrs) placed.0 in
-    let made : Member = record { flags = first_of word; name = second_of word; descriptor = third_of word; attributes = own.0.0 } in
-    subst (MemberTaken (total - length attrs) run_at (word ∷ at ∷ main) attrs runs) (some_same (made, main, own.0.1, own.0.2) x own.2) (record {
-      fits = record { flags = flags; name = name; descriptor = descriptor; attributes = (omega (arith, taken.many, many), taken.fits) };
+    let made : Member =
+    record {
+      flags = first_of word;
+      name = second_of word;
+      descriptor = third_of word;
+      attributes = own.0.0;
+    } in
+    subst (MemberTaken (total - length attrs) run_at (word ∷ at ∷ main) attrs runs)
+    (some_same (made, main, own.0.1, own.0.2) x own.2) (record {
+      fits = record {
+        flags = flags;
+        name = name;
+        descriptor = descriptor;
+        attributes = (omega (arith, taken.many, many), taken.fits);
+      };
       main_split = ap (λ w. w ∷ at ∷ main) (sym same ∙ ap
           (λ n. four_numbers (first_of word) (second_of word) (third_of word) n) (sym taken.many))
-          ∙ ap (λ k. four_numbers (first_of word) (second_of word) (third_of word) (length own.0.0) ∷ k ∷ main) here;
+          ∙ ap (λ k. four_numbers (first_of word) (second_of word) (third_of word) (length own.0.0)
+          ∷ k ∷ main) here;
       split = taken.split;
       run_split = taken.run_split;
     })
 
-pub record MembersTaken (at run_at n : ℕ) (main attrs runs : List ℕ) (x : List Member × List ℕ × List ℕ × List ℕ) : Type 0 where
+pub record MembersTaken (at run_at n : ℕ) (main attrs runs : List ℕ) (x : List Member × List ℕ
+    × List ℕ × List ℕ) : Type 0 where
   pub fits : AllByRecursion MemberFits x.0
   pub many : length x.0 ≡ n
   pub main_split : main ≡ members at x.0 ++ x.1
@@ -399,7 +496,8 @@ pub members_taken : (total at run_at n : ℕ) (main attrs runs : List ℕ) (x : 
     → members_from total n main attrs runs ≡ Some x → MembersTaken at run_at n main attrs runs x
 unfolding members_from
 members_taken total at run_at zero main attrs runs x place run_place e =
-    subst (MembersTaken at run_at zero main attrs runs) (some_same ([], main, attrs, runs) x e) (record { fits = tt; many = refl; main_split = refl; split = refl; run_split = refl })
+    subst (MembersTaken at run_at zero main attrs runs) (some_same ([], main, attrs, runs) x e)
+    (record { fits = tt; many = refl; main_split = refl; split = refl; run_split = refl })
 members_taken total at run_at (suc n) main attrs runs x place run_place e =
     let one = bind_some (member_at total main attrs runs) _ x e in
     let m = one.0.0 in
@@ -407,21 +505,31 @@ members_taken total at run_at (suc n) main attrs runs x place run_place e =
     let others = bind_some (members_from total n one.0.1 one.0.2 one.0.3) _ x one.2 in
     let here : total - length attrs ≡ at = omega arith in
     let taken : MemberTaken at run_at main attrs runs one.0 = subst
-    (λ (k : ℕ). MemberTaken k run_at main attrs runs one.0) here (member_taken total run_at main attrs runs one.0 run_place one.1) in
+    (λ (k : ℕ). MemberTaken k run_at main attrs runs one.0) here
+    (member_taken total run_at main attrs runs one.0 run_place one.1) in
     let next = at + 2 * length own in
     let run_next = run_at + length (attribute_runs own) in
-    let size = next_places total at run_at attrs runs own one.0.2 one.0.3 place run_place taken.split taken.run_split in
-    let rest = members_taken total next run_next n one.0.1 one.0.2 one.0.3 others.0 size.0 size.1 others.1 in
+    let size =
+    next_places total at run_at attrs runs own one.0.2 one.0.3 place run_place taken.split
+    taken.run_split in
+    let rest =
+    members_taken total next run_next n one.0.1 one.0.2 one.0.3 others.0 size.0 size.1 others.1 in
     let these = others.0.0 in
-    subst (MembersTaken at run_at (suc n) main attrs runs) (some_same (m ∷ these, others.0.1, others.0.2, others.0.3) x others.2) (record {
+    subst (MembersTaken at run_at (suc n) main attrs runs)
+    (some_same (m ∷ these, others.0.1, others.0.2, others.0.3) x others.2) (record {
       fits = (taken.fits, rest.fits);
       many = ap suc rest.many;
       main_split = taken.main_split ∙ ap
           (λ w. four_numbers m.flags m.name m.descriptor (length own) ∷ at ∷ w) rest.main_split;
       split = taken.split ∙ (ap
-          (λ w. attributes run_at own ++ w) rest.split ∙ (sym (append_assoc (attributes run_at own) (attributes run_next (member_attributes these)) others.0.2)
-          ∙ ap (λ w. w ++ others.0.2) (sym (attributes_append run_at own (member_attributes these)))));
+          (λ w. attributes run_at own ++ w) rest.split
+          ∙ (sym (append_assoc (attributes run_at own)
+          (attributes run_next (member_attributes these)) others.0.2)
+          ∙ ap (λ w. w ++ others.0.2)
+          (sym (attributes_append run_at own (member_attributes these)))));
       run_split = taken.run_split ∙ (ap
-          (λ w. attribute_runs own ++ w) rest.run_split ∙ (sym (append_assoc (attribute_runs own) (attribute_runs (member_attributes these)) others.0.3)
+          (λ w. attribute_runs own ++ w) rest.run_split
+          ∙ (sym (append_assoc (attribute_runs own) (attribute_runs (member_attributes these))
+          others.0.3)
           ∙ ap (λ w. w ++ others.0.3) (sym (attribute_runs_append own (member_attributes these)))));
     })

@@ -20,7 +20,8 @@ use Rattle.cm_record_reading.specs.Reading.{with_front, with_front3, with_front4
 
 module _ {A B : Type 0} where
   with_front-cons : (xs : List A) (x : A) (read : Option (List A × B))
-      → with_front (xs ++ x ∷ []) read ≡ with_front xs (read >>= λ others. Some (x ∷ others.0, others.1))
+      → with_front (xs ++ x ∷ []) read
+      ≡ with_front xs (read >>= λ others. Some (x ∷ others.0, others.1))
   with_front-cons xs x None = refl
   with_front-cons xs x (Some read) = ap (λ w. Some (w, read.1)) (append_assoc xs (x ∷ []) read.0)
 
@@ -30,7 +31,8 @@ module _ {A B C : Type 0} where
   with_front3-nil (Some read) = refl
 
   with_front3-cons : (xs : List A) (x : A) (read : Option (List A × B × C))
-      → with_front3 (xs ++ x ∷ []) read ≡ with_front3 xs (read >>= λ others. Some (x ∷ others.0, others.1, others.2))
+      → with_front3 (xs ++ x ∷ []) read
+      ≡ with_front3 xs (read >>= λ others. Some (x ∷ others.0, others.1, others.2))
   with_front3-cons xs x None = refl
   with_front3-cons xs x (Some read) = ap
       (λ w. Some (w, read.1, read.2)) (append_assoc xs (x ∷ []) read.0)
@@ -41,7 +43,8 @@ module _ {A B C D : Type 0} where
   with_front4-nil (Some read) = refl
 
   with_front4-cons : (xs : List A) (x : A) (read : Option (List A × B × C × D))
-      → with_front4 (xs ++ x ∷ []) read ≡ with_front4 xs (read >>= λ others. Some (x ∷ others.0, others.1, others.2, others.3))
+      → with_front4 (xs ++ x ∷ []) read
+      ≡ with_front4 xs (read >>= λ others. Some (x ∷ others.0, others.1, others.2, others.3))
   with_front4-cons xs x None = refl
   with_front4-cons xs x (Some read) = ap
       (λ w. Some (w, read.1, read.2, read.3)) (append_assoc xs (x ∷ []) read.0)
@@ -79,7 +82,8 @@ interfaces_next these these' rest all zero m kept en long small e = absurd (omeg
 interfaces_next these these' [] all (suc n) m kept en long small e = absurd (omega arith)
 interfaces_next these these' (w ∷ ws) all (suc n) m kept en long small e =
     let test : nat_lt w (2 ^ 16) ≡ true = lt-ltb w (2 ^ 16) small in
-    let behind : take (length (w ∷ ws) - 1) (drop 1 (w ∷ ws)) ≡ ws = take_all (length (w ∷ ws) - 1) ws (omega arith) in
+    let behind : take (length (w ∷ ws) - 1) (drop 1 (w ∷ ws)) ≡ ws =
+    take_all (length (w ∷ ws) - 1) ws (omega arith) in
     let same : m ≡ n = omega arith in
     rw (e, same, behind) (with_front-cons these w (interfaces_from n ws) ∙ rw test at kept)
 
@@ -100,7 +104,8 @@ module _ (total : ℕ) (slots slots' : List Slot) (all : Option (List Slot × Li
   slots_second main runs second zero m kept es en e = absurd (omega arith)
   slots_second main runs second (suc n) m kept es en e =
       let same : m ≡ n = omega arith in
-      rw (e, same) (with_front3-cons slots Unusable (slots_at total false n main runs) ∙ rw es at kept)
+      rw (e, same) (with_front3-cons slots Unusable (slots_at total false n main runs)
+      ∙ rw es at kept)
 
   pub slots_next : (main runs main' runs' : List ℕ) (second : Bool) (c : Constant) (n m : ℕ)
       → with_front3 slots (slots_at total second n main runs) ≡ all → second ≡ false → n ≡ m + 1
@@ -110,7 +115,8 @@ module _ (total : ℕ) (slots slots' : List Slot) (all : Option (List Slot × Li
   slots_next main runs main' runs' second c zero m kept es en found e = absurd (omega arith)
   slots_next main runs main' runs' second c (suc n) m kept es en found e =
       let same : m ≡ n = omega arith in
-      rw (e, same) (with_front3-cons slots (Usable c) (slots_at total (is_wide c) n main' runs') ∙ rw (es, found) at kept)
+      rw (e, same) (with_front3-cons slots (Usable c) (slots_at total (is_wide c) n main' runs')
+      ∙ rw (es, found) at kept)
 
 module _ (total : ℕ) (slots : List Slot) (all : Option (List Slot × List ℕ
     × List ℕ)) (main runs : List ℕ) where
@@ -144,10 +150,12 @@ pub attributes_next : (total : ℕ) (these these' : List Attribute) (all : Optio
     → attribute_at total attrs runs ≡ Some (a, attrs', runs') → these' ≡ these ++ a ∷ []
     → with_front3 these' (attributes_from total m attrs' runs') ≡ all
 unfolding attributes_from
-attributes_next total these these' all attrs runs attrs' runs' a zero m kept en found e = absurd (omega arith)
+attributes_next total these these' all attrs runs attrs' runs' a zero m kept en found e =
+    absurd (omega arith)
 attributes_next total these these' all attrs runs attrs' runs' a (suc n) m kept en found e =
     let same : m ≡ n = omega arith in
-    rw (e, same) (with_front3-cons these a (attributes_from total n attrs' runs') ∙ rw found at kept)
+    rw (e, same) (with_front3-cons these a (attributes_from total n attrs' runs')
+    ∙ rw found at kept)
 
 module _ (total : ℕ) (these : List Attribute) (all : Option (List Attribute × List ℕ
     × List ℕ)) (attrs runs : List ℕ) where
@@ -172,10 +180,12 @@ pub members_next : (total : ℕ) (these these' : List Member) (all : Option (Lis
     → these' ≡ these ++ x ∷ []
     → with_front4 these' (members_from total m main' attrs' runs') ≡ all
 unfolding members_from
-members_next total these these' all main attrs runs main' attrs' runs' x zero m kept en found e = absurd (omega arith)
+members_next total these these' all main attrs runs main' attrs' runs' x zero m kept en found e =
+    absurd (omega arith)
 members_next total these these' all main attrs runs main' attrs' runs' x (suc n) m kept en found e =
     let same : m ≡ n = omega arith in
-    rw (e, same) (with_front4-cons these x (members_from total n main' attrs' runs') ∙ rw found at kept)
+    rw (e, same) (with_front4-cons these x (members_from total n main' attrs' runs')
+    ∙ rw found at kept)
 
 module _ (total : ℕ) (these : List Member) (all : Option (List Member × List ℕ × List ℕ
     × List ℕ)) (main attrs runs : List ℕ) where

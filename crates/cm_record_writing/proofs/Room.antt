@@ -14,7 +14,8 @@ use Rattle.cm_record_layout.proofs.Lengths.{all_attributes_len, all_runs_len}
 pub room_left : (words rest start all : List ℕ) (capacity room : ℕ)
     → words ++ rest ≡ start ++ all → capacity ≡ room → length start + length all ≤ room
     → length words + length rest ≤ capacity
-room_left words rest start all capacity room e same fits = omega (arith, ap length e, length-append words rest, length-append start all)
+room_left words rest start all capacity room e same fits =
+    omega (arith, ap length e, length-append words rest, length-append start all)
 
 -- how long the words are behind what was added
 pub grown : (words words' more more' : List ℕ) → words' ≡ words ++ more
@@ -23,32 +24,72 @@ grown words words' more more' e same = omega (arith, ap length e, length-append 
 
 pub grown_attributes : (words words' : List ℕ) (at : ℕ) (xs ys : List Attribute)
     → words' ≡ words ++ attributes at xs → xs ≡ ys → length words' ≡ length words + 2 * length ys
-grown_attributes words words' at xs ys e same = omega (arith, ap length e, length-append words (attributes at xs), attributes_len at xs, ap length same)
+grown_attributes words words' at xs ys e same =
+    omega (
+      arith,
+      ap length e,
+      length-append words (attributes at xs),
+      attributes_len at xs,
+      ap length same,
+    )
 
 pub grown_members : (words words' : List ℕ) (at : ℕ) (xs ys : List Member)
     → words' ≡ words ++ members at xs → xs ≡ ys → length words' ≡ length words + 2 * length ys
-grown_members words words' at xs ys e same = omega (arith, ap length e, length-append words (members at xs), members_len at xs, ap length same)
+grown_members words words' at xs ys e same =
+    omega (
+      arith,
+      ap length e,
+      length-append words (members at xs),
+      members_len at xs,
+      ap length same,
+    )
 
 -- how long the parts of a record are
 pub attributes_and_runs_len : (c : ClassFile) (at : ℕ)
-    → length (attributes at (all_attributes c) ++ utf8_runs c.slots ++ attribute_runs (all_attributes c))
-    ≡ 2 * length (member_attributes c.fields) + 2 * length (member_attributes c.methods) + 2 * length c.attributes + length (utf8_runs c.slots)
-    + length (attribute_runs (member_attributes c.fields)) + length (attribute_runs (member_attributes c.methods)) + length (attribute_runs c.attributes)
+    → length (attributes at (all_attributes c) ++ utf8_runs c.slots
+    ++ attribute_runs (all_attributes c))
+    ≡ 2 * length (member_attributes c.fields) + 2 * length (member_attributes c.methods)
+    + 2 * length c.attributes + length (utf8_runs c.slots)
+    + length (attribute_runs (member_attributes c.fields))
+    + length (attribute_runs (member_attributes c.methods)) + length (attribute_runs c.attributes)
 attributes_and_runs_len c at =
     let a = attributes at (all_attributes c) in
-    omega (arith, length-append (a ++ utf8_runs c.slots) (attribute_runs (all_attributes c)), length-append a (utf8_runs c.slots), attributes_len at (all_attributes c), all_attributes_len c, all_runs_len c)
+    omega (
+      arith,
+      length-append (a ++ utf8_runs c.slots) (attribute_runs (all_attributes c)),
+      length-append a (utf8_runs c.slots),
+      attributes_len at (all_attributes c),
+      all_attributes_len c,
+      all_runs_len c,
+    )
 
 pub pool_and_members_len : (c : ClassFile) (runs at : ℕ)
     → length ((0 ∷ directory runs c.slots) ++ c.interfaces ++ members at (all_members c))
-    ≡ 1 + length (directory runs c.slots) + length c.interfaces + 2 * length c.fields + 2 * length c.methods
+    ≡ 1 + length (directory runs c.slots) + length c.interfaces + 2 * length c.fields
+    + 2 * length c.methods
 pool_and_members_len c runs at =
     let d = 0 ∷ directory runs c.slots in
-    omega (arith, length-append (d ++ c.interfaces) (members at (all_members c)), length-append d c.interfaces, members_len at (all_members c), all_members_len c)
+    omega (
+      arith,
+      length-append (d ++ c.interfaces) (members at (all_members c)),
+      length-append d c.interfaces,
+      members_len at (all_members c),
+      all_members_len c,
+    )
 
 pub pool_behind_len : (c : ClassFile) (front : List ℕ)
-    → length (front ++ (0 ∷ directory (runs_at c) c.slots) ++ c.interfaces ++ members (attributes_at c) (all_members c))
-    ≡ length front + 1 + length (directory (runs_at c) c.slots) + length c.interfaces + 2 * length c.fields + 2 * length c.methods
+    → length (front ++ (0 ∷ directory (runs_at c) c.slots) ++ c.interfaces
+    ++ members (attributes_at c) (all_members c))
+    ≡ length front + 1 + length (directory (runs_at c) c.slots) + length c.interfaces
+    + 2 * length c.fields + 2 * length c.methods
 pool_behind_len c front =
     let d = 0 ∷ directory (runs_at c) c.slots in
     let m = members (attributes_at c) (all_members c) in
-    omega (arith, length-append (front ++ d ++ c.interfaces) m, length-append (front ++ d) c.interfaces, length-append front d, members_len (attributes_at c) (all_members c), all_members_len c)
+    omega (
+      arith,
+      length-append (front ++ d ++ c.interfaces) m,
+      length-append (front ++ d) c.interfaces,
+      length-append front d,
+      members_len (attributes_at c) (all_members c),
+      all_members_len c,
+    )

@@ -217,7 +217,8 @@ module _ (c : ClassFile) where
         super = super;
         interfaces = all_pass (interface_keeps c) 0 c.interfaces interfaces;
         fields = both_pass (field_keeps c) (is_first c c.fields)
-            (λ i m. list_all (λ rule. field_rule rule c i m) all_rules) field_whole 0 c.fields fields
+            (λ i m. list_all (λ rule. field_rule rule c i m) all_rules) field_whole 0
+            c.fields fields
             fields_differ;
         methods = both_pass (method_keeps c) (is_first c c.methods)
             (λ i m. list_all (λ rule. method_rule rule c i m) all_rules) method_whole 0 c.methods

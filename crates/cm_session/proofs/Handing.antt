@@ -146,7 +146,8 @@ module _ {D : Type 0} (counted : CommandsAreCounted) (handed : HandedIsAhead) (k
 
   all_known : last ≤ accepted_to k
   all_known =
-      let all = counted front.sizes k committer.rows committer.number (pending out front) i.follows in
+      let all = counted front.sizes k committer.rows committer.number (pending out front)
+      i.follows in
       let numbers = i.ahead.numbers in
       let then = ahead_then.numbers in
       let sealed = ahead_then.sealed in
@@ -221,7 +222,8 @@ module _ {D : Type 0} (frees : LearntIsAhead) (fails : FailedIsAhead) (k : Machi
   noted broken told =
       frees committer.rows committer.number committer.end all_out (record front { broken = broken })
       committer.number is_broken
-      (fails committer.rows committer.number committer.end all_out front broken front.closed i.ahead)
+      (fails committer.rows committer.number committer.end all_out front broken
+      front.closed i.ahead)
       (omega arith)
     where
       is_broken : IsFront (record front { broken = broken })

@@ -15,7 +15,8 @@ use Rattle.cm_state.specs.Laws.{StandForOne}
 use Rattle.cm_state.specs.Stands.{EachKeepsRules}
 use Rattle.cm_state.specs.State.{class_shows, state_of}
 use Rattle.cm_verdict.specs.Verdict.{Standing, verdict, state_in, arenas_in}
-use Rattle.cm_verdict.specs.Laws.{FoundIsLive, FoundIsFramed, VerdictStands, StandsInVerdict, Proves}
+use Rattle.cm_verdict.specs.Laws.{FoundIsLive, FoundIsFramed, VerdictStands, StandsInVerdict}
+use Rattle.cm_verdict.specs.Laws.{Proves}
 use Rattle.cm_commit.proofs.Slots.{end_is as ends_with_slots}
 use Rattle.cm_commit.specs.States.{CommitterState}
 use Rattle.cm_front.specs.Front.{FrontState, IsFront}

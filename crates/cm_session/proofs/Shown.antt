@@ -124,7 +124,8 @@ module _ {D : Type 0} (committed : CommittedFollows) (counted : CommandsAreCount
           let last = i.is.numbers in
           let here = i.ahead.sealed in
           let long = ap length split in
-          let more = length-append (group.entries ++ commands_of rest) (commands_of front.unsealed) in
+          let more =
+          length-append (group.entries ++ commands_of rest) (commands_of front.unsealed) in
           let out = length-append
           (commands_of (of_underway committer.underway ++ queue)) (commands_of front.unsealed) in
           omega (arith, numbers, last, here, to, long, more, out))

@@ -1,7 +1,7 @@
 -- One step of the committer, for the machine.
-use Rattle.std.proofs.Common.{cond, ◌≡◌, ℕ, ◌+◌, ◌≤◌, Bool, true, false, List, [], ◌∷◌, ◌++◌, length}
-use Rattle.std.proofs.Common.{map, Option, Some, None, Result, Ok, Err, refl, sym, ap, subst, ◌∙◌, arith}
-use Rattle.std.proofs.Common.{append_assoc, inl, inr}
+use Rattle.std.proofs.Common.{cond, ◌≡◌, ℕ, ◌+◌, ◌≤◌, Bool, true, false, List, [], ◌∷◌, ◌++◌}
+use Rattle.std.proofs.Common.{length, map, Option, Some, None, Result, Ok, Err, refl, sym, ap}
+use Rattle.std.proofs.Common.{subst, ◌∙◌, arith, append_assoc, inl, inr}
 use Rattle.std.specs.Prelude.{◌||◌, ◌↔◌, IsOk, OnOk, OnErr}
 use Rattle.std.proofs.lemmas.List.{length-append}
 use Rattle.cm_group.specs.declared.receipt.Receipt.{Receipt}
@@ -247,7 +247,8 @@ pub advanced : {D : Type 0} (next_ahead : CommittedIsAhead) (committed : Committ
     (sealed : ℕ) (failed : Bool) → IsSession k front old queue sealed failed
     → (failed ≡ false → old.underway ≡ None → queue ≡ [])
     → (result : Result Progress AdvanceFault) → Advances old result new
-    → Leads (Advancing k result) (λ j. IsSession j front new queue sealed (failed || is_device result))
+    → Leads (Advancing k result)
+    (λ j. IsSession j front new queue sealed (failed || is_device result))
 advanced next_ahead committed k front old new queue sealed failed i empty (Ok Idle) r =
     subst (λ b. Leads (Advancing k (Ok Idle)) (λ j. IsSession j front new queue sealed b))
     (sym (or_false failed))

@@ -72,7 +72,8 @@ fewer_of old new (Ok Working) some w =
     let same = ap (λ (c : CommitterState _). calls_left c.left) w.new_is in
     omega (arith, less, same)
 fewer_of old new (Ok (Done receipt)) some f =
-    let same = ap (λ (c : CommitterState _). calls_left c.left) f.new_is in omega (arith, some, same)
+    let same = ap (λ (c : CommitterState _). calls_left c.left) f.new_is in
+    omega (arith, some, same)
 fewer_of old new (Err Device) some b =
     let same = ap (λ (c : CommitterState _). calls_left c.left) b.new_is in omega (arith, same)
 fewer_of old new (Err Broken) some s =
@@ -94,7 +95,8 @@ pub fewer : {D : Type 0} (contents : D → List ℕ) (waiting : List Handed)
 fewer contents waiting old new before result working some s =
     let same = same_begun contents waiting old s.begun some s.takes in
     let less =
-    fewer_of old new result some (subst (λ (c : CommitterState _). Advances c result new) same s.moved)
+    fewer_of old new result some
+    (subst (λ (c : CommitterState _). Advances c result new) same s.moved)
     in
     let here = weight_working before old.left working in
     omega (arith, less, here)

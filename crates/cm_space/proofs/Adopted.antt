@@ -1,7 +1,7 @@
 -- A place that is taken over, and what it leaves to others.
 use Rattle.std.proofs.Common.{◌≡◌, ℕ, suc, ◌+◌, ◌-◌, ◌≤◌, ◌<◌, Bool, true, false, cond, eqb, List}
-use Rattle.std.proofs.Common.{[], ◌∷◌, ◌++◌, refl, sym, ap, ◌∙◌, subst, inl, inr, arith, append_assoc, IsTrue, ◌↔◌}
-use Rattle.std.proofs.Common.{Result, Ok, Err, IfOk, MatchResult}
+use Rattle.std.proofs.Common.{[], ◌∷◌, ◌++◌, refl, sym, ap, ◌∙◌, subst, inl, inr, arith}
+use Rattle.std.proofs.Common.{append_assoc, IsTrue, ◌↔◌, Result, Ok, Err, IfOk, MatchResult}
 use Rattle.std.proofs.lemmas.Bool.{eq-eqb, eqb-true, and_parts, cases_eq, cases_lt}
 use Rattle.std.proofs.lemmas.Nat.{pow_pos}
 use Rattle.cm_pool.specs.declared.chunk.Chunk.{Chunk}
@@ -23,7 +23,11 @@ same_chunk-eq : (a b : Chunk) → same_chunk a b ≡ true → a ≡ b
 same_chunk-eq a b h =
     let one = and_parts (eqb a.root b.root) _ h in
     let two = and_parts (eqb a.order b.order) _ one.1 in
-    λ i. record { root = eqb-true a.root b.root one.0 i; order = eqb-true a.order b.order two.0 i; at = eqb-true a.at b.at two.1 i }
+    λ i. record {
+      root = eqb-true a.root b.root one.0 i;
+      order = eqb-true a.order b.order two.0 i;
+      at = eqb-true a.at b.at two.1 i;
+    }
 
 -- no chunk is free and used
 free-not_used : (p : FreeSpace) (c : Chunk) → IsFreeChunk p c → ¬ IsUsedChunk p c
@@ -34,7 +38,9 @@ free-not_used p c free used =
 -- so a free one is none of a chain's
 pub free-not_among : (p : FreeSpace) (cs rest : List Chunk) (c : Chunk) → AreHeld p (cs ++ rest)
     → IsFreeChunk p c → ¬ Among c cs
-free-not_among p cs rest c held free m = free-not_used p c free (each-among (IsUsedChunk p) (cs ++ rest) c held.each (among-left c cs rest m))
+free-not_among p cs rest c held free m =
+    free-not_used p c free (each-among (IsUsedChunk p) (cs ++ rest) c held.each
+    (among-left c cs rest m))
 
 -- where a chunk is none of the chain's, the next place in it is at its front
 record IsNew (chain : List Filled) (place : Place) : Type 0 where
@@ -58,7 +64,8 @@ chunks-on_top : (chain : List Filled) (place : Place) → 0 < next_offset chain 
 chunks-on_top [] place h = absurd (omega (arith, h))
 chunks-on_top (f ∷ []) place h =
     elim (same_chunk f.chunk place.chunk) as (λ b. 0 < cond b f.used 0
-    → chunks_of (cond b (record { chunk = f.chunk; used = f.used + place.words } ∷ []) (f ∷ record { chunk = place.chunk; used = place.words } ∷ [])) ≡ f.chunk ∷ []) [
+    → chunks_of (cond b (record { chunk = f.chunk; used = f.used + place.words } ∷ [])
+    (f ∷ record { chunk = place.chunk; used = place.words } ∷ [])) ≡ f.chunk ∷ []) [
       | true ↦ λ _. refl
       | false ↦ λ none. absurd (omega (arith, none))
     ] h
@@ -70,7 +77,8 @@ pub front-next : (p : FreeSpace) (chain : List Filled) (rest : List Chunk) (plac
     → IsFreeChunk p place.chunk → IsNext chain place
 front-next p chain rest place held inside front free = record {
   inside = inside;
-  offset = front ∙ sym (not_among-new chain place (free-not_among p (chunks_of chain) rest place.chunk held free)).offset;
+  offset = front ∙ sym (not_among-new chain place
+      (free-not_among p (chunks_of chain) rest place.chunk held free)).offset;
 }
 
 pub after-front : (p : FreeSpace) (place : Place) → place.offset ≡ 0
@@ -87,13 +95,16 @@ after-top p place h = by_test (eqb place.offset 0) refl
 
 front-keeps : (p : FreeSpace) (chain : List Filled) (place : Place) → place.offset ≡ 0
     → IsFreeChunk (reaching p place.chunk.root) place.chunk
-    → KeepsOthers p chain (without (reaching p place.chunk.root) place.chunk) (with_place chain place)
+    → KeepsOthers p chain (without (reaching p place.chunk.root) place.chunk)
+    (with_place chain place)
 front-keeps p chain place front free =
     let q = reaching p place.chunk.root in
     let n = suc place.chunk.root - p.roots in
     let chunks : (rest : List Chunk) → AreHeld q (chunks_of chain ++ rest)
     → chunks_of chain ++ place.chunk ∷ rest ≡ chunks_of (with_place chain place) ++ rest =
-    λ rest held. sym (ap (λ cs. cs ++ rest) (not_among-new chain place (free-not_among q (chunks_of chain) rest place.chunk held free)).chunks
+    λ rest held. sym (ap (λ cs. cs ++ rest)
+    (not_among-new chain place
+    (free-not_among q (chunks_of chain) rest place.chunk held free)).chunks
     ∙ append_assoc (chunks_of chain) (place.chunk ∷ []) rest) in
     record {
       held = λ rest h.
@@ -103,10 +114,12 @@ front-keeps p chain place front free =
       kept = λ rest h kept.
           let more = rooted-held p n (chunks_of chain ++ rest) h in
           subst (λ (cs : List Chunk). NoneIsLost (without q place.chunk) cs) (chunks rest more)
-          (taking_loses_none q (chunks_of chain) place.chunk rest (rooted-kept p n (chunks_of chain ++ rest) kept) free);
+          (taking_loses_none q (chunks_of chain) place.chunk rest
+          (rooted-kept p n (chunks_of chain ++ rest) kept) free);
     }
 
-top-keeps : (p : FreeSpace) (chain : List Filled) (place : Place) → 0 < next_offset chain place.chunk
+top-keeps : (p : FreeSpace) (chain : List Filled) (place : Place)
+    → 0 < next_offset chain place.chunk
     → KeepsOthers p chain p (with_place chain place)
 top-keeps p chain place top =
     let same = sym (chunks-on_top chain place top) in
@@ -115,15 +128,18 @@ top-keeps p chain place top =
       kept = λ rest h kept. subst (λ (cs : List Chunk). NoneIsLost p (cs ++ rest)) same kept;
     }
 
-pub adopted-keeps : (p : FreeSpace) (chain : List Filled) (place : Place) → IsAdoptable chain p place
+pub adopted-keeps : (p : FreeSpace) (chain : List Filled) (place : Place)
+    → IsAdoptable chain p place
     → KeepsOthers p chain (pool_after p place) (with_place chain place)
 adopted-keeps p chain place h =
     elim (cases_eq place.offset 0) [
-      | inl e ↦ subst (λ (q : FreeSpace). KeepsOthers p chain q (with_place chain place)) (sym (after-front p place e))
+      | inl e ↦ subst (λ (q : FreeSpace). KeepsOthers p chain q (with_place chain place))
+          (sym (after-front p place e))
           (front-keeps p chain place e (h.front e).1)
       | inr other ↦
           let pos : 0 < place.offset = omega arith in
-          subst (λ (q : FreeSpace). KeepsOthers p chain q (with_place chain place)) (sym (after-top p place pos))
+          subst (λ (q : FreeSpace). KeepsOthers p chain q (with_place chain place))
+          (sym (after-top p place pos))
           (top-keeps p chain place (omega (arith, h.next.offset)))
     ]
 
@@ -131,8 +147,10 @@ adopted-keeps p chain place h =
 pub rooted-keeps : (p q : FreeSpace) (root : ℕ) (chain : List Filled) → IsOnTheWay p root q
     → KeepsOthers p chain q chain
 rooted-keeps p q root chain way = record {
-  held = λ rest h. subst (λ (r : FreeSpace). AreHeld r (chunks_of chain ++ rest)) (sym way.left) (rooted-held p way.count (chunks_of chain ++ rest) h);
-  kept = λ rest h kept. subst (λ (r : FreeSpace). NoneIsLost r (chunks_of chain ++ rest)) (sym way.left) (rooted-kept p way.count (chunks_of chain ++ rest) kept);
+  held = λ rest h. subst (λ (r : FreeSpace). AreHeld r (chunks_of chain ++ rest)) (sym way.left)
+      (rooted-held p way.count (chunks_of chain ++ rest) h);
+  kept = λ rest h kept. subst (λ (r : FreeSpace). NoneIsLost r (chunks_of chain ++ rest))
+      (sym way.left) (rooted-kept p way.count (chunks_of chain ++ rest) kept);
 }
 
 pub same-keeps : (p : FreeSpace) (chain : List Filled) → KeepsOthers p chain p chain
@@ -150,20 +168,24 @@ pub record IsAtFront (chain : List Filled) (p : FreeSpace) (place : Place) : Typ
 pub free-adoptable : (chain : List Filled) (p : FreeSpace) (place : Place) → IsAtFront chain p place
     → IsFreeChunk (reaching p place.chunk.root) place.chunk → IsAdoptable chain p place
 free-adoptable chain p place at free =
-    let more = rooted-held p (suc place.chunk.root - p.roots) (chunks_of chain ++ at.rest) at.held in
+    let more =
+    rooted-held p (suc place.chunk.root - p.roots) (chunks_of chain ++ at.rest) at.held in
     record {
-      next = front-next (reaching p place.chunk.root) chain at.rest place more at.inside at.front free;
+      next = front-next (reaching p place.chunk.root) chain at.rest place more at.inside
+          at.front free;
       front = λ e. (at.within, free);
     }
 
 pub new-adoptable : (chain : List Filled) (p : FreeSpace) (place : Place) → IsAtFront chain p place
     → p.roots ≤ place.chunk.root → IsAdoptable chain p place
-new-adoptable chain p place at new = free-adoptable chain p place at (reaching-free p place.chunk at.within new)
+new-adoptable chain p place at new =
+    free-adoptable chain p place at (reaching-free p place.chunk at.within new)
 
 pub front-iff : (chain : List Filled) (p : FreeSpace) (place : Place) → IsAtFront chain p place
     → (b : Bool) → (IsTrue b ↔ IsFreeChunk (reaching p place.chunk.root) place.chunk)
     → (IsTrue b ↔ IsAdoptable chain p place)
-front-iff chain p place at b h = (λ t. free-adoptable chain p place at (h.0 t), λ a. h.1 (a.front at.front).1)
+front-iff chain p place at b h =
+    (λ t. free-adoptable chain p place at (h.0 t), λ a. h.1 (a.front at.front).1)
 
 -- where it isn't free, no root was added
 pub front-left : (chain : List Filled) (p q : FreeSpace) (place : Place) → IsAtFront chain p place
@@ -174,19 +196,26 @@ front-left chain p q place at true h e = e ∙ sym (after-front p place at.front
 front-left chain p q place at false h e =
     elim (cases_lt place.chunk.root p.roots) [
       | inl present ↦ e ∙ reaching-present p place.chunk.root present
-      | inr new ↦ let bad : false ≡ true = h.1 (reaching-free p place.chunk at.within new) in absurd (cc)
+      | inr new ↦ let bad : false ≡ true = h.1 (reaching-free p place.chunk at.within new) in
+          absurd (cc)
     ]
 
 -- ---- of what an arena and a pool are after it
 
 -- what a place leaves, whatever the answer is
-pub answer-keeps : {E : Type 0} (r : Result Bool E) (p q : FreeSpace) (chain next : List Filled) (place : Place)
+pub answer-keeps : {E : Type 0} (r : Result Bool E) (p q : FreeSpace) (chain next : List Filled)
+    (place : Place)
     → IfOk r (λ taken. IsTrue taken ↔ IsAdoptable chain p place)
     → MatchResult r (λ taken. next ≡ cond taken (with_place chain place) chain) (λ _. next ≡ chain)
-    → MatchResult r (λ taken. q ≡ cond taken (pool_after p place) p) (λ _. IsOnTheWay p place.chunk.root q)
+    → MatchResult r (λ taken. q ≡ cond taken (pool_after p place) p)
+    (λ _. IsOnTheWay p place.chunk.root q)
     → KeepsOthers p chain q next
 answer-keeps (Ok true) p q chain next place is arena pool = subst
-    (λ (s : FreeSpace). KeepsOthers p chain s next) (sym pool) (subst (KeepsOthers p chain (pool_after p place)) (sym arena) (adopted-keeps p chain place (is.0 refl)))
+    (λ (s : FreeSpace). KeepsOthers p chain s next) (sym pool)
+    (subst (KeepsOthers p chain (pool_after p place)) (sym arena)
+    (adopted-keeps p chain place (is.0 refl)))
 answer-keeps (Ok false) p q chain next place is arena pool = subst
-    (λ (s : FreeSpace). KeepsOthers p chain s next) (sym pool) (subst (KeepsOthers p chain p) (sym arena) (same-keeps p chain))
-answer-keeps (Err e) p q chain next place is arena pool = subst (KeepsOthers p chain q) (sym arena) (rooted-keeps p q place.chunk.root chain pool)
+    (λ (s : FreeSpace). KeepsOthers p chain s next) (sym pool)
+    (subst (KeepsOthers p chain p) (sym arena) (same-keeps p chain))
+answer-keeps (Err e) p q chain next place is arena pool =
+    subst (KeepsOthers p chain q) (sym arena) (rooted-keeps p q place.chunk.root chain pool)

@@ -8,7 +8,8 @@ use Rattle.cm_space.proofs.Lists.{each-trade, pairs-trade, among-trade}
 
 -- whatever stands before: where the ones are held and none is lost, so with the others
 pub record IsAlike (xs ys : List Chunk) : Type 0 where
-  pub held : (p : FreeSpace) (front : List Chunk) → AreHeld p (front ++ xs) → AreHeld p (front ++ ys)
+  pub held : (p : FreeSpace) (front : List Chunk) → AreHeld p (front ++ xs)
+      → AreHeld p (front ++ ys)
   pub kept : (p : FreeSpace) (front : List Chunk) → NoneIsLost p (front ++ xs)
       → NoneIsLost p (front ++ ys)
 
@@ -31,7 +32,8 @@ pub alike-trade : (a b c : List Chunk) → IsAlike (a ++ (b ++ c)) (b ++ (a ++ c
 alike-trade a b c = record {
   held = λ p front h. record {
     each = each-trade (IsUsedChunk p) front a b c h.each;
-    apart = pairs-trade (λ x y. ¬ Meets x y) (λ x y far m. far (meets-turned y x m)) front a b c h.apart;
+    apart = pairs-trade (λ x y. ¬ Meets x y) (λ x y far m. far (meets-turned y x m)) front a
+        b c h.apart;
   };
   kept = λ p front h. record {
     each = λ root word present within.
@@ -47,8 +49,10 @@ pub alike-behind : (a xs ys : List Chunk) → IsAlike xs ys → IsAlike (a ++ xs
 alike-behind a xs ys h = record {
   held = λ p front was.
       subst (λ (cs : List Chunk). AreHeld p cs) (append_assoc front a ys)
-      (h.held p (front ++ a) (subst (λ (cs : List Chunk). AreHeld p cs) (sym (append_assoc front a xs)) was));
+      (h.held p (front ++ a) (subst (λ (cs : List Chunk). AreHeld p cs)
+      (sym (append_assoc front a xs)) was));
   kept = λ p front was.
       subst (λ (cs : List Chunk). NoneIsLost p cs) (append_assoc front a ys)
-      (h.kept p (front ++ a) (subst (λ (cs : List Chunk). NoneIsLost p cs) (sym (append_assoc front a xs)) was));
+      (h.kept p (front ++ a) (subst (λ (cs : List Chunk). NoneIsLost p cs)
+      (sym (append_assoc front a xs)) was));
 }

@@ -1,6 +1,6 @@
 -- Arenas as a finite map: what its entries make of a change, and whose chunks stand in them.
-use Rattle.std.proofs.Common.{◌≡◌, ℕ, Bool, true, false, cond, not, T, List, [], ◌∷◌, ◌++◌, Option, Some}
-use Rattle.std.proofs.Common.{None, refl, sym, ap, ◌∙◌, append_assoc}
+use Rattle.std.proofs.Common.{◌≡◌, ℕ, Bool, true, false, cond, not, T, List, [], ◌∷◌, ◌++◌, Option}
+use Rattle.std.proofs.Common.{Some, None, refl, sym, ap, ◌∙◌, append_assoc}
 use Rattle.std.specs.Prelude.{◌&&◌}
 use Rattle.std.specs.declared.cmp.Ordering.{Ordering}
 use Rattle.std.specs.declared.cmp.Ordering.TheVariants.{Less, Equal, Greater}
@@ -80,7 +80,8 @@ insert-had m k v had = map.same_map nat_cmp_total map.nat_cmp-IsAntisymmetric _ 
   where
     by_test : (q : ℕ) (t : Bool) → is_eq (nat_cmp q k) ≡ t
         → cond (is_eq (nat_cmp q k)) (Some v) (map.get m q) ≡ map.get m q
-    by_test q true e = ap (λ b. cond b (Some v) (map.get m q)) e ∙ sym had ∙ ap (map.get m) (sym (same_key q k e))
+    by_test q true e =
+        ap (λ b. cond b (Some v) (map.get m q)) e ∙ sym had ∙ ap (map.get m) (sym (same_key q k e))
     by_test q false e = ap (λ b. cond b (Some v) (map.get m q)) e
 
 pub get-inserted : (m : Arenas) (k : ℕ) (v : List Filled) → map.get (map.insert m k v) k ≡ Some v
@@ -116,26 +117,33 @@ others-all k (e ∷ es) h = ap (λ r. cond (not (is_eq r)) (e ∷ others k es) (
     (λ l. e ∷ l) (others-all k es h.1)
 
 -- an arena that is put among the others
-pub record IsPut (k : ℕ) (v : List Filled) (es : Entries) (rest : List Chunk) (new : Entries) : Type 0 where
+pub record IsPut (k : ℕ) (v : List Filled) (es : Entries) (rest : List Chunk)
+    (new : Entries) : Type 0 where
   pub out : IsAlike (owned_chunks new ++ rest) (chunks_of v ++ (owned_chunks (others k es) ++ rest))
-  pub back : IsAlike (chunks_of v ++ (owned_chunks (others k es) ++ rest)) (owned_chunks new ++ rest)
+  pub back : IsAlike (chunks_of v ++ (owned_chunks (others k es) ++ rest))
+      (owned_chunks new ++ rest)
 
 put-first : (k j : ℕ) (v : List Filled) (es tail : Entries) (rest : List Chunk)
     → others k es ≡ tail → IsPut k v es rest ((j, v) ∷ tail)
 put-first k j v es tail rest e =
-    let same : owned_chunks ((j, v) ∷ tail) ++ rest ≡ chunks_of v ++ (owned_chunks (others k es) ++ rest) =
-    append_assoc (chunks_of v) (owned_chunks tail) rest ∙ ap (λ l. chunks_of v ++ (owned_chunks l ++ rest)) (sym e) in
+    let same : owned_chunks ((j, v) ∷ tail) ++ rest ≡ chunks_of v
+    ++ (owned_chunks (others k es) ++ rest) =
+    append_assoc (chunks_of v) (owned_chunks tail) rest
+    ∙ ap (λ l. chunks_of v ++ (owned_chunks l ++ rest)) (sym e) in
     record { out = alike-same _ _ same; back = alike-same _ _ (sym same) }
 
 put-behind : (k : ℕ) (v : List Filled) (e : ℕ × List Filled) (es new : Entries) (rest : List Chunk)
-    → others k (e ∷ es) ≡ e ∷ others k es → IsPut k v es rest new → IsPut k v (e ∷ es) rest (e ∷ new)
+    → others k (e ∷ es) ≡ e ∷ others k es → IsPut k v es rest new
+    → IsPut k v (e ∷ es) rest (e ∷ new)
 put-behind k v e es new rest kept h =
     let mine = chunks_of v in
     let his = chunks_of e.1 in
     let left = owned_chunks (others k es) in
-    let start : owned_chunks (e ∷ new) ++ rest ≡ his ++ (owned_chunks new ++ rest) = append_assoc his (owned_chunks new) rest in
+    let start : owned_chunks (e ∷ new) ++ rest ≡ his ++ (owned_chunks new ++ rest) =
+    append_assoc his (owned_chunks new) rest in
     let end : mine ++ (his ++ (left ++ rest)) ≡ mine ++ (owned_chunks (others k (e ∷ es)) ++ rest) =
-    ap (λ l. mine ++ l) (sym (append_assoc his left rest)) ∙ ap (λ l. mine ++ (owned_chunks l ++ rest)) (sym kept) in
+    ap (λ l. mine ++ l) (sym (append_assoc his left rest))
+    ∙ ap (λ l. mine ++ (owned_chunks l ++ rest)) (sym kept) in
     record {
       out = alike-then _ _ _ (alike-same _ _ start)
           (alike-then _ _ _ (alike-behind his _ _ h.out)
@@ -145,17 +153,23 @@ put-behind k v e es new rest kept h =
           (alike-then _ _ _ (alike-behind his _ _ h.back) (alike-same _ _ (sym start))));
     }
 
-pub put-is_put : (k : ℕ) (v : List Filled) (es : Entries) (rest : List Chunk) → T (is_sorted nat_cmp es)
+pub put-is_put : (k : ℕ) (v : List Filled) (es : Entries) (rest : List Chunk)
+    → T (is_sorted nat_cmp es)
     → IsPut k v es rest (put nat_cmp k v es)
 put-is_put k v [] rest sorted = put-first k k v [] [] rest refl
 put-is_put k v (e ∷ es) rest sorted =
     let below = first (below_all nat_cmp e.0 es) _ sorted in
     let more = put-is_put k v es rest (second (below_all nat_cmp e.0 es) _ sorted) in
     elim (nat_cmp k e.0) as (λ r. nat_cmp k e.0 ≡ r
-    → IsPut k v (e ∷ es) rest (by_order r ((k, v) ∷ e ∷ es) ((e.0, v) ∷ es) (e ∷ put nat_cmp k v es))) [
-      | Less ↦ λ is. put-first k k v (e ∷ es) (e ∷ es) rest (others-all k (e ∷ es) (is, lower k e.0 es is below))
-      | Equal ↦ λ is. put-first k e.0 v (e ∷ es) es rest (ap (λ r. cond (not (is_eq r)) (e ∷ others k es) (others k es)) is ∙ others-all k es (tied k e.0 es is below))
-      | Greater ↦ λ is. put-behind k v e es (put nat_cmp k v es) rest (ap (λ r. cond (not (is_eq r)) (e ∷ others k es) (others k es)) is) more
+    → IsPut k v (e ∷ es) rest
+    (by_order r ((k, v) ∷ e ∷ es) ((e.0, v) ∷ es) (e ∷ put nat_cmp k v es))) [
+      | Less ↦ λ is. put-first k k v (e ∷ es) (e ∷ es) rest
+          (others-all k (e ∷ es) (is, lower k e.0 es is below))
+      | Equal ↦ λ is. put-first k e.0 v (e ∷ es) es rest
+          (ap (λ r. cond (not (is_eq r)) (e ∷ others k es) (others k es)) is
+          ∙ others-all k es (tied k e.0 es is below))
+      | Greater ↦ λ is. put-behind k v e es (put nat_cmp k v es) rest
+          (ap (λ r. cond (not (is_eq r)) (e ∷ others k es) (others k es)) is) more
     ] refl
 
 abbrev pub owned : Arenas → List Chunk
@@ -173,26 +187,34 @@ insert-out m k v rest = alike-then _ _ _
 
 pub insert-back : (m : Arenas) (k : ℕ) (v : List Filled) (rest : List Chunk)
     → IsAlike (chunks_of v ++ (of_others m k ++ rest)) (owned (map.insert m k v) ++ rest)
-insert-back m k v rest = alike-then _ _ _ (put-is_put k v (map.entries m) rest (map.entries_sorted m)).back
-    (alike-same _ _ (sym (ap (λ es. owned_chunks es ++ rest) (map.entries-insert nat_cmp_total m k v))))
+insert-back m k v rest =
+    alike-then _ _ _ (put-is_put k v (map.entries m) rest (map.entries_sorted m)).back
+    (alike-same _ _ (sym (ap (λ es. owned_chunks es ++ rest)
+    (map.entries-insert nat_cmp_total m k v))))
 
 -- what is there may be taken apart in the same way
 pub had-out : (m : Arenas) (k : ℕ) (v : List Filled) (rest : List Chunk) → map.get m k ≡ Some v
     → IsAlike (owned m ++ rest) (chunks_of v ++ (of_others m k ++ rest))
-had-out m k v rest had = alike-then _ _ _ (alike-same _ _ (ap (λ n. owned n ++ rest) (sym (insert-had m k v had)))) (insert-out m k v rest)
+had-out m k v rest had =
+    alike-then _ _ _ (alike-same _ _ (ap (λ n. owned n ++ rest) (sym (insert-had m k v had))))
+    (insert-out m k v rest)
 
 -- the others' entries are all where there is none, and those that are left where it is removed
 pub remove-others : (m : Arenas) (k : ℕ) → map.entries (map.remove m k) ≡ others k (map.entries m)
 remove-others m k =
     let es = others k (map.entries m) in
-    let sorted = is_sorted-where_key nat_cmp (λ x. not (eq_by_cmp nat_cmp k x)) (map.entries m) (map.entries_sorted m) in
+    let sorted =
+    is_sorted-where_key nat_cmp (λ x. not (eq_by_cmp nat_cmp k x)) (map.entries m)
+    (map.entries_sorted m) in
     let same : map.remove m k ≡ map.from_sorted es =
     map.same_map nat_cmp_total map.nat_cmp-IsAntisymmetric _ _ (λ q.
     map.get-remove nat_cmp_total m k q
     ∙ ap (λ b. cond b None (map.get m q)) (sym (turned k q))
     ∙ flipped (is_eq (nat_cmp k q)) (map.get m q)
     ∙ ap (λ o. cond (not (is_eq (nat_cmp k q))) o None) (map.get-entries m q)
-    ∙ sym (map.get-from_sorted nat_cmp es q sorted ∙ find-where_key nat_cmp (λ x. not (eq_by_cmp nat_cmp k x)) q (λ x t. ap not (alike k q x t)) (map.entries m))) in
+    ∙ sym (map.get-from_sorted nat_cmp es q sorted
+    ∙ find-where_key nat_cmp (λ x. not (eq_by_cmp nat_cmp k x)) q (λ x t. ap not (alike k q x t))
+    (map.entries m))) in
     ap map.entries same ∙ map.entries-from_sorted nat_cmp es sorted
   where
     flipped : {A : Type 0} (b : Bool) (x : Option A) → cond b None x ≡ cond (not b) x None
@@ -210,5 +232,6 @@ none-others m k none =
   where
     by_test : (q : ℕ) (t : Bool) → is_eq (nat_cmp q k) ≡ t
         → cond (is_eq (nat_cmp q k)) None (map.get m q) ≡ map.get m q
-    by_test q true e = ap (λ b. cond b None (map.get m q)) e ∙ sym none ∙ ap (map.get m) (sym (same_key q k e))
+    by_test q true e =
+        ap (λ b. cond b None (map.get m q)) e ∙ sym none ∙ ap (map.get m) (sym (same_key q k e))
     by_test q false e = ap (λ b. cond b None (map.get m q)) e

@@ -1,6 +1,7 @@
 -- Chunks that are made free, and the others stay held.
-use Rattle.std.proofs.Common.{◌≡◌, ℕ, ◌<◌, ◌≤◌, Bool, true, false, cond, List, [], ◌∷◌, ◌++◌, refl, sym}
-use Rattle.std.proofs.Common.{ap, ◌∙◌, ◌+◌, subst, append_assoc, arith, length, drop, get_or, ◌↔◌}
+use Rattle.std.proofs.Common.{◌≡◌, ℕ, ◌<◌, ◌≤◌, Bool, true, false, cond, List, [], ◌∷◌, ◌++◌, refl}
+use Rattle.std.proofs.Common.{sym, ap, ◌∙◌, ◌+◌, subst, append_assoc, arith, length, drop, get_or}
+use Rattle.std.proofs.Common.{◌↔◌}
 use Rattle.std.specs.Prelude.{nat_le, nat_lt}
 use Rattle.std.specs.List.{AllByRecursion}
 use Rattle.std.proofs.lemmas.Grind.{common_steps}
@@ -23,14 +24,16 @@ with_chunks-append p (c ∷ cs) ds = with_chunks-append (with_chunk p c) cs ds
 pub held-given : (p : FreeSpace) (front cs back : List Chunk) → AreHeld p (front ++ (cs ++ back))
     → AreHeld (with_chunks p cs) (front ++ back)
 held-given p front [] back h = h
-held-given p front (c ∷ cs) back h = held-given (with_chunk p c) front cs back (held_is_given p front c (cs ++ back) h).1
+held-given p front (c ∷ cs) back h =
+    held-given (with_chunk p c) front cs back (held_is_given p front c (cs ++ back) h).1
 
 pub kept-given : (p : FreeSpace) (front cs back : List Chunk) → AreHeld p (front ++ (cs ++ back))
     → NoneIsLost p (front ++ (cs ++ back)) → NoneIsLost (with_chunks p cs) (front ++ back)
 kept-given p front [] back h kept = kept
 kept-given p front (c ∷ cs) back h kept =
     let given = held_is_given p front c (cs ++ back) h in
-    kept-given (with_chunk p c) front cs back given.1 (none_lost-given p front c (cs ++ back) kept given.0)
+    kept-given (with_chunk p c) front cs back given.1
+    (none_lost-given p front c (cs ++ back) kept given.0)
 
 abbrev pub Rises : List Waits → Type 0
 Rises ws = Pairwise (λ (v w : Waits). v.number ≤ w.number) ws
@@ -39,7 +42,8 @@ pub chunks-append : (vs ws : List Waits)
     → waiting_chunks (vs ++ ws) ≡ waiting_chunks vs ++ waiting_chunks ws
 chunks-append [] ws = refl
 chunks-append (v ∷ vs) ws = ap
-    (λ (cs : List Chunk). v.chunks ++ cs) (chunks-append vs ws) ∙ sym (append_assoc v.chunks (waiting_chunks vs) (waiting_chunks ws))
+    (λ (cs : List Chunk). v.chunks ++ cs) (chunks-append vs ws)
+    ∙ sym (append_assoc v.chunks (waiting_chunks vs) (waiting_chunks ws))
 
 -- ---- which are due
 
@@ -66,7 +70,8 @@ none_due n (w ∷ ws) h =
     record { none = rw (e.0) rest.none; all = rw (e.1) (ap (λ l. w ∷ l) rest.all) }
 
 above : (n : ℕ) (w : Waits) (ws : List Waits) → n < w.number
-    → AllByRecursion (λ (v : Waits). w.number ≤ v.number) ws → AllByRecursion (λ (v : Waits). n < v.number) ws
+    → AllByRecursion (λ (v : Waits). w.number ≤ v.number) ws
+    → AllByRecursion (λ (v : Waits). n < v.number) ws
 above n w [] lt h = tt
 above n w (v ∷ vs) lt h = (omega (arith, h.0), above n w vs lt h.1)
 
@@ -107,7 +112,8 @@ rises-not_due n (w ∷ ws) rises =
         → AllByRecursion P (not_due n ws)
     all-kept n P [] h = tt
     all-kept n P (v ∷ vs) h =
-        elim (nat_lt n v.number) as (λ b. AllByRecursion P (cond b (v ∷ not_due n vs) (not_due n vs))) [
+        elim (nat_lt n v.number) as
+        (λ b. AllByRecursion P (cond b (v ∷ not_due n vs) (not_due n vs))) [
           | true ↦ (h.0, all-kept n P vs h.1)
           | false ↦ all-kept n P vs h.1
         ]
@@ -126,24 +132,31 @@ drop-given p cs i d lt = ap (with_chunks p) (drop_more cs i d lt)
 -- ---- one step of a walk over what waits
 
 -- what is known of what is left while the oldest of it is made free
-pub record IsUnderWay (n : ℕ) (p : FreeSpace) (ws : List Waits) (q : FreeSpace) (vs : List Waits) : Type 0 where
+pub record IsUnderWay (n : ℕ) (p : FreeSpace) (ws : List Waits) (q : FreeSpace)
+    (vs : List Waits) : Type 0 where
   pub held : AreHeld q (waiting_chunks vs)
   pub rises : Rises vs
   pub pool : with_chunks q (waiting_chunks (due n vs)) ≡ with_chunks p (waiting_chunks (due n ws))
   pub waiting : not_due n vs ≡ not_due n ws
 
-pub way-first : {n : ℕ} {p q : FreeSpace} {ws vs us : List Waits} {w : Waits} → IsUnderWay n p ws q vs
+pub way-first : {n : ℕ} {p q : FreeSpace} {ws vs us : List Waits} {w : Waits}
+    → IsUnderWay n p ws q vs
     → vs ≡ w ∷ us → AreHeld q w.chunks
 way-first {n} {p} {q} {ws} {vs} {us} {w} way e =
     let held = subst (λ l. AreHeld q (waiting_chunks l)) e way.held in
-    record { each = each-front (IsUsedChunk q) w.chunks (waiting_chunks us) held.each; apart = pairs-front (λ a b. ¬ Meets a b) w.chunks (waiting_chunks us) held.apart }
+    record {
+      each = each-front (IsUsedChunk q) w.chunks (waiting_chunks us) held.each;
+      apart = pairs-front (λ a b. ¬ Meets a b) w.chunks (waiting_chunks us) held.apart;
+    }
 
-pub way-more : {n : ℕ} {p q : FreeSpace} {ws vs us : List Waits} {w : Waits} → IsUnderWay n p ws q vs
+pub way-more : {n : ℕ} {p q : FreeSpace} {ws vs us : List Waits} {w : Waits}
+    → IsUnderWay n p ws q vs
     → vs ≡ w ∷ us → w.number ≤ n → IsUnderWay n p ws (with_chunks q w.chunks) us
 way-more {n} {p} {q} {ws} {vs} {us} {w} way e small =
     let first = due-first n w us small in
     record {
-      held = held-given q [] w.chunks (waiting_chunks us) (subst (λ l. AreHeld q (waiting_chunks l)) e way.held);
+      held = held-given q [] w.chunks (waiting_chunks us)
+          (subst (λ l. AreHeld q (waiting_chunks l)) e way.held);
       rises = (subst Rises e way.rises).1;
       pool = sym (with_chunks-append q w.chunks (waiting_chunks (due n us)))
           ∙ ap (λ l. with_chunks q (waiting_chunks l)) (sym first.0)

@@ -18,7 +18,8 @@ use Rattle.cm_space.proofs.Owners.{waits-among, among-waits}
 -- a word of held chunks that are made free is free, and every other as before
 free-given : (p : FreeSpace) (cs back : List Chunk) (root word : ℕ) → AreHeld p (cs ++ back)
     → IsFreeWord (with_chunks p cs) root word ↔ (IsFreeWord p root word ⊎ IsHeldWord cs root word)
-free-given p [] back root word h = (λ f. inl f, λ e. elim e [ inl f ↦ f | inr held ↦ absurd held.1 ])
+free-given p [] back root word h =
+    (λ f. inl f, λ e. elim e [ inl f ↦ f | inr held ↦ absurd held.1 ])
 free-given p (c ∷ cs) back root word h =
     let given = held_is_given p [] c (cs ++ back) h in
     let rest = free-given (with_chunk p c) cs back root word given.1 in
@@ -46,7 +47,11 @@ among-due n (v ∷ ws) w = by_test (nat_le v.number n) refl (among-due n ws w)
         → (Among w (cond t (v ∷ due n ws) (due n ws)) ↔ (Among w (v ∷ ws) × (w.number ≤ n)))
     by_test true e rest = (
       λ m. elim m [
-        | inl same ↦ (inl same, subst (λ (u : Waits). u.number ≤ n) (sym same) ((is_due-true n v.number).0 e))
+        | inl same ↦ (
+          inl same,
+          subst (λ (u : Waits). u.number ≤ n) (sym same)
+              ((is_due-true n v.number).0 e),
+        )
         | inr behind ↦ let h = rest.0 behind in (inr h.0, h.1)
       ],
       λ h. elim h.0 [ inl same ↦ inl same | inr behind ↦ inr (rest.1 (behind, h.1)) ],
@@ -54,7 +59,8 @@ among-due n (v ∷ ws) w = by_test (nat_le v.number n) refl (among-due n ws w)
     by_test false e rest = (
       λ m. let h = rest.0 m in (inr h.0, h.1),
       λ h. elim h.0 [
-        | inl same ↦ let bad = (is_due-true n v.number).1 (subst (λ (u : Waits). u.number ≤ n) same h.1) in absurd (cc)
+        | inl same ↦ let bad =
+            (is_due-true n v.number).1 (subst (λ (u : Waits). u.number ≤ n) same h.1) in absurd (cc)
         | inr behind ↦ rest.1 (behind, h.1)
       ],
     )
@@ -64,7 +70,8 @@ frees_due s h n root word =
     let gone = waiting_chunks (due n s.waiting) in
     let stay = waiting_chunks (not_due n s.waiting) in
     let parts : waiting_chunks s.waiting ≡ gone ++ stay =
-    ap waiting_chunks (due-parts n s.waiting h.rises) ∙ chunks-append (due n s.waiting) (not_due n s.waiting) in
+    ap waiting_chunks (due-parts n s.waiting h.rises)
+    ∙ chunks-append (due n s.waiting) (not_due n s.waiting) in
     let held = subst (λ (cs : List Chunk). AreHeld s.pool cs) parts (waiting-held s h) in
     let is = free-given s.pool gone stay root word held in (
       λ f. elim (is.0 f) [

@@ -59,7 +59,8 @@ module _ {X : Type 0} where
   pub pairs-push : (R : X → X → Type 0) (xs : List X) (b : X) → Pairwise R xs
       → AllByRecursion (λ x. R x b) xs → Pairwise R (xs ++ b ∷ [])
   pairs-push R [] b p f = (tt, tt)
-  pairs-push R (x ∷ xs) b p f = (each-join (R x) xs (b ∷ []) p.0 (f.0, tt), pairs-push R xs b p.1 f.1)
+  pairs-push R (x ∷ xs) b p f =
+      (each-join (R x) xs (b ∷ []) p.0 (f.0, tt), pairs-push R xs b p.1 f.1)
 
   pub pairs-trade : (R : X → X → Type 0) → ((x y : X) → R x y → R y x) → (front a b c : List X)
       → Pairwise R (front ++ (a ++ (b ++ c))) → Pairwise R (front ++ (b ++ (a ++ c)))
@@ -69,7 +70,8 @@ module _ {X : Type 0} where
       pairs-insert R b x (a ++ c) (pairs-trade R turn [] a b c p.1)
       (each-weaker (R x) (λ y. R y x) (λ y h. turn x y h) b (each-front (R x) b (a ++ c) all))
       (each-back (R x) b (a ++ c) all)
-  pairs-trade R turn (x ∷ front) a b c p = (each-trade (R x) front a b c p.0, pairs-trade R turn front a b c p.1)
+  pairs-trade R turn (x ∷ front) a b c p =
+      (each-trade (R x) front a b c p.0, pairs-trade R turn front a b c p.1)
 
   -- an element of each of two parts
   pub pairs-across : (R : X → X → Type 0) (xs ys : List X) (x y : X) → Pairwise R (xs ++ ys)
@@ -102,7 +104,8 @@ module _ {X : Type 0} where
   pub among-append : (x : X) (xs ys : List X) → Among x (xs ++ ys) → Among x xs ⊎ Among x ys
   among-append x [] ys m = inr m
   among-append x (y ∷ xs) ys (inl e) = inl (inl e)
-  among-append x (y ∷ xs) ys (inr m) = elim (among-append x xs ys m) [ inl a ↦ inl (inr a) | inr b ↦ inr b ]
+  among-append x (y ∷ xs) ys (inr m) =
+      elim (among-append x xs ys m) [ inl a ↦ inl (inr a) | inr b ↦ inr b ]
 
   pub among-trade : (x : X) (front a b c : List X) → Among x (front ++ (a ++ (b ++ c)))
       → Among x (front ++ (b ++ (a ++ c)))

@@ -20,7 +20,8 @@ pub rooted-roots : (p : FreeSpace) (n : ℕ) → (with_roots p n).roots ≡ p.ro
 rooted-roots p zero = omega arith
 rooted-roots p (suc n) = omega (arith, rooted-roots p n)
 
-pub rooted-held : (p : FreeSpace) (n : ℕ) (cs : List Chunk) → AreHeld p cs → AreHeld (with_roots p n) cs
+pub rooted-held : (p : FreeSpace) (n : ℕ) (cs : List Chunk) → AreHeld p cs
+    → AreHeld (with_roots p n) cs
 rooted-held p zero cs h = h
 rooted-held p (suc n) cs h = roots_keep_held (with_roots p n) cs (rooted-held p n cs h)
 
@@ -35,8 +36,10 @@ pub rooted-free : (p : FreeSpace) (n root word : ℕ) → p.roots ≤ root → r
 rooted-free p zero root word from to within = absurd (omega arith)
 rooted-free p (suc n) root word from to within =
     elim (cases_order root (p.roots + n)) [
-      | inl e ↦ (free-with_root (with_roots p n) root word).1 (inr (e ∙ sym (rooted-roots p n), sized))
-      | inr (inl lt) ↦ (free-with_root (with_roots p n) root word).1 (inl (rooted-free p n root word from lt within))
+      | inl e ↦ (free-with_root (with_roots p n) root word).1
+          (inr (e ∙ sym (rooted-roots p n), sized))
+      | inr (inl lt) ↦ (free-with_root (with_roots p n) root word).1
+          (inl (rooted-free p n root word from lt within))
       | inr (inr gt) ↦ absurd (omega arith)
     ]
   where
@@ -55,9 +58,11 @@ reaching-free p c is from =
         within_top = subst (λ (g : Sizes). c.order ≤ g.top) (sym same) is.within_top;
         in_a_root = omega (arith, roots);
         aligned = is.aligned;
-        inside = subst (λ (g : Sizes). c.at + chunk_size c.order ≤ chunk_size g.top) (sym same) is.inside;
+        inside = subst (λ (g : Sizes). c.at + chunk_size c.order ≤ chunk_size g.top)
+            (sym same) is.inside;
       };
-      words = λ word low high. rooted-free p n c.root word from (omega arith) (omega (arith, high, is.inside));
+      words = λ word low high. rooted-free p n c.root word from (omega arith)
+          (omega (arith, high, is.inside));
     }
 
 -- where the root is present, none is added
@@ -69,21 +74,30 @@ pub way-more : (p q r : FreeSpace) (root : ℕ) (added : Bool) → IsOnTheWay p 
     → root < p.geometry.roots → (q.roots < q.geometry.roots → added ≡ true)
     → r ≡ cond added (with_root q) q → IsOnTheWay p root r × (r.roots ≡ q.roots + 1)
 way-more p q r root added way here limit can is =
-    let same : q.geometry ≡ p.geometry = ap (λ (s : FreeSpace). s.geometry) way.left ∙ rooted-geometry p way.count in
+    let same : q.geometry ≡ p.geometry =
+    ap (λ (s : FreeSpace). s.geometry) way.left ∙ rooted-geometry p way.count in
     let limits : q.geometry.roots ≡ p.geometry.roots = ap (λ (g : Sizes). g.roots) same in
-    let new : r ≡ with_root q = is ∙ ap (λ b. cond b (with_root q) q) (can (omega (arith, limits))) in
-    let count : q.roots ≡ p.roots + way.count = ap (λ (s : FreeSpace). s.roots) way.left ∙ rooted-roots p way.count in (
-      record { count = suc way.count; few = omega (arith, count); left = new ∙ ap with_root way.left },
+    let new : r ≡ with_root q =
+    is ∙ ap (λ b. cond b (with_root q) q) (can (omega (arith, limits))) in
+    let count : q.roots ≡ p.roots + way.count =
+    ap (λ (s : FreeSpace). s.roots) way.left ∙ rooted-roots p way.count in (
+      record {
+        count = suc way.count;
+        few = omega (arith, count);
+        left = new ∙ ap with_root way.left;
+      },
       ap (λ (s : FreeSpace). s.roots) new,
     )
 
 pub way-from : (p q : FreeSpace) (root : ℕ) → IsOnTheWay p root q → p.roots ≤ q.roots
-way-from p q root way = omega (arith, ap (λ (s : FreeSpace). s.roots) way.left ∙ rooted-roots p way.count)
+way-from p q root way =
+    omega (arith, ap (λ (s : FreeSpace). s.roots) way.left ∙ rooted-roots p way.count)
 
 pub way-end : (p q : FreeSpace) (root : ℕ) → IsOnTheWay p root q → root < q.roots
     → q ≡ reaching p root
 way-end p q root way end =
-    let count : q.roots ≡ p.roots + way.count = ap (λ (s : FreeSpace). s.roots) way.left ∙ rooted-roots p way.count in
+    let count : q.roots ≡ p.roots + way.count =
+    ap (λ (s : FreeSpace). s.roots) way.left ∙ rooted-roots p way.count in
     let all : way.count ≡ suc root - p.roots = omega (arith, count, way.few) in
     way.left ∙ ap (with_roots p) all
 

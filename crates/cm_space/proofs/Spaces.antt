@@ -10,8 +10,8 @@ use Rattle.cm_pool.specs.Geometry.{Sizes}
 use Rattle.cm_pool.specs.FreeSpace.{FreeSpace, IsUsedChunk}
 use Rattle.cm_pool.specs.Held.{AreHeld, NoneIsLost}
 use Rattle.cm_arena.specs.Chains.{Filled, chunks_of}
-use Rattle.cm_space.specs.Space.{SpaceState, Waits, with_arena, without_arena, waiting_chunks, learnt}
-use Rattle.cm_space.specs.Space.{empty_space, due, not_due}
+use Rattle.cm_space.specs.Space.{SpaceState, Waits, with_arena, without_arena, waiting_chunks}
+use Rattle.cm_space.specs.Space.{learnt, empty_space, due, not_due}
 use Rattle.cm_space.specs.Ownership.{IsSpace, held_chunks, owned_chunks}
 use Rattle.cm_space.proofs.Lists.{pairs-push, pairs-back, each-back}
 use Rattle.cm_space.proofs.Alike.{alike-same, alike-then, alike-trade, alike-behind}
@@ -24,14 +24,17 @@ abbrev pub beside : SpaceState → ℕ → List Chunk
 beside s k = of_others s.arenas k ++ waiting_chunks s.waiting
 
 -- a change of one arena and of the pool under which what others hold stays theirs
-pub record KeepsOthers (old : FreeSpace) (chain : List Filled) (new : FreeSpace) (next : List Filled) : Type 0 where
-  pub held : (rest : List Chunk) → AreHeld old (chunks_of chain ++ rest) → AreHeld new (chunks_of next ++ rest)
+pub record KeepsOthers (old : FreeSpace) (chain : List Filled) (new : FreeSpace)
+    (next : List Filled) : Type 0 where
+  pub held : (rest : List Chunk) → AreHeld old (chunks_of chain ++ rest)
+      → AreHeld new (chunks_of next ++ rest)
   pub kept : (rest : List Chunk) → AreHeld old (chunks_of chain ++ rest)
       → NoneIsLost old (chunks_of chain ++ rest) → NoneIsLost new (chunks_of next ++ rest)
 
 pub taken-apart : (s : SpaceState) (k : ℕ) (chain : List Filled) → map.get s.arenas k ≡ Some chain
     → IsSpace s → AreHeld s.pool (chunks_of chain ++ beside s k)
-taken-apart s k chain had h = (had-out s.arenas k chain (waiting_chunks s.waiting) had).held s.pool [] h.held
+taken-apart s k chain had h =
+    (had-out s.arenas k chain (waiting_chunks s.waiting) had).held s.pool [] h.held
 
 pub changed : (s : SpaceState) (k : ℕ) (chain next : List Filled) (p : FreeSpace)
     → map.get s.arenas k ≡ Some chain → IsSpace s → KeepsOthers s.pool chain p next
@@ -47,28 +50,36 @@ changed s k chain next p had h keeps =
     }
 
 -- an arena more, with no chunk
-pub added : (s : SpaceState) (k : ℕ) → map.get s.arenas k ≡ None → IsSpace s → IsSpace (with_arena s k [])
+pub added : (s : SpaceState) (k : ℕ) → map.get s.arenas k ≡ None → IsSpace s
+    → IsSpace (with_arena s k [])
 added s k none h =
     let back = insert-back s.arenas k [] (waiting_chunks s.waiting) in
-    let same = ap (λ (cs : List Chunk). cs ++ waiting_chunks s.waiting) (sym (none-others s.arenas k none)) in
+    let same =
+    ap (λ (cs : List Chunk). cs ++ waiting_chunks s.waiting)
+    (sym (none-others s.arenas k none)) in
     record {
       held = back.held s.pool [] (subst (λ (cs : List Chunk). AreHeld s.pool cs) same h.held);
-      none_lost = back.kept s.pool [] (subst (λ (cs : List Chunk). NoneIsLost s.pool cs) same h.none_lost);
+      none_lost =
+          back.kept s.pool [] (subst (λ (cs : List Chunk). NoneIsLost s.pool cs) same h.none_lost);
       rises = h.rises;
     }
 
 -- an arena less, whose chunks wait
 pub left : (s : SpaceState) (k : ℕ) (chain : List Filled) (n : ℕ) → map.get s.arenas k ≡ Some chain
     → AllByRecursion (λ (w : Waits). w.number ≤ n) s.waiting → IsSpace s
-    → IsSpace (record (without_arena s k) { waiting = s.waiting ++ record { number = n; chunks = chunks_of chain } ∷ [] })
+    → IsSpace (record (without_arena s k)
+    { waiting = s.waiting ++ record { number = n; chunks = chunks_of chain } ∷ [] })
 left s k chain n had last h =
     let mine = chunks_of chain in
     let ws = waiting_chunks s.waiting in
     let w : Waits = record { number = n; chunks = mine } in
-    let rest : owned (map.remove s.arenas k) ≡ of_others s.arenas k = ap owned_chunks (remove-others s.arenas k) in
-    let behind : waiting_chunks (s.waiting ++ w ∷ []) ≡ ws ++ (mine ++ []) = chunks-append s.waiting (w ∷ []) in
+    let rest : owned (map.remove s.arenas k) ≡ of_others s.arenas k =
+    ap owned_chunks (remove-others s.arenas k) in
+    let behind : waiting_chunks (s.waiting ++ w ∷ []) ≡ ws ++ (mine ++ []) =
+    chunks-append s.waiting (w ∷ []) in
     let moved = alike-then _ _ _ (had-out s.arenas k chain ws had)
-    (alike-then _ _ _ (alike-same _ _ (ap (λ cs. mine ++ (of_others s.arenas k ++ cs)) (sym (append-nil ws))))
+    (alike-then _ _ _ (alike-same _ _
+    (ap (λ cs. mine ++ (of_others s.arenas k ++ cs)) (sym (append-nil ws))))
     (alike-then _ _ _ (alike-trade mine (of_others s.arenas k) (ws ++ []))
     (alike-then _ _ _ (alike-behind (of_others s.arenas k) _ _ (alike-trade mine ws []))
     (alike-same _ _ (λ i. sym rest i ++ sym behind i))))) in
@@ -85,11 +96,14 @@ learned s n h =
     let gone = waiting_chunks (due n s.waiting) in
     let stay = waiting_chunks (not_due n s.waiting) in
     let parts : front ++ waiting_chunks s.waiting ≡ front ++ (gone ++ stay) =
-    ap (λ cs. front ++ cs) (ap waiting_chunks (due-parts n s.waiting h.rises) ∙ chunks-append (due n s.waiting) (not_due n s.waiting)) in
+    ap (λ cs. front ++ cs) (ap waiting_chunks (due-parts n s.waiting h.rises)
+    ∙ chunks-append (due n s.waiting) (not_due n s.waiting)) in
     let held = subst (λ (cs : List Chunk). AreHeld s.pool cs) parts h.held in
     record {
       held = held-given s.pool front gone stay held;
-      none_lost = kept-given s.pool front gone stay held (subst (λ (cs : List Chunk). NoneIsLost s.pool cs) parts h.none_lost);
+      none_lost =
+          kept-given s.pool front gone stay held
+          (subst (λ (cs : List Chunk). NoneIsLost s.pool cs) parts h.none_lost);
       rises = rises-not_due n s.waiting h.rises;
     }
 
@@ -97,10 +111,12 @@ learned s n h =
 pub none : (sizes : Sizes) → IsSpace (empty_space sizes)
 none sizes =
     let entries : map.entries (empty_space sizes).arenas ≡ [] =
-    no_entries _ (sym (map.len-entries (empty_space sizes).arenas) ∙ map.len-empty nat_cmp (List Filled)) in
+    no_entries _ (sym (map.len-entries (empty_space sizes).arenas)
+    ∙ map.len-empty nat_cmp (List Filled)) in
     let chunks : held_chunks (empty_space sizes) ≡ [] = ap (λ es. owned_chunks es ++ []) entries in
     record {
-      held = subst (λ (cs : List Chunk). AreHeld (empty_space sizes).pool cs) (sym chunks) (record { each = tt; apart = tt });
+      held = subst (λ (cs : List Chunk). AreHeld (empty_space sizes).pool cs) (sym chunks)
+          (record { each = tt; apart = tt });
       none_lost = record { each = λ root word present within. absurd (omega (arith, present)) };
       rises = tt;
     }

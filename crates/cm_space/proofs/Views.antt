@@ -12,8 +12,8 @@ use Rattle.cm_space.specs.declared.waiting.Waiting.{Waiting}
 use Rattle.cm_space.specs.Space.{SpaceState, Waits, IsKnown, arena_of, with_arena, without_arena}
 use Rattle.cm_space.specs.Space.{state_of, waits_of, waits_in}
 use Rattle.cm_space.specs.Ownership.{IsSpace}
-use Rattle.cm_space.proofs.Arenas.{Entries, Arenas, Sets, get-lookup, entries-insert, entries-remove}
-use Rattle.cm_space.proofs.Arenas.{get-inserted, insert-had}
+use Rattle.cm_space.proofs.Arenas.{Entries, Arenas, Sets, get-lookup, entries-insert}
+use Rattle.cm_space.proofs.Arenas.{entries-remove, get-inserted, insert-had}
 use Rattle.cm_space.proofs.Spaces.{KeepsOthers, changed}
 
 -- what the map has for a loader
@@ -30,53 +30,67 @@ is_some-map f None r e h = subst (λ o. IsSome o) (sym e) h
 is_some-map f (Some x) r e h = refl
 
 -- the arena of a loader was lent, and is another chain now
-pub record IsLent (s : SpaceState) (k : ℕ) (chain next : List Filled) (ws : List Waiting) (new : Entries) : Type 0 where
+pub record IsLent (s : SpaceState) (k : ℕ) (chain next : List Filled) (ws : List Waiting)
+    (new : Entries) : Type 0 where
   pub had : map.get s.arenas k ≡ Some chain
   pub arenas : map.from_entries {R = nat_cmp} new ≡ map.insert s.arenas k next
   pub waiting : waits_in ws ≡ s.waiting
 
-pub is_lent : (p : FreeSpace) (es new : Entries) (ws : List Waiting) (s : SpaceState) (k : ℕ) (chain next : List Filled)
+pub is_lent : (p : FreeSpace) (es new : Entries) (ws : List Waiting) (s : SpaceState) (k : ℕ)
+    (chain next : List Filled)
     → state_of p es ws ≡ s → found es k ≡ Some chain → Sets es new k (Some next)
     → IsLent s k chain next ws new
 is_lent p es new ws s k chain next view get sets = record {
   had = sym (view-get p es ws s k view) ∙ get;
-  arenas = entries-insert es new k next sets ∙ ap (λ (t : SpaceState). map.insert t.arenas k next) view;
+  arenas = entries-insert es new k next sets
+      ∙ ap (λ (t : SpaceState). map.insert t.arenas k next) view;
   waiting = ap (λ (t : SpaceState). t.waiting) view;
 }
 
-pub lent-before : {s : SpaceState} {k : ℕ} {chain next : List Filled} {ws : List Waiting} {new : Entries}
+pub lent-before : {s : SpaceState} {k : ℕ} {chain next : List Filled} {ws : List Waiting}
+    {new : Entries}
     → IsLent s k chain next ws new → arena_of s k ≡ chain
 lent-before {s} {k} {chain} {next} {ws} {new} h = ap (λ o. unwrap_or o []) h.had
 
-pub lent-view : {s : SpaceState} {k : ℕ} {chain next : List Filled} {ws : List Waiting} {new : Entries} (q : FreeSpace)
+pub lent-view : {s : SpaceState} {k : ℕ} {chain next : List Filled} {ws : List Waiting}
+    {new : Entries} (q : FreeSpace)
     → IsLent s k chain next ws new
     → state_of q new ws ≡ record (with_arena s k next) { pool = q }
-lent-view {s} {k} {chain} {next} {ws} {new} q h = λ i. record { pool = q; arenas = h.arenas i; waiting = h.waiting i }
+lent-view {s} {k} {chain} {next} {ws} {new} q h =
+    λ i. record { pool = q; arenas = h.arenas i; waiting = h.waiting i }
 
-pub lent-after : {s : SpaceState} {k : ℕ} {chain next : List Filled} {ws : List Waiting} {new : Entries} (q : FreeSpace)
+pub lent-after : {s : SpaceState} {k : ℕ} {chain next : List Filled} {ws : List Waiting}
+    {new : Entries} (q : FreeSpace)
     → IsLent s k chain next ws new → arena_of (state_of q new ws) k ≡ next
-lent-after {s} {k} {chain} {next} {ws} {new} q h = ap (λ m. unwrap_or (map.get m k) []) h.arenas ∙ ap
+lent-after {s} {k} {chain} {next} {ws} {new} q h =
+    ap (λ m. unwrap_or (map.get m k) []) h.arenas ∙ ap
     (λ o. unwrap_or o []) (get-inserted s.arenas k next)
 
-pub lent-others : {s : SpaceState} {k : ℕ} {chain next : List Filled} {ws : List Waiting} {new : Entries} (q : FreeSpace)
+pub lent-others : {s : SpaceState} {k : ℕ} {chain next : List Filled} {ws : List Waiting}
+    {new : Entries} (q : FreeSpace)
     → IsLent s k chain next ws new
     → state_of q new ws ≡ record (with_arena s k (arena_of (state_of q new ws) k)) { pool = q }
 lent-others {s} {k} {chain} {next} {ws} {new} q h = lent-view q h ∙ ap
     (λ (c : List Filled). record (with_arena s k c) { pool = q }) (sym (lent-after q h))
 
-pub lent-space : {s : SpaceState} {k : ℕ} {chain next : List Filled} {ws : List Waiting} {new : Entries} (q : FreeSpace)
+pub lent-space : {s : SpaceState} {k : ℕ} {chain next : List Filled} {ws : List Waiting}
+    {new : Entries} (q : FreeSpace)
     → IsLent s k chain next ws new → IsSpace s → KeepsOthers s.pool chain q next
     → IsSpace (state_of q new ws)
-lent-space {s} {k} {chain} {next} {ws} {new} q h space keeps = subst IsSpace (sym (lent-view q h)) (changed s k chain next q h.had space keeps)
+lent-space {s} {k} {chain} {next} {ws} {new} q h space keeps =
+    subst IsSpace (sym (lent-view q h)) (changed s k chain next q h.had space keeps)
 
 -- the chain is the one that it was
-pub lent-kept : {s : SpaceState} {k : ℕ} {chain next : List Filled} {ws : List Waiting} {new : Entries} (q : FreeSpace)
+pub lent-kept : {s : SpaceState} {k : ℕ} {chain next : List Filled} {ws : List Waiting}
+    {new : Entries} (q : FreeSpace)
     → IsLent s k chain next ws new → next ≡ chain → state_of q new ws ≡ record s { pool = q }
 lent-kept {s} {k} {chain} {next} {ws} {new} q h same =
     lent-view q h
-    ∙ ap (λ (m : Arenas). record s { pool = q; arenas = m }) (ap (map.insert s.arenas k) same ∙ insert-had s.arenas k chain h.had)
+    ∙ ap (λ (m : Arenas). record s { pool = q; arenas = m }) (ap (map.insert s.arenas k) same
+    ∙ insert-had s.arenas k chain h.had)
 
-pub lent-same : {s : SpaceState} {k : ℕ} {chain next : List Filled} {ws : List Waiting} {new : Entries} (q : FreeSpace)
+pub lent-same : {s : SpaceState} {k : ℕ} {chain next : List Filled} {ws : List Waiting}
+    {new : Entries} (q : FreeSpace)
     → IsLent s k chain next ws new → next ≡ chain → q ≡ s.pool → state_of q new ws ≡ s
 lent-same {s} {k} {chain} {next} {ws} {new} q h same pool = lent-kept q h same ∙ ap
     (λ (p : FreeSpace). record s { pool = p }) pool
@@ -90,7 +104,8 @@ not_known s k h =
       | Some chain ↦ λ no. absurd (no refl)
     ] h
 
-pub more : (p : FreeSpace) (es new : Entries) (ws : List Waiting) (s : SpaceState) (k : ℕ) (chain : List Filled)
+pub more : (p : FreeSpace) (es new : Entries) (ws : List Waiting) (s : SpaceState) (k : ℕ)
+    (chain : List Filled)
     → state_of p es ws ≡ s → Sets es new k (Some chain) → state_of p new ws ≡ with_arena s k chain
 more p es new ws s k chain view sets =
     let arenas = entries-insert es new k chain sets in
@@ -104,11 +119,13 @@ one_less p es new ws s k view sets =
     (λ i. record { pool = p; arenas = arenas i; waiting = waits_in ws })
     ∙ ap (λ (t : SpaceState). without_arena t k) view
 
-pub one_left : (p : FreeSpace) (es new : Entries) (ws vs : List Waiting) (s : SpaceState) (k : ℕ) (w : Waiting) (left : Waits)
+pub one_left : (p : FreeSpace) (es new : Entries) (ws vs : List Waiting) (s : SpaceState) (k : ℕ)
+    (w : Waiting) (left : Waits)
     → state_of p es ws ≡ s → Sets es new k None → vs ≡ ws ++ w ∷ [] → waits_of w ≡ left
     → state_of p new vs ≡ record (without_arena s k) { waiting = s.waiting ++ left ∷ [] }
 one_left p es new ws vs s k w left view sets pushed is =
     let waiting : waits_in vs ≡ s.waiting ++ left ∷ [] =
-    ap waits_in pushed ∙ map-append waits_of ws (w ∷ []) ∙ (λ i. ap (λ (t : SpaceState). t.waiting) view i ++ is i ∷ []) in
+    ap waits_in pushed ∙ map-append waits_of ws (w ∷ [])
+    ∙ (λ i. ap (λ (t : SpaceState). t.waiting) view i ++ is i ∷ []) in
     let rest = one_less p es new ws s k view sets in
     λ i. record { pool = (rest i).pool; arenas = (rest i).arenas; waiting = waiting i }

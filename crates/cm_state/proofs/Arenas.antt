@@ -101,7 +101,8 @@ chunk_is_of u (r ∷ classes) c m =
     by_tests : (s : Bool) → eqb r.loader u ≡ s → (t : Bool)
         → (Among c (chunks_of u classes) → IsOf u (r ∷ classes) c)
         → Among c (map (λ (d : ClassRow). d.place.chunk)
-        (cond (s && t) (r ∷ filter (λ (d : ClassRow). eqb d.loader u && eqb d.place.offset 0) classes)
+        (cond (s && t) (r ∷ filter
+        (λ (d : ClassRow). eqb d.loader u && eqb d.place.offset 0) classes)
         (filter (λ (d : ClassRow). eqb d.loader u && eqb d.place.offset 0) classes)))
         → IsOf u (r ∷ classes) c
     by_tests true e true rest (inl is) =
@@ -178,7 +179,8 @@ held_now pre r told h =
     (elim (either (on_last && behind) (front && unused) h) [
       | inl last ↦
           let t = is_last_chunk-among r.loader r.place.chunk pre (both on_last behind last).0 in
-          among_front r.place.chunk (chunks_of r.loader (classes_in pre)) (chunks_of r.loader (r ∷ []))
+          among_front r.place.chunk (chunks_of r.loader (classes_in pre))
+          (chunks_of r.loader (r ∷ []))
           (subst (λ (c : Chunk). Among c (chunks_of r.loader (classes_in pre))) t.3
           (subst (λ (u : ℕ). Among t.0.place.chunk (chunks_of u (classes_in pre))) t.2
           (told.held t.0 t.1)))
@@ -194,7 +196,8 @@ held_now pre r told h =
     by_tests false e t f = absurd (cc)
 
 -- the first record in a chunk lies apart from those before it
-first_apart : (pre : List BareRow) (r : ClassRow) → AreTold (classes_in pre) → has_place pre r ≡ true
+first_apart : (pre : List BareRow) (r : ClassRow) → AreTold (classes_in pre)
+    → has_place pre r ≡ true
     → eqb r.place.offset 0 ≡ true → (s : ClassRow) → Among s (classes_in pre)
     → ¬ Meets s.place.chunk r.place.chunk
 first_apart pre r told h first s m shared =
@@ -212,7 +215,8 @@ first_apart pre r told h first s m shared =
           let at_0 = eqb-true r.place.offset 0 first in
           let at_used = eqb-true r.place.offset (used_words r.place.chunk pre) parts.1 in
           absurd (omega (arith, some, used, at_0, at_used))
-      | inr new ↦ absurd (is_unused-apart r.place.chunk (classes_in pre) s (both front unused new).1 m
+      | inr new ↦ absurd (is_unused-apart r.place.chunk (classes_in pre) s
+          (both front unused new).1 m
           (meets-turned s.place.chunk r.place.chunk shared))
     ]
 
@@ -254,10 +258,12 @@ more_told pre r told h some = record {
     | inl before ↦
         subst (λ (cs : List Chunk). Among s.place.chunk cs)
         (sym (chunks_more s.loader (classes_in pre) r))
-        (among_front s.place.chunk (chunks_of s.loader (classes_in pre)) (chunks_of s.loader (r ∷ []))
+        (among_front s.place.chunk (chunks_of s.loader (classes_in pre))
+        (chunks_of s.loader (r ∷ []))
         (told.held s before))
     | inr e ↦
-        subst (λ (d : ClassRow). Among d.place.chunk (chunks_of d.loader (classes_in pre ++ r ∷ [])))
+        subst (λ (d : ClassRow). Among d.place.chunk
+        (chunks_of d.loader (classes_in pre ++ r ∷ [])))
         (sym e) (held_now pre r told h)
   ];
   apart = apart_now pre r told h;
@@ -290,7 +296,8 @@ arena_found classes (Loader r ∷ rows) x =
     ∙ by_test (bytes_eq r.name x) (arena_found classes rows x)
   where
     by_test : (t : Bool)
-        → get (arenas_among classes rows) x ≡ option_map (λ u. chunks_of u classes) (number_of x rows)
+        → get (arenas_among classes rows) x
+        ≡ option_map (λ u. chunks_of u classes) (number_of x rows)
         → cond t (Some (chunks_of r.number classes)) (get (arenas_among classes rows) x)
         ≡ option_map (λ u. chunks_of u classes) (cond t (Some r.number) (number_of x rows))
     by_test true rest = refl

@@ -24,7 +24,8 @@ bare_row {A} row = row_with (λ (c : A). tt {0}) row
 abbrev pub bare_entry : {A : Type 0} → Entry A → BareEntry
 bare_entry {A} e = entry_with (λ (c : A). tt {0}) e
 
-pub bare-with : {A B : Type 0} (f : A → B) (rows : List (Row A)) → bare (rows_with f rows) ≡ bare rows
+pub bare-with : {A B : Type 0} (f : A → B) (rows : List (Row A)) → bare (rows_with f rows)
+    ≡ bare rows
 bare-with f [] = refl
 bare-with f (Loader r ∷ rows) = ap (λ l. Loader r ∷ l) (bare-with f rows)
 bare-with f (Class r c ∷ rows) = ap (λ l. Class r (tt {0}) ∷ l) (bare-with f rows)
@@ -84,7 +85,8 @@ without-bare {A} u (Class r c ∷ rows) = by_test (eqb r.loader u) (without-bare
   where
     by_test : (t : Bool) → bare (without_loader u rows) ≡ without_loader u (bare rows)
         → bare (cond (not t) (Class r c ∷ without_loader u rows) (without_loader u rows))
-        ≡ cond (not t) (Class r (tt {0}) ∷ without_loader u (bare rows)) (without_loader u (bare rows))
+        ≡ cond (not t) (Class r (tt {0}) ∷ without_loader u (bare rows))
+        (without_loader u (bare rows))
     by_test true rest = rest
     by_test false rest = ap (λ l. Class r (tt {0}) ∷ l) rest
 
@@ -98,7 +100,8 @@ moved-bare {A} from to (Class r c ∷ rows) =
     by_test : (t : Bool) → bare (moved from to rows) ≡ moved from to (bare rows)
         → bare (cond t (Class (record r { place = record r.place { chunk = to } }) c) (Class r c)
         ∷ moved from to rows)
-        ≡ cond t (Class (record r { place = record r.place { chunk = to } }) (tt {0})) (Class r (tt {0}))
+        ≡ cond t (Class (record r { place = record r.place { chunk = to } }) (tt {0}))
+        (Class r (tt {0}))
         ∷ moved from to (bare rows)
     by_test true rest =
         ap (λ l. Class (record r { place = record r.place { chunk = to } }) (tt {0}) ∷ l) rest

@@ -108,7 +108,8 @@ number_among u (Class r c ∷ rows) h = number_among u rows h
 pub loader_differs : {A : Type 0} (shows : Shows A) (pre rows : List (Row A)) (r : _)
     → NamesDiffer shows pre rows → NamesDiffer shows pre (rows ++ Loader r ∷ [])
 loader_differs shows pre [] r d = tt
-loader_differs shows pre (Loader s ∷ rows) r d = loader_differs shows (pre ++ Loader s ∷ []) rows r d
+loader_differs shows pre (Loader s ∷ rows) r d =
+    loader_differs shows (pre ++ Loader s ∷ []) rows r d
 loader_differs shows pre (Class s c ∷ rows) r d =
     (d.0, loader_differs shows (pre ++ Class s c ∷ []) rows r d.1)
 
@@ -117,7 +118,8 @@ pub class_differs : {A : Type 0} (shows : Shows A) (pre rows : List (Row A)) (r 
     → class_among shows r.loader (shows.name c) (pre ++ rows) ≡ None
     → NamesDiffer shows pre (rows ++ Class r c ∷ [])
 class_differs {A} shows pre [] r c d new = (
-  subst (λ (l : List (Row A)). class_among shows r.loader (shows.name c) l ≡ None) (append-nil pre) new,
+  subst (λ (l : List (Row A)). class_among shows r.loader (shows.name c) l ≡ None)
+      (append-nil pre) new,
   tt,
 )
 class_differs {A} shows pre (Loader s ∷ rows) r c d new =
@@ -132,7 +134,8 @@ class_differs {A} shows pre (Class s k ∷ rows) r c d new = (
 )
 
 without_more : {A : Type 0} (u : ℕ) (pre : List (Row A)) (row : Row A) (t : Bool) → is_of u row ≡ t
-    → without_loader u (pre ++ row ∷ []) ≡ cond t (without_loader u pre) (without_loader u pre ++ row ∷ [])
+    → without_loader u (pre ++ row ∷ [])
+    ≡ cond t (without_loader u pre) (without_loader u pre ++ row ∷ [])
 without_more {A} u pre row t is =
     filter-append (λ (r : Row A). not (is_of u r)) pre (row ∷ []) ∙ by_test t is
   where
@@ -192,17 +195,20 @@ differ_moved {A} shows from to pre (Class r c ∷ rows) d =
     new = class_moved shows r.loader (shows.name c) from to pre ∙ d.0
 
     by_test : (t : Bool) → same_chunk r.place.chunk from ≡ t
-        → NamesDiffer shows (moved from to pre ++ moved_row from to (Class r c) ∷ []) (moved from to rows)
+        → NamesDiffer shows (moved from to pre ++ moved_row from to (Class r c) ∷ [])
+        (moved from to rows)
         → NamesDiffer shows (moved from to pre)
         (cond t (Class (record r { place = record r.place { chunk = to } }) c) (Class r c)
         ∷ moved from to rows)
     by_test true is rest = (
       new,
-      subst (λ (row : Row A). NamesDiffer shows (moved from to pre ++ row ∷ []) (moved from to rows))
+      subst (λ (row : Row A). NamesDiffer shows (moved from to pre ++ row ∷ [])
+          (moved from to rows))
           (rw is refl) rest,
     )
     by_test false is rest = (
       new,
-      subst (λ (row : Row A). NamesDiffer shows (moved from to pre ++ row ∷ []) (moved from to rows))
+      subst (λ (row : Row A). NamesDiffer shows (moved from to pre ++ row ∷ [])
+          (moved from to rows))
           (rw is refl) rest,
     )

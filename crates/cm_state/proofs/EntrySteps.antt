@@ -38,7 +38,8 @@ use Rattle.cm_state.specs.Step.{with_loader, with_class}
 use Rattle.cm_state.specs.Entries.{AreCacheRows, MayFollow}
 use Rattle.cm_state.specs.Laws.{SizesAgree, EntriesAreSteps}
 use Rattle.cm_state.proofs.RowStates.{loader_found, class_found, is_loader_found, class_in_rows}
-use Rattle.cm_state.proofs.RowStates.{state_with_loader, state_with_class, state_without, state_moved}
+use Rattle.cm_state.proofs.RowStates.{state_with_loader, state_with_class, state_without}
+use Rattle.cm_state.proofs.RowStates.{state_moved}
 use Rattle.cm_state.proofs.Sizes.{size_more_loader, size_more_class}
 use Rattle.cm_state.proofs.Bare.{bare_row, bare_entry, number-bare, name-bare, numbers-bare}
 use Rattle.cm_state.proofs.Bare.{classes-bare, slots-bare, differ-bare, more-bare, after-bare}
@@ -96,7 +97,8 @@ step_loader shows sizes m n x name more new room = rw name (rw more (rw new (rw 
 
 step_class : {A : Type 0} (shows : Shows A) (sizes : Sizes) (m : Loaders A) (n : ℕ) (x : List ℕ)
     (c : A) → is_loader_name x ≡ true → eqb n last_number ≡ false → is_some (get m x) ≡ true
-    → is_some (class_in m x (shows.name c)) ≡ false → nat_lt (chunk_size sizes.top) (shows.words c) ≡ false
+    → is_some (class_in m x (shows.name c)) ≡ false
+    → nat_lt (chunk_size sizes.top) (shows.words c) ≡ false
     → is_full sizes m ≡ false
     → step shows sizes m n (Define x c) ≡ Ok (with_class shows m x c)
 step_class shows sizes m n x c name more there new short room =
@@ -155,14 +157,17 @@ class_may {A} sizes rows r c h =
     let small = nat_le r.place.chunk.order sizes.top in
     let root = nat_lt r.place.chunk.root sizes.roots in
     let aligned = eqb (r.place.chunk.at % chunk_size r.place.chunk.order) 0 in
-    let inside = nat_le (r.place.chunk.at + chunk_size r.place.chunk.order) (chunk_size sizes.top) in
+    let inside =
+    nat_le (r.place.chunk.at + chunk_size r.place.chunk.order) (chunk_size sizes.top) in
     let last = both (small && root && aligned) inside (both chunk words front.0).0 in
     record {
       live = on_rows.0;
       room = leb-true (slots_of_rows rows + 1) (row_limit sizes) on_rows.1;
       short =
-          let a = leb-true (r.place.offset + r.place.words) (chunk_size r.place.chunk.order) front.1 in
-          let b = leb-true (r.place.chunk.at + chunk_size r.place.chunk.order) (chunk_size sizes.top)
+          let a = leb-true (r.place.offset + r.place.words)
+          (chunk_size r.place.chunk.order) front.1 in
+          let b = leb-true (r.place.chunk.at + chunk_size r.place.chunk.order)
+          (chunk_size sizes.top)
           last.1 in
           omega (arith, a, b);
     }
@@ -289,7 +294,8 @@ sizes_from {A} grow own shows sizes n pre (Loader r ∷ rows) before live differ
     let next = sizes_from grow own shows sizes n (pre ++ Loader r ∷ []) rows
     (subst (λ l. LiveRowsKeep sizes n [] l) (sym (more-bare pre (Loader r)))
     (grow sizes n (bare pre) (Loader r) before live.0 live.1))
-    (subst (λ l. LiveRowsKeep sizes n l (bare rows)) (sym (more-bare pre (Loader r))) live.2) differ in
+    (subst (λ l. LiveRowsKeep sizes n l (bare rows)) (sym (more-bare pre (Loader r))) live.2)
+    differ in
     (λ i. size (state_of shows (sym (append_assoc pre (Loader r ∷ []) rows) i)))
     ∙ omega (arith, next, one)
 sizes_from {A} grow own shows sizes n pre (Class r c ∷ rows) before live differ =
@@ -304,7 +310,8 @@ sizes_from {A} grow own shows sizes n pre (Class r c ∷ rows) before live diffe
     let next = sizes_from grow own shows sizes n (pre ++ Class r c ∷ []) rows
     (subst (λ l. LiveRowsKeep sizes n [] l) (sym (more-bare pre (Class r c)))
     (grow sizes n (bare pre) (Class r (tt {0})) before live.0 live.1))
-    (subst (λ l. LiveRowsKeep sizes n l (bare rows)) (sym (more-bare pre (Class r c))) live.2) differ.1 in
+    (subst (λ l. LiveRowsKeep sizes n l (bare rows)) (sym (more-bare pre (Class r c))) live.2)
+    differ.1 in
     (λ i. size (state_of shows (sym (append_assoc pre (Class r c ∷ []) rows) i)))
     ∙ omega (arith, next, one)
 
@@ -399,7 +406,8 @@ next_rows {A} stay shows sizes n rows e are may differ =
       differ = differ;
     }
 
-pub entries_are_steps : {A : Type 0} → EntriesStayLive → RowsGrow → LoadersAreOwn → EntriesAreSteps A
+pub entries_are_steps : {A : Type 0} → EntriesStayLive → RowsGrow → LoadersAreOwn
+    → EntriesAreSteps A
 entries_are_steps {A} stay grow own shows sizes n rows (entry.Live (Loader r)) are may small =
     let mine = own-bare n rows (own sizes n (bare rows) are.live) in
     let parts = both (eqb r.number (n + 1)) (is_new_loader sizes rows r)
@@ -432,7 +440,8 @@ entries_are_steps {A} stay grow own shows sizes n rows (entry.Live (Class r c)) 
       next = step_class shows sizes (state_of shows rows) n x c (mine.named r.loader x named.1)
           (not_last n small) (loader_there shows rows x r.loader there)
           (class_absent shows rows x r.loader (shows.name c) there may.new.0)
-          (not_lt (chunk_size sizes.top) (shows.words c) (omega (arith, this.short, may.new.1))) room
+          (not_lt (chunk_size sizes.top) (shows.words c) (omega (arith, this.short, may.new.1)))
+          room
           ∙ ap Ok (sym (grown_class shows n rows mine r c x named.1 may.new.0));
       rows_are = next_rows stay shows sizes n rows (entry.Live (Class r c)) are may
           (class_differs shows [] rows r c are.differ may.new.0);

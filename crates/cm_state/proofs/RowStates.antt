@@ -33,7 +33,8 @@ class_found {A} shows u (Class r c ∷ rows) name =
   where
     by_test : (t : Bool)
         → get (classes_of shows u rows) name ≡ class_among shows u name rows
-        → get (cond t (insert (classes_of shows u rows) (shows.name c) c) (classes_of shows u rows)) name
+        → get (cond t (insert (classes_of shows u rows) (shows.name c) c) (classes_of shows u rows))
+        name
         ≡ cond (t && bytes_eq (shows.name c) name) (Some c) (class_among shows u name rows)
     by_test true rest =
         got-insert (classes_of shows u rows) (shows.name c) c name
@@ -233,7 +234,8 @@ class_joins {A} shows rows r c new =
     ∙ (ap (λ t. or_else (class_among shows r.loader name rows)
     (cond (t && bytes_eq (shows.name c) name) (Some c) None)) (eq-eqb r.loader r.loader refl)
     ∙ (by_name name (bytes_eq (shows.name c) name) refl
-    ∙ (ap (cond (bytes_eq (shows.name c) name) (Some c)) (sym (class_found shows r.loader rows name))
+    ∙ (ap (cond (bytes_eq (shows.name c) name) (Some c))
+    (sym (class_found shows r.loader rows name))
     ∙ sym (got-insert (classes_of shows r.loader rows) (shows.name c) c name))))))
   where
     by_name : (name : List ℕ) (t : Bool) → bytes_eq (shows.name c) name ≡ t
@@ -255,7 +257,8 @@ other_number rows x y u v only there differ = by_test (eqb u v) refl
   where
     by_test : (t : Bool) → eqb u v ≡ t → t ≡ false
     by_test true e =
-        let here = only y (subst (λ (w : ℕ). number_of y rows ≡ Some w) (sym (eqb-true u v e)) there) in
+        let here =
+        only y (subst (λ (w : ℕ). number_of y rows ≡ Some w) (sym (eqb-true u v e)) there) in
         let yes : bytes_eq x y ≡ true = (bytes_decides x y).1 (sym here) in
         absurd (cc)
     by_test false e = refl
@@ -314,14 +317,16 @@ number_still {A} x u (Loader r ∷ rows) e =
     by_tests : (s : Bool) → bytes_eq r.name x ≡ s → (t : Bool)
         → (number_of x rows ≡ None → number_of x (without_loader u rows) ≡ None)
         → cond s (Some r.number) (number_of x rows) ≡ None
-        → number_of x (cond (not t) (Loader r ∷ without_loader u rows) (without_loader u rows)) ≡ None
+        → number_of x (cond (not t) (Loader r ∷ without_loader u rows) (without_loader u rows))
+        ≡ None
     by_tests true is t rest h = absurd (cc)
     by_tests false is true rest h = rest h
     by_tests false is false rest h = rw is (rest h)
 number_still {A} x u (Class r c ∷ rows) e = by_test (eqb r.loader u) (number_still x u rows e)
   where
     by_test : (t : Bool) → number_of x (without_loader u rows) ≡ None
-        → number_of x (cond (not t) (Class r c ∷ without_loader u rows) (without_loader u rows)) ≡ None
+        → number_of x (cond (not t) (Class r c ∷ without_loader u rows) (without_loader u rows))
+        ≡ None
     by_test true rest = rest
     by_test false rest = rest
 
@@ -447,7 +452,8 @@ state_without {A} shows rows u x there only differ =
     by_name y true is =
         ap (λ o. option_map (λ v. classes_of shows v (without_loader u rows)) (unless u o))
         (subst (λ (z : List ℕ). number_of z rows ≡ Some u) ((bytes_decides x y).0 is) there)
-        ∙ ap (λ t. option_map (λ v. classes_of shows v (without_loader u rows)) (cond t None (Some u)))
+        ∙ ap (λ t. option_map (λ v. classes_of shows v (without_loader u rows))
+        (cond t None (Some u)))
         (eq-eqb u u refl)
     by_name y false is = by_number y is (number_of y rows) refl
 
@@ -462,7 +468,8 @@ number_moved {A} x from to (Class r c ∷ rows) =
     by_test (same_chunk r.place.chunk from) (number_moved x from to rows)
   where
     by_test : (t : Bool) → number_of x (moved from to rows) ≡ number_of x rows
-        → number_of x (cond t (Class (record r { place = record r.place { chunk = to } }) c) (Class r c)
+        → number_of x (cond t (Class (record r { place = record r.place { chunk = to } }) c)
+        (Class r c)
         ∷ moved from to rows) ≡ number_of x rows
     by_test true rest = rest
     by_test false rest = rest

@@ -34,7 +34,8 @@ total_put k v [] sorted = omega arith
 total_put {A} k v (e ∷ es) sorted =
     by_place (slice_cmp nat_cmp k e.0)
     (length-put (slice_cmp nat_cmp) nat_list_cmp_total k v (e ∷ es) sorted)
-    (total_put k v es (second (below_all (slice_cmp nat_cmp) e.0 es) (is_sorted (slice_cmp nat_cmp) es) sorted))
+    (total_put k v es (second (below_all (slice_cmp nat_cmp) e.0 es)
+    (is_sorted (slice_cmp nat_cmp) es) sorted))
   where
     by_place : (o : Ordering)
         → length (by_order o ((k, v) ∷ e ∷ es) ((e.0, v) ∷ es) (e ∷ put (slice_cmp nat_cmp) k v es))

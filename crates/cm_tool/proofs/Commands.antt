@@ -128,9 +128,11 @@ module _ (one : LayIsOne) (sizes : Sizes) (loader digits bytes words name : List
 
 -- a record's words tell the name of its class
 abbrev pub TellName : Type 0
-TellName = (c : ClassFile) (words : List ℕ) → IsRecordOf c words → class_name_in words ≡ class_name_of c
+TellName =
+    (c : ClassFile) (words : List ℕ) → IsRecordOf c words → class_name_in words ≡ class_name_of c
 
-pub class_named : (bytes words : List ℕ) (c : ClassFile) → TellName → IsRight bytes c → words ≡ lay c
+pub class_named : (bytes words : List ℕ) (c : ClassFile) → TellName → IsRight bytes c
+    → words ≡ lay c
     → length (lay c) ≤ limit → class_name_in words ≡ class_name_of c
 class_named bytes words c tell right laid short =
     tell c words (record {
@@ -273,7 +275,8 @@ module _ {D : Type 0} (moment : D → ℕ) (left_since : D → ℕ → List ℕ 
       → (MakesNoCall stored → new.committer ≡ old.committer) → Tells told stored result
       → LedTo (Replies old.committer.sizes question result (served k before)) now
       (MayGoOn moment left_since k old new)
-  command_replies question told k asked before now old new stored result ready fits s fails same none
+  command_replies question told k asked before now old new stored result ready fits s
+      fails same none
       says =
       record {
         next = s.leads.next;
@@ -319,7 +322,8 @@ replies_found sizes loader word name words k failures (Ok reply) ready spelled f
       finds_class sizes loader word name words c k failures spelled finds laid.1,
       record { rest = ready.rest; works = λ sure. ready.works },
     )
-replies_found sizes loader word name words k failures (Err e) ready spelled finds says laid = inl refl
+replies_found sizes loader word name words k failures (Err e) ready spelled finds says laid =
+    inl refl
 
 pub answers_bad_name : (sizes : Sizes) (loader word : List ℕ) (old : Served)
     → unescaped word ≡ None

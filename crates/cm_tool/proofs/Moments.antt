@@ -1,6 +1,6 @@
 -- What a crash leaves on the way through a line.
-use Rattle.std.proofs.Common.{◌≡◌, ◌≤◌, ◌⊎◌, ℕ, Bool, true, List, Result, Ok, Err, inl, inr, refl, sym}
-use Rattle.std.proofs.Common.{◌∙◌, ap, subst, arith}
+use Rattle.std.proofs.Common.{◌≡◌, ◌≤◌, ◌⊎◌, ℕ, Bool, true, List, Result, Ok, Err, inl, inr, refl}
+use Rattle.std.proofs.Common.{sym, ◌∙◌, ap, subst, arith}
 use Rattle.cm_class.specs.declared.class_file.ClassFile.{ClassFile}
 use Rattle.cm_pool.specs.Geometry.{Sizes}
 use Rattle.cm_disk.specs.Disk.{Unsynced, IsImage}
@@ -76,7 +76,8 @@ module _ {D : Type 0} (moment : D → ℕ) (left_since : D → ℕ → List ℕ 
         let same = handed_ack number handed h in
         leaves_more moment left_since old.committer.disk new.committer.disk
         (StandsForSome sizes handed) (StandsBetween sizes k next)
-        (λ image s. more image (between_some sizes k handed image (omega (arith, same)) s)) h.moments
+        (λ image s. more image (between_some sizes k handed image (omega (arith, same)) s))
+        h.moments
 
     pub stored_goes_on : (stored : Result ℕ NotStored) → Stores sizes k change Leaves stored next
         → (MakesNoCall stored → new.committer ≡ old.committer)
@@ -141,7 +142,10 @@ module _ {D : Type 0} (moment : D → ℕ) (left_since : D → ℕ → List ℕ 
           (StandsBetween sizes k next)) same
           (leaves_none moment left_since contents unsynced only_now new.committer.disk
           (StandsBetween sizes k next)
-          (record { each = λ image is. between_some sizes k next image g.no_less (images.each image is) }))
+          (record {
+            each = λ image is. between_some sizes k next image g.no_less
+                (images.each image is);
+          }))
       by (inr leaves) = leaves
 
   -- between two lines

@@ -116,11 +116,13 @@ truncated : (refusal_reply (refusal.BadClass bad.Truncated)).text ≡ codes "ref
 unfolding digits
 truncated = refl
 
-trailing_53 : (refusal_reply (refusal.BadClass (bad.Trailing 53))).text ≡ codes "refused 14 trailing 53"
+trailing_53 : (refusal_reply (refusal.BadClass (bad.Trailing 53))).text
+    ≡ codes "refused 14 trailing 53"
 unfolding digits
 trailing_53 = refl
 
-malformed_5 : (refusal_reply (refusal.BadClass (bad.Malformed 5))).text ≡ codes "refused 14 malformed 5"
+malformed_5 : (refusal_reply (refusal.BadClass (bad.Malformed 5))).text
+    ≡ codes "refused 14 malformed 5"
 unfolding digits
 malformed_5 = refl
 

@@ -211,7 +211,8 @@ module _ {D : Type 0} (Leaves : D → D → (List ℕ → Type 0) → Type 0) (s
         lines = so.lines ++ turned.line ∷ [];
         replies = so.replies ++ given ∷ [];
         taken = taken_now;
-        answered = answered_more Leaves sizes so.lines so.replies s t u turned.line given so.answered
+        answered =
+            answered_more Leaves sizes so.lines so.replies s t u turned.line given so.answered
             runs fine;
         written = written_more h k m so.replies given so.written turned.written;
         refused = refused_now;
@@ -330,7 +331,11 @@ module _ {D : Type 0} (Leaves : D → D → (List ℕ → Type 0) → Type 0) (s
 -- a cache that was just opened
 pub ready_from : (base : Base) → IsReady (machine_from base)
 ready_from base = record {
-  rest = record { noticed = refl; sealed = λ works. omega (arith); stored = λ works. omega (arith) };
+  rest = record {
+    noticed = refl;
+    sealed = λ works. omega (arith);
+    stored = λ works. omega (arith);
+  };
   works = refl;
 }
 
@@ -488,7 +493,8 @@ module _ {D : Type 0} (sizes : Sizes) (a b h : Option (List ℕ)) (old : Served)
     (says : (line : List ℕ) → Holds line buffer → option_map seen question ≡ asked_by line) where
   pub line_unmade : {E : Type 0} (x : E)
       → LedTo (Replies {E = E} sizes (option_map seen question) (Err x) old) now Goes
-      → LedTo (λ s. Turns sizes b (io a h h) (Err fault.NoMemory) (pause old d) (pause s e)) now Goes
+      → LedTo (λ s. Turns sizes b (io a h h) (Err fault.NoMemory) (pause old d) (pause s e)) now
+      Goes
   line_unmade x led = record {
     next = led.next;
     does = unmade sizes a b h old (served led.next now) read.0 x read.1
@@ -499,7 +505,8 @@ module _ {D : Type 0} (sizes : Sizes) (a b h : Option (List ℕ)) (old : Served)
   pub line_answered : (E : Type 0) (m : Option (List ℕ)) (reply : Reply)
       → LedTo (Replies {E = E} sizes (option_map seen question) (Ok reply) old) now Goes
       → Appends h m reply.line.items
-      → LedTo (λ s. Turns sizes b (io a h m) (Ok (Some reply.kind)) (pause old d) (pause s e)) now Goes
+      → LedTo (λ s. Turns sizes b (io a h m) (Ok (Some reply.kind)) (pause old d) (pause s e)) now
+      Goes
   line_answered E m reply led written =
       let r = asked_line {E = E} sizes a b buffer question (Ok reply) old (served led.next now) read
       says led.does in

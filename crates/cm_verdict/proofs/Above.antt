@@ -1,6 +1,6 @@
 -- Numbers of commands are above those of all loaders that live.
-use Rattle.std.proofs.Common.{◌≡◌, ℕ, ◌+◌, ◌<◌, ◌≤◌, Bool, true, false, cond, List, [], ◌∷◌, ◌++◌, Some}
-use Rattle.std.proofs.Common.{None, refl, arith}
+use Rattle.std.proofs.Common.{◌≡◌, ℕ, ◌+◌, ◌<◌, ◌≤◌, Bool, true, false, cond, List, [], ◌∷◌, ◌++◌}
+use Rattle.std.proofs.Common.{Some, None, refl, arith}
 use Rattle.std.specs.Prelude.{◌&&◌, nat_lt, nat_le, not, ◌==◌}
 use Rattle.std.specs.List.{list_all}
 use Rattle.std.proofs.lemmas.Bool.{and_parts, and_from, ltb-true, lt-ltb, leb-true, eqb-true}
@@ -73,7 +73,8 @@ below_moved {P} n from to (Class r c ∷ rows) b =
     by_test (same_chunk r.place.chunk from) (below_moved n from to rows b)
   where
     by_test : (t : Bool) → AreBelow n (moved from to rows)
-        → AreBelow n (cond t (Class (record r { place = record r.place { chunk = to } }) c) (Class r c)
+        → AreBelow n (cond t (Class (record r { place = record r.place { chunk = to } }) c)
+        (Class r c)
         ∷ moved from to rows)
     by_test true rest = rest
     by_test false rest = rest

@@ -4,8 +4,8 @@ use Rattle.std.proofs.Common.{◌++◌, length, take, drop, get_or, Ok, Err, ref
 use Rattle.std.proofs.Common.{ap, subst, ◌∙◌, arith, length-drop}
 use Rattle.std.specs.Prelude.{Result}
 use Rattle.std.specs.List.{flat_map}
-use Rattle.std.proofs.lemmas.List.{get_or-drop, get_or-take, length-append, take-take, take_at, drop_at}
-use Rattle.std.proofs.lemmas.List.{take-append-drop}
+use Rattle.std.proofs.lemmas.List.{get_or-drop, get_or-take, length-append, take-take, take_at}
+use Rattle.std.proofs.lemmas.List.{drop_at, take-append-drop}
 use Rattle.cm_pool.specs.Geometry.{Sizes}
 use Rattle.cm_layout.specs.declared.half.Half.TheVariants.{Zero, One}
 use Rattle.cm_layout.specs.declared.row.Row.{Row}
@@ -25,14 +25,15 @@ use Rattle.cm_verdict.specs.Faults.{◌>>=◌}
 use Rattle.cm_verdict.specs.Walk.{Walked, slot_of, start, first_slot}
 use Rattle.cm_verdict.specs.Found.{counting, counting_half, Found, half_in, head_in}
 use Rattle.cm_verdict.specs.Found.{found_walked, walk_through, sizes_found, found_in}
-use Rattle.cm_verdict.specs.Laws.{rows_words, AreWhole, IsLive, FoundIsLive, IsFramed, FoundIsFramed}
-use Rattle.cm_verdict.specs.Laws.{IsFound, FramedIsFound}
-use Rattle.cm_verdict.proofs.Walks.{end_from, from_slot, next_from, slots_one, HasGroups, HasLive, live_walked}
+use Rattle.cm_verdict.specs.Laws.{rows_words, AreWhole, IsLive, FoundIsLive, IsFramed}
+use Rattle.cm_verdict.specs.Laws.{FoundIsFramed, IsFound, FramedIsFound}
+use Rattle.cm_verdict.proofs.Walks.{end_from, from_slot, next_from, slots_one, HasGroups, HasLive}
+use Rattle.cm_verdict.proofs.Walks.{live_walked}
 use Rattle.cm_verdict.proofs.WalksBack.{Reaches, live_found}
 use Rattle.cm_verdict.proofs.Heads.{IsCounting, counted, counting_back}
-use Rattle.cm_verdict.proofs.Parts.{Begins, begun_with, begins_so, half_within, part_long, first_shut}
-use Rattle.cm_verdict.proofs.Parts.{has_older, older_head, used_split, bare_words, each_held}
-use Rattle.cm_verdict.proofs.Parts.{needs_long, SameWords, same_words}
+use Rattle.cm_verdict.proofs.Parts.{Begins, begun_with, begins_so, half_within, part_long}
+use Rattle.cm_verdict.proofs.Parts.{first_shut, has_older, older_head, used_split, bare_words}
+use Rattle.cm_verdict.proofs.Parts.{each_held, needs_long, SameWords, same_words}
 
 -- ---- groups alone
 
@@ -57,7 +58,8 @@ whole_groups sizes half slot rows number e g =
     ∙ omega arith in
     record {
       keep = subst (λ (n : ℕ). GroupsKeep sizes rows n g.groups) same
-          (subst (λ (l : List BareEntry). GroupsKeep sizes (rows_after_all rows l) g.middle g.groups)
+          (subst (λ (l : List BareEntry). GroupsKeep sizes (rows_after_all rows l)
+          g.middle g.groups)
           none g.groups_keep);
       bytes = g.bytes
           ∙ (λ i. flat_map entry_slot (none i)
@@ -100,7 +102,8 @@ module _ (apart : RowsAreApart) (contents : List ℕ) (sizes : Sizes) (c : Count
       (omega (arith, b.lawful.slots_from))
       (omega (arith, b.lawful.slots_from, k.good.live)) refl walked
 
-  groups : HasWholeGroups half found_live.middle found_live.live c.head.base w found_live.groups.groups sizes
+  groups : HasWholeGroups half found_live.middle found_live.live c.head.base w
+      found_live.groups.groups sizes
   groups = whole_groups sizes half found_live.middle found_live.live c.head.base w found_live.groups
 
   abbrev framing : Framing
@@ -234,7 +237,8 @@ found_same f g e = cc
 pub found_is_live : RowsAreApart → RowsStayLive → FoundIsLive
 unfolding found_in
 found_is_live apart stay contents f e =
-    bound (sizes_found (length contents) (take superblock_size contents)) _ f e (λ sizes spelled rest.
+    bound (sizes_found (length contents) (take superblock_size contents)) _ f e
+    (λ sizes spelled rest.
     bound (counting_half sizes (head_in sizes contents Zero) (head_in sizes contents One)) _ f rest
     (λ c counts walks.
     bound (walk_through sizes c (half_in sizes contents c.half)) _ f walks (λ w walked last.
@@ -246,7 +250,8 @@ found_is_live apart stay contents f e =
 pub found_is_framed : RowsAreApart → MatchesFrame → FoundIsFramed
 unfolding found_in
 found_is_framed apart matches_frame contents f e whole =
-    bound (sizes_found (length contents) (take superblock_size contents)) _ f e (λ sizes spelled rest.
+    bound (sizes_found (length contents) (take superblock_size contents)) _ f e
+    (λ sizes spelled rest.
     bound (counting_half sizes (head_in sizes contents Zero) (head_in sizes contents One)) _ f rest
     (λ c counts walks.
     bound (walk_through sizes c (half_in sizes contents c.half)) _ f walks (λ w walked last.
@@ -328,7 +333,8 @@ module _ (contents : List ℕ) (sizes : Sizes) (rows : List (Row (List ℕ))) (n
       omega (arith, some, length-drop (used_size fr) whole_half, whole_long) in
       let byte : get_or rest 0 0 ≡ get_or contents (at + used_size fr) 0 =
       get_or-drop (used_size fr) whole_half 0 0
-      ∙ (get_or-take (half_size sizes) (drop at contents) (used_size fr + 0) 0 (omega (arith, goes_on))
+      ∙ (get_or-take (half_size sizes) (drop at contents) (used_size fr + 0) 0
+      (omega (arith, goes_on))
       ∙ (get_or-drop at contents (used_size fr + 0) 0
       ∙ ap (λ (i : ℕ). get_or contents i 0) (omega arith))) in
       m.end goes_on (sym byte ∙ gate))

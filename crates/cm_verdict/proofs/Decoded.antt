@@ -23,15 +23,15 @@ use Rattle.cm_layout.specs.declared.row.Row.TheVariants.{Loader, Class}
 use Rattle.cm_layout.specs.declared.entry.Entry.TheVariants as entry
 use Rattle.cm_layout.specs.Slots.{half_head_slot, group_head_slot, loader_slot, class_slot}
 use Rattle.cm_layout.specs.Slots.{unload_slot, move_slot, row_slot, entry_slot, FitsHalfHead}
-use Rattle.cm_layout.specs.Slots.{FitsGroupHead, FitsLoader, FitsClass, FitsUnload, FitsMove, FitsRow}
-use Rattle.cm_layout.specs.Slots.{FitsEntry, FitsChunk}
+use Rattle.cm_layout.specs.Slots.{FitsGroupHead, FitsLoader, FitsClass, FitsUnload, FitsMove}
+use Rattle.cm_layout.specs.Slots.{FitsRow, FitsEntry, FitsChunk}
 use Rattle.cm_layout.specs.Superblock.{superblock_bytes}
 use Rattle.cm_layout.specs.Frames.{BareRow, BareEntry}
 use Rattle.cm_verdict.specs.Decoding.{two_at, four_at, eight_at, if_spelled, half_head_at}
-use Rattle.cm_verdict.specs.Decoding.{half_head_in, group_head_at, group_head_in, name_size, loader_at}
-use Rattle.cm_verdict.specs.Decoding.{loader_in, class_at, class_in, chunk_at, unload_at, unload_in}
-use Rattle.cm_verdict.specs.Decoding.{move_at, move_in, kind_at, row_in, entry_in, sizes_at}
-use Rattle.cm_verdict.specs.Decoding.{is_lawful, sizes_in}
+use Rattle.cm_verdict.specs.Decoding.{half_head_in, group_head_at, group_head_in, name_size}
+use Rattle.cm_verdict.specs.Decoding.{loader_at, loader_in, class_at, class_in, chunk_at, unload_at}
+use Rattle.cm_verdict.specs.Decoding.{unload_in, move_at, move_in, kind_at, row_in, entry_in}
+use Rattle.cm_verdict.specs.Decoding.{sizes_at, is_lawful, sizes_in}
 
 -- ---- encodings
 

@@ -1,8 +1,8 @@
 -- The parts of a file: its superblock, its halves, and the records of rows.
-use Rattle.std.proofs.Common.{◌≡◌, ◌≢◌, ℕ, zero, suc, ◌+◌, ◌*◌, ◌<◌, ◌≤◌, Bool, true, false, cond, List, []}
-use Rattle.std.proofs.Common.{◌∷◌, ◌++◌, length, take, drop, get_or, Option, Some, None, Ok, Err, refl}
-use Rattle.std.proofs.Common.{sym, ap, subst, ◌∙◌, arith, append_assoc, drop-drop, length-drop}
-use Rattle.std.proofs.Common.{length-take}
+use Rattle.std.proofs.Common.{◌≡◌, ◌≢◌, ℕ, zero, suc, ◌+◌, ◌*◌, ◌<◌, ◌≤◌, Bool, true, false, cond}
+use Rattle.std.proofs.Common.{List, [], ◌∷◌, ◌++◌, length, take, drop, get_or, Option, Some, None}
+use Rattle.std.proofs.Common.{Ok, Err, refl, sym, ap, subst, ◌∙◌, arith, append_assoc, drop-drop}
+use Rattle.std.proofs.Common.{length-drop, length-take}
 use Rattle.std.specs.Prelude.{Result, nat_le, ◌==◌}
 use Rattle.std.specs.List.{flat_map, AllByRecursion}
 use Rattle.std.specs.Str.{bytes_eq}
@@ -97,7 +97,8 @@ begins_so long block sizes b =
     (bytes_eq-Decides (take 8 block) magic).1 (ap (take 8) b.block_is) in
     let gate : (get_or block 4095 0 == 165) ≡ true =
     eq-eqb (get_or block 4095 0) 165 (ap (λ (l : List ℕ). get_or l 4095 0) b.block_is
-    ∙ gate_at (superblock_front sizes) (blank superblock_zeros) refl (length-blank superblock_zeros)) in
+    ∙ gate_at (superblock_front sizes) (blank superblock_zeros) refl
+    (length-blank superblock_zeros)) in
     let cache : is_cache long block ≡ true =
     and_from _ _ (and_from _ _ (le-leb 4096 long enough) front) gate in
     let there : sizes_in block ≡ Some sizes =
@@ -106,7 +107,8 @@ begins_so long block sizes b =
 
 -- ---- parts
 
-pub half_within : (sizes : Sizes) (half : Half) → half_at sizes half + half_size sizes ≤ roots_at sizes
+pub half_within : (sizes : Sizes) (half : Half) → half_at sizes half + half_size sizes
+    ≤ roots_at sizes
 half_within sizes Zero = omega arith
 half_within sizes One = omega arith
 
@@ -167,7 +169,8 @@ packed_count zero bytes = refl
 packed_count (suc n) bytes = let rest = packed_count n (drop 8 bytes) in omega (arith, rest)
 
 record_part : (sizes : Sizes) (r : ClassRow) (contents : List ℕ)
-    → take (8 * r.place.words) (drop (record_in_roots sizes r.place) (drop (roots_at sizes) contents))
+    → take (8 * r.place.words)
+    (drop (record_in_roots sizes r.place) (drop (roots_at sizes) contents))
     ≡ part (record_at sizes r.place) (8 * r.place.words) contents
 record_part sizes r contents =
     ap (take (8 * r.place.words))
@@ -175,12 +178,14 @@ record_part sizes r contents =
 
 pub each_held : (sizes : Sizes) (contents : List ℕ) (rows : List (Row DefinedAt))
     → AreWhole sizes (length contents) rows
-    → AllByRecursion (HoldsRow sizes (drop (roots_at sizes) contents)) (rows_words sizes contents rows)
+    → AllByRecursion (HoldsRow sizes (drop (roots_at sizes) contents))
+    (rows_words sizes contents rows)
 each_held sizes contents [] whole = tt
 each_held sizes contents (Loader r ∷ rows) whole = (tt, each_held sizes contents rows whole)
 each_held sizes contents (Class r at ∷ rows) whole = (
   record {
-    count = packed_count r.place.words (part (record_at sizes r.place) (8 * r.place.words) contents);
+    count = packed_count r.place.words
+        (part (record_at sizes r.place) (8 * r.place.words) contents);
     whole = omega (arith, whole.0, length-drop (roots_at sizes) contents);
     held = ap (packed_into r.place.words) (record_part sizes r contents);
   },

@@ -1,8 +1,8 @@
 -- The second pass: each class that lives has a record of a class that keeps the rules, under a name
 -- that is new in its loader.
 use Rattle.std.proofs.Common.{◌≡◌, ℕ, ◌+◌, ◌<◌, ◌≤◌, ◌^◌, Bool, true, false, cond, List, [], ◌∷◌}
-use Rattle.std.proofs.Common.{◌++◌, length, get_or, Option, Some, None, Ok, Err, refl, sym, ap, subst}
-use Rattle.std.proofs.Common.{◌∙◌, arith, is_none, append_assoc, append-nil}
+use Rattle.std.proofs.Common.{◌++◌, length, get_or, Option, Some, None, Ok, Err, refl, sym, ap}
+use Rattle.std.proofs.Common.{subst, ◌∙◌, arith, is_none, append_assoc, append-nil}
 use Rattle.std.specs.Prelude.{Result, nat_lt}
 use Rattle.std.specs.Option.{option_and_then}
 use Rattle.std.proofs.lemmas.Bool.{and_parts, and_from, leb-true, le-leb, ltb-true, lt-ltb}
@@ -72,7 +72,8 @@ is_kept words c = by_words (are_words words) refl
         → option_and_then if_kept o ≡ Some c → IsKept words c
     by_class None there small e = absurd (cc)
     by_class (Some d) there small e =
-        let both = and_parts (nat_lt (get_or words 1 0) (2 ^ 64)) (nat_lt (get_or words 2 0) (2 ^ 64))
+        let both =
+        and_parts (nat_lt (get_or words 1 0) (2 ^ 64)) (nat_lt (get_or words 2 0) (2 ^ 64))
         small in
         kept words c d (ltb-true (get_or words 1 0) (2 ^ 64) both.0)
         (ltb-true (get_or words 2 0) (2 ^ 64) both.1) there e
@@ -256,7 +257,8 @@ all_pass sizes contents before (Class q at ∷ rows) (Class r c ∷ classes) p =
     passes sizes contents before q c (record {
       whole = p.whole.0;
       kept = record { keeps = p.keep.0; laid = sym laid };
-      new = subst (λ (l : ClassRow). class_among class_shows l.loader (class_shows.name c) before ≡ None)
+      new = subst (λ (l : ClassRow). class_among class_shows l.loader (class_shows.name c) before
+          ≡ None)
           same p.differ.0;
     }) in
     let rest = all_pass sizes contents (before ++ Class q c ∷ []) rows classes (record {
@@ -266,7 +268,8 @@ all_pass sizes contents before (Class q at ∷ rows) (Class r c ∷ classes) p =
           same p.differ.1;
       whole = p.whole.1;
     }) in
-    ap (λ t. at_slot at.slot t >>= λ d. classes_found sizes contents (before ++ Class q d ∷ []) rows) one
+    ap (λ t. at_slot at.slot t >>= λ d.
+    classes_found sizes contents (before ++ Class q d ∷ []) rows) one
     ∙ (rest ∙ ap rows_ok (append_assoc before (Class q c ∷ []) classes
     ∙ (λ i. before ++ Class (sym same i) c ∷ classes)))
 all_pass sizes contents before (Loader q ∷ rows) (Class r c ∷ classes) p =

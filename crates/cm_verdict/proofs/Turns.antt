@@ -2,8 +2,8 @@
 use Rattle.std.proofs.Common.{◌≡◌, ◌≢◌, ℕ, ◌+◌, ◌-◌, ◌≤◌, ◌^◌, Bool, true, false, cond, List, ◌++◌}
 use Rattle.std.proofs.Common.{◌∷◌, [], Option, Some, None, refl, sym, ap, ◌∙◌, arith}
 use Rattle.std.specs.Prelude.{◌&&◌, nat_le, ◌==◌}
-use Rattle.std.proofs.lemmas.Bool.{and_parts, and_from, leb-true, le-leb, eqb-true, eqb-false, eq-eqb}
-use Rattle.std.proofs.lemmas.Bool.{ne_eqb}
+use Rattle.std.proofs.lemmas.Bool.{and_parts, and_from, leb-true, le-leb, eqb-true, eqb-false}
+use Rattle.std.proofs.lemmas.Bool.{eq-eqb, ne_eqb}
 use Rattle.cm_pool.specs.Geometry.{Sizes}
 use Rattle.cm_layout.specs.declared.heads.GroupHead.{GroupHead}
 use Rattle.cm_layout.specs.declared.entry_rule.EntryRule.{EntryRule}
@@ -15,8 +15,8 @@ use Rattle.cm_layout.specs.Frames.{BareRow, BareEntry}
 use Rattle.cm_verdict.specs.declared.fault.Damage.TheVariants as damage
 use Rattle.cm_verdict.specs.Decoding.{is_open, group_head_in, row_in, entry_in}
 use Rattle.cm_verdict.specs.Walk.{Walked, Stop, Go, Bad, placed_row, placed_entry, next_slot}
-use Rattle.cm_verdict.specs.Walk.{go_unless, live_turn, entry_turn, is_good_group, begun, group_turn}
-use Rattle.cm_verdict.specs.Walk.{gate_turn, turn}
+use Rattle.cm_verdict.specs.Walk.{go_unless, live_turn, entry_turn, is_good_group, begun}
+use Rattle.cm_verdict.specs.Walk.{group_turn, gate_turn, turn}
 use Rattle.cm_verdict.proofs.Decoded.{group_head_spelled, group_head_again, row_spelled, row_again}
 use Rattle.cm_verdict.proofs.Decoded.{entry_spelled, entry_again}
 
@@ -58,7 +58,8 @@ is_good sizes w h g =
 -- ---- what the walk has seen where it goes on
 
 -- a group's head, a live row, or an entry of a group
-pub data Goes (sizes : Sizes) (first : ℕ) (w : Walked) (slot : List ℕ) (next : Walked) : Type 0 where
+pub data Goes (sizes : Sizes) (first : ℕ) (w : Walked) (slot : List ℕ)
+    (next : Walked) : Type 0 where
   Group : (h : GroupHead) → w.left ≡ 0 → slot ≡ group_head_slot h → IsGoodGroup sizes w h
       → begun w h ≡ next → Goes sizes first w slot next
   LiveRow : (row : BareRow) → 1 ≤ w.left → w.live ≡ true → slot ≡ row_slot row → FitsRow row

@@ -144,7 +144,8 @@ with_group sizes half w e h none is good g = record {
       (λ i. record { count = sym g.count i; first = good.first i }) in
       let es = flat_map entry_slot g.entries in
       let behind = from_slot half e.slot in
-      let hs = group_head_slot (record { count = slots_of_entries g.entries; first = w.number + 1 }) in
+      let hs = group_head_slot
+      (record { count = slots_of_entries g.entries; first = w.number + 1 }) in
       let gs = groups_slots (w.number + length g.entries) g.groups in
       next_from half w.slot
       ∙ ((λ i. (is ∙ ap group_head_slot head) i ++ g.bytes i)
@@ -152,7 +153,8 @@ with_group sizes half w e h none is good g = record {
       ∙ (sym (append_assoc hs es (gs ++ behind)) ∙ sym (append_assoc (hs ++ es) gs behind))));
   end = g.end;
   within = g.within;
-  rows_are = g.rows_are ∙ sym (rows_joined (bare w.rows) g.entries (flat_map (λ group. group) g.groups));
+  rows_are =
+      g.rows_are ∙ sym (rows_joined (bare w.rows) g.entries (flat_map (λ group. group) g.groups));
   number_is = omega (arith, g.number_is, g.middle_is, length_joined g.entries g.groups);
 }
   where
@@ -162,7 +164,8 @@ with_group sizes half w e h none is good g = record {
     rows_joined rows (d ∷ a) b = rows_joined (rows_after rows d) a b
 
     length_joined : (a : List BareEntry) (gs : List (List BareEntry))
-        → length (flat_map (λ group. group) (a ∷ gs)) ≡ length a + length (flat_map (λ group. group) gs)
+        → length (flat_map (λ group. group) (a ∷ gs))
+        ≡ length a + length (flat_map (λ group. group) gs)
     length_joined a gs = length-append a (flat_map (λ group. group) gs)
 
 -- live rows, and what stands behind them
@@ -255,7 +258,8 @@ module _ (sizes : Sizes) (first : ℕ) (half : List ℕ) (long : length half ≡
       let g = rest after (omega (arith, at)) (omega (arith, few, some)) (inr live) on in
       with_entry sizes half w.slot (bare w.rows) w.number w.left e d some there fits
       (placed_rule sizes (w.number + 1) n w.rows d ∙ keeps)
-      (subst (λ (r : List BareRow). HasGroups sizes half (w.slot + 1) r (w.number + 1) (w.left - 1) e)
+      (subst (λ (r : List BareRow). HasGroups sizes half (w.slot + 1) r (w.number + 1)
+      (w.left - 1) e)
       (placed_after n w.rows d) g)
 
   pub groups_walked : (more : ℕ) (e : Walked) → GoesOn more e
@@ -263,7 +267,8 @@ module _ (sizes : Sizes) (first : ℕ) (half : List ℕ) (long : length half ≡
   groups_walked zero e w at few phase is =
       subst (λ (v : Walked). HasGroups sizes half w.slot (bare w.rows) w.number w.left v)
       (ok_same w e is)
-      (ended sizes half w (omega (arith, few)) (omega (arith, at)) (last_end w.slot (omega (arith, at))))
+      (ended sizes half w (omega (arith, few)) (omega (arith, at))
+      (last_end w.slot (omega (arith, at))))
   groups_walked (suc more) e w at few phase is =
       by_turn (turn sizes first w (slot_of half w.slot)) refl (groups_walked more e) is
     where

@@ -152,14 +152,17 @@ module _ (sizes : Sizes) (first : ℕ) (half : List ℕ) (long : length half ≡
       → (w : Walked) (group : List BareEntry) (groups : List (List BareEntry)) (behind : List ℕ)
       (rows : List BareRow) (number middle : ℕ) → w.slot + suc more ≡ sizes.slots
       → IsAhead w [] (group ∷ groups) behind rows number middle
-      → Reaches (suc more) w (rows_behind rows [] (group ∷ groups)) (number_behind middle (group ∷ groups))
+      → Reaches (suc more) w (rows_behind rows [] (group ∷ groups))
+      (number_behind middle (group ∷ groups))
   group_found more finds w group groups behind rows number middle at a =
-      reached more w (begun w h) (rows_behind rows group groups) (rows_behind rows [] (group ∷ groups))
+      reached more w (begun w h) (rows_behind rows group groups)
+      (rows_behind rows [] (group ∷ groups))
       (number_behind (middle + length group) groups) (number_behind middle (group ∷ groups))
       (group_goes sizes first w (slot_of half w.slot) h (sym a.count) front.here fits good)
       (sym (rows_joined rows group (flat_map (λ group. group) groups)))
       (omega (arith, length-append group (flat_map (λ group. group) groups)))
-      (finds (begun w h) group groups behind rows middle (middle + length group) (omega (arith, at)) record {
+      (finds (begun w h) group groups behind rows middle (middle + length group)
+      (omega (arith, at)) record {
         count = refl;
         phase = inr refl;
         rows_are = a.rows_are;
@@ -224,8 +227,10 @@ module _ (sizes : Sizes) (first : ℕ) (half : List ℕ) (long : length half ≡
       reached more w next (rows_behind rows (d ∷ entries) groups)
       (rows_behind rows (d ∷ entries) groups) (number_behind middle groups)
       (number_behind middle groups)
-      (entry_goes sizes first w (slot_of half w.slot) d some live front.here a.keep.0 keeps) refl refl
-      (finds next entries groups behind (rows_after rows d) (number + 1) middle (omega (arith, at)) record {
+      (entry_goes sizes first w (slot_of half w.slot) d some live front.here a.keep.0 keeps) refl
+      refl
+      (finds next entries groups behind (rows_after rows d) (number + 1) middle
+      (omega (arith, at)) record {
         count = omega (arith, a.count, slots_one d);
         phase = inr live;
         rows_are = placed_after (first + w.slot) w.rows d
@@ -256,7 +261,8 @@ module _ (sizes : Sizes) (first : ℕ) (half : List ℕ) (long : length half ≡
 
       front : IsFront half w.slot (entry_slot d) rest
       front = in_front half w.slot (entry_slot d) rest
-          (a.bytes ∙ append_assoc (entry_slot d) (flat_map entry_slot entries) (groups_slots middle groups ++ behind))
+          (a.bytes ∙ append_assoc (entry_slot d) (flat_map entry_slot entries)
+          (groups_slots middle groups ++ behind))
           (slot_count d a.keep.0)
 
       keeps : broken_rule sizes w.rows (w.number + 1) (placed_entry (first + w.slot) d) ≡ None
@@ -351,7 +357,8 @@ module _ (sizes : Sizes) (first : ℕ) (half : List ℕ) (long : length half ≡
 
       front : IsFront half w.slot (row_slot row) rest
       front = in_front half w.slot (row_slot row) rest
-          (a.bytes ∙ append_assoc (row_slot row) (flat_map row_slot live) (groups_slots base groups ++ behind))
+          (a.bytes ∙ append_assoc (row_slot row) (flat_map row_slot live)
+          (groups_slots base groups ++ behind))
           (slot_count (entry.Live row) a.keep.0)
 
       keeps : broken_live_rule sizes w.number w.rows (placed_row (first + w.slot) row) ≡ None
@@ -370,14 +377,16 @@ module _ (sizes : Sizes) (first : ℕ) (half : List ℕ) (long : length half ≡
         number_is = a.base_is;
         middle_is = omega arith;
         keep = tt;
-        groups_keep = subst (λ (r : List BareRow). GroupsKeep sizes r base groups) same a.groups_keep;
+        groups_keep =
+            subst (λ (r : List BareRow). GroupsKeep sizes r base groups) same a.groups_keep;
         bytes = a.bytes;
         end = a.end;
       } in record {
         end = r.end;
         walked = r.walked;
         rows_are = r.rows_are
-            ∙ ap (λ (r : List BareRow). rows_after_all r (flat_map (λ group. group) groups)) (sym same);
+            ∙ ap (λ (r : List BareRow). rows_after_all r (flat_map (λ group. group) groups))
+            (sym same);
         number_is = r.number_is;
       }
   live_found zero w (row ∷ live) groups behind rows base at a =
@@ -385,6 +394,13 @@ module _ (sizes : Sizes) (first : ℕ) (half : List ℕ) (long : length half ≡
       let parts = length-append (row_slot row ++ flat_map row_slot live)
       (groups_slots base groups ++ behind) in
       let front = length-append (row_slot row) (flat_map row_slot live) in
-      absurd (omega (arith, all, parts, front, slot_count (entry.Live row) a.keep.0, room w.slot 0 at))
+      absurd (omega (
+        arith,
+        all,
+        parts,
+        front,
+        slot_count (entry.Live row) a.keep.0,
+        room w.slot 0 at,
+      ))
   live_found (suc more) w (row ∷ live) groups behind rows base at a =
       row_found more (live_found more) w row live groups behind rows base at a

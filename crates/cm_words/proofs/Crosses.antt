@@ -26,13 +26,15 @@ quiet to (leaves L l S s r₀) q = λ d. q (to d)
 module _ (R : RattleType) where
   slots-Keyless : IsSend R → (b o : ℕ) (cs : List (Option R.Denot)) → Keyless (slots R b o cs)
   slots-Keyless s b o [] = tt
-  slots-Keyless s b o (Some x ∷ cs) = (part_keyless R s full_share x b o, slots-Keyless s b (o + type_size R) cs)
+  slots-Keyless s b o (Some x ∷ cs) =
+      (part_keyless R s full_share x b o, slots-Keyless s b (o + type_size R) cs)
   slots-Keyless s b o (None ∷ cs) = (tt, slots-Keyless s b (o + type_size R) cs)
 
   slots_lent-Common : IsSync R → (b o : ℕ) (cs : List (Option R.Denot))
       → Common (slots_lent R b o cs)
   slots_lent-Common y b o [] κ = tt
-  slots_lent-Common y b o (Some x ∷ cs) κ = (y.shared x b o κ, slots_lent-Common y b (o + type_size R) cs κ)
+  slots_lent-Common y b o (Some x ∷ cs) κ =
+      (y.shared x b o κ, slots_lent-Common y b (o + type_size R) cs κ)
   slots_lent-Common y b o (None ∷ cs) κ = (tt, slots_lent-Common y b (o + type_size R) cs κ)
 
   cells-Keyless : IsSend R → (p : Ptr) (cs : List (Option R.Denot)) → Keyless (cells_own R p cs)
@@ -50,7 +52,14 @@ module _ (R : RattleType) where
       (λ k. quiet (to O) (exits_of k (fields O)) ((struct_send (shape O) all).leaving k))
 
   pub Cells-sync : IsSync R → IsSync (Cells.the_row R)
-  Cells-sync y = let O = Cells.the_type R in record { shared = λ d b o κ. ((struct_sync (shape O) (search sendable, tt)).shared (to O d) b o κ, cells_lent-Common y d.at d.slots κ) }
+  Cells-sync y = let O = Cells.the_type R in
+      record {
+        shared =
+            λ d b o κ. (
+              (struct_sync (shape O) (search sendable, tt)).shared (to O d) b o κ,
+              cells_lent-Common y d.at d.slots κ,
+            );
+      }
 
   module _ (A : RattleType) (g : Ghosts A.Denot) where
     pub Deed-send : FreesAnywhere A.Denot g → IsSend (Deed.the_row R A g)
@@ -60,4 +69,8 @@ module _ (R : RattleType) where
         (λ k. quiet (to O) (exits_of k (fields O)) ((struct_send (shape O) all).leaving k))
 
     pub Deed-sync : IsSync (Deed.the_row R A g)
-    Deed-sync = let O = Deed.the_type R A g in record { shared = λ d b o κ. ((struct_sync (shape O) (search sendable, tt)).shared (to O d) b o κ, tt) }
+    Deed-sync = let O = Deed.the_type R A g in
+        record {
+          shared =
+              λ d b o κ. ((struct_sync (shape O) (search sendable, tt)).shared (to O d) b o κ, tt);
+        }

@@ -30,7 +30,13 @@ module _ {X : Type 0} where
 
   pub length-filled : (xs : List X) (n : ℕ) → length xs ≤ n → length (filled xs n) ≡ n
   unfolding filled
-  length-filled xs n le = let none : Option X = None in omega (arith, length-append (map Some xs) (replicate (n - length xs) none), length-map xs Some, length-replicate (n - length xs) none)
+  length-filled xs n le = let none : Option X = None in
+      omega (
+        arith,
+        length-append (map Some xs) (replicate (n - length xs) none),
+        length-map xs Some,
+        length-replicate (n - length xs) none,
+      )
 
   pub filled-empty : (n : ℕ) → filled {X = X} [] n ≡ replicate n None
   unfolding filled
@@ -40,7 +46,8 @@ module _ {X : Type 0} where
   -- the first places hold the values
   pub take-filled : (xs : List X) (n : ℕ) → take (length xs) (filled xs n) ≡ map Some xs
   unfolding filled
-  take-filled xs n = take_at (map Some xs) (replicate (n - length xs) None) (length xs) (length-map xs Some)
+  take-filled xs n =
+      take_at (map Some xs) (replicate (n - length xs) None) (length xs) (length-map xs Some)
 
   filled-more : (x : X) (xs : List X) (n : ℕ) → filled (x ∷ xs) (suc n) ≡ Some x ∷ filled xs n
   unfolding filled
@@ -56,7 +63,8 @@ module _ {X : Type 0} where
   set-filled_next (y ∷ xs) zero x h = absurd (omega arith)
   set-filled_next (y ∷ xs) (suc n) x h =
       ap (λ l. set l (suc (length xs)) (Some x)) (filled-more y xs n) ∙ (ap
-      (λ l. Some y ∷ l) (set-filled_next xs n x (omega arith)) ∙ sym (filled-more y (xs ++ x ∷ []) n))
+      (λ l. Some y ∷ l) (set-filled_next xs n x (omega arith))
+      ∙ sym (filled-more y (xs ++ x ∷ []) n))
 
   -- another value in the place of one
   pub set-filled : (xs : List X) (n i : ℕ) (x : X) → i < length xs → length xs ≤ n
@@ -67,20 +75,32 @@ module _ {X : Type 0} where
       (λ l. set l 0 (Some x)) (filled-more y xs n) ∙ sym (filled-more x xs n)
   set-filled (y ∷ xs) (suc n) (suc i) x h le =
       ap (λ l. set l (suc i) (Some x)) (filled-more y xs n) ∙ (ap
-      (λ l. Some y ∷ l) (set-filled xs n i x (omega arith) (omega arith)) ∙ sym (filled-more y (set xs i x) n))
+      (λ l. Some y ∷ l) (set-filled xs n i x (omega arith) (omega arith))
+      ∙ sym (filled-more y (set xs i x) n))
 
   -- one value more in the places from `from` on
   pub write_step : (start cs : List (Option X)) (xs : List X) (from i : ℕ) (x : X)
       → cs ≡ take from start ++ map Some (take i xs) ++ drop (from + i) start
       → from + length xs ≤ length start → i < length xs → x ≡ get_or xs i x
-      → set cs (from + i) (Some x) ≡ take from start ++ map Some (take (i + 1) xs) ++ drop (from + (i + 1)) start
+      → set cs (from + i) (Some x) ≡ take from start ++ map Some (take (i + 1) xs)
+      ++ drop (from + (i + 1)) start
   write_step start cs xs from i x e within lt is =
       let before = take from start ++ map Some (take i xs) in
       let behind = drop (suc (from + i)) start in
-      let size : length before ≡ from + i = omega (arith, length-append (take from start) (map Some (take i xs)), length-take from start, length-map (take i xs) Some, length-take i xs) in
-      let rest : drop (from + i) start ≡ get_or start (from + i) None ∷ behind = drop-cons start (from + i) None (omega arith) in
+      let size : length before ≡ from + i =
+      omega (
+        arith,
+        length-append (take from start) (map Some (take i xs)),
+        length-take from start,
+        length-map (take i xs) Some,
+        length-take i xs,
+      ) in
+      let rest : drop (from + i) start ≡ get_or start (from + i) None ∷ behind =
+      drop-cons start (from + i) None (omega arith) in
       let next : from + (i + 1) ≡ suc (from + i) = omega arith in
-      let one : map Some (take (i + 1) xs) ≡ map Some (take i xs) ++ Some x ∷ [] = ap (map Some) (take_more xs i x lt ∙ ap (λ y. take i xs ++ y ∷ []) (sym is)) ∙ map-append Some (take i xs) (x ∷ []) in
+      let one : map Some (take (i + 1) xs) ≡ map Some (take i xs) ++ Some x ∷ [] =
+      ap (map Some) (take_more xs i x lt ∙ ap (λ y. take i xs ++ y ∷ []) (sym is))
+      ∙ map-append Some (take i xs) (x ∷ []) in
       ap (λ l. set l (from + i) (Some x)) (e ∙ ap (λ l. before ++ l) rest)
       ∙ (set_at before (get_or start (from + i) None) behind (Some x) (from + i) size
       ∙ (sym (append_assoc before (Some x ∷ []) behind)
@@ -90,13 +110,16 @@ module _ {X : Type 0} where
 
   -- values in the first empty places
   pub filled_behind : (xs ys : List X) (n : ℕ) → length xs + length ys ≤ n
-      → take (length xs) (filled xs n) ++ map Some ys ++ drop (length xs + length ys) (filled xs n) ≡ filled (xs ++ ys) n
+      → take (length xs) (filled xs n) ++ map Some ys ++ drop (length xs + length ys) (filled xs n)
+      ≡ filled (xs ++ ys) n
   unfolding filled
   filled_behind xs ys n le =
       let left = n - length xs in
       let rest : drop (length xs + length ys) (filled xs n) ≡ replicate (left - length ys) None =
       sym (drop-drop (length ys) (length xs) (filled xs n))
-      ∙ (ap (drop (length ys)) (drop_at (map Some xs) (replicate left None) (length xs) (length-map xs Some)) ∙ drop-replicate (length ys) left None) in
+      ∙ (ap (drop (length ys))
+      (drop_at (map Some xs) (replicate left None) (length xs) (length-map xs Some))
+      ∙ drop-replicate (length ys) left None) in
       let same : left - length ys ≡ n - length (xs ++ ys) = omega (arith, length-append xs ys) in
       (λ i. take-filled xs n i ++ map Some ys ++ rest i)
       ∙ (λ i. sym (map-append Some xs ys) i ++ replicate (same i) None)

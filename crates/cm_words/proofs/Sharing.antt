@@ -21,13 +21,16 @@ module _ (R : RattleType) (L : RowLaws R) where
 
   slots_lent_laws : (b o : ℕ) (cs : List (Option R.Denot)) → ShrLaws (slots_lent R b o cs)
   slots_lent_laws b o [] = nothing_shr_laws
-  slots_lent_laws b o (c ∷ cs) = beside_shr_laws _ _ (slot_lent_laws b o c) (slots_lent_laws b (o + type_size R) cs)
+  slots_lent_laws b o (c ∷ cs) =
+      beside_shr_laws _ _ (slot_lent_laws b o c) (slots_lent_laws b (o + type_size R) cs)
 
   pub cells_lent_laws : (p : Ptr) (cs : List (Option R.Denot)) → ShrLaws (cells_lent R p cs)
-  cells_lent_laws (block_ptr b o) cs = beside_shr_laws _ _ (said_shr_laws (fit R cs) tt) (slots_lent_laws b o cs)
+  cells_lent_laws (block_ptr b o) cs =
+      beside_shr_laws _ _ (said_shr_laws (fit R cs) tt) (slots_lent_laws b o cs)
   cells_lent_laws null_ptr cs = said_shr_laws ffalse tt
 
-module _ {M : Type 1} {𝓤 : Ura M} (𝓛 : Logic 𝓤) (l : Lft) (R : RattleType) (L : Laws R) (inc : Incl l R.lives) where
+module _ {M : Type 1} {𝓤 : Ura M} (𝓛 : Logic 𝓤) (l : Lft) (R : RattleType) (L : Laws R)
+    (inc : Incl l R.lives) where
   Lends-slot : (b o : ℕ) (c : Option R.Denot) → Lends 𝓛 (slot R b o c) (slot_lent R b o c) l
   Lends-slot b o (Some x) = λ κ ts. Shares-less 𝓛 R R.lives l inc (L.shares 𝓛) x κ ts b o
   Lends-slot b o None = Lends-nothing 𝓛 (slot R b o None) l
@@ -36,9 +39,13 @@ module _ {M : Type 1} {𝓤 : Ura M} (𝓛 : Logic 𝓤) (l : Lft) (R : RattleTy
       → Lends 𝓛 (slots R b o cs) (slots_lent R b o cs) l
   Lends-slots b o [] = Lends-nothing 𝓛 ftrue l
   Lends-slots b o (c ∷ cs) =
-      Lends-both 𝓛 (slot R b o c) (slots R b (o + type_size R) cs) (slot_lent R b o c) (slots_lent R b (o + type_size R) cs) l (Lends-slot b o c) (Lends-slots b (o + type_size R) cs)
+      Lends-both 𝓛 (slot R b o c) (slots R b (o + type_size R) cs) (slot_lent R b o c)
+      (slots_lent R b (o + type_size R) cs) l (Lends-slot b o c)
+      (Lends-slots b (o + type_size R) cs)
 
   pub Lends-cells : (p : Ptr) (cs : List (Option R.Denot))
       → Lends 𝓛 (cells_own R p cs) (cells_lent R p cs) l
-  Lends-cells (block_ptr b o) cs = Lends-both 𝓛 (fit R cs) (slots R b o cs) (said (fit R cs)) (slots_lent R b o cs) l (Lends-said 𝓛 (fit R cs) tt l) (Lends-slots b o cs)
+  Lends-cells (block_ptr b o) cs =
+      Lends-both 𝓛 (fit R cs) (slots R b o cs) (said (fit R cs)) (slots_lent R b o cs) l
+      (Lends-said 𝓛 (fit R cs) tt l) (Lends-slots b o cs)
   Lends-cells null_ptr cs = Lends-false 𝓛 (said ffalse) l

@@ -26,7 +26,8 @@ still old new P same images =
     (unmoved old old.armed P images)
 
 -- what a disk holds is one of its images
-pub now_left : (disk : SimDisk) → IsImage (sim_contents disk) (sim_unsynced disk) (sim_contents disk)
+pub now_left : (disk : SimDisk)
+    → IsImage (sim_contents disk) (sim_unsynced disk) (sim_contents disk)
 now_left disk =
     let sound = disk.medium.sound in
     record {

@@ -27,7 +27,8 @@ module _ (k : Machine) (e : Event) (r : Reply) (old new : World)
     (after : (j : Machine) → GoesWith j new.session → Shows new.session.committer.sizes j new) where
   pub moved : (next : Machine)
       → BeginsWith e old.session.committer.disk old.session.committer.disk
-      → Does old.session.committer.sizes e r old.session.committer.disk (state old k) (state new next)
+      → Does old.session.committer.sizes e r old.session.committer.disk (state old k)
+      (state new next)
       → LeavesOnly sim_moment sim_left_since old.session.committer.disk new.session.committer.disk
       (StandsForSome old.session.committer.sizes k)
       → GoesWith next new.session → Moves k e r old new
@@ -54,7 +55,8 @@ module _ (k : Machine) (e : Event) (r : Reply) (old new : World)
 
   pub stays : (next : Machine)
       → BeginsWith e old.session.committer.disk old.session.committer.disk
-      → Does old.session.committer.sizes e r old.session.committer.disk (state old k) (state new next)
+      → Does old.session.committer.sizes e r old.session.committer.disk (state old k)
+      (state new next)
       → GoesWith next new.session → Moves k e r old new
   stays next begins does goes =
       moved k e r old new (ap (λ (c : CommitterState SimDisk). c.sizes) same) after next begins does

@@ -11,7 +11,8 @@ returns-then-eq c =
     let k = c.in-Some.last in
     let nowhere : Chunk = record { root = 0; order = 0; at = 0 } in
     let some : length cs ≡ suc k = omega (arith, c.in-Some.ensures.0, c.in-Some.ensures.1) in
-    let same : same_chunk (get_or cs k nowhere) c.args.chunk.now ≡ true = sym c.eq.ensures ∙ c.if-eq.true in
+    let same : same_chunk (get_or cs k nowhere) c.args.chunk.now ≡ true =
+    sym c.eq.ensures ∙ c.if-eq.true in
     sym (next-chain_of cs us k nowhere c.args.chunk.now 0 c.requires some ∙ ap
     (λ b. cond b (get_or us k 0) 0) same)
 
@@ -22,6 +23,7 @@ returns-else-eq c =
     let k = c.in-Some.last in
     let nowhere : Chunk = record { root = 0; order = 0; at = 0 } in
     let some : length cs ≡ suc k = omega (arith, c.in-Some.ensures.0, c.in-Some.ensures.1) in
-    let other : same_chunk (get_or cs k nowhere) c.args.chunk.now ≡ false = sym c.eq.ensures ∙ c.if-eq.false in
+    let other : same_chunk (get_or cs k nowhere) c.args.chunk.now ≡ false =
+    sym c.eq.ensures ∙ c.if-eq.false in
     sym (next-chain_of cs us k nowhere c.args.chunk.now 0 c.requires some ∙ ap
     (λ b. cond b (get_or us k 0) 0) other)

@@ -14,23 +14,39 @@ last_len : (c : After-index-offset) → length c.args.chunks.now ≡ suc c.in_ok
 last_len c = omega (arith, c.in_ok-last.ensures.0, c.in_ok-last.ensures.1)
 
 filled : (c : After-index-offset)
-    → IsFilled (record { chunk = get_or c.args.chunks.now c.in_ok-last.last nowhere; used = c.index-offset.result.now })
+    → IsFilled (record {
+      chunk = get_or c.args.chunks.now c.in_ok-last.last nowhere;
+      used = c.index-offset.result.now;
+    })
 filled c =
     let within : c.in_ok-last.last < length c.args.chunks.now = omega (arith, last_len c) in
-    subst (λ n. IsFilled (record { chunk = get_or c.args.chunks.now c.in_ok-last.last nowhere; used = n })) (sym c.index-offset.ensures)
-    (filled-at c.args.chunks.now c.args.used.now.items c.in_ok-last.last nowhere c.index-offset.result.now c.requires.pairs within c.requires.each)
+    subst (λ n. IsFilled (record {
+      chunk = get_or c.args.chunks.now c.in_ok-last.last nowhere;
+      used = n;
+    })) (sym c.index-offset.ensures)
+    (filled-at c.args.chunks.now c.args.used.now.items c.in_ok-last.last nowhere
+    c.index-offset.result.now c.requires.pairs within c.requires.each)
 
 last_is : (c : After-index-offset)
-    → last_of (chain_of c.args.chunks.now c.args.used.now.items) ≡ Some (record { chunk = get_or c.args.chunks.now c.in_ok-last.last nowhere; used = c.index-offset.result.now })
+    → last_of (chain_of c.args.chunks.now c.args.used.now.items)
+    ≡ Some (record {
+      chunk = get_or c.args.chunks.now c.in_ok-last.last nowhere;
+      used = c.index-offset.result.now;
+    })
 last_is c =
-    last-chain_of c.args.chunks.now c.args.used.now.items c.in_ok-last.last nowhere c.index-offset.result.now c.requires.pairs (last_len c)
-    ∙ ap (λ n. Some (record { chunk = get_or c.args.chunks.now c.in_ok-last.last nowhere; used = n })) (sym c.index-offset.ensures)
+    last-chain_of c.args.chunks.now c.args.used.now.items c.in_ok-last.last nowhere
+    c.index-offset.result.now c.requires.pairs (last_len c)
+    ∙ ap (λ n. Some (record {
+      chunk = get_or c.args.chunks.now c.in_ok-last.last nowhere;
+      used = n;
+    })) (sym c.index-offset.ensures)
 
 pub size-requires : goal.size-requires
 size-requires c = (filled (goal.at.size-requires c).After-index-offset).small
 
 pub overflow_sub-size : goal.overflow_sub-size
-overflow_sub-size c = omega (arith, c.size.ensures, (filled (goal.at.overflow_sub-size c).After-index-offset).within)
+overflow_sub-size c =
+    omega (arith, c.size.ensures, (filled (goal.at.overflow_sub-size c).After-index-offset).within)
 
 pub returns-then-words-size-clause-none : goal.returns-then-words-size-clause-none
 returns-then-words-size-clause-none c =
@@ -52,7 +68,9 @@ returns-clause-some c =
       last = last_is at;
       room = omega (arith, c.size.ensures, (filled at).within);
       amount = refl;
-      after = ap (λ n. chain_of cs (set us k (n + c.args.words))) c.index-offset.ensures ∙ more-chain_of cs us k c.args.words c.index-offset.result.now c.requires.pairs (last_len at);
+      after = ap (λ n. chain_of cs (set us k (n + c.args.words))) c.index-offset.ensures
+          ∙ more-chain_of cs us k c.args.words c.index-offset.result.now c.requires.pairs
+          (last_len at);
     }
 
 pub returns-clause-kept : goal.returns-clause-kept
@@ -64,6 +82,11 @@ returns-clause-kept c = λ some.
     let within : k < length cs = omega (arith, last_len at) in
     record {
       pairs = c.requires.pairs ∙ sym (length-set us k _);
-      each = filled-set cs us k (c.index-offset.result.now + c.args.words) nowhere c.requires.pairs within c.requires.each
-          (record { small = (filled at).small; some = omega arith; within = omega (arith, c.size.ensures, (filled at).within) });
+      each = filled-set cs us k (c.index-offset.result.now + c.args.words) nowhere c.requires.pairs
+          within c.requires.each
+          (record {
+            small = (filled at).small;
+            some = omega arith;
+            within = omega (arith, c.size.ensures, (filled at).within);
+          });
     }

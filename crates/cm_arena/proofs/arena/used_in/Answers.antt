@@ -12,6 +12,7 @@ loop-at-preserved c =
     let at = c.loop-at.at in
     let none : Chunk = record { root = 0; order = 0; at = 0 } in
     let rest = used_of (chain_of (drop (at + 1) cs) (drop (at + 1) us)) c.args.chunk.now in
-    let other : same_chunk (get_or cs at none) c.args.chunk.now ≡ false = sym c.eq.ensures ∙ c.if-eq.false in
+    let other : same_chunk (get_or cs at none) c.args.chunk.now ≡ false =
+    sym c.eq.ensures ∙ c.if-eq.false in
     sym (used_of-drop cs us at none c.args.chunk.now 0 c.requires c.loop-at-test.true ∙ ap
     (λ b. cond b (Some (get_or us at 0)) rest) other) ∙ c.loop-at.invariant

@@ -9,7 +9,8 @@ use Rattle.cm_arena.proofs.fetch.fetch.Goals as goal
 pub returns-in-Some-clause-full : goal.returns-in-Some-clause-full
 returns-in-Some-clause-full c = (
   λ e. cc,
-  λ h. absurd (h.0 (taken-has_free c.args.pool.now c.first_of.new.pool c.args.wanted c.args.need c.in-Some.chunk c.requires.needed c.in-Some.ensures.some)),
+  λ h. absurd (h.0 (taken-has_free c.args.pool.now c.first_of.new.pool c.args.wanted c.args.need
+      c.in-Some.chunk c.requires.needed c.in-Some.ensures.some)),
 )
 
 pub unwrap-requires : goal.unwrap-requires
@@ -21,5 +22,6 @@ unwrap-requires c =
     let wanted : c.args.wanted ≤ before.geometry.top = subst
     (λ (p : FreeSpace). c.args.wanted ≤ p.geometry.top) (sym same) c.requires.wanted in
     let has = subst
-    (λ (p : FreeSpace). HasFree p c.args.wanted) (sym grown) (roots_are_free before c.args.wanted wanted) in
+    (λ (p : FreeSpace). HasFree p c.args.wanted) (sym grown)
+    (roots_are_free before c.args.wanted wanted) in
     true_from_ne_false (is_some c.alloc.result) (λ e. c.alloc.ensures.none.0 e has)

@@ -7,11 +7,13 @@ pub give-requires : goal.give-requires
 give-requires c =
     let old = c.args.pool.now in
     let chunk = c.in-Some.chunk in
-    subst (λ (p : FreeSpace). IsUsedChunk p chunk) (sym c.in-Some.ensures.left) (taken_is_used old chunk c.in-Some.ensures.first.free)
+    subst (λ (p : FreeSpace). IsUsedChunk p chunk) (sym c.in-Some.ensures.left)
+    (taken_is_used old chunk c.in-Some.ensures.first.free)
 
 pub returns : goal.returns
 returns c =
     let old = c.args.pool.now in
     let chunk = c.in-Some.chunk in
     c.give.ensures ∙ ap
-    (λ p. with_chunk p chunk) c.in-Some.ensures.left ∙ giving_back_restores old chunk c.in-Some.ensures.first.free
+    (λ p. with_chunk p chunk) c.in-Some.ensures.left
+    ∙ giving_back_restores old chunk c.in-Some.ensures.first.free

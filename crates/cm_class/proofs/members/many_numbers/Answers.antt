@@ -17,7 +17,8 @@ pub loop-preserved : goal.loop-preserved
 loop-preserved g c =
     fills (number_at 2) c.args.count c.loop.counter c.loop.rest.now c.loop.invariant
     (c.in_ok-item.item, c.in_ok-item.after.now) c.push.new.list.items c.loop-test.true
-    (exactly (Ok (c.in_ok-item.item, c.in_ok-item.after.now)) c.in_ok-item.ensures) c.in_ok-push.ensures.kept
+    (exactly (Ok (c.in_ok-item.item, c.in_ok-item.after.now)) c.in_ok-item.ensures)
+    c.in_ok-push.ensures.kept
 
 pub returns : goal.returns
 returns g c =

@@ -11,7 +11,8 @@ use Rattle.cm_commit.proofs.NextRecords.{small_drop}
 use Rattle.cm_commit.proofs.NextWrites.{next_root, left_behind, calls_first, wrote_ok}
 use Rattle.cm_commit.proofs.calls.write_next.Goals as goal
 
-pub returns-then-roots-roots_needed-clause-called : goal.returns-then-roots-roots_needed-clause-called
+pub returns-then-roots-roots_needed-clause-called :
+    goal.returns-then-roots-roots_needed-clause-called
 returns-then-roots-roots_needed-clause-called g c =
     let j = c.args.journal in
     let all = c.args.group.now.entries in

@@ -13,9 +13,11 @@ take_row-requires c =
       reach = c.roots_reach_what_is_adopted.ensures;
     } in
     let b = c.args.book.now in
-    can_take laws b.sizes c.requires.rows.0 b.rows c.next.new.self c.in-Some.row.now c.loop-row.space
+    can_take laws b.sizes c.requires.rows.0 b.rows c.next.new.self c.in-Some.row.now
+    c.loop-row.space
     c.requires.lawful c.requires.rows.1
-    (subst (λ l. IsOnTheWay b.sizes b.rows l c.loop-row.space) c.in-Some.ensures c.loop-row.invariant)
+    (subst (λ l. IsOnTheWay b.sizes b.rows l c.loop-row.space) c.in-Some.ensures
+    c.loop-row.invariant)
 
 pub loop-row-preserved : goal.loop-row-preserved
 loop-row-preserved c =
@@ -28,5 +30,6 @@ loop-row-preserved c =
     let b = c.args.book.now in
     took laws b.sizes c.requires.rows.0 b.rows c.next.new.self c.in-Some.row.now c.loop-row.space
     c.take_row.new.space c.requires.lawful c.requires.rows.1
-    (subst (λ l. IsOnTheWay b.sizes b.rows l c.loop-row.space) c.in-Some.ensures c.loop-row.invariant)
+    (subst (λ l. IsOnTheWay b.sizes b.rows l c.loop-row.space) c.in-Some.ensures
+    c.loop-row.invariant)
     c.in_ok-take_row.ensures

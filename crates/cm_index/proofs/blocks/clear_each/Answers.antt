@@ -9,4 +9,12 @@ pub returns-clause-items : goal.returns-clause-items
 returns-clause-items c =
     let h = c.loop-at.invariant in
     let bs = c.loop-at.blocks.items in
-    joined-empty bs (subst (AllByRecursion (λ (b : List IndexEntry). length b ≡ 0)) (take_all c.loop-at.at bs (omega (arith, h.count, c.len-at-end.ensures, c.args.blocks.now.ok.0, c.loop-at-test.false))) h.cleared)
+    joined-empty bs (subst (AllByRecursion (λ (b : List IndexEntry). length b ≡ 0))
+    (take_all c.loop-at.at bs
+    (omega (
+      arith,
+      h.count,
+      c.len-at-end.ensures,
+      c.args.blocks.now.ok.0,
+      c.loop-at-test.false,
+    ))) h.cleared)

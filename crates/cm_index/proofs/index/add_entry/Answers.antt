@@ -10,13 +10,23 @@ returns-in-Err-clause-index g c =
     let bs = c.args.blocks.now.items in
     let k = key_sought g.P.Kept.name c.row-sought.result in
     let absent = rw c.deref.ensures.value at c.in-Err.ensures.absent in
-    let own = c.row-sought.ensures ∙ ap (λ s. key g.P.Kept.mark (rank (owner_of s.item)) (name_in g.P.Kept.name s.item)) (sym c.index-slots-at.is) in
-    rw (c.put_entry.ensures.items) (further-new g.P.Kept.mark g.P.Kept.name c.args.slots.now c.args.at c.index-slots-at.result (joined bs) (place_of bs c.in-Err.spot) c.row-sought.result.fingerprint k c.requires.within c.index-slots-at.is c.requires.lives c.requires.index own own absent)
+    let own = c.row-sought.ensures
+    ∙ ap (λ s. key g.P.Kept.mark (rank (owner_of s.item)) (name_in g.P.Kept.name s.item))
+    (sym c.index-slots-at.is) in
+    rw (c.put_entry.ensures.items)
+    (further-new g.P.Kept.mark g.P.Kept.name c.args.slots.now c.args.at c.index-slots-at.result
+    (joined bs) (place_of bs c.in-Err.spot) c.row-sought.result.fingerprint k c.requires.within
+    c.index-slots-at.is c.requires.lives c.requires.index own own absent)
 
 pub returns-in-Ok-clause-index : goal.returns-in-Ok-clause-index
 returns-in-Ok-clause-index g c =
     let bs = c.args.blocks.now.items in
     let k = key_sought g.P.Kept.name c.row-sought.result in
     let found = rw c.deref.ensures.value at c.in-Ok.ensures.found in
-    let own = c.row-sought.ensures ∙ ap (λ s. key g.P.Kept.mark (rank (owner_of s.item)) (name_in g.P.Kept.name s.item)) (sym c.index-slots-at.is) in
-    rw (c.renew.ensures.items) (further-known g.P.Kept.mark g.P.Kept.name c.args.slots.now c.args.at c.index-slots-at.result (joined bs) (place_of bs c.in-Ok.spot) c.row-sought.result.fingerprint k c.requires.within c.index-slots-at.is c.requires.lives c.requires.index own own found)
+    let own = c.row-sought.ensures
+    ∙ ap (λ s. key g.P.Kept.mark (rank (owner_of s.item)) (name_in g.P.Kept.name s.item))
+    (sym c.index-slots-at.is) in
+    rw (c.renew.ensures.items)
+    (further-known g.P.Kept.mark g.P.Kept.name c.args.slots.now c.args.at c.index-slots-at.result
+    (joined bs) (place_of bs c.in-Ok.spot) c.row-sought.result.fingerprint k c.requires.within
+    c.index-slots-at.is c.requires.lives c.requires.index own own found)

@@ -15,19 +15,30 @@ returns-in_default g c =
     let s = c.args.sought.now in
     let bs = c.index.inside.blocks.items in
     let place = place_of bs c.in_default.field-0 in
-    let index = subst (IsIndex g.P.Kept.mark g.P.Kept.name slots) (ap (λ (v : Entries). v.items) (sym c.index.view_is)) c.requires.index in
+    let index =
+    subst (IsIndex g.P.Kept.mark g.P.Kept.name slots)
+    (ap (λ (v : Entries). v.items) (sym c.index.view_is)) c.requires.index in
     let absent = rw (c.deref.ensures.value) at c.in_default.ensures.absent in
-    let parts = subst (Parts (keys_at g.P.Kept.name slots (joined bs)) place) c.requires.key.is absent in
-    sym (absent-at g.P.Kept.mark g.P.Kept.name slots (joined bs) place (rank s.owner) (name_sought g.P.Kept.name s.name) index parts)
+    let parts =
+    subst (Parts (keys_at g.P.Kept.name slots (joined bs)) place) c.requires.key.is absent in
+    sym (absent-at g.P.Kept.mark g.P.Kept.name slots (joined bs) place (rank s.owner)
+    (name_sought g.P.Kept.name s.name) index parts)
 
-found : (g : Over) (c : After-entry_at-entry g) → Found g.P.Kept.mark g.P.Kept.name c.args.slots.now c.entry_at-entry.result (rank c.args.sought.now.owner) (name_sought g.P.Kept.name c.args.sought.now.name)
+found : (g : Over) (c : After-entry_at-entry g)
+    → Found g.P.Kept.mark g.P.Kept.name c.args.slots.now c.entry_at-entry.result
+    (rank c.args.sought.now.owner) (name_sought g.P.Kept.name c.args.sought.now.name)
 found g c =
     let s = c.args.sought.now in
     let bs = c.index.inside.blocks.items in
-    let index = subst (IsIndex g.P.Kept.mark g.P.Kept.name c.args.slots.now) (ap (λ (v : Entries). v.items) (sym c.index.view_is)) c.requires.index in
+    let index =
+    subst (IsIndex g.P.Kept.mark g.P.Kept.name c.args.slots.now)
+    (ap (λ (v : Entries). v.items) (sym c.index.view_is)) c.requires.index in
     let is = rw (c.deref.ensures.value) at c.in-Ok.ensures.found in
-    let there = rw (c.deref-2.ensures.value) at (c.entry_at-entry.ensures c.entry_at-entry.result) in
-    found-row g.P.Kept.mark g.P.Kept.name c.args.slots.now (joined bs) (place_of bs c.in-Ok.spot) c.entry_at-entry.result (rank s.owner) (name_sought g.P.Kept.name s.name) (key_sought g.P.Kept.name s) index is c.requires.key.is there
+    let there =
+    rw (c.deref-2.ensures.value) at (c.entry_at-entry.ensures c.entry_at-entry.result) in
+    found-row g.P.Kept.mark g.P.Kept.name c.args.slots.now (joined bs) (place_of bs c.in-Ok.spot)
+    c.entry_at-entry.result (rank s.owner) (name_sought g.P.Kept.name s.name)
+    (key_sought g.P.Kept.name s) index is c.requires.key.is there
 
 pub offset_bounds-slots-entry : goal.offset_bounds-slots-entry
 offset_bounds-slots-entry g c =
@@ -42,11 +53,15 @@ bounds-slots-entry g c =
 pub returns-then-slot : goal.returns-then-slot
 returns-then-slot g c =
     let f = found g (goal.at.returns-then-slot g c).After-entry_at-entry in
-    let there : c.index-slots-entry.result ≡ f.slot = c.index-slots-entry.is ∙ get_or_from_slice_get c.args.slots.now c.entry_at-entry.result.at f.slot _ f.there in
+    let there : c.index-slots-entry.result ≡ f.slot =
+    c.index-slots-entry.is ∙ get_or_from_slice_get c.args.slots.now c.entry_at-entry.result.at
+    f.slot _ f.there in
     ap (λ t. Some t.item) there ∙ sym (f.lives (ap (λ t. t.live) (sym there) ∙ c.if-slot.true))
 
 pub returns-else-slot : goal.returns-else-slot
 returns-else-slot g c =
     let f = found g (goal.at.returns-else-slot g c).After-entry_at-entry in
-    let there : c.index-slots-entry.result ≡ f.slot = c.index-slots-entry.is ∙ get_or_from_slice_get c.args.slots.now c.entry_at-entry.result.at f.slot _ f.there in
+    let there : c.index-slots-entry.result ≡ f.slot =
+    c.index-slots-entry.is ∙ get_or_from_slice_get c.args.slots.now c.entry_at-entry.result.at
+    f.slot _ f.there in
     sym (f.gone (ap (λ t. t.live) (sym there) ∙ c.if-slot.false))

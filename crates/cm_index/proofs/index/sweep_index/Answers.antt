@@ -10,14 +10,26 @@ pub sweep_blocks-requires : goal.sweep_blocks-requires
 sweep_blocks-requires g c =
     let slots = c.args.slots.now in
     let es = joined c.index.inside.blocks.items in
-    let index = subst (IsIndex g.P.Kept.mark g.P.Kept.name slots) (ap (λ (v : Entries). v.items) (sym c.index.view_is)) c.requires.index in
+    let index =
+    subst (IsIndex g.P.Kept.mark g.P.Kept.name slots)
+    (ap (λ (v : Entries). v.items) (sym c.index.view_is)) c.requires.index in
     let within = within-slots g.P.Kept.mark g.P.Kept.name slots es index.each in
-    rw (c.deref.ensures.value, c.count_places.ensures.places) (subst (λ (n : ℕ). AllByRecursion (λ (e : IndexEntry). e.at < n) es) (sym (length-places 0 slots)) within)
+    rw (c.deref.ensures.value, c.count_places.ensures.places)
+    (subst (λ (n : ℕ). AllByRecursion (λ (e : IndexEntry). e.at < n) es)
+    (sym (length-places 0 slots)) within)
 
 pub returns-clause-index : goal.returns-clause-index
 returns-clause-index g c =
     let slots = c.args.slots.now in
     let es = joined c.index.inside.blocks.items in
-    let index = subst (IsIndex g.P.Kept.mark g.P.Kept.name slots) (ap (λ (v : Entries). v.items) (sym c.index.view_is)) c.requires.index in
-    rw (c.pack.ensures.items, c.sweep_blocks.ensures.blocks, joined-swept slots _ c.index.inside.blocks.items, c.deref.ensures.value, c.count_places.ensures.places)
+    let index =
+    subst (IsIndex g.P.Kept.mark g.P.Kept.name slots)
+    (ap (λ (v : Entries). v.items) (sym c.index.view_is)) c.requires.index in
+    rw (
+      c.pack.ensures.items,
+      c.sweep_blocks.ensures.blocks,
+      joined-swept slots _ c.index.inside.blocks.items,
+      c.deref.ensures.value,
+      c.count_places.ensures.places,
+    )
     (index-swept g.P.Kept.mark g.P.Kept.name slots es index)

@@ -10,13 +10,22 @@ use Rattle.cm_index.proofs.names.class_like.Goals as goal
 pub returns-in_default : goal.returns-in_default
 returns-in_default g c =
     let found = c.find_row.ensures
-    ∙ ap (λ o. find (is_named g.P.Kept.name (rank o) (name_sought g.P.Kept.name c.class.result.name)) (living c.args.slots.now)) c.class.ensures.owner
-    ∙ ap (λ (x : List ℕ). find (is_named g.P.Kept.name (suc c.args.loader) x) (living c.args.slots.now)) c.class.ensures.name in
-    sym (class-first g.P.Kept.name c.args.loader (g.P.Kept.name c.args.class.now) (living c.args.slots.now) ∙ ap kept_in (sym found ∙ ap option_copied c.in_default.is))
+    ∙ ap (λ o. find (is_named g.P.Kept.name (rank o)
+    (name_sought g.P.Kept.name c.class.result.name)) (living c.args.slots.now))
+    c.class.ensures.owner
+    ∙ ap (λ (x : List ℕ). find (is_named g.P.Kept.name (suc c.args.loader) x)
+    (living c.args.slots.now)) c.class.ensures.name in
+    sym (class-first g.P.Kept.name c.args.loader (g.P.Kept.name c.args.class.now)
+    (living c.args.slots.now) ∙ ap kept_in (sym found ∙ ap option_copied c.in_default.is))
 
 pub returns : goal.returns
 returns g c =
     let found = c.find_row.ensures
-    ∙ ap (λ o. find (is_named g.P.Kept.name (rank o) (name_sought g.P.Kept.name c.class.result.name)) (living c.args.slots.now)) c.class.ensures.owner
-    ∙ ap (λ (x : List ℕ). find (is_named g.P.Kept.name (suc c.args.loader) x) (living c.args.slots.now)) c.class.ensures.name in
-    c.kept_in.ensures ∙ ap kept_in (sym (ap option_copied c.in-Some.is) ∙ found) ∙ sym (class-first g.P.Kept.name c.args.loader (g.P.Kept.name c.args.class.now) (living c.args.slots.now))
+    ∙ ap (λ o. find (is_named g.P.Kept.name (rank o)
+    (name_sought g.P.Kept.name c.class.result.name)) (living c.args.slots.now))
+    c.class.ensures.owner
+    ∙ ap (λ (x : List ℕ). find (is_named g.P.Kept.name (suc c.args.loader) x)
+    (living c.args.slots.now)) c.class.ensures.name in
+    c.kept_in.ensures ∙ ap kept_in (sym (ap option_copied c.in-Some.is) ∙ found)
+    ∙ sym (class-first g.P.Kept.name c.args.loader (g.P.Kept.name c.args.class.now)
+    (living c.args.slots.now))

@@ -10,13 +10,21 @@ use Rattle.cm_index.proofs.names.loader_of.Goals as goal
 pub returns-in_default : goal.returns-in_default
 returns-in_default g c =
     let found = c.find_row.ensures
-    ∙ ap (λ o. find (is_named g.P.Kept.name (rank o) (name_sought g.P.Kept.name c.named.result.name)) (living c.args.slots.now)) c.named.ensures.owner
-    ∙ ap (λ (x : List ℕ). find (is_named g.P.Kept.name 0 x) (living c.args.slots.now)) c.named.ensures.name in
-    sym (number-first g.P.Kept.name c.args.name.now (living c.args.slots.now) ∙ ap number_in (sym found ∙ ap option_copied c.in_default.is))
+    ∙ ap (λ o. find (is_named g.P.Kept.name (rank o)
+    (name_sought g.P.Kept.name c.named.result.name)) (living c.args.slots.now))
+    c.named.ensures.owner
+    ∙ ap (λ (x : List ℕ). find (is_named g.P.Kept.name 0 x) (living c.args.slots.now))
+    c.named.ensures.name in
+    sym (number-first g.P.Kept.name c.args.name.now (living c.args.slots.now)
+    ∙ ap number_in (sym found ∙ ap option_copied c.in_default.is))
 
 pub returns : goal.returns
 returns g c =
     let found = c.find_row.ensures
-    ∙ ap (λ o. find (is_named g.P.Kept.name (rank o) (name_sought g.P.Kept.name c.named.result.name)) (living c.args.slots.now)) c.named.ensures.owner
-    ∙ ap (λ (x : List ℕ). find (is_named g.P.Kept.name 0 x) (living c.args.slots.now)) c.named.ensures.name in
-    c.number_in.ensures ∙ ap number_in (sym (ap option_copied c.in-Some.is) ∙ found) ∙ sym (number-first g.P.Kept.name c.args.name.now (living c.args.slots.now))
+    ∙ ap (λ o. find (is_named g.P.Kept.name (rank o)
+    (name_sought g.P.Kept.name c.named.result.name)) (living c.args.slots.now))
+    c.named.ensures.owner
+    ∙ ap (λ (x : List ℕ). find (is_named g.P.Kept.name 0 x) (living c.args.slots.now))
+    c.named.ensures.name in
+    c.number_in.ensures ∙ ap number_in (sym (ap option_copied c.in-Some.is) ∙ found)
+    ∙ sym (number-first g.P.Kept.name c.args.name.now (living c.args.slots.now))

@@ -9,5 +9,7 @@ returns c =
     let one = c.words.ensures.laid in
     let two = c.words-2.ensures.laid in
     c.cmp_name.ensures one.0 two.0 one.1 two.1
-    ∙ ap (λ (x : List ℕ). slice_cmp nat_cmp x (class_name_of two.0)) (sym (c.words_tell_name.ensures one.0 c.args.one.now one.1))
-    ∙ ap (λ (x : List ℕ). slice_cmp nat_cmp (class_name_in c.args.one.now) x) (sym (c.words_tell_name.ensures two.0 c.args.other.now two.1))
+    ∙ ap (λ (x : List ℕ). slice_cmp nat_cmp x (class_name_of two.0))
+    (sym (c.words_tell_name.ensures one.0 c.args.one.now one.1))
+    ∙ ap (λ (x : List ℕ). slice_cmp nat_cmp (class_name_in c.args.one.now) x)
+    (sym (c.words_tell_name.ensures two.0 c.args.other.now two.1))

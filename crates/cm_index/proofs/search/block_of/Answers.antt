@@ -1,4 +1,5 @@
-use Rattle.std.proofs.Common.{◌≡◌, ◌+◌, ◌-◌, ◌/◌, ◌<◌, ◌≤◌, ℕ, List, [], length, get_or, ap, sym, ◌∙◌, subst, arith}
+use Rattle.std.proofs.Common.{◌≡◌, ◌+◌, ◌-◌, ◌/◌, ◌<◌, ◌≤◌, ℕ, List, [], length, get_or, ap, sym}
+use Rattle.std.proofs.Common.{◌∙◌, subst, arith}
 use Rattle.std.specs.Ordering.{nat_cmp}
 use Rattle.std.specs.Cmp.Lexicographic.{slice_cmp}
 use Rattle.std.proofs.lemmas.List.{get_or_read}
@@ -24,8 +25,15 @@ at-first-requires g c =
     let lt : m < c.loop-above.above = omega (arith, c.loop-above-test.true) in
     let within : m < length c.args.blocks.now = omega (arith, lt, h.within) in
     let some : 0 < m = omega (arith, c.loop-above-test.true) in
-    let filled = later-at (λ (b : List IndexEntry). 512 ≤ length b) c.args.blocks.now m [] c.requires.half some within in
-    omega (arith, filled, ap length (half c.args.blocks.now m c.index-blocks-middle.result within c.index-blocks-middle.is))
+    let filled =
+    later-at (λ (b : List IndexEntry). 512 ≤ length b) c.args.blocks.now m [] c.requires.half
+    some within in
+    omega (
+      arith,
+      filled,
+      ap length
+          (half c.args.blocks.now m c.index-blocks-middle.result within c.index-blocks-middle.is),
+    )
 
 pub cmp_keys-requires : goal.cmp_keys-requires
 cmp_keys-requires g c =
@@ -35,11 +43,18 @@ cmp_keys-requires g c =
     let lt : m < c.loop-above.above = omega (arith, c.loop-above-test.true) in
     let within : m < length bs = omega (arith, lt, h.within) in
     let some : 0 < m = omega (arith, c.loop-above-test.true) in
-    let filled = later-at (λ (b : List IndexEntry). 512 ≤ length b) bs m [] c.requires.half some within in
-    let all = all-in (λ (e : IndexEntry). e.at < length c.args.slots.now) bs m (within-slots g.P.Kept.mark g.P.Kept.name c.args.slots.now (joined bs) c.requires.index.each) within in
+    let filled =
+    later-at (λ (b : List IndexEntry). 512 ≤ length b) bs m [] c.requires.half some within in
+    let all = all-in (λ (e : IndexEntry). e.at < length c.args.slots.now) bs m
+    (within-slots g.P.Kept.mark g.P.Kept.name c.args.slots.now (joined bs) c.requires.index.each)
+    within in
     let first = c.at-first.result in
-    let is : first ≡ get_or (get_or bs m []) 0 first = c.at-first.ensures first ∙ ap (λ (b : List IndexEntry). get_or b 0 first) (half bs m c.index-blocks-middle.result within c.index-blocks-middle.is) in
-    subst (λ (e : IndexEntry). e.at < length c.args.slots.now) (sym is) (all-at (λ (e : IndexEntry). e.at < length c.args.slots.now) (get_or bs m []) 0 first all (omega (arith, filled)))
+    let is : first ≡ get_or (get_or bs m []) 0 first = c.at-first.ensures first
+    ∙ ap (λ (b : List IndexEntry). get_or b 0 first)
+    (half bs m c.index-blocks-middle.result within c.index-blocks-middle.is) in
+    subst (λ (e : IndexEntry). e.at < length c.args.slots.now) (sym is)
+    (all-at (λ (e : IndexEntry). e.at < length c.args.slots.now) (get_or bs m []) 0 first all
+    (omega (arith, filled)))
 
 pub loop-above-preserved : goal.loop-above-preserved
 loop-above-preserved g c =
@@ -49,14 +64,21 @@ loop-above-preserved g c =
     let lt : m < c.loop-above.above = omega (arith, c.loop-above-test.true) in
     let within : m < length bs = omega (arith, lt, h.within) in
     let some : 0 < m = omega (arith, c.loop-above-test.true) in
-    let filled = later-at (λ (b : List IndexEntry). 512 ≤ length b) bs m [] c.requires.half some within in
+    let filled =
+    later-at (λ (b : List IndexEntry). 512 ≤ length b) bs m [] c.requires.half some within in
     let first = c.at-first.result in
-    let is : first ≡ get_or (get_or bs m []) 0 first = c.at-first.ensures first ∙ ap (λ (b : List IndexEntry). get_or b 0 first) (half bs m c.index-blocks-middle.result within c.index-blocks-middle.is) in
+    let is : first ≡ get_or (get_or bs m []) 0 first = c.at-first.ensures first
+    ∙ ap (λ (b : List IndexEntry). get_or b 0 first)
+    (half bs m c.index-blocks-middle.result within c.index-blocks-middle.is) in
     let k = key_sought g.P.Kept.name c.args.sought.now in
     record {
       order = lt;
       within = h.within;
-      below = before-first g.P.Kept.name c.args.slots.now bs m k first c.requires.index.rises within (omega (arith, filled)) (λ e. c.in_default.not-Greater (c.cmp_keys.ensures ∙ ap (λ (x : IndexEntry). slice_cmp nat_cmp (key_at g.P.Kept.name c.args.slots.now x) k) is ∙ e));
+      below = before-first g.P.Kept.name c.args.slots.now bs m k first c.requires.index.rises within
+          (omega (arith, filled)) (λ e. c.in_default.not-Greater
+          (c.cmp_keys.ensures ∙ ap
+          (λ (x : IndexEntry). slice_cmp nat_cmp (key_at g.P.Kept.name c.args.slots.now x) k) is
+          ∙ e));
       above = h.above;
     }
 
@@ -68,13 +90,20 @@ loop-above-preserved-in-Greater g c =
     let lt : m < c.loop-above.above = omega (arith, c.loop-above-test.true) in
     let within : m < length bs = omega (arith, lt, h.within) in
     let some : c.loop-above.at < m = omega (arith, c.loop-above-test.true) in
-    let filled = later-at (λ (b : List IndexEntry). 512 ≤ length b) bs m [] c.requires.half (omega (arith, some)) within in
+    let filled =
+    later-at (λ (b : List IndexEntry). 512 ≤ length b) bs m [] c.requires.half
+    (omega (arith, some)) within in
     let first = c.at-first.result in
-    let is : first ≡ get_or (get_or bs m []) 0 first = c.at-first.ensures first ∙ ap (λ (b : List IndexEntry). get_or b 0 first) (half bs m c.index-blocks-middle.result within c.index-blocks-middle.is) in
+    let is : first ≡ get_or (get_or bs m []) 0 first = c.at-first.ensures first
+    ∙ ap (λ (b : List IndexEntry). get_or b 0 first)
+    (half bs m c.index-blocks-middle.result within c.index-blocks-middle.is) in
     let k = key_sought g.P.Kept.name c.args.sought.now in
     record {
       order = some;
       within = omega (arith, within);
       below = h.below;
-      above = from-first g.P.Kept.name c.args.slots.now bs m k first c.requires.index.rises within (omega (arith, filled)) (sym (ap (λ (x : IndexEntry). slice_cmp nat_cmp (key_at g.P.Kept.name c.args.slots.now x) k) is) ∙ sym c.cmp_keys.ensures ∙ c.in-Greater.is);
+      above = from-first g.P.Kept.name c.args.slots.now bs m k first c.requires.index.rises within
+          (omega (arith, filled)) (sym
+          (ap (λ (x : IndexEntry). slice_cmp nat_cmp (key_at g.P.Kept.name c.args.slots.now x) k)
+          is) ∙ sym c.cmp_keys.ensures ∙ c.in-Greater.is);
     }

@@ -10,8 +10,10 @@ invariant-loop-above g l =
     record {
       order : l.at < l.above;
       within : l.above ≤ length l.blocks;
-      below : AllByRecursion (Below (key_sought g.P.Kept.name l.sought)) (keys_at g.P.Kept.name l.slots (joined (take l.at l.blocks)));
-      above : AllByRecursion (Above (key_sought g.P.Kept.name l.sought)) (keys_at g.P.Kept.name l.slots (joined (drop l.above l.blocks)));
+      below : AllByRecursion (Below (key_sought g.P.Kept.name l.sought))
+          (keys_at g.P.Kept.name l.slots (joined (take l.at l.blocks)));
+      above : AllByRecursion (Above (key_sought g.P.Kept.name l.sought))
+          (keys_at g.P.Kept.name l.slots (joined (drop l.above l.blocks)));
     }
 
 abbrev pub decreases-loop-above : goal.decreases-loop-above

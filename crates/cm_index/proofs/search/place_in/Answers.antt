@@ -17,7 +17,9 @@ loop-low-preserved-in-Less g c =
     record {
       order = omega (arith, lt);
       within = h.within;
-      below = lower g.P.Kept.name c.args.slots.now c.args.index.now middle (key_sought g.P.Kept.name c.args.sought.now) d c.requires.rises (omega (arith, lt, h.within)) (sym c.cmp_keys.ensures ∙ c.in-Less.is);
+      below = lower g.P.Kept.name c.args.slots.now c.args.index.now middle
+          (key_sought g.P.Kept.name c.args.sought.now) d c.requires.rises
+          (omega (arith, lt, h.within)) (sym c.cmp_keys.ensures ∙ c.in-Less.is);
       above = h.above;
     }
 
@@ -31,7 +33,9 @@ loop-low-preserved g c =
       order = omega arith;
       within = omega (arith, lt, h.within);
       below = h.below;
-      above = upper g.P.Kept.name c.args.slots.now c.args.index.now middle (key_sought g.P.Kept.name c.args.sought.now) d c.requires.rises (omega (arith, lt, h.within)) (sym c.cmp_keys.ensures ∙ c.in-Greater.is);
+      above = upper g.P.Kept.name c.args.slots.now c.args.index.now middle
+          (key_sought g.P.Kept.name c.args.sought.now) d c.requires.rises
+          (omega (arith, lt, h.within)) (sym c.cmp_keys.ensures ∙ c.in-Greater.is);
     }
 
 pub returns-clause-absent : goal.returns-clause-absent
@@ -40,7 +44,13 @@ returns-clause-absent g c =
     let ks = keys_at g.P.Kept.name c.args.slots.now c.args.index.now in
     let k = key_sought g.P.Kept.name c.args.sought.now in
     record {
-      within = omega (arith, h.order, h.within, length-map c.args.index.now (key_at g.P.Kept.name c.args.slots.now));
+      within = omega (
+        arith,
+        h.order,
+        h.within,
+        length-map c.args.index.now (key_at g.P.Kept.name c.args.slots.now),
+      );
       below = h.below;
-      above = subst (λ (n : ℕ). AllByRecursion (Above k) (drop n ks)) (omega (arith, h.order, c.loop-low-test.false)) h.above;
+      above = subst (λ (n : ℕ). AllByRecursion (Above k) (drop n ks))
+          (omega (arith, h.order, c.loop-low-test.false)) h.above;
     }

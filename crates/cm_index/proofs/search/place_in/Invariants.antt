@@ -10,8 +10,10 @@ invariant-loop-low g l =
     record {
       order : l.low ≤ l.high;
       within : l.high ≤ length l.index;
-      below : AllByRecursion (Below (key_sought g.P.Kept.name l.sought)) (take l.low (keys_at g.P.Kept.name l.slots l.index));
-      above : AllByRecursion (Above (key_sought g.P.Kept.name l.sought)) (drop l.high (keys_at g.P.Kept.name l.slots l.index));
+      below : AllByRecursion (Below (key_sought g.P.Kept.name l.sought))
+          (take l.low (keys_at g.P.Kept.name l.slots l.index));
+      above : AllByRecursion (Above (key_sought g.P.Kept.name l.sought))
+          (drop l.high (keys_at g.P.Kept.name l.slots l.index));
     }
 
 abbrev pub decreases-loop-low : goal.decreases-loop-low

@@ -18,32 +18,42 @@ pub place_in-requires-clause-within : goal.place_in-requires-clause-within
 place_in-requires-clause-within g c =
     let b = c.block_of-block.ensures in
     let bs = c.args.blocks.now in
-    let is = block bs c.block_of-block.result c.index-blocks-block.result c.entries.result.now b.within c.index-blocks-block.is c.entries.ensures in
+    let is = block bs c.block_of-block.result c.index-blocks-block.result c.entries.result.now
+    b.within c.index-blocks-block.is c.entries.ensures in
     subst (AllByRecursion (λ (e : IndexEntry). e.at < length c.args.slots.now)) (sym is)
-    (all-in (λ (e : IndexEntry). e.at < length c.args.slots.now) bs c.block_of-block.result (within-slots g.P.Kept.mark g.P.Kept.name c.args.slots.now (joined bs) c.requires.index.each) b.within)
+    (all-in (λ (e : IndexEntry). e.at < length c.args.slots.now) bs c.block_of-block.result
+    (within-slots g.P.Kept.mark g.P.Kept.name c.args.slots.now (joined bs) c.requires.index.each)
+    b.within)
 
 pub place_in-requires-clause-rises : goal.place_in-requires-clause-rises
 place_in-requires-clause-rises g c =
     let b = c.block_of-block.ensures in
     let bs = c.args.blocks.now in
-    let is = block bs c.block_of-block.result c.index-blocks-block.result c.entries.result.now b.within c.index-blocks-block.is c.entries.ensures in
+    let is = block bs c.block_of-block.result c.index-blocks-block.result c.entries.result.now
+    b.within c.index-blocks-block.is c.entries.ensures in
     subst (λ (es : List IndexEntry). Rise (keys_at g.P.Kept.name c.args.slots.now es)) (sym is)
-    (rises-in g.P.Kept.name c.args.slots.now bs c.block_of-block.result c.requires.index.rises b.within)
+    (rises-in g.P.Kept.name c.args.slots.now bs c.block_of-block.result
+    c.requires.index.rises b.within)
 
 pub returns-in-Ok-clause-found : goal.returns-in-Ok-clause-found
 returns-in-Ok-clause-found g c =
     let b = c.block_of-block.ensures in
     let bs = c.args.blocks.now in
     let k = key_sought g.P.Kept.name c.args.sought.now in
-    let is = block bs c.block_of-block.result c.index-blocks-block.result c.entries.result.now b.within c.index-blocks-block.is c.entries.ensures in
+    let is = block bs c.block_of-block.result c.index-blocks-block.result c.entries.result.now
+    b.within c.index-blocks-block.is c.entries.ensures in
     found-in g.P.Kept.name c.args.slots.now bs c.block_of-block.result c.in-Ok.place k b.within
-    (subst (λ (es : List IndexEntry). IsKeyAt g.P.Kept.name c.args.slots.now es c.in-Ok.place k) is c.in-Ok.ensures.found)
+    (subst (λ (es : List IndexEntry). IsKeyAt g.P.Kept.name c.args.slots.now es c.in-Ok.place k) is
+    c.in-Ok.ensures.found)
 
 pub returns-in-Err-clause-absent : goal.returns-in-Err-clause-absent
 returns-in-Err-clause-absent g c =
     let b = c.block_of-block.ensures in
     let bs = c.args.blocks.now in
     let k = key_sought g.P.Kept.name c.args.sought.now in
-    let is = block bs c.block_of-block.result c.index-blocks-block.result c.entries.result.now b.within c.index-blocks-block.is c.entries.ensures in
-    absent-in g.P.Kept.name c.args.slots.now bs c.block_of-block.result c.in-Err.place k b.within b.below b.above
-    (subst (λ (es : List IndexEntry). Parts (keys_at g.P.Kept.name c.args.slots.now es) c.in-Err.place k) is c.in-Err.ensures.absent)
+    let is = block bs c.block_of-block.result c.index-blocks-block.result c.entries.result.now
+    b.within c.index-blocks-block.is c.entries.ensures in
+    absent-in g.P.Kept.name c.args.slots.now bs c.block_of-block.result c.in-Err.place k b.within
+    b.below b.above
+    (subst (λ (es : List IndexEntry). Parts (keys_at g.P.Kept.name c.args.slots.now es)
+    c.in-Err.place k) is c.in-Err.ensures.absent)

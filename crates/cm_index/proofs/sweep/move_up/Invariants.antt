@@ -5,6 +5,7 @@ use Rattle.cm_index.proofs.sweep.move_up.Given as goal
 abbrev pub invariant-loop-i : goal.invariant-loop-i
 invariant-loop-i l =
     record {
-      items : l.index.items ≡ map (shifted l.places) (take l.i l.initial.index.items) ++ drop l.i l.initial.index.items;
+      items : l.index.items ≡ map (shifted l.places) (take l.i l.initial.index.items)
+          ++ drop l.i l.initial.index.items;
       capacity : vec_capacity l.index ≡ vec_capacity l.initial.index;
     }

@@ -13,9 +13,13 @@ sweep-requires g c =
     let bs = c.args.blocks.now.items in
     let at = c.loop-at.at in
     let now = c.index_mut.result.now in
-    let lt : at < length bs = omega (arith, c.len-at-end.ensures, c.args.blocks.now.ok.0, c.loop-at-test.true) in
-    let here : now ≡ get_or bs at now = c.index_mut.ensures.value ∙ ap (λ (l : List (List IndexEntry)). get_or l at now) h.blocks ∙ change-seam (swept_entries c.args.slots.now c.args.places.now) bs at now lt in
-    subst (AllByRecursion (λ (e : IndexEntry). e.at < length c.args.places.now)) (sym (get_or_read bs at now lt here []))
+    let lt : at < length bs =
+    omega (arith, c.len-at-end.ensures, c.args.blocks.now.ok.0, c.loop-at-test.true) in
+    let here : now ≡ get_or bs at now = c.index_mut.ensures.value
+    ∙ ap (λ (l : List (List IndexEntry)). get_or l at now) h.blocks
+    ∙ change-seam (swept_entries c.args.slots.now c.args.places.now) bs at now lt in
+    subst (AllByRecursion (λ (e : IndexEntry). e.at < length c.args.places.now))
+    (sym (get_or_read bs at now lt here []))
     (all-in (λ (e : IndexEntry). e.at < length c.args.places.now) bs at c.requires lt)
 
 pub loop-at-preserved : goal.loop-at-preserved
@@ -25,9 +29,13 @@ loop-at-preserved g c =
     let at = c.loop-at.at in
     let now = c.index_mut.result.now in
     let f = swept_entries c.args.slots.now c.args.places.now in
-    let lt : at < length bs = omega (arith, c.len-at-end.ensures, c.args.blocks.now.ok.0, c.loop-at-test.true) in
-    let here : now ≡ get_or bs at now = c.index_mut.ensures.value ∙ ap (λ (l : List (List IndexEntry)). get_or l at now) h.blocks ∙ change-seam f bs at now lt in
+    let lt : at < length bs =
+    omega (arith, c.len-at-end.ensures, c.args.blocks.now.ok.0, c.loop-at-test.true) in
+    let here : now ≡ get_or bs at now = c.index_mut.ensures.value
+    ∙ ap (λ (l : List (List IndexEntry)). get_or l at now) h.blocks
+    ∙ change-seam f bs at now lt in
     record {
-      blocks = change-more f bs c.loop-at.blocks.items at now _ lt h.blocks (subst (λ (b : List IndexEntry). c.sweep.new.self ≡ f b) here c.sweep.ensures);
+      blocks = change-more f bs c.loop-at.blocks.items at now _ lt h.blocks
+          (subst (λ (b : List IndexEntry). c.sweep.new.self ≡ f b) here c.sweep.ensures);
       capacity = h.capacity;
     }

@@ -6,4 +6,6 @@ use Rattle.cm_index.proofs.sweep.sweep_entries.Goals as goal
 
 pub move_up-requires : goal.move_up-requires
 move_up-requires g c =
-    rw (c.keep_living.ensures.index) (all-kept (leads_to_life c.args.slots.now) (λ (e : IndexEntry). e.at < length c.args.places.now) c.args.entries.now.items c.requires)
+    rw (c.keep_living.ensures.index)
+    (all-kept (leads_to_life c.args.slots.now)
+    (λ (e : IndexEntry). e.at < length c.args.places.now) c.args.entries.now.items c.requires)

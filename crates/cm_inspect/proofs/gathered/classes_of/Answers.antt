@@ -9,7 +9,10 @@ use Rattle.cm_inspect.proofs.gathered.classes_of.Goals as goal
 
 pub returns-in-Some : goal.returns-in-Some
 returns-in-Some c =
-    let there = ap (λ (o : Option (BTreeMap (Vec ℕ) ListedClass)). map (λ (e : List ℕ × ListedClass). e.1) (kept_in o))
+    let there =
+    ap (λ (o : Option (BTreeMap (Vec ℕ) ListedClass)). map (λ (e : List ℕ × ListedClass). e.1)
+    (kept_in o))
     c.in-Some.ensures.value in
     IfOk-weaker c.in_order.result _ _
-    (λ list is. is ∙ (sym (values-by_bytes c.in-Some.classes.now.entries) ∙ there)) c.in_order.ensures
+    (λ list is. is ∙ (sym (values-by_bytes c.in-Some.classes.now.entries) ∙ there))
+    c.in_order.ensures

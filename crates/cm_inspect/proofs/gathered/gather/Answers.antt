@@ -7,7 +7,8 @@ pub loop-row-init : goal.loop-row-init
 loop-row-init c = record {
   done = [];
   all = sym c.in_ok-left.ensures ∙ sym (append-nil (map (λ r. r.now) c.in_ok-left.left.items));
-  gathers = none_gathered c.new.result c.new-2.result _ c.new.ensures.empty c.new-2.ensures.empty refl refl;
+  gathers = none_gathered c.new.result c.new-2.result _ c.new.ensures.empty
+      c.new-2.ensures.empty refl refl;
 }
 
 pub loop-row-preserved : goal.loop-row-preserved

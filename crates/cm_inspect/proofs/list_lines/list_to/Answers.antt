@@ -29,7 +29,8 @@ returns-in-Ok-clause-told g c =
         alike = record { stands = opens.stands; listed = refl };
       };
       device = λ e. absurd (cc);
-      written = subst (λ (r : Result Status InspectFault). Writes held holds (list_lines (listing rows)) Done r)
+      written = subst (λ (r : Result Status InspectFault). Writes held holds
+          (list_lines (listing rows)) Done r)
           (sym c.with_disk.ensures.status)
           (subst (λ (l : List (Row (List ℕ))).
           Writes held holds (list_lines (listing l)) Done c.tell_list-status.result) same

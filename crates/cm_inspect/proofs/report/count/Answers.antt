@@ -32,7 +32,8 @@ loop-row-preserved c =
     let p = apart c.in-Some.row.now c.next.new.self in
     let numbers = ap (λ (rows : List (Row (List ℕ))). length (numbers_in rows)) c.in-Some.ensures in
     let classes = ap (λ (rows : List (Row (List ℕ))). length (classes_in rows)) c.in-Some.ensures in
-    let firsts = ap (λ (rows : List (Row (List ℕ))). first_records (classes_in rows)) c.in-Some.ensures in
+    let firsts =
+    ap (λ (rows : List (Row (List ℕ))). first_records (classes_in rows)) c.in-Some.ensures in
     let now = c.with-report.ensures in
     record {
       loaders = omega (arith, l.invariant.loaders, numbers, p.loaders, now.loaders);
@@ -45,9 +46,12 @@ loop-row-preserved c =
 pub returns : goal.returns
 returns c =
     let l = c.loop-row in
-    let numbers = ap (λ (rows : List (Row (List ℕ))). length (numbers_in rows)) c.in_default.ensures in
-    let classes = ap (λ (rows : List (Row (List ℕ))). length (classes_in rows)) c.in_default.ensures in
-    let firsts = ap (λ (rows : List (Row (List ℕ))). first_records (classes_in rows)) c.in_default.ensures in
+    let numbers =
+    ap (λ (rows : List (Row (List ℕ))). length (numbers_in rows)) c.in_default.ensures in
+    let classes =
+    ap (λ (rows : List (Row (List ℕ))). length (classes_in rows)) c.in_default.ensures in
+    let firsts =
+    ap (λ (rows : List (Row (List ℕ))). first_records (classes_in rows)) c.in_default.ensures in
     record {
       loaders = omega (arith, l.invariant.loaders, numbers);
       classes = omega (arith, l.invariant.classes, classes);

@@ -10,7 +10,8 @@ invariant-loop-rows l =
       hole : (limit : ℕ) → IsKept l.fn.top limit l.fn.rows.items → ((g : ℕ)
           → is_in l.fn.given g ≡ true → g < limit) → IsHole l.fn.top limit l.rows.items l.block;
       covered : (g : ℕ)
-          → (is_in l.block g || is_covered l.rows.items g) ≡ (is_in l.fn.given g || is_covered l.fn.rows.items g);
+          → (is_in l.block g || is_covered l.rows.items g)
+          ≡ (is_in l.fn.given g || is_covered l.fn.rows.items g);
     }
 
 abbrev pub decreases-loop-rows : goal.decreases-loop-rows

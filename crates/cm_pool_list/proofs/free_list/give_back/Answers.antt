@@ -19,11 +19,13 @@ loop-half-init c =
     let within : at ≤ length xs = subst
     (λ (ys : List Block). at ≤ length ys) lent c.place_of-at.ensures.within in
     record {
-      hole = hole-begin c.args.top xs at c.args.given c.requires.listed c.requires.order c.requires.taken within
+      hole = hole-begin c.args.top xs at c.args.given c.requires.listed c.requires.order
+          c.requires.taken within
           (subst (λ (ys : List Block). AllByRecursion
           (λ x. start x ≤ start c.args.given) (take at ys)) lent c.place_of-at.ensures.front)
           (subst (λ (ys : List Block). at < length ys
-          → start c.args.given < start (get_or ys at c.args.given)) lent c.place_of-at.ensures.next);
+          → start c.args.given < start (get_or ys at c.args.given)) lent
+          c.place_of-at.ensures.next);
       within = within;
       covered = λ n. refl;
       capacity = omega arith;
@@ -39,13 +41,17 @@ loop-half-preserved c =
     let above : c.above-block.result ≡ block_above b = c.above-block.ensures.above in
     let removed : ys ≡ remove xs k = c.remove.ensures.items in
     let beside : IsHalfBeside xs k at b = subst
-    (λ (zs : List Block). IsHalfBeside zs k at b) c.deref-in-loop-half.ensures.value c.in-Some.ensures.some in
+    (λ (zs : List Block). IsHalfBeside zs k at b) c.deref-in-loop-half.ensures.value
+    c.in-Some.ensures.some in
     record {
       hole = subst
-          (λ x. IsHole c.args.top (take k ys) x (drop k ys)) (sym above) (hole-join c.args.top xs ys k at b c.loop-half.invariant.within beside c.in-Some.ensures.below_top removed c.loop-half.invariant.hole);
+          (λ x. IsHole c.args.top (take k ys) x (drop k ys)) (sym above)
+          (hole-join c.args.top xs ys k at b c.loop-half.invariant.within beside
+          c.in-Some.ensures.below_top removed c.loop-half.invariant.hole);
       within = omega (arith, beside.within, ap length removed, length-remove xs k beside.within);
       covered = λ n. ap (λ x. is_in x n || is_covered ys n) above ∙ ap
-          (λ zs. is_in (block_above b) n || is_covered zs n) removed ∙ covered-join xs k at b n beside ∙ c.loop-half.invariant.covered n;
+          (λ zs. is_in (block_above b) n || is_covered zs n) removed
+          ∙ covered-join xs k at b n beside ∙ c.loop-half.invariant.covered n;
       capacity = omega (arith, c.remove.ensures.capacity);
     }
 
@@ -55,9 +61,11 @@ loop-half-smaller c = omega (arith, c.in-Some.ensures.below_top, c.above-block.e
 filled : (c : In_default)
     → IsFreeList c.args.top (insert c.loop-half.free.items c.loop-half.at c.loop-half.block)
 filled c =
-    hole-fill c.args.top c.loop-half.free.items c.loop-half.at c.loop-half.block c.loop-half.invariant.within c.loop-half.invariant.hole
+    hole-fill c.args.top c.loop-half.free.items c.loop-half.at c.loop-half.block
+    c.loop-half.invariant.within c.loop-half.invariant.hole
     (subst (λ (ys : List Block). c.loop-half.block.order < c.args.top
-    → HasNoHalfBeside ys c.loop-half.at c.loop-half.block) c.deref-in-loop-half.ensures.value c.in_default.ensures.none)
+    → HasNoHalfBeside ys c.loop-half.at c.loop-half.block) c.deref-in-loop-half.ensures.value
+    c.in_default.ensures.none)
 
 pub put-requires-clause-room : goal.put-requires-clause-room
 put-requires-clause-room c =
@@ -65,14 +73,25 @@ put-requires-clause-room c =
     let at = c.loop-half.at in
     let b = c.loop-half.block in
     let short : length (insert xs at b) ≤ vec_capacity c.args.free.now =
-    length-below c.args.top (insert xs at b) (vec_capacity c.args.free.now) (omega (arith, c.requires.top)) (filled (goal.at.put-requires-clause-room c).In_default).apart
-    (λ n h. c.requires.room n (sym (c.loop-half.invariant.covered n) ∙ sym (covered-insert xs at b n) ∙ h))
+    length-below c.args.top (insert xs at b) (vec_capacity c.args.free.now)
+    (omega (arith, c.requires.top)) (filled (goal.at.put-requires-clause-room c).In_default).apart
+    (λ n h. c.requires.room n (sym (c.loop-half.invariant.covered n)
+    ∙ sym (covered-insert xs at b n) ∙ h))
     in
-    omega (arith, c.loop-half.free.ok.0, c.loop-half.invariant.capacity, length-insert xs at b c.loop-half.invariant.within)
+    omega (
+      arith,
+      c.loop-half.free.ok.0,
+      c.loop-half.invariant.capacity,
+      length-insert xs at b c.loop-half.invariant.within,
+    )
 
 pub returns-clause-listed : goal.returns-clause-listed
-returns-clause-listed c = subst (IsFreeList c.args.top) (sym c.put.ensures.items) (filled (goal.at.returns-clause-listed c).In_default)
+returns-clause-listed c =
+    subst (IsFreeList c.args.top) (sym c.put.ensures.items)
+    (filled (goal.at.returns-clause-listed c).In_default)
 
 pub returns-clause-covered : goal.returns-clause-covered
 returns-clause-covered c = λ n.
-    ap (λ ys. is_covered ys n) c.put.ensures.items ∙ covered-insert c.loop-half.free.items c.loop-half.at c.loop-half.block n ∙ c.loop-half.invariant.covered n
+    ap (λ ys. is_covered ys n) c.put.ensures.items
+    ∙ covered-insert c.loop-half.free.items c.loop-half.at c.loop-half.block n
+    ∙ c.loop-half.invariant.covered n

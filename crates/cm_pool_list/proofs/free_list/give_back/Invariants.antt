@@ -8,7 +8,8 @@ invariant-loop-half l =
       hole : IsHole l.fn.top (take l.at l.free.items) l.block (drop l.at l.free.items);
       within : l.at ≤ length l.free.items;
       covered : (n : ℕ)
-          → (is_in l.block n || is_covered l.free.items n) ≡ (is_in l.fn.given n || is_covered l.fn.free.items n);
+          → (is_in l.block n || is_covered l.free.items n)
+          ≡ (is_in l.fn.given n || is_covered l.fn.free.items n);
       capacity : vec_capacity l.fn.free ≤ vec_capacity l.free;
     }
 

@@ -8,9 +8,11 @@ use Rattle.cm_record.proofs.code.find_code.Goals as goal
 pub loop-index-preserved : goal.loop-index-preserved
 loop-index-preserved c = λ d is k lt.
     let w = c.args.words.now in
-    let Missed = λ (n : ℕ). names_utf8 d (first_of (get_or w (c.args.at + 2 * n) 0)) code_name ≡ false in
+    let Missed =
+    λ (n : ℕ). names_utf8 d (first_of (get_or w (c.args.at + 2 * n) 0)) code_name ≡ false in
     elim (eq-or-lt_of_le {n = k} {m = c.loop-index.index} (omega arith)) [
       | inl same ↦ subst Missed (sym same) (ap
-          (λ n. names_utf8 d n code_name) (sym c.first-name.ensures) ∙ (sym (c.in-Some.ensures d is) ∙ c.if-is_found.false))
+          (λ n. names_utf8 d n code_name) (sym c.first-name.ensures)
+          ∙ (sym (c.in-Some.ensures d is) ∙ c.if-is_found.false))
       | inr less ↦ c.loop-index.invariant d is k less
     ]

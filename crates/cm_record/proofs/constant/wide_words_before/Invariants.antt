@@ -9,4 +9,6 @@ decreases-loop-before l = l.before
 abbrev pub invariant-loop-before : goal.invariant-loop-before
 invariant-loop-before l =
     (l.before ≤ l.place) × (l.place ≤ length l.words)
-    × (is_second_word l.words l.place ≡ (if (l.place - l.before) % 2 == 1 then not (is_second_word l.words l.before) else is_second_word l.words l.before))
+    × (is_second_word l.words l.place
+    ≡ (if (l.place - l.before) % 2 == 1 then not (is_second_word l.words l.before)
+    else is_second_word l.words l.before))

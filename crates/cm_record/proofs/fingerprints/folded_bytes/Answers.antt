@@ -10,7 +10,9 @@ loop-left-preserved c =
     let l = c.loop-left in
     let left = l.left.now in
     let some : length left ≡ 0
-    → ⊥ = λ e. let both : false ≡ true = sym c.loop-left-test.true ∙ (c.is_empty.ensures ∙ eq-eqb (length left) 0 e) in cc in
+    → ⊥ = λ e. let both : false ≡ true =
+    sym c.loop-left-test.true ∙ (c.is_empty.ensures ∙ eq-eqb (length left) 0 e) in cc in
     let more = packed_more left (min (length left) 8) refl (omega (arith, some)) in
-    ap₂ folded (c.further-number.ensures ∙ ap (further l.number) c.word_of.ensures) (ap packed c.behind_eight-left.ensures)
+    ap₂ folded (c.further-number.ensures ∙ ap (further l.number) c.word_of.ensures)
+    (ap packed c.behind_eight-left.ensures)
     ∙ (sym (ap (folded l.number) more) ∙ l.invariant)

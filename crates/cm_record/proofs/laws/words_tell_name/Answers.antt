@@ -12,7 +12,8 @@ name_told : (c : ClassFile) (words : List ℕ) → IsRecordOf c words
 unfolding class_name_in
 name_told c words is = ap
     (λ r. elim r [ Some run ↦ run.0 | None ↦ [] ])
-    (run_read words (name_run words (second_of (get_or words 1 0))) (class_name_of c) (own_name c words is))
+    (run_read words (name_run words (second_of (get_or words 1 0))) (class_name_of c)
+    (own_name c words is))
 
 pub returns : goal.returns
 returns c = name_told

@@ -7,4 +7,5 @@ use Rattle.cm_record.proofs.member.find_member.Given as goal
 
 abbrev pub invariant-loop-index : goal.invariant-loop-index
 invariant-loop-index l = (c : ClassFile) → IsRecordOf c l.words → (k : ℕ) → k < l.index
-    → leads_to c l.name l.descriptor (second_of (get_or l.words (l.at + 2 * k) 0)) (third_of (get_or l.words (l.at + 2 * k) 0)) ≡ false
+    → leads_to c l.name l.descriptor (second_of (get_or l.words (l.at + 2 * k) 0))
+    (third_of (get_or l.words (l.at + 2 * k) 0)) ≡ false

@@ -11,8 +11,12 @@ loop-index-preserved c = λ d is k lt.
     let word = get_or w (c.args.at + 2 * c.loop-index.index) 0 in
     let name = c.of-names.ensures d is (second_of word) (omega arith) in
     let descriptor = c.of-descriptors.ensures d is (third_of word) (omega arith) in
-    let Missed = λ (n : ℕ). leads_to d c.args.name.now c.args.descriptor.now (second_of (get_or w (c.args.at + 2 * n) 0)) (third_of (get_or w (c.args.at + 2 * n) 0)) ≡ false in
+    let Missed =
+    λ (n : ℕ). leads_to d c.args.name.now c.args.descriptor.now
+    (second_of (get_or w (c.args.at + 2 * n) 0)) (third_of (get_or w (c.args.at + 2 * n) 0))
+    ≡ false in
     elim (eq-or-lt_of_le {n = k} {m = c.loop-index.index} (omega arith)) [
-      | inl same ↦ subst Missed (sym same) ((λ i. sym name i && sym descriptor i) ∙ (sym c.is_word_marked.ensures ∙ c.if-is_word_marked.false))
+      | inl same ↦ subst Missed (sym same) ((λ i. sym name i && sym descriptor i)
+          ∙ (sym c.is_word_marked.ensures ∙ c.if-is_word_marked.false))
       | inr less ↦ c.loop-index.invariant d is k less
     ]

@@ -15,4 +15,5 @@ name_run-requires c = directory_within c.args.words.now c.requires
 pub returns : goal.returns
 returns c = λ d is.
     let words = c.args.words.now in
-    subst (λ (r : Run). IsRunOf words r (class_name_of d)) (sym (c.name_run.ensures ∙ ap (name_run words) c.second.ensures)) (own_name d words is)
+    subst (λ (r : Run). IsRunOf words r (class_name_of d))
+    (sym (c.name_run.ensures ∙ ap (name_run words) c.second.ensures)) (own_name d words is)

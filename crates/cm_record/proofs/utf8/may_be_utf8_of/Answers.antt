@@ -13,14 +13,23 @@ returns-then-index-first-clause-only c = λ d is no.
     (λ looks. omega (arith, looks.within, c.first.ensures, c.if-index-first.true))
 
 pub bounds-words-index : goal.bounds-words-index
-bounds-words-index c = omega (arith, directory_within c.args.words.now c.requires, c.first.ensures, c.if-index-first.false)
+bounds-words-index c =
+    omega (
+      arith,
+      directory_within c.args.words.now c.requires,
+      c.first.ensures,
+      c.if-index-first.false,
+    )
 
 pub returns-then-first-tag-clause-only : goal.returns-then-first-tag-clause-only
 returns-then-first-tag-clause-only c = λ d is no.
     leads_to_none d c.args.words.now is c.args.index c.args.bytes.now
-    (λ looks. let yes = eq-eqb _ _ (c.second.ensures ∙ looks.word.count_is) in let both = sym yes ∙ no in absurd (cc))
+    (λ looks. let yes = eq-eqb _ _ (c.second.ensures ∙ looks.word.count_is) in
+    let both = sym yes ∙ no in absurd (cc))
 
 pub returns-else-first-tag-clause-only : goal.returns-else-first-tag-clause-only
 returns-else-first-tag-clause-only c = λ d is no.
     leads_to_none d c.args.words.now is c.args.index c.args.bytes.now
-    (λ looks. let yes = eq-eqb _ _ (c.first-2.ensures ∙ looks.word.tag ∙ sym c.tag.ensures.number) in let both = sym yes ∙ no in absurd (cc))
+    (λ looks. let yes =
+    eq-eqb _ _ (c.first-2.ensures ∙ looks.word.tag ∙ sym c.tag.ensures.number) in let both =
+    sym yes ∙ no in absurd (cc))

@@ -4,7 +4,8 @@ use Rattle.cm_record_reading.proofs.checking.skip_attributes.Given as goal
 
 abbrev pub invariant-loop : goal.invariant-loop
 invariant-loop l = record {
-  kept : left2 (attributes_from l.total (l.count - l.counter) l.attributes l.runs) ≡ left2 (attributes_from l.total l.count l.fn.attributes l.fn.runs);
+  kept : left2 (attributes_from l.total (l.count - l.counter) l.attributes l.runs)
+      ≡ left2 (attributes_from l.total l.count l.fn.attributes l.fn.runs);
   suffix : length l.attributes ≤ length l.fn.attributes;
   runs_suffix : length l.runs ≤ length l.fn.runs;
 }

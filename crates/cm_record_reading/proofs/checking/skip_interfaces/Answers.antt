@@ -6,17 +6,23 @@ use Rattle.cm_record_reading.proofs.checking.skip_interfaces.Goals as goal
 
 pub returns-in_default : goal.returns-in_default
 returns-in_default c =
-    interfaces_short c.loop.rest.now (left1 (interfaces_from c.args.count c.args.words.now)) (c.args.count - c.loop.counter) c.loop.invariant (omega (arith, c.loop-test.true)) c.in_default.len_below
+    interfaces_short c.loop.rest.now (left1 (interfaces_from c.args.count c.args.words.now))
+    (c.args.count - c.loop.counter) c.loop.invariant (omega (arith, c.loop-test.true))
+    c.in_default.len_below
 
 pub returns-then-word-ge-SECOND : goal.returns-then-word-ge-SECOND
 returns-then-word-ge-SECOND c =
-    interfaces_wrong c.loop.rest.now (left1 (interfaces_from c.args.count c.args.words.now)) (c.args.count - c.loop.counter) c.loop.invariant (omega (arith, c.loop-test.true)) c.in-len1-up.len_at_least c.if-word-ge-SECOND.true
+    interfaces_wrong c.loop.rest.now (left1 (interfaces_from c.args.count c.args.words.now))
+    (c.args.count - c.loop.counter) c.loop.invariant (omega (arith, c.loop-test.true))
+    c.in-len1-up.len_at_least c.if-word-ge-SECOND.true
 
 pub loop-preserved : goal.loop-preserved
 loop-preserved c =
-    interfaces_next c.loop.rest.now (left1 (interfaces_from c.args.count c.args.words.now)) (c.args.count - c.loop.counter) (c.args.count - (c.loop.counter + 1)) c.loop.invariant
+    interfaces_next c.loop.rest.now (left1 (interfaces_from c.args.count c.args.words.now))
+    (c.args.count - c.loop.counter) (c.args.count - (c.loop.counter + 1)) c.loop.invariant
     (omega (arith, c.loop-test.true)) c.in-len1-up.len_at_least c.if-word-ge-SECOND.false
 
 pub returns : goal.returns
 returns c =
-    interfaces_done c.loop.rest.now (left1 (interfaces_from c.args.count c.args.words.now)) (c.args.count - c.loop.counter) c.loop.invariant (omega (arith, c.loop-test.false))
+    interfaces_done c.loop.rest.now (left1 (interfaces_from c.args.count c.args.words.now))
+    (c.args.count - c.loop.counter) c.loop.invariant (omega (arith, c.loop-test.false))

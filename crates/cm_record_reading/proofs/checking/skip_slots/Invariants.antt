@@ -4,6 +4,7 @@ use Rattle.cm_record_reading.proofs.checking.skip_slots.Given as goal
 
 abbrev pub invariant-loop : goal.invariant-loop
 invariant-loop l = record {
-  kept : left2 (slots_at l.total l.second (l.count - l.counter) l.main l.runs) ≡ left2 (slots_at l.total false l.count l.fn.main l.fn.runs);
+  kept : left2 (slots_at l.total l.second (l.count - l.counter) l.main l.runs)
+      ≡ left2 (slots_at l.total false l.count l.fn.main l.fn.runs);
   suffix : length l.runs ≤ length l.fn.runs;
 }

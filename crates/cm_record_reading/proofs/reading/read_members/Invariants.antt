@@ -4,7 +4,9 @@ use Rattle.cm_record_reading.proofs.reading.read_members.Given as goal
 
 abbrev pub invariant-loop : goal.invariant-loop
 invariant-loop l = record {
-  kept : with_front4 l.these.items (members_from l.total (l.count - l.counter) l.main l.attributes l.runs) ≡ members_from l.total l.count l.fn.main l.fn.attributes l.fn.runs;
+  kept : with_front4 l.these.items
+      (members_from l.total (l.count - l.counter) l.main l.attributes l.runs)
+      ≡ members_from l.total l.count l.fn.main l.fn.attributes l.fn.runs;
   suffix : length l.attributes ≤ length l.fn.attributes;
   runs_suffix : length l.runs ≤ length l.fn.runs;
 }

@@ -5,19 +5,29 @@ use Rattle.cm_record_reading.proofs.reading.read_run.Goals as goal
 
 pub returns-in_default-clause-read : goal.returns-in_default-clause-read
 returns-in_default-clause-read c =
-    run_short c.loop-left.bytes.items c.loop-left.rest.now c.loop-left.left (run_at c.args.count c.args.words.now) c.loop-left.invariant.kept c.loop-left-test.true c.in_default.len_below
+    run_short c.loop-left.bytes.items c.loop-left.rest.now c.loop-left.left
+    (run_at c.args.count c.args.words.now) c.loop-left.invariant.kept c.loop-left-test.true
+    c.in_default.len_below
 
 pub returns-then-word_of-word-clause-read : goal.returns-then-word_of-word-clause-read
 returns-then-word_of-word-clause-read c =
-    run_wrong c.loop-left.bytes.items c.loop-left.rest.now c.bytes_of-eight.result c.loop-left.left c.min.result c.word_of.result (run_at c.args.count c.args.words.now)
-    c.loop-left.invariant.kept c.loop-left-test.true c.in-len1-up.len_at_least c.bytes_of-eight.ensures c.min.ensures c.word_of.ensures c.if-word_of-word.true
+    run_wrong c.loop-left.bytes.items c.loop-left.rest.now c.bytes_of-eight.result c.loop-left.left
+    c.min.result c.word_of.result (run_at c.args.count c.args.words.now)
+    c.loop-left.invariant.kept c.loop-left-test.true c.in-len1-up.len_at_least
+    c.bytes_of-eight.ensures c.min.ensures c.word_of.ensures c.if-word_of-word.true
 
 pub loop-left-preserved : goal.loop-left-preserved
 loop-left-preserved c = record {
   suffix = search rules;
-  kept = run_next c.loop-left.bytes.items c.extend_from_slice.new.self.items c.loop-left.rest.now c.bytes_of-eight.result c.loop-left.left c.min.result c.word_of.result (run_at c.args.count c.args.words.now)
-      c.loop-left.invariant.kept c.loop-left-test.true c.in-len1-up.len_at_least c.bytes_of-eight.ensures c.min.ensures c.word_of.ensures c.if-word_of-word.false c.in_ok-extend_from_slice.ensures.items;
+  kept = run_next c.loop-left.bytes.items c.extend_from_slice.new.self.items c.loop-left.rest.now
+      c.bytes_of-eight.result c.loop-left.left c.min.result c.word_of.result
+      (run_at c.args.count c.args.words.now)
+      c.loop-left.invariant.kept c.loop-left-test.true c.in-len1-up.len_at_least
+      c.bytes_of-eight.ensures c.min.ensures c.word_of.ensures c.if-word_of-word.false
+      c.in_ok-extend_from_slice.ensures.items;
 }
 
 pub returns-clause-read : goal.returns-clause-read
-returns-clause-read c = run_done c.loop-left.bytes.items c.loop-left.rest.now c.loop-left.left (run_at c.args.count c.args.words.now) c.loop-left.invariant.kept c.loop-left-test.false
+returns-clause-read c =
+    run_done c.loop-left.bytes.items c.loop-left.rest.now c.loop-left.left
+    (run_at c.args.count c.args.words.now) c.loop-left.invariant.kept c.loop-left-test.false

@@ -6,7 +6,8 @@ use Rattle.cm_record_writing.proofs.Room.{grown, grown_attributes, attributes_an
 use Rattle.cm_record_writing.proofs.Steps.{attributes_and_runs}
 use Rattle.cm_record_writing.proofs.parts.push_attributes_and_runs.Goals as goal
 
-pub push_member_attributes-next-requires-clause-room : goal.push_member_attributes-next-requires-clause-room
+pub push_member_attributes-next-requires-clause-room :
+    goal.push_member_attributes-next-requires-clause-room
 push_member_attributes-next-requires-clause-room c =
     let k = c.args.class.now in
     omega (
@@ -17,14 +18,18 @@ push_member_attributes-next-requires-clause-room c =
       ap (λ xs. length (member_attributes xs)) c.fields.ensures,
     )
 
-pub push_member_attributes-next-requires-2-clause-room : goal.push_member_attributes-next-requires-2-clause-room
+pub push_member_attributes-next-requires-2-clause-room :
+    goal.push_member_attributes-next-requires-2-clause-room
 push_member_attributes-next-requires-2-clause-room c =
     let k = c.args.class.now in
     omega (
       arith,
       c.requires.room,
       attributes_and_runs_len k (attribute_runs_at k),
-      grown_attributes c.args.words.now.words c.push_member_attributes-next.new.words.words c.args.places.now.attribute_runs (member_attributes c.fields.result.now) (member_attributes k.fields) c.push_member_attributes-next.ensures.words (ap member_attributes c.fields.ensures),
+      grown_attributes c.args.words.now.words c.push_member_attributes-next.new.words.words
+          c.args.places.now.attribute_runs (member_attributes c.fields.result.now)
+          (member_attributes k.fields) c.push_member_attributes-next.ensures.words
+          (ap member_attributes c.fields.ensures),
       c.push_member_attributes-next.ensures.capacity,
       attributes_len c.push_member_attributes-next.result (member_attributes c.methods.result.now),
       ap (λ xs. length (member_attributes xs)) c.methods.ensures,
@@ -37,9 +42,15 @@ push_attributes-requires-clause-room c =
       arith,
       c.requires.room,
       attributes_and_runs_len k (attribute_runs_at k),
-      grown_attributes c.args.words.now.words c.push_member_attributes-next.new.words.words c.args.places.now.attribute_runs (member_attributes c.fields.result.now) (member_attributes k.fields) c.push_member_attributes-next.ensures.words (ap member_attributes c.fields.ensures),
+      grown_attributes c.args.words.now.words c.push_member_attributes-next.new.words.words
+          c.args.places.now.attribute_runs (member_attributes c.fields.result.now)
+          (member_attributes k.fields) c.push_member_attributes-next.ensures.words
+          (ap member_attributes c.fields.ensures),
       c.push_member_attributes-next.ensures.capacity,
-      grown_attributes c.push_member_attributes-next.new.words.words c.push_member_attributes-next-2.new.words.words c.push_member_attributes-next.result (member_attributes c.methods.result.now) (member_attributes k.methods) c.push_member_attributes-next-2.ensures.words (ap member_attributes c.methods.ensures),
+      grown_attributes c.push_member_attributes-next.new.words.words
+          c.push_member_attributes-next-2.new.words.words c.push_member_attributes-next.result
+          (member_attributes c.methods.result.now) (member_attributes k.methods)
+          c.push_member_attributes-next-2.ensures.words (ap member_attributes c.methods.ensures),
       c.push_member_attributes-next-2.ensures.capacity,
       attributes_len c.push_member_attributes-next-2.result c.attributes.result.now,
       ap length c.attributes.ensures,
@@ -52,11 +63,19 @@ push_utf8_runs-requires c =
       arith,
       c.requires.room,
       attributes_and_runs_len k (attribute_runs_at k),
-      grown_attributes c.args.words.now.words c.push_member_attributes-next.new.words.words c.args.places.now.attribute_runs (member_attributes c.fields.result.now) (member_attributes k.fields) c.push_member_attributes-next.ensures.words (ap member_attributes c.fields.ensures),
+      grown_attributes c.args.words.now.words c.push_member_attributes-next.new.words.words
+          c.args.places.now.attribute_runs (member_attributes c.fields.result.now)
+          (member_attributes k.fields) c.push_member_attributes-next.ensures.words
+          (ap member_attributes c.fields.ensures),
       c.push_member_attributes-next.ensures.capacity,
-      grown_attributes c.push_member_attributes-next.new.words.words c.push_member_attributes-next-2.new.words.words c.push_member_attributes-next.result (member_attributes c.methods.result.now) (member_attributes k.methods) c.push_member_attributes-next-2.ensures.words (ap member_attributes c.methods.ensures),
+      grown_attributes c.push_member_attributes-next.new.words.words
+          c.push_member_attributes-next-2.new.words.words c.push_member_attributes-next.result
+          (member_attributes c.methods.result.now) (member_attributes k.methods)
+          c.push_member_attributes-next-2.ensures.words (ap member_attributes c.methods.ensures),
       c.push_member_attributes-next-2.ensures.capacity,
-      grown_attributes c.push_member_attributes-next-2.new.words.words c.push_attributes.new.words.words c.push_member_attributes-next-2.result c.attributes.result.now k.attributes c.push_attributes.ensures.words c.attributes.ensures,
+      grown_attributes c.push_member_attributes-next-2.new.words.words
+          c.push_attributes.new.words.words c.push_member_attributes-next-2.result
+          c.attributes.result.now k.attributes c.push_attributes.ensures.words c.attributes.ensures,
       c.push_attributes.ensures.capacity,
       ap (λ xs. length (utf8_runs xs)) c.slots.ensures,
     )
@@ -68,13 +87,23 @@ push_member_runs-requires c =
       arith,
       c.requires.room,
       attributes_and_runs_len k (attribute_runs_at k),
-      grown_attributes c.args.words.now.words c.push_member_attributes-next.new.words.words c.args.places.now.attribute_runs (member_attributes c.fields.result.now) (member_attributes k.fields) c.push_member_attributes-next.ensures.words (ap member_attributes c.fields.ensures),
+      grown_attributes c.args.words.now.words c.push_member_attributes-next.new.words.words
+          c.args.places.now.attribute_runs (member_attributes c.fields.result.now)
+          (member_attributes k.fields) c.push_member_attributes-next.ensures.words
+          (ap member_attributes c.fields.ensures),
       c.push_member_attributes-next.ensures.capacity,
-      grown_attributes c.push_member_attributes-next.new.words.words c.push_member_attributes-next-2.new.words.words c.push_member_attributes-next.result (member_attributes c.methods.result.now) (member_attributes k.methods) c.push_member_attributes-next-2.ensures.words (ap member_attributes c.methods.ensures),
+      grown_attributes c.push_member_attributes-next.new.words.words
+          c.push_member_attributes-next-2.new.words.words c.push_member_attributes-next.result
+          (member_attributes c.methods.result.now) (member_attributes k.methods)
+          c.push_member_attributes-next-2.ensures.words (ap member_attributes c.methods.ensures),
       c.push_member_attributes-next-2.ensures.capacity,
-      grown_attributes c.push_member_attributes-next-2.new.words.words c.push_attributes.new.words.words c.push_member_attributes-next-2.result c.attributes.result.now k.attributes c.push_attributes.ensures.words c.attributes.ensures,
+      grown_attributes c.push_member_attributes-next-2.new.words.words
+          c.push_attributes.new.words.words c.push_member_attributes-next-2.result
+          c.attributes.result.now k.attributes c.push_attributes.ensures.words c.attributes.ensures,
       c.push_attributes.ensures.capacity,
-      grown c.push_attributes.new.words.words c.push_utf8_runs.new.words.words (utf8_runs c.slots.result.now) (utf8_runs k.slots) c.push_utf8_runs.ensures.words (ap (λ xs. length (utf8_runs xs)) c.slots.ensures),
+      grown c.push_attributes.new.words.words c.push_utf8_runs.new.words.words
+          (utf8_runs c.slots.result.now) (utf8_runs k.slots) c.push_utf8_runs.ensures.words
+          (ap (λ xs. length (utf8_runs xs)) c.slots.ensures),
       c.push_utf8_runs.ensures.capacity,
       ap (λ xs. length (attribute_runs (member_attributes xs))) c.fields-2.ensures,
     )
@@ -86,15 +115,28 @@ push_member_runs-requires-2 c =
       arith,
       c.requires.room,
       attributes_and_runs_len k (attribute_runs_at k),
-      grown_attributes c.args.words.now.words c.push_member_attributes-next.new.words.words c.args.places.now.attribute_runs (member_attributes c.fields.result.now) (member_attributes k.fields) c.push_member_attributes-next.ensures.words (ap member_attributes c.fields.ensures),
+      grown_attributes c.args.words.now.words c.push_member_attributes-next.new.words.words
+          c.args.places.now.attribute_runs (member_attributes c.fields.result.now)
+          (member_attributes k.fields) c.push_member_attributes-next.ensures.words
+          (ap member_attributes c.fields.ensures),
       c.push_member_attributes-next.ensures.capacity,
-      grown_attributes c.push_member_attributes-next.new.words.words c.push_member_attributes-next-2.new.words.words c.push_member_attributes-next.result (member_attributes c.methods.result.now) (member_attributes k.methods) c.push_member_attributes-next-2.ensures.words (ap member_attributes c.methods.ensures),
+      grown_attributes c.push_member_attributes-next.new.words.words
+          c.push_member_attributes-next-2.new.words.words c.push_member_attributes-next.result
+          (member_attributes c.methods.result.now) (member_attributes k.methods)
+          c.push_member_attributes-next-2.ensures.words (ap member_attributes c.methods.ensures),
       c.push_member_attributes-next-2.ensures.capacity,
-      grown_attributes c.push_member_attributes-next-2.new.words.words c.push_attributes.new.words.words c.push_member_attributes-next-2.result c.attributes.result.now k.attributes c.push_attributes.ensures.words c.attributes.ensures,
+      grown_attributes c.push_member_attributes-next-2.new.words.words
+          c.push_attributes.new.words.words c.push_member_attributes-next-2.result
+          c.attributes.result.now k.attributes c.push_attributes.ensures.words c.attributes.ensures,
       c.push_attributes.ensures.capacity,
-      grown c.push_attributes.new.words.words c.push_utf8_runs.new.words.words (utf8_runs c.slots.result.now) (utf8_runs k.slots) c.push_utf8_runs.ensures.words (ap (λ xs. length (utf8_runs xs)) c.slots.ensures),
+      grown c.push_attributes.new.words.words c.push_utf8_runs.new.words.words
+          (utf8_runs c.slots.result.now) (utf8_runs k.slots) c.push_utf8_runs.ensures.words
+          (ap (λ xs. length (utf8_runs xs)) c.slots.ensures),
       c.push_utf8_runs.ensures.capacity,
-      grown c.push_utf8_runs.new.words.words c.push_member_runs.new.words.words (attribute_runs (member_attributes c.fields-2.result.now)) (attribute_runs (member_attributes k.fields)) c.push_member_runs.ensures.words (ap (λ xs. length (attribute_runs (member_attributes xs))) c.fields-2.ensures),
+      grown c.push_utf8_runs.new.words.words c.push_member_runs.new.words.words
+          (attribute_runs (member_attributes c.fields-2.result.now))
+          (attribute_runs (member_attributes k.fields)) c.push_member_runs.ensures.words
+          (ap (λ xs. length (attribute_runs (member_attributes xs))) c.fields-2.ensures),
       c.push_member_runs.ensures.capacity,
       ap (λ xs. length (attribute_runs (member_attributes xs))) c.methods-2.ensures,
     )
@@ -106,17 +148,33 @@ push_attribute_runs-requires c =
       arith,
       c.requires.room,
       attributes_and_runs_len k (attribute_runs_at k),
-      grown_attributes c.args.words.now.words c.push_member_attributes-next.new.words.words c.args.places.now.attribute_runs (member_attributes c.fields.result.now) (member_attributes k.fields) c.push_member_attributes-next.ensures.words (ap member_attributes c.fields.ensures),
+      grown_attributes c.args.words.now.words c.push_member_attributes-next.new.words.words
+          c.args.places.now.attribute_runs (member_attributes c.fields.result.now)
+          (member_attributes k.fields) c.push_member_attributes-next.ensures.words
+          (ap member_attributes c.fields.ensures),
       c.push_member_attributes-next.ensures.capacity,
-      grown_attributes c.push_member_attributes-next.new.words.words c.push_member_attributes-next-2.new.words.words c.push_member_attributes-next.result (member_attributes c.methods.result.now) (member_attributes k.methods) c.push_member_attributes-next-2.ensures.words (ap member_attributes c.methods.ensures),
+      grown_attributes c.push_member_attributes-next.new.words.words
+          c.push_member_attributes-next-2.new.words.words c.push_member_attributes-next.result
+          (member_attributes c.methods.result.now) (member_attributes k.methods)
+          c.push_member_attributes-next-2.ensures.words (ap member_attributes c.methods.ensures),
       c.push_member_attributes-next-2.ensures.capacity,
-      grown_attributes c.push_member_attributes-next-2.new.words.words c.push_attributes.new.words.words c.push_member_attributes-next-2.result c.attributes.result.now k.attributes c.push_attributes.ensures.words c.attributes.ensures,
+      grown_attributes c.push_member_attributes-next-2.new.words.words
+          c.push_attributes.new.words.words c.push_member_attributes-next-2.result
+          c.attributes.result.now k.attributes c.push_attributes.ensures.words c.attributes.ensures,
       c.push_attributes.ensures.capacity,
-      grown c.push_attributes.new.words.words c.push_utf8_runs.new.words.words (utf8_runs c.slots.result.now) (utf8_runs k.slots) c.push_utf8_runs.ensures.words (ap (λ xs. length (utf8_runs xs)) c.slots.ensures),
+      grown c.push_attributes.new.words.words c.push_utf8_runs.new.words.words
+          (utf8_runs c.slots.result.now) (utf8_runs k.slots) c.push_utf8_runs.ensures.words
+          (ap (λ xs. length (utf8_runs xs)) c.slots.ensures),
       c.push_utf8_runs.ensures.capacity,
-      grown c.push_utf8_runs.new.words.words c.push_member_runs.new.words.words (attribute_runs (member_attributes c.fields-2.result.now)) (attribute_runs (member_attributes k.fields)) c.push_member_runs.ensures.words (ap (λ xs. length (attribute_runs (member_attributes xs))) c.fields-2.ensures),
+      grown c.push_utf8_runs.new.words.words c.push_member_runs.new.words.words
+          (attribute_runs (member_attributes c.fields-2.result.now))
+          (attribute_runs (member_attributes k.fields)) c.push_member_runs.ensures.words
+          (ap (λ xs. length (attribute_runs (member_attributes xs))) c.fields-2.ensures),
       c.push_member_runs.ensures.capacity,
-      grown c.push_member_runs.new.words.words c.push_member_runs-2.new.words.words (attribute_runs (member_attributes c.methods-2.result.now)) (attribute_runs (member_attributes k.methods)) c.push_member_runs-2.ensures.words (ap (λ xs. length (attribute_runs (member_attributes xs))) c.methods-2.ensures),
+      grown c.push_member_runs.new.words.words c.push_member_runs-2.new.words.words
+          (attribute_runs (member_attributes c.methods-2.result.now))
+          (attribute_runs (member_attributes k.methods)) c.push_member_runs-2.ensures.words
+          (ap (λ xs. length (attribute_runs (member_attributes xs))) c.methods-2.ensures),
       c.push_member_runs-2.ensures.capacity,
       ap (λ xs. length (attribute_runs xs)) c.attributes-2.ensures,
     )
@@ -132,7 +190,8 @@ returns-clause-words c =
     let at = c.args.places.now.attribute_runs in
     let n1 = c.push_member_attributes-next.result in
     let n2 = c.push_member_attributes-next-2.result in
-    attributes_and_runs c.args.words.now.words w1 w2 w3 w4 w5 w6 c.push_attribute_runs.new.words.words c.args.class.now at n1 n2
+    attributes_and_runs c.args.words.now.words w1 w2 w3 w4 w5 w6
+    c.push_attribute_runs.new.words.words c.args.class.now at n1 n2
     c.requires.places.attribute_runs
     (c.push_member_attributes-next.ensures.words ∙ ap
     (λ xs. c.args.words.now.words ++ attributes at (member_attributes xs)) c.fields.ensures)

@@ -16,7 +16,10 @@ push_attributes-at-requires-clause-room c =
     let split : all ≡ own ++ rest = grind (arith, common_steps) in
     omega (
       arith,
-      room_left l.words.words (attributes l.at all) c.args.words.now.words (attributes c.args.at (member_attributes these)) l.words.capacity c.args.words.now.capacity l.invariant.added l.invariant.capacity c.requires.room,
+      room_left l.words.words (attributes l.at all) c.args.words.now.words
+          (attributes c.args.at (member_attributes these)) l.words.capacity
+          c.args.words.now.capacity
+          l.invariant.added l.invariant.capacity c.requires.room,
       attributes_len l.at all,
       ap length split,
       length-append own rest,
@@ -33,15 +36,20 @@ loop-member-preserved c =
     let own = c.member-item.result.attributes in
     let rest = member_attributes (drop (l.member-index + 1) these) in
     let split : all ≡ own ++ rest = grind (arith, common_steps) in
-    let runs : length (attribute_runs all) ≡ length (attribute_runs own) + length (attribute_runs rest) =
-    ap (λ xs. length (attribute_runs xs)) split ∙ (ap length (attribute_runs_append own rest) ∙ length-append (attribute_runs own) (attribute_runs rest)) in
+    let runs : length (attribute_runs all)
+    ≡ length (attribute_runs own) + length (attribute_runs rest) =
+    ap (λ xs. length (attribute_runs xs)) split
+    ∙ (ap length (attribute_runs_append own rest)
+    ∙ length-append (attribute_runs own) (attribute_runs rest)) in
     let slice = c.as_slice.ensures in
     let pushed = c.push_attributes-at in
-    let added : pushed.new.words.words ≡ l.words.words ++ attributes at own = pushed.ensures.words ∙ ap (λ xs. l.words.words ++ attributes at xs) slice in
+    let added : pushed.new.words.words ≡ l.words.words ++ attributes at own =
+    pushed.ensures.words ∙ ap (λ xs. l.words.words ++ attributes at xs) slice in
     let next : pushed.result ≡ at + length (attribute_runs own) = pushed.ensures.next ∙ ap
     (λ xs. at + length (attribute_runs xs)) slice in
     record {
       capacity = pushed.ensures.capacity ∙ l.invariant.capacity;
-      added = attributes_step l.words.words pushed.new.words.words _ at pushed.result all own rest split l.invariant.added added next;
+      added = attributes_step l.words.words pushed.new.words.words _ at pushed.result all own rest
+          split l.invariant.added added next;
       next = omega (arith, runs, next, l.invariant.next);
     }

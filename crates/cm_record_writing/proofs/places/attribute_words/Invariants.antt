@@ -7,5 +7,6 @@ invariant-loop-attribute l =
     let rest = drop l.attribute-index l.these in
     record {
       small : l.total < 2 ^ 64;
-      total : min (l.total + 2 * length rest + length (attribute_runs rest)) (2 ^ 64 - 1) ≡ min (2 * length l.these + length (attribute_runs l.these)) (2 ^ 64 - 1);
+      total : min (l.total + 2 * length rest + length (attribute_runs rest)) (2 ^ 64 - 1)
+          ≡ min (2 * length l.these + length (attribute_runs l.these)) (2 ^ 64 - 1);
     }

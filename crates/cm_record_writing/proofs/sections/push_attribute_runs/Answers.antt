@@ -14,7 +14,9 @@ push_run-requires c =
     let split : drop l.attribute-index these ≡ a ∷ behind = grind (arith, common_steps) in
     omega (
       arith,
-      room_left l.words.words (attribute_runs (drop l.attribute-index these)) c.args.words.now.words (attribute_runs these) l.words.capacity c.args.words.now.capacity l.invariant.added l.invariant.capacity c.requires,
+      room_left l.words.words (attribute_runs (drop l.attribute-index these)) c.args.words.now.words
+          (attribute_runs these) l.words.capacity c.args.words.now.capacity l.invariant.added
+          l.invariant.capacity c.requires,
       ap (λ xs. length (attribute_runs xs)) split,
       length-append (attribute_run a) (attribute_runs behind),
       ap (λ xs. length (packed xs)) c.as_slice.ensures,

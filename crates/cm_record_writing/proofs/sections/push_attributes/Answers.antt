@@ -12,7 +12,9 @@ push-requires c =
     let rest = attributes l.at (drop l.attribute-index these) in
     omega (
       arith,
-      room_left l.words.words rest c.args.words.now.words (attributes c.args.at these) l.words.capacity c.args.words.now.capacity l.invariant.added l.invariant.capacity c.requires.room,
+      room_left l.words.words rest c.args.words.now.words (attributes c.args.at these)
+          l.words.capacity c.args.words.now.capacity l.invariant.added l.invariant.capacity
+          c.requires.room,
       attributes_len l.at (drop l.attribute-index these),
       length-drop l.attribute-index these,
     )
@@ -24,7 +26,9 @@ push-requires-in-loop-attribute c =
     let rest = attributes l.at (drop l.attribute-index these) in
     omega (
       arith,
-      room_left l.words.words rest c.args.words.now.words (attributes c.args.at these) l.words.capacity c.args.words.now.capacity l.invariant.added l.invariant.capacity c.requires.room,
+      room_left l.words.words rest c.args.words.now.words (attributes c.args.at these)
+          l.words.capacity c.args.words.now.capacity l.invariant.added l.invariant.capacity
+          c.requires.room,
       attributes_len l.at (drop l.attribute-index these),
       length-drop l.attribute-index these,
       ap (λ (w : Words). length w.words) c.push.ensures,

@@ -11,11 +11,14 @@ push_constant-requires-clause-room c =
     let slots = c.args.slots.now in
     let k = c.in-Usable.constant in
     let behind = drop (l.slot-index + 1) slots in
-    let split : drop l.slot-index slots ≡ Usable k ∷ behind = grind (arith, common_steps, c.slot-item.is, c.in-Usable.is) in
+    let split : drop l.slot-index slots ≡ Usable k ∷ behind =
+    grind (arith, common_steps, c.slot-item.is, c.in-Usable.is) in
     let rest = directory l.at (drop l.slot-index slots) in
     omega (
       arith,
-      room_left l.words.words rest c.args.words.now.words (directory c.args.at slots) l.words.capacity c.args.words.now.capacity l.invariant.added l.invariant.capacity c.requires.room,
+      room_left l.words.words rest c.args.words.now.words (directory c.args.at slots)
+          l.words.capacity c.args.words.now.capacity l.invariant.added l.invariant.capacity
+          c.requires.room,
       ap (λ xs. length (directory l.at xs)) split,
       length-append (constant_words l.at k) (directory (l.at + length (constant_run k)) behind),
     )

@@ -6,4 +6,10 @@ pub push-requires : goal.push-requires
 push-requires c =
     let l = c.loop-interface in
     let rest = drop l.interface-index c.args.interfaces.now in
-    omega (arith, room_left l.words.words rest c.args.words.now.words c.args.interfaces.now l.words.capacity c.args.words.now.capacity l.invariant.added l.invariant.capacity c.requires, length-drop l.interface-index c.args.interfaces.now)
+    omega (
+      arith,
+      room_left l.words.words rest c.args.words.now.words c.args.interfaces.now
+          l.words.capacity c.args.words.now.capacity l.invariant.added l.invariant.capacity
+          c.requires,
+      length-drop l.interface-index c.args.interfaces.now,
+    )

@@ -12,7 +12,8 @@ push-requires c =
     let rest = members l.at (drop l.member-index these) in
     omega (
       arith,
-      room_left l.words.words rest c.args.words.now.words (members c.args.at these) l.words.capacity c.args.words.now.capacity l.invariant.added l.invariant.capacity c.requires.room,
+      room_left l.words.words rest c.args.words.now.words (members c.args.at these) l.words.capacity
+          c.args.words.now.capacity l.invariant.added l.invariant.capacity c.requires.room,
       members_len l.at (drop l.member-index these),
       length-drop l.member-index these,
     )
@@ -24,7 +25,8 @@ push-requires-in-loop-member c =
     let rest = members l.at (drop l.member-index these) in
     omega (
       arith,
-      room_left l.words.words rest c.args.words.now.words (members c.args.at these) l.words.capacity c.args.words.now.capacity l.invariant.added l.invariant.capacity c.requires.room,
+      room_left l.words.words rest c.args.words.now.words (members c.args.at these) l.words.capacity
+          c.args.words.now.capacity l.invariant.added l.invariant.capacity c.requires.room,
       members_len l.at (drop l.member-index these),
       length-drop l.member-index these,
       ap (λ (w : Words). length w.words) c.push.ensures,

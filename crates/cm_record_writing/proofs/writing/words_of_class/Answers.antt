@@ -23,7 +23,8 @@ push_pool_and_members-requires-clause-room c =
       all_members_len k,
     )
 
-pub push_attributes_and_runs-requires-clause-room : goal.push_attributes_and_runs-requires-clause-room
+pub push_attributes_and_runs-requires-clause-room :
+    goal.push_attributes_and_runs-requires-clause-room
 push_attributes_and_runs-requires-clause-room c =
     let k = c.args.class.now in
     let those = c.push_pool_and_members.ensures.words in
@@ -48,4 +49,10 @@ push_attributes_and_runs-requires-clause-room c =
 
 pub returns : goal.returns
 unfolding lay
-returns c = rw (c.push_attributes_and_runs.ensures.words, c.push_pool_and_members.ensures.words, c.push_head.ensures.words, ap (λ (w : Words). w.words) c.in_ok-words.ensures)
+returns c =
+    rw (
+      c.push_attributes_and_runs.ensures.words,
+      c.push_pool_and_members.ensures.words,
+      c.push_head.ensures.words,
+      ap (λ (w : Words). w.words) c.in_ok-words.ensures,
+    )

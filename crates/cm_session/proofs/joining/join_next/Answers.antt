@@ -9,5 +9,6 @@ returns-in-Ok-clause-behind c =
     let rest = c.pop_front.new.self.items in
     let ok = c.in-Ok.ensures.ok in
     λ n b. subst (λ (g : Handed). GoBehind n (g ∷ rest)) (sym ok)
-    (behind_joined n c.args.group.now c.in-Some.next rest (subst IsGroup ok c.first-lawful.ensures.lawful)
+    (behind_joined n c.args.group.now c.in-Some.next rest
+    (subst IsGroup ok c.first-lawful.ensures.lawful)
     (subst (λ (q : List Handed). GoBehind n (c.args.group.now ∷ q)) c.in-Some.ensures.items b))

@@ -30,7 +30,8 @@ returns-clause-opened g c =
     let is = c.geometry-lawful.ensures.lawful in
     record {
       leads = subst (λ (q : List Handed). Leads (Reopening sizes k bytes)
-          (λ j. IsSession j front committer q c.number-sealed.result false)) (sym c.new.ensures.items)
+          (λ j. IsSession j front committer q c.number-sealed.result false))
+          (sym c.new.ensures.items)
           (subst (λ (n : ℕ). Leads (Reopening sizes k bytes)
           (λ j. IsSession j front committer [] n false)) (sym c.number-sealed.ensures)
           (reopened one live framed stands c.words_tell_name.ensures c.opened_is_ahead.ensures on

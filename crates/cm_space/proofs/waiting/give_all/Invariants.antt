@@ -7,5 +7,6 @@ abbrev pub invariant-loop-chunk : goal.invariant-loop-chunk
 invariant-loop-chunk l =
     record {
       held : AreHeld l.pool (drop l.chunk-index l.chunks);
-      sofar : with_chunks l.pool (drop l.chunk-index l.chunks) ≡ with_chunks l.initial.pool l.chunks;
+      sofar : with_chunks l.pool (drop l.chunk-index l.chunks)
+          ≡ with_chunks l.initial.pool l.chunks;
     }

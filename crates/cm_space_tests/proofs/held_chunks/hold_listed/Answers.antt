@@ -14,4 +14,7 @@ returns c =
     let items : c.push.new.self.items ≡ cs ++ chunk ∷ [] = pushed ∙ ap
     (λ (ds : List Chunk). ds ++ chunk ∷ []) c.reserve.ensures.items in
     subst (λ (p : FreeSpace). AreHeld p c.push.new.self.items) (sym c.in-Some.ensures.left)
-    (subst (λ (ds : List Chunk). AreHeld (without c.args.pool.now chunk) ds) (sym items) (taken_is_held c.args.pool.now cs chunk [] (subst (λ (ds : List Chunk). AreHeld c.args.pool.now ds) (sym (append-nil cs)) c.requires) c.in-Some.ensures.first.free))
+    (subst (λ (ds : List Chunk). AreHeld (without c.args.pool.now chunk) ds) (sym items)
+    (taken_is_held c.args.pool.now cs chunk []
+    (subst (λ (ds : List Chunk). AreHeld c.args.pool.now ds) (sym (append-nil cs)) c.requires)
+    c.in-Some.ensures.first.free))

@@ -16,7 +16,8 @@ returns-in-Some-clause-machine g c =
     λ k goes ready.
     subst (λ q. LedTo (Replies s.committer.sizes (option_map seen q) c.answer_question.result
     (served k (failures s.committer.disk))) (failures new.committer.disk)
-    (MayGoOn g.D.Disk.moment g.D.Disk.left_since k s new)) (sym c.in-Some.is) (c.answer_question.ensures.machine k goes ready)
+    (MayGoOn g.D.Disk.moment g.D.Disk.left_since k s new)) (sym c.in-Some.is)
+    (c.answer_question.ensures.machine k goes ready)
 
 pub returns-in-None-clause-machine : goal.returns-in-None-clause-machine
 returns-in-None-clause-machine g c =

@@ -8,7 +8,8 @@ use Rattle.cm_lines.specs.Lines.{AsksFind}
 use Rattle.cm_tool.specs.Texts.{class_reply, none_reply, bad_line_reply}
 use Rattle.cm_tool.specs.Replies.{IsReply}
 use Rattle.cm_tool.specs.Answers.{served}
-use Rattle.cm_tool.proofs.Commands.{stays, replies_same, replies_found, finds_none, answers_bad_name}
+use Rattle.cm_tool.proofs.Commands.{stays, replies_same, replies_found, finds_none}
+use Rattle.cm_tool.proofs.Commands.{answers_bad_name}
 use Rattle.cm_tool.proofs.Moments.{still}
 use Rattle.cm_tool.proofs.answer.find.Goals as goal
 
@@ -49,7 +50,8 @@ returns-in-Some g c =
     λ k goes ready.
     let finds = subst (λ w. Finds sizes k loader c.in-Ok.name.items (Some w))
     (sym c.deref-in-Some-2.ensures)
-    (subst (λ n. Finds sizes k loader n (Some (arc_value c.in-Some.class.now))) c.deref.ensures.value (c.in-Some.ensures k goes)) in
+    (subst (λ n. Finds sizes k loader n (Some (arc_value c.in-Some.class.now)))
+    c.deref.ensures.value (c.in-Some.ensures k goes)) in
     stays k f
     (replies_found sizes loader word c.in-Ok.name.items words k f c.found.result ready
     c.in-Ok.ensures.name finds says c.found.ensures.laid)
@@ -63,7 +65,8 @@ returns g c =
     let loader = c.args.loader.now in
     let word = c.args.class.now in
     λ k goes ready.
-    let finds = subst (λ n. Finds sizes k loader n None) c.deref.ensures.value (c.in-None.ensures k goes) in
+    let finds =
+    subst (λ n. Finds sizes k loader n None) c.deref.ensures.value (c.in-None.ensures k goes) in
     stays k f
     (replies_same sizes (Some (AsksFind loader word)) k f none_reply c.nothing.result ready
     c.nothing.ensures

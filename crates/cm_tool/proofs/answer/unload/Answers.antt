@@ -13,7 +13,8 @@ returns-clause-machine g c =
     let call = c.store-stored in
     let disk = g.D.Disk in
     λ k goes ready.
-    command_replies disk.moment disk.left_since (Some (AsksUnload name)) number_reply k (Unload name)
+    command_replies disk.moment disk.left_since (Some (AsksUnload name)) number_reply k
+    (Unload name)
     (disk.failures s.committer.disk) (disk.failures call.new.self.committer.disk) s call.new.self
     call.result c.numbered.result ready (unload_fits s.committer.sizes name)
     (call.ensures.machine k goes ready.rest) (call.ensures.cause k goes ready.rest)

@@ -12,7 +12,8 @@ returns-in-Ok-default-clause-ok g c =
     let s = c.in-Ok.session in
     let begins = c.in-Ok.ensures.begins in
     let opened = g.D.Disk.failures s.committer.disk in
-    let run = c.run_to_end.ensures (machine_from begins.base) begins.goes (ready_from begins.base) in
+    let run = c.run_to_end.ensures (machine_from begins.base) begins.goes
+    (ready_from begins.base) in
     record {
       sizes = s.committer.sizes;
       base = begins.base;
@@ -36,7 +37,8 @@ returns-in-Err-default-clause-err g c =
     let s = c.in-Ok.session in
     let begins = c.in-Ok.ensures.begins in
     let opened = g.D.Disk.failures s.committer.disk in
-    let run = c.run_to_end.ensures (machine_from begins.base) begins.goes (ready_from begins.base) in
+    let run = c.run_to_end.ensures (machine_from begins.base) begins.goes
+    (ready_from begins.base) in
     record {
       sizes = s.committer.sizes;
       base = begins.base;

@@ -19,7 +19,8 @@ lines-init g c =
       λ k goes ready.
           lines_start (LeavesOnly g.D.Disk.moment g.D.Disk.left_since) s.committer.sizes
           (g.R.Read.remaining c.args.reader.now) (g.W.Write.contents c.args.writer.now) k
-          (g.D.Disk.failures s.committer.disk) s.committer.disk _ (λ next. GoesWith next s) refl refl
+          (g.D.Disk.failures s.committer.disk) s.committer.disk _
+          (λ next. GoesWith next s) refl refl
           ready goes,
     )
 
@@ -41,11 +42,13 @@ returns-then-outcome-clause-machine g c =
     let x = g.W.Write.contents c.lines.writer in
     let m = g.W.Write.contents c.run_line.new.writer in
     let turn : (j : Machine) → GoesWith j old → IsReady j
-    → LedTo (λ t. Turns sizes d (io b x m) (Ok (Some c.in-Ok-Some.kind)) (pause (served j f) old.committer.disk)
+    → LedTo (λ t. Turns sizes d (io b x m) (Ok (Some c.in-Ok-Some.kind))
+    (pause (served j f) old.committer.disk)
     (pause t new.committer.disk)) now
     (Went leaves sizes old.committer.disk new.committer.disk (λ next. GoesWith next new) j) =
     subst (λ z. (j : Machine) → GoesWith j old → IsReady j
-    → LedTo (λ t. Turns z d (io b x m) (Ok (Some c.in-Ok-Some.kind)) (pause (served j f) old.committer.disk)
+    → LedTo (λ t. Turns z d (io b x m) (Ok (Some c.in-Ok-Some.kind))
+    (pause (served j f) old.committer.disk)
     (pause t new.committer.disk)) now
     (Went leaves z old.committer.disk new.committer.disk (λ next. GoesWith next new) j))
     c.lines.invariant.0
@@ -119,7 +122,8 @@ returns-in-Err-clause-machine g c =
     let x = g.W.Write.contents c.lines.writer in
     let m = g.W.Write.contents c.run_line.new.writer in
     let turn : (j : Machine) → GoesWith j old → IsReady j
-    → LedTo (λ t. Turns sizes d (io b x m) (Err c.in-Err.fault) (pause (served j f) old.committer.disk)
+    → LedTo (λ t. Turns sizes d (io b x m) (Err c.in-Err.fault)
+    (pause (served j f) old.committer.disk)
     (pause t new.committer.disk)) now
     (Went leaves sizes old.committer.disk new.committer.disk (λ next. GoesWith next new) j) =
     subst (λ z. (j : Machine) → GoesWith j old → IsReady j
@@ -128,7 +132,8 @@ returns-in-Err-clause-machine g c =
     (Went leaves z old.committer.disk new.committer.disk (λ next. GoesWith next new) j))
     c.lines.invariant.0
     (λ j goes ready. went {Does = λ t. Turns old.committer.sizes d (io b x m) (Err c.in-Err.fault)
-    (pause (served j f) old.committer.disk) (pause t new.committer.disk)} disk.moment disk.left_since now
+    (pause (served j f) old.committer.disk) (pause t new.committer.disk)} disk.moment
+    disk.left_since now
     j old new (c.in-Err.ensures.machine j goes ready)) in
     λ k goes ready.
     lines_broken leaves sizes a b d h x m
@@ -155,11 +160,13 @@ lines-preserved g c =
     let x = g.W.Write.contents c.lines.writer in
     let m = g.W.Write.contents c.run_line.new.writer in
     let turn : (j : Machine) → GoesWith j old → IsReady j
-    → LedTo (λ t. Turns sizes d (io b x m) (Ok (Some c.in-Ok-Some.kind)) (pause (served j f) old.committer.disk)
+    → LedTo (λ t. Turns sizes d (io b x m) (Ok (Some c.in-Ok-Some.kind))
+    (pause (served j f) old.committer.disk)
     (pause t new.committer.disk)) now
     (Went leaves sizes old.committer.disk new.committer.disk (λ next. GoesWith next new) j) =
     subst (λ z. (j : Machine) → GoesWith j old → IsReady j
-    → LedTo (λ t. Turns z d (io b x m) (Ok (Some c.in-Ok-Some.kind)) (pause (served j f) old.committer.disk)
+    → LedTo (λ t. Turns z d (io b x m) (Ok (Some c.in-Ok-Some.kind))
+    (pause (served j f) old.committer.disk)
     (pause t new.committer.disk)) now
     (Went leaves z old.committer.disk new.committer.disk (λ next. GoesWith next new) j))
     c.lines.invariant.0
@@ -172,10 +179,14 @@ lines-preserved g c =
       λ k goes ready.
           lines_more leaves sizes a b d h x m
           (pause (served k (failures s.committer.disk)) s.committer.disk) c.lines.outcome f now
-          old.committer.disk new.committer.disk (λ next. GoesWith next old) (λ next. GoesWith next new)
+          old.committer.disk new.committer.disk (λ next. GoesWith next old)
+          (λ next. GoesWith next new)
           (c.lines.invariant.1 k goes ready)
           c.after-outcome.result c.in-Ok-Some.kind turn
-          (record { refused = c.after-outcome.ensures.refused; unsure = c.after-outcome.ensures.unsure })
+          (record {
+            refused = c.after-outcome.ensures.refused;
+            unsure = c.after-outcome.ensures.unsure;
+          })
           c.if-outcome.false,
     )
 

@@ -11,7 +11,8 @@ abbrev pub invariant-lines : goal.invariant-lines
 invariant-lines g l =
     (l.session.committer.sizes ≡ l.fn.session.committer.sizes)
     × ((k : Machine) → GoesWith k l.fn.session → IsReady k
-    → LedTo (λ s. SoFar (LeavesOnly g.D.Disk.moment g.D.Disk.left_since) l.fn.session.committer.sizes
+    → LedTo (λ s. SoFar (LeavesOnly g.D.Disk.moment g.D.Disk.left_since)
+    l.fn.session.committer.sizes
     (g.R.Read.remaining l.fn.reader) (g.R.Read.remaining l.reader) (g.W.Write.contents l.fn.writer)
     (g.W.Write.contents l.writer) l.outcome
     (pause (served k (g.D.Disk.failures l.fn.session.committer.disk)) l.fn.session.committer.disk)

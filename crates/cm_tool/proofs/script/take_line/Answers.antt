@@ -34,7 +34,8 @@ returns-in-Err-clause-machine g c =
     let a = g.R.Read.remaining c.args.reader.now in
     let h = g.W.Write.contents c.args.writer.now in
     λ k goes ready.
-    stays {Does = λ t. Turns s.committer.sizes (g.R.Read.remaining c.read_line.new.reader) (io a h h)
+    stays {Does =
+    λ t. Turns s.committer.sizes (g.R.Read.remaining c.read_line.new.reader) (io a h h)
     (Err c.from.result) (pause (served k f) disk) (pause t disk)} k f
     (subst (λ e. Breaks s.committer.sizes e (io a h h) (served k f) (served k f))
     (sym c.from.ensures)
@@ -55,7 +56,8 @@ returns-in-Err-answer-clause-machine g c =
     line_unmade s.committer.sizes a b h (served k (failures s.committer.disk))
     (failures new.committer.disk) s.committer.disk new.committer.disk
     (MayGoOn g.D.Disk.moment g.D.Disk.left_since k s new) buffer c.question-question.result read
-    c.question-question.ensures c.in-Err-answer.field-0 (c.in-Err-answer.ensures.machine k goes ready)
+    c.question-question.ensures c.in-Err-answer.field-0
+    (c.in-Err-answer.ensures.machine k goes ready)
 
 pub returns-in-Ok-write_line-clause-machine : goal.returns-in-Ok-write_line-clause-machine
 returns-in-Ok-write_line-clause-machine g c =

@@ -13,4 +13,5 @@ returns-in_err-superblock c =
 pub returns : goal.returns
 returns c =
     let found = c.in_ok-superblock.ensures.found in
-    sym (ap sizes_in found ∙ sizes_again c.in_ok-superblock.superblock.geometry c.top-top.ensures.within)
+    sym (ap sizes_in found ∙ sizes_again c.in_ok-superblock.superblock.geometry
+    c.top-top.ensures.within)

@@ -3,4 +3,6 @@ use Rattle.cm_words.proofs.WordBytes.{write_step}
 use Rattle.cm_words.proofs.bytes.write_words.Goals as goal
 
 pub loop-i-preserved : goal.loop-i-preserved
-loop-i-preserved c = c.write_word.ensures ∙ write_step c.loop-i.out c.args.out.now c.args.words.now c.loop-i.i (get_or c.args.words.now c.loop-i.i 0) c.loop-i.invariant c.loop-i-test.true refl
+loop-i-preserved c =
+    c.write_word.ensures ∙ write_step c.loop-i.out c.args.out.now c.args.words.now c.loop-i.i
+    (get_or c.args.words.now c.loop-i.i 0) c.loop-i.invariant c.loop-i-test.true refl

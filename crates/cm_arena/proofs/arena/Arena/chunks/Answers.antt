@@ -6,4 +6,5 @@ use Rattle.cm_arena.proofs.arena.Arena.chunks.Goals as goal
 pub returns : goal.returns
 returns c =
     let a = c.self.inside in
-    c.deref.ensures.value ∙ sym (chunks-chain_of a.chunks.items a.used.items c.self.invariant.pairs) ∙ ap chunks_of c.self.view_is
+    c.deref.ensures.value ∙ sym (chunks-chain_of a.chunks.items a.used.items c.self.invariant.pairs)
+    ∙ ap chunks_of c.self.view_is

@@ -15,9 +15,11 @@ use Rattle.cm_arena.proofs.arena.Arena.place.Goals.{After-append, After-top-top,
 
 pub order_for-need-requires : goal.order_for-need-requires
 order_for-need-requires c =
-    let small : c.top-top.result ≤ 12 = omega (arith, c.top-top.ensures.value, c.top-top.ensures.within.top_to) in
+    let small : c.top-top.result ≤ 12 =
+    omega (arith, c.top-top.ensures.value, c.top-top.ensures.within.top_to) in
     let size : 2 ^ c.top-top.result ≤ 2 ^ 12 = pow-le-pow_right {n = 2} (omega arith) small in
-    let fits : 128 * 2 ^ c.top-top.result % 2 ^ 32 ≡ 128 * 2 ^ c.top-top.result = mod-eq_of_lt (omega arith) in
+    let fits : 128 * 2 ^ c.top-top.result % 2 ^ 32 ≡ 128 * 2 ^ c.top-top.result =
+    mod-eq_of_lt (omega arith) in
     omega arith
 
 chunks : (c : After-append)
@@ -26,17 +28,29 @@ chunks c = c.append.ensures.chunks ∙ ap
     (λ (cs : List Chunk). cs ++ c.in_ok-chunk.chunk ∷ []) c.reserve_one.ensures.chunks
 
 used : (c : After-append) → c.append.new.used.items ≡ c.self.inside.used.items ++ c.args.words ∷ []
-used c = c.append.ensures.used ∙ ap (λ (us : List ℕ). us ++ c.args.words ∷ []) (c.reserve_one.ensures.used ∙ c.in_default.ensures.none.1)
+used c = c.append.ensures.used
+    ∙ ap (λ (us : List ℕ). us ++ c.args.words ∷ []) (c.reserve_one.ensures.used
+    ∙ c.in_default.ensures.none.1)
 
 len : (c : After-append) → c.len.result ≡ length c.args.self.now
 len c =
     let reserved = c.reserve_one.new.chunks in
-    let items : length reserved.items ≡ length c.self.inside.chunks.items = ap length c.reserve_one.ensures.chunks in
-    let chain : length (chain_of c.self.inside.chunks.items c.self.inside.used.items) ≡ length c.args.self.now = ap length c.self.view_is in
-    omega (arith, c.len.ensures, reserved.ok.0, items, chain, length-chain_of c.self.inside.chunks.items c.self.inside.used.items c.self.invariant.pairs)
+    let items : length reserved.items ≡ length c.self.inside.chunks.items =
+    ap length c.reserve_one.ensures.chunks in
+    let chain : length (chain_of c.self.inside.chunks.items c.self.inside.used.items)
+    ≡ length c.args.self.now = ap length c.self.view_is in
+    omega (
+      arith,
+      c.len.ensures,
+      reserved.ok.0,
+      items,
+      chain,
+      length-chain_of c.self.inside.chunks.items c.self.inside.used.items c.self.invariant.pairs,
+    )
 
 wanted : (c : After-append)
-    → c.max-wanted.result ≡ order_wanted c.order_for-need.result (length c.args.self.now) c.args.pool.now.geometry.top
+    → c.max-wanted.result ≡ order_wanted c.order_for-need.result (length c.args.self.now)
+    c.args.pool.now.geometry.top
 wanted c =
     let top : c.top-top.result ≡ c.args.pool.now.geometry.top = c.top-top.ensures.value ∙ ap
     (λ (g : Sizes). g.top) c.geometry.ensures.value in
@@ -47,11 +61,18 @@ room : (c : After-append) → (c.args.words ≤ chunk_size c.in_ok-chunk.chunk.o
     × (c.in_ok-chunk.chunk.order ≤ 12)
 room c =
     let order : c.order_for-need.result ≤ c.in_ok-chunk.chunk.order =
-    fetched-order c.args.pool.now c.fetch.new.pool c.max-wanted.result c.order_for-need.result c.in_ok-chunk.chunk (omega (arith, c.max-wanted.ensures)) c.in_ok-chunk.ensures.ok
+    fetched-order c.args.pool.now c.fetch.new.pool c.max-wanted.result c.order_for-need.result
+    c.in_ok-chunk.chunk (omega (arith, c.max-wanted.ensures)) c.in_ok-chunk.ensures.ok
     in
-    let size : 2 ^ c.order_for-need.result ≤ 2 ^ c.in_ok-chunk.chunk.order = pow-le-pow_right {n = 2} (omega arith) order in (
+    let size : 2 ^ c.order_for-need.result ≤ 2 ^ c.in_ok-chunk.chunk.order =
+    pow-le-pow_right {n = 2} (omega arith) order in (
       omega (arith, c.order_for-need.ensures.need.enough),
-      omega (arith, fetched-small c.args.pool.now c.fetch.new.pool c.max-wanted.result c.order_for-need.result c.in_ok-chunk.chunk c.in_ok-chunk.ensures.ok, c.geometry.ensures.lawful.geometry.top_to),
+      omega (
+        arith,
+        fetched-small c.args.pool.now c.fetch.new.pool c.max-wanted.result
+            c.order_for-need.result c.in_ok-chunk.chunk c.in_ok-chunk.ensures.ok,
+        c.geometry.ensures.lawful.geometry.top_to,
+      ),
     )
 
 pub invariant_of-self-2 : goal.invariant_of-self-2
@@ -63,9 +84,16 @@ invariant_of-self-2 c =
     let f : Filled = record { chunk = c.in_ok-chunk.chunk; used = c.args.words } in
     subst (λ (ds : List Chunk). IsArena ds c.append.new.used.items) (sym (chunks at))
     (subst (λ (ns : List ℕ). IsArena (cs ++ c.in_ok-chunk.chunk ∷ []) ns) (sym (used at)) (record {
-      pairs = omega (arith, pairs, length-append cs (c.in_ok-chunk.chunk ∷ []), length-append us (c.args.words ∷ []));
-      each = subst (AllByRecursion IsFilled) (sym (chain_of-push cs us c.in_ok-chunk.chunk c.args.words pairs))
-          (filled-push (chain_of cs us) f c.self.invariant.each (record { small = (room at).1; some = c.requires; within = (room at).0 }));
+      pairs = omega (
+        arith,
+        pairs,
+        length-append cs (c.in_ok-chunk.chunk ∷ []),
+        length-append us (c.args.words ∷ []),
+      );
+      each = subst (AllByRecursion IsFilled)
+          (sym (chain_of-push cs us c.in_ok-chunk.chunk c.args.words pairs))
+          (filled-push (chain_of cs us) f c.self.invariant.each
+          (record { small = (room at).1; some = c.requires; within = (room at).0 }));
     }))
 
 pub returns-clause-ok : goal.returns-clause-ok
@@ -77,30 +105,40 @@ returns-clause-ok c =
     let view : chain_of cs us ≡ c.args.self.now = c.self.view_is in
     inr (record {
       no_room = subst (λ chain. ¬ HasRoom chain c.args.words) view (subst
-          (λ (ds : List Chunk). ¬ HasRoom (chain_of ds us) c.args.words) c.deref.ensures.value c.in_default.ensures.none.0);
+          (λ (ds : List Chunk). ¬ HasRoom (chain_of ds us) c.args.words) c.deref.ensures.value
+          c.in_default.ensures.none.0);
       need = c.order_for-need.result;
       is_need = c.order_for-need.ensures.need;
       fetches = subst
-          (λ w. Fetches c.args.pool.now w c.order_for-need.result c.in_ok-chunk.chunk c.fetch.new.pool) (wanted at) c.in_ok-chunk.ensures.ok;
+          (λ w. Fetches c.args.pool.now w c.order_for-need.result c.in_ok-chunk.chunk
+          c.fetch.new.pool) (wanted at) c.in_ok-chunk.ensures.ok;
       in_new = record {
         front = refl;
         room = (room at).0;
         amount = refl;
         after =
-            (λ i. chain_of (chunks at i) (used at i)) ∙ chain_of-push cs us c.in_ok-chunk.chunk c.args.words pairs
-            ∙ ap (λ (chain : List Filled). chain ++ record { chunk = c.in_ok-chunk.chunk; used = c.args.words } ∷ []) view;
+            (λ i. chain_of (chunks at i) (used at i))
+            ∙ chain_of-push cs us c.in_ok-chunk.chunk c.args.words pairs
+            ∙ ap (λ (chain : List Filled). chain
+            ++ record { chunk = c.in_ok-chunk.chunk; used = c.args.words } ∷ []) view;
       };
     })
 
 -- what is known where the last chunk had room
 on_top : (c : In-Some)
-    → Places c.args.self.now c.args.pool.now c.args.words c.in-Some.place (chain_of c.self.inside.chunks.items c.place_on_top.new.used.items) c.args.pool.now
+    → Places c.args.self.now c.args.pool.now c.args.words c.in-Some.place
+    (chain_of c.self.inside.chunks.items c.place_on_top.new.used.items) c.args.pool.now
 on_top c =
     let us = c.self.inside.used.items in
     let new = c.place_on_top.new.used.items in
     let top = subst
-    (λ (ds : List Chunk). IsOnTop (chain_of ds us) c.args.words c.in-Some.place (chain_of ds new)) c.deref.ensures.value c.in-Some.ensures.some in
-    inl (subst (λ (chain : List Filled). IsOnTop chain c.args.words c.in-Some.place (chain_of c.self.inside.chunks.items new)) c.self.view_is top, refl)
+    (λ (ds : List Chunk). IsOnTop (chain_of ds us) c.args.words c.in-Some.place (chain_of ds new))
+    c.deref.ensures.value c.in-Some.ensures.some in
+    inl (
+      subst (λ (chain : List Filled). IsOnTop chain c.args.words c.in-Some.place
+          (chain_of c.self.inside.chunks.items new)) c.self.view_is top,
+      refl,
+    )
 
 small : (c : After-top-top) → c.args.pool.now.geometry.top ≤ 12
 small c = c.geometry.ensures.lawful.geometry.top_to
@@ -108,30 +146,42 @@ small c = c.geometry.ensures.lawful.geometry.top_to
 pub returns-in-Some-clause-inside : goal.returns-in-Some-clause-inside
 returns-in-Some-clause-inside c =
     let at = goal.at.returns-in-Some-clause-inside c in
-    place-inside c.args.self.now (chain_of c.self.inside.chunks.items c.place_on_top.new.used.items) c.args.pool.now c.args.pool.now c.args.words c.in-Some.place
-    (subst (AllByRecursion IsFilled) c.self.view_is c.self.invariant.each) c.requires (small at.After-top-top) (on_top at.In-Some)
+    place-inside c.args.self.now (chain_of c.self.inside.chunks.items c.place_on_top.new.used.items)
+    c.args.pool.now c.args.pool.now c.args.words c.in-Some.place
+    (subst (AllByRecursion IsFilled) c.self.view_is c.self.invariant.each) c.requires
+    (small at.After-top-top) (on_top at.In-Some)
 
 pub returns-in-Some-clause-alone : goal.returns-in-Some-clause-alone
 returns-in-Some-clause-alone c = λ others.
-    place-held c.args.self.now (chain_of c.self.inside.chunks.items c.place_on_top.new.used.items) c.args.pool.now c.args.pool.now c.args.words c.in-Some.place others
+    place-held c.args.self.now (chain_of c.self.inside.chunks.items c.place_on_top.new.used.items)
+    c.args.pool.now c.args.pool.now c.args.words c.in-Some.place others
     (on_top (goal.at.returns-in-Some-clause-alone c).In-Some)
 
 pub returns-clause-inside : goal.returns-clause-inside
 returns-clause-inside c =
-    place-inside c.args.self.now (chain_of c.append.new.chunks.items c.append.new.used.items) c.args.pool.now c.fetch.new.pool c.args.words (record { chunk = c.in_ok-chunk.chunk; offset = 0; words = c.args.words })
-    (subst (AllByRecursion IsFilled) c.self.view_is c.self.invariant.each) c.requires (small (goal.at.returns-clause-inside c).After-top-top) (returns-clause-ok c)
+    place-inside c.args.self.now (chain_of c.append.new.chunks.items c.append.new.used.items)
+    c.args.pool.now c.fetch.new.pool c.args.words
+    (record { chunk = c.in_ok-chunk.chunk; offset = 0; words = c.args.words })
+    (subst (AllByRecursion IsFilled) c.self.view_is c.self.invariant.each) c.requires
+    (small (goal.at.returns-clause-inside c).After-top-top) (returns-clause-ok c)
 
 pub returns-clause-alone : goal.returns-clause-alone
 returns-clause-alone c = λ others.
-    place-held c.args.self.now (chain_of c.append.new.chunks.items c.append.new.used.items) c.args.pool.now c.fetch.new.pool c.args.words (record { chunk = c.in_ok-chunk.chunk; offset = 0; words = c.args.words }) others
+    place-held c.args.self.now (chain_of c.append.new.chunks.items c.append.new.used.items)
+    c.args.pool.now c.fetch.new.pool c.args.words
+    (record { chunk = c.in_ok-chunk.chunk; offset = 0; words = c.args.words }) others
     (returns-clause-ok c)
 
 pub returns-in-Some-clause-none_lost : goal.returns-in-Some-clause-none_lost
 returns-in-Some-clause-none_lost c = λ others.
-    place-none_lost c.args.self.now (chain_of c.self.inside.chunks.items c.place_on_top.new.used.items) c.args.pool.now c.args.pool.now c.args.words c.in-Some.place others
+    place-none_lost c.args.self.now
+    (chain_of c.self.inside.chunks.items c.place_on_top.new.used.items) c.args.pool.now
+    c.args.pool.now c.args.words c.in-Some.place others
     (on_top (goal.at.returns-in-Some-clause-none_lost c).In-Some)
 
 pub returns-clause-none_lost : goal.returns-clause-none_lost
 returns-clause-none_lost c = λ others.
-    place-none_lost c.args.self.now (chain_of c.append.new.chunks.items c.append.new.used.items) c.args.pool.now c.fetch.new.pool c.args.words (record { chunk = c.in_ok-chunk.chunk; offset = 0; words = c.args.words }) others
+    place-none_lost c.args.self.now (chain_of c.append.new.chunks.items c.append.new.used.items)
+    c.args.pool.now c.fetch.new.pool c.args.words
+    (record { chunk = c.in_ok-chunk.chunk; offset = 0; words = c.args.words }) others
     (returns-clause-ok c)

@@ -38,6 +38,7 @@ returns g c =
     (steps_are s.is_broken (stages_left s.journal s.group s.step) c.calls_at.result c.if-self.false
     (c.calls_at.ensures s.journal c.in-Some.group.first c.in-Some.group.learnt
     ∙ (ap (λ (l : List Carried). calls_left (stages_at s.journal
-    (record { first = c.in-Some.group.first; learnt = c.in-Some.group.learnt; entries = l }) s.step))
+    (record { first = c.in-Some.group.first; learnt = c.in-Some.group.learnt; entries = l })
+    s.step))
     c.entries.ensures
     ∙ sym (ap (λ (o : Option Handed). calls_left (stages_left s.journal o s.step)) c.in-Some.is))))

@@ -40,7 +40,8 @@ returns-in_err-make_ready c =
     let i = c.self.inside in
     let first = loader_refused c.rows_tell_state.ensures.loaders.1 c.rows_tell_state.ensures.sizes.1
     s x (subst IsFront c.self.view_is c.self.invariant) c.requires.running c.requires.whole in
-    let same = same_groups i.book i.space i.unsealed c.make_ready.new.self i.number i.sealed i.learnt
+    let same =
+    same_groups i.book i.space i.unsealed c.make_ready.new.self i.number i.sealed i.learnt
     i.is_broken i.is_closed i.opened c.make_ready.ensures.groups ∙ c.self.view_is in
     rw (p.1, p.2) (no_memory s _ (AddLoader x) (loader_made s x) c.in_ok-number.number first
     (sym c.in_ok-number.ensures) same (λ b. b))
@@ -89,7 +90,8 @@ join-requires-clause-next c =
     (c.make_ready.ensures.groups ∙ ap (λ (t : FrontState). t.unsealed) c.self.view_is))
 
 went : (c : goal.After-self-1)
-    → Went (front_of c.self.inside.book c.self.inside.space c.self.inside.unsealed c.self.inside.number
+    → Went (front_of c.self.inside.book c.self.inside.space c.self.inside.unsealed
+    c.self.inside.number
     c.self.inside.sealed c.self.inside.learnt c.self.inside.is_broken c.self.inside.is_closed
     c.self.inside.opened) (AddLoader c.args.name.now) c.in_ok-number.number
     (front_of c.apply-rule.new.self c.add_loader.new.self c.join.new.self c.in_ok-number.number
@@ -100,23 +102,27 @@ went c =
     let x = c.args.name.now in
     let n = c.in_ok-number.number in
     let s : FrontState =
-    front_of i.book i.space i.unsealed i.number i.sealed i.learnt i.is_broken i.is_closed i.opened in
+    front_of i.book i.space i.unsealed i.number i.sealed i.learnt i.is_broken i.is_closed
+    i.opened in
     let made = was_made s x n
     (subst (λ t. ◌≡◌ {A = Result ℕ Refusal} (loader_made t x) (Ok n)) (sym c.self.view_is)
     (sym c.in_ok-number.ensures)) in
     let e : Entry (List ℕ) = entry.Live (Loader (record { number = n; name = x })) in
     let f = c.self.invariant in
     let keeps = loader_keeps c.loaders_are_own.ensures s x n c.add_loader.new.self f made
-    c.in_ok-add_loader.ensures.ok c.geometry-is_space.ensures.lawful c.geometry-is_space.ensures.pool in
+    c.in_ok-add_loader.ensures.ok c.geometry-is_space.ensures.lawful
+    c.geometry-is_space.ensures.pool in
     went_all c.entries_are_steps.ensures.words i.book c.apply-rule.new.self i.space
-    c.add_loader.new.self i.unsealed c.make_ready.new.self c.join.new.self i.number n i.sealed i.learnt
+    c.add_loader.new.self i.unsealed c.make_ready.new.self c.join.new.self i.number n
+    i.sealed i.learnt
     i.is_broken i.is_closed i.opened e (AddLoader x) c.apply-rule.result f
     (not_last i.number f.numbers made.left) made.number keeps c.in_ok-add_loader.ensures.ok refl
     (c.apply-rule.ensures.broken
     ∙ ap (λ d. broken_rule i.book.sizes i.book.rows n d) c.loader_entry.ensures)
     (c.apply-rule.ensures.left
     ∙ ap (λ d. cond (is_none c.apply-rule.result)
-    (record { sizes = i.book.sizes; rows = rows_after i.book.rows d }) i.book) c.loader_entry.ensures)
+    (record { sizes = i.book.sizes; rows = rows_after i.book.rows d }) i.book)
+    c.loader_entry.ensures)
     c.make_ready.ensures.groups
     (c.join.ensures
     ∙ ap (λ d. joined_by n c.make_ready.new.self.groups d)

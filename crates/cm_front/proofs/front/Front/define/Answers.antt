@@ -1,4 +1,5 @@
-use Rattle.std.proofs.Common.{◌≡◌, ℕ, ◌+◌, ◌<◌, ◌≤◌, cond, [], ◌∷◌, refl, sym, ap, subst, ◌∙◌, List, arith}
+use Rattle.std.proofs.Common.{◌≡◌, ℕ, ◌+◌, ◌<◌, ◌≤◌, cond, [], ◌∷◌, refl, sym, ap, subst, ◌∙◌, List}
+use Rattle.std.proofs.Common.{arith}
 use Rattle.std.specs.Prelude.{Result, Ok, Err, IsTrue, ◌↔◌}
 use Rattle.cm_arena.specs.Placing.{IsFull, Places}
 use Rattle.cm_space.specs.Space.{arena_of}
@@ -19,8 +20,8 @@ use Rattle.cm_front.specs.Refusing.{class_asked}
 use Rattle.cm_front.proofs.Causes.{class_refused, was_free}
 use Rattle.cm_front.proofs.Goings.{not_last}
 use Rattle.cm_front.proofs.Answering.{same_groups, above, told, given, full_answer, place_answer}
-use Rattle.cm_front.proofs.Answering.{Went, went_all, class_keeps, class_given, is_known, words_some}
-use Rattle.cm_front.proofs.Answering.{not_full_for}
+use Rattle.cm_front.proofs.Answering.{Went, went_all, class_keeps, class_given, is_known}
+use Rattle.cm_front.proofs.Answering.{words_some, not_full_for}
 use Rattle.cm_front.proofs.front.Front.define.Goals as goal
 use Rattle.cm_front.proofs.front.Front.define.Goals.{then-is_full, else-is_full}
 
@@ -30,7 +31,8 @@ returns-in_err-loader c =
     let s = c.args.self.now in
     let x = c.args.name.now in
     let w = c.args.class in
-    let first = class_refused c.rows_tell_state.ensures.loaders.1 c.rows_tell_state.ensures.classes.1
+    let first =
+    class_refused c.rows_tell_state.ensures.loaders.1 c.rows_tell_state.ensures.classes.1
     c.rows_tell_state.ensures.sizes.1 s x w (subst IsFront c.self.view_is c.self.invariant)
     c.requires.running c.requires.whole in
     rw p.1 (told s (Define x w) (class_asked s x w) p.0 first
@@ -40,7 +42,8 @@ pub is_full-requires-clause-known : goal.is_full-requires-clause-known
 is_full-requires-clause-known c =
     let i = c.self.inside in
     let s : FrontState =
-    front_of i.book i.space i.unsealed i.number i.sealed i.learnt i.is_broken i.is_closed i.opened in
+    front_of i.book i.space i.unsealed i.number i.sealed i.learnt i.is_broken i.is_closed
+    i.opened in
     let x = c.args.name.now in
     let w = c.args.class in
     let u = c.in_ok-loader.loader in
@@ -62,7 +65,8 @@ returns-in_default c =
     let u = c.in_ok-loader.loader in
     let i = c.self.inside in
     let f = subst IsFront c.self.view_is c.self.invariant in
-    let first = class_refused c.rows_tell_state.ensures.loaders.1 c.rows_tell_state.ensures.classes.1
+    let first =
+    class_refused c.rows_tell_state.ensures.loaders.1 c.rows_tell_state.ensures.classes.1
     c.rows_tell_state.ensures.sizes.1 s x k f c.requires.running c.requires.whole in
     let same = ap (λ space. front_of i.book space c.room_for.new.unsealed i.number i.sealed i.learnt
     i.is_broken i.is_closed i.opened) c.is_full.ensures.left
@@ -74,7 +78,8 @@ returns-in_default c =
     c.is_full.ensures.full in
     let new = front_of i.book c.is_full.new.self c.room_for.new.unsealed i.number i.sealed i.learnt
     i.is_broken i.is_closed i.opened in
-    let answer = full_answer s new x k u c.words-words.result first (sym c.in_ok-loader.ensures) same
+    let answer =
+    full_answer s new x k u c.words-words.result first (sym c.in_ok-loader.ensures) same
     c.words-words.ensures.words free.asked.found c.is_full.result tells in
     elim c.if-is_full.branch [
       | then-is_full w ↦
@@ -83,7 +88,8 @@ returns-in_default c =
           answer
       | else-is_full w ↦
           subst (λ r. Answers s (Define x k) (Err r) new)
-          (ap (λ b. cond b refusal.RegionFull refusal.NoMemory) w.if-is_full.false ∙ sym w.result-is)
+          (ap (λ b. cond b refusal.RegionFull refusal.NoMemory) w.if-is_full.false
+          ∙ sym w.result-is)
           answer
     ]
 
@@ -91,7 +97,8 @@ pub place-requires-clause-known : goal.place-requires-clause-known
 place-requires-clause-known c =
     let i = c.self.inside in
     let s : FrontState =
-    front_of i.book i.space i.unsealed i.number i.sealed i.learnt i.is_broken i.is_closed i.opened in
+    front_of i.book i.space i.unsealed i.number i.sealed i.learnt i.is_broken i.is_closed
+    i.opened in
     let x = c.args.name.now in
     let w = c.args.class in
     let u = c.in_ok-loader.loader in
@@ -119,7 +126,8 @@ returns-in-Err c =
     let u = c.in_ok-loader.loader in
     let i = c.self.inside in
     let f = subst IsFront c.self.view_is c.self.invariant in
-    let first = class_refused c.rows_tell_state.ensures.loaders.1 c.rows_tell_state.ensures.classes.1
+    let first =
+    class_refused c.rows_tell_state.ensures.loaders.1 c.rows_tell_state.ensures.classes.1
     c.rows_tell_state.ensures.sizes.1 s x w f c.requires.running c.requires.whole in
     let same = ap (λ space. front_of i.book space c.room_for.new.unsealed i.number i.sealed i.learnt
     i.is_broken i.is_closed i.opened) c.in-Err.ensures.err
@@ -129,14 +137,16 @@ returns-in-Err c =
     let long = subst (λ (t : FrontState). ◌≡◌ {A = Result Place PlaceRefusal} (Err c.in-Err.refusal)
     (Err of_place.RecordTooLong) → chunk_size t.space.pool.geometry.top < c.words-words.result)
     c.self.view_is c.in-Err.ensures.too_long.0 in
-    let tells = subst (λ (t : FrontState). ◌≡◌ {A = Result Place PlaceRefusal} (Err c.in-Err.refusal)
+    let tells =
+    subst (λ (t : FrontState). ◌≡◌ {A = Result Place PlaceRefusal} (Err c.in-Err.refusal)
     (Err of_place.RegionFull) ↔ IsFull (arena_of t.space u) t.space.pool c.words-words.result)
     c.self.view_is c.in-Err.ensures.full in
     let new = front_of i.book c.place.new.self c.room_for.new.unsealed i.number i.sealed i.learnt
     i.is_broken i.is_closed i.opened in
     subst (λ r. Answers s (Define x w) (Err r) new) (sym c.refusal_of_place.ensures)
     (place_answer s new x w u c.words-words.result first (sym c.in_ok-loader.ensures) same
-    c.words-words.ensures.words f free c.in-Err.refusal (λ e. long (ap Err e)) (λ e. tells.0 (ap Err e))
+    c.words-words.ensures.words f free c.in-Err.refusal (λ e. long (ap Err e))
+    (λ e. tells.0 (ap Err e))
     (λ h. err_same c.in-Err.refusal of_place.RegionFull (tells.1 h)))
 
 pub apply-rule-requires : goal.apply-rule-requires
@@ -149,7 +159,8 @@ pub join-requires-clause-to : goal.join-requires-clause-to
 join-requires-clause-to c =
     let i = c.self.inside in
     let s : FrontState =
-    front_of i.book i.space i.unsealed i.number i.sealed i.learnt i.is_broken i.is_closed i.opened in
+    front_of i.book i.space i.unsealed i.number i.sealed i.learnt i.is_broken i.is_closed
+    i.opened in
     let x = c.args.name.now in
     let w = c.args.class in
     let u = c.in_ok-loader.loader in
@@ -160,7 +171,8 @@ join-requires-clause-to c =
     omega (arith, below)
 
 went : (c : goal.After-self-1)
-    → Went (front_of c.self.inside.book c.self.inside.space c.self.inside.unsealed c.self.inside.number
+    → Went (front_of c.self.inside.book c.self.inside.space c.self.inside.unsealed
+    c.self.inside.number
     c.self.inside.sealed c.self.inside.learnt c.self.inside.is_broken c.self.inside.is_closed
     c.self.inside.opened) (Define c.args.name.now c.args.class) (c.self.inside.number + 1)
     (front_of c.apply-rule.new.self c.place.new.self c.join.new.self (c.self.inside.number + 1)
@@ -173,7 +185,8 @@ went c =
     let u = c.in_ok-loader.loader in
     let place = c.in-Ok-place.place in
     let s : FrontState =
-    front_of i.book i.space i.unsealed i.number i.sealed i.learnt i.is_broken i.is_closed i.opened in
+    front_of i.book i.space i.unsealed i.number i.sealed i.learnt i.is_broken i.is_closed
+    i.opened in
     let free = was_free s x w u
     (subst (λ t. ◌≡◌ {A = Result ℕ Refusal} (class_asked t x w) (Ok u)) (sym c.self.view_is)
     (sym c.in_ok-loader.ensures)) in
@@ -185,14 +198,16 @@ went c =
     c.in-Ok-place.ensures.placed c.in-Ok-place.ensures.others
     c.geometry-is_space.ensures.lawful c.geometry-is_space.ensures.pool in
     went_all c.entries_are_steps.ensures.words i.book c.apply-rule.new.self i.space
-    c.place.new.self i.unsealed c.room_for.new.unsealed c.join.new.self i.number (i.number + 1) i.sealed
+    c.place.new.self i.unsealed c.room_for.new.unsealed c.join.new.self i.number
+    (i.number + 1) i.sealed
     i.learnt i.is_broken i.is_closed i.opened e (Define x w) c.apply-rule.result f
     (not_last i.number f.numbers free.asked.left) refl keeps (
       subst (λ n. Places (arena_of s.space u) s.space.pool n place (arena_of c.place.new.self u)
           c.place.new.self.pool) c.words-words.ensures.words c.in-Ok-place.ensures.placed,
       c.in-Ok-place.ensures.others,
     )
-    (class_given own s x w u place f free.asked) c.apply-rule.ensures.broken c.apply-rule.ensures.left
+    (class_given own s x w u place f free.asked) c.apply-rule.ensures.broken
+    c.apply-rule.ensures.left
     c.room_for.ensures.groups
     (c.join.ensures
     ∙ ap (λ d. joined_by (i.number + 1) c.room_for.new.unsealed.groups d)
@@ -211,17 +226,20 @@ returns c =
     let x = c.args.name.now in
     let w = c.args.class in
     let u = c.in_ok-loader.loader in
-    let first = class_refused c.rows_tell_state.ensures.loaders.1 c.rows_tell_state.ensures.classes.1
+    let first =
+    class_refused c.rows_tell_state.ensures.loaders.1 c.rows_tell_state.ensures.classes.1
     c.rows_tell_state.ensures.sizes.1 s x w (subst IsFront c.self.view_is c.self.invariant)
     c.requires.running c.requires.whole in
     let free = was_free s x w u (sym c.in_ok-loader.ensures) in
-    let full = subst (λ (t : FrontState). IsFull (arena_of t.space u) t.space.pool c.words-words.result
+    let full =
+    subst (λ (t : FrontState). IsFull (arena_of t.space u) t.space.pool c.words-words.result
     → ◌≡◌ {A = Result Place PlaceRefusal} (Ok c.in-Ok-place.place) (Err of_place.RegionFull))
     c.self.view_is c.in-Ok-place.ensures.full.1 in
     given s _ (Define x w) (class_asked s x w) u (c.self.inside.number + 1) first
     (sym c.in_ok-loader.ensures)
     (not_full_for s x w u free.asked.found (λ h. no_ok c.in-Ok-place.place of_place.RegionFull
-    (full (subst (λ n. IsFull (arena_of s.space u) s.space.pool n) (sym c.words-words.ensures.words) h))))
+    (full (subst (λ n. IsFull (arena_of s.space u) s.space.pool n)
+    (sym c.words-words.ensures.words) h))))
     (subst (λ (t : FrontState). Accepts t (Define x w) (c.self.inside.number + 1)
     (front_of c.apply-rule.new.self c.place.new.self c.join.new.self (c.self.inside.number + 1)
     c.self.inside.sealed c.self.inside.learnt c.self.inside.is_broken c.self.inside.is_closed

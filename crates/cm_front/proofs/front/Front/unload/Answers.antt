@@ -10,8 +10,8 @@ use Rattle.cm_front.specs.Accepting.{Accepts, joined_by}
 use Rattle.cm_front.specs.Refusing.{loader_left}
 use Rattle.cm_front.proofs.Causes.{unload_refused, was_left}
 use Rattle.cm_front.proofs.Goings.{not_last}
-use Rattle.cm_front.proofs.Answering.{same_groups, above, told, no_memory, given}
-use Rattle.cm_front.proofs.Answering.{Went, went_all, unload_keeps, unload_asked, last_of_all, is_known}
+use Rattle.cm_front.proofs.Answering.{same_groups, above, told, no_memory, given, Went, went_all}
+use Rattle.cm_front.proofs.Answering.{unload_keeps, unload_asked, last_of_all, is_known}
 use Rattle.cm_front.proofs.front.Front.unload.Goals as goal
 
 pub returns-in_err-loader : goal.returns-in_err-loader
@@ -33,7 +33,8 @@ returns-in_err-make_ready c =
     let i = c.self.inside in
     let first = unload_refused c.rows_tell_state.ensures.loaders.1 s x c.requires.running
     c.requires.whole in
-    let same = same_groups i.book i.space i.unsealed c.make_ready.new.self i.number i.sealed i.learnt
+    let same =
+    same_groups i.book i.space i.unsealed c.make_ready.new.self i.number i.sealed i.learnt
     i.is_broken i.is_closed i.opened c.make_ready.ensures.groups ∙ c.self.view_is in
     rw (p.1, p.2) (no_memory s _ (Unload x) (loader_left s x) c.in_ok-loader.loader first
     (sym c.in_ok-loader.ensures) same (λ b. b))
@@ -42,10 +43,12 @@ pub leave-requires-clause-known : goal.leave-requires-clause-known
 leave-requires-clause-known c =
     let i = c.self.inside in
     let s : FrontState =
-    front_of i.book i.space i.unsealed i.number i.sealed i.learnt i.is_broken i.is_closed i.opened in
+    front_of i.book i.space i.unsealed i.number i.sealed i.learnt i.is_broken i.is_closed
+    i.opened in
     is_known s c.args.name.now c.in_ok-loader.loader c.self.invariant
     (was_left s c.args.name.now c.in_ok-loader.loader
-    (subst (λ t. ◌≡◌ {A = Result ℕ Refusal} (loader_left t c.args.name.now) (Ok c.in_ok-loader.loader))
+    (subst (λ t. ◌≡◌ {A = Result ℕ Refusal} (loader_left t c.args.name.now)
+    (Ok c.in_ok-loader.loader))
     (sym c.self.view_is) (sym c.in_ok-loader.ensures)))
 
 pub leave-requires-clause-last : goal.leave-requires-clause-last
@@ -76,7 +79,8 @@ apply-rule-requires c =
     i.is_broken i.is_closed i.opened) c.self.invariant
 
 went : (c : goal.After-self-1)
-    → Went (front_of c.self.inside.book c.self.inside.space c.self.inside.unsealed c.self.inside.number
+    → Went (front_of c.self.inside.book c.self.inside.space c.self.inside.unsealed
+    c.self.inside.number
     c.self.inside.sealed c.self.inside.learnt c.self.inside.is_broken c.self.inside.is_closed
     c.self.inside.opened) (Unload c.args.name.now) (c.self.inside.number + 1)
     (front_of c.apply-rule.new.self c.leave.new.self c.join.new.self (c.self.inside.number + 1)
@@ -87,7 +91,8 @@ went c =
     let x = c.args.name.now in
     let u = c.in_ok-loader.loader in
     let s : FrontState =
-    front_of i.book i.space i.unsealed i.number i.sealed i.learnt i.is_broken i.is_closed i.opened in
+    front_of i.book i.space i.unsealed i.number i.sealed i.learnt i.is_broken i.is_closed
+    i.opened in
     let asked = was_left s x u
     (subst (λ t. ◌≡◌ {A = Result ℕ Refusal} (loader_left t x) (Ok u)) (sym c.self.view_is)
     (sym c.in_ok-loader.ensures)) in
@@ -97,7 +102,8 @@ went c =
     let keeps = unload_keeps own s x u c.leave.new.self f asked c.in_ok-leave.ensures.ok
     c.geometry-is_space.ensures.lawful c.geometry-is_space.ensures.pool in
     went_all c.entries_are_steps.ensures.words i.book c.apply-rule.new.self i.space
-    c.leave.new.self i.unsealed c.make_ready.new.self c.join.new.self i.number (i.number + 1) i.sealed
+    c.leave.new.self i.unsealed c.make_ready.new.self c.join.new.self i.number
+    (i.number + 1) i.sealed
     i.learnt i.is_broken i.is_closed i.opened e (Unload x) c.apply-rule.result f
     (not_last i.number f.numbers asked.left) refl keeps c.in_ok-leave.ensures.ok
     (unload_asked own s x u f asked) c.apply-rule.ensures.broken c.apply-rule.ensures.left

@@ -3,7 +3,8 @@ use Rattle.cm_group.specs.Groups.{Handed, slots_taken}
 use Rattle.cm_group.proofs.Joining.{taken-append, with_entry}
 use Rattle.cm_group.proofs.group.Group.push.Goals as goal
 
-pub returns-then-self-slots-gt-GROUP_SLOTS-clause-room : goal.returns-then-self-slots-gt-GROUP_SLOTS-clause-room
+pub returns-then-self-slots-gt-GROUP_SLOTS-clause-room :
+    goal.returns-then-self-slots-gt-GROUP_SLOTS-clause-room
 returns-then-self-slots-gt-GROUP_SLOTS-clause-room c =
     let old = ap (λ (g : Handed). slots_taken g.entries) c.self.view_is in
     let taken = taken-append c.args.self.now.entries (c.args.entry ∷ []) in (

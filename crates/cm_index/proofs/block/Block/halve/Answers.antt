@@ -7,5 +7,7 @@ returns-clause-upper c =
     let xs = c.self.inside.entries.items in
     let ys = c.upper.inside.entries.items in
     let none : ys ≡ [] = nil_from_length ys (ap length c.upper.view_is ∙ c.requires.empty) in
-    let more = rw (c.unwrap.ensures, c.deref.ensures.value, none, take_rest xs 512) at c.extend_from_slice.ensures.items in
+    let more =
+    rw (c.unwrap.ensures, c.deref.ensures.value, none, take_rest xs 512) at
+    c.extend_from_slice.ensures.items in
     rw (← c.self.view_is) more

@@ -12,5 +12,6 @@ returns-then-self-lt26 c =
 
 pub returns-else-self-lt26 : goal.returns-else-self-lt26
 returns-else-self-lt26 c =
-    let large : 2 ^ 26 ≤ 2 ^ c.args.self.now.order = pow-le-pow_right {n = 2} (omega arith) c.if-self-lt26.false in
+    let large : 2 ^ 26 ≤ 2 ^ c.args.self.now.order =
+    pow-le-pow_right {n = 2} (omega arith) c.if-self-lt26.false in
     omega arith

@@ -13,28 +13,36 @@ place : (c : Else-self-roots)
     → HasPlace c.self.inside.rows.items (root_block c.self.inside.geometry c.self.inside.roots)
 place c =
     let a = c.self.inside in
-    hole-place a.geometry.top _ a.rows.items (root_block a.geometry a.roots) (root-hole a.geometry a.roots a.rows.items c.self.invariant (below c))
+    hole-place a.geometry.top _ a.rows.items (root_block a.geometry a.roots)
+    (root-hole a.geometry a.roots a.rows.items c.self.invariant (below c))
 
 -- the code's block
 is_root : (c : After-top)
-    → record { index = c.self.inside.roots; order = c.top.result } ≡ root_block c.self.inside.geometry c.self.inside.roots
+    → record { index = c.self.inside.roots; order = c.top.result }
+    ≡ root_block c.self.inside.geometry c.self.inside.roots
 is_root c = λ i. record { index = c.self.inside.roots; order = c.top.ensures.value i }
 
 pub mark-requires : goal.mark-requires
 mark-requires c =
     let at = goal.at.mark-requires c in
-    subst (HasPlace c.self.inside.rows.items) (sym (is_root at.After-top)) (place at.Else-self-roots)
+    subst (HasPlace c.self.inside.rows.items) (sym (is_root at.After-top))
+    (place at.Else-self-roots)
 
 pub invariant_of-self : goal.invariant_of-self
 invariant_of-self c =
     let a = c.self.inside in
     let at = goal.at.invariant_of-self c in
-    let new : c.mark.new.rows.items ≡ with_mark a.rows.items (root_block a.geometry a.roots) = c.mark.ensures ∙ ap (with_mark a.rows.items) (is_root at.After-top) in
-    subst (IsPool a.geometry (a.roots + 1)) (sym new) (root-added a.geometry a.roots a.rows.items c.self.invariant (below at.Else-self-roots))
+    let new : c.mark.new.rows.items ≡ with_mark a.rows.items (root_block a.geometry a.roots) =
+    c.mark.ensures ∙ ap (with_mark a.rows.items) (is_root at.After-top) in
+    subst (IsPool a.geometry (a.roots + 1)) (sym new)
+    (root-added a.geometry a.roots a.rows.items c.self.invariant (below at.Else-self-roots))
 
 pub returns-clause-left : goal.returns-clause-left
 returns-clause-left c =
     let a = c.self.inside in
     let at = goal.at.returns-clause-left c in
-    let new : c.mark.new.rows.items ≡ with_mark a.rows.items (root_block a.geometry a.roots) = c.mark.ensures ∙ ap (with_mark a.rows.items) (is_root at.After-top) in
-    ap (space_of a.geometry (a.roots + 1)) new ∙ root-space a.geometry a.roots a.rows.items (place at.Else-self-roots) ∙ ap with_root c.self.view_is
+    let new : c.mark.new.rows.items ≡ with_mark a.rows.items (root_block a.geometry a.roots) =
+    c.mark.ensures ∙ ap (with_mark a.rows.items) (is_root at.After-top) in
+    ap (space_of a.geometry (a.roots + 1)) new
+    ∙ root-space a.geometry a.roots a.rows.items (place at.Else-self-roots)
+    ∙ ap with_root c.self.view_is

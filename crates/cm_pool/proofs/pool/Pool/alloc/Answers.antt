@@ -17,20 +17,25 @@ pub returns-in_err-from-clause-none : goal.returns-in_err-from-clause-none
 returns-in_err-from-clause-none c =
     let a = c.self.inside in
     let none = subst
-    (λ (rows : List (List ℕ)). IsFirstFrom rows c.args.order (length rows) None) c.deref.ensures.value c.in_err-from.ensures in (
-      λ _ has. none-free a.geometry a.roots a.rows.items c.args.order c.self.invariant none (subst (λ (p : FreeSpace). HasFree p c.args.order) (sym c.self.view_is) has),
+    (λ (rows : List (List ℕ)). IsFirstFrom rows c.args.order (length rows) None)
+    c.deref.ensures.value c.in_err-from.ensures in (
+      λ _ has. none-free a.geometry a.roots a.rows.items c.args.order c.self.invariant none
+          (subst (λ (p : FreeSpace). HasFree p c.args.order) (sym c.self.view_is) has),
       λ _. ap is_some c.from_residual.ensures,
     )
 
 first : (c : In_ok-from)
-    → IsFirst c.self.inside.rows.items c.args.order (length c.self.inside.rows.items) c.in_ok-from.from
+    → IsFirst c.self.inside.rows.items c.args.order (length c.self.inside.rows.items)
+    c.in_ok-from.from
 first c = subst
-    (λ (rows : List (List ℕ)). IsFirst rows c.args.order (length rows) c.in_ok-from.from) c.deref.ensures.value c.in_ok-from.ensures
+    (λ (rows : List (List ℕ)). IsFirst rows c.args.order (length rows) c.in_ok-from.from)
+    c.deref.ensures.value c.in_ok-from.ensures
 
 pub first-wanted-requires-clause-fits : goal.first-wanted-requires-clause-fits
 first-wanted-requires-clause-fits c =
     let a = c.self.inside in
-    marked-small a.geometry a.roots a.rows.items c.in_ok-from.from c.self.invariant (first (goal.at.first-wanted-requires-clause-fits c).In_ok-from).is_set
+    marked-small a.geometry a.roots a.rows.items c.in_ok-from.from c.self.invariant
+    (first (goal.at.first-wanted-requires-clause-fits c).In_ok-from).is_set
 
 pub take_out-requires-clause-kept : goal.take_out-requires-clause-kept
 take_out-requires-clause-kept c =
@@ -38,25 +43,33 @@ take_out-requires-clause-kept c =
     (a.geometry.top, a.geometry.roots * 2 ^ a.geometry.top, c.self.invariant.kept)
 
 pub take_out-requires-clause-from : goal.take_out-requires-clause-from
-take_out-requires-clause-from c = (first (goal.at.take_out-requires-clause-from c).In_ok-from).is_set
+take_out-requires-clause-from c =
+    (first (goal.at.take_out-requires-clause-from c).In_ok-from).is_set
 
 pub invariant_of-self : goal.invariant_of-self
 invariant_of-self c =
     let a = c.self.inside in
-    pool-taken a.geometry a.roots a.rows.items c.take_out.new.rows.items c.first-wanted.result c.self.invariant
-    (c.take_out.ensures.kept a.geometry.top (a.geometry.roots * 2 ^ a.geometry.top) c.self.invariant.kept) c.take_out.ensures.covered
+    pool-taken a.geometry a.roots a.rows.items c.take_out.new.rows.items c.first-wanted.result
+    c.self.invariant
+    (c.take_out.ensures.kept a.geometry.top (a.geometry.roots * 2 ^ a.geometry.top)
+    c.self.invariant.kept) c.take_out.ensures.covered
 
 same : (c : After-to_chunk)
     → IsSame c.self.inside.geometry.top c.to_chunk.result c.first-wanted.result
 same c = subst
-    (λ t. IsSame t c.to_chunk.result c.first-wanted.result) c.top-top.ensures.value c.to_chunk.ensures.same
+    (λ t. IsSame t c.to_chunk.result c.first-wanted.result) c.top-top.ensures.value
+    c.to_chunk.ensures.same
 
 block : (c : After-to_chunk) → is_marked c.self.inside.rows.items c.in_ok-from.from ≡ true
     → IsBlock c.self.inside.geometry.top c.self.inside.roots c.to_chunk.result
 block c set =
     let a = c.self.inside in
     let stops : stop c.first-wanted.result ≤ a.roots * 2 ^ a.geometry.top =
-    omega (arith, inside-stop c.first-wanted.result c.in_ok-from.from c.first-wanted.ensures.inside, marked-stop a.geometry a.roots a.rows.items c.in_ok-from.from c.self.invariant set)
+    omega (
+      arith,
+      inside-stop c.first-wanted.result c.in_ok-from.from c.first-wanted.ensures.inside,
+      marked-stop a.geometry a.roots a.rows.items c.in_ok-from.from c.self.invariant set,
+    )
     in
     subst (λ t. IsBlock t a.roots c.to_chunk.result) c.top-top.ensures.value
     (c.to_chunk.ensures.within a.roots (subst
@@ -67,7 +80,8 @@ free : (c : After-to_chunk) → is_marked c.self.inside.rows.items c.in_ok-from.
 free c set =
     let a = c.self.inside in
     subst (λ (p : FreeSpace). IsFreeChunk p c.to_chunk.result) c.self.view_is
-    (held-free a.geometry a.roots a.rows.items c.to_chunk.result c.first-wanted.result c.in_ok-from.from (same c) (block c set) set c.first-wanted.ensures.inside)
+    (held-free a.geometry a.roots a.rows.items c.to_chunk.result c.first-wanted.result
+    c.in_ok-from.from (same c) (block c set) set c.first-wanted.ensures.inside)
 
 of_order : (c : After-to_chunk) → c.to_chunk.result.order ≡ c.args.order
 of_order c = sym (same c).order ∙ c.first-wanted.ensures.order
@@ -76,25 +90,38 @@ pub returns-clause-none : goal.returns-clause-none
 returns-clause-none c =
     let at = goal.at.returns-clause-none c in (
       λ e. absurd (true≢false e),
-      λ no. absurd (no (c.to_chunk.result, of_order at.After-to_chunk, free at.After-to_chunk (first at.In_ok-from).is_set)),
+      λ no. absurd (no (
+        c.to_chunk.result,
+        of_order at.After-to_chunk,
+        free at.After-to_chunk (first at.In_ok-from).is_set,
+      )),
     )
 
 pub returns-clause-first : goal.returns-clause-first
 returns-clause-first c =
     let a = c.self.inside in
     let at = goal.at.returns-clause-first c in
-    let from : start c.first-wanted.result ≡ start c.in_ok-from.from = c.first-wanted.ensures.start in
+    let from : start c.first-wanted.result ≡ start c.in_ok-from.from =
+    c.first-wanted.ensures.start in
     record {
       of_order = of_order at.After-to_chunk;
       free = free at.After-to_chunk (first at.In_ok-from).is_set;
       first = λ other e is_free.
           let there = subst (λ (p : FreeSpace). IsFreeChunk p other) (sym c.self.view_is) is_free in
-          not-before a.geometry.top a.roots c.to_chunk.result other c.first-wanted.result (same at.After-to_chunk) there.block
-          (omega (arith, from, first-start a.geometry a.roots a.rows.items c.args.order c.in_ok-from.from other c.self.invariant (first at.In_ok-from) there e));
+          not-before a.geometry.top a.roots c.to_chunk.result other c.first-wanted.result
+          (same at.After-to_chunk) there.block
+          (omega (
+            arith,
+            from,
+            first-start a.geometry a.roots a.rows.items c.args.order
+                c.in_ok-from.from other c.self.invariant (first at.In_ok-from) there e,
+          ));
     }
 
 pub returns-clause-left : goal.returns-clause-left
 returns-clause-left c =
     let a = c.self.inside in
-    space-without a.geometry a.roots a.rows.items c.take_out.new.rows.items c.to_chunk.result c.first-wanted.result (same (goal.at.returns-clause-left c).After-to_chunk) c.take_out.ensures.covered
+    space-without a.geometry a.roots a.rows.items c.take_out.new.rows.items c.to_chunk.result
+    c.first-wanted.result (same (goal.at.returns-clause-left c).After-to_chunk)
+    c.take_out.ensures.covered
     ∙ ap (λ p. without p c.to_chunk.result) c.self.view_is

@@ -24,18 +24,25 @@ on_err (Ok x) p = tt
 on_err (Err e) p = p
 
 pub returns-in_err-push-clause-memory : goal.returns-in_err-push-clause-memory
-returns-in_err-push-clause-memory c = on_err c.from_residual.result (below (goal.at.returns-in_err-push-clause-memory c).Else-self-roots)
+returns-in_err-push-clause-memory c =
+    on_err c.from_residual.result
+    (below (goal.at.returns-in_err-push-clause-memory c).Else-self-roots)
 
 pushed : (c : In_ok-push)
-    → c.push.new.self.items ≡ c.self.inside.free.items ++ root_block c.self.inside.geometry c.self.inside.roots ∷ []
+    → c.push.new.self.items ≡ c.self.inside.free.items
+    ++ root_block c.self.inside.geometry c.self.inside.roots ∷ []
 pushed c =
-    subst (λ t. c.push.new.self.items ≡ c.self.inside.free.items ++ record { index = c.self.inside.roots; order = t } ∷ []) c.top.ensures.value c.in_ok-push.ensures.items
+    subst (λ t. c.push.new.self.items ≡ c.self.inside.free.items
+    ++ record { index = c.self.inside.roots; order = t } ∷ []) c.top.ensures.value
+    c.in_ok-push.ensures.items
 
 pub invariant_of-self-2 : goal.invariant_of-self-2
 invariant_of-self-2 c =
     let a = c.self.inside in
-    root-added a.geometry a.roots (vec_capacity a.free) (vec_capacity c.push.new.self) a.free.items c.push.new.self.items c.self.invariant
-    (omega (arith, c.roots.ensures.value)) (pushed (goal.at.invariant_of-self-2 c).In_ok-push) c.push.ensures.capacity
+    root-added a.geometry a.roots (vec_capacity a.free) (vec_capacity c.push.new.self) a.free.items
+    c.push.new.self.items c.self.invariant
+    (omega (arith, c.roots.ensures.value)) (pushed (goal.at.invariant_of-self-2 c).In_ok-push)
+    c.push.ensures.capacity
 
 pub returns-clause-added : goal.returns-clause-added
 returns-clause-added c = (λ e. below (goal.at.returns-clause-added c).Else-self-roots, λ lt. refl)
@@ -43,5 +50,6 @@ returns-clause-added c = (λ e. below (goal.at.returns-clause-added c).Else-self
 pub returns-clause-left : goal.returns-clause-left
 returns-clause-left c =
     let a = c.self.inside in
-    root-space a.geometry a.roots a.free.items c.push.new.self.items (pushed (goal.at.returns-clause-left c).In_ok-push)
+    root-space a.geometry a.roots a.free.items c.push.new.self.items
+    (pushed (goal.at.returns-clause-left c).In_ok-push)
     ∙ ap with_root c.self.view_is

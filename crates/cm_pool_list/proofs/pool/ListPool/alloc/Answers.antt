@@ -23,7 +23,8 @@ returns-in_err-at-clause-none c =
     let a = c.self.inside in
     let small = subst (λ (bs : List Block). AllByRecursion
     (λ b. b.order < c.args.order) bs) c.deref.ensures.value c.in_err-at.ensures.none in (
-      λ _ has. none-free a.geometry a.roots a.free.items c.args.order c.self.invariant.listed small (subst (λ (p : FreeSpace). HasFree p c.args.order) (sym c.self.view_is) has),
+      λ _ has. none-free a.geometry a.roots a.free.items c.args.order c.self.invariant.listed small
+          (subst (λ (p : FreeSpace). HasFree p c.args.order) (sym c.self.view_is) has),
       λ _. ap is_some c.from_residual.ensures,
     )
 
@@ -34,13 +35,17 @@ within c = subst
 among : (c : After-index) → c.in_ok-at.at < length c.self.inside.free.items
     → Among c.index.result.now c.self.inside.free.items
 among c h = subst
-    (λ b. Among b c.self.inside.free.items) (sym c.index.ensures) (among-at c.self.inside.free.items c.in_ok-at.at c.index.result.now h)
+    (λ b. Among b c.self.inside.free.items) (sym c.index.ensures)
+    (among-at c.self.inside.free.items c.in_ok-at.at c.index.result.now h)
 
 pub first-wanted-requires-clause-fits : goal.first-wanted-requires-clause-fits
 first-wanted-requires-clause-fits c =
     let a = c.self.inside in
     let b = c.index.result.now in
-    (listed-room a.geometry a.roots (vec_capacity a.free) a.free.items c.self.invariant (start b) (covered-among a.free.items b (start b) (among (goal.at.first-wanted-requires-clause-fits c).After-index (within (goal.at.first-wanted-requires-clause-fits c).In_ok-at)) (is_in-start b))).1
+    (listed-room a.geometry a.roots (vec_capacity a.free) a.free.items c.self.invariant (start b)
+    (covered-among a.free.items b (start b)
+    (among (goal.at.first-wanted-requires-clause-fits c).After-index
+    (within (goal.at.first-wanted-requires-clause-fits c).In_ok-at)) (is_in-start b))).1
 
 pub take_at-requires-clause-room : goal.take_at-requires-clause-room
 take_at-requires-clause-room c =
@@ -50,13 +55,16 @@ take_at-requires-clause-room c =
 pub invariant_of-self : goal.invariant_of-self
 invariant_of-self c =
     let a = c.self.inside in
-    pool-taken a.geometry a.roots (vec_capacity a.free) (vec_capacity c.take_at.new.free) a.free.items c.take_at.new.free.items c.first-wanted.result c.self.invariant
-    (c.take_at.ensures.listed a.geometry.top c.self.invariant.listed) c.take_at.ensures.covered c.take_at.ensures.capacity
+    pool-taken a.geometry a.roots (vec_capacity a.free) (vec_capacity c.take_at.new.free)
+    a.free.items c.take_at.new.free.items c.first-wanted.result c.self.invariant
+    (c.take_at.ensures.listed a.geometry.top c.self.invariant.listed) c.take_at.ensures.covered
+    c.take_at.ensures.capacity
 
 same : (c : After-to_chunk)
     → IsSame c.self.inside.geometry.top c.to_chunk.result c.first-wanted.result
 same c = subst
-    (λ t. IsSame t c.to_chunk.result c.first-wanted.result) c.top-top.ensures.value c.to_chunk.ensures.same
+    (λ t. IsSame t c.to_chunk.result c.first-wanted.result) c.top-top.ensures.value
+    c.to_chunk.ensures.same
 
 block : (c : After-to_chunk) → Among c.index.result.now c.self.inside.free.items
     → IsBlock c.self.inside.geometry.top c.self.inside.roots c.to_chunk.result
@@ -66,7 +74,8 @@ block c m =
     omega (
       arith,
       inside-stop c.first-wanted.result c.index.result.now c.first-wanted.ensures.inside,
-      listed-stop a.geometry a.roots (vec_capacity a.free) a.free.items c.index.result.now c.self.invariant m,
+      listed-stop a.geometry a.roots (vec_capacity a.free) a.free.items c.index.result.now
+          c.self.invariant m,
     )
     in
     subst (λ t. IsBlock t a.roots c.to_chunk.result) c.top-top.ensures.value
@@ -78,32 +87,55 @@ free : (c : After-to_chunk) → Among c.index.result.now c.self.inside.free.item
 free c m =
     let a = c.self.inside in
     subst (λ (p : FreeSpace). IsFreeChunk p c.to_chunk.result) c.self.view_is
-    (held-free a.geometry a.roots a.free.items c.to_chunk.result c.first-wanted.result c.index.result.now (same c) (block c m) m c.first-wanted.ensures.inside)
+    (held-free a.geometry a.roots a.free.items c.to_chunk.result c.first-wanted.result
+    c.index.result.now (same c) (block c m) m c.first-wanted.ensures.inside)
 
 of_order : (c : After-to_chunk) → c.to_chunk.result.order ≡ c.args.order
 of_order c = sym (same c).order ∙ c.first-wanted.ensures.order
 
 pub returns-clause-none : goal.returns-clause-none
-returns-clause-none c =
-    (λ e. absurd (true≢false e), λ no. absurd (no (c.to_chunk.result, of_order (goal.at.returns-clause-none c).After-to_chunk, free (goal.at.returns-clause-none c).After-to_chunk (among (goal.at.returns-clause-none c).After-index (within (goal.at.returns-clause-none c).In_ok-at)))))
+returns-clause-none c = (
+  λ e. absurd (true≢false e),
+  λ no. absurd (no (
+    c.to_chunk.result,
+    of_order (goal.at.returns-clause-none c).After-to_chunk,
+    free (goal.at.returns-clause-none c).After-to_chunk
+        (among (goal.at.returns-clause-none c).After-index
+        (within (goal.at.returns-clause-none c).In_ok-at)),
+  )),
+)
 
 pub returns-clause-first : goal.returns-clause-first
 returns-clause-first c =
     let a = c.self.inside in
     let small = subst (λ (bs : List Block). AllByRecursion
-    (λ b. b.order < c.args.order) (take c.in_ok-at.at bs)) c.deref.ensures.value c.in_ok-at.ensures.first in
-    let from : start c.first-wanted.result ≡ start (get_or a.free.items c.in_ok-at.at c.index.result.now) = c.first-wanted.ensures.start ∙ ap start c.index.ensures in
+    (λ b. b.order < c.args.order) (take c.in_ok-at.at bs)) c.deref.ensures.value
+    c.in_ok-at.ensures.first in
+    let from : start c.first-wanted.result
+    ≡ start (get_or a.free.items c.in_ok-at.at c.index.result.now) =
+    c.first-wanted.ensures.start ∙ ap start c.index.ensures in
     record {
       of_order = of_order (goal.at.returns-clause-first c).After-to_chunk;
-      free = free (goal.at.returns-clause-first c).After-to_chunk (among (goal.at.returns-clause-first c).After-index (within (goal.at.returns-clause-first c).In_ok-at));
+      free = free (goal.at.returns-clause-first c).After-to_chunk
+          (among (goal.at.returns-clause-first c).After-index
+          (within (goal.at.returns-clause-first c).In_ok-at));
       first = λ other e is_free.
           let there = subst (λ (p : FreeSpace). IsFreeChunk p other) (sym c.self.view_is) is_free in
-          not-before a.geometry.top a.roots c.to_chunk.result other c.first-wanted.result (same (goal.at.returns-clause-first c).After-to_chunk) there.block
-          (omega (arith, from, first-start a.geometry a.roots a.free.items c.args.order c.in_ok-at.at c.index.result.now other c.self.invariant.listed (within (goal.at.returns-clause-first c).In_ok-at) small there e));
+          not-before a.geometry.top a.roots c.to_chunk.result other c.first-wanted.result
+          (same (goal.at.returns-clause-first c).After-to_chunk) there.block
+          (omega (
+            arith,
+            from,
+            first-start a.geometry a.roots a.free.items c.args.order
+                c.in_ok-at.at c.index.result.now other c.self.invariant.listed
+                (within (goal.at.returns-clause-first c).In_ok-at) small there e,
+          ));
     }
 
 pub returns-clause-left : goal.returns-clause-left
 returns-clause-left c =
     let a = c.self.inside in
-    space-without a.geometry a.roots a.free.items c.take_at.new.free.items c.to_chunk.result c.first-wanted.result (same (goal.at.returns-clause-left c).After-to_chunk) c.take_at.ensures.covered
+    space-without a.geometry a.roots a.free.items c.take_at.new.free.items c.to_chunk.result
+    c.first-wanted.result (same (goal.at.returns-clause-left c).After-to_chunk)
+    c.take_at.ensures.covered
     ∙ ap (λ p. without p c.to_chunk.result) c.self.view_is

@@ -10,4 +10,5 @@ returns-clause-value c = ap (λ (p : FreeSpace). p.geometry) c.self.view_is
 pub returns-clause-lawful : goal.returns-clause-lawful
 returns-clause-lawful c =
     let a = c.self.inside in
-    subst IsFreeSpace c.self.view_is (lawful a.geometry a.roots (vec_capacity a.free) a.free.items c.self.invariant)
+    subst IsFreeSpace c.self.view_is
+    (lawful a.geometry a.roots (vec_capacity a.free) a.free.items c.self.invariant)

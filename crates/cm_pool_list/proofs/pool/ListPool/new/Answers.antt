@@ -11,7 +11,8 @@ invariant_of-result c =
     let sizes = c.args.geometry in
     let capacity = vec_capacity c.in_ok-free.free in
     let asked : sizes.roots * 2 ^ (c.top.result - 1) % 2 ^ 64 ≤ capacity = subst
-    (λ n. n * 2 ^ (c.top.result - 1) % 2 ^ 64 ≤ capacity) c.roots.ensures.value c.in_ok-free.ensures.capacity in
+    (λ n. n * 2 ^ (c.top.result - 1) % 2 ^ 64 ≤ capacity) c.roots.ensures.value
+    c.in_ok-free.ensures.capacity in
     let room : sizes.roots * 2 ^ (sizes.top - 1) % 2 ^ 64 ≤ capacity = subst
     (λ n. sizes.roots * 2 ^ (n - 1) % 2 ^ 64 ≤ capacity) c.top.ensures.value asked in
     subst (λ (bs : List Block). IsPool sizes 0 capacity bs) (sym c.in_ok-free.ensures.items)

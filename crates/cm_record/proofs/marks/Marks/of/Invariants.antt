@@ -9,6 +9,7 @@ abbrev pub invariant-loop-index : goal.invariant-loop-index
 invariant-loop-index l = record {
   long : length l.leads ≡ 2 ^ 16;
   second : l.is_second ≡ is_second_word l.words (8 + l.index);
-  marked : (c : ClassFile) → IsRecordOf c l.words → (k : ℕ) → k < l.index → get_or l.leads k false ≡ names_utf8 c k l.bytes;
+  marked : (c : ClassFile) → IsRecordOf c l.words → (k : ℕ) → k < l.index → get_or l.leads k false
+      ≡ names_utf8 c k l.bytes;
   rest : (k : ℕ) → l.index ≤ k → k < 2 ^ 16 → get_or l.leads k false ≡ false;
 }

@@ -10,4 +10,6 @@ pub returns-clause-record : goal.returns-clause-record
 returns-clause-record c = subst IsRecord (sym c.as_slice.ensures) c.self.invariant.0
 
 pub returns-clause-directory : goal.returns-clause-directory
-returns-clause-directory c = directory_within c.as_slice.result.now (subst IsRecord (sym c.as_slice.ensures) c.self.invariant.0)
+returns-clause-directory c =
+    directory_within c.as_slice.result.now
+    (subst IsRecord (sym c.as_slice.ensures) c.self.invariant.0)

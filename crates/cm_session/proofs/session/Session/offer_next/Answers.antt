@@ -58,5 +58,6 @@ returns-clause-takes g c =
     let zero = c.if-steps_left-gt0.false in
     may_take g.D.Disk.contents c.join_queued-group.new.queue.items c.args.self.now.committer
     c.offer-taken.new.self c.join_queued-group.result c.steps_left.result c.steps_left.ensures
-    (omega (arith, zero)) c.join_queued-group.ensures.all c.offer-taken.result c.offer-taken.ensures.takes c.offer-taken.ensures.taken
+    (omega (arith, zero)) c.join_queued-group.ensures.all c.offer-taken.result
+    c.offer-taken.ensures.takes c.offer-taken.ensures.taken
     c.offer-taken.ensures.same

@@ -14,7 +14,8 @@ returns-in-Err-clause-machine g c =
     let s = c.args.self.now in
     λ k goes rest.
     refuses s.committer.sizes k (change_asked c.args.command)
-    (LeavesOnly g.D.Disk.moment g.D.Disk.left_since s.committer.disk c.accept.new.self.committer.disk)
+    (LeavesOnly g.D.Disk.moment g.D.Disk.left_since s.committer.disk
+    c.accept.new.self.committer.disk)
     c.in-Err.refusal rest (c.in-Err.ensures.machine k goes)
 
 pub returns-then-is_err-clause-machine : goal.returns-then-is_err-clause-machine
@@ -41,7 +42,8 @@ returns-in-Ok-progress-clause-machine g c =
     let with_it = sealed sizes k a.change number accepted rest answers c.seal.result
     c.if-is_err.ensures.value (c.seal.ensures.machine accepted a.leads.goes) in
     let same = c.seal.ensures.disk ∙ c.accept.ensures.disk in
-    let moments : LeavesOnly disk.moment disk.left_since s.committer.disk left (StandsForSome sizes h) =
+    let moments : LeavesOnly disk.moment disk.left_since s.committer.disk left
+    (StandsForSome sizes h) =
     subst (λ (d : CommitterState _). LeavesOnly disk.moment disk.left_since s.committer.disk d.disk
     (StandsForSome sizes h)) (sym c.learn.ensures.disk)
     (subst (λ (b : CommitterState _). LeavesOnly disk.moment disk.left_since b.disk
@@ -67,7 +69,8 @@ returns-in-Err-progress-clause-machine g c =
     let with_it = sealed sizes k a.change number accepted rest answers c.seal.result
     c.if-is_err.ensures.value (c.seal.ensures.machine accepted a.leads.goes) in
     let same = c.seal.ensures.disk ∙ c.accept.ensures.disk in
-    let moments : LeavesOnly disk.moment disk.left_since s.committer.disk left (StandsForSome sizes h) =
+    let moments : LeavesOnly disk.moment disk.left_since s.committer.disk left
+    (StandsForSome sizes h) =
     subst (λ (d : CommitterState _). LeavesOnly disk.moment disk.left_since s.committer.disk d.disk
     (StandsForSome sizes h)) (sym c.learn.ensures.disk)
     (subst (λ (b : CommitterState _). LeavesOnly disk.moment disk.left_since b.disk

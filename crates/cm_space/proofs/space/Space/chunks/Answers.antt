@@ -8,9 +8,13 @@ pub returns-in-Some : goal.returns-in-Some
 returns-in-Some c =
     let a = c.self.inside in
     ap Some c.chunks.ensures
-    ∙ ap (option_map chunks_of) (c.in-Some.ensures.value ∙ view-get a.pool a.arenas.entries a.waiting.items c.args.self.now c.args.loader c.self.view_is)
+    ∙ ap (option_map chunks_of) (c.in-Some.ensures.value
+    ∙ view-get a.pool a.arenas.entries a.waiting.items c.args.self.now c.args.loader
+    c.self.view_is)
 
 pub returns-in-None : goal.returns-in-None
 returns-in-None c =
     let a = c.self.inside in
-    ap (option_map chunks_of) (c.in-None.ensures.value ∙ view-get a.pool a.arenas.entries a.waiting.items c.args.self.now c.args.loader c.self.view_is)
+    ap (option_map chunks_of) (c.in-None.ensures.value
+    ∙ view-get a.pool a.arenas.entries a.waiting.items c.args.self.now c.args.loader
+    c.self.view_is)

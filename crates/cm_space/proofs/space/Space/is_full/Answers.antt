@@ -10,14 +10,20 @@ use Rattle.cm_space.proofs.space.Space.is_full.Goals as goal
 pub unwrap-arena-requires : goal.unwrap-arena-requires
 unwrap-arena-requires c =
     let a = c.self.inside in
-    is_some-map (λ x. x.now) c.get.result _ (c.get.ensures.value ∙ view-get a.pool a.arenas.entries a.waiting.items c.args.self.now c.args.loader c.self.view_is) c.requires.known
+    is_some-map (λ x. x.now) c.get.result _
+    (c.get.ensures.value ∙ view-get a.pool a.arenas.entries a.waiting.items c.args.self.now
+    c.args.loader c.self.view_is) c.requires.known
 
 pub returns-clause-full : goal.returns-clause-full
 returns-clause-full c =
     let a = c.self.inside in
     let s = c.args.self.now in
-    let some = sym (view-get a.pool a.arenas.entries a.waiting.items s c.args.loader c.self.view_is) ∙ sym c.get.ensures.value ∙ ap option_copied c.unwrap-arena.ensures in
-    let chain : c.unwrap-arena.result.now ≡ arena_of s c.args.loader = sym (ap (λ o. unwrap_or o []) some) in
+    let some = sym (view-get a.pool a.arenas.entries a.waiting.items s c.args.loader c.self.view_is)
+    ∙ sym c.get.ensures.value ∙ ap option_copied c.unwrap-arena.ensures in
+    let chain : c.unwrap-arena.result.now ≡ arena_of s c.args.loader =
+    sym (ap (λ o. unwrap_or o []) some) in
     let pool : a.pool ≡ s.pool = ap (λ (t : SpaceState). t.pool) c.self.view_is in
-    subst (λ (p : FreeSpace). IsTrue c.is_full.result ↔ IsFull (arena_of s c.args.loader) p c.args.words) pool
-    (subst (λ (l : List Filled). IsTrue c.is_full.result ↔ IsFull l a.pool c.args.words) chain c.is_full.ensures.full)
+    subst (λ (p : FreeSpace). IsTrue c.is_full.result
+    ↔ IsFull (arena_of s c.args.loader) p c.args.words) pool
+    (subst (λ (l : List Filled). IsTrue c.is_full.result ↔ IsFull l a.pool c.args.words) chain
+    c.is_full.ensures.full)

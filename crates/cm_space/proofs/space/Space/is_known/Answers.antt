@@ -6,5 +6,8 @@ use Rattle.cm_space.proofs.space.Space.is_known.Goals as goal
 pub returns : goal.returns
 returns c =
     let a = c.self.inside in
-    let same = c.contains_key.ensures ∙ ap is_some (view-get a.pool a.arenas.entries a.waiting.items c.args.self.now c.args.loader c.self.view_is) in
+    let same =
+    c.contains_key.ensures ∙ ap is_some
+    (view-get a.pool a.arenas.entries a.waiting.items c.args.self.now c.args.loader
+    c.self.view_is) in
     (λ h. sym same ∙ h, λ h. same ∙ h)

@@ -13,7 +13,8 @@ returns-clause-steady c =
     record {
       sizes = ap (λ (b : LiveRows DefinedAt). b.sizes) k.left ∙ s.sizes;
       above = ap (λ (b : LiveRows DefinedAt). is_above (old.number + 1 + 1) b.rows) k.left
-          ∙ above_entry old.book.sizes old.number old.book.rows c.placed_entry-entry.result k.broken s.above;
+          ∙ above_entry old.book.sizes old.number old.book.rows c.placed_entry-entry.result
+          k.broken s.above;
       number = omega (arith, group, c.requires.some);
       group = λ live. omega (arith, group, c.requires.some);
       slot = omega (arith, c.requires.room);

@@ -12,7 +12,8 @@ returns-clause-steady c =
     record {
       sizes = ap (λ (b : LiveRows DefinedAt). b.sizes) k.left ∙ s.sizes;
       above = ap (λ (b : LiveRows DefinedAt). is_above (old.number + 1) b.rows) k.left
-          ∙ above_row old.book.sizes old.number old.book.rows c.placed_row-row.result k.broken s.above;
+          ∙ above_row old.book.sizes old.number old.book.rows c.placed_row-row.result
+          k.broken s.above;
       number = s.number;
       group = λ group. omega (arith, s.group group);
       slot = omega (arith, c.requires.room);

@@ -30,7 +30,8 @@ returns-in-Ok-End c =
     let t = c.in-Ok-End.ensures {u = tt} in
     let ends = subst (λ (s : Step). IsTurn (said s) (walked now) (walked c.turn.new.self)
     (turn now.geometry now.first (walked now) slot)) c.in-Ok-End.field-0-is t.turned in
-    let stops : turn old.geometry old.first (walked now) (slot_of c.args.half.now c.loop-at.at) ≡ Stop =
+    let stops : turn old.geometry old.first (walked now) (slot_of c.args.half.now c.loop-at.at)
+    ≡ Stop =
     same_turn now.geometry old.geometry now.first old.first (walked now) slot
     (slot_of c.args.half.now c.loop-at.at) Stop inv.geometry inv.first c.slot_at.ensures ends.0 in
     walk_ends old.geometry old.first c.args.half.now old.geometry.slots c.loop-at.at (walked now)
@@ -76,7 +77,8 @@ loop-at-preserved c =
       slot = goes_slot old.geometry old.first (walked now) (slot_of c.args.half.now c.loop-at.at)
           (walked c.turn.new.self) goes_on ∙ ap (λ (n : ℕ). n + 1) inv.slot;
       steady = t.steady;
-      same = walk_on old.geometry old.first c.args.half.now old.geometry.slots c.loop-at.at (walked now)
+      same = walk_on old.geometry old.first c.args.half.now old.geometry.slots c.loop-at.at
+          (walked now)
           (walk old.geometry old.first c.args.half.now (old.geometry.slots - 1) (walked old))
           (omega (arith, c.slots-at-end.ensures.value, c.loop-at-test.true)) inv.slot inv.same
           (walked c.turn.new.self) goes_on;

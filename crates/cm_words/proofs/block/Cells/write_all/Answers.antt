@@ -9,5 +9,8 @@ loop-i-preserved g c =
     record {
       base = c.loop-i.invariant.base ∙ sym c.write.ensures.0;
       place = c.write.ensures.0 ∙ c.loop-i.invariant.place;
-      slots = c.write.ensures.1 ∙ write_step c.args.self.now.slots c.loop-i.self.slots xs c.args.from i c.index-items-i.result c.loop-i.invariant.slots c.requires.within c.loop-i-test.true c.index-items-i.is;
+      slots = c.write.ensures.1
+          ∙ write_step c.args.self.now.slots c.loop-i.self.slots xs c.args.from i
+          c.index-items-i.result c.loop-i.invariant.slots c.requires.within c.loop-i-test.true
+          c.index-items-i.is;
     }

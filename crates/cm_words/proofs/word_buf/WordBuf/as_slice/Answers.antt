@@ -9,14 +9,16 @@ slice-requires c =
     let b = c.self.inside in
     let h = c.self.invariant in
     let words = somes b.cells.slots in
-    let size = ap length h.laid ∙ length-filled words b.capacity (omega (arith, h.count, h.room)) in (
+    let size =
+    ap length h.laid ∙ length-filled words b.capacity (omega (arith, h.count, h.room)) in (
       sym h.place,
       (
         omega (arith, size, h.room),
         (
           words,
           ap
-              (λ n. take n b.cells.slots) h.count ∙ (ap (take (length words)) h.laid ∙ take-filled words b.capacity),
+              (λ n. take n b.cells.slots) h.count
+              ∙ (ap (take (length words)) h.laid ∙ take-filled words b.capacity),
         ),
       ),
     )
@@ -27,6 +29,7 @@ returns c =
     let h = c.self.invariant in
     let words = somes b.cells.slots in
     let all : take b.len b.cells.slots ≡ map Some words = ap
-    (λ n. take n b.cells.slots) h.count ∙ (ap (take (length words)) h.laid ∙ take-filled words b.capacity) in
+    (λ n. take n b.cells.slots) h.count
+    ∙ (ap (take (length words)) h.laid ∙ take-filled words b.capacity) in
     same_values c.slice.result.now words (sym c.slice.ensures ∙ all) ∙ ap
     (λ (w : Words). w.words) c.self.view_is

@@ -7,5 +7,7 @@ pub deallocate-requires : goal.deallocate-requires
 deallocate-requires c =
     let b = c.self.inside in
     let h = c.self.invariant in
-    let size = ap length h.laid ∙ length-filled (somes b.cells.slots) b.capacity (omega (arith, h.count, h.room)) in
+    let size =
+    ap length h.laid ∙ length-filled (somes b.cells.slots) b.capacity
+    (omega (arith, h.count, h.room)) in
     (h.place, size, h.deed_place, h.deed_len, h.deed_alloc)

@@ -9,7 +9,9 @@ pub write_all-requires-clause-within : goal.write_all-requires-clause-within
 write_all-requires-clause-within c =
     let b = c.self.inside in
     let h = c.self.invariant in
-    let size = ap length h.laid ∙ length-filled (somes b.cells.slots) b.capacity (omega (arith, h.count, h.room)) in
+    let size =
+    ap length h.laid ∙ length-filled (somes b.cells.slots) b.capacity
+    (omega (arith, h.count, h.room)) in
     omega (
       arith,
       size,
@@ -36,8 +38,12 @@ invariant_of-self c =
       c.requires,
     ) in
     let laid : c.write_all.new.self.slots ≡ filled after b.capacity =
-    c.write_all.ensures.slots ∙ ((λ i. take (h.count i) (h.laid i) ++ map Some more ++ drop (h.count i + length more) (h.laid i)) ∙ filled_behind words more b.capacity few) in
-    let kept : somes c.write_all.new.self.slots ≡ after = ap somes laid ∙ somes-filled after b.capacity in
+    c.write_all.ensures.slots
+    ∙ ((λ i. take (h.count i) (h.laid i) ++ map Some more
+    ++ drop (h.count i + length more) (h.laid i))
+    ∙ filled_behind words more b.capacity few) in
+    let kept : somes c.write_all.new.self.slots ≡ after =
+    ap somes laid ∙ somes-filled after b.capacity in
     record {
       place = c.write_all.ensures.place ∙ h.place;
       deed_place = h.deed_place;
@@ -65,7 +71,11 @@ returns c =
       c.requires,
     ) in
     let laid : c.write_all.new.self.slots ≡ filled after b.capacity =
-    c.write_all.ensures.slots ∙ ((λ i. take (h.count i) (h.laid i) ++ map Some more ++ drop (h.count i + length more) (h.laid i)) ∙ filled_behind words more b.capacity few) in
-    let kept : somes c.write_all.new.self.slots ≡ after = ap somes laid ∙ somes-filled after b.capacity in
+    c.write_all.ensures.slots
+    ∙ ((λ i. take (h.count i) (h.laid i) ++ map Some more
+    ++ drop (h.count i + length more) (h.laid i))
+    ∙ filled_behind words more b.capacity few) in
+    let kept : somes c.write_all.new.self.slots ≡ after =
+    ap somes laid ∙ somes-filled after b.capacity in
     ap (λ l. words_of l b.capacity) kept ∙ ap
     (λ (w : Words). words_of (w.words ++ more) w.capacity) c.self.view_is

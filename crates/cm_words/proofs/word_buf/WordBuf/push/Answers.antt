@@ -9,7 +9,9 @@ pub write-requires : goal.write-requires
 write-requires c =
     let b = c.self.inside in
     let h = c.self.invariant in
-    let size = ap length h.laid ∙ length-filled (somes b.cells.slots) b.capacity (omega (arith, h.count, h.room)) in
+    let size =
+    ap length h.laid ∙ length-filled (somes b.cells.slots) b.capacity
+    (omega (arith, h.count, h.room)) in
     let more : length (somes b.cells.slots) < b.capacity = omega (
       arith,
       ap
@@ -37,8 +39,10 @@ written c =
     ) in
     let laid : c.write.new.self.slots ≡ filled after b.capacity =
     c.write.ensures.1 ∙ (ap (λ i. set b.cells.slots i (Some c.args.word)) h.count ∙ (ap
-    (λ l. set l (length words) (Some c.args.word)) h.laid ∙ set-filled_next words b.capacity c.args.word more)) in
-    let kept : somes c.write.new.self.slots ≡ after = ap somes laid ∙ somes-filled after b.capacity in
+    (λ l. set l (length words) (Some c.args.word)) h.laid
+    ∙ set-filled_next words b.capacity c.args.word more)) in
+    let kept : somes c.write.new.self.slots ≡ after =
+    ap somes laid ∙ somes-filled after b.capacity in
     record {
       place = c.write.ensures.0 ∙ h.place;
       deed_place = h.deed_place;
@@ -69,7 +73,9 @@ returns c =
     ) in
     let laid : c.write.new.self.slots ≡ filled after b.capacity =
     c.write.ensures.1 ∙ (ap (λ i. set b.cells.slots i (Some c.args.word)) h.count ∙ (ap
-    (λ l. set l (length words) (Some c.args.word)) h.laid ∙ set-filled_next words b.capacity c.args.word more)) in
-    let kept : somes c.write.new.self.slots ≡ after = ap somes laid ∙ somes-filled after b.capacity in
+    (λ l. set l (length words) (Some c.args.word)) h.laid
+    ∙ set-filled_next words b.capacity c.args.word more)) in
+    let kept : somes c.write.new.self.slots ≡ after =
+    ap somes laid ∙ somes-filled after b.capacity in
     ap (λ l. words_of l b.capacity) kept ∙ ap
     (λ (w : Words). words_of (w.words ++ c.args.word ∷ []) w.capacity) c.self.view_is

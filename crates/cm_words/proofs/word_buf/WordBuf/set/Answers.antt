@@ -8,7 +8,9 @@ pub write-requires : goal.write-requires
 write-requires c =
     let b = c.self.inside in
     let h = c.self.invariant in
-    let size = ap length h.laid ∙ length-filled (somes b.cells.slots) b.capacity (omega (arith, h.count, h.room)) in
+    let size =
+    ap length h.laid ∙ length-filled (somes b.cells.slots) b.capacity
+    (omega (arith, h.count, h.room)) in
     let there : c.args.at < length (somes b.cells.slots) = omega (
       arith,
       ap
@@ -31,8 +33,10 @@ invariant_of-self c =
     ) in
     let laid : c.write.new.self.slots ≡ filled after b.capacity =
     c.write.ensures.1 ∙ (ap
-    (λ l. set l c.args.at (Some c.args.word)) h.laid ∙ set-filled words b.capacity c.args.at c.args.word there (omega (arith, h.count, h.room))) in
-    let kept : somes c.write.new.self.slots ≡ after = ap somes laid ∙ somes-filled after b.capacity in
+    (λ l. set l c.args.at (Some c.args.word)) h.laid
+    ∙ set-filled words b.capacity c.args.at c.args.word there (omega (arith, h.count, h.room))) in
+    let kept : somes c.write.new.self.slots ≡ after =
+    ap somes laid ∙ somes-filled after b.capacity in
     record {
       place = c.write.ensures.0 ∙ h.place;
       deed_place = h.deed_place;
@@ -58,6 +62,7 @@ returns c =
     ) in
     let laid : c.write.new.self.slots ≡ filled after b.capacity =
     c.write.ensures.1 ∙ (ap
-    (λ l. set l c.args.at (Some c.args.word)) h.laid ∙ set-filled words b.capacity c.args.at c.args.word there (omega (arith, h.count, h.room))) in
+    (λ l. set l c.args.at (Some c.args.word)) h.laid
+    ∙ set-filled words b.capacity c.args.at c.args.word there (omega (arith, h.count, h.room))) in
     ap (λ l. words_of l b.capacity) (ap somes laid ∙ somes-filled after b.capacity) ∙ ap
     (λ (w : Words). words_of (set w.words c.args.at c.args.word) w.capacity) c.self.view_is

@@ -24,4 +24,5 @@ invariant_of-result c =
 pub returns : goal.returns
 returns c =
     let n = c.args.capacity in
-    ap (λ l. words_of l n) (ap somes (c.in_ok-base.ensures.1 ∙ sym (filled-empty n)) ∙ somes-filled [] n)
+    ap (λ l. words_of l n) (ap somes (c.in_ok-base.ensures.1 ∙ sym (filled-empty n))
+    ∙ somes-filled [] n)

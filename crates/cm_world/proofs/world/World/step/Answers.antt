@@ -4,8 +4,8 @@ use Rattle.cm_world.specs.Moves.{Moves}
 use Rattle.cm_world.specs.declared.event.Event.{Event}
 use Rattle.cm_world.proofs.Chains.{same_moves}
 use Rattle.cm_world.proofs.world.World.step.Goals as goal
-use Rattle.cm_world.proofs.world.World.step.Goals.{in-Accept, in-Seal, in-Advance, in-Learn, in-Look}
-use Rattle.cm_world.proofs.world.World.step.Goals.{in-Fault}
+use Rattle.cm_world.proofs.world.World.step.Goals.{in-Accept, in-Seal, in-Advance, in-Learn}
+use Rattle.cm_world.proofs.world.World.step.Goals.{in-Look, in-Fault}
 
 pub returns-in-Reopen-clause-moved : goal.returns-in-Reopen-clause-moved
 returns-in-Reopen-clause-moved c =
