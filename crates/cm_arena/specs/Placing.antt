@@ -22,14 +22,16 @@ abbrev pub HasRoom : List Filled → ℕ → Type 0
 HasRoom chain words = IsSomeAnd (last_of chain) (λ f. f.used + words ≤ chunk_size f.chunk.order)
 
 -- the words lie on the top of the last chunk
-pub record IsOnTop (chain : List Filled) (words : ℕ) (place : Place) (new : List Filled) : Type 0 where
+pub record IsOnTop (chain : List Filled) (words : ℕ) (place : Place)
+    (new : List Filled) : Type 0 where
   pub last : last_of chain ≡ Some (record { chunk = place.chunk; used = place.offset })
   pub room : place.offset + words ≤ chunk_size place.chunk.order
   pub amount : place.words ≡ words
   pub after : new ≡ with_more chain words
 
 -- the words lie at the front of a new chunk
-pub record IsInNew (chain : List Filled) (words : ℕ) (place : Place) (new : List Filled) : Type 0 where
+pub record IsInNew (chain : List Filled) (words : ℕ) (place : Place)
+    (new : List Filled) : Type 0 where
   pub front : place.offset ≡ 0
   pub room : words ≤ chunk_size place.chunk.order
   pub amount : place.words ≡ words
@@ -46,7 +48,8 @@ pub record IsNeeded (old : FreeSpace) (wanted need : ℕ) (c : Chunk) (new : Fre
   pub first : IsFirstFree old need c
   pub left : new ≡ without old c
 
-pub record IsOfNewRoot (old : FreeSpace) (wanted need : ℕ) (c : Chunk) (new : FreeSpace) : Type 0 where
+pub record IsOfNewRoot (old : FreeSpace) (wanted need : ℕ) (c : Chunk)
+    (new : FreeSpace) : Type 0 where
   pub none_wanted : ¬ HasFree old wanted
   pub none_needed : ¬ HasFree old need
   pub room : old.roots < old.geometry.roots
@@ -58,11 +61,13 @@ Fetches old wanted need c new = IsWanted old wanted c new ⊎ (IsNeeded old want
     ⊎ IsOfNewRoot old wanted need c new)
 
 -- a new chunk is fetched, and the words lie at its front
-pub record IsFetched (chain : List Filled) (pool : FreeSpace) (words : ℕ) (place : Place) (new : List Filled) (left : FreeSpace) : Type 0 where
+pub record IsFetched (chain : List Filled) (pool : FreeSpace) (words : ℕ) (place : Place)
+    (new : List Filled) (left : FreeSpace) : Type 0 where
   pub no_room : ¬ HasRoom chain words
   pub need : ℕ
   pub is_need : IsNeed words need
-  pub fetches : Fetches pool (order_wanted need (length chain) pool.geometry.top) need place.chunk left
+  pub fetches : Fetches pool (order_wanted need (length chain) pool.geometry.top) need
+      place.chunk left
   pub in_new : IsInNew chain words place new
 
 -- where the words go, and what chain and pool are then
@@ -89,7 +94,9 @@ next_offset (f ∷ g ∷ rest) c = next_offset (g ∷ rest) c
 -- the chain with the words of a place that goes on there
 abbrev pub with_place : List Filled → Place → List Filled
 with_place [] place = record { chunk = place.chunk; used = place.words } ∷ []
-with_place (f ∷ []) place = if same_chunk f.chunk place.chunk then record { chunk = f.chunk; used = f.used + place.words } ∷ [] else f ∷ record { chunk = place.chunk; used = place.words } ∷ []
+with_place (f ∷ []) place = if same_chunk f.chunk place.chunk
+    then record { chunk = f.chunk; used = f.used + place.words } ∷ []
+    else f ∷ record { chunk = place.chunk; used = place.words } ∷ []
 with_place (f ∷ g ∷ rest) place = f ∷ with_place (g ∷ rest) place
 
 -- a place that was found again can be the next one

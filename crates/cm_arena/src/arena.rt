@@ -120,8 +120,8 @@ impl Arena {
         })
     }
 
-    /// Whether [`place`](Arena::place) refuses so many words with `RegionFull`. Takes no memory, and
-    /// leaves the pool as it was.
+    /// Whether [`place`](Arena::place) refuses so many words with `RegionFull`. Takes no memory,
+    /// and leaves the pool as it was.
     pub fn is_full(&self, words: u32, pool: &mut Pool) -> bool
         requires { 1 ≤ words }
         ensures full { IsTrue result ↔ IsFull self.now pool.old words }
@@ -199,7 +199,8 @@ fn has_room(chunks: &[Chunk], used: &[u32], words: u32) -> bool
 fn place_on_top(chunks: &[Chunk], used: &mut Vec<u32>, words: u32) -> Option<Place>
     requires { IsArena chunks.now used.old.items }
     ensures some { IfSome result
-        (λ place. IsOnTop (chain_of chunks.now used.old.items) words place (chain_of chunks.now used.new.items)) }
+        (λ place. IsOnTop (chain_of chunks.now used.old.items) words place
+        (chain_of chunks.now used.new.items)) }
     ensures kept { OnSome result (1 ≤ words → IsArena chunks.now used.new.items) }
     ensures none { IfNone result ((¬ HasRoom (chain_of chunks.now used.old.items) words)
         × (used.new.items ≡ used.old.items)) }

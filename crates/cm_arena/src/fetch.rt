@@ -1,6 +1,6 @@
 // Which chunk an arena takes from a pool.
-ghost use Rattle.std.specs.Prelude.{◌≡◌, ◌≢◌, ℕ, ◌≤◌, ◌⊎◌, ◌↔◌, IsTrue, IfOk, IfSome, IfNone, OnErr};
-ghost use Rattle.std.specs.Prelude.{IsErrOf};
+ghost use Rattle.std.specs.Prelude.{◌≡◌, ◌≢◌, ℕ, ◌≤◌, ◌⊎◌, ◌↔◌, IsTrue, IfOk, IfSome, IfNone};
+ghost use Rattle.std.specs.Prelude.{OnErr, IsErrOf};
 ghost use Rattle.cm_pool.specs.Chunks.{chunk_size};
 ghost use Rattle.cm_pool.specs.FreeSpace.{HasFree};
 ghost use Rattle.cm_arena.specs.Placing.{IsNeed, IsWanted, IsNeeded, Fetches};

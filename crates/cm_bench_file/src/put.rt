@@ -83,8 +83,8 @@ pub fn open_session(
     session_of(rt.alloc(), disk)
 }
 
-/// Makes a file of these sizes, in which the loader is. A disk that was written to isn't read again,
-/// so the file is opened anew in between.
+/// Makes a file of these sizes, in which the loader is. A disk that was written to isn't read
+/// again, so the file is opened anew in between.
 pub fn make_cache(
     rt: &(impl Files<File = File> + AllocGlobal),
     path: &str,

@@ -1,7 +1,7 @@
 //! `cm_bench_front`: what calls of the accepted cache cost, by how much lives in it.
 //!
-//! It makes its classes itself, fills caches with them, in one loader or in many, and makes calls of
-//! each kind. Without `--times` it prints counts alone.
+//! It makes its classes itself, fills caches with them, in one loader or in many, and makes calls
+//! of each kind. Without `--times` it prints counts alone.
 #![tactic(auto)]
 
 mod classes;

@@ -76,8 +76,8 @@ fn put_method(bytes: &mut Vec<u8>, second_name: u16) -> Result<(), Fail> {
     put_attribute(bytes, JUNK + 1, &BODY)
 }
 
-// A class with that method, and in front of the Utf8s in its pool Longs of value 5, as the word of a
-// Long is, but for the last one, which has these bits.
+// A class with that method, and in front of the Utf8s in its pool Longs of value 5, as the word of
+// a Long is, but for the last one, which has these bits.
 fn behind_longs(alloc: Global, last: u64, second_name: u16) -> Result<Record, Fail> {
     let mut bytes = Vec::new(alloc);
     bytes.extend_from_slice(&[0xca, 0xfe, 0xba, 0xbe, 0, 0, 0, 0x34])?;

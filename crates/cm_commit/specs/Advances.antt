@@ -59,8 +59,8 @@ Advances old (Ok (Done receipt)) new = Finishes old receipt new
 Advances old (Err Device) new = Breaks old new
 Advances old (Err Broken) new = StaysBroken old new
 
--- Where nothing is left, or an earlier call failed, no device call is made. Else exactly one is, which
--- fails exactly where a device fault is told.
+-- Where nothing is left, or an earlier call failed, no device call is made. Else exactly one is,
+-- which fails exactly where a device fault is told.
 abbrev pub CallsDevice : {D : Type 0} → (D → D → Bool → Type 0) → D → Result Progress AdvanceFault
     → D → Type 0
 CallsDevice called old (Ok Idle) new = new ≡ old

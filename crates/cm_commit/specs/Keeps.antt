@@ -86,7 +86,8 @@ IsAt c roots (Some group) left broken contents unsynced =
     IsBusy c roots group left broken contents unsynced
 
 pub record IsCommitter {D : Type 0} (contents : D → List ℕ) (unsynced : D → Unsynced)
-    (s : CommitterState D) (sizes : Sizes) (next : LiveRows (Unit {0})) (roots room : ℕ) : Type 0 where
+    (s : CommitterState D) (sizes : Sizes) (next : LiveRows (Unit {0}))
+    (roots room : ℕ) : Type 0 where
   pub framing : Framing
   pub counting_is : framing.counting ≡ s.half
   pub end_is : end_slot framing ≡ s.end

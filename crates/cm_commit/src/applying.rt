@@ -35,7 +35,9 @@ pub(crate) fn apply_all(book: &mut Book<()>, first: u64, entries: &[CarriedEntry
     requires from { 1 ≤ first }
     requires numbers { first + length entries.now ≤ 2 ^ 63 + 1 }
     ensures kept { result ≡ keep_rules book.old.sizes book.old.rows first (entries_in entries.now) }
-    ensures rows { IsTrue result → book.new ≡ record book.old { rows = rows_after_all book.old.rows (entries_in entries.now) } }
+    ensures rows { IsTrue result
+        → book.new ≡ record book.old
+        { rows = rows_after_all book.old.rows (entries_in entries.now) } }
     ensures sizes { book.new.sizes ≡ book.old.sizes }
 {
     let mut number = first;
@@ -69,8 +71,10 @@ pub(crate) fn fill_all(book: &mut Book<Arc<Record, Global>>, first: u64, entries
     requires from { 1 ≤ first }
     requires numbers { first + length entries.items ≤ 2 ^ 63 + 1 }
     requires own { list_all carries_own entries.items ≡ true }
-    requires kept { keep_rules book.old.sizes (bare book.old.rows) first (entries_in entries.items) ≡ true }
-    ensures rows { rows_with arc_value book.new.rows ≡ rows_after_group (rows_with arc_value book.old.rows) entries.items }
+    requires kept { keep_rules book.old.sizes (bare book.old.rows) first (entries_in entries.items)
+        ≡ true }
+    ensures rows { rows_with arc_value book.new.rows
+        ≡ rows_after_group (rows_with arc_value book.old.rows) entries.items }
     ensures sizes { book.new.sizes ≡ book.old.sizes }
 {
     let mut number = first;

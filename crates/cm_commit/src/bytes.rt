@@ -37,8 +37,10 @@ pub(crate) fn put_record(buffer: &mut Vec<u8>, class: &Record)
 
 /// Puts the slots of entries behind what is there.
 fn add_entries(buffer: &mut Vec<u8>, entries: &[CarriedEntry])
-    requires { length buffer.old.items + length (flat_map entry_slot (entries_in entries.now)) ≤ vec_capacity buffer.old }
-    ensures bytes { buffer.new.items ≡ buffer.old.items ++ flat_map entry_slot (entries_in entries.now) }
+    requires { length buffer.old.items + length (flat_map entry_slot (entries_in entries.now))
+        ≤ vec_capacity buffer.old }
+    ensures bytes { buffer.new.items ≡ buffer.old.items
+        ++ flat_map entry_slot (entries_in entries.now) }
     ensures room { vec_capacity buffer.old ≤ vec_capacity buffer.new }
 {
     for carried in entries {

@@ -270,8 +270,8 @@ impl<D: Disk> Committer<D> {
         }
     }
 
-    /// Does nothing: its clause says what a crash leaves now. That is the cache that is committed, or,
-    /// once the gate's byte may be written, that or the one with the group that is under way.
+    /// Does nothing: its clause says what a crash leaves now. That is the cache that is committed,
+    /// or, once the gate's byte may be written, that or the one with the group that is under way.
     pub fn images(&self)
         ensures { EachImage (D.contents self.now.disk) (D.unsynced self.now.disk)
             (MayLeave self.now) }
@@ -328,7 +328,8 @@ impl<D: Disk> Committer<D> {
 impl Committer<SimDisk> {
     /// Lets the disk's next call fail; a write stores its first bytes, so many of them.
     pub fn arm(&mut self, stores: usize)
-        ensures { self.new ≡ record self.old { disk = record self.old.disk { armed = Some stores } } }
+        ensures { self.new ≡ record self.old
+            { disk = record self.old.disk { armed = Some stores } } }
     {
         self.disk.arm(stores);
     }

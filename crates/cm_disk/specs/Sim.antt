@@ -1,6 +1,6 @@
 -- What a disk in memory shows, and when its calls fail.
-use Rattle.std.specs.Prelude.{◌≡◌, ◌≤◌, ◌⊎◌, ◌+◌, ◌||◌, ℕ, Bool, true, false, List, take, length, Result}
-use Rattle.std.specs.Prelude.{Option, Some, None, is_some, is_err, not, if◌then◌else◌}
+use Rattle.std.specs.Prelude.{◌≡◌, ◌≤◌, ◌⊎◌, ◌+◌, ◌||◌, ℕ, Bool, true, false, List, take, length}
+use Rattle.std.specs.Prelude.{Result, Option, Some, None, is_some, is_err, not, if◌then◌else◌}
 use Rattle.cm_disk.specs.declared.disk.DeviceFault.{DeviceFault}
 use Rattle.cm_disk.specs.declared.sim.SimDisk.{SimDisk}
 use Rattle.cm_disk.specs.Disk.{Unsynced, IsImage, IsSettled, IsWithin, widened, shortened}
@@ -105,8 +105,8 @@ abbrev pub DoesOne : Option ℕ → SimDisk → SimDisk → Bool → Type 0
 DoesOne armed old new ok =
     OnlyReads old new ⊎ (HasWritten armed old new ⊎ (HasCut old new ok ⊎ HasSynced old new ok))
 
--- Exactly one call leads from old to new. It fails exactly where it was armed or was refused memory,
--- and then counts as a failure. Nothing is armed behind it.
+-- Exactly one call leads from old to new. It fails exactly where it was armed or was refused
+-- memory, and then counts as a failure. Nothing is armed behind it.
 pub record IsOneCall (armed : Option ℕ) (old new : SimDisk) (ok : Bool) : Type 0 where
   pub once : sim_calls new ≡ sim_calls old + 1
   pub exactly : ok ≡ not (is_some armed || sim_refused new)

@@ -100,8 +100,8 @@ first_bad_from n [] = None
 first_bad_from n (line ∷ lines) =
     if is_some (event_of_line line) then first_bad_from (n + 1) lines else Some n
 
--- of the first line that has another form than it must have, counted from 1; where there is no line,
--- the first is missing
+-- of the first line that has another form than it must have, counted from 1; where there is no
+-- line, the first is missing
 abbrev pub first_bad : List (List ℕ) → Option ℕ
 first_bad [] = Some 1
 first_bad (line ∷ lines) =

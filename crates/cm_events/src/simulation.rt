@@ -36,8 +36,8 @@ pub struct Simulation<'a> {
 
 /// Reads the first line for the sizes and the others for the events.
 ///
-/// `BadLine` tells the first line of another form than it must have; a text without a line lacks the
-/// first. `NoMemory` comes where an allocation failed, but for a class's own: such a line is
+/// `BadLine` tells the first line of another form than it must have; a text without a line lacks
+/// the first. `NoMemory` comes where an allocation failed, but for a class's own: such a line is
 /// refused.
 pub fn read_simulation<'a>(alloc: Global, text: &'a [u8]) -> Result<Simulation<'a>, SimulationFault>
     ensures read { IfOk result (IsSimulation (lines_of text.now)) }

@@ -1,6 +1,6 @@
 -- What a disk over a file shows, and when its calls fail.
-use Rattle.std.specs.Prelude.{◌≡◌, ◌<◌, ◌⊎◌, ◌+◌, ◌^◌, ℕ, Bool, true, false, List, [], length, Option}
-use Rattle.std.specs.Prelude.{is_some, is_err, Result, not, if◌then◌else◌}
+use Rattle.std.specs.Prelude.{◌≡◌, ◌<◌, ◌⊎◌, ◌+◌, ◌^◌, ℕ, Bool, true, false, List, [], length}
+use Rattle.std.specs.Prelude.{Option, is_some, is_err, Result, not, if◌then◌else◌}
 use Rattle.std.specs.declared.io.Error.{Error}
 use Rattle.cm_disk.specs.declared.disk.DeviceFault.{DeviceFault}
 use Rattle.cm_disk.specs.Disk.{Unsynced, IsImage, IsSettled}

@@ -62,9 +62,10 @@ impl FileDisk {
     /// stored before the first sync.
     ///
     /// # Errors
-    /// What is no regular file isn't opened: [`OpenError::NotRegular`]. [`OpenError::TooLong`] where it
-    /// has more bytes than a disk may have, [`OpenError::NoMemory`] where they find no room, and
-    /// [`OpenError::Device`] where the system doesn't find, open or read it. The file stays as it was.
+    /// What is no regular file isn't opened: [`OpenError::NotRegular`]. [`OpenError::TooLong`]
+    /// where it has more bytes than a disk may have, [`OpenError::NoMemory`] where they find no
+    /// room, and [`OpenError::Device`] where the system doesn't find, open or read it. The file
+    /// stays as it was.
     pub fn open(
         rt: &impl Files<File = File>,
         alloc: Global,

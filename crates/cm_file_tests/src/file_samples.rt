@@ -63,8 +63,8 @@ fn group(first: u64) -> [u8; SLOT_BYTES] {
     GroupHead { count: 1, first }.encode()
 }
 
-/// Halves of 256 slots: loader `a` and two classes, whose records have so many words, in slots 1 to 6
-/// of half 0.
+/// Halves of 256 slots: loader `a` and two classes, whose records have so many words, in slots 1 to
+/// 6 of half 0.
 pub fn push_halves(bytes: &mut Vec<u8>, first: u32, second: u32) -> Result<(), Fail> {
     let head = HalfHead {
         version: 1,

@@ -1,5 +1,5 @@
-//! The front of a file, up to its roots, and what is found in it: one loader with two classes, each in
-//! a group of its own.
+//! The front of a file, up to its roots, and what is found in it: one loader with two classes, each
+//! in a group of its own.
 
 ghost use Rattle.std.specs.Prelude.{◌≡◌, ◌≤◌, ◌*◌, ◌^◌, length};
 

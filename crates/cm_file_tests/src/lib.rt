@@ -1,7 +1,7 @@
-//! What files hold. Over what is public of `cm_layout`: slots, written and read. Of `cm_verdict`: which
-//! damage of a file's front is told first. Of `cm_recover`: files that are made, and what they stand
-//! for. And for checking: what files hold after some commands. Of damaged ones `tests/check.sh` says
-//! what is told.
+//! What files hold. Over what is public of `cm_layout`: slots, written and read. Of `cm_verdict`:
+//! which damage of a file's front is told first. Of `cm_recover`: files that are made, and what
+//! they stand for. And for checking: what files hold after some commands. Of damaged ones
+//! `tests/check.sh` says what is told.
 #![tactic(auto)]
 
 #[cfg(test)]

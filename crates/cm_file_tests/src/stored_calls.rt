@@ -1,5 +1,5 @@
-//! Commands as values, so that a test is a table of commands and what they leave, and disks on which
-//! they are stored.
+//! Commands as values, so that a test is a table of commands and what they leave, and disks on
+//! which they are stored.
 
 use crate::file_samples::class_named;
 use cm_disk::SimDisk;

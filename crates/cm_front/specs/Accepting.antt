@@ -1,6 +1,6 @@
 -- What each call of the accepted cache does.
-use Rattle.std.specs.Prelude.{◌≡◌, ℕ, ◌+◌, ◌-◌, ◌⊎◌, max, nat_le, if◌then◌else◌, List, [], ◌∷◌, ◌++◌}
-use Rattle.std.specs.Prelude.{length, Option, Some, None, Result, Ok, Err}
+use Rattle.std.specs.Prelude.{◌≡◌, ℕ, ◌+◌, ◌-◌, ◌⊎◌, max, nat_le, if◌then◌else◌, List, [], ◌∷◌}
+use Rattle.std.specs.Prelude.{◌++◌, length, Option, Some, None, Result, Ok, Err}
 use Rattle.cm_arena.specs.Chains.{chunks_of}
 use Rattle.cm_arena.specs.Placing.{Places, IsFull}
 use Rattle.cm_layout.specs.declared.row.Row.TheVariants.{Loader, Class}

@@ -1,5 +1,5 @@
--- The arena that rows make of a loader: each class's record goes on where the one before it ends, or
--- begins a chunk.
+-- The arena that rows make of a loader: each class's record goes on where the one before it ends,
+-- or begins a chunk.
 use Rattle.std.specs.Prelude.{ℕ, ◌==◌, if◌then◌else◌, List, [], ◌∷◌, Option}
 use Rattle.std.specs.Option.{option_map}
 use Rattle.cm_arena.specs.Chains.{Filled}
@@ -20,4 +20,5 @@ chain_of u rows = chain_from [] u (classes_in rows)
 -- the chunk of a loader's last class, with its used words
 abbrev pub top_of : {P : Type 0} → ℕ → List (Row P) → Option Filled
 top_of u rows =
-    option_map (λ c. record { chunk = c; used = used_words c rows }) (last_chunk u (classes_in rows))
+    option_map (λ c. record { chunk = c; used = used_words c rows })
+    (last_chunk u (classes_in rows))

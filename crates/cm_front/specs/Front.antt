@@ -1,6 +1,6 @@
 -- What the accepted cache is seen as, and what is true of it between two calls.
-use Rattle.std.specs.Prelude.{◌≡◌, ℕ, ◌+◌, ◌*◌, ◌-◌, ◌^◌, ◌<◌, ◌≤◌, ◌↔◌, Bool, true, nat_lt, List, []}
-use Rattle.std.specs.Prelude.{◌∷◌, Option, Some, None, Ok, Err, if◌then◌else◌, refl}
+use Rattle.std.specs.Prelude.{◌≡◌, ℕ, ◌+◌, ◌*◌, ◌-◌, ◌^◌, ◌<◌, ◌≤◌, ◌↔◌, Bool, true, nat_lt, List}
+use Rattle.std.specs.Prelude.{[], ◌∷◌, Option, Some, None, Ok, Err, if◌then◌else◌, refl}
 use Rattle.std.specs.List.{AllByRecursion}
 use Rattle.std.specs.Coded.{Coded, code_by, coded×, codes}
 use Rattle.cm_pool.specs.Geometry.{Sizes, IsGeometry}

@@ -34,13 +34,14 @@ pub record GoesWith (sizes : Sizes) (rows : List BareRow) (space : SpaceState) :
   pub geometry : space.pool.geometry ≡ sizes
   pub chains : (u : ℕ) → arena_of space u ≡ chain_of u rows
 
--- Where such a space finds a place, a class's row with this place keeps the rules on chunks, and the
--- loader's chain is then that of the rows with it.
+-- Where such a space finds a place, a class's row with this place keeps the rules on chunks, and
+-- the loader's chain is then that of the rows with it.
 pub record IsPlaceOf (sizes : Sizes) (rows : List BareRow) (u words : ℕ) (place : Place)
     (chain : List Filled) : Type 0 where
   pub amount : place.words ≡ words
   pub fits : class_fits sizes rows (record { loader = u; place = place }) ≡ true
-  pub chain_is : chain ≡ chain_of u (rows ++ Class (record { loader = u; place = place }) (tt {0}) ∷ [])
+  pub chain_is : chain ≡ chain_of u
+      (rows ++ Class (record { loader = u; place = place }) (tt {0}) ∷ [])
 
 abbrev pub PlacesKeepRules : Type 0
 PlacesKeepRules =

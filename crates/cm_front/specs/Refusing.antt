@@ -1,6 +1,6 @@
 -- The causes against a command as they are looked for: by names in the rows.
-use Rattle.std.specs.Prelude.{ℕ, suc, ◌==◌, Bool, true, not, nat_lt, nat_le, if◌then◌else◌, List, length}
-use Rattle.std.specs.Prelude.{Some, None, is_some, Result, Ok, Err}
+use Rattle.std.specs.Prelude.{ℕ, suc, ◌==◌, Bool, true, not, nat_lt, nat_le, if◌then◌else◌, List}
+use Rattle.std.specs.Prelude.{length, Some, None, is_some, Result, Ok, Err}
 use Rattle.cm_pool.specs.Chunks.{chunk_size}
 use Rattle.cm_layout.specs.Names.{is_loader_name}
 use Rattle.cm_layout.specs.Rows.{number_of}

@@ -21,7 +21,8 @@ roots_of (r ∷ rows) = max (r.place.chunk.root + 1) (roots_of rows)
 
 -- the space of rows: an arena for each live loader, nothing waits, and no more roots are present
 -- than rows use
-pub record IsSpaceOf (sizes : Sizes) (rows : List (Row (List ℕ))) (space : SpaceState) : Type 0 where
+pub record IsSpaceOf (sizes : Sizes) (rows : List (Row (List ℕ)))
+    (space : SpaceState) : Type 0 where
   pub goes : GoesWith sizes (bare rows) space
   pub known : (u : ℕ) → IsKnown space u ↔ (is_live u rows ≡ true)
   pub waiting : space.waiting ≡ []
@@ -44,7 +45,8 @@ pub record Takes (row : Row (List ℕ)) (old new : SpaceState) : Type 0 where
   pub pool : IsFreeSpace new.pool
 
 -- some rows are taken, and these are left
-pub record IsOnTheWay (sizes : Sizes) (rows rest : List (Row (List ℕ))) (space : SpaceState) : Type 0 where
+pub record IsOnTheWay (sizes : Sizes) (rows rest : List (Row (List ℕ)))
+    (space : SpaceState) : Type 0 where
   pub taken : List (Row (List ℕ))
   pub split : taken ++ rest ≡ rows
   pub so_far : IsSpaceOf sizes taken space

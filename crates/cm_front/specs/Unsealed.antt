@@ -12,7 +12,8 @@ abbrev pub NewestIsLast : List Handed → Option Handed → Type 0
 NewestIsLast full None = full ≡ []
 NewestIsLast full (Some newest) = Unit {0}
 
--- groups with numbers one behind another, from the first to before the last, with nothing learnt yet
+-- groups with numbers one behind another, from the first to before the last, with nothing learnt
+-- yet
 abbrev pub Follow : ℕ → List Handed → ℕ → Type 0
 Follow from [] to = from ≡ to
 Follow from (group ∷ groups) to =

@@ -50,9 +50,13 @@ impl Model for Front {
 
     ghost coded = { front_code };
 
-    ghost view = { λ f. front_of f.book f.space f.unsealed f.number f.sealed f.learnt f.is_broken f.is_closed f.opened };
+    ghost view = { λ f.
+        front_of f.book f.space f.unsealed f.number f.sealed f.learnt f.is_broken f.is_closed
+        f.opened };
 
-    ghost invariant = { λ f. IsFront (front_of f.book f.space f.unsealed f.number f.sealed f.learnt f.is_broken f.is_closed f.opened) };
+    ghost invariant = { λ f.
+        IsFront (front_of f.book f.space f.unsealed f.number f.sealed f.learnt f.is_broken
+        f.is_closed f.opened) };
 }
 
 impl Front {

@@ -18,8 +18,8 @@ use cm_space::{Space, each_word_has_its_place, roots_reach_what_is_adopted};
 use std::alloc::{AllocError, Global};
 
 impl Front {
-    /// The cache of a new file: it has no loaders, nothing was commanded yet, and the half that counts
-    /// is used up to its first slot. It is an `Err` only where an allocation failed.
+    /// The cache of a new file: it has no loaders, nothing was commanded yet, and the half that
+    /// counts is used up to its first slot. It is an `Err` only where an allocation failed.
     pub fn new(alloc: Global, geometry: Geometry) -> Result<Front, AllocError>
         ensures { IfOk result (Restores (record { sizes = geometry; rows = [] }) 0 1) }
     {

@@ -33,7 +33,8 @@ impl Model for CarriedEntry {
 
     ghost view = { λ c. record { entry = c.entry; records = map arc_value c.records.items } };
 
-    ghost invariant = { λ c. CarriesRight (record { entry = c.entry; records = map arc_value c.records.items }) };
+    ghost invariant = { λ c.
+        CarriesRight (record { entry = c.entry; records = map arc_value c.records.items }) };
 }
 
 impl CarriedEntry {
@@ -93,7 +94,10 @@ impl CarriedEntry {
     /// That a loader's last chunk moves, with the records that lie on it.
     pub fn relocation(entry: Move, records: Vec<Arc<Record, Global>>) -> CarriedEntry
         requires right { AllByRecursion IsRightRecord (map arc_value records.items) }
-        ensures { result ≡ record { entry = variant.Move entry; records = map arc_value records.items } }
+        ensures { result ≡ record {
+          entry = variant.Move entry;
+          records = map arc_value records.items;
+        } }
     {
         CarriedEntry {
             entry: Entry::Move(entry),

@@ -117,7 +117,12 @@ impl Group {
     pub fn push(&mut self, entry: CarriedEntry) -> Result<(), CarriedEntry>
         requires number { next_number self.old ≤ 2 ^ 63 }
         ensures room { IsOk result ↔ (slots_taken (self.old.entries ++ entry ∷ []) ≤ group_limit) }
-        ensures ok { OnOk result (self.new ≡ record { first = self.old.first; learnt = self.old.learnt; entries = self.old.entries ++ entry ∷ [] }) }
+        ensures ok { OnOk result
+            (self.new ≡ record {
+              first = self.old.first;
+              learnt = self.old.learnt;
+              entries = self.old.entries ++ entry ∷ [];
+            }) }
         ensures err { IfErr result (λ back. (back ≡ entry) × (self.new ≡ self.old)) }
     {
         if self.slots + entry.slots() > GROUP_SLOTS {
@@ -131,7 +136,11 @@ impl Group {
     /// The group as it is handed out, with what the cache has learnt by then.
     pub fn set_learnt(&mut self, learnt: u64)
         requires { learnt < self.old.first }
-        ensures { self.new ≡ record { first = self.old.first; learnt = learnt; entries = self.old.entries } }
+        ensures { self.new ≡ record {
+          first = self.old.first;
+          learnt = learnt;
+          entries = self.old.entries;
+        } }
     {
         self.learnt = learnt;
     }

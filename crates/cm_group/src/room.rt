@@ -1,5 +1,5 @@
-//! Room that is taken before it is known what goes into it, so that a command can get all its memory
-//! first and fail at nothing later.
+//! Room that is taken before it is known what goes into it, so that a command can get all its
+//! memory first and fail at nothing later.
 
 ghost use Rattle.std.specs.Prelude.{◌≡◌, ◌≤◌, [], vec_capacity};
 

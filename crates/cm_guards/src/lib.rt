@@ -1,6 +1,6 @@
 //! What a crash-safe store needs of its disk, whatever its layout: which bytes a claim rests on,
-//! that it holds of each image that a crash may leave while other bytes are written, and how the one
-//! byte of a gate turns one claim into the next.
+//! that it holds of each image that a crash may leave while other bytes are written, and how the
+//! one byte of a gate turns one claim into the next.
 #![tactic(auto)]
 
 mod claim;

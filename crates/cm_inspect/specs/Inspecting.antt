@@ -22,7 +22,8 @@ use Rattle.cm_inspect.specs.Texts.{report_line, list_lines, fault_line}
 -- ---- a result with its disk
 
 -- the status, or why there is none
-abbrev pub status_in : {D : Type 0} → Result (Status × D) (NotInspected D) → Result Status InspectFault
+abbrev pub status_in : {D : Type 0} → Result (Status × D) (NotInspected D)
+    → Result Status InspectFault
 status_in (Ok given) = Ok given.0
 status_in (Err not_inspected) = Err not_inspected.fault
 
@@ -56,8 +57,8 @@ Writes held holds lines status (Ok given) = (given ≡ status) × Appends held h
 Writes held holds lines status (Err fault.Output) = WritesPart held holds lines
 Writes held holds lines status (Err fault.NoMemory) = holds ≡ held
 
--- Of a file with these contents the verdict is answered, or that the device or an allocation failed:
--- the device only where it did. The lines and the status are those of the answer.
+-- Of a file with these contents the verdict is answered, or that the device or an allocation
+-- failed: the device only where it did. The lines and the status are those of the answer.
 pub record Tells {A : Type 0} (Alike : A → Standing → Type 0) (lines : A → List ℕ)
     (contents : List ℕ) (Failed : Type 0) (held holds : Option (List ℕ))
     (result : Result Status InspectFault) : Type 0 where
@@ -68,7 +69,8 @@ pub record Tells {A : Type 0} (Alike : A → Standing → Type 0) (lines : A →
 
 -- ---- checking
 
-abbrev pub ChecksTo : List ℕ → Type 0 → Option (List ℕ) → Option (List ℕ) → Result Status InspectFault
+abbrev pub ChecksTo : List ℕ → Type 0 → Option (List ℕ) → Option (List ℕ)
+    → Result Status InspectFault
     → Type 0
 ChecksTo contents Failed held holds result =
     Tells (Reports contents) report_line contents Failed held holds result
@@ -82,7 +84,8 @@ pub record Lists (contents : List ℕ) (loaders : List (List ℕ × List ListedC
   pub stands : Stands s.found.sizes contents (state_in s) (arenas_in s) s.found.number
   pub listed : loaders ≡ listing (rows_with lay s.rows)
 
-abbrev pub ListsTo : List ℕ → Type 0 → Option (List ℕ) → Option (List ℕ) → Result Status InspectFault
+abbrev pub ListsTo : List ℕ → Type 0 → Option (List ℕ) → Option (List ℕ)
+    → Result Status InspectFault
     → Type 0
 ListsTo contents Failed held holds result =
     Tells (Lists contents) list_lines contents Failed held holds result

@@ -1,5 +1,5 @@
--- What is listed of rows: the entries of their state, which is a map in byte order of names. Of each
--- class its record is listed, and its row's place.
+-- What is listed of rows: the entries of their state, which is a map in byte order of names. Of
+-- each class its record is listed, and its row's place.
 use Rattle.std.specs.Prelude.{ℕ, List, length, map as map_list}
 use Rattle.std.specs.FinMap as map
 use Rattle.cm_record.specs.Names.{class_name_in}

@@ -18,8 +18,8 @@ use std::io::Write;
 
 /// Writes what the cache holds that would open from this file, or why none would, and gives the
 /// status and the disk: `ok loaders L classes C chunks K number N` with `Done`, `not a cache` or
-/// `damaged KIND SLOT` with `Refused`, `device` or `memory` with `Failed`. The file is only read, and
-/// nothing is synced.
+/// `damaged KIND SLOT` with `Refused`, `device` or `memory` with `Failed`. The file is only read,
+/// and nothing is synced.
 ///
 /// It is an `Err` where the writer fails (`Output`), or an allocation failed for the line
 /// (`NoMemory`).

@@ -4,7 +4,8 @@ ghost use Rattle.std.specs.Prelude.{◌≡◌, map, None, IfOk, OnOk};
 ghost use Rattle.std.specs.BTreeMap.{UpdatesBy, values};
 ghost use Rattle.std.specs.Ordering.{nat_cmp};
 ghost use Rattle.cm_record.specs.Names.{class_name_in};
-ghost use Rattle.cm_inspect.specs.Gathered.{by_bytes, with_entry, kept_of, Adds, AddsClass, Gathers};
+ghost use Rattle.cm_inspect.specs.Gathered.{by_bytes, with_entry, kept_of, Adds, AddsClass};
+ghost use Rattle.cm_inspect.specs.Gathered.{Gathers};
 
 use crate::listing::ListedClass;
 use cm_layout::{ClassRow, LoaderRow, Row};
@@ -36,7 +37,8 @@ impl Gathered {
     // The classes of a loader, taken out.
     fn take_classes(&mut self, alloc: Global, number: u64) -> BTreeMap<Vec<u8>, ListedClass>
         ensures taken { by_bytes result.entries ≡ kept_of self.old.classes number }
-        ensures updates { UpdatesBy nat_cmp (nat_cmp number) self.old.classes self.new.classes None }
+        ensures updates { UpdatesBy nat_cmp (nat_cmp number) self.old.classes
+            self.new.classes None }
         ensures numbers { self.new.numbers ≡ self.old.numbers }
     {
         match self.classes.remove(&number) {

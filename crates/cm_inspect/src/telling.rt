@@ -26,8 +26,8 @@ pub(crate) fn tell<W: Write>(
     }
 }
 
-/// Writes why a file isn't opened, and gives the status, as [`crate::check_to`] does. Only a damage's
-/// line takes memory.
+/// Writes why a file isn't opened, and gives the status, as [`crate::check_to`] does. Only a
+/// damage's line takes memory.
 pub fn tell_fault<W: Write>(
     alloc: Global,
     writer: &mut W,

@@ -54,7 +54,8 @@ pub(crate) fn lines_of_list(alloc: Global, loaders: &[ListedLoader]) -> Result<V
 
 /// `loader NAME`, and the lines of its classes.
 fn push_loader(alloc: Global, lines: &mut Vec<u8>, loader: &ListedLoader) -> Result<(), AllocError>
-    ensures { OnOk result (lines.new.items ≡ lines.old.items ++ list_lines (shown (loader.now ∷ []))) }
+    ensures { OnOk result (lines.new.items ≡ lines.old.items
+        ++ list_lines (shown (loader.now ∷ []))) }
 {
     lines.extend_from_slice(b"loader ")?;
     lines.extend_from_slice(&loader.name)?;

@@ -50,8 +50,8 @@ fn digit_of_value(value: u8) -> u8
     }
 }
 
-/// Writes a name's spelling behind what is there. At an `Err`, where an allocation failed, a part of
-/// it may stand there.
+/// Writes a name's spelling behind what is there. At an `Err`, where an allocation failed, a part
+/// of it may stand there.
 pub fn escape_into(out: &mut Vec<u8>, name: &[u8]) -> Result<(), AllocError>
     ensures ok { OnOk result (out.new.items ≡ out.old.items ++ escaped name.now) }
 {

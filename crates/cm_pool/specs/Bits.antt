@@ -16,7 +16,8 @@ abbrev pub with_bit : List ℕ → ℕ → List ℕ
 with_bit words i = set words (i / 64) (bit_or (word words (i / 64)) (2 ^ (i % 64)))
 
 abbrev pub without_bit : List ℕ → ℕ → List ℕ
-without_bit words i = set words (i / 64) (bit_and (word words (i / 64)) (bit_not w64 (2 ^ (i % 64))))
+without_bit words i =
+    set words (i / 64) (bit_and (word words (i / 64)) (bit_not w64 (2 ^ (i % 64))))
 
 -- the first bit that is set
 pub record IsFirstBit (words : List ℕ) (i : ℕ) : Type 0 where

@@ -34,7 +34,8 @@ block_above b = record { index = b.index / 2; order = b.order + 1 }
 
 -- the other half of that one: the block's buddy
 unfoldable pub other_half : Block → Block
-other_half b = record { index = if b.index % 2 == 0 then b.index + 1 else b.index - 1; order = b.order }
+other_half b =
+    record { index = if b.index % 2 == 0 then b.index + 1 else b.index - 1; order = b.order }
 
 -- the block has the chunk's words
 pub record IsSame (top : ℕ) (c : Chunk) (b : Block) : Type 0 where

@@ -66,7 +66,8 @@ abbrev pub with_chunk : FreeSpace → Chunk → FreeSpace
 with_chunk p c = record p { free = union p.free (words p.geometry.top c) }
 
 abbrev pub with_root : FreeSpace → FreeSpace
-with_root p = record p { roots = p.roots + 1; free = union p.free (words p.geometry.top (next_root p)) }
+with_root p =
+    record p { roots = p.roots + 1; free = union p.free (words p.geometry.top (next_root p)) }
 
 -- what is true of each pool: the sizes are within their limits, there are not too many roots, and
 -- each free word lies in a present root
@@ -81,5 +82,9 @@ free_space_code =
     code_by (ℕ × (ℕ × (ℕ × (ℕ × FinSet nat_cmp))))
     (coded× coded_ℕ (coded× coded_ℕ (coded× coded_ℕ (coded× coded_ℕ (code coded_ℕ)))))
     (λ p. (p.geometry.top, (p.geometry.roots, (p.geometry.slots, (p.roots, p.free)))))
-    (λ t. record { geometry = record { top = t.0; roots = t.1.0; slots = t.1.1.0 }; roots = t.1.1.1.0; free = t.1.1.1.1 })
+    (λ t. record {
+      geometry = record { top = t.0; roots = t.1.0; slots = t.1.1.0 };
+      roots = t.1.1.1.0;
+      free = t.1.1.1.1;
+    })
     (λ _. refl)

@@ -19,10 +19,18 @@ NestedOrApart = (top roots : ℕ) (a b : Chunk) → IsBlock top roots a → IsBl
 
 -- the chunk of the next order that a chunk is a half of, and the other half
 abbrev pub chunk_above : Chunk → Chunk
-chunk_above c = record { root = c.root; order = c.order + 1; at = c.at / (2 * chunk_size c.order) * (2 * chunk_size c.order) }
+chunk_above c =
+    record {
+      root = c.root;
+      order = c.order + 1;
+      at = c.at / (2 * chunk_size c.order) * (2 * chunk_size c.order);
+    }
 
 abbrev pub buddy : Chunk → Chunk
-buddy c = record c { at = if (c.at / chunk_size c.order) % 2 == 0 then c.at + chunk_size c.order else c.at - chunk_size c.order }
+buddy c = record c {
+  at = if (c.at / chunk_size c.order) % 2 == 0 then c.at + chunk_size c.order
+      else c.at - chunk_size c.order;
+}
 
 -- A chunk and its buddy make the chunk above.
 abbrev pub HalvesMakeWhole : Type 0

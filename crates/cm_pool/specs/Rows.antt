@@ -91,7 +91,12 @@ granule_words g = range_with_len (128 * g) 128
 
 -- what a pool of these sizes, with these roots and rows, is seen as
 abbrev pub space_of : Sizes → ℕ → List (List ℕ) → FreeSpace
-space_of sizes roots rows = record { geometry = sizes; roots = roots; free = from_list (flat_map granule_words (granules rows)) }
+space_of sizes roots rows =
+    record {
+      geometry = sizes;
+      roots = roots;
+      free = from_list (flat_map granule_words (granules rows));
+    }
 
 -- what a pool keeps
 pub record IsPool (sizes : Sizes) (roots : ℕ) (rows : List (List ℕ)) : Type 0 where

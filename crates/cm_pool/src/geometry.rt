@@ -18,7 +18,8 @@ impl Model for Geometry {
 
     ghost view = { λ g. record { top = g.top; roots = g.roots; slots = g.slots } };
 
-    ghost invariant = { λ g. IsGeometry (record { top = g.top; roots = g.roots; slots = g.slots }) };
+    ghost invariant = { λ g.
+        IsGeometry (record { top = g.top; roots = g.roots; slots = g.slots }) };
 
     ghost inverse = { λ s. record { top = s.top; roots = s.roots; slots = s.slots } };
 }

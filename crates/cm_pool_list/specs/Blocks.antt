@@ -82,7 +82,8 @@ block_words b = range_with_len (b.index * chunk_size b.order) (chunk_size b.orde
 
 -- what a pool of these sizes, with these roots and blocks, is seen as
 abbrev pub space_of : Sizes → ℕ → List Block → FreeSpace
-space_of sizes roots bs = record { geometry = sizes; roots = roots; free = from_list (flat_map block_words bs) }
+space_of sizes roots bs =
+    record { geometry = sizes; roots = roots; free = from_list (flat_map block_words bs) }
 
 -- what a pool keeps
 pub record IsPool (sizes : Sizes) (roots capacity : ℕ) (bs : List Block) : Type 0 where

@@ -40,7 +40,8 @@ impl Model for Prepared {
 
     ghost view = { λ p. arc_value p.class };
 
-    ghost invariant = { λ p. IsRightRecord (arc_value p.class) × IsNameBeside p.name (arc_value p.class) };
+    ghost invariant = { λ p.
+        IsRightRecord (arc_value p.class) × IsNameBeside p.name (arc_value p.class) };
 }
 
 impl Prepared {

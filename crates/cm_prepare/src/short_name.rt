@@ -9,8 +9,8 @@ const MOST: usize = 87;
 
 /// A name of at most 87 bytes, or nothing. Contracts see its bytes.
 ///
-/// Its length stands before its bytes, so that who looks at a name of a few letters fetches one line
-/// of memory.
+/// Its length stands before its bytes, so that who looks at a name of a few letters fetches one
+/// line of memory.
 #[derive(Debug, Drop)]
 pub(crate) struct ShortName {
     len: u8,

@@ -27,7 +27,8 @@ abbrev pub code_in : ℕ → List ℕ → Option Code
 code_in at bytes =
     if nat_lt (length bytes) 8 then None
     else if nat_lt (length bytes) (10 + u4_at bytes 4) then None
-    else if nat_lt (length bytes) (10 + u4_at bytes 4 + 8 * u2_at bytes (8 + u4_at bytes 4)) then None
+    else if nat_lt (length bytes) (10 + u4_at bytes 4 + 8 * u2_at bytes (8 + u4_at bytes 4))
+    then None
     else Some (record {
       max_stack = u2_at bytes 0;
       max_locals = u2_at bytes 2;
@@ -39,18 +40,22 @@ code_in at bytes =
 
 -- the attributes that stand before attribute j of method i, which is `own`
 abbrev pub attributes_before : ClassFile → ℕ → ClassMember → ℕ → List Attribute
-attributes_before c i own j = member_attributes c.fields ++ member_attributes (take i c.methods) ++ take j own.attributes
+attributes_before c i own j =
+    member_attributes c.fields ++ member_attributes (take i c.methods) ++ take j own.attributes
 
 -- the word at which the attributes of method i begin
 abbrev pub attributes_place : ClassFile → ℕ → ℕ
-attributes_place c i = attributes_at c + 2 * length (member_attributes c.fields ++ member_attributes (take i c.methods))
+attributes_place c i =
+    attributes_at c + 2 * length
+    (member_attributes c.fields ++ member_attributes (take i c.methods))
 
 -- the word at which the run of that attribute begins
 abbrev pub run_place : ClassFile → ℕ → ClassMember → ℕ → ℕ
 run_place c i own j = attribute_runs_at c + length (attribute_runs (attributes_before c i own j))
 
 -- `own` is the method that m names, and its attribute j, which is `a`, the first `Code`
-pub record HasCode (c : ClassFile) (m : Member) (own : ClassMember) (j : ℕ) (a : Attribute) : Type 0 where
+pub record HasCode (c : ClassFile) (m : Member) (own : ClassMember) (j : ℕ)
+    (a : Attribute) : Type 0 where
   pub kind : m.is_method ≡ true
   pub method : slice_get c.methods m.index ≡ Some own
   pub there : slice_get own.attributes j ≡ Some a

@@ -26,11 +26,13 @@ kept_constant at (constant.Class name) = kept.Class name
 kept_constant at (constant.String text) = kept.String text
 kept_constant at (constant.Fieldref class name_and_type) = kept.Fieldref class name_and_type
 kept_constant at (constant.Methodref class name_and_type) = kept.Methodref class name_and_type
-kept_constant at (constant.InterfaceMethodref class name_and_type) = kept.InterfaceMethodref class name_and_type
+kept_constant at (constant.InterfaceMethodref class name_and_type) =
+    kept.InterfaceMethodref class name_and_type
 kept_constant at (constant.NameAndType name descriptor) = kept.NameAndType name descriptor
 kept_constant at (constant.MethodHandle kind reference) = kept.MethodHandle kind reference
 kept_constant at (constant.MethodType descriptor) = kept.MethodType descriptor
-kept_constant at (constant.InvokeDynamic bootstrap_method name_and_type) = kept.InvokeDynamic bootstrap_method name_and_type
+kept_constant at (constant.InvokeDynamic bootstrap_method name_and_type) =
+    kept.InvokeDynamic bootstrap_method name_and_type
 
 -- the word at which the run of the constant at an index begins, in the record of the class
 abbrev pub utf8_at : ClassFile → ℕ → ℕ

@@ -9,7 +9,8 @@ use Rattle.cm_record.specs.declared.member.Member.{Member}
 
 -- the indexes lead to Utf8 of these bytes
 abbrev pub leads_to : ClassFile → List ℕ → List ℕ → ℕ → ℕ → Bool
-leads_to c name descriptor name_index descriptor_index = names_utf8 c name_index name && names_utf8 c descriptor_index descriptor
+leads_to c name descriptor name_index descriptor_index =
+    names_utf8 c name_index name && names_utf8 c descriptor_index descriptor
 
 -- for each index, whether it leads to a Utf8 of these bytes
 abbrev pub AreMarksOf : List ℕ → List ℕ → List Bool → Type 0
@@ -27,7 +28,8 @@ pub record IsFirst (test : ℕ → Bool) (count index : ℕ) : Type 0 where
   pub first : (k : ℕ) → k < index → test k ≡ false
 
 -- the least of these members that has the name and the descriptor
-pub record IsLeastMember (c : ClassFile) (all : List ClassMember) (is_method : Bool) (name descriptor : List ℕ) (m : Member) : Type 0 where
+pub record IsLeastMember (c : ClassFile) (all : List ClassMember) (is_method : Bool)
+    (name descriptor : List ℕ) (m : Member) : Type 0 where
   pub kind : m.is_method ≡ is_method
   pub own : ClassMember
   pub there : slice_get all m.index ≡ Some own
@@ -42,4 +44,5 @@ abbrev pub FindsMember : ClassFile → List ClassMember → Bool → List ℕ �
     → Type 0
 FindsMember c all is_method name descriptor None = (k : ℕ) (other : ClassMember)
     → slice_get all k ≡ Some other → has_both c name descriptor other ≡ false
-FindsMember c all is_method name descriptor (Some m) = IsLeastMember c all is_method name descriptor m
+FindsMember c all is_method name descriptor (Some m) =
+    IsLeastMember c all is_method name descriptor m

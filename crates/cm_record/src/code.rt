@@ -89,8 +89,8 @@ pub(crate) fn code_in_run(words: &[u64], run: Run) -> Option<Code>
     })
 }
 
-/// As [`find_code`], with one pass over the pool, whatever the attributes' indexes are; a function of
-/// its own at run time too, as [`crate::member`] has it.
+/// As [`find_code`], with one pass over the pool, whatever the attributes' indexes are; a function
+/// of its own at run time too, as [`crate::member`] has it.
 #[inline(never)]
 fn find_code_by_marks(words: &[u64], at: usize, count: usize) -> Option<usize>
     requires record { IsRecord words.now }

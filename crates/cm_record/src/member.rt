@@ -1,6 +1,6 @@
 //! The fields and methods of a record, by name and descriptor.
-ghost use Rattle.std.specs.Prelude.{◌≡◌, ◌≤◌, ◌<◌, ◌+◌, ◌*◌, ◌&&◌, ℕ, false, length, get_or, IsNone};
-ghost use Rattle.std.specs.Prelude.{IfSome};
+ghost use Rattle.std.specs.Prelude.{◌≡◌, ◌≤◌, ◌<◌, ◌+◌, ◌*◌, ◌&&◌, ℕ, false, length, get_or};
+ghost use Rattle.std.specs.Prelude.{IsNone, IfSome};
 ghost use Rattle.cm_class.specs.declared.class_file.ClassFile.{ClassFile};
 ghost use Rattle.cm_record_layout.specs.Layout.{IsRecord, IsRecordOf};
 ghost use Rattle.cm_record_layout.specs.Packing.{second_of, third_of};
@@ -22,7 +22,8 @@ pub struct Member {
     pub attributes: u16,
 }
 
-/// Whether the word of a member leads to this name and this descriptor; `None` as in [`is_utf8_of`].
+/// Whether the word of a member leads to this name and this descriptor; `None` as in
+/// [`is_utf8_of`].
 #[inline(always)]
 fn is_word_of(
     words: &[u64],
@@ -50,9 +51,9 @@ fn is_word_marked(word: u64, names: &Marks, descriptors: &Marks) -> bool
     names.has(second(word)) && descriptors.has(third(word))
 }
 
-/// As [`find_member`], with one pass over the pool for the name and one for the descriptor, whatever
-/// the members' indexes are. A function of its own at run time too: its marks take 128 KiB of the
-/// stack, which the ordinary search needn't touch.
+/// As [`find_member`], with one pass over the pool for the name and one for the descriptor,
+/// whatever the members' indexes are. A function of its own at run time too: its marks take 128 KiB
+/// of the stack, which the ordinary search needn't touch.
 #[inline(never)]
 fn find_member_by_marks(
     words: &[u64],
@@ -64,9 +65,11 @@ fn find_member_by_marks(
     requires record { IsRecord words.now }
     requires within { at + 2 * count ≤ length words.now }
     ensures none { (c : ClassFile) → IsRecordOf c words.now → IsNone result → (k : ℕ) → k < count
-        → leads_to c name.now descriptor.now (second_of (get_or words.now (at + 2 * k) 0)) (third_of (get_or words.now (at + 2 * k) 0)) ≡ false }
+        → leads_to c name.now descriptor.now (second_of (get_or words.now (at + 2 * k) 0))
+        (third_of (get_or words.now (at + 2 * k) 0)) ≡ false }
     ensures some { (c : ClassFile) → IsRecordOf c words.now → IfSome result (IsFirst
-        (λ k. leads_to c name.now descriptor.now (second_of (get_or words.now (at + 2 * k) 0)) (third_of (get_or words.now (at + 2 * k) 0))) count) }
+        (λ k. leads_to c name.now descriptor.now (second_of (get_or words.now (at + 2 * k) 0))
+        (third_of (get_or words.now (at + 2 * k) 0))) count) }
 {
     let (names, descriptors) = (Marks::of(words, name), Marks::of(words, descriptor));
     for index in 0..count {
@@ -89,9 +92,11 @@ pub(crate) fn find_member(
     requires record { IsRecord words.now }
     requires within { at + 2 * count ≤ length words.now }
     ensures none { (c : ClassFile) → IsRecordOf c words.now → IsNone result → (k : ℕ) → k < count
-        → leads_to c name.now descriptor.now (second_of (get_or words.now (at + 2 * k) 0)) (third_of (get_or words.now (at + 2 * k) 0)) ≡ false }
+        → leads_to c name.now descriptor.now (second_of (get_or words.now (at + 2 * k) 0))
+        (third_of (get_or words.now (at + 2 * k) 0)) ≡ false }
     ensures some { (c : ClassFile) → IsRecordOf c words.now → IfSome result (IsFirst
-        (λ k. leads_to c name.now descriptor.now (second_of (get_or words.now (at + 2 * k) 0)) (third_of (get_or words.now (at + 2 * k) 0))) count) }
+        (λ k. leads_to c name.now descriptor.now (second_of (get_or words.now (at + 2 * k) 0))
+        (third_of (get_or words.now (at + 2 * k) 0))) count) }
 {
     let mut left = words.len();
     for index in 0..count {

@@ -31,7 +31,8 @@ fn same_as_bytes(words: &[u64], bytes: &[u8], count: usize) -> usize
     requires words { count ≤ length words.now }
     requires bytes { 8 * count ≤ length bytes.now }
     ensures within { result ≤ count }
-    ensures same { (k : ℕ) → k < result → get_or words.now k 0 ≡ word_from (drop (8 * k) bytes.now) }
+    ensures same { (k : ℕ) → k < result
+        → get_or words.now k 0 ≡ word_from (drop (8 * k) bytes.now) }
 {
     for at in 0..count {
         if words[at] != word_of(&bytes[8 * at..]) {

@@ -251,7 +251,8 @@ impl Record {
     pub fn code(&self, member: &Member) -> Option<Code>
         ensures code { (c : ClassFile) (own : ClassMember) (j : ℕ) (a : Attribute)
             → IsRecordOf c self.now
-            → HasCode c member.now own j a → result ≡ code_in (8 * run_place c member.now.index own j) a.bytes }
+            → HasCode c member.now own j a
+            → result ≡ code_in (8 * run_place c member.now.index own j) a.bytes }
         ensures none { (c : ClassFile) → IsRecordOf c self.now → HasNoCode c member.now
             → result ≡ None }
     {

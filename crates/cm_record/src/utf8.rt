@@ -77,8 +77,8 @@ fn may_be_utf8_of(words: &[u64], index: u16, bytes: &[u8]) -> bool
     first(word) == Kind::Utf8.tag() && second(word) as usize == bytes.len()
 }
 
-/// Whether a Utf8 of these bytes stands at an index of the pool; `None` where it takes more words to
-/// tell than are left to be looked at, from which the others go off.
+/// Whether a Utf8 of these bytes stands at an index of the pool; `None` where it takes more words
+/// to tell than are left to be looked at, from which the others go off.
 #[inline(always)]
 pub(crate) fn is_utf8_of(words: &[u64], index: u16, bytes: &[u8], left: &mut usize) -> Option<bool>
     requires { IsRecord words.now }

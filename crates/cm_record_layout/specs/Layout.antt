@@ -29,13 +29,19 @@ constant_words at (constant.Long bits) = 5 ∷ bits ∷ []
 constant_words at (constant.Double bits) = 6 ∷ bits ∷ []
 constant_words at (constant.Class name) = (7 + 2 ^ 32 * name) ∷ []
 constant_words at (constant.String text) = (8 + 2 ^ 32 * text) ∷ []
-constant_words at (constant.Fieldref class name_and_type) = (9 + 2 ^ 32 * class + 2 ^ 48 * name_and_type) ∷ []
-constant_words at (constant.Methodref class name_and_type) = (10 + 2 ^ 32 * class + 2 ^ 48 * name_and_type) ∷ []
-constant_words at (constant.InterfaceMethodref class name_and_type) = (11 + 2 ^ 32 * class + 2 ^ 48 * name_and_type) ∷ []
-constant_words at (constant.NameAndType name descriptor) = (12 + 2 ^ 32 * name + 2 ^ 48 * descriptor) ∷ []
-constant_words at (constant.MethodHandle kind reference) = (15 + 2 ^ 32 * kind + 2 ^ 48 * reference) ∷ []
+constant_words at (constant.Fieldref class name_and_type) =
+    (9 + 2 ^ 32 * class + 2 ^ 48 * name_and_type) ∷ []
+constant_words at (constant.Methodref class name_and_type) =
+    (10 + 2 ^ 32 * class + 2 ^ 48 * name_and_type) ∷ []
+constant_words at (constant.InterfaceMethodref class name_and_type) =
+    (11 + 2 ^ 32 * class + 2 ^ 48 * name_and_type) ∷ []
+constant_words at (constant.NameAndType name descriptor) =
+    (12 + 2 ^ 32 * name + 2 ^ 48 * descriptor) ∷ []
+constant_words at (constant.MethodHandle kind reference) =
+    (15 + 2 ^ 32 * kind + 2 ^ 48 * reference) ∷ []
 constant_words at (constant.MethodType descriptor) = (16 + 2 ^ 32 * descriptor) ∷ []
-constant_words at (constant.InvokeDynamic bootstrap_method name_and_type) = (18 + 2 ^ 32 * bootstrap_method + 2 ^ 48 * name_and_type) ∷ []
+constant_words at (constant.InvokeDynamic bootstrap_method name_and_type) =
+    (18 + 2 ^ 32 * bootstrap_method + 2 ^ 48 * name_and_type) ∷ []
 
 -- the directory word of a constant whose words don't speak of a run
 abbrev pub whole_word : Constant → ℕ
@@ -50,7 +56,8 @@ slot_run Unusable = []
 -- before
 abbrev pub directory : ℕ → List Slot → List ℕ
 directory at [] = []
-directory at (Usable c ∷ slots) = constant_words at c ++ directory (at + length (constant_run c)) slots
+directory at (Usable c ∷ slots) =
+    constant_words at c ++ directory (at + length (constant_run c)) slots
 directory at (Unusable ∷ slots) = directory at slots
 
 abbrev pub utf8_runs : List Slot → List ℕ
@@ -61,7 +68,9 @@ utf8_runs slots = flat_map slot_run slots
 -- two words each: the numbers, and where its attributes begin
 abbrev pub members : ℕ → List Member → List ℕ
 members at [] = []
-members at (m ∷ rest) = four_numbers m.flags m.name m.descriptor (length m.attributes) ∷ at ∷ members (at + 2 * length m.attributes) rest
+members at (m ∷ rest) =
+    four_numbers m.flags m.name m.descriptor (length m.attributes) ∷ at
+    ∷ members (at + 2 * length m.attributes) rest
 
 abbrev pub member_attributes : List Member → List Attribute
 member_attributes those = flat_map (λ m. m.attributes) those
@@ -72,7 +81,8 @@ attribute_run a = packed a.bytes
 -- two words each: name and length, and where its run begins
 abbrev pub attributes : ℕ → List Attribute → List ℕ
 attributes at [] = []
-attributes at (a ∷ rest) = (a.name + 2 ^ 32 * length a.bytes) ∷ at ∷ attributes (at + length (attribute_run a)) rest
+attributes at (a ∷ rest) =
+    (a.name + 2 ^ 32 * length a.bytes) ∷ at ∷ attributes (at + length (attribute_run a)) rest
 
 abbrev pub attribute_runs : List Attribute → List ℕ
 attribute_runs those = flat_map attribute_run those

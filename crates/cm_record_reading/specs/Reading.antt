@@ -48,7 +48,8 @@ only_if false go_on = None
 
 -- so many bytes of one word, behind which it has only zeros; at most eight
 abbrev pub front_of : ℕ → ℕ → Option (List ℕ)
-front_of count word = only_if (word_from (take count (bytes_of word)) == word) (Some (take count (bytes_of word)))
+front_of count word =
+    only_if (word_from (take count (bytes_of word)) == word) (Some (take count (bytes_of word)))
 
 -- so many bytes in so many words
 unfoldable pub run_from : ℕ → ℕ → List ℕ → Option (List ℕ × List ℕ)
@@ -154,9 +155,11 @@ attribute_word name count = name + 2 ^ 32 * count
 
 -- an attribute, from the attributes and the runs
 unfoldable pub attribute_at : ℕ → List ℕ → List ℕ → Option (Attribute × List ℕ × List ℕ)
-attribute_at total (word ∷ at ∷ rest) runs = only_if (attribute_word (first_of word) (upper_of word) == word) (only_if (at == total - length runs) (do
-  run ← run_at (upper_of word) runs
-  Some (record { name = first_of word; bytes = run.0 }, rest, run.1)))
+attribute_at total (word ∷ at ∷ rest) runs =
+    only_if (attribute_word (first_of word) (upper_of word) == word)
+    (only_if (at == total - length runs) (do
+      run ← run_at (upper_of word) runs
+      Some (record { name = first_of word; bytes = run.0 }, rest, run.1)))
 attribute_at total _ runs = None
 
 -- so many attributes
@@ -170,9 +173,20 @@ attributes_from total (suc n) attrs runs = do
 -- a member, from the members, the attributes and the runs
 unfoldable pub member_at : ℕ → List ℕ → List ℕ → List ℕ → Option (Member × List ℕ × List ℕ × List ℕ)
 member_at total (word ∷ at ∷ main) attrs runs =
-    only_if (four_numbers (first_of word) (second_of word) (third_of word) (fourth_of word) == word) (only_if (at == total - length attrs) (do
+    only_if (four_numbers (first_of word) (second_of word) (third_of word) (fourth_of word) == word)
+    (only_if (at == total - length attrs) (do
       own ← attributes_from total (fourth_of word) attrs runs
-      Some (record { flags = first_of word; name = second_of word; descriptor = third_of word; attributes = own.0 }, main, own.1, own.2)))
+      Some (
+        record {
+          flags = first_of word;
+          name = second_of word;
+          descriptor = third_of word;
+          attributes = own.0;
+        },
+        main,
+        own.1,
+        own.2,
+      )))
 member_at total _ attrs runs = None
 
 -- so many members

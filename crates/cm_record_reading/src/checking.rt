@@ -159,7 +159,8 @@ fn skip_attributes<'a, 'b>(
 ) -> Option<(&'a [u64], &'b [u64])>
     requires { length runs.now ≤ total }
     ensures left { Leaves
-        (λ x. (x.0.now, x.1.now)) result (left2 (attributes_from total count attributes.now runs.now)) }
+        (λ x. (x.0.now, x.1.now)) result
+        (left2 (attributes_from total count attributes.now runs.now)) }
     ensures suffixes { IfSome result (λ x. (length x.0.now ≤ length attributes.now)
         × (length x.1.now ≤ length runs.now)) }
 {
@@ -183,7 +184,8 @@ fn skip_member<'a, 'b, 'c>(
     requires attributes { length attributes.now ≤ total }
     requires runs { length runs.now ≤ total }
     ensures left { Leaves
-        (λ x. (x.0.now, x.1.now, x.2.now)) result (left3 (member_at total main.now attributes.now runs.now)) }
+        (λ x. (x.0.now, x.1.now, x.2.now)) result
+        (left3 (member_at total main.now attributes.now runs.now)) }
     ensures suffixes { IfSome result (λ x. (length x.1.now ≤ length attributes.now)
         × (length x.2.now ≤ length runs.now)) }
 {
@@ -209,7 +211,8 @@ fn skip_members<'a, 'b, 'c>(
     requires attributes { length attributes.now ≤ total }
     requires runs { length runs.now ≤ total }
     ensures left { Leaves
-        (λ x. (x.0.now, x.1.now, x.2.now)) result (left3 (members_from total count main.now attributes.now runs.now)) }
+        (λ x. (x.0.now, x.1.now, x.2.now)) result
+        (left3 (members_from total count main.now attributes.now runs.now)) }
     ensures suffixes { IfSome result (λ x. (length x.1.now ≤ length attributes.now)
         × (length x.2.now ≤ length runs.now)) }
 {
@@ -255,7 +258,8 @@ fn skip_body<'a, 'b, 'c>(
     requires attributes { length attributes.now ≤ total }
     requires runs { length runs.now ≤ total }
     ensures { Leaves (λ x. (x.0.now, x.1.now, x.2.now)) result
-        (body_left (body_from total counts.fields counts.methods counts.attributes main.now attributes.now runs.now)) }
+        (body_left (body_from total counts.fields counts.methods counts.attributes main.now
+        attributes.now runs.now)) }
 {
     let (main, attributes, runs) = skip_members(total, counts.fields, main, attributes, runs)?;
     let (main, attributes, runs) = skip_members(total, counts.methods, main, attributes, runs)?;

@@ -180,7 +180,8 @@ pub(crate) fn read_attributes<'a, 'b>(
 ) -> Result<(Vec<Attribute>, &'a [u64], &'b [u64]), RecordFault>
     requires { length runs.now ≤ total }
     ensures read { Gives
-        (λ x. (x.0.items, x.1.now, x.2.now)) result (attributes_from total count attributes.now runs.now) }
+        (λ x. (x.0.items, x.1.now, x.2.now)) result
+        (attributes_from total count attributes.now runs.now) }
     ensures suffixes { IfOk result (λ x. (length x.1.now ≤ length attributes.now)
         × (length x.2.now ≤ length runs.now)) }
 {
@@ -207,7 +208,8 @@ fn read_member<'a, 'b, 'c>(
     requires attributes { length attributes.now ≤ total }
     requires runs { length runs.now ≤ total }
     ensures read { Gives
-        (λ x. (x.0, x.1.now, x.2.now, x.3.now)) result (member_at total main.now attributes.now runs.now) }
+        (λ x. (x.0, x.1.now, x.2.now, x.3.now)) result
+        (member_at total main.now attributes.now runs.now) }
     ensures suffixes { IfOk result (λ x. (length x.2.now ≤ length attributes.now)
         × (length x.3.now ≤ length runs.now)) }
 {
@@ -240,7 +242,8 @@ pub(crate) fn read_members<'a, 'b, 'c>(
     requires attributes { length attributes.now ≤ total }
     requires runs { length runs.now ≤ total }
     ensures read { Gives
-        (λ x. (x.0.items, x.1.now, x.2.now, x.3.now)) result (members_from total count main.now attributes.now runs.now) }
+        (λ x. (x.0.items, x.1.now, x.2.now, x.3.now)) result
+        (members_from total count main.now attributes.now runs.now) }
     ensures suffixes { IfOk result (λ x. (length x.2.now ≤ length attributes.now)
         × (length x.3.now ≤ length runs.now)) }
 {

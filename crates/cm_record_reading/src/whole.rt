@@ -149,8 +149,16 @@ fn read_body<'a, 'b, 'c>(
     requires attributes { length attributes.now ≤ total }
     requires runs { length runs.now ≤ total }
     ensures { Gives
-        (λ x. (x.fields.items, x.methods.items, x.own.items, x.main.now, x.attributes.now, x.runs.now)) result
-        (body_from total counts.fields counts.methods counts.attributes main.now attributes.now runs.now) }
+        (λ x. (
+          x.fields.items,
+          x.methods.items,
+          x.own.items,
+          x.main.now,
+          x.attributes.now,
+          x.runs.now,
+        )) result
+        (body_from total counts.fields counts.methods counts.attributes main.now attributes.now
+        runs.now) }
 {
     let (fields, main, attributes, runs) = read_members(
         alloc,

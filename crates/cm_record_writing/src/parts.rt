@@ -21,8 +21,10 @@ use cm_words::WordBuf;
 /// Adds the attributes of members. It gives where the run of the next would begin.
 fn push_member_attributes(words: &mut WordBuf, at: u64, these: &[Member]) -> u64
     requires short { at + length (attribute_runs (member_attributes these.now)) ≤ limit }
-    requires room { length words.old.words + length (attributes at (member_attributes these.now)) ≤ words.old.capacity }
-    ensures words { words.new.words ≡ words.old.words ++ attributes at (member_attributes these.now) }
+    requires room { length words.old.words + length (attributes at (member_attributes these.now))
+        ≤ words.old.capacity }
+    ensures words { words.new.words ≡ words.old.words
+        ++ attributes at (member_attributes these.now) }
     ensures capacity { words.new.capacity ≡ words.old.capacity }
     ensures next { result ≡ at + length (attribute_runs (member_attributes these.now)) }
 {
@@ -35,8 +37,10 @@ fn push_member_attributes(words: &mut WordBuf, at: u64, these: &[Member]) -> u64
 
 /// Adds the runs of the attributes of members.
 fn push_member_runs(words: &mut WordBuf, these: &[Member])
-    requires { length words.old.words + length (attribute_runs (member_attributes these.now)) ≤ words.old.capacity }
-    ensures words { words.new.words ≡ words.old.words ++ attribute_runs (member_attributes these.now) }
+    requires { length words.old.words + length (attribute_runs (member_attributes these.now))
+        ≤ words.old.capacity }
+    ensures words { words.new.words ≡ words.old.words
+        ++ attribute_runs (member_attributes these.now) }
     ensures capacity { words.new.capacity ≡ words.old.capacity }
 {
     for member in these {
@@ -78,9 +82,12 @@ pub(crate) fn push_head(words: &mut WordBuf, class: &Class, places: &Places)
 pub(crate) fn push_pool_and_members(words: &mut WordBuf, class: &Class, places: &Places)
     requires places { ArePlaces class.now places.now }
     requires short { record_len class.now ≤ limit }
-    requires room { length words.old.words + length ((0 ∷ directory (runs_at class.now) class.now.slots)
-        ++ class.now.interfaces ++ members (attributes_at class.now) (all_members class.now)) ≤ words.old.capacity }
-    ensures words { words.new.words ≡ words.old.words ++ (0 ∷ directory (runs_at class.now) class.now.slots)
+    requires room { length words.old.words
+        + length ((0 ∷ directory (runs_at class.now) class.now.slots)
+        ++ class.now.interfaces ++ members (attributes_at class.now) (all_members class.now))
+        ≤ words.old.capacity }
+    ensures words { words.new.words ≡ words.old.words
+        ++ (0 ∷ directory (runs_at class.now) class.now.slots)
         ++ class.now.interfaces ++ members (attributes_at class.now) (all_members class.now) }
     ensures capacity { words.new.capacity ≡ words.old.capacity }
 {
@@ -96,9 +103,12 @@ pub(crate) fn push_pool_and_members(words: &mut WordBuf, class: &Class, places: 
 pub(crate) fn push_attributes_and_runs(words: &mut WordBuf, class: &Class, places: &Places)
     requires places { ArePlaces class.now places.now }
     requires short { record_len class.now ≤ limit }
-    requires room { length words.old.words + length (attributes (attribute_runs_at class.now) (all_attributes class.now)
-        ++ utf8_runs class.now.slots ++ attribute_runs (all_attributes class.now)) ≤ words.old.capacity }
-    ensures words { words.new.words ≡ words.old.words ++ attributes (attribute_runs_at class.now) (all_attributes class.now)
+    requires room { length words.old.words
+        + length (attributes (attribute_runs_at class.now) (all_attributes class.now)
+        ++ utf8_runs class.now.slots ++ attribute_runs (all_attributes class.now))
+        ≤ words.old.capacity }
+    ensures words { words.new.words ≡ words.old.words
+        ++ attributes (attribute_runs_at class.now) (all_attributes class.now)
         ++ utf8_runs class.now.slots ++ attribute_runs (all_attributes class.now) }
     ensures capacity { words.new.capacity ≡ words.old.capacity }
 {

@@ -23,7 +23,8 @@ fn utf8_word(at: u64, bytes: &[u8]) -> u64
 /// Adds a constant's words in the directory, where its run begins at `at`.
 fn push_constant(words: &mut WordBuf, at: u64, constant: &Constant)
     requires short { at + length (constant_run constant.now) ≤ limit }
-    requires room { length words.old.words + length (constant_words at constant.now) ≤ words.old.capacity }
+    requires room { length words.old.words + length (constant_words at constant.now)
+        ≤ words.old.capacity }
     ensures words { words.new.words ≡ words.old.words ++ constant_words at constant.now }
     ensures capacity { words.new.capacity ≡ words.old.capacity }
 {

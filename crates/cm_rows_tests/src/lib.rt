@@ -1,5 +1,5 @@
-//! What a region file holds, over what is public of `cm_layout`, `cm_rows` and `cm_group`: where parts
-//! lie, entries and the rows after them, and groups.
+//! What a region file holds, over what is public of `cm_layout`, `cm_rows` and `cm_group`: where
+//! parts lie, entries and the rows after them, and groups.
 #![tactic(auto)]
 
 #[cfg(test)]

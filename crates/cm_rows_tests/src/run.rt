@@ -1,5 +1,5 @@
-//! Long runs of entries: beside a plain list of rows, and with more names than one block of the index
-//! holds.
+//! Long runs of entries: beside a plain list of rows, and with more names than one block of the
+//! index holds.
 
 ghost use Rattle.std.specs.Prelude.{◌≡◌};
 

@@ -69,7 +69,8 @@ pub fn move_of<P>(loader: u64, from: Chunk, to: Chunk) -> Entry<P> {
     Entry::Move(Move { loader, from, to })
 }
 
-/// An entry as tables write it, of values alone: nothing of a table has to be dropped where it is left.
+/// An entry as tables write it, of values alone: nothing of a table has to be dropped where it is
+/// left.
 #[derive(Clone, Copy)]
 pub enum Sample<'a> {
     /// A loader's number and name.

@@ -38,8 +38,8 @@ pub record Leads (Does Goes : Machine → Type 0) : Type 0 where
 
 -- ---- accepting
 
--- A command is accepted with the next number, or refused: since a failure of the device was noticed,
--- or by the machine.
+-- A command is accepted with the next number, or refused: since a failure of the device was
+-- noticed, or by the machine.
 abbrev pub Answers : Sizes → Machine → Change ClassFile → Result ℕ Refusal → Machine → Type 0
 Answers sizes k change (Ok number) next =
     (k.noticed ≡ false) × Accepts sizes k change number next

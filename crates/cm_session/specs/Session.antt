@@ -1,5 +1,5 @@
--- What a session keeps: an accepted cache, the committer of its disk, and the groups on the way from
--- the one to the other.
+-- What a session keeps: an accepted cache, the committer of its disk, and the groups on the way
+-- from the one to the other.
 use Rattle.std.specs.Prelude.{◌≡◌, ℕ, ◌+◌, ◌≤◌, Bool, false, List, [], ◌∷◌, ◌++◌, length}
 use Rattle.std.specs.Prelude.{Option, Some, None}
 use Rattle.std.specs.List.{flat_map}
@@ -39,8 +39,8 @@ IsBusyWith (Some group) left = 1 ≤ calls_left left
 
 -- ---- the session
 
--- The parts of a session, which go with what the machine is at: the groups under way and queued lead
--- from what is committed to what is accepted, and the machine's numbers and flags are theirs.
+-- The parts of a session, which go with what the machine is at: the groups under way and queued
+-- lead from what is committed to what is accepted, and the machine's numbers and flags are theirs.
 pub record IsSession {D : Type 0} (k : Machine) (front : FrontState) (committer : CommitterState D)
     (queue : List Handed) (sealed : ℕ) (failed : Bool) : Type 0 where
   pub is : IsFront front

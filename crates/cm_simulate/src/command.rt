@@ -12,8 +12,8 @@ const DISK: &str = "disk";
 /// What the command line asks for.
 #[derive(Debug, Drop)]
 pub enum Request {
-    /// To run the simulation on standard input; where there is a path, the bytes that its disk has at
-    /// the end go to that file.
+    /// To run the simulation on standard input; where there is a path, the bytes that its disk has
+    /// at the end go to that file.
     Run(Option<String>),
     /// Nothing more: the help or a usage text was printed. The status to end with.
     Printed(u8),

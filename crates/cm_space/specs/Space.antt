@@ -82,7 +82,8 @@ abbrev pub waits_in : List Waiting → List Waits
 waits_in ws = mapped waits_of ws
 
 -- the oldest waits for at most a number, and goes
-pub record IsOldestDue (number : ℕ) (old : List Waits) (chunks : List Chunk) (new : List Waits) : Type 0 where
+pub record IsOldestDue (number : ℕ) (old : List Waits) (chunks : List Chunk)
+    (new : List Waits) : Type 0 where
   pub waits_for : ℕ
   pub is_due : waits_for ≤ number
   pub oldest : old ≡ record { number = waits_for; chunks = chunks } ∷ new

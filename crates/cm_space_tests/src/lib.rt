@@ -1,6 +1,6 @@
-//! Buffers of words. Pools: the worked cases of a region with one root, a long run against a plain set of words, and
-//! both bodies on equal calls. Arenas: where words are placed, and which places are found again.
-//! Spaces: a left chunk waits for its number, and what was placed is found again.
+//! Buffers of words. Pools: the worked cases of a region with one root, a long run against a plain
+//! set of words, and both bodies on equal calls. Arenas: where words are placed, and which places
+//! are found again. Spaces: a left chunk waits for its number, and what was placed is found again.
 #![tactic(auto)]
 
 #[cfg(test)]

@@ -50,8 +50,8 @@ SizesAgree A =
     (shows : Shows A) (sizes : Sizes) (n : ℕ) (rows : List (Row A))
     → AreCacheRows shows sizes n rows → size (state_of shows rows) ≡ slots_of_rows rows
 
--- An entry that may follow is a step of the cache: some change that has no cause against it, and the
--- next state is that of the rows after the entry.
+-- An entry that may follow is a step of the cache: some change that has no cause against it, and
+-- the next state is that of the rows after the entry.
 pub record IsStep {A : Type 0} (shows : Shows A) (sizes : Sizes) (n : ℕ) (rows : List (Row A))
     (e : Entry A) : Type 0 where
   pub change : Change A

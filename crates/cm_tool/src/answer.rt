@@ -122,7 +122,8 @@ fn define<D: Disk>(
     digits: &[u8],
 ) -> Result<Reply, AllocError>
     ensures machine { (k : Machine) → GoesWith k session.old → IsReady k
-        → LedTo (Replies session.old.committer.sizes (Some (AsksDefine loader.now digits.now)) result
+        → LedTo (Replies session.old.committer.sizes
+        (Some (AsksDefine loader.now digits.now)) result
         (served k (D.failures session.old.committer.disk)))
         (D.failures session.new.committer.disk)
         (MayGoOn D.moment D.left_since k session.old session.new) }

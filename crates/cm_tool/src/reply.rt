@@ -76,8 +76,8 @@ pub fn nothing(alloc: Global) -> Result<Reply, AllocError>
     end(Kind::Done, text(alloc, b"none")?)
 }
 
-/// `refused K TEXT`, and `unsure N` of an unsure command. Of a class that breaks a rule, the text is
-/// `V`, the rule's number and the place.
+/// `refused K TEXT`, and `unsure N` of an unsure command. Of a class that breaks a rule, the text
+/// is `V`, the rule's number and the place.
 pub fn refused(alloc: Global, refusal: Refusal) -> Result<Reply, AllocError>
     ensures { IfOk result (IsReply (refusal_reply refusal)) }
 {

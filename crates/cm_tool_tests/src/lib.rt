@@ -1,6 +1,6 @@
 //! Scripts run on caches in memory: the worked cases, failing disks, and readers and writers that
-//! misbehave; lines by themselves, their forms and how names are spelled; and what is told of caches
-//! in memory, sound ones, damaged ones and those on failing disks.
+//! misbehave; lines by themselves, their forms and how names are spelled; and what is told of
+//! caches in memory, sound ones, damaged ones and those on failing disks.
 #![tactic(auto)]
 
 #[cfg(test)]

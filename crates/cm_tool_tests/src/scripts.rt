@@ -9,8 +9,8 @@ use std::io::BufReader;
 use std::test::*;
 
 /// Class A: 53 bytes, named `A`, of `java/lang/Object`.
-const CLASS_A: &[u8] =
-    b"cafebabe000000340005070002010001410700040100106a6176612f6c616e672f4f626a6563740021000100030000000000000000";
+const CLASS_A: &[u8] = b"cafebabe0000003400050700020100014107000401\
+      00106a6176612f6c616e672f4f626a6563740021000100030000000000000000";
 
 const FINE: Outcome = Outcome {
     refused: false,
@@ -126,7 +126,9 @@ fn a_script_is_read_in_pieces(rt: HostRuntime) -> Result<(), Fail> {
     assert_eq!(rt; outcome, Ok(REFUSED));
     assert_eq!(rt;
         written.as_slice(),
-        b"ok 1\nrefused 15 line\nok 2 A\nclass A flags 0021 super java/lang/Object words 16\n".as_slice()
+        b"ok 1\nrefused 15 line\nok 2 A\n\
+          class A flags 0021 super java/lang/Object words 16\n"
+            .as_slice()
     );
     Ok(())
 }

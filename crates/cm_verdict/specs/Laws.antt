@@ -1,4 +1,5 @@
--- What the verdict has to do with what contents frame and stand for: it is Ok exactly where they do.
+-- What the verdict has to do with what contents frame and stand for: it is Ok exactly where they
+-- do.
 use Rattle.std.specs.Prelude.{◌≡◌, ◌≤◌, ℕ, ◌+◌, ◌*◌, ◌^◌, List, [], ◌∷◌, length, map, Ok}
 use Rattle.cm_record.specs.Layout.{lay}
 use Rattle.cm_pool.specs.Geometry.{Sizes, IsGeometry}
@@ -45,8 +46,8 @@ pub record IsFramed (contents : List ℕ) (f : Found) : Type 0 where
   pub matches : Matches f.sizes framing (words_found contents f) contents
   pub frames : Frames f.sizes contents (words_found contents f) f.number
 
--- what was found are live rows that keep the rules at the number of the last command, wherever their
--- records lie, in a file that is as long as its halves ask
+-- what was found are live rows that keep the rules at the number of the last command, wherever
+-- their records lie, in a file that is as long as its halves ask
 pub record IsLive (contents : List ℕ) (f : Found) : Type 0 where
   pub lawful : IsGeometry f.sizes
   pub long : roots_at f.sizes ≤ length contents

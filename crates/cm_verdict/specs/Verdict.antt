@@ -1,7 +1,7 @@
 -- The verdict on a file: what is found in it without records, and then a second pass over the
--- records of the classes that live, in the order of their rows. A record has to lie in a whole root;
--- its words have to be those of a class that keeps the class rules; and no class before it in its
--- loader may have its name.
+-- records of the classes that live, in the order of their rows. A record has to lie in a whole
+-- root; its words have to be those of a class that keeps the class rules; and no class before it in
+-- its loader may have its name.
 use Rattle.std.specs.Prelude.{ℕ, ◌+◌, ◌*◌, ◌^◌, ◌&&◌, nat_le, nat_lt, Bool, if◌then◌else◌, List, []}
 use Rattle.std.specs.Prelude.{◌∷◌, ◌++◌, length, get_or}
 use Rattle.std.specs.Prelude.{Option, Some, None, Result, Ok, Err, is_none}

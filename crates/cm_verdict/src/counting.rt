@@ -3,8 +3,8 @@
 ghost use Rattle.std.specs.Prelude.{◌≡◌, Some, IfOk};
 ghost use Rattle.cm_layout.specs.Frames.{IsGoodHead};
 ghost use Rattle.cm_verdict.specs.Faults.{at_slot as at_slot_of};
-ghost use Rattle.cm_verdict.specs.Found.{is_good_head as is_good_head_of, open_head as open_head_of};
-ghost use Rattle.cm_verdict.specs.Found.{which_half as which_half_of};
+ghost use Rattle.cm_verdict.specs.Found.{is_good_head as is_good_head_of};
+ghost use Rattle.cm_verdict.specs.Found.{open_head as open_head_of, which_half as which_half_of};
 ghost use Rattle.cm_verdict.specs.Found.{counting_half as counting_half_of};
 ghost use Rattle.cm_verdict.specs.Walk.{first_slot as first_slot_of};
 

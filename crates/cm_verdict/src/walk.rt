@@ -1,14 +1,16 @@
 //! The walk through the half that counts.
 
-ghost use Rattle.std.specs.Prelude.{◌≡◌, ◌≤◌, ◌<◌, ◌+◌, ◌*◌, ◌-◌, ◌^◌, [], length, false, true, OnOk};
+ghost use Rattle.std.specs.Prelude.{◌≡◌, ◌≤◌, ◌<◌, ◌+◌, ◌*◌, ◌-◌, ◌^◌, [], length, false, true};
+ghost use Rattle.std.specs.Prelude.{OnOk};
 ghost use Rattle.cm_layout.specs.Rules.{row_limit};
 ghost use Rattle.cm_verdict.specs.Faults.{damage_of as damage_of_rule};
 ghost use Rattle.cm_verdict.specs.Decoding.{row_in as row_spelled, entry_in as entry_spelled};
 ghost use Rattle.cm_verdict.specs.Decoding.{group_head_in as group_head_spelled};
-ghost use Rattle.cm_verdict.specs.Walk.{placed_row as placed_row_at, placed_entry as placed_entry_at};
-ghost use Rattle.cm_verdict.specs.Walk.{live_turn as live_turn_of, entry_turn as entry_turn_of};
-ghost use Rattle.cm_verdict.specs.Walk.{is_good_group, gate_turn as gate_turn_of, turn as turn_of};
-ghost use Rattle.cm_verdict.specs.Walk.{slot_of, walk, start, first_slot as first_slot_of};
+ghost use Rattle.cm_verdict.specs.Walk.{placed_row as placed_row_at};
+ghost use Rattle.cm_verdict.specs.Walk.{placed_entry as placed_entry_at, live_turn as live_turn_of};
+ghost use Rattle.cm_verdict.specs.Walk.{entry_turn as entry_turn_of, is_good_group};
+ghost use Rattle.cm_verdict.specs.Walk.{gate_turn as gate_turn_of, turn as turn_of, slot_of, walk};
+ghost use Rattle.cm_verdict.specs.Walk.{start, first_slot as first_slot_of};
 ghost use Rattle.cm_verdict.specs.Found.{walk_through as walk_through_of};
 ghost use Rattle.cm_verdict.specs.Walking.{walked, IsSteady, IsStep, IsTurn, IsWalk};
 
@@ -104,7 +106,9 @@ impl HalfWalk {
         requires live { self.old.live ≡ true }
         requires some { 1 ≤ self.old.left }
         requires room { self.old.slot < 65536 }
-        ensures turned { IsStep result (walked self.new) (live_turn_of self.old.geometry self.old.first (walked self.old) (row_spelled slot.now)) }
+        ensures turned { IsStep result (walked self.new)
+            (live_turn_of self.old.geometry self.old.first (walked self.old)
+            (row_spelled slot.now)) }
         ensures steady { OnOk result (IsSteady self.new) }
         ensures kept { (self.new.geometry ≡ self.old.geometry) × (self.new.first ≡ self.old.first) }
     {
@@ -126,7 +130,9 @@ impl HalfWalk {
         requires live { self.old.live ≡ false }
         requires some { 1 ≤ self.old.left }
         requires room { self.old.slot < 65536 }
-        ensures turned { IsStep result (walked self.new) (entry_turn_of self.old.geometry self.old.first (walked self.old) (entry_spelled slot.now)) }
+        ensures turned { IsStep result (walked self.new)
+            (entry_turn_of self.old.geometry self.old.first (walked self.old)
+            (entry_spelled slot.now)) }
         ensures steady { OnOk result (IsSteady self.new) }
         ensures kept { (self.new.geometry ≡ self.old.geometry) × (self.new.first ≡ self.old.first) }
     {
@@ -160,7 +166,8 @@ impl HalfWalk {
     fn gate_turn(&mut self, slot: &[u8; SLOT_BYTES]) -> Result<Step, Damage>
         requires steady { IsSteady self.old }
         requires room { self.old.slot < 65536 }
-        ensures turned { IsTurn result (walked self.old) (walked self.new) (gate_turn_of self.old.geometry (walked self.old) slot.now) }
+        ensures turned { IsTurn result (walked self.old) (walked self.new)
+            (gate_turn_of self.old.geometry (walked self.old) slot.now) }
         ensures steady { OnOk result (IsSteady self.new) }
         ensures kept { (self.new.geometry ≡ self.old.geometry) × (self.new.first ≡ self.old.first) }
     {
@@ -184,7 +191,8 @@ impl HalfWalk {
     fn turn(&mut self, slot: &[u8; SLOT_BYTES]) -> Result<Step, Damage>
         requires steady { IsSteady self.old }
         requires room { self.old.slot < 65536 }
-        ensures turned { IsTurn result (walked self.old) (walked self.new) (turn_of self.old.geometry self.old.first (walked self.old) slot.now) }
+        ensures turned { IsTurn result (walked self.old) (walked self.new)
+            (turn_of self.old.geometry self.old.first (walked self.old) slot.now) }
         ensures steady { OnOk result (IsSteady self.new) }
         ensures kept { (self.new.geometry ≡ self.old.geometry) × (self.new.first ≡ self.old.first) }
     {
@@ -229,7 +237,8 @@ impl HalfWalk {
         requires steady { IsSteady self }
         requires begin { self.slot ≡ 1 }
         requires long { length half.now ≡ 64 * self.geometry.slots }
-        ensures { IsWalk result (walk self.geometry self.first half.now (self.geometry.slots - 1) (walked self)) }
+        ensures { IsWalk result (walk self.geometry self.first half.now (self.geometry.slots - 1)
+            (walked self)) }
     {
         let first = self.first;
         for at in 1..self.geometry.slots() {

@@ -6,7 +6,8 @@ use Rattle.cm_words.specs.declared.block.Base.{Base}
 use Rattle.cm_words.specs.declared.block.Cells.{Cells}
 use Rattle.cm_words.specs.declared.block.Deed.{Deed}
 
-pub record IsBuffer (base : Base ℕ) (cells : Cells ℕ) (deed : Deed ℕ Global) (alloc : Global) (len capacity : ℕ) : Type 0 where
+pub record IsBuffer (base : Base ℕ) (cells : Cells ℕ) (deed : Deed ℕ Global) (alloc : Global)
+    (len capacity : ℕ) : Type 0 where
   pub place : cells.at ≡ base.ptr
   pub deed_place : deed.at ≡ base.ptr
   pub deed_len : deed.len ≡ capacity

@@ -131,7 +131,8 @@ impl<T> Cells<T> {
         requires within { from + length items.now ≤ length self.old.slots }
         requires small { from + length items.now < 2 ^ 63 }
         ensures place { self.new.at ≡ self.old.at }
-        ensures slots { self.new.slots ≡ take from self.old.slots ++ map Some items.now ++ drop (from + length items.now) self.old.slots }
+        ensures slots { self.new.slots ≡ take from self.old.slots ++ map Some items.now
+            ++ drop (from + length items.now) self.old.slots }
     {
         for (i, item) in items.iter().enumerate() {
             self.write(base, from + i, *item);

@@ -126,7 +126,8 @@ impl WordBuf {
     pub fn bytes_into(&self, from: usize, out: &mut [u8])
         requires whole { length out.old % 8 ≡ 0 }
         requires within { from + length out.old / 8 ≤ length self.now.words }
-        ensures { out.new ≡ word_bytes (slice_range self.now.words from (from + length out.old / 8)) }
+        ensures { out.new ≡ word_bytes
+            (slice_range self.now.words from (from + length out.old / 8)) }
     {
         let words = &self.as_slice()[from..from + out.len() / 8];
         write_words(words, out);

@@ -1,5 +1,5 @@
--- What one event does to a world: what is replied, what the machine makes of it, and what a crash at
--- any moment of it leaves.
+-- What one event does to a world: what is replied, what the machine makes of it, and what a crash
+-- at any moment of it leaves.
 use Rattle.std.specs.Prelude.{◌≡◌, ℕ, List, Option, Some, None, Result, Ok, Err}
 use Rattle.std.specs.declared.alloc.AllocError.{AllocError}
 use Rattle.std.specs.Arc.{arc_value}
@@ -72,9 +72,9 @@ pub record HandedOut (r : Reply) (before after : State) : Type 0 where
   pub seals : Sealing before.machine result after.machine
   pub disk_stays : after.disk ≡ before.disk
 
--- The machine's step. It makes no device call where nothing is left or the device failed before, else
--- exactly one. That fails exactly where a fault was armed for it or memory was refused in it, and
--- nothing is armed any more then.
+-- The machine's step. It makes no device call where nothing is left or the device failed before,
+-- else exactly one. That fails exactly where a fault was armed for it or memory was refused in it,
+-- and nothing is armed any more then.
 pub record Advanced (r : Reply) (before after : State) : Type 0 where
   pub result : Result Progress AdvanceFault
   pub reply_is : r ≡ advance_reply result
@@ -141,8 +141,8 @@ Does sizes event.Reopen r begun before after = OpenedAgain sizes r begun before 
 Does sizes (event.Crash choice) r begun before after = OpenedAgain sizes r begun before after
 
 -- One event. At each moment of it, a crash leaves contents that stand for the loaders and classes
--- after some number of the accepted commands: no fewer than were acknowledged before it, and no more
--- than were handed out. After it, so do they for what is acknowledged and handed out by then.
+-- after some number of the accepted commands: no fewer than were acknowledged before it, and no
+-- more than were handed out. After it, so do they for what is acknowledged and handed out by then.
 pub record IsStep (sizes : Sizes) (e : Event) (r : Reply) (before after : State) : Type 0 where
   pub begun : SimDisk
   pub begins : BeginsWith e before.disk begun

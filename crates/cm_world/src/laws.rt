@@ -2,8 +2,8 @@
 
 ghost use Rattle.cm_world.specs.Laws.{CallsAreTold, FaultsStrike, FailuresHaveCause};
 
-/// Exactly one device call is made where `Working`, `Done` or `DeviceFailed` is replied, and none by
-/// any other event that keeps the file open. Where a fault is armed the next call fails; without
+/// Exactly one device call is made where `Working`, `Done` or `DeviceFailed` is replied, and none
+/// by any other event that keeps the file open. Where a fault is armed the next call fails; without
 /// one, a call fails only where memory was refused in it.
 pub fn replies_tell_of_calls()
     ensures told { CallsAreTold }

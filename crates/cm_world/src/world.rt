@@ -25,8 +25,8 @@ impl World {
     /// One event, and its reply. The machine that the world goes with makes a step over the world's
     /// own disk, and the world that is handed back goes with the machine after it.
     ///
-    /// It is an `Err`, with no world, only where the event opens the file again and the device or an
-    /// allocation failed in that.
+    /// It is an `Err`, with no world, only where the event opens the file again and the device or
+    /// an allocation failed in that.
     pub fn step(mut self, event: Event<'_>) -> Result<(World, Reply), OpenFault>
         ensures moved { (k : Machine) → GoesWith k self.session
             → IfOk result (λ p. Moves k event.entry p.1 self p.0) }

@@ -6,8 +6,8 @@ use cm_group::{Group, Receipt};
 use cm_layout::{Entry, Row};
 use cm_prepare::{Prepared, Refusal};
 
-/// A call. Loaders and classes have names of one letter; a class that is defined stands at a place of
-/// the test's list.
+/// A call. Loaders and classes have names of one letter; a class that is defined stands at a place
+/// of the test's list.
 #[derive(Clone, Copy)]
 pub enum Call {
     AddLoader(u8),

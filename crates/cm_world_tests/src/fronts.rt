@@ -1,6 +1,6 @@
-//! Accepted caches to look at. What a test does with one stands in a function that borrows it. Where an
-//! allocation failed a call is made once more: the cache is as it was, so the answer is the one that
-//! was due.
+//! Accepted caches to look at. What a test does with one stands in a function that borrows it.
+//! Where an allocation failed a call is made once more: the cache is as it was, so the answer is
+//! the one that was due.
 
 use cm_front::Front;
 use cm_pool::Geometry;
@@ -8,8 +8,8 @@ use cm_prepare::{Command, Prepared, Refusal, prepare};
 use std::alloc::{AllocError, Global};
 use std::test::Fail;
 
-/// A class with a name of one letter and one attribute named `X`: what stands before the letter, and
-/// between it and the attribute's length.
+/// A class with a name of one letter and one attribute named `X`: what stands before the letter,
+/// and between it and the attribute's length.
 const BEFORE_NAME: &[u8] = b"cafebabe0000003400060700020100";
 
 const BEHIND_NAME: &[u8] =

@@ -25,8 +25,8 @@ pub enum Sample {
 /// How many words the record of each class has.
 pub const WORDS: u32 = 20;
 
-/// A class with a name of one letter and an attribute of no bytes: what stands before the letter, and
-/// behind it.
+/// A class with a name of one letter and an attribute of no bytes: what stands before the letter,
+/// and behind it.
 const BEFORE_NAME: &[u8] = b"cafebabe0000003400060700020100";
 
 const BEHIND_NAME: &[u8] = b"0700040100106a6176612f6c616e672f4f626a656374010001580021000100030000\

@@ -1,6 +1,6 @@
 //! Commands as values, so that a test is a table of commands and what is listed then, and accepted
-//! caches after them. Where an allocation failed a call is made once more: the cache is as it was, so
-//! the answer is the one that was due.
+//! caches after them. Where an allocation failed a call is made once more: the cache is as it was,
+//! so the answer is the one that was due.
 
 use crate::fronts::{class_of, empty_of};
 use cm_front::Front;

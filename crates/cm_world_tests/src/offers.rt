@@ -167,8 +167,8 @@ fn a_half_takes_groups_until_it_is_full(rt: HostRuntime) -> Result<(), Fail> {
     Ok(())
 }
 
-/// Lets the device fail behind so many calls of the first group: whether that is told, what comes of
-/// the group then, and how many calls are left.
+/// Lets the device fail behind so many calls of the first group: whether that is told, what comes
+/// of the group then, and how many calls are left.
 fn fail_behind(
     alloc: Global,
     committer: &mut Committer<SimDisk>,

@@ -1,5 +1,5 @@
-//! Random commands against a plain model: which loaders live, which classes each has, and which words
-//! are free, are a loader's or wait.
+//! Random commands against a plain model: which loaders live, which classes each has, and which
+//! words are free, are a loader's or wait.
 ghost use Rattle.std.specs.Prelude.{◌<◌, ◌≤◌, length};
 
 use crate::fronts::{add_loader, class, define, empty, unload, words};
