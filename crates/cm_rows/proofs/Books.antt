@@ -43,11 +43,13 @@ use Rattle.cm_rows.proofs.Changes.{ne-eqb, last_use, last_of-is, use-chunk, Join
 use Rattle.cm_rows.proofs.Changes.{last_use-push, joins-top, joins-new, last_use-without}
 use Rattle.cm_rows.proofs.Changes.{founded-without, last_use-moved, founded-moved}
 
-module _ {P : Type 0} where
-  -- with more room
-  pub roomier : (sizes : Sizes) (rows : List (Row P)) (rc more : ℕ) (ls : List LiveLoader) (lc most : ℕ) (p : FreeSpace) → rc ≤ more → lc ≤ most → IsBook sizes rows rc ls lc p → IsBook sizes rows more ls most p
-  roomier sizes rows rc more ls lc most p le also h =
-      record { lawful = h.lawful; few = h.few; room = omega (arith, h.room); loaders_room = omega (arith, h.loaders_room); loaders = h.loaders; live = h.live }
+-- a class's chunk, used up to the end of the class's record
+abbrev pub used_to_end : ClassRow → LastChunk
+used_to_end r = record { chunk = r.place.chunk; used = r.place.offset + r.place.words }
+
+-- the loaders with another last chunk of the one at this place
+abbrev pub with_last : List LiveLoader → ℕ → ℕ → LastChunk → List LiveLoader
+with_last ls i u l = set ls i (record { number = u; last = Some l })
 
 -- ---- the loaders
 
@@ -62,7 +64,8 @@ module _ {P : Type 0} where
       record {
         numbers = numbers-set u o ls i d at.within is ∙ h.numbers ∙ sym numbers;
         rises = record { each = rises-set u o ls i d is h.rises.each };
-        last = λ v. last_in-set u v o ls i d h.rises.each at.within is ∙ ap (cond (eqb u v) o) (h.last v) ∙ sym (last v);
+        last = λ v. last_in-set u v o ls i d h.rises.each at.within is
+            ∙ ap (cond (eqb u v) o) (h.last v) ∙ sym (last v);
       }
 
   -- no record lies on a free chunk
@@ -78,76 +81,95 @@ module _ {P : Type 0} where
 
 module _ {P : Type 0} where
   -- beside what every class more does
-  pushed : (sizes : Sizes) (rows : List (Row P)) (rc : ℕ) (ls : List LiveLoader) (lc : ℕ) (p q : FreeSpace) (r : ClassRow) (k : P) (i : ℕ)
-      → IsBook sizes rows rc ls lc p → length rows < row_limit sizes → IsAt ls r.loader i
+  pushed : (sizes : Sizes) (rows : List (Row P)) (ls : List LiveLoader) (p q : FreeSpace)
+      (r : ClassRow) (k : P) (i : ℕ)
+      → IsBook sizes rows ls p → length rows < row_limit sizes → IsAt ls r.loader i
       → Joins (classes_in rows) r → Holds sizes q (first_chunks (classes_in rows ++ r ∷ []))
-      → IsBook sizes (rows ++ Class r k ∷ []) rc (set ls i (record { number = r.loader; last = Some (record { chunk = r.place.chunk; used = r.place.offset + r.place.words }) })) lc q
-  pushed sizes rows rc ls lc p q r k i h few at joins holds =
+      → IsBook sizes (rows ++ Class r k ∷ []) (with_last ls i r.loader (used_to_end r)) q
+  pushed sizes rows ls p q r k i h few at joins holds =
       let classes = classes-push_class rows r k in
       let numbers = numbers-push_class rows r k in
-      let o : Option LastChunk = Some (record { chunk = r.place.chunk; used = r.place.offset + r.place.words }) in
+      let o : Option LastChunk = Some (used_to_end r) in
       record {
         lawful = h.lawful;
         few = omega (arith, length-append rows (Class r k ∷ []));
-        room = h.room;
-        loaders_room = h.loaders_room;
         loaders = loaders-set rows (rows ++ Class r k ∷ []) ls r.loader i o h.loaders at numbers
-            (λ v. last_of-is v (rows ++ Class r k ∷ []) ∙ ap (last_use v) classes ∙ last_use-push (classes_in rows) r v joins ∙ ap (cond (eqb r.loader v) o) (sym (last_of-is v rows)));
+            (λ v. last_of-is v (rows ++ Class r k ∷ []) ∙ ap (last_use v) classes
+            ∙ last_use-push (classes_in rows) r v joins
+            ∙ ap (cond (eqb r.loader v) o) (sym (last_of-is v rows)));
         live = record {
-          holds = subst (λ (rs : List ClassRow). Holds sizes q (first_chunks rs)) (sym classes) holds;
-          founded = subst AreFounded (sym classes) (founded-push (classes_in rows) r h.live.founded joins);
+          holds = subst (λ (rs : List ClassRow). Holds sizes q (first_chunks rs)) (sym classes)
+              holds;
+          founded = subst AreFounded (sym classes) (founded-push (classes_in rows) r h.live.founded
+              joins);
           owned = λ s m. subst
-              (λ (ns : List ℕ). Among s.loader ns) (sym numbers) (owned s (among-push s r (classes_in rows) (subst (λ (rs : List ClassRow). Among s rs) classes m)));
+              (λ (ns : List ℕ). Among s.loader ns) (sym numbers)
+              (owned s (among-push s r (classes_in rows)
+              (subst (λ (rs : List ClassRow). Among s rs) classes m)));
         };
       }
     where
-      owned : (s : ClassRow) → Among s (classes_in rows) ⊎ (s ≡ r) → Among s.loader (numbers_in rows)
+      owned : (s : ClassRow) → Among s (classes_in rows) ⊎ (s ≡ r)
+          → Among s.loader (numbers_in rows)
       owned s (inl a) = h.live.owned s a
       owned s (inr e) =
-          let there = at-among r.loader ls i (record { number = 0; last = None }) at.within (at.number_is (record { number = 0; last = None })) in
+          let there = at-among r.loader ls i (record { number = 0; last = None }) at.within
+          (at.number_is (record { number = 0; last = None })) in
           subst (λ (n : ℕ). Among n (numbers_in rows)) (ap
           (λ (x : ClassRow). x.loader) (sym e)) (subst
           (λ (ns : List ℕ). Among r.loader ns) h.loaders.numbers there)
 
   -- behind the last record in its loader's last chunk
-  pub define-top : (sizes : Sizes) (rows : List (Row P)) (rc : ℕ) (ls : List LiveLoader) (lc : ℕ) (p : FreeSpace) (r : ClassRow) (k : P) (i : ℕ)
-      → IsBook sizes rows rc ls lc p → length rows < row_limit sizes → IsAt ls r.loader i
+  pub define-top : (sizes : Sizes) (rows : List (Row P)) (ls : List LiveLoader) (p : FreeSpace)
+      (r : ClassRow) (k : P) (i : ℕ)
+      → IsBook sizes rows ls p → length rows < row_limit sizes → IsAt ls r.loader i
       → 1 ≤ r.place.words
       → last_of r.loader rows ≡ Some (record { chunk = r.place.chunk; used = r.place.offset })
-      → IsBook sizes (rows ++ Class r k ∷ []) rc (set ls i (record { number = r.loader; last = Some (record { chunk = r.place.chunk; used = r.place.offset + r.place.words }) })) lc p
-  define-top sizes rows rc ls lc p r k i h few at some last =
+      → IsBook sizes (rows ++ Class r k ∷ []) (with_last ls i r.loader (used_to_end r)) p
+  define-top sizes rows ls p r k i h few at some last =
       let on_top = sym (last_of-is r.loader rows) ∙ last in
       let joins = joins-top (classes_in rows) r h.live.founded some on_top in
-      let is = use-chunk r.loader (classes_in rows) (record { chunk = r.place.chunk; used = r.place.offset }) on_top in
+      let is = use-chunk r.loader (classes_in rows)
+      (record { chunk = r.place.chunk; used = r.place.offset }) on_top in
       let t = last-among r.loader (classes_in rows) r.place.chunk is.0 in
-      let behind : 1 ≤ used r.place.chunk (classes_in rows) = used-some r.place.chunk (classes_in rows) t.0 t.1 t.3 (h.live.founded.words t.0 t.1) in
+      let behind : 1 ≤ used r.place.chunk (classes_in rows) =
+      used-some r.place.chunk (classes_in rows) t.0 t.1 t.3 (h.live.founded.words t.0 t.1) in
       let same : first_chunks (classes_in rows ++ r ∷ []) ≡ first_chunks (classes_in rows) =
       first-push (classes_in rows) r
-      ∙ ap (λ (t : Bool). first_chunks (classes_in rows) ++ cond t (r.place.chunk ∷ []) []) (ne-eqb r.place.offset 0 (λ e. omega (arith, joins.offset, behind)))
+      ∙ ap (λ (t : Bool). first_chunks (classes_in rows) ++ cond t (r.place.chunk ∷ []) [])
+      (ne-eqb r.place.offset 0 (λ e. omega (arith, joins.offset, behind)))
       ∙ append-nil (first_chunks (classes_in rows)) in
-      pushed sizes rows rc ls lc p p r k i h few at joins (subst
+      pushed sizes rows ls p p r k i h few at joins (subst
       (λ (cs : List Chunk). Holds sizes p cs) (sym same) h.live.holds)
 
   -- first in a chunk that was free
-  pub define-new : (sizes : Sizes) (rows : List (Row P)) (rc : ℕ) (ls : List LiveLoader) (lc : ℕ) (p : FreeSpace) (r : ClassRow) (k : P) (i : ℕ)
-      → IsBook sizes rows rc ls lc p → length rows < row_limit sizes → IsAt ls r.loader i
+  pub define-new : (sizes : Sizes) (rows : List (Row P)) (ls : List LiveLoader) (p : FreeSpace)
+      (r : ClassRow) (k : P) (i : ℕ)
+      → IsBook sizes rows ls p → length rows < row_limit sizes → IsAt ls r.loader i
       → 1 ≤ r.place.words → r.place.offset ≡ 0 → IsFreeChunk p r.place.chunk
-      → IsBook sizes (rows ++ Class r k ∷ []) rc (set ls i (record { number = r.loader; last = Some (record { chunk = r.place.chunk; used = r.place.offset + r.place.words }) })) lc (without p r.place.chunk)
-  define-new sizes rows rc ls lc p r k i h few at some zero free =
-      let joins = joins-new (classes_in rows) r some zero (nowhere sizes rows p r.place.chunk h.live free) in
-      let same : first_chunks (classes_in rows ++ r ∷ []) ≡ first_chunks (classes_in rows) ++ r.place.chunk ∷ [] =
+      → IsBook sizes (rows ++ Class r k ∷ []) (with_last ls i r.loader (used_to_end r))
+      (without p r.place.chunk)
+  define-new sizes rows ls p r k i h few at some zero free =
+      let joins = joins-new (classes_in rows) r some zero
+      (nowhere sizes rows p r.place.chunk h.live free) in
+      let same : first_chunks (classes_in rows ++ r ∷ [])
+      ≡ first_chunks (classes_in rows) ++ r.place.chunk ∷ [] =
       first-push (classes_in rows) r ∙ ap
-      (λ (t : Bool). first_chunks (classes_in rows) ++ cond t (r.place.chunk ∷ []) []) (eq-eqb r.place.offset 0 zero) in
-      pushed sizes rows rc ls lc p (without p r.place.chunk) r k i h few at joins
-      (subst (λ (cs : List Chunk). Holds sizes (without p r.place.chunk) cs) (sym same) (take-push sizes p (first_chunks (classes_in rows)) r.place.chunk h.live.holds free))
+      (λ (t : Bool). first_chunks (classes_in rows) ++ cond t (r.place.chunk ∷ []) [])
+      (eq-eqb r.place.offset 0 zero) in
+      pushed sizes rows ls p (without p r.place.chunk) r k i h few at joins
+      (subst (λ (cs : List Chunk). Holds sizes (without p r.place.chunk) cs) (sym same)
+      (take-push sizes p (first_chunks (classes_in rows)) r.place.chunk h.live.holds free))
 
 -- ---- a loader more
 
 module _ {P : Type 0} where
-  pub add-loader : (sizes : Sizes) (rows : List (Row P)) (rc : ℕ) (ls : List LiveLoader) (lc : ℕ) (p : FreeSpace) (r : LoaderRow)
-      → IsBook sizes rows rc ls lc p → length rows < row_limit sizes → is_above r.number rows ≡ true
-      → IsBook sizes (rows ++ Loader r ∷ []) rc (ls ++ record { number = r.number; last = None } ∷ []) lc p
-  add-loader sizes rows rc ls lc p r h few above =
+  pub add-loader : (sizes : Sizes) (rows : List (Row P)) (ls : List LiveLoader) (p : FreeSpace)
+      (r : LoaderRow)
+      → IsBook sizes rows ls p → length rows < row_limit sizes → is_above r.number rows ≡ true
+      → IsBook sizes (rows ++ Loader r ∷ []) (ls ++ record { number = r.number; last = None } ∷ [])
+      p
+  add-loader sizes rows ls p r h few above =
       let classes = classes-push_loader rows r in
       let numbers = numbers-push_loader rows r in
       let l : LiveLoader = record { number = r.number; last = None } in
@@ -156,13 +178,12 @@ module _ {P : Type 0} where
       record {
         lawful = h.lawful;
         few = omega (arith, length-append rows (Loader r ∷ []));
-        room = h.room;
-        loaders_room = h.loaders_room;
         loaders = record {
           numbers = numbers-push ls l ∙ ap
               (λ ns. ns ++ r.number ∷ []) h.loaders.numbers ∙ sym numbers;
           rises = record { each = rises-push ls l h.loaders.rises.each below };
-          last = λ v. last_in-push r.number v ls below ∙ h.loaders.last v ∙ last_of-is v rows ∙ ap (last_use v) (sym classes) ∙ sym (last_of-is v (rows ++ Loader r ∷ []));
+          last = λ v. last_in-push r.number v ls below ∙ h.loaders.last v ∙ last_of-is v rows
+              ∙ ap (last_use v) (sym classes) ∙ sym (last_of-is v (rows ++ Loader r ∷ []));
         };
         live = record {
           holds = subst
@@ -178,11 +199,12 @@ module _ {P : Type 0} where
 -- ---- without a loader
 
 module _ {P : Type 0} where
-  pub unload : (sizes : Sizes) (rows : List (Row P)) (rc : ℕ) (ls : List LiveLoader) (lc : ℕ) (p q : FreeSpace) (u i : ℕ)
-      → IsBook sizes rows rc ls lc p → IsAt ls u i
+  pub unload : (sizes : Sizes) (rows : List (Row P)) (ls : List LiveLoader) (p q : FreeSpace)
+      (u i : ℕ)
+      → IsBook sizes rows ls p → IsAt ls u i
       → Holds sizes q (first_chunks (classes_in (without_loader u rows)))
-      → IsBook sizes (without_loader u rows) rc (remove ls i) lc q
-  unload sizes rows rc ls lc p q u i h at holds =
+      → IsBook sizes (without_loader u rows) (remove ls i) q
+  unload sizes rows ls p q u i h at holds =
       let d : LiveLoader = record { number = 0; last = None } in
       let is = at.number_is d in
       let classes = classes-without u rows in
@@ -191,19 +213,20 @@ module _ {P : Type 0} where
       record {
         lawful = h.lawful;
         few = omega (arith, length-without u rows, h.few);
-        room = h.room;
-        loaders_room = h.loaders_room;
         loaders = record {
           numbers = numbers-remove u ls i d h.loaders.rises.each at.within is ∙ ap (filter
               (λ n. not (eqb n u))) h.loaders.numbers ∙ sym numbers;
           rises = record { each = rises-remove ls i h.loaders.rises.each };
           last = λ v.
-              last_in-remove u v ls i d h.loaders.rises.each at.within is ∙ ap (cond (eqb u v) none) (h.loaders.last v ∙ last_of-is v rows)
-              ∙ sym (last_of-is v (without_loader u rows) ∙ ap (last_use v) classes ∙ last_use-without u (classes_in rows) v h.live.founded);
+              last_in-remove u v ls i d h.loaders.rises.each at.within is
+              ∙ ap (cond (eqb u v) none) (h.loaders.last v ∙ last_of-is v rows)
+              ∙ sym (last_of-is v (without_loader u rows) ∙ ap (last_use v) classes
+              ∙ last_use-without u (classes_in rows) v h.live.founded);
         };
         live = record {
           holds = holds;
-          founded = subst AreFounded (sym classes) (founded-without u (classes_in rows) h.live.founded);
+          founded = subst AreFounded (sym classes) (founded-without u (classes_in rows)
+              h.live.founded);
           owned = λ s m.
               let was = among-filter_from
               (λ (r : ClassRow). not (eqb r.loader u)) s (classes_in rows) (subst
@@ -216,14 +239,17 @@ module _ {P : Type 0} where
 -- ---- a chunk moved
 
 module _ {P : Type 0} where
-  pub relocate : (sizes : Sizes) (rows : List (Row P)) (rc : ℕ) (ls : List LiveLoader) (lc : ℕ) (p : FreeSpace) (u i used_words : ℕ) (from to : Chunk)
-      → IsBook sizes rows rc ls lc p → IsAt ls u i
+  pub relocate : (sizes : Sizes) (rows : List (Row P)) (ls : List LiveLoader) (p : FreeSpace)
+      (u i used_words : ℕ) (from to : Chunk)
+      → IsBook sizes rows ls p → IsAt ls u i
       → last_of u rows ≡ Some (record { chunk = from; used = used_words }) → IsFreeChunk p to
       → IsUsedChunk (without p to) from
-      × IsBook sizes (moved from to rows) rc (set ls i (record { number = u; last = Some (record { chunk = to; used = used_words }) })) lc (with_chunk (without p to) from)
-  relocate sizes rows rc ls lc p u i used_words from to h at last free =
+      × IsBook sizes (moved from to rows) (with_last ls i u
+      (record { chunk = to; used = used_words })) (with_chunk (without p to) from)
+  relocate sizes rows ls p u i used_words from to h at last free =
       let k = classes_in rows in
-      let is = use-chunk u k (record { chunk = from; used = used_words }) (sym (last_of-is u rows) ∙ last) in
+      let is = use-chunk u k (record { chunk = from; used = used_words }) (sym (last_of-is u rows)
+      ∙ last) in
       let t = last-among u k from is.0 in
       let on : Among from (first_chunks k) = subst
       (λ (c : Chunk). Among c (first_chunks k)) t.3 (h.live.founded.first t.0 t.1) in
@@ -236,15 +262,17 @@ module _ {P : Type 0} where
         record {
           lawful = h.lawful;
           few = omega (arith, length-moved from to rows, h.few);
-          room = h.room;
-          loaders_room = h.loaders_room;
           loaders = loaders-set rows (moved from to rows) ls u i o h.loaders at numbers
-              (λ v. last_of-is v (moved from to rows) ∙ ap (last_use v) classes ∙ last_use-moved u from to k v h.live.founded is.0 unused
-              ∙ ap (λ (n : ℕ). cond (eqb u v) (Some (record { chunk = to; used = n })) (last_use v k)) is.1 ∙ ap (cond (eqb u v) o) (sym (last_of-is v rows)));
+              (λ v. last_of-is v (moved from to rows) ∙ ap (last_use v) classes
+              ∙ last_use-moved u from to k v h.live.founded is.0 unused
+              ∙ ap (λ (n : ℕ). cond (eqb u v) (Some (record { chunk = to; used = n }))
+              (last_use v k)) is.1 ∙ ap (cond (eqb u v) o) (sym (last_of-is v rows)));
           live = record {
             holds = subst
-                (λ (cs : List Chunk). Holds sizes (with_chunk (without p to) from) cs) (sym (ap first_chunks classes ∙ first-moved from to k)) swapped.1;
-            founded = subst AreFounded (sym classes) (founded-moved from to k h.live.founded unused);
+                (λ (cs : List Chunk). Holds sizes (with_chunk (without p to) from) cs)
+                (sym (ap first_chunks classes ∙ first-moved from to k)) swapped.1;
+            founded = subst AreFounded (sym classes) (founded-moved from to k h.live.founded
+                unused);
             owned = λ s m.
                 let found = among-map_from (moved_class from to) s k (subst
                 (λ (rs : List ClassRow). Among s rs) classes m) in
@@ -259,66 +287,80 @@ module _ {P : Type 0} where
 -- ---- the place of a class
 
 module _ {P : Type 0} where
-  pub defined : (sizes : Sizes) (rows : List (Row P)) (rc : ℕ) (ls : List LiveLoader) (lc : ℕ) (p q : FreeSpace) (r : ClassRow) (k : P) (i : ℕ) (l : LiveLoader)
-      → IsBook sizes rows rc ls lc p → length rows < row_limit sizes → IsAt ls r.loader i
+  pub defined : (sizes : Sizes) (rows : List (Row P)) (ls : List LiveLoader) (p q : FreeSpace)
+      (r : ClassRow) (k : P) (i : ℕ) (l : LiveLoader)
+      → IsBook sizes rows ls p → length rows < row_limit sizes → IsAt ls r.loader i
       → l ≡ get_or ls i l → 1 ≤ r.place.words → TakesPlace l.last r.place p q
-      → IsBook sizes (rows ++ Class r k ∷ []) rc (set ls i (record { number = r.loader; last = Some (record { chunk = r.place.chunk; used = r.place.offset + r.place.words }) })) lc q
-  defined sizes rows rc ls lc p q r k i l h few at is some (inl (top, same)) =
-      let new = set ls i (record { number = r.loader; last = Some (record { chunk = r.place.chunk; used = r.place.offset + r.place.words }) }) in
-      subst (λ (x : FreeSpace). IsBook sizes (rows ++ Class r k ∷ []) rc new lc x) (sym same)
-      (define-top sizes rows rc ls lc p r k i h few at some (last-at rows ls r.loader i l h.loaders at is ∙ top.is_top))
-  defined sizes rows rc ls lc p q r k i l h few at is some (inr (front, same)) =
-      let new = set ls i (record { number = r.loader; last = Some (record { chunk = r.place.chunk; used = r.place.offset + r.place.words }) }) in
-      subst (λ (x : FreeSpace). IsBook sizes (rows ++ Class r k ∷ []) rc new lc x) (sym same)
-      (define-new sizes rows rc ls lc p r k i h few at some front.front front.free)
+      → IsBook sizes (rows ++ Class r k ∷ []) (with_last ls i r.loader (used_to_end r)) q
+  defined sizes rows ls p q r k i l h few at is some (inl (top, same)) =
+      let new = with_last ls i r.loader (used_to_end r) in
+      subst (λ (x : FreeSpace). IsBook sizes (rows ++ Class r k ∷ []) new x) (sym same)
+      (define-top sizes rows ls p r k i h few at some (last-at rows ls r.loader i l h.loaders at is
+      ∙ top.is_top))
+  defined sizes rows ls p q r k i l h few at is some (inr (front, same)) =
+      let new = with_last ls i r.loader (used_to_end r) in
+      subst (λ (x : FreeSpace). IsBook sizes (rows ++ Class r k ∷ []) new x) (sym same)
+      (define-new sizes rows ls p r k i h few at some front.front front.free)
 
-  pub placed : (sizes : Sizes) (rows : List (Row P)) (rc : ℕ) (ls : List LiveLoader) (lc : ℕ) (p q : FreeSpace) (r : ClassRow) (i : ℕ) (l : LiveLoader)
-      → IsBook sizes rows rc ls lc p → IsAt ls r.loader i → l ≡ get_or ls i l
+  pub placed : (sizes : Sizes) (rows : List (Row P)) (ls : List LiveLoader) (p q : FreeSpace)
+      (r : ClassRow) (i : ℕ) (l : LiveLoader)
+      → IsBook sizes rows ls p → IsAt ls r.loader i → l ≡ get_or ls i l
       → TakesPlace l.last r.place p q → has_place rows r ≡ true
-  placed sizes rows rc ls lc p q r i l h at is (inl (top, same)) = place-top rows r (last-at rows ls r.loader i l h.loaders at is ∙ top.is_top)
-  placed sizes rows rc ls lc p q r i l h at is (inr (front, same)) = place-front sizes rows p r h.live front.front front.free
+  placed sizes rows ls p q r i l h at is (inl (top, same)) =
+      place-top rows r (last-at rows ls r.loader i l h.loaders at is ∙ top.is_top)
+  placed sizes rows ls p q r i l h at is (inr (front, same)) =
+      place-front sizes rows p r h.live front.front front.free
 
-  pub unplaced : (sizes : Sizes) (rows : List (Row P)) (rc : ℕ) (ls : List LiveLoader) (lc : ℕ) (p q : FreeSpace) (r : ClassRow) (i : ℕ) (l : LiveLoader)
-      → IsBook sizes rows rc ls lc p → IsAt ls r.loader i → l ≡ get_or ls i l
+  pub unplaced : (sizes : Sizes) (rows : List (Row P)) (ls : List LiveLoader) (p q : FreeSpace)
+      (r : ClassRow) (i : ℕ) (l : LiveLoader)
+      → IsBook sizes rows ls p → IsAt ls r.loader i → l ≡ get_or ls i l
       → is_chunk sizes r.place.chunk ≡ true → HasNoPlace l.last r.place p q
       → has_place rows r ≡ false
-  unplaced sizes rows rc ls lc p q r i l h at is chunk none =
+  unplaced sizes rows ls p q r i l h at is chunk none =
       place-none sizes rows p r h.live chunk
-      (λ top. none.not_top (record { is_top = sym (last-at rows ls r.loader i l h.loaders at is) ∙ top }))
+      (λ top. none.not_top (record {
+        is_top = sym (last-at rows ls r.loader i l h.loaders at is)
+            ∙ top;
+      }))
       (λ zero free. none.not_front (record { front = zero; free = free }))
 
-  pub relocated : (sizes : Sizes) (rows : List (Row P)) (rc : ℕ) (ls : List LiveLoader) (lc : ℕ) (p : FreeSpace) (e : Move) (i : ℕ) (m : LiveLoader) (l : LastChunk)
-      → IsBook sizes rows rc ls lc p → IsAt ls e.loader i → m ≡ get_or ls i m → m.last ≡ Some l
+  pub relocated : (sizes : Sizes) (rows : List (Row P)) (ls : List LiveLoader) (p : FreeSpace)
+      (e : Move) (i : ℕ) (m : LiveLoader) (l : LastChunk)
+      → IsBook sizes rows ls p → IsAt ls e.loader i → m ≡ get_or ls i m → m.last ≡ Some l
       → has_room_for sizes l e ≡ true → IsFreeChunk p e.to
       → IsUsedChunk (without p e.to) e.from
-      × IsBook sizes (moved e.from e.to rows) rc (set ls i (record { number = e.loader; last = Some (record { chunk = e.to; used = l.used }) })) lc (with_chunk (without p e.to) e.from)
-  relocated sizes rows rc ls lc p e i m l h at is last room free =
-      let same : last_of e.loader rows ≡ Some l = last-at rows ls e.loader i m h.loaders at is ∙ last in
-      let from : last_of e.loader rows ≡ Some (record { chunk = e.from; used = l.used }) = same ∙ ap (λ (c : Chunk). Some (record { chunk = c; used = l.used })) (room-from sizes l e room) in
-      relocate sizes rows rc ls lc p e.loader i l.used e.from e.to h at from free
+      × IsBook sizes (moved e.from e.to rows) (with_last ls i e.loader
+      (record { chunk = e.to; used = l.used })) (with_chunk (without p e.to) e.from)
+  relocated sizes rows ls p e i m l h at is last room free =
+      let same : last_of e.loader rows ≡ Some l = last-at rows ls e.loader i m h.loaders at is
+      ∙ last in
+      let from : last_of e.loader rows ≡ Some (record { chunk = e.from; used = l.used }) =
+      same ∙ ap (λ (c : Chunk). Some (record { chunk = c; used = l.used }))
+      (room-from sizes l e room) in
+      relocate sizes rows ls p e.loader i l.used e.from e.to h at from free
 
 -- ---- another's rows
 
 module _ {P : Type 0} where
   -- with nothing kept of a class
-  pub bared : (sizes : Sizes) (rows : List (Row P)) (rc more : ℕ) (ls : List LiveLoader) (lc most : ℕ) (p q : FreeSpace)
-      → IsBook sizes rows rc ls lc p → row_limit sizes ≤ more → row_limit sizes ≤ most
-      → Holds sizes q (first_chunks (classes_in rows)) → IsBook sizes (bare rows) more ls most q
-  bared sizes rows rc more ls lc most p q h room also holds =
+  pub bared : (sizes : Sizes) (rows : List (Row P)) (ls : List LiveLoader) (p q : FreeSpace)
+      → IsBook sizes rows ls p
+      → Holds sizes q (first_chunks (classes_in rows)) → IsBook sizes (bare rows) ls q
+  bared sizes rows ls p q h holds =
       let classes = classes-bare rows in
       let numbers = numbers-bare rows in
       record {
         lawful = h.lawful;
         few = omega (arith, h.few, length-map rows (row_with {P = P} {Q = Unit {0}} (λ p. tt)));
-        room = room;
-        loaders_room = also;
         loaders = record {
           numbers = h.loaders.numbers ∙ sym numbers;
           rises = h.loaders.rises;
-          last = λ u. h.loaders.last u ∙ last_of-is u rows ∙ ap (last_use u) (sym classes) ∙ sym (last_of-is u (bare rows));
+          last = λ u. h.loaders.last u ∙ last_of-is u rows ∙ ap (last_use u) (sym classes)
+              ∙ sym (last_of-is u (bare rows));
         };
         live = record {
-          holds = subst (λ (rs : List ClassRow). Holds sizes q (first_chunks rs)) (sym classes) holds;
+          holds = subst (λ (rs : List ClassRow). Holds sizes q (first_chunks rs)) (sym classes)
+              holds;
           founded = subst AreFounded (sym classes) h.live.founded;
           owned = λ s m.
               subst (λ (ns : List ℕ). Among s.loader ns) (sym numbers) (h.live.owned s (subst
@@ -326,8 +368,9 @@ module _ {P : Type 0} where
         };
       }
 
-  pub loaders-at_most : (sizes : Sizes) (rows : List (Row P)) (rc : ℕ) (ls : List LiveLoader) (lc : ℕ) (p : FreeSpace) → IsBook sizes rows rc ls lc p → length ls ≤ row_limit sizes
-  loaders-at_most sizes rows rc ls lc p h =
+  pub loaders-at_most : (sizes : Sizes) (rows : List (Row P)) (ls : List LiveLoader) (p : FreeSpace)
+      → IsBook sizes rows ls p → length ls ≤ row_limit sizes
+  loaders-at_most sizes rows ls p h =
       omega (
         arith,
         h.few,

@@ -32,7 +32,8 @@ with_words rows c = record { chunk = c; used = used_words c rows }
 abbrev pub last_use : ℕ → List ClassRow → Option LastChunk
 last_use u rs = option_map (with_used rs) (last_chunk u rs)
 
-pub last_of-is : {P : Type 0} (u : ℕ) (rows : List (Row P)) → last_of u rows ≡ last_use u (classes_in rows)
+pub last_of-is : {P : Type 0} (u : ℕ) (rows : List (Row P))
+    → last_of u rows ≡ last_use u (classes_in rows)
 last_of-is u rows = by_last (last_chunk u (classes_in rows))
   where
     by_last : (o : Option Chunk)
@@ -86,7 +87,8 @@ founded-push rs r h j = record { words = words; first = first; owner = owner }
     first s m =
         elim (among-push s r rs m) [
           | inl a ↦ subst
-              (λ (l : List Chunk). Among s.place.chunk l) (sym (first-push rs r)) (among-left s.place.chunk (first_chunks rs) _ (h.first s a))
+              (λ (l : List Chunk). Among s.place.chunk l) (sym (first-push rs r))
+              (among-left s.place.chunk (first_chunks rs) _ (h.first s a))
           | inr e ↦ subst
               (λ (x : ClassRow). Among x.place.chunk (first_chunks (rs ++ r ∷ []))) (sym e) j.first
         ]
@@ -106,25 +108,32 @@ founded-push rs r h j = record { words = words; first = first; owner = owner }
     owner x y a b e = by_last x y (among-push x r rs a) (among-push y r rs b) e
 
 pub last_use-push : (rs : List ClassRow) (r : ClassRow) (v : ℕ) → Joins rs r
-    → last_use v (rs ++ r ∷ []) ≡ cond (eqb r.loader v) (Some (record { chunk = r.place.chunk; used = r.place.offset + r.place.words })) (last_use v rs)
+    → last_use v (rs ++ r ∷ [])
+    ≡ cond (eqb r.loader v) (Some
+    (record { chunk = r.place.chunk; used = r.place.offset + r.place.words })) (last_use v rs)
 last_use-push rs r v j =
-    ap (λ (o : Option Chunk). option_map (with_used (rs ++ r ∷ [])) o) (last-push v rs r) ∙ by_test (eqb r.loader v) refl
+    ap (λ (o : Option Chunk). option_map (with_used (rs ++ r ∷ [])) o) (last-push v rs r)
+    ∙ by_test (eqb r.loader v) refl
   where
     here : used r.place.chunk (rs ++ r ∷ []) ≡ r.place.offset + r.place.words
-    here = used-append r.place.chunk rs (r ∷ []) ∙ rw (same_chunk-itself r.place.chunk) (omega (arith, j.offset))
+    here = used-append r.place.chunk rs (r ∷ [])
+        ∙ rw (same_chunk-itself r.place.chunk) (omega (arith, j.offset))
 
     others : (o : Option Chunk) → last_chunk v rs ≡ o → eqb r.loader v ≡ false
         → option_map (with_used (rs ++ r ∷ [])) o ≡ option_map (with_used rs) o
     others None e f = refl
     others (Some c) e f =
         let s = last-among v rs c e in
-        let differs : r.place.chunk ≢ c = λ same. let yes : eqb r.loader v ≡ true = eq-eqb r.loader v (sym (j.owner s.0 s.1 (s.3 ∙ sym same)) ∙ s.2) in absurd (cc) in
+        let differs : r.place.chunk ≢ c = λ same. let yes : eqb r.loader v ≡ true =
+        eq-eqb r.loader v (sym (j.owner s.0 s.1 (s.3 ∙ sym same)) ∙ s.2) in absurd (cc) in
         let none : used c (r ∷ []) ≡ 0 = rw (same_chunk-false r.place.chunk c differs) refl in
-        ap (λ n. Some (record { chunk = c; used = n })) (used-append c rs (r ∷ []) ∙ omega (arith, none))
+        ap (λ n. Some (record { chunk = c; used = n })) (used-append c rs (r ∷ [])
+        ∙ omega (arith, none))
 
     by_test : (t : Bool) → eqb r.loader v ≡ t
         → option_map (with_used (rs ++ r ∷ [])) (cond t (Some r.place.chunk) (last_chunk v rs))
-        ≡ cond t (Some (record { chunk = r.place.chunk; used = r.place.offset + r.place.words })) (last_use v rs)
+        ≡ cond t (Some (record { chunk = r.place.chunk; used = r.place.offset + r.place.words }))
+        (last_use v rs)
     by_test true e = ap (λ n. Some (record { chunk = r.place.chunk; used = n })) here
     by_test false e = others (last_chunk v rs) refl e
 
@@ -138,7 +147,9 @@ joins-top rs r h some last =
     record {
       words = some;
       first = subst
-          (λ (l : List Chunk). Among r.place.chunk l) (sym (first-push rs r)) (among-left r.place.chunk (first_chunks rs) _ (subst (λ (c : Chunk). Among c (first_chunks rs)) t.3 (h.first t.0 t.1)));
+          (λ (l : List Chunk). Among r.place.chunk l) (sym (first-push rs r))
+          (among-left r.place.chunk (first_chunks rs) _
+          (subst (λ (c : Chunk). Among c (first_chunks rs)) t.3 (h.first t.0 t.1)));
       owner = λ s m e. h.owner s t.0 m t.1 (e ∙ sym t.3) ∙ t.2;
       offset = is.1;
     }
@@ -192,7 +203,8 @@ last_use-without u rs v h = by_test (eqb u v) refl
         let differs : u ≢ v = λ is. let yes = eq-eqb u v is in absurd (cc) in
         let stays = last-filter v (λ (r : ClassRow). not (eqb r.loader u)) rs
         (λ r m is. eqb-not r.loader u (λ same. differs (sym same ∙ is))) in
-        ap (λ (o : Option Chunk). option_map (with_used (others_than u rs)) o) stays ∙ others differs (last_chunk v rs) refl
+        ap (λ (o : Option Chunk). option_map (with_used (others_than u rs)) o) stays
+        ∙ others differs (last_chunk v rs) refl
 
 pub founded-without : (u : ℕ) (rs : List ClassRow) → AreFounded rs → AreFounded (others_than u rs)
 founded-without u rs h =
@@ -214,7 +226,8 @@ founded-without u rs h =
         let stays : Among f.0 (others_than u rs) = among-filter
         (λ (r : ClassRow). not (eqb r.loader u)) f.0 rs f.1 (eqb-not f.0.loader u
         (λ is. not-eqb r.loader u old.1 (sym same ∙ is))) in
-        subst (λ (c : Chunk). Among c (first_chunks (others_than u rs))) f.2 (among-first f.0 (others_than u rs) stays f.3)
+        subst (λ (c : Chunk). Among c (first_chunks (others_than u rs))) f.2
+        (among-first f.0 (others_than u rs) stays f.3)
 
 -- ---- a moved chunk
 
@@ -223,9 +236,11 @@ goes-stays from to c n = rw (same_chunk-false c from n) refl
 
 pub last_use-moved : (u : ℕ) (from to : Chunk) (rs : List ClassRow) (v : ℕ) → AreFounded rs
     → last_chunk u rs ≡ Some from → ((r : ClassRow) → Among r rs → r.place.chunk ≢ to)
-    → last_use v (map (moved_class from to) rs) ≡ cond (eqb u v) (Some (record { chunk = to; used = used from rs })) (last_use v rs)
+    → last_use v (map (moved_class from to) rs)
+    ≡ cond (eqb u v) (Some (record { chunk = to; used = used from rs })) (last_use v rs)
 last_use-moved u from to rs v h last unused =
-    ap (λ (o : Option Chunk). option_map (with_used (map (moved_class from to) rs)) o) (last-moved v from to rs) ∙ by_test (eqb u v) refl
+    ap (λ (o : Option Chunk). option_map (with_used (map (moved_class from to) rs)) o)
+    (last-moved v from to rs) ∙ by_test (eqb u v) refl
   where
     gives : Option Chunk → Option LastChunk
     gives o = option_map (with_used (map (moved_class from to) rs)) (option_map (goes from to) o)
@@ -234,26 +249,35 @@ last_use-moved u from to rs v h last unused =
     own = used-moved from to rs unused
 
     others : u ≢ v → (o : Option Chunk) → last_chunk v rs ≡ o
-        → option_map (with_used (map (moved_class from to) rs)) (option_map (goes from to) o) ≡ option_map (with_used rs) o
+        → option_map (with_used (map (moved_class from to) rs)) (option_map (goes from to) o)
+        ≡ option_map (with_used rs) o
     others n None e = refl
     others n (Some c) e =
         let s = last-among v rs c e in
         let t = last-among u rs from last in
-        let not_from : c ≢ from = λ is. n (sym t.2 ∙ h.owner t.0 s.0 t.1 s.1 (t.3 ∙ sym is ∙ sym s.3) ∙ s.2) in
+        let not_from : c ≢ from =
+        λ is. n (sym t.2 ∙ h.owner t.0 s.0 t.1 s.1 (t.3 ∙ sym is ∙ sym s.3) ∙ s.2) in
         let not_to : c ≢ to = λ is. unused s.0 s.1 (s.3 ∙ is) in
         let stays = goes-stays from to c not_from in
-        ap (λ (d : Chunk). Some (record { chunk = d; used = used d (map (moved_class from to) rs) })) stays
-        ∙ ap (λ k. Some (record { chunk = c; used = k })) (used-elsewhere c from to rs not_from not_to)
+        ap (λ (d : Chunk). Some (record {
+          chunk = d;
+          used = used d (map (moved_class from to) rs);
+        })) stays
+        ∙ ap (λ k. Some (record { chunk = c; used = k }))
+        (used-elsewhere c from to rs not_from not_to)
 
     by_test : (t : Bool) → eqb u v ≡ t
-        → option_map (with_used (map (moved_class from to) rs)) (option_map (goes from to) (last_chunk v rs))
+        → option_map (with_used (map (moved_class from to) rs))
+        (option_map (goes from to) (last_chunk v rs))
         ≡ cond t (Some (record { chunk = to; used = used from rs })) (last_use v rs)
     by_test true e =
         let is : last_chunk v rs ≡ Some from = subst
         (λ (n : ℕ). last_chunk n rs ≡ Some from) (eqb-true u v e) last in
         let there : goes from to from ≡ to = rw (same_chunk-itself from) refl in
-        ap (λ (o : Option Chunk). option_map (with_used (map (moved_class from to) rs)) (option_map (goes from to) o)) is
-        ∙ ap (λ (d : Chunk). Some (record { chunk = d; used = used d (map (moved_class from to) rs) })) there
+        ap (λ (o : Option Chunk). option_map (with_used (map (moved_class from to) rs))
+        (option_map (goes from to) o)) is
+        ∙ ap (λ (d : Chunk). Some
+        (record { chunk = d; used = used d (map (moved_class from to) rs) })) there
         ∙ ap (λ k. Some (record { chunk = to; used = k })) own
     by_test false e = others (λ is. let yes = eq-eqb u v is in absurd (cc)) (last_chunk v rs) refl
 
@@ -276,7 +300,12 @@ founded-moved from to rs h unused = record { words = words; first = first; owner
   where
     was : (x : ClassRow) → Among x (map (moved_class from to) rs) → (r : ClassRow) × Among r rs
         × IsMoved from to r x
-    was x m = let found = among-map_from (moved_class from to) x rs m in (found.0, found.1, subst (λ (y : ClassRow). IsMoved from to found.0 y) (sym found.2) (is_moved from to found.0))
+    was x m = let found = among-map_from (moved_class from to) x rs m in (
+      found.0,
+      found.1,
+      subst (λ (y : ClassRow). IsMoved from to found.0 y) (sym found.2)
+          (is_moved from to found.0),
+    )
 
     words : (x : ClassRow) → Among x (map (moved_class from to) rs) → 1 ≤ x.place.words
     words x m = let r = was x m in omega (arith, h.words r.0 r.1, r.2.words)
@@ -285,7 +314,8 @@ founded-moved from to rs h unused = record { words = words; first = first; owner
         → Among x.place.chunk (first_chunks (map (moved_class from to) rs))
     first x m =
         let r = was x m in
-        let there : Among (goes from to r.0.place.chunk) (map (goes from to) (first_chunks rs)) = among-map (goes from to) r.0.place.chunk (first_chunks rs) (h.first r.0 r.1) in
+        let there : Among (goes from to r.0.place.chunk) (map (goes from to) (first_chunks rs)) =
+        among-map (goes from to) r.0.place.chunk (first_chunks rs) (h.first r.0 r.1) in
         let at_x : Among x.place.chunk (map (goes from to) (first_chunks rs)) = subst
         (λ (c : Chunk). Among c (map (goes from to) (first_chunks rs))) (sym r.2.chunk) there in
         subst (λ (l : List Chunk). Among x.place.chunk l) (sym (first-moved from to rs)) at_x
@@ -296,5 +326,7 @@ founded-moved from to rs h unused = record { words = words; first = first; owner
     owner x y m n e =
         let r = was x m in
         let s = was y n in
-        let same = goes-one from to r.0.place.chunk s.0.place.chunk (unused r.0 r.1) (unused s.0 s.1) (sym r.2.chunk ∙ e ∙ s.2.chunk) in
+        let same =
+        goes-one from to r.0.place.chunk s.0.place.chunk (unused r.0 r.1) (unused s.0 s.1)
+        (sym r.2.chunk ∙ e ∙ s.2.chunk) in
         r.2.loader ∙ h.owner r.0 s.0 r.1 s.1 same ∙ sym s.2.loader

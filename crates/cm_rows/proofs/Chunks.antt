@@ -27,7 +27,8 @@ same_chunk-true a b h =
     (λ i. record { root = root i; order = order i; at = at_is i })
 
 pub same_chunk-itself : (c : Chunk) → same_chunk c c ≡ true
-same_chunk-itself c = rw (eq-eqb c.root c.root refl, eq-eqb c.order c.order refl, eq-eqb c.at c.at refl)
+same_chunk-itself c =
+    rw (eq-eqb c.root c.root refl, eq-eqb c.order c.order refl, eq-eqb c.at c.at refl)
 
 pub same_chunk-is : (a b : Chunk) → a ≡ b → same_chunk a b ≡ true
 same_chunk-is a b e = subst (λ (c : Chunk). same_chunk a c ≡ true) e (same_chunk-itself a)
@@ -61,5 +62,6 @@ meets-turned a b m = (m.0, m.1, m.3, m.2)
 pub meets-itself : (a : Chunk) → Meets a a
 meets-itself a =
     let some : 0 < 2 ^ a.order = pow_pos a.order in
-    let first : Covers a a.root a.at = record { same_root = refl; from = omega arith; to = omega arith } in
+    let first : Covers a a.root a.at =
+    record { same_root = refl; from = omega arith; to = omega arith } in
     (a.root, a.at, first, first)

@@ -1,5 +1,6 @@
 -- What the place of a class says of the rules on its row.
-use Rattle.std.proofs.Common.{◌≡◌, ◌⊎◌, ℕ, Bool, true, false, List, length, Some, None, inl, inr, arith}
+use Rattle.std.proofs.Common.{◌≡◌, ◌⊎◌, ℕ, Bool, true, false, List, length, Some, None, inl, inr}
+use Rattle.std.proofs.Common.{arith}
 use Rattle.cm_pool.specs.Geometry.{Sizes}
 use Rattle.cm_pool.specs.FreeSpace.{FreeSpace}
 use Rattle.cm_layout.specs.declared.class_row.ClassRow.{ClassRow}
@@ -8,23 +9,22 @@ use Rattle.cm_layout.specs.declared.entry_rule.EntryRule.TheVariants.{OnRows, On
 use Rattle.cm_layout.specs.declared.row.Row.{Row}
 use Rattle.cm_layout.specs.declared.row.Row.TheVariants.{Class}
 use Rattle.cm_layout.specs.Rules.{broken_live_rule, class_fits, has_place, has_room, is_live}
-use Rattle.cm_layout.specs.Rules.{row_limit}
 use Rattle.cm_index.specs.declared.slot.Slot.{Slot}
 use Rattle.cm_index.specs.Living.{living}
 use Rattle.cm_rows.specs.declared.live_loader.LiveLoader.{LiveLoader}
 use Rattle.cm_rows.specs.Book.{IsBook}
 use Rattle.cm_rows.specs.Held.{HasNoPlace}
 use Rattle.cm_rows.specs.Loaders.{IsAt}
-use Rattle.cm_rows.specs.Placing.{is_inside, MayCome, IsPlaced, IsUnplaced, Breaks}
+use Rattle.cm_rows.specs.Placing.{is_inside, MayCome, IsPlaced, Breaks}
 use Rattle.cm_rows.proofs.Books.{placed, unplaced}
 use Rattle.cm_rows.proofs.KeptPlaces.{StandsAmong, at-living, same-kept, stands}
 use Rattle.cm_rows.proofs.Verdicts.{inside-chunk, live-at, no_room-is, not_live, on_chunks-inside}
 use Rattle.cm_rows.proofs.Verdicts.{on_chunks-place, on_none, on_rows-live, on_rows-room, room-is}
 
-module _ {P : Type 0} (sizes : Sizes) (rows : List (Row P)) (capacity : ℕ)
-    (loaders : List (Slot LiveLoader)) (loaders_capacity : ℕ) (old new : FreeSpace) (r : ClassRow)
+module _ {P : Type 0} (sizes : Sizes) (rows : List (Row P))
+    (loaders : List (Slot LiveLoader)) (old new : FreeSpace) (r : ClassRow)
     (kept : P) (count : ℕ) (counted : count ≡ length rows)
-    (book : IsBook sizes rows capacity (living loaders) loaders_capacity old) where
+    (book : IsBook sizes rows (living loaders) old) where
   abbrev live : Bool
   live = is_live r.loader rows
 
@@ -64,7 +64,7 @@ module _ {P : Type 0} (sizes : Sizes) (rows : List (Row P)) (capacity : ℕ)
       by_why (inr (inside, none)) =
           on_chunks-place live room (is_inside sizes r) (has_place rows r)
           (lives u.at u.slot u.may) (roomy u.at u.slot u.may)
-          (unplaced sizes rows capacity (living loaders) loaders_capacity old new r
+          (unplaced sizes rows (living loaders) old new r
           (among u.at u.slot u.may).place u.slot.item book (found u.at u.slot u.may)
           (same-kept loaders u.at (among u.at u.slot u.may) u.slot u.may.slot_is)
           (inside-chunk sizes r inside).0 none)
@@ -75,6 +75,6 @@ module _ {P : Type 0} (sizes : Sizes) (rows : List (Row P)) (capacity : ℕ)
   keeps_all p =
       on_none live room (is_inside sizes r) (has_place rows r) (lives p.at p.slot p.may)
       (roomy p.at p.slot p.may) p.inside
-      (placed sizes rows capacity (living loaders) loaders_capacity old new r
+      (placed sizes rows (living loaders) old new r
       (among p.at p.slot p.may).place p.slot.item book (found p.at p.slot p.may)
       (same-kept loaders p.at (among p.at p.slot p.may) p.slot p.may.slot_is) p.takes)

@@ -44,7 +44,8 @@ used-sum c (r ∷ rs) = by_test (used-sum c rs) (same_chunk r.place.chunk c)
         (λ (s : ClassRow). s.place.words) rest) ∙ behind)
     by_test behind false = behind
 
-pub used-is : {P : Type 0} (c : Chunk) (rows : List (Row P)) → used_words c rows ≡ used c (classes_in rows)
+pub used-is : {P : Type 0} (c : Chunk) (rows : List (Row P))
+    → used_words c rows ≡ used c (classes_in rows)
 used-is c rows = used-sum c (classes_in rows)
 
 pub used-append : (c : Chunk) (rs ss : List ClassRow) → used c (rs ++ ss) ≡ used c rs + used c ss
@@ -52,7 +53,8 @@ used-append c [] ss = omega arith
 used-append c (r ∷ rs) ss = by_test (used-append c rs ss) (same_chunk r.place.chunk c)
   where
     by_test : used c (rs ++ ss) ≡ used c rs + used c ss → (t : Bool)
-        → cond t (r.place.words + used c (rs ++ ss)) (used c (rs ++ ss)) ≡ cond t (r.place.words + used c rs) (used c rs) + used c ss
+        → cond t (r.place.words + used c (rs ++ ss)) (used c (rs ++ ss))
+        ≡ cond t (r.place.words + used c rs) (used c rs) + used c ss
     by_test behind true = omega (arith, behind)
     by_test behind false = behind
 
@@ -73,7 +75,8 @@ used-some c (s ∷ rs) r (inl is) e some =
     let on : s.place.chunk ≡ c = ap (λ (d : ClassRow). d.place.chunk) (sym is) ∙ e in
     let words : r.place.words ≡ s.place.words = ap (λ (d : ClassRow). d.place.words) is in
     rw (same_chunk-is s.place.chunk c on) (omega arith)
-used-some c (s ∷ rs) r (inr m) e some = by_test (used-some c rs r m e some) (same_chunk s.place.chunk c)
+used-some c (s ∷ rs) r (inr m) e some =
+    by_test (used-some c rs r m e some) (same_chunk s.place.chunk c)
   where
     by_test : 1 ≤ used c rs → (t : Bool) → 1 ≤ cond t (s.place.words + used c rs) (used c rs)
     by_test behind true = omega arith
@@ -91,7 +94,8 @@ used-filter c p (r ∷ rs) h =
     ]
   where
     by_test : same_chunk r.place.chunk c ≡ false → used c (filter p rs) ≡ used c rs → (t : Bool)
-        → used c (cond t (r ∷ filter p rs) (filter p rs)) ≡ cond (same_chunk r.place.chunk c) (r.place.words + used c rs) (used c rs)
+        → used c (cond t (r ∷ filter p rs) (filter p rs))
+        ≡ cond (same_chunk r.place.chunk c) (r.place.words + used c rs) (used c rs)
     by_test f behind true = rw (f) behind
     by_test f behind false = rw (f) behind
 
@@ -108,7 +112,8 @@ last-push u [] r = refl
 last-push u (s ∷ rs) r = ap (or_own u s) (last-push u rs r) ∙ by_test (eqb r.loader u)
   where
     by_test : (t : Bool)
-        → or_own u s (cond t (Some r.place.chunk) (last_chunk u rs)) ≡ cond t (Some r.place.chunk) (or_own u s (last_chunk u rs))
+        → or_own u s (cond t (Some r.place.chunk) (last_chunk u rs))
+        ≡ cond t (Some r.place.chunk) (or_own u s (last_chunk u rs))
     by_test true = refl
     by_test false = refl
 
@@ -124,7 +129,8 @@ last-among u (r ∷ rows) c h = by_rest (last_chunk u rows) (last-among u rows c
 
     by_rest : (o : Option Chunk) → (o ≡ Some c → (s : ClassRow) × Among s rows × (s.loader ≡ u)
         × (s.place.chunk ≡ c))
-        → elim o [ Some d ↦ Some d | None ↦ cond (eqb r.loader u) (Some r.place.chunk) None ] ≡ Some c
+        → elim o [ Some d ↦ Some d | None ↦ cond (eqb r.loader u) (Some r.place.chunk) None ]
+        ≡ Some c
         → (s : ClassRow) × Among s (r ∷ rows) × (s.loader ≡ u) × (s.place.chunk ≡ c)
     by_rest (Some d) later is = let found = later is in (found.0, inr found.1, found.2, found.3)
     by_rest None later is = by_first (eqb r.loader u) refl is
@@ -165,7 +171,8 @@ abbrev pub goes : Chunk → Chunk → Chunk → Chunk
 goes from to c = cond (same_chunk c from) to c
 
 abbrev pub moved_class : Chunk → Chunk → ClassRow → ClassRow
-moved_class from to r = cond (same_chunk r.place.chunk from) (record r { place = record r.place { chunk = to } }) r
+moved_class from to r =
+    cond (same_chunk r.place.chunk from) (record r { place = record r.place { chunk = to } }) r
 
 -- what a moved class keeps, and where it lies
 pub record IsMoved (from to : Chunk) (r x : ClassRow) : Type 0 where
@@ -221,7 +228,9 @@ used-elsewhere c from to (r ∷ rs) nf nt =
 
     step : used c (map (moved_class from to) rs) ≡ used c rs → (m : ClassRow)
         → m.place.words ≡ r.place.words → m.place.chunk ≡ goes from to r.place.chunk
-        → cond (same_chunk m.place.chunk c) (m.place.words + used c (map (moved_class from to) rs)) (used c (map (moved_class from to) rs)) ≡ cond (same_chunk r.place.chunk c) (r.place.words + used c rs) (used c rs)
+        → cond (same_chunk m.place.chunk c) (m.place.words + used c (map (moved_class from to) rs))
+        (used c (map (moved_class from to) rs))
+        ≡ cond (same_chunk r.place.chunk c) (r.place.words + used c rs) (used c rs)
     step behind m w e = rw (w, e, same_test, behind) refl
 
 -- all the words on the old chunk are on the new one, where no record was
@@ -241,13 +250,17 @@ used-moved from to (r ∷ rs) h =
 
     step : used to (map (moved_class from to) rs) ≡ used from rs → (m : ClassRow)
         → m.place.words ≡ r.place.words → m.place.chunk ≡ goes from to r.place.chunk
-        → cond (same_chunk m.place.chunk to) (m.place.words + used to (map (moved_class from to) rs)) (used to (map (moved_class from to) rs)) ≡ cond (same_chunk r.place.chunk from) (r.place.words + used from rs) (used from rs)
+        → cond (same_chunk m.place.chunk to)
+        (m.place.words + used to (map (moved_class from to) rs))
+        (used to (map (moved_class from to) rs))
+        ≡ cond (same_chunk r.place.chunk from) (r.place.words + used from rs) (used from rs)
     step behind m w e = rw (w, e, same_test, behind) refl
 
 -- ---- first chunks
 
 pub first-push : (rs : List ClassRow) (r : ClassRow)
-    → first_chunks (rs ++ r ∷ []) ≡ first_chunks rs ++ cond (eqb r.place.offset 0) (r.place.chunk ∷ []) []
+    → first_chunks (rs ++ r ∷ []) ≡ first_chunks rs
+    ++ cond (eqb r.place.offset 0) (r.place.chunk ∷ []) []
 first-push [] r = by_test (eqb r.place.offset 0)
   where
     by_test : (t : Bool) → map
@@ -259,13 +272,15 @@ first-push (s ∷ rs) r = by_test (first-push rs r) (eqb s.place.offset 0)
     more : List Chunk
     more = cond (eqb r.place.offset 0) (r.place.chunk ∷ []) []
 
-    by_test : first_chunks (rs ++ r ∷ []) ≡ first_chunks rs ++ cond (eqb r.place.offset 0) (r.place.chunk ∷ []) [] → (t : Bool)
+    by_test : first_chunks (rs ++ r ∷ []) ≡ first_chunks rs
+        ++ cond (eqb r.place.offset 0) (r.place.chunk ∷ []) [] → (t : Bool)
         → map (λ (d : ClassRow). d.place.chunk) (cond t (s ∷ filter
         (λ (d : ClassRow). eqb d.place.offset 0) (rs ++ r ∷ [])) (filter
         (λ (d : ClassRow). eqb d.place.offset 0) (rs ++ r ∷ [])))
         ≡ map (λ (d : ClassRow). d.place.chunk) (cond t (s ∷ filter
         (λ (d : ClassRow). eqb d.place.offset 0) rs) (filter
-        (λ (d : ClassRow). eqb d.place.offset 0) rs)) ++ cond (eqb r.place.offset 0) (r.place.chunk ∷ []) []
+        (λ (d : ClassRow). eqb d.place.offset 0) rs))
+        ++ cond (eqb r.place.offset 0) (r.place.chunk ∷ []) []
     by_test behind true = ap (λ l. s.place.chunk ∷ l) behind
     by_test behind false = behind
 

@@ -1,6 +1,7 @@
 -- A living row ends, and its chunk is given back where it is the first record there.
-use Rattle.std.proofs.Common.{◌≡◌, ℕ, zero, suc, ◌+◌, ◌<◌, Bool, true, false, cond, List, [], ◌∷◌, ◌++◌}
-use Rattle.std.proofs.Common.{length, set, get_or, Some, None, refl, sym, ◌∙◌, ap, subst, arith, length-append}
+use Rattle.std.proofs.Common.{◌≡◌, ℕ, zero, suc, ◌+◌, ◌<◌, Bool, true, false, cond, List, [], ◌∷◌}
+use Rattle.std.proofs.Common.{◌++◌, length, set, get_or, Some, None, refl, sym, ◌∙◌, ap, subst}
+use Rattle.std.proofs.Common.{arith, length-append}
 use Rattle.std.specs.List.{slice_get}
 use Rattle.cm_pool.specs.declared.chunk.Chunk.{Chunk}
 use Rattle.cm_pool.specs.Geometry.{Sizes}
@@ -29,54 +30,76 @@ module _ {X : Type 0} where
       record {
         front = [];
         rest = living slots;
-        was = ap (λ (t : Slot X). cond t.live (t.item ∷ living slots) (living slots)) is ∙ ap (λ (b : Bool). cond b (s.item ∷ living slots) (living slots)) live;
+        was = ap (λ (t : Slot X). cond t.live (t.item ∷ living slots) (living slots)) is
+            ∙ ap (λ (b : Bool). cond b (s.item ∷ living slots) (living slots)) live;
         is = ap (λ (b : Bool). cond b (x.item ∷ living slots) (living slots)) dead;
       }
-  around (z ∷ slots) (suc i) s x there live dead = by_test z.live (around slots i s x there live dead) refl
+  around (z ∷ slots) (suc i) s x there live dead =
+      by_test z.live (around slots i s x there live dead) refl
     where
       by_test : (t : Bool) → Around slots i s x → z.live ≡ t → Around (z ∷ slots) (suc i) s x
       by_test true a e = record {
         front = z.item ∷ a.front;
         rest = a.rest;
-        was = ap (λ (b : Bool). cond b (z.item ∷ living slots) (living slots)) e ∙ ap (λ l. z.item ∷ l) a.was;
-        is = ap (λ (b : Bool). cond b (z.item ∷ living (set slots i x)) (living (set slots i x))) e ∙ ap (λ l. z.item ∷ l) a.is;
+        was = ap (λ (b : Bool). cond b (z.item ∷ living slots) (living slots)) e
+            ∙ ap (λ l. z.item ∷ l) a.was;
+        is = ap (λ (b : Bool). cond b (z.item ∷ living (set slots i x)) (living (set slots i x))) e
+            ∙ ap (λ l. z.item ∷ l) a.is;
       }
       by_test false a e = record {
         front = a.front;
         rest = a.rest;
         was = ap (λ (b : Bool). cond b (z.item ∷ living slots) (living slots)) e ∙ a.was;
-        is = ap (λ (b : Bool). cond b (z.item ∷ living (set slots i x)) (living (set slots i x))) e ∙ a.is;
+        is = ap (λ (b : Bool). cond b (z.item ∷ living (set slots i x)) (living (set slots i x))) e
+            ∙ a.is;
       }
 
   pub fewer-ended : (slots : List (Slot X)) (i : ℕ) (s x : Slot X) → slice_get slots i ≡ Some s
       → s.live ≡ true → x.live ≡ false → length (living (set slots i x)) + 1 ≡ length (living slots)
   fewer-ended slots i s x there live dead =
       let a = around slots i s x there live dead in
-      omega (arith, ap length a.was, ap length a.is, length-append a.front (s.item ∷ a.rest), length-append a.front a.rest)
+      omega (
+        arith,
+        ap length a.was,
+        ap length a.is,
+        length-append a.front (s.item ∷ a.rest),
+        length-append a.front a.rest,
+      )
 
 module _ {P : Type 0} where
   firsts-append : (rows more : List (Row P)) → firsts (rows ++ more) ≡ firsts rows ++ firsts more
-  firsts-append rows more = ap first_chunks (classes-append rows more) ∙ first-append (classes_in rows) (classes_in more)
+  firsts-append rows more =
+      ap first_chunks (classes-append rows more) ∙ first-append (classes_in rows) (classes_in more)
 
-  pub ended-gives : (sizes : Sizes) (p : FreeSpace) (slots : List (Slot (Row P))) (i : ℕ) (s x : Slot (Row P)) (c : Chunk)
+  pub ended-gives : (sizes : Sizes) (p : FreeSpace) (slots : List (Slot (Row P))) (i : ℕ)
+      (s x : Slot (Row P)) (c : Chunk)
       → slice_get slots i ≡ Some s → s.live ≡ true → x.live ≡ false → own_chunk s.item ≡ Some c
       → Holds sizes p (firsts (living slots))
       → IsUsedChunk p c × Holds sizes (with_chunk p c) (firsts (living (set slots i x)))
   ended-gives sizes p slots i s x c there live dead own h =
       let a = around slots i s x there live dead in
-      let parts : firsts (living slots) ≡ firsts a.front ++ c ∷ firsts a.rest = ap firsts a.was ∙ firsts-append a.front (s.item ∷ a.rest) ∙ ap (λ l. firsts a.front ++ l) (firsts-some s.item a.rest c own) in
-      let given = give-back sizes p (firsts a.front) c (firsts a.rest) (subst (λ (l : List Chunk). Holds sizes p l) parts h) in (
+      let parts : firsts (living slots) ≡ firsts a.front ++ c ∷ firsts a.rest =
+      ap firsts a.was ∙ firsts-append a.front (s.item ∷ a.rest)
+      ∙ ap (λ l. firsts a.front ++ l) (firsts-some s.item a.rest c own) in
+      let given =
+      give-back sizes p (firsts a.front) c (firsts a.rest)
+      (subst (λ (l : List Chunk). Holds sizes p l) parts h) in (
         given.0,
-        subst (λ (l : List Chunk). Holds sizes (with_chunk p c) l) (sym (ap firsts a.is ∙ firsts-append a.front a.rest)) given.1,
+        subst (λ (l : List Chunk). Holds sizes (with_chunk p c) l)
+            (sym (ap firsts a.is ∙ firsts-append a.front a.rest)) given.1,
       )
 
-  pub ended-keeps : (sizes : Sizes) (p : FreeSpace) (slots : List (Slot (Row P))) (i : ℕ) (s x : Slot (Row P))
+  pub ended-keeps : (sizes : Sizes) (p : FreeSpace) (slots : List (Slot (Row P))) (i : ℕ)
+      (s x : Slot (Row P))
       → slice_get slots i ≡ Some s → s.live ≡ true → x.live ≡ false → own_chunk s.item ≡ None
       → Holds sizes p (firsts (living slots)) → Holds sizes p (firsts (living (set slots i x)))
   ended-keeps sizes p slots i s x there live dead own h =
       let a = around slots i s x there live dead in
-      let parts : firsts (living slots) ≡ firsts a.front ++ firsts a.rest = ap firsts a.was ∙ firsts-append a.front (s.item ∷ a.rest) ∙ ap (λ l. firsts a.front ++ l) (firsts-none s.item a.rest own) in
-      subst (λ (l : List Chunk). Holds sizes p l) (parts ∙ sym (ap firsts a.is ∙ firsts-append a.front a.rest)) h
+      let parts : firsts (living slots) ≡ firsts a.front ++ firsts a.rest =
+      ap firsts a.was ∙ firsts-append a.front (s.item ∷ a.rest)
+      ∙ ap (λ l. firsts a.front ++ l) (firsts-none s.item a.rest own) in
+      subst (λ (l : List Chunk). Holds sizes p l)
+      (parts ∙ sym (ap firsts a.is ∙ firsts-append a.front a.rest)) h
 
 -- what stands within a list stands there
 pub get-at : {X : Type 0} (xs : List X) (i : ℕ) (d : X) → i < length xs

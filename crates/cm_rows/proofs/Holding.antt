@@ -36,7 +36,9 @@ free-is sizes p cs c h = (forth, back)
               let in_c : Covers c meet.0 meet.1 = meet.2 in
               let in_d : Covers d meet.0 meet.1 = meet.3 in
               let same : c.root ≡ d.root = sym in_c.same_root ∙ in_d.same_root in
-              used.words meet.1 in_d.from in_d.to (subst (λ (n : ℕ). IsFreeWord p n meet.1) same (free.words meet.1 in_c.from in_c.to)),
+              used.words meet.1 in_d.from in_d.to
+              (subst (λ (n : ℕ). IsFreeWord p n meet.1) same
+              (free.words meet.1 in_c.from in_c.to)),
         )
 
     back : IsChunk sizes c × ((d : Chunk) → Among d cs → ¬ Meets c d) → IsFreeChunk p c
@@ -50,14 +52,20 @@ free-is sizes p cs c h = (forth, back)
           words = λ word low high.
               elim (h.none_lost.each c.root word block.in_a_root (omega (arith, block.inside))) [
                 | inl free ↦ free
-                | inr held ↦ absurd (apart held.0 held.1 (c.root, word, record { same_root = refl; from = low; to = high }, held.2))
+                | inr held ↦ absurd (apart held.0 held.1
+                    (c.root, word, record { same_root = refl; from = low; to = high }, held.2))
               ];
         }
 
 pub take-put : (sizes : Sizes) (p : FreeSpace) (xs : List Chunk) (c : Chunk) (ys : List Chunk)
     → Holds sizes p (xs ++ ys) → IsFreeChunk p c → Holds sizes (without p c) (xs ++ c ∷ ys)
 take-put sizes p xs c ys h free =
-    record { geometry = h.geometry; roots = h.roots; held = held-put p xs c ys h.held free; none_lost = none_lost-put p xs c ys h.none_lost free }
+    record {
+      geometry = h.geometry;
+      roots = h.roots;
+      held = held-put p xs c ys h.held free;
+      none_lost = none_lost-put p xs c ys h.none_lost free;
+    }
 
 -- taken, behind the others
 pub take-push : (sizes : Sizes) (p : FreeSpace) (cs : List Chunk) (c : Chunk) → Holds sizes p cs
@@ -68,8 +76,15 @@ take-push sizes p cs c h free = take-put sizes p cs c [] (subst
 pub give-back : (sizes : Sizes) (p : FreeSpace) (xs : List Chunk) (c : Chunk) (ys : List Chunk)
     → Holds sizes p (xs ++ c ∷ ys) → IsUsedChunk p c × Holds sizes (with_chunk p c) (xs ++ ys)
 give-back sizes p xs c ys h =
-    let given = held-given p xs c ys h.held in
-    (given.0, record { geometry = h.geometry; roots = h.roots; held = given.1; none_lost = none_lost-given p xs c ys h.none_lost given.0 })
+    let given = held-given p xs c ys h.held in (
+      given.0,
+      record {
+        geometry = h.geometry;
+        roots = h.roots;
+        held = given.1;
+        none_lost = none_lost-given p xs c ys h.none_lost given.0;
+      },
+    )
 
 -- ---- one chunk for another
 
@@ -113,12 +128,15 @@ stands c (d ∷ cs) apart (inr m) =
 swap-none : (from to : Chunk) (cs : List Chunk) → ((d : Chunk) → Among d cs → d ≢ from)
     → map (goes from to) cs ≡ cs
 swap-none from to [] h = refl
-swap-none from to (c ∷ cs) h = rw (same_chunk-false c from (h c (inl refl)), swap-none from to cs (λ d m. h d (inr m))) refl
+swap-none from to (c ∷ cs) h =
+    rw (same_chunk-false c from (h c (inl refl)), swap-none from to cs (λ d m. h d (inr m))) refl
 
 swap-at : (from to : Chunk) (xs ys : List Chunk) → ((d : Chunk) → Among d xs → d ≢ from)
     → ((d : Chunk) → Among d ys → d ≢ from) → map (goes from to) (xs ++ from ∷ ys) ≡ xs ++ to ∷ ys
 swap-at from to [] ys hx hy = rw (same_chunk-itself from, swap-none from to ys hy) refl
-swap-at from to (x ∷ xs) ys hx hy = rw (same_chunk-false x from (hx x (inl refl)), swap-at from to xs ys (λ d m. hx d (inr m)) hy) refl
+swap-at from to (x ∷ xs) ys hx hy =
+    rw (same_chunk-false x from (hx x (inl refl)), swap-at from to xs ys (λ d m. hx d (inr m)) hy)
+    refl
 
 -- the new chunk is taken, and then the old one is given back
 pub swap : (sizes : Sizes) (p : FreeSpace) (cs : List Chunk) (from to : Chunk) → Holds sizes p cs
@@ -129,12 +147,15 @@ swap sizes p cs from to h m free =
     let s = stands from cs h.held.apart m in
     let parts : Holds sizes p (s.front ++ from ∷ s.back) = subst
     (λ (l : List Chunk). Holds sizes p l) s.parts h in
-    let taken : Holds sizes (without p to) (s.front ++ to ∷ from ∷ s.back) = take-put sizes p s.front to (from ∷ s.back) parts free in
+    let taken : Holds sizes (without p to) (s.front ++ to ∷ from ∷ s.back) =
+    take-put sizes p s.front to (from ∷ s.back) parts free in
     let turned : Holds sizes (without p to) ((s.front ++ to ∷ []) ++ from ∷ s.back) = subst
-    (λ (l : List Chunk). Holds sizes (without p to) l) (sym (append_assoc s.front (to ∷ []) (from ∷ s.back))) taken in
+    (λ (l : List Chunk). Holds sizes (without p to) l)
+    (sym (append_assoc s.front (to ∷ []) (from ∷ s.back))) taken in
     let given = give-back sizes (without p to) (s.front ++ to ∷ []) from s.back turned in
     let result : (s.front ++ to ∷ []) ++ s.back ≡ map (goes from to) cs =
-    append_assoc s.front (to ∷ []) s.back ∙ sym (swap-at from to s.front s.back s.in_front s.behind) ∙ ap (λ (l : List Chunk). map (goes from to) l) (sym s.parts) in (
+    append_assoc s.front (to ∷ []) s.back ∙ sym (swap-at from to s.front s.back s.in_front s.behind)
+    ∙ ap (λ (l : List Chunk). map (goes from to) l) (sym s.parts) in (
       given.0,
       subst
           (λ (l : List Chunk). Holds sizes (with_chunk (without p to) from) l) result given.1,

@@ -1,7 +1,8 @@
 -- The links of places: one place more, one whose row ends, a loader unloaded, and rows that move.
-use Rattle.std.proofs.Common.{◌≡◌, ◌≢◌, ℕ, zero, suc, ◌+◌, ◌<◌, ◌≤◌, ◌⊎◌, Bool, true, false, cond, eqb}
-use Rattle.std.proofs.Common.{List, [], ◌∷◌, ◌++◌, map, length, take, get_or, set, Option, Some, None}
-use Rattle.std.proofs.Common.{refl, sym, ◌∙◌, ap, subst, arith, inl, inr, length-append, length-set, add-one}
+use Rattle.std.proofs.Common.{◌≡◌, ◌≢◌, ℕ, zero, suc, ◌+◌, ◌<◌, ◌≤◌, ◌⊎◌, Bool, true, false, cond}
+use Rattle.std.proofs.Common.{eqb, List, [], ◌∷◌, ◌++◌, map, length, take, get_or, set, Option}
+use Rattle.std.proofs.Common.{Some, None, refl, sym, ◌∙◌, ap, subst, arith, inl, inr, length-append}
+use Rattle.std.proofs.Common.{length-set, add-one}
 use Rattle.std.specs.Prelude.{not, ◌&&◌}
 use Rattle.std.specs.Option.{option_map}
 use Rattle.std.specs.List.{slice_get, AllByRecursion}
@@ -22,7 +23,8 @@ use Rattle.cm_index.specs.Living.{living, unloaded, moved_slot}
 use Rattle.cm_index.proofs.Indexes.{get-map}
 use Rattle.cm_rows.specs.declared.live_loader.LiveLoader.{LiveLoader}
 use Rattle.cm_rows.specs.Loaders.{numbers_of, items}
-use Rattle.cm_rows.specs.Links.{loader_in, place_behind, last_place, AreLinked, last_places, ended, places_left}
+use Rattle.cm_rows.specs.Links.{loader_in, place_behind, last_place, AreLinked, last_places, ended}
+use Rattle.cm_rows.specs.Links.{places_left}
 use Rattle.cm_rows.proofs.Loaders.{ne-eqb}
 use Rattle.cm_rows.proofs.Holding.{each-among}
 
@@ -54,7 +56,8 @@ pub take-set_before : {X : Type 0} (xs : List X) (i j : ℕ) (x : X) → j ≤ i
 take-set_before xs i zero x h = refl
 take-set_before [] i (suc j) x h = refl
 take-set_before (z ∷ xs) zero (suc j) x h = absurd (omega arith)
-take-set_before (z ∷ xs) (suc i) (suc j) x h = ap (λ l. z ∷ l) (take-set_before xs i j x (omega arith))
+take-set_before (z ∷ xs) (suc i) (suc j) x h =
+    ap (λ l. z ∷ l) (take-set_before xs i j x (omega arith))
 
 pub get-take : {X : Type 0} (xs : List X) (i j : ℕ) (s : X) → slice_get (take j xs) i ≡ Some s
     → slice_get xs i ≡ Some s
@@ -68,7 +71,8 @@ take-few zero xs = omega arith
 take-few (suc i) [] = omega arith
 take-few (suc i) (x ∷ xs) = omega (arith, take-few i xs)
 
-take-mapped : {X Y : Type 0} (f : X → Y) (xs : List X) (j : ℕ) → take j (map f xs) ≡ map f (take j xs)
+take-mapped : {X Y : Type 0} (f : X → Y) (xs : List X) (j : ℕ)
+    → take j (map f xs) ≡ map f (take j xs)
 take-mapped f xs zero = refl
 take-mapped f [] (suc j) = refl
 take-mapped f (x ∷ xs) (suc j) = ap (λ l. f x ∷ l) (take-mapped f xs j)
@@ -82,7 +86,8 @@ pub record GetsNew {X : Type 0} (xs : List X) (x : X) (i : ℕ) (s : X) : Type 0
   pub last : i ≡ length xs
   pub is : x ≡ s
 
-pub get-push : {X : Type 0} (xs : List X) (x : X) (i : ℕ) (s : X) → slice_get (xs ++ x ∷ []) i ≡ Some s
+pub get-push : {X : Type 0} (xs : List X) (x : X) (i : ℕ) (s : X)
+    → slice_get (xs ++ x ∷ []) i ≡ Some s
     → GetsOld xs x i s ⊎ GetsNew xs x i s
 get-push [] x zero s h = inr (record { last = refl; is = cc })
 get-push [] x (suc i) s h = absurd (cc)
@@ -122,12 +127,14 @@ module _ {P : Type 0} where
       let is : loader_in row ≡ u = eqb-true (loader_in row) u (sym (of-is u row) ∙ h) in
       of-is v row ∙ ne-eqb (loader_in row) v (λ e. n (sym is ∙ e))
 
-  pub moved-loader_in : (from to : Chunk) (row : Row P) → loader_in (moved_row from to row) ≡ loader_in row
+  pub moved-loader_in : (from to : Chunk) (row : Row P) → loader_in (moved_row from to row)
+      ≡ loader_in row
   moved-loader_in from to (Loader r) = refl
   moved-loader_in from to (Class r p) = by_test (same_chunk r.place.chunk from)
     where
       by_test : (t : Bool)
-          → loader_in (cond t (Class (record r { place = record r.place { chunk = to } }) p) (Class r p)) ≡ r.loader
+          → loader_in (cond t (Class (record r { place = record r.place { chunk = to } }) p)
+          (Class r p)) ≡ r.loader
       by_test true = refl
       by_test false = refl
 
@@ -140,10 +147,13 @@ module _ {P : Type 0} where
   pub place-push : (u : ℕ) (slots : List (Slot (Row P))) (s : Slot (Row P))
       → last_place u (slots ++ s ∷ []) ≡ cond (mine u s) (Some (length slots)) (last_place u slots)
   place-push u [] s = refl
-  place-push u (z ∷ slots) s = ap (λ (o : Option ℕ). place_behind o (mine u z)) (place-push u slots s) ∙ by_test (mine u s) (last_place u slots) (mine u z)
+  place-push u (z ∷ slots) s =
+      ap (λ (o : Option ℕ). place_behind o (mine u z)) (place-push u slots s)
+      ∙ by_test (mine u s) (last_place u slots) (mine u z)
     where
       by_test : (t : Bool) (o : Option ℕ) (b : Bool)
-          → place_behind (cond t (Some (length slots)) o) b ≡ cond t (Some (suc (length slots))) (place_behind o b)
+          → place_behind (cond t (Some (length slots)) o) b
+          ≡ cond t (Some (suc (length slots))) (place_behind o b)
       by_test true o b = refl
       by_test false o b = refl
 
@@ -152,35 +162,42 @@ module _ {P : Type 0} where
       → last_place u (map f slots) ≡ last_place u slots
   place-map u f [] same = refl
   place-map u f (s ∷ slots) same =
-      ap (place_behind (last_place u (map f slots))) (same s) ∙ ap (λ (o : Option ℕ). place_behind o (mine u s)) (place-map u f slots same)
+      ap (place_behind (last_place u (map f slots))) (same s)
+      ∙ ap (λ (o : Option ℕ). place_behind o (mine u s)) (place-map u f slots same)
 
   pub place-none : (u : ℕ) (slots : List (Slot (Row P)))
       → AllByRecursion (λ row. is_of u row ≡ false) (living slots) → last_place u slots ≡ None
   place-none u [] h = refl
   place-none u (s ∷ slots) h = by_test (place-none u slots) s.live refl h
     where
-      by_test : (AllByRecursion (λ row. is_of u row ≡ false) (living slots) → last_place u slots ≡ None) → (t : Bool) → s.live ≡ t
-          → AllByRecursion (λ row. is_of u row ≡ false) (cond t (s.item ∷ living slots) (living slots))
+      by_test : (AllByRecursion (λ row. is_of u row ≡ false) (living slots)
+          → last_place u slots ≡ None) → (t : Bool) → s.live ≡ t
+          → AllByRecursion (λ row. is_of u row ≡ false)
+          (cond t (s.item ∷ living slots) (living slots))
           → place_behind (last_place u slots) (t && is_of u s.item) ≡ None
-      by_test none true e h = ap (λ (o : Option ℕ). place_behind o (is_of u s.item)) (none h.1) ∙ ap (λ (b : Bool). cond b (Some 0) None) h.0
+      by_test none true e h = ap (λ (o : Option ℕ). place_behind o (is_of u s.item)) (none h.1)
+          ∙ ap (λ (b : Bool). cond b (Some 0) None) h.0
       by_test none false e h = ap (λ (o : Option ℕ). place_behind o false) (none h)
 
   -- none is left of a loader without a last place
   pub none-place : (u : ℕ) (slots : List (Slot (Row P))) → last_place u slots ≡ None
       → map (unloaded u) slots ≡ slots
   none-place u [] h = refl
-  none-place u (s ∷ slots) h = by_place (none-place u slots) (last_place u slots) refl (mine u s) refl h
+  none-place u (s ∷ slots) h =
+      by_place (none-place u slots) (last_place u slots) refl (mine u s) refl h
     where
       stays : (a b : Bool) → (a && b) ≡ false → (a && not b) ≡ a
       stays true true e = absurd (cc)
       stays true false e = refl
       stays false b e = refl
 
-      by_place : (last_place u slots ≡ None → map (unloaded u) slots ≡ slots) → (o : Option ℕ) → last_place u slots ≡ o → (t : Bool) → mine u s ≡ t
+      by_place : (last_place u slots ≡ None → map (unloaded u) slots ≡ slots) → (o : Option ℕ)
+          → last_place u slots ≡ o → (t : Bool) → mine u s ≡ t
           → place_behind o t ≡ None → map (unloaded u) (s ∷ slots) ≡ s ∷ slots
       by_place none None is true e h = absurd (cc)
       by_place none None is false e h =
-          ap (λ (b : Bool). record { item = s.item; live = b } ∷ map (unloaded u) slots) (stays s.live (is_of u s.item) e) ∙ ap (λ l. s ∷ l) (none is)
+          ap (λ (b : Bool). record { item = s.item; live = b } ∷ map (unloaded u) slots)
+          (stays s.live (is_of u s.item) e) ∙ ap (λ l. s ∷ l) (none is)
       by_place none (Some i) is t e h = absurd (cc)
 
   pub record StandsLast (u : ℕ) (slots : List (Slot (Row P))) (i : ℕ) : Type 0 where
@@ -192,11 +209,14 @@ module _ {P : Type 0} where
   pub stands-last : (u : ℕ) (slots : List (Slot (Row P))) (i : ℕ) → last_place u slots ≡ Some i
       → StandsLast u slots i
   stands-last u [] i h = absurd (cc)
-  stands-last u (s ∷ slots) i h = by_place (stands-last u slots) (last_place u slots) refl (mine u s) refl i h
+  stands-last u (s ∷ slots) i h =
+      by_place (stands-last u slots) (last_place u slots) refl (mine u s) refl i h
     where
-      by_place : ((i : ℕ) → last_place u slots ≡ Some i → StandsLast u slots i) → (o : Option ℕ) → last_place u slots ≡ o → (t : Bool) → mine u s ≡ t → (i : ℕ)
+      by_place : ((i : ℕ) → last_place u slots ≡ Some i → StandsLast u slots i) → (o : Option ℕ)
+          → last_place u slots ≡ o → (t : Bool) → mine u s ≡ t → (i : ℕ)
           → place_behind o t ≡ Some i → StandsLast u (s ∷ slots) i
-      by_place behind None is true e zero h = let p = both s.live (is_of u s.item) e in record { slot = s; there = refl; lives = p.0; own = p.1 }
+      by_place behind None is true e zero h = let p = both s.live (is_of u s.item) e in
+          record { slot = s; there = refl; lives = p.0; own = p.1 }
       by_place behind None is true e (suc i) h = absurd (cc)
       by_place behind None is false e i h = absurd (cc)
       by_place behind (Some j) is t e zero h = absurd (cc)
@@ -210,9 +230,11 @@ module _ {P : Type 0} where
       → last_place u slots ≡ Some i → slice_get slots j ≡ Some s → mine u s ≡ true → j ≤ i
   none-behind u [] i j s h there e = absurd (cc)
   none-behind u (z ∷ slots) i zero s h there e = omega arith
-  none-behind u (z ∷ slots) i (suc j) s h there e = by_place (λ k is. none-behind u slots k j s is there e) (last_place u slots) refl h
+  none-behind u (z ∷ slots) i (suc j) s h there e =
+      by_place (λ k is. none-behind u slots k j s is there e) (last_place u slots) refl h
     where
-      by_place : ((k : ℕ) → last_place u slots ≡ Some k → j ≤ k) → (o : Option ℕ) → last_place u slots ≡ o → place_behind o (mine u z) ≡ Some i → suc j ≤ i
+      by_place : ((k : ℕ) → last_place u slots ≡ Some k → j ≤ k) → (o : Option ℕ)
+          → last_place u slots ≡ o → place_behind o (mine u z) ≡ Some i → suc j ≤ i
       by_place behind None is h = absurd (some-place u slots j s there e is)
         where
           some-place : (u : ℕ) (slots : List (Slot (Row P))) (j : ℕ) (s : Slot (Row P))
@@ -223,13 +245,15 @@ module _ {P : Type 0} where
               let sure : mine u z ≡ true = ap (mine u) is ∙ e in
               by_first (last_place u slots) (none_of (last_place u slots) sure none)
             where
-              none_of : (o : Option ℕ) → mine u z ≡ true → place_behind o (mine u z) ≡ None → place_behind o true ≡ None
+              none_of : (o : Option ℕ) → mine u z ≡ true → place_behind o (mine u z) ≡ None
+                  → place_behind o true ≡ None
               none_of o sure n = subst (λ (t : Bool). place_behind o t ≡ None) sure n
 
               by_first : (o : Option ℕ) → place_behind o true ≡ None → ⊥
               by_first None n = absurd (cc)
               by_first (Some k) n = absurd (cc)
-          some-place u (z ∷ slots) (suc j) s there e none = some-place u slots j s there e (by_rest (last_place u slots) none)
+          some-place u (z ∷ slots) (suc j) s there e none =
+              some-place u slots j s there e (by_rest (last_place u slots) none)
             where
               by_rest : (o : Option ℕ) → place_behind o (mine u z) ≡ None → o ≡ None
               by_rest None n = refl
@@ -244,13 +268,18 @@ module _ {P : Type 0} where
       → last_place u slots ≡ Some i → x.live ≡ false
       → last_place u (set slots i x) ≡ last_place u (take i slots)
   place-ended u [] i x h dead = absurd (cc)
-  place-ended u (s ∷ slots) i x h dead = by_place (λ j is. place-ended u slots j x is dead) (last_place u slots) refl (mine u s) refl i h
+  place-ended u (s ∷ slots) i x h dead =
+      by_place (λ j is. place-ended u slots j x is dead) (last_place u slots) refl
+      (mine u s) refl i h
     where
-      by_place : ((j : ℕ) → last_place u slots ≡ Some j → last_place u (set slots j x) ≡ last_place u (take j slots)) → (o : Option ℕ) → last_place u slots ≡ o → (t : Bool) → mine u s ≡ t → (i : ℕ)
+      by_place : ((j : ℕ) → last_place u slots ≡ Some j → last_place u (set slots j x)
+          ≡ last_place u (take j slots)) → (o : Option ℕ) → last_place u slots ≡ o → (t : Bool)
+          → mine u s ≡ t → (i : ℕ)
           → place_behind o t ≡ Some i
           → last_place u (set (s ∷ slots) i x) ≡ last_place u (take i (s ∷ slots))
       by_place behind None is true e zero h =
-          ap (λ (o : Option ℕ). place_behind o (mine u x)) is ∙ ap (λ (b : Bool). cond (b && is_of u x.item) (Some 0) None) dead
+          ap (λ (o : Option ℕ). place_behind o (mine u x)) is
+          ∙ ap (λ (b : Bool). cond (b && is_of u x.item) (Some 0) None) dead
       by_place behind None is true e (suc i) h = absurd (cc)
       by_place behind None is false e i h = absurd (cc)
       by_place behind (Some j) is t e zero h = absurd (cc)
@@ -264,11 +293,13 @@ module _ {P : Type 0} where
       → last_place v (set slots i x) ≡ last_place v slots
   place-set v [] i x same = refl
   place-set v (s ∷ slots) zero x same = ap (place_behind (last_place v slots)) (same s refl)
-  place-set v (s ∷ slots) (suc i) x same = ap (λ (o : Option ℕ). place_behind o (mine v s)) (place-set v slots i x same)
+  place-set v (s ∷ slots) (suc i) x same =
+      ap (λ (o : Option ℕ). place_behind o (mine v s)) (place-set v slots i x same)
 
   pub place-of_other : (u v : ℕ) (slots : List (Slot (Row P))) → u ≢ v
       → last_place v (map (unloaded u) slots) ≡ last_place v slots
-  place-of_other u v slots n = place-map v (unloaded u) slots (λ s. by_tests s s.live (is_of u s.item) refl)
+  place-of_other u v slots n =
+      place-map v (unloaded u) slots (λ s. by_tests s s.live (is_of u s.item) refl)
     where
       by_tests : (s : Slot (Row P)) (a b : Bool) → is_of u s.item ≡ b
           → ((a && not b) && is_of v s.item) ≡ (a && is_of v s.item)
@@ -283,7 +314,8 @@ module _ {P : Type 0} where
   linked-none = record { same = refl; each = λ i s there. absurd (cc) }
 
   -- a row more
-  pub linked-push : (slots : List (Slot (Row P))) (before : List (Option ℕ)) (s : Slot (Row P)) (b : Option ℕ)
+  pub linked-push : (slots : List (Slot (Row P))) (before : List (Option ℕ)) (s : Slot (Row P))
+      (b : Option ℕ)
       → AreLinked slots before → b ≡ last_place (loader_in s.item) slots
       → AreLinked (slots ++ s ∷ []) (before ++ b ∷ [])
   linked-push slots before s b h is =
@@ -293,27 +325,34 @@ module _ {P : Type 0} where
           | inl o ↦
               get_or-append before (b ∷ []) None i (omega (arith, o.within, h.same))
               ∙ h.each i r o.there live
-              ∙ ap (last_place (loader_in r.item)) (sym (take-append-le i slots (s ∷ []) (omega (arith, o.within))))
+              ∙ ap (last_place (loader_in r.item))
+              (sym (take-append-le i slots (s ∷ []) (omega (arith, o.within))))
           | inr n ↦
               let at : i ≡ length before = n.last ∙ sym h.same in
-              ap (λ (j : ℕ). get_or (before ++ b ∷ []) j None) at ∙ get_or-append_seam before b [] None ∙ is
+              ap (λ (j : ℕ). get_or (before ++ b ∷ []) j None) at
+              ∙ get_or-append_seam before b [] None ∙ is
               ∙ ap (λ (t : Slot (Row P)). last_place (loader_in t.item) slots) n.is
-              ∙ ap (last_place (loader_in r.item)) (sym (ap (λ (j : ℕ). take j (slots ++ s ∷ [])) n.last ∙ take-append_seam slots (s ∷ [])))
+              ∙ ap (last_place (loader_in r.item))
+              (sym (ap (λ (j : ℕ). take j (slots ++ s ∷ [])) n.last
+              ∙ take-append_seam slots (s ∷ [])))
         ];
       }
 
   -- the last row of a loader ends
-  pub linked-ended : (u : ℕ) (slots : List (Slot (Row P))) (before : List (Option ℕ)) (i : ℕ) (x : Slot (Row P))
+  pub linked-ended : (u : ℕ) (slots : List (Slot (Row P))) (before : List (Option ℕ)) (i : ℕ)
+      (x : Slot (Row P))
       → AreLinked slots before → last_place u slots ≡ Some i → x.live ≡ false
       → AreLinked (set slots i x) before
   linked-ended u slots before i x h last dead =
       let stands = stands-last u slots i last in
       record {
         same = h.same ∙ sym (length-set slots i x);
-        each = λ j r there live. by_loader stands j r there live (eqb i j) refl (eqb u (loader_in r.item)) refl;
+        each = λ j r there live. by_loader stands j r there live (eqb i j) refl
+            (eqb u (loader_in r.item)) refl;
       }
     where
-      by_loader : StandsLast u slots i → (j : ℕ) (r : Slot (Row P)) → slice_get (set slots i x) j ≡ Some r → r.live ≡ true
+      by_loader : StandsLast u slots i → (j : ℕ) (r : Slot (Row P)) → slice_get (set slots i x) j
+          ≡ Some r → r.live ≡ true
           → (a : Bool) → eqb i j ≡ a → (t : Bool) → eqb u (loader_in r.item) ≡ t
           → get_or before j None ≡ last_place (loader_in r.item) (take j (set slots i x))
       by_loader stands j r there live true at t own =
@@ -325,22 +364,30 @@ module _ {P : Type 0} where
           let other : i ≢ j = λ e. (let sure = eq-eqb i j e in absurd (cc)) in
           let was : slice_get slots j ≡ Some r = sym (get-set_other slots i j x other) ∙ there in
           let same : u ≡ loader_in r.item = eqb-true u (loader_in r.item) own in
-          let sure : is_of u r.item ≡ true = ap (λ (v : ℕ). is_of v r.item) same ∙ of-itself r.item in
-          let le = none-behind u slots i j r last was (ap (λ (b : Bool). b && is_of u r.item) live ∙ sure) in
-          h.each j r was live ∙ ap (last_place (loader_in r.item)) (sym (take-set_before slots i j x le))
+          let sure : is_of u r.item ≡ true =
+          ap (λ (v : ℕ). is_of v r.item) same ∙ of-itself r.item in
+          let le = none-behind u slots i j r last was
+          (ap (λ (b : Bool). b && is_of u r.item) live ∙ sure) in
+          h.each j r was live ∙ ap (last_place (loader_in r.item))
+          (sym (take-set_before slots i j x le))
       by_loader stands j r there live false at false own =
           let other : i ≢ j = λ e. (let sure = eq-eqb i j e in absurd (cc)) in
           let was : slice_get slots j ≡ Some r = sym (get-set_other slots i j x other) ∙ there in
           let v = loader_in r.item in
           let apart : u ≢ v = λ e. (let sure = eq-eqb u v e in absurd (cc)) in
           h.each j r was live
-          ∙ sym (ap (last_place v) (take-set slots i j x) ∙ place-set v (take j slots) i x (λ s at_i.
-          let is : stands.slot ≡ s = (let one = stands.there in let two = get-take slots i j s at_i in cc) in
-          let none : is_of v s.item ≡ false = ap (λ (t : Slot (Row P)). is_of v t.item) (sym is) ∙ of-other u v stands.slot.item stands.own apart in
-          ap (λ (b : Bool). b && is_of v x.item) dead ∙ sym (ap (λ (b : Bool). s.live && b) none ∙ and-false s.live)))
+          ∙ sym (ap (last_place v) (take-set slots i j x)
+          ∙ place-set v (take j slots) i x (λ s at_i.
+          let is : stands.slot ≡ s =
+          (let one = stands.there in let two = get-take slots i j s at_i in cc) in
+          let none : is_of v s.item ≡ false = ap (λ (t : Slot (Row P)). is_of v t.item) (sym is)
+          ∙ of-other u v stands.slot.item stands.own apart in
+          ap (λ (b : Bool). b && is_of v x.item) dead
+          ∙ sym (ap (λ (b : Bool). s.live && b) none ∙ and-false s.live)))
 
   -- records lie on another chunk
-  slot-loader_in : (from to : Chunk) (s : Slot (Row P)) → loader_in (moved_slot from to s).item ≡ loader_in s.item
+  slot-loader_in : (from to : Chunk) (s : Slot (Row P)) → loader_in (moved_slot from to s).item
+      ≡ loader_in s.item
   slot-loader_in from to s = by_test s.live
     where
       by_test : (t : Bool) → loader_in (cond t (moved_row from to s.item) s.item) ≡ loader_in s.item
@@ -349,7 +396,10 @@ module _ {P : Type 0} where
 
   pub place-moved : (from to : Chunk) (u : ℕ) (slots : List (Slot (Row P)))
       → last_place u (map (moved_slot from to) slots) ≡ last_place u slots
-  place-moved from to u slots = place-map u (moved_slot from to) slots (λ s. ap (λ (b : Bool). s.live && b) (of-is u (moved_slot from to s).item ∙ ap (λ (n : ℕ). eqb n u) (slot-loader_in from to s) ∙ sym (of-is u s.item)))
+  place-moved from to u slots =
+      place-map u (moved_slot from to) slots
+      (λ s. ap (λ (b : Bool). s.live && b) (of-is u (moved_slot from to s).item
+      ∙ ap (λ (n : ℕ). eqb n u) (slot-loader_in from to s) ∙ sym (of-is u s.item)))
 
   pub linked-moved : (from to : Chunk) (slots : List (Slot (Row P))) (before : List (Option ℕ))
       → AreLinked slots before → AreLinked (map (moved_slot from to) slots) before
@@ -357,11 +407,15 @@ module _ {P : Type 0} where
       record {
         same = h.same ∙ sym (length-map slots (moved_slot {P = P} from to));
         each = λ i r there live.
-            let was = option-from (moved_slot from to) (slice_get slots i) r (sym (get-map (moved_slot from to) slots i) ∙ there) in
+            let was = option-from (moved_slot from to) (slice_get slots i) r
+            (sym (get-map (moved_slot from to) slots i) ∙ there) in
             let alive : (was.0).live ≡ true = ap (λ (s : Slot (Row P)). s.live) was.2 ∙ live in
-            let loader : loader_in (was.0).item ≡ loader_in r.item = sym (slot-loader_in from to was.0) ∙ ap (λ (s : Slot (Row P)). loader_in s.item) was.2 in
+            let loader : loader_in (was.0).item ≡ loader_in r.item =
+            sym (slot-loader_in from to was.0)
+            ∙ ap (λ (s : Slot (Row P)). loader_in s.item) was.2 in
             h.each i was.0 was.1 alive ∙ ap (λ (u : ℕ). last_place u (take i slots)) loader
-            ∙ sym (ap (last_place (loader_in r.item)) (take-mapped (moved_slot from to) slots i) ∙ place-moved from to (loader_in r.item) (take i slots));
+            ∙ sym (ap (last_place (loader_in r.item)) (take-mapped (moved_slot from to) slots i)
+            ∙ place-moved from to (loader_in r.item) (take i slots));
       }
 
 module _ {P : Type 0} where
@@ -371,7 +425,8 @@ module _ {P : Type 0} where
       → get_or before i None ≡ last_place u (take i slots)
   last-before u slots before i h last =
       let at = stands-last u slots i last in
-      let loader : loader_in at.slot.item ≡ u = eqb-true (loader_in at.slot.item) u (sym (of-is u at.slot.item) ∙ at.own) in
+      let loader : loader_in at.slot.item ≡ u =
+      eqb-true (loader_in at.slot.item) u (sym (of-is u at.slot.item) ∙ at.own) in
       h.each i at.slot at.there at.lives ∙ ap (λ (v : ℕ). last_place v (take i slots)) loader
 
   -- which is less
@@ -391,7 +446,8 @@ module _ {P : Type 0} where
 abbrev Below : LiveLoader → LiveLoader → Type 0
 Below a b = a.number < b.number
 
-number-behind : (ls : List LiveLoader) (i : ℕ) (d l : LiveLoader) → AllByRecursion (Below l) ls → i < length ls
+number-behind : (ls : List LiveLoader) (i : ℕ) (d l : LiveLoader) → AllByRecursion (Below l) ls
+    → i < length ls
     → l.number < (get_or ls i d).number
 number-behind [] i d l h lt = absurd (omega arith)
 number-behind (m ∷ ls) zero d l h lt = h.0
@@ -399,50 +455,74 @@ number-behind (m ∷ ls) (suc i) d l h lt = number-behind ls i d l h.1 (omega ar
 
 module _ {P : Type 0} where
   pub places-same : (slots more : List (Slot (Row P))) (ns : List ℕ)
-      → ((u : ℕ) → last_place u more ≡ last_place u slots) → last_places more ns ≡ last_places slots ns
+      → ((u : ℕ) → last_place u more ≡ last_place u slots)
+      → last_places more ns ≡ last_places slots ns
   places-same slots more [] same = refl
-  places-same slots more (n ∷ ns) same = ap (λ (o : Option ℕ). o ∷ last_places more ns) (same n) ∙ ap (λ (os : List (Option ℕ)). last_place n slots ∷ os) (places-same slots more ns same)
+  places-same slots more (n ∷ ns) same = ap (λ (o : Option ℕ). o ∷ last_places more ns) (same n)
+      ∙ ap (λ (os : List (Option ℕ)). last_place n slots ∷ os) (places-same slots more ns same)
 
   -- a row more of the loader at a place
-  pub places-push : (slots : List (Slot (Row P))) (s : Slot (Row P)) (ls : List LiveLoader) (i : ℕ) (d : LiveLoader)
-      → s.live ≡ true → Pairwise Below ls → i < length ls → (get_or ls i d).number ≡ loader_in s.item
-      → set (last_places slots (numbers_of ls)) i (Some (length slots)) ≡ last_places (slots ++ s ∷ []) (numbers_of ls)
+  pub places-push : (slots : List (Slot (Row P))) (s : Slot (Row P)) (ls : List LiveLoader) (i : ℕ)
+      (d : LiveLoader)
+      → s.live ≡ true → Pairwise Below ls → i < length ls → (get_or ls i d).number
+      ≡ loader_in s.item
+      → set (last_places slots (numbers_of ls)) i (Some (length slots))
+      ≡ last_places (slots ++ s ∷ []) (numbers_of ls)
   places-push slots s [] i d live h lt e = absurd (omega arith)
   places-push slots s (l ∷ ls) zero d live h lt e =
-      ap (λ (o : Option ℕ). o ∷ last_places slots (numbers_of ls)) (sym (own slots s l.number live e))
-      ∙ ap (λ (os : List (Option ℕ)). last_place l.number (slots ++ s ∷ []) ∷ os) (others slots s ls l.number e live h.0)
+      ap (λ (o : Option ℕ). o ∷ last_places slots (numbers_of ls))
+      (sym (own slots s l.number live e))
+      ∙ ap (λ (os : List (Option ℕ)). last_place l.number (slots ++ s ∷ []) ∷ os)
+      (others slots s ls l.number e live h.0)
     where
-      own : (slots : List (Slot (Row P))) (s : Slot (Row P)) (u : ℕ) → s.live ≡ true → u ≡ loader_in s.item
+      own : (slots : List (Slot (Row P))) (s : Slot (Row P)) (u : ℕ) → s.live ≡ true
+          → u ≡ loader_in s.item
           → last_place u (slots ++ s ∷ []) ≡ Some (length slots)
       own slots s u live e =
-          let sure : mine u s ≡ true = ap (λ (b : Bool). b && is_of u s.item) live ∙ ap (λ (v : ℕ). is_of v s.item) e ∙ of-itself s.item in
-          place-push u slots s ∙ ap (λ (b : Bool). cond b (Some (length slots)) (last_place u slots)) sure
+          let sure : mine u s ≡ true = ap (λ (b : Bool). b && is_of u s.item) live
+          ∙ ap (λ (v : ℕ). is_of v s.item) e ∙ of-itself s.item in
+          place-push u slots s ∙ ap
+          (λ (b : Bool). cond b (Some (length slots)) (last_place u slots)) sure
 
-      others : (slots : List (Slot (Row P))) (s : Slot (Row P)) (ls : List LiveLoader) (u : ℕ) → u ≡ loader_in s.item → s.live ≡ true
+      others : (slots : List (Slot (Row P))) (s : Slot (Row P)) (ls : List LiveLoader) (u : ℕ)
+          → u ≡ loader_in s.item → s.live ≡ true
           → AllByRecursion (λ m. u < m.number) ls
           → last_places slots (numbers_of ls) ≡ last_places (slots ++ s ∷ []) (numbers_of ls)
       others slots s [] u e live h = refl
       others slots s (m ∷ ls) u e live h =
-          ap (λ (o : Option ℕ). o ∷ last_places slots (numbers_of ls)) (sym (other-push slots s m.number (λ same. omega (arith, h.0, e, same))))
-          ∙ ap (λ (os : List (Option ℕ)). last_place m.number (slots ++ s ∷ []) ∷ os) (others slots s ls u e live h.1)
+          ap (λ (o : Option ℕ). o ∷ last_places slots (numbers_of ls))
+          (sym (other-push slots s m.number (λ same. omega (arith, h.0, e, same))))
+          ∙ ap (λ (os : List (Option ℕ)). last_place m.number (slots ++ s ∷ []) ∷ os)
+          (others slots s ls u e live h.1)
         where
-          other-push : (slots : List (Slot (Row P))) (s : Slot (Row P)) (v : ℕ) → ¬ (v ≡ loader_in s.item)
+          other-push : (slots : List (Slot (Row P))) (s : Slot (Row P)) (v : ℕ)
+              → ¬ (v ≡ loader_in s.item)
               → last_place v (slots ++ s ∷ []) ≡ last_place v slots
           other-push slots s v n =
-              place-push v slots s ∙ ap (λ (b : Bool). cond (s.live && b) (Some (length slots)) (last_place v slots)) (of-is v s.item ∙ ne-eqb (loader_in s.item) v (λ same. n (sym same)))
-              ∙ ap (λ (b : Bool). cond b (Some (length slots)) (last_place v slots)) (and-false s.live)
+              place-push v slots s ∙ ap
+              (λ (b : Bool). cond (s.live && b) (Some (length slots)) (last_place v slots))
+              (of-is v s.item ∙ ne-eqb (loader_in s.item) v (λ same. n (sym same)))
+              ∙ ap (λ (b : Bool). cond b (Some (length slots)) (last_place v slots))
+              (and-false s.live)
   places-push slots s (l ∷ ls) (suc i) d live h lt e =
-      ap (λ (o : Option ℕ). o ∷ set (last_places slots (numbers_of ls)) i (Some (length slots))) (sym (before-push slots s l.number (λ same. omega (arith, number-behind ls i d l h.0 (omega arith), same, e))))
-      ∙ ap (λ (os : List (Option ℕ)). last_place l.number (slots ++ s ∷ []) ∷ os) (places-push slots s ls i d live h.1 (omega arith) e)
+      ap (λ (o : Option ℕ). o ∷ set (last_places slots (numbers_of ls)) i (Some (length slots)))
+      (sym (before-push slots s l.number
+      (λ same. omega (arith, number-behind ls i d l h.0 (omega arith), same, e))))
+      ∙ ap (λ (os : List (Option ℕ)). last_place l.number (slots ++ s ∷ []) ∷ os)
+      (places-push slots s ls i d live h.1 (omega arith) e)
     where
-      before-push : (slots : List (Slot (Row P))) (s : Slot (Row P)) (v : ℕ) → ¬ (v ≡ loader_in s.item)
+      before-push : (slots : List (Slot (Row P))) (s : Slot (Row P)) (v : ℕ)
+          → ¬ (v ≡ loader_in s.item)
           → last_place v (slots ++ s ∷ []) ≡ last_place v slots
       before-push slots s v n =
-          place-push v slots s ∙ ap (λ (b : Bool). cond (s.live && b) (Some (length slots)) (last_place v slots)) (of-is v s.item ∙ ne-eqb (loader_in s.item) v (λ same. n (sym same)))
+          place-push v slots s ∙ ap
+          (λ (b : Bool). cond (s.live && b) (Some (length slots)) (last_place v slots))
+          (of-is v s.item ∙ ne-eqb (loader_in s.item) v (λ same. n (sym same)))
           ∙ ap (λ (b : Bool). cond b (Some (length slots)) (last_place v slots)) (and-false s.live)
 
   -- no row lives of a loader that is unloaded
-  place-unloaded : (u : ℕ) (slots : List (Slot (Row P))) → last_place u (map (unloaded u) slots) ≡ None
+  place-unloaded : (u : ℕ) (slots : List (Slot (Row P)))
+      → last_place u (map (unloaded u) slots) ≡ None
   place-unloaded u [] = refl
   place-unloaded u (s ∷ slots) =
       ap (λ (o : Option ℕ). place_behind o (mine u (unloaded u s))) (place-unloaded u slots)
@@ -454,38 +534,52 @@ module _ {P : Type 0} where
       by_tests false b = refl
 
   -- without a loader
-  pub places-unloaded : (u : ℕ) (slots : List (Slot (Row P))) (ls : List LiveLoader) (i : ℕ) (d : LiveLoader)
+  pub places-unloaded : (u : ℕ) (slots : List (Slot (Row P))) (ls : List LiveLoader) (i : ℕ)
+      (d : LiveLoader)
       → Pairwise Below ls → i < length ls → (get_or ls i d).number ≡ u
-      → set (last_places slots (numbers_of ls)) i None ≡ last_places (map (unloaded u) slots) (numbers_of ls)
+      → set (last_places slots (numbers_of ls)) i None
+      ≡ last_places (map (unloaded u) slots) (numbers_of ls)
   places-unloaded u slots [] i d h lt e = absurd (omega arith)
   places-unloaded u slots (l ∷ ls) zero d h lt e =
-      ap (λ (o : Option ℕ). o ∷ last_places slots (numbers_of ls)) (sym (ap (λ (v : ℕ). last_place v (map (unloaded u) slots)) e ∙ place-unloaded u slots))
-      ∙ ap (λ (os : List (Option ℕ)). last_place l.number (map (unloaded u) slots) ∷ os) (rest u slots ls (above ls l.number u e h.0))
+      ap (λ (o : Option ℕ). o ∷ last_places slots (numbers_of ls))
+      (sym (ap (λ (v : ℕ). last_place v (map (unloaded u) slots)) e ∙ place-unloaded u slots))
+      ∙ ap (λ (os : List (Option ℕ)). last_place l.number (map (unloaded u) slots) ∷ os)
+      (rest u slots ls (above ls l.number u e h.0))
     where
-      above : (ls : List LiveLoader) (n u : ℕ) → n ≡ u → AllByRecursion (λ m. n < m.number) ls → AllByRecursion (λ m. u < m.number) ls
+      above : (ls : List LiveLoader) (n u : ℕ) → n ≡ u → AllByRecursion (λ m. n < m.number) ls
+          → AllByRecursion (λ m. u < m.number) ls
       above [] n u e h = tt
       above (m ∷ ls) n u e h = (omega (arith, h.0), above ls n u e h.1)
 
-      rest : (u : ℕ) (slots : List (Slot (Row P))) (ls : List LiveLoader) → AllByRecursion (λ m. u < m.number) ls
+      rest : (u : ℕ) (slots : List (Slot (Row P))) (ls : List LiveLoader)
+          → AllByRecursion (λ m. u < m.number) ls
           → last_places slots (numbers_of ls) ≡ last_places (map (unloaded u) slots) (numbers_of ls)
       rest u slots [] h = refl
       rest u slots (m ∷ ls) h =
-          ap (λ (o : Option ℕ). o ∷ last_places slots (numbers_of ls)) (sym (place-of_other u m.number slots (λ same. omega (arith, h.0, same))))
-          ∙ ap (λ (os : List (Option ℕ)). last_place m.number (map (unloaded u) slots) ∷ os) (rest u slots ls h.1)
+          ap (λ (o : Option ℕ). o ∷ last_places slots (numbers_of ls))
+          (sym (place-of_other u m.number slots (λ same. omega (arith, h.0, same))))
+          ∙ ap (λ (os : List (Option ℕ)). last_place m.number (map (unloaded u) slots) ∷ os)
+          (rest u slots ls h.1)
   places-unloaded u slots (l ∷ ls) (suc i) d h lt e =
-      ap (λ (o : Option ℕ). o ∷ set (last_places slots (numbers_of ls)) i None) (sym (place-of_other u l.number slots (λ same. omega (arith, number-behind ls i d l h.0 (omega arith), e, same))))
-      ∙ ap (λ (os : List (Option ℕ)). last_place l.number (map (unloaded u) slots) ∷ os) (places-unloaded u slots ls i d h.1 (omega arith) e)
+      ap (λ (o : Option ℕ). o ∷ set (last_places slots (numbers_of ls)) i None)
+      (sym (place-of_other u l.number slots
+      (λ same. omega (arith, number-behind ls i d l h.0 (omega arith), e, same))))
+      ∙ ap (λ (os : List (Option ℕ)). last_place l.number (map (unloaded u) slots) ∷ os)
+      (places-unloaded u slots ls i d h.1 (omega arith) e)
 
   -- of the first loaders
   pub places-take : (slots : List (Slot (Row P))) (n : ℕ) (ls : List LiveLoader)
       → take n (last_places slots (numbers_of ls)) ≡ last_places slots (numbers_of (take n ls))
   places-take slots zero ls = refl
   places-take slots (suc n) [] = refl
-  places-take slots (suc n) (l ∷ ls) = ap (λ (os : List (Option ℕ)). last_place l.number slots ∷ os) (places-take slots n ls)
+  places-take slots (suc n) (l ∷ ls) =
+      ap (λ (os : List (Option ℕ)). last_place l.number slots ∷ os) (places-take slots n ls)
 
   -- what stands at a loader's place is its last place
-  pub places-at : (slots : List (Slot (Row P))) (ls : List LiveLoader) (i : ℕ) (d : LiveLoader) (o : Option ℕ)
-      → i < length ls → get_or (last_places slots (numbers_of ls)) i o ≡ last_place (get_or ls i d).number slots
+  pub places-at : (slots : List (Slot (Row P))) (ls : List LiveLoader) (i : ℕ) (d : LiveLoader)
+      (o : Option ℕ)
+      → i < length ls → get_or (last_places slots (numbers_of ls)) i o
+      ≡ last_place (get_or ls i d).number slots
   places-at slots [] i d o lt = absurd (omega arith)
   places-at slots (l ∷ ls) zero d o lt = refl
   places-at slots (l ∷ ls) (suc i) d o lt = places-at slots ls i d o (omega arith)
@@ -499,9 +593,13 @@ module _ {P : Type 0} where
   unloaded-ended u [] i s there own = refl
   unloaded-ended u (z ∷ slots) zero s there own =
       let is : z ≡ s = cc in
-      ap (λ (t : Slot (Row P)). record { item = t.item; live = false } ∷ map (unloaded u) slots) (sym is)
-      ∙ ap (λ (b : Bool). record { item = z.item; live = b } ∷ map (unloaded u) slots) (sym (ap (λ (b : Bool). z.live && not b) (ap (λ (t : Slot (Row P)). is_of u t.item) is ∙ own) ∙ and-false z.live))
-  unloaded-ended u (z ∷ slots) (suc i) s there own = ap (λ l. unloaded u z ∷ l) (unloaded-ended u slots i s there own)
+      ap (λ (t : Slot (Row P)). record { item = t.item; live = false } ∷ map (unloaded u) slots)
+      (sym is)
+      ∙ ap (λ (b : Bool). record { item = z.item; live = b } ∷ map (unloaded u) slots)
+      (sym (ap (λ (b : Bool). z.live && not b) (ap (λ (t : Slot (Row P)). is_of u t.item) is
+      ∙ own) ∙ and-false z.live))
+  unloaded-ended u (z ∷ slots) (suc i) s there own =
+      ap (λ l. unloaded u z ∷ l) (unloaded-ended u slots i s there own)
 
 -- no loader has a place among none
 pub places-none : (P : Type 0) (ls : List (Slot LiveLoader))
@@ -513,22 +611,29 @@ none-suc : {X : Type 0} (ls : List X) (i : ℕ) → i < length ls
     → map {B = Option ℕ} (λ l. None) (take (suc i) ls) ≡ map (λ l. None) (take i ls) ++ None ∷ []
 none-suc [] i lt = absurd (omega arith)
 none-suc (l ∷ ls) zero lt = refl
-none-suc (l ∷ ls) (suc i) lt = ap (λ (os : List (Option ℕ)). None ∷ os) (none-suc ls i (omega arith))
+none-suc (l ∷ ls) (suc i) lt =
+    ap (λ (os : List (Option ℕ)). None ∷ os) (none-suc ls i (omega arith))
 
 pub none-more : {X : Type 0} (ls : List X) (i : ℕ) → i < length ls
     → map {B = Option ℕ} (λ l. None) (take (i + 1) ls) ≡ map (λ l. None) (take i ls) ++ None ∷ []
-none-more ls i lt = ap (λ (n : ℕ). map {B = Option ℕ} (λ l. None) (take n ls)) (add-one i) ∙ none-suc ls i lt
+none-more ls i lt =
+    ap (λ (n : ℕ). map {B = Option ℕ} (λ l. None) (take n ls)) (add-one i) ∙ none-suc ls i lt
 
 module _ {P : Type 0} where
   -- what is known of living rows is known at each place where all live
   pub all-living : (Q : Row P → Type 0) (slots : List (Slot (Row P))) (i : ℕ) (d : Slot (Row P))
-      → AllByRecursion Q (living slots) → AllByRecursion (λ s. s.live ≡ true) slots → i < length slots
+      → AllByRecursion Q (living slots) → AllByRecursion (λ s. s.live ≡ true) slots
+      → i < length slots
       → Q (get_or slots i d).item × ((get_or slots i d).live ≡ true)
   all-living Q [] i d h live lt = absurd (omega arith)
-  all-living Q (s ∷ slots) i d h live lt = by_place (subst (λ (t : Bool). AllByRecursion Q (cond t (s.item ∷ living slots) (living slots))) live.0 h) i lt (λ k in_rest rest. all-living Q slots k d rest live.1 in_rest)
+  all-living Q (s ∷ slots) i d h live lt =
+      by_place (subst (λ (t : Bool). AllByRecursion Q
+      (cond t (s.item ∷ living slots) (living slots))) live.0 h) i lt
+      (λ k in_rest rest. all-living Q slots k d rest live.1 in_rest)
     where
       by_place : AllByRecursion Q (s.item ∷ living slots) → (i : ℕ) → i < suc (length slots)
-          → ((k : ℕ) → k < length slots → AllByRecursion Q (living slots) → Q (get_or slots k d).item × ((get_or slots k d).live ≡ true))
+          → ((k : ℕ) → k < length slots → AllByRecursion Q (living slots)
+          → Q (get_or slots k d).item × ((get_or slots k d).live ≡ true))
           → Q (get_or (s ∷ slots) i d).item × ((get_or (s ∷ slots) i d).live ≡ true)
       by_place q zero lt behind = (q.0, live.0)
       by_place q (suc k) lt behind = behind k (omega arith) q.1
@@ -536,27 +641,44 @@ module _ {P : Type 0} where
 -- ---- a loader that is new
 
 module _ {P : Type 0} where
-  pub all-owned : (rows : List (Row P)) (ns : List ℕ) → ((r : ClassRow) → Among r (classes_in rows) → Among r.loader ns)
+  pub all-owned : (rows : List (Row P)) (ns : List ℕ)
+      → ((r : ClassRow) → Among r (classes_in rows) → Among r.loader ns)
       → ((n : ℕ) → Among n (numbers_in rows) → Among n ns)
       → AllByRecursion (λ row. Among (loader_in row) ns) rows
   all-owned [] ns owned own = tt
-  all-owned (Loader r ∷ rows) ns owned own = (own r.number (inl refl), all-owned rows ns owned (λ n m. own n (inr m)))
-  all-owned (Class r p ∷ rows) ns owned own = (owned r (inl refl), all-owned rows ns (λ s m. owned s (inr m)) own)
+  all-owned (Loader r ∷ rows) ns owned own =
+      (own r.number (inl refl), all-owned rows ns owned (λ n m. own n (inr m)))
+  all-owned (Class r p ∷ rows) ns owned own =
+      (owned r (inl refl), all-owned rows ns (λ s m. owned s (inr m)) own)
 
-  pub all-fresh : (rows : List (Row P)) (ns : List ℕ) (v : ℕ) → AllByRecursion (λ row. Among (loader_in row) ns) rows
+  pub all-fresh : (rows : List (Row P)) (ns : List ℕ) (v : ℕ)
+      → AllByRecursion (λ row. Among (loader_in row) ns) rows
       → AllByRecursion (λ n. n < v) ns → AllByRecursion (λ row. is_of v row ≡ false) rows
   all-fresh [] ns v owned above = tt
   all-fresh (row ∷ rows) ns v owned above =
-      let less = each-among (λ n. n < v) ns (loader_in row) above owned.0 in
-      (of-is v row ∙ ne-eqb (loader_in row) v (λ e. omega (arith, less, e)), all-fresh rows ns v owned.1 above)
+      let less = each-among (λ n. n < v) ns (loader_in row) above owned.0 in (
+        of-is v row ∙ ne-eqb (loader_in row) v (λ e. omega (arith, less, e)),
+        all-fresh rows ns v owned.1 above,
+      )
 
-  pub places-new : (slots : List (Slot (Row P))) (s : Slot (Row P)) (ns : List ℕ) (v : ℕ) → s.live ≡ true → v ≡ loader_in s.item
+  pub places-new : (slots : List (Slot (Row P))) (s : Slot (Row P)) (ns : List ℕ) (v : ℕ)
+      → s.live ≡ true → v ≡ loader_in s.item
       → AllByRecursion (λ n. n < v) ns
-      → last_places slots ns ++ Some (length slots) ∷ [] ≡ last_places (slots ++ s ∷ []) (ns ++ v ∷ [])
+      → last_places slots ns ++ Some (length slots) ∷ []
+      ≡ last_places (slots ++ s ∷ []) (ns ++ v ∷ [])
   places-new slots s [] v live e above =
-      let sure : mine v s ≡ true = ap (λ (b : Bool). b && is_of v s.item) live ∙ ap (λ (u : ℕ). is_of u s.item) e ∙ of-itself s.item in
-      ap (λ (o : Option ℕ). o ∷ []) (sym (place-push v slots s ∙ ap (λ (b : Bool). cond b (Some (length slots)) (last_place v slots)) sure))
+      let sure : mine v s ≡ true = ap (λ (b : Bool). b && is_of v s.item) live
+      ∙ ap (λ (u : ℕ). is_of u s.item) e ∙ of-itself s.item in
+      ap (λ (o : Option ℕ). o ∷ [])
+      (sym (place-push v slots s
+      ∙ ap (λ (b : Bool). cond b (Some (length slots)) (last_place v slots)) sure))
   places-new slots s (n ∷ ns) v live e above =
-      let other : mine n s ≡ false = ap (λ (b : Bool). s.live && b) (of-is n s.item ∙ ne-eqb (loader_in s.item) n (λ same. omega (arith, above.0, e, same))) ∙ and-false s.live in
-      ap (λ (o : Option ℕ). o ∷ (last_places slots ns ++ Some (length slots) ∷ [])) (sym (place-push n slots s ∙ ap (λ (b : Bool). cond b (Some (length slots)) (last_place n slots)) other))
-      ∙ ap (λ (os : List (Option ℕ)). last_place n (slots ++ s ∷ []) ∷ os) (places-new slots s ns v live e above.1)
+      let other : mine n s ≡ false =
+      ap (λ (b : Bool). s.live && b)
+      (of-is n s.item ∙ ne-eqb (loader_in s.item) n (λ same. omega (arith, above.0, e, same)))
+      ∙ and-false s.live in
+      ap (λ (o : Option ℕ). o ∷ (last_places slots ns ++ Some (length slots) ∷ []))
+      (sym (place-push n slots s
+      ∙ ap (λ (b : Bool). cond b (Some (length slots)) (last_place n slots)) other))
+      ∙ ap (λ (os : List (Option ℕ)). last_place n (slots ++ s ∷ []) ∷ os)
+      (places-new slots s ns v live e above.1)

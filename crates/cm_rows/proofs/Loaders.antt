@@ -73,7 +73,8 @@ last_in-at u (l ∷ ls) (suc i) d h lt e =
     let before : l.number < (get_or ls i d).number = each-at (Below l) ls i d h.0 (omega arith) in
     rw (ne-eqb l.number u (λ same. omega arith)) (last_in-at u ls i d h.1 (omega arith) e)
 
-pub last_in-set : (u v : ℕ) (o : Option LastChunk) (ls : List LiveLoader) (i : ℕ) (d : LiveLoader) → Pairwise Below ls → i < length ls → (get_or ls i d).number ≡ u
+pub last_in-set : (u v : ℕ) (o : Option LastChunk) (ls : List LiveLoader) (i : ℕ) (d : LiveLoader)
+    → Pairwise Below ls → i < length ls → (get_or ls i d).number ≡ u
     → last_in v (set ls i (record { number = u; last = o })) ≡ cond (eqb u v) o (last_in v ls)
 last_in-set u v o [] i d h lt e = absurd (omega arith)
 last_in-set u v o (l ∷ ls) zero d h lt e = by_test (eqb u v) (eqb l.number v) (ap
@@ -84,13 +85,17 @@ last_in-set u v o (l ∷ ls) zero d h lt e = by_test (eqb u v) (eqb l.number v) 
     by_test true s same = refl
     by_test false true same = absurd (cc)
     by_test false false same = refl
-last_in-set u v o (l ∷ ls) (suc i) d h lt e = by_test (last_in-set u v o ls i d h.1 (omega arith) e) (eqb l.number v) refl
+last_in-set u v o (l ∷ ls) (suc i) d h lt e =
+    by_test (last_in-set u v o ls i d h.1 (omega arith) e) (eqb l.number v) refl
   where
-    by_test : last_in v (set ls i (record { number = u; last = o })) ≡ cond (eqb u v) o (last_in v ls) → (t : Bool) → eqb l.number v ≡ t
-        → cond t l.last (last_in v (set ls i (record { number = u; last = o }))) ≡ cond (eqb u v) o (cond t l.last (last_in v ls))
+    by_test : last_in v (set ls i (record { number = u; last = o }))
+        ≡ cond (eqb u v) o (last_in v ls) → (t : Bool) → eqb l.number v ≡ t
+        → cond t l.last (last_in v (set ls i (record { number = u; last = o })))
+        ≡ cond (eqb u v) o (cond t l.last (last_in v ls))
     by_test behind true same =
         let is : l.number ≡ v = eqb-true l.number v same in
-        let before : l.number < (get_or ls i d).number = each-at (Below l) ls i d h.0 (omega arith) in
+        let before : l.number < (get_or ls i d).number =
+        each-at (Below l) ls i d h.0 (omega arith) in
         rw (ne-eqb u v (λ both. omega arith)) refl
     by_test behind false same = behind
 
@@ -106,14 +111,17 @@ last_in-remove u v (l ∷ ls) zero d h lt e = by_test (eqb u v) refl (eqb l.numb
     by_test true same s e2 = absent-below v ls (all-below ls l v (e ∙ eqb-true u v same) h.0)
     by_test false same true e2 = absurd (cc)
     by_test false same false e2 = refl
-last_in-remove u v (l ∷ ls) (suc i) d h lt e = by_test (last_in-remove u v ls i d h.1 (omega arith) e) (eqb l.number v) refl
+last_in-remove u v (l ∷ ls) (suc i) d h lt e =
+    by_test (last_in-remove u v ls i d h.1 (omega arith) e) (eqb l.number v) refl
   where
     by_test : last_in v (remove ls i) ≡ cond (eqb u v) None (last_in v ls) → (t : Bool)
         → eqb l.number v ≡ t
-        → cond t l.last (last_in v (remove ls i)) ≡ cond (eqb u v) None (cond t l.last (last_in v ls))
+        → cond t l.last (last_in v (remove ls i))
+        ≡ cond (eqb u v) None (cond t l.last (last_in v ls))
     by_test behind true same =
         let is : l.number ≡ v = eqb-true l.number v same in
-        let before : l.number < (get_or ls i d).number = each-at (Below l) ls i d h.0 (omega arith) in
+        let before : l.number < (get_or ls i d).number =
+        each-at (Below l) ls i d h.0 (omega arith) in
         rw (ne-eqb u v (λ both. omega arith)) refl
     by_test behind false same = behind
 
@@ -180,7 +188,8 @@ pub numbers-remove : (u : ℕ) (ls : List LiveLoader) (i : ℕ) (d : LiveLoader)
     → i < length ls → (get_or ls i d).number ≡ u → numbers_of (remove ls i) ≡ filter
     (λ n. not (eqb n u)) (numbers_of ls)
 numbers-remove u [] i d h lt e = absurd (omega arith)
-numbers-remove u (l ∷ ls) zero d h lt e = rw (eq-eqb l.number u e) (sym (none-filtered u ls (all-below ls l u e h.0)))
+numbers-remove u (l ∷ ls) zero d h lt e =
+    rw (eq-eqb l.number u e) (sym (none-filtered u ls (all-below ls l u e h.0)))
 numbers-remove u (l ∷ ls) (suc i) d h lt e =
     let before : l.number < (get_or ls i d).number = each-at (Below l) ls i d h.0 (omega arith) in
     rw (ne-eqb l.number u (λ same. omega arith)) (ap

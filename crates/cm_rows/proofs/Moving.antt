@@ -1,7 +1,7 @@
 -- A loader's rows are gone over from the last one on, and those on one chunk are put on another.
 use Rattle.std.proofs.Common.{◌≡◌, ℕ, zero, suc, ◌+◌, ◌≤◌, Bool, true, false, cond, List, [], ◌∷◌}
-use Rattle.std.proofs.Common.{◌++◌, map, length, take, drop, set, get_or, Option, Some, None, refl, sym}
-use Rattle.std.proofs.Common.{◌∙◌, ap, ap₂, subst, arith, take-append-drop, inl, inr}
+use Rattle.std.proofs.Common.{◌++◌, map, length, take, drop, set, get_or, Option, Some, None, refl}
+use Rattle.std.proofs.Common.{sym, ◌∙◌, ap, ap₂, subst, arith, take-append-drop, inl, inr}
 use Rattle.std.specs.Prelude.{◌&&◌}
 use Rattle.std.specs.List.{slice_get}
 use Rattle.std.proofs.lemmas.Bool.{eqb-true, eq-eqb}
@@ -62,54 +62,76 @@ drop-set (x ∷ xs) (suc i) s y h = drop-set xs i s y h
 module _ {P : Type 0} where
   others-behind : (u : ℕ) (from to : Chunk) (s : Slot (Row P)) (slots : List (Slot (Row P)))
       → OthersStay u from to (s ∷ slots) → OthersStay u from to slots
-  others-behind u from to s slots h = record { each = λ i r there live other. h.each (suc i) r there live other }
+  others-behind u from to s slots h =
+      record { each = λ i r there live other. h.each (suc i) r there live other }
 
   others-between : (u : ℕ) (from to : Chunk) (slots : List (Slot (Row P))) (n k : ℕ)
       → OthersStay u from to slots → OthersStay u from to (drop n (take k slots))
   others-between u from to slots n k h =
-      record { each = λ i r there live other. h.each (n + i) r (get-take slots (n + i) k r (sym (get-drop (take k slots) n i) ∙ there)) live other }
+      record {
+        each = λ i r there live other.
+            h.each (n + i) r (get-take slots (n + i) k r
+            (sym (get-drop (take k slots) n i) ∙ there))
+            live other;
+      }
 
   -- a loader without a place has no row to move
   none-moves : (u : ℕ) (from to : Chunk) (slots : List (Slot (Row P))) → OthersStay u from to slots
       → last_place u slots ≡ None → map (moved_slot from to) slots ≡ slots
   none-moves u from to [] h none = refl
   none-moves u from to (s ∷ slots) h none =
-      by_place (none-moves u from to slots (others-behind u from to s slots h)) (last_place u slots) refl s.live refl (is_of u s.item) refl none
+      by_place (none-moves u from to slots (others-behind u from to s slots h)) (last_place u slots)
+      refl s.live refl (is_of u s.item) refl none
     where
       by_place : (last_place u slots ≡ None → map (moved_slot from to) slots ≡ slots)
-          → (o : Option ℕ) → last_place u slots ≡ o → (t : Bool) → s.live ≡ t → (b : Bool) → is_of u s.item ≡ b
-          → place_behind o (s.live && is_of u s.item) ≡ None → map (moved_slot from to) (s ∷ slots) ≡ s ∷ slots
+          → (o : Option ℕ) → last_place u slots ≡ o → (t : Bool) → s.live ≡ t → (b : Bool)
+          → is_of u s.item ≡ b
+          → place_behind o (s.live && is_of u s.item) ≡ None → map (moved_slot from to) (s ∷ slots)
+          ≡ s ∷ slots
       by_place behind (Some i) is t live b own none = absurd (cc)
       by_place behind None is true live true own none =
-          absurd (let test : place_behind None (true && true) ≡ None = subst (λ (c : Bool). place_behind None (c && true) ≡ None) live (subst (λ (c : Bool). place_behind None (s.live && c) ≡ None) own none) in cc)
+          absurd (let test : place_behind None (true && true)
+          ≡ None = subst (λ (c : Bool). place_behind None (c && true) ≡ None) live
+          (subst (λ (c : Bool). place_behind None (s.live && c) ≡ None) own none) in cc)
       by_place behind None is true live false own none =
           ap₂ (λ (x : Slot (Row P)) (l : List (Slot (Row P))). x ∷ l)
-          (ap (λ (c : Bool). record { item = cond c (moved_row from to s.item) s.item; live = s.live }) live
-          ∙ ap (λ (r : Row P). record { item = r; live = s.live }) (h.each 0 s refl live own)) (behind is)
+          (ap (λ (c : Bool). record {
+            item = cond c (moved_row from to s.item) s.item;
+            live = s.live;
+          }) live
+          ∙ ap (λ (r : Row P). record { item = r; live = s.live }) (h.each 0 s refl live own))
+          (behind is)
       by_place behind None is false live b own none =
           ap₂ (λ (x : Slot (Row P)) (l : List (Slot (Row P))). x ∷ l)
-          (ap (λ (c : Bool). record { item = cond c (moved_row from to s.item) s.item; live = s.live }) live) (behind is)
+          (ap (λ (c : Bool). record {
+            item = cond c (moved_row from to s.item) s.item;
+            live = s.live;
+          }) live) (behind is)
 
   -- behind its last place a loader has none
   none-after : (u : ℕ) (slots : List (Slot (Row P))) (i : ℕ) → last_place u slots ≡ Some i
       → last_place u (drop (suc i) slots) ≡ None
   none-after u [] i h = absurd (cc)
-  none-after u (s ∷ slots) i h = by_place (none-after u slots) (last_place u slots) refl (s.live && is_of u s.item) i h
+  none-after u (s ∷ slots) i h =
+      by_place (none-after u slots) (last_place u slots) refl (s.live && is_of u s.item) i h
     where
       by_place : ((i : ℕ) → last_place u slots ≡ Some i → last_place u (drop (suc i) slots) ≡ None)
-          → (o : Option ℕ) → last_place u slots ≡ o → (t : Bool) → (i : ℕ) → place_behind o t ≡ Some i
+          → (o : Option ℕ) → last_place u slots ≡ o → (t : Bool) → (i : ℕ)
+          → place_behind o t ≡ Some i
           → last_place u (drop i slots) ≡ None
       by_place behind None is true zero h = is
       by_place behind None is true (suc i) h = absurd (cc)
       by_place behind None is false i h = absurd (cc)
       by_place behind (Some j) is t zero h = absurd (cc)
-      by_place behind (Some j) is t (suc i) h = let same : j ≡ i = cc in behind i (is ∙ ap Some same)
+      by_place behind (Some j) is t (suc i) h = let same : j ≡ i =
+          cc in behind i (is ∙ ap Some same)
 
 -- ---- the walk
 
 module _ {P : Type 0} where
   -- the rows from a place on have moved, and next comes the loader's last one before it
-  pub record MovesOn (u : ℕ) (from to : Chunk) (old slots : List (Slot (Row P))) (next : Option ℕ) : Type 0 where
+  pub record MovesOn (u : ℕ) (from to : Chunk) (old slots : List (Slot (Row P)))
+      (next : Option ℕ) : Type 0 where
     pub k : ℕ
     pub front : take k slots ≡ take k old
     pub behind : drop k slots ≡ map (moved_slot from to) (drop k old)
@@ -141,20 +163,24 @@ module _ {P : Type 0} where
       record {
         slot = at.slot;
         was = get-take old i m.k at.slot at.there;
-        there = get-take slots i m.k at.slot (ap (λ (l : List (Slot (Row P))). slice_get l i) m.front ∙ at.there);
+        there = get-take slots i m.k at.slot
+            (ap (λ (l : List (Slot (Row P))). slice_get l i) m.front ∙ at.there);
         lives = at.lives;
         own = at.own;
       }
 
-  pub next-before : (u : ℕ) (from to : Chunk) (old slots : List (Slot (Row P))) (before : List (Option ℕ)) (i : ℕ)
+  pub next-before : (u : ℕ) (from to : Chunk) (old slots : List (Slot (Row P)))
+      (before : List (Option ℕ)) (i : ℕ)
       → AreLinked old before → MovesOn u from to old slots (Some i)
       → get_or before i None ≡ last_place u (take i old)
   next-before u from to old slots before i h m =
       let c = comes-to u from to old slots i m in
-      let loader : loader_in c.slot.item ≡ u = eqb-true (loader_in c.slot.item) u (sym (of-is u c.slot.item) ∙ c.own) in
+      let loader : loader_in c.slot.item ≡ u =
+      eqb-true (loader_in c.slot.item) u (sym (of-is u c.slot.item) ∙ c.own) in
       h.each i c.slot c.was c.lives ∙ ap (λ (v : ℕ). last_place v (take i old)) loader
 
-  pub walk-goes_on : (u : ℕ) (from to : Chunk) (old slots : List (Slot (Row P))) (before : List (Option ℕ)) (i : ℕ) (x : Slot (Row P))
+  pub walk-goes_on : (u : ℕ) (from to : Chunk) (old slots : List (Slot (Row P)))
+      (before : List (Option ℕ)) (i : ℕ) (x : Slot (Row P))
       → AreLinked old before → OthersStay u from to old → (m : MovesOn u from to old slots (Some i))
       → x ≡ moved_slot from to (comes-to u from to old slots i m).slot
       → MovesOn u from to old (set slots i x) (get_or before i None)
@@ -166,7 +192,9 @@ module _ {P : Type 0} where
       let lt = slice_get_within (take k old) i at.slot at.there in
       let within : suc i ≤ k = omega (arith, lt, take-few k old) in
       let between = drop (suc i) (take k old) in
-      let still : map f between ≡ between = none-moves u from to between (others-between u from to old (suc i) k others) (none-after u (take k old) i (sym m.next_is)) in
+      let still : map f between ≡ between =
+      none-moves u from to between (others-between u from to old (suc i) k others)
+      (none-after u (take k old) i (sym m.next_is)) in
       let rest : drop (suc i) slots ≡ map f (drop (suc i) old) =
       parted slots (suc i) k within
       ∙ ap₂ (λ (a b : List (Slot (Row P))). a ++ b) (ap (drop (suc i)) m.front ∙ sym still) m.behind
@@ -174,16 +202,23 @@ module _ {P : Type 0} where
       ∙ ap (map f) (sym (parted old (suc i) k within)) in
       record {
         k = i;
-        front = take-set_before slots i i x (omega arith) ∙ sym (take-short slots i k (omega (arith, within))) ∙ ap (take i) m.front ∙ take-short old i k (omega (arith, within));
-        behind = drop-set slots i c.slot x c.there ∙ ap₂ (λ (y : Slot (Row P)) (l : List (Slot (Row P))). y ∷ l) is rest ∙ sym (ap (map f) (drop-at old i c.slot c.was));
+        front = take-set_before slots i i x (omega arith)
+            ∙ sym (take-short slots i k (omega (arith, within))) ∙ ap (take i) m.front
+            ∙ take-short old i k (omega (arith, within));
+        behind = drop-set slots i c.slot x c.there
+            ∙ ap₂ (λ (y : Slot (Row P)) (l : List (Slot (Row P))). y ∷ l) is rest
+            ∙ sym (ap (map f) (drop-at old i c.slot c.was));
         next_is = next-before u from to old slots before i linked m;
       }
 
-  pub walk-ends : (u : ℕ) (from to : Chunk) (old slots : List (Slot (Row P))) → OthersStay u from to old
+  pub walk-ends : (u : ℕ) (from to : Chunk) (old slots : List (Slot (Row P)))
+      → OthersStay u from to old
       → MovesOn u from to old slots None → slots ≡ map (moved_slot from to) old
   walk-ends u from to old slots others m =
       let f : Slot (Row P) → Slot (Row P) = moved_slot from to in
-      let still : map f (take m.k old) ≡ take m.k old = none-moves u from to (take m.k old) (others-between u from to old 0 m.k others) (sym m.next_is) in
+      let still : map f (take m.k old) ≡ take m.k old =
+      none-moves u from to (take m.k old) (others-between u from to old 0 m.k others)
+      (sym m.next_is) in
       sym (take-append-drop m.k slots)
       ∙ ap₂ (λ (a b : List (Slot (Row P))). a ++ b) (m.front ∙ sym still) m.behind
       ∙ sym (map-append f (take m.k old) (drop m.k old))
@@ -204,10 +239,12 @@ module _ {P : Type 0} where
   class-there (z ∷ slots) zero s r p there live is =
       let same : z ≡ s = cc in
       let first : living (z ∷ slots) ≡ Class r p ∷ living slots =
-      ap (λ (b : Bool). cond b (z.item ∷ living slots) (living slots)) (ap (λ (t : Slot (Row P)). t.live) same ∙ live)
+      ap (λ (b : Bool). cond b (z.item ∷ living slots) (living slots))
+      (ap (λ (t : Slot (Row P)). t.live) same ∙ live)
       ∙ ap (λ (x : Row P). x ∷ living slots) (ap (λ (t : Slot (Row P)). t.item) same ∙ is) in
       subst (λ (rows : List (Row P)). Among r (classes_in rows)) (sym first) (inl refl)
-  class-there (z ∷ slots) (suc i) s r p there live is = by_test z.live (class-there slots i s r p there live is)
+  class-there (z ∷ slots) (suc i) s r p there live is =
+      by_test z.live (class-there slots i s r p there live is)
     where
       by_test : (t : Bool) → Among r (classes_in (living slots))
           → Among r (classes_in (cond t (z.item ∷ living slots) (living slots)))
@@ -220,17 +257,23 @@ module _ {P : Type 0} where
   others-stay u from to slots s h m own on =
       record { each = λ i r there live other. by_row i r there live r.item refl other }
     where
-      by_row : (i : ℕ) (r : Slot (Row P)) → slice_get slots i ≡ Some r → r.live ≡ true → (row : Row P) → r.item ≡ row
+      by_row : (i : ℕ) (r : Slot (Row P)) → slice_get slots i ≡ Some r → r.live ≡ true
+          → (row : Row P) → r.item ≡ row
           → is_of u r.item ≡ false → moved_row from to r.item ≡ r.item
-      by_row i r there live (Loader l) is other = subst (λ (x : Row P). moved_row from to x ≡ x) (sym is) refl
+      by_row i r there live (Loader l) is other =
+          subst (λ (x : Row P). moved_row from to x ≡ x) (sym is) refl
       by_row i r there live (Class q p) is other =
-          subst (λ (x : Row P). moved_row from to x ≡ x) (sym is) (by_test (same_chunk q.place.chunk from) refl)
+          subst (λ (x : Row P). moved_row from to x ≡ x) (sym is)
+          (by_test (same_chunk q.place.chunk from) refl)
         where
           by_test : (t : Bool) → same_chunk q.place.chunk from ≡ t
-              → cond t (Class (record q { place = record q.place { chunk = to } }) p) (Class q p) ≡ Class q p
+              → cond t (Class (record q { place = record q.place { chunk = to } }) p) (Class q p)
+              ≡ Class q p
           by_test false e = refl
           by_test true e =
-              let same : q.place.chunk ≡ s.place.chunk = same_chunk-true q.place.chunk from e ∙ sym on in
-              let mine : q.loader ≡ u = h.owner q s (class-there slots i r q p there live is) m same ∙ own in
+              let same : q.place.chunk ≡ s.place.chunk =
+              same_chunk-true q.place.chunk from e ∙ sym on in
+              let mine : q.loader ≡ u =
+              h.owner q s (class-there slots i r q p there live is) m same ∙ own in
               let sure : is_of u r.item ≡ true = ap (is_of u) is ∙ eq-eqb q.loader u mine in
               absurd (let both : true ≡ false = sym sure ∙ other in cc)

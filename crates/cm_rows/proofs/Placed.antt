@@ -1,5 +1,7 @@
--- The links of a book's places.
-use Rattle.std.proofs.Common.{◌≡◌, ℕ, ◌+◌, ◌*◌, ◌<◌, ◌≤◌, true, false, List, [], ◌∷◌, ◌++◌, map, length, take, get_or, set, Option, Some, None, refl, sym, ◌∙◌, ap, subst, arith, length-append}
+-- A book's places, with a class more, a loader more, without a loader, and with a chunk moved.
+use Rattle.std.proofs.Common.{◌≡◌, ℕ, ◌+◌, ◌*◌, ◌<◌, ◌≤◌, true, false, List, [], ◌∷◌, ◌++◌, map}
+use Rattle.std.proofs.Common.{length, take, get_or, set, Option, Some, None, refl, sym, ◌∙◌, ap}
+use Rattle.std.proofs.Common.{subst, arith, length-append, length-set, length-take, vec_capacity}
 use Rattle.std.specs.List.{AllByRecursion}
 use Rattle.std.proofs.lemmas.List.{length-map}
 use Rattle.cm_pool.specs.declared.chunk.Chunk.{Chunk}
@@ -10,132 +12,301 @@ use Rattle.cm_layout.specs.declared.class_row.ClassRow.{ClassRow}
 use Rattle.cm_layout.specs.declared.loader_row.LoaderRow.{LoaderRow}
 use Rattle.cm_layout.specs.declared.row.Row.{Row}
 use Rattle.cm_layout.specs.declared.row.Row.TheVariants.{Loader, Class}
-use Rattle.cm_layout.specs.Rows.{numbers_in, moved_row, is_of}
+use Rattle.cm_layout.specs.Rows.{numbers_in, is_of}
 use Rattle.cm_layout.specs.Rules.{row_limit}
 use Rattle.cm_index.specs.declared.slot.Slot.{Slot}
+use Rattle.cm_index.specs.Index.{LivesAt}
 use Rattle.cm_index.specs.Living.{living, unloaded, moved_slot}
-use Rattle.cm_index.proofs.Living.{living-push, living-moved}
 use Rattle.cm_rows.specs.declared.live_loader.LiveLoader.{LiveLoader}
 use Rattle.cm_rows.specs.declared.live_loader.LastChunk.{LastChunk}
+use Rattle.cm_rows.specs.declared.loader_places.LoaderPlaces.{LoaderPlaces}
+use Rattle.cm_rows.specs.declared.row_places.RowPlaces.{RowPlaces}
 use Rattle.cm_rows.specs.Rows.{is_above}
 use Rattle.cm_rows.specs.Book.{IsBook}
-use Rattle.cm_rows.specs.Loaders.{numbers_of, IsAt, Rises}
-use Rattle.cm_rows.specs.Links.{loader_in, last_place, last_places, AreLinked, HasLinks}
-use Rattle.cm_rows.proofs.Loaders.{numbers-set, numbers-push, all-numbers}
+use Rattle.cm_rows.specs.Loaders.{numbers_of, IsAt, Rises, items, living_loader, ended_loader}
+use Rattle.cm_rows.specs.Loaders.{HasEnded, HasLoaders}
+use Rattle.cm_rows.specs.Links.{loader_in, last_place, last_places, AreLinked, AreOwned, HasLinks}
+use Rattle.cm_rows.proofs.KeptPlaces.{nobody, items-set, items-push, items-take, lives-set}
+use Rattle.cm_rows.proofs.KeptPlaces.{lives-push, lives-take, rises-take}
+use Rattle.cm_rows.proofs.Loaders.{numbers-set, numbers-push, all-numbers, rises-set, rises-push}
 use Rattle.cm_rows.proofs.RowFacts.{numbers-few}
 use Rattle.cm_rows.proofs.Verdicts.{above-all}
-use Rattle.cm_rows.proofs.Linking.{linked-push, linked-moved, places-push, places-at, places-unloaded, places-take, place-none, place-moved}
-use Rattle.cm_rows.proofs.Linking.{places-same, places-new, all-owned, all-fresh}
-
-nobody : LiveLoader
-nobody = record { number = 0; last = None }
+use Rattle.cm_rows.proofs.Linking.{linked-push, linked-moved, places-push, places-at, places-take}
+use Rattle.cm_rows.proofs.Linking.{places-unloaded, place-none, place-moved, places-same}
+use Rattle.cm_rows.proofs.Linking.{places-new, all-owned, all-fresh}
 
 numbers-below : (ls : List LiveLoader) (n : ℕ) → AllByRecursion (λ l. l.number < n) ls
     → AllByRecursion (λ m. m < n) (numbers_of ls)
 numbers-below [] n h = tt
 numbers-below (l ∷ ls) n h = (h.0, numbers-below ls n h.1)
 
+-- ---- the loaders' places
+
+-- with another last chunk of one
+pub loaders-set : (sizes : Sizes) (old new : LoaderPlaces) (rows more u i : ℕ)
+    (o : Option LastChunk)
+    → HasLoaders sizes old rows → IsAt (items old.slots.items) u i
+    → new.slots.items ≡ set old.slots.items i (living_loader u o)
+    → vec_capacity old.slots ≤ vec_capacity new.slots → rows ≤ more → HasLoaders sizes new more
+loaders-set sizes old new rows more u i o h at is roomier le =
+    let ls = old.slots.items in
+    let s : Slot LiveLoader = living_loader u o in
+    let same : items new.slots.items ≡ set (items ls) i s.item = ap
+    (λ (l : List (Slot LiveLoader)). items l) is ∙ items-set ls i s in
+    let long : length new.slots.items ≡ length ls = ap length is ∙ length-set ls i s in
+    record {
+      rises = subst Rises (sym same) (record {
+        each = rises-set u o (items ls) i nobody (at.number_is nobody) h.rises.each;
+      });
+      last = λ k e. subst (λ (l : List (Slot LiveLoader)). LivesAt l k) (sym is)
+          (lives-set ls i s k refl (omega (arith, e, long)) (h.last k (omega (arith, e, long))));
+      few = omega (arith, h.few, long);
+      room = omega (arith, h.room);
+    }
+
+-- with one more
+pub loaders-push : (sizes : Sizes) (old new : LoaderPlaces) (rows more n : ℕ)
+    → HasLoaders sizes old rows → AllByRecursion (λ l. l.number < n) (items old.slots.items)
+    → new.slots.items ≡ old.slots.items ++ living_loader n None ∷ []
+    → vec_capacity old.slots ≤ vec_capacity new.slots → rows + 1 ≤ more → HasLoaders sizes new more
+loaders-push sizes old new rows more n h below is roomier le =
+    let ls = old.slots.items in
+    let s : Slot LiveLoader = living_loader n None in
+    let same : items new.slots.items ≡ items ls ++ s.item ∷ [] = ap
+    (λ (l : List (Slot LiveLoader)). items l) is ∙ items-push ls s in
+    let long : length new.slots.items ≡ length ls + 1 = ap length is ∙ length-append ls (s ∷ []) in
+    record {
+      rises = subst Rises (sym same) (record {
+        each = rises-push (items ls) s.item h.rises.each below;
+      });
+      last = λ k e. subst (λ (l : List (Slot LiveLoader)). LivesAt l k) (sym is)
+          (lives-push ls s k refl (sym (ap length is) ∙ e));
+      few = omega (arith, h.few, long);
+      room = omega (arith, h.room);
+    }
+
+-- with one that lives no more
+pub loaders-ended : (sizes : Sizes) (old new : LoaderPlaces) (rows more u i : ℕ)
+    → HasLoaders sizes old rows → IsAt (items old.slots.items) u i → HasEnded old i u new
+    → vec_capacity old.slots ≤ vec_capacity new.slots → rows ≤ more → HasLoaders sizes new more
+loaders-ended sizes old new rows more u i h at e roomier le =
+    let ls = old.slots.items in
+    let s : Slot LiveLoader = ended_loader u in
+    let with : List (Slot LiveLoader) = set ls i s in
+    let n : ℕ = e.count in
+    let same : items new.slots.items ≡ take n (set (items ls) i s.item) = ap
+    (λ (l : List (Slot LiveLoader)). items l) e.slots_are
+    ∙ items-take n with ∙ ap (take n) (items-set ls i s) in
+    let long : length new.slots.items ≡ n = ap length e.slots_are
+    ∙ omega (arith, length-take n with, e.is_end.within) in
+    record {
+      rises = subst Rises (sym same) (record {
+        each = rises-take n (set (items ls) i s.item)
+            (rises-set u None (items ls) i nobody (at.number_is nobody) h.rises.each);
+      });
+      last = λ k is. subst (λ (l : List (Slot LiveLoader)). LivesAt l k) (sym e.slots_are)
+          (lives-take with n k (omega (arith, is, long)) e.is_end.within
+          (e.is_end.last k (omega (arith, is, long))));
+      few = omega (arith, long, e.is_end.within, length-set ls i s, h.few);
+      room = omega (arith, h.room);
+    }
+
 module _ {P : Type 0} where
+  -- ---- rows and loaders
+
   -- each row's loader lives
-  pub owned-rows : (sizes : Sizes) (rows : List (Row P)) (rc : ℕ) (ls : List LiveLoader) (lc : ℕ) (p : FreeSpace)
-      → IsBook sizes rows rc ls lc p → AllByRecursion (λ row. Among (loader_in row) (numbers_of ls)) rows
-  owned-rows sizes rows rc ls lc p h =
-      subst (λ (ns : List ℕ). AllByRecursion (λ row. Among (loader_in row) ns) rows) (sym h.loaders.numbers)
-      (all-owned rows (numbers_in rows) h.live.owned (λ n m. m))
+  pub owned-rows : (sizes : Sizes) (rows : List (Row P)) (ls : List LiveLoader) (p : FreeSpace)
+      → IsBook sizes rows ls p → AreOwned rows ls
+  owned-rows sizes rows ls p h =
+      subst (λ (ns : List ℕ). AllByRecursion (λ row. Among (loader_in row) ns) rows)
+      (sym h.loaders.numbers) (all-owned rows (numbers_in rows) h.live.owned (λ n m. m))
 
   -- no more loaders than rows
-  pub loaders-fewer : (sizes : Sizes) (rows : List (Row P)) (rc : ℕ) (ls : List LiveLoader) (lc : ℕ) (p : FreeSpace)
-      → IsBook sizes rows rc ls lc p → length ls ≤ length rows
-  loaders-fewer sizes rows rc ls lc p h =
-      omega (arith, length-map ls (λ (l : LiveLoader). l.number), ap length h.loaders.numbers, numbers-few rows)
-
-  pub last-at-place : (sizes : Sizes) (slots : List (Slot (Row P))) (cap count : ℕ) (before : List (Option ℕ)) (bc : ℕ) (ls : List LiveLoader) (newest : List (Option ℕ)) (nc u i : ℕ) (o : Option ℕ)
-      → HasLinks sizes slots cap count before bc ls newest nc → IsAt ls u i → get_or newest i o ≡ last_place u slots
-  last-at-place sizes slots cap count before bc ls newest nc u i o h at =
-      ap (λ l. get_or l i o) h.lasts ∙ places-at slots ls i nobody o at.within ∙ ap (λ (v : ℕ). last_place v slots) (at.number_is nobody)
-
-  pub as-many : (sizes : Sizes) (slots : List (Slot (Row P))) (cap count : ℕ) (before : List (Option ℕ)) (bc : ℕ) (ls : List LiveLoader) (newest : List (Option ℕ)) (nc : ℕ)
-      → HasLinks sizes slots cap count before bc ls newest nc → length newest ≡ length ls
-  as-many sizes slots cap count before bc ls newest nc h =
-      ap length h.lasts ∙ length-map (numbers_of ls) (λ u. last_place u slots) ∙ length-map ls (λ (l : LiveLoader). l.number)
-
-  -- a class more
-  pub links-class : (sizes : Sizes) (slots : List (Slot (Row P))) (cap more count : ℕ) (before : List (Option ℕ)) (bc bmore : ℕ) (ls : List LiveLoader) (newest : List (Option ℕ)) (nc nmore : ℕ) (r : ClassRow) (k : P) (i : ℕ) (o : Option LastChunk)
-      → HasLinks sizes slots cap count before bc ls newest nc → length slots < 2 * row_limit sizes → Rises ls → IsAt ls r.loader i
-      → cap ≤ more → bc ≤ bmore → nc ≤ nmore
-      → HasLinks sizes (slots ++ record { item = Class r k; live = true } ∷ []) more (count + 1) (before ++ get_or newest i None ∷ []) bmore (set ls i (record { number = r.loader; last = o })) (set newest i (Some (length slots))) nmore
-  links-class sizes slots cap more count before bc bmore ls newest nc nmore r k i o h few rises at le ble nle =
-      let s : Slot (Row P) = record { item = Class r k; live = true } in
-      record {
-        linked = linked-push slots before s (get_or newest i None) h.linked (last-at-place sizes slots cap count before bc ls newest nc r.loader i None h at);
-        lasts = ap (λ l. set l i (Some (length slots))) h.lasts ∙ places-push slots s ls i nobody refl rises.each at.within (at.number_is nobody)
-            ∙ ap (last_places (slots ++ s ∷ [])) (sym (numbers-set r.loader o ls i nobody at.within (at.number_is nobody)));
-        counted = omega (arith, h.counted, ap length (living-push slots s refl), length-append (living slots) (Class r k ∷ []));
-        few = omega (arith, few, length-append slots (s ∷ []));
-        room = omega (arith, h.room);
-        before_room = omega (arith, h.before_room);
-        newest_room = omega (arith, h.newest_room);
-      }
+  pub loaders-fewer : (sizes : Sizes) (rows : List (Row P)) (ls : List LiveLoader) (p : FreeSpace)
+      → IsBook sizes rows ls p → length ls ≤ length rows
+  loaders-fewer sizes rows ls p h =
+      omega (
+        arith,
+        length-map ls (λ (l : LiveLoader). l.number),
+        ap length h.loaders.numbers,
+        numbers-few rows,
+      )
 
   -- all loaders are below a number that is above theirs
-  pub loaders-below : (sizes : Sizes) (rows : List (Row P)) (rc : ℕ) (ls : List LiveLoader) (lc : ℕ) (p : FreeSpace) (n : ℕ)
-      → IsBook sizes rows rc ls lc p → is_above n rows ≡ true → AllByRecursion (λ l. l.number < n) ls
-  loaders-below sizes rows rc ls lc p n h above =
-      all-numbers (λ m. m < n) ls (subst (AllByRecursion (λ m. m < n)) (sym h.loaders.numbers) (above-all rows n above))
+  pub loaders-below : (sizes : Sizes) (rows : List (Row P)) (ls : List LiveLoader) (p : FreeSpace)
+      (n : ℕ) → IsBook sizes rows ls p → is_above n rows ≡ true
+      → AllByRecursion (λ l. l.number < n) ls
+  loaders-below sizes rows ls p n h above =
+      all-numbers (λ m. m < n) ls
+      (subst (AllByRecursion (λ m. m < n)) (sym h.loaders.numbers) (above-all rows n above))
+
+  -- ---- the links
+
+  pub last-at-place : (sizes : Sizes) (rows : RowPlaces P) (loaders : LoaderPlaces) (u i : ℕ)
+      (o : Option ℕ) → HasLinks sizes rows loaders → IsAt (items loaders.slots.items) u i
+      → get_or loaders.newest.items i o ≡ last_place u rows.slots.items
+  last-at-place sizes rows loaders u i o h at =
+      ap (λ l. get_or l i o) h.lasts
+      ∙ places-at rows.slots.items (items loaders.slots.items) i nobody o at.within
+      ∙ ap (λ (v : ℕ). last_place v rows.slots.items) (at.number_is nobody)
+
+  pub as-many : (sizes : Sizes) (rows : RowPlaces P) (loaders : LoaderPlaces)
+      → HasLinks sizes rows loaders → length loaders.newest.items ≡ length loaders.slots.items
+  as-many sizes rows loaders h =
+      let ls = items loaders.slots.items in
+      ap length h.lasts ∙ length-map (numbers_of ls) (λ u. last_place u rows.slots.items)
+      ∙ length-map ls (λ (l : LiveLoader). l.number)
+      ∙ length-map loaders.slots.items (λ (s : Slot LiveLoader). s.item)
+
+  -- no less room than before
+  pub record IsRoomier (old : RowPlaces P) (known : LoaderPlaces) (new : RowPlaces P)
+      (left : LoaderPlaces) : Type 0 where
+    pub slots : vec_capacity old.slots ≤ vec_capacity new.slots
+    pub before : vec_capacity old.before ≤ vec_capacity new.before
+    pub newest : vec_capacity known.newest ≤ vec_capacity left.newest
+
+  -- a class more, of the loader at this place
+  pub record HasClass (old : RowPlaces P) (known : LoaderPlaces) (r : ClassRow) (k : P) (i : ℕ)
+      (last : Option LastChunk) (new : RowPlaces P) (left : LoaderPlaces) : Type 0 where
+    pub slots : new.slots.items ≡ old.slots.items ++ record { item = Class r k; live = true } ∷ []
+    pub before : new.before.items ≡ old.before.items ++ get_or known.newest.items i None ∷ []
+    pub loaders : left.slots.items ≡ set known.slots.items i (living_loader r.loader last)
+    pub newest : left.newest.items ≡ set known.newest.items i (Some (length old.slots.items))
+
+  pub links-class : (sizes : Sizes) (old new : RowPlaces P) (known left : LoaderPlaces)
+      (r : ClassRow) (k : P) (i : ℕ) (o : Option LastChunk) → HasLinks sizes old known
+      → length old.slots.items < 2 * row_limit sizes → Rises (items known.slots.items)
+      → IsAt (items known.slots.items) r.loader i → HasClass old known r k i o new left
+      → IsRoomier old known new left → HasLinks sizes new left
+  links-class sizes old new known left r k i o h few rises at has more =
+      let slots = old.slots.items in
+      let ls = items known.slots.items in
+      let s : Slot (Row P) = record { item = Class r k; live = true } in
+      let l : Slot LiveLoader = living_loader r.loader o in
+      let last = last-at-place sizes old known r.loader i None h at in
+      let linked = linked-push slots old.before.items s (get_or known.newest.items i None) h.linked
+      last in
+      let lasts = ap (λ os. set os i (Some (length slots))) h.lasts
+      ∙ places-push slots s ls i nobody refl rises.each at.within (at.number_is nobody)
+      ∙ ap (last_places (slots ++ s ∷ []))
+      (sym (numbers-set r.loader o ls i nobody at.within (at.number_is nobody))) in
+      record {
+        linked = rw (has.slots, has.before) linked;
+        lasts = rw (has.newest, has.slots, has.loaders, items-set known.slots.items i l) lasts;
+        few = omega (arith, few, ap length has.slots, length-append slots (s ∷ []));
+        room = omega (arith, h.room, more.slots);
+        before_room = omega (arith, h.before_room, more.before);
+        newest_room = omega (arith, h.newest_room, more.newest);
+      }
 
   -- a loader more
-  pub links-loader : (sizes : Sizes) (rows : List (Row P)) (rc : ℕ) (known : List LiveLoader) (lc : ℕ) (p : FreeSpace) (slots : List (Slot (Row P))) (cap more count : ℕ) (before : List (Option ℕ)) (bc bmore : ℕ) (ls : List LiveLoader) (newest : List (Option ℕ)) (nc nmore : ℕ) (r : LoaderRow)
-      → IsBook sizes rows rc known lc p → is_above r.number rows ≡ true → living slots ≡ rows
-      → AllByRecursion (λ l. l.number < r.number) ls
-      → HasLinks sizes slots cap count before bc ls newest nc → length slots < 2 * row_limit sizes
-      → cap ≤ more → bc ≤ bmore → nc ≤ nmore
-      → HasLinks sizes (slots ++ record { item = Loader r; live = true } ∷ []) more (count + 1) (before ++ None ∷ []) bmore (ls ++ record { number = r.number; last = None } ∷ []) (newest ++ Some (length slots) ∷ []) nmore
-  links-loader sizes rows rc known lc p slots cap more count before bc bmore ls newest nc nmore r b above same under h few le ble nle =
+  pub record HasLoader (old : RowPlaces P) (known : LoaderPlaces) (r : LoaderRow)
+      (new : RowPlaces P) (left : LoaderPlaces) : Type 0 where
+    pub slots : new.slots.items ≡ old.slots.items ++ record { item = Loader r; live = true } ∷ []
+    pub before : new.before.items ≡ old.before.items ++ None ∷ []
+    pub loaders : left.slots.items ≡ known.slots.items ++ living_loader r.number None ∷ []
+    pub newest : left.newest.items ≡ known.newest.items ++ Some (length old.slots.items) ∷ []
+
+  -- no row is of the new loader
+  none-there : (sizes : Sizes) (rows : List (Row P)) (ls : List LiveLoader) (p : FreeSpace)
+      (n : ℕ) → IsBook sizes rows ls p → is_above n rows ≡ true
+      → AllByRecursion (λ row. is_of n row ≡ false) rows
+  none-there sizes rows ls p n b above =
+      all-fresh rows (numbers_of ls) n (owned-rows sizes rows ls p b)
+      (subst (AllByRecursion (λ m. m < n)) (sym b.loaders.numbers) (above-all rows n above))
+
+  pub links-loader : (sizes : Sizes) (rows : List (Row P)) (ls : List LiveLoader) (p : FreeSpace)
+      (old new : RowPlaces P) (known left : LoaderPlaces) (r : LoaderRow) → IsBook sizes rows ls p
+      → is_above r.number rows ≡ true → living old.slots.items ≡ rows
+      → AllByRecursion (λ l. l.number < r.number) (items known.slots.items)
+      → HasLinks sizes old known → length old.slots.items < 2 * row_limit sizes
+      → HasLoader old known r new left → IsRoomier old known new left → HasLinks sizes new left
+  links-loader sizes rows ls p old new known left r b above same under h few has more =
+      let slots = old.slots.items in
       let s : Slot (Row P) = record { item = Loader r; live = true } in
-      let l : LiveLoader = record { number = r.number; last = None } in
-      let below = subst (AllByRecursion (λ n. n < r.number)) (sym b.loaders.numbers) (above-all rows r.number above) in
-      let fresh = all-fresh rows (numbers_of known) r.number (owned-rows sizes rows rc known lc p b) below in
+      let l : Slot LiveLoader = living_loader r.number None in
+      let fresh = subst (AllByRecursion (λ row. is_of r.number row ≡ false)) (sym same)
+      (none-there sizes rows ls p r.number b above) in
+      let linked = linked-push slots old.before.items s None h.linked
+      (sym (place-none r.number slots fresh)) in
+      let numbers = numbers_of (items known.slots.items) in
+      let lasts = ap (λ os. os ++ Some (length slots) ∷ []) h.lasts
+      ∙ places-new slots s numbers r.number refl refl
+      (numbers-below (items known.slots.items) r.number under)
+      ∙ ap (last_places (slots ++ s ∷ [])) (sym (numbers-push (items known.slots.items) l.item)) in
       record {
-        linked = linked-push slots before s None h.linked (sym (place-none r.number slots (subst (AllByRecursion (λ row. is_of r.number row ≡ false)) (sym same) fresh)));
-        lasts = ap (λ os. os ++ Some (length slots) ∷ []) h.lasts ∙ places-new slots s (numbers_of ls) r.number refl refl (numbers-below ls r.number under) ∙ ap (last_places (slots ++ s ∷ [])) (sym (numbers-push ls l));
-        counted = omega (arith, h.counted, ap length (living-push slots s refl), length-append (living slots) (Loader r ∷ []));
-        few = omega (arith, few, length-append slots (s ∷ []));
-        room = omega (arith, h.room);
-        before_room = omega (arith, h.before_room);
-        newest_room = omega (arith, h.newest_room);
+        linked = rw (has.slots, has.before) linked;
+        lasts = rw (has.newest, has.slots, has.loaders, items-push known.slots.items l) lasts;
+        few = omega (arith, few, ap length has.slots, length-append slots (s ∷ []));
+        room = omega (arith, h.room, more.slots);
+        before_room = omega (arith, h.before_room, more.before);
+        newest_room = omega (arith, h.newest_room, more.newest);
       }
 
-  -- without a loader, whose place is the same or gone
-  pub links-unloaded : (sizes : Sizes) (slots : List (Slot (Row P))) (cap more count fewer : ℕ) (before : List (Option ℕ)) (bc : ℕ) (ls : List LiveLoader) (newest : List (Option ℕ)) (nc nmore u i n : ℕ) (o : Option LastChunk)
-      → HasLinks sizes slots cap count before bc ls newest nc → Rises ls → IsAt ls u i
-      → AreLinked (map (unloaded u) slots) before → fewer ≡ length (living (map (unloaded u) slots))
-      → cap ≤ more → nc ≤ nmore
-      → HasLinks sizes (map (unloaded u) slots) more fewer before bc (take n (set ls i (record { number = u; last = o }))) (take n (set newest i None)) nmore
-  links-unloaded sizes slots cap more count fewer before bc ls newest nc nmore u i n o h rises at linked counted le nle =
+  -- without the rows of a loader, whose place is the same or gone
+  pub links-unloaded : (sizes : Sizes) (old new : RowPlaces P) (known left : LoaderPlaces)
+      (u i : ℕ) → HasLinks sizes old known → Rises (items known.slots.items)
+      → IsAt (items known.slots.items) u i → new.slots.items ≡ map (unloaded u) old.slots.items
+      → AreLinked new.slots.items new.before.items → HasEnded known i u left
+      → IsRoomier old known new left → HasLinks sizes new left
+  links-unloaded sizes old new known left u i h rises at slots_are linked e more =
+      let slots = old.slots.items in
+      let ls = items known.slots.items in
+      let n : ℕ = e.count in
       let after = map (unloaded u) slots in
+      let s : Slot LiveLoader = ended_loader u in
+      let lasts = ap (λ os. take n (set os i None)) h.lasts
+      ∙ ap (take n)
+      (places-unloaded u slots ls i nobody rises.each at.within (at.number_is nobody)
+      ∙ ap (last_places after)
+      (sym (numbers-set u None ls i nobody at.within (at.number_is nobody))))
+      ∙ places-take after n (set ls i s.item) in
       record {
         linked = linked;
-        lasts = ap (λ l. take n (set l i None)) h.lasts ∙ ap (take n) (places-unloaded u slots ls i nobody rises.each at.within (at.number_is nobody)
-            ∙ ap (last_places after) (sym (numbers-set u o ls i nobody at.within (at.number_is nobody)))) ∙ places-take after n (set ls i (record { number = u; last = o }));
-        counted = counted;
-        few = omega (arith, h.few, length-map slots (unloaded {P = P} u));
-        room = omega (arith, h.room);
-        before_room = h.before_room;
-        newest_room = omega (arith, h.newest_room);
+        lasts = rw (
+          e.newest_are,
+          slots_are,
+          e.slots_are,
+          items-take n (set known.slots.items i s),
+          items-set known.slots.items i s,
+        ) lasts;
+        few = omega (arith, h.few, ap length slots_are, length-map slots (unloaded {P = P} u));
+        room = omega (arith, h.room, more.slots);
+        before_room = omega (arith, h.before_room, more.before);
+        newest_room = omega (arith, h.newest_room, more.newest);
       }
 
-  -- a chunk moved
-  pub links-moved : (sizes : Sizes) (from to : Chunk) (slots : List (Slot (Row P))) (cap more count : ℕ) (before : List (Option ℕ)) (bc : ℕ) (ls : List LiveLoader) (newest : List (Option ℕ)) (nc u i : ℕ) (o : Option LastChunk)
-      → HasLinks sizes slots cap count before bc ls newest nc → IsAt ls u i → cap ≤ more
-      → HasLinks sizes (map (moved_slot from to) slots) more count before bc (set ls i (record { number = u; last = o })) newest nc
-  links-moved sizes from to slots cap more count before bc ls newest nc u i o h at le =
+  -- a chunk moved, the last one of the loader at this place
+  pub record HasMoved (old : RowPlaces P) (known : LoaderPlaces) (from to : Chunk) (u i : ℕ)
+      (last : Option LastChunk) (new : RowPlaces P) (left : LoaderPlaces) : Type 0 where
+    pub slots : new.slots.items ≡ map (moved_slot from to) old.slots.items
+    pub before : new.before.items ≡ old.before.items
+    pub loaders : left.slots.items ≡ set known.slots.items i (living_loader u last)
+    pub newest : left.newest.items ≡ known.newest.items
+
+  pub links-moved : (sizes : Sizes) (from to : Chunk) (old new : RowPlaces P)
+      (known left : LoaderPlaces) (u i : ℕ) (o : Option LastChunk) → HasLinks sizes old known
+      → IsAt (items known.slots.items) u i → HasMoved old known from to u i o new left
+      → IsRoomier old known new left → HasLinks sizes new left
+  links-moved sizes from to old new known left u i o h at has more =
+      let slots = old.slots.items in
+      let ls = items known.slots.items in
+      let after = map (moved_slot from to) slots in
+      let l : Slot LiveLoader = living_loader u o in
+      let lasts = h.lasts
+      ∙ sym (places-same slots after (numbers_of ls) (λ v. place-moved from to v slots))
+      ∙ ap (last_places after)
+      (sym (numbers-set u o ls i nobody at.within (at.number_is nobody))) in
       record {
-        linked = linked-moved from to slots before h.linked;
-        lasts = h.lasts ∙ sym (places-same slots (map (moved_slot from to) slots) (numbers_of ls) (λ v. place-moved from to v slots))
-            ∙ ap (last_places (map (moved_slot from to) slots)) (sym (numbers-set u o ls i nobody at.within (at.number_is nobody)));
-        counted = h.counted ∙ sym (ap length (living-moved from to slots) ∙ length-map (living slots) (moved_row {P = P} from to));
-        few = omega (arith, h.few, length-map slots (moved_slot {P = P} from to));
-        room = omega (arith, h.room);
-        before_room = h.before_room;
-        newest_room = h.newest_room;
+        linked = rw (has.slots, has.before) (linked-moved from to slots old.before.items h.linked);
+        lasts = rw (has.newest, has.slots, has.loaders, items-set known.slots.items i l) lasts;
+        few = omega (
+          arith,
+          h.few,
+          ap length has.slots,
+          length-map slots (moved_slot {P = P} from to),
+        );
+        room = omega (arith, h.room, more.slots);
+        before_room = omega (arith, h.before_room, more.before);
+        newest_room = omega (arith, h.newest_room, more.newest);
       }

@@ -52,14 +52,17 @@ module _ {P : Type 0} where
     where
       by_test : classes_in (without_loader u rows) ≡ filter
           (λ (r : ClassRow). not (eqb r.loader u)) (classes_in rows) → (t : Bool)
-          → classes_in (cond (not t) (Loader s ∷ without_loader u rows) (without_loader u rows)) ≡ filter (λ (r : ClassRow). not (eqb r.loader u)) (classes_in rows)
+          → classes_in (cond (not t) (Loader s ∷ without_loader u rows) (without_loader u rows))
+          ≡ filter (λ (r : ClassRow). not (eqb r.loader u)) (classes_in rows)
       by_test behind true = behind
       by_test behind false = behind
   classes-without u (Class s p ∷ rows) = by_test (classes-without u rows) (eqb s.loader u)
     where
       by_test : classes_in (without_loader u rows) ≡ filter
           (λ (r : ClassRow). not (eqb r.loader u)) (classes_in rows) → (t : Bool)
-          → classes_in (cond (not t) (Class s p ∷ without_loader u rows) (without_loader u rows)) ≡ cond (not t) (s ∷ filter (λ (r : ClassRow). not (eqb r.loader u)) (classes_in rows)) (filter (λ (r : ClassRow). not (eqb r.loader u)) (classes_in rows))
+          → classes_in (cond (not t) (Class s p ∷ without_loader u rows) (without_loader u rows))
+          ≡ cond (not t) (s ∷ filter (λ (r : ClassRow). not (eqb r.loader u)) (classes_in rows))
+          (filter (λ (r : ClassRow). not (eqb r.loader u)) (classes_in rows))
       by_test behind true = behind
       by_test behind false = ap (λ l. s ∷ l) behind
 
@@ -70,14 +73,17 @@ module _ {P : Type 0} where
     where
       by_test : numbers_in (without_loader u rows) ≡ filter (λ n. not (eqb n u)) (numbers_in rows)
           → (t : Bool)
-          → numbers_in (cond (not t) (Loader s ∷ without_loader u rows) (without_loader u rows)) ≡ cond (not t) (s.number ∷ filter (λ n. not (eqb n u)) (numbers_in rows)) (filter (λ n. not (eqb n u)) (numbers_in rows))
+          → numbers_in (cond (not t) (Loader s ∷ without_loader u rows) (without_loader u rows))
+          ≡ cond (not t) (s.number ∷ filter (λ n. not (eqb n u)) (numbers_in rows))
+          (filter (λ n. not (eqb n u)) (numbers_in rows))
       by_test behind true = behind
       by_test behind false = ap (λ l. s.number ∷ l) behind
   numbers-without u (Class s p ∷ rows) = by_test (numbers-without u rows) (eqb s.loader u)
     where
       by_test : numbers_in (without_loader u rows) ≡ filter (λ n. not (eqb n u)) (numbers_in rows)
           → (t : Bool)
-          → numbers_in (cond (not t) (Class s p ∷ without_loader u rows) (without_loader u rows)) ≡ filter (λ n. not (eqb n u)) (numbers_in rows)
+          → numbers_in (cond (not t) (Class s p ∷ without_loader u rows) (without_loader u rows))
+          ≡ filter (λ n. not (eqb n u)) (numbers_in rows)
       by_test behind true = behind
       by_test behind false = behind
 
@@ -86,7 +92,8 @@ module _ {P : Type 0} where
   length-without u (row ∷ rows) = by_test (length-without u rows) (not (is_of u row))
     where
       by_test : length (without_loader u rows) ≤ length rows → (t : Bool)
-          → length (cond t (row ∷ without_loader u rows) (without_loader u rows)) ≤ length (row ∷ rows)
+          → length (cond t (row ∷ without_loader u rows) (without_loader u rows))
+          ≤ length (row ∷ rows)
       by_test behind true = omega (arith, behind)
       by_test behind false = omega (arith, behind)
 
@@ -94,12 +101,15 @@ module _ {P : Type 0} where
       → classes_in (moved from to rows) ≡ map (moved_class from to) (classes_in rows)
   classes-moved from to [] = refl
   classes-moved from to (Loader r ∷ rows) = classes-moved from to rows
-  classes-moved from to (Class r p ∷ rows) = by_test (same_chunk r.place.chunk from) (classes-moved from to rows)
+  classes-moved from to (Class r p ∷ rows) =
+      by_test (same_chunk r.place.chunk from) (classes-moved from to rows)
     where
       by_test : (t : Bool)
           → classes_in (moved from to rows) ≡ map (moved_class from to) (classes_in rows)
-          → classes_in (cond t (Class (record r { place = record r.place { chunk = to } }) p) (Class r p) ∷ moved from to rows)
-          ≡ cond t (record r { place = record r.place { chunk = to } }) r ∷ map (moved_class from to) (classes_in rows)
+          → classes_in (cond t (Class (record r { place = record r.place { chunk = to } }) p)
+          (Class r p) ∷ moved from to rows)
+          ≡ cond t (record r { place = record r.place { chunk = to } }) r
+          ∷ map (moved_class from to) (classes_in rows)
       by_test true behind = ap (λ l. record r { place = record r.place { chunk = to } } ∷ l) behind
       by_test false behind = ap (λ l. r ∷ l) behind
 
@@ -107,10 +117,12 @@ module _ {P : Type 0} where
       → numbers_in (moved from to rows) ≡ numbers_in rows
   numbers-moved from to [] = refl
   numbers-moved from to (Loader r ∷ rows) = ap (λ l. r.number ∷ l) (numbers-moved from to rows)
-  numbers-moved from to (Class r p ∷ rows) = by_test (same_chunk r.place.chunk from) (numbers-moved from to rows)
+  numbers-moved from to (Class r p ∷ rows) =
+      by_test (same_chunk r.place.chunk from) (numbers-moved from to rows)
     where
       by_test : (t : Bool) → numbers_in (moved from to rows) ≡ numbers_in rows
-          → numbers_in (cond t (Class (record r { place = record r.place { chunk = to } }) p) (Class r p) ∷ moved from to rows) ≡ numbers_in rows
+          → numbers_in (cond t (Class (record r { place = record r.place { chunk = to } }) p)
+          (Class r p) ∷ moved from to rows) ≡ numbers_in rows
       by_test true behind = behind
       by_test false behind = behind
 

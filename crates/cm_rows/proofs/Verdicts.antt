@@ -111,8 +111,13 @@ meets-means : (a b : Chunk) → meets a b ≡ true → Meets a b
 meets-means a b h =
     let p = both_true (eqb a.root b.root) _ h in
     let root : a.root ≡ b.root = eqb-true a.root b.root p.0 in
-    let lt : max a.at b.at < min (a.at + chunk_size a.order) (b.at + chunk_size b.order) = ltb-true _ _ p.1 in
-    (a.root, max a.at b.at, record { same_root = refl; from = omega arith; to = omega arith }, record { same_root = root; from = omega arith; to = omega arith })
+    let lt : max a.at b.at < min (a.at + chunk_size a.order) (b.at + chunk_size b.order) =
+    ltb-true _ _ p.1 in (
+      a.root,
+      max a.at b.at,
+      record { same_root = refl; from = omega arith; to = omega arith },
+      record { same_root = root; from = omega arith; to = omega arith },
+    )
 
 pub chunk-is : (sizes : Sizes) (c : Chunk) → (is_chunk sizes c ≡ true) ↔ IsChunk sizes c
 chunk-is sizes c = (forth, back)
@@ -122,15 +127,25 @@ chunk-is sizes c = (forth, back)
         let p = both_true _ (nat_le (c.at + chunk_size c.order) (chunk_size sizes.top)) h in
         let q = both_true _ (eqb (c.at % chunk_size c.order) 0) p.0 in
         let r = both_true (nat_le c.order sizes.top) (nat_lt c.root sizes.roots) q.0 in
-        record { within_top = grind (arith, nat_tests); in_a_root = grind (arith, nat_tests); aligned = eqb-true _ _ q.1; inside = grind (arith, nat_tests) }
+        record {
+          within_top = grind (arith, nat_tests);
+          in_a_root = grind (arith, nat_tests);
+          aligned = eqb-true _ _ q.1;
+          inside = grind (arith, nat_tests);
+        }
 
     back : IsChunk sizes c → is_chunk sizes c ≡ true
     back h =
-        let order : nat_le c.order sizes.top ≡ true = let e = h.within_top in grind (arith, nat_tests) in
-        let root : nat_lt c.root sizes.roots ≡ true = let e = h.in_a_root in grind (arith, nat_tests) in
+        let order : nat_le c.order sizes.top ≡ true = let e =
+        h.within_top in grind (arith, nat_tests) in
+        let root : nat_lt c.root sizes.roots ≡ true = let e =
+        h.in_a_root in grind (arith, nat_tests) in
         let aligned : eqb (c.at % chunk_size c.order) 0 ≡ true = eq-eqb _ _ h.aligned in
-        let inside : nat_le (c.at + chunk_size c.order) (chunk_size sizes.top) ≡ true = let e = h.inside in grind (arith, nat_tests) in
-        (all_four (nat_le c.order sizes.top) (nat_lt c.root sizes.roots) (eqb (c.at % chunk_size c.order) 0) (nat_le (c.at + chunk_size c.order) (chunk_size sizes.top)) order root aligned inside)
+        let inside : nat_le (c.at + chunk_size c.order) (chunk_size sizes.top) ≡ true = let e =
+        h.inside in grind (arith, nat_tests) in
+        (all_four (nat_le c.order sizes.top) (nat_lt c.root sizes.roots)
+        (eqb (c.at % chunk_size c.order) 0)
+        (nat_le (c.at + chunk_size c.order) (chunk_size sizes.top)) order root aligned inside)
 
 any-false : (c : Chunk) (cs : List Chunk) (d : Chunk) → not (list_any (meets c) cs) ≡ true
     → Among d cs → ¬ Meets c d
@@ -177,8 +192,11 @@ module _ {P : Type 0} where
       → AreLiveRows sizes rows p → IsFreeChunk p c ↔ ((is_chunk sizes c ≡ true)
       × (is_unused c rows ≡ true))
   free-unused sizes rows p c h =
-      let is = free-is sizes p (first_chunks (classes_in rows)) c h.holds in
-      (λ free. let f = is.0 free in ((chunk-is sizes c).1 f.0, apart-unused rows c h.founded f.1), λ (chunk, unused). is.1 ((chunk-is sizes c).0 chunk, unused-apart rows c unused))
+      let is = free-is sizes p (first_chunks (classes_in rows)) c h.holds in (
+        λ free. let f = is.0 free in
+            ((chunk-is sizes c).1 f.0, apart-unused rows c h.founded f.1),
+        λ (chunk, unused). is.1 ((chunk-is sizes c).0 chunk, unused-apart rows c unused),
+      )
 
 -- ---- places
 
@@ -204,7 +222,9 @@ module _ {P : Type 0} where
             let is : with_words rows d ≡ record { chunk = c; used = n } = cc in
             let same : d ≡ c = ap (λ (x : LastChunk). x.chunk) is in
             let words : used_words d rows ≡ n = ap (λ (x : LastChunk). x.used) is in
-            all_two (same_chunk d c) (eqb n (used_words c rows)) (same_chunk-is d c same) (eq-eqb n (used_words c rows) (sym words ∙ ap (λ (x : Chunk). used_words x rows) same)),
+            all_two (same_chunk d c) (eqb n (used_words c rows)) (same_chunk-is d c same)
+            (eq-eqb n (used_words c rows)
+            (sym words ∙ ap (λ (x : Chunk). used_words x rows) same)),
       )
 
   pub place-top : (rows : List (Row P)) (r : ClassRow)
@@ -216,26 +236,33 @@ module _ {P : Type 0} where
       → AreLiveRows sizes rows p → r.place.offset ≡ 0 → IsFreeChunk p r.place.chunk
       → has_place rows r ≡ true
   place-front sizes rows p r h zero free =
-      or_second (is_last_chunk r.loader r.place.chunk rows && eqb r.place.offset (used_words r.place.chunk rows)) _
-      (all_two (eqb r.place.offset 0) (is_unused r.place.chunk rows) (eq-eqb r.place.offset 0 zero) ((free-unused sizes rows p r.place.chunk h).0 free).1)
+      or_second (is_last_chunk r.loader r.place.chunk rows
+      && eqb r.place.offset (used_words r.place.chunk rows)) _
+      (all_two (eqb r.place.offset 0) (is_unused r.place.chunk rows) (eq-eqb r.place.offset 0 zero)
+      ((free-unused sizes rows p r.place.chunk h).0 free).1)
 
   pub place-none : (sizes : Sizes) (rows : List (Row P)) (p : FreeSpace) (r : ClassRow)
       → AreLiveRows sizes rows p → is_chunk sizes r.place.chunk ≡ true
-      → (¬ (last_of r.loader rows ≡ Some (record { chunk = r.place.chunk; used = r.place.offset }))) → (r.place.offset ≡ 0 → ¬ IsFreeChunk p r.place.chunk) → has_place rows r ≡ false
+      → (¬ (last_of r.loader rows ≡ Some (record { chunk = r.place.chunk; used = r.place.offset })))
+      → (r.place.offset ≡ 0 → ¬ IsFreeChunk p r.place.chunk) → has_place rows r ≡ false
   place-none sizes rows p r h chunk not_top not_front =
       not-true (has_place rows r) (λ yes.
-      elim (either_true (is_last_chunk r.loader r.place.chunk rows && eqb r.place.offset (used_words r.place.chunk rows)) (eqb r.place.offset 0 && is_unused r.place.chunk rows) yes) [
+      elim (either_true (is_last_chunk r.loader r.place.chunk rows
+      && eqb r.place.offset (used_words r.place.chunk rows))
+      (eqb r.place.offset 0 && is_unused r.place.chunk rows) yes) [
         | inl top ↦ not_top ((top-is rows r.loader r.place.offset r.place.chunk).0 top)
         | inr front ↦
             let q = both_true (eqb r.place.offset 0) (is_unused r.place.chunk rows) front in
-            not_front (eqb-true r.place.offset 0 q.0) ((free-unused sizes rows p r.place.chunk h).1 (chunk, q.1))
+            not_front (eqb-true r.place.offset 0 q.0)
+            ((free-unused sizes rows p r.place.chunk h).1 (chunk, q.1))
       ])
 
 -- ---- moves
 
 -- the tests of a move that need no pool
 abbrev pub has_room_for : Sizes → LastChunk → Move → Bool
-has_room_for sizes l e = same_chunk l.chunk e.from && is_chunk sizes e.to && nat_le l.used (chunk_size e.to.order)
+has_room_for sizes l e =
+    same_chunk l.chunk e.from && is_chunk sizes e.to && nat_le l.used (chunk_size e.to.order)
 
 module _ {P : Type 0} where
   pub move-none : (sizes : Sizes) (rows : List (Row P)) (e : Move) → last_of e.loader rows ≡ None
@@ -244,7 +271,8 @@ module _ {P : Type 0} where
     where
       by_last : (o : Option Chunk) → option_map (with_words rows) o ≡ None
           → (option_map_or
-          (λ last. same_chunk last e.from) o false && is_chunk sizes e.to && is_unused e.to rows && nat_le (used_words e.from rows) (chunk_size e.to.order)) ≡ false
+          (λ last. same_chunk last e.from) o false && is_chunk sizes e.to && is_unused e.to rows
+          && nat_le (used_words e.from rows) (chunk_size e.to.order)) ≡ false
       by_last None h = refl
       by_last (Some d) h = absurd (cc)
 
@@ -254,22 +282,29 @@ module _ {P : Type 0} where
   move-is sizes rows e l last = by_last (last_chunk e.loader (classes_in rows)) last
     where
       by_tests : (t : Bool) (d : Chunk) → same_chunk d e.from ≡ t → with_words rows d ≡ l
-          → (t && is_chunk sizes e.to && is_unused e.to rows && nat_le (used_words e.from rows) (chunk_size e.to.order)) ≡ (t && is_chunk sizes e.to && nat_le l.used (chunk_size e.to.order) && is_unused e.to rows)
+          → (t && is_chunk sizes e.to && is_unused e.to rows
+          && nat_le (used_words e.from rows) (chunk_size e.to.order))
+          ≡ (t && is_chunk sizes e.to && nat_le l.used (chunk_size e.to.order)
+          && is_unused e.to rows)
       by_tests false d same is = refl
       by_tests true d same is =
           let words : used_words e.from rows ≡ l.used = ap
           (λ (x : Chunk). used_words x rows) (sym (same_chunk-true d e.from same)) ∙ ap
           (λ (x : LastChunk). x.used) is in
-          rw (words) (turned (is_chunk sizes e.to) (is_unused e.to rows) (nat_le l.used (chunk_size e.to.order)))
+          rw (words) (turned (is_chunk sizes e.to) (is_unused e.to rows)
+          (nat_le l.used (chunk_size e.to.order)))
 
       by_last : (o : Option Chunk) → option_map (with_words rows) o ≡ Some l
           → (option_map_or
-          (λ last. same_chunk last e.from) o false && is_chunk sizes e.to && is_unused e.to rows && nat_le (used_words e.from rows) (chunk_size e.to.order)) ≡ (has_room_for sizes l e && is_unused e.to rows)
+          (λ last. same_chunk last e.from) o false && is_chunk sizes e.to && is_unused e.to rows
+          && nat_le (used_words e.from rows) (chunk_size e.to.order))
+          ≡ (has_room_for sizes l e && is_unused e.to rows)
       by_last None h = absurd (cc)
       by_last (Some d) h =
           let is : with_words rows d ≡ l = cc in
           by_tests (same_chunk d e.from) d refl is ∙ ap
-          (λ (x : LastChunk). same_chunk x.chunk e.from && is_chunk sizes e.to && nat_le l.used (chunk_size e.to.order) && is_unused e.to rows) is
+          (λ (x : LastChunk). same_chunk x.chunk e.from && is_chunk sizes e.to
+          && nat_le l.used (chunk_size e.to.order) && is_unused e.to rows) is
 
 -- ---- new loaders
 
@@ -279,22 +314,30 @@ none-is (Some n) h = absurd (cc)
 
 module _ {P : Type 0} where
   pub new-is : (sizes : Sizes) (rows : List (Row P)) (r : LoaderRow)
-      → is_new_loader sizes rows r ≡ (is_loader_name r.name && is_none (number_of r.name rows) && nat_lt (length rows) (row_limit sizes))
+      → is_new_loader sizes rows r
+      ≡ (is_loader_name r.name && is_none (number_of r.name rows)
+      && nat_lt (length rows) (row_limit sizes))
   new-is sizes rows r =
       let e = slots-length rows in
-      let same : has_room sizes rows (Loader r) ≡ nat_lt (length rows) (row_limit sizes) = grind (arith, nat_tests) in
+      let same : has_room sizes rows (Loader r) ≡ nat_lt (length rows) (row_limit sizes) =
+      grind (arith, nat_tests) in
       ap (λ (t : Bool). is_loader_name r.name && is_none (number_of r.name rows) && t) same
 
   pub new-name : (sizes : Sizes) (rows : List (Row P)) (r : LoaderRow)
       → is_new_loader sizes rows r ≡ true → number_of r.name rows ≡ None
   new-name sizes rows r h =
-      let first = both_true (is_loader_name r.name && is_none (number_of r.name rows)) (nat_lt (length rows) (row_limit sizes)) (sym (new-is sizes rows r) ∙ h) in
-      none-is (number_of r.name rows) (both_true (is_loader_name r.name) (is_none (number_of r.name rows)) first.0).1
+      let first =
+      both_true (is_loader_name r.name && is_none (number_of r.name rows))
+      (nat_lt (length rows) (row_limit sizes)) (sym (new-is sizes rows r) ∙ h) in
+      none-is (number_of r.name rows)
+      (both_true (is_loader_name r.name) (is_none (number_of r.name rows)) first.0).1
 
   pub new-few : (sizes : Sizes) (rows : List (Row P)) (r : LoaderRow)
       → is_new_loader sizes rows r ≡ true → length rows < row_limit sizes
   new-few sizes rows r h =
-      let last = (both_true (is_loader_name r.name && is_none (number_of r.name rows)) (nat_lt (length rows) (row_limit sizes)) (sym (new-is sizes rows r) ∙ h)).1 in
+      let last =
+      (both_true (is_loader_name r.name && is_none (number_of r.name rows))
+      (nat_lt (length rows) (row_limit sizes)) (sym (new-is sizes rows r) ∙ h)).1 in
       ltb-true _ _ last
 
 -- ---- the first broken rule of a class
@@ -336,7 +379,8 @@ on_none false room inside place l r i p = absurd (cc)
 pub inside-chunk : (sizes : Sizes) (r : ClassRow) → is_inside sizes r ≡ true
     → (is_chunk sizes r.place.chunk ≡ true) × (1 ≤ r.place.words)
 inside-chunk sizes r h =
-    let p = both_true (is_chunk sizes r.place.chunk && nat_le 1 r.place.words) (nat_le (r.place.offset + r.place.words) (chunk_size r.place.chunk.order)) h in
+    let p = both_true (is_chunk sizes r.place.chunk && nat_le 1 r.place.words)
+    (nat_le (r.place.offset + r.place.words) (chunk_size r.place.chunk.order)) h in
     let q = both_true (is_chunk sizes r.place.chunk) (nat_le 1 r.place.words) p.0 in
     (q.0, grind (arith, nat_tests))
 
@@ -344,12 +388,20 @@ pub inside-few : (sizes : Sizes) (r : ClassRow) → is_inside sizes r ≡ true �
     → r.place.offset + r.place.words ≤ 524288
 inside-few sizes r h top =
     let c = r.place.chunk in
-    let p = both_true (is_chunk sizes c && nat_le 1 r.place.words) (nat_le (r.place.offset + r.place.words) (chunk_size c.order)) h in
-    let fits : r.place.offset + r.place.words ≤ chunk_size c.order = leb-true (r.place.offset + r.place.words) (chunk_size c.order) p.1 in
+    let p = both_true (is_chunk sizes c && nat_le 1 r.place.words)
+    (nat_le (r.place.offset + r.place.words) (chunk_size c.order)) h in
+    let fits : r.place.offset + r.place.words ≤ chunk_size c.order =
+    leb-true (r.place.offset + r.place.words) (chunk_size c.order) p.1 in
     let chunk = (both_true (is_chunk sizes c) (nat_le 1 r.place.words) p.0).0 in
-    let three = (both_true (nat_le c.order sizes.top && nat_lt c.root sizes.roots && (c.at % chunk_size c.order == 0)) (nat_le (c.at + chunk_size c.order) (chunk_size sizes.top)) chunk).0 in
-    let two = (both_true (nat_le c.order sizes.top && nat_lt c.root sizes.roots) (c.at % chunk_size c.order == 0) three).0 in
-    let order : c.order ≤ sizes.top = leb-true c.order sizes.top (both_true (nat_le c.order sizes.top) (nat_lt c.root sizes.roots) two).0 in
+    let three =
+    (both_true (nat_le c.order sizes.top && nat_lt c.root sizes.roots
+    && (c.at % chunk_size c.order == 0))
+    (nat_le (c.at + chunk_size c.order) (chunk_size sizes.top)) chunk).0 in
+    let two = (both_true (nat_le c.order sizes.top && nat_lt c.root sizes.roots)
+    (c.at % chunk_size c.order == 0) three).0 in
+    let order : c.order ≤ sizes.top =
+    leb-true c.order sizes.top
+    (both_true (nat_le c.order sizes.top) (nat_lt c.root sizes.roots) two).0 in
     let small : c.order ≤ 12 = omega (arith, order, top) in
     let size : 2 ^ c.order ≤ 2 ^ 12 = pow-le-pow_right {n = 2} (omega arith) small in
     omega (arith, fits, size)
@@ -388,7 +440,8 @@ and-true false b h = absurd (cc)
 room-chunk : (sizes : Sizes) (l : LastChunk) (e : Move) → has_room_for sizes l e ≡ true
     → (l.chunk ≡ e.from) × (is_chunk sizes e.to ≡ true)
 room-chunk sizes l e h =
-    let p = both_true (same_chunk l.chunk e.from && is_chunk sizes e.to) (nat_le l.used (chunk_size e.to.order)) h in
+    let p = both_true (same_chunk l.chunk e.from && is_chunk sizes e.to)
+    (nat_le l.used (chunk_size e.to.order)) h in
     let q = both_true (same_chunk l.chunk e.from) (is_chunk sizes e.to) p.0 in
     (same_chunk-true l.chunk e.from q.0, q.1)
 
@@ -404,14 +457,16 @@ module _ {P : Type 0} where
   move-used sizes rows p e l h last room taken =
       move-is sizes rows e l last ∙ and-true (has_room_for sizes l e) (is_unused e.to rows) room
       ∙ not-true (is_unused e.to rows)
-      (λ unused. taken ((free-unused sizes rows p e.to h).1 ((room-chunk sizes l e room).1, unused)))
+      (λ unused. taken ((free-unused sizes rows p e.to h).1
+      ((room-chunk sizes l e room).1, unused)))
 
   pub move-fits : (sizes : Sizes) (rows : List (Row P)) (p : FreeSpace) (e : Move) (l : LastChunk)
       → AreLiveRows sizes rows p → last_of e.loader rows ≡ Some l → has_room_for sizes l e ≡ true
       → IsFreeChunk p e.to
       → move_fits sizes rows e ≡ true
   move-fits sizes rows p e l h last room free =
-      move-is sizes rows e l last ∙ and-true (has_room_for sizes l e) (is_unused e.to rows) room ∙ ((free-unused sizes rows p e.to h).0 free).1
+      move-is sizes rows e l last ∙ and-true (has_room_for sizes l e) (is_unused e.to rows) room
+      ∙ ((free-unused sizes rows p e.to h).0 free).1
 
 -- ---- numbers that go on
 

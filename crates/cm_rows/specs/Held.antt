@@ -12,6 +12,7 @@ use Rattle.std.specs.List.{AllByRecursion}
 use Rattle.cm_layout.specs.declared.class_row.ClassRow.{ClassRow}
 use Rattle.cm_layout.specs.declared.row.Row.{Row}
 use Rattle.cm_layout.specs.declared.row.Row.TheVariants.{Loader, Class}
+use Rattle.cm_layout.specs.Rows.{classes_in}
 use Rattle.cm_index.specs.declared.slot.Slot.{Slot}
 use Rattle.cm_rows.specs.declared.live_loader.LastChunk.{LastChunk}
 
@@ -30,6 +31,10 @@ pub record CanBeHeld (sizes : Sizes) (chunks : List Chunk) : Type 0 where
 -- the chunks of classes, each once: where its first record lies
 abbrev pub first_chunks : List ClassRow → List Chunk
 first_chunks classes = map (λ r. r.place.chunk) (filter (λ r. r.place.offset == 0) classes)
+
+-- the chunks of rows
+abbrev pub chunks_of : {P : Type 0} → List (Row P) → List Chunk
+chunks_of rows = first_chunks (classes_in rows)
 
 -- the chunk of a row that is the first on it
 abbrev pub own_chunk : {P : Type 0} → Row P → Option Chunk

@@ -1,6 +1,7 @@
 pub mod Rows
 pub mod Loaders
 pub mod Links
+pub mod Places
 pub mod Held
 pub mod Placing
 pub mod Book

@@ -1,9 +1,11 @@
 -- How the places of a loader's rows lead to one another: each to the one before it.
-use Rattle.std.specs.Prelude.{◌≡◌, ◌≤◌, ◌*◌, ◌&&◌, ℕ, suc, true, false, Bool, List, [], ◌∷◌, map, take, drop, length, get_or, ◌+◌, ◌<◌}
-use Rattle.std.specs.Prelude.{Option, Some, None, if◌then◌else◌}
-use Rattle.std.specs.List.{slice_get}
+use Rattle.std.specs.Prelude.{◌≡◌, ◌<◌, ◌≤◌, ◌+◌, ◌*◌, ◌&&◌, ℕ, suc, Bool, true, false, Option}
+use Rattle.std.specs.Prelude.{Some, None, List, [], ◌∷◌, map, take, drop, length, get_or}
+use Rattle.std.specs.Prelude.{if◌then◌else◌, vec_capacity}
+use Rattle.std.specs.List.{slice_get, AllByRecursion}
 use Rattle.cm_pool.specs.declared.chunk.Chunk.{Chunk}
 use Rattle.cm_pool.specs.Geometry.{Sizes}
+use Rattle.cm_pool.specs.Lists.{Among}
 use Rattle.cm_layout.specs.declared.row.Row.{Row}
 use Rattle.cm_layout.specs.declared.row.Row.TheVariants.{Loader, Class}
 use Rattle.cm_layout.specs.Rows.{is_of, moved_row}
@@ -11,12 +13,18 @@ use Rattle.cm_layout.specs.Rules.{row_limit}
 use Rattle.cm_index.specs.declared.slot.Slot.{Slot}
 use Rattle.cm_index.specs.Living.{living}
 use Rattle.cm_rows.specs.declared.live_loader.LiveLoader.{LiveLoader}
-use Rattle.cm_rows.specs.Loaders.{numbers_of}
+use Rattle.cm_rows.specs.declared.loader_places.LoaderPlaces.{LoaderPlaces}
+use Rattle.cm_rows.specs.declared.row_places.RowPlaces.{RowPlaces}
+use Rattle.cm_rows.specs.Loaders.{numbers_of, items}
 
 -- the number of the loader whose row it is: its own, or one of its classes
 abbrev pub loader_in : {P : Type 0} → Row P → ℕ
 loader_in (Loader r) = r.number
 loader_in (Class r p) = r.loader
+
+-- each row's loader is one of these
+abbrev pub AreOwned : {P : Type 0} → List (Row P) → List LiveLoader → Type 0
+AreOwned rows loaders = AllByRecursion (λ row. Among (loader_in row) (numbers_of loaders)) rows
 
 -- a place in the places behind the first, or else the first where that is one
 abbrev pub place_behind : Option ℕ → Bool → Option ℕ
@@ -29,7 +37,8 @@ last_place u [] = None
 last_place u (s ∷ slots) = place_behind (last_place u slots) (s.live && is_of u s.item)
 
 -- beside each place of a living row stands that of the living row of its loader before it
-pub record AreLinked {P : Type 0} (slots : List (Slot (Row P))) (before : List (Option ℕ)) : Type 0 where
+pub record AreLinked {P : Type 0} (slots : List (Slot (Row P)))
+    (before : List (Option ℕ)) : Type 0 where
   pub same : length before ≡ length slots
   pub each : (i : ℕ) (s : Slot (Row P)) → slice_get slots i ≡ Some s → s.live ≡ true
       → get_or before i None ≡ last_place (loader_in s.item) (take i slots)
@@ -39,7 +48,8 @@ abbrev pub last_places : {P : Type 0} → List (Slot (Row P)) → List ℕ → L
 last_places slots numbers = map (λ u. last_place u slots) numbers
 
 -- where a chunk's records move, no other loader's row does
-pub record OthersStay {P : Type 0} (u : ℕ) (from to : Chunk) (slots : List (Slot (Row P))) : Type 0 where
+pub record OthersStay {P : Type 0} (u : ℕ) (from to : Chunk)
+    (slots : List (Slot (Row P))) : Type 0 where
   pub each : (i : ℕ) (s : Slot (Row P)) → slice_get slots i ≡ Some s → s.live ≡ true
       → is_of u s.item ≡ false → moved_row from to s.item ≡ s.item
 
@@ -50,7 +60,8 @@ ended s = record { item = s.item; live = false }
 -- the next living row from a place on stands here
 pub record ComesNext {X : Type 0} (slots : List (Slot X)) (from place : ℕ) : Type 0 where
   pub within : place < length slots
-  pub is : (d : Slot X) → living (drop from slots) ≡ (get_or slots place d).item ∷ living (drop (place + 1) slots)
+  pub is : (d : Slot X) → living (drop from slots)
+      ≡ (get_or slots place d).item ∷ living (drop (place + 1) slots)
 
 -- how many places a walk still goes over at most
 abbrev pub places_left : Option ℕ → ℕ
@@ -58,13 +69,12 @@ places_left None = 0
 places_left (Some i) = suc i
 
 -- the links of the places, with room for twice the rows that can live
-pub record HasLinks {P : Type 0} (sizes : Sizes) (slots : List (Slot (Row P))) (capacity count : ℕ)
-    (before : List (Option ℕ)) (before_capacity : ℕ) (loaders : List LiveLoader)
-    (newest : List (Option ℕ)) (newest_capacity : ℕ) : Type 0 where
-  pub linked : AreLinked slots before
-  pub lasts : newest ≡ last_places slots (numbers_of loaders)
-  pub counted : count ≡ length (living slots)
-  pub few : length slots ≤ 2 * row_limit sizes
-  pub room : 2 * row_limit sizes ≤ capacity
-  pub before_room : 2 * row_limit sizes ≤ before_capacity
-  pub newest_room : 2 * row_limit sizes ≤ newest_capacity
+pub record HasLinks {P : Type 0} (sizes : Sizes) (rows : RowPlaces P)
+    (loaders : LoaderPlaces) : Type 0 where
+  pub linked : AreLinked rows.slots.items rows.before.items
+  pub lasts : loaders.newest.items
+      ≡ last_places rows.slots.items (numbers_of (items loaders.slots.items))
+  pub few : length rows.slots.items ≤ 2 * row_limit sizes
+  pub room : 2 * row_limit sizes ≤ vec_capacity rows.slots
+  pub before_room : 2 * row_limit sizes ≤ vec_capacity rows.before
+  pub newest_room : 2 * row_limit sizes ≤ vec_capacity loaders.newest

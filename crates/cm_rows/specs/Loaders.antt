@@ -1,6 +1,7 @@
 -- The loaders as a list that rises by number, with those between them that live no more.
-use Rattle.std.specs.Prelude.{◌≡◌, ◌≢◌, ◌<◌, ◌≤◌, ◌+◌, ◌*◌, ℕ, List, [], ◌∷◌, Option, None, length, map}
-use Rattle.std.specs.Prelude.{if◌then◌else◌, ◌==◌, take, drop, slice_set, false}
+use Rattle.std.specs.Prelude.{◌≡◌, ◌≢◌, ◌<◌, ◌≤◌, ◌==◌, ◌+◌, ◌*◌, ℕ, true, false, Option, None}
+use Rattle.std.specs.Prelude.{List, [], ◌∷◌, length, map, take, drop, slice_set, vec_capacity}
+use Rattle.std.specs.Prelude.{if◌then◌else◌}
 use Rattle.std.specs.List.{All, HoldsAt, AllByRecursion}
 use Rattle.cm_pool.specs.Geometry.{Sizes}
 use Rattle.cm_pool.specs.Lists.{Pairwise}
@@ -9,6 +10,7 @@ use Rattle.cm_index.specs.declared.slot.Slot.{Slot}
 use Rattle.cm_index.specs.Index.{LivesAt}
 use Rattle.cm_rows.specs.declared.live_loader.LastChunk.{LastChunk}
 use Rattle.cm_rows.specs.declared.live_loader.LiveLoader.{LiveLoader}
+use Rattle.cm_rows.specs.declared.loader_places.LoaderPlaces.{LoaderPlaces}
 
 abbrev pub numbers_of : List LiveLoader → List ℕ
 numbers_of loaders = map (λ l. l.number) loaders
@@ -46,22 +48,28 @@ pub record IsLivingEnd (loaders : List (Slot LiveLoader)) (place : ℕ) : Type 0
   pub behind : AllByRecursion (λ s. s.live ≡ false) (drop place loaders)
   pub last : (k : ℕ) → place ≡ k + 1 → LivesAt loaders k
 
--- the one at this place lives no more, and those at the end are taken out that don't
-abbrev pub with_end : List (Slot LiveLoader) → ℕ → ℕ → List (Slot LiveLoader)
-with_end loaders at number =
-    slice_set loaders at (record { item = record { number = number; last = None }; live = false })
+-- the place of a loader that lives, with its last chunk, and of one that lives no more
+abbrev pub living_loader : ℕ → Option LastChunk → Slot LiveLoader
+living_loader number last = record { item = record { number = number; last = last }; live = true }
 
-pub record HasEnded (loaders : List (Slot LiveLoader)) (newest : List (Option ℕ)) (at number : ℕ)
-    (loaders_left : List (Slot LiveLoader)) (newest_left : List (Option ℕ)) : Type 0 where
+abbrev pub ended_loader : ℕ → Slot LiveLoader
+ended_loader number = record { item = record { number = number; last = None }; live = false }
+
+-- the one at this place lives no more
+abbrev pub with_end : List (Slot LiveLoader) → ℕ → ℕ → List (Slot LiveLoader)
+with_end loaders at number = slice_set loaders at (ended_loader number)
+
+-- and those at the end are taken out that don't
+pub record HasEnded (old : LoaderPlaces) (at number : ℕ) (new : LoaderPlaces) : Type 0 where
   pub count : ℕ
-  pub is_end : IsLivingEnd (with_end loaders at number) count
-  pub loaders_are : loaders_left ≡ take count (with_end loaders at number)
-  pub newest_are : newest_left ≡ take count (slice_set newest at None)
+  pub is_end : IsLivingEnd (with_end old.slots.items at number) count
+  pub slots_are : new.slots.items ≡ take count (with_end old.slots.items at number)
+  pub newest_are : new.newest.items ≡ take count (slice_set old.newest.items at None)
 
 -- the places of loaders rise by number, the last one lives, and there is room for as many as for
 -- rows
-pub record HasLoaders (sizes : Sizes) (loaders : List (Slot LiveLoader)) (capacity rows : ℕ) : Type 0 where
-  pub rises : Rises (items loaders)
-  pub last : (k : ℕ) → length loaders ≡ k + 1 → LivesAt loaders k
-  pub few : length loaders ≤ rows
-  pub room : 2 * row_limit sizes ≤ capacity
+pub record HasLoaders (sizes : Sizes) (loaders : LoaderPlaces) (rows : ℕ) : Type 0 where
+  pub rises : Rises (items loaders.slots.items)
+  pub last : (k : ℕ) → length loaders.slots.items ≡ k + 1 → LivesAt loaders.slots.items k
+  pub few : length loaders.slots.items ≤ rows
+  pub room : 2 * row_limit sizes ≤ vec_capacity loaders.slots

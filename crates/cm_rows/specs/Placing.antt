@@ -1,5 +1,6 @@
 -- Where a class's place is taken beside the loaders that a book keeps, or what its row breaks.
-use Rattle.std.specs.Prelude.{◌≡◌, ◌⊎◌, ◌<◌, ◌≤◌, ◌+◌, ◌&&◌, ℕ, Bool, true, false, List, get_or, nat_le}
+use Rattle.std.specs.Prelude.{◌≡◌, ◌⊎◌, ◌<◌, ◌≤◌, ◌+◌, ◌&&◌, ℕ, Bool, true, false, List, get_or}
+use Rattle.std.specs.Prelude.{nat_le}
 use Rattle.cm_pool.specs.Chunks.{chunk_size}
 use Rattle.cm_pool.specs.Geometry.{Sizes}
 use Rattle.cm_pool.specs.FreeSpace.{FreeSpace}
@@ -44,8 +45,8 @@ pub record IsUnplaced (sizes : Sizes) (count : ℕ) (loaders : List (Slot LiveLo
       ⊎ ((is_inside sizes r ≡ true) × HasNoPlace slot.item.last r.place old new)
 
 -- the first rule that it breaks
-abbrev pub Breaks : Sizes → ℕ → List (Slot LiveLoader) → ClassRow → FreeSpace → FreeSpace → EntryRule
-    → Type 0
+abbrev pub Breaks : Sizes → ℕ → List (Slot LiveLoader) → ClassRow → FreeSpace → FreeSpace
+    → EntryRule → Type 0
 Breaks sizes count loaders r old new OnRows =
     IsAbsent (living loaders) r.loader ⊎ (row_limit sizes ≤ count)
 Breaks sizes count loaders r old new OnChunks = IsUnplaced sizes count loaders r old new

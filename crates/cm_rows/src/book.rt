@@ -1,20 +1,18 @@
 //! The book of live rows.
 
-ghost use Rattle.std.specs.Prelude.{◌≡◌, ◌&&◌, IsTrue, IfOk, [], ◌∷◌, ◌++◌, Some, None, is_none, length};
-ghost use Rattle.std.specs.Prelude.{if◌then◌else◌};
+ghost use Rattle.std.specs.Prelude.{◌≡◌, ◌&&◌, IsTrue, IfOk, [], ◌∷◌, ◌++◌, Some, None, is_none};
+ghost use Rattle.std.specs.Prelude.{if◌then◌else◌, length};
 
 use crate::links::{link, make_room, move_rows, push_place, relink, unload_rows};
-use crate::live_loader::{
-    LastChunk, LiveLoader, copy_loaders, end_loader, find, push_loader, set_last,
-};
+use crate::live_loader::{LastChunk, copy_loaders, find, set_last};
+use crate::loader_places::LoaderPlaces;
 use crate::place_rules::{has_room, is_free, row_limit};
 use crate::placing::place_class;
+use crate::row_places::RowPlaces;
 use crate::rows::{copy_rows, give_all, take_all};
 use crate::walk::Walk;
 use crate::whole_pool::whole_pool;
-use cm_index::{
-    Index, Kept, Slot, class_in, class_like, index_rows, is_new_loader_name, loader_of, push_row,
-};
+use cm_index::{Kept, class_in, class_like, index_rows, is_new_loader_name, loader_of, push_row};
 use cm_layout::{ClassRow, Entry, EntryRule, LoaderRow, Move, Row};
 use cm_pool::{Chunk, Geometry, Pool};
 use std::alloc::{AllocError, Global};
@@ -34,39 +32,31 @@ use std::marker::Model;
 #[derive(Drop)]
 pub struct Book<P: Kept> {
     geometry: Geometry,
-    /// The rows, and between them those that live no more and aren't swept out yet.
-    slots: Vec<Slot<Row<P>>>,
+    rows: RowPlaces<P>,
     /// How many of the rows live.
     count: usize,
-    /// Beside each living row the place of the row of its loader before it.
-    before: Vec<Option<u32>>,
-    index: Index,
-    /// Room to count places in while they are swept.
-    places: Vec<u32>,
-    /// The loaders, and between them those that live no more.
-    loaders: Vec<Slot<LiveLoader>>,
-    /// Beside each loader the place of its last row.
-    newest: Vec<Option<u32>>,
+    loaders: LoaderPlaces,
     pool: Pool,
 }
 
 impl<P: Kept> Model for Book<P> {
-    ghost use Rattle.std.specs.Prelude.{vec_capacity, length};
+    ghost use Rattle.std.specs.Prelude.{◌≡◌, length};
     ghost use Rattle.cm_rows.specs.Rows.{LiveRows};
-    ghost use Rattle.cm_rows.specs.Loaders.{items, HasLoaders};
-    ghost use Rattle.cm_rows.specs.Book.{IsBook};
+    ghost use Rattle.cm_rows.specs.Loaders.{HasLoaders};
+    ghost use Rattle.cm_rows.specs.Book.{IsBook, AreIndexed};
     ghost use Rattle.cm_rows.specs.Links.{HasLinks};
-    ghost use Rattle.cm_index.specs.Index.{HasIndex};
     ghost use Rattle.cm_index.specs.Living.{living};
 
     ghost Value = { LiveRows P };
 
-    ghost view = { λ b. record { sizes = b.geometry; rows = living b.slots.items } };
+    ghost view = { λ b. record { sizes = b.geometry; rows = living b.rows.slots.items } };
 
-    ghost invariant = { λ b. IsBook b.geometry (living b.slots.items) (vec_capacity b.slots) (living b.loaders.items) (vec_capacity b.loaders) b.pool
-        × HasIndex P.mark P.name b.geometry b.slots.items b.index.items b.index.room (vec_capacity b.places)
-        × HasLinks b.geometry b.slots.items (vec_capacity b.slots) b.count b.before.items (vec_capacity b.before) (items b.loaders.items) b.newest.items (vec_capacity b.newest)
-        × HasLoaders b.geometry b.loaders.items (vec_capacity b.loaders) (length b.slots.items) };
+    ghost invariant = { λ b.
+        IsBook b.geometry (living b.rows.slots.items) (living b.loaders.slots.items) b.pool
+        × AreIndexed P.mark P.name b.geometry b.rows
+        × HasLinks b.geometry b.rows b.loaders
+        × HasLoaders b.geometry b.loaders (length b.rows.slots.items)
+        × (b.count ≡ length (living b.rows.slots.items)) };
 }
 
 impl<P: Kept> Book<P> {
@@ -83,23 +73,15 @@ impl<P: Kept> Book<P> {
     pub fn new(alloc: Global, geometry: Geometry) -> Result<Book<P>, AllocError>
         ensures { IfOk result (λ book. book ≡ record { sizes = geometry; rows = [] }) }
     {
-        let limit = row_limit(geometry);
-        let slots = Vec::with_capacity(alloc, 2 * limit)?;
-        let before = Vec::with_capacity(alloc, 2 * limit)?;
-        let index = Index::with_room(alloc, 2 * limit)?;
-        let places = Vec::with_capacity(alloc, 2 * limit)?;
-        let loaders = Vec::with_capacity(alloc, 2 * limit)?;
-        let newest = Vec::with_capacity(alloc, 2 * limit)?;
+        let room = 2 * row_limit(geometry);
+        let rows = RowPlaces::with_room(alloc, room)?;
+        let loaders = LoaderPlaces::with_room(alloc, room)?;
         let pool = whole_pool(alloc, geometry)?;
         Ok(Book {
             geometry,
-            slots,
+            rows,
             count: 0,
-            before,
-            index,
-            places,
             loaders,
-            newest,
             pool,
         })
     }
@@ -110,7 +92,10 @@ impl<P: Kept> Book<P> {
     pub fn apply(&mut self, number: u64, entry: Entry<P>) -> Option<EntryRule>
         requires { IsTrue (is_above number self.old.rows) }
         ensures broken { result ≡ broken_rule self.old.sizes self.old.rows number entry }
-        ensures left { self.new ≡ (if is_none result then record self.old { rows = rows_after self.old.rows entry } else self.old) }
+        ensures left { self.new
+            ≡ (if is_none result
+            then record self.old { rows = rows_after self.old.rows entry }
+            else self.old) }
     {
         match entry {
             Entry::Live(Row::Loader(row)) => {
@@ -129,7 +114,10 @@ impl<P: Kept> Book<P> {
     /// none, it stands behind the others; else nothing is changed.
     pub fn apply_live(&mut self, base: u64, row: Row<P>) -> Option<EntryRule>
         ensures broken { result ≡ broken_live_rule self.old.sizes base self.old.rows row }
-        ensures left { self.new ≡ (if is_none result then record self.old { rows = self.old.rows ++ row ∷ [] } else self.old) }
+        ensures left { self.new
+            ≡ (if is_none result
+            then record self.old { rows = self.old.rows ++ row ∷ [] }
+            else self.old) }
     {
         match row {
             Row::Loader(row) => {
@@ -146,44 +134,44 @@ impl<P: Kept> Book<P> {
     pub fn loader(&self, name: &[u8]) -> Option<u64>
         ensures { result ≡ number_of_name name.now self.now.rows }
     {
-        loader_of(&self.index, &self.slots, name)
+        loader_of(&self.rows.index, &self.rows.slots, name)
     }
 
     /// What is kept of the class of this name in the loader of this number, if it has one.
     pub fn class(&self, loader: u64, name: &[u8]) -> Option<&P>
         ensures { option_copied result ≡ class_of P.name loader name.now self.now.rows }
     {
-        class_in(&self.index, &self.slots, loader, name)
+        class_in(&self.rows.index, &self.rows.slots, loader, name)
     }
 
     /// What is kept of the class in the loader of this number that has the name of this one.
     pub fn class_like(&self, loader: u64, class: &P) -> Option<&P>
         ensures { option_copied result ≡ class_of P.name loader (P.name class.now) self.now.rows }
     {
-        class_like(&self.index, &self.slots, loader, class)
+        class_like(&self.rows.index, &self.rows.slots, loader, class)
     }
 
     /// Whether a loader of this number lives.
     pub fn is_live(&self, number: u64) -> bool
         ensures { result ≡ is_live number self.now.rows }
     {
-        find(&self.loaders, number).is_some()
+        find(&self.loaders.slots, number).is_some()
     }
 
     /// Whether a number is above those of all live loaders.
     pub fn is_above(&self, number: u64) -> bool
         ensures { result ≡ is_above number self.now.rows }
     {
-        let count = self.loaders.len();
-        count == 0 || self.loaders[count - 1].item.number < number
+        let count = self.loaders.slots.len();
+        count == 0 || self.loaders.slots[count - 1].item.number < number
     }
 
     /// The chunk of a loader's last class, with its used words, if the loader has a class.
     pub fn last(&self, number: u64) -> Option<LastChunk>
         ensures { result ≡ last_of number self.now.rows }
     {
-        let at = find(&self.loaders, number)?;
-        self.loaders[at].item.last
+        let at = find(&self.loaders.slots, number)?;
+        self.loaders.slots[at].item.last
     }
 
     /// Whether a chunk can be had: the region has it, and no row's record lies on a word of it.
@@ -199,20 +187,17 @@ impl<P: Kept> Book<P> {
     pub fn clear(&mut self)
         ensures { self.new ≡ record self.old { rows = [] } }
     {
-        give_all(&self.slots, &mut self.pool);
-        self.slots.clear();
+        give_all(&self.rows.slots, &mut self.pool);
+        self.rows.clear();
         self.count = 0;
-        self.before.clear();
-        self.index.clear();
         self.loaders.clear();
-        self.newest.clear();
     }
 
     /// The rows, one after another.
     pub fn walk(&self) -> Walk<'_, P>
         ensures { result ≡ self.now.rows }
     {
-        Walk::over(&self.slots)
+        Walk::over(&self.rows.slots)
     }
 
     /// How many rows there are.
@@ -227,104 +212,116 @@ impl<P: Kept> Book<P> {
         ensures { result ≡ is_new_loader self.now.sizes self.now.rows row.now }
     {
         self.count < row_limit(self.geometry)
-            && is_new_loader_name(&self.index, &self.slots, row.name.as_bytes())
+            && is_new_loader_name(&self.rows.index, &self.rows.slots, row.name.as_bytes())
     }
 
     fn add_loader(&mut self, row: LoaderRow) -> Option<EntryRule>
         requires { IsTrue (is_above row.number self.old.rows) }
-        ensures broken { result ≡ (if is_new_loader self.old.sizes self.old.rows row then None else Some OnRows) }
-        ensures left { self.new ≡ (if is_none result then record self.old { rows = self.old.rows ++ Loader row ∷ [] } else self.old) }
+        ensures broken { result
+            ≡ (if is_new_loader self.old.sizes self.old.rows row then None else Some OnRows) }
+        ensures left { self.new
+            ≡ (if is_none result
+            then record self.old { rows = self.old.rows ++ Loader row ∷ [] }
+            else self.old) }
     {
         if !self.is_new_loader(&row) {
             return Some(EntryRule::OnRows);
         }
-        make_room(
-            self.geometry,
-            &mut self.slots,
-            &mut self.before,
-            &mut self.index,
-            &mut self.places,
-            &mut self.loaders,
-            &mut self.newest,
-        );
-        let next = self.slots.len() as u32;
-        push_place(&mut self.newest, Some(next));
-        push_place(&mut self.before, None);
-        let loader = LiveLoader {
-            number: row.number,
-            last: None,
-        };
-        push_loader(&mut self.loaders, loader);
-        push_row(&mut self.slots, &mut self.index, Row::Loader(row));
+        make_room(self.geometry, &mut self.rows, &mut self.loaders);
+        let next = self.rows.slots.len() as u32;
+        self.loaders.push(row.number, next);
+        push_place(&mut self.rows.before, None);
+        push_row(&mut self.rows.slots, &mut self.rows.index, Row::Loader(row));
         self.count += 1;
         None
     }
 
     fn define(&mut self, row: ClassRow, kept: P) -> Option<EntryRule>
         ensures broken { result ≡ broken_live_rule self.old.sizes 0 self.old.rows (Class row kept) }
-        ensures left { self.new ≡ (if is_none result then record self.old { rows = self.old.rows ++ Class row kept ∷ [] } else self.old) }
+        ensures left { self.new
+            ≡ (if is_none result
+            then record self.old { rows = self.old.rows ++ Class row kept ∷ [] }
+            else self.old) }
     {
-        let (count, loaders) = (self.count, &self.loaders);
+        let (count, loaders) = (self.count, &self.loaders.slots);
         if let Some(rule) = place_class(self.geometry, count, loaders, &row, &mut self.pool) {
             return Some(rule);
         }
         let used = row.place.offset + row.place.words;
-        make_room(
-            self.geometry,
-            &mut self.slots,
-            &mut self.before,
-            &mut self.index,
-            &mut self.places,
-            &mut self.loaders,
-            &mut self.newest,
+        let last = LastChunk {
+            chunk: row.place.chunk,
+            used,
+        };
+        make_room(self.geometry, &mut self.rows, &mut self.loaders);
+        // what was before it may be swept out
+        let here = find(&self.loaders.slots, row.loader).unwrap();
+        let next = self.rows.slots.len() as u32;
+        link(&mut self.rows.before, &mut self.loaders.newest, here, next);
+        set_last(&mut self.loaders.slots, here, row.loader, last);
+        push_row(
+            &mut self.rows.slots,
+            &mut self.rows.index,
+            Row::Class(row, kept),
         );
-        let here = find(&self.loaders, row.loader).unwrap(); // what was before it may be swept out
-        let next = self.slots.len() as u32;
-        link(&mut self.before, &mut self.newest, here, next);
-        set_last(&mut self.loaders, here, row.loader, row.place.chunk, used);
-        push_row(&mut self.slots, &mut self.index, Row::Class(row, kept));
         self.count += 1;
         None
     }
 
     fn unload(&mut self, number: u64) -> Option<EntryRule>
         ensures broken { result ≡ (if is_live number self.old.rows then None else Some OnRows) }
-        ensures left { self.new ≡ (if is_none result then record self.old { rows = without_loader number self.old.rows } else self.old) }
+        ensures left { self.new
+            ≡ (if is_none result
+            then record self.old { rows = without_loader number self.old.rows }
+            else self.old) }
     {
-        let Some(at) = find(&self.loaders, number) else {
+        let Some(at) = find(&self.loaders.slots, number) else {
             return Some(EntryRule::OnRows);
         };
-        let last = self.newest[at];
-        let ended = unload_rows(&mut self.slots, &self.before, number, last, &mut self.pool);
+        let last = self.loaders.newest[at];
+        let ended = unload_rows(
+            &mut self.rows.slots,
+            &self.rows.before,
+            number,
+            last,
+            &mut self.pool,
+        );
         self.count -= ended;
-        end_loader(&mut self.loaders, &mut self.newest, at, number);
+        self.loaders.end(at, number);
         None
     }
 
     fn relocate(&mut self, entry: &Move) -> Option<EntryRule>
-        ensures broken { result ≡ (if move_fits self.old.sizes self.old.rows entry.now then None else Some OnChunks) }
-        ensures left { self.new ≡ (if is_none result then record self.old { rows = moved entry.now.from entry.now.to self.old.rows } else self.old) }
+        ensures broken { result
+            ≡ (if move_fits self.old.sizes self.old.rows entry.now then None else Some OnChunks) }
+        ensures left { self.new
+            ≡ (if is_none result
+            then record self.old { rows = moved entry.now.from entry.now.to self.old.rows }
+            else self.old) }
     {
-        let Some(at) = find(&self.loaders, entry.loader) else {
+        let Some(at) = find(&self.loaders.slots, entry.loader) else {
             return Some(EntryRule::OnChunks);
         };
-        let Some(last) = self.loaders[at].item.last else {
+        let Some(last) = self.loaders.slots[at].item.last else {
             return Some(EntryRule::OnChunks);
         };
         if !has_room(self.geometry, last, entry) || !self.pool.take(&entry.to) {
             return Some(EntryRule::OnChunks);
         }
         self.pool.give(entry.from);
-        let newest = self.newest[at];
+        let newest = self.loaders.newest[at];
         move_rows(
-            &mut self.slots,
-            &self.before,
+            &mut self.rows.slots,
+            &self.rows.before,
             entry.loader,
             newest,
             entry.from,
             entry.to,
         );
-        set_last(&mut self.loaders, at, entry.loader, entry.to, last.used);
+        let moved = LastChunk {
+            chunk: entry.to,
+            used: last.used,
+        };
+        set_last(&mut self.loaders.slots, at, entry.loader, moved);
         None
     }
 }
@@ -337,17 +334,17 @@ impl Book<()> {
         requires { self.old.sizes ≡ other.now.sizes }
         ensures { self.new ≡ record self.old { rows = bare other.now.rows } }
     {
-        give_all(&self.slots, &mut self.pool);
-        take_all(&other.slots, &mut self.pool);
-        copy_rows(&mut self.slots, &other.slots);
+        give_all(&self.rows.slots, &mut self.pool);
+        take_all(&other.rows.slots, &mut self.pool);
+        copy_rows(&mut self.rows.slots, &other.rows.slots);
         self.count = other.count;
-        index_rows(&mut self.index, &self.slots);
-        copy_loaders(&mut self.loaders, &other.loaders);
+        index_rows(&mut self.rows.index, &self.rows.slots);
+        copy_loaders(&mut self.loaders.slots, &other.loaders.slots);
         relink(
-            &mut self.before,
-            &mut self.newest,
-            &self.loaders,
-            &self.slots,
+            &mut self.rows.before,
+            &mut self.loaders.newest,
+            &self.loaders.slots,
+            &self.rows.slots,
         );
     }
 }

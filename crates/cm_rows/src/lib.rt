@@ -5,8 +5,10 @@
 mod book;
 mod links;
 mod live_loader;
+mod loader_places;
 mod place_rules;
 mod placing;
+mod row_places;
 mod rows;
 mod walk;
 mod whole_pool;

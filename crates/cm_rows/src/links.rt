@@ -1,23 +1,24 @@
 //! The links of places, by which a loader's rows are found from its last one.
 
-ghost use Rattle.std.specs.Prelude.{◌≡◌, ◌<◌, ◌≤◌, ◌+◌, ◌^◌, ◌*◌, ◌++◌, ◌∷◌, [], ℕ, Some, None, Option};
+ghost use Rattle.std.specs.Prelude.{◌≡◌, ◌<◌, ◌≤◌, ◌+◌, ◌^◌, ◌*◌, ◌++◌, ◌∷◌, [], Some, None};
 ghost use Rattle.std.specs.Prelude.{true, length, map, get_or, slice_set, vec_len, vec_capacity};
 ghost use Rattle.std.specs.List.{AllByRecursion};
 ghost use Rattle.cm_pool.specs.Geometry.{IsGeometry};
-ghost use Rattle.cm_pool.specs.Lists.{Among};
-ghost use Rattle.cm_layout.specs.Rows.{classes_in};
-ghost use Rattle.cm_index.specs.Index.{LivesAt, HasIndex};
+ghost use Rattle.cm_index.specs.Index.{LivesAt};
 ghost use Rattle.cm_index.specs.Living.{living, swept, unloaded, moved_slot};
-ghost use Rattle.cm_rows.specs.Held.{Holds, first_chunks};
-ghost use Rattle.cm_rows.specs.Links.{loader_in, last_place, last_places, AreLinked, HasLinks, ended};
-ghost use Rattle.cm_rows.specs.Links.{OthersStay};
+ghost use Rattle.cm_rows.specs.Book.{AreIndexed};
+ghost use Rattle.cm_rows.specs.Held.{Holds, chunks_of};
+ghost use Rattle.cm_rows.specs.Links.{loader_in, last_place, last_places, AreLinked, HasLinks};
+ghost use Rattle.cm_rows.specs.Links.{AreOwned, OthersStay, ended};
 ghost use Rattle.cm_rows.specs.Loaders.{Rises, numbers_of, items, HasLoaders};
 ghost use Rattle.cm_layout.specs.Rules.{row_limit as row_limit_of};
 
 use crate::live_loader::{LiveLoader, find};
+use crate::loader_places::LoaderPlaces;
 use crate::place_rules::row_limit;
+use crate::row_places::RowPlaces;
 use crate::rows::{move_row, own_chunk};
-use cm_index::{Index, Kept, Slot, sweep_index};
+use cm_index::{Kept, Slot, sweep_index};
 use cm_layout::Row;
 use cm_pool::{Chunk, Geometry, Pool};
 
@@ -25,7 +26,8 @@ use cm_pool::{Chunk, Geometry, Pool};
 pub fn link(before: &mut Vec<Option<u32>>, newest: &mut Vec<Option<u32>>, loader: usize, place: u32)
     requires within { loader < vec_len newest.old }
     requires room { vec_len before.old < vec_capacity before.old }
-    ensures before { before.new.items ≡ before.old.items ++ get_or newest.old.items loader None ∷ [] }
+    ensures before { before.new.items
+        ≡ before.old.items ++ get_or newest.old.items loader None ∷ [] }
     ensures newest { newest.new.items ≡ slice_set newest.old.items loader (Some place) }
     ensures capacity { vec_capacity before.old ≤ vec_capacity before.new }
     ensures newest_capacity { vec_capacity newest.new ≡ vec_capacity newest.old }
@@ -45,10 +47,10 @@ pub fn unload_rows<P>(
 ) -> usize
     requires linked { AreLinked slots.old.items before.now }
     requires newest { newest ≡ last_place loader slots.old.items }
-    requires holds { Holds pool.old.geometry pool.old (first_chunks (classes_in (living slots.old.items))) }
+    requires holds { Holds pool.old.geometry pool.old (chunks_of (living slots.old.items)) }
     ensures slots { slots.new.items ≡ map (unloaded loader) slots.old.items }
     ensures linked { AreLinked slots.new.items before.now }
-    ensures holds { Holds pool.old.geometry pool.new (first_chunks (classes_in (living slots.new.items))) }
+    ensures holds { Holds pool.old.geometry pool.new (chunks_of (living slots.new.items)) }
     ensures count { length (living slots.new.items) + result ≡ length (living slots.old.items) }
     ensures capacity { vec_capacity slots.new ≡ vec_capacity slots.old }
 {
@@ -66,9 +68,10 @@ pub fn unload_rows<P>(
 fn end_row<P>(slots: &mut Vec<Slot<Row<P>>>, at: usize, pool: &mut Pool)
     requires within { at < vec_len slots.old }
     requires lives { LivesAt slots.old.items at }
-    requires holds { Holds pool.old.geometry pool.old (first_chunks (classes_in (living slots.old.items))) }
-    ensures slots { (d : Slot (Row P)) → slots.new.items ≡ slice_set slots.old.items at (ended (get_or slots.old.items at d)) }
-    ensures holds { Holds pool.old.geometry pool.new (first_chunks (classes_in (living slots.new.items))) }
+    requires holds { Holds pool.old.geometry pool.old (chunks_of (living slots.old.items)) }
+    ensures slots { (d : Slot (Row P)) → slots.new.items
+        ≡ slice_set slots.old.items at (ended (get_or slots.old.items at d)) }
+    ensures holds { Holds pool.old.geometry pool.new (chunks_of (living slots.new.items)) }
     ensures capacity { vec_capacity slots.new ≡ vec_capacity slots.old }
 {
     let chunk = own_chunk(&slots[at].item);
@@ -142,7 +145,7 @@ pub fn relink<P>(
 )
     requires live { AllByRecursion (λ s. s.live ≡ true) slots.now }
     requires rises { Rises (items loaders.now) }
-    requires owned { AllByRecursion (λ row. Among (loader_in row) (numbers_of (living loaders.now))) (living slots.now) }
+    requires owned { AreOwned (living slots.now) (living loaders.now) }
     requires fits { length slots.now ≤ 2 ^ 32 }
     requires room { length slots.now ≤ vec_capacity before.old }
     requires newest_room { length loaders.now ≤ vec_capacity newest.old }
@@ -169,35 +172,31 @@ fn sweep<T: Drop>(slots: &mut Vec<Slot<T>>)
 
 /// Where twice as many places are taken as rows can live, sweeps out the rows and the loaders that
 /// live no more.
-pub fn make_room<P: Kept>(
-    geometry: Geometry,
-    slots: &mut Vec<Slot<Row<P>>>,
-    before: &mut Vec<Option<u32>>,
-    index: &mut Index,
-    places: &mut Vec<u32>,
-    loaders: &mut Vec<Slot<LiveLoader>>,
-    newest: &mut Vec<Option<u32>>,
-)
+pub fn make_room<P: Kept>(geometry: Geometry, rows: &mut RowPlaces<P>, loaders: &mut LoaderPlaces)
     requires lawful { IsGeometry geometry }
-    requires few { length (living slots.old.items) < row_limit_of geometry }
-    requires loaders_few { length (living loaders.old.items) ≤ length (living slots.old.items) }
-    requires links { HasLinks geometry slots.old.items (vec_capacity slots.old) (length (living slots.old.items)) before.old.items (vec_capacity before.old) (items loaders.old.items) newest.old.items (vec_capacity newest.old) }
-    requires index { HasIndex P.mark P.name geometry slots.old.items index.old.items index.old.room (vec_capacity places.old) }
-    requires loaders { HasLoaders geometry loaders.old.items (vec_capacity loaders.old) (length slots.old.items) }
-    requires owned { AllByRecursion (λ row. Among (loader_in row) (numbers_of (living loaders.old.items))) (living slots.old.items) }
-    ensures rows { living slots.new.items ≡ living slots.old.items }
-    ensures living_loaders { living loaders.new.items ≡ living loaders.old.items }
-    ensures links { HasLinks geometry slots.new.items (vec_capacity slots.new) (length (living slots.new.items)) before.new.items (vec_capacity before.new) (items loaders.new.items) newest.new.items (vec_capacity newest.new) }
-    ensures index { HasIndex P.mark P.name geometry slots.new.items index.new.items index.new.room (vec_capacity places.new) }
-    ensures loaders { HasLoaders geometry loaders.new.items (vec_capacity loaders.new) (length slots.new.items) }
-    ensures room { length slots.new.items < 2 * row_limit_of geometry }
-    ensures capacity { vec_capacity slots.new ≡ vec_capacity slots.old }
-    ensures loaders_capacity { vec_capacity loaders.new ≡ vec_capacity loaders.old }
+    requires few { length (living rows.old.slots.items) < row_limit_of geometry }
+    requires loaders_few { length (living loaders.old.slots.items)
+        ≤ length (living rows.old.slots.items) }
+    requires index { AreIndexed P.mark P.name geometry rows.old }
+    requires links { HasLinks geometry rows.old loaders.old }
+    requires loaders { HasLoaders geometry loaders.old (length rows.old.slots.items) }
+    requires owned { AreOwned (living rows.old.slots.items) (living loaders.old.slots.items) }
+    ensures rows { living rows.new.slots.items ≡ living rows.old.slots.items }
+    ensures living_loaders { living loaders.new.slots.items ≡ living loaders.old.slots.items }
+    ensures index { AreIndexed P.mark P.name geometry rows.new }
+    ensures links { HasLinks geometry rows.new loaders.new }
+    ensures loaders { HasLoaders geometry loaders.new (length rows.new.slots.items) }
+    ensures room { length rows.new.slots.items < 2 * row_limit_of geometry }
 {
-    if slots.len() >= 2 * row_limit(geometry) {
-        sweep_index(index, places, slots);
-        sweep(slots);
-        sweep(loaders);
-        relink(before, newest, loaders, slots);
+    if rows.slots.len() >= 2 * row_limit(geometry) {
+        sweep_index(&mut rows.index, &mut rows.places, &rows.slots);
+        sweep(&mut rows.slots);
+        sweep(&mut loaders.slots);
+        relink(
+            &mut rows.before,
+            &mut loaders.newest,
+            &loaders.slots,
+            &rows.slots,
+        );
     }
 }

@@ -1,10 +1,11 @@
 //! The loaders, rising by number, each with its last chunk. One that lives no more keeps its place
 //! until the last one ends or all such are swept out, so no unload moves the others.
 
-ghost use Rattle.std.specs.Prelude.{◌≡◌, ◌<◌, ◌≤◌, IfSome, IfNone, Some, None, [], ◌∷◌, ◌++◌, ◌+◌};
+ghost use Rattle.std.specs.Prelude.{◌≡◌, ◌<◌, ◌≤◌, IfSome, IfNone, Some, [], ◌∷◌, ◌++◌, ◌+◌};
 ghost use Rattle.std.specs.Prelude.{length, slice_set, vec_len, vec_capacity, true};
 ghost use Rattle.cm_index.specs.Living.{living, swept};
-ghost use Rattle.cm_rows.specs.Loaders.{Rises, IsAt, IsAbsent, items, IsKept, HasEnded, IsLivingEnd};
+ghost use Rattle.cm_rows.specs.Loaders.{Rises, IsAt, IsAbsent, items, IsKept, IsLivingEnd};
+ghost use Rattle.cm_rows.specs.Loaders.{living_loader};
 
 use cm_index::Slot;
 use cm_pool::Chunk;
@@ -49,7 +50,8 @@ pub fn find(loaders: &[Slot<LiveLoader>], number: u64) -> Option<usize>
 /// Puts a loader that lives behind the others, where there is room for it.
 pub fn push_loader(loaders: &mut Vec<Slot<LiveLoader>>, loader: LiveLoader)
     requires { vec_len loaders.old < vec_capacity loaders.old }
-    ensures loaders { loaders.new.items ≡ loaders.old.items ++ record { item = loader; live = true } ∷ [] }
+    ensures loaders { loaders.new.items
+        ≡ loaders.old.items ++ record { item = loader; live = true } ∷ [] }
     ensures capacity { vec_capacity loaders.old ≤ vec_capacity loaders.new }
 {
     loaders
@@ -61,49 +63,21 @@ pub fn push_loader(loaders: &mut Vec<Slot<LiveLoader>>, loader: LiveLoader)
 }
 
 /// Keeps another last chunk of a loader.
-pub fn set_last(
-    loaders: &mut Vec<Slot<LiveLoader>>,
-    at: usize,
-    number: u64,
-    chunk: Chunk,
-    used: u32,
-)
+pub fn set_last(loaders: &mut Vec<Slot<LiveLoader>>, at: usize, number: u64, last: LastChunk)
     requires { at < vec_len loaders.old }
-    ensures loaders { loaders.new.items ≡ slice_set loaders.old.items at (record { item = record { number = number; last = Some (record { chunk = chunk; used = used }) }; live = true }) }
+    ensures loaders { loaders.new.items
+        ≡ slice_set loaders.old.items at (living_loader number (Some last)) }
     ensures capacity { vec_capacity loaders.new ≡ vec_capacity loaders.old }
 {
-    let last = Some(LastChunk { chunk, used });
+    let last = Some(last);
     loaders[at] = Slot {
         item: LiveLoader { number, last },
         live: true,
     };
 }
 
-/// Ends a loader. It keeps its place as long as one behind it lives.
-pub fn end_loader(
-    loaders: &mut Vec<Slot<LiveLoader>>,
-    newest: &mut Vec<Option<u32>>,
-    at: usize,
-    number: u64,
-)
-    requires within { at < vec_len loaders.old }
-    requires beside { vec_len newest.old ≡ vec_len loaders.old }
-    ensures ended { HasEnded loaders.old.items newest.old.items at number loaders.new.items newest.new.items }
-    ensures capacity { vec_capacity loaders.new ≡ vec_capacity loaders.old }
-    ensures newest_capacity { vec_capacity newest.new ≡ vec_capacity newest.old }
-{
-    loaders[at] = Slot {
-        item: LiveLoader { number, last: None },
-        live: false,
-    };
-    newest[at] = None;
-    let count = living_end(loaders);
-    loaders.truncate(count);
-    newest.truncate(count);
-}
-
-// How many there are up to the last one that lives.
-fn living_end(loaders: &[Slot<LiveLoader>]) -> usize
+/// How many there are up to the last one that lives.
+pub fn living_end(loaders: &[Slot<LiveLoader>]) -> usize
     ensures { IsLivingEnd loaders.now result }
 {
     let mut count = loaders.len();

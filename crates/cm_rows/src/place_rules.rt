@@ -26,7 +26,8 @@ pub fn is_chunk(geometry: Geometry, chunk: &Chunk) -> bool
 
 /// Whether the words are inside a chunk that the region can have, at least one.
 pub fn is_inside(geometry: Geometry, place: &Place) -> bool
-    ensures { result ≡ (is_chunk geometry place.now.chunk && nat_le 1 place.now.words && nat_le (place.now.offset + place.now.words) (chunk_size place.now.chunk.order)) }
+    ensures { result ≡ (is_chunk geometry place.now.chunk && nat_le 1 place.now.words
+        && nat_le (place.now.offset + place.now.words) (chunk_size place.now.chunk.order)) }
 {
     is_chunk(geometry, &place.chunk) && place.is_inside()
 }
@@ -34,7 +35,8 @@ pub fn is_inside(geometry: Geometry, place: &Place) -> bool
 /// Takes the place of a class's record: on the top of its loader's last chunk, or at the front of a
 /// free chunk. False, and nothing is changed, where it is neither.
 pub fn take_place(last: Option<LastChunk>, place: &Place, pool: &mut Pool) -> bool
-    ensures { MatchBool result (TakesPlace last place.now pool.old pool.new) (HasNoPlace last place.now pool.old pool.new) }
+    ensures { MatchBool result (TakesPlace last place.now pool.old pool.new)
+        (HasNoPlace last place.now pool.old pool.new) }
 {
     if is_on_top(last, place) {
         return true;
@@ -70,7 +72,8 @@ fn is_on_top(last: Option<LastChunk>, place: &Place) -> bool
 /// Whether the records on a loader's last chunk are those of a move, and have room on its new
 /// chunk.
 pub fn has_room(geometry: Geometry, last: LastChunk, entry: &Move) -> bool
-    ensures { result ≡ (same_chunk last.chunk entry.now.from && is_chunk geometry entry.now.to && nat_le last.used (chunk_size entry.now.to.order)) }
+    ensures { result ≡ (same_chunk last.chunk entry.now.from && is_chunk geometry entry.now.to
+        && nat_le last.used (chunk_size entry.now.to.order)) }
 {
     last.chunk == entry.from && is_chunk(geometry, &entry.to) && last.used <= entry.to.size()
 }

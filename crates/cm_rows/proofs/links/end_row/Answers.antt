@@ -17,28 +17,35 @@ stands : (g : Over) (c : After-index_mut g) → Stands g c
 stands g c =
     let slots = c.args.slots.now.items in
     let s = c.index_mut.result.now in
-    let within : c.args.at < length slots = omega (arith, c.requires.within, c.args.slots.now.ok.0) in
+    let within : c.args.at < length slots =
+    omega (arith, c.requires.within, c.args.slots.now.ok.0) in
     let there = get-at slots c.args.at s within ∙ ap Some (sym c.index_mut.ensures.value) in
     record {
       there = there;
       lives = ap (λ t. t.live) c.index_mut.ensures.value ∙ c.requires.lives.is s;
-      chunk = sym (c.own_chunk-chunk.ensures ∙ ap (λ t. own_chunk t.item) (c.index.ensures ∙ get_or_from_slice_get slots c.args.at s c.index.result.now there));
+      chunk = sym (c.own_chunk-chunk.ensures
+          ∙ ap (λ t. own_chunk t.item)
+          (c.index.ensures ∙ get_or_from_slice_get slots c.args.at s c.index.result.now there));
     }
 
 pub give-requires : goal.give-requires
 give-requires g c =
     let at = stands g (goal.at.give-requires g c).After-index_mut in
     let s = c.index_mut.result.now in
-    (ended-gives c.args.pool.now.geometry c.args.pool.now c.args.slots.now.items c.args.at s (ended s) c.in-Some.chunk at.there at.lives refl (at.chunk ∙ c.in-Some.is) c.requires.holds).0
+    (ended-gives c.args.pool.now.geometry c.args.pool.now c.args.slots.now.items c.args.at s
+    (ended s) c.in-Some.chunk at.there at.lives refl (at.chunk ∙ c.in-Some.is) c.requires.holds).0
 
 pub returns-in-Some-clause-holds : goal.returns-in-Some-clause-holds
 returns-in-Some-clause-holds g c =
     let at = stands g (goal.at.returns-in-Some-clause-holds g c).After-index_mut in
     let s = c.index_mut.result.now in
-    rw (c.give.ensures) ((ended-gives c.args.pool.now.geometry c.args.pool.now c.args.slots.now.items c.args.at s (ended s) c.in-Some.chunk at.there at.lives refl (at.chunk ∙ c.in-Some.is) c.requires.holds).1)
+    rw (c.give.ensures) ((ended-gives c.args.pool.now.geometry c.args.pool.now
+    c.args.slots.now.items c.args.at s (ended s) c.in-Some.chunk at.there at.lives refl
+    (at.chunk ∙ c.in-Some.is) c.requires.holds).1)
 
 pub returns-in_default-clause-holds : goal.returns-in_default-clause-holds
 returns-in_default-clause-holds g c =
     let at = stands g (goal.at.returns-in_default-clause-holds g c).After-index_mut in
     let s = c.index_mut.result.now in
-    ended-keeps c.args.pool.now.geometry c.args.pool.now c.args.slots.now.items c.args.at s (ended s) at.there at.lives refl (at.chunk ∙ c.in_default.is) c.requires.holds
+    ended-keeps c.args.pool.now.geometry c.args.pool.now c.args.slots.now.items c.args.at s
+    (ended s) at.there at.lives refl (at.chunk ∙ c.in_default.is) c.requires.holds

@@ -3,4 +3,5 @@ use Rattle.std.proofs.lemmas.Fn.{filter_same}
 use Rattle.cm_rows.proofs.links.sweep.Goals as goal
 
 pub returns-clause-slots : goal.returns-clause-slots
-returns-clause-slots g c = filter_same _ _ _ (λ x b f' k. search rules) _ _ c.retain.ensures.filtered
+returns-clause-slots g c =
+    filter_same _ _ _ (λ x b f' k. search rules) _ _ c.retain.ensures.filtered

@@ -11,7 +11,8 @@ invariant-loop-next g l =
       same : map (unloaded l.loader) l.slots.items ≡ map (unloaded l.loader) l.initial.slots.items;
       linked : AreLinked l.slots.items l.before;
       next : l.next ≡ last_place l.loader l.slots.items;
-      holds : Holds l.initial.pool.geometry l.pool (first_chunks (classes_in (living l.slots.items)));
+      holds : Holds l.initial.pool.geometry l.pool
+          (first_chunks (classes_in (living l.slots.items)));
       count : length (living l.slots.items) + l.count ≡ length (living l.initial.slots.items);
       capacity : vec_capacity l.slots ≡ vec_capacity l.initial.slots;
     }

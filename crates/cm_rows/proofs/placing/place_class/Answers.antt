@@ -11,7 +11,8 @@ returns-then-not-is_inside-clause-broken c =
     let kept = c.in-Some.ensures.found in
     let none : Slot LiveLoader = record { item = nobody; live = true } in
     let slot = get_or loaders c.in-Some.at none in
-    let within : c.in-Some.at < length loaders = omega (arith, kept.at.within, length-map loaders (λ (s : Slot LiveLoader). s.item)) in
+    let within : c.in-Some.at < length loaders =
+    omega (arith, kept.at.within, length-map loaders (λ (s : Slot LiveLoader). s.item)) in
     record {
       at = c.in-Some.at;
       slot = slot;

@@ -5,4 +5,6 @@ use Rattle.cm_rows.specs.Held.{Holds, first_chunks}
 use Rattle.cm_rows.proofs.rows.give_all.Given as goal
 
 abbrev pub invariant-loop-slot : goal.invariant-loop-slot
-invariant-loop-slot g l = Holds l.initial.pool.geometry l.pool (first_chunks (classes_in (living (drop l.slot-index l.slots))))
+invariant-loop-slot g l =
+    Holds l.initial.pool.geometry l.pool
+    (first_chunks (classes_in (living (drop l.slot-index l.slots))))

@@ -1,17 +1,18 @@
-use Rattle.std.proofs.Common.{◌≡◌, ◌≤◌, length, vec_capacity, ap, sym, ◌∙◌, subst, arith}
+use Rattle.std.proofs.Common.{◌≡◌, ◌≤◌, length, ap, sym, ◌∙◌, subst, arith}
 use Rattle.std.proofs.lemmas.List.{length-map}
 use Rattle.cm_pool.specs.Geometry.{Sizes}
-use Rattle.cm_layout.specs.Rows.{classes_in, row_with, bare}
+use Rattle.cm_layout.specs.Rows.{row_with, bare}
 use Rattle.cm_layout.specs.Rules.{row_limit}
 use Rattle.cm_index.specs.Index.{AreUnique}
 use Rattle.cm_index.specs.Living.{living}
-use Rattle.cm_index.proofs.Unloading.{unique-bare}
-use Rattle.cm_rows.specs.Rows.{LiveRows}
-use Rattle.cm_rows.specs.Held.{Holds, first_chunks}
-use Rattle.cm_rows.specs.Book.{IsBook}
-use Rattle.cm_rows.proofs.Books.{bared, loaders-at_most}
 use Rattle.cm_index.proofs.Living.{living-swept, swept-live, length-swept}
-use Rattle.cm_rows.specs.Loaders.{Rises}
+use Rattle.cm_index.proofs.Unloading.{unique-bare}
+use Rattle.cm_rows.specs.declared.loader_places.LoaderPlaces.{LoaderPlaces}
+use Rattle.cm_rows.specs.Rows.{LiveRows}
+use Rattle.cm_rows.specs.Held.{Holds, chunks_of}
+use Rattle.cm_rows.specs.Book.{IsBook}
+use Rattle.cm_rows.specs.Loaders.{Rises, items}
+use Rattle.cm_rows.proofs.Books.{bared, loaders-at_most}
 use Rattle.cm_rows.proofs.KeptPlaces.{items-swept, rises-living, each-lives}
 use Rattle.cm_rows.proofs.Placed.{owned-rows, loaders-fewer}
 use Rattle.cm_rows.proofs.book.Book+unit.copy_from.Given.{Over}
@@ -19,78 +20,135 @@ use Rattle.cm_rows.proofs.book.Book+unit.copy_from.Goals as goal
 use Rattle.cm_rows.proofs.book.Book+unit.copy_from.Goals.{After-copy_rows, After-copy_loaders}
 
 same : (g : Over) (c : After-copy_rows g) → c.self.inside.geometry ≡ c.other.inside.geometry
-same g c = ap (λ (v : LiveRows (Unit {0})). v.sizes) c.self.view_is ∙ c.requires ∙ sym (ap (λ v. v.sizes) c.other.view_is)
+same g c = ap (λ (v : LiveRows (Unit {0})). v.sizes) c.self.view_is ∙ c.requires
+    ∙ sym (ap (λ v. v.sizes) c.other.view_is)
 
-rows : (g : Over) (c : After-copy_rows g) → living c.copy_rows.new.slots.items ≡ bare (living c.other.inside.slots.items)
+rows : (g : Over) (c : After-copy_rows g) → living c.copy_rows.new.slots.items
+    ≡ bare (living c.other.inside.rows.slots.items)
 rows g c = c.copy_rows.ensures.rows ∙ ap (λ l. bare (living l)) c.deref-3.ensures.value
 
-few : (g : Over) (c : After-copy_rows g) → length c.copy_rows.new.slots.items ≤ row_limit c.self.inside.geometry
-few g c = omega (arith, c.copy_rows.ensures.count, ap (λ l. length (living l)) c.deref-3.ensures.value, c.other.invariant.0.few, ap row_limit (same g c))
+few : (g : Over) (c : After-copy_rows g) → length c.copy_rows.new.slots.items ≤ row_limit
+    c.self.inside.geometry
+few g c = omega (
+  arith,
+  c.copy_rows.ensures.count,
+  ap (λ l. length (living l))
+      c.deref-3.ensures.value,
+  c.other.invariant.0.few,
+  ap row_limit (same g c),
+)
 
 pub copy_rows-requires : goal.copy_rows-requires
 copy_rows-requires g c =
     let o = c.other.inside in
-    let sizes : c.self.inside.geometry ≡ o.geometry = ap (λ (v : LiveRows (Unit {0})). v.sizes) c.self.view_is ∙ c.requires ∙ sym (ap (λ v. v.sizes) c.other.view_is) in
-    rw c.deref-3.ensures.value (omega (arith, c.other.invariant.0.few, c.self.invariant.2.room, ap row_limit sizes))
+    let sizes : c.self.inside.geometry ≡ o.geometry = ap (λ (v : LiveRows (Unit {0})). v.sizes)
+    c.self.view_is ∙ c.requires ∙ sym (ap (λ v. v.sizes) c.other.view_is) in
+    rw c.deref-3.ensures.value (omega (
+      arith,
+      c.other.invariant.0.few,
+      c.self.invariant.2.room,
+      ap row_limit sizes,
+    ))
 
 pub copy_loaders-requires : goal.copy_loaders-requires
 copy_loaders-requires g c =
     let o = c.other.inside in
     let at = goal.at.copy_loaders-requires g c in
-    let fewer = loaders-at_most o.geometry (living o.slots.items) (vec_capacity o.slots) (living o.loaders.items) (vec_capacity o.loaders) o.pool c.other.invariant.0 in
-    rw c.deref-5.ensures.value (omega (arith, fewer, c.self.invariant.3.room, ap row_limit (same g at.After-copy_rows)))
+    let fewer = loaders-at_most o.geometry (living o.rows.slots.items)
+    (living o.loaders.slots.items) o.pool c.other.invariant.0 in
+    rw c.deref-5.ensures.value (omega (
+      arith,
+      fewer,
+      c.self.invariant.3.room,
+      ap row_limit (same g at.After-copy_rows),
+    ))
 
 pub index_rows-requires-clause-live : goal.index_rows-requires-clause-live
 index_rows-requires-clause-live g c = rw c.deref-4.ensures.value c.copy_rows.ensures.live
 
 pub index_rows-requires-clause-fits : goal.index_rows-requires-clause-fits
 index_rows-requires-clause-fits g c =
-    rw c.deref-4.ensures.value (omega (arith, few g (goal.at.index_rows-requires-clause-fits g c).After-copy_rows, c.self.invariant.0.lawful.slots_to))
+    rw c.deref-4.ensures.value (omega (
+      arith,
+      few g (goal.at.index_rows-requires-clause-fits g
+          c).After-copy_rows,
+      c.self.invariant.0.lawful.slots_to,
+    ))
 
 pub index_rows-requires-clause-room : goal.index_rows-requires-clause-room
 index_rows-requires-clause-room g c =
-    rw c.deref-4.ensures.value (omega (arith, few g (goal.at.index_rows-requires-clause-room g c).After-copy_rows, c.self.invariant.1.room))
+    rw c.deref-4.ensures.value (omega (
+      arith,
+      few g (goal.at.index_rows-requires-clause-room g
+          c).After-copy_rows,
+      c.self.invariant.1.room,
+    ))
 
 -- the rows of the other book make a book
 book : (g : Over) (c : After-copy_loaders g) → c.self.inside.geometry ≡ c.other.inside.geometry
-    → IsBook c.self.inside.geometry (bare (living c.other.inside.slots.items)) (vec_capacity c.copy_rows.new.slots) (living c.other.inside.loaders.items) (vec_capacity c.copy_loaders.new.loaders) c.take_all.new.pool
+    → IsBook c.self.inside.geometry (bare (living c.other.inside.rows.slots.items))
+    (living c.other.inside.loaders.slots.items) c.take_all.new.pool
 book g c same =
     let o = c.other.inside in
     let sizes = c.self.inside.geometry in
-    let rs = living o.slots.items in
-    let h : IsBook sizes rs (vec_capacity o.slots) (living o.loaders.items) (vec_capacity o.loaders) o.pool =
-    subst (λ (s : Sizes). IsBook s rs (vec_capacity o.slots) (living o.loaders.items) (vec_capacity o.loaders) o.pool) (sym same) c.other.invariant.0 in
+    let rs = living o.rows.slots.items in
+    let ls = living o.loaders.slots.items in
+    let h : IsBook sizes rs ls o.pool = subst (λ (s : Sizes). IsBook s rs ls o.pool) (sym same)
+    c.other.invariant.0 in
     let taken = rw c.deref-2.ensures.value at c.take_all.ensures in
-    let holds : Holds sizes c.take_all.new.pool (first_chunks (classes_in rs)) =
-    subst (λ (s : Sizes). Holds s c.take_all.new.pool (first_chunks (classes_in rs))) (c.give_all.ensures.geometry ∙ c.self.invariant.0.live.holds.geometry) taken in
-    let room : row_limit sizes ≤ vec_capacity c.copy_rows.new.slots = omega (arith, c.self.invariant.0.room, c.copy_rows.ensures.capacity) in
-    let also : row_limit sizes ≤ vec_capacity c.copy_loaders.new.loaders = omega (arith, c.self.invariant.0.loaders_room, c.copy_loaders.ensures.capacity) in
-    bared sizes rs (vec_capacity o.slots) (vec_capacity c.copy_rows.new.slots) (living o.loaders.items) (vec_capacity o.loaders) (vec_capacity c.copy_loaders.new.loaders) o.pool c.take_all.new.pool h room also holds
+    let holds : Holds sizes c.take_all.new.pool (chunks_of rs) =
+    subst (λ (s : Sizes). Holds s c.take_all.new.pool (chunks_of rs)) (c.give_all.ensures.geometry
+    ∙ c.self.invariant.0.live.holds.geometry) taken in
+    bared sizes rs ls o.pool c.take_all.new.pool h holds
 
 pub relink-requires-clause-rises : goal.relink-requires-clause-rises
 relink-requires-clause-rises g c =
-    let o = c.other.inside in
-    rw (c.deref-6.ensures.value, c.copy_loaders.ensures.loaders, c.deref-5.ensures.value, items-swept o.loaders.items) (rises-living o.loaders.items c.other.invariant.3.rises)
+    let ls = c.other.inside.loaders.slots.items in
+    rw (
+      c.deref-6.ensures.value,
+      c.copy_loaders.ensures.loaders,
+      c.deref-5.ensures.value,
+      items-swept ls,
+    ) (rises-living ls c.other.invariant.3.rises)
 
 pub relink-requires-clause-owned : goal.relink-requires-clause-owned
 relink-requires-clause-owned g c =
     let at = goal.at.relink-requires-clause-owned g c in
     let o = c.other.inside in
-    rw (c.deref-6.ensures.value, c.deref-7.ensures.value, c.copy_loaders.ensures.loaders, c.deref-5.ensures.value, living-swept o.loaders.items, rows g at.After-copy_rows)
-    (owned-rows c.self.inside.geometry (bare (living o.slots.items)) (vec_capacity c.copy_rows.new.slots) (living o.loaders.items) (vec_capacity c.copy_loaders.new.loaders) c.take_all.new.pool (book g at.After-copy_loaders (same g at.After-copy_rows)))
+    let ls = o.loaders.slots.items in
+    rw (
+      c.deref-6.ensures.value,
+      c.deref-7.ensures.value,
+      c.copy_loaders.ensures.loaders,
+      c.deref-5.ensures.value,
+      living-swept ls,
+      rows g at.After-copy_rows,
+    )
+    (owned-rows c.self.inside.geometry (bare (living o.rows.slots.items)) (living ls)
+    c.take_all.new.pool (book g at.After-copy_loaders (same g at.After-copy_rows)))
 
 pub relink-requires-clause-newest_room : goal.relink-requires-clause-newest_room
 relink-requires-clause-newest_room g c =
     let at = goal.at.relink-requires-clause-newest_room g c in
     let o = c.other.inside in
-    let fewer = loaders-at_most o.geometry (living o.slots.items) (vec_capacity o.slots) (living o.loaders.items) (vec_capacity o.loaders) o.pool c.other.invariant.0 in
-    rw (c.deref-6.ensures.value, c.copy_loaders.ensures.loaders, c.deref-5.ensures.value) (omega (arith, fewer, length-swept o.loaders.items, c.self.invariant.2.newest_room, ap row_limit (same g at.After-copy_rows)))
+    let ls = o.loaders.slots.items in
+    let fewer = loaders-at_most o.geometry (living o.rows.slots.items) (living ls) o.pool
+    c.other.invariant.0 in
+    rw (c.deref-6.ensures.value, c.copy_loaders.ensures.loaders, c.deref-5.ensures.value)
+    (omega (
+      arith,
+      fewer,
+      length-swept ls,
+      c.self.invariant.2.newest_room,
+      ap row_limit (same g at.After-copy_rows),
+    ))
 
 pub invariant_of-self : goal.invariant_of-self
 invariant_of-self g c =
     let at = goal.at.invariant_of-self g c in
     let o = c.other.inside in
-    let ls = o.loaders.items in
+    let rs = living o.rows.slots.items in
+    let ls = o.loaders.slots.items in
     let sizes = c.self.inside.geometry in
     let is = rows g at.After-copy_rows in
     let less = few g at.After-copy_rows in
@@ -98,28 +156,46 @@ invariant_of-self g c =
     let linked = rw c.deref-7.ensures.value at c.relink.ensures.linked in
     let lasts = rw (c.deref-7.ensures.value, c.deref-6.ensures.value) at c.relink.ensures.newest in
     let copied = rw c.deref-5.ensures.value at c.copy_loaders.ensures.loaders in
-    let fewer = loaders-fewer o.geometry (living o.slots.items) (vec_capacity o.slots) (living ls) (vec_capacity o.loaders) o.pool c.other.invariant.0 in
-    let whole = book g at.After-copy_loaders (same g at.After-copy_rows) in (
+    let new_loaders : LoaderPlaces = record {
+      slots = c.copy_loaders.new.loaders;
+      newest = c.relink.new.newest;
+    } in
+    let fewer = loaders-fewer o.geometry rs (living ls) o.pool c.other.invariant.0 in
+    let whole = book g at.After-copy_loaders (same g at.After-copy_rows) in
+    let rises : Rises (items new_loaders.slots.items) =
+    rw (copied, items-swept ls) (rises-living ls c.other.invariant.3.rises) in (
       rw (is, copied, living-swept ls) whole,
       record {
         index = index;
-        unique = subst AreUnique (sym is) (unique-bare (living o.slots.items) c.other.invariant.1.unique);
+        unique = subst AreUnique (sym is) (unique-bare rs c.other.invariant.1.unique);
         room = omega (arith, c.self.invariant.1.room, c.index_rows.ensures.room);
         places_room = c.self.invariant.1.places_room;
       },
       record {
         linked = linked;
         lasts = lasts;
-        counted = omega (arith, c.other.invariant.2.counted, ap length is, length-map (living o.slots.items) (row_with {P = g.row.Q.Denot} {Q = Unit {0}} (λ p. tt)));
         few = omega (arith, less);
         room = omega (arith, c.self.invariant.2.room, c.copy_rows.ensures.capacity);
         before_room = omega (arith, c.self.invariant.2.before_room, c.relink.ensures.capacity);
-        newest_room = omega (arith, c.self.invariant.2.newest_room, c.relink.ensures.newest_capacity);
+        newest_room = omega (
+          arith,
+          c.self.invariant.2.newest_room,
+          c.relink.ensures.newest_capacity,
+        );
       },
-      rw (copied) (record {
-        rises = subst Rises (sym (items-swept ls)) (rises-living ls c.other.invariant.3.rises);
-        last = λ k e. each-lives k (swept-live ls) (omega (arith, e));
-        few = omega (arith, length-swept ls, fewer, c.copy_rows.ensures.count, ap (λ l. length (living l)) c.deref-3.ensures.value);
+      record {
+        rises = rises;
+        last = rw (copied) (λ k e. each-lives k (swept-live ls) (omega (arith, e)));
+        few = omega (
+          arith,
+          ap length copied,
+          length-swept ls,
+          fewer,
+          c.copy_rows.ensures.count,
+          ap (λ l. length (living l)) c.deref-3.ensures.value,
+        );
         room = omega (arith, c.self.invariant.3.room, c.copy_loaders.ensures.capacity);
-      }),
+      },
+      c.other.invariant.4 ∙ sym (ap length is ∙ length-map rs (row_with {P = g.row.Q.Denot} {Q =
+          Unit {0}} (λ p. tt))),
     )

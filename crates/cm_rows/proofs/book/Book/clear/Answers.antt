@@ -1,5 +1,6 @@
-use Rattle.std.proofs.Common.{[], refl, subst, arith}
+use Rattle.std.proofs.Common.{◌*◌, [], length, refl, ap, subst, arith}
 use Rattle.cm_pool.specs.Geometry.{Sizes}
+use Rattle.cm_layout.specs.Rules.{row_limit}
 use Rattle.cm_index.proofs.Indexes.{index-none}
 use Rattle.cm_rows.specs.Held.{Holds}
 use Rattle.cm_rows.proofs.Linking.{linked-none}
@@ -9,39 +10,60 @@ pub invariant_of-self : goal.invariant_of-self
 invariant_of-self g c =
     let a = c.self.inside in
     let h = c.self.invariant.0 in
-    let holds : Holds a.geometry c.give_all.new.pool [] = subst (λ (s : Sizes). Holds s c.give_all.new.pool []) h.live.holds.geometry c.give_all.ensures in
-    rw (c.clear.ensures.items, c.clear-2.ensures.items, c.clear-3.ensures.items, c.clear-4.ensures.items, c.clear-5.ensures.items) (
-      record {
+    let index = c.self.invariant.1 in
+    let links = c.self.invariant.2 in
+    let none = c.clear.ensures.none in
+    let no_loaders = c.clear-2.ensures.none in
+    let room = c.clear.ensures.room (2 * row_limit a.geometry) (record {
+      slots = links.room;
+      before = links.before_room;
+      index = index.room;
+      places = index.places_room;
+    }) in
+    let loader_room = c.clear-2.ensures.room (2 * row_limit a.geometry) (record {
+      slots = c.self.invariant.3.room;
+      newest = links.newest_room;
+    }) in
+    let holds : Holds a.geometry c.give_all.new.pool [] =
+    subst (λ (s : Sizes). Holds s c.give_all.new.pool []) h.live.holds.geometry
+    c.give_all.ensures in (
+      rw (none.slots, no_loaders.slots) (record {
         lawful = h.lawful;
         few = omega arith;
-        room = omega (arith, h.room, c.clear.ensures.capacity);
-        loaders_room = omega (arith, h.loaders_room, c.clear-4.ensures.capacity);
-        loaders = record { numbers = refl; rises = record { each = tt }; last = λ u. refl };
+        loaders = record {
+          numbers = refl;
+          rises = record { each = tt };
+          last = λ u. refl;
+        };
         live = record {
           holds = holds;
-          founded = record { words = λ r m. absurd m; first = λ r m. absurd m; owner = λ r s m n e. absurd m };
+          founded = record {
+            words = λ r m. absurd m;
+            first = λ r m. absurd m;
+            owner = λ r s m n e. absurd m;
+          };
           owned = λ r m. absurd m;
         };
+      }),
+      record {
+        index = rw (none.index, none.slots) (index-none g.P.Kept.mark g.P.Kept.name);
+        unique = rw (none.slots) (record { names = λ r s m n e. absurd m });
+        room = room.index;
+        places_room = room.places;
       },
       record {
-        index = index-none g.P.Kept.mark g.P.Kept.name;
-        unique = record { names = λ r s m n e. absurd m };
-        room = omega (arith, c.self.invariant.1.room, c.clear-3.ensures.room);
-        places_room = c.self.invariant.1.places_room;
+        linked = rw (none.slots, none.before) linked-none;
+        lasts = rw (no_loaders.newest, no_loaders.slots) refl;
+        few = omega (arith, ap length none.slots);
+        room = room.slots;
+        before_room = room.before;
+        newest_room = loader_room.newest;
       },
       record {
-        linked = linked-none;
-        lasts = refl;
-        counted = refl;
-        few = omega arith;
-        room = omega (arith, c.self.invariant.2.room, c.clear.ensures.capacity);
-        before_room = omega (arith, c.self.invariant.2.before_room, c.clear-2.ensures.capacity);
-        newest_room = omega (arith, c.self.invariant.2.newest_room, c.clear-5.ensures.capacity);
+        rises = rw (no_loaders.slots) (record { each = tt });
+        last = λ k e. absurd (omega (arith, e, ap length no_loaders.slots));
+        few = omega (arith, ap length no_loaders.slots);
+        room = loader_room.slots;
       },
-      record {
-        rises = record { each = tt };
-        last = λ k e. absurd (omega (arith, e));
-        few = omega arith;
-        room = omega (arith, c.self.invariant.3.room, c.clear-4.ensures.capacity);
-      },
+      rw (none.slots) refl,
     )

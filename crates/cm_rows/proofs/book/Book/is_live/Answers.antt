@@ -20,9 +20,10 @@ by_find rows ls u None h found absent = sym (not_live rows (living ls) u h absen
 
 pub returns : goal.returns
 returns g c =
-    let rows = (living c.self.inside.slots.items) in
-    let ls = c.self.inside.loaders.items in
+    let rows = (living c.self.inside.rows.slots.items) in
+    let ls = c.self.inside.loaders.slots.items in
     let found = rw c.deref.ensures.value at c.find.ensures.found in
     let absent = rw c.deref.ensures.value at c.find.ensures.absent in
-    let is : c.is_some.result ≡ is_live c.args.number rows = c.is_some.ensures ∙ by_find rows ls c.args.number c.find.result c.self.invariant.0.loaders found absent in
+    let is : c.is_some.result ≡ is_live c.args.number rows = c.is_some.ensures
+    ∙ by_find rows ls c.args.number c.find.result c.self.invariant.0.loaders found absent in
     rw (← c.self.view_is) is

@@ -22,19 +22,23 @@ without_room new true is = absurd (cc)
 pub returns-then-self-row_limit : goal.returns-then-self-row_limit
 returns-then-self-row_limit g c =
     let sizes = c.self.inside.geometry in
-    let rows = living c.self.inside.slots.items in
+    let rows = living c.self.inside.rows.slots.items in
     let row = c.args.row.now in
     let name = is_loader_name row.name && is_none (number_of row.name rows) in
-    let new : c.is_new_loader_name.result ≡ name = rw (c.as_bytes.ensures.value, c.deref.ensures.value) at c.is_new_loader_name.ensures in
-    let few = rw (c.row_limit.ensures, c.self.invariant.2.counted) at c.if-self-row_limit.true in
-    rw (← c.self.view_is) (new ∙ with_room name (has_room sizes rows (Loader row)) (room-is sizes rows (Loader row) few))
+    let new : c.is_new_loader_name.result ≡ name =
+    rw (c.as_bytes.ensures.value, c.deref.ensures.value) at c.is_new_loader_name.ensures in
+    let few = rw (c.row_limit.ensures, c.self.invariant.4) at c.if-self-row_limit.true in
+    rw (← c.self.view_is) (new ∙ with_room name (has_room sizes rows (Loader row))
+    (room-is sizes rows (Loader row) few))
 
 pub returns-else-self-row_limit : goal.returns-else-self-row_limit
 returns-else-self-row_limit g c =
     let sizes = c.self.inside.geometry in
-    let rows = living c.self.inside.slots.items in
+    let rows = living c.self.inside.rows.slots.items in
     let row = c.args.row.now in
     let name = is_loader_name row.name && is_none (number_of row.name rows) in
-    let full = rw (c.row_limit.ensures, c.self.invariant.2.counted) at c.if-self-row_limit.false in
-    let none : nat_lt c.self.inside.count c.row_limit.result ≡ false = let many = c.if-self-row_limit.false in grind (arith, nat_tests) in
-    rw (← c.self.view_is) (none ∙ without_room name (has_room sizes rows (Loader row)) (no_room-is sizes rows (Loader row) full))
+    let full = rw (c.row_limit.ensures, c.self.invariant.4) at c.if-self-row_limit.false in
+    let none : nat_lt c.self.inside.count c.row_limit.result ≡ false = let many =
+    c.if-self-row_limit.false in grind (arith, nat_tests) in
+    rw (← c.self.view_is) (none ∙ without_room name (has_room sizes rows (Loader row))
+    (no_room-is sizes rows (Loader row) full))
