@@ -27,7 +27,8 @@ use Rattle.cm_state.specs.Entries.{AreCacheRows}
 use Rattle.cm_front.specs.Front.{AreRight}
 use Rattle.cm_verdict.specs.Found.{Found}
 use Rattle.cm_verdict.specs.Verdict.{Standing, verdict}
-use Rattle.cm_verdict.specs.Laws.{FoundIsLive, FoundIsFramed, VerdictStands, Proves, IsFramed, IsLive}
+use Rattle.cm_verdict.specs.Laws.{FoundIsLive, FoundIsFramed, VerdictStands, Proves, IsFramed}
+use Rattle.cm_verdict.specs.Laws.{IsLive}
 use Rattle.cm_verdict.proofs.Parts.{bare_words}
 use Rattle.std.specs.Arc.{arc_value}
 use Rattle.cm_disk.specs.Disk.{Unsynced, IsSettled}
@@ -47,7 +48,8 @@ use Rattle.cm_recover.proofs.Passing.{more_named}
 
 -- the name of a class stands in the words of its record
 abbrev pub TellsName : Type 0
-TellsName = (c : ClassFile) (words : List ℕ) → IsRecordOf c words → class_name_in words ≡ class_name_of c
+TellsName =
+    (c : ClassFile) (words : List ℕ) → IsRecordOf c words → class_name_in words ≡ class_name_of c
 
 -- ---- records
 
@@ -136,12 +138,14 @@ names_differ : (before rows : List (Row ClassFile)) → TellNames before → Tel
 names_differ before [] told named differ = tt
 names_differ before (Loader r ∷ rows) told named differ =
     names_before before (Loader r) (rows_with lay rows)
-    (names_differ (before ++ Loader r ∷ []) rows (more_named before (Loader r) told tt) named differ)
+    (names_differ (before ++ Loader r ∷ []) rows (more_named before (Loader r) told tt)
+    named differ)
 names_differ before (Class r c ∷ rows) told named differ = (
   ap (λ (x : List ℕ). class_among words_show r.loader x (rows_with lay before)) named.0
       ∙ no_class r.loader (class_name_of c) before told differ.0,
   names_before before (Class r c) (rows_with lay rows)
-      (names_differ (before ++ Class r c ∷ []) rows (more_named before (Class r c) told (named.0, tt))
+      (names_differ (before ++ Class r c ∷ []) rows
+      (more_named before (Class r c) told (named.0, tt))
       named.1 differ.1),
 )
 
@@ -186,12 +190,14 @@ module _ (live : FoundIsLive) (framed : FoundIsFramed) (stands : VerdictStands) 
   live_here : LiveRowsKeep found.sizes found.number [] (bare (rows_with lay s.rows))
   live_here =
       subst (LiveRowsKeep found.sizes found.number [])
-      (sym (ap (λ (rows : List (Row (List ℕ))). bare rows) p.words ∙ bare_words found.sizes contents found.rows)) l.live
+      (sym (ap (λ (rows : List (Row (List ℕ))). bare rows) p.words
+      ∙ bare_words found.sizes contents found.rows)) l.live
 
   named : TellNames s.rows
   named =
       tell_names tells s.rows p.kept
-      (are_short found.sizes l.lawful found.number (drop (roots_at found.sizes) contents) [] (rows_with lay s.rows) live_here
+      (are_short found.sizes l.lawful found.number (drop (roots_at found.sizes) contents) []
+      (rows_with lay s.rows) live_here
       match_here.records)
 
   pub opened : IsOpened contents s (rows_with lay s.rows)
@@ -305,7 +311,8 @@ module _ (live : FoundIsLive) (framed : FoundIsFramed) (stands : VerdictStands) 
         (subst (λ (l : LiveRows (List ℕ)). Restores l file.journal.number file.journal.end front)
         t.alike.rows restored));
     arenas_are = arenas_told front (classes_in told.rows)
-        (λ u. arenas front is u ∙ (ap (λ (f : FrontState). chunks_begun u (classes_in f.rows)) restored.front_is
+        (λ u. arenas front is u ∙ (ap (λ (f : FrontState). chunks_begun u (classes_in f.rows))
+        restored.front_is
         ∙ (ap (λ (l : LiveRows (List ℕ)). chunks_begun u (classes_in l.rows)) t.alike.rows
         ∙ ap (chunks_begun u) (same_places told.rows)))) told.rows;
     committer_is = made ∙ (λ i. record {

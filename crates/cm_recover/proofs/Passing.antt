@@ -39,7 +39,8 @@ use Rattle.cm_recover.proofs.Verdicts.{through}
 
 -- ---- what is kept of a class has no part in the rules
 
-pub bare-with : {A B : Type 0} (f : A → B) (rows : List (Row A)) → bare (rows_with f rows) ≡ bare rows
+pub bare-with : {A B : Type 0} (f : A → B) (rows : List (Row A)) → bare (rows_with f rows)
+    ≡ bare rows
 bare-with f [] = refl
 bare-with f (Loader r ∷ rows) = ap (λ l. Loader r ∷ l) (bare-with f rows)
 bare-with f (Class r c ∷ rows) = ap (λ l. Class r (tt {0}) ∷ l) (bare-with f rows)
@@ -94,7 +95,8 @@ more_named (Class r c ∷ rows) row named one = (named.0, more_named rows row na
 pub recorded_more : (sizes : Sizes) (rows new : LiveRows (List ℕ)) (before : List (Row ClassFile))
     (row : Row ClassFile) (words : Row (List ℕ)) → AreRecorded sizes rows before
     → words ≡ row_with lay row → TellNames (row ∷ [])
-    → new ≡ record rows { rows = rows.rows ++ words ∷ [] } → AreRecorded sizes new (before ++ row ∷ [])
+    → new ≡ record rows { rows = rows.rows ++ words ∷ [] }
+    → AreRecorded sizes new (before ++ row ∷ [])
 recorded_more sizes rows new before row words are laid named is = record {
   sizes_are = ap (λ (l : LiveRows (List ℕ)). l.sizes) is ∙ are.sizes_are;
   words = ap (λ (l : LiveRows (List ℕ)). l.rows) is
@@ -125,7 +127,8 @@ carried {A} {B} (open_fault.Damaged what at) slot (Err d) y h told =
 carried open_fault.Device slot x y h told = tt
 carried open_fault.NoMemory slot x y h told = tt
 
-bound_fault : {A B : Type 0} (slot : ℕ) (x : Result A Damage) (f : A → Result B FileFault) (d : Damage)
+bound_fault : {A B : Type 0} (slot : ℕ) (x : Result A Damage) (f : A → Result B FileFault)
+    (d : Damage)
     → x ≡ Err d → (at_slot slot x >>= f) ≡ Err (Damaged d slot)
 bound_fault slot x f d e = ap (λ t. at_slot slot t >>= f) e
 
@@ -134,7 +137,8 @@ place_damaged : (sizes : Sizes) (contents : List ℕ) (before : List (Row ClassF
     → class_found sizes contents before r ≡ Err d
 unfolding class_found
 place_damaged sizes contents before r d =
-    by_root (is_whole sizes (length contents) r.place) (class_kept (words_at sizes contents r.place))
+    by_root (is_whole sizes (length contents) r.place)
+    (class_kept (words_at sizes contents r.place))
   where
     by_root : (t : Bool) (o : Option ClassFile)
         → cond t (if_class o) (Err damage.Chunks) ≡ Err d
@@ -143,7 +147,8 @@ place_damaged sizes contents before r d =
     by_root true (Some c) e = absurd (cc)
     by_root false o e = cc
 
-pub place_fault : (e : OpenFault) (sizes : Sizes) (contents : List ℕ) (before : List (Row ClassFile))
+pub place_fault : (e : OpenFault) (sizes : Sizes) (contents : List ℕ)
+    (before : List (Row ClassFile))
     (r : ClassRow) (slot : ℕ) → IsFaultIn e (at_slot slot (class_in_place sizes contents r.place))
     → IsFaultIn e (row_found sizes contents before (Class r (record { slot = slot })))
 place_fault e sizes contents before r slot told =
@@ -171,7 +176,8 @@ class_so : (sizes : Sizes) (contents : List ℕ) (before : List (Row ClassFile))
     → class_found sizes contents before r ≡ named_class before r c
 unfolding class_found
 class_so sizes contents before r c =
-    by_root (is_whole sizes (length contents) r.place) (class_kept (words_at sizes contents r.place))
+    by_root (is_whole sizes (length contents) r.place)
+    (class_kept (words_at sizes contents r.place))
   where
     same : (d : ClassFile) → class_ok d ≡ class_ok c → d ≡ c
     same d e = cc
@@ -183,10 +189,13 @@ class_so sizes contents before r c =
     by_root true (Some d) e = ap (λ (k : ClassFile). if_new before r (Some k)) (same d e)
     by_root false o e = absurd (cc)
 
-module _ (sizes : Sizes) (contents : List ℕ) (before : List (Row ClassFile)) (r : ClassRow) (slot : ℕ)
+module _ (sizes : Sizes) (contents : List ℕ) (before : List (Row ClassFile))
+    (r : ClassRow) (slot : ℕ)
     (c : ClassFile) (there : at_slot slot (class_in_place sizes contents r.place) ≡ Ok c) where
   found_so : class_found sizes contents before r ≡ named_class before r c
-  found_so = class_so sizes contents before r c (unslotted slot (class_in_place sizes contents r.place) c there)
+  found_so =
+      class_so sizes contents before r c
+      (unslotted slot (class_in_place sizes contents r.place) c there)
 
   pub class_twice : is_some (class_among class_shows r.loader (class_name_of c) before) ≡ true
       → row_found sizes contents before (Class r (record { slot = slot }))
@@ -223,7 +232,8 @@ keeps_rule sizes number taken row follows =
 pub took_loader : (sizes : Sizes) (contents : List ℕ) (rows new : LiveRows (List ℕ))
     (before : List (Row ClassFile)) (r : LoaderRow) → AreRecorded sizes rows before
     → new ≡ record rows { rows = rows.rows ++ Loader r ∷ [] }
-    → Tells (λ (u : Unit {0}). AreRecorded sizes new) (row_found sizes contents before (Loader r)) tt
+    → Tells (λ (u : Unit {0}). AreRecorded sizes new)
+    (row_found sizes contents before (Loader r)) tt
 took_loader sizes contents rows new before r are is = record {
   told = before ++ Loader r ∷ [];
   verdict_is = refl;
@@ -232,7 +242,8 @@ took_loader sizes contents rows new before r are is = record {
 
 module _ (sizes : Sizes) (contents : List ℕ) (rows : LiveRows (List ℕ))
     (before : List (Row ClassFile)) (are : AreRecorded sizes rows before) (r : ClassRow) (slot : ℕ)
-    (words : List ℕ) (t : Tells IsRecorded (at_slot slot (class_in_place sizes contents r.place)) words)
+    (words : List ℕ) (t : Tells IsRecorded
+    (at_slot slot (class_in_place sizes contents r.place)) words)
   where
     name_same : (b : Bool)
         → b ≡ is_some (class_of class_name_in r.loader (class_name_in words) rows.rows)
@@ -284,7 +295,8 @@ rows_ok rows = Ok rows
 rows_same : (a b : List (Row ClassFile)) → rows_ok a ≡ rows_ok b → a ≡ b
 rows_same a b e = cc
 
-found_bare : (sizes : Sizes) (contents : List ℕ) (before : List (Row ClassFile)) (row : Row DefinedAt)
+found_bare : (sizes : Sizes) (contents : List ℕ) (before : List (Row ClassFile))
+    (row : Row DefinedAt)
     (b : List (Row ClassFile)) → row_found sizes contents before row ≡ Ok b
     → bare b ≡ bare before ++ bare_of row ∷ []
 found_bare sizes contents before (Loader r) b e =
@@ -299,14 +311,16 @@ found_bare sizes contents before (Class r at) b e =
     by_class (Err f) e = absurd (cc)
 
 -- some rows are taken, and these are left
-pub record IsPassing (sizes : Sizes) (contents : List ℕ) (number : ℕ) (all rest : List (Row DefinedAt))
+pub record IsPassing (sizes : Sizes) (contents : List ℕ) (number : ℕ)
+    (all rest : List (Row DefinedAt))
     (rows : LiveRows (List ℕ)) : Type 0 where
   pub taken : List (Row ClassFile)
   pub recorded : AreRecorded sizes rows taken
   pub same : classes_found sizes contents taken rest ≡ classes_found sizes contents [] all
   pub live : LiveRowsKeep sizes number (bare rows.rows) (bare rest)
 
-pub passing_begins : (sizes : Sizes) (contents : List ℕ) (number : ℕ) (all rest : List (Row DefinedAt))
+pub passing_begins : (sizes : Sizes) (contents : List ℕ) (number : ℕ)
+    (all rest : List (Row DefinedAt))
     (rows : LiveRows (List ℕ)) → rows ≡ record { sizes = sizes; rows = [] } → rest ≡ all
     → LiveRowsKeep sizes number [] (bare all) → IsPassing sizes contents number all rest rows
 passing_begins sizes contents number all rest rows none same live =
@@ -321,7 +335,8 @@ passing_begins sizes contents number all rest rows none same live =
       same = ap (classes_found sizes contents []) same;
       live = subst (λ (l : List BareRow). LiveRowsKeep sizes number l (bare rest))
           (ap bare (sym empty))
-          (subst (λ (l : List (Row DefinedAt)). LiveRowsKeep sizes number [] (bare l)) (sym same) live);
+          (subst (λ (l : List (Row DefinedAt)). LiveRowsKeep sizes number [] (bare l))
+          (sym same) live);
     }
 
 module _ (sizes : Sizes) (contents : List ℕ) (number : ℕ) (all rest : List (Row DefinedAt))
@@ -353,7 +368,8 @@ module _ (sizes : Sizes) (contents : List ℕ) (number : ℕ) (all rest : List (
         p.live.2;
   }
 
-pub passing_ends : (sizes : Sizes) (contents : List ℕ) (number : ℕ) (all rest : List (Row DefinedAt))
+pub passing_ends : (sizes : Sizes) (contents : List ℕ) (number : ℕ)
+    (all rest : List (Row DefinedAt))
     (rows : LiveRows (List ℕ)) → rest ≡ [] → IsPassing sizes contents number all rest rows
     → Tells (AreRecorded sizes) (classes_found sizes contents [] all) rows
 unfolding classes_found

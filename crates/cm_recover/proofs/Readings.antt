@@ -7,7 +7,8 @@ use Rattle.cm_guards.proofs.Left.{reads_on, reads_less}
 use Rattle.cm_recover.specs.declared.fault.OpenFault.{OpenFault}
 
 -- what is answered is no fault then
-pub ok_no_fault : {A : Type 0} (r : Result A OpenFault) (x : A) (f : OpenFault) → r ≡ Ok x → r ≡ Err f
+pub ok_no_fault : {A : Type 0} (r : Result A OpenFault) (x : A) (f : OpenFault) → r ≡ Ok x
+    → r ≡ Err f
     → ⊥
 ok_no_fault r x f ok err = absurd (cc)
 

@@ -1,6 +1,6 @@
 -- Where the record of a live row lies.
-use Rattle.std.proofs.Common.{◌≡◌, ℕ, ◌+◌, ◌*◌, ◌^◌, ◌<◌, ◌≤◌, Bool, true, false, cond, List, length}
-use Rattle.std.proofs.Common.{Option, Some, None, Err, refl, sym, ap, ◌∙◌, arith, is_some}
+use Rattle.std.proofs.Common.{◌≡◌, ℕ, ◌+◌, ◌*◌, ◌^◌, ◌<◌, ◌≤◌, Bool, true, false, cond, List}
+use Rattle.std.proofs.Common.{length, Option, Some, None, Err, refl, sym, ap, ◌∙◌, arith, is_some}
 use Rattle.std.proofs.Math.Nat.{pow-le-pow_right}
 use Rattle.std.proofs.lemmas.Bool.{le-leb, lt-leb}
 use Rattle.cm_class.specs.declared.class_file.ClassFile.{ClassFile}

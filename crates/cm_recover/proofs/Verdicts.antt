@@ -56,6 +56,7 @@ module _ (contents : List ℕ) (f : Found) (found : found_in contents ≡ Ok f) 
       subst (IsFaultIn e) (sym behind)
       (through e (classes_found f.sizes contents [] f.rows) (λ rows. Ok (standing f rows)) told)
 
-  pub stands_for : (rows : List (Row ClassFile)) → classes_found f.sizes contents [] f.rows ≡ Ok rows
+  pub stands_for : (rows : List (Row ClassFile))
+      → classes_found f.sizes contents [] f.rows ≡ Ok rows
       → verdict contents ≡ Ok (standing f rows)
   stands_for rows classes = behind ∙ ap (λ r. r >>= λ l. Ok (standing f l)) classes

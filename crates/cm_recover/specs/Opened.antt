@@ -1,4 +1,5 @@
--- What a file is opened as: the accepted cache and its committer, both with what the file stands for.
+-- What a file is opened as: the accepted cache and its committer, both with what the file stands
+-- for.
 use Rattle.std.specs.Prelude.{◌≡◌, ◌<◌, ◌≤◌, ℕ, List, [], ◌∷◌, None, Result, Ok, Err, false}
 use Rattle.std.specs.FinMap as map
 use Rattle.cm_class.specs.declared.class_file.ClassFile.{ClassFile}
@@ -27,7 +28,8 @@ arenas_by_name (Class r c ∷ rows) front = arenas_by_name rows front
 -- the contents stand for this, and both have its rows with the words of their records, and its
 -- number: the accepted cache has the arenas that they stand for, and nothing to hand out; the
 -- committer has nothing under way
-pub record Opens {D : Type 0} (contents : List ℕ) (front : FrontState) (committer : CommitterState D)
+pub record Opens {D : Type 0} (contents : List ℕ) (front : FrontState)
+    (committer : CommitterState D)
     : Type 0 where
   pub standing : Standing
   pub verdict_is : verdict contents ≡ Ok standing
@@ -51,9 +53,9 @@ pub record Opens {D : Type 0} (contents : List ℕ) (front : FrontState) (commit
 
 -- ---- the device
 
--- A run of calls that sync and read: the contents stay, no more is unsynced after it, at each moment
--- a crash leaves what it might have left before it, and a fault is told only where the device failed
--- in it.
+-- A run of calls that sync and read: the contents stay, no more is unsynced after it, at each
+-- moment a crash leaves what it might have left before it, and a fault is told only where the
+-- device failed in it.
 pub record SyncsAndReads {D : Type 0} (contents : D → List ℕ) (unsynced : D → Unsynced)
     (failures moment : D → ℕ) (left_since : D → ℕ → List ℕ → Type 0) (old new : D)
     (Faulted : Type 0) : Type 0 where

@@ -101,8 +101,8 @@ fn walk_halves(
 /// What is found in a file without its records, or its first damage, by a run of reads: the
 /// superblock first, then both halves, whose bytes are dropped again. Nothing changes.
 ///
-/// `NotACache` and `Damaged` are the first that the contents have. `Device` where the device failed,
-/// `NoMemory` where an allocation did: they say nothing of the contents.
+/// `NotACache` and `Damaged` are the first that the contents have. `Device` where the device
+/// failed, `NoMemory` where an allocation did: they say nothing of the contents.
 pub fn read_found<D: Disk>(alloc: Global, disk: &mut D) -> Result<FoundFile, OpenFault>
     ensures found { IsAnswer found_of result (found_in (D.contents disk.old)) }
     ensures reads { Reads D.contents D.unsynced D.failures D.moment D.left_since disk.old disk.new

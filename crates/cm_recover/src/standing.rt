@@ -129,7 +129,7 @@ impl SecondPass {
         ensures reads { Reads D.contents D.unsynced D.failures D.moment D.left_since disk.old
             disk.new (result ≡ Err open_fault.Device) }
     {
-        let _lawful = self.geometry.top(); // so the proof knows that its sizes are within the limits
+        let _lawful = self.geometry.top(); // so the proof knows its sizes are within the limits
         let class = self.class_at(disk, words, row.place, slot)?;
         if rows.has_class(row.loader, &class) {
             return Err(OpenFault::Damaged {
@@ -193,8 +193,8 @@ impl SecondPass {
 /// What a file stands for, or its first damage, by a run of reads: what is found without records
 /// first, then the records of the classes that live, in the order of their rows. Nothing changes.
 ///
-/// `NotACache` and `Damaged` are the first that the contents have. `Device` where the device failed,
-/// `NoMemory` where an allocation did: they say nothing of the contents.
+/// `NotACache` and `Damaged` are the first that the contents have. `Device` where the device
+/// failed, `NoMemory` where an allocation did: they say nothing of the contents.
 pub fn read_standing<D: Disk>(alloc: Global, disk: &mut D) -> Result<StandingFile, OpenFault>
     ensures standing { Answers (IsStanding (D.contents disk.old)) result
         (verdict (D.contents disk.old)) }

@@ -17,7 +17,8 @@ invariant_of-self c =
     let two = c.apply_live-committed in
     both arc_value c.args.base a.accepted a.committed c.self.invariant.0 c.self.invariant.1 words
     (Class c.args.row c.into_record.result)
-    (ap (λ (w : List ℕ). Class c.args.row w) (c.into_record.ensures.record ∙ c.in_ok-shared.ensures))
+    (ap (λ (w : List ℕ). Class c.args.row w) (c.into_record.ensures.record
+    ∙ c.in_ok-shared.ensures))
     keeps one.new.self two.new.self two.result
     (is_pushed a.accepted one.new.self c.args.base words one.result keeps one.ensures.broken
     one.ensures.left)

@@ -7,7 +7,8 @@ use Rattle.cm_recover.specs.Opening.{IsFaultIn}
 use Rattle.cm_recover.specs.Standing.{Tells, AreRecorded, row_found}
 use Rattle.cm_recover.proofs.Readings.{then_reads, no_more}
 use Rattle.cm_recover.proofs.Verdicts.{fault_told}
-use Rattle.cm_recover.proofs.Passing.{IsPassing, passing_begins, passing_on, passing_fails, passing_ends}
+use Rattle.cm_recover.proofs.Passing.{IsPassing, passing_begins, passing_on, passing_fails}
+use Rattle.cm_recover.proofs.Passing.{passing_ends}
 use Rattle.cm_recover.proofs.standing.SecondPass.take_all.Goals as goal
 
 pub loop-row-init : goal.loop-row-init
