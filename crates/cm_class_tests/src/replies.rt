@@ -3,7 +3,7 @@
 use crate::samples::CLASS_A;
 use cm_prepare::{BadClass, Refusal, prepare};
 use cm_rules::{Broken, Rule, Spot};
-use cm_tool::{Kind, Reply, bad_line, defined, done, found, nothing, refused, unsure};
+use cm_tool::{Kind, Reply};
 use std::alloc::AllocError;
 use std::process::Abort;
 use std::test::Fail;
@@ -24,22 +24,27 @@ fn is_told(
 #[test]
 fn commands_that_are_done_are_told(rt: HostRuntime) -> Result<(), AllocError> {
     let alloc = rt.alloc();
-    is_told(&rt, done(alloc, 1), Kind::Done, b"ok 1\n")?;
-    is_told(&rt, done(alloc, 10), Kind::Done, b"ok 10\n")?;
-    is_told(&rt, defined(alloc, 2, b"A"), Kind::Done, b"ok 2 A\n")?;
+    is_told(&rt, Reply::ok(alloc, 1), Kind::Done, b"ok 1\n")?;
+    is_told(&rt, Reply::ok(alloc, 10), Kind::Done, b"ok 10\n")?;
     is_told(
         &rt,
-        defined(alloc, 2, b"\xc3\xa9"),
+        Reply::ok_class(alloc, 2, b"A"),
+        Kind::Done,
+        b"ok 2 A\n",
+    )?;
+    is_told(
+        &rt,
+        Reply::ok_class(alloc, 2, b"\xc3\xa9"),
         Kind::Done,
         b"ok 2 %C3%A9\n",
     )?;
-    is_told(&rt, nothing(alloc), Kind::Done, b"none\n")
+    is_told(&rt, Reply::none(alloc), Kind::Done, b"none\n")
 }
 
 #[test]
 fn a_class_is_told_with_its_flags_and_its_super_class(rt: HostRuntime) -> Result<(), Fail> {
     let class = prepare(rt.alloc(), &CLASS_A).ok().ok_or("class A")?;
-    let reply = found(rt.alloc(), b"A", class.record());
+    let reply = Reply::class(rt.alloc(), b"A", class.record());
     let line = b"class A flags 0021 super java/lang/Object words 16\n";
     Ok(is_told(&rt, reply, Kind::Done, line)?)
 }
@@ -117,9 +122,14 @@ const REFUSED: [(Refusal, &[u8]); 22] = [
 #[test]
 fn refusals_are_told_by_number_and_text(rt: HostRuntime) -> Result<(), AllocError> {
     for (refusal, line) in &REFUSED {
-        is_told(&rt, refused(rt.alloc(), *refusal), Kind::Refused, line)?;
+        is_told(
+            &rt,
+            Reply::refused(rt.alloc(), *refusal),
+            Kind::Refused,
+            line,
+        )?;
     }
-    let reply = bad_line(rt.alloc())?;
+    let reply = Reply::bad_line(rt.alloc())?;
     assert_eq!(rt; reply.line.as_slice(), b"refused 15 line\n".as_slice());
     Ok(())
 }
@@ -127,7 +137,7 @@ fn refusals_are_told_by_number_and_text(rt: HostRuntime) -> Result<(), AllocErro
 #[test]
 fn an_unsure_command_is_not_refused(rt: HostRuntime) -> Result<(), AllocError> {
     let alloc = rt.alloc();
-    is_told(&rt, unsure(alloc, 2), Kind::Unsure, b"unsure 2\n")?;
-    let refusal = refused(alloc, Refusal::Unsure(2));
+    is_told(&rt, Reply::unsure(alloc, 2), Kind::Unsure, b"unsure 2\n")?;
+    let refusal = Reply::refused(alloc, Refusal::Unsure(2));
     is_told(&rt, refusal, Kind::Unsure, b"unsure 2\n")
 }

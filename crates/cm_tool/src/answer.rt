@@ -14,7 +14,7 @@ ghost use Rattle.cm_tool.specs.Texts.{number_reply, defined_reply};
 ghost use Rattle.cm_tool.specs.Answers.{served};
 ghost use Rattle.cm_tool.specs.Serving.{IsReady, LedTo, MayGoOn, Replies, Tells, TellsNotStored};
 
-use crate::{Reply, bad_line, defined, done, found, nothing, refused, unsure};
+use crate::Reply;
 use cm_disk::Disk;
 use cm_lines::{Line, NameFault, unescape};
 use cm_prepare::{Command, Prepared, prepare};
@@ -39,7 +39,7 @@ pub fn answer<D: Disk>(
 {
     match question {
         Some(line) => answer_question(alloc, session, line),
-        None => bad_line(alloc),
+        None => Reply::bad_line(alloc),
     }
 }
 
@@ -76,7 +76,7 @@ fn add_loader<D: Disk>(
     ensures sizes { session.new.committer.sizes ≡ session.old.committer.sizes }
 {
     let stored = session.store(Command::AddLoader(name));
-    numbered(alloc, stored)
+    tell_number(alloc, stored)
 }
 
 fn unload<D: Disk>(
@@ -92,15 +92,15 @@ fn unload<D: Disk>(
     ensures sizes { session.new.committer.sizes ≡ session.old.committer.sizes }
 {
     let stored = session.store(Command::Unload(name));
-    numbered(alloc, stored)
+    tell_number(alloc, stored)
 }
 
 /// The reply to a command that tells no more than its number once it is done.
-fn numbered(alloc: Global, stored: Result<u64, NotStored>) -> Result<Reply, AllocError>
+fn tell_number(alloc: Global, stored: Result<u64, NotStored>) -> Result<Reply, AllocError>
     ensures { Tells number_reply stored result }
 {
     match stored {
-        Ok(number) => done(alloc, number),
+        Ok(number) => Reply::ok(alloc, number),
         Err(fault) => not_stored(alloc, fault),
     }
 }
@@ -109,9 +109,9 @@ fn not_stored(alloc: Global, fault: NotStored) -> Result<Reply, AllocError>
     ensures { TellsNotStored fault result }
 {
     match fault {
-        NotStored::Refused(refusal) => refused(alloc, refusal),
+        NotStored::Refused(refusal) => Reply::refused(alloc, refusal),
         NotStored::NoMemory(_) => Err(AllocError),
-        NotStored::Unsure(number) => unsure(alloc, number),
+        NotStored::Unsure(number) => Reply::unsure(alloc, number),
     }
 }
 
@@ -135,7 +135,7 @@ fn define<D: Disk>(
             if is_memory(fault) {
                 Err(AllocError)
             } else {
-                bad_line(alloc)
+                Reply::bad_line(alloc)
             }
         }
     }
@@ -164,7 +164,7 @@ fn define_bytes<D: Disk>(
 {
     match prepare(alloc, bytes) {
         Ok(class) => define_class(alloc, session, loader, class),
-        Err(refusal) => refused(alloc, refusal),
+        Err(refusal) => Reply::refused(alloc, refusal),
     }
 }
 
@@ -190,15 +190,19 @@ fn define_class<D: Disk>(
         Err(_) => return Err(AllocError),
     };
     let stored = session.store(Command::Define(loader, class));
-    named(alloc, stored, &name)
+    tell_class(alloc, stored, &name)
 }
 
 /// The reply to a define of a class of this name.
-fn named(alloc: Global, stored: Result<u64, NotStored>, name: &[u8]) -> Result<Reply, AllocError>
+fn tell_class(
+    alloc: Global,
+    stored: Result<u64, NotStored>,
+    name: &[u8],
+) -> Result<Reply, AllocError>
     ensures { Tells (λ n. defined_reply n name.now) stored result }
 {
     match stored {
-        Ok(number) => defined(alloc, number, name),
+        Ok(number) => Reply::ok_class(alloc, number, name),
         Err(fault) => not_stored(alloc, fault),
     }
 }
@@ -217,11 +221,11 @@ fn find<D: Disk>(
 {
     let name = match unescape(alloc, class) {
         Ok(name) => name,
-        Err(NameFault::BadEscape) => return bad_line(alloc),
+        Err(NameFault::BadEscape) => return Reply::bad_line(alloc),
         Err(NameFault::NoMemory) => return Err(AllocError),
     };
     match session.find(loader, &name) {
-        Some(class) => found(alloc, &name, class),
-        None => nothing(alloc),
+        Some(class) => Reply::class(alloc, &name, class),
+        None => Reply::none(alloc),
     }
 }

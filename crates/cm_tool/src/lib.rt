@@ -8,5 +8,5 @@ mod script;
 mod texts;
 
 pub use apply::{ApplyFault, apply_script};
-pub use reply::{Kind, Reply, bad_line, defined, done, found, nothing, refused, unsure};
+pub use reply::{Kind, Reply};
 pub use script::{Outcome, ToolFault, run_script, run_to_end};

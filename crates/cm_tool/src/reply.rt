@@ -8,7 +8,7 @@ ghost use Rattle.cm_tool.specs.Texts.{refused_reply, unsure_reply, refusal_reply
 ghost use Rattle.cm_tool.specs.Texts.{bad_line_reply};
 ghost use Rattle.cm_tool.specs.Replies.{IsReply};
 
-use crate::texts::{numbered, push_flags, push_number, text, text_of_refusal};
+use crate::texts::{push_flags, push_number, text, text_of_refusal, word_with_number};
 use cm_lines::escape_into;
 use cm_prepare::Refusal;
 use cm_record::Record;
@@ -32,81 +32,83 @@ pub struct Reply {
     pub line: Vec<u8>,
 }
 
-/// `ok N`: a command is done, and has this number.
-pub fn done(alloc: Global, number: u64) -> Result<Reply, AllocError>
-    ensures { IfOk result (IsReply (number_reply number)) }
-{
-    end(Kind::Done, numbered(alloc, b"ok ", number)?)
-}
-
-/// `ok N CLASS`: the class of this name is defined.
-pub fn defined(alloc: Global, number: u64, name: &[u8]) -> Result<Reply, AllocError>
-    ensures { IfOk result (IsReply (defined_reply number name.now)) }
-{
-    let mut line = numbered(alloc, b"ok ", number)?;
-    line.extend_from_slice(b" ")?;
-    escape_into(&mut line, name)?;
-    end(Kind::Done, line)
-}
-
-/// `class CLASS flags HHHH super S words W`: under this name this class is found.
-pub fn found(alloc: Global, name: &[u8], class: &Record) -> Result<Reply, AllocError>
-    ensures given { (c : ClassFile) → IsRecordOf c class.now
-        → IfOk result (IsReply (class_reply name.now c (length class.now))) }
-    ensures laid { OnOk result (IsRecord class.now) }
-{
-    let mut line = text(alloc, b"class ")?;
-    escape_into(&mut line, name)?;
-    line.extend_from_slice(b" flags ")?;
-    push_flags(&mut line, class.flags())?;
-    line.extend_from_slice(b" super ")?;
-    match class.super_name(alloc)? {
-        Some(super_name) => escape_into(&mut line, &super_name)?,
-        None => line.extend_from_slice(b"-")?,
+impl Reply {
+    /// `ok N`: a command is done, and has this number.
+    pub fn ok(alloc: Global, number: u64) -> Result<Reply, AllocError>
+        ensures { IfOk result (IsReply (number_reply number)) }
+    {
+        end(Kind::Done, word_with_number(alloc, b"ok ", number)?)
     }
-    line.extend_from_slice(b" words ")?;
-    push_number(alloc, &mut line, u64::from(class.words()))?;
-    end(Kind::Done, line)
-}
 
-/// `none`: there is no such class.
-pub fn nothing(alloc: Global) -> Result<Reply, AllocError>
-    ensures { IfOk result (IsReply none_reply) }
-{
-    end(Kind::Done, text(alloc, b"none")?)
-}
-
-/// `refused K TEXT`, and `unsure N` of an unsure command. Of a class that breaks a rule, the text
-/// is `V`, the rule's number and the place.
-pub fn refused(alloc: Global, refusal: Refusal) -> Result<Reply, AllocError>
-    ensures { IfOk result (IsReply (refusal_reply refusal)) }
-{
-    let why = text_of_refusal(alloc, refusal)?;
-    match refusal {
-        Refusal::Unsure(_) => end(Kind::Unsure, why),
-        _ => refused_as(alloc, refusal.number(), &why),
+    /// `ok N CLASS`: the class of this name is defined.
+    pub fn ok_class(alloc: Global, number: u64, name: &[u8]) -> Result<Reply, AllocError>
+        ensures { IfOk result (IsReply (defined_reply number name.now)) }
+    {
+        let mut line = word_with_number(alloc, b"ok ", number)?;
+        line.extend_from_slice(b" ")?;
+        escape_into(&mut line, name)?;
+        end(Kind::Done, line)
     }
-}
 
-/// `unsure N`: the device failed before the receipt of the command of this number.
-pub fn unsure(alloc: Global, number: u64) -> Result<Reply, AllocError>
-    ensures { IfOk result (IsReply (unsure_reply number)) }
-{
-    refused(alloc, Refusal::Unsure(number))
-}
+    /// `class CLASS flags HHHH super S words W`: under this name this class is found.
+    pub fn class(alloc: Global, name: &[u8], class: &Record) -> Result<Reply, AllocError>
+        ensures given { (c : ClassFile) → IsRecordOf c class.now
+            → IfOk result (IsReply (class_reply name.now c (length class.now))) }
+        ensures laid { OnOk result (IsRecord class.now) }
+    {
+        let mut line = text(alloc, b"class ")?;
+        escape_into(&mut line, name)?;
+        line.extend_from_slice(b" flags ")?;
+        push_flags(&mut line, class.flags())?;
+        line.extend_from_slice(b" super ")?;
+        match class.super_name(alloc)? {
+            Some(super_name) => escape_into(&mut line, &super_name)?,
+            None => line.extend_from_slice(b"-")?,
+        }
+        line.extend_from_slice(b" words ")?;
+        push_number(alloc, &mut line, u64::from(class.words()))?;
+        end(Kind::Done, line)
+    }
 
-/// `refused 15 line`: the line has no known form.
-pub fn bad_line(alloc: Global) -> Result<Reply, AllocError>
-    ensures { IfOk result (IsReply bad_line_reply) }
-{
-    refused(alloc, Refusal::BadLine)
+    /// `none`: there is no such class.
+    pub fn none(alloc: Global) -> Result<Reply, AllocError>
+        ensures { IfOk result (IsReply none_reply) }
+    {
+        end(Kind::Done, text(alloc, b"none")?)
+    }
+
+    /// `refused K TEXT`, and `unsure N` of an unsure command. Of a class that breaks a rule, the
+    /// text is `V`, the rule's number and the place.
+    pub fn refused(alloc: Global, refusal: Refusal) -> Result<Reply, AllocError>
+        ensures { IfOk result (IsReply (refusal_reply refusal)) }
+    {
+        let why = text_of_refusal(alloc, refusal)?;
+        match refusal {
+            Refusal::Unsure(_) => end(Kind::Unsure, why),
+            _ => refusal_line(alloc, refusal.number(), &why),
+        }
+    }
+
+    /// `unsure N`: the device failed before the receipt of the command of this number.
+    pub fn unsure(alloc: Global, number: u64) -> Result<Reply, AllocError>
+        ensures { IfOk result (IsReply (unsure_reply number)) }
+    {
+        Reply::refused(alloc, Refusal::Unsure(number))
+    }
+
+    /// `refused 15 line`: the line has no known form.
+    pub fn bad_line(alloc: Global) -> Result<Reply, AllocError>
+        ensures { IfOk result (IsReply bad_line_reply) }
+    {
+        Reply::refused(alloc, Refusal::BadLine)
+    }
 }
 
 /// `refused K TEXT` of this number and text.
-fn refused_as(alloc: Global, number: u8, why: &[u8]) -> Result<Reply, AllocError>
+fn refusal_line(alloc: Global, number: u8, why: &[u8]) -> Result<Reply, AllocError>
     ensures { IfOk result (IsReply (refused_reply number why.now)) }
 {
-    let mut line = numbered(alloc, b"refused ", u64::from(number))?;
+    let mut line = word_with_number(alloc, b"refused ", u64::from(number))?;
     line.extend_from_slice(b" ")?;
     line.extend_from_slice(why)?;
     end(Kind::Refused, line)

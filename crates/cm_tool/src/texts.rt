@@ -25,7 +25,7 @@ pub fn text_of_refusal(alloc: Global, refusal: Refusal) -> Result<Vec<u8>, Alloc
         Refusal::Broken => text(alloc, b"broken"),
         Refusal::Closed => text(alloc, b"closed"),
         Refusal::NumbersSpent => text(alloc, b"numbers spent"),
-        Refusal::Unsure(number) => numbered(alloc, b"unsure ", number),
+        Refusal::Unsure(number) => word_with_number(alloc, b"unsure ", number),
         Refusal::BadClass(bad) => text_of_bad_class(alloc, bad),
         Refusal::BadLine => text(alloc, b"line"),
     }
@@ -36,8 +36,8 @@ fn text_of_bad_class(alloc: Global, bad: BadClass) -> Result<Vec<u8>, AllocError
 {
     match bad {
         BadClass::Truncated => text(alloc, b"truncated"),
-        BadClass::Trailing(at) => numbered(alloc, b"trailing ", at as u64),
-        BadClass::Malformed(at) => numbered(alloc, b"malformed ", at as u64),
+        BadClass::Trailing(at) => word_with_number(alloc, b"trailing ", at as u64),
+        BadClass::Malformed(at) => word_with_number(alloc, b"malformed ", at as u64),
         BadClass::Rule(broken) => text_of_rule(alloc, broken),
     }
 }
@@ -45,7 +45,7 @@ fn text_of_bad_class(alloc: Global, bad: BadClass) -> Result<Vec<u8>, AllocError
 fn text_of_rule(alloc: Global, broken: Broken) -> Result<Vec<u8>, AllocError>
     ensures { IfOk result (λ why. why.items ≡ broken_text broken) }
 {
-    let mut why = numbered(alloc, b"V", u64::from(broken.rule.number()))?;
+    let mut why = word_with_number(alloc, b"V", u64::from(broken.rule.number()))?;
     let spot = text_of_spot(alloc, broken.spot)?;
     why.extend_from_slice(&spot)?;
     Ok(why)
@@ -55,13 +55,13 @@ fn text_of_spot(alloc: Global, spot: Spot) -> Result<Vec<u8>, AllocError>
     ensures { IfOk result (λ at. at.items ≡ spot_text spot) }
 {
     match spot {
-        Spot::Pool(index) => numbered(alloc, b" pool ", u64::from(index)),
+        Spot::Pool(index) => word_with_number(alloc, b" pool ", u64::from(index)),
         Spot::This => text(alloc, b" this"),
         Spot::Super => text(alloc, b" super"),
-        Spot::Interface(at) => numbered(alloc, b" interface ", u64::from(at)),
-        Spot::Field(at) => numbered(alloc, b" field ", u64::from(at)),
-        Spot::Method(at) => numbered(alloc, b" method ", u64::from(at)),
-        Spot::Attribute(at) => numbered(alloc, b" attribute ", u64::from(at)),
+        Spot::Interface(at) => word_with_number(alloc, b" interface ", u64::from(at)),
+        Spot::Field(at) => word_with_number(alloc, b" field ", u64::from(at)),
+        Spot::Method(at) => word_with_number(alloc, b" method ", u64::from(at)),
+        Spot::Attribute(at) => word_with_number(alloc, b" attribute ", u64::from(at)),
     }
 }
 
@@ -72,7 +72,7 @@ pub fn text(alloc: Global, bytes: &[u8]) -> Result<Vec<u8>, AllocError>
 }
 
 /// A word and a number.
-pub fn numbered(alloc: Global, word: &[u8], number: u64) -> Result<Vec<u8>, AllocError>
+pub fn word_with_number(alloc: Global, word: &[u8], number: u64) -> Result<Vec<u8>, AllocError>
     ensures { IfOk result (λ text. text.items ≡ word.now ++ decimal number) }
 {
     let mut line = text(alloc, word)?;

@@ -45,16 +45,16 @@ returns-in-Some g c =
     let word = c.args.class.now in
     let words = c.deref-in-Some-2.result.now in
     let says = λ (f : ClassFile) (laid : IsRecordOf f words).
-    subst (λ n. IfOk c.found.result (IsReply (class_reply n f (length words))))
-    c.deref-in-Some.ensures.value (c.found.ensures.given f laid) in
+    subst (λ n. IfOk c.class.result (IsReply (class_reply n f (length words))))
+    c.deref-in-Some.ensures.value (c.class.ensures.given f laid) in
     λ k goes ready.
     let finds = subst (λ w. Finds sizes k loader c.in-Ok.name.items (Some w))
     (sym c.deref-in-Some-2.ensures)
     (subst (λ n. Finds sizes k loader n (Some (arc_value c.in-Some.class.now)))
     c.deref.ensures.value (c.in-Some.ensures k goes)) in
     stays k f
-    (replies_found sizes loader word c.in-Ok.name.items words k f c.found.result ready
-    c.in-Ok.ensures.name finds says c.found.ensures.laid)
+    (replies_found sizes loader word c.in-Ok.name.items words k f c.class.result ready
+    c.in-Ok.ensures.name finds says c.class.ensures.laid)
     (still g.D.Disk.moment g.D.Disk.left_since k s goes)
 
 pub returns : goal.returns
@@ -68,7 +68,7 @@ returns g c =
     let finds =
     subst (λ n. Finds sizes k loader n None) c.deref.ensures.value (c.in-None.ensures k goes) in
     stays k f
-    (replies_same sizes (Some (AsksFind loader word)) k f none_reply c.nothing.result ready
-    c.nothing.ensures
+    (replies_same sizes (Some (AsksFind loader word)) k f none_reply c.none.result ready
+    c.none.ensures
     (finds_none sizes loader word c.in-Ok.name.items k f c.in-Ok.ensures.name finds))
     (still g.D.Disk.moment g.D.Disk.left_since k s goes)

@@ -16,7 +16,7 @@ returns-clause-machine g c =
     command_replies disk.moment disk.left_since (Some (AsksUnload name)) number_reply k
     (Unload name)
     (disk.failures s.committer.disk) (disk.failures call.new.self.committer.disk) s call.new.self
-    call.result c.numbered.result ready (unload_fits s.committer.sizes name)
+    call.result c.tell_number.result ready (unload_fits s.committer.sizes name)
     (call.ensures.machine k goes ready.rest) (call.ensures.cause k goes ready.rest)
     (λ none. ap (λ (x : CommitterState _). disk.failures x.disk) (call.ensures.no_call none))
-    call.ensures.no_call c.numbered.ensures
+    call.ensures.no_call c.tell_number.ensures
