@@ -167,8 +167,8 @@ module _ {P : Type 0} where
   pub add-loader : (sizes : Sizes) (rows : List (Row P)) (ls : List LiveLoader) (p : FreeSpace)
       (r : LoaderRow)
       → IsBook sizes rows ls p → length rows < row_limit sizes → is_above r.number rows ≡ true
-      → IsBook sizes (rows ++ Loader r ∷ []) (ls ++ record { number = r.number; last = None } ∷ [])
-      p
+      → IsBook sizes (rows ++ Loader r ∷ [])
+      (ls ++ record { number = r.number; last = None } ∷ []) p
   add-loader sizes rows ls p r h few above =
       let classes = classes-push_loader rows r in
       let numbers = numbers-push_loader rows r in

@@ -1,7 +1,8 @@
 -- A living row ends, and its chunk is given back where it is the first record there.
 use Rattle.std.proofs.Common.{◌≡◌, ℕ, zero, suc, ◌+◌, ◌<◌, Bool, true, false, cond, List, [], ◌∷◌}
-use Rattle.std.proofs.Common.{◌++◌, length, set, get_or, Some, None, refl, sym, ◌∙◌, ap, subst}
-use Rattle.std.proofs.Common.{arith, length-append}
+use Rattle.std.proofs.Common.{◌++◌}
+use Rattle.std.proofs.Common.{length, set, get_or, Some, None, refl, sym, ◌∙◌, ap, subst, arith}
+use Rattle.std.proofs.Common.{length-append}
 use Rattle.std.specs.List.{slice_get}
 use Rattle.cm_pool.specs.declared.chunk.Chunk.{Chunk}
 use Rattle.cm_pool.specs.Geometry.{Sizes}
@@ -10,9 +11,9 @@ use Rattle.cm_layout.specs.declared.row.Row.{Row}
 use Rattle.cm_layout.specs.Rows.{classes_in}
 use Rattle.cm_index.specs.declared.slot.Slot.{Slot}
 use Rattle.cm_index.specs.Living.{living}
-use Rattle.cm_rows.specs.Held.{Holds, first_chunks, own_chunk}
+use Rattle.cm_rows.specs.Held.{chunks_of, Holds, first_chunks, own_chunk}
 use Rattle.cm_rows.proofs.Holding.{give-back}
-use Rattle.cm_rows.proofs.Giving.{firsts, classes-append, first-append, firsts-some, firsts-none}
+use Rattle.cm_rows.proofs.Giving.{classes-append, first-append, firsts-some, firsts-none}
 
 module _ {X : Type 0} where
   -- what lives before a place and behind it
@@ -67,39 +68,40 @@ module _ {X : Type 0} where
       )
 
 module _ {P : Type 0} where
-  firsts-append : (rows more : List (Row P)) → firsts (rows ++ more) ≡ firsts rows ++ firsts more
-  firsts-append rows more =
-      ap first_chunks (classes-append rows more) ∙ first-append (classes_in rows) (classes_in more)
+  firsts-append : (rows more : List (Row P)) → chunks_of (rows ++ more)
+      ≡ chunks_of rows ++ chunks_of more
+  firsts-append rows more = ap first_chunks (classes-append rows more)
+      ∙ first-append (classes_in rows) (classes_in more)
 
   pub ended-gives : (sizes : Sizes) (p : FreeSpace) (slots : List (Slot (Row P))) (i : ℕ)
       (s x : Slot (Row P)) (c : Chunk)
       → slice_get slots i ≡ Some s → s.live ≡ true → x.live ≡ false → own_chunk s.item ≡ Some c
-      → Holds sizes p (firsts (living slots))
-      → IsUsedChunk p c × Holds sizes (with_chunk p c) (firsts (living (set slots i x)))
+      → Holds sizes p (chunks_of (living slots))
+      → IsUsedChunk p c × Holds sizes (with_chunk p c) (chunks_of (living (set slots i x)))
   ended-gives sizes p slots i s x c there live dead own h =
       let a = around slots i s x there live dead in
-      let parts : firsts (living slots) ≡ firsts a.front ++ c ∷ firsts a.rest =
-      ap firsts a.was ∙ firsts-append a.front (s.item ∷ a.rest)
-      ∙ ap (λ l. firsts a.front ++ l) (firsts-some s.item a.rest c own) in
-      let given =
-      give-back sizes p (firsts a.front) c (firsts a.rest)
+      let parts : chunks_of (living slots) ≡ chunks_of a.front ++ c ∷ chunks_of a.rest =
+      ap chunks_of a.was ∙ firsts-append a.front (s.item ∷ a.rest)
+      ∙ ap (λ l. chunks_of a.front ++ l) (firsts-some s.item a.rest c own) in
+      let given = give-back sizes p (chunks_of a.front) c (chunks_of a.rest)
       (subst (λ (l : List Chunk). Holds sizes p l) parts h) in (
         given.0,
-        subst (λ (l : List Chunk). Holds sizes (with_chunk p c) l)
-            (sym (ap firsts a.is ∙ firsts-append a.front a.rest)) given.1,
+        subst (λ (l : List Chunk). Holds sizes (with_chunk p c) l) (sym (ap chunks_of a.is
+            ∙ firsts-append a.front a.rest)) given.1,
       )
 
   pub ended-keeps : (sizes : Sizes) (p : FreeSpace) (slots : List (Slot (Row P))) (i : ℕ)
       (s x : Slot (Row P))
       → slice_get slots i ≡ Some s → s.live ≡ true → x.live ≡ false → own_chunk s.item ≡ None
-      → Holds sizes p (firsts (living slots)) → Holds sizes p (firsts (living (set slots i x)))
+      → Holds sizes p (chunks_of (living slots))
+      → Holds sizes p (chunks_of (living (set slots i x)))
   ended-keeps sizes p slots i s x there live dead own h =
       let a = around slots i s x there live dead in
-      let parts : firsts (living slots) ≡ firsts a.front ++ firsts a.rest =
-      ap firsts a.was ∙ firsts-append a.front (s.item ∷ a.rest)
-      ∙ ap (λ l. firsts a.front ++ l) (firsts-none s.item a.rest own) in
-      subst (λ (l : List Chunk). Holds sizes p l)
-      (parts ∙ sym (ap firsts a.is ∙ firsts-append a.front a.rest)) h
+      let parts : chunks_of (living slots) ≡ chunks_of a.front ++ chunks_of a.rest =
+      ap chunks_of a.was ∙ firsts-append a.front (s.item ∷ a.rest)
+      ∙ ap (λ l. chunks_of a.front ++ l) (firsts-none s.item a.rest own) in
+      subst (λ (l : List Chunk). Holds sizes p l) (parts
+      ∙ sym (ap chunks_of a.is ∙ firsts-append a.front a.rest)) h
 
 -- what stands within a list stands there
 pub get-at : {X : Type 0} (xs : List X) (i : ℕ) (d : X) → i < length xs

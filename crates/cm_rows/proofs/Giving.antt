@@ -19,7 +19,7 @@ use Rattle.cm_index.specs.declared.slot.Slot.{Slot}
 use Rattle.cm_index.specs.Living.{living}
 use Rattle.cm_index.proofs.Living.{living-append}
 use Rattle.std.proofs.lemmas.List.{take-append-drop}
-use Rattle.cm_rows.specs.Held.{Holds, CanBeHeld, first_chunks, own_chunk, living_chunk}
+use Rattle.cm_rows.specs.Held.{Holds, CanBeHeld, first_chunks, chunks_of, own_chunk, living_chunk}
 use Rattle.cm_index.proofs.Lists.{among-right}
 use Rattle.cm_rows.proofs.Chunks.{meets-turned}
 use Rattle.cm_rows.proofs.Holding.{each-among, free-is, take-push, give-back}
@@ -40,32 +40,27 @@ first-append rs ss =
     (λ (r : ClassRow). eqb r.place.offset 0) rs) (filter
     (λ (r : ClassRow). eqb r.place.offset 0) ss)
 
-module _ {P : Type 0} where
-  -- the first chunks of rows
-  abbrev pub firsts : List (Row P) → List Chunk
-  firsts rows = first_chunks (classes_in rows)
-
 -- ---- all chunks, given back and taken
 
 module _ {P : Type 0} where
   pub firsts-some : (x : Row P) (rest : List (Row P)) (c : Chunk) → own_chunk x ≡ Some c
-      → firsts (x ∷ rest) ≡ c ∷ firsts rest
+      → chunks_of (x ∷ rest) ≡ c ∷ chunks_of rest
   firsts-some (Loader r) rest c h = absurd (cc)
   firsts-some (Class r p) rest c h = by_test (eqb r.place.offset 0) refl h
     where
       by_test : (t : Bool) → eqb r.place.offset 0 ≡ t → cond t (Some r.place.chunk) None ≡ Some c
-          → firsts (Class r p ∷ rest) ≡ c ∷ firsts rest
+          → chunks_of (Class r p ∷ rest) ≡ c ∷ chunks_of rest
       by_test true e h = let is : r.place.chunk ≡ c = cc in rw (e) (ap
-          (λ (d : Chunk). d ∷ firsts rest) is)
+          (λ (d : Chunk). d ∷ chunks_of rest) is)
       by_test false e h = absurd (cc)
 
   pub firsts-none : (x : Row P) (rest : List (Row P)) → own_chunk x ≡ None
-      → firsts (x ∷ rest) ≡ firsts rest
+      → chunks_of (x ∷ rest) ≡ chunks_of rest
   firsts-none (Loader r) rest h = refl
   firsts-none (Class r p) rest h = by_test (eqb r.place.offset 0) refl h
     where
       by_test : (t : Bool) → eqb r.place.offset 0 ≡ t → cond t (Some r.place.chunk) None ≡ None
-          → firsts (Class r p ∷ rest) ≡ firsts rest
+          → chunks_of (Class r p ∷ rest) ≡ chunks_of rest
       by_test true e h = absurd (cc)
       by_test false e h = rw (e) refl
 
@@ -77,59 +72,60 @@ module _ {P : Type 0} where
   pub given-more : (sizes : Sizes) (p : FreeSpace) (slots : List (Slot (Row P))) (i : ℕ)
       (s : Slot (Row P)) (c : Chunk) → i < length slots → s ≡ get_or slots i s
       → living_chunk s ≡ Some c
-      → Holds sizes p (firsts (living (drop i slots)))
-      → Holds sizes (with_chunk p c) (firsts (living (drop (i + 1) slots)))
+      → Holds sizes p (chunks_of (living (drop i slots)))
+      → Holds sizes (with_chunk p c) (chunks_of (living (drop (i + 1) slots)))
   given-more sizes p slots i s c lt is some h =
       let rest = living (drop (i + 1) slots) in
-      let now : living (drop i slots) ≡ cond s.live (s.item ∷ rest) rest = living-more slots i s lt
-      ∙ ap (λ (t : Slot (Row P)). cond t.live (t.item ∷ rest) rest) (sym is) in
-      by_test s.live rest (subst (λ (l : List (Row P)). Holds sizes p (firsts l)) now h) some
+      let now : living (drop i slots) ≡ cond s.live (s.item ∷ rest) rest =
+      living-more slots i s lt ∙ ap (λ (t : Slot (Row P)). cond t.live (t.item ∷ rest) rest)
+      (sym is) in
+      by_test s.live rest (subst (λ (l : List (Row P)). Holds sizes p (chunks_of l)) now h) some
     where
       by_test : (t : Bool) (rest : List (Row P))
-          → Holds sizes p (firsts (cond t (s.item ∷ rest) rest))
+          → Holds sizes p (chunks_of (cond t (s.item ∷ rest) rest))
           → cond t (own_chunk s.item) None ≡ Some c
-          → Holds sizes (with_chunk p c) (firsts rest)
-      by_test true rest h e =
-          (give-back sizes p [] c (firsts rest)
+          → Holds sizes (with_chunk p c) (chunks_of rest)
+      by_test true rest h e = (give-back sizes p [] c (chunks_of rest)
           (subst (λ (l : List Chunk). Holds sizes p l) (firsts-some s.item rest c e) h)).1
       by_test false rest h e = absurd (cc)
 
   pub given-used : (sizes : Sizes) (p : FreeSpace) (slots : List (Slot (Row P))) (i : ℕ)
       (s : Slot (Row P)) (c : Chunk) → i < length slots → s ≡ get_or slots i s
       → living_chunk s ≡ Some c
-      → Holds sizes p (firsts (living (drop i slots))) → IsUsedChunk p c
+      → Holds sizes p (chunks_of (living (drop i slots))) → IsUsedChunk p c
   given-used sizes p slots i s c lt is some h =
       let rest = living (drop (i + 1) slots) in
-      let now : living (drop i slots) ≡ cond s.live (s.item ∷ rest) rest = living-more slots i s lt
-      ∙ ap (λ (t : Slot (Row P)). cond t.live (t.item ∷ rest) rest) (sym is) in
-      by_test s.live rest (subst (λ (l : List (Row P)). Holds sizes p (firsts l)) now h) some
+      let now : living (drop i slots) ≡ cond s.live (s.item ∷ rest) rest =
+      living-more slots i s lt ∙ ap (λ (t : Slot (Row P)). cond t.live (t.item ∷ rest) rest)
+      (sym is) in
+      by_test s.live rest (subst (λ (l : List (Row P)). Holds sizes p (chunks_of l)) now h) some
     where
       by_test : (t : Bool) (rest : List (Row P))
-          → Holds sizes p (firsts (cond t (s.item ∷ rest) rest))
+          → Holds sizes p (chunks_of (cond t (s.item ∷ rest) rest))
           → cond t (own_chunk s.item) None ≡ Some c
           → IsUsedChunk p c
-      by_test true rest h e =
-          (give-back sizes p [] c (firsts rest)
+      by_test true rest h e = (give-back sizes p [] c (chunks_of rest)
           (subst (λ (l : List Chunk). Holds sizes p l) (firsts-some s.item rest c e) h)).0
       by_test false rest h e = absurd (cc)
 
   pub left-more : (sizes : Sizes) (p : FreeSpace) (slots : List (Slot (Row P))) (i : ℕ)
       (s : Slot (Row P))
       → i < length slots → s ≡ get_or slots i s → living_chunk s ≡ None
-      → Holds sizes p (firsts (living (drop i slots)))
-      → Holds sizes p (firsts (living (drop (i + 1) slots)))
+      → Holds sizes p (chunks_of (living (drop i slots)))
+      → Holds sizes p (chunks_of (living (drop (i + 1) slots)))
   left-more sizes p slots i s lt is none h =
       let rest = living (drop (i + 1) slots) in
-      let now : living (drop i slots) ≡ cond s.live (s.item ∷ rest) rest = living-more slots i s lt
-      ∙ ap (λ (t : Slot (Row P)). cond t.live (t.item ∷ rest) rest) (sym is) in
-      by_test s.live rest (subst (λ (l : List (Row P)). Holds sizes p (firsts l)) now h) none
+      let now : living (drop i slots) ≡ cond s.live (s.item ∷ rest) rest =
+      living-more slots i s lt ∙ ap (λ (t : Slot (Row P)). cond t.live (t.item ∷ rest) rest)
+      (sym is) in
+      by_test s.live rest (subst (λ (l : List (Row P)). Holds sizes p (chunks_of l)) now h) none
     where
       by_test : (t : Bool) (rest : List (Row P))
-          → Holds sizes p (firsts (cond t (s.item ∷ rest) rest))
+          → Holds sizes p (chunks_of (cond t (s.item ∷ rest) rest))
           → cond t (own_chunk s.item) None ≡ None
-          → Holds sizes p (firsts rest)
-      by_test true rest h e =
-          subst (λ (l : List Chunk). Holds sizes p l) (firsts-none s.item rest e) h
+          → Holds sizes p (chunks_of rest)
+      by_test true rest h e = subst (λ (l : List Chunk). Holds sizes p l)
+          (firsts-none s.item rest e) h
       by_test false rest h e = h
 
 -- what is before c in a list has R with it
@@ -138,20 +134,21 @@ pair-before : (R : Chunk → Chunk
     → Pairwise R (xs ++ c ∷ ys) → Among d xs → R d c
 pair-before R [] c ys d h none = absurd none
 pair-before R (x ∷ xs) c ys d h (inl e) = subst
-    (λ (y : Chunk). R y c) (sym e)
-    (each-among (R x) (xs ++ c ∷ ys) c h.0 (among-right c xs (c ∷ ys) (inl refl)))
+    (λ (y : Chunk). R y c) (sym e) (each-among (R x) (xs ++ c ∷ ys) c h.0
+    (among-right c xs (c ∷ ys) (inl refl)))
 pair-before R (x ∷ xs) c ys d h (inr m) = pair-before R xs c ys d h.1 m
 
 module _ {P : Type 0} where
-  firsts-joined : (rows more : List (Row P)) → firsts (rows ++ more) ≡ firsts rows ++ firsts more
-  firsts-joined rows more =
-      ap first_chunks (classes-append rows more) ∙ first-append (classes_in rows) (classes_in more)
+  firsts-joined : (rows more : List (Row P)) → chunks_of (rows ++ more)
+      ≡ chunks_of rows ++ chunks_of more
+  firsts-joined rows more = ap first_chunks (classes-append rows more)
+      ∙ first-append (classes_in rows) (classes_in more)
 
   -- what lives up to a place, the place, and what lives behind it
   pub split-living : (slots : List (Slot (Row P))) (i : ℕ) (s : Slot (Row P)) → i < length slots
       → s ≡ get_or slots i s
-      → living slots ≡ living (take i slots)
-      ++ cond s.live (s.item ∷ living (drop (i + 1) slots)) (living (drop (i + 1) slots))
+      → living slots ≡ living (take i slots) ++ cond s.live (s.item ∷ living (drop (i + 1) slots))
+      (living (drop (i + 1) slots))
   split-living slots i s lt is =
       ap living (sym (take-append-drop i slots)) ∙ living-append (take i slots) (drop i slots)
       ∙ ap (λ l. living (take i slots) ++ l) (living-more slots i s lt
@@ -163,65 +160,65 @@ module _ {P : Type 0} where
       → living (take (i + 1) slots) ≡ living (take i slots) ++ cond s.live (s.item ∷ []) []
   taken-living slots i s lt is =
       ap living (take_more slots i s lt) ∙ living-append (take i slots) (get_or slots i s ∷ [])
-      ∙ ap (λ (t : Slot (Row P)). living (take i slots) ++ cond t.live (t.item ∷ []) []) (sym is)
+      ∙ ap (λ (t : Slot (Row P)). living (take i slots) ++ cond t.live (t.item ∷ []) [])
+      (sym is)
 
   pub taken-more : (sizes : Sizes) (p : FreeSpace) (slots : List (Slot (Row P))) (i : ℕ)
       (s : Slot (Row P)) (c : Chunk) → i < length slots → s ≡ get_or slots i s
-      → living_chunk s ≡ Some c → CanBeHeld sizes (firsts (living slots))
-      → Holds sizes p (firsts (living (take i slots))) → IsFreeChunk p c
-      × Holds sizes (without p c) (firsts (living (take (i + 1) slots)))
+      → living_chunk s ≡ Some c → CanBeHeld sizes (chunks_of (living slots))
+      → Holds sizes p (chunks_of (living (take i slots))) → IsFreeChunk p c
+      × Holds sizes (without p c) (chunks_of (living (take (i + 1) slots)))
   taken-more sizes p slots i s c lt is some can h =
       by_test s.live some (living (take i slots)) (living (drop (i + 1) slots)) h
-      (subst (λ (l : List (Row P)). CanBeHeld sizes (firsts l)) (split-living slots i s lt is) can)
+      (subst (λ (l : List (Row P)). CanBeHeld sizes (chunks_of l))
+      (split-living slots i s lt is) can)
       (living (take (i + 1) slots)) (taken-living slots i s lt is)
     where
       by_test : (t : Bool) → cond t (own_chunk s.item) None ≡ Some c → (front rest : List (Row P))
-          → Holds sizes p (firsts front)
-          → CanBeHeld sizes (firsts (front ++ cond t (s.item ∷ rest) rest)) → (more : List (Row P))
-          → more ≡ front ++ cond t (s.item ∷ []) []
-          → IsFreeChunk p c × Holds sizes (without p c) (firsts more)
+          → Holds sizes p (chunks_of front)
+          → CanBeHeld sizes (chunks_of (front ++ cond t (s.item ∷ rest) rest))
+          → (more : List (Row P)) → more ≡ front ++ cond t (s.item ∷ []) []
+          → IsFreeChunk p c × Holds sizes (without p c) (chunks_of more)
       by_test false e front rest h can more is = absurd (cc)
       by_test true e front rest h can more is =
-          let parts : firsts (front ++ s.item ∷ rest) ≡ firsts front ++ c ∷ firsts rest =
-          firsts-joined front (s.item ∷ rest)
-          ∙ ap (λ l. firsts front ++ l) (firsts-some s.item rest c e) in
-          let each : AllByRecursion (IsChunk sizes) (firsts front ++ c ∷ firsts rest) =
+          let parts : chunks_of (front ++ s.item ∷ rest) ≡ chunks_of front ++ c ∷ chunks_of rest =
+          firsts-joined front (s.item ∷ rest) ∙ ap (λ l. chunks_of front ++ l)
+          (firsts-some s.item rest c e) in
+          let each : AllByRecursion (IsChunk sizes) (chunks_of front ++ c ∷ chunks_of rest) =
           subst (AllByRecursion (IsChunk sizes)) parts can.each in
-          let apart : Pairwise (λ a b. ¬ Meets a b) (firsts front ++ c ∷ firsts rest) =
+          let apart : Pairwise (λ a b. ¬ Meets a b) (chunks_of front ++ c ∷ chunks_of rest) =
           subst (Pairwise (λ a b. ¬ Meets a b)) parts can.apart in
-          let chunk =
-          each-among (IsChunk sizes) (firsts front ++ c ∷ firsts rest) c each
-          (among-right c (firsts front) (c ∷ firsts rest) (inl refl)) in
-          let free = (free-is sizes p (firsts front) c h).1 (
+          let chunk = each-among (IsChunk sizes) (chunks_of front ++ c ∷ chunks_of rest) c each
+          (among-right c (chunks_of front) (c ∷ chunks_of rest) (inl refl)) in
+          let free = (free-is sizes p (chunks_of front) c h).1 (
             chunk,
-            λ x m meet. pair-before (λ a b. ¬ Meets a b) (firsts front) c (firsts rest) x apart m
-                (meets-turned c x meet),
+            λ x m meet. pair-before (λ a b. ¬ Meets a b) (chunks_of front) c (chunks_of rest) x
+                apart m (meets-turned c x meet),
           ) in
-          let one : firsts more ≡ firsts front ++ c ∷ [] =
-          ap firsts is ∙ firsts-joined front (s.item ∷ [])
-          ∙ ap (λ l. firsts front ++ l) (firsts-some s.item [] c e) in (
+          let one : chunks_of more ≡ chunks_of front ++ c ∷ [] = ap chunks_of is
+          ∙ firsts-joined front (s.item ∷ []) ∙ ap (λ l. chunks_of front ++ l)
+          (firsts-some s.item [] c e) in (
             free,
             subst (λ (l : List Chunk). Holds sizes (without p c) l) (sym one)
-                (take-push sizes p (firsts front) c h free),
+                (take-push sizes p (chunks_of front) c h free),
           )
 
   pub passed-more : (sizes : Sizes) (p : FreeSpace) (slots : List (Slot (Row P))) (i : ℕ)
       (s : Slot (Row P))
       → i < length slots → s ≡ get_or slots i s → living_chunk s ≡ None
-      → Holds sizes p (firsts (living (take i slots)))
-      → Holds sizes p (firsts (living (take (i + 1) slots)))
+      → Holds sizes p (chunks_of (living (take i slots)))
+      → Holds sizes p (chunks_of (living (take (i + 1) slots)))
   passed-more sizes p slots i s lt is none h =
       by_test s.live none (living (take i slots)) h (living (take (i + 1) slots))
       (taken-living slots i s lt is)
     where
       by_test : (t : Bool) → cond t (own_chunk s.item) None ≡ None → (front : List (Row P))
-          → Holds sizes p (firsts front)
+          → Holds sizes p (chunks_of front)
           → (more : List (Row P)) → more ≡ front ++ cond t (s.item ∷ []) []
-          → Holds sizes p (firsts more)
-      by_test true e front h more is =
-          subst (λ (l : List Chunk). Holds sizes p l)
-          (sym (ap firsts is ∙ firsts-joined front (s.item ∷ [])
-          ∙ ap (λ l. firsts front ++ l) (firsts-none s.item [] e) ∙ append-nil (firsts front)))
-          h
-      by_test false e front h more is =
-          subst (λ (l : List Chunk). Holds sizes p l) (sym (ap firsts (is ∙ append-nil front))) h
+          → Holds sizes p (chunks_of more)
+      by_test true e front h more is = subst (λ (l : List Chunk). Holds sizes p l)
+          (sym (ap chunks_of is ∙ firsts-joined front (s.item ∷ [])
+          ∙ ap (λ l. chunks_of front ++ l) (firsts-none s.item [] e)
+          ∙ append-nil (chunks_of front))) h
+      by_test false e front h more is = subst (λ (l : List Chunk). Holds sizes p l)
+          (sym (ap chunks_of (is ∙ append-nil front))) h

@@ -184,8 +184,8 @@ module _ {P : Type 0} where
       let s : Slot (Row P) = record { item = Class r k; live = true } in
       let l : Slot LiveLoader = living_loader r.loader o in
       let last = last-at-place sizes old known r.loader i None h at in
-      let linked = linked-push slots old.before.items s (get_or known.newest.items i None) h.linked
-      last in
+      let linked = linked-push slots old.before.items s (get_or known.newest.items i None)
+      h.linked last in
       let lasts = ap (λ os. set os i (Some (length slots))) h.lasts
       ∙ places-push slots s ls i nobody refl rises.each at.within (at.number_is nobody)
       ∙ ap (last_places (slots ++ s ∷ []))

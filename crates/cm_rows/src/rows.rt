@@ -4,9 +4,8 @@ ghost use Rattle.std.specs.Prelude.{◌≡◌, ◌<◌, ◌≤◌, ◌&&◌, [],
 ghost use Rattle.std.specs.Prelude.{length, map, true};
 ghost use Rattle.std.specs.List.{AllByRecursion};
 ghost use Rattle.cm_index.specs.Living.{living};
-ghost use Rattle.cm_layout.specs.Rows.{classes_in, moved_row};
-ghost use Rattle.cm_layout.specs.Rows.{row_with, bare};
-ghost use Rattle.cm_rows.specs.Held.{Holds, CanBeHeld, first_chunks, own_chunk, living_chunk};
+ghost use Rattle.cm_layout.specs.Rows.{moved_row, row_with, bare};
+ghost use Rattle.cm_rows.specs.Held.{Holds, CanBeHeld, chunks_of, own_chunk, living_chunk};
 
 use cm_index::Slot;
 use cm_layout::Row;
@@ -55,7 +54,7 @@ fn push_living<P: Drop>(slots: &mut Vec<Slot<Row<P>>>, row: Row<P>)
 
 /// Gives the chunks of all rows back to the pool.
 pub fn give_all<P>(slots: &[Slot<Row<P>>], pool: &mut Pool)
-    requires { Holds pool.old.geometry pool.old (first_chunks (classes_in (living slots.now))) }
+    requires { Holds pool.old.geometry pool.old (chunks_of (living slots.now)) }
     ensures { Holds pool.old.geometry pool.new [] }
 {
     for slot in slots {
@@ -68,8 +67,8 @@ pub fn give_all<P>(slots: &[Slot<Row<P>>], pool: &mut Pool)
 /// Takes the chunks of rows out of a pool that holds none.
 pub fn take_all<P>(slots: &[Slot<Row<P>>], pool: &mut Pool)
     requires none { Holds pool.old.geometry pool.old [] }
-    requires apart { CanBeHeld pool.old.geometry (first_chunks (classes_in (living slots.now))) }
-    ensures { Holds pool.old.geometry pool.new (first_chunks (classes_in (living slots.now))) }
+    requires apart { CanBeHeld pool.old.geometry (chunks_of (living slots.now)) }
+    ensures { Holds pool.old.geometry pool.new (chunks_of (living slots.now)) }
 {
     for slot in slots {
         if let Some(chunk) = living_chunk(slot) {

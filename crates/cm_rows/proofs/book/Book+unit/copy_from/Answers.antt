@@ -27,8 +27,8 @@ rows : (g : Over) (c : After-copy_rows g) → living c.copy_rows.new.slots.items
     ≡ bare (living c.other.inside.rows.slots.items)
 rows g c = c.copy_rows.ensures.rows ∙ ap (λ l. bare (living l)) c.deref-3.ensures.value
 
-few : (g : Over) (c : After-copy_rows g) → length c.copy_rows.new.slots.items ≤ row_limit
-    c.self.inside.geometry
+few : (g : Over) (c : After-copy_rows g)
+    → length c.copy_rows.new.slots.items ≤ row_limit c.self.inside.geometry
 few g c = omega (
   arith,
   c.copy_rows.ensures.count,

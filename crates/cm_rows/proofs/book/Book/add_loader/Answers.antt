@@ -1,6 +1,5 @@
 use Rattle.std.proofs.Common.{◌≡◌, ◌<◌, ◌≤◌, ◌+◌, ◌++◌, ◌∷◌, [], ℕ, Bool, true, false, cond, Some}
-use Rattle.std.proofs.Common.{None}
-use Rattle.std.proofs.Common.{List, length, length-append, refl, sym, ap, subst, ◌∙◌, arith}
+use Rattle.std.proofs.Common.{None, List, length, length-append, refl, sym, ap, subst, ◌∙◌, arith}
 use Rattle.std.specs.List.{AllByRecursion}
 use Rattle.cm_layout.specs.declared.entry_rule.EntryRule.TheVariants.{OnRows}
 use Rattle.cm_layout.specs.declared.row.Row.{Row}

@@ -122,8 +122,8 @@ invariant_of-self-2 g c =
     let l : LiveLoader = get_or ls at_now.place nobody in
     let is_now : l ≡ get_or ls at_now.place l = same-default ls at_now.place nobody l
     found_now.within in
-    let last = sym (last-at rows ls r.loader at.place p.slot.item c.self.invariant.0.loaders found
-    has)
+    let last =
+    sym (last-at rows ls r.loader at.place p.slot.item c.self.invariant.0.loaders found has)
     ∙ last-at rows ls r.loader at_now.place l c.self.invariant.0.loaders found_now is_now in
     let inside = inside-chunk sizes r p.inside in
     let o : Option LastChunk = Some (used_to_end r) in
@@ -131,8 +131,9 @@ invariant_of-self-2 g c =
     let loaders_are : living new_loaders.slots.items ≡ set ls at_now.place x =
     ap (λ (k : List (Slot LiveLoader)). living k) c.set_last.ensures.loaders ∙ at_now.changed x
     ∙ ap (λ k. set k at_now.place x) m.living_loaders in
-    let takes = subst (λ (k : Option LastChunk). TakesPlace k r.place a.pool c.place_class.new.pool)
-    last p.takes in
+    let takes =
+    subst (λ (k : Option LastChunk). TakesPlace k r.place a.pool c.place_class.new.pool) last
+    p.takes in
     let roomier : vec_capacity left.slots ≤ vec_capacity new_loaders.slots =
     omega (arith, c.set_last.ensures.capacity) in
     let newest_room : vec_capacity left.newest ≤ vec_capacity new_loaders.newest =

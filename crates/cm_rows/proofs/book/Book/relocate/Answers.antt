@@ -188,9 +188,8 @@ invariant_of-self-2 g c =
             before = omega arith;
             newest = omega arith;
           }),
-      loaders-set sizes a.loaders new_loaders (length slots) (length new_rows.slots.items) e.loader
-          i
-          o c.self.invariant.3 found.at c.set_last.ensures.loaders roomier as_long,
+      loaders-set sizes a.loaders new_loaders (length slots) (length new_rows.slots.items)
+          e.loader i o c.self.invariant.3 found.at c.set_last.ensures.loaders roomier as_long,
       c.self.invariant.4 ∙ sym (ap length is ∙ length-moved e.from e.to rows),
     )
 

@@ -95,8 +95,8 @@ invariant_of-self g c =
     let linked = rw (c.deref-2.ensures.value) at unloads.linked in
     let given = rw (is) at unloads.holds in
     let holds : Holds sizes p (chunks_of (without_loader u rows)) =
-    subst (λ (s : Sizes). Holds s p (chunks_of (without_loader u rows))) h.live.holds.geometry
-    given in
+    subst (λ (s : Sizes). Holds s p (chunks_of (without_loader u rows)))
+    h.live.holds.geometry given in
     let roomier : vec_capacity a.loaders.slots ≤ vec_capacity new_loaders.slots =
     omega (arith, c.end.ensures.capacity) in
     let e = c.end.ensures.ended in
