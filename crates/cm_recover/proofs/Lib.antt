@@ -1,6 +1,7 @@
 pub mod Shut
 pub mod Empty
 pub mod Gate
+pub mod Unfinished
 pub mod Halves
 pub mod Readings
 pub mod Packs

@@ -6,7 +6,7 @@ ghost use Rattle.cm_guards.specs.Guards.{EachImage};
 ghost use Rattle.cm_guards.specs.Calls.{Reads};
 ghost use Rattle.cm_recover.specs.declared.fault.FormatFault.TheVariants as fault;
 ghost use Rattle.cm_recover.specs.NewFile.{new_bytes, IsEmptyCache};
-ghost use Rattle.cm_recover.specs.Making.{HasFormatCause};
+ghost use Rattle.cm_recover.specs.Making.{HasFormatCause, FormatsThrough};
 
 use crate::fault::FormatFault;
 use crate::new_file::NewFile;
@@ -17,9 +17,13 @@ use std::alloc::Global;
 /// Makes the empty cache of these sizes on an empty disk. Once it answers Ok, that is what every
 /// crash leaves: there is one image.
 ///
+/// All bytes but one are stored first, then that one: the superblock's gate. From the first sync
+/// on, the third call of the device, a crash leaves no cache or the empty one, at each moment and
+/// after a fault. Until then it leaves no more bytes than the file has, or than it might have left
+/// before; and no cache, unless an open gate is among them, which this call didn't write yet.
+///
 /// `NotEmpty` where the disk has bytes: none is touched. `NoMemory` where an allocation failed:
-/// nothing was written. `Device` where the device failed: until all bytes but one are stored, the
-/// disk may hold any bytes then; from there on, it holds no cache or the empty one.
+/// nothing was written. `Device` where the device failed, by that sync or behind it.
 pub fn format<D: Disk>(alloc: Global, disk: &mut D, geometry: Geometry) -> Result<(), FormatFault>
     ensures empty { OnOk result
         (EachImage (D.contents disk.new) (D.unsynced disk.new) (IsEmptyCache geometry)) }
@@ -32,6 +36,8 @@ pub fn format<D: Disk>(alloc: Global, disk: &mut D, geometry: Geometry) -> Resul
         → Reads D.contents D.unsynced D.failures D.moment D.left_since disk.old disk.new ⊥ }
     ensures no_memory { result ≡ Err fault.NoMemory
         → Reads D.contents D.unsynced D.failures D.moment D.left_since disk.old disk.new ⊥ }
+    ensures moments { FormatsThrough D.contents D.unsynced D.moment D.left_since D.called geometry
+        disk.old disk.new result }
     ensures cause { HasFormatCause (D.failures disk.old) (D.failures disk.new) result }
 {
     if disk.len()? != 0 {

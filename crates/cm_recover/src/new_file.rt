@@ -1,13 +1,13 @@
 //! A file that is being made.
 
-ghost use Rattle.std.specs.Prelude.{◌≡◌, length, IfOk, OnOk};
+ghost use Rattle.std.specs.Prelude.{◌≡◌, length, IfOk, OnOk, is_ok};
 ghost use Rattle.cm_disk.specs.Disk.{IsSettled};
 ghost use Rattle.cm_disk.specs.Calls.{HasCause};
 ghost use Rattle.cm_guards.specs.Guards.{EachImage};
 ghost use Rattle.cm_guards.specs.Calls.{LeavesOnly};
 ghost use Rattle.cm_pool.specs.Geometry.{IsGeometry};
 ghost use Rattle.cm_recover.specs.NewFile.{new_bytes, shut_bytes, IsNoneOrEmpty};
-ghost use Rattle.cm_recover.specs.Making.{IsNewFile};
+ghost use Rattle.cm_recover.specs.Making.{IsNewFile, IsUnfinished, CallsAtMost};
 
 use cm_disk::{DeviceFault, Disk};
 use cm_layout::{HalfHead, OPEN_GATE, SUPERBLOCK_BYTES, Superblock, roots_at};
@@ -52,12 +52,15 @@ impl NewFile {
         Ok(NewFile { geometry, bytes })
     }
 
-    /// Stores it on an empty disk, shut.
+    /// Stores it on an empty disk, shut: it is unfinished at each moment until then.
     pub(crate) fn store<D: Disk>(&self, disk: &mut D) -> Result<(), DeviceFault>
         requires new { IsNewFile self.now.geometry self.now }
         requires empty { length (D.contents disk.old) ≡ 0 }
         ensures written { OnOk result (D.contents disk.new ≡ shut_bytes self.now.geometry) }
         ensures settled { OnOk result (IsSettled (D.contents disk.new) (D.unsynced disk.new)) }
+        ensures any_moment { LeavesOnly D.moment D.left_since disk.old disk.new
+            (IsUnfinished self.now.geometry (D.unsynced disk.old)) }
+        ensures calls { CallsAtMost D.called 2 disk.old disk.new }
         ensures cause { HasCause (D.failures disk.old) (D.failures disk.new) result }
     {
         disk.write_at(0, &self.bytes)?;
@@ -75,6 +78,7 @@ impl NewFile {
             (IsNoneOrEmpty self.now.geometry) }
         ensures any_moment { LeavesOnly D.moment D.left_since disk.old disk.new
             (IsNoneOrEmpty self.now.geometry) }
+        ensures called { D.called disk.old disk.new (is_ok result) }
         ensures cause { HasCause (D.failures disk.old) (D.failures disk.new) result }
     {
         disk.write_at(GATE_AT as u64, &[OPEN_GATE])
@@ -93,6 +97,7 @@ impl NewFile {
             (IsNoneOrEmpty self.now.geometry) }
         ensures any_moment { LeavesOnly D.moment D.left_since disk.old disk.new
             (IsNoneOrEmpty self.now.geometry) }
+        ensures calls { CallsAtMost D.called 2 disk.old disk.new }
         ensures cause { HasCause (D.failures disk.old) (D.failures disk.new) result }
     {
         self.write_gate(disk)?;

@@ -1,5 +1,6 @@
 use Rattle.cm_guards.proofs.Steps.{run_then_sync}
 use Rattle.cm_recover.specs.NewFile.{IsNoneOrEmpty}
+use Rattle.cm_recover.proofs.Unfinished.{calls_once, calls_on}
 use Rattle.cm_recover.proofs.new_file.NewFile.open.Goals as goal
 
 pub returns-clause-any_moment : goal.returns-clause-any_moment
@@ -8,3 +9,16 @@ returns-clause-any_moment g c =
     run_then_sync g.D.Disk.contents g.D.Disk.unsynced g.D.Disk.moment g.D.Disk.left_since
     g.met.D.Disk.only_now c.args.disk.now c.write_gate.new.disk c.sync.new.self
     (IsNoneOrEmpty c.args.self.now.geometry) gate.any_moment gate.images c.sync.ensures.time
+
+pub returns-in_err-write_gate-clause-calls : goal.returns-in_err-write_gate-clause-calls
+returns-in_err-write_gate-clause-calls g c =
+    calls_once g.D.Disk.called c.write_gate.result 1 c.args.disk.now c.write_gate.new.disk
+    c.write_gate.ensures.called
+
+pub returns-clause-calls : goal.returns-clause-calls
+returns-clause-calls g c =
+    let called = g.D.Disk.called in
+    calls_on called c.write_gate.result _ 1 c.args.disk.now c.write_gate.new.disk c.sync.new.self
+    c.in_ok-write_gate.was c.write_gate.ensures.called
+    (calls_once called c.sync.result 0 c.write_gate.new.disk c.sync.new.self
+    c.sync.ensures.called)
