@@ -61,10 +61,10 @@ impl Arena {
     }
 
     /// How many words at the front of a chunk are used, if the chunk is one of the arena's.
-    pub fn used(&self, chunk: &Chunk) -> Option<u32>
+    pub fn used_words(&self, chunk: &Chunk) -> Option<u32>
         ensures { result ≡ used_of self.now chunk.now }
     {
-        used_in(&self.chunks, &self.used, chunk)
+        used_words_in(&self.chunks, &self.used, chunk)
     }
 
     /// Finds a place for the words of a record: on the top of the last chunk where that has room,
@@ -172,7 +172,7 @@ impl Arena {
 }
 
 // How many words of a chunk are used, by the chunks and the used words that stand side by side.
-fn used_in(chunks: &[Chunk], used: &[u32], chunk: &Chunk) -> Option<u32>
+fn used_words_in(chunks: &[Chunk], used: &[u32], chunk: &Chunk) -> Option<u32>
     requires { length chunks.now ≡ length used.now }
     ensures { result ≡ used_of (chain_of chunks.now used.now) chunk.now }
 {

@@ -6,24 +6,24 @@ ghost use Rattle.cm_attributes.specs.Contents.{bootstrap_count};
 use crate::contents::is_content;
 use crate::known::{Known, first_place};
 use crate::numbers::read_u2;
-use crate::part::{Part, past_parts, past_rows};
+use crate::part::{Part, skip_parts, skip_rows};
 use cm_class::{Attribute, Class, Kind};
 
 /// What stands behind a method handle, a count and that many arguments.
-fn past_bootstrap_method<'b>(class: &Class, bytes: &'b [u8]) -> Option<&'b [u8]>
+fn skip_bootstrap_method<'b>(class: &Class, bytes: &'b [u8]) -> Option<&'b [u8]>
     ensures { option_copied result ≡ past_bootstrap_method class.now bytes.now }
 {
-    let rest = past_parts(class, &[Part::Names(Kind::MethodHandle)], bytes)?;
-    past_rows(class, &[Part::Loadable], rest)
+    let rest = skip_parts(class, &[Part::Names(Kind::MethodHandle)], bytes)?;
+    skip_rows(class, &[Part::Loadable], rest)
 }
 
 /// What stands behind a count, and that many bootstrap methods.
-pub(crate) fn past_bootstrap_methods<'b>(class: &Class, bytes: &'b [u8]) -> Option<&'b [u8]>
+pub(crate) fn skip_bootstrap_methods<'b>(class: &Class, bytes: &'b [u8]) -> Option<&'b [u8]>
     ensures { option_copied result ≡ past_counted (past_bootstrap_method class.now) bytes.now }
 {
     let (count, mut rest) = read_u2(bytes)?;
     for _ in 0..count {
-        rest = past_bootstrap_method(class, rest)?;
+        rest = skip_bootstrap_method(class, rest)?;
     }
     Some(rest)
 }

@@ -3,8 +3,8 @@ ghost use Rattle.std.specs.Prelude.{◌≡◌, option_copied, option_map};
 ghost use Rattle.cm_attributes.specs.Contents.{handler_of, is_handler, past_handler};
 ghost use Rattle.cm_attributes.specs.Contents.{past_attribute, past_counted, code_of, past_code};
 
-use crate::numbers::{past, read_u2, read_u4};
-use crate::part::{Part, passes, past_parts};
+use crate::numbers::{read_u2, read_u4, skip};
+use crate::part::{Part, passes, skip_parts};
 use cm_class::{Class, Kind};
 
 /// Who handles an exception from `start` to `end`, the latter not included.
@@ -43,7 +43,7 @@ fn is_handler(class: &Class, size: u32, handler: Handler) -> bool
         && passes(class, Part::ZeroOr(Kind::Class), handler.catch)
 }
 
-fn past_handler<'b>(class: &Class, size: u32, bytes: &'b [u8]) -> Option<&'b [u8]>
+fn skip_handler<'b>(class: &Class, size: u32, bytes: &'b [u8]) -> Option<&'b [u8]>
     ensures { option_copied result ≡ past_handler class.now size bytes.now }
 {
     let (handler, rest) = read_handler(bytes)?;
@@ -55,32 +55,32 @@ fn past_handler<'b>(class: &Class, size: u32, bytes: &'b [u8]) -> Option<&'b [u8
 }
 
 /// What stands behind a count, and that many handlers.
-fn past_handlers<'b>(class: &Class, size: u32, bytes: &'b [u8]) -> Option<&'b [u8]>
+fn skip_handlers<'b>(class: &Class, size: u32, bytes: &'b [u8]) -> Option<&'b [u8]>
     ensures { option_copied result ≡ past_counted (past_handler class.now size) bytes.now }
 {
     let (count, mut rest) = read_u2(bytes)?;
     for _ in 0..count {
-        rest = past_handler(class, size, rest)?;
+        rest = skip_handler(class, size, rest)?;
     }
     Some(rest)
 }
 
 /// What stands behind an attribute whose name is a Utf8.
-fn past_attribute<'b>(class: &Class, bytes: &'b [u8]) -> Option<&'b [u8]>
+fn skip_attribute<'b>(class: &Class, bytes: &'b [u8]) -> Option<&'b [u8]>
     ensures { option_copied result ≡ past_attribute class.now bytes.now }
 {
-    let rest = past_parts(class, &[Part::Names(Kind::Utf8)], bytes)?;
+    let rest = skip_parts(class, &[Part::Names(Kind::Utf8)], bytes)?;
     let (len, rest) = read_u4(rest)?;
-    past(len as usize, rest)
+    skip(len as usize, rest)
 }
 
 /// What stands behind a count, and that many attributes.
-fn past_attributes<'b>(class: &Class, bytes: &'b [u8]) -> Option<&'b [u8]>
+fn skip_attributes<'b>(class: &Class, bytes: &'b [u8]) -> Option<&'b [u8]>
     ensures { option_copied result ≡ past_counted (past_attribute class.now) bytes.now }
 {
     let (count, mut rest) = read_u2(bytes)?;
     for _ in 0..count {
-        rest = past_attribute(class, rest)?;
+        rest = skip_attribute(class, rest)?;
     }
     Some(rest)
 }
@@ -94,16 +94,16 @@ fn read_code(bytes: &[u8]) -> Option<(u32, &[u8])>
     if !(0 < size && size <= 65535) {
         return None;
     }
-    let rest = past(size as usize, rest)?;
+    let rest = skip(size as usize, rest)?;
     Some((size, rest))
 }
 
 /// What stands behind stack, locals, code, handlers and attributes.
-pub(crate) fn past_code<'b>(class: &Class, bytes: &'b [u8]) -> Option<&'b [u8]>
+pub(crate) fn skip_code<'b>(class: &Class, bytes: &'b [u8]) -> Option<&'b [u8]>
     ensures { option_copied result ≡ past_code class.now bytes.now }
 {
-    let rest = past_parts(class, &[Part::Any, Part::Any], bytes)?;
+    let rest = skip_parts(class, &[Part::Any, Part::Any], bytes)?;
     let (size, rest) = read_code(rest)?;
-    let rest = past_handlers(class, size, rest)?;
-    past_attributes(class, rest)
+    let rest = skip_handlers(class, size, rest)?;
+    skip_attributes(class, rest)
 }

@@ -2,8 +2,8 @@
 ghost use Rattle.std.specs.Prelude.{◌≡◌};
 ghost use Rattle.cm_attributes.specs.Contents.{is_content, value_kind, is_value_of};
 
-use crate::bootstrap::past_bootstrap_methods;
-use crate::code::past_code;
+use crate::bootstrap::skip_bootstrap_methods;
+use crate::code::skip_code;
 use crate::known::Known;
 use crate::numbers::is_whole;
 use crate::part::{Part, are_rows, is_row};
@@ -33,14 +33,14 @@ pub fn is_content(class: &Class, known: Known, bytes: &[u8]) -> bool
     ensures { result ≡ is_content class.now known bytes.now }
 {
     match known {
-        Known::Code => is_whole(past_code(class, bytes)),
+        Known::Code => is_whole(skip_code(class, bytes)),
         Known::ConstantValue => is_row(class, &[Part::Any], bytes),
         Known::Exceptions => are_rows(class, &EXCEPTION, bytes),
         Known::Signature | Known::SourceFile => is_row(class, &ONE_UTF8, bytes),
         Known::Synthetic | Known::Deprecated => is_row(class, &[], bytes),
         Known::EnclosingMethod => is_row(class, &ENCLOSING_METHOD, bytes),
         Known::InnerClasses => are_rows(class, &INNER_CLASS, bytes),
-        Known::BootstrapMethods => is_whole(past_bootstrap_methods(class, bytes)),
+        Known::BootstrapMethods => is_whole(skip_bootstrap_methods(class, bytes)),
     }
 }
 

@@ -23,7 +23,7 @@ pub(crate) fn read_u4(bytes: &[u8]) -> Option<(u32, &[u8])>
 }
 
 /// What stands behind so many bytes.
-pub(crate) fn past(len: usize, bytes: &[u8]) -> Option<&[u8]>
+pub(crate) fn skip(len: usize, bytes: &[u8]) -> Option<&[u8]>
     ensures { option_copied result ≡ past len bytes.now }
 {
     if bytes.len() < len {

@@ -49,7 +49,7 @@ pub(crate) fn passes(class: &Class, part: Part, number: u16) -> bool
     }
 }
 
-fn past_part<'b>(class: &Class, part: Part, bytes: &'b [u8]) -> Option<&'b [u8]>
+fn skip_part<'b>(class: &Class, part: Part, bytes: &'b [u8]) -> Option<&'b [u8]>
     ensures { option_copied result ≡ past_part class.now part bytes.now }
 {
     let (number, rest) = read_u2(bytes)?;
@@ -61,23 +61,23 @@ fn past_part<'b>(class: &Class, part: Part, bytes: &'b [u8]) -> Option<&'b [u8]>
 }
 
 /// What stands behind a number for each of the parts.
-pub(crate) fn past_parts<'b>(class: &Class, parts: &[Part], bytes: &'b [u8]) -> Option<&'b [u8]>
+pub(crate) fn skip_parts<'b>(class: &Class, parts: &[Part], bytes: &'b [u8]) -> Option<&'b [u8]>
     ensures { option_copied result ≡ past_parts class.now parts.now bytes.now }
 {
     let mut rest = bytes;
     for part in parts {
-        rest = past_part(class, *part, rest)?;
+        rest = skip_part(class, *part, rest)?;
     }
     Some(rest)
 }
 
 /// What stands behind a count, and that many rows of the parts.
-pub(crate) fn past_rows<'b>(class: &Class, parts: &[Part], bytes: &'b [u8]) -> Option<&'b [u8]>
+pub(crate) fn skip_rows<'b>(class: &Class, parts: &[Part], bytes: &'b [u8]) -> Option<&'b [u8]>
     ensures { option_copied result ≡ past_counted (past_parts class.now parts.now) bytes.now }
 {
     let (count, mut rest) = read_u2(bytes)?;
     for _ in 0..count {
-        rest = past_parts(class, parts, rest)?;
+        rest = skip_parts(class, parts, rest)?;
     }
     Some(rest)
 }
@@ -86,12 +86,12 @@ pub(crate) fn past_rows<'b>(class: &Class, parts: &[Part], bytes: &'b [u8]) -> O
 pub(crate) fn is_row(class: &Class, parts: &[Part], bytes: &[u8]) -> bool
     ensures { result ≡ is_row class.now parts.now bytes.now }
 {
-    is_whole(past_parts(class, parts, bytes))
+    is_whole(skip_parts(class, parts, bytes))
 }
 
 /// Whether the bytes are a count and that many rows of the parts, and nothing else.
 pub(crate) fn are_rows(class: &Class, parts: &[Part], bytes: &[u8]) -> bool
     ensures { result ≡ are_rows class.now parts.now bytes.now }
 {
-    is_whole(past_rows(class, parts, bytes))
+    is_whole(skip_rows(class, parts, bytes))
 }

@@ -97,7 +97,7 @@ fn find_methods(
 }
 
 /// What is looked for in the record of a class.
-fn wanted_of(alloc: Global, record: &Record, class: &Class) -> Result<Wanted, AllocError> {
+fn pick_wanted(alloc: Global, record: &Record, class: &Class) -> Result<Wanted, AllocError> {
     let fields = signatures(alloc, class, class.fields())?;
     let methods = signatures(alloc, class, class.methods())?;
     let found = find_methods(alloc, record, &methods)?;
@@ -115,7 +115,7 @@ fn wanted_of(alloc: Global, record: &Record, class: &Class) -> Result<Wanted, Al
 /// A record with all that is looked for in it.
 fn subject_of(alloc: Global, record: Record) -> Result<Subject, AllocError> {
     let class = record.to_class(alloc)?;
-    let wanted = wanted_of(alloc, &record, &class)?;
+    let wanted = pick_wanted(alloc, &record, &class)?;
     Ok(Subject { record, wanted })
 }
 

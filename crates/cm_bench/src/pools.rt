@@ -54,7 +54,7 @@ impl Crowd {
     }
 
     /// The chunks that are used.
-    fn used(self, alloc: Global) -> Result<Vec<Chunk>, AllocError> {
+    fn used_chunks(self, alloc: Global) -> Result<Vec<Chunk>, AllocError> {
         match self {
             Crowd::FullRoots => full_roots(alloc),
             Crowd::SingleBlocks => single_blocks(alloc),
@@ -144,7 +144,7 @@ impl Pools {
         for _ in 0..256 {
             let _both = (bits.add_root()?, list.add_root()?);
         }
-        for chunk in &crowd.used(alloc)? {
+        for chunk in &crowd.used_chunks(alloc)? {
             let _both = (bits.take(chunk), list.take(chunk));
         }
         Ok(Some(Pools {

@@ -52,7 +52,7 @@ fn loader_names(alloc: Global, first: u8, count: u32) -> Result<Names, AllocErro
 }
 
 /// The numbers below a count, shuffled.
-fn shuffled(alloc: Global, count: usize) -> Result<Vec<usize>, AllocError> {
+fn shuffle(alloc: Global, count: usize) -> Result<Vec<usize>, AllocError> {
     let mut order: Vec<usize> = (0..count).collect(alloc)?;
     order.shuffle(&mut Pcg32::new(42, 54));
     Ok(order)
@@ -90,7 +90,7 @@ fn classes(alloc: Global, names: &Names, scene: Scene) -> Result<Vec<Prepared>> 
 fn ask_for(alloc: Global, loaders: &Names, names: &Names) -> Result<Lookups, AllocError> {
     let mut asked_loaders = Names::new(alloc, loaders.length());
     let mut asked_classes = Names::new(alloc, names.length());
-    for at in shuffled(alloc, names.count())? {
+    for at in shuffle(alloc, names.count())? {
         asked_loaders.push(loaders.get(at))?;
         asked_classes.push(names.get(at))?;
     }

@@ -72,7 +72,7 @@ fn front(len: usize, bytes: &[u8]) -> Result<(&[u8], &[u8]), Stop>
 
 /// Bytes behind their length in two bytes.
 #[tactic(auto, unfolding(crate::specs::Reading::sized_at))]
-pub(crate) fn text(bytes: &[u8]) -> Result<(&[u8], &[u8]), Stop>
+pub(crate) fn read_utf8(bytes: &[u8]) -> Result<(&[u8], &[u8]), Stop>
     ensures { GivesExactly (λ x. (x.0.now, x.1.now)) result (sized_at 2 bytes.now) }
 {
     let (len, rest) = read_u16(bytes)?;
@@ -96,7 +96,7 @@ pub(crate) fn byte_items(alloc: Global, bytes: &[u8]) -> Result<Items<u8>, Alloc
 }
 
 /// What follows this one byte.
-fn after_byte(expected: u8, bytes: &[u8]) -> Result<&[u8], Stop>
+fn skip_byte(expected: u8, bytes: &[u8]) -> Result<&[u8], Stop>
     ensures { GivesExactly (λ x. (tt, x.now)) result (literal_at expected bytes.now) }
 {
     match bytes {
@@ -107,12 +107,12 @@ fn after_byte(expected: u8, bytes: &[u8]) -> Result<&[u8], Stop>
 }
 
 /// What follows the heading.
-pub(crate) fn after_heading(bytes: &[u8]) -> Result<&[u8], Stop>
+pub(crate) fn skip_heading(bytes: &[u8]) -> Result<&[u8], Stop>
     ensures { GivesExactly (λ x. (tt, x.now)) result (expected_at heading bytes.now) }
 {
     let mut rest = bytes;
     for expected in &HEADING {
-        rest = after_byte(*expected, rest)?;
+        rest = skip_byte(*expected, rest)?;
     }
     Ok(rest)
 }

@@ -9,7 +9,7 @@ use crate::constant::{Constant, Slot};
 use crate::items::Items;
 use crate::kind::Kind;
 use crate::numbers::{
-    after_heading, pool_count, read_u8, read_u16, read_u32, read_u64, room_for, text,
+    pool_count, read_u8, read_u16, read_u32, read_u64, read_utf8, room_for, skip_heading,
 };
 use crate::sink::Sink;
 use crate::stop::Stop;
@@ -118,8 +118,8 @@ fn indexes(kind: Kind, bytes: &[u8]) -> Result<(Constant, &[u8]), Stop>
             Ok((Constant::Class { name }, rest))
         }
         Kind::String => {
-            let (text, rest) = read_u16(bytes)?;
-            Ok((Constant::String { text }, rest))
+            let (utf8, rest) = read_u16(bytes)?;
+            Ok((Constant::String { utf8 }, rest))
         }
         Kind::NameAndType => {
             let (name, descriptor, rest) = two(bytes)?;
@@ -149,7 +149,7 @@ fn indexes(kind: Kind, bytes: &[u8]) -> Result<(Constant, &[u8]), Stop>
 }
 
 /// What stands behind a tag.
-#[tactic(auto, unfolding(crate::specs::Reading::text_at))]
+#[tactic(auto, unfolding(crate::specs::Reading::utf8_at))]
 fn info<S: Sink>(sink: S, kind: Kind, bytes: &[u8]) -> Result<(Constant, &[u8]), Stop>
     ensures read { GivesTo S.keeps (λ x. (x.0, x.1.now)) result (info_at kind bytes.now) }
     ensures wide { S.keeps ≡ false → GivesExactly (λ x. (is_wide x.0, x.1.now)) result
@@ -157,8 +157,8 @@ fn info<S: Sink>(sink: S, kind: Kind, bytes: &[u8]) -> Result<(Constant, &[u8]),
 {
     match kind {
         Kind::Utf8 => {
-            let (text, rest) = text(bytes)?;
-            Ok((Constant::Utf8(sink.bytes(text)?), rest))
+            let (utf8, rest) = read_utf8(bytes)?;
+            Ok((Constant::Utf8(sink.bytes(utf8)?), rest))
         }
         Kind::Integer | Kind::Float | Kind::Long | Kind::Double => number(kind, bytes),
         Kind::Fieldref | Kind::Methodref | Kind::InterfaceMethodref => member(kind, bytes),
@@ -202,7 +202,7 @@ fn slots<S: Sink>(sink: S, count: u16, bytes: &[u8]) -> Result<(Vec<Slot>, &[u8]
 pub(crate) fn pool<S: Sink>(sink: S, bytes: &[u8]) -> Result<(Items<Slot>, &[u8]), Stop>
     ensures { GivesTo S.keeps (λ x. (x.0, x.1.now)) result (pool_at bytes.now) }
 {
-    let rest = after_heading(bytes)?;
+    let rest = skip_heading(bytes)?;
     let (count, rest) = pool_count(rest)?;
     let (items, rest) = slots(sink, count - 1, rest)?;
     Ok((Items::from_vec(items), rest))

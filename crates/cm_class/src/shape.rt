@@ -42,7 +42,7 @@ fn class_file<S: Sink>(sink: S, bytes: &[u8]) -> Result<(ClassFile, &[u8]), Stop
 }
 
 /// What follows a class file, without keeping any of it.
-pub(crate) fn after_class_file(alloc: Global, bytes: &[u8]) -> Result<&[u8], Stop>
+pub(crate) fn skip_class_file(alloc: Global, bytes: &[u8]) -> Result<&[u8], Stop>
     ensures { GivesExactly (λ x. x.now) result (rest_of (class_at bytes.now)) }
 {
     let (_, rest) = class_file(Nothing { alloc }, bytes)?;
@@ -65,14 +65,14 @@ fn refusal(bytes: &[u8], left: Result<&[u8], Stop>) -> ShapeFault
 }
 
 /// The class file that the bytes spell, all of them.
-fn whole(alloc: Global, bytes: &[u8]) -> Result<Class, ShapeFault>
+fn read_whole(alloc: Global, bytes: &[u8]) -> Result<Class, ShapeFault>
     ensures { IsUnlessRefused (answer_of bytes.now (class_at bytes.now)) result }
 {
     match class_file(alloc, bytes) {
         Ok((file, [])) => Ok(Class::from_file(file)),
         Ok((_, rest)) => Err(refusal(bytes, Ok(rest))),
         // The bytes may have a fault behind the place where an allocation failed.
-        Err(Stop::NoMemory) => Err(refusal(bytes, after_class_file(alloc, bytes))),
+        Err(Stop::NoMemory) => Err(refusal(bytes, skip_class_file(alloc, bytes))),
         Err(stop) => Err(refusal(bytes, Err(stop))),
     }
 }
@@ -91,5 +91,5 @@ pub fn read_shape(alloc: Global, bytes: &[u8]) -> Result<Class, ShapeFault>
     ensures only { (answer : Result ClassFile ShapeFault) → IsAnswer bytes.now answer
         → (result ≡ answer) ⊎ ((result ≡ Err ShapeFault.NoMemory) × IsSpelling bytes.now) }
 {
-    whole(alloc, bytes)
+    read_whole(alloc, bytes)
 }

@@ -96,7 +96,7 @@ fn behind_longs(alloc: Global, last: u64, second_name: u16) -> Result<Record, Fa
 }
 
 // The index of the method, and the stack and the locals of its code.
-fn found(record: &Record) -> Option<(u16, u16, u16)> {
+fn find_member(record: &Record) -> Option<(u16, u16, u16)> {
     let method = record.method(b"Junk", b"()V")?;
     let code = record.code(&method)?;
     Some((method.index, code.max_stack, code.max_locals))
@@ -105,7 +105,7 @@ fn found(record: &Record) -> Option<(u16, u16, u16)> {
 #[test]
 fn what_stands_behind_longs_is_found(rt: HostRuntime) -> Result<(), Fail> {
     let record = behind_longs(rt.alloc(), 5, JUNK)?;
-    assert_eq!(rt; found(&record), Some((0, 1, 2)));
+    assert_eq!(rt; find_member(&record), Some((0, 1, 2)));
     assert_eq!(rt; record.method(b"Code", b"()V"), None);
     assert_eq!(rt; record.constant(JUNK - 1), None);
     Ok(())
@@ -121,6 +121,6 @@ fn a_second_slot_leads_to_no_name(rt: HostRuntime) -> Result<(), Fail> {
     let word = 1 + (u64::from(len) << 16) + (u64::from(at / 8) << 32);
     let record = behind_longs(rt.alloc(), word, JUNK - 1)?;
     assert_eq!(rt; record.constant(JUNK - 1), None);
-    assert_eq!(rt; found(&record), Some((0, 1, 2)));
+    assert_eq!(rt; find_member(&record), Some((0, 1, 2)));
     Ok(())
 }

@@ -10,21 +10,21 @@ use std::test::Fail;
 /// The first duplicate field, and the first duplicate method.
 type Found = (Option<u16>, Option<u16>);
 
-fn found_in(alloc: Global, class: &Class) -> Result<Found, Fail> {
+fn find_duplicate_in(alloc: Global, class: &Class) -> Result<Found, Fail> {
     let field = first_duplicate_field(alloc, class)?;
     let method = first_duplicate_method(alloc, class)?;
     Ok((field, method))
 }
 
 /// What is found where the fields and the methods are these.
-fn found(
+fn find_duplicate(
     alloc: Global,
     utf8s: &[&[u8]],
     fields: &[Indexes],
     methods: &[Indexes],
 ) -> Result<Found, Fail> {
     let class = class_of(alloc, utf8s, fields, methods)?;
-    found_in(alloc, &class)
+    find_duplicate_in(alloc, &class)
 }
 
 /// That such a place is found among such members: the same for fields and for methods, and none
@@ -36,10 +36,10 @@ fn is_first(
     place: Option<u16>,
 ) -> Result<(), Fail> {
     let (alloc, count) = (rt.alloc(), members.len());
-    let (field, method) = found(alloc, utf8s, members, &[])?;
+    let (field, method) = find_duplicate(alloc, utf8s, members, &[])?;
     assert_eq!(rt; field, place, "among {count} fields");
     assert_eq!(rt; method, None);
-    let (field, method) = found(alloc, utf8s, &[], members)?;
+    let (field, method) = find_duplicate(alloc, utf8s, &[], members)?;
     assert_eq!(rt; field, None);
     assert_eq!(rt; method, place, "among {count} methods");
     Ok(())

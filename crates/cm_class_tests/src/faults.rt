@@ -1,5 +1,5 @@
 //! Bytes that are no class file, and which fault they have.
-use crate::samples::{CLASS_A, EACH_KIND, joined, with_byte};
+use crate::samples::{CLASS_A, EACH_KIND, join_parts, with_byte};
 use cm_class::{ShapeFault, read_shape};
 use std::alloc::{AllocError, Global};
 use std::test::Fail;
@@ -38,7 +38,7 @@ fn fault_with(
     bytes: &[u8],
     behind: &[u8],
 ) -> Result<Option<ShapeFault>, AllocError> {
-    let bytes = joined(alloc, &[bytes, behind])?;
+    let bytes = join_parts(alloc, &[bytes, behind])?;
     Ok(fault(alloc, &bytes))
 }
 

@@ -1,6 +1,6 @@
 //! Classes that are prepared, and bytes that aren't.
 
-use crate::samples::{CLASS_A, joined, with_attribute};
+use crate::samples::{CLASS_A, join_parts, with_attribute};
 use cm_prepare::{BadClass, Prepared, Refusal, prepare};
 use cm_rules::{Broken, Rule, Spot};
 use std::alloc::{AllocError, Global};
@@ -8,7 +8,7 @@ use std::process::Abort;
 use std::test::Fail;
 
 // Asked once more where an allocation failed: nothing is changed then.
-fn prepared(alloc: Global, bytes: &[u8]) -> Result<Prepared, Refusal> {
+fn prepare_bytes(alloc: Global, bytes: &[u8]) -> Result<Prepared, Refusal> {
     match prepare(alloc, bytes) {
         Err(Refusal::NoMemory) => prepare(alloc, bytes),
         answer => answer,
@@ -33,14 +33,14 @@ fn is_shared(rt: &(impl Abort + AllocGlobal), class: &Prepared) -> Result<(), Fa
 
 #[test]
 fn a_class_is_shared(rt: HostRuntime) -> Result<(), Fail> {
-    let class = prepared(rt.alloc(), &CLASS_A).ok().ok_or("class A")?;
+    let class = prepare_bytes(rt.alloc(), &CLASS_A).ok().ok_or("class A")?;
     is_shared(&rt, &class)
 }
 
 /// The refusal of the bytes of these parts.
 fn refusal(alloc: Global, parts: &[&[u8]]) -> Result<Option<Refusal>, AllocError> {
-    let bytes = joined(alloc, parts)?;
-    Ok(prepared(alloc, &bytes).err())
+    let bytes = join_parts(alloc, parts)?;
+    Ok(prepare_bytes(alloc, &bytes).err())
 }
 
 /// What class A begins with here, what stands behind it, and why it is no class: a byte more; other
@@ -98,7 +98,7 @@ fn a_class_that_breaks_a_rule_is_refused(rt: HostRuntime) -> Result<(), Fail> {
 /// How many words a class has that has an attribute of so many bytes.
 fn words_with(alloc: Global, count: u32) -> Result<Result<u32, Refusal>, AllocError> {
     let bytes = with_attribute(alloc, count)?;
-    Ok(match prepared(alloc, &bytes) {
+    Ok(match prepare_bytes(alloc, &bytes) {
         Ok(class) => Ok(class.words()),
         Err(refusal) => Err(refusal),
     })

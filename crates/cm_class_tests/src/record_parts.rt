@@ -1,6 +1,6 @@
 //! Constants, fields, methods and code, found in records.
 use crate::record_samples::{ALL_TAGS, record_bytes, record_of};
-use crate::samples::{CLASS_A, joined, with_byte};
+use crate::samples::{CLASS_A, join_parts, with_byte};
 use cm_record::{Code, Constant, Member, Record};
 use std::alloc::Global;
 use std::cmp::Ordering;
@@ -72,7 +72,7 @@ fn has_constants(rt: &impl Abort, record: &Record, rows: &[(u16, Option<Constant
 }
 
 fn record_of_parts(alloc: Global, parts: &[&[u8]]) -> Result<Record, Fail> {
-    let bytes = joined(alloc, parts)?;
+    let bytes = join_parts(alloc, parts)?;
     record_of(alloc, &bytes)
 }
 

@@ -29,7 +29,7 @@ pub fn with_byte(place: usize, byte: u8) -> [u8; 53] {
 }
 
 /// The bytes of these parts, one behind another.
-pub fn joined(alloc: Global, parts: &[&[u8]]) -> Result<Vec<u8>, AllocError> {
+pub fn join_parts(alloc: Global, parts: &[&[u8]]) -> Result<Vec<u8>, AllocError> {
     let mut bytes = Vec::new(alloc);
     for part in parts {
         bytes.extend_from_slice(part)?;
@@ -50,5 +50,5 @@ pub fn with_attribute(alloc: Global, count: u32) -> Result<Vec<u8>, AllocError> 
         &count.to_be_bytes(),
         &zeros,
     ];
-    joined(alloc, &parts)
+    join_parts(alloc, &parts)
 }

@@ -61,7 +61,7 @@ impl Medium {
     }
 
     /// All of it is stored.
-    pub(crate) fn stored(alloc: Global, bytes: Vec<u8>) -> Medium
+    pub(crate) fn of_stored_bytes(alloc: Global, bytes: Vec<u8>) -> Medium
         requires { length bytes.items ≤ 2 ^ 40 }
         ensures bytes { result.bytes ≡ bytes }
         ensures ranges { result.ranges.items ≡ [] }

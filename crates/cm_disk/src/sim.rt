@@ -49,10 +49,10 @@ impl SimDisk {
         ensures settled { IsSettled [] (sim_unsynced result) }
         ensures fresh { IsFresh result }
     {
-        SimDisk::holding(Medium::new(alloc))
+        SimDisk::of_medium(Medium::new(alloc))
     }
 
-    fn holding(medium: Medium) -> SimDisk
+    fn of_medium(medium: Medium) -> SimDisk
         ensures medium { result.medium ≡ medium }
         ensures armed { sim_armed result ≡ None }
         ensures refused { sim_refused result ≡ false }
@@ -111,7 +111,7 @@ impl SimDisk {
         ensures fresh { IfOk result IsFresh }
     {
         let bytes = self.medium.image(alloc, choice)?;
-        Ok(SimDisk::holding(Medium::stored(alloc, bytes)))
+        Ok(SimDisk::of_medium(Medium::of_stored_bytes(alloc, bytes)))
     }
 
     /// A call begins: it is counted, and what was armed is for it alone.

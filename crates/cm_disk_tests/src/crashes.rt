@@ -1,4 +1,4 @@
-use crate::held::{fill, held};
+use crate::held::{fill, hold_record};
 use cm_disk::{Choice, Disk, SimDisk};
 use std::alloc::Global;
 use std::test::Fail;
@@ -58,7 +58,7 @@ const AFTER_A_CUT: [Case; 3] = [
     },
 ];
 
-fn written(alloc: Global) -> Result<SimDisk, Fail> {
+fn write_bytes(alloc: Global) -> Result<SimDisk, Fail> {
     let mut disk = SimDisk::new(alloc);
     fill(&mut disk)?;
     disk.sync()?;
@@ -75,15 +75,15 @@ fn cut(alloc: Global) -> Result<SimDisk, Fail> {
 }
 
 /// What a crash leaves, and whether a crash of that leaves it too.
-fn left(alloc: Global, disk: SimDisk, case: &Case) -> Result<(Vec<u8>, bool), Fail> {
+fn crash_and_read(alloc: Global, disk: SimDisk, case: &Case) -> Result<(Vec<u8>, bool), Fail> {
     let choice = Choice {
         len: case.len,
         fill: Vec::from_slice(alloc, case.fill)?,
     };
     let mut first = disk.crash(alloc, &choice)?;
-    let bytes = held(alloc, &mut first)?;
+    let bytes = hold_record(alloc, &mut first)?;
     let mut second = first.crash(alloc, &choice)?;
-    let again = held(alloc, &mut second)?;
+    let again = hold_record(alloc, &mut second)?;
     let stays = bytes.as_slice() == again.as_slice();
     Ok((bytes, stays))
 }
@@ -92,7 +92,7 @@ fn left(alloc: Global, disk: SimDisk, case: &Case) -> Result<(Vec<u8>, bool), Fa
 fn a_crash_after_a_write_takes_the_chosen_bytes(rt: HostRuntime) -> Result<(), Fail> {
     let alloc = rt.alloc();
     for case in &AFTER_A_WRITE {
-        let (bytes, stays) = left(alloc, written(alloc)?, case)?;
+        let (bytes, stays) = crash_and_read(alloc, write_bytes(alloc)?, case)?;
         assert_eq!(rt; bytes.as_slice(), case.left);
         assert!(rt; stays);
     }
@@ -103,7 +103,7 @@ fn a_crash_after_a_write_takes_the_chosen_bytes(rt: HostRuntime) -> Result<(), F
 fn a_crash_after_a_cut_takes_the_chosen_length(rt: HostRuntime) -> Result<(), Fail> {
     let alloc = rt.alloc();
     for case in &AFTER_A_CUT {
-        let (bytes, stays) = left(alloc, cut(alloc)?, case)?;
+        let (bytes, stays) = crash_and_read(alloc, cut(alloc)?, case)?;
         assert_eq!(rt; bytes.as_slice(), case.left);
         assert!(rt; stays);
     }

@@ -1,4 +1,4 @@
-use crate::held::{fill, held};
+use crate::held::{fill, hold_record};
 use cm_disk::{Disk, FuseDisk, SimDisk};
 use std::test::Fail;
 
@@ -16,7 +16,7 @@ fn an_armed_call_fails_and_the_next_does_not(rt: HostRuntime) -> Result<(), Fail
     assert!(rt; disk.len().is_err());
     disk.arm(0);
     disk.disarm();
-    let bytes = held(alloc, &mut disk)?;
+    let bytes = hold_record(alloc, &mut disk)?;
     assert_eq!(rt; bytes.as_slice(), b"WXcdef".as_slice());
     assert_eq!(rt; disk.syncs(), 0);
     Ok(())

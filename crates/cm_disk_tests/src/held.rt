@@ -16,7 +16,7 @@ pub fn fill<D: Disk>(disk: &mut D) -> Result<(), DeviceFault>
 }
 
 /// All bytes of the disk.
-pub fn held(alloc: Global, disk: &mut SimDisk) -> Result<Vec<u8>, Fail> {
+pub fn hold_record(alloc: Global, disk: &mut SimDisk) -> Result<Vec<u8>, Fail> {
     let len = disk.len()?;
     let mut bytes = Vec::from_elem(alloc, 0u8, len as usize)?;
     disk.read(0, &mut bytes)?;

@@ -9,7 +9,7 @@ use std::test::*;
 use std::{format, fs};
 
 /// What isn't opened: `None` for what is no regular file, else the kind of the system's error.
-fn refused(rt: &HostRuntime, path: &str) -> Result<Option<ErrorKind>, Fail> {
+fn refuse_open(rt: &HostRuntime, path: &str) -> Result<Option<ErrorKind>, Fail> {
     match FileDisk::open(rt, rt.alloc(), path) {
         Err(OpenError::NotRegular) => Ok(None),
         Err(OpenError::Device(error)) => Ok(Some(error.kind())),
@@ -21,16 +21,19 @@ fn refused(rt: &HostRuntime, path: &str) -> Result<Option<ErrorKind>, Fail> {
 fn only_a_regular_file_is_opened(rt: HostRuntime) -> Result<(), Fail> {
     let (reader, _writer) = io::pipe(&rt)?;
     let pipe = format!(in rt.alloc(); "/proc/self/fd/{}", reader.as_raw_fd())?;
-    assert_eq!(rt; refused(&rt, ".")?, None);
-    assert_eq!(rt; refused(&rt, "/dev/null")?, None);
-    assert_eq!(rt; refused(&rt, pipe.as_str())?, None);
-    assert_eq!(rt; refused(&rt, "no such file")?, Some(ErrorKind::NotFound));
+    assert_eq!(rt; refuse_open(&rt, ".")?, None);
+    assert_eq!(rt; refuse_open(&rt, "/dev/null")?, None);
+    assert_eq!(rt; refuse_open(&rt, pipe.as_str())?, None);
     assert_eq!(rt;
-        refused(&rt, "no such folder/file")?,
+        refuse_open(&rt, "no such file")?,
         Some(ErrorKind::NotFound)
     );
     assert_eq!(rt;
-        refused(&rt, "/dev/null/file")?,
+        refuse_open(&rt, "no such folder/file")?,
+        Some(ErrorKind::NotFound)
+    );
+    assert_eq!(rt;
+        refuse_open(&rt, "/dev/null/file")?,
         Some(ErrorKind::NotADirectory)
     );
     Ok(())

@@ -34,14 +34,14 @@ fn zeros(alloc: Global) -> Result<SimDisk, Fail>
 }
 
 /// Lets so many calls through, and tells whether the gate was opened, with the disk.
-fn stopped(alloc: Global, pass: u64) -> Result<(bool, SimDisk), Fail> {
+fn stop_after(alloc: Global, pass: u64) -> Result<(bool, SimDisk), Fail> {
     let mut fuse = FuseDisk::new(zeros(alloc)?, pass, 2);
     let done = turn::<FuseDisk, Anything, Anything>(&mut fuse, 1, b"xyz", 0).is_ok();
     Ok((done, fuse.into_inner()))
 }
 
 /// The bytes that a crash leaves.
-fn left(alloc: Global, disk: SimDisk, fill: &[u8]) -> Result<[u8; 4], Fail> {
+fn read_left(alloc: Global, disk: SimDisk, fill: &[u8]) -> Result<[u8; 4], Fail> {
     let choice = Choice {
         len: 4,
         fill: Vec::from_slice(alloc, fill)?,
@@ -70,9 +70,9 @@ const LEFT: [(u64, &[u8], &[u8; 4]); 8] = [
 fn the_gate_opens_behind_its_record(rt: HostRuntime) -> Result<(), Fail> {
     let alloc = rt.alloc();
     for (pass, fill, expected) in &LEFT {
-        let (done, disk) = stopped(alloc, *pass)?;
+        let (done, disk) = stop_after(alloc, *pass)?;
         assert_eq!(rt; done, *pass == 4);
-        let bytes = left(alloc, disk, fill)?;
+        let bytes = read_left(alloc, disk, fill)?;
         assert_eq!(rt; bytes.as_slice(), expected.as_slice());
     }
     Ok(())

@@ -7,7 +7,7 @@ ghost use Rattle.cm_duplicates.specs.Fingerprints.{HasRepeated, member_fingerpri
 use crate::candidates::first_among_repeated;
 use crate::fingerprints::{Strength, member_fingerprints};
 use crate::pairs::first_by_pairs;
-use crate::repeated::repeated;
+use crate::repeated::find_repeats;
 use cm_class::{Class, Member};
 use std::alloc::{AllocError, Global};
 
@@ -26,7 +26,7 @@ fn first_duplicate(
         return Ok(first_by_pairs(class, members));
     }
     let fingerprints = member_fingerprints(alloc, class, members, Strength::Quick)?;
-    if repeated(alloc, &fingerprints)?.is_empty() {
+    if find_repeats(alloc, &fingerprints)?.is_empty() {
         return Ok(None);
     }
     first_by_strong_fingerprints(alloc, class, members)
@@ -42,7 +42,7 @@ fn first_by_strong_fingerprints(
     ensures { IfOk result (λ found. found ≡ first_duplicate class.now members.now) }
 {
     let fingerprints = member_fingerprints(alloc, class, members, Strength::Strong)?;
-    let repeated = repeated(alloc, &fingerprints)?;
+    let repeated = find_repeats(alloc, &fingerprints)?;
     if repeated.is_empty() {
         return Ok(None);
     }

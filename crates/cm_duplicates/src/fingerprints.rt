@@ -66,7 +66,7 @@ fn fingerprint_at(class: &Class, fingerprints: &[u64], index: u16, strength: Str
 }
 
 #[tactic(auto, unfolding(crate::specs::Fingerprints::joined))]
-fn joined(name: u64, descriptor: u64) -> u64
+fn member_fingerprint(name: u64, descriptor: u64) -> u64
     ensures { result ≡ joined name descriptor }
 {
     name ^ descriptor.rotate_left(32)
@@ -86,7 +86,7 @@ pub(crate) fn member_fingerprints(
     for member in members {
         let name = fingerprint_at(class, &of_utf8s, member.name, strength);
         let descriptor = fingerprint_at(class, &of_utf8s, member.descriptor, strength);
-        fingerprints.push(joined(name, descriptor))?;
+        fingerprints.push(member_fingerprint(name, descriptor))?;
     }
     Ok(fingerprints)
 }

@@ -7,7 +7,7 @@ ghost use Rattle.cm_duplicates.specs.Fingerprints.{HasRepeated, HasRepeatedNeigh
 use std::alloc::{AllocError, Global};
 
 /// The numbers of a sorted list that are the same as the one before them.
-fn repeated_in(alloc: Global, sorted: &[u64]) -> Result<Vec<u64>, AllocError>
+fn repeats_in(alloc: Global, sorted: &[u64]) -> Result<Vec<u64>, AllocError>
     requires { IsNonDecreasing sorted.now }
     ensures all { IfOk result (λ r. HasRepeatedNeighbours sorted.now r.items) }
     ensures order { IfOk result (λ r. IsNonDecreasing r.items) }
@@ -22,13 +22,13 @@ fn repeated_in(alloc: Global, sorted: &[u64]) -> Result<Vec<u64>, AllocError>
 }
 
 /// The numbers that stand at more than one place, ascending.
-pub(crate) fn repeated(alloc: Global, numbers: &[u64]) -> Result<Vec<u64>, AllocError>
+pub(crate) fn find_repeats(alloc: Global, numbers: &[u64]) -> Result<Vec<u64>, AllocError>
     ensures all { IfOk result (λ r. HasRepeated numbers.now r.items) }
     ensures order { IfOk result (λ r. IsNonDecreasing r.items) }
 {
     let mut sorted = numbers.to_vec(alloc)?;
     sorted.sort_unstable();
-    repeated_in(alloc, &sorted)
+    repeats_in(alloc, &sorted)
 }
 
 /// Whether a number is among those that ascend.

@@ -17,10 +17,10 @@ pub(crate) fn geometry_of(line: &[u8]) -> Option<Geometry>
     if is_long(line) {
         return None;
     }
-    by_words(line)
+    parse_words(line)
 }
 
-fn by_words(line: &[u8]) -> Option<Geometry>
+fn parse_words(line: &[u8]) -> Option<Geometry>
     ensures { result ≡ geometry_of_words (pieces 32 line.now) }
 {
     let (verb, sizes) = cut(line, b' ')?;
@@ -47,13 +47,13 @@ fn sizes(top: &[u8], roots: &[u8], slots: &[u8]) -> Option<Geometry>
     ensures { result ≡ sizes_of (number_in top.now) (number_in roots.now) (number_in slots.now) }
 {
     match (number_in(top), number_in(roots), number_in(slots)) {
-        (Some(top), Some(roots), Some(slots)) => within(top, roots, slots),
+        (Some(top), Some(roots), Some(slots)) => geometry_within_limits(top, roots, slots),
         _ => None,
     }
 }
 
 /// Sizes that are within their limits.
-fn within(top: u64, roots: u64, slots: u64) -> Option<Geometry>
+fn geometry_within_limits(top: u64, roots: u64, slots: u64) -> Option<Geometry>
     ensures { result ≡ sizes_of (Some top) (Some roots) (Some slots) }
 {
     if top > 12 || roots > 256 || slots > 65_536 {

@@ -50,14 +50,14 @@ pub(crate) fn parse(line: &[u8]) -> Option<Line<'_>>
     if is_long(line) {
         return None;
     }
-    by_words(line)
+    parse_words(line)
 }
 
-fn by_words(line: &[u8]) -> Option<Line<'_>>
+fn parse_words(line: &[u8]) -> Option<Line<'_>>
     ensures { option_and_then seen result ≡ asked_of_words (pieces 32 line.now) }
 {
     match cut(line, b' ') {
-        None => alone(line),
+        None => parse_lone_verb(line),
         Some((verb, rest)) => with_words(verb, rest),
     }
 }
@@ -75,7 +75,7 @@ fn with_words<'a>(verb: &[u8], rest: &'a [u8]) -> Option<Line<'a>>
     }
 }
 
-fn alone<'a>(verb: &[u8]) -> Option<Line<'a>>
+fn parse_lone_verb<'a>(verb: &[u8]) -> Option<Line<'a>>
     ensures { option_and_then seen result ≡ asked_alone verb.now }
 {
     if verb == b"seal".as_slice() {

@@ -74,7 +74,7 @@ impl FileDisk {
         ensures { IfOk result IsOpened }
     {
         let opened = open_file(rt, alloc, path, OpenOptions::new().read(true).write(true))?;
-        Ok(FileDisk::holding(opened.file, opened.bytes))
+        Ok(FileDisk::of_file(opened.file, opened.bytes))
     }
 
     /// As [`FileDisk::open`], but a write or a cut fails; no right to write to the file is needed.
@@ -86,7 +86,7 @@ impl FileDisk {
         ensures { IfOk result IsOpened }
     {
         let opened = open_file(rt, alloc, path, OpenOptions::new().read(true))?;
-        Ok(FileDisk::holding(opened.file, opened.bytes))
+        Ok(FileDisk::of_file(opened.file, opened.bytes))
     }
 
     /// Creates a file of no bytes where nothing has that name. It and its name in the folder are
@@ -110,7 +110,7 @@ impl FileDisk {
     }
 
     /// A file that was opened, with what was read of it.
-    fn holding(file: File, bytes: Vec<u8>) -> FileDisk
+    fn of_file(file: File, bytes: Vec<u8>) -> FileDisk
         requires { length bytes.items ≤ 2 ^ 40 }
         ensures opened { IsOpened result }
         ensures contents { file_contents result ≡ bytes.items }

@@ -30,7 +30,7 @@ fn class(alloc: Global, text: &[u8]) -> Result<Prepared, Fail> {
 }
 
 /// The class of this name of one letter, whose record has 16 words.
-pub fn class_named(alloc: Global, name: u8) -> Result<Prepared, Fail> {
+pub fn class_of_name(alloc: Global, name: u8) -> Result<Prepared, Fail> {
     let mut bytes = hex::decode(alloc, CLASS_A)?;
     if let Some(there) = bytes.get_mut(NAME_AT) {
         *there = name;

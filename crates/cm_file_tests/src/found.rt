@@ -21,7 +21,7 @@ pub const EMPTY: Result<Summary, OpenFault> = Ok(Summary {
 });
 
 /// What is found in a file.
-pub fn found<D: Disk>(alloc: Global, disk: &mut D) -> Result<Summary, OpenFault> {
+pub fn find_in<D: Disk>(alloc: Global, disk: &mut D) -> Result<Summary, OpenFault> {
     let file = read_found(alloc, disk)?;
     let (number, end) = (file.walk.number(), file.walk.end());
     Ok(Summary {

@@ -8,13 +8,13 @@ use crate::found::Summary;
 use cm_layout::{SLOT_BYTES, SUPERBLOCK_BYTES, Superblock};
 use cm_pool::Geometry;
 use cm_rows::Book;
-use cm_verdict::{Counting, Damage, FileFault, HalfWalk, counting_half, sizes_found, walk_through};
+use cm_verdict::{Counting, Damage, FileFault, HalfWalk, counting_half, find_sizes, walk_through};
 use std::alloc::Global;
 use std::test::Fail;
 
 pub type Told = Result<Summary, FileFault>;
 
-pub fn damaged(what: Damage, slot: u32) -> Told {
+pub fn damage_at(what: Damage, slot: u32) -> Told {
     Err(FileFault::Damaged { what, slot })
 }
 
@@ -32,10 +32,10 @@ fn sizes(alloc: Global, front: &[u8]) -> Result<Result<Geometry, FileFault>, Fai
     let mut filled = Vec::new(alloc);
     filled.extend_from_slice(block)?;
     filled.resize(SUPERBLOCK_BYTES, 0)?;
-    Ok(sizes_found(front.len() as u64, &filled))
+    Ok(find_sizes(front.len() as u64, &filled))
 }
 
-fn told(walk: HalfWalk) -> Summary {
+fn tell_half(walk: HalfWalk) -> Summary {
     let (number, end) = (walk.number(), walk.end());
     Summary {
         rows: walk.into_book().len(),
@@ -45,19 +45,24 @@ fn told(walk: HalfWalk) -> Summary {
 }
 
 // What the groups of a half tell.
-fn walked(alloc: Global, geometry: Geometry, counts: &Counting, half: &[u8]) -> Result<Told, Fail>
+fn walk_half(
+    alloc: Global,
+    geometry: Geometry,
+    counts: &Counting,
+    half: &[u8],
+) -> Result<Told, Fail>
     requires base { counts.now.head.base ≤ 2 ^ 63 }
     requires long { length half.now ≡ 64 * geometry.slots }
 {
     let book = Book::new(alloc, geometry)?;
     match walk_through(geometry, book, counts, half) {
-        Ok(walk) => Ok(Ok(told(walk))),
+        Ok(walk) => Ok(Ok(tell_half(walk))),
         Err(fault) => Ok(Err(fault)),
     }
 }
 
 /// What is found in the front of a file, up to its roots.
-pub fn found(alloc: Global, front: &[u8]) -> Result<Told, Fail> {
+pub fn find_half(alloc: Global, front: &[u8]) -> Result<Told, Fail> {
     let geometry = match sizes(alloc, front)? {
         Ok(geometry) => geometry,
         Err(fault) => return Ok(Err(fault)),
@@ -76,5 +81,5 @@ pub fn found(alloc: Global, front: &[u8]) -> Result<Told, Fail> {
         cm_layout::Half::Zero => zero,
         cm_layout::Half::One => one,
     };
-    walked(alloc, geometry, &counts, half)
+    walk_half(alloc, geometry, &counts, half)
 }

@@ -1,6 +1,6 @@
 //! Making files, and stops at each device call.
 
-use crate::found::{EMPTY, Summary, found};
+use crate::found::{EMPTY, Summary, find_in};
 use cm_disk::{Choice, Disk, FuseDisk, SimDisk};
 use cm_pool::Geometry;
 use cm_recover::{FormatFault, OpenFault, format};
@@ -20,7 +20,7 @@ fn make(
     assert_eq!(rt; format(rt.alloc(), disk, geometry), Ok(()));
     assert_eq!(rt; disk.len()?, long);
     assert_eq!(rt; disk.syncs(), 2);
-    assert_eq!(rt; found(rt.alloc(), disk), EMPTY);
+    assert_eq!(rt; find_in(rt.alloc(), disk), EMPTY);
     Ok(())
 }
 
@@ -68,7 +68,7 @@ fn a_file_that_has_bytes_stays(rt: HostRuntime) -> Result<(), Fail> {
 }
 
 /// Lets so many calls through; a write that fails stores so many bytes.
-fn stopped(
+fn stop_making(
     alloc: Global,
     pass: u64,
     stores: usize,
@@ -103,15 +103,15 @@ const LEFT: [(u64, usize, u64, &[u8], Result<Summary, OpenFault>); 14] = [
 ];
 
 // Whether the file is made, and what is found where this is chosen at the crash.
-fn crashed(
+fn crash_disk(
     alloc: Global,
     pass: u64,
     stores: usize,
     choice: &Choice,
 ) -> Result<(bool, Result<Summary, OpenFault>), Fail> {
-    let (made, disk) = stopped(alloc, pass, stores)?;
+    let (made, disk) = stop_making(alloc, pass, stores)?;
     let mut left = disk.crash(alloc, choice)?;
-    Ok((made.is_ok(), found(alloc, &mut left)))
+    Ok((made.is_ok(), find_in(alloc, &mut left)))
 }
 
 #[test]
@@ -121,7 +121,7 @@ fn a_crash_leaves_no_cache_or_the_empty_one(rt: HostRuntime) -> Result<(), Fail>
             len: *len,
             fill: Vec::from_slice(rt.alloc(), fill)?,
         };
-        let told = crashed(rt.alloc(), *pass, *stores, &choice)?;
+        let told = crash_disk(rt.alloc(), *pass, *stores, &choice)?;
         assert_eq!(rt; told, (*pass == 5, *expected), "{pass} calls");
     }
     Ok(())

@@ -1,6 +1,6 @@
 //! What is found in a file by reads, and which damage is told first.
 
-use crate::found::{EMPTY, Summary, found};
+use crate::found::{EMPTY, Summary, find_in};
 use cm_disk::{Disk, FuseDisk, SimDisk};
 use cm_pool::Geometry;
 use cm_recover::{OpenFault, format};
@@ -20,7 +20,7 @@ fn small(alloc: Global) -> Result<SimDisk, Fail> {
 
 type Told = Result<Summary, OpenFault>;
 
-fn damaged(what: Damage, slot: u32) -> Told {
+fn damage_at(what: Damage, slot: u32) -> Told {
     Err(OpenFault::Damaged { what, slot })
 }
 
@@ -30,12 +30,12 @@ fn changes() -> [(u64, u8, Told); 9] {
         (0, b'C', EMPTY),
         (0, b'c', Err(OpenFault::NotACache)),
         (4_095, 0xA4, Err(OpenFault::NotACache)),
-        (8, 2, damaged(Damage::Superblock, 0)),
-        (21, 2, damaged(Damage::Length, 0)),
+        (8, 2, damage_at(Damage::Superblock, 0)),
+        (21, 2, damage_at(Damage::Length, 0)),
         // the gates of both halves, and of a group
-        (4_096, 0, damaged(Damage::Halves, 0)),
-        (20_480, 0xA5, damaged(Damage::Head, 256)),
-        (4_160, 0xA5, damaged(Damage::Head, 1)),
+        (4_096, 0, damage_at(Damage::Halves, 0)),
+        (20_480, 0xA5, damage_at(Damage::Head, 256)),
+        (4_160, 0xA5, damage_at(Damage::Head, 1)),
         (4_160, 0xA4, EMPTY),
     ]
 }
@@ -47,17 +47,17 @@ fn change(disk: &mut SimDisk, at: u64, byte: u8) -> Result<(), Fail> {
     Ok(())
 }
 
-fn found_with(alloc: Global, at: u64, byte: u8) -> Result<Told, Fail> {
+fn find_with(alloc: Global, at: u64, byte: u8) -> Result<Told, Fail> {
     let mut disk = small(alloc)?;
     change(&mut disk, at, byte)?;
-    Ok(found(alloc, &mut disk))
+    Ok(find_in(alloc, &mut disk))
 }
 
 #[test]
 fn the_first_damage_is_told(rt: HostRuntime) -> Result<(), Fail> {
     for (at, byte, expected) in changes() {
         assert_eq!(rt;
-            found_with(rt.alloc(), at, byte)?,
+            find_with(rt.alloc(), at, byte)?,
             expected,
             "{byte} at {at}"
         );
@@ -72,10 +72,10 @@ fn cut(disk: &mut SimDisk, len: u64) -> Result<(), Fail> {
     Ok(())
 }
 
-fn found_short(alloc: Global, len: u64) -> Result<Told, Fail> {
+fn find_short(alloc: Global, len: u64) -> Result<Told, Fail> {
     let mut disk = small(alloc)?;
     cut(&mut disk, len)?;
-    Ok(found(alloc, &mut disk))
+    Ok(find_in(alloc, &mut disk))
 }
 
 #[test]
@@ -83,29 +83,29 @@ fn a_short_file_is_no_cache_or_damaged(rt: HostRuntime) -> Result<(), Fail> {
     for (len, expected) in [
         (0, Err(OpenFault::NotACache)),
         (4_095, Err(OpenFault::NotACache)),
-        (4_096, damaged(Damage::Length, 0)),
-        (36_863, damaged(Damage::Length, 0)),
+        (4_096, damage_at(Damage::Length, 0)),
+        (36_863, damage_at(Damage::Length, 0)),
         (36_864, EMPTY),
     ] {
-        assert_eq!(rt; found_short(rt.alloc(), len)?, expected, "{len} bytes");
+        assert_eq!(rt; find_short(rt.alloc(), len)?, expected, "{len} bytes");
     }
     Ok(())
 }
 
 /// What is found where a call fails behind so many, and then where none does, with the syncs.
-fn found_behind(alloc: Global, pass: u64) -> Result<(Told, Told, u64), Fail> {
+fn find_behind(alloc: Global, pass: u64) -> Result<(Told, Told, u64), Fail> {
     let mut fuse = FuseDisk::new(small(alloc)?, pass, 0);
-    let broken = found(alloc, &mut fuse);
+    let broken = find_in(alloc, &mut fuse);
     let mut disk = fuse.into_inner();
     disk.disarm();
-    let whole = found(alloc, &mut disk);
+    let whole = find_in(alloc, &mut disk);
     Ok((broken, whole, disk.syncs()))
 }
 
 #[test]
 fn a_failing_read_is_told(rt: HostRuntime) -> Result<(), Fail> {
     for pass in 0..4 {
-        let (broken, whole, syncs) = found_behind(rt.alloc(), pass)?;
+        let (broken, whole, syncs) = find_behind(rt.alloc(), pass)?;
         assert_eq!(rt; broken, Err(OpenFault::Device));
         assert_eq!(rt; whole, EMPTY);
         assert_eq!(rt; syncs, 2);

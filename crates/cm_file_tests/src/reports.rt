@@ -106,7 +106,7 @@ const CASES: [(&[Call], [usize; 3], u64); 9] = [
 /// What a file tells.
 type Told = Result<Report, OpenFault>;
 
-fn told_after(alloc: Global, calls: &[Call]) -> Result<Told, Fail> {
+fn tell_after(alloc: Global, calls: &[Call]) -> Result<Told, Fail> {
     let mut disk = disk_after(alloc, calls)?;
     Ok(check(alloc, &mut disk))
 }
@@ -114,7 +114,7 @@ fn told_after(alloc: Global, calls: &[Call]) -> Result<Told, Fail> {
 #[test]
 fn what_commands_leave_is_counted(rt: HostRuntime) -> Result<(), Fail> {
     for (calls, counts, number) in &CASES {
-        let told = told_after(rt.alloc(), calls)?;
+        let told = tell_after(rt.alloc(), calls)?;
         let [loaders, classes, chunks] = *counts;
         let expected = report(loaders, classes, chunks, *number);
         assert_eq!(rt; told, expected, "behind {number} commands");
@@ -138,16 +138,16 @@ fn push_classes(calls: &mut Vec<Call>) -> Result<(), Fail> {
 }
 
 // 127 groups of two slots, behind the half's head, fill all but one of its 256 slots.
-fn told_of_many(alloc: Global) -> Result<Told, Fail> {
+fn tell_of_many(alloc: Global) -> Result<Told, Fail> {
     let mut calls = Vec::new(alloc);
     push_loaders(&mut calls)?;
     push_classes(&mut calls)?;
-    told_after(alloc, &calls)
+    tell_after(alloc, &calls)
 }
 
 #[test]
 fn a_full_journal_is_counted(rt: HostRuntime) -> Result<(), Fail> {
-    assert_eq!(rt; told_of_many(rt.alloc())?, report(92, 35, 3, 127));
+    assert_eq!(rt; tell_of_many(rt.alloc())?, report(92, 35, 3, 127));
     Ok(())
 }
 
@@ -174,7 +174,7 @@ fn a_file_is_looked_at_by_reads_alone(rt: HostRuntime) -> Result<(), Fail> {
 }
 
 // What a file of these bytes tells where a call fails behind so many, and then where none does.
-fn told_behind(alloc: Global, bytes: &[u8], pass: u64) -> Result<(Told, Told), Fail> {
+fn tell_behind(alloc: Global, bytes: &[u8], pass: u64) -> Result<(Told, Told), Fail> {
     let mut fuse = FuseDisk::new(disk_of(alloc, bytes)?, pass, 0);
     let told = check(alloc, &mut fuse);
     let mut disk = fuse.into_inner();
@@ -186,11 +186,11 @@ fn is_told(rt: &(impl Abort + AllocGlobal), bytes: &[u8]) -> Result<(), Fail> {
     let whole = report(2, 2, 2, 4);
     // the length, the superblock, both halves, the length again, and two records
     for pass in 0..7 {
-        let (broken, then) = told_behind(rt.alloc(), bytes, pass)?;
+        let (broken, then) = tell_behind(rt.alloc(), bytes, pass)?;
         assert_eq!(rt; broken, Err(OpenFault::Device), "{pass} calls");
         assert_eq!(rt; then, whole);
     }
-    let (told, _) = told_behind(rt.alloc(), bytes, 7)?;
+    let (told, _) = tell_behind(rt.alloc(), bytes, 7)?;
     assert_eq!(rt; told, whole);
     Ok(())
 }

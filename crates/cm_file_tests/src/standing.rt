@@ -48,12 +48,12 @@ fn summary_of(file: &StandingFile) -> Summary {
     }
 }
 
-fn standing<D: Disk>(alloc: Global, disk: &mut D) -> Told {
+fn read_standing_of<D: Disk>(alloc: Global, disk: &mut D) -> Told {
     let file = read_standing(alloc, disk)?;
     Ok(summary_of(&file))
 }
 
-fn damaged(what: Damage, slot: u32) -> Told {
+fn damage_at(what: Damage, slot: u32) -> Told {
     Err(OpenFault::Damaged { what, slot })
 }
 
@@ -64,37 +64,37 @@ fn changes() -> [(usize, u8, Told); 7] {
         // nothing changed
         (0, b'C', WHOLE),
         // a record that begins inside the one before it
-        (4_508, 15, damaged(Damage::Chunks, 6)),
+        (4_508, 15, damage_at(Damage::Chunks, 6)),
         // the second class in a root that the file doesn't have
-        (4_496, 1, damaged(Damage::Chunks, 6)),
+        (4_496, 1, damage_at(Damage::Chunks, 6)),
         // a constant of no kind, in the record of the first class and in that of the second
-        (roots + 72, 2, damaged(Damage::Record, 4)),
-        (roots + 200, 2, damaged(Damage::Record, 6)),
+        (roots + 72, 2, damage_at(Damage::Record, 4)),
+        (roots + 200, 2, damage_at(Damage::Record, 6)),
         // the name of the second class is that of the first
-        (roots + 256, b'A', damaged(Damage::ClassTwice, 6)),
+        (roots + 256, b'A', damage_at(Damage::ClassTwice, 6)),
         // behind the records
         (roots + 288, 1, WHOLE),
     ]
 }
 
 /// What a file of these bytes stands for.
-fn told(alloc: Global, bytes: &[u8]) -> Result<Told, Fail> {
+fn tell_standing(alloc: Global, bytes: &[u8]) -> Result<Told, Fail> {
     let mut disk = disk_of(alloc, bytes)?;
-    Ok(standing(alloc, &mut disk))
+    Ok(read_standing_of(alloc, &mut disk))
 }
 
 /// And with another byte at a place.
-fn told_with(alloc: Global, file: &[u8], at: usize, byte: u8) -> Result<Told, Fail> {
+fn tell_with(alloc: Global, file: &[u8], at: usize, byte: u8) -> Result<Told, Fail> {
     let mut bytes = Vec::from_slice(alloc, file)?;
     if let Some(there) = bytes.get_mut(at) {
         *there = byte;
     }
-    told(alloc, &bytes)
+    tell_standing(alloc, &bytes)
 }
 
 fn change_each(rt: &(impl Abort + AllocGlobal), file: &[u8]) -> Result<(), Fail> {
     for (at, byte, expected) in changes() {
-        let told = told_with(rt.alloc(), file, at, byte)?;
+        let told = tell_with(rt.alloc(), file, at, byte)?;
         assert_eq!(rt; told, expected, "{byte} at {at}");
     }
     Ok(())
@@ -109,13 +109,13 @@ fn the_first_damage_of_a_record_is_told(rt: HostRuntime) -> Result<(), Fail> {
 fn cut_each(rt: &(impl Abort + AllocGlobal), file: &[u8]) -> Result<(), Fail> {
     for (long, expected) in [
         (4_095, Err(OpenFault::NotACache)),
-        (36_863, damaged(Damage::Length, 0)),
-        (36_864, damaged(Damage::Chunks, 4)),
-        (45_055, damaged(Damage::Chunks, 4)),
+        (36_863, damage_at(Damage::Length, 0)),
+        (36_864, damage_at(Damage::Chunks, 4)),
+        (45_055, damage_at(Damage::Chunks, 4)),
         (45_056, WHOLE),
     ] {
         let bytes = file.get(..long).ok_or("not longer")?;
-        assert_eq!(rt; told(rt.alloc(), bytes)?, expected, "{long} bytes");
+        assert_eq!(rt; tell_standing(rt.alloc(), bytes)?, expected, "{long} bytes");
     }
     Ok(())
 }
@@ -129,23 +129,23 @@ fn a_record_lies_in_a_whole_root(rt: HostRuntime) -> Result<(), Fail> {
 #[test]
 fn a_class_is_defined_once_in_a_loader(rt: HostRuntime) -> Result<(), Fail> {
     let file = file_of(rt.alloc(), CLASS_A, CLASS_A)?;
-    let told = told(rt.alloc(), &file);
-    assert_eq!(rt; told?, damaged(Damage::ClassTwice, 6));
+    let told = tell_standing(rt.alloc(), &file);
+    assert_eq!(rt; told?, damage_at(Damage::ClassTwice, 6));
     Ok(())
 }
 
 /// What a file stands for where a call fails behind so many, and then where none does.
-fn told_behind(alloc: Global, file: &[u8], pass: u64) -> Result<(Told, Told), Fail> {
+fn tell_behind(alloc: Global, file: &[u8], pass: u64) -> Result<(Told, Told), Fail> {
     let mut fuse = FuseDisk::new(disk_of(alloc, file)?, pass, 0);
-    let broken = standing(alloc, &mut fuse);
+    let broken = read_standing_of(alloc, &mut fuse);
     let mut disk = fuse.into_inner();
     disk.disarm();
-    Ok((broken, standing(alloc, &mut disk)))
+    Ok((broken, read_standing_of(alloc, &mut disk)))
 }
 
 fn fail_each(rt: &(impl Abort + AllocGlobal), file: &[u8]) -> Result<(), Fail> {
     for pass in 0..7 {
-        let (broken, whole) = told_behind(rt.alloc(), file, pass)?;
+        let (broken, whole) = tell_behind(rt.alloc(), file, pass)?;
         assert_eq!(rt; broken, Err(OpenFault::Device));
         assert_eq!(rt; whole, WHOLE);
     }

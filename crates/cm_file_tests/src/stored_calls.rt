@@ -1,7 +1,7 @@
 //! Commands as values, so that a test is a table of commands and what they leave, and disks on
 //! which they are stored.
 
-use crate::file_samples::class_named;
+use crate::file_samples::class_of_name;
 use cm_disk::SimDisk;
 use cm_pool::Geometry;
 use cm_prepare::Command;
@@ -22,7 +22,7 @@ fn store(alloc: Global, session: &mut Session<SimDisk>, call: Call) -> Result<bo
     let answer = match call {
         Call::Loader(loader) => session.store(Command::AddLoader(&[loader])),
         Call::Define(loader, name) => {
-            session.store(Command::Define(&[loader], class_named(alloc, name)?))
+            session.store(Command::Define(&[loader], class_of_name(alloc, name)?))
         }
         Call::Unload(loader) => session.store(Command::Unload(&[loader])),
     };
@@ -48,7 +48,7 @@ pub fn new_disk(alloc: Global) -> Result<SimDisk, Fail> {
     Ok(disk)
 }
 
-fn opened(alloc: Global, disk: SimDisk) -> Result<Session<SimDisk>, Fail> {
+fn open_stored(alloc: Global, disk: SimDisk) -> Result<Session<SimDisk>, Fail> {
     match open(alloc, disk) {
         Ok(session) => Ok(session),
         Err(
@@ -62,7 +62,7 @@ fn opened(alloc: Global, disk: SimDisk) -> Result<Session<SimDisk>, Fail> {
 
 /// A new file on which these commands are stored, one after another.
 pub fn disk_after(alloc: Global, calls: &[Call]) -> Result<SimDisk, Fail> {
-    let mut session = opened(alloc, new_disk(alloc)?)?;
+    let mut session = open_stored(alloc, new_disk(alloc)?)?;
     let stored = store_all(alloc, &mut session, calls);
     let disk = session.into_disk();
     stored?;

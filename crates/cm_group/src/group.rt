@@ -82,7 +82,7 @@ impl Group {
     }
 
     /// What the cache had learnt to be stored when it handed the group out.
-    pub fn learnt(&self) -> u64
+    pub fn learnt_number(&self) -> u64
         ensures value { result ≡ self.now.learnt }
         ensures below { result < self.now.first }
     {

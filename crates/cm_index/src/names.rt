@@ -19,7 +19,7 @@ pub fn loader_of<P: Kept>(index: &Index, slots: &[Slot<Row<P>>], name: &[u8]) ->
     requires { IsIndex P.mark P.name slots.now index.now.items }
     ensures { result ≡ number_of name.now (living slots.now) }
 {
-    let Some(row) = find_row(index, slots, &Sought::named(None, name)) else {
+    let Some(row) = find_row(index, slots, &Sought::of_name(None, name)) else {
         return None;
     };
     number_in(row)
@@ -44,10 +44,10 @@ pub fn class_in<'a, P: Kept>(
     requires { IsIndex P.mark P.name slots.now index.now.items }
     ensures { option_copied result ≡ class_of P.name loader name.now (living slots.now) }
 {
-    let Some(row) = find_row(index, slots, &Sought::named(Some(loader), name)) else {
+    let Some(row) = find_row(index, slots, &Sought::of_name(Some(loader), name)) else {
         return None;
     };
-    kept_in(row)
+    value_in(row)
 }
 
 /// What is kept of the class that has the name of this one in the loader of a number.
@@ -63,10 +63,10 @@ pub fn class_like<'a, P: Kept>(
     let Some(row) = find_row(index, slots, &Sought::class(loader, class)) else {
         return None;
     };
-    kept_in(row)
+    value_in(row)
 }
 
-fn kept_in<P>(row: &Row<P>) -> Option<&P>
+fn value_in<P>(row: &Row<P>) -> Option<&P>
     ensures { option_copied result ≡ kept_in (Some row.now) }
 {
     match row {

@@ -24,7 +24,7 @@ pub struct Sought<'a, P> {
 
 impl<'a, P: Kept> Sought<'a, P> {
     /// A name of this owner's.
-    pub fn named(owner: Option<u64>, name: &'a [u8]) -> Sought<'a, P>
+    pub fn of_name(owner: Option<u64>, name: &'a [u8]) -> Sought<'a, P>
         ensures key { IsKey P.mark P.name result }
         ensures owner { result.owner ≡ owner }
         ensures name { name_sought P.name result.name ≡ name.now }
@@ -55,7 +55,7 @@ impl<'a, P: Kept> Sought<'a, P> {
             ≡ key P.mark (rank (owner_of row.now)) (name_in P.name row.now) }
     {
         match row {
-            Row::Loader(row) => Sought::named(None, row.name.as_bytes()),
+            Row::Loader(row) => Sought::of_name(None, row.name.as_bytes()),
             Row::Class(row, class) => Sought::class(row.loader, class),
         }
     }

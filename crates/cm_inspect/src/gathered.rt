@@ -118,12 +118,12 @@ pub(crate) fn classes_of(
     ensures { IfOk result (λ list. list.items ≡ map (λ e. e.1) (kept_of classes.now number)) }
 {
     match classes.get(&number) {
-        Some(classes) => in_order(alloc, classes),
+        Some(classes) => classes_in_order(alloc, classes),
         None => Ok(Vec::new(alloc)),
     }
 }
 
-fn in_order(
+fn classes_in_order(
     alloc: Global,
     classes: &BTreeMap<Vec<u8>, ListedClass>,
 ) -> Result<Vec<ListedClass>, AllocError>

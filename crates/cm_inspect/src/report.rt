@@ -23,7 +23,7 @@ pub struct Report {
 
 impl Report {
     // With one row more. A chunk counts where its first record does.
-    fn with(self, row: &Row<Prepared>) -> Report
+    fn with_row(self, row: &Row<Prepared>) -> Report
         requires room { self.loaders + self.classes + 1 < 2 ^ 64 }
         requires chunks { self.chunks ≤ self.classes }
         ensures loaders { result.loaders ≡ self.loaders + length (numbers_in (row.now ∷ [])) }
@@ -59,7 +59,7 @@ pub(crate) fn count(rows: &Book<Prepared>, number: u64) -> Report
     };
     let mut left = rows.walk();
     while let Some(row) = left.next() {
-        report = report.with(row);
+        report = report.with_row(row);
     }
     report
 }

@@ -33,7 +33,7 @@ impl LoaderRow {
         slot[KIND_AT] = kind::LOADER;
         slot[LENGTH_AT] = self.name.as_bytes().len() as u8;
         LittleEndian::write_u64(&mut slot[NUMBER_AT..], self.number);
-        slot[NAME_AT..].copy_from_slice(&self.name.padded());
+        slot[NAME_AT..].copy_from_slice(&self.name.slot_bytes());
         slot
     }
 

@@ -67,7 +67,7 @@ impl SlotName {
     }
 
     /// The name's bytes with zeros behind them.
-    pub fn padded(&self) -> [u8; NAME_BYTES]
+    pub fn slot_bytes(&self) -> [u8; NAME_BYTES]
         ensures { result ≡ self.now ++ replicate (name_limit - length self.now) 0 }
     {
         self.bytes

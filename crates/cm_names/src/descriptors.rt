@@ -30,7 +30,7 @@ pub fn first(bytes: &[u8]) -> Option<(u8, &[u8])>
 }
 
 /// What stands behind a class name and its `;`.
-fn after_class(bytes: &[u8]) -> Option<&[u8]>
+fn skip_class_name(bytes: &[u8]) -> Option<&[u8]>
     ensures { option_copied result ≡ after_class true bytes.now }
 {
     let (name, rest) = bytes.split_at(first_stop(bytes));
@@ -44,12 +44,12 @@ fn after_class(bytes: &[u8]) -> Option<&[u8]>
 
 /// What stands behind a field descriptor that is no array.
 #[tactic(auto, unfolding(crate::specs::Forms::after_field))]
-fn after_element(bytes: &[u8]) -> Option<&[u8]>
+fn skip_element(bytes: &[u8]) -> Option<&[u8]>
     ensures { option_copied result ≡ after_field 0 bytes.now }
 {
     let (byte, rest) = first(bytes)?;
     if byte == b'L' {
-        after_class(rest)
+        skip_class_name(rest)
     } else if is_base_type(byte) {
         Some(rest)
     } else {
@@ -58,18 +58,18 @@ fn after_element(bytes: &[u8]) -> Option<&[u8]>
 }
 
 /// What stands behind a field descriptor (JVMS 4.3.2), of at most 255 dimensions.
-fn after_field(bytes: &[u8]) -> Option<&[u8]>
+fn skip_field(bytes: &[u8]) -> Option<&[u8]>
     ensures { option_copied result ≡ after_field 255 bytes.now }
 {
     let mut rest = bytes;
     for _ in 0..MAX_DIMENSIONS {
         let (byte, inner) = first(rest)?;
         if byte != b'[' {
-            return after_element(rest);
+            return skip_element(rest);
         }
         rest = inner;
     }
-    after_element(rest)
+    skip_element(rest)
 }
 
 /// Whether the bytes are a field descriptor (JVMS 4.3.2).
@@ -77,7 +77,7 @@ fn after_field(bytes: &[u8]) -> Option<&[u8]>
 pub fn is_field_descriptor(bytes: &[u8]) -> bool
     ensures { result ≡ is_field_descriptor bytes.now }
 {
-    match after_field(bytes) {
+    match skip_field(bytes) {
         Some(rest) => rest.is_empty(),
         None => false,
     }
@@ -116,7 +116,7 @@ fn parameters(bytes: &[u8]) -> Option<(usize, &[u8])>
             return Some((units, behind));
         }
         units += units_of_first(rest);
-        rest = after_field(rest)?;
+        rest = skip_field(rest)?;
     }
     None
 }

@@ -4,7 +4,7 @@ ghost use Rattle.std.specs.List.{list_all};
 ghost use Rattle.cm_names.specs.Forms.{is_within, owed_after, has_utf8_form};
 
 /// How many bytes a character still lacks behind this one. `None` where the byte can't stand there.
-fn owed_after(owed: u8, byte: u8) -> Option<u8>
+fn count_owed(owed: u8, byte: u8) -> Option<u8>
     ensures { result ≡ owed_after owed byte }
 {
     match (owed, byte) {
@@ -43,7 +43,7 @@ pub(crate) fn are_characters(bytes: &[u8]) -> bool
 {
     let mut owed = 0;
     for byte in bytes {
-        match owed_after(owed, *byte) {
+        match count_owed(owed, *byte) {
             Some(after) => owed = after,
             None => return false,
         }

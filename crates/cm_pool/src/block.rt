@@ -55,7 +55,7 @@ impl Block {
 
     /// The block that this is a half of.
     #[tactic(auto, unfolding(crate::specs::Blocks::block_above))]
-    pub fn above(self) -> Block
+    pub fn parent(self) -> Block
         requires { self.order < 12 }
         ensures above { result ≡ block_above self }
         ensures order { result.order ≡ self.order + 1 }
@@ -83,7 +83,7 @@ impl Block {
     }
 
     /// The block of a larger order that this one lies in.
-    pub fn around(self, order: u32) -> Block
+    pub fn ancestor(self, order: u32) -> Block
         requires within { self.order ≤ order }
         requires small { order ≤ 12 }
         ensures order { result.order ≡ order }

@@ -49,7 +49,7 @@ fn unmark(rows: &mut Vec<Row>, block: Block)
 }
 
 // The one of two blocks that begins first.
-fn earlier(a: Option<Block>, b: Option<Block>) -> Option<Block>
+fn first_of(a: Option<Block>, b: Option<Block>) -> Option<Block>
     requires a_small { IfSome a (λ x. x.order ≤ 12) }
     requires b_small { IfSome b (λ x. x.order ≤ 12) }
     ensures none { IfNone result ((a ≡ None) × (b ≡ None)) }
@@ -81,7 +81,7 @@ pub fn first_of_order(rows: &[Row], order: u32) -> Option<Block>
     let mut first = None;
     for at in order..rows.len() as u32 {
         let found = first_in(rows, at);
-        first = earlier(first, found);
+        first = first_of(first, found);
     }
     first
 }
@@ -93,7 +93,7 @@ pub fn holder_of(rows: &[Row], part: Block) -> Option<Block>
     ensures none { IfNone result ((b : Block) → Inside part b → is_marked_in rows.now b ≡ false) }
 {
     for order in part.order..rows.len() as u32 {
-        let block = part.around(order);
+        let block = part.ancestor(order);
         if is_marked(rows, block) {
             return Some(block);
         }
@@ -150,7 +150,7 @@ pub fn give_back(rows: &mut Vec<Row>, top: u32, given: Block)
     let mut block = given;
     while joins(rows, block, top) {
         unmark(rows, block.other_half());
-        block = block.above();
+        block = block.parent();
     }
     mark(rows, block);
 }

@@ -54,7 +54,7 @@ impl Block {
 
     /// The block that this is a half of.
     #[tactic(auto, unfolding(crate::specs::Blocks::block_above))]
-    pub fn above(self) -> Block
+    pub fn parent(self) -> Block
         requires { self.order < 12 }
         ensures above { result ≡ block_above self }
         ensures order { result.order ≡ self.order + 1 }

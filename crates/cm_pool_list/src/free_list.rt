@@ -132,7 +132,7 @@ pub fn give_back(free: &mut Vec<Block>, top: u32, given: Block)
     while let Some(half) = half_beside(free, at, block, top) {
         free.remove(half);
         at = half;
-        block = block.above();
+        block = block.parent();
     }
     put(free, at, block);
 }

@@ -73,7 +73,7 @@ pub enum Constant {
 }
 
 /// What a directory word of this kind stands for, with the word behind it.
-fn kept_of_kind(kind: Kind, word: u64, next: u64) -> Constant
+fn constant_of_kind(kind: Kind, word: u64, next: u64) -> Constant
     ensures { result ≡ kept_of_kind_of kind word next }
 {
     let (one, two) = (third(word), fourth(word));
@@ -123,7 +123,7 @@ fn word_kept(word: u64, next: u64) -> Option<Constant>
     ensures { result ≡ word_kept_of word next }
 {
     let kind = Kind::from_tag(first(word))?;
-    Some(kept_of_kind(kind, word, next))
+    Some(constant_of_kind(kind, word, next))
 }
 
 /// The directory word of a Long or a Double.

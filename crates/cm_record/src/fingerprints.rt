@@ -6,7 +6,7 @@ ghost use Rattle.cm_record.specs.Fingerprints.{fingerprint as fingerprint_of};
 ghost use Rattle.cm_record.specs.Runs.{IsRunOf, HasRun};
 
 use crate::run::{Run, run_slice};
-use crate::utf8::behind_eight;
+use crate::utf8::skip_eight;
 use cm_record_layout::word_of;
 
 /// An odd number with its bits mixed, so that each word has a part in all that is above it.
@@ -17,7 +17,7 @@ const SPREAD: u64 = 14_029_467_366_897_019_727;
 
 /// One word more.
 #[tactic(auto, unfolding(crate::specs::Fingerprints::further))]
-fn further(number: u64, word: u64) -> u64
+fn fold_word(number: u64, word: u64) -> u64
     ensures { result ≡ further number word }
 {
     number.wrapping_mul(STEP).wrapping_add(word)
@@ -32,24 +32,24 @@ fn upper_half(number: u64) -> u32
 }
 
 /// These words more.
-fn folded(from: u64, words: &[u64]) -> u64
+fn fold_words(from: u64, words: &[u64]) -> u64
     ensures { result ≡ folded from words.now }
 {
     let mut number = from;
     for word in words {
-        number = further(number, *word);
+        number = fold_word(number, *word);
     }
     number
 }
 
 /// The words of these bytes more.
-fn folded_bytes(from: u64, bytes: &[u8]) -> u64
+fn fold_bytes(from: u64, bytes: &[u8]) -> u64
     ensures { result ≡ folded from (packed bytes.now) }
 {
     let (mut number, mut left) = (from, bytes);
     while !left.is_empty() {
-        number = further(number, word_of(left));
-        left = behind_eight(left);
+        number = fold_word(number, word_of(left));
+        left = skip_eight(left);
     }
     number
 }
@@ -60,7 +60,7 @@ fn folded_bytes(from: u64, bytes: &[u8]) -> u64
 pub fn fingerprint(seed: u64, bytes: &[u8]) -> u32
     ensures { result ≡ fingerprint_of seed bytes.now }
 {
-    upper_half(folded_bytes(further(seed, bytes.len() as u64), bytes))
+    upper_half(fold_bytes(fold_word(seed, bytes.len() as u64), bytes))
 }
 
 /// The same of the bytes of a run.
@@ -68,6 +68,6 @@ pub(crate) fn run_fingerprint(seed: u64, words: &[u64], run: Run) -> u32
     requires { HasRun words.now run }
     ensures { (bytes : List ℕ) → IsRunOf words.now run bytes → result ≡ fingerprint_of seed bytes }
 {
-    let from = further(seed, run.len as u64);
-    upper_half(folded(from, run_slice(words, run)))
+    let from = fold_word(seed, run.len as u64);
+    upper_half(fold_words(from, run_slice(words, run)))
 }

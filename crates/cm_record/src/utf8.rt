@@ -16,7 +16,7 @@ use cm_record_layout::{DIRECTORY_AT, HEAD_COUNTS, first, second, word_of};
 
 /// The bytes behind the first eight.
 #[tactic(auto, using(std::proofs::lemmas::List::take_rest))]
-pub(crate) fn behind_eight(bytes: &[u8]) -> &[u8]
+pub(crate) fn skip_eight(bytes: &[u8]) -> &[u8]
     ensures { result.now ≡ drop (min (length bytes.now) 8) bytes.now }
 {
     &bytes[bytes.len().min(8)..]
@@ -35,7 +35,7 @@ fn is_run(words: &[u64], bytes: &[u8]) -> bool
             return false;
         }
         rest = behind;
-        left = behind_eight(left);
+        left = skip_eight(left);
     }
     rest.is_empty()
 }

@@ -12,7 +12,7 @@ use cm_disk::Disk;
 use cm_layout::{Half, SLOT_BYTES, SUPERBLOCK_BYTES, half_at};
 use cm_pool::Geometry;
 use cm_rows::Book;
-use cm_verdict::{Counting, HalfWalk, counting_half, sizes_found, walk_through};
+use cm_verdict::{Counting, HalfWalk, counting_half, find_sizes, walk_through};
 use std::alloc::Global;
 
 /// What is found in a file without its records: its sizes, the half that counts, and what lives by
@@ -56,7 +56,7 @@ fn read_sizes<D: Disk>(alloc: Global, disk: &mut D) -> Result<Geometry, OpenFaul
         return Err(OpenFault::NotACache);
     }
     let block = read_part(alloc, disk, 0, SUPERBLOCK_BYTES)?;
-    let geometry = sizes_found(long, &block)?;
+    let geometry = find_sizes(long, &block)?;
     Ok(geometry)
 }
 

@@ -54,7 +54,7 @@ fn whole_roots(geometry: Geometry, long: u64) -> u32
 }
 
 // The class whose record these words are, if it keeps the class rules.
-fn prepared(alloc: Global, words: &[u64]) -> Result<Option<Prepared>, AllocError>
+fn prepare_record(alloc: Global, words: &[u64]) -> Result<Option<Prepared>, AllocError>
     requires { length words.now ≤ limit }
     ensures { IfOk result (IsKeptClass words.now) }
 {
@@ -101,7 +101,7 @@ impl SecondPass {
         }
         let at = record_at(self.geometry, place);
         words.read(disk, at, place.words as usize)?;
-        match prepared(self.alloc, words.as_slice())? {
+        match prepare_record(self.alloc, words.as_slice())? {
             Some(class) => Ok(class),
             None => Err(OpenFault::Damaged {
                 what: Damage::Record,

@@ -24,7 +24,7 @@ fn record_of(alloc: Global, bytes: &[u8]) -> Result<Record, Fail> {
 }
 
 // And its record.
-fn record_named(alloc: Global, name: &[u8]) -> Result<Arc<Record, Global>, Fail> {
+fn record_of_name(alloc: Global, name: &[u8]) -> Result<Arc<Record, Global>, Fail> {
     let mut bytes = Vec::new(alloc);
     push_class(&mut bytes, name)?;
     Ok(Arc::new(alloc, record_of(alloc, &bytes)?)?)
@@ -56,7 +56,7 @@ fn add_class(alloc: Global, book: &mut Classes, loader: u64, name: &[u8]) -> Res
     let offset = book.last(loader).map_or(0, |last| last.used);
     let at = u32::try_from(loader)?.wrapping_mul(128);
     let row = class_row(loader, chunk(0, at), offset, 1);
-    let entry = Entry::Live(Row::Class(row, record_named(alloc, name)?));
+    let entry = Entry::Live(Row::Class(row, record_of_name(alloc, name)?));
     if offer(book, 4, entry)?.is_some() {
         return Err("a class".into());
     }
@@ -102,7 +102,7 @@ fn has_like(
 }
 
 fn has(alloc: Global, book: &Classes, loader: u64, name: &[u8]) -> Result<bool, Fail> {
-    let class = record_named(alloc, name)?;
+    let class = record_of_name(alloc, name)?;
     has_like(book, loader, name, &class)
 }
 

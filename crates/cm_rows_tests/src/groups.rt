@@ -10,7 +10,7 @@ fn group_of(alloc: Global, first: u64, count: u64) -> Result<Group, Fail> {
     if first == 0 || first > 1_000 {
         return Err("a first number from 1 to 1000".into());
     }
-    let mut group = Group::new(alloc, first, unloading(alloc, 1))?;
+    let mut group = Group::new(alloc, first, unload_group(alloc, 1))?;
     for _ in 1..count {
         push_one(alloc, &mut group);
     }
@@ -19,17 +19,17 @@ fn group_of(alloc: Global, first: u64, count: u64) -> Result<Group, Fail> {
 
 fn push_one(alloc: Global, group: &mut Group) -> bool {
     let next = group.first() + group.count() as u64;
-    next <= 1 << 63 && group.push(unloading(alloc, 1)).is_ok()
+    next <= 1 << 63 && group.push(unload_group(alloc, 1)).is_ok()
 }
 
-fn unloading(alloc: Global, loader: u64) -> CarriedEntry {
+fn unload_group(alloc: Global, loader: u64) -> CarriedEntry {
     CarriedEntry::unload(alloc, Unload { loader })
 }
 
 fn takes_64(rt: &(impl Abort + AllocGlobal), group: &mut Group) {
     assert_eq!(rt; group.count(), 64);
     assert_eq!(rt; group.first(), 5);
-    assert_eq!(rt; group.learnt(), 0);
+    assert_eq!(rt; group.learnt_number(), 0);
     assert_eq!(rt; push_one(rt.alloc(), group), false);
     assert_eq!(rt; group.count(), 64);
 }
@@ -53,11 +53,16 @@ fn is_taken(group: &mut Group, mut other: Group, learnt: u64) -> bool {
 type Pair = (u64, u64, u64, u64, u64);
 
 // Whether they join, and first number, length and what is learnt of the first then.
-fn joined(alloc: Global, pair: Pair) -> Result<(bool, u64, u64, u64), Fail> {
+fn join_groups(alloc: Global, pair: Pair) -> Result<(bool, u64, u64, u64), Fail> {
     let (first, count, next, more, learnt) = pair;
     let mut group = group_of(alloc, first, count)?;
     let joins = is_taken(&mut group, group_of(alloc, next, more)?, learnt);
-    Ok((joins, group.first(), group.count() as u64, group.learnt()))
+    Ok((
+        joins,
+        group.first(),
+        group.count() as u64,
+        group.learnt_number(),
+    ))
 }
 
 const PAIRS: [(Pair, bool); 6] = [
@@ -73,7 +78,7 @@ const PAIRS: [(Pair, bool); 6] = [
 fn groups_join_where_one_goes_on(rt: HostRuntime) -> Result<(), Fail> {
     for (pair, joins) in &PAIRS {
         let (first, count, _, more, learnt) = *pair;
-        let found = joined(rt.alloc(), *pair)?;
+        let found = join_groups(rt.alloc(), *pair)?;
         let (entries, known) = if *joins {
             (count.saturating_add(more), learnt)
         } else {

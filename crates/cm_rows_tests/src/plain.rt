@@ -61,7 +61,7 @@ impl Plain {
         !self.rows.iter().any(|row| row.meets(chunk))
     }
 
-    fn used(&self, chunk: &Chunk) -> u32 {
+    fn used_words(&self, chunk: &Chunk) -> u32 {
         let mut used = 0u32;
         for row in &self.rows {
             if row.is_on(chunk) {
@@ -81,7 +81,7 @@ impl Plain {
         let chunk = last?.chunk;
         Some(LastChunk {
             chunk,
-            used: self.used(&chunk),
+            used: self.used_words(&chunk),
         })
     }
 

@@ -98,10 +98,10 @@ impl Space {
     }
 
     /// How many words at the front of a chunk are used, if the chunk is one of the loader's arena.
-    pub fn used(&self, loader: u64, chunk: &Chunk) -> Option<u32>
+    pub fn used_words(&self, loader: u64, chunk: &Chunk) -> Option<u32>
         ensures { result ≡ used_of (arena_of self.now loader) chunk.now }
     {
-        self.arenas.get(&loader)?.used(chunk)
+        self.arenas.get(&loader)?.used_words(chunk)
     }
 
     /// Gives a loader an empty arena. An `Err` changes nothing.

@@ -57,9 +57,9 @@ fn place_each(rt: &impl Abort, arena: &mut Arena, pool: &mut Pool) {
 fn has_chunks(rt: &impl Abort, arena: &Arena) {
     assert_eq!(rt; arena.chunks(), CHUNKS.map(chunk).as_slice());
     for (parts, used) in CHUNKS.iter().zip(&USED) {
-        assert_eq!(rt; arena.used(&chunk(*parts)), Some(*used));
+        assert_eq!(rt; arena.used_words(&chunk(*parts)), Some(*used));
     }
-    assert_eq!(rt; arena.used(&chunk((0, 3, 0))), None);
+    assert_eq!(rt; arena.used_words(&chunk((0, 3, 0))), None);
 }
 
 #[test]
@@ -125,8 +125,8 @@ fn adopt_each(rt: &impl Abort, arena: &mut Arena) -> Result<(), Fail> {
         };
         assert_eq!(rt; arena.adopt(place)?, *next, "at {place:?}");
     }
-    assert_eq!(rt; arena.used(&chunk((0, 0, 0))), Some(128));
-    assert_eq!(rt; arena.used(&chunk((0, 1, 256))), Some(256));
+    assert_eq!(rt; arena.used_words(&chunk((0, 0, 0))), Some(128));
+    assert_eq!(rt; arena.used_words(&chunk((0, 1, 256))), Some(256));
     Ok(())
 }
 

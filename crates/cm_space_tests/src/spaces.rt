@@ -119,8 +119,8 @@ fn leave_and_learn(rt: &impl Abort, space: &mut Space) -> Result<(), Fail>
         space.chunks(3).unwrap_or(&[]),
         [chunk((0, 0, 0))].as_slice()
     );
-    assert_eq!(rt; space.used(3, &chunk((0, 0, 0))), Some(16));
-    assert_eq!(rt; space.used(1, &chunk((0, 0, 0))), None);
+    assert_eq!(rt; space.used_words(3, &chunk((0, 0, 0))), Some(16));
+    assert_eq!(rt; space.used_words(1, &chunk((0, 0, 0))), None);
     assert_eq!(rt; space.roots(), 1);
     Ok(())
 }
@@ -186,8 +186,12 @@ fn find_again(rt: &impl Abort, first: &mut Space, second: &mut Space) -> Result<
         let found = place(first, *loader, *words)?.ok().ok_or("refused")?;
         assert_eq!(rt; adopt(second, *loader, found)?, true, "at {found:?}");
         assert_eq!(rt; adopt(second, *loader, found)?, false, "again {found:?}");
-        let used = first.used(*loader, &found.chunk);
-        assert_eq!(rt; second.used(*loader, &found.chunk), used, "at {found:?}");
+        let used = first.used_words(*loader, &found.chunk);
+        assert_eq!(rt;
+            second.used_words(*loader, &found.chunk),
+            used,
+            "at {found:?}"
+        );
     }
     Ok(())
 }
@@ -270,6 +274,6 @@ fn adopt_or_refuse(rt: &impl Abort, space: &mut Space) -> Result<(), Fail> {
         space.chunks(1).unwrap_or(&[]),
         [chunk((1, 1, 0))].as_slice()
     );
-    assert_eq!(rt; space.used(1, &chunk((1, 1, 0))), Some(256));
+    assert_eq!(rt; space.used_words(1, &chunk((1, 1, 0))), Some(256));
     Ok(())
 }

@@ -70,7 +70,7 @@ fn a_buffer_of_no_words_takes_none(rt: HostRuntime) -> Result<(), Fail> {
 }
 
 // All words, one after another, in one number.
-fn mixed(words: &WordBuf) -> u64 {
+fn mix(words: &WordBuf) -> u64 {
     let mut all = 0u64;
     for word in words.as_slice() {
         all = all.rotate_left(7) ^ *word;
@@ -82,12 +82,12 @@ fn mixed(words: &WordBuf) -> u64 {
 #[test]
 fn two_threads_read_one_buffer(rt: HostRuntime) -> Result<(), Fail> {
     let words = three_words(rt.alloc())?;
-    let here = mixed(&words);
+    let here = mix(&words);
     let shared = &words;
-    let (one, other) = thread::join(&rt, || mixed(shared), || mixed(shared));
+    let (one, other) = thread::join(&rt, || mix(shared), || mix(shared));
     assert_eq!(rt; one, here);
     assert_eq!(rt; other, here);
-    let Ok(third) = thread::spawn(&rt, move || mixed(&words)) else {
+    let Ok(third) = thread::spawn(&rt, move || mix(&words)) else {
         return Err(Fail::from("no thread can be made"));
     };
     assert_eq!(rt; third.join(&rt), here);

@@ -101,11 +101,11 @@ fn tell_number(alloc: Global, stored: Result<u64, NotStored>) -> Result<Reply, A
 {
     match stored {
         Ok(number) => Reply::ok(alloc, number),
-        Err(fault) => not_stored(alloc, fault),
+        Err(fault) => reply_to_not_stored(alloc, fault),
     }
 }
 
-fn not_stored(alloc: Global, fault: NotStored) -> Result<Reply, AllocError>
+fn reply_to_not_stored(alloc: Global, fault: NotStored) -> Result<Reply, AllocError>
     ensures { TellsNotStored fault result }
 {
     match fault {
@@ -203,7 +203,7 @@ fn tell_class(
 {
     match stored {
         Ok(number) => Reply::ok_class(alloc, number, name),
-        Err(fault) => not_stored(alloc, fault),
+        Err(fault) => reply_to_not_stored(alloc, fault),
     }
 }
 

@@ -57,7 +57,7 @@ impl From<LineFault> for ToolFault {
 
 impl Outcome {
     /// The same with one more reply.
-    fn after(self, kind: Kind) -> Outcome
+    fn with_reply(self, kind: Kind) -> Outcome
         ensures refused { result.refused ≡ (self.refused || is_refused kind) }
         ensures unsure { result.unsure ≡ (self.unsure || is_unsure kind) }
     {
@@ -98,7 +98,7 @@ pub fn run_script<R: BufRead, W: Write, D: Disk>(
     'lines: for _ in 0..u64::MAX {
         match run_line(alloc, reader, writer, session, &mut line) {
             Ok(Some(kind)) => {
-                outcome = outcome.after(kind);
+                outcome = outcome.with_reply(kind);
                 if outcome.unsure {
                     return Ok(outcome);
                 }

@@ -25,7 +25,7 @@ pub fn empty_cache(alloc: Global) -> Result<SimDisk, Fail> {
 }
 
 /// A script in which `<` and `>` stand for what is around the length and the name of a class.
-fn expanded(alloc: Global, script: &[u8]) -> Result<Vec<u8>, Fail> {
+fn expand(alloc: Global, script: &[u8]) -> Result<Vec<u8>, Fail> {
     let mut text = Vec::new(alloc);
     for byte in script {
         match *byte {
@@ -39,7 +39,7 @@ fn expanded(alloc: Global, script: &[u8]) -> Result<Vec<u8>, Fail> {
 
 /// A disk that holds the cache after this script.
 pub fn cache_after(alloc: Global, script: &[u8]) -> Result<SimDisk, Fail> {
-    let script = expanded(alloc, script)?;
+    let script = expand(alloc, script)?;
     let mut reader = script.as_slice();
     let mut replies = Vec::new(alloc);
     let (outcome, disk) = apply_script(alloc, &mut reader, &mut replies, empty_cache(alloc)?);
@@ -66,7 +66,7 @@ pub fn shortened_cache(alloc: Global, len: u64) -> Result<SimDisk, Fail> {
 }
 
 /// The status and the disk of what was told to the end.
-pub fn told_to_end<D: Drop>(
+pub fn tell_to_end<D: Drop>(
     told: Result<(Status, D), NotInspected<D>>,
 ) -> Result<(Status, D), Fail> {
     match told {

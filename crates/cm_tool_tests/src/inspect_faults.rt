@@ -1,26 +1,26 @@
 //! What is told of files that aren't opened.
 
-use crate::inspect_disks::{cache_after, changed_cache, empty_cache, shortened_cache, told_to_end};
+use crate::inspect_disks::{cache_after, changed_cache, empty_cache, shortened_cache, tell_to_end};
 use cm_disk::{Disk, FuseDisk, SimDisk};
 use cm_inspect::{Status, check_to, list_to};
 use std::alloc::Global;
 use std::test::*;
 
 /// What a check and a list tell of two like disks, with the statuses.
-fn told<D: Disk + Drop>(
+fn tell_fault_of<D: Disk + Drop>(
     alloc: Global,
     checked: D,
     listed: D,
 ) -> Result<(Vec<u8>, Status, Vec<u8>, Status), Fail> {
     let (mut check, mut list) = (Vec::new(alloc), Vec::new(alloc));
-    let (check_status, _checked) = told_to_end(check_to(alloc, &mut check, checked))?;
-    let (list_status, _listed) = told_to_end(list_to(alloc, &mut list, listed))?;
+    let (check_status, _checked) = tell_to_end(check_to(alloc, &mut check, checked))?;
+    let (list_status, _listed) = tell_to_end(list_to(alloc, &mut list, listed))?;
     Ok((check, check_status, list, list_status))
 }
 
 /// Whether both verbs tell this line of two like disks, and that they are refused.
 fn is_refused(alloc: Global, checked: SimDisk, listed: SimDisk, line: &[u8]) -> Result<bool, Fail> {
-    let (check, check_status, list, list_status) = told(alloc, checked, listed)?;
+    let (check, check_status, list, list_status) = tell_fault_of(alloc, checked, listed)?;
     let is_told = check.as_slice() == line && list.as_slice() == line;
     Ok(is_told && check_status == Status::Refused && list_status == Status::Refused)
 }
@@ -77,7 +77,7 @@ fn a_failing_device_is_told(rt: HostRuntime) -> Result<(), Fail> {
     for pass in 0..100 {
         let checked = FuseDisk::new(cache_after(alloc, script)?, pass, 0);
         let listed = FuseDisk::new(cache_after(alloc, script)?, pass, 0);
-        let (check, check_status, list, list_status) = told(alloc, checked, listed)?;
+        let (check, check_status, list, list_status) = tell_fault_of(alloc, checked, listed)?;
         if list_status == Status::Done {
             assert_eq!(rt; check_status, Status::Done);
             assert_eq!(rt;
@@ -106,12 +106,12 @@ fn a_disk_that_failed_is_given_back(rt: HostRuntime) -> Result<(), Fail> {
     let alloc = rt.alloc();
     let fuse = FuseDisk::new(empty_cache(alloc)?, 0, 0);
     let mut line = Vec::new(alloc);
-    let (status, fuse) = told_to_end(check_to(alloc, &mut line, fuse))?;
+    let (status, fuse) = tell_to_end(check_to(alloc, &mut line, fuse))?;
     assert_eq!(rt; status, Status::Failed);
     let mut disk = fuse.into_inner();
     disk.disarm();
     let mut again = Vec::new(alloc);
-    let (status, _) = told_to_end(check_to(alloc, &mut again, disk))?;
+    let (status, _) = tell_to_end(check_to(alloc, &mut again, disk))?;
     assert_eq!(rt; status, Status::Done);
     Ok(())
 }

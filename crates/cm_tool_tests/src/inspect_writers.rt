@@ -1,6 +1,6 @@
 //! Writers that take a part, or can't pass on what they took.
 
-use crate::inspect_disks::{cache_after, told_to_end};
+use crate::inspect_disks::{cache_after, tell_to_end};
 use crate::line_writers::StuckWriter;
 use cm_disk::SimDisk;
 use cm_inspect::{InspectFault, NotInspected, Status, check_to, list_to};
@@ -46,7 +46,7 @@ fn narrow(alloc: Global, room: usize) -> NarrowWriter {
 }
 
 /// Why nothing was told to the end, and the disk.
-fn not_told(
+fn tell_to_failing(
     told: Result<(Status, SimDisk), NotInspected<SimDisk>>,
 ) -> Result<(InspectFault, SimDisk), Fail> {
     match told {
@@ -58,7 +58,7 @@ fn not_told(
 /// Whether a check into so much room fails behind the report's beginning, and the disk.
 fn check_is_cut(alloc: Global, disk: SimDisk, room: usize) -> Result<(bool, SimDisk), Fail> {
     let mut writer = narrow(alloc, room);
-    let (fault, disk) = not_told(check_to(alloc, &mut writer, disk))?;
+    let (fault, disk) = tell_to_failing(check_to(alloc, &mut writer, disk))?;
     let is_beginning = Some(writer.bytes.as_slice()) == REPORT.get(..room);
     Ok((fault == InspectFault::Output && is_beginning, disk))
 }
@@ -66,7 +66,7 @@ fn check_is_cut(alloc: Global, disk: SimDisk, room: usize) -> Result<(bool, SimD
 /// The same of a list.
 fn list_is_cut(alloc: Global, disk: SimDisk, room: usize) -> Result<(bool, SimDisk), Fail> {
     let mut writer = narrow(alloc, room);
-    let (fault, disk) = not_told(list_to(alloc, &mut writer, disk))?;
+    let (fault, disk) = tell_to_failing(list_to(alloc, &mut writer, disk))?;
     let is_beginning = Some(writer.bytes.as_slice()) == LIST.get(..room);
     Ok((fault == InspectFault::Output && is_beginning, disk))
 }
@@ -98,11 +98,11 @@ fn a_writer_of_just_enough_room_has_it_all(rt: HostRuntime) -> Result<(), Fail> 
     let alloc = rt.alloc();
     let disk = cache_after(alloc, b"loader app\ndefine app <0141>\n")?;
     let mut writer = narrow(alloc, 41);
-    let (status, disk) = told_to_end(check_to(alloc, &mut writer, disk))?;
+    let (status, disk) = tell_to_end(check_to(alloc, &mut writer, disk))?;
     assert_eq!(rt; status, Status::Done);
     assert_eq!(rt; writer.bytes.as_slice(), REPORT);
     let mut writer = narrow(alloc, 40);
-    let (status, _) = told_to_end(list_to(alloc, &mut writer, disk))?;
+    let (status, _) = tell_to_end(list_to(alloc, &mut writer, disk))?;
     assert_eq!(rt; status, Status::Done);
     assert_eq!(rt; writer.bytes.as_slice(), LIST);
     Ok(())
@@ -112,11 +112,11 @@ fn a_writer_of_just_enough_room_has_it_all(rt: HostRuntime) -> Result<(), Fail> 
 fn a_fault_that_is_not_written_is_no_status(rt: HostRuntime) -> Result<(), Fail> {
     let alloc = rt.alloc();
     let mut writer = narrow(alloc, 3);
-    let (fault, disk) = not_told(check_to(alloc, &mut writer, SimDisk::new(alloc)))?;
+    let (fault, disk) = tell_to_failing(check_to(alloc, &mut writer, SimDisk::new(alloc)))?;
     assert_eq!(rt; fault, InspectFault::Output);
     assert_eq!(rt; writer.bytes.as_slice(), b"not".as_slice());
     let mut writer = narrow(alloc, 11);
-    let (fault, _) = not_told(list_to(alloc, &mut writer, disk))?;
+    let (fault, _) = tell_to_failing(list_to(alloc, &mut writer, disk))?;
     assert_eq!(rt; fault, InspectFault::Output);
     assert_eq!(rt; writer.bytes.as_slice(), b"not a cache".as_slice());
     Ok(())
@@ -126,9 +126,9 @@ fn a_fault_that_is_not_written_is_no_status(rt: HostRuntime) -> Result<(), Fail>
 fn lines_that_are_not_passed_on_are_a_fault(rt: HostRuntime) -> Result<(), Fail> {
     let alloc = rt.alloc();
     let disk = cache_after(alloc, b"loader app\n")?;
-    let (fault, disk) = not_told(check_to(alloc, &mut StuckWriter, disk))?;
+    let (fault, disk) = tell_to_failing(check_to(alloc, &mut StuckWriter, disk))?;
     assert_eq!(rt; fault, InspectFault::Output);
-    let (fault, _) = not_told(list_to(alloc, &mut StuckWriter, disk))?;
+    let (fault, _) = tell_to_failing(list_to(alloc, &mut StuckWriter, disk))?;
     assert_eq!(rt; fault, InspectFault::Output);
     Ok(())
 }

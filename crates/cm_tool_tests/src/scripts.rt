@@ -40,7 +40,7 @@ fn replies<D: Disk>(
 }
 
 /// A script in which `@` stands for class A.
-fn expanded(alloc: Global, script: &[u8]) -> Result<Vec<u8>, Fail> {
+fn expand(alloc: Global, script: &[u8]) -> Result<Vec<u8>, Fail> {
     let mut text = Vec::new(alloc);
     for byte in script {
         if *byte == b'@' {
@@ -83,7 +83,7 @@ fn scripts_are_answered(rt: HostRuntime) -> Result<(), Fail> {
         ),
     ];
     for (script, wanted) in &cases {
-        let (written, _, _) = replies(alloc, &expanded(alloc, script)?, new_disk(alloc)?);
+        let (written, _, _) = replies(alloc, &expand(alloc, script)?, new_disk(alloc)?);
         assert_eq!(rt; written.as_slice(), *wanted);
     }
     Ok(())
@@ -102,7 +102,7 @@ fn a_refused_line_shows_in_the_outcome(rt: HostRuntime) -> Result<(), Fail> {
 #[test]
 fn a_second_script_goes_on_where_the_first_ended(rt: HostRuntime) -> Result<(), Fail> {
     let alloc = rt.alloc();
-    let first = expanded(alloc, b"loader app\ndefine app @\n")?;
+    let first = expand(alloc, b"loader app\ndefine app @\n")?;
     let (written, outcome, mut disk) = replies(alloc, &first, new_disk(alloc)?);
     assert_eq!(rt; written.as_slice(), b"ok 1\nok 2 A\n".as_slice());
     assert_eq!(rt; outcome, Ok(FINE));
@@ -119,7 +119,7 @@ fn a_second_script_goes_on_where_the_first_ended(rt: HostRuntime) -> Result<(), 
 #[test]
 fn a_script_is_read_in_pieces(rt: HostRuntime) -> Result<(), Fail> {
     let alloc = rt.alloc();
-    let script = expanded(alloc, b"loader app\n\ndefine app @\nfind app A")?;
+    let script = expand(alloc, b"loader app\n\ndefine app @\nfind app A")?;
     let mut reader = BufReader::with_capacity(alloc, 3, script.as_slice())?;
     let mut written = Vec::new(alloc);
     let (outcome, _) = apply_script(alloc, &mut reader, &mut written, new_disk(alloc)?);

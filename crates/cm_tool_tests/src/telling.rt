@@ -1,6 +1,6 @@
 //! What is told of sound caches.
 
-use crate::inspect_disks::{cache_after, told_to_end};
+use crate::inspect_disks::{cache_after, tell_to_end};
 use cm_disk::{Disk, SimDisk};
 use cm_inspect::{Status, check_to, list_to};
 use std::alloc::Global;
@@ -44,16 +44,16 @@ const CASES: [Case<'_>; 5] = [
 ];
 
 /// What a check tells of a disk, with the status, and the disk.
-fn checked(alloc: Global, disk: SimDisk) -> Result<(Vec<u8>, Status, SimDisk), Fail> {
+fn check_lines_of(alloc: Global, disk: SimDisk) -> Result<(Vec<u8>, Status, SimDisk), Fail> {
     let mut told = Vec::new(alloc);
-    let (status, disk) = told_to_end(check_to(alloc, &mut told, disk))?;
+    let (status, disk) = tell_to_end(check_to(alloc, &mut told, disk))?;
     Ok((told, status, disk))
 }
 
 /// What a list tells of a disk, with the status, and the disk.
-fn listed(alloc: Global, disk: SimDisk) -> Result<(Vec<u8>, Status, SimDisk), Fail> {
+fn list_lines_of(alloc: Global, disk: SimDisk) -> Result<(Vec<u8>, Status, SimDisk), Fail> {
     let mut told = Vec::new(alloc);
-    let (status, disk) = told_to_end(list_to(alloc, &mut told, disk))?;
+    let (status, disk) = tell_to_end(list_to(alloc, &mut told, disk))?;
     Ok((told, status, disk))
 }
 
@@ -61,13 +61,13 @@ fn listed(alloc: Global, disk: SimDisk) -> Result<(Vec<u8>, Status, SimDisk), Fa
 fn caches_are_checked_and_listed(rt: HostRuntime) -> Result<(), Fail> {
     let alloc = rt.alloc();
     for (script, report, list) in &CASES {
-        let (told, status, disk) = checked(alloc, cache_after(alloc, script)?)?;
+        let (told, status, disk) = check_lines_of(alloc, cache_after(alloc, script)?)?;
         assert_eq!(rt; told.as_slice(), *report);
         assert_eq!(rt; status, Status::Done);
-        let (told, status, disk) = listed(alloc, disk)?;
+        let (told, status, disk) = list_lines_of(alloc, disk)?;
         assert_eq!(rt; told.as_slice(), *list);
         assert_eq!(rt; status, Status::Done);
-        let (told, _, _) = checked(alloc, disk)?;
+        let (told, _, _) = check_lines_of(alloc, disk)?;
         assert_eq!(rt; told.as_slice(), *report);
     }
     Ok(())
@@ -78,9 +78,9 @@ fn a_list_syncs_once_and_a_check_never(rt: HostRuntime) -> Result<(), Fail> {
     let alloc = rt.alloc();
     let disk = cache_after(alloc, b"loader app\ndefine app <0141>\n")?;
     let before = disk.syncs();
-    let (_, _, disk) = checked(alloc, disk)?;
+    let (_, _, disk) = check_lines_of(alloc, disk)?;
     assert_eq!(rt; disk.syncs(), before);
-    let (_, _, mut disk) = listed(alloc, disk)?;
+    let (_, _, mut disk) = list_lines_of(alloc, disk)?;
     assert_eq!(rt; disk.syncs(), before.saturating_add(1));
     assert_eq!(rt; disk.len(), Ok(45_056));
     Ok(())
@@ -91,8 +91,8 @@ fn lines_go_behind_what_is_written(rt: HostRuntime) -> Result<(), Fail> {
     let alloc = rt.alloc();
     let mut told = Vec::from_slice(alloc, b"before\n")?;
     let disk = cache_after(alloc, b"loader app\n")?;
-    let (_, disk) = told_to_end(list_to(alloc, &mut told, disk))?;
-    let _told = told_to_end(check_to(alloc, &mut told, disk))?;
+    let (_, disk) = tell_to_end(list_to(alloc, &mut told, disk))?;
+    let _told = tell_to_end(check_to(alloc, &mut told, disk))?;
     assert_eq!(rt;
         told.as_slice(),
         b"before\nloader app\nok loaders 1 classes 0 chunks 0 number 1\n".as_slice()

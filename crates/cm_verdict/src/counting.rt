@@ -65,13 +65,13 @@ fn which_half(zero: Option<HalfHead>, one: Option<HalfHead>) -> Result<Counting,
                 half: Half::Zero,
                 head,
             }),
-            Some(other) => later(head, other),
+            Some(other) => later_half(head, other),
         },
     }
 }
 
 // Of two open halves the one of greater epoch.
-fn later(zero: HalfHead, one: HalfHead) -> Result<Counting, Damage>
+fn later_half(zero: HalfHead, one: HalfHead) -> Result<Counting, Damage>
     ensures { result ≡ which_half_of (Some zero) (Some one) }
 {
     if zero.epoch == one.epoch {

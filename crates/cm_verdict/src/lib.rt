@@ -15,5 +15,5 @@ pub use defined_at::DefinedAt;
 pub use fault::{Damage, FileFault};
 pub use laws::{found_is_framed, found_is_live, verdict_is_exact};
 pub use record::read_record;
-pub use superblock::sizes_found;
+pub use superblock::find_sizes;
 pub use walk::{HalfWalk, walk_through};

@@ -42,7 +42,7 @@ fn sizes_in(block: &[u8]) -> Option<Geometry>
 }
 
 /// The sizes of a file of this length, which begins with this block.
-pub fn sizes_found(long: u64, block: &[u8]) -> Result<Geometry, FileFault>
+pub fn find_sizes(long: u64, block: &[u8]) -> Result<Geometry, FileFault>
     requires { length block.now ≡ superblock_size }
     ensures { result ≡ sizes_found_in long block.now }
 {

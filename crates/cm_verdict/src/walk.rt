@@ -233,7 +233,7 @@ impl HalfWalk {
     }
 
     // Walks through the half to its end: what was gone over, or the first damage.
-    fn through(mut self, half: &[u8]) -> Result<HalfWalk, FileFault>
+    fn walk_all(mut self, half: &[u8]) -> Result<HalfWalk, FileFault>
         requires steady { IsSteady self }
         requires begin { self.slot ≡ 1 }
         requires long { length half.now ≡ 64 * self.geometry.slots }
@@ -269,7 +269,7 @@ pub fn walk_through(
     requires long { length half.now ≡ 64 * geometry.slots }
     ensures { IsWalk result (walk_through_of geometry counts.now half.now) }
 {
-    HalfWalk::new(geometry, book, counts).through(half)
+    HalfWalk::new(geometry, book, counts).walk_all(half)
 }
 
 // A slot of a half.

@@ -36,7 +36,7 @@ pub enum Answer {
     Nothing,
 }
 
-fn numbered(answer: Result<u64, Refusal>) -> Answer {
+fn answer_number(answer: Result<u64, Refusal>) -> Answer {
     match answer {
         Ok(number) => Answer::Number(number),
         Err(refusal) => Answer::Refused(refusal),
@@ -54,7 +54,7 @@ fn order_of(group: &Group) -> Option<Answer> {
 
 fn define_at(front: &mut Front, loader: u8, classes: &[Prepared], at: usize) -> Answer {
     match classes.get(at) {
-        Some(class) => numbered(define(front, &[loader], class)),
+        Some(class) => answer_number(define(front, &[loader], class)),
         None => Answer::Nothing,
     }
 }
@@ -75,7 +75,7 @@ fn learn(front: &mut Front, number: u64) -> Answer {
 
 fn seal(front: &mut Front) -> Answer {
     match front.seal() {
-        Some(group) => Answer::Group(group.first(), group.count(), group.learnt()),
+        Some(group) => Answer::Group(group.first(), group.count(), group.learnt_number()),
         None => Answer::Nothing,
     }
 }
@@ -88,9 +88,9 @@ fn seal_place(front: &mut Front) -> Option<Answer> {
 /// Makes the call.
 pub fn make(front: &mut Front, classes: &[Prepared], call: Call) -> Answer {
     match call {
-        Call::AddLoader(loader) => numbered(add_loader(front, &[loader])),
+        Call::AddLoader(loader) => answer_number(add_loader(front, &[loader])),
         Call::Define(loader, at) => define_at(front, loader, classes, at),
-        Call::Unload(loader) => numbered(unload(front, &[loader])),
+        Call::Unload(loader) => answer_number(unload(front, &[loader])),
         Call::Find(loader, class) => find(front, loader, class),
         Call::Seal => seal(front),
         Call::SealPlace => seal_place(front).unwrap_or(Answer::Nothing),

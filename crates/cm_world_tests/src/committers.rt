@@ -22,7 +22,7 @@ pub fn new_file(alloc: Global) -> Result<SimDisk, Fail> {
 }
 
 /// The cache of a file.
-pub fn opened(alloc: Global, disk: SimDisk) -> Result<(Front, Committer<SimDisk>), Fail> {
+pub fn open_committer(alloc: Global, disk: SimDisk) -> Result<(Front, Committer<SimDisk>), Fail> {
     match open(alloc, disk) {
         Ok(cache) => Ok(cache),
         Err(
@@ -36,7 +36,7 @@ pub fn opened(alloc: Global, disk: SimDisk) -> Result<(Front, Committer<SimDisk>
 
 /// A committer of a new file.
 pub fn new_committer(alloc: Global) -> Result<Committer<SimDisk>, Fail> {
-    let (_front, committer) = opened(alloc, new_file(alloc)?)?;
+    let (_front, committer) = open_committer(alloc, new_file(alloc)?)?;
     Ok(committer)
 }
 

@@ -147,7 +147,7 @@ fn push_crash(list: &mut Vec<Happens>, calls: usize) -> Result<(), Fail> {
     Ok(())
 }
 
-fn crashed(alloc: Global, calls: usize) -> Result<Vec<Told>, Fail> {
+fn crash_world(alloc: Global, calls: usize) -> Result<Vec<Told>, Fail> {
     let mut list = Vec::new(alloc);
     push_crash(&mut list, calls)?;
     replies(alloc, &list)
@@ -169,7 +169,7 @@ const STOPPED: [(usize, u64, u32); 7] = [
 fn a_group_is_there_once_its_gate_is(rt: HostRuntime) -> Result<(), Fail> {
     for (calls, number, words) in &STOPPED {
         let expected = [Told::Opened(*number), Told::Words(*words)];
-        let told = crashed(rt.alloc(), *calls)?;
+        let told = crash_world(rt.alloc(), *calls)?;
         let from = told.len().saturating_sub(2);
         assert_eq!(rt; &told[from..], expected.as_slice(), "behind {calls} calls");
     }

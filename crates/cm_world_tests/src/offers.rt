@@ -153,7 +153,7 @@ fn fill_and_offer(
     Ok((stored, offer(alloc, committer, 171, &[Loader(171, b'a')])?))
 }
 
-fn filled(alloc: Global) -> Result<(u64, Answer), Fail> {
+fn fill_cache(alloc: Global) -> Result<(u64, Answer), Fail> {
     let mut committer = new_committer(alloc)?;
     let told = fill_and_offer(alloc, &mut committer);
     let _disk = committer.into_disk();
@@ -163,7 +163,7 @@ fn filled(alloc: Global) -> Result<(u64, Answer), Fail> {
 #[test]
 fn a_half_takes_groups_until_it_is_full(rt: HostRuntime) -> Result<(), Fail> {
     // 85 groups of three slots each, behind the half's head, fill its 256 slots
-    assert_eq!(rt; filled(rt.alloc())?, (85, REFUSED));
+    assert_eq!(rt; fill_cache(rt.alloc())?, (85, REFUSED));
     Ok(())
 }
 

@@ -1,7 +1,7 @@
 //! Commands that are accepted, handed over as groups and stored, and found when the file is opened
 //! again.
 
-use crate::committers::{new_committer, new_file, offer, opened, store};
+use crate::committers::{new_committer, new_file, offer, open_committer, store};
 use crate::groups::{Sample, WORDS, class};
 use cm_commit::Committer;
 use cm_disk::{Choice, SimDisk};
@@ -91,8 +91,8 @@ fn words(front: &Front, loader: u8, class: u8) -> Option<u32> {
 
 /// How many words each class has that is found when the file is opened again, and the number of the
 /// last command.
-fn found_again(alloc: Global, disk: SimDisk) -> Result<([Option<u32>; 3], u64), Fail> {
-    let (front, committer) = opened(alloc, disk)?;
+fn find_again(alloc: Global, disk: SimDisk) -> Result<([Option<u32>; 3], u64), Fail> {
+    let (front, committer) = open_committer(alloc, disk)?;
     let number = committer.number();
     let _disk = committer.into_disk();
     let found = [
@@ -104,8 +104,8 @@ fn found_again(alloc: Global, disk: SimDisk) -> Result<([Option<u32>; 3], u64), 
 }
 
 /// Which group goes another way on a new file, and the disk behind them.
-fn stored(alloc: Global) -> Result<(Option<usize>, SimDisk), Fail> {
-    let (mut front, mut committer) = opened(alloc, new_file(alloc)?)?;
+fn store_lines(alloc: Global) -> Result<(Option<usize>, SimDisk), Fail> {
+    let (mut front, mut committer) = open_committer(alloc, new_file(alloc)?)?;
     let other = first_other(alloc, &mut front, &mut committer);
     let disk = committer.into_disk();
     Ok((other?, disk))
@@ -113,8 +113,8 @@ fn stored(alloc: Global) -> Result<(Option<usize>, SimDisk), Fail> {
 
 #[test]
 fn what_is_stored_is_found_when_the_file_is_opened(rt: HostRuntime) -> Result<(), Fail> {
-    let (other, disk) = stored(rt.alloc())?;
-    let found = found_again(rt.alloc(), disk)?;
+    let (other, disk) = store_lines(rt.alloc())?;
+    let found = find_again(rt.alloc(), disk)?;
     assert_eq!(rt; other, None);
     assert_eq!(rt; found, ([None, Some(WORDS), Some(WORDS)], 7));
     Ok(())
@@ -133,7 +133,7 @@ fn begin(alloc: Global, committer: &mut Committer<SimDisk>, calls: u64) -> Resul
 }
 
 /// The disk behind them.
-fn begun(alloc: Global, calls: u64) -> Result<SimDisk, Fail> {
+fn begin_store(alloc: Global, calls: u64) -> Result<SimDisk, Fail> {
     let mut committer = new_committer(alloc)?;
     let begun = begin(alloc, &mut committer, calls);
     let disk = committer.into_disk();
@@ -141,20 +141,20 @@ fn begun(alloc: Global, calls: u64) -> Result<SimDisk, Fail> {
     Ok(disk)
 }
 
-fn found_crashed(alloc: Global, calls: u64, choice: &Choice) -> Result<u64, Fail> {
-    let disk = begun(alloc, calls)?.crash(alloc, choice)?;
-    let (_found, number) = found_again(alloc, disk)?;
+fn find_after_crash(alloc: Global, calls: u64, choice: &Choice) -> Result<u64, Fail> {
+    let disk = begin_store(alloc, calls)?.crash(alloc, choice)?;
+    let (_found, number) = find_again(alloc, disk)?;
     Ok(number)
 }
 
 /// The number that is found after a crash behind so many device calls of a group, where bytes that
 /// may have stayed behind are these.
-fn found_after(alloc: Global, calls: u64, fill: &[u8]) -> Result<u64, Fail> {
+fn find_after(alloc: Global, calls: u64, fill: &[u8]) -> Result<u64, Fail> {
     let choice = Choice {
         len: 1 << 20,
         fill: Vec::from_slice(alloc, fill)?,
     };
-    found_crashed(alloc, calls, &choice)
+    find_after_crash(alloc, calls, &choice)
 }
 
 #[test]
@@ -163,9 +163,9 @@ fn a_crash_leaves_a_group_or_nothing_of_it(rt: HostRuntime) -> Result<(), Fail> 
     // the gate is written by the fifth call, and stored by the sixth
     for calls in 0..7 {
         let late = if calls < 6 { 0 } else { 2 };
-        assert_eq!(rt; found_after(alloc, calls, b"\0")?, late, "{calls} calls");
+        assert_eq!(rt; find_after(alloc, calls, b"\0")?, late, "{calls} calls");
         let soon = if calls < 5 { 0 } else { 2 };
-        assert_eq!(rt; found_after(alloc, calls, b"")?, soon, "{calls} calls");
+        assert_eq!(rt; find_after(alloc, calls, b"")?, soon, "{calls} calls");
     }
     Ok(())
 }

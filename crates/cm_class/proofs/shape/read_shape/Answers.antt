@@ -4,15 +4,18 @@ use Rattle.cm_class.proofs.shape.read_shape.Goals as goal
 
 pub returns-clause-ok : goal.returns-clause-ok
 returns-clause-ok c =
-    ok_is c.args.bytes.now (AreBytes-from_slice c.args.bytes.now c.type_inv.bytes) c.whole.result
-    c.whole.ensures
+    ok_is c.args.bytes.now (AreBytes-from_slice c.args.bytes.now c.type_inv.bytes)
+    c.read_whole.result
+    c.read_whole.ensures
 
 pub returns-clause-fault : goal.returns-clause-fault
 returns-clause-fault c =
-    fault_is c.args.bytes.now (AreBytes-from_slice c.args.bytes.now c.type_inv.bytes) c.whole.result
-    c.whole.ensures
+    fault_is c.args.bytes.now (AreBytes-from_slice c.args.bytes.now c.type_inv.bytes)
+    c.read_whole.result
+    c.read_whole.ensures
 
 pub returns-clause-only : goal.returns-clause-only
 returns-clause-only c =
-    only_is c.args.bytes.now (AreBytes-from_slice c.args.bytes.now c.type_inv.bytes) c.whole.result
-    c.whole.ensures
+    only_is c.args.bytes.now (AreBytes-from_slice c.args.bytes.now c.type_inv.bytes)
+    c.read_whole.result
+    c.read_whole.ensures

@@ -11,10 +11,10 @@ pub returns-in_default : goal.returns-in_default
 returns-in_default g c =
     let found = c.find_row.ensures
     ∙ ap (λ o. find (is_named g.P.Kept.name (rank o)
-    (name_sought g.P.Kept.name c.named.result.name)) (living c.args.slots.now))
-    c.named.ensures.owner
+    (name_sought g.P.Kept.name c.of_name.result.name)) (living c.args.slots.now))
+    c.of_name.ensures.owner
     ∙ ap (λ (x : List ℕ). find (is_named g.P.Kept.name (suc c.args.loader) x)
-    (living c.args.slots.now)) c.named.ensures.name in
+    (living c.args.slots.now)) c.of_name.ensures.name in
     sym (class-first g.P.Kept.name c.args.loader c.args.name.now (living c.args.slots.now)
     ∙ ap kept_in (sym found ∙ ap option_copied c.in_default.is))
 
@@ -22,9 +22,9 @@ pub returns : goal.returns
 returns g c =
     let found = c.find_row.ensures
     ∙ ap (λ o. find (is_named g.P.Kept.name (rank o)
-    (name_sought g.P.Kept.name c.named.result.name)) (living c.args.slots.now))
-    c.named.ensures.owner
+    (name_sought g.P.Kept.name c.of_name.result.name)) (living c.args.slots.now))
+    c.of_name.ensures.owner
     ∙ ap (λ (x : List ℕ). find (is_named g.P.Kept.name (suc c.args.loader) x)
-    (living c.args.slots.now)) c.named.ensures.name in
-    c.kept_in.ensures ∙ ap kept_in (sym (ap option_copied c.in-Some.is) ∙ found)
+    (living c.args.slots.now)) c.of_name.ensures.name in
+    c.value_in.ensures ∙ ap kept_in (sym (ap option_copied c.in-Some.is) ∙ found)
     ∙ sym (class-first g.P.Kept.name c.args.loader c.args.name.now (living c.args.slots.now))

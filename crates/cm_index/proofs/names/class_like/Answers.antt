@@ -26,6 +26,6 @@ returns g c =
     c.class.ensures.owner
     ∙ ap (λ (x : List ℕ). find (is_named g.P.Kept.name (suc c.args.loader) x)
     (living c.args.slots.now)) c.class.ensures.name in
-    c.kept_in.ensures ∙ ap kept_in (sym (ap option_copied c.in-Some.is) ∙ found)
+    c.value_in.ensures ∙ ap kept_in (sym (ap option_copied c.in-Some.is) ∙ found)
     ∙ sym (class-first g.P.Kept.name c.args.loader (g.P.Kept.name c.args.class.now)
     (living c.args.slots.now))

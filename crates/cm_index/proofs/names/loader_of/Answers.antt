@@ -11,10 +11,10 @@ pub returns-in_default : goal.returns-in_default
 returns-in_default g c =
     let found = c.find_row.ensures
     ∙ ap (λ o. find (is_named g.P.Kept.name (rank o)
-    (name_sought g.P.Kept.name c.named.result.name)) (living c.args.slots.now))
-    c.named.ensures.owner
+    (name_sought g.P.Kept.name c.of_name.result.name)) (living c.args.slots.now))
+    c.of_name.ensures.owner
     ∙ ap (λ (x : List ℕ). find (is_named g.P.Kept.name 0 x) (living c.args.slots.now))
-    c.named.ensures.name in
+    c.of_name.ensures.name in
     sym (number-first g.P.Kept.name c.args.name.now (living c.args.slots.now)
     ∙ ap number_in (sym found ∙ ap option_copied c.in_default.is))
 
@@ -22,9 +22,9 @@ pub returns : goal.returns
 returns g c =
     let found = c.find_row.ensures
     ∙ ap (λ o. find (is_named g.P.Kept.name (rank o)
-    (name_sought g.P.Kept.name c.named.result.name)) (living c.args.slots.now))
-    c.named.ensures.owner
+    (name_sought g.P.Kept.name c.of_name.result.name)) (living c.args.slots.now))
+    c.of_name.ensures.owner
     ∙ ap (λ (x : List ℕ). find (is_named g.P.Kept.name 0 x) (living c.args.slots.now))
-    c.named.ensures.name in
+    c.of_name.ensures.name in
     c.number_in.ensures ∙ ap number_in (sym (ap option_copied c.in-Some.is) ∙ found)
     ∙ sym (number-first g.P.Kept.name c.args.name.now (living c.args.slots.now))

@@ -13,6 +13,6 @@ returns-in-Some c =
     ap (λ (o : Option (BTreeMap (Vec ℕ) ListedClass)). map (λ (e : List ℕ × ListedClass). e.1)
     (kept_in o))
     c.in-Some.ensures.value in
-    IfOk-weaker c.in_order.result _ _
+    IfOk-weaker c.classes_in_order.result _ _
     (λ list is. is ∙ (sym (values-by_bytes c.in-Some.classes.now.entries) ∙ there))
-    c.in_order.ensures
+    c.classes_in_order.ensures

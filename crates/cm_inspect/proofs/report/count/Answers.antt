@@ -5,8 +5,8 @@ use Rattle.cm_inspect.specs.Report.{first_records}
 use Rattle.cm_inspect.proofs.Tallies.{apart, each_counts}
 use Rattle.cm_inspect.proofs.report.count.Goals as goal
 
-pub with-report-requires-clause-room : goal.with-report-requires-clause-room
-with-report-requires-clause-room c =
+pub with_row-report-requires-clause-room : goal.with_row-report-requires-clause-room
+with_row-report-requires-clause-room c =
     let l = c.loop-row in
     let p = apart c.in-Some.row.now c.next.new.self in
     let numbers = ap (λ (rows : List (Row (List ℕ))). length (numbers_in rows)) c.in-Some.ensures in
@@ -34,7 +34,7 @@ loop-row-preserved c =
     let classes = ap (λ (rows : List (Row (List ℕ))). length (classes_in rows)) c.in-Some.ensures in
     let firsts =
     ap (λ (rows : List (Row (List ℕ))). first_records (classes_in rows)) c.in-Some.ensures in
-    let now = c.with-report.ensures in
+    let now = c.with_row-report.ensures in
     record {
       loaders = omega (arith, l.invariant.loaders, numbers, p.loaders, now.loaders);
       classes = omega (arith, l.invariant.classes, classes, p.classes, now.classes);

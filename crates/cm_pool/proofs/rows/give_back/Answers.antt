@@ -40,12 +40,12 @@ hole : (c : After-joins)
     → IsHole c.args.top c.requires.kept.0 c.loop-rows.rows.items c.loop-rows.block
 hole c = c.loop-rows.invariant.hole c.requires.kept.0 c.requires.kept.1 c.requires.kept.2
 
-pub above-block-requires : goal.above-block-requires
-above-block-requires c =
+pub parent-block-requires : goal.parent-block-requires
+parent-block-requires c =
     omega (
       arith,
       c.requires.top,
-      (joined (goal.at.above-block-requires c).After-joins c.loop-rows-test.true).0,
+      (joined (goal.at.parent-block-requires c).After-joins c.loop-rows-test.true).0,
     )
 
 pub unmark-requires : goal.unmark-requires
@@ -59,12 +59,12 @@ loop-rows-preserved c =
     let rows = c.loop-rows.rows.items in
     let b = c.loop-rows.block in
     let join = joined (goal.at.loop-rows-preserved c).After-joins c.loop-rows-test.true in
-    let above = c.above-block.ensures.above in
+    let above = c.parent-block.ensures.above in
     let new : c.unmark.new.rows.items ≡ without_mark rows (other_half b) =
     c.unmark.ensures ∙ ap (without_mark rows) c.other_half.ensures in
     record {
       hole = λ limit kept low. subst
-          (λ (rs : List (List ℕ)). IsHole c.args.top limit rs c.above-block.result) (sym new)
+          (λ (rs : List (List ℕ)). IsHole c.args.top limit rs c.parent-block.result) (sym new)
           (subst (IsHole c.args.top limit (without_mark rows (other_half b))) (sym above)
           (hole-join c.args.top limit rows b (c.loop-rows.invariant.hole limit kept low)
           join.0 join.1));
@@ -78,7 +78,7 @@ loop-rows-smaller c =
     omega (
       arith,
       (joined (goal.at.loop-rows-smaller c).After-joins c.loop-rows-test.true).0,
-      c.above-block.ensures.order,
+      c.parent-block.ensures.order,
     )
 
 pub mark-requires : goal.mark-requires

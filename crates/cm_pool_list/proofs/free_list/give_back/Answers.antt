@@ -38,7 +38,7 @@ loop-half-preserved c =
     let at = c.loop-half.at in
     let k = c.in-Some.half in
     let b = c.loop-half.block in
-    let above : c.above-block.result ≡ block_above b = c.above-block.ensures.above in
+    let above : c.parent-block.result ≡ block_above b = c.parent-block.ensures.above in
     let removed : ys ≡ remove xs k = c.remove.ensures.items in
     let beside : IsHalfBeside xs k at b = subst
     (λ (zs : List Block). IsHalfBeside zs k at b) c.deref-in-loop-half.ensures.value
@@ -56,7 +56,7 @@ loop-half-preserved c =
     }
 
 pub loop-half-smaller : goal.loop-half-smaller
-loop-half-smaller c = omega (arith, c.in-Some.ensures.below_top, c.above-block.ensures.order)
+loop-half-smaller c = omega (arith, c.in-Some.ensures.below_top, c.parent-block.ensures.order)
 
 filled : (c : In_default)
     → IsFreeList c.args.top (insert c.loop-half.free.items c.loop-half.at c.loop-half.block)

@@ -5,5 +5,5 @@ use Rattle.cm_record.proofs.fingerprints.run_fingerprint.Goals as goal
 pub returns : goal.returns
 unfolding fingerprint
 returns c = λ bytes is.
-    c.upper_half.ensures ∙ ap upper_half (c.folded.ensures ∙ ap₂ folded
-    (c.further-from.ensures ∙ ap (further c.args.seed) is.count) (c.run_slice.ensures bytes is))
+    c.upper_half.ensures ∙ ap upper_half (c.fold_words.ensures ∙ ap₂ folded
+    (c.fold_word-from.ensures ∙ ap (further c.args.seed) is.count) (c.run_slice.ensures bytes is))

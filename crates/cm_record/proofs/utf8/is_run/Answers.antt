@@ -34,8 +34,8 @@ loop-left-preserved c =
     sym c.loop-left-test.true ∙ (c.is_empty.ensures ∙ eq-eqb (length l.left.now) 0 e) in cc in
     record {
       onward = goes_on c.args.words.now c.args.bytes.now l.rest.now l.left.now l.invariant.onward
-          l.invariant.back some c.behind_eight-left.result.now c.behind_eight-left.ensures;
+          l.invariant.back some c.skip_eight-left.result.now c.skip_eight-left.ensures;
       back = goes_back c.args.words.now c.args.bytes.now l.rest.now l.left.now l.invariant.onward
-          l.invariant.back some c.behind_eight-left.result.now c.behind_eight-left.ensures
+          l.invariant.back some c.skip_eight-left.result.now c.skip_eight-left.ensures
           c.word_of.result c.in-len1-up.len_at_least c.word_of.ensures c.if-word_of-word.false;
     }

@@ -8,8 +8,8 @@ returns-then-long-clause-sizes g c =
     let contents = g.D.Disk.contents c.args.disk.now in
     short_file (length contents) (take 4096 contents) (omega (arith, c.in_ok-long.ensures.len))
 
-pub sizes_found-requires : goal.sizes_found-requires
-sizes_found-requires g c =
+pub find_sizes-requires : goal.find_sizes-requires
+find_sizes-requires g c =
     let contents = g.D.Disk.contents c.len.new.self in
     let long = part_long 0 4096 contents
     (omega (arith, ap length c.len.ensures.contents, c.in_ok-long.ensures.len)) in

@@ -62,8 +62,12 @@ returns-then-outcome-clause-machine g c =
     (pause (served k (failures s.committer.disk)) s.committer.disk) c.lines.outcome f now
     old.committer.disk new.committer.disk (λ next. GoesWith next old) (λ next. GoesWith next new)
     (c.lines.invariant.1 k goes ready)
-    c.after-outcome.result c.in-Ok-Some.kind turn
-    (record { refused = c.after-outcome.ensures.refused; unsure = c.after-outcome.ensures.unsure })
+    c.with_reply-outcome.result c.in-Ok-Some.kind turn
+    (record {
+      refused = c.with_reply-outcome.ensures.refused;
+      unsure =
+          c.with_reply-outcome.ensures.unsure;
+    })
     c.if-outcome.true
 
 pub returns-in-Ok-None-clause-machine : goal.returns-in-Ok-None-clause-machine
@@ -182,10 +186,10 @@ lines-preserved g c =
           old.committer.disk new.committer.disk (λ next. GoesWith next old)
           (λ next. GoesWith next new)
           (c.lines.invariant.1 k goes ready)
-          c.after-outcome.result c.in-Ok-Some.kind turn
+          c.with_reply-outcome.result c.in-Ok-Some.kind turn
           (record {
-            refused = c.after-outcome.ensures.refused;
-            unsure = c.after-outcome.ensures.unsure;
+            refused = c.with_reply-outcome.ensures.refused;
+            unsure = c.with_reply-outcome.ensures.unsure;
           })
           c.if-outcome.false,
     )

@@ -4,8 +4,8 @@ use Rattle.cm_record_layout.proofs.Packed.{length-packed_into}
 use Rattle.cm_recover.proofs.RecordPlaces.{short_enough}
 use Rattle.cm_recover.proofs.standing.SecondPass.class_at.Goals as goal
 
-pub prepared-requires : goal.prepared-requires
-prepared-requires g c =
+pub prepare_record-requires : goal.prepare_record-requires
+prepare_record-requires g c =
     let words = c.args.place.words in
     let bytes = part c.record_at-at.result (8 * words) (g.D.Disk.contents c.args.disk.now) in
     let count = ap length c.as_slice.ensures

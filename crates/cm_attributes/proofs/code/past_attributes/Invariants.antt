@@ -1,8 +1,0 @@
-use Rattle.std.proofs.Common.{◌≡◌, ◌-◌}
-use Rattle.cm_attributes.specs.Contents.{past_many, past_counted, past_attribute}
-use Rattle.cm_attributes.proofs.code.past_attributes.Given as goal
-
-abbrev pub invariant-loop : goal.invariant-loop
-invariant-loop l =
-    past_many (past_attribute l.class) (l.count - l.counter) l.rest
-    ≡ past_counted (past_attribute l.class) l.bytes
