@@ -7,7 +7,7 @@ ghost use Rattle.cm_arena.specs.Chains.{used_of, chain_of, IsArena};
 ghost use Rattle.cm_arena.specs.Placing.{IsOnTop, HasRoom, next_offset as next_offset_of};
 
 use crate::fetch::{fetch, has_free, order_for};
-use crate::refusal::Refusal;
+use crate::refusal::PlaceRefusal;
 use cm_pool::{Chunk, Place, Pool};
 use std::alloc::{AllocError, Global};
 use std::marker::Model;
@@ -76,7 +76,7 @@ impl Arena {
     /// `RegionFull` where the last chunk has no room, no chunk of the order needed is free, and all
     /// roots are present. `NoMemory` comes only where neither does and the last chunk has no room.
     /// After a refusal arena and pool are as they were.
-    pub fn place(&mut self, words: u32, pool: &mut Pool) -> Result<Place, Refusal>
+    pub fn place(&mut self, words: u32, pool: &mut Pool) -> Result<Place, PlaceRefusal>
         requires { 1 ≤ words }
         ensures ok { IfOk result (λ place. Places self.old pool.old words place self.new pool.new) }
         // The words lie inside a chunk of this arena. What it has and others have of the pool stays
@@ -89,24 +89,24 @@ impl Arena {
             → NoneIsLost pool.old (chunks_of self.old ++ others)
             → NoneIsLost pool.new (chunks_of self.new ++ others) }
 
-        ensures too_long { IsErrOf result Refusal.RecordTooLong
+        ensures too_long { IsErrOf result PlaceRefusal.RecordTooLong
             ↔ (chunk_size pool.old.geometry.top < words) }
-        ensures full { IsErrOf result Refusal.RegionFull ↔ IsFull self.old pool.old words }
-        ensures memory { IsErrOf result Refusal.NoMemory → ¬ HasRoom self.old words }
+        ensures full { IsErrOf result PlaceRefusal.RegionFull ↔ IsFull self.old pool.old words }
+        ensures memory { IsErrOf result PlaceRefusal.NoMemory → ¬ HasRoom self.old words }
         ensures err { OnErr result ((self.new ≡ self.old) × (pool.new ≡ pool.old)) }
     {
         let top = pool.geometry().top();
         if words > 128 << top {
-            return Err(Refusal::RecordTooLong);
+            return Err(PlaceRefusal::RecordTooLong);
         }
         if let Some(place) = place_on_top(&self.chunks, &mut self.used, words) {
             return Ok(place);
         }
         if !reserve_one(&mut self.chunks, &mut self.used) {
             return Err(if self.is_full(words, pool) {
-                Refusal::RegionFull
+                PlaceRefusal::RegionFull
             } else {
-                Refusal::NoMemory
+                PlaceRefusal::NoMemory
             });
         }
         let need = order_for(words);

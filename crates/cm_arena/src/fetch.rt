@@ -5,7 +5,7 @@ ghost use Rattle.cm_pool.specs.Chunks.{chunk_size};
 ghost use Rattle.cm_pool.specs.FreeSpace.{HasFree};
 ghost use Rattle.cm_arena.specs.Placing.{IsNeed, IsWanted, IsNeeded, Fetches};
 
-use crate::refusal::Refusal;
+use crate::refusal::PlaceRefusal;
 use cm_pool::{Chunk, Pool};
 
 /// The least order whose chunks hold so many words.
@@ -51,13 +51,13 @@ fn first_of(pool: &mut Pool, wanted: u32, need: u32) -> Option<Chunk>
 
 /// A chunk of the order wanted, or else of the one needed, or else of the one wanted out of a new
 /// root.
-pub fn fetch(pool: &mut Pool, wanted: u32, need: u32) -> Result<Chunk, Refusal>
+pub fn fetch(pool: &mut Pool, wanted: u32, need: u32) -> Result<Chunk, PlaceRefusal>
     requires needed { need ≤ wanted }
     requires wanted { wanted ≤ pool.old.geometry.top }
     ensures ok { IfOk result (λ chunk. Fetches pool.old wanted need chunk pool.new) }
-    ensures full { IsErrOf result Refusal.RegionFull ↔ ((¬ HasFree pool.old need)
+    ensures full { IsErrOf result PlaceRefusal.RegionFull ↔ ((¬ HasFree pool.old need)
         × (pool.old.geometry.roots ≤ pool.old.roots)) }
-    ensures not_long { result ≢ Err Refusal.RecordTooLong }
+    ensures not_long { result ≢ Err PlaceRefusal.RecordTooLong }
     ensures err { OnErr result (pool.new ≡ pool.old) }
 {
     if let Some(chunk) = first_of(pool, wanted, need) {
@@ -65,7 +65,7 @@ pub fn fetch(pool: &mut Pool, wanted: u32, need: u32) -> Result<Chunk, Refusal>
     }
     match pool.add_root() {
         Ok(true) => Ok(pool.alloc(wanted).unwrap()),
-        Ok(false) => Err(Refusal::RegionFull),
-        Err(_) => Err(Refusal::NoMemory),
+        Ok(false) => Err(PlaceRefusal::RegionFull),
+        Err(_) => Err(PlaceRefusal::NoMemory),
     }
 }

@@ -7,4 +7,4 @@ mod fetch;
 mod refusal;
 
 pub use arena::Arena;
-pub use refusal::Refusal;
+pub use refusal::PlaceRefusal;

@@ -3,7 +3,7 @@ use thiserror::Error;
 
 /// Why no place was given. Arena and pool are then as they were.
 #[derive(Clone, Copy, Debug, Drop, PartialEq, Eq, Error)]
-pub enum Refusal {
+pub enum PlaceRefusal {
     /// There are more words than a root chunk has.
     #[error("record too long")]
     RecordTooLong,

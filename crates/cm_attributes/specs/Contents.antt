@@ -45,7 +45,7 @@ is_whole read = option_map_or (λ rest. length rest == 0) read false
 
 -- what a bootstrap method takes (JVMS 4.7.23)
 abbrev pub is_loadable : Constant → Bool
-is_loadable (constant.String text) = true
+is_loadable (constant.String utf8) = true
 is_loadable (constant.Class name) = true
 is_loadable (constant.Integer bits) = true
 is_loadable (constant.Long bits) = true

@@ -20,7 +20,7 @@ use Rattle.cm_class.specs.Names.{kind_of}
 use Rattle.cm_class.specs.Reading.{◌>>=◌, both_at, made_at, number_at, byte_at, sized_at}
 use Rattle.cm_class.specs.Reading.{expected_at, count_at, tag_of, tag_number, takes_two}
 use Rattle.cm_class.specs.Reading.{tag_found, tag_at}
-use Rattle.cm_class.specs.Reading.{one_at, two_at, text_at, info_at, constant_at, slots_at, pool_at}
+use Rattle.cm_class.specs.Reading.{one_at, two_at, utf8_at, info_at, constant_at, slots_at, pool_at}
 use Rattle.cm_class.proofs.Readers.{Read, Reads, Says, reads_then, reads_done, reads_made}
 use Rattle.cm_class.proofs.Readers.{reads_both, reads_as}
 use Rattle.cm_class.proofs.Fields.{u1_reads, u2_reads, u4_reads, u8_reads, text_reads}
@@ -214,7 +214,7 @@ fields_of : (t : Kind) (c : Constant) → kind_of c ≡ t → OfKind t c
 fields_of t c e = subst (λ (u : Kind). OfKind u c) e (of_kind c)
 
 info_reads : (t : Kind) → Reads (info_at t) info (FitsAs t)
-unfolding one_at two_at text_at
+unfolding one_at two_at utf8_at
 info_reads kinds.Utf8 =
     reads_made (sized_at 2) (λ v. u2 (length v) ++ v) (λ v. IsU2 (length v) × AreBytes v)
     constant.Utf8 info (FitsAs kinds.Utf8) text_reads

@@ -189,8 +189,8 @@ unfoldable pub two_at : (ℕ → ℕ → Constant) → (List ℕ → Result (ℕ
     → Result (Constant × List ℕ) Stop
 two_at make first bytes = made_at (λ x. make x.0 x.1) (both_at first (number_at 2)) bytes
 
-unfoldable pub text_at : List ℕ → Result (Constant × List ℕ) Stop
-text_at bytes = made_at constant.Utf8 (sized_at 2) bytes
+unfoldable pub utf8_at : List ℕ → Result (Constant × List ℕ) Stop
+utf8_at bytes = made_at constant.Utf8 (sized_at 2) bytes
 
 -- the kinds that have a number behind their tag
 abbrev pub is_number : Kind → Bool
@@ -219,7 +219,7 @@ has_indexes _ = false
 
 -- what stands behind a tag
 abbrev pub info_at : Kind → List ℕ → Result (Constant × List ℕ) Stop
-info_at kinds.Utf8 bytes = text_at bytes
+info_at kinds.Utf8 bytes = utf8_at bytes
 info_at kinds.Integer bytes = one_at constant.Integer 4 bytes
 info_at kinds.Float bytes = one_at constant.Float 4 bytes
 info_at kinds.Long bytes = one_at constant.Long 8 bytes

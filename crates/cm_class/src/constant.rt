@@ -21,7 +21,7 @@ pub enum Constant {
     },
     /// Tag 8.
     String {
-        text: u16,
+        utf8: u16,
     },
     /// Tag 9.
     Fieldref {

@@ -18,7 +18,7 @@ pub fn one_class_for_one_spelling()
 {}
 
 /// Bytes spell a class file or have one of the three faults, and not two of these.
-pub fn each_text_has_one_answer()
+pub fn each_input_has_one_answer()
     ensures some { (bytes : List ℕ) → AreBytes bytes
         → (answer : Result ClassFile ShapeFault) × IsAnswer bytes answer }
     ensures one { (bytes : List ℕ) (a b : Result ClassFile ShapeFault) → IsAnswer bytes a

@@ -22,5 +22,5 @@ pub use constant::{Constant, Slot};
 pub use fault::ShapeFault;
 pub use items::Items;
 pub use kind::Kind;
-pub use laws::{each_text_has_one_answer, no_spelling_begins_another, one_class_for_one_spelling};
+pub use laws::{each_input_has_one_answer, no_spelling_begins_another, one_class_for_one_spelling};
 pub use shape::read_shape;

@@ -82,7 +82,7 @@ fn read_whole(alloc: Global, bytes: &[u8]) -> Result<Class, ShapeFault>
 /// It is refused exactly where the bytes are no spelling of a class file, with the one fault that
 /// they have; or with `NoMemory`, only where they are one and an allocation failed. It reserves
 /// memory only for bytes that are there, whatever the counts and lengths in the file say. Where
-/// memory was refused, and only there, a second pass, which takes none, looks for a fault.
+/// an allocation failed, and only there, a second pass, which takes none, looks for a fault.
 pub fn read_shape(alloc: Global, bytes: &[u8]) -> Result<Class, ShapeFault>
     ensures ok { IfOk result (Spells bytes.now) }
     ensures fault { IfErr result (IsFault bytes.now) }

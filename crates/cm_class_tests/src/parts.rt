@@ -20,7 +20,7 @@ fn numbers(slot: &Slot) -> Option<Numbers> {
         Constant::Long(bits) => (5, *bits, 0),
         Constant::Double(bits) => (6, *bits, 0),
         Constant::Class { name } => (7, *name as u64, 0),
-        Constant::String { text } => (8, *text as u64, 0),
+        Constant::String { utf8 } => (8, *utf8 as u64, 0),
         Constant::Fieldref {
             class,
             name_and_type,

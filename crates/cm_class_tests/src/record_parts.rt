@@ -18,7 +18,7 @@ const CONSTANTS: [(u16, Option<Constant>); 18] = [
     (6, Some(Constant::Double(0x0700_0000_0000_0007))),
     (7, None),
     (8, Some(Constant::Class { name: 1 })),
-    (9, Some(Constant::String { text: 0xffff })),
+    (9, Some(Constant::String { utf8: 0xffff })),
     (
         10,
         Some(Constant::Fieldref {

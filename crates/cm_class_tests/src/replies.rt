@@ -3,7 +3,7 @@
 use crate::samples::CLASS_A;
 use cm_prepare::{BadClass, Refusal, prepare};
 use cm_rules::{Broken, Rule, Spot};
-use cm_tool::{Kind, Reply};
+use cm_tool::{Reply, ReplyKind};
 use std::alloc::AllocError;
 use std::process::Abort;
 use std::test::Fail;
@@ -12,7 +12,7 @@ use std::test::Fail;
 fn is_told(
     rt: &impl Abort,
     reply: Result<Reply, AllocError>,
-    kind: Kind,
+    kind: ReplyKind,
     line: &[u8],
 ) -> Result<(), AllocError> {
     let reply = reply?;
@@ -24,21 +24,21 @@ fn is_told(
 #[test]
 fn commands_that_are_done_are_told(rt: HostRuntime) -> Result<(), AllocError> {
     let alloc = rt.alloc();
-    is_told(&rt, Reply::ok(alloc, 1), Kind::Done, b"ok 1\n")?;
-    is_told(&rt, Reply::ok(alloc, 10), Kind::Done, b"ok 10\n")?;
+    is_told(&rt, Reply::ok(alloc, 1), ReplyKind::Done, b"ok 1\n")?;
+    is_told(&rt, Reply::ok(alloc, 10), ReplyKind::Done, b"ok 10\n")?;
     is_told(
         &rt,
         Reply::ok_class(alloc, 2, b"A"),
-        Kind::Done,
+        ReplyKind::Done,
         b"ok 2 A\n",
     )?;
     is_told(
         &rt,
         Reply::ok_class(alloc, 2, b"\xc3\xa9"),
-        Kind::Done,
+        ReplyKind::Done,
         b"ok 2 %C3%A9\n",
     )?;
-    is_told(&rt, Reply::none(alloc), Kind::Done, b"none\n")
+    is_told(&rt, Reply::none(alloc), ReplyKind::Done, b"none\n")
 }
 
 #[test]
@@ -46,7 +46,7 @@ fn a_class_is_told_with_its_flags_and_its_super_class(rt: HostRuntime) -> Result
     let class = prepare(rt.alloc(), &CLASS_A).ok().ok_or("class A")?;
     let reply = Reply::class(rt.alloc(), b"A", class.record());
     let line = b"class A flags 0021 super java/lang/Object words 16\n";
-    Ok(is_told(&rt, reply, Kind::Done, line)?)
+    Ok(is_told(&rt, reply, ReplyKind::Done, line)?)
 }
 
 const REFUSED: [(Refusal, &[u8]); 22] = [
@@ -76,7 +76,7 @@ const REFUSED: [(Refusal, &[u8]); 22] = [
     ),
     (
         Refusal::BadClass(BadClass::Rule(Broken {
-            rule: Rule::TextForm,
+            rule: Rule::Utf8Form,
             spot: Spot::Pool(5),
         })),
         b"refused 14 V1 pool 5\n",
@@ -125,7 +125,7 @@ fn refusals_are_told_by_number_and_text(rt: HostRuntime) -> Result<(), AllocErro
         is_told(
             &rt,
             Reply::refused(rt.alloc(), *refusal),
-            Kind::Refused,
+            ReplyKind::Refused,
             line,
         )?;
     }
@@ -137,7 +137,12 @@ fn refusals_are_told_by_number_and_text(rt: HostRuntime) -> Result<(), AllocErro
 #[test]
 fn an_unsure_command_is_not_refused(rt: HostRuntime) -> Result<(), AllocError> {
     let alloc = rt.alloc();
-    is_told(&rt, Reply::unsure(alloc, 2), Kind::Unsure, b"unsure 2\n")?;
+    is_told(
+        &rt,
+        Reply::unsure(alloc, 2),
+        ReplyKind::Unsure,
+        b"unsure 2\n",
+    )?;
     let refusal = Reply::refused(alloc, Refusal::Unsure(2));
-    is_told(&rt, refusal, Kind::Unsure, b"unsure 2\n")
+    is_told(&rt, refusal, ReplyKind::Unsure, b"unsure 2\n")
 }

@@ -37,8 +37,8 @@ use Rattle.cm_rows.specs.Rows.{is_above}
 use Rattle.cm_state.proofs.Bare.{numbers-bare}
 use Rattle.cm_commit.proofs.With.{bare-with}
 use Rattle.cm_commit.specs.declared.journal.Journal.{Journal}
-use Rattle.cm_commit.specs.declared.step.Step.{Step}
-use Rattle.cm_commit.specs.declared.step.Step.TheVariants as step
+use Rattle.cm_commit.specs.declared.step.CommitStep.{CommitStep}
+use Rattle.cm_commit.specs.declared.step.CommitStep.TheVariants as step
 use Rattle.cm_commit.specs.Steps.{FitsJournal, stages_at, stages_left}
 use Rattle.cm_commit.proofs.Committing.{fits_journal, cache_after, right_rows_after, end_after}
 use Rattle.cm_commit.proofs.Committing.{leaves_so}
@@ -294,7 +294,8 @@ steps_are true left n e same = absurd (cc)
 steps_are false left n e same = same
 
 -- a committer as its parts are seen
-abbrev pub seen : {D : Type 0} → D → Journal → List (Row (List ℕ)) → Option Handed → Step → Bool
+abbrev pub seen : {D : Type 0} → D → Journal → List (Row (List ℕ)) → Option Handed → CommitStep
+    → Bool
     → CommitterState D
 seen disk j rows group now broken = record {
   disk = disk;
@@ -312,7 +313,7 @@ pub told_ok : {T E : Type 0} (r : Result T E) (P : T → Type 0) (x : T) → r �
 told_ok (Ok y) P x e p = subst P (cc) p
 told_ok (Err f) P x e p = absurd (cc)
 
-pub some_stages : (j : Journal) (group : Handed) (now : Step) → (now ≡ step.Done → ⊥)
+pub some_stages : (j : Journal) (group : Handed) (now : CommitStep) → (now ≡ step.Done → ⊥)
     → stages_at j group now ≡ [] → ⊥
 some_stages j group (step.Write roots from) isnt e = absurd (cc)
 some_stages j group step.Sync isnt e = absurd (cc)

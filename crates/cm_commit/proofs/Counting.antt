@@ -4,7 +4,7 @@ use Rattle.std.proofs.lemmas.List.{length-append}
 use Rattle.cm_pool.specs.Geometry.{Sizes}
 use Rattle.cm_group.specs.Groups.{Handed, entries_in}
 use Rattle.cm_commit.specs.declared.journal.Journal.{Journal}
-use Rattle.cm_commit.specs.declared.step.Step.TheVariants as step
+use Rattle.cm_commit.specs.declared.step.CommitStep.TheVariants as step
 use Rattle.cm_commit.specs.Plans.{calls_left}
 use Rattle.cm_commit.specs.Steps.{stages_at}
 use Rattle.cm_commit.specs.GroupPlans.{roots_of_entries}

@@ -9,8 +9,8 @@ use Rattle.cm_layout.specs.Offsets.{root_size}
 use Rattle.cm_layout.specs.Slots.{open_gate, entry_slot}
 use Rattle.cm_group.specs.Groups.{Carried, Handed, entries_in, slots_taken}
 use Rattle.cm_commit.specs.declared.journal.Journal.{Journal}
-use Rattle.cm_commit.specs.declared.step.Step.{Step}
-use Rattle.cm_commit.specs.declared.step.Step.TheVariants as step
+use Rattle.cm_commit.specs.declared.step.CommitStep.{CommitStep}
+use Rattle.cm_commit.specs.declared.step.CommitStep.TheVariants as step
 use Rattle.cm_commit.specs.Plans.{Stage, Store, Turn, Settle}
 use Rattle.cm_commit.specs.Offers.{carries_own, own_record}
 use Rattle.cm_commit.specs.GroupPlans.{writes_left, record_writes, place_write, roots_of_entries}
@@ -20,7 +20,7 @@ abbrev pub next_gate : Journal → ℕ
 next_gate j = slot_at j.geometry j.half j.end
 
 -- the stages that are left at a step
-abbrev pub stages_at : Journal → Handed → Step → List Stage
+abbrev pub stages_at : Journal → Handed → CommitStep → List Stage
 stages_at j group (step.Write roots from) =
     Store (writes_left j.geometry j.half j.end j.number group.entries roots
     (drop from group.entries))
@@ -30,7 +30,7 @@ stages_at j group step.Gate = Turn (next_gate j) open_gate ∷ []
 stages_at j group step.LastSync = Settle ∷ []
 stages_at j group step.Done = []
 
-abbrev pub stages_left : Journal → Option Handed → Step → List Stage
+abbrev pub stages_left : Journal → Option Handed → CommitStep → List Stage
 stages_left j None s = []
 stages_left j (Some group) s = stages_at j group s
 

@@ -4,7 +4,7 @@ ghost use Rattle.std.specs.Prelude.{◌≡◌, ◌≤◌, ◌<◌, ◌+◌, ◌*
 ghost use Rattle.cm_layout.specs.Offsets.{root_size};
 ghost use Rattle.cm_layout.specs.Slots.{open_gate};
 ghost use Rattle.cm_group.specs.Groups.{entries_in, group_limit};
-ghost use Rattle.cm_commit.specs.declared.step.Step.TheVariants as step;
+ghost use Rattle.cm_commit.specs.declared.step.CommitStep.TheVariants as step;
 ghost use Rattle.cm_commit.specs.Plans.{after_call};
 ghost use Rattle.cm_commit.specs.GroupPlans.{root_write, place_write, slots_write};
 ghost use Rattle.cm_commit.specs.Standing.{WritesOnce, CallsOnce, TakesWrite, TakesCall};
@@ -14,7 +14,7 @@ ghost use Rattle.cm_commit.specs.Steps.{FitsJournal, next_gate, stages_at};
 use crate::bytes::{put_record, put_slots, put_zeros};
 use crate::entries::{next_record, roots_needed};
 use crate::journal::Journal;
-use crate::step::Step;
+use crate::step::CommitStep;
 use cm_disk::{DeviceFault, Disk};
 use cm_group::Group;
 use cm_layout::{OPEN_GATE, record_at, root_at, root_bytes, slot_at};
@@ -90,7 +90,7 @@ fn write_next<D: Disk>(
     group: &Group,
     roots: u32,
     from: usize,
-) -> Result<Step, DeviceFault>
+) -> Result<CommitStep, DeviceFault>
     requires room { root_size journal.geometry ≤ vec_capacity buffer.old }
     requires group { FitsJournal journal group.now }
     requires fits { TakesCall (stages_at journal group.now (step.Write roots from))
@@ -104,7 +104,7 @@ fn write_next<D: Disk>(
 {
     if roots < roots_needed(group.entries()) {
         write_root(disk, buffer, journal.geometry, roots)?;
-        return Ok(Step::Write {
+        return Ok(CommitStep::Write {
             roots: roots + 1,
             from,
         });
@@ -112,14 +112,14 @@ fn write_next<D: Disk>(
     match next_record(group.entries(), from) {
         Some((at, place, class)) => {
             write_record(disk, buffer, journal.geometry, place, class)?;
-            Ok(Step::Write {
+            Ok(CommitStep::Write {
                 roots,
                 from: at + 1,
             })
         }
         None => {
             write_slots(disk, buffer, journal, group)?;
-            Ok(Step::Sync)
+            Ok(CommitStep::Sync)
         }
     }
 }
@@ -142,8 +142,8 @@ pub(crate) fn make_call<D: Disk>(
     buffer: &mut Vec<u8>,
     journal: Journal,
     group: &Group,
-    now: Step,
-) -> Result<Step, DeviceFault>
+    now: CommitStep,
+) -> Result<CommitStep, DeviceFault>
     requires room { root_size journal.geometry ≤ vec_capacity buffer.old }
     requires group { FitsJournal journal group.now }
     requires fits { TakesCall (stages_at journal group.now now) (length (D.contents disk.old)) }
@@ -155,19 +155,19 @@ pub(crate) fn make_call<D: Disk>(
     ensures room { vec_capacity buffer.old ≤ vec_capacity buffer.new }
 {
     match now {
-        Step::Write { roots, from } => write_next(disk, buffer, journal, group, roots, from),
-        Step::Sync => {
+        CommitStep::Write { roots, from } => write_next(disk, buffer, journal, group, roots, from),
+        CommitStep::Sync => {
             disk.sync()?;
-            Ok(Step::Gate)
+            Ok(CommitStep::Gate)
         }
-        Step::Gate => {
+        CommitStep::Gate => {
             write_gate(disk, journal)?;
-            Ok(Step::LastSync)
+            Ok(CommitStep::LastSync)
         }
-        Step::LastSync => {
+        CommitStep::LastSync => {
             disk.sync()?;
-            Ok(Step::Done)
+            Ok(CommitStep::Done)
         }
-        Step::Done => Ok(Step::Done),
+        CommitStep::Done => Ok(CommitStep::Done),
     }
 }

@@ -26,7 +26,7 @@ use crate::joining::take_group;
 use crate::journal::Journal;
 use crate::mismatch::Mismatch;
 use crate::progress::{AdvanceFault, Progress};
-use crate::step::Step;
+use crate::step::CommitStep;
 use cm_disk::{Disk, SimDisk};
 use cm_group::{Group, Receipt};
 use cm_layout::root_bytes;
@@ -54,7 +54,7 @@ pub struct Committer<D: Disk> {
     /// How many whole roots the file had when the last group was done.
     roots: u32,
     group: Option<Group>,
-    step: Step,
+    step: CommitStep,
     is_broken: bool,
     /// Room for the bytes of one write: no more than a root has.
     buffer: Vec<u8>,
@@ -96,7 +96,7 @@ impl<D: Disk> Model for Committer<D> {
         }) c.rows.sizes c.next c.roots (vec_capacity c.buffer) };
 }
 
-/// A committer that wasn't made, since memory was refused; its disk.
+/// A committer that wasn't made, since an allocation failed; its disk.
 #[derive(Debug)]
 pub struct NotMade<D> {
     /// As it was.
@@ -189,7 +189,7 @@ impl<D: Disk> Committer<D> {
             next,
             roots,
             group: None,
-            step: Step::Done,
+            step: CommitStep::Done,
             is_broken: false,
             buffer,
         })
@@ -222,7 +222,7 @@ impl<D: Disk> Committer<D> {
         if !take_group(self.journal, &mut self.rows, &mut self.next, &group) {
             return Err(Mismatch { group });
         }
-        self.step = Step::Write {
+        self.step = CommitStep::Write {
             roots: self.roots,
             from: 0,
         };
@@ -261,7 +261,7 @@ impl<D: Disk> Committer<D> {
         };
         self.step = step;
         match step {
-            Step::Done => {
+            CommitStep::Done => {
                 let group = self.group.take().unwrap();
                 let receipt = finish(&mut self.journal, &mut self.rows, &mut self.roots, group);
                 Ok(Progress::Done(receipt))

@@ -14,7 +14,7 @@ ghost use Rattle.cm_commit.specs.GroupPlans.{own_place as place_of, roots_of_ent
 ghost use Rattle.cm_commit.specs.GroupPlans.{roots_of_entries};
 ghost use Rattle.cm_commit.specs.Steps.{WritesNone, WritesFirst};
 
-use crate::step::Step;
+use crate::step::CommitStep;
 use cm_group::CarriedEntry;
 use cm_layout::{Entry, Row};
 use cm_pool::Place;
@@ -109,19 +109,19 @@ fn records_from(entries: &[CarriedEntry], from: usize) -> u64
 }
 
 /// How many device calls of a group with these entries are left at a step.
-pub(crate) fn calls_at(now: Step, entries: &[CarriedEntry]) -> u64
+pub(crate) fn calls_at(now: CommitStep, entries: &[CarriedEntry]) -> u64
     requires { roots_of_entries (entries_in entries.now) < 2 ^ 32 }
     ensures { (j : Journal) (first learnt : ℕ) → result ≡ calls_left (stages_at j
         (record { first = first; learnt = learnt; entries = entries.now }) now) }
 {
     match now {
-        Step::Write { roots, from } => {
+        CommitStep::Write { roots, from } => {
             let zeros = roots_needed(entries).saturating_sub(roots);
             u64::from(zeros) + records_from(entries, from) + 4
         }
-        Step::Sync => 3,
-        Step::Gate => 2,
-        Step::LastSync => 1,
-        Step::Done => 0,
+        CommitStep::Sync => 3,
+        CommitStep::Gate => 2,
+        CommitStep::LastSync => 1,
+        CommitStep::Done => 0,
     }
 }

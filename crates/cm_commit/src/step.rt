@@ -2,7 +2,7 @@
 
 /// What the next device call of a group is.
 #[derive(Clone, Copy, Debug, PartialEq, Eq)]
-pub(crate) enum Step {
+pub(crate) enum CommitStep {
     /// A write: of a root of zeros while the file has too few roots, then of the next record of the
     /// entries from this one on, then of the slots.
     Write { roots: u32, from: usize },

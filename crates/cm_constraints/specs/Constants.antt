@@ -35,7 +35,7 @@ names_member c class name_and_type =
 -- each index names a constant of its kind (what method handles name says `handle_has_kind`)
 abbrev pub names_kinds : ClassFile → Constant → Bool
 names_kinds c (constant.Class name) = names kinds.Utf8 c name
-names_kinds c (constant.String text) = names kinds.Utf8 c text
+names_kinds c (constant.String utf8) = names kinds.Utf8 c utf8
 names_kinds c (constant.MethodType descriptor) = names kinds.Utf8 c descriptor
 names_kinds c (constant.Fieldref class name_and_type) = names_member c class name_and_type
 names_kinds c (constant.Methodref class name_and_type) = names_member c class name_and_type

@@ -38,7 +38,7 @@ pub fn names_kinds(class: &Class, constant: &Constant) -> bool
 {
     match constant {
         Constant::Class { name: utf8 }
-        | Constant::String { text: utf8 }
+        | Constant::String { utf8 }
         | Constant::MethodType { descriptor: utf8 } => class.names(*utf8, Kind::Utf8),
         Constant::Fieldref {
             class: of,

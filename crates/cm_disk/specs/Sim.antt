@@ -38,7 +38,7 @@ sim_syncs disk = disk.syncs
 abbrev pub sim_armed : SimDisk → Option ℕ
 sim_armed disk = disk.armed
 
--- the last call was refused memory
+-- an allocation failed in the last call
 abbrev pub sim_refused : SimDisk → Bool
 sim_refused disk = disk.refused
 
@@ -52,7 +52,8 @@ pub record IsFresh (disk : SimDisk) : Type 0 where
   pub failures : sim_failures disk ≡ 0
   pub moment : sim_moment disk ≡ 0
 
--- A call fails exactly where it is armed or refused memory, and then counts. Only it was armed.
+-- A call fails exactly where it is armed or an allocation fails, and then counts. Only it was
+-- armed.
 pub record FailsFor {T : Type 0} (armed : Option ℕ) (old new : SimDisk)
     (result : Result T DeviceFault) : Type 0 where
   pub exactly : is_err result ≡ (is_some armed || sim_refused new)
@@ -64,8 +65,8 @@ abbrev pub stored_part : Option ℕ → List ℕ → List ℕ
 stored_part None bytes = bytes
 stored_part (Some n) bytes = take n bytes
 
--- A write opens its whole range, and stores what it is to store. One that is refused memory changes
--- no byte.
+-- A write opens its whole range, and stores what it is to store. Where an allocation fails, it
+-- changes no byte.
 pub record Stores (at : ℕ) (bytes : List ℕ) (armed : Option ℕ) (old new : SimDisk) : Type 0 where
   pub stored : sim_refused new ≡ false
       → sim_contents new ≡ overwritten at (stored_part armed bytes) (sim_contents old)

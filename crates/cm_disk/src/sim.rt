@@ -79,7 +79,7 @@ impl SimDisk {
         self.syncs
     }
 
-    /// Whether the last call failed for want of memory.
+    /// Whether the last call failed because an allocation did.
     pub fn was_refused(&self) -> bool
         ensures { result ≡ sim_refused self.now }
     {

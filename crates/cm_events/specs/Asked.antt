@@ -8,8 +8,8 @@ use Rattle.std.specs.Str.{bytes_eq}
 use Rattle.hex.specs.Hex.{decode_of}
 use Rattle.cm_pool.specs.Geometry.{Sizes}
 use Rattle.cm_lines.specs.Lines.{pieces, is_word, line_limit}
-use Rattle.cm_events.specs.declared.line.Line.{Line}
-use Rattle.cm_events.specs.declared.line.Line.TheVariants as line
+use Rattle.cm_events.specs.declared.line.EventLine.{EventLine}
+use Rattle.cm_events.specs.declared.line.EventLine.TheVariants as line
 use Rattle.cm_events.specs.Numbers.{number_in}
 
 -- What is asked for: loaders, classes and what they are looked up by as bytes.
@@ -83,7 +83,7 @@ event_of_line line =
 -- ---- the program's values
 
 -- the digits aren't read yet
-abbrev pub seen : Line → Option Asked
+abbrev pub seen : EventLine → Option Asked
 seen (line.Loader name) = Some (AsksLoader name.now)
 seen (line.Define loader digits) = define_of loader.now digits.now
 seen (line.Unload name) = Some (AsksUnload name.now)

@@ -12,7 +12,7 @@ use cm_lines::{LINE_LIMIT, cut};
 
 /// What a line asks for. Hexadecimal digits aren't read yet.
 #[derive(Clone, Copy, Debug, PartialEq, Eq)]
-pub(crate) enum Line<'a> {
+pub(crate) enum EventLine<'a> {
     /// `loader NAME`
     Loader(&'a [u8]),
     /// `define NAME HEX`
@@ -44,7 +44,7 @@ pub(crate) fn is_long(line: &[u8]) -> bool
 
 /// What a line asks for, if it has one of the known forms: words with one space between, none
 /// empty.
-pub(crate) fn parse(line: &[u8]) -> Option<Line<'_>>
+pub(crate) fn parse(line: &[u8]) -> Option<EventLine<'_>>
     ensures { option_and_then seen result ≡ event_of_line line.now }
 {
     if is_long(line) {
@@ -53,7 +53,7 @@ pub(crate) fn parse(line: &[u8]) -> Option<Line<'_>>
     parse_words(line)
 }
 
-fn parse_words(line: &[u8]) -> Option<Line<'_>>
+fn parse_words(line: &[u8]) -> Option<EventLine<'_>>
     ensures { option_and_then seen result ≡ asked_of_words (pieces 32 line.now) }
 {
     match cut(line, b' ') {
@@ -63,7 +63,7 @@ fn parse_words(line: &[u8]) -> Option<Line<'_>>
 }
 
 /// Of a verb and the words behind it.
-fn with_words<'a>(verb: &[u8], rest: &'a [u8]) -> Option<Line<'a>>
+fn with_words<'a>(verb: &[u8], rest: &'a [u8]) -> Option<EventLine<'a>>
     ensures { option_and_then seen result ≡ asked_of_words (verb.now ∷ pieces 32 rest.now) }
 {
     match cut(rest, b' ') {
@@ -75,29 +75,29 @@ fn with_words<'a>(verb: &[u8], rest: &'a [u8]) -> Option<Line<'a>>
     }
 }
 
-fn parse_lone_verb<'a>(verb: &[u8]) -> Option<Line<'a>>
+fn parse_lone_verb<'a>(verb: &[u8]) -> Option<EventLine<'a>>
     ensures { option_and_then seen result ≡ asked_alone verb.now }
 {
     if verb == b"seal".as_slice() {
-        Some(Line::Seal)
+        Some(EventLine::Seal)
     } else if verb == b"advance".as_slice() {
-        Some(Line::Advance)
+        Some(EventLine::Advance)
     } else if verb == b"learn".as_slice() {
-        Some(Line::Learn)
+        Some(EventLine::Learn)
     } else if verb == b"reopen".as_slice() {
-        Some(Line::Reopen)
+        Some(EventLine::Reopen)
     } else {
         None
     }
 }
 
-fn with_one<'a>(verb: &[u8], word: &'a [u8]) -> Option<Line<'a>>
+fn with_one<'a>(verb: &[u8], word: &'a [u8]) -> Option<EventLine<'a>>
     ensures { option_and_then seen result ≡ asked_of_one verb.now word.now }
 {
     if verb == b"loader".as_slice() && !word.is_empty() {
-        Some(Line::Loader(word))
+        Some(EventLine::Loader(word))
     } else if verb == b"unload".as_slice() && !word.is_empty() {
-        Some(Line::Unload(word))
+        Some(EventLine::Unload(word))
     } else if verb == b"fault".as_slice() {
         fault(word)
     } else {
@@ -106,22 +106,22 @@ fn with_one<'a>(verb: &[u8], word: &'a [u8]) -> Option<Line<'a>>
 }
 
 /// `fault N`
-fn fault<'a>(word: &[u8]) -> Option<Line<'a>>
+fn fault<'a>(word: &[u8]) -> Option<EventLine<'a>>
     ensures { option_and_then seen result ≡ option_map AsksFault (number_in word.now) }
 {
     match number_in(word) {
-        Some(stores) => Some(Line::Fault(stores)),
+        Some(stores) => Some(EventLine::Fault(stores)),
         None => None,
     }
 }
 
-fn with_two<'a>(verb: &[u8], word: &'a [u8], last: &'a [u8]) -> Option<Line<'a>>
+fn with_two<'a>(verb: &[u8], word: &'a [u8], last: &'a [u8]) -> Option<EventLine<'a>>
     ensures { option_and_then seen result ≡ asked_of_two verb.now word.now last.now }
 {
     if verb == b"define".as_slice() && !word.is_empty() && !last.is_empty() {
-        Some(Line::Define(word, last))
+        Some(EventLine::Define(word, last))
     } else if verb == b"look".as_slice() && !word.is_empty() && !last.is_empty() {
-        Some(Line::Look(word, last))
+        Some(EventLine::Look(word, last))
     } else if verb == b"crash".as_slice() && !last.is_empty() {
         crash(word, last)
     } else {
@@ -130,12 +130,12 @@ fn with_two<'a>(verb: &[u8], word: &'a [u8], last: &'a [u8]) -> Option<Line<'a>>
 }
 
 /// `crash LENGTH HEX`
-fn crash<'a>(word: &[u8], digits: &'a [u8]) -> Option<Line<'a>>
+fn crash<'a>(word: &[u8], digits: &'a [u8]) -> Option<EventLine<'a>>
     ensures { option_and_then seen result
         ≡ option_and_then (λ len. crash_of len digits.now) (number_in word.now) }
 {
     match number_in(word) {
-        Some(len) => Some(Line::Crash(len, digits)),
+        Some(len) => Some(EventLine::Crash(len, digits)),
         None => None,
     }
 }

@@ -5,7 +5,7 @@ ghost use Rattle.cm_events.specs.Asked.{seen, event_of_line, define_of, crash_of
 ghost use Rattle.cm_events.specs.Asked.{AsksDefine};
 ghost use Rattle.cm_events.specs.Made.{Comes};
 
-use crate::line::{Line, parse};
+use crate::line::{EventLine, parse};
 use cm_disk::Choice;
 use cm_prepare::{Command, Refusal, prepare};
 use cm_world::Event;
@@ -23,7 +23,7 @@ pub(crate) enum Made<'a> {
 
 /// Why nothing becomes of a line.
 #[derive(Clone, Copy, Debug, PartialEq, Eq)]
-pub(crate) enum LineFault {
+pub(crate) enum EventFault {
     /// It has no known form.
     BadForm,
     /// An allocation failed.
@@ -31,50 +31,50 @@ pub(crate) enum LineFault {
 }
 
 /// The event that a line asks for.
-pub(crate) fn make<'a>(alloc: Global, line: &'a [u8]) -> Result<Made<'a>, LineFault>
+pub(crate) fn make<'a>(alloc: Global, line: &'a [u8]) -> Result<Made<'a>, EventFault>
     ensures made { IfOk result (Comes (event_of_line line.now)) }
-    ensures bad { IsErrOf result LineFault.BadForm → event_of_line line.now ≡ None }
+    ensures bad { IsErrOf result EventFault.BadForm → event_of_line line.now ≡ None }
 {
     match parse(line) {
         Some(line) => make_of(alloc, line),
-        None => Err(LineFault::BadForm),
+        None => Err(EventFault::BadForm),
     }
 }
 
-fn make_of<'a>(alloc: Global, line: Line<'a>) -> Result<Made<'a>, LineFault>
+fn make_of<'a>(alloc: Global, line: EventLine<'a>) -> Result<Made<'a>, EventFault>
     ensures made { IfOk result (Comes (seen line.entry)) }
-    ensures bad { IsErrOf result LineFault.BadForm → seen line.entry ≡ None }
+    ensures bad { IsErrOf result EventFault.BadForm → seen line.entry ≡ None }
 {
     match line {
-        Line::Loader(name) => Ok(Made::Runs(Event::Accept(Command::AddLoader(name)))),
-        Line::Define(loader, digits) => define(alloc, loader, digits),
-        Line::Unload(name) => Ok(Made::Runs(Event::Accept(Command::Unload(name)))),
-        Line::Seal => Ok(Made::Runs(Event::Seal)),
-        Line::Advance => Ok(Made::Runs(Event::Advance)),
-        Line::Learn => Ok(Made::Runs(Event::Learn)),
-        Line::Look(loader, class) => Ok(Made::Runs(Event::Look(loader, class))),
-        Line::Fault(stores) => Ok(Made::Runs(Event::Fault(stores as usize))),
-        Line::Reopen => Ok(Made::Runs(Event::Reopen)),
-        Line::Crash(len, digits) => crash(alloc, len, digits),
+        EventLine::Loader(name) => Ok(Made::Runs(Event::Accept(Command::AddLoader(name)))),
+        EventLine::Define(loader, digits) => define(alloc, loader, digits),
+        EventLine::Unload(name) => Ok(Made::Runs(Event::Accept(Command::Unload(name)))),
+        EventLine::Seal => Ok(Made::Runs(Event::Seal)),
+        EventLine::Advance => Ok(Made::Runs(Event::Advance)),
+        EventLine::Learn => Ok(Made::Runs(Event::Learn)),
+        EventLine::Look(loader, class) => Ok(Made::Runs(Event::Look(loader, class))),
+        EventLine::Fault(stores) => Ok(Made::Runs(Event::Fault(stores as usize))),
+        EventLine::Reopen => Ok(Made::Runs(Event::Reopen)),
+        EventLine::Crash(len, digits) => crash(alloc, len, digits),
     }
 }
 
 /// The bytes that hexadecimal digits spell.
-fn bytes_of(alloc: Global, digits: &[u8]) -> Result<Vec<u8>, LineFault>
+fn bytes_of(alloc: Global, digits: &[u8]) -> Result<Vec<u8>, EventFault>
     ensures ok { IfOk result (λ bytes. bytes_in digits.now ≡ Some bytes.items) }
-    ensures bad { IsErrOf result LineFault.BadForm → bytes_in digits.now ≡ None }
+    ensures bad { IsErrOf result EventFault.BadForm → bytes_in digits.now ≡ None }
 {
     match hex::decode(alloc, digits) {
         Ok(bytes) => Ok(bytes),
-        Err(FromHexError::OutOfMemory) => Err(LineFault::NoMemory),
-        Err(_) => Err(LineFault::BadForm),
+        Err(FromHexError::OutOfMemory) => Err(EventFault::NoMemory),
+        Err(_) => Err(EventFault::BadForm),
     }
 }
 
 /// `define NAME HEX`
-fn define<'a>(alloc: Global, loader: &'a [u8], digits: &[u8]) -> Result<Made<'a>, LineFault>
+fn define<'a>(alloc: Global, loader: &'a [u8], digits: &[u8]) -> Result<Made<'a>, EventFault>
     ensures made { IfOk result (Comes (define_of loader.now digits.now)) }
-    ensures bad { IsErrOf result LineFault.BadForm → define_of loader.now digits.now ≡ None }
+    ensures bad { IsErrOf result EventFault.BadForm → define_of loader.now digits.now ≡ None }
 {
     match bytes_of(alloc, digits) {
         Ok(bytes) => Ok(define_bytes(alloc, loader, &bytes)),
@@ -93,9 +93,9 @@ fn define_bytes<'a>(alloc: Global, loader: &'a [u8], bytes: &[u8]) -> Made<'a>
 }
 
 /// `crash LENGTH HEX`
-fn crash<'a>(alloc: Global, len: u64, digits: &[u8]) -> Result<Made<'a>, LineFault>
+fn crash<'a>(alloc: Global, len: u64, digits: &[u8]) -> Result<Made<'a>, EventFault>
     ensures made { IfOk result (Comes (crash_of len digits.now)) }
-    ensures bad { IsErrOf result LineFault.BadForm → crash_of len digits.now ≡ None }
+    ensures bad { IsErrOf result EventFault.BadForm → crash_of len digits.now ≡ None }
 {
     if digits == b"-".as_slice() {
         let fill = Vec::new(alloc);

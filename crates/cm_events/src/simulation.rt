@@ -8,7 +8,7 @@ ghost use Rattle.cm_events.specs.declared.fault.SimulationFault.TheVariants as f
 use crate::fault::SimulationFault;
 use crate::geometry::geometry_of;
 use crate::lines::next_line;
-use crate::made::{LineFault, Made, make};
+use crate::made::{EventFault, Made, make};
 use cm_pool::Geometry;
 use cm_prepare::Refusal;
 use cm_world::Event;
@@ -75,8 +75,8 @@ fn read_events<'a>(
         number += 1;
         match simulation.take_line(alloc, line) {
             Ok(()) => rest = behind,
-            Err(LineFault::BadForm) => return Err(SimulationFault::BadLine(number)),
-            Err(LineFault::NoMemory) => return Err(SimulationFault::NoMemory),
+            Err(EventFault::BadForm) => return Err(SimulationFault::BadLine(number)),
+            Err(EventFault::NoMemory) => return Err(SimulationFault::NoMemory),
         }
     }
     Ok(simulation)
@@ -88,9 +88,9 @@ impl<'a> Simulation<'a> {
     ghost use Rattle.cm_events.specs.Made.{Takes, event_in, turn_of};
 
     /// Adds what a line asks for.
-    fn take_line(&mut self, alloc: Global, line: &'a [u8]) -> Result<(), LineFault>
+    fn take_line(&mut self, alloc: Global, line: &'a [u8]) -> Result<(), EventFault>
         ensures taken { OnOk result (Takes line.now self.old self.new) }
-        ensures bad { IsErrOf result LineFault.BadForm → event_of_line line.now ≡ None }
+        ensures bad { IsErrOf result EventFault.BadForm → event_of_line line.now ≡ None }
         ensures geometry { self.new.geometry ≡ self.old.geometry }
     {
         match make(alloc, line) {
@@ -99,17 +99,17 @@ impl<'a> Simulation<'a> {
         }
     }
 
-    fn push(&mut self, made: Made<'a>) -> Result<(), LineFault>
+    fn push(&mut self, made: Made<'a>) -> Result<(), EventFault>
         ensures events { OnOk result
             (self.new.events.items ≡ self.old.events.items ++ event_in made.entry) }
         ensures turns { OnOk result
             (self.new.turns.items ≡ self.old.turns.items ++ turn_of made.entry ∷ []) }
-        ensures fault { IsErrOf result LineFault.BadForm → ⊥ }
+        ensures fault { IsErrOf result EventFault.BadForm → ⊥ }
         ensures geometry { self.new.geometry ≡ self.old.geometry }
     {
         match self.push_both(made) {
             Ok(()) => Ok(()),
-            Err(_) => Err(LineFault::NoMemory),
+            Err(_) => Err(EventFault::NoMemory),
         }
     }
 

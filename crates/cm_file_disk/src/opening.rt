@@ -22,7 +22,7 @@ const STANDARD_ERROR: i32 = 2;
 
 /// A file that was opened, and the bytes that it holds.
 #[derive(Drop)]
-pub struct Opened {
+pub struct OpenedFile {
     pub file: File,
     pub bytes: Vec<u8>,
     ghost fits: { length bytes.items ≤ 2 ^ 40 },
@@ -61,13 +61,13 @@ pub(crate) fn open_file(
     alloc: Global,
     path: &str,
     how: &OpenOptions,
-) -> Result<Opened, OpenError> {
+) -> Result<OpenedFile, OpenError> {
     regular_length(&fs::metadata(rt, path)?)?;
     let file = above_standard_streams(how.open(rt, path)?)?;
     let len = regular_length(&file.metadata()?)?;
     let mut bytes = Vec::from_elem(alloc, 0u8, len as usize)?;
     file.read_exact_at(&mut bytes, 0)?;
-    Ok(Opened { file, bytes })
+    Ok(OpenedFile { file, bytes })
 }
 
 /// Creates a file where nothing has that name, and stores it and its name for good.

@@ -6,8 +6,8 @@ use Rattle.std.specs.Prelude.{is_none, Result, Ok, Err, IsTrue, ◌↔◌}
 use Rattle.std.specs.List.{AllByRecursion}
 use Rattle.std.specs.Option.{option_map}
 use Rattle.cm_arena.specs.Placing.{IsFull, Places}
-use Rattle.cm_arena.specs.declared.refusal.Refusal.{Refusal as PlaceRefusal}
-use Rattle.cm_arena.specs.declared.refusal.Refusal.TheVariants as of_place
+use Rattle.cm_arena.specs.declared.refusal.PlaceRefusal.{PlaceRefusal}
+use Rattle.cm_arena.specs.declared.refusal.PlaceRefusal.TheVariants as of_place
 use Rattle.cm_pool.specs.Chunks.{chunk_size}
 use Rattle.cm_pool.specs.Geometry.{Sizes}
 use Rattle.cm_record.specs.Layout.{lay}

@@ -10,8 +10,8 @@ use Rattle.cm_index.specs.Index.{class_of}
 use Rattle.cm_state.specs.Step.{last_number}
 use Rattle.cm_prepare.specs.declared.refusal.Refusal.{Refusal}
 use Rattle.cm_prepare.specs.declared.refusal.Refusal.TheVariants as refusal
-use Rattle.cm_arena.specs.declared.refusal.Refusal.{Refusal as PlaceRefusal}
-use Rattle.cm_arena.specs.declared.refusal.Refusal.TheVariants as of_place
+use Rattle.cm_arena.specs.declared.refusal.PlaceRefusal.{PlaceRefusal}
+use Rattle.cm_arena.specs.declared.refusal.PlaceRefusal.TheVariants as of_place
 use Rattle.cm_front.specs.Front.{FrontState, is_half_full}
 
 -- the number of the live loader that a command names

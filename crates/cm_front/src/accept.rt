@@ -13,6 +13,7 @@ ghost use Rattle.cm_front.specs.Refusing.{refusal_of_place};
 use crate::front::Front;
 use crate::laws::places_keep_rules;
 use crate::unsealed::Unsealed;
+use cm_arena::PlaceRefusal;
 use cm_group::{CarriedEntry, RecordRoom};
 use cm_layout::{ClassRow, Entry, LoaderRow, Row, SlotName, Unload, loaders_are_own};
 use cm_prepare::{Command, Prepared, Refusal};
@@ -55,7 +56,7 @@ impl Front {
         self.unsealed.make_ready()?;
         self.space.add_loader(number)?;
         let _is_space = self.space.geometry(); // so the proof knows that it is one
-        let _rule = self.book.apply(number, loader_entry(number, name));
+        let _rule = self.book.apply(number, loader_entry(number, name)); // it breaks none
         let entry = CarriedEntry::loader(self.alloc, loader_row(number, name));
         self.unsealed.join(number, entry);
         self.number = number;
@@ -87,7 +88,7 @@ impl Front {
         let _is_space = self.space.geometry(); // so the proof knows that it is one
         let number = self.number + 1;
         let row = ClassRow { loader, place };
-        let _rule = self.book.apply(number, Entry::Live(Row::Class(row, class)));
+        let _rule = self.book.apply(number, Entry::Live(Row::Class(row, class))); // it breaks none
         let entry = CarriedEntry::class_in(room, row, shared.into_record());
         self.unsealed.join(number, entry);
         self.number = number;
@@ -107,7 +108,7 @@ impl Front {
         let number = self.number + 1;
         self.space.leave(loader, number)?;
         let _is_space = self.space.geometry(); // so the proof knows that it is one
-        let _rule = self.book.apply(number, Entry::Unload(Unload { loader }));
+        let _rule = self.book.apply(number, Entry::Unload(Unload { loader })); // it breaks none
         let entry = CarriedEntry::unload(self.alloc, Unload { loader });
         self.unsealed.join(number, entry);
         self.number = number;
@@ -146,12 +147,12 @@ fn loader_entry(number: u64, name: &[u8]) -> Entry<Prepared>
 }
 
 // A place is never refused for the record's length, which was looked at before.
-fn refusal_of_place(refusal: cm_arena::Refusal) -> Refusal
+fn refusal_of_place(refusal: PlaceRefusal) -> Refusal
     ensures { result ≡ refusal_of_place refusal }
 {
     match refusal {
-        cm_arena::Refusal::RecordTooLong => Refusal::RecordTooLong,
-        cm_arena::Refusal::RegionFull => Refusal::RegionFull,
-        cm_arena::Refusal::NoMemory => Refusal::NoMemory,
+        PlaceRefusal::RecordTooLong => Refusal::RecordTooLong,
+        PlaceRefusal::RegionFull => Refusal::RegionFull,
+        PlaceRefusal::NoMemory => Refusal::NoMemory,
     }
 }

@@ -23,7 +23,7 @@ use Rattle.cm_layout.specs.declared.row.Row.{Row}
 use Rattle.cm_layout.specs.declared.row.Row.TheVariants.{Loader, Class}
 use Rattle.cm_layout.specs.Rows.{number_of, moved_row}
 use Rattle.cm_index.specs.declared.index.IndexEntry.{IndexEntry}
-use Rattle.cm_index.specs.declared.slot.Slot.{Slot}
+use Rattle.cm_index.specs.declared.slot.BookSlot.{BookSlot}
 use Rattle.cm_index.specs.Living.{living, moved_slot}
 use Rattle.cm_index.specs.Index.{class_of, owner_of, rank, name_in, is_named, key, tail_at, key_at}
 use Rattle.cm_index.specs.Index.{keys_at, IsEntry, IsIndex, IsKeyAt, Parts, Rise, Leads, LivesAt}
@@ -133,26 +133,27 @@ same-key f (y ∷ xs) x (suc i) d h (inl is) lt e =
 same-key f (y ∷ xs) x (suc i) d h (inr m) lt e = same-key f xs x i d h.1 m (omega arith) e
 
 module _ {P : Type 0} where
-  pub leads-is : (slots : List (Slot (Row P))) (e : IndexEntry) (s : Slot (Row P))
+  pub leads-is : (slots : List (BookSlot (Row P))) (e : IndexEntry) (s : BookSlot (Row P))
       → slice_get slots e.at ≡ Some s → leads_to_life slots e ≡ s.live
   leads-is slots e s there =
-      ap (λ (o : Option (Slot (Row P))). option_map_or (λ s. s.live) o false) there
+      ap (λ (o : Option (BookSlot (Row P))). option_map_or (λ s. s.live) o false) there
 
   -- where an entry leads to life, it leads somewhere
-  pub leads-there : (slots : List (Slot (Row P))) (e : IndexEntry) → leads_to_life slots e ≡ true
-      → (s : Slot (Row P)) × (slice_get slots e.at ≡ Some s)
+  pub leads-there : (slots : List (BookSlot (Row P))) (e : IndexEntry) → leads_to_life slots e
+      ≡ true
+      → (s : BookSlot (Row P)) × (slice_get slots e.at ≡ Some s)
   leads-there slots e h = by_slot (slice_get slots e.at) refl h
     where
-      by_slot : (o : Option (Slot (Row P))) → slice_get slots e.at ≡ o
-          → option_map_or (λ (s : Slot (Row P)). s.live) o false ≡ true
-          → (s : Slot (Row P)) × (slice_get slots e.at ≡ Some s)
+      by_slot : (o : Option (BookSlot (Row P))) → slice_get slots e.at ≡ o
+          → option_map_or (λ (s : BookSlot (Row P)). s.live) o false ≡ true
+          → (s : BookSlot (Row P)) × (slice_get slots e.at ≡ Some s)
       by_slot None is h = absurd (cc)
       by_slot (Some s) is h = (s, is)
 
 module _ {P : Type 0} (mark : ℕ → List ℕ → ℕ) (name_of : P → List ℕ) where
-  pub record Found (slots : List (Slot (Row P))) (e : IndexEntry) (o : ℕ)
+  pub record Found (slots : List (BookSlot (Row P))) (e : IndexEntry) (o : ℕ)
       (x : List ℕ) : Type 0 where
-    pub slot : Slot (Row P)
+    pub slot : BookSlot (Row P)
     pub there : slice_get slots e.at ≡ Some slot
     pub fingerprint : e.fingerprint ≡ mark o x
     pub owner : rank (owner_of slot.item) ≡ o
@@ -160,7 +161,8 @@ module _ {P : Type 0} (mark : ℕ → List ℕ → ℕ) (name_of : P → List �
     pub lives : slot.live ≡ true → find (is_named name_of o x) (living slots) ≡ Some slot.item
     pub gone : slot.live ≡ false → find (is_named name_of o x) (living slots) ≡ None
 
-  pub found-there : (slots : List (Slot (Row P))) (es : List IndexEntry) (i : ℕ) (d : IndexEntry)
+  pub found-there : (slots : List (BookSlot (Row P))) (es : List IndexEntry) (i : ℕ)
+      (d : IndexEntry)
       (o : ℕ) (x k : List ℕ) → IsIndex mark name_of slots es → IsKeyAt name_of slots es i k
       → k ≡ key mark o x → Found slots (get_or es i d) o x
   found-there slots es i d o x k h at is =
@@ -173,14 +175,15 @@ module _ {P : Type 0} (mark : ℕ → List ℕ → ℕ) (name_of : P → List �
       ∙ at.key_is d) in
       let whole : e.fingerprint ∷ rank (owner_of s.item) ∷ name_in name_of s.item
       ≡ mark o x ∷ o ∷ x = ap
-      (λ (r : Option (Slot (Row P))). e.fingerprint ∷ tail_at name_of r) (sym entry.there) ∙ keys in
-      let print : e.fingerprint ≡ mark o x = cc in
+      (λ (r : Option (BookSlot (Row P))). e.fingerprint ∷ tail_at name_of r) (sym entry.there)
+      ∙ keys in
+      let fingerprint : e.fingerprint ≡ mark o x = cc in
       let owner : rank (owner_of s.item) ≡ o = cc in
       let name : name_in name_of s.item ≡ x = cc in
       record {
         slot = s;
         there = entry.there;
-        fingerprint = print;
+        fingerprint = fingerprint;
         owner = owner;
         name = name;
         lives = λ live. ap (λ (t : ℕ). find (is_named name_of t x) (living slots)) (sym owner)
@@ -197,7 +200,7 @@ module _ {P : Type 0} (mark : ℕ → List ℕ → ℕ) (name_of : P → List �
             absurd (cc));
       }
 
-  pub absent-at : (slots : List (Slot (Row P))) (es : List IndexEntry) (i o : ℕ) (x : List ℕ)
+  pub absent-at : (slots : List (BookSlot (Row P))) (es : List IndexEntry) (i o : ℕ) (x : List ℕ)
       → IsIndex mark name_of slots es → Parts (keys_at name_of slots es) i (key mark o x)
       → find (is_named name_of o x) (living slots) ≡ None
   absent-at slots es i o x h p =
@@ -209,7 +212,8 @@ module _ {P : Type 0} (mark : ℕ → List ℕ → ℕ) (name_of : P → List �
 
   -- ---- a row more
 
-  entry-left : (slots more : List (Slot (Row P))) (e : IndexEntry) → IsEntry mark name_of slots e
+  entry-left : (slots more : List (BookSlot (Row P))) (e : IndexEntry)
+      → IsEntry mark name_of slots e
       → IsEntry mark name_of (slots ++ more) e
   entry-left slots more e h =
       let test = is_named name_of (rank (owner_of h.slot.item)) (name_in name_of h.slot.item) in
@@ -223,25 +227,25 @@ module _ {P : Type 0} (mark : ℕ → List ℕ → ℕ) (name_of : P → List �
             (h.first live);
       }
 
-  each-left : (slots more : List (Slot (Row P))) (es : List IndexEntry)
+  each-left : (slots more : List (BookSlot (Row P))) (es : List IndexEntry)
       → AllByRecursion (IsEntry mark name_of slots) es
       → AllByRecursion (IsEntry mark name_of (slots ++ more)) es
   each-left slots more [] h = tt
   each-left slots more (e ∷ es) h = (entry-left slots more e h.0, each-left slots more es h.1)
 
-  keys-left : (slots more : List (Slot (Row P))) (es : List IndexEntry)
+  keys-left : (slots more : List (BookSlot (Row P))) (es : List IndexEntry)
       → AllByRecursion (IsEntry mark name_of slots) es
       → keys_at name_of (slots ++ more) es ≡ keys_at name_of slots es
   keys-left slots more [] h = refl
   keys-left slots more (e ∷ es) h =
       let same : slice_get (slots ++ more) e.at ≡ slice_get slots e.at =
       get-left slots more e.at h.0.slot h.0.there ∙ sym h.0.there in
-      ap (λ (r : Option (Slot (Row P))). (e.fingerprint ∷ tail_at name_of r)
+      ap (λ (r : Option (BookSlot (Row P))). (e.fingerprint ∷ tail_at name_of r)
       ∷ keys_at name_of (slots ++ more) es) same
       ∙ ap (λ (ks : List (List ℕ)). key_at name_of slots e ∷ ks) (keys-left slots more es h.1)
 
   -- what leads to life goes on to do so, among more entries
-  leads-left : (slots more : List (Slot (Row P))) (es fs : List IndexEntry) (k : List ℕ)
+  leads-left : (slots more : List (BookSlot (Row P))) (es fs : List IndexEntry) (k : List ℕ)
       → (l : Leads name_of slots es k) → Among l.entry fs → Leads name_of (slots ++ more) fs k
   leads-left slots more es fs k l among =
       let t = leads-there slots l.entry l.lives in
@@ -250,14 +254,15 @@ module _ {P : Type 0} (mark : ℕ → List ℕ → ℕ) (name_of : P → List �
       record {
         entry = l.entry;
         among = among;
-        key_is = ap (λ (r : Option (Slot (Row P))). l.entry.fingerprint ∷ tail_at name_of r)
+        key_is = ap (λ (r : Option (BookSlot (Row P))). l.entry.fingerprint ∷ tail_at name_of r)
             (there ∙ sym t.1) ∙ l.key_is;
         lives = leads-is (slots ++ more) l.entry t.0 there
             ∙ sym (leads-is slots l.entry t.0 t.1) ∙ l.lives;
       }
 
   -- what is first after a row more is first before, or is the row
-  first-more : (slots : List (Slot (Row P))) (s : Slot (Row P)) (r : Row P) (o : ℕ) (x : List ℕ)
+  first-more : (slots : List (BookSlot (Row P))) (s : BookSlot (Row P)) (r : Row P) (o : ℕ)
+      (x : List ℕ)
       → s.live ≡ true → find (is_named name_of o x) (living (slots ++ s ∷ [])) ≡ Some r
       → (find (is_named name_of o x) (living slots) ≡ Some r)
       ⊎ ((rank (owner_of s.item) ≡ o) × (name_in name_of s.item ≡ x))
@@ -277,7 +282,7 @@ module _ {P : Type 0} (mark : ℕ → List ℕ → ℕ) (name_of : P → List �
       by_test false e h = absurd (cc)
 
   -- a row whose owner and name a living one has already
-  index-known : (slots : List (Slot (Row P))) (s : Slot (Row P)) (before : Row P)
+  index-known : (slots : List (BookSlot (Row P))) (s : BookSlot (Row P)) (before : Row P)
       (es : List IndexEntry)
       → s.live ≡ true → IsIndex mark name_of slots es
       → find (is_named name_of (rank (owner_of s.item)) (name_in name_of s.item)) (living slots)
@@ -302,30 +307,31 @@ module _ {P : Type 0} (mark : ℕ → List ℕ → ℕ) (name_of : P → List �
       }
 
   -- the entry of a row that is put behind the others, where none of them that lives is first
-  record IsNew (slots : List (Slot (Row P))) (s : Slot (Row P)) (new : IndexEntry) : Type 0 where
-    own : key_at name_of (slots ++ s ∷ []) new
-        ≡ key mark (rank (owner_of s.item)) (name_in name_of s.item)
-    entry : IsEntry mark name_of (slots ++ s ∷ []) new
-    lives : leads_to_life (slots ++ s ∷ []) new ≡ true
+  record IsNew (slots : List (BookSlot (Row P))) (s : BookSlot (Row P)) (new : IndexEntry) : Type 0
+    where
+      own : key_at name_of (slots ++ s ∷ []) new
+          ≡ key mark (rank (owner_of s.item)) (name_in name_of s.item)
+      entry : IsEntry mark name_of (slots ++ s ∷ []) new
+      lives : leads_to_life (slots ++ s ∷ []) new ≡ true
 
-  is_new : (slots : List (Slot (Row P))) (s : Slot (Row P)) (f n : ℕ) → s.live ≡ true
+  is_new : (slots : List (BookSlot (Row P))) (s : BookSlot (Row P)) (f n : ℕ) → s.live ≡ true
       → n ≡ length slots → f ≡ mark (rank (owner_of s.item)) (name_in name_of s.item)
       → find (is_named name_of (rank (owner_of s.item)) (name_in name_of s.item)) (living slots)
       ≡ None
       → IsNew slots s (record { fingerprint = f; at = n })
-  is_new slots s f n live last print none =
+  is_new slots s f n live last fingerprint none =
       let o = rank (owner_of s.item) in
       let x = name_in name_of s.item in
       let new : IndexEntry = record { fingerprint = f; at = n } in
       let there : slice_get (slots ++ s ∷ []) n ≡ Some s =
       ap (slice_get (slots ++ s ∷ [])) last ∙ get-last slots s in
       record {
-        own = ap (λ (r : Option (Slot (Row P))). f ∷ tail_at name_of r) there
-            ∙ ap (λ (g : ℕ). g ∷ o ∷ x) print;
+        own = ap (λ (r : Option (BookSlot (Row P))). f ∷ tail_at name_of r) there
+            ∙ ap (λ (g : ℕ). g ∷ o ∷ x) fingerprint;
         entry = record {
           slot = s;
           there = there;
-          fingerprint = print;
+          fingerprint = fingerprint;
           first = λ _. ap (find (is_named name_of o x)) (living-push slots s live)
               ∙ find-append (is_named name_of o x) (living slots) (s.item ∷ [])
               ∙ ap (λ (r : Option (Row P)). option_or r (find (is_named name_of o x) (s.item ∷ [])))
@@ -335,20 +341,21 @@ module _ {P : Type 0} (mark : ℕ → List ℕ → ℕ) (name_of : P → List �
       }
 
   -- a row of an owner and a name that are new
-  index-new : (slots : List (Slot (Row P))) (s : Slot (Row P)) (es : List IndexEntry) (i f n : ℕ)
+  index-new : (slots : List (BookSlot (Row P))) (s : BookSlot (Row P)) (es : List IndexEntry)
+      (i f n : ℕ)
       → s.live ≡ true → IsIndex mark name_of slots es → n ≡ length slots
       → f ≡ mark (rank (owner_of s.item)) (name_in name_of s.item)
       → Parts (keys_at name_of slots es) i
       (key mark (rank (owner_of s.item)) (name_in name_of s.item))
       → IsIndex mark name_of (slots ++ s ∷ []) (insert es i (record { fingerprint = f; at = n }))
-  index-new slots s es i f n live h last print p =
+  index-new slots s es i f n live h last fingerprint p =
       let o = rank (owner_of s.item) in
       let x = name_in name_of s.item in
       let k = key mark o x in
       let new : IndexEntry = record { fingerprint = f; at = n } in
       let more = slots ++ s ∷ [] in
       let keys = keys-left slots (s ∷ []) es h.each in
-      let is = is_new slots s f n live last print (absent-at slots es i o x h p) in
+      let is = is_new slots s f n live last fingerprint (absent-at slots es i o x h p) in
       let ks = keys_at name_of slots es in
       let split : keys_at name_of more (insert es i new) ≡ take i ks ++ k ∷ drop i ks =
       map-append (key_at name_of more) (take i es) (new ∷ drop i es)
@@ -423,24 +430,25 @@ module _ {P : Type 0} (mark : ℕ → List ℕ → ℕ) (name_of : P → List �
   among-new (x ∷ xs) (suc i) y lt = inr (among-new xs i y (omega arith))
 
   -- a row of an owner and a name of which a row stands that lives no more
-  index-again : (slots : List (Slot (Row P))) (s : Slot (Row P)) (es : List IndexEntry) (i f n : ℕ)
+  index-again : (slots : List (BookSlot (Row P))) (s : BookSlot (Row P)) (es : List IndexEntry)
+      (i f n : ℕ)
       (d : IndexEntry)
       → s.live ≡ true → IsIndex mark name_of slots es → n ≡ length slots → i < length es
       → f ≡ mark (rank (owner_of s.item)) (name_in name_of s.item)
       → (found : Found slots (get_or es i d) (rank (owner_of s.item)) (name_in name_of s.item))
       → found.slot.live ≡ false
       → IsIndex mark name_of (slots ++ s ∷ []) (set es i (record { fingerprint = f; at = n }))
-  index-again slots s es i f n d live h last within print found dead =
+  index-again slots s es i f n d live h last within fingerprint found dead =
       let o = rank (owner_of s.item) in
       let x = name_in name_of s.item in
       let e = get_or es i d in
       let new : IndexEntry = record { fingerprint = f; at = n } in
       let more = slots ++ s ∷ [] in
-      let is = is_new slots s f n live last print (found.gone dead) in
+      let is = is_new slots s f n live last fingerprint (found.gone dead) in
       let there : slice_get more e.at ≡ Some found.slot =
       get-left slots (s ∷ []) e.at found.slot found.there in
       let was : key_at name_of more e ≡ key mark o x =
-      ap (λ (r : Option (Slot (Row P))). e.fingerprint ∷ tail_at name_of r) there
+      ap (λ (r : Option (BookSlot (Row P))). e.fingerprint ∷ tail_at name_of r) there
       ∙ ap (λ (g : ℕ). g ∷ rank (owner_of found.slot.item) ∷ name_in name_of found.slot.item)
       found.fingerprint
       ∙ ap (λ (t : ℕ). mark o x ∷ t ∷ name_in name_of found.slot.item) found.owner
@@ -506,7 +514,7 @@ module _ {P : Type 0} (mark : ℕ → List ℕ → ℕ) (name_of : P → List �
       by_test true = refl
       by_test false = refl
 
-  slot-tail : (from to : Chunk) (s : Slot (Row P))
+  slot-tail : (from to : Chunk) (s : BookSlot (Row P))
       → rank (owner_of (moved_slot from to s).item) ∷ name_in name_of (moved_slot from to s).item
       ≡ rank (owner_of s.item) ∷ name_in name_of s.item
   slot-tail from to s = by_test s.live
@@ -518,7 +526,7 @@ module _ {P : Type 0} (mark : ℕ → List ℕ → ℕ) (name_of : P → List �
       by_test true = moved-tail from to s.item
       by_test false = refl
 
-  entry-moved : (from to : Chunk) (slots : List (Slot (Row P))) (e : IndexEntry)
+  entry-moved : (from to : Chunk) (slots : List (BookSlot (Row P))) (e : IndexEntry)
       → IsEntry mark name_of slots e → IsEntry mark name_of (map (moved_slot from to) slots) e
   entry-moved from to slots e h =
       let row = h.slot.item in
@@ -545,24 +553,25 @@ module _ {P : Type 0} (mark : ℕ → List ℕ → ℕ) (name_of : P → List �
             ∙ ap (λ (t : Bool). Some (cond t (moved_row from to row) row)) (sym live);
       }
 
-  each-moved : (from to : Chunk) (slots : List (Slot (Row P))) (es : List IndexEntry)
+  each-moved : (from to : Chunk) (slots : List (BookSlot (Row P))) (es : List IndexEntry)
       → AllByRecursion (IsEntry mark name_of slots) es
       → AllByRecursion (IsEntry mark name_of (map (moved_slot from to) slots)) es
   each-moved from to slots [] h = tt
   each-moved from to slots (e ∷ es) h =
       (entry-moved from to slots e h.0, each-moved from to slots es h.1)
 
-  key-moved : (from to : Chunk) (slots : List (Slot (Row P))) (e : IndexEntry) (s : Slot (Row P))
+  key-moved : (from to : Chunk) (slots : List (BookSlot (Row P))) (e : IndexEntry)
+      (s : BookSlot (Row P))
       → slice_get slots e.at ≡ Some s
       → key_at name_of (map (moved_slot from to) slots) e ≡ key_at name_of slots e
   key-moved from to slots e s is =
       let there : slice_get (map (moved_slot from to) slots) e.at ≡ Some (moved_slot from to s) =
       get-map (moved_slot from to) slots e.at ∙ ap (option_map (moved_slot from to)) is in
-      ap (λ (r : Option (Slot (Row P))). e.fingerprint ∷ tail_at name_of r) there
+      ap (λ (r : Option (BookSlot (Row P))). e.fingerprint ∷ tail_at name_of r) there
       ∙ ap (λ (t : List ℕ). e.fingerprint ∷ t) (slot-tail from to s)
-      ∙ ap (λ (r : Option (Slot (Row P))). e.fingerprint ∷ tail_at name_of r) (sym is)
+      ∙ ap (λ (r : Option (BookSlot (Row P))). e.fingerprint ∷ tail_at name_of r) (sym is)
 
-  keys-moved : (from to : Chunk) (slots : List (Slot (Row P))) (es : List IndexEntry)
+  keys-moved : (from to : Chunk) (slots : List (BookSlot (Row P))) (es : List IndexEntry)
       → AllByRecursion (IsEntry mark name_of slots) es
       → keys_at name_of (map (moved_slot from to) slots) es ≡ keys_at name_of slots es
   keys-moved from to slots [] h = refl
@@ -576,7 +585,7 @@ module _ {P : Type 0} (mark : ℕ → List ℕ → ℕ) (name_of : P → List �
   map-some from to None r h = absurd (cc)
   map-some from to (Some row) r h = (row, refl)
 
-  pub index-moved : (from to : Chunk) (slots : List (Slot (Row P))) (es : List IndexEntry)
+  pub index-moved : (from to : Chunk) (slots : List (BookSlot (Row P))) (es : List IndexEntry)
       → IsIndex mark name_of slots es → IsIndex mark name_of (map (moved_slot from to) slots) es
   index-moved from to slots es h =
       let keys = keys-moved from to slots es h.each in
@@ -612,8 +621,8 @@ get-there [] i x lt is = absurd (omega arith)
 get-there (y ∷ xs) zero x lt is = ap Some (sym is)
 get-there (y ∷ xs) (suc i) x lt is = get-there xs i x (omega arith) is
 
-module _ {P : Type 0} (slots : List (Slot (Row P))) (es : List IndexEntry) (i : ℕ)
-    (e before : IndexEntry) (s : Slot (Row P)) where
+module _ {P : Type 0} (slots : List (BookSlot (Row P))) (es : List IndexEntry) (i : ℕ)
+    (e before : IndexEntry) (s : BookSlot (Row P)) where
   leads-at : before ≡ get_or es i e → before.at < length slots → s ≡ get_or slots before.at s
       → leads_to_life slots (get_or es i e) ≡ s.live
   leads-at is lt there =
@@ -635,7 +644,7 @@ module _ {P : Type 0} (slots : List (Slot (Row P))) (es : List IndexEntry) (i : 
 -- ---- the steps of a search
 
 module _ {P : Type 0} (name_of : P → List ℕ) where
-  pub lower : (slots : List (Slot (Row P))) (es : List IndexEntry) (m : ℕ) (k : List ℕ)
+  pub lower : (slots : List (BookSlot (Row P))) (es : List IndexEntry) (m : ℕ) (k : List ℕ)
       (d : IndexEntry)
       → Rise (keys_at name_of slots es) → m < length es
       → slice_cmp nat_cmp (key_at name_of slots (get_or es m d)) k ≡ Less
@@ -648,7 +657,7 @@ module _ {P : Type 0} (name_of : P → List ℕ) where
       (below-to ks m k [] h (omega (arith, length-map es (key_at name_of slots)))
       (ap (λ (a : List ℕ). slice_cmp nat_cmp a k) there ∙ less))
 
-  pub upper : (slots : List (Slot (Row P))) (es : List IndexEntry) (m : ℕ) (k : List ℕ)
+  pub upper : (slots : List (BookSlot (Row P))) (es : List IndexEntry) (m : ℕ) (k : List ℕ)
       (d : IndexEntry)
       → Rise (keys_at name_of slots es) → m < length es
       → slice_cmp nat_cmp (key_at name_of slots (get_or es m d)) k ≡ Greater
@@ -663,7 +672,8 @@ module _ {P : Type 0} (name_of : P → List ℕ) where
 -- ---- one row further
 
 module _ {P : Type 0} (mark : ℕ → List ℕ → ℕ) (name_of : P → List ℕ) where
-  pub further-new : (slots : List (Slot (Row P))) (at : ℕ) (s : Slot (Row P)) (es : List IndexEntry)
+  pub further-new : (slots : List (BookSlot (Row P))) (at : ℕ) (s : BookSlot (Row P))
+      (es : List IndexEntry)
       (i f : ℕ) (k : List ℕ) → at < length slots → s ≡ get_or slots at s → LivesAt slots at
       → IsIndex mark name_of (take at slots) es
       → f ∷ drop 1 k ≡ key mark (rank (owner_of s.item)) (name_in name_of s.item)
@@ -671,26 +681,27 @@ module _ {P : Type 0} (mark : ℕ → List ℕ → ℕ) (name_of : P → List �
       → Parts (keys_at name_of (take at slots) es) i k
       → IsIndex mark name_of (take (at + 1) slots)
       (insert es i (record { fingerprint = f; at = at }))
-  further-new slots at s es i f k lt is live h print key_is p =
+  further-new slots at s es i f k lt is live h fingerprint key_is p =
       let first : f ≡ mark (rank (owner_of s.item)) (name_in name_of s.item) = cc in
       let more : take at slots ++ s ∷ [] ≡ take (at + 1) slots =
-      ap (λ (r : Slot (Row P)). take at slots ++ r ∷ []) is ∙ sym (take_more slots at s lt) in
-      let lives : s.live ≡ true = ap (λ (r : Slot (Row P)). r.live) is ∙ live.is s in
-      subst (λ (l : List (Slot (Row P))). IsIndex mark name_of l
+      ap (λ (r : BookSlot (Row P)). take at slots ++ r ∷ []) is ∙ sym (take_more slots at s lt) in
+      let lives : s.live ≡ true = ap (λ (r : BookSlot (Row P)). r.live) is ∙ live.is s in
+      subst (λ (l : List (BookSlot (Row P))). IsIndex mark name_of l
       (insert es i (record { fingerprint = f; at = at }))) more
       (index-new mark name_of (take at slots) s es i f at lives h
       (omega (arith, length-take at slots)) first
       (subst (Parts (keys_at name_of (take at slots) es) i) key_is p))
 
   -- an entry that is found leads to one of those before
-  pub found-within : (slots : List (Slot (Row P))) (at : ℕ) (e : IndexEntry) (o : ℕ) (x : List ℕ)
-      → Found mark name_of (take at slots) e o x → (s : Slot (Row P))
+  pub found-within : (slots : List (BookSlot (Row P))) (at : ℕ) (e : IndexEntry) (o : ℕ)
+      (x : List ℕ)
+      → Found mark name_of (take at slots) e o x → (s : BookSlot (Row P))
       → slice_get (take at slots) e.at ≡ Some s → slice_get slots e.at ≡ Some s
   found-within slots at e o x found s there =
-      ap (λ (l : List (Slot (Row P))). slice_get l e.at) (sym (take-append-drop at slots))
+      ap (λ (l : List (BookSlot (Row P))). slice_get l e.at) (sym (take-append-drop at slots))
       ∙ get-left (take at slots) (drop at slots) e.at s there
 
-  pub further-known : (slots : List (Slot (Row P))) (at : ℕ) (s : Slot (Row P))
+  pub further-known : (slots : List (BookSlot (Row P))) (at : ℕ) (s : BookSlot (Row P))
       (es : List IndexEntry) (i f : ℕ) (k : List ℕ) → at < length slots → s ≡ get_or slots at s
       → LivesAt slots at
       → IsIndex mark name_of (take at slots) es
@@ -699,20 +710,20 @@ module _ {P : Type 0} (mark : ℕ → List ℕ → ℕ) (name_of : P → List �
       → IsKeyAt name_of (take at slots) es i k
       → IsIndex mark name_of (take (at + 1) slots)
       (renewed slots es i (record { fingerprint = f; at = at }))
-  further-known slots at s es i f k lt is live h print key_is there =
+  further-known slots at s es i f k lt is live h fingerprint key_is there =
       let d : IndexEntry = record { fingerprint = 0; at = 0 } in
       let new : IndexEntry = record { fingerprint = f; at = at } in
       let o = rank (owner_of s.item) in
       let x = name_in name_of s.item in
       let first : f ≡ mark o x = cc in
       let found = found-there mark name_of (take at slots) es i new o x k h there key_is in
-      let lives : s.live ≡ true = ap (λ (r : Slot (Row P)). r.live) is ∙ live.is s in
+      let lives : s.live ≡ true = ap (λ (r : BookSlot (Row P)). r.live) is ∙ live.is s in
       let more : take at slots ++ s ∷ [] ≡ take (at + 1) slots =
-      ap (λ (r : Slot (Row P)). take at slots ++ r ∷ []) is ∙ sym (take_more slots at s lt) in
+      ap (λ (r : BookSlot (Row P)). take at slots ++ r ∷ []) is ∙ sym (take_more slots at s lt) in
       let leads : leads_to_life slots (get_or es i new) ≡ found.slot.live =
-      ap (λ (r : Option (Slot (Row P))). option_map_or (λ s. s.live) r false)
+      ap (λ (r : Option (BookSlot (Row P))). option_map_or (λ s. s.live) r false)
       (found-within slots at (get_or es i new) o x found found.slot found.there) in
-      subst (λ (l : List (Slot (Row P))). IsIndex mark name_of l (renewed slots es i new)) more
+      subst (λ (l : List (BookSlot (Row P))). IsIndex mark name_of l (renewed slots es i new)) more
       (subst (λ (t : Bool). IsIndex mark name_of (take at slots ++ s ∷ [])
       (cond t es (set es i new))) (sym leads)
       (by_life found.slot.live found refl lives first))

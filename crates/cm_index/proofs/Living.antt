@@ -6,11 +6,11 @@ use Rattle.std.specs.List.{AllByRecursion}
 use Rattle.cm_pool.specs.declared.chunk.Chunk.{Chunk}
 use Rattle.cm_layout.specs.declared.row.Row.{Row}
 use Rattle.cm_layout.specs.Rows.{is_of, without_loader, moved, moved_row}
-use Rattle.cm_index.specs.declared.slot.Slot.{Slot}
+use Rattle.cm_index.specs.declared.slot.BookSlot.{BookSlot}
 use Rattle.cm_index.specs.Living.{living, swept, unloaded, moved_slot}
 
 module _ {X : Type 0} where
-  pub living-append : (xs ys : List (Slot X)) → living (xs ++ ys) ≡ living xs ++ living ys
+  pub living-append : (xs ys : List (BookSlot X)) → living (xs ++ ys) ≡ living xs ++ living ys
   living-append [] ys = refl
   living-append (s ∷ xs) ys = by_test s.live (living-append xs ys)
     where
@@ -20,15 +20,15 @@ module _ {X : Type 0} where
       by_test true behind = ap (λ l. s.item ∷ l) behind
       by_test false behind = behind
 
-  living-one : (s : Slot X) → s.live ≡ true → living (s ∷ []) ≡ s.item ∷ []
+  living-one : (s : BookSlot X) → s.live ≡ true → living (s ∷ []) ≡ s.item ∷ []
   living-one s h = ap (λ (t : Bool). cond t (s.item ∷ []) []) h
 
   -- one more that lives
-  pub living-push : (xs : List (Slot X)) (s : Slot X) → s.live ≡ true
+  pub living-push : (xs : List (BookSlot X)) (s : BookSlot X) → s.live ≡ true
       → living (xs ++ s ∷ []) ≡ living xs ++ s.item ∷ []
   living-push xs s h = living-append xs (s ∷ []) ∙ ap (λ l. living xs ++ l) (living-one s h)
 
-  pub living-swept : (xs : List (Slot X)) → living (swept xs) ≡ living xs
+  pub living-swept : (xs : List (BookSlot X)) → living (swept xs) ≡ living xs
   living-swept [] = refl
   living-swept (s ∷ xs) = by_test s.live refl (living-swept xs)
     where
@@ -37,7 +37,7 @@ module _ {X : Type 0} where
       by_test true e behind = rw (e) (ap (λ l. s.item ∷ l) behind)
       by_test false e behind = behind
 
-  pub swept-live : (xs : List (Slot X)) → AllByRecursion (λ s. s.live ≡ true) (swept xs)
+  pub swept-live : (xs : List (BookSlot X)) → AllByRecursion (λ s. s.live ≡ true) (swept xs)
   swept-live [] = tt
   swept-live (s ∷ xs) = by_test s.live refl (swept-live xs)
     where
@@ -47,7 +47,7 @@ module _ {X : Type 0} where
       by_test false e behind = behind
 
   -- as many as live are left
-  pub length-swept : (xs : List (Slot X)) → length (swept xs) ≡ length (living xs)
+  pub length-swept : (xs : List (BookSlot X)) → length (swept xs) ≡ length (living xs)
   length-swept [] = refl
   length-swept (s ∷ xs) = by_test s.live (length-swept xs)
     where
@@ -57,7 +57,7 @@ module _ {X : Type 0} where
       by_test true behind = ap suc behind
       by_test false behind = behind
 
-  pub length-living : (xs : List (Slot X)) → length (living xs) ≤ length xs
+  pub length-living : (xs : List (BookSlot X)) → length (living xs) ≤ length xs
   length-living [] = omega arith
   length-living (s ∷ xs) = by_test s.live (length-living xs)
     where
@@ -67,7 +67,7 @@ module _ {X : Type 0} where
       by_test false behind = omega (arith, behind)
 
 module _ {P : Type 0} where
-  pub living-unloaded : (u : ℕ) (xs : List (Slot (Row P)))
+  pub living-unloaded : (u : ℕ) (xs : List (BookSlot (Row P)))
       → living (map (unloaded u) xs) ≡ without_loader u (living xs)
   living-unloaded u [] = refl
   living-unloaded u (s ∷ xs) = by_tests s.live (is_of u s.item) refl (living-unloaded u xs)
@@ -80,7 +80,7 @@ module _ {P : Type 0} where
       by_tests true false e behind = rw (e) (ap (λ l. s.item ∷ l) behind)
       by_tests false o e behind = behind
 
-  pub living-moved : (from to : Chunk) (xs : List (Slot (Row P)))
+  pub living-moved : (from to : Chunk) (xs : List (BookSlot (Row P)))
       → living (map (moved_slot from to) xs) ≡ moved from to (living xs)
   living-moved from to [] = refl
   living-moved from to (s ∷ xs) = by_test s.live (living-moved from to xs)

@@ -8,7 +8,7 @@ use Rattle.std.proofs.lemmas.List.{length-map, take-map, drop-map, get_or-map, m
 use Rattle.std.specs.declared.cmp.Ordering.TheVariants.{Greater}
 use Rattle.cm_layout.specs.declared.row.Row.{Row}
 use Rattle.cm_index.specs.declared.index.IndexEntry.{IndexEntry}
-use Rattle.cm_index.specs.declared.slot.Slot.{Slot}
+use Rattle.cm_index.specs.declared.slot.BookSlot.{BookSlot}
 use Rattle.cm_index.specs.Index.{key, key_at, keys_at, Rise, Parts, IsKeyAt, IsIndex, Below, Above}
 use Rattle.cm_index.proofs.Indexes.{Found, found-there}
 use Rattle.cm_index.specs.Blocks.{joined}
@@ -17,7 +17,7 @@ use Rattle.cm_index.proofs.Sorted.{all-left, all-right, rise-left, rise-right}
 use Rattle.cm_index.proofs.Joined.{joined-around, take-joined, drop-joined, get-joined}
 use Rattle.cm_index.proofs.Joined.{first-within}
 
-module _ {P : Type 0} (name_of : P → List ℕ) (slots : List (Slot (Row P))) where
+module _ {P : Type 0} (name_of : P → List ℕ) (slots : List (BookSlot (Row P))) where
   abbrev keys : List IndexEntry → List (List ℕ)
   keys es = keys_at name_of slots es
 
@@ -124,7 +124,7 @@ all-in Q bs m h lt =
 
 -- the entry that a search found
 pub found-row : {P : Type 0} (mark : ℕ → List ℕ → ℕ) (name_of : P → List ℕ)
-    (slots : List (Slot (Row P)))
+    (slots : List (BookSlot (Row P)))
     (es : List IndexEntry) (i : ℕ) (e : IndexEntry) (o : ℕ) (x k : List ℕ)
     → IsIndex mark name_of slots es
     → IsKeyAt name_of slots es i k → k ≡ key mark o x → e ≡ get_or es i e

@@ -14,7 +14,7 @@ use Rattle.std.specs.declared.cmp.Ordering.TheVariants.{Less, Equal}
 use Rattle.cm_pool.specs.Lists.{Among}
 use Rattle.cm_layout.specs.declared.row.Row.{Row}
 use Rattle.cm_index.specs.declared.index.IndexEntry.{IndexEntry}
-use Rattle.cm_index.specs.declared.slot.Slot.{Slot}
+use Rattle.cm_index.specs.declared.slot.BookSlot.{BookSlot}
 use Rattle.cm_index.specs.Living.{swept}
 use Rattle.cm_index.specs.Index.{owner_of, rank, name_in, is_named, key, tail_at, key_at, keys_at}
 use Rattle.cm_index.specs.Index.{IsEntry, IsIndex, Rise, leads_to_life}
@@ -93,18 +93,19 @@ few-in (k ∷ ks) ys h all =
 
 -- ---- the places of rows behind
 
-record Placed {X : Type 0} (k : ℕ) (slots : List (Slot X)) (i : ℕ) (s : Slot X) : Type 0 where
-  place : ℕ
-  is : get_or (places_from k slots) i 0 ≡ k + place
-  there : slice_get (swept slots) place ≡ Some s
+record Placed {X : Type 0} (k : ℕ) (slots : List (BookSlot X)) (i : ℕ) (s : BookSlot X) : Type 0
+  where
+    place : ℕ
+    is : get_or (places_from k slots) i 0 ≡ k + place
+    there : slice_get (swept slots) place ≡ Some s
 
 module _ {X : Type 0} where
-  placed : (k : ℕ) (slots : List (Slot X)) (i : ℕ) (s : Slot X) → slice_get slots i ≡ Some s
+  placed : (k : ℕ) (slots : List (BookSlot X)) (i : ℕ) (s : BookSlot X) → slice_get slots i ≡ Some s
       → s.live ≡ true → Placed k slots i s
   placed k [] i s h n = absurd (cc)
   placed k (y ∷ slots) zero s h n =
       let is : y ≡ s = cc in
-      let own : y.live ≡ true = ap (λ (z : Slot X). z.live) is ∙ n in
+      let own : y.live ≡ true = ap (λ (z : BookSlot X). z.live) is ∙ n in
       record {
         place = 0;
         is = omega arith;
@@ -125,18 +126,19 @@ module _ {X : Type 0} where
             there = rw (e) here.there;
           }
 
-  pub length-places : (k : ℕ) (slots : List (Slot X)) → length (places_from k slots) ≡ length slots
+  pub length-places : (k : ℕ) (slots : List (BookSlot X)) → length (places_from k slots)
+      ≡ length slots
   length-places k [] = refl
   length-places k (s ∷ slots) = ap suc (length-places (cond s.live (k + 1) k) slots)
 
 -- ---- the entries that stay
 
 module _ {P : Type 0} (mark : ℕ → List ℕ → ℕ) (name_of : P → List ℕ)
-    (slots : List (Slot (Row P))) where
+    (slots : List (BookSlot (Row P))) where
   abbrev moved_up : IndexEntry → IndexEntry
   moved_up e = shifted (places_from 0 slots) e
 
-  place-of : (e : IndexEntry) (s : Slot (Row P)) → slice_get slots e.at ≡ Some s → s.live ≡ true
+  place-of : (e : IndexEntry) (s : BookSlot (Row P)) → slice_get slots e.at ≡ Some s → s.live ≡ true
       → slice_get (swept slots) (moved_up e).at ≡ Some s
   place-of e s there n =
       let p = placed 0 slots e.at s there n in
@@ -170,12 +172,13 @@ module _ {P : Type 0} (mark : ℕ → List ℕ → ℕ) (name_of : P → List �
       by_test behind true s = (entry-kept e h.0 s, behind)
       by_test behind false s = behind
 
-  key-kept : (e : IndexEntry) (s : Slot (Row P)) → slice_get slots e.at ≡ Some s
+  key-kept : (e : IndexEntry) (s : BookSlot (Row P)) → slice_get slots e.at ≡ Some s
       → leads_to_life slots e ≡ true
       → key_at name_of (swept slots) (moved_up e) ≡ key_at name_of slots e
   key-kept e s there lives =
       let live : s.live ≡ true = sym (leads-is slots e s there) ∙ lives in
-      ap (λ (r : Option (Slot (Row P))). e.fingerprint ∷ tail_at name_of r) (place-of e s there live
+      ap (λ (r : Option (BookSlot (Row P))). e.fingerprint ∷ tail_at name_of r) (place-of e s there
+      live
       ∙ sym there)
 
   keys-kept : (es : List IndexEntry) → AllByRecursion (IsEntry mark name_of slots) es
@@ -201,23 +204,23 @@ module _ {P : Type 0} (mark : ℕ → List ℕ → ℕ) (name_of : P → List �
 -- ---- how many entries there are
 
 module _ {P : Type 0} (mark : ℕ → List ℕ → ℕ) (name_of : P → List ℕ) where
-  abbrev whole : Slot (Row P) → List ℕ
+  abbrev whole : BookSlot (Row P) → List ℕ
   whole s = key mark (rank (owner_of s.item)) (name_in name_of s.item)
 
-  entry-whole : (slots : List (Slot (Row P))) (es : List IndexEntry) (k : List ℕ)
+  entry-whole : (slots : List (BookSlot (Row P))) (es : List IndexEntry) (k : List ℕ)
       → AllByRecursion (IsEntry mark name_of slots) es → Among k (keys_at name_of slots es)
       → Among k (map whole slots)
   entry-whole slots es k each m =
       let e = among-map_from (key_at name_of slots) k es m in
       let h = all-among (IsEntry mark name_of slots) es e.0 each e.1 in
       let own : key_at name_of slots e.0 ≡ whole h.slot =
-      ap (λ (r : Option (Slot (Row P))). (e.0).fingerprint ∷ tail_at name_of r) h.there
+      ap (λ (r : Option (BookSlot (Row P))). (e.0).fingerprint ∷ tail_at name_of r) h.there
       ∙ ap (λ (f : ℕ). f ∷ rank (owner_of h.slot.item) ∷ name_in name_of h.slot.item)
       h.fingerprint in
       subst (λ (k : List ℕ). Among k (map whole slots)) (sym (e.2 ∙ own))
       (among-map whole h.slot slots (get-among slots (e.0).at h.slot h.there))
 
-  few-entries : (slots : List (Slot (Row P))) (es : List IndexEntry)
+  few-entries : (slots : List (BookSlot (Row P))) (es : List IndexEntry)
       → AllByRecursion (IsEntry mark name_of slots) es → Rise (keys_at name_of slots es)
       → length es ≤ length slots
   few-entries slots es each rises =
@@ -229,7 +232,7 @@ module _ {P : Type 0} (mark : ℕ → List ℕ → ℕ) (name_of : P → List �
         length-map slots whole,
       )
 
-  pub index-swept : (slots : List (Slot (Row P))) (es : List IndexEntry)
+  pub index-swept : (slots : List (BookSlot (Row P))) (es : List IndexEntry)
       → IsIndex mark name_of slots es
       → IsIndex mark name_of (swept slots)
       (map (shifted (places_from 0 slots)) (filter (leads_to_life slots) es))
@@ -259,13 +262,13 @@ module _ {P : Type 0} (mark : ℕ → List ℕ → ℕ) (name_of : P → List �
         few = few-entries (swept slots) (map up kept) each rises;
       }
 
-  pub within-slots : (slots : List (Slot (Row P))) (es : List IndexEntry)
+  pub within-slots : (slots : List (BookSlot (Row P))) (es : List IndexEntry)
       → AllByRecursion (IsEntry mark name_of slots) es
       → AllByRecursion (λ e. e.at < length slots) es
   within-slots slots [] h = tt
   within-slots slots (e ∷ es) h = (within slots (h.0).there, within-slots slots es h.1)
     where
-      within : (slots : List (Slot (Row P))) → {i : ℕ} {s : Slot (Row P)}
+      within : (slots : List (BookSlot (Row P))) → {i : ℕ} {s : BookSlot (Row P)}
           → slice_get slots i ≡ Some s → i < length slots
       within slots {i = i} {s = s} e = slice_get_within slots i s e
 
@@ -288,7 +291,7 @@ length-kept p (x ∷ xs) = by_test (length-kept p xs) (p x)
     by_test behind true = omega (arith, behind)
     by_test behind false = omega (arith, behind)
 
-pub fewer-swept : {P : Type 0} (slots : List (Slot (Row P))) (places : List ℕ)
+pub fewer-swept : {P : Type 0} (slots : List (BookSlot (Row P))) (places : List ℕ)
     (es : List IndexEntry)
     → length (swept_entries slots places es) ≤ length es
 fewer-swept slots places es =
@@ -299,7 +302,7 @@ fewer-swept slots places es =
     )
 
 -- block by block, or all at once
-pub joined-swept : {P : Type 0} (slots : List (Slot (Row P))) (places : List ℕ)
+pub joined-swept : {P : Type 0} (slots : List (BookSlot (Row P))) (places : List ℕ)
     (bs : List (List IndexEntry))
     → joined (map (swept_entries slots places) bs) ≡ swept_entries slots places (joined bs)
 joined-swept slots places [] = refl

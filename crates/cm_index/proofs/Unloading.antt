@@ -17,7 +17,7 @@ use Rattle.cm_layout.specs.Rows.{is_of, without_loader, number_of, moved, bare}
 use Rattle.std.specs.Str.{bytes_eq}
 use Rattle.std.proofs.lemmas.Slice.Eq.{bytes_eq-Decides}
 use Rattle.cm_index.specs.declared.index.IndexEntry.{IndexEntry}
-use Rattle.cm_index.specs.declared.slot.Slot.{Slot}
+use Rattle.cm_index.specs.declared.slot.BookSlot.{BookSlot}
 use Rattle.cm_index.specs.Living.{living, unloaded}
 use Rattle.cm_index.specs.Index.{owner_of, rank, name_in, is_named, key, tail_at, key_at, keys_at}
 use Rattle.cm_index.specs.Index.{IsEntry, IsIndex, AreUnique, Leads}
@@ -86,7 +86,7 @@ module _ {P : Type 0} (mark : ℕ → List ℕ → ℕ) (name_of : P → List �
       let same : a.loader ≡ b.loader = omega (arith, o) in
       ap (λ (v : ℕ). is_of {P = P} u (Class (record { loader = v; place = a.place }) p)) same
 
-  living-on : (s : Slot (Row P)) → (s.live && not (is_of u s.item)) ≡ true
+  living-on : (s : BookSlot (Row P)) → (s.live && not (is_of u s.item)) ≡ true
       → (s.live ≡ true) × (is_of u s.item ≡ false)
   living-on s h = by_tests s.live (is_of u s.item) h
     where
@@ -95,7 +95,7 @@ module _ {P : Type 0} (mark : ℕ → List ℕ → ℕ) (name_of : P → List �
       by_tests true false h = (refl, refl)
       by_tests false b h = absurd (cc)
 
-  entry-unloaded : (slots : List (Slot (Row P))) (e : IndexEntry) → IsEntry mark name_of slots e
+  entry-unloaded : (slots : List (BookSlot (Row P))) (e : IndexEntry) → IsEntry mark name_of slots e
       → IsEntry mark name_of (map (unloaded u) slots) e
   entry-unloaded slots e h =
       let test = is_named name_of (rank (owner_of h.slot.item)) (name_in name_of h.slot.item) in
@@ -110,21 +110,21 @@ module _ {P : Type 0} (mark : ℕ → List ℕ → ℕ) (name_of : P → List �
             (h.first on.0) (ap not on.1);
       }
 
-  each-unloaded : (slots : List (Slot (Row P))) (es : List IndexEntry)
+  each-unloaded : (slots : List (BookSlot (Row P))) (es : List IndexEntry)
       → AllByRecursion (IsEntry mark name_of slots) es
       → AllByRecursion (IsEntry mark name_of (map (unloaded u) slots)) es
   each-unloaded slots [] h = tt
   each-unloaded slots (e ∷ es) h = (entry-unloaded slots e h.0, each-unloaded slots es h.1)
 
-  key-unloaded : (slots : List (Slot (Row P))) (e : IndexEntry) (s : Slot (Row P))
+  key-unloaded : (slots : List (BookSlot (Row P))) (e : IndexEntry) (s : BookSlot (Row P))
       → slice_get slots e.at ≡ Some s
       → key_at name_of (map (unloaded u) slots) e ≡ key_at name_of slots e
   key-unloaded slots e s is =
-      ap (λ (r : Option (Slot (Row P))). e.fingerprint ∷ tail_at name_of r)
+      ap (λ (r : Option (BookSlot (Row P))). e.fingerprint ∷ tail_at name_of r)
       (get-map (unloaded u) slots e.at ∙ ap (option_map (unloaded u)) is)
-      ∙ ap (λ (r : Option (Slot (Row P))). e.fingerprint ∷ tail_at name_of r) (sym is)
+      ∙ ap (λ (r : Option (BookSlot (Row P))). e.fingerprint ∷ tail_at name_of r) (sym is)
 
-  keys-unloaded : (slots : List (Slot (Row P))) (es : List IndexEntry)
+  keys-unloaded : (slots : List (BookSlot (Row P))) (es : List IndexEntry)
       → AllByRecursion (IsEntry mark name_of slots) es
       → keys_at name_of (map (unloaded u) slots) es ≡ keys_at name_of slots es
   keys-unloaded slots [] h = refl
@@ -133,7 +133,7 @@ module _ {P : Type 0} (mark : ℕ → List ℕ → ℕ) (name_of : P → List �
       (key-unloaded slots e h.0.slot h.0.there)
       ∙ ap (λ (ks : List (List ℕ)). key_at name_of slots e ∷ ks) (keys-unloaded slots es h.1)
 
-  complete-unloaded : (slots : List (Slot (Row P))) (es : List IndexEntry)
+  complete-unloaded : (slots : List (BookSlot (Row P))) (es : List IndexEntry)
       → AreUnique (living slots)
       → IsIndex mark name_of slots es → (o : ℕ) (x : List ℕ) (row : Row P)
       → find (is_named name_of o x) (without_loader u (living slots)) ≡ Some row
@@ -149,7 +149,7 @@ module _ {P : Type 0} (mark : ℕ → List ℕ → ℕ) (name_of : P → List �
       let live : s.live ≡ true = sym (leads-is slots l.entry s entry.there) ∙ l.lives in
       let keys : l.entry.fingerprint ∷ rank (owner_of s.item) ∷ name_in name_of s.item
       ≡ mark o x ∷ o ∷ x = ap
-      (λ (r : Option (Slot (Row P))). l.entry.fingerprint ∷ tail_at name_of r) (sym entry.there)
+      (λ (r : Option (BookSlot (Row P))). l.entry.fingerprint ∷ tail_at name_of r) (sym entry.there)
       ∙ l.key_is in
       let owner : rank (owner_of s.item) ≡ o = cc in
       let name : name_in name_of s.item ≡ x = cc in
@@ -173,7 +173,7 @@ module _ {P : Type 0} (mark : ℕ → List ℕ → ℕ) (name_of : P → List �
         lives = leads-is all l.entry (unloaded u s) gone ∙ (λ i. live i && not (other i));
       }
 
-  pub index-unloaded : (slots : List (Slot (Row P))) (es : List IndexEntry)
+  pub index-unloaded : (slots : List (BookSlot (Row P))) (es : List IndexEntry)
       → AreUnique (living slots)
       → IsIndex mark name_of slots es → IsIndex mark name_of (map (unloaded u) slots) es
   index-unloaded slots es unique h =

@@ -3,7 +3,7 @@ use Rattle.std.specs.Prelude.{◌≡◌, ◌+◌, ◌*◌, ◌≤◌, ◌<◌, �
 use Rattle.std.specs.Prelude.{◌⊎◌, slice_set as set}
 use Rattle.std.specs.List.{flat_map, insert, AllByRecursion}
 use Rattle.cm_index.specs.declared.index.IndexEntry.{IndexEntry}
-use Rattle.cm_index.specs.declared.search.Spot.{Spot}
+use Rattle.cm_index.specs.declared.search.BlockPlace.{BlockPlace}
 
 -- for how many entries a block has room, and how many a full one keeps when it is halved
 abbrev pub block_size : ℕ
@@ -22,16 +22,16 @@ abbrev pub joined : {X : Type 0} → List (List X) → List X
 joined blocks = flat_map (λ b. b) blocks
 
 -- the place of a spot among all entries
-abbrev pub place_of : {X : Type 0} → List (List X) → Spot → ℕ
+abbrev pub place_of : {X : Type 0} → List (List X) → BlockPlace → ℕ
 place_of blocks s = length (joined (take s.block blocks)) + s.place
 
 -- an entry stands at the spot
-pub record IsTaken {X : Type 0} (blocks : List (List X)) (s : Spot) : Type 0 where
+pub record IsTaken {X : Type 0} (blocks : List (List X)) (s : BlockPlace) : Type 0 where
   pub block : s.block < length blocks
   pub place : s.place < length (get_or blocks s.block [])
 
 -- an entry can be put there, before those from there on
-pub record IsBetween {X : Type 0} (blocks : List (List X)) (s : Spot) : Type 0 where
+pub record IsBetween {X : Type 0} (blocks : List (List X)) (s : BlockPlace) : Type 0 where
   pub block : s.block < length blocks
   pub place : s.place ≤ length (get_or blocks s.block [])
 
@@ -54,7 +54,7 @@ abbrev pub room_of : {X : Type 0} → List (List X) → List (List X) → ℕ
 room_of blocks spare = half_size * (length blocks + length spare)
 
 -- an entry is put in the place of the one at the spot
-abbrev pub with_entry : {X : Type 0} → List (List X) → Spot → X → List (List X)
+abbrev pub with_entry : {X : Type 0} → List (List X) → BlockPlace → X → List (List X)
 with_entry blocks s x = set blocks s.block (set (get_or blocks s.block []) s.place x)
 
 -- a block is halved, and its upper half put behind it

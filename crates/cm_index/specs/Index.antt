@@ -15,7 +15,7 @@ use Rattle.cm_layout.specs.declared.row.Row.{Row}
 use Rattle.cm_layout.specs.declared.row.Row.TheVariants.{Loader, Class}
 use Rattle.cm_layout.specs.Rules.{row_limit}
 use Rattle.cm_index.specs.declared.index.IndexEntry.{IndexEntry}
-use Rattle.cm_index.specs.declared.slot.Slot.{Slot}
+use Rattle.cm_index.specs.declared.slot.BookSlot.{BookSlot}
 use Rattle.cm_index.specs.Living.{living}
 
 -- whose row it is: nobody's a loader's own, a loader's a class's
@@ -60,14 +60,14 @@ class_of name_of u x (Class r p ∷ rows) =
 abbrev pub key : (ℕ → List ℕ → ℕ) → ℕ → List ℕ → List ℕ
 key mark o x = mark o x ∷ o ∷ x
 
-abbrev pub tail_at : {P : Type 0} → (P → List ℕ) → Option (Slot (Row P)) → List ℕ
+abbrev pub tail_at : {P : Type 0} → (P → List ℕ) → Option (BookSlot (Row P)) → List ℕ
 tail_at name_of None = []
 tail_at name_of (Some s) = rank (owner_of s.item) ∷ name_in name_of s.item
 
-abbrev pub key_at : {P : Type 0} → (P → List ℕ) → List (Slot (Row P)) → IndexEntry → List ℕ
+abbrev pub key_at : {P : Type 0} → (P → List ℕ) → List (BookSlot (Row P)) → IndexEntry → List ℕ
 key_at name_of slots e = e.fingerprint ∷ tail_at name_of (slice_get slots e.at)
 
-abbrev pub keys_at : {P : Type 0} → (P → List ℕ) → List (Slot (Row P)) → List IndexEntry
+abbrev pub keys_at : {P : Type 0} → (P → List ℕ) → List (BookSlot (Row P)) → List IndexEntry
     → List (List ℕ)
 keys_at name_of slots es = map (key_at name_of slots) es
 
@@ -76,13 +76,13 @@ abbrev pub Rise : List (List ℕ) → Type 0
 Rise keys = Pairwise (λ a b. slice_cmp nat_cmp a b ≡ Less) keys
 
 -- the entry leads to a row that lives
-abbrev pub leads_to_life : {P : Type 0} → List (Slot (Row P)) → IndexEntry → Bool
+abbrev pub leads_to_life : {P : Type 0} → List (BookSlot (Row P)) → IndexEntry → Bool
 leads_to_life slots e = option_map_or (λ s. s.live) (slice_get slots e.at) false
 
 -- the entry leads to a row, and where that lives, it is the first that does of its owner and name
 pub record IsEntry {P : Type 0} (mark : ℕ → List ℕ → ℕ) (name_of : P → List ℕ)
-    (slots : List (Slot (Row P))) (e : IndexEntry) : Type 0 where
-  pub slot : Slot (Row P)
+    (slots : List (BookSlot (Row P))) (e : IndexEntry) : Type 0 where
+  pub slot : BookSlot (Row P)
   pub there : slice_get slots e.at ≡ Some slot
   pub fingerprint : e.fingerprint ≡ mark (rank (owner_of slot.item)) (name_in name_of slot.item)
   pub first : slot.live ≡ true
@@ -90,7 +90,7 @@ pub record IsEntry {P : Type 0} (mark : ℕ → List ℕ → ℕ) (name_of : P �
       (living slots) ≡ Some slot.item
 
 -- an entry of this key leads to a row that lives
-pub record Leads {P : Type 0} (name_of : P → List ℕ) (slots : List (Slot (Row P)))
+pub record Leads {P : Type 0} (name_of : P → List ℕ) (slots : List (BookSlot (Row P)))
     (es : List IndexEntry) (k : List ℕ) : Type 0 where
   pub entry : IndexEntry
   pub among : Among entry es
@@ -100,7 +100,7 @@ pub record Leads {P : Type 0} (name_of : P → List ℕ) (slots : List (Slot (Ro
 -- the index leads to the first of the living rows of each owner and name; an entry of an owner and
 -- name that no living row has may be left, one at most
 pub record IsIndex {P : Type 0} (mark : ℕ → List ℕ → ℕ) (name_of : P → List ℕ)
-    (slots : List (Slot (Row P))) (es : List IndexEntry) : Type 0 where
+    (slots : List (BookSlot (Row P))) (es : List IndexEntry) : Type 0 where
   pub each : AllByRecursion (IsEntry mark name_of slots) es
   pub rises : Rise (keys_at name_of slots es)
   pub complete : (o : ℕ) (x : List ℕ) (row : Row P)
@@ -109,17 +109,17 @@ pub record IsIndex {P : Type 0} (mark : ℕ → List ℕ → ℕ) (name_of : P �
   pub few : length es ≤ length slots
 
 -- the entry at this place has this key
-pub record IsKeyAt {P : Type 0} (name_of : P → List ℕ) (slots : List (Slot (Row P)))
+pub record IsKeyAt {P : Type 0} (name_of : P → List ℕ) (slots : List (BookSlot (Row P)))
     (es : List IndexEntry) (place : ℕ) (k : List ℕ) : Type 0 where
   pub within : place < length es
   pub key_is : HoldsAt (λ e. slice_cmp nat_cmp (key_at name_of slots e) k ≡ Equal) es place
 
 -- what stands at this place lives
-pub record LivesAt {X : Type 0} (slots : List (Slot X)) (at : ℕ) : Type 0 where
-  pub is : (d : Slot X) → (get_or slots at d).live ≡ true
+pub record LivesAt {X : Type 0} (slots : List (BookSlot X)) (at : ℕ) : Type 0 where
+  pub is : (d : BookSlot X) → (get_or slots at d).live ≡ true
 
 -- the entry is put in the place of one that leads to a row that lives no more
-abbrev pub renewed : {P : Type 0} → List (Slot (Row P)) → List IndexEntry → ℕ → IndexEntry
+abbrev pub renewed : {P : Type 0} → List (BookSlot (Row P)) → List IndexEntry → ℕ → IndexEntry
     → List IndexEntry
 renewed slots es place e =
     if leads_to_life slots (get_or es place e) then es else slice_set es place e
@@ -144,7 +144,7 @@ pub record AreUnique {P : Type 0} (rows : List (Row P)) : Type 0 where
 
 -- an index of the rows, with room for all places
 pub record HasIndex {P : Type 0} (mark : ℕ → List ℕ → ℕ) (name_of : P → List ℕ)
-    (sizes : Sizes) (slots : List (Slot (Row P))) (es : List IndexEntry)
+    (sizes : Sizes) (slots : List (BookSlot (Row P))) (es : List IndexEntry)
     (capacity places : ℕ) : Type 0 where
   pub index : IsIndex mark name_of slots es
   pub unique : AreUnique (living slots)

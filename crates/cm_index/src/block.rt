@@ -8,7 +8,7 @@ ghost use Rattle.cm_index.specs.Sweep.{swept_entries};
 ghost use Rattle.cm_index.specs.Blocks.{block_size, half_size, IsFilled};
 
 use crate::index::IndexEntry;
-use crate::slot::Slot;
+use crate::slot::BookSlot;
 use crate::sweep::sweep_entries;
 use cm_layout::Row;
 use std::alloc::{AllocError, Global};
@@ -22,11 +22,11 @@ pub const HALF: usize = 512;
 
 /// Some entries of an index, one after another. Its memory is taken when it is made.
 #[derive(Drop)]
-pub struct Block {
+pub struct IndexBlock {
     entries: Vec<IndexEntry>,
 }
 
-impl Model for Block {
+impl Model for IndexBlock {
     ghost use Rattle.std.specs.Prelude.{List, length, ◌≤◌, vec_capacity};
     ghost use Rattle.cm_index.specs.declared.index.IndexEntry.{IndexEntry};
 
@@ -37,13 +37,13 @@ impl Model for Block {
     ghost invariant = { λ b. (length b.entries.items ≤ 1024) × (1024 ≤ vec_capacity b.entries) };
 }
 
-impl Block {
+impl IndexBlock {
     /// A block with no entries.
-    pub fn new(alloc: Global) -> Result<Block, AllocError>
+    pub fn new(alloc: Global) -> Result<IndexBlock, AllocError>
         ensures { IfOk result (λ block. block ≡ []) }
     {
         let entries = Vec::with_capacity(alloc, BLOCK)?;
-        Ok(Block { entries })
+        Ok(IndexBlock { entries })
     }
 
     /// The entries in order.
@@ -94,7 +94,7 @@ impl Block {
     }
 
     /// Gives the upper half of a full block to one with no entries.
-    pub fn halve(&mut self, upper: &mut Block)
+    pub fn halve(&mut self, upper: &mut IndexBlock)
         requires full { length self.old ≡ block_size }
         requires empty { length upper.old ≡ 0 }
         ensures lower { self.new ≡ take half_size self.old }
@@ -108,7 +108,7 @@ impl Block {
     }
 
     /// Takes the last entries of the block before it, as many as it has room for.
-    pub fn fill(&mut self, before: &mut Block)
+    pub fn fill(&mut self, before: &mut IndexBlock)
         ensures both { before.new ++ self.new ≡ before.old ++ self.old }
         ensures filled { IsFilled before.new self.new }
     {
@@ -122,7 +122,7 @@ impl Block {
     }
 
     /// Keeps the entries that lead to rows that live, and lets each lead to its row's new place.
-    pub fn sweep<P>(&mut self, slots: &[Slot<Row<P>>], places: &[u32])
+    pub fn sweep<P>(&mut self, slots: &[BookSlot<Row<P>>], places: &[u32])
         requires { AllByRecursion (λ e. e.at < length places.now) self.old }
         ensures { self.new ≡ swept_entries slots.now places.now self.old }
     {

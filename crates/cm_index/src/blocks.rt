@@ -7,9 +7,9 @@ ghost use Rattle.std.specs.List.{insert, AllByRecursion};
 ghost use Rattle.cm_index.specs.Blocks.{block_size, half_size, joined, place_of, room_of};
 ghost use Rattle.cm_index.specs.Blocks.{with_entry, halved, AreBlocks, IsTaken, IsBetween};
 
-use crate::block::{Block, HALF};
+use crate::block::{HALF, IndexBlock};
 use crate::index::IndexEntry;
-use crate::search::Spot;
+use crate::search::BlockPlace;
 use std::alloc::{AllocError, Global};
 
 /// How many blocks there are to be for so many entries, if each is half full.
@@ -21,7 +21,7 @@ pub fn blocks_for(count: usize) -> usize
 }
 
 /// Blocks with no entries.
-pub fn empty_blocks(alloc: Global, used: usize, room: usize) -> Result<Vec<Block>, AllocError>
+pub fn empty_blocks(alloc: Global, used: usize, room: usize) -> Result<Vec<IndexBlock>, AllocError>
     requires { used ≤ room }
     ensures empty { IfOk result (λ blocks. AllByRecursion (λ b. length b ≡ 0) blocks.items) }
     ensures count { IfOk result (λ blocks. length blocks.items ≡ used) }
@@ -29,13 +29,13 @@ pub fn empty_blocks(alloc: Global, used: usize, room: usize) -> Result<Vec<Block
 {
     let mut blocks = Vec::with_capacity(alloc, room)?;
     for _ in 0..used {
-        blocks.push(Block::new(alloc)?).unwrap();
+        blocks.push(IndexBlock::new(alloc)?).unwrap();
     }
     Ok(blocks)
 }
 
 /// The entry at a spot.
-pub fn entry_at(blocks: &[Block], spot: &Spot) -> IndexEntry
+pub fn entry_at(blocks: &[IndexBlock], spot: &BlockPlace) -> IndexEntry
     requires { IsTaken blocks.now spot.now }
     ensures { (d : IndexEntry)
         → result ≡ get_or (joined blocks.now) (place_of blocks.now spot.now) d }
@@ -44,7 +44,7 @@ pub fn entry_at(blocks: &[Block], spot: &Spot) -> IndexEntry
 }
 
 /// Puts an entry in the place of another.
-pub fn set_entry(blocks: &mut Vec<Block>, spot: &Spot, entry: IndexEntry)
+pub fn set_entry(blocks: &mut Vec<IndexBlock>, spot: &BlockPlace, entry: IndexEntry)
     requires { IsTaken blocks.old.items spot.now }
     ensures items { blocks.new.items ≡ with_entry blocks.old.items spot.now entry }
     ensures capacity { vec_capacity blocks.new ≡ vec_capacity blocks.old }
@@ -53,7 +53,12 @@ pub fn set_entry(blocks: &mut Vec<Block>, spot: &Spot, entry: IndexEntry)
 }
 
 /// Puts an entry at a spot, before those from there on.
-pub fn put_entry(blocks: &mut Vec<Block>, spare: &mut Vec<Block>, spot: Spot, entry: IndexEntry)
+pub fn put_entry(
+    blocks: &mut Vec<IndexBlock>,
+    spare: &mut Vec<IndexBlock>,
+    spot: BlockPlace,
+    entry: IndexEntry,
+)
     requires blocks { AreBlocks 0 blocks.old.items spare.old.items (vec_capacity blocks.old)
         (vec_capacity spare.old) }
     requires between { IsBetween blocks.old.items spot }
@@ -70,7 +75,7 @@ pub fn put_entry(blocks: &mut Vec<Block>, spare: &mut Vec<Block>, spot: Spot, en
 }
 
 /// Sees to it that the block of a spot has room for an entry more, and says where the spot is then.
-fn open(blocks: &mut Vec<Block>, spare: &mut Vec<Block>, spot: Spot) -> Spot
+fn open(blocks: &mut Vec<IndexBlock>, spare: &mut Vec<IndexBlock>, spot: BlockPlace) -> BlockPlace
     requires blocks { AreBlocks 0 blocks.old.items spare.old.items (vec_capacity blocks.old)
         (vec_capacity spare.old) }
     requires between { IsBetween blocks.old.items spot }
@@ -91,14 +96,14 @@ fn open(blocks: &mut Vec<Block>, spare: &mut Vec<Block>, spot: Spot) -> Spot
     if spot.place <= HALF {
         return spot;
     }
-    Spot {
+    BlockPlace {
         block: spot.block + 1,
         place: spot.place - HALF,
     }
 }
 
 /// Gives the upper half of a full block to a spare one, which is put behind it.
-fn split(blocks: &mut Vec<Block>, spare: &mut Vec<Block>, at: usize)
+fn split(blocks: &mut Vec<IndexBlock>, spare: &mut Vec<IndexBlock>, at: usize)
     requires blocks { AreBlocks 0 blocks.old.items spare.old.items (vec_capacity blocks.old)
         (vec_capacity spare.old) }
     requires within { at < length blocks.old.items }
@@ -117,7 +122,7 @@ fn split(blocks: &mut Vec<Block>, spare: &mut Vec<Block>, at: usize)
 
 /// Moves entries to the blocks behind theirs, so that all blocks but the first are at least half
 /// full, and those with no entries are to spare.
-pub fn pack(blocks: &mut Vec<Block>, spare: &mut Vec<Block>)
+pub fn pack(blocks: &mut Vec<IndexBlock>, spare: &mut Vec<IndexBlock>)
     requires { AreBlocks (vec_len blocks.old - 1) blocks.old.items spare.old.items
         (vec_capacity blocks.old) (vec_capacity spare.old) }
     ensures items { joined blocks.new.items ≡ joined blocks.old.items }
@@ -134,7 +139,7 @@ pub fn pack(blocks: &mut Vec<Block>, spare: &mut Vec<Block>)
 }
 
 /// Moves entries of one block to the one behind it, as many as that has room for.
-fn pack_one(blocks: &mut Vec<Block>, spare: &mut Vec<Block>, at: usize)
+fn pack_one(blocks: &mut Vec<IndexBlock>, spare: &mut Vec<IndexBlock>, at: usize)
     requires { AreBlocks (at + 1) blocks.old.items spare.old.items (vec_capacity blocks.old)
         (vec_capacity spare.old) }
     ensures items { joined blocks.new.items ≡ joined blocks.old.items }
@@ -153,7 +158,7 @@ fn pack_one(blocks: &mut Vec<Block>, spare: &mut Vec<Block>, at: usize)
 }
 
 /// Leaves no entry.
-pub fn clear(blocks: &mut Vec<Block>, spare: &mut Vec<Block>)
+pub fn clear(blocks: &mut Vec<IndexBlock>, spare: &mut Vec<IndexBlock>)
     requires { AreBlocks 0 blocks.old.items spare.old.items (vec_capacity blocks.old)
         (vec_capacity spare.old) }
     ensures items { joined blocks.new.items ≡ [] }
@@ -167,7 +172,7 @@ pub fn clear(blocks: &mut Vec<Block>, spare: &mut Vec<Block>)
 }
 
 /// Leaves no entry in any block.
-fn clear_each(blocks: &mut Vec<Block>)
+fn clear_each(blocks: &mut Vec<IndexBlock>)
     ensures items { joined blocks.new.items ≡ [] }
     ensures count { length blocks.new.items ≡ length blocks.old.items }
     ensures capacity { vec_capacity blocks.new ≡ vec_capacity blocks.old }

@@ -10,11 +10,11 @@ ghost use Rattle.cm_index.specs.Sought.{name_sought, IsKey};
 ghost use Rattle.cm_index.specs.Living.{living, swept};
 ghost use Rattle.cm_index.specs.Blocks.{half_size, joined, place_of, room_of, AreBlocks, IsTaken};
 
-use crate::block::Block;
+use crate::block::IndexBlock;
 use crate::blocks::{blocks_for, clear, empty_blocks, entry_at, pack, put_entry, set_entry};
 use crate::kept::Kept;
-use crate::search::{Spot, search};
-use crate::slot::Slot;
+use crate::search::{BlockPlace, search};
+use crate::slot::BookSlot;
 use crate::sought::Sought;
 use crate::sweep::{count_places, sweep_blocks};
 use cm_layout::Row;
@@ -36,9 +36,9 @@ pub struct IndexEntry {
 #[derive(Drop)]
 pub struct Index {
     /// The blocks in order, of which all but the first are at least half full.
-    blocks: Vec<Block>,
+    blocks: Vec<IndexBlock>,
     /// Blocks with no entries.
-    spare: Vec<Block>,
+    spare: Vec<IndexBlock>,
 }
 
 impl Model for Index {
@@ -80,7 +80,7 @@ impl Index {
 /// The first living row of an owner that has this name.
 pub fn find_row<'a, P: Kept>(
     index: &Index,
-    slots: &'a [Slot<Row<P>>],
+    slots: &'a [BookSlot<Row<P>>],
     sought: &Sought<P>,
 ) -> Option<&'a Row<P>>
     requires index { IsIndex P.mark P.name slots.now index.now.items }
@@ -99,7 +99,7 @@ pub fn find_row<'a, P: Kept>(
 
 /// Puts the next row, which lives, into an index of those before it, where there is room for it. An
 /// entry that leads to a dead row of its owner and name leads to it from then on.
-pub fn add_row<P: Kept>(index: &mut Index, slots: &[Slot<Row<P>>], at: usize)
+pub fn add_row<P: Kept>(index: &mut Index, slots: &[BookSlot<Row<P>>], at: usize)
     requires index { IsIndex P.mark P.name (take at slots.now) index.old.items }
     requires within { at < length slots.now }
     requires lives { LivesAt slots.now at }
@@ -113,9 +113,9 @@ pub fn add_row<P: Kept>(index: &mut Index, slots: &[Slot<Row<P>>], at: usize)
 
 /// Puts the next row's entry among those in an index's blocks.
 fn add_entry<P: Kept>(
-    blocks: &mut Vec<Block>,
-    spare: &mut Vec<Block>,
-    slots: &[Slot<Row<P>>],
+    blocks: &mut Vec<IndexBlock>,
+    spare: &mut Vec<IndexBlock>,
+    slots: &[BookSlot<Row<P>>],
     at: usize,
 )
     requires blocks { AreBlocks 0 blocks.old.items spare.old.items (vec_capacity blocks.old)
@@ -143,7 +143,12 @@ fn add_entry<P: Kept>(
 }
 
 /// Puts an entry in the place of one that leads to a dead row.
-fn renew<P>(blocks: &mut Vec<Block>, slots: &[Slot<Row<P>>], spot: &Spot, entry: IndexEntry)
+fn renew<P>(
+    blocks: &mut Vec<IndexBlock>,
+    slots: &[BookSlot<Row<P>>],
+    spot: &BlockPlace,
+    entry: IndexEntry,
+)
     requires taken { IsTaken blocks.old.items spot.now }
     requires leads { (d : IndexEntry) → (get_or (joined blocks.old.items)
         (place_of blocks.old.items spot.now) d).at < length slots.now }
@@ -161,7 +166,7 @@ fn renew<P>(blocks: &mut Vec<Block>, slots: &[Slot<Row<P>>], spot: &Spot, entry:
 }
 
 /// Puts a row behind the others and into their index, where there is room for it.
-pub fn push_row<P: Kept>(slots: &mut Vec<Slot<Row<P>>>, index: &mut Index, row: Row<P>)
+pub fn push_row<P: Kept>(slots: &mut Vec<BookSlot<Row<P>>>, index: &mut Index, row: Row<P>)
     requires index { IsIndex P.mark P.name slots.old.items index.old.items }
     requires fits { vec_len slots.old < 2 ^ 32 }
     requires room { vec_len slots.old < vec_capacity slots.old }
@@ -174,7 +179,7 @@ pub fn push_row<P: Kept>(slots: &mut Vec<Slot<Row<P>>>, index: &mut Index, row: 
 {
     let at = slots.len();
     slots
-        .push(Slot {
+        .push(BookSlot {
             item: row,
             live: true,
         })
@@ -183,7 +188,7 @@ pub fn push_row<P: Kept>(slots: &mut Vec<Slot<Row<P>>>, index: &mut Index, row: 
 }
 
 /// Makes an index of rows that all live, where there is room for it.
-pub fn index_rows<P: Kept>(index: &mut Index, slots: &[Slot<Row<P>>])
+pub fn index_rows<P: Kept>(index: &mut Index, slots: &[BookSlot<Row<P>>])
     requires live { AllByRecursion (λ s. s.live ≡ true) slots.now }
     requires fits { length slots.now ≤ 2 ^ 32 }
     requires room { length slots.now ≤ index.old.room }
@@ -197,7 +202,7 @@ pub fn index_rows<P: Kept>(index: &mut Index, slots: &[Slot<Row<P>>])
 }
 
 /// Makes the index of all places that of the places of what lives alone. `places` is overwritten.
-pub fn sweep_index<P: Kept>(index: &mut Index, places: &mut Vec<u32>, slots: &[Slot<Row<P>>])
+pub fn sweep_index<P: Kept>(index: &mut Index, places: &mut Vec<u32>, slots: &[BookSlot<Row<P>>])
     requires index { IsIndex P.mark P.name slots.now index.old.items }
     requires fits { length slots.now ≤ 2 ^ 31 }
     requires room { length slots.now ≤ vec_capacity places.old }

@@ -16,4 +16,4 @@ mod sweep;
 pub use index::{Index, index_rows, push_row, sweep_index};
 pub use kept::Kept;
 pub use names::{class_in, class_like, is_new_loader_name, loader_of};
-pub use slot::Slot;
+pub use slot::BookSlot;

@@ -10,12 +10,12 @@ ghost use Rattle.cm_index.specs.Index.{IsIndex, number_in, kept_in};
 
 use crate::index::{Index, find_row};
 use crate::kept::Kept;
-use crate::slot::Slot;
+use crate::slot::BookSlot;
 use crate::sought::Sought;
 use cm_layout::{Row, is_loader_name};
 
 /// The number of the live loader of a name.
-pub fn loader_of<P: Kept>(index: &Index, slots: &[Slot<Row<P>>], name: &[u8]) -> Option<u64>
+pub fn loader_of<P: Kept>(index: &Index, slots: &[BookSlot<Row<P>>], name: &[u8]) -> Option<u64>
     requires { IsIndex P.mark P.name slots.now index.now.items }
     ensures { result ≡ number_of name.now (living slots.now) }
 {
@@ -37,7 +37,7 @@ fn number_in<P>(row: &Row<P>) -> Option<u64>
 /// What is kept of the class of a name in the loader of a number.
 pub fn class_in<'a, P: Kept>(
     index: &Index,
-    slots: &'a [Slot<Row<P>>],
+    slots: &'a [BookSlot<Row<P>>],
     loader: u64,
     name: &[u8],
 ) -> Option<&'a P>
@@ -53,7 +53,7 @@ pub fn class_in<'a, P: Kept>(
 /// What is kept of the class that has the name of this one in the loader of a number.
 pub fn class_like<'a, P: Kept>(
     index: &Index,
-    slots: &'a [Slot<Row<P>>],
+    slots: &'a [BookSlot<Row<P>>],
     loader: u64,
     class: &P,
 ) -> Option<&'a P>
@@ -76,7 +76,7 @@ fn value_in<P>(row: &Row<P>) -> Option<&P>
 }
 
 /// Whether a loader can be given this name: it is a loader's name, and no live loader has it.
-pub fn is_new_loader_name<P: Kept>(index: &Index, slots: &[Slot<Row<P>>], name: &[u8]) -> bool
+pub fn is_new_loader_name<P: Kept>(index: &Index, slots: &[BookSlot<Row<P>>], name: &[u8]) -> bool
     requires { IsIndex P.mark P.name slots.now index.now.items }
     ensures { result
         ≡ (is_loader_name name.now && is_none (number_of name.now (living slots.now))) }

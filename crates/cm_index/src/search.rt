@@ -9,17 +9,17 @@ ghost use Rattle.cm_index.specs.Index.{IsIndex, IsKeyAt, Parts, Rise, Below, Abo
 ghost use Rattle.cm_index.specs.Sought.{name_sought, key_sought};
 ghost use Rattle.cm_index.specs.Blocks.{half_size, joined, place_of, IsTaken, IsBetween};
 
-use crate::block::Block;
+use crate::block::IndexBlock;
 use crate::index::IndexEntry;
 use crate::kept::Kept;
-use crate::slot::Slot;
+use crate::slot::BookSlot;
 use crate::sought::{Name, Sought};
 use cm_layout::Row;
 use std::cmp::Ordering;
 
 /// A place in one of an index's blocks.
 #[derive(Clone, Copy, Debug)]
-pub struct Spot {
+pub struct BlockPlace {
     pub block: usize,
     pub place: usize,
 }
@@ -60,7 +60,7 @@ fn cmp_names<P: Kept>(row: &Row<P>, name: &Name<P>) -> Ordering
 
 /// The order of the key of an entry and of what is looked for; a row is looked at only where the
 /// fingerprints are the same.
-fn cmp_keys<P: Kept>(entry: &IndexEntry, slots: &[Slot<Row<P>>], sought: &Sought<P>) -> Ordering
+fn cmp_keys<P: Kept>(entry: &IndexEntry, slots: &[BookSlot<Row<P>>], sought: &Sought<P>) -> Ordering
     requires { entry.now.at < length slots.now }
     ensures { result
         ≡ slice_cmp nat_cmp (key_at P.name slots.now entry.now) (key_sought P.name sought.now) }
@@ -79,7 +79,7 @@ fn cmp_keys<P: Kept>(entry: &IndexEntry, slots: &[Slot<Row<P>>], sought: &Sought
 /// Where the entry stands that has this key, or would stand, among those of one block.
 fn place_in<P: Kept>(
     index: &[IndexEntry],
-    slots: &[Slot<Row<P>>],
+    slots: &[BookSlot<Row<P>>],
     sought: &Sought<P>,
 ) -> Result<usize, usize>
     requires within { AllByRecursion (λ e. e.at < length slots.now) index.now }
@@ -104,7 +104,7 @@ fn place_in<P: Kept>(
 
 /// The block in which the entry of this key stands, or would stand: the last whose first key isn't
 /// above it, or the first of all. So of each other block but this one key is looked at.
-fn block_of<P: Kept>(blocks: &[Block], slots: &[Slot<Row<P>>], sought: &Sought<P>) -> usize
+fn block_of<P: Kept>(blocks: &[IndexBlock], slots: &[BookSlot<Row<P>>], sought: &Sought<P>) -> usize
     requires index { IsIndex P.mark P.name slots.now (joined blocks.now) }
     requires some { 0 < length blocks.now }
     requires half { AllByRecursion (λ b. half_size ≤ length b) (drop 1 blocks.now) }
@@ -129,10 +129,10 @@ fn block_of<P: Kept>(blocks: &[Block], slots: &[Slot<Row<P>>], sought: &Sought<P
 
 /// Where the entry stands that has this key, or would stand.
 pub fn search<P: Kept>(
-    blocks: &[Block],
-    slots: &[Slot<Row<P>>],
+    blocks: &[IndexBlock],
+    slots: &[BookSlot<Row<P>>],
     sought: &Sought<P>,
-) -> Result<Spot, Spot>
+) -> Result<BlockPlace, BlockPlace>
     requires index { IsIndex P.mark P.name slots.now (joined blocks.now) }
     requires some { 0 < length blocks.now }
     requires half { AllByRecursion (λ b. half_size ≤ length b) (drop 1 blocks.now) }
@@ -145,7 +145,7 @@ pub fn search<P: Kept>(
 {
     let block = block_of(blocks, slots, sought);
     match place_in(blocks[block].entries(), slots, sought) {
-        Ok(place) => Ok(Spot { block, place }),
-        Err(place) => Err(Spot { block, place }),
+        Ok(place) => Ok(BlockPlace { block, place }),
+        Err(place) => Err(BlockPlace { block, place }),
     }
 }

@@ -3,7 +3,7 @@
 /// What stands at a place, and whether it lives. What lives no more keeps its place until all such
 /// are swept out at once.
 #[derive(Debug, Drop)]
-pub struct Slot<T> {
+pub struct BookSlot<T> {
     pub item: T,
     pub live: bool,
 }

@@ -6,13 +6,13 @@ ghost use Rattle.cm_index.specs.Index.{leads_to_life};
 ghost use Rattle.cm_index.specs.Sweep.{places_from, shifted, swept_entries};
 ghost use Rattle.cm_index.specs.Blocks.{joined};
 
-use crate::block::Block;
+use crate::block::IndexBlock;
 use crate::index::IndexEntry;
-use crate::slot::Slot;
+use crate::slot::BookSlot;
 use cm_layout::Row;
 
 /// Where each stands once the places are swept.
-pub fn count_places<T>(places: &mut Vec<u32>, slots: &[Slot<T>])
+pub fn count_places<T>(places: &mut Vec<u32>, slots: &[BookSlot<T>])
     requires fits { length slots.now ≤ 2 ^ 31 }
     requires room { length slots.now ≤ vec_capacity places.old }
     ensures places { places.new.items ≡ places_from 0 slots.now }
@@ -29,7 +29,7 @@ pub fn count_places<T>(places: &mut Vec<u32>, slots: &[Slot<T>])
 }
 
 /// Keeps the entries that lead to rows that live, and lets each lead to its row's new place.
-pub fn sweep_blocks<P>(blocks: &mut Vec<Block>, places: &[u32], slots: &[Slot<Row<P>>])
+pub fn sweep_blocks<P>(blocks: &mut Vec<IndexBlock>, places: &[u32], slots: &[BookSlot<Row<P>>])
     requires { AllByRecursion (λ e. e.at < length places.now) (joined blocks.old.items) }
     ensures blocks { blocks.new.items ≡ map (swept_entries slots.now places.now) blocks.old.items }
     ensures capacity { vec_capacity blocks.new ≡ vec_capacity blocks.old }
@@ -41,7 +41,7 @@ pub fn sweep_blocks<P>(blocks: &mut Vec<Block>, places: &[u32], slots: &[Slot<Ro
 
 /// Keeps those entries of one block that lead to rows that live, and lets each lead to its row's
 /// new place.
-pub fn sweep_entries<P>(entries: &mut Vec<IndexEntry>, slots: &[Slot<Row<P>>], places: &[u32])
+pub fn sweep_entries<P>(entries: &mut Vec<IndexEntry>, slots: &[BookSlot<Row<P>>], places: &[u32])
     requires { AllByRecursion (λ e. e.at < length places.now) entries.old.items }
     ensures entries { entries.new.items ≡ swept_entries slots.now places.now entries.old.items }
     ensures capacity { vec_capacity entries.new ≡ vec_capacity entries.old }
@@ -51,14 +51,14 @@ pub fn sweep_entries<P>(entries: &mut Vec<IndexEntry>, slots: &[Slot<Row<P>>], p
 }
 
 /// Keeps the entries that lead to rows that live.
-fn keep_living<P>(index: &mut Vec<IndexEntry>, slots: &[Slot<Row<P>>])
+fn keep_living<P>(index: &mut Vec<IndexEntry>, slots: &[BookSlot<Row<P>>])
     ensures index { index.new.items ≡ filter (leads_to_life slots.now) index.old.items }
     ensures capacity { vec_capacity index.new ≡ vec_capacity index.old }
 {
     index.retain(|entry| leads_to_life(entry, slots));
 }
 
-fn leads_to_life<P>(entry: &IndexEntry, slots: &[Slot<Row<P>>]) -> bool
+fn leads_to_life<P>(entry: &IndexEntry, slots: &[BookSlot<Row<P>>]) -> bool
     ensures { result ≡ leads_to_life slots.now entry.now }
 {
     match slots.get(entry.at as usize) {

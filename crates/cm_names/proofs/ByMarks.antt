@@ -6,7 +6,7 @@ use Rattle.std.proofs.lemmas.Bool.{ne_eqb, eqb-true}
 use Rattle.std.proofs.lemmas.Slice.Eq.{bytes_eq-Decides}
 use Rattle.std.specs.List.{list_all}
 use Rattle.std.specs.Option.{option_map_or, option_and_then}
-use Rattle.cm_names.specs.declared.marks.Marks.{Marks}
+use Rattle.cm_names.specs.declared.marks.ByteMarks.{ByteMarks}
 use Rattle.cm_names.specs.Forms.{dot, slash, semicolon, bracket, init, clinit, has_utf8_form}
 use Rattle.cm_names.specs.Forms.{name_after, is_name_byte, is_empty, is_base_type}
 use Rattle.cm_names.specs.Forms.{is_unqualified_name, is_method_name, is_class_name}
@@ -130,7 +130,7 @@ no_special xs h = by_test (is_special_name xs) refl
 
 -- ---- what marks tell
 
-module _ (xs : List ℕ) (m : Marks) (of : m ≡ marks_of xs) where
+module _ (xs : List ℕ) (m : ByteMarks) (of : m ≡ marks_of xs) where
   plain_of : m.plain ≡ list_all is_plain xs
   unfolding marks_of
   plain_of = ap (λ k. k.plain) of

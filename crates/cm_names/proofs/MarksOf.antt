@@ -9,7 +9,7 @@ use Rattle.std.proofs.lemmas.List.{length-map, length-drop, take_all}
 use Rattle.std.proofs.Math.Seq.{take-add}
 use Rattle.std.specs.List.{list_all}
 use Rattle.std.proofs.lemmas.List.Folds.{list_all-append}
-use Rattle.cm_names.specs.declared.marks.Marks.{Marks}
+use Rattle.cm_names.specs.declared.marks.ByteMarks.{ByteMarks}
 use Rattle.cm_names.specs.Marks.{marks_of, both_marks, is_plain, is_no_slash, is_no_stop}
 use Rattle.cm_names.specs.Marks.{is_no_angle}
 use lib.Lanes.{chunk, zip2, mask_l, top, Each1}
@@ -91,7 +91,7 @@ covered p (suc i) (suc j) (x ∷ xs) le =
 
 -- ---- marks
 
-abbrev pub make : Bool → Bool → Bool → Bool → Marks
+abbrev pub make : Bool → Bool → Bool → Bool → ByteMarks
 make a b c d = record { plain = a; no_slash = b; no_stop = c; no_angle = d }
 
 pub same_marks : {a b c d e f g h : Bool} → a ≡ e → b ≡ f → c ≡ g → d ≡ h
@@ -113,7 +113,7 @@ append_marks xs ys =
     same_marks (list_all-append is_plain xs ys) (list_all-append is_no_slash xs ys)
     (list_all-append is_no_stop xs ys) (list_all-append is_no_angle xs ys)
 
-pub both_assoc : (a b c : Marks) → both_marks (both_marks a b) c ≡ both_marks a (both_marks b c)
+pub both_assoc : (a b c : ByteMarks) → both_marks (both_marks a b) c ≡ both_marks a (both_marks b c)
 unfolding both_marks
 both_assoc a b c =
     same_marks (and_assoc a.plain b.plain c.plain) (and_assoc a.no_slash b.no_slash c.no_slash)
@@ -123,7 +123,7 @@ both_assoc a b c =
     and_assoc true y z = refl
     and_assoc false y z = refl
 
-pub both_comm : (a b : Marks) → both_marks a b ≡ both_marks b a
+pub both_comm : (a b : ByteMarks) → both_marks a b ≡ both_marks b a
 unfolding both_marks
 both_comm a b =
     same_marks (and_comm a.plain b.plain) (and_comm a.no_slash b.no_slash)
@@ -135,7 +135,7 @@ both_comm a b =
     and_comm false true = refl
     and_comm false false = refl
 
-pub both_nothing : (m : Marks) → both_marks m (marks_of []) ≡ m
+pub both_nothing : (m : ByteMarks) → both_marks m (marks_of []) ≡ m
 unfolding both_marks marks_of
 both_nothing m =
     same_marks (and_true m.plain) (and_true m.no_slash) (and_true m.no_stop) (and_true m.no_angle)
@@ -144,12 +144,12 @@ both_nothing m =
     and_true true = refl
     and_true false = refl
 
-pub nothing_both : (m : Marks) → both_marks (make true true true true) m ≡ m
+pub nothing_both : (m : ByteMarks) → both_marks (make true true true true) m ≡ m
 unfolding both_marks
 nothing_both m = refl
 
 -- the byte at a place is one of those that are left
-pub one_byte : (m : Marks) (xs : List ℕ) (i : ℕ) → i < length xs
+pub one_byte : (m : ByteMarks) (xs : List ℕ) (i : ℕ) → i < length xs
     → both_marks (both_marks m (marks_of (get_or xs i 0 ∷ []))) (marks_of (drop (i + 1) xs))
     ≡ both_marks m (marks_of (drop i xs))
 one_byte m xs i lt =
@@ -160,7 +160,7 @@ one_byte m xs i lt =
     (sym (append_marks (b ∷ []) (drop (i + 1) xs)) ∙ ap marks_of (sym rest))
 
 -- n bytes more, behind the first i
-pub more_bytes : (m : Marks) (xs : List ℕ) (i n : ℕ)
+pub more_bytes : (m : ByteMarks) (xs : List ℕ) (i n : ℕ)
     → both_marks (both_marks m (marks_of (take i xs))) (marks_of (take n (drop i xs)))
     ≡ both_marks m (marks_of (take (i + n) xs))
 more_bytes m xs i n =

@@ -3,7 +3,7 @@ use Rattle.std.specs.Prelude.{ℕ, drop, Bool, List, not, ◌&&◌, ◌==◌, if
 use Rattle.std.specs.List.{list_all}
 use lib.Lanes.{zip2}
 use Rattle.std.specs.Int.{w64, trailing_zeros}
-use Rattle.cm_names.specs.declared.marks.Marks.{Marks}
+use Rattle.cm_names.specs.declared.marks.ByteMarks.{ByteMarks}
 use Rattle.cm_names.specs.Forms.{dot, slash, semicolon, bracket, less, greater, is_within}
 
 abbrev pub is_plain : ℕ → Bool
@@ -18,7 +18,7 @@ is_no_stop b = not (b == dot) && not (b == semicolon) && not (b == bracket)
 abbrev pub is_no_angle : ℕ → Bool
 is_no_angle b = not (b == less) && not (b == greater)
 
-unfoldable pub marks_of : List ℕ → Marks
+unfoldable pub marks_of : List ℕ → ByteMarks
 marks_of bytes = record {
   plain = list_all is_plain bytes;
   no_slash = list_all is_no_slash bytes;
@@ -27,7 +27,7 @@ marks_of bytes = record {
 }
 
 -- of some bytes and of others
-unfoldable pub both_marks : Marks → Marks → Marks
+unfoldable pub both_marks : ByteMarks → ByteMarks → ByteMarks
 both_marks a b = record {
   plain = a.plain && b.plain;
   no_slash = a.no_slash && b.no_slash;

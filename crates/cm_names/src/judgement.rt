@@ -7,7 +7,7 @@ ghost use Rattle.cm_names.specs.Marks.{marks_of};
 
 use crate::descriptors::{is_field_descriptor, method_units};
 use crate::joined::are_names;
-use crate::marks::{Marks, marks_of};
+use crate::marks::{ByteMarks, marks_of};
 use crate::utf8::are_characters;
 
 /// What is found out of a Utf8 once, however many entries and members name it.
@@ -28,7 +28,7 @@ pub struct Judgement {
 }
 
 /// By the marks: most Utf8s are plain.
-fn has_utf8_form_by_marks(bytes: &[u8], marks: Marks) -> bool
+fn has_utf8_form_by_marks(bytes: &[u8], marks: ByteMarks) -> bool
     requires { marks ≡ marks_of bytes.now }
     ensures { result ≡ has_utf8_form bytes.now }
 {
@@ -37,7 +37,7 @@ fn has_utf8_form_by_marks(bytes: &[u8], marks: Marks) -> bool
 
 /// By the marks alone.
 #[tactic(auto, using(crate::proofs::ByMarks::unqualified_by_marks))]
-fn is_unqualified_name_by_marks(bytes: &[u8], marks: Marks) -> bool
+fn is_unqualified_name_by_marks(bytes: &[u8], marks: ByteMarks) -> bool
     requires { marks ≡ marks_of bytes.now }
     ensures { result ≡ is_unqualified_name bytes.now }
 {
@@ -45,7 +45,7 @@ fn is_unqualified_name_by_marks(bytes: &[u8], marks: Marks) -> bool
 }
 
 /// By the marks: most class names are unqualified names, and none has a stop.
-fn is_class_name_by_marks(bytes: &[u8], marks: Marks) -> bool
+fn is_class_name_by_marks(bytes: &[u8], marks: ByteMarks) -> bool
     requires { marks ≡ marks_of bytes.now }
     ensures { result ≡ is_class_name bytes.now }
 {
@@ -60,7 +60,7 @@ fn is_special_name(bytes: &[u8]) -> bool
 }
 
 /// By the marks, and by comparing where there are angles.
-fn is_method_name_by_marks(bytes: &[u8], marks: Marks) -> bool
+fn is_method_name_by_marks(bytes: &[u8], marks: ByteMarks) -> bool
     requires { marks ≡ marks_of bytes.now }
     ensures { result ≡ is_method_name bytes.now }
 {
@@ -68,7 +68,7 @@ fn is_method_name_by_marks(bytes: &[u8], marks: Marks) -> bool
 }
 
 /// By the marks: without a `;` or a `[` it is one byte.
-fn is_field_descriptor_by_marks(bytes: &[u8], marks: Marks) -> bool
+fn is_field_descriptor_by_marks(bytes: &[u8], marks: ByteMarks) -> bool
     requires { marks ≡ marks_of bytes.now }
     ensures { result ≡ is_field_descriptor bytes.now }
 {

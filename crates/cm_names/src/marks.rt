@@ -10,7 +10,7 @@ const HALF_LANES: usize = 8;
 
 /// Which kinds of bytes are not among some.
 #[derive(Clone, Copy, Debug)]
-pub(crate) struct Marks {
+pub(crate) struct ByteMarks {
     /// Each byte is a character of its own.
     pub(crate) plain: bool,
     pub(crate) no_slash: bool,
@@ -20,14 +20,14 @@ pub(crate) struct Marks {
     pub(crate) no_angle: bool,
 }
 
-impl Marks {
+impl ByteMarks {
     /// Of these bytes and of others.
     #[inline(always)]
     #[tactic(auto, unfolding(crate::specs::Marks::both_marks))]
-    fn and(self, other: Marks) -> Marks
+    fn and(self, other: ByteMarks) -> ByteMarks
         ensures { result ≡ both_marks self other }
     {
-        Marks {
+        ByteMarks {
             plain: self.plain & other.plain,
             no_slash: self.no_slash & other.no_slash,
             no_stop: self.no_stop & other.no_stop,
@@ -39,7 +39,7 @@ impl Marks {
 /// Of the sixteen bytes from a place.
 #[inline(always)]
 #[tactic(auto, unfolding(crate::specs::Marks::marks_of))]
-fn marks_of_sixteen(bytes: &[u8], at: usize) -> Marks
+fn marks_of_sixteen(bytes: &[u8], at: usize) -> ByteMarks
     requires { at + LANES ≤ length bytes.now }
     ensures { result ≡ marks_of (take 16 (drop at bytes.now)) }
 {
@@ -50,7 +50,7 @@ fn marks_of_sixteen(bytes: &[u8], at: usize) -> Marks
         | lanes.simd_eq(u8x16::splat(b';'))
         | lanes.simd_eq(u8x16::splat(b'['));
     let angle = lanes.simd_eq(u8x16::splat(b'<')) | lanes.simd_eq(u8x16::splat(b'>'));
-    Marks {
+    ByteMarks {
         plain: odd.to_bitmask() == 0,
         no_slash: slash.to_bitmask() == 0,
         no_stop: stop.to_bitmask() == 0,
@@ -61,7 +61,7 @@ fn marks_of_sixteen(bytes: &[u8], at: usize) -> Marks
 /// Of the eight bytes from a place.
 #[inline(always)]
 #[tactic(auto, unfolding(crate::specs::Marks::marks_of))]
-fn marks_of_eight(bytes: &[u8], at: usize) -> Marks
+fn marks_of_eight(bytes: &[u8], at: usize) -> ByteMarks
     requires { at + HALF_LANES ≤ length bytes.now }
     ensures { result ≡ marks_of (take 8 (drop at bytes.now)) }
 {
@@ -72,7 +72,7 @@ fn marks_of_eight(bytes: &[u8], at: usize) -> Marks
         | lanes.simd_eq(u8x8::splat(b';'))
         | lanes.simd_eq(u8x8::splat(b'['));
     let angle = lanes.simd_eq(u8x8::splat(b'<')) | lanes.simd_eq(u8x8::splat(b'>'));
-    Marks {
+    ByteMarks {
         plain: odd.to_bitmask() == 0,
         no_slash: slash.to_bitmask() == 0,
         no_stop: stop.to_bitmask() == 0,
@@ -81,10 +81,10 @@ fn marks_of_eight(bytes: &[u8], at: usize) -> Marks
 }
 
 #[tactic(auto, unfolding(crate::specs::Marks::marks_of))]
-fn marks_of_byte(byte: u8) -> Marks
+fn marks_of_byte(byte: u8) -> ByteMarks
     ensures { result ≡ marks_of (byte ∷ []) }
 {
-    Marks {
+    ByteMarks {
         plain: (byte >= 0x01) & (byte <= 0x7f),
         no_slash: byte != b'/',
         no_stop: (byte != b'.') & (byte != b';') & (byte != b'['),
@@ -93,10 +93,10 @@ fn marks_of_byte(byte: u8) -> Marks
 }
 
 /// Of a few bytes, one by one.
-fn marks_of_few(bytes: &[u8]) -> Marks
+fn marks_of_few(bytes: &[u8]) -> ByteMarks
     ensures { result ≡ marks_of bytes.now }
 {
-    let mut marks = Marks {
+    let mut marks = ByteMarks {
         plain: true,
         no_slash: true,
         no_stop: true,
@@ -109,7 +109,7 @@ fn marks_of_few(bytes: &[u8]) -> Marks
 }
 
 /// Of sixteen bytes or more. The last sixteen may overlap with others.
-fn marks_of_many(bytes: &[u8]) -> Marks
+fn marks_of_many(bytes: &[u8]) -> ByteMarks
     requires { LANES ≤ length bytes.now }
     ensures { result ≡ marks_of bytes.now }
 {
@@ -121,7 +121,7 @@ fn marks_of_many(bytes: &[u8]) -> Marks
 }
 
 /// Which kinds of bytes are not among these.
-pub(crate) fn marks_of(bytes: &[u8]) -> Marks
+pub(crate) fn marks_of(bytes: &[u8]) -> ByteMarks
     ensures { result ≡ marks_of bytes.now }
 {
     if bytes.len() >= LANES {

@@ -13,13 +13,13 @@ use std::marker::Model;
 /// above those again: so the first bit that is set is found by three words, and a few more where
 /// the row is longer than 4,096 words.
 #[derive(Drop)]
-pub struct Row {
+pub struct BitRow {
     words: Vec<u64>,
     groups: Vec<u64>,
     heads: Vec<u64>,
 }
 
-impl Model for Row {
+impl Model for BitRow {
     ghost use Rattle.std.specs.Prelude.{ℕ, List};
     ghost use Rattle.cm_pool.specs.Bits.{IsRow};
 
@@ -30,14 +30,14 @@ impl Model for Row {
     ghost invariant = { λ r. IsRow r.words.items r.groups.items r.heads.items };
 }
 
-impl Row {
+impl BitRow {
     /// A row of so many words, with no bit set.
-    pub fn new(alloc: Global, words: usize) -> Result<Row, AllocError>
+    pub fn new(alloc: Global, words: usize) -> Result<BitRow, AllocError>
         requires { words ≤ 16384 }
         ensures { IfOk result (λ row. row ≡ replicate words 0) }
     {
         let groups = words.div_ceil(64);
-        Ok(Row {
+        Ok(BitRow {
             words: Vec::from_elem(alloc, 0, words)?,
             groups: Vec::from_elem(alloc, 0, groups)?,
             heads: Vec::from_elem(alloc, 0, groups.div_ceil(64))?,

@@ -14,7 +14,7 @@ mod rows;
 
 // A crate can name a pool in a contract only if the types of its fields are exported.
 #[doc(hidden)]
-pub use bit_row::Row;
+pub use bit_row::BitRow;
 pub use chunk::Chunk;
 pub use geometry::Geometry;
 pub use laws::{

@@ -3,7 +3,7 @@ ghost use Rattle.std.specs.Prelude.{◌≡◌, ◌<◌, ◌≤◌, ◌↔◌, Is
 ghost use Rattle.std.specs.Prelude.{MatchOption, MatchResult, if◌then◌else◌};
 ghost use Rattle.std.specs.FinSet as set;
 
-use crate::Row;
+use crate::BitRow;
 use crate::block::Block;
 use crate::chunk::Chunk;
 use crate::geometry::Geometry;
@@ -20,7 +20,7 @@ use std::marker::Model;
 pub struct Pool {
     geometry: Geometry,
     roots: u32,
-    rows: Vec<Row>,
+    rows: Vec<BitRow>,
 }
 
 impl Model for Pool {

@@ -6,26 +6,26 @@ ghost use Rattle.cm_pool.specs.Blocks.{is_in, start, Inside, other_half};
 ghost use Rattle.cm_pool.specs.Rows.{is_marked as is_marked_in, is_covered, with_mark};
 ghost use Rattle.cm_pool.specs.Rows.{without_mark, HasPlace, IsKept, AreEmpty, IsFirstFrom};
 
-use crate::Row;
+use crate::BitRow;
 use crate::block::Block;
 use crate::geometry::Geometry;
 use std::alloc::{AllocError, Global};
 
 /// Rows for all blocks of a region, with no bit set.
-pub fn empty_rows(alloc: Global, geometry: Geometry) -> Result<Vec<Row>, AllocError>
+pub fn empty_rows(alloc: Global, geometry: Geometry) -> Result<Vec<BitRow>, AllocError>
     ensures { IfOk result (λ rows. AreEmpty geometry rows.items) }
 {
     let top = geometry.top();
     let mut rows = Vec::with_capacity(alloc, top as usize + 1)?;
     for order in 0..top + 1 {
         let blocks = (geometry.roots() as usize) << (top - order);
-        rows.push(Row::new(alloc, blocks.div_ceil(64))?)?;
+        rows.push(BitRow::new(alloc, blocks.div_ceil(64))?)?;
     }
     Ok(rows)
 }
 
 /// Whether a block's bit is set.
-pub fn is_marked(rows: &[Row], block: Block) -> bool
+pub fn is_marked(rows: &[BitRow], block: Block) -> bool
     ensures { result ≡ is_marked_in rows.now block }
 {
     let order = block.order as usize;
@@ -33,7 +33,7 @@ pub fn is_marked(rows: &[Row], block: Block) -> bool
 }
 
 /// Sets a block's bit.
-pub fn mark(rows: &mut Vec<Row>, block: Block)
+pub fn mark(rows: &mut Vec<BitRow>, block: Block)
     requires { HasPlace rows.old.items block }
     ensures { rows.new.items ≡ with_mark rows.old.items block }
 {
@@ -41,7 +41,7 @@ pub fn mark(rows: &mut Vec<Row>, block: Block)
 }
 
 // Clears a block's bit.
-fn unmark(rows: &mut Vec<Row>, block: Block)
+fn unmark(rows: &mut Vec<BitRow>, block: Block)
     requires { HasPlace rows.old.items block }
     ensures { rows.new.items ≡ without_mark rows.old.items block }
 {
@@ -65,7 +65,7 @@ fn first_of(a: Option<Block>, b: Option<Block>) -> Option<Block>
 }
 
 // The first block in the row of an order.
-fn first_in(rows: &[Row], order: u32) -> Option<Block>
+fn first_in(rows: &[BitRow], order: u32) -> Option<Block>
     requires { order < length rows.now }
     ensures { IsFirstFrom rows.now order (order + 1) result }
 {
@@ -74,7 +74,7 @@ fn first_in(rows: &[Row], order: u32) -> Option<Block>
 }
 
 /// The first block of at least this order.
-pub fn first_of_order(rows: &[Row], order: u32) -> Option<Block>
+pub fn first_of_order(rows: &[BitRow], order: u32) -> Option<Block>
     requires { length rows.now ≤ 13 }
     ensures { IsFirstFrom rows.now order (length rows.now) result }
 {
@@ -87,7 +87,7 @@ pub fn first_of_order(rows: &[Row], order: u32) -> Option<Block>
 }
 
 /// The block that `part` is in.
-pub fn holder_of(rows: &[Row], part: Block) -> Option<Block>
+pub fn holder_of(rows: &[BitRow], part: Block) -> Option<Block>
     requires { length rows.now ≤ 13 }
     ensures some { IfSome result (λ b. (is_marked_in rows.now b ≡ true) × Inside part b) }
     ensures none { IfNone result ((b : Block) → Inside part b → is_marked_in rows.now b ≡ false) }
@@ -103,7 +103,7 @@ pub fn holder_of(rows: &[Row], part: Block) -> Option<Block>
 
 /// Takes `wanted` out of the block `from`, which it lies in. The rest of that block stays, in
 /// halves.
-pub fn take_out(rows: &mut Vec<Row>, from: Block, wanted: Block)
+pub fn take_out(rows: &mut Vec<BitRow>, from: Block, wanted: Block)
     requires kept { (top : ℕ) × (limit : ℕ) × IsKept top limit rows.old.items }
     requires orders { vec_len rows.old ≤ 13 }
     requires from { is_marked_in rows.old.items from ≡ true }
@@ -128,7 +128,7 @@ pub fn take_out(rows: &mut Vec<Row>, from: Block, wanted: Block)
 }
 
 // Whether the other half of a block is free, so that a larger one can be made of the two.
-fn joins(rows: &[Row], block: Block, top: u32) -> bool
+fn joins(rows: &[BitRow], block: Block, top: u32) -> bool
     ensures { IsTrue result ↔ ((block.order < top)
         × (is_marked_in rows.now (other_half block) ≡ true)) }
 {
@@ -136,7 +136,7 @@ fn joins(rows: &[Row], block: Block, top: u32) -> bool
 }
 
 /// Puts a block back of which nothing is free, joined with its other half as long as that is free.
-pub fn give_back(rows: &mut Vec<Row>, top: u32, given: Block)
+pub fn give_back(rows: &mut Vec<BitRow>, top: u32, given: Block)
     requires kept { (limit : ℕ) × IsKept top limit rows.old.items × ((g : ℕ)
         → is_in given g ≡ true → g < limit) }
     requires top { top ≤ 12 }

@@ -61,8 +61,8 @@ kept_of_word at (constant.Long bits) rest fits small = refl
 kept_of_word at (constant.Double bits) rest fits small = refl
 kept_of_word at (constant.Class name) rest fits small = let p =
     one_index 7 name 0 (omega arith) fits in rw (p.0, p.1) refl
-kept_of_word at (constant.String text) rest fits small = let p =
-    one_index 8 text 0 (omega arith) fits in rw (p.0, p.1) refl
+kept_of_word at (constant.String utf8) rest fits small = let p =
+    one_index 8 utf8 0 (omega arith) fits in rw (p.0, p.1) refl
 kept_of_word at (constant.Fieldref a b) rest fits small = let p =
     two_indexes 9 a b (omega arith) fits.0 fits.1 in rw (p.0, p.1, p.2) refl
 kept_of_word at (constant.Methodref a b) rest fits small = let p =
@@ -102,7 +102,7 @@ wide_by_word at (constant.Long bits) = refl
 wide_by_word at (constant.Double bits) = refl
 wide_by_word at (constant.Class name) = narrow (7 + 2 ^ 32 * name) (λ e. omega arith)
     (λ e. omega arith)
-wide_by_word at (constant.String text) = narrow (8 + 2 ^ 32 * text) (λ e. omega arith)
+wide_by_word at (constant.String utf8) = narrow (8 + 2 ^ 32 * utf8) (λ e. omega arith)
     (λ e. omega arith)
 wide_by_word at (constant.Fieldref a b) = narrow (9 + 2 ^ 32 * a + 2 ^ 48 * b)
     (λ e. omega arith) (λ e. omega arith)
@@ -136,7 +136,7 @@ words_in_front at (constant.Float bits) words = refl
 words_in_front at (constant.Long bits) words = refl
 words_in_front at (constant.Double bits) words = refl
 words_in_front at (constant.Class name) words = refl
-words_in_front at (constant.String text) words = refl
+words_in_front at (constant.String utf8) words = refl
 words_in_front at (constant.Fieldref a b) words = refl
 words_in_front at (constant.Methodref a b) words = refl
 words_in_front at (constant.InterfaceMethodref a b) words = refl

@@ -34,7 +34,7 @@ pub enum Constant {
     },
     /// Tag 8.
     String {
-        text: u16,
+        utf8: u16,
     },
     /// Tag 9.
     Fieldref {
@@ -88,7 +88,7 @@ fn constant_of_kind(kind: Kind, word: u64, next: u64) -> Constant
         Kind::Long => Constant::Long(next),
         Kind::Double => Constant::Double(next),
         Kind::Class => Constant::Class { name: one },
-        Kind::String => Constant::String { text: one },
+        Kind::String => Constant::String { utf8: one },
         Kind::Fieldref => Constant::Fieldref {
             class: one,
             name_and_type: two,

@@ -28,7 +28,7 @@ constant_words at (constant.Float bits) = (4 + 2 ^ 32 * bits) ∷ []
 constant_words at (constant.Long bits) = 5 ∷ bits ∷ []
 constant_words at (constant.Double bits) = 6 ∷ bits ∷ []
 constant_words at (constant.Class name) = (7 + 2 ^ 32 * name) ∷ []
-constant_words at (constant.String text) = (8 + 2 ^ 32 * text) ∷ []
+constant_words at (constant.String utf8) = (8 + 2 ^ 32 * utf8) ∷ []
 constant_words at (constant.Fieldref class name_and_type) =
     (9 + 2 ^ 32 * class + 2 ^ 48 * name_and_type) ∷ []
 constant_words at (constant.Methodref class name_and_type) =

@@ -31,7 +31,7 @@ pub fn whole_word(constant: &Constant) -> u64
         Constant::Long(_) => u64::from(Kind::Long.tag()),
         Constant::Double(_) => u64::from(Kind::Double.tag()),
         Constant::Class { name } => one(Kind::Class, u32::from(*name)),
-        Constant::String { text } => one(Kind::String, u32::from(*text)),
+        Constant::String { utf8 } => one(Kind::String, u32::from(*utf8)),
         Constant::Fieldref {
             class,
             name_and_type,

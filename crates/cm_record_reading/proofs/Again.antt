@@ -12,8 +12,8 @@ use Rattle.cm_class.specs.declared.class_file.Attribute.{Attribute}
 use Rattle.cm_class.specs.declared.class_file.Member.{Member}
 use Rattle.cm_class.specs.Spelling.{is_wide, IsU2, ConstantFits, SlotsFit, AttributeFits}
 use Rattle.cm_class.specs.Spelling.{MemberFits}
-use Rattle.cm_record_reading.specs.declared.entry.Entry.{Entry}
-use Rattle.cm_record_reading.specs.declared.entry.Entry.TheVariants as entry
+use Rattle.cm_record_reading.specs.declared.entry.DirectoryEntry.{DirectoryEntry}
+use Rattle.cm_record_reading.specs.declared.entry.DirectoryEntry.TheVariants as entry
 use Rattle.cm_record_layout.specs.Packing.{four_numbers, first_of, second_of, third_of, fourth_of}
 use Rattle.cm_record_layout.specs.Packing.{upper_of}
 use Rattle.cm_record_layout.specs.Layout.{constant_words, constant_run, directory, utf8_runs}
@@ -38,7 +38,7 @@ same_number : (n : ℕ) → (n == n) ≡ true
 same_number n = eq-eqb n n refl
 
 -- an entry is found at its word
-entry_found : (at word : ℕ) (e : Entry) → candidate word ≡ Some e → entry_word at e ≡ word
+entry_found : (at word : ℕ) (e : DirectoryEntry) → candidate word ≡ Some e → entry_word at e ≡ word
     → entry_of at word ≡ Some e
 unfolding entry_of
 entry_found at word e found same = let test : (entry_word at e == word) ≡ true =
@@ -77,9 +77,9 @@ constant_again total at (constant.Double bits) main runs fits e =
 constant_again total at (constant.Class name) main runs fits e =
     whole_again total (7 + 2 ^ 32 * name) (constant.Class name) main runs
     (class_back name fits) refl
-constant_again total at (constant.String text) main runs fits e =
-    whole_again total (8 + 2 ^ 32 * text) (constant.String text) main runs
-    (string_back text fits) refl
+constant_again total at (constant.String utf8) main runs fits e =
+    whole_again total (8 + 2 ^ 32 * utf8) (constant.String utf8) main runs
+    (string_back utf8 fits) refl
 constant_again total at (constant.Fieldref a b) main runs fits e =
     whole_again total (9 + 2 ^ 32 * a + 2 ^ 48 * b) (constant.Fieldref a b) main runs
     (fieldref_back a b fits.0 fits.1) refl

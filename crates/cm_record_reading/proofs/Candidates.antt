@@ -2,7 +2,7 @@
 use Rattle.std.proofs.Common.{◌≡◌, ◌<◌, ◌+◌, ◌*◌, ◌/◌, ◌%◌, ◌^◌, ℕ, Some, refl, arith}
 use Rattle.cm_class.specs.declared.constant.Constant.TheVariants as constant
 use Rattle.cm_record_layout.specs.Packing.{first_of, second_of, third_of, fourth_of, upper_of}
-use Rattle.cm_record_reading.specs.declared.entry.Entry.TheVariants as entry
+use Rattle.cm_record_reading.specs.declared.entry.DirectoryEntry.TheVariants as entry
 use Rattle.cm_record_reading.specs.Reading.{candidate}
 
 pub utf8_back : (n at : ℕ) → n < 2 ^ 16

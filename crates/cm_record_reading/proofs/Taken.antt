@@ -18,8 +18,8 @@ use Rattle.cm_class.specs.declared.kind.Kind.TheVariants as kinds
 use Rattle.cm_class.specs.Reading.{tag_of}
 use Rattle.cm_class.specs.Spelling.{is_wide, IsU2, AreBytes, ConstantFits, SlotsFit, AttributeFits}
 use Rattle.cm_class.specs.Spelling.{MemberFits}
-use Rattle.cm_record_reading.specs.declared.entry.Entry.{Entry}
-use Rattle.cm_record_reading.specs.declared.entry.Entry.TheVariants as entry
+use Rattle.cm_record_reading.specs.declared.entry.DirectoryEntry.{DirectoryEntry}
+use Rattle.cm_record_reading.specs.declared.entry.DirectoryEntry.TheVariants as entry
 use Rattle.cm_record_layout.specs.Packing.{word_from, bytes_of, packed, run_words, four_numbers}
 use Rattle.cm_record_layout.specs.Packing.{first_of, second_of, third_of, fourth_of, upper_of}
 use Rattle.cm_record_layout.specs.Layout.{constant_words, constant_run, directory, utf8_runs}
@@ -151,7 +151,7 @@ record IsPlain (c : Constant) : Type 0 where
   pub word : (at : ℕ) → constant_words at c ≡ whole_word c ∷ []
   pub fits : ConstantFits c
 
-abbrev EntryFits : Option Entry → Type 0
+abbrev EntryFits : Option DirectoryEntry → Type 0
 EntryFits None = Unit {0}
 EntryFits (Some (entry.Utf8 count)) = count < 2 ^ 16
 EntryFits (Some entry.Long) = Unit {0}
@@ -195,11 +195,11 @@ candidate_fits word = by_kind (tag_of (first_of word))
     by_kind None = tt
     by_kind (Some kind) = fits_of_kind kind word
 
-record EntryTaken (at word : ℕ) (e : Entry) : Type 0 where
+record EntryTaken (at word : ℕ) (e : DirectoryEntry) : Type 0 where
   pub word_is : entry_word at e ≡ word
   pub fits : EntryFits (Some e)
 
-entry_taken : (at word : ℕ) (e : Entry) → entry_of at word ≡ Some e → EntryTaken at word e
+entry_taken : (at word : ℕ) (e : DirectoryEntry) → entry_of at word ≡ Some e → EntryTaken at word e
 unfolding entry_of
 entry_taken at word e read =
     let one = bind_some (candidate word) _ e read in
@@ -230,7 +230,8 @@ wide_taken make (bits ∷ main) runs x e =
       some_same (make bits, main, runs) x tested.1,
     )
 
-from_entry : (at word : ℕ) (e : Entry) (main runs : List ℕ) (x : Constant × List ℕ × List ℕ)
+from_entry : (at word : ℕ) (e : DirectoryEntry) (main runs : List ℕ)
+    (x : Constant × List ℕ × List ℕ)
     → EntryTaken at word e → constant_from e main runs ≡ Some x
     → ConstantTaken at (word ∷ main) runs x
 from_entry at word (entry.Utf8 count) main runs x taken read =

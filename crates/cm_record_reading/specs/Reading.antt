@@ -15,8 +15,8 @@ use Rattle.cm_class.specs.declared.kind.Kind.{Kind}
 use Rattle.cm_class.specs.declared.kind.Kind.TheVariants as kinds
 use Rattle.cm_class.specs.Spelling.{is_wide}
 use Rattle.cm_class.specs.Reading.{tag_of}
-use Rattle.cm_record_reading.specs.declared.entry.Entry.{Entry}
-use Rattle.cm_record_reading.specs.declared.entry.Entry.TheVariants as entry
+use Rattle.cm_record_reading.specs.declared.entry.DirectoryEntry.{DirectoryEntry}
+use Rattle.cm_record_reading.specs.declared.entry.DirectoryEntry.TheVariants as entry
 use Rattle.cm_record_reading.specs.declared.fault.RecordFault.{RecordFault}
 use Rattle.cm_record_reading.specs.declared.fault.RecordFault.TheVariants.{NotARecord, NoMemory}
 use Rattle.cm_record_layout.specs.Layout.{whole_word, head_total, head_class, head_counts}
@@ -67,7 +67,7 @@ run_at count words = run_from (run_words count) count words
 -- ---- the constant pool
 
 -- what a directory word of this kind stands for
-abbrev pub entry_of_kind : Kind → ℕ → Entry
+abbrev pub entry_of_kind : Kind → ℕ → DirectoryEntry
 entry_of_kind kinds.Utf8 word = entry.Utf8 (second_of word)
 entry_of_kind kinds.Integer word = entry.Whole (constant.Integer (upper_of word))
 entry_of_kind kinds.Float word = entry.Whole (constant.Float (upper_of word))
@@ -89,20 +89,20 @@ entry_of_kind kinds.InvokeDynamic word =
     entry.Whole (constant.InvokeDynamic (third_of word) (fourth_of word))
 
 -- what a directory word may stand for, by its tag
-unfoldable pub candidate : ℕ → Option Entry
+unfoldable pub candidate : ℕ → Option DirectoryEntry
 candidate word = do
   kind ← tag_of (first_of word)
   Some (entry_of_kind kind word)
 
 -- the directory word of an entry whose run would begin at `at`
-abbrev pub entry_word : ℕ → Entry → ℕ
+abbrev pub entry_word : ℕ → DirectoryEntry → ℕ
 entry_word at (entry.Utf8 count) = 1 + 2 ^ 16 * count + 2 ^ 32 * at
 entry_word at entry.Long = 5
 entry_word at entry.Double = 6
 entry_word at (entry.Whole c) = whole_word c
 
 -- what a directory word stands for, where its run would begin at `at`
-unfoldable pub entry_of : ℕ → ℕ → Option Entry
+unfoldable pub entry_of : ℕ → ℕ → Option DirectoryEntry
 entry_of at word = do
   e ← candidate word
   only_if (entry_word at e == word) (Some e)
@@ -112,7 +112,7 @@ abbrev pub wide_from : (ℕ → Constant) → List ℕ → List ℕ → Option (
 wide_from make [] runs = None
 wide_from make (bits ∷ main) runs = only_if (nat_lt bits (2 ^ 64)) (Some (make bits, main, runs))
 
-abbrev pub constant_from : Entry → List ℕ → List ℕ → Option (Constant × List ℕ × List ℕ)
+abbrev pub constant_from : DirectoryEntry → List ℕ → List ℕ → Option (Constant × List ℕ × List ℕ)
 constant_from (entry.Utf8 count) main runs = do
   text ← run_at count runs
   Some (constant.Utf8 text.0, main, text.1)

@@ -7,7 +7,7 @@ ghost use Rattle.cm_record_reading.specs.Reading.{attribute_at, attributes_from,
 ghost use Rattle.cm_record_reading.specs.Reading.{members_from, pool_from, pool_left, body_from};
 ghost use Rattle.cm_record_reading.specs.Reading.{body_left, class_at};
 
-use crate::entry::{Entry, attribute_word, entry_at};
+use crate::entry::{DirectoryEntry, attribute_word, entry_at};
 use crate::whole::{Counts, head_is_right, sections_end};
 use cm_record_layout::{
     HEAD_ATTRIBUTES_AT, HEAD_CLASS, HEAD_COUNTS, HEAD_RUNS_AT, MAX_WORDS, SECOND, SLOT_1_AT,
@@ -54,11 +54,11 @@ fn skip_constant<'a, 'b>(
     };
     let at = (total - runs.len()) as u64;
     match entry_at(at, *word)? {
-        Entry::Utf8(count) => {
+        DirectoryEntry::Utf8(count) => {
             let runs = skip_run(count as usize, runs)?;
             Some((false, main, runs))
         }
-        Entry::Long => {
+        DirectoryEntry::Long => {
             let [bits, main @ ..] = main else {
                 return None;
             };
@@ -66,7 +66,7 @@ fn skip_constant<'a, 'b>(
             let _bits = *bits;
             Some((true, main, runs))
         }
-        Entry::Double => {
+        DirectoryEntry::Double => {
             let [bits, main @ ..] = main else {
                 return None;
             };
@@ -74,7 +74,7 @@ fn skip_constant<'a, 'b>(
             let _bits = *bits;
             Some((true, main, runs))
         }
-        Entry::Whole(constant) => Some((constant.is_wide(), main, runs)),
+        DirectoryEntry::Whole(constant) => Some((constant.is_wide(), main, runs)),
     }
 }
 

@@ -14,7 +14,7 @@ use cm_record_layout::{SECOND, THIRD, first, fourth, second, third, upper, whole
 /// What a word of the directory stands for: a Utf8 with its length, the beginning of a wide
 /// constant, or a whole constant.
 #[derive(Debug, Drop)]
-pub(crate) enum Entry {
+pub(crate) enum DirectoryEntry {
     Utf8(u16),
     Long,
     Double,
@@ -22,18 +22,18 @@ pub(crate) enum Entry {
 }
 
 /// What a word of this kind stands for.
-fn entry_of_kind(kind: Kind, word: u64) -> Entry
+fn entry_of_kind(kind: Kind, word: u64) -> DirectoryEntry
     ensures { result ≡ entry_of_kind_of kind word }
 {
     let (one, two) = (third(word), fourth(word));
     let whole = match kind {
-        Kind::Utf8 => return Entry::Utf8(second(word)),
-        Kind::Long => return Entry::Long,
-        Kind::Double => return Entry::Double,
+        Kind::Utf8 => return DirectoryEntry::Utf8(second(word)),
+        Kind::Long => return DirectoryEntry::Long,
+        Kind::Double => return DirectoryEntry::Double,
         Kind::Integer => Constant::Integer(upper(word)),
         Kind::Float => Constant::Float(upper(word)),
         Kind::Class => Constant::Class { name: one },
-        Kind::String => Constant::String { text: one },
+        Kind::String => Constant::String { utf8: one },
         Kind::Fieldref => Constant::Fieldref {
             class: one,
             name_and_type: two,
@@ -60,12 +60,12 @@ fn entry_of_kind(kind: Kind, word: u64) -> Entry
             name_and_type: two,
         },
     };
-    Entry::Whole(whole)
+    DirectoryEntry::Whole(whole)
 }
 
 /// What a word may stand for, by its tag.
 #[tactic(auto, unfolding(crate::specs::Reading::candidate))]
-fn candidate(word: u64) -> Option<Entry>
+fn candidate(word: u64) -> Option<DirectoryEntry>
     ensures { result ≡ candidate_of word }
 {
     let kind = Kind::from_tag(first(word))?;
@@ -73,23 +73,23 @@ fn candidate(word: u64) -> Option<Entry>
 }
 
 /// The word of an entry whose run would begin at `at`.
-fn entry_word(at: u64, entry: &Entry) -> u64
+fn entry_word(at: u64, entry: &DirectoryEntry) -> u64
     requires { at ≤ limit }
     ensures { result ≡ entry_word_of at entry.now }
 {
     match entry {
-        Entry::Utf8(count) => {
+        DirectoryEntry::Utf8(count) => {
             u64::from(Kind::Utf8.tag()) + SECOND * u64::from(*count) + THIRD * at
         }
-        Entry::Long => u64::from(Kind::Long.tag()),
-        Entry::Double => u64::from(Kind::Double.tag()),
-        Entry::Whole(constant) => whole_word(constant),
+        DirectoryEntry::Long => u64::from(Kind::Long.tag()),
+        DirectoryEntry::Double => u64::from(Kind::Double.tag()),
+        DirectoryEntry::Whole(constant) => whole_word(constant),
     }
 }
 
 /// What a word of the directory stands for, where its run would begin at `at`.
 #[tactic(auto, unfolding(crate::specs::Reading::entry_of))]
-pub(crate) fn entry_at(at: u64, word: u64) -> Option<Entry>
+pub(crate) fn entry_at(at: u64, word: u64) -> Option<DirectoryEntry>
     requires { at ≤ limit }
     ensures { result ≡ entry_of at word }
 {

@@ -6,7 +6,7 @@ ghost use Rattle.cm_record_reading.specs.Reading.{Gives, run_at, constant_at, sl
 ghost use Rattle.cm_record_reading.specs.Reading.{interfaces_from, attribute_at, attributes_from};
 ghost use Rattle.cm_record_reading.specs.Reading.{member_at, members_from};
 
-use crate::entry::{Entry, attribute_word, entry_at};
+use crate::entry::{DirectoryEntry, attribute_word, entry_at};
 use crate::fault::RecordFault;
 use cm_class::{Attribute, Constant, Items, Member, Slot};
 use cm_record_layout::{SECOND, bytes_of, first, fourth, second, third, upper, word_of};
@@ -66,23 +66,23 @@ fn read_constant<'a, 'b>(
     };
     let at = (total - runs.len()) as u64;
     match entry_at(at, *word).ok_or(RecordFault::NotARecord)? {
-        Entry::Utf8(count) => {
+        DirectoryEntry::Utf8(count) => {
             let (bytes, runs) = read_run(alloc, count as usize, runs)?;
             Ok((Constant::Utf8(Items::from_vec(bytes)), main, runs))
         }
-        Entry::Long => {
+        DirectoryEntry::Long => {
             let [bits, main @ ..] = main else {
                 return Err(RecordFault::NotARecord);
             };
             Ok((Constant::Long(*bits), main, runs))
         }
-        Entry::Double => {
+        DirectoryEntry::Double => {
             let [bits, main @ ..] = main else {
                 return Err(RecordFault::NotARecord);
             };
             Ok((Constant::Double(*bits), main, runs))
         }
-        Entry::Whole(constant) => Ok((constant, main, runs)),
+        DirectoryEntry::Whole(constant) => Ok((constant, main, runs)),
     }
 }
 

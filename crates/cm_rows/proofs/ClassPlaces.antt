@@ -9,7 +9,7 @@ use Rattle.cm_layout.specs.declared.entry_rule.EntryRule.TheVariants.{OnRows, On
 use Rattle.cm_layout.specs.declared.row.Row.{Row}
 use Rattle.cm_layout.specs.declared.row.Row.TheVariants.{Class}
 use Rattle.cm_layout.specs.Rules.{broken_live_rule, class_fits, has_place, has_room, is_live}
-use Rattle.cm_index.specs.declared.slot.Slot.{Slot}
+use Rattle.cm_index.specs.declared.slot.BookSlot.{BookSlot}
 use Rattle.cm_index.specs.Living.{living}
 use Rattle.cm_rows.specs.declared.live_loader.LiveLoader.{LiveLoader}
 use Rattle.cm_rows.specs.Book.{IsBook}
@@ -22,7 +22,7 @@ use Rattle.cm_rows.proofs.Verdicts.{inside-chunk, live-at, no_room-is, not_live,
 use Rattle.cm_rows.proofs.Verdicts.{on_chunks-place, on_none, on_rows-live, on_rows-room, room-is}
 
 module _ {P : Type 0} (sizes : Sizes) (rows : List (Row P))
-    (loaders : List (Slot LiveLoader)) (old new : FreeSpace) (r : ClassRow)
+    (loaders : List (BookSlot LiveLoader)) (old new : FreeSpace) (r : ClassRow)
     (kept : P) (count : ℕ) (counted : count ≡ length rows)
     (book : IsBook sizes rows (living loaders) old) where
   abbrev live : Bool
@@ -31,7 +31,7 @@ module _ {P : Type 0} (sizes : Sizes) (rows : List (Row P))
   abbrev room : Bool
   room = has_room sizes rows (Class r kept)
 
-  module _ (at : ℕ) (slot : Slot LiveLoader) (may : MayCome sizes count loaders r at slot) where
+  module _ (at : ℕ) (slot : BookSlot LiveLoader) (may : MayCome sizes count loaders r at slot) where
     pub among : StandsAmong loaders at
     among = stands loaders r.loader at may.kept
 

@@ -9,7 +9,7 @@ use Rattle.cm_pool.specs.Geometry.{Sizes}
 use Rattle.cm_pool.specs.FreeSpace.{FreeSpace, IsUsedChunk, with_chunk}
 use Rattle.cm_layout.specs.declared.row.Row.{Row}
 use Rattle.cm_layout.specs.Rows.{classes_in}
-use Rattle.cm_index.specs.declared.slot.Slot.{Slot}
+use Rattle.cm_index.specs.declared.slot.BookSlot.{BookSlot}
 use Rattle.cm_index.specs.Living.{living}
 use Rattle.cm_rows.specs.Held.{chunks_of, Holds, first_chunks, own_chunk}
 use Rattle.cm_rows.proofs.Holding.{give-back}
@@ -17,13 +17,13 @@ use Rattle.cm_rows.proofs.Giving.{classes-append, first-append, firsts-some, fir
 
 module _ {X : Type 0} where
   -- what lives before a place and behind it
-  pub record Around (slots : List (Slot X)) (i : ℕ) (s x : Slot X) : Type 0 where
+  pub record Around (slots : List (BookSlot X)) (i : ℕ) (s x : BookSlot X) : Type 0 where
     pub front : List X
     pub rest : List X
     pub was : living slots ≡ front ++ s.item ∷ rest
     pub is : living (set slots i x) ≡ front ++ rest
 
-  pub around : (slots : List (Slot X)) (i : ℕ) (s x : Slot X) → slice_get slots i ≡ Some s
+  pub around : (slots : List (BookSlot X)) (i : ℕ) (s x : BookSlot X) → slice_get slots i ≡ Some s
       → s.live ≡ true → x.live ≡ false → Around slots i s x
   around [] i s x there live dead = absurd (cc)
   around (z ∷ slots) zero s x there live dead =
@@ -31,7 +31,7 @@ module _ {X : Type 0} where
       record {
         front = [];
         rest = living slots;
-        was = ap (λ (t : Slot X). cond t.live (t.item ∷ living slots) (living slots)) is
+        was = ap (λ (t : BookSlot X). cond t.live (t.item ∷ living slots) (living slots)) is
             ∙ ap (λ (b : Bool). cond b (s.item ∷ living slots) (living slots)) live;
         is = ap (λ (b : Bool). cond b (x.item ∷ living slots) (living slots)) dead;
       }
@@ -55,7 +55,8 @@ module _ {X : Type 0} where
             ∙ a.is;
       }
 
-  pub fewer-ended : (slots : List (Slot X)) (i : ℕ) (s x : Slot X) → slice_get slots i ≡ Some s
+  pub fewer-ended : (slots : List (BookSlot X)) (i : ℕ) (s x : BookSlot X) → slice_get slots i
+      ≡ Some s
       → s.live ≡ true → x.live ≡ false → length (living (set slots i x)) + 1 ≡ length (living slots)
   fewer-ended slots i s x there live dead =
       let a = around slots i s x there live dead in
@@ -73,8 +74,8 @@ module _ {P : Type 0} where
   firsts-append rows more = ap first_chunks (classes-append rows more)
       ∙ first-append (classes_in rows) (classes_in more)
 
-  pub ended-gives : (sizes : Sizes) (p : FreeSpace) (slots : List (Slot (Row P))) (i : ℕ)
-      (s x : Slot (Row P)) (c : Chunk)
+  pub ended-gives : (sizes : Sizes) (p : FreeSpace) (slots : List (BookSlot (Row P))) (i : ℕ)
+      (s x : BookSlot (Row P)) (c : Chunk)
       → slice_get slots i ≡ Some s → s.live ≡ true → x.live ≡ false → own_chunk s.item ≡ Some c
       → Holds sizes p (chunks_of (living slots))
       → IsUsedChunk p c × Holds sizes (with_chunk p c) (chunks_of (living (set slots i x)))
@@ -90,8 +91,8 @@ module _ {P : Type 0} where
             ∙ firsts-append a.front a.rest)) given.1,
       )
 
-  pub ended-keeps : (sizes : Sizes) (p : FreeSpace) (slots : List (Slot (Row P))) (i : ℕ)
-      (s x : Slot (Row P))
+  pub ended-keeps : (sizes : Sizes) (p : FreeSpace) (slots : List (BookSlot (Row P))) (i : ℕ)
+      (s x : BookSlot (Row P))
       → slice_get slots i ≡ Some s → s.live ≡ true → x.live ≡ false → own_chunk s.item ≡ None
       → Holds sizes p (chunks_of (living slots))
       → Holds sizes p (chunks_of (living (set slots i x)))

@@ -15,7 +15,7 @@ use Rattle.cm_layout.specs.declared.class_row.ClassRow.{ClassRow}
 use Rattle.cm_layout.specs.declared.row.Row.{Row}
 use Rattle.cm_layout.specs.declared.row.Row.TheVariants.{Loader, Class}
 use Rattle.cm_layout.specs.Rows.{classes_in}
-use Rattle.cm_index.specs.declared.slot.Slot.{Slot}
+use Rattle.cm_index.specs.declared.slot.BookSlot.{BookSlot}
 use Rattle.cm_index.specs.Living.{living}
 use Rattle.cm_index.proofs.Living.{living-append}
 use Rattle.std.proofs.lemmas.List.{take-append-drop}
@@ -64,20 +64,21 @@ module _ {P : Type 0} where
       by_test true e h = absurd (cc)
       by_test false e h = rw (e) refl
 
-  pub living-more : (slots : List (Slot (Row P))) (i : ℕ) (d : Slot (Row P)) → i < length slots
+  pub living-more : (slots : List (BookSlot (Row P))) (i : ℕ) (d : BookSlot (Row P))
+      → i < length slots
       → living (drop i slots) ≡ cond (get_or slots i d).live
       ((get_or slots i d).item ∷ living (drop (i + 1) slots)) (living (drop (i + 1) slots))
   living-more slots i d lt = ap living (drop_more slots i d lt)
 
-  pub given-more : (sizes : Sizes) (p : FreeSpace) (slots : List (Slot (Row P))) (i : ℕ)
-      (s : Slot (Row P)) (c : Chunk) → i < length slots → s ≡ get_or slots i s
+  pub given-more : (sizes : Sizes) (p : FreeSpace) (slots : List (BookSlot (Row P))) (i : ℕ)
+      (s : BookSlot (Row P)) (c : Chunk) → i < length slots → s ≡ get_or slots i s
       → living_chunk s ≡ Some c
       → Holds sizes p (chunks_of (living (drop i slots)))
       → Holds sizes (with_chunk p c) (chunks_of (living (drop (i + 1) slots)))
   given-more sizes p slots i s c lt is some h =
       let rest = living (drop (i + 1) slots) in
       let now : living (drop i slots) ≡ cond s.live (s.item ∷ rest) rest =
-      living-more slots i s lt ∙ ap (λ (t : Slot (Row P)). cond t.live (t.item ∷ rest) rest)
+      living-more slots i s lt ∙ ap (λ (t : BookSlot (Row P)). cond t.live (t.item ∷ rest) rest)
       (sym is) in
       by_test s.live rest (subst (λ (l : List (Row P)). Holds sizes p (chunks_of l)) now h) some
     where
@@ -89,14 +90,14 @@ module _ {P : Type 0} where
           (subst (λ (l : List Chunk). Holds sizes p l) (firsts-some s.item rest c e) h)).1
       by_test false rest h e = absurd (cc)
 
-  pub given-used : (sizes : Sizes) (p : FreeSpace) (slots : List (Slot (Row P))) (i : ℕ)
-      (s : Slot (Row P)) (c : Chunk) → i < length slots → s ≡ get_or slots i s
+  pub given-used : (sizes : Sizes) (p : FreeSpace) (slots : List (BookSlot (Row P))) (i : ℕ)
+      (s : BookSlot (Row P)) (c : Chunk) → i < length slots → s ≡ get_or slots i s
       → living_chunk s ≡ Some c
       → Holds sizes p (chunks_of (living (drop i slots))) → IsUsedChunk p c
   given-used sizes p slots i s c lt is some h =
       let rest = living (drop (i + 1) slots) in
       let now : living (drop i slots) ≡ cond s.live (s.item ∷ rest) rest =
-      living-more slots i s lt ∙ ap (λ (t : Slot (Row P)). cond t.live (t.item ∷ rest) rest)
+      living-more slots i s lt ∙ ap (λ (t : BookSlot (Row P)). cond t.live (t.item ∷ rest) rest)
       (sym is) in
       by_test s.live rest (subst (λ (l : List (Row P)). Holds sizes p (chunks_of l)) now h) some
     where
@@ -108,15 +109,15 @@ module _ {P : Type 0} where
           (subst (λ (l : List Chunk). Holds sizes p l) (firsts-some s.item rest c e) h)).0
       by_test false rest h e = absurd (cc)
 
-  pub left-more : (sizes : Sizes) (p : FreeSpace) (slots : List (Slot (Row P))) (i : ℕ)
-      (s : Slot (Row P))
+  pub left-more : (sizes : Sizes) (p : FreeSpace) (slots : List (BookSlot (Row P))) (i : ℕ)
+      (s : BookSlot (Row P))
       → i < length slots → s ≡ get_or slots i s → living_chunk s ≡ None
       → Holds sizes p (chunks_of (living (drop i slots)))
       → Holds sizes p (chunks_of (living (drop (i + 1) slots)))
   left-more sizes p slots i s lt is none h =
       let rest = living (drop (i + 1) slots) in
       let now : living (drop i slots) ≡ cond s.live (s.item ∷ rest) rest =
-      living-more slots i s lt ∙ ap (λ (t : Slot (Row P)). cond t.live (t.item ∷ rest) rest)
+      living-more slots i s lt ∙ ap (λ (t : BookSlot (Row P)). cond t.live (t.item ∷ rest) rest)
       (sym is) in
       by_test s.live rest (subst (λ (l : List (Row P)). Holds sizes p (chunks_of l)) now h) none
     where
@@ -145,26 +146,28 @@ module _ {P : Type 0} where
       ∙ first-append (classes_in rows) (classes_in more)
 
   -- what lives up to a place, the place, and what lives behind it
-  pub split-living : (slots : List (Slot (Row P))) (i : ℕ) (s : Slot (Row P)) → i < length slots
+  pub split-living : (slots : List (BookSlot (Row P))) (i : ℕ) (s : BookSlot (Row P))
+      → i < length slots
       → s ≡ get_or slots i s
       → living slots ≡ living (take i slots) ++ cond s.live (s.item ∷ living (drop (i + 1) slots))
       (living (drop (i + 1) slots))
   split-living slots i s lt is =
       ap living (sym (take-append-drop i slots)) ∙ living-append (take i slots) (drop i slots)
       ∙ ap (λ l. living (take i slots) ++ l) (living-more slots i s lt
-      ∙ ap (λ (t : Slot (Row P)). cond t.live (t.item ∷ living (drop (i + 1) slots))
+      ∙ ap (λ (t : BookSlot (Row P)). cond t.live (t.item ∷ living (drop (i + 1) slots))
       (living (drop (i + 1) slots))) (sym is))
 
-  pub taken-living : (slots : List (Slot (Row P))) (i : ℕ) (s : Slot (Row P)) → i < length slots
+  pub taken-living : (slots : List (BookSlot (Row P))) (i : ℕ) (s : BookSlot (Row P))
+      → i < length slots
       → s ≡ get_or slots i s
       → living (take (i + 1) slots) ≡ living (take i slots) ++ cond s.live (s.item ∷ []) []
   taken-living slots i s lt is =
       ap living (take_more slots i s lt) ∙ living-append (take i slots) (get_or slots i s ∷ [])
-      ∙ ap (λ (t : Slot (Row P)). living (take i slots) ++ cond t.live (t.item ∷ []) [])
+      ∙ ap (λ (t : BookSlot (Row P)). living (take i slots) ++ cond t.live (t.item ∷ []) [])
       (sym is)
 
-  pub taken-more : (sizes : Sizes) (p : FreeSpace) (slots : List (Slot (Row P))) (i : ℕ)
-      (s : Slot (Row P)) (c : Chunk) → i < length slots → s ≡ get_or slots i s
+  pub taken-more : (sizes : Sizes) (p : FreeSpace) (slots : List (BookSlot (Row P))) (i : ℕ)
+      (s : BookSlot (Row P)) (c : Chunk) → i < length slots → s ≡ get_or slots i s
       → living_chunk s ≡ Some c → CanBeHeld sizes (chunks_of (living slots))
       → Holds sizes p (chunks_of (living (take i slots))) → IsFreeChunk p c
       × Holds sizes (without p c) (chunks_of (living (take (i + 1) slots)))
@@ -203,8 +206,8 @@ module _ {P : Type 0} where
                 (take-push sizes p (chunks_of front) c h free),
           )
 
-  pub passed-more : (sizes : Sizes) (p : FreeSpace) (slots : List (Slot (Row P))) (i : ℕ)
-      (s : Slot (Row P))
+  pub passed-more : (sizes : Sizes) (p : FreeSpace) (slots : List (BookSlot (Row P))) (i : ℕ)
+      (s : BookSlot (Row P))
       → i < length slots → s ≡ get_or slots i s → living_chunk s ≡ None
       → Holds sizes p (chunks_of (living (take i slots)))
       → Holds sizes p (chunks_of (living (take (i + 1) slots)))

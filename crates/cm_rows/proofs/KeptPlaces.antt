@@ -15,7 +15,7 @@ use Rattle.std.proofs.lemmas.List.{length-map, take-append-drop, get_or-take, ta
 use Rattle.std.proofs.Common.{length-append, IfNone, IsSome, Some}
 use Rattle.std.proofs.Math.Seq.{get_or-append_seam}
 use Rattle.cm_pool.specs.Lists.{Among, Pairwise}
-use Rattle.cm_index.specs.declared.slot.Slot.{Slot}
+use Rattle.cm_index.specs.declared.slot.BookSlot.{BookSlot}
 use Rattle.cm_index.specs.Living.{living, swept}
 use Rattle.cm_index.specs.Index.{LivesAt}
 use Rattle.cm_index.proofs.Living.{living-append, length-swept}
@@ -26,7 +26,7 @@ use Rattle.cm_rows.proofs.Loaders.{rises-at, at-among, absent-among}
 -- ---- any places
 
 module _ {X : Type 0} where
-  pub get-items : (slots : List (Slot X)) (i : ℕ) (d : Slot X)
+  pub get-items : (slots : List (BookSlot X)) (i : ℕ) (d : BookSlot X)
       → (get_or slots i d).item ≡ get_or (items slots) i d.item
   get-items [] i d = refl
   get-items (s ∷ slots) zero d = refl
@@ -37,23 +37,24 @@ module _ {X : Type 0} where
   same-default (x ∷ xs) zero d e h = refl
   same-default (x ∷ xs) (suc i) d e h = same-default xs i d e (omega arith)
 
-  pub items-set : (slots : List (Slot X)) (i : ℕ) (s : Slot X)
+  pub items-set : (slots : List (BookSlot X)) (i : ℕ) (s : BookSlot X)
       → items (set slots i s) ≡ set (items slots) i s.item
   items-set [] i s = refl
   items-set (t ∷ slots) zero s = refl
   items-set (t ∷ slots) (suc i) s = ap (λ l. t.item ∷ l) (items-set slots i s)
 
-  pub items-push : (slots : List (Slot X)) (s : Slot X) → items (slots ++ s ∷ []) ≡ items slots
+  pub items-push : (slots : List (BookSlot X)) (s : BookSlot X) → items (slots ++ s ∷ [])
+      ≡ items slots
       ++ s.item ∷ []
   items-push [] s = refl
   items-push (t ∷ slots) s = ap (λ l. t.item ∷ l) (items-push slots s)
 
-  pub items-take : (n : ℕ) (slots : List (Slot X)) → items (take n slots) ≡ take n (items slots)
+  pub items-take : (n : ℕ) (slots : List (BookSlot X)) → items (take n slots) ≡ take n (items slots)
   items-take zero slots = refl
   items-take (suc n) [] = refl
   items-take (suc n) (s ∷ slots) = ap (λ l. s.item ∷ l) (items-take n slots)
 
-  pub items-swept : (slots : List (Slot X)) → items (swept slots) ≡ living slots
+  pub items-swept : (slots : List (BookSlot X)) → items (swept slots) ≡ living slots
   items-swept [] = refl
   items-swept (s ∷ slots) = by_test s.live (items-swept slots)
     where
@@ -64,7 +65,7 @@ module _ {X : Type 0} where
       by_test false behind = behind
 
   -- what is known of all is known of those that live
-  pub all-kept : (P : X → Type 0) (slots : List (Slot X)) → AllByRecursion P (items slots)
+  pub all-kept : (P : X → Type 0) (slots : List (BookSlot X)) → AllByRecursion P (items slots)
       → AllByRecursion P (living slots)
   all-kept P [] h = tt
   all-kept P (s ∷ slots) h = by_test s.live (all-kept P slots h.1)
@@ -74,19 +75,19 @@ module _ {X : Type 0} where
       by_test true behind = (h.0, behind)
       by_test false behind = behind
 
-  none-living : (slots : List (Slot X)) → AllByRecursion (λ s. s.live ≡ false) slots
+  none-living : (slots : List (BookSlot X)) → AllByRecursion (λ s. s.live ≡ false) slots
       → living slots ≡ []
   none-living [] h = refl
   none-living (s ∷ slots) h =
       ap (λ (t : Bool). cond t (s.item ∷ living slots) (living slots)) h.0 ∙ none-living slots h.1
 
   -- one more
-  pub swept-more : (slots : List (Slot X)) (i : ℕ) (d : Slot X) → i < length slots
+  pub swept-more : (slots : List (BookSlot X)) (i : ℕ) (d : BookSlot X) → i < length slots
       → swept (take (i + 1) slots) ≡ swept (take i slots) ++ swept (get_or slots i d ∷ [])
   swept-more slots i d lt =
       ap swept (take_more slots i d lt) ∙ swept-append (take i slots) (get_or slots i d ∷ [])
     where
-      swept-append : (xs ys : List (Slot X)) → swept (xs ++ ys) ≡ swept xs ++ swept ys
+      swept-append : (xs ys : List (BookSlot X)) → swept (xs ++ ys) ≡ swept xs ++ swept ys
       swept-append [] ys = refl
       swept-append (t ∷ xs) ys = by_test t.live (swept-append xs ys)
         where
@@ -97,7 +98,7 @@ module _ {X : Type 0} where
           by_test false behind = behind
 
   -- there is room for one more of those that live
-  room-for : (slots : List (Slot X)) (i : ℕ) (d : Slot X) → i < length slots
+  room-for : (slots : List (BookSlot X)) (i : ℕ) (d : BookSlot X) → i < length slots
       → length (swept (take i slots)) + length (living (get_or slots i d ∷ []))
       ≤ length (living slots)
   room-for slots i d lt =
@@ -110,7 +111,8 @@ module _ {X : Type 0} where
         length-swept slots,
       )
     where
-      few : (n : ℕ) (slots : List (Slot X)) → length (swept (take n slots)) ≤ length (swept slots)
+      few : (n : ℕ) (slots : List (BookSlot X))
+          → length (swept (take n slots)) ≤ length (swept slots)
       few zero slots = omega arith
       few (suc n) [] = omega arith
       few (suc n) (t ∷ slots) = by_test t.live (few n slots)
@@ -121,14 +123,15 @@ module _ {X : Type 0} where
           by_test true behind = omega (arith, behind)
           by_test false behind = omega (arith, behind)
 
-  pub room-there : (slots : List (Slot X)) (i n capacity : ℕ) (d : Slot X) → i < length slots
+  pub room-there : (slots : List (BookSlot X)) (i n capacity : ℕ) (d : BookSlot X)
+      → i < length slots
       → n ≡ length (swept (take i slots)) → length (living slots) ≤ capacity
       → n + length (living (get_or slots i d ∷ [])) ≤ capacity
   room-there slots i n capacity d lt same le = let few = room-for slots i d lt in
       omega (arith, few, same, le)
 
   -- behind an end nothing lives
-  pub living-end : (slots : List (Slot X)) (n : ℕ)
+  pub living-end : (slots : List (BookSlot X)) (n : ℕ)
       → AllByRecursion (λ s. s.live ≡ false) (drop n slots)
       → living (take n slots) ≡ living slots
   living-end slots n h =
@@ -140,38 +143,38 @@ module _ {X : Type 0} where
       nothing (x ∷ xs) ys e = ap (λ l. x ∷ l) (nothing xs ys e)
 
   -- where all live, each does
-  pub each-lives : {slots : List (Slot X)} (k : ℕ) → AllByRecursion (λ s. s.live ≡ true) slots
+  pub each-lives : {slots : List (BookSlot X)} (k : ℕ) → AllByRecursion (λ s. s.live ≡ true) slots
       → k < length slots
       → LivesAt slots k
   each-lives {slots} k h lt = record { is = by_place slots k h lt }
     where
-      by_place : (slots : List (Slot X)) (k : ℕ) → AllByRecursion (λ s. s.live ≡ true) slots
+      by_place : (slots : List (BookSlot X)) (k : ℕ) → AllByRecursion (λ s. s.live ≡ true) slots
           → k < length slots
-          → (d : Slot X) → (get_or slots k d).live ≡ true
+          → (d : BookSlot X) → (get_or slots k d).live ≡ true
       by_place [] k h lt d = absurd (omega arith)
       by_place (s ∷ slots) zero h lt d = h.0
       by_place (s ∷ slots) (suc k) h lt d = by_place slots k h.1 (omega arith) d
 
   -- the last one lives, with one more that does
-  pub lives-push : (slots : List (Slot X)) (s : Slot X) (k : ℕ) → s.live ≡ true
+  pub lives-push : (slots : List (BookSlot X)) (s : BookSlot X) (k : ℕ) → s.live ≡ true
       → length (slots ++ s ∷ []) ≡ k + 1
       → LivesAt (slots ++ s ∷ []) k
   lives-push slots s k live e =
       let at : k ≡ length slots = omega (arith, e, length-append slots (s ∷ [])) in
       record {
         is = λ d. ap (λ (j : ℕ). (get_or (slots ++ s ∷ []) j d).live) at
-            ∙ ap (λ (t : Slot X). t.live) (get_or-append_seam slots s [] d) ∙ live;
+            ∙ ap (λ (t : BookSlot X). t.live) (get_or-append_seam slots s [] d) ∙ live;
       }
 
   -- and with one changed to one that does
-  pub lives-set : (slots : List (Slot X)) (i : ℕ) (s : Slot X) (k : ℕ) → s.live ≡ true
+  pub lives-set : (slots : List (BookSlot X)) (i : ℕ) (s : BookSlot X) (k : ℕ) → s.live ≡ true
       → k < length slots
       → LivesAt slots k → LivesAt (set slots i s) k
   lives-set slots i s k live lt h = record { is = by_place slots i k lt h.is }
     where
-      by_place : (slots : List (Slot X)) (i k : ℕ) → k < length slots
-          → ((d : Slot X) → (get_or slots k d).live ≡ true)
-          → (d : Slot X) → (get_or (set slots i s) k d).live ≡ true
+      by_place : (slots : List (BookSlot X)) (i k : ℕ) → k < length slots
+          → ((d : BookSlot X) → (get_or slots k d).live ≡ true)
+          → (d : BookSlot X) → (get_or (set slots i s) k d).live ≡ true
       by_place [] i k lt h d = absurd (omega arith)
       by_place (t ∷ slots) zero zero lt h d = live
       by_place (t ∷ slots) zero (suc k) lt h d = h d
@@ -179,26 +182,26 @@ module _ {X : Type 0} where
       by_place (t ∷ slots) (suc i) (suc k) lt h d = by_place slots i k (omega arith) h d
 
   -- and where those behind it are taken out
-  pub lives-take : (slots : List (Slot X)) (n k : ℕ) → n ≡ k + 1 → n ≤ length slots
+  pub lives-take : (slots : List (BookSlot X)) (n k : ℕ) → n ≡ k + 1 → n ≤ length slots
       → LivesAt slots k
       → LivesAt (take n slots) k
   lives-take slots n k e le h =
       record {
-        is = λ d. ap (λ (t : Slot X). t.live) (get_or-take n slots k d (omega (arith, e)))
+        is = λ d. ap (λ (t : BookSlot X). t.live) (get_or-take n slots k d (omega (arith, e)))
             ∙ h.is d;
       }
 
   -- where one that lives stands among those that do
-  pub record StandsAmong (slots : List (Slot X)) (i : ℕ) : Type 0 where
+  pub record StandsAmong (slots : List (BookSlot X)) (i : ℕ) : Type 0 where
     pub place : ℕ
     pub within : place < length (living slots)
-    pub item : (d : X) (e : Slot X) → get_or (living slots) place d ≡ (get_or slots i e).item
+    pub item : (d : X) (e : BookSlot X) → get_or (living slots) place d ≡ (get_or slots i e).item
     pub changed : (x : X) → living (set slots i (record { item = x; live = true }))
         ≡ set (living slots) place x
     pub ended : (x : X) → living (set slots i (record { item = x; live = false }))
         ≡ remove (living slots) place
 
-  pub stands-among : (slots : List (Slot X)) (i : ℕ) → i < length slots → LivesAt slots i
+  pub stands-among : (slots : List (BookSlot X)) (i : ℕ) → i < length slots → LivesAt slots i
       → StandsAmong slots i
   stands-among [] i lt h = absurd (omega arith)
   stands-among (s ∷ slots) zero lt h =
@@ -241,14 +244,14 @@ Below a b = a.number < b.number
 pub nobody : LiveLoader
 nobody = record { number = 0; last = None }
 
-rise : (slots : List (Slot LiveLoader)) (n : ℕ) → Rises (items slots) → IsNonDecreasingBy
+rise : (slots : List (BookSlot LiveLoader)) (n : ℕ) → Rises (items slots) → IsNonDecreasingBy
     (λ s. ordering_index (nat_cmp s.item.number n)) slots
 rise slots n h i j d le within =
     elim (cases_lt i j) [
       | inl lt ↦
           let rises =
           rises-at (items slots) i j d.item h.each lt
-          (omega (arith, length-map slots (λ (s : Slot LiveLoader). s.item))) in
+          (omega (arith, length-map slots (λ (s : BookSlot LiveLoader). s.item))) in
           let one = ap (λ (l : LiveLoader). l.number) (get-items slots i d) in
           let two = ap (λ (l : LiveLoader). l.number) (get-items slots j d) in
           let less : (get_or slots i d).item.number < (get_or slots j d).item.number =
@@ -259,12 +262,12 @@ rise slots n h i j d le within =
           ≤ ordering_index (nat_cmp (get_or slots k d).item.number n)) same (omega arith)
     ]
 
-pub searched : (slots : List (Slot LiveLoader)) (n : ℕ) (r : Result ℕ ℕ) → Rises (items slots)
+pub searched : (slots : List (BookSlot LiveLoader)) (n : ℕ) (r : Result ℕ ℕ) → Rises (items slots)
     → IsSearchInRange r (length slots) → IsBinarySearchResult (λ s. nat_cmp s.item.number n) slots r
     → IfSome (result_ok r) (IsAt (items slots) n) × IfNone (result_ok r) (IsAbsent (items slots) n)
 searched slots n (Ok at) h within equal = (
   record {
-    within = omega (arith, within, length-map slots (λ (s : Slot LiveLoader). s.item));
+    within = omega (arith, within, length-map slots (λ (s : BookSlot LiveLoader). s.item));
     number_is = λ d.
         ap (λ (l : LiveLoader). l.number)
         (sym (get-items slots at (record { item = d; live = true })))
@@ -276,13 +279,13 @@ searched slots n (Err at) h within parted = (
   tt,
   record {
     none = λ k d lt same.
-        let e : Slot LiveLoader = record { item = d; live = true } in
-        elsewhere k e (omega (arith, lt, length-map slots (λ (s : Slot LiveLoader). s.item)))
+        let e : BookSlot LiveLoader = record { item = d; live = true } in
+        elsewhere k e (omega (arith, lt, length-map slots (λ (s : BookSlot LiveLoader). s.item)))
         (cases_lt k at) (ap (λ (l : LiveLoader). l.number) (get-items slots k e) ∙ same);
   },
 )
   where
-    elsewhere : (k : ℕ) (d : Slot LiveLoader) → k < length slots → (k < at) ⊎ (at ≤ k)
+    elsewhere : (k : ℕ) (d : BookSlot LiveLoader) → k < length slots → (k < at) ⊎ (at ≤ k)
         → (get_or slots k d).item.number ≢ n
     elsewhere k d lt (inl before) same = let less : (get_or slots k d).item.number < n =
         ranked _ n _ (sym ((parted (rise slots n h)).0 k d (omega arith) before)) in omega arith
@@ -304,7 +307,7 @@ by-absent (l ∷ ls) u h zero d lt = h.0
 by-absent (l ∷ ls) u h (suc k) d lt = by-absent ls u h.1 k d (omega arith)
 
 -- none of all is none of those that live
-pub absent-living : (slots : List (Slot LiveLoader)) (u : ℕ) → IsAbsent (items slots) u
+pub absent-living : (slots : List (BookSlot LiveLoader)) (u : ℕ) → IsAbsent (items slots) u
     → IsAbsent (living slots) u
 absent-living slots u h =
     record {
@@ -314,24 +317,24 @@ absent-living slots u h =
           (absent-by (items slots) u (λ k d lt. h.none k d lt)));
     }
 
-pub dead-any : (slots : List (Slot LiveLoader)) (u i : ℕ) (d : Slot LiveLoader)
+pub dead-any : (slots : List (BookSlot LiveLoader)) (u i : ℕ) (d : BookSlot LiveLoader)
     → IsAt (items slots) u i
-    → (get_or slots i d).live ≡ false → (e : Slot LiveLoader) → (get_or slots i e).live ≡ false
+    → (get_or slots i d).live ≡ false → (e : BookSlot LiveLoader) → (get_or slots i e).live ≡ false
 dead-any slots u i d at dead e =
     let within : i < length slots =
-    omega (arith, at.within, length-map slots (λ (s : Slot LiveLoader). s.item)) in
-    ap (λ (s : Slot LiveLoader). s.live) (same-default slots i e d within) ∙ dead
+    omega (arith, at.within, length-map slots (λ (s : BookSlot LiveLoader). s.item)) in
+    ap (λ (s : BookSlot LiveLoader). s.live) (same-default slots i e d within) ∙ dead
 
 -- the number of one that lives no more is that of none that does
-pub absent-dead : (slots : List (Slot LiveLoader)) (u i : ℕ) → Rises (items slots)
+pub absent-dead : (slots : List (BookSlot LiveLoader)) (u i : ℕ) → Rises (items slots)
     → IsAt (items slots) u i
-    → ((d : Slot LiveLoader) → (get_or slots i d).live ≡ false) → IsAbsent (living slots) u
+    → ((d : BookSlot LiveLoader) → (get_or slots i d).live ≡ false) → IsAbsent (living slots) u
 absent-dead slots u i h at dead =
     record {
       none =
           by-absent (living slots) u
           (others slots i h.each (omega
-          (arith, at.within, length-map slots (λ (s : Slot LiveLoader). s.item)))
+          (arith, at.within, length-map slots (λ (s : BookSlot LiveLoader). s.item)))
           (at.number_is nobody) dead);
     }
   where
@@ -348,10 +351,10 @@ absent-dead slots u i h at dead =
     less (m ∷ ls) l zero d h lt = h.0
     less (m ∷ ls) l (suc i) d h lt = less ls l i d h.1 (omega arith)
 
-    others : (slots : List (Slot LiveLoader)) (i : ℕ) → Pairwise Below (items slots)
+    others : (slots : List (BookSlot LiveLoader)) (i : ℕ) → Pairwise Below (items slots)
         → i < length slots
         → (get_or (items slots) i nobody).number ≡ u
-        → ((d : Slot LiveLoader) → (get_or slots i d).live ≡ false)
+        → ((d : BookSlot LiveLoader) → (get_or slots i d).live ≡ false)
         → AllByRecursion (λ l. l.number ≢ u) (living slots)
     others [] i h lt e dead = absurd (omega arith)
     others (s ∷ slots) zero h lt e dead =
@@ -366,12 +369,12 @@ absent-dead slots u i h at dead =
         by_test true behind =
             let before =
             less (items slots) s.item i nobody h.0
-            (omega (arith, lt, length-map slots (λ (s : Slot LiveLoader). s.item))) in
+            (omega (arith, lt, length-map slots (λ (s : BookSlot LiveLoader). s.item))) in
             (λ same. omega (arith, before, e, same), behind)
         by_test false behind = behind
 
 -- one that is kept is one of those that live
-pub at-living : (slots : List (Slot LiveLoader)) (u i : ℕ) (kept : IsKept slots u i)
+pub at-living : (slots : List (BookSlot LiveLoader)) (u i : ℕ) (kept : IsKept slots u i)
     (s : StandsAmong slots i)
     → IsAt (living slots) u s.place
 at-living slots u i kept s =
@@ -382,13 +385,14 @@ at-living slots u i kept s =
           ∙ get-items slots i (record { item = d; live = true })) ∙ kept.at.number_is d;
     }
 
-pub stands : (slots : List (Slot LiveLoader)) (u i : ℕ) → IsKept slots u i → StandsAmong slots i
+pub stands : (slots : List (BookSlot LiveLoader)) (u i : ℕ) → IsKept slots u i → StandsAmong slots i
 stands slots u i kept =
     stands-among slots i (omega
-    (arith, kept.at.within, length-map slots (λ (s : Slot LiveLoader). s.item))) kept.lives
+    (arith, kept.at.within, length-map slots (λ (s : BookSlot LiveLoader). s.item))) kept.lives
 
 -- one that is kept is found again where the same live
-pub found-again : (slots more : List (Slot LiveLoader)) (u i : ℕ) (o : Option ℕ) → IsKept slots u i
+pub found-again : (slots more : List (BookSlot LiveLoader)) (u i : ℕ) (o : Option ℕ)
+    → IsKept slots u i
     → living more ≡ living slots → IfNone o (IsAbsent (living more) u) → IsSome o
 found-again slots more u i None kept same absent =
     let at = at-living slots u i kept (stands slots u i kept) in
@@ -400,12 +404,12 @@ found-again slots more u i None kept same absent =
 found-again slots more u i (Some j) kept same absent = refl
 
 -- what a place has is what the place among the living has
-pub same-kept : (slots : List (Slot LiveLoader)) (i : ℕ) (s : StandsAmong slots i)
-    (x : Slot LiveLoader)
+pub same-kept : (slots : List (BookSlot LiveLoader)) (i : ℕ) (s : StandsAmong slots i)
+    (x : BookSlot LiveLoader)
     → x ≡ get_or slots i x → x.item ≡ get_or (living slots) s.place x.item
-same-kept slots i s x is = ap (λ (y : Slot LiveLoader). y.item) is ∙ sym (s.item x.item x)
+same-kept slots i s x is = ap (λ (y : BookSlot LiveLoader). y.item) is ∙ sym (s.item x.item x)
 
-rises-kept : (slots : List (Slot LiveLoader)) → Pairwise Below (items slots)
+rises-kept : (slots : List (BookSlot LiveLoader)) → Pairwise Below (items slots)
     → Pairwise Below (living slots)
 rises-kept [] h = tt
 rises-kept (s ∷ slots) h = by_test s.live (rises-kept slots h.1)
@@ -415,7 +419,7 @@ rises-kept (s ∷ slots) h = by_test s.live (rises-kept slots h.1)
     by_test true behind = (all-kept (Below s.item) slots h.0, behind)
     by_test false behind = behind
 
-pub rises-living : (slots : List (Slot LiveLoader)) → Rises (items slots) → Rises (living slots)
+pub rises-living : (slots : List (BookSlot LiveLoader)) → Rises (items slots) → Rises (living slots)
 rises-living slots h = record { each = rises-kept slots h.each }
 
 all-take : (P : LiveLoader → Type 0) (n : ℕ) (ls : List LiveLoader) → AllByRecursion P ls
@@ -430,14 +434,15 @@ rises-take (suc n) [] h = tt
 rises-take (suc n) (l ∷ ls) h = (all-take (Below l) n ls h.0, rises-take n ls h.1)
 
 -- what is below a number among the living is so among all, since the last lives
-pub all-below : (slots : List (Slot LiveLoader)) (n : ℕ) → Rises (items slots)
+pub all-below : (slots : List (BookSlot LiveLoader)) (n : ℕ) → Rises (items slots)
     → ((k : ℕ) → length slots ≡ k + 1 → LivesAt slots k)
     → AllByRecursion (λ l. l.number < n) (living slots)
     → AllByRecursion (λ l. l.number < n) (items slots)
 all-below slots n h last below = by_rest slots h.each (λ k e d. (last k e).is d) below
   where
-    by_rest : (slots : List (Slot LiveLoader)) → Pairwise Below (items slots)
-        → ((k : ℕ) → length slots ≡ k + 1 → (d : Slot LiveLoader) → (get_or slots k d).live ≡ true)
+    by_rest : (slots : List (BookSlot LiveLoader)) → Pairwise Below (items slots)
+        → ((k : ℕ) → length slots ≡ k + 1 → (d : BookSlot LiveLoader) → (get_or slots k d).live
+        ≡ true)
         → AllByRecursion (λ l. l.number < n) (living slots)
         → AllByRecursion (λ l. l.number < n) (items slots)
     by_rest [] h last below = tt
@@ -459,7 +464,7 @@ all-below slots n h last below = by_rest slots h.each (λ k e d. (last k e).is d
         rest false ls all = all
 
 -- all living numbers are below one that the last is below
-pub above-living : (n : ℕ) (slots : List (Slot LiveLoader)) (k : ℕ) (d : Slot LiveLoader)
+pub above-living : (n : ℕ) (slots : List (BookSlot LiveLoader)) (k : ℕ) (d : BookSlot LiveLoader)
     → Rises (items slots)
     → length slots ≡ suc k → (get_or slots k d).live ≡ true → list_all
     (λ u. nat_lt u n) (numbers_of (living slots)) ≡ nat_lt (get_or slots k d).item.number n
@@ -489,7 +494,7 @@ above-living n slots k d h e live = by_rest slots k h.each e live
     less (m ∷ ls) l zero d h lt = h.0
     less (m ∷ ls) l (suc i) d h lt = less ls l i d h.1 (omega arith)
 
-    by_rest : (slots : List (Slot LiveLoader)) (k : ℕ) → Pairwise Below (items slots)
+    by_rest : (slots : List (BookSlot LiveLoader)) (k : ℕ) → Pairwise Below (items slots)
         → length slots ≡ suc k
         → (get_or slots k d).live ≡ true
         → list_all (λ u. nat_lt u n) (numbers_of (living slots))
@@ -511,7 +516,7 @@ above-living n slots k d h e live = by_rest slots k h.each e live
         by_test true behind =
             let before =
             less (items (t ∷ slots)) s.item k d.item h.0
-            (omega (arith, e, length-map slots (λ (s : Slot LiveLoader). s.item))) in
+            (omega (arith, e, length-map slots (λ (s : BookSlot LiveLoader). s.item))) in
             both s.item.number (get_or (t ∷ slots) k d).item.number
             (list_all (λ u. nat_lt u n) (numbers_of (living (t ∷ slots))))
             (omega (arith, before, ap (λ (l : LiveLoader). l.number) (get-items (t ∷ slots) k d)))

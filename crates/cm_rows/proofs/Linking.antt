@@ -18,7 +18,7 @@ use Rattle.cm_layout.specs.declared.class_row.ClassRow.{ClassRow}
 use Rattle.cm_layout.specs.declared.row.Row.{Row}
 use Rattle.cm_layout.specs.declared.row.Row.TheVariants.{Loader, Class}
 use Rattle.cm_layout.specs.Rows.{is_of, moved_row, classes_in, numbers_in}
-use Rattle.cm_index.specs.declared.slot.Slot.{Slot}
+use Rattle.cm_index.specs.declared.slot.BookSlot.{BookSlot}
 use Rattle.cm_index.specs.Living.{living, unloaded, moved_slot}
 use Rattle.cm_index.proofs.Indexes.{get-map}
 use Rattle.cm_rows.specs.declared.live_loader.LiveLoader.{LiveLoader}
@@ -141,10 +141,10 @@ module _ {P : Type 0} where
 -- ---- the last place
 
 module _ {P : Type 0} where
-  abbrev mine : ℕ → Slot (Row P) → Bool
+  abbrev mine : ℕ → BookSlot (Row P) → Bool
   mine u s = s.live && is_of u s.item
 
-  pub place-push : (u : ℕ) (slots : List (Slot (Row P))) (s : Slot (Row P))
+  pub place-push : (u : ℕ) (slots : List (BookSlot (Row P))) (s : BookSlot (Row P))
       → last_place u (slots ++ s ∷ []) ≡ cond (mine u s) (Some (length slots)) (last_place u slots)
   place-push u [] s = refl
   place-push u (z ∷ slots) s =
@@ -157,15 +157,16 @@ module _ {P : Type 0} where
       by_test true o b = refl
       by_test false o b = refl
 
-  pub place-map : (u : ℕ) (f : Slot (Row P) → Slot (Row P)) (slots : List (Slot (Row P)))
-      → ((s : Slot (Row P)) → mine u (f s) ≡ mine u s)
+  pub place-map : (u : ℕ) (f : BookSlot (Row P)
+      → BookSlot (Row P)) (slots : List (BookSlot (Row P)))
+      → ((s : BookSlot (Row P)) → mine u (f s) ≡ mine u s)
       → last_place u (map f slots) ≡ last_place u slots
   place-map u f [] same = refl
   place-map u f (s ∷ slots) same =
       ap (place_behind (last_place u (map f slots))) (same s)
       ∙ ap (λ (o : Option ℕ). place_behind o (mine u s)) (place-map u f slots same)
 
-  pub place-none : (u : ℕ) (slots : List (Slot (Row P)))
+  pub place-none : (u : ℕ) (slots : List (BookSlot (Row P)))
       → AllByRecursion (λ row. is_of u row ≡ false) (living slots) → last_place u slots ≡ None
   place-none u [] h = refl
   place-none u (s ∷ slots) h = by_test (place-none u slots) s.live refl h
@@ -180,7 +181,7 @@ module _ {P : Type 0} where
       by_test none false e h = ap (λ (o : Option ℕ). place_behind o false) (none h)
 
   -- none is left of a loader without a last place
-  pub none-place : (u : ℕ) (slots : List (Slot (Row P))) → last_place u slots ≡ None
+  pub none-place : (u : ℕ) (slots : List (BookSlot (Row P))) → last_place u slots ≡ None
       → map (unloaded u) slots ≡ slots
   none-place u [] h = refl
   none-place u (s ∷ slots) h =
@@ -200,13 +201,13 @@ module _ {P : Type 0} where
           (stays s.live (is_of u s.item) e) ∙ ap (λ l. s ∷ l) (none is)
       by_place none (Some i) is t e h = absurd (cc)
 
-  pub record StandsLast (u : ℕ) (slots : List (Slot (Row P))) (i : ℕ) : Type 0 where
-    pub slot : Slot (Row P)
+  pub record StandsLast (u : ℕ) (slots : List (BookSlot (Row P))) (i : ℕ) : Type 0 where
+    pub slot : BookSlot (Row P)
     pub there : slice_get slots i ≡ Some slot
     pub lives : slot.live ≡ true
     pub own : is_of u slot.item ≡ true
 
-  pub stands-last : (u : ℕ) (slots : List (Slot (Row P))) (i : ℕ) → last_place u slots ≡ Some i
+  pub stands-last : (u : ℕ) (slots : List (BookSlot (Row P))) (i : ℕ) → last_place u slots ≡ Some i
       → StandsLast u slots i
   stands-last u [] i h = absurd (cc)
   stands-last u (s ∷ slots) i h =
@@ -226,7 +227,7 @@ module _ {P : Type 0} where
           record { slot = found.slot; there = found.there; lives = found.lives; own = found.own }
 
   -- no living row of the loader stands behind it
-  pub none-behind : (u : ℕ) (slots : List (Slot (Row P))) (i j : ℕ) (s : Slot (Row P))
+  pub none-behind : (u : ℕ) (slots : List (BookSlot (Row P))) (i j : ℕ) (s : BookSlot (Row P))
       → last_place u slots ≡ Some i → slice_get slots j ≡ Some s → mine u s ≡ true → j ≤ i
   none-behind u [] i j s h there e = absurd (cc)
   none-behind u (z ∷ slots) i zero s h there e = omega arith
@@ -237,7 +238,7 @@ module _ {P : Type 0} where
           → last_place u slots ≡ o → place_behind o (mine u z) ≡ Some i → suc j ≤ i
       by_place behind None is h = absurd (some-place u slots j s there e is)
         where
-          some-place : (u : ℕ) (slots : List (Slot (Row P))) (j : ℕ) (s : Slot (Row P))
+          some-place : (u : ℕ) (slots : List (BookSlot (Row P))) (j : ℕ) (s : BookSlot (Row P))
               → slice_get slots j ≡ Some s → mine u s ≡ true → ¬ (last_place u slots ≡ None)
           some-place u [] j s there e none = absurd (cc)
           some-place u (z ∷ slots) zero s there e none =
@@ -264,7 +265,7 @@ module _ {P : Type 0} where
           omega (arith, le, same)
 
   -- where the last row ends, the one before it is the last
-  pub place-ended : (u : ℕ) (slots : List (Slot (Row P))) (i : ℕ) (x : Slot (Row P))
+  pub place-ended : (u : ℕ) (slots : List (BookSlot (Row P))) (i : ℕ) (x : BookSlot (Row P))
       → last_place u slots ≡ Some i → x.live ≡ false
       → last_place u (set slots i x) ≡ last_place u (take i slots)
   place-ended u [] i x h dead = absurd (cc)
@@ -288,20 +289,20 @@ module _ {P : Type 0} where
           ap (λ (o : Option ℕ). place_behind o (mine u s)) (behind i (is ∙ ap Some same))
 
   -- of another loader it stays
-  pub place-set : (v : ℕ) (slots : List (Slot (Row P))) (i : ℕ) (x : Slot (Row P))
-      → ((s : Slot (Row P)) → slice_get slots i ≡ Some s → mine v x ≡ mine v s)
+  pub place-set : (v : ℕ) (slots : List (BookSlot (Row P))) (i : ℕ) (x : BookSlot (Row P))
+      → ((s : BookSlot (Row P)) → slice_get slots i ≡ Some s → mine v x ≡ mine v s)
       → last_place v (set slots i x) ≡ last_place v slots
   place-set v [] i x same = refl
   place-set v (s ∷ slots) zero x same = ap (place_behind (last_place v slots)) (same s refl)
   place-set v (s ∷ slots) (suc i) x same =
       ap (λ (o : Option ℕ). place_behind o (mine v s)) (place-set v slots i x same)
 
-  pub place-of_other : (u v : ℕ) (slots : List (Slot (Row P))) → u ≢ v
+  pub place-of_other : (u v : ℕ) (slots : List (BookSlot (Row P))) → u ≢ v
       → last_place v (map (unloaded u) slots) ≡ last_place v slots
   place-of_other u v slots n =
       place-map v (unloaded u) slots (λ s. by_tests s s.live (is_of u s.item) refl)
     where
-      by_tests : (s : Slot (Row P)) (a b : Bool) → is_of u s.item ≡ b
+      by_tests : (s : BookSlot (Row P)) (a b : Bool) → is_of u s.item ≡ b
           → ((a && not b) && is_of v s.item) ≡ (a && is_of v s.item)
       by_tests s true true e = sym (of-other u v s.item e n)
       by_tests s true false e = refl
@@ -314,7 +315,8 @@ module _ {P : Type 0} where
   linked-none = record { same = refl; each = λ i s there. absurd (cc) }
 
   -- a row more
-  pub linked-push : (slots : List (Slot (Row P))) (before : List (Option ℕ)) (s : Slot (Row P))
+  pub linked-push : (slots : List (BookSlot (Row P))) (before : List (Option ℕ))
+      (s : BookSlot (Row P))
       (b : Option ℕ)
       → AreLinked slots before → b ≡ last_place (loader_in s.item) slots
       → AreLinked (slots ++ s ∷ []) (before ++ b ∷ [])
@@ -331,7 +333,7 @@ module _ {P : Type 0} where
               let at : i ≡ length before = n.last ∙ sym h.same in
               ap (λ (j : ℕ). get_or (before ++ b ∷ []) j None) at
               ∙ get_or-append_seam before b [] None ∙ is
-              ∙ ap (λ (t : Slot (Row P)). last_place (loader_in t.item) slots) n.is
+              ∙ ap (λ (t : BookSlot (Row P)). last_place (loader_in t.item) slots) n.is
               ∙ ap (last_place (loader_in r.item))
               (sym (ap (λ (j : ℕ). take j (slots ++ s ∷ [])) n.last
               ∙ take-append_seam slots (s ∷ [])))
@@ -339,8 +341,8 @@ module _ {P : Type 0} where
       }
 
   -- the last row of a loader ends
-  pub linked-ended : (u : ℕ) (slots : List (Slot (Row P))) (before : List (Option ℕ)) (i : ℕ)
-      (x : Slot (Row P))
+  pub linked-ended : (u : ℕ) (slots : List (BookSlot (Row P))) (before : List (Option ℕ)) (i : ℕ)
+      (x : BookSlot (Row P))
       → AreLinked slots before → last_place u slots ≡ Some i → x.live ≡ false
       → AreLinked (set slots i x) before
   linked-ended u slots before i x h last dead =
@@ -351,14 +353,15 @@ module _ {P : Type 0} where
             (eqb u (loader_in r.item)) refl;
       }
     where
-      by_loader : StandsLast u slots i → (j : ℕ) (r : Slot (Row P)) → slice_get (set slots i x) j
+      by_loader : StandsLast u slots i → (j : ℕ) (r : BookSlot (Row P))
+          → slice_get (set slots i x) j
           ≡ Some r → r.live ≡ true
           → (a : Bool) → eqb i j ≡ a → (t : Bool) → eqb u (loader_in r.item) ≡ t
           → get_or before j None ≡ last_place (loader_in r.item) (take j (set slots i x))
       by_loader stands j r there live true at t own =
           let same : i ≡ j = eqb-true i j at in
           let is : x ≡ r = get-set_same slots i x r (ap (slice_get (set slots i x)) same ∙ there) in
-          let alive : x.live ≡ true = ap (λ (s : Slot (Row P)). s.live) is ∙ live in
+          let alive : x.live ≡ true = ap (λ (s : BookSlot (Row P)). s.live) is ∙ live in
           absurd (cc)
       by_loader stands j r there live false at true own =
           let other : i ≢ j = λ e. (let sure = eq-eqb i j e in absurd (cc)) in
@@ -380,13 +383,13 @@ module _ {P : Type 0} where
           ∙ place-set v (take j slots) i x (λ s at_i.
           let is : stands.slot ≡ s =
           (let one = stands.there in let two = get-take slots i j s at_i in cc) in
-          let none : is_of v s.item ≡ false = ap (λ (t : Slot (Row P)). is_of v t.item) (sym is)
+          let none : is_of v s.item ≡ false = ap (λ (t : BookSlot (Row P)). is_of v t.item) (sym is)
           ∙ of-other u v stands.slot.item stands.own apart in
           ap (λ (b : Bool). b && is_of v x.item) dead
           ∙ sym (ap (λ (b : Bool). s.live && b) none ∙ and-false s.live)))
 
   -- records lie on another chunk
-  slot-loader_in : (from to : Chunk) (s : Slot (Row P)) → loader_in (moved_slot from to s).item
+  slot-loader_in : (from to : Chunk) (s : BookSlot (Row P)) → loader_in (moved_slot from to s).item
       ≡ loader_in s.item
   slot-loader_in from to s = by_test s.live
     where
@@ -394,14 +397,14 @@ module _ {P : Type 0} where
       by_test true = moved-loader_in from to s.item
       by_test false = refl
 
-  pub place-moved : (from to : Chunk) (u : ℕ) (slots : List (Slot (Row P)))
+  pub place-moved : (from to : Chunk) (u : ℕ) (slots : List (BookSlot (Row P)))
       → last_place u (map (moved_slot from to) slots) ≡ last_place u slots
   place-moved from to u slots =
       place-map u (moved_slot from to) slots
       (λ s. ap (λ (b : Bool). s.live && b) (of-is u (moved_slot from to s).item
       ∙ ap (λ (n : ℕ). eqb n u) (slot-loader_in from to s) ∙ sym (of-is u s.item)))
 
-  pub linked-moved : (from to : Chunk) (slots : List (Slot (Row P))) (before : List (Option ℕ))
+  pub linked-moved : (from to : Chunk) (slots : List (BookSlot (Row P))) (before : List (Option ℕ))
       → AreLinked slots before → AreLinked (map (moved_slot from to) slots) before
   linked-moved from to slots before h =
       record {
@@ -409,10 +412,10 @@ module _ {P : Type 0} where
         each = λ i r there live.
             let was = option-from (moved_slot from to) (slice_get slots i) r
             (sym (get-map (moved_slot from to) slots i) ∙ there) in
-            let alive : (was.0).live ≡ true = ap (λ (s : Slot (Row P)). s.live) was.2 ∙ live in
+            let alive : (was.0).live ≡ true = ap (λ (s : BookSlot (Row P)). s.live) was.2 ∙ live in
             let loader : loader_in (was.0).item ≡ loader_in r.item =
             sym (slot-loader_in from to was.0)
-            ∙ ap (λ (s : Slot (Row P)). loader_in s.item) was.2 in
+            ∙ ap (λ (s : BookSlot (Row P)). loader_in s.item) was.2 in
             h.each i was.0 was.1 alive ∙ ap (λ (u : ℕ). last_place u (take i slots)) loader
             ∙ sym (ap (last_place (loader_in r.item)) (take-mapped (moved_slot from to) slots i)
             ∙ place-moved from to (loader_in r.item) (take i slots));
@@ -420,7 +423,7 @@ module _ {P : Type 0} where
 
 module _ {P : Type 0} where
   -- beside the last place of a loader stands the one before it
-  pub last-before : (u : ℕ) (slots : List (Slot (Row P))) (before : List (Option ℕ)) (i : ℕ)
+  pub last-before : (u : ℕ) (slots : List (BookSlot (Row P))) (before : List (Option ℕ)) (i : ℕ)
       → AreLinked slots before → last_place u slots ≡ Some i
       → get_or before i None ≡ last_place u (take i slots)
   last-before u slots before i h last =
@@ -430,7 +433,7 @@ module _ {P : Type 0} where
       h.each i at.slot at.there at.lives ∙ ap (λ (v : ℕ). last_place v (take i slots)) loader
 
   -- which is less
-  pub place-less : (u : ℕ) (slots : List (Slot (Row P))) (i : ℕ)
+  pub place-less : (u : ℕ) (slots : List (BookSlot (Row P))) (i : ℕ)
       → places_left (last_place u (take i slots)) ≤ i
   place-less u slots i = by_place (last_place u (take i slots)) refl
     where
@@ -454,7 +457,7 @@ number-behind (m ∷ ls) zero d l h lt = h.0
 number-behind (m ∷ ls) (suc i) d l h lt = number-behind ls i d l h.1 (omega arith)
 
 module _ {P : Type 0} where
-  pub places-same : (slots more : List (Slot (Row P))) (ns : List ℕ)
+  pub places-same : (slots more : List (BookSlot (Row P))) (ns : List ℕ)
       → ((u : ℕ) → last_place u more ≡ last_place u slots)
       → last_places more ns ≡ last_places slots ns
   places-same slots more [] same = refl
@@ -462,7 +465,8 @@ module _ {P : Type 0} where
       ∙ ap (λ (os : List (Option ℕ)). last_place n slots ∷ os) (places-same slots more ns same)
 
   -- a row more of the loader at a place
-  pub places-push : (slots : List (Slot (Row P))) (s : Slot (Row P)) (ls : List LiveLoader) (i : ℕ)
+  pub places-push : (slots : List (BookSlot (Row P))) (s : BookSlot (Row P)) (ls : List LiveLoader)
+      (i : ℕ)
       (d : LiveLoader)
       → s.live ≡ true → Pairwise Below ls → i < length ls → (get_or ls i d).number
       ≡ loader_in s.item
@@ -475,7 +479,7 @@ module _ {P : Type 0} where
       ∙ ap (λ (os : List (Option ℕ)). last_place l.number (slots ++ s ∷ []) ∷ os)
       (others slots s ls l.number e live h.0)
     where
-      own : (slots : List (Slot (Row P))) (s : Slot (Row P)) (u : ℕ) → s.live ≡ true
+      own : (slots : List (BookSlot (Row P))) (s : BookSlot (Row P)) (u : ℕ) → s.live ≡ true
           → u ≡ loader_in s.item
           → last_place u (slots ++ s ∷ []) ≡ Some (length slots)
       own slots s u live e =
@@ -484,7 +488,8 @@ module _ {P : Type 0} where
           place-push u slots s ∙ ap
           (λ (b : Bool). cond b (Some (length slots)) (last_place u slots)) sure
 
-      others : (slots : List (Slot (Row P))) (s : Slot (Row P)) (ls : List LiveLoader) (u : ℕ)
+      others : (slots : List (BookSlot (Row P))) (s : BookSlot (Row P)) (ls : List LiveLoader)
+          (u : ℕ)
           → u ≡ loader_in s.item → s.live ≡ true
           → AllByRecursion (λ m. u < m.number) ls
           → last_places slots (numbers_of ls) ≡ last_places (slots ++ s ∷ []) (numbers_of ls)
@@ -495,7 +500,7 @@ module _ {P : Type 0} where
           ∙ ap (λ (os : List (Option ℕ)). last_place m.number (slots ++ s ∷ []) ∷ os)
           (others slots s ls u e live h.1)
         where
-          other-push : (slots : List (Slot (Row P))) (s : Slot (Row P)) (v : ℕ)
+          other-push : (slots : List (BookSlot (Row P))) (s : BookSlot (Row P)) (v : ℕ)
               → ¬ (v ≡ loader_in s.item)
               → last_place v (slots ++ s ∷ []) ≡ last_place v slots
           other-push slots s v n =
@@ -511,7 +516,7 @@ module _ {P : Type 0} where
       ∙ ap (λ (os : List (Option ℕ)). last_place l.number (slots ++ s ∷ []) ∷ os)
       (places-push slots s ls i d live h.1 (omega arith) e)
     where
-      before-push : (slots : List (Slot (Row P))) (s : Slot (Row P)) (v : ℕ)
+      before-push : (slots : List (BookSlot (Row P))) (s : BookSlot (Row P)) (v : ℕ)
           → ¬ (v ≡ loader_in s.item)
           → last_place v (slots ++ s ∷ []) ≡ last_place v slots
       before-push slots s v n =
@@ -521,7 +526,7 @@ module _ {P : Type 0} where
           ∙ ap (λ (b : Bool). cond b (Some (length slots)) (last_place v slots)) (and-false s.live)
 
   -- no row lives of a loader that is unloaded
-  place-unloaded : (u : ℕ) (slots : List (Slot (Row P)))
+  place-unloaded : (u : ℕ) (slots : List (BookSlot (Row P)))
       → last_place u (map (unloaded u) slots) ≡ None
   place-unloaded u [] = refl
   place-unloaded u (s ∷ slots) =
@@ -534,7 +539,7 @@ module _ {P : Type 0} where
       by_tests false b = refl
 
   -- without a loader
-  pub places-unloaded : (u : ℕ) (slots : List (Slot (Row P))) (ls : List LiveLoader) (i : ℕ)
+  pub places-unloaded : (u : ℕ) (slots : List (BookSlot (Row P))) (ls : List LiveLoader) (i : ℕ)
       (d : LiveLoader)
       → Pairwise Below ls → i < length ls → (get_or ls i d).number ≡ u
       → set (last_places slots (numbers_of ls)) i None
@@ -551,7 +556,7 @@ module _ {P : Type 0} where
       above [] n u e h = tt
       above (m ∷ ls) n u e h = (omega (arith, h.0), above ls n u e h.1)
 
-      rest : (u : ℕ) (slots : List (Slot (Row P))) (ls : List LiveLoader)
+      rest : (u : ℕ) (slots : List (BookSlot (Row P))) (ls : List LiveLoader)
           → AllByRecursion (λ m. u < m.number) ls
           → last_places slots (numbers_of ls) ≡ last_places (map (unloaded u) slots) (numbers_of ls)
       rest u slots [] h = refl
@@ -568,7 +573,7 @@ module _ {P : Type 0} where
       (places-unloaded u slots ls i d h.1 (omega arith) e)
 
   -- of the first loaders
-  pub places-take : (slots : List (Slot (Row P))) (n : ℕ) (ls : List LiveLoader)
+  pub places-take : (slots : List (BookSlot (Row P))) (n : ℕ) (ls : List LiveLoader)
       → take n (last_places slots (numbers_of ls)) ≡ last_places slots (numbers_of (take n ls))
   places-take slots zero ls = refl
   places-take slots (suc n) [] = refl
@@ -576,7 +581,7 @@ module _ {P : Type 0} where
       ap (λ (os : List (Option ℕ)). last_place l.number slots ∷ os) (places-take slots n ls)
 
   -- what stands at a loader's place is its last place
-  pub places-at : (slots : List (Slot (Row P))) (ls : List LiveLoader) (i : ℕ) (d : LiveLoader)
+  pub places-at : (slots : List (BookSlot (Row P))) (ls : List LiveLoader) (i : ℕ) (d : LiveLoader)
       (o : Option ℕ)
       → i < length ls → get_or (last_places slots (numbers_of ls)) i o
       ≡ last_place (get_or ls i d).number slots
@@ -587,22 +592,22 @@ module _ {P : Type 0} where
 -- ---- an unloaded place
 
 module _ {P : Type 0} where
-  pub unloaded-ended : (u : ℕ) (slots : List (Slot (Row P))) (i : ℕ) (s : Slot (Row P))
+  pub unloaded-ended : (u : ℕ) (slots : List (BookSlot (Row P))) (i : ℕ) (s : BookSlot (Row P))
       → slice_get slots i ≡ Some s → is_of u s.item ≡ true
       → map (unloaded u) (set slots i (ended s)) ≡ map (unloaded u) slots
   unloaded-ended u [] i s there own = refl
   unloaded-ended u (z ∷ slots) zero s there own =
       let is : z ≡ s = cc in
-      ap (λ (t : Slot (Row P)). record { item = t.item; live = false } ∷ map (unloaded u) slots)
+      ap (λ (t : BookSlot (Row P)). record { item = t.item; live = false } ∷ map (unloaded u) slots)
       (sym is)
       ∙ ap (λ (b : Bool). record { item = z.item; live = b } ∷ map (unloaded u) slots)
-      (sym (ap (λ (b : Bool). z.live && not b) (ap (λ (t : Slot (Row P)). is_of u t.item) is
+      (sym (ap (λ (b : Bool). z.live && not b) (ap (λ (t : BookSlot (Row P)). is_of u t.item) is
       ∙ own) ∙ and-false z.live))
   unloaded-ended u (z ∷ slots) (suc i) s there own =
       ap (λ l. unloaded u z ∷ l) (unloaded-ended u slots i s there own)
 
 -- no loader has a place among none
-pub places-none : (P : Type 0) (ls : List (Slot LiveLoader))
+pub places-none : (P : Type 0) (ls : List (BookSlot LiveLoader))
     → map (λ l. None) ls ≡ last_places {P = P} [] (numbers_of (items ls))
 places-none P [] = refl
 places-none P (l ∷ ls) = ap (λ (os : List (Option ℕ)). None ∷ os) (places-none P ls)
@@ -621,7 +626,8 @@ none-more ls i lt =
 
 module _ {P : Type 0} where
   -- what is known of living rows is known at each place where all live
-  pub all-living : (Q : Row P → Type 0) (slots : List (Slot (Row P))) (i : ℕ) (d : Slot (Row P))
+  pub all-living : (Q : Row P → Type 0) (slots : List (BookSlot (Row P))) (i : ℕ)
+      (d : BookSlot (Row P))
       → AllByRecursion Q (living slots) → AllByRecursion (λ s. s.live ≡ true) slots
       → i < length slots
       → Q (get_or slots i d).item × ((get_or slots i d).live ≡ true)
@@ -661,7 +667,7 @@ module _ {P : Type 0} where
         all-fresh rows ns v owned.1 above,
       )
 
-  pub places-new : (slots : List (Slot (Row P))) (s : Slot (Row P)) (ns : List ℕ) (v : ℕ)
+  pub places-new : (slots : List (BookSlot (Row P))) (s : BookSlot (Row P)) (ns : List ℕ) (v : ℕ)
       → s.live ≡ true → v ≡ loader_in s.item
       → AllByRecursion (λ n. n < v) ns
       → last_places slots ns ++ Some (length slots) ∷ []

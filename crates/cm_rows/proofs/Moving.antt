@@ -14,7 +14,7 @@ use Rattle.cm_layout.specs.declared.class_row.ClassRow.{ClassRow}
 use Rattle.cm_layout.specs.declared.row.Row.{Row}
 use Rattle.cm_layout.specs.declared.row.Row.TheVariants.{Loader, Class}
 use Rattle.cm_layout.specs.Rows.{is_of, moved_row, classes_in}
-use Rattle.cm_index.specs.declared.slot.Slot.{Slot}
+use Rattle.cm_index.specs.declared.slot.BookSlot.{BookSlot}
 use Rattle.cm_index.specs.Living.{living, moved_slot}
 use Rattle.cm_rows.specs.Held.{AreFounded}
 use Rattle.cm_rows.proofs.Chunks.{same_chunk-true}
@@ -60,12 +60,12 @@ drop-set (x ∷ xs) (suc i) s y h = drop-set xs i s y h
 -- ---- rows that stay
 
 module _ {P : Type 0} where
-  others-behind : (u : ℕ) (from to : Chunk) (s : Slot (Row P)) (slots : List (Slot (Row P)))
+  others-behind : (u : ℕ) (from to : Chunk) (s : BookSlot (Row P)) (slots : List (BookSlot (Row P)))
       → OthersStay u from to (s ∷ slots) → OthersStay u from to slots
   others-behind u from to s slots h =
       record { each = λ i r there live other. h.each (suc i) r there live other }
 
-  others-between : (u : ℕ) (from to : Chunk) (slots : List (Slot (Row P))) (n k : ℕ)
+  others-between : (u : ℕ) (from to : Chunk) (slots : List (BookSlot (Row P))) (n k : ℕ)
       → OthersStay u from to slots → OthersStay u from to (drop n (take k slots))
   others-between u from to slots n k h =
       record {
@@ -76,7 +76,8 @@ module _ {P : Type 0} where
       }
 
   -- a loader without a place has no row to move
-  none-moves : (u : ℕ) (from to : Chunk) (slots : List (Slot (Row P))) → OthersStay u from to slots
+  none-moves : (u : ℕ) (from to : Chunk) (slots : List (BookSlot (Row P)))
+      → OthersStay u from to slots
       → last_place u slots ≡ None → map (moved_slot from to) slots ≡ slots
   none-moves u from to [] h none = refl
   none-moves u from to (s ∷ slots) h none =
@@ -94,7 +95,7 @@ module _ {P : Type 0} where
           ≡ None = subst (λ (c : Bool). place_behind None (c && true) ≡ None) live
           (subst (λ (c : Bool). place_behind None (s.live && c) ≡ None) own none) in cc)
       by_place behind None is true live false own none =
-          ap₂ (λ (x : Slot (Row P)) (l : List (Slot (Row P))). x ∷ l)
+          ap₂ (λ (x : BookSlot (Row P)) (l : List (BookSlot (Row P))). x ∷ l)
           (ap (λ (c : Bool). record {
             item = cond c (moved_row from to s.item) s.item;
             live = s.live;
@@ -102,14 +103,14 @@ module _ {P : Type 0} where
           ∙ ap (λ (r : Row P). record { item = r; live = s.live }) (h.each 0 s refl live own))
           (behind is)
       by_place behind None is false live b own none =
-          ap₂ (λ (x : Slot (Row P)) (l : List (Slot (Row P))). x ∷ l)
+          ap₂ (λ (x : BookSlot (Row P)) (l : List (BookSlot (Row P))). x ∷ l)
           (ap (λ (c : Bool). record {
             item = cond c (moved_row from to s.item) s.item;
             live = s.live;
           }) live) (behind is)
 
   -- behind its last place a loader has none
-  none-after : (u : ℕ) (slots : List (Slot (Row P))) (i : ℕ) → last_place u slots ≡ Some i
+  none-after : (u : ℕ) (slots : List (BookSlot (Row P))) (i : ℕ) → last_place u slots ≡ Some i
       → last_place u (drop (suc i) slots) ≡ None
   none-after u [] i h = absurd (cc)
   none-after u (s ∷ slots) i h =
@@ -130,14 +131,14 @@ module _ {P : Type 0} where
 
 module _ {P : Type 0} where
   -- the rows from a place on have moved, and next comes the loader's last one before it
-  pub record MovesOn (u : ℕ) (from to : Chunk) (old slots : List (Slot (Row P)))
+  pub record MovesOn (u : ℕ) (from to : Chunk) (old slots : List (BookSlot (Row P)))
       (next : Option ℕ) : Type 0 where
     pub k : ℕ
     pub front : take k slots ≡ take k old
     pub behind : drop k slots ≡ map (moved_slot from to) (drop k old)
     pub next_is : next ≡ last_place u (take k old)
 
-  pub walk-begins : (u : ℕ) (from to : Chunk) (slots : List (Slot (Row P))) (next : Option ℕ)
+  pub walk-begins : (u : ℕ) (from to : Chunk) (slots : List (BookSlot (Row P))) (next : Option ℕ)
       → next ≡ last_place u slots → MovesOn u from to slots slots next
   walk-begins u from to slots next is =
       let none : drop (length slots) slots ≡ [] = drop_all (length slots) slots (omega arith) in
@@ -149,14 +150,14 @@ module _ {P : Type 0} where
       }
 
   -- the row that comes next
-  pub record ComesTo (u : ℕ) (old slots : List (Slot (Row P))) (i : ℕ) : Type 0 where
-    pub slot : Slot (Row P)
+  pub record ComesTo (u : ℕ) (old slots : List (BookSlot (Row P))) (i : ℕ) : Type 0 where
+    pub slot : BookSlot (Row P)
     pub was : slice_get old i ≡ Some slot
     pub there : slice_get slots i ≡ Some slot
     pub lives : slot.live ≡ true
     pub own : is_of u slot.item ≡ true
 
-  pub comes-to : (u : ℕ) (from to : Chunk) (old slots : List (Slot (Row P))) (i : ℕ)
+  pub comes-to : (u : ℕ) (from to : Chunk) (old slots : List (BookSlot (Row P))) (i : ℕ)
       → MovesOn u from to old slots (Some i) → ComesTo u old slots i
   comes-to u from to old slots i m =
       let at = stands-last u (take m.k old) i (sym m.next_is) in
@@ -164,12 +165,12 @@ module _ {P : Type 0} where
         slot = at.slot;
         was = get-take old i m.k at.slot at.there;
         there = get-take slots i m.k at.slot
-            (ap (λ (l : List (Slot (Row P))). slice_get l i) m.front ∙ at.there);
+            (ap (λ (l : List (BookSlot (Row P))). slice_get l i) m.front ∙ at.there);
         lives = at.lives;
         own = at.own;
       }
 
-  pub next-before : (u : ℕ) (from to : Chunk) (old slots : List (Slot (Row P)))
+  pub next-before : (u : ℕ) (from to : Chunk) (old slots : List (BookSlot (Row P)))
       (before : List (Option ℕ)) (i : ℕ)
       → AreLinked old before → MovesOn u from to old slots (Some i)
       → get_or before i None ≡ last_place u (take i old)
@@ -179,13 +180,13 @@ module _ {P : Type 0} where
       eqb-true (loader_in c.slot.item) u (sym (of-is u c.slot.item) ∙ c.own) in
       h.each i c.slot c.was c.lives ∙ ap (λ (v : ℕ). last_place v (take i old)) loader
 
-  pub walk-goes_on : (u : ℕ) (from to : Chunk) (old slots : List (Slot (Row P)))
-      (before : List (Option ℕ)) (i : ℕ) (x : Slot (Row P))
+  pub walk-goes_on : (u : ℕ) (from to : Chunk) (old slots : List (BookSlot (Row P)))
+      (before : List (Option ℕ)) (i : ℕ) (x : BookSlot (Row P))
       → AreLinked old before → OthersStay u from to old → (m : MovesOn u from to old slots (Some i))
       → x ≡ moved_slot from to (comes-to u from to old slots i m).slot
       → MovesOn u from to old (set slots i x) (get_or before i None)
   walk-goes_on u from to old slots before i x linked others m is =
-      let f : Slot (Row P) → Slot (Row P) = moved_slot from to in
+      let f : BookSlot (Row P) → BookSlot (Row P) = moved_slot from to in
       let k = m.k in
       let c = comes-to u from to old slots i m in
       let at = stands-last u (take k old) i (sym m.next_is) in
@@ -197,7 +198,8 @@ module _ {P : Type 0} where
       (none-after u (take k old) i (sym m.next_is)) in
       let rest : drop (suc i) slots ≡ map f (drop (suc i) old) =
       parted slots (suc i) k within
-      ∙ ap₂ (λ (a b : List (Slot (Row P))). a ++ b) (ap (drop (suc i)) m.front ∙ sym still) m.behind
+      ∙ ap₂ (λ (a b : List (BookSlot (Row P))). a ++ b) (ap (drop (suc i)) m.front
+      ∙ sym still) m.behind
       ∙ sym (map-append f between (drop k old))
       ∙ ap (map f) (sym (parted old (suc i) k within)) in
       record {
@@ -206,21 +208,21 @@ module _ {P : Type 0} where
             ∙ sym (take-short slots i k (omega (arith, within))) ∙ ap (take i) m.front
             ∙ take-short old i k (omega (arith, within));
         behind = drop-set slots i c.slot x c.there
-            ∙ ap₂ (λ (y : Slot (Row P)) (l : List (Slot (Row P))). y ∷ l) is rest
+            ∙ ap₂ (λ (y : BookSlot (Row P)) (l : List (BookSlot (Row P))). y ∷ l) is rest
             ∙ sym (ap (map f) (drop-at old i c.slot c.was));
         next_is = next-before u from to old slots before i linked m;
       }
 
-  pub walk-ends : (u : ℕ) (from to : Chunk) (old slots : List (Slot (Row P)))
+  pub walk-ends : (u : ℕ) (from to : Chunk) (old slots : List (BookSlot (Row P)))
       → OthersStay u from to old
       → MovesOn u from to old slots None → slots ≡ map (moved_slot from to) old
   walk-ends u from to old slots others m =
-      let f : Slot (Row P) → Slot (Row P) = moved_slot from to in
+      let f : BookSlot (Row P) → BookSlot (Row P) = moved_slot from to in
       let still : map f (take m.k old) ≡ take m.k old =
       none-moves u from to (take m.k old) (others-between u from to old 0 m.k others)
       (sym m.next_is) in
       sym (take-append-drop m.k slots)
-      ∙ ap₂ (λ (a b : List (Slot (Row P))). a ++ b) (m.front ∙ sym still) m.behind
+      ∙ ap₂ (λ (a b : List (BookSlot (Row P))). a ++ b) (m.front ∙ sym still) m.behind
       ∙ sym (map-append f (take m.k old) (drop m.k old))
       ∙ ap (map f) (take-append-drop m.k old)
 
@@ -232,7 +234,8 @@ module _ {P : Type 0} where
   among-behind r (Loader l) rows m = m
   among-behind r (Class q p) rows m = inr m
 
-  class-there : (slots : List (Slot (Row P))) (i : ℕ) (s : Slot (Row P)) (r : ClassRow) (p : P)
+  class-there : (slots : List (BookSlot (Row P))) (i : ℕ) (s : BookSlot (Row P)) (r : ClassRow)
+      (p : P)
       → slice_get slots i ≡ Some s → s.live ≡ true → s.item ≡ Class r p
       → Among r (classes_in (living slots))
   class-there [] i s r p there live is = absurd (cc)
@@ -240,8 +243,8 @@ module _ {P : Type 0} where
       let same : z ≡ s = cc in
       let first : living (z ∷ slots) ≡ Class r p ∷ living slots =
       ap (λ (b : Bool). cond b (z.item ∷ living slots) (living slots))
-      (ap (λ (t : Slot (Row P)). t.live) same ∙ live)
-      ∙ ap (λ (x : Row P). x ∷ living slots) (ap (λ (t : Slot (Row P)). t.item) same ∙ is) in
+      (ap (λ (t : BookSlot (Row P)). t.live) same ∙ live)
+      ∙ ap (λ (x : Row P). x ∷ living slots) (ap (λ (t : BookSlot (Row P)). t.item) same ∙ is) in
       subst (λ (rows : List (Row P)). Among r (classes_in rows)) (sym first) (inl refl)
   class-there (z ∷ slots) (suc i) s r p there live is =
       by_test z.live (class-there slots i s r p there live is)
@@ -251,13 +254,13 @@ module _ {P : Type 0} where
       by_test true m = among-behind r z.item (living slots) m
       by_test false m = m
 
-  pub others-stay : (u : ℕ) (from to : Chunk) (slots : List (Slot (Row P))) (s : ClassRow)
+  pub others-stay : (u : ℕ) (from to : Chunk) (slots : List (BookSlot (Row P))) (s : ClassRow)
       → AreFounded (classes_in (living slots)) → Among s (classes_in (living slots)) → s.loader ≡ u
       → s.place.chunk ≡ from → OthersStay u from to slots
   others-stay u from to slots s h m own on =
       record { each = λ i r there live other. by_row i r there live r.item refl other }
     where
-      by_row : (i : ℕ) (r : Slot (Row P)) → slice_get slots i ≡ Some r → r.live ≡ true
+      by_row : (i : ℕ) (r : BookSlot (Row P)) → slice_get slots i ≡ Some r → r.live ≡ true
           → (row : Row P) → r.item ≡ row
           → is_of u r.item ≡ false → moved_row from to r.item ≡ r.item
       by_row i r there live (Loader l) is other =

@@ -14,7 +14,7 @@ use Rattle.cm_layout.specs.declared.row.Row.{Row}
 use Rattle.cm_layout.specs.declared.row.Row.TheVariants.{Loader, Class}
 use Rattle.cm_layout.specs.Rows.{numbers_in, is_of}
 use Rattle.cm_layout.specs.Rules.{row_limit}
-use Rattle.cm_index.specs.declared.slot.Slot.{Slot}
+use Rattle.cm_index.specs.declared.slot.BookSlot.{BookSlot}
 use Rattle.cm_index.specs.Index.{LivesAt}
 use Rattle.cm_index.specs.Living.{living, unloaded, moved_slot}
 use Rattle.cm_rows.specs.declared.live_loader.LiveLoader.{LiveLoader}
@@ -50,15 +50,15 @@ pub loaders-set : (sizes : Sizes) (old new : LoaderPlaces) (rows more u i : ℕ)
     → vec_capacity old.slots ≤ vec_capacity new.slots → rows ≤ more → HasLoaders sizes new more
 loaders-set sizes old new rows more u i o h at is roomier le =
     let ls = old.slots.items in
-    let s : Slot LiveLoader = living_loader u o in
+    let s : BookSlot LiveLoader = living_loader u o in
     let same : items new.slots.items ≡ set (items ls) i s.item = ap
-    (λ (l : List (Slot LiveLoader)). items l) is ∙ items-set ls i s in
+    (λ (l : List (BookSlot LiveLoader)). items l) is ∙ items-set ls i s in
     let long : length new.slots.items ≡ length ls = ap length is ∙ length-set ls i s in
     record {
       rises = subst Rises (sym same) (record {
         each = rises-set u o (items ls) i nobody (at.number_is nobody) h.rises.each;
       });
-      last = λ k e. subst (λ (l : List (Slot LiveLoader)). LivesAt l k) (sym is)
+      last = λ k e. subst (λ (l : List (BookSlot LiveLoader)). LivesAt l k) (sym is)
           (lives-set ls i s k refl (omega (arith, e, long)) (h.last k (omega (arith, e, long))));
       few = omega (arith, h.few, long);
       room = omega (arith, h.room);
@@ -71,15 +71,15 @@ pub loaders-push : (sizes : Sizes) (old new : LoaderPlaces) (rows more n : ℕ)
     → vec_capacity old.slots ≤ vec_capacity new.slots → rows + 1 ≤ more → HasLoaders sizes new more
 loaders-push sizes old new rows more n h below is roomier le =
     let ls = old.slots.items in
-    let s : Slot LiveLoader = living_loader n None in
+    let s : BookSlot LiveLoader = living_loader n None in
     let same : items new.slots.items ≡ items ls ++ s.item ∷ [] = ap
-    (λ (l : List (Slot LiveLoader)). items l) is ∙ items-push ls s in
+    (λ (l : List (BookSlot LiveLoader)). items l) is ∙ items-push ls s in
     let long : length new.slots.items ≡ length ls + 1 = ap length is ∙ length-append ls (s ∷ []) in
     record {
       rises = subst Rises (sym same) (record {
         each = rises-push (items ls) s.item h.rises.each below;
       });
-      last = λ k e. subst (λ (l : List (Slot LiveLoader)). LivesAt l k) (sym is)
+      last = λ k e. subst (λ (l : List (BookSlot LiveLoader)). LivesAt l k) (sym is)
           (lives-push ls s k refl (sym (ap length is) ∙ e));
       few = omega (arith, h.few, long);
       room = omega (arith, h.room);
@@ -91,11 +91,11 @@ pub loaders-ended : (sizes : Sizes) (old new : LoaderPlaces) (rows more u i : �
     → vec_capacity old.slots ≤ vec_capacity new.slots → rows ≤ more → HasLoaders sizes new more
 loaders-ended sizes old new rows more u i h at e roomier le =
     let ls = old.slots.items in
-    let s : Slot LiveLoader = ended_loader u in
-    let with : List (Slot LiveLoader) = set ls i s in
+    let s : BookSlot LiveLoader = ended_loader u in
+    let with : List (BookSlot LiveLoader) = set ls i s in
     let n : ℕ = e.count in
     let same : items new.slots.items ≡ take n (set (items ls) i s.item) = ap
-    (λ (l : List (Slot LiveLoader)). items l) e.slots_are
+    (λ (l : List (BookSlot LiveLoader)). items l) e.slots_are
     ∙ items-take n with ∙ ap (take n) (items-set ls i s) in
     let long : length new.slots.items ≡ n = ap length e.slots_are
     ∙ omega (arith, length-take n with, e.is_end.within) in
@@ -104,7 +104,7 @@ loaders-ended sizes old new rows more u i h at e roomier le =
         each = rises-take n (set (items ls) i s.item)
             (rises-set u None (items ls) i nobody (at.number_is nobody) h.rises.each);
       });
-      last = λ k is. subst (λ (l : List (Slot LiveLoader)). LivesAt l k) (sym e.slots_are)
+      last = λ k is. subst (λ (l : List (BookSlot LiveLoader)). LivesAt l k) (sym e.slots_are)
           (lives-take with n k (omega (arith, is, long)) e.is_end.within
           (e.is_end.last k (omega (arith, is, long))));
       few = omega (arith, long, e.is_end.within, length-set ls i s, h.few);
@@ -156,7 +156,7 @@ module _ {P : Type 0} where
       let ls = items loaders.slots.items in
       ap length h.lasts ∙ length-map (numbers_of ls) (λ u. last_place u rows.slots.items)
       ∙ length-map ls (λ (l : LiveLoader). l.number)
-      ∙ length-map loaders.slots.items (λ (s : Slot LiveLoader). s.item)
+      ∙ length-map loaders.slots.items (λ (s : BookSlot LiveLoader). s.item)
 
   -- no less room than before
   pub record IsRoomier (old : RowPlaces P) (known : LoaderPlaces) (new : RowPlaces P)
@@ -181,8 +181,8 @@ module _ {P : Type 0} where
   links-class sizes old new known left r k i o h few rises at has more =
       let slots = old.slots.items in
       let ls = items known.slots.items in
-      let s : Slot (Row P) = record { item = Class r k; live = true } in
-      let l : Slot LiveLoader = living_loader r.loader o in
+      let s : BookSlot (Row P) = record { item = Class r k; live = true } in
+      let l : BookSlot LiveLoader = living_loader r.loader o in
       let last = last-at-place sizes old known r.loader i None h at in
       let linked = linked-push slots old.before.items s (get_or known.newest.items i None)
       h.linked last in
@@ -223,8 +223,8 @@ module _ {P : Type 0} where
       → HasLoader old known r new left → IsRoomier old known new left → HasLinks sizes new left
   links-loader sizes rows ls p old new known left r b above same under h few has more =
       let slots = old.slots.items in
-      let s : Slot (Row P) = record { item = Loader r; live = true } in
-      let l : Slot LiveLoader = living_loader r.number None in
+      let s : BookSlot (Row P) = record { item = Loader r; live = true } in
+      let l : BookSlot LiveLoader = living_loader r.number None in
       let fresh = subst (AllByRecursion (λ row. is_of r.number row ≡ false)) (sym same)
       (none-there sizes rows ls p r.number b above) in
       let linked = linked-push slots old.before.items s None h.linked
@@ -254,7 +254,7 @@ module _ {P : Type 0} where
       let ls = items known.slots.items in
       let n : ℕ = e.count in
       let after = map (unloaded u) slots in
-      let s : Slot LiveLoader = ended_loader u in
+      let s : BookSlot LiveLoader = ended_loader u in
       let lasts = ap (λ os. take n (set os i None)) h.lasts
       ∙ ap (take n)
       (places-unloaded u slots ls i nobody rises.each at.within (at.number_is nobody)
@@ -292,7 +292,7 @@ module _ {P : Type 0} where
       let slots = old.slots.items in
       let ls = items known.slots.items in
       let after = map (moved_slot from to) slots in
-      let l : Slot LiveLoader = living_loader u o in
+      let l : BookSlot LiveLoader = living_loader u o in
       let lasts = h.lasts
       ∙ sym (places-same slots after (numbers_of ls) (λ v. place-moved from to v slots))
       ∙ ap (last_places after)

@@ -13,7 +13,7 @@ use Rattle.cm_layout.specs.declared.class_row.ClassRow.{ClassRow}
 use Rattle.cm_layout.specs.declared.row.Row.{Row}
 use Rattle.cm_layout.specs.declared.row.Row.TheVariants.{Loader, Class}
 use Rattle.cm_layout.specs.Rows.{classes_in}
-use Rattle.cm_index.specs.declared.slot.Slot.{Slot}
+use Rattle.cm_index.specs.declared.slot.BookSlot.{BookSlot}
 use Rattle.cm_rows.specs.declared.live_loader.LastChunk.{LastChunk}
 
 -- the pool has all roots, and its free words are those of no chunk of these
@@ -42,7 +42,7 @@ own_chunk (Loader r) = None
 own_chunk (Class r p) = if r.place.offset == 0 then Some r.place.chunk else None
 
 -- the same of a row that lives
-abbrev pub living_chunk : {P : Type 0} → Slot (Row P) → Option Chunk
+abbrev pub living_chunk : {P : Type 0} → BookSlot (Row P) → Option Chunk
 living_chunk s = if s.live then own_chunk s.item else None
 
 -- each record has words, each chunk a first record, and each chunk one loader

@@ -10,7 +10,7 @@ use Rattle.cm_layout.specs.declared.row.Row.{Row}
 use Rattle.cm_layout.specs.declared.row.Row.TheVariants.{Loader, Class}
 use Rattle.cm_layout.specs.Rows.{is_of, moved_row}
 use Rattle.cm_layout.specs.Rules.{row_limit}
-use Rattle.cm_index.specs.declared.slot.Slot.{Slot}
+use Rattle.cm_index.specs.declared.slot.BookSlot.{BookSlot}
 use Rattle.cm_index.specs.Living.{living}
 use Rattle.cm_rows.specs.declared.live_loader.LiveLoader.{LiveLoader}
 use Rattle.cm_rows.specs.declared.loader_places.LoaderPlaces.{LoaderPlaces}
@@ -32,35 +32,35 @@ place_behind (Some i) t = Some (suc i)
 place_behind None t = if t then Some 0 else None
 
 -- where the last living row of a loader stands
-abbrev pub last_place : {P : Type 0} → ℕ → List (Slot (Row P)) → Option ℕ
+abbrev pub last_place : {P : Type 0} → ℕ → List (BookSlot (Row P)) → Option ℕ
 last_place u [] = None
 last_place u (s ∷ slots) = place_behind (last_place u slots) (s.live && is_of u s.item)
 
 -- beside each place of a living row stands that of the living row of its loader before it
-pub record AreLinked {P : Type 0} (slots : List (Slot (Row P)))
+pub record AreLinked {P : Type 0} (slots : List (BookSlot (Row P)))
     (before : List (Option ℕ)) : Type 0 where
   pub same : length before ≡ length slots
-  pub each : (i : ℕ) (s : Slot (Row P)) → slice_get slots i ≡ Some s → s.live ≡ true
+  pub each : (i : ℕ) (s : BookSlot (Row P)) → slice_get slots i ≡ Some s → s.live ≡ true
       → get_or before i None ≡ last_place (loader_in s.item) (take i slots)
 
 -- the last places of loaders of these numbers
-abbrev pub last_places : {P : Type 0} → List (Slot (Row P)) → List ℕ → List (Option ℕ)
+abbrev pub last_places : {P : Type 0} → List (BookSlot (Row P)) → List ℕ → List (Option ℕ)
 last_places slots numbers = map (λ u. last_place u slots) numbers
 
 -- where a chunk's records move, no other loader's row does
 pub record OthersStay {P : Type 0} (u : ℕ) (from to : Chunk)
-    (slots : List (Slot (Row P))) : Type 0 where
-  pub each : (i : ℕ) (s : Slot (Row P)) → slice_get slots i ≡ Some s → s.live ≡ true
+    (slots : List (BookSlot (Row P))) : Type 0 where
+  pub each : (i : ℕ) (s : BookSlot (Row P)) → slice_get slots i ≡ Some s → s.live ≡ true
       → is_of u s.item ≡ false → moved_row from to s.item ≡ s.item
 
 -- a place whose row lives no more
-abbrev pub ended : {P : Type 0} → Slot (Row P) → Slot (Row P)
+abbrev pub ended : {P : Type 0} → BookSlot (Row P) → BookSlot (Row P)
 ended s = record { item = s.item; live = false }
 
 -- the next living row from a place on stands here
-pub record ComesNext {X : Type 0} (slots : List (Slot X)) (from place : ℕ) : Type 0 where
+pub record ComesNext {X : Type 0} (slots : List (BookSlot X)) (from place : ℕ) : Type 0 where
   pub within : place < length slots
-  pub is : (d : Slot X) → living (drop from slots)
+  pub is : (d : BookSlot X) → living (drop from slots)
       ≡ (get_or slots place d).item ∷ living (drop (place + 1) slots)
 
 -- how many places a walk still goes over at most

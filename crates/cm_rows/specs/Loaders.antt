@@ -6,7 +6,7 @@ use Rattle.std.specs.List.{All, HoldsAt, AllByRecursion}
 use Rattle.cm_pool.specs.Geometry.{Sizes}
 use Rattle.cm_pool.specs.Lists.{Pairwise}
 use Rattle.cm_layout.specs.Rules.{row_limit}
-use Rattle.cm_index.specs.declared.slot.Slot.{Slot}
+use Rattle.cm_index.specs.declared.slot.BookSlot.{BookSlot}
 use Rattle.cm_index.specs.Index.{LivesAt}
 use Rattle.cm_rows.specs.declared.live_loader.LastChunk.{LastChunk}
 use Rattle.cm_rows.specs.declared.live_loader.LiveLoader.{LiveLoader}
@@ -34,29 +34,29 @@ last_in u [] = None
 last_in u (l ∷ loaders) = if l.number == u then l.last else last_in u loaders
 
 -- what stands at places, whether it lives or not
-abbrev pub items : {X : Type 0} → List (Slot X) → List X
+abbrev pub items : {X : Type 0} → List (BookSlot X) → List X
 items slots = map (λ s. s.item) slots
 
 -- the loader of this number stands at this place, and lives
-pub record IsKept (loaders : List (Slot LiveLoader)) (number place : ℕ) : Type 0 where
+pub record IsKept (loaders : List (BookSlot LiveLoader)) (number place : ℕ) : Type 0 where
   pub at : IsAt (items loaders) number place
   pub lives : LivesAt loaders place
 
 -- those from this place on live no more, and the one before it does
-pub record IsLivingEnd (loaders : List (Slot LiveLoader)) (place : ℕ) : Type 0 where
+pub record IsLivingEnd (loaders : List (BookSlot LiveLoader)) (place : ℕ) : Type 0 where
   pub within : place ≤ length loaders
   pub behind : AllByRecursion (λ s. s.live ≡ false) (drop place loaders)
   pub last : (k : ℕ) → place ≡ k + 1 → LivesAt loaders k
 
 -- the place of a loader that lives, with its last chunk, and of one that lives no more
-abbrev pub living_loader : ℕ → Option LastChunk → Slot LiveLoader
+abbrev pub living_loader : ℕ → Option LastChunk → BookSlot LiveLoader
 living_loader number last = record { item = record { number = number; last = last }; live = true }
 
-abbrev pub ended_loader : ℕ → Slot LiveLoader
+abbrev pub ended_loader : ℕ → BookSlot LiveLoader
 ended_loader number = record { item = record { number = number; last = None }; live = false }
 
 -- the one at this place lives no more
-abbrev pub with_end : List (Slot LiveLoader) → ℕ → ℕ → List (Slot LiveLoader)
+abbrev pub with_end : List (BookSlot LiveLoader) → ℕ → ℕ → List (BookSlot LiveLoader)
 with_end loaders at number = slice_set loaders at (ended_loader number)
 
 -- and those at the end are taken out that don't

@@ -8,7 +8,7 @@ use Rattle.cm_layout.specs.declared.class_row.ClassRow.{ClassRow}
 use Rattle.cm_layout.specs.declared.entry_rule.EntryRule.{EntryRule}
 use Rattle.cm_layout.specs.declared.entry_rule.EntryRule.TheVariants.{OnRows, OnChunks}
 use Rattle.cm_layout.specs.Rules.{is_chunk, row_limit}
-use Rattle.cm_index.specs.declared.slot.Slot.{Slot}
+use Rattle.cm_index.specs.declared.slot.BookSlot.{BookSlot}
 use Rattle.cm_index.specs.Living.{living}
 use Rattle.cm_rows.specs.declared.live_loader.LiveLoader.{LiveLoader}
 use Rattle.cm_rows.specs.Loaders.{IsAbsent, IsKept}
@@ -20,32 +20,34 @@ is_inside sizes r = is_chunk sizes r.place.chunk && nat_le 1 r.place.words
     && nat_le (r.place.offset + r.place.words) (chunk_size r.place.chunk.order)
 
 -- beside so many rows there is room for one more, and its loader lives, at this place
-pub record MayCome (sizes : Sizes) (count : ℕ) (loaders : List (Slot LiveLoader)) (r : ClassRow)
-    (at : ℕ) (slot : Slot LiveLoader) : Type 0 where
+pub record MayCome (sizes : Sizes) (count : ℕ) (loaders : List (BookSlot LiveLoader)) (r : ClassRow)
+    (at : ℕ) (slot : BookSlot LiveLoader) : Type 0 where
   pub few : count < row_limit sizes
   pub kept : IsKept loaders r.loader at
   pub slot_is : slot ≡ get_or loaders at slot
 
 -- its place is taken
-pub record IsPlaced (sizes : Sizes) (count : ℕ) (loaders : List (Slot LiveLoader)) (r : ClassRow)
+pub record IsPlaced (sizes : Sizes) (count : ℕ) (loaders : List (BookSlot LiveLoader))
+    (r : ClassRow)
     (old new : FreeSpace) : Type 0 where
   pub at : ℕ
-  pub slot : Slot LiveLoader
+  pub slot : BookSlot LiveLoader
   pub may : MayCome sizes count loaders r at slot
   pub inside : is_inside sizes r ≡ true
   pub takes : TakesPlace slot.item.last r.place old new
 
 -- it has no place
-pub record IsUnplaced (sizes : Sizes) (count : ℕ) (loaders : List (Slot LiveLoader)) (r : ClassRow)
+pub record IsUnplaced (sizes : Sizes) (count : ℕ) (loaders : List (BookSlot LiveLoader))
+    (r : ClassRow)
     (old new : FreeSpace) : Type 0 where
   pub at : ℕ
-  pub slot : Slot LiveLoader
+  pub slot : BookSlot LiveLoader
   pub may : MayCome sizes count loaders r at slot
   pub why : (is_inside sizes r ≡ false)
       ⊎ ((is_inside sizes r ≡ true) × HasNoPlace slot.item.last r.place old new)
 
 -- the first rule that it breaks
-abbrev pub Breaks : Sizes → ℕ → List (Slot LiveLoader) → ClassRow → FreeSpace → FreeSpace
+abbrev pub Breaks : Sizes → ℕ → List (BookSlot LiveLoader) → ClassRow → FreeSpace → FreeSpace
     → EntryRule → Type 0
 Breaks sizes count loaders r old new OnRows =
     IsAbsent (living loaders) r.loader ⊎ (row_limit sizes ≤ count)

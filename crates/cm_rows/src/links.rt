@@ -18,7 +18,7 @@ use crate::loader_places::LoaderPlaces;
 use crate::place_rules::row_limit;
 use crate::row_places::RowPlaces;
 use crate::rows::{move_row, own_chunk};
-use cm_index::{Kept, Slot, sweep_index};
+use cm_index::{BookSlot, Kept, sweep_index};
 use cm_layout::Row;
 use cm_pool::{Chunk, Geometry, Pool};
 
@@ -39,7 +39,7 @@ pub fn link(before: &mut Vec<Option<u32>>, newest: &mut Vec<Option<u32>>, loader
 /// Ends the rows of a loader, from its last one on, and gives their chunks back to the pool. Says
 /// how many they were.
 pub fn unload_rows<P>(
-    slots: &mut Vec<Slot<Row<P>>>,
+    slots: &mut Vec<BookSlot<Row<P>>>,
     before: &[Option<u32>],
     loader: u64,
     newest: Option<u32>,
@@ -65,11 +65,11 @@ pub fn unload_rows<P>(
 }
 
 // Ends a row, and gives its chunk back to the pool where it is the first record there.
-fn end_row<P>(slots: &mut Vec<Slot<Row<P>>>, at: usize, pool: &mut Pool)
+fn end_row<P>(slots: &mut Vec<BookSlot<Row<P>>>, at: usize, pool: &mut Pool)
     requires within { at < vec_len slots.old }
     requires lives { LivesAt slots.old.items at }
     requires holds { Holds pool.old.geometry pool.old (chunks_of (living slots.old.items)) }
-    ensures slots { (d : Slot (Row P)) → slots.new.items
+    ensures slots { (d : BookSlot (Row P)) → slots.new.items
         ≡ slice_set slots.old.items at (ended (get_or slots.old.items at d)) }
     ensures holds { Holds pool.old.geometry pool.new (chunks_of (living slots.new.items)) }
     ensures capacity { vec_capacity slots.new ≡ vec_capacity slots.old }
@@ -84,7 +84,7 @@ fn end_row<P>(slots: &mut Vec<Slot<Row<P>>>, at: usize, pool: &mut Pool)
 /// Lets the records of a loader that lie on one chunk lie on another. Goes over the loader's rows,
 /// from its last one on.
 pub fn move_rows<P>(
-    slots: &mut Vec<Slot<Row<P>>>,
+    slots: &mut Vec<BookSlot<Row<P>>>,
     before: &[Option<u32>],
     loader: u64,
     newest: Option<u32>,
@@ -116,7 +116,7 @@ fn loader_in<P>(row: &Row<P>) -> u64
 }
 
 // No place for each loader.
-fn no_places(newest: &mut Vec<Option<u32>>, loaders: &[Slot<LiveLoader>])
+fn no_places(newest: &mut Vec<Option<u32>>, loaders: &[BookSlot<LiveLoader>])
     requires { length loaders.now ≤ vec_capacity newest.old }
     ensures newest { newest.new.items ≡ map (λ l. None) loaders.now }
     ensures capacity { vec_capacity newest.old ≤ vec_capacity newest.new }
@@ -140,8 +140,8 @@ pub fn push_place(places: &mut Vec<Option<u32>>, place: Option<u32>)
 pub fn relink<P>(
     before: &mut Vec<Option<u32>>,
     newest: &mut Vec<Option<u32>>,
-    loaders: &[Slot<LiveLoader>],
-    slots: &[Slot<Row<P>>],
+    loaders: &[BookSlot<LiveLoader>],
+    slots: &[BookSlot<Row<P>>],
 )
     requires live { AllByRecursion (λ s. s.live ≡ true) slots.now }
     requires rises { Rises (items loaders.now) }
@@ -163,7 +163,7 @@ pub fn relink<P>(
 }
 
 // Takes out what lives no more.
-fn sweep<T: Drop>(slots: &mut Vec<Slot<T>>)
+fn sweep<T: Drop>(slots: &mut Vec<BookSlot<T>>)
     ensures slots { slots.new.items ≡ swept slots.old.items }
     ensures capacity { vec_capacity slots.new ≡ vec_capacity slots.old }
 {

@@ -7,7 +7,7 @@ ghost use Rattle.cm_index.specs.Living.{living, swept};
 ghost use Rattle.cm_rows.specs.Loaders.{Rises, IsAt, IsAbsent, items, IsKept, IsLivingEnd};
 ghost use Rattle.cm_rows.specs.Loaders.{living_loader};
 
-use cm_index::Slot;
+use cm_index::BookSlot;
 use cm_pool::Chunk;
 
 /// The chunk of a loader's last class.
@@ -27,7 +27,7 @@ pub struct LiveLoader {
 }
 
 // Where the loader of a number stands or stood.
-fn search(loaders: &[Slot<LiveLoader>], number: u64) -> Option<usize>
+fn search(loaders: &[BookSlot<LiveLoader>], number: u64) -> Option<usize>
     requires { Rises (items loaders.now) }
     ensures found { IfSome result (IsAt (items loaders.now) number) }
     ensures absent { IfNone result (IsAbsent (items loaders.now) number) }
@@ -38,7 +38,7 @@ fn search(loaders: &[Slot<LiveLoader>], number: u64) -> Option<usize>
 }
 
 /// Where the loader of a number stands, if it lives.
-pub fn find(loaders: &[Slot<LiveLoader>], number: u64) -> Option<usize>
+pub fn find(loaders: &[BookSlot<LiveLoader>], number: u64) -> Option<usize>
     requires { Rises (items loaders.now) }
     ensures found { IfSome result (IsKept loaders.now number) }
     ensures absent { IfNone result (IsAbsent (living loaders.now) number) }
@@ -48,14 +48,14 @@ pub fn find(loaders: &[Slot<LiveLoader>], number: u64) -> Option<usize>
 }
 
 /// Puts a loader that lives behind the others, where there is room for it.
-pub fn push_loader(loaders: &mut Vec<Slot<LiveLoader>>, loader: LiveLoader)
+pub fn push_loader(loaders: &mut Vec<BookSlot<LiveLoader>>, loader: LiveLoader)
     requires { vec_len loaders.old < vec_capacity loaders.old }
     ensures loaders { loaders.new.items
         ≡ loaders.old.items ++ record { item = loader; live = true } ∷ [] }
     ensures capacity { vec_capacity loaders.old ≤ vec_capacity loaders.new }
 {
     loaders
-        .push(Slot {
+        .push(BookSlot {
             item: loader,
             live: true,
         })
@@ -63,21 +63,21 @@ pub fn push_loader(loaders: &mut Vec<Slot<LiveLoader>>, loader: LiveLoader)
 }
 
 /// Keeps another last chunk of a loader.
-pub fn set_last(loaders: &mut Vec<Slot<LiveLoader>>, at: usize, number: u64, last: LastChunk)
+pub fn set_last(loaders: &mut Vec<BookSlot<LiveLoader>>, at: usize, number: u64, last: LastChunk)
     requires { at < vec_len loaders.old }
     ensures loaders { loaders.new.items
         ≡ slice_set loaders.old.items at (living_loader number (Some last)) }
     ensures capacity { vec_capacity loaders.new ≡ vec_capacity loaders.old }
 {
     let last = Some(last);
-    loaders[at] = Slot {
+    loaders[at] = BookSlot {
         item: LiveLoader { number, last },
         live: true,
     };
 }
 
 /// How many there are up to the last one that lives.
-pub fn living_end(loaders: &[Slot<LiveLoader>]) -> usize
+pub fn living_end(loaders: &[BookSlot<LiveLoader>]) -> usize
     ensures { IsLivingEnd loaders.now result }
 {
     let mut count = loaders.len();
@@ -91,7 +91,7 @@ pub fn living_end(loaders: &[Slot<LiveLoader>]) -> usize
 }
 
 /// Puts the living ones of others in the place of the loaders, where there is room for them.
-pub fn copy_loaders(loaders: &mut Vec<Slot<LiveLoader>>, others: &[Slot<LiveLoader>])
+pub fn copy_loaders(loaders: &mut Vec<BookSlot<LiveLoader>>, others: &[BookSlot<LiveLoader>])
     requires { length (living others.now) ≤ vec_capacity loaders.old }
     ensures loaders { loaders.new.items ≡ swept others.now }
     ensures capacity { vec_capacity loaders.old ≤ vec_capacity loaders.new }
@@ -103,7 +103,7 @@ pub fn copy_loaders(loaders: &mut Vec<Slot<LiveLoader>>, others: &[Slot<LiveLoad
 }
 
 // Puts a loader behind the others if it lives, where there is room for it.
-fn push_living(loaders: &mut Vec<Slot<LiveLoader>>, slot: &Slot<LiveLoader>)
+fn push_living(loaders: &mut Vec<BookSlot<LiveLoader>>, slot: &BookSlot<LiveLoader>)
     requires { vec_len loaders.old + length (living (slot.now ∷ [])) ≤ vec_capacity loaders.old }
     ensures loaders { loaders.new.items ≡ loaders.old.items ++ swept (slot.now ∷ []) }
     ensures capacity { vec_capacity loaders.old ≤ vec_capacity loaders.new }

@@ -7,14 +7,14 @@ ghost use Rattle.cm_rows.specs.Places.{HasNoLoaders, HasLoaderRoom};
 
 use crate::links::push_place;
 use crate::live_loader::{LiveLoader, living_end, push_loader};
-use cm_index::Slot;
+use cm_index::BookSlot;
 use std::alloc::{AllocError, Global};
 
 /// The places of loaders, rising by number.
 #[derive(Drop)]
 pub struct LoaderPlaces {
     /// The loaders, and between them those that live no more.
-    pub slots: Vec<Slot<LiveLoader>>,
+    pub slots: Vec<BookSlot<LiveLoader>>,
     /// Beside each loader the place of its last row.
     pub newest: Vec<Option<u32>>,
 }
@@ -63,7 +63,7 @@ impl LoaderPlaces {
         ensures capacity { vec_capacity self.new.slots ≡ vec_capacity self.old.slots }
         ensures newest_capacity { vec_capacity self.new.newest ≡ vec_capacity self.old.newest }
     {
-        self.slots[at] = Slot {
+        self.slots[at] = BookSlot {
             item: LiveLoader { number, last: None },
             live: false,
         };

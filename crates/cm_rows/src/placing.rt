@@ -6,7 +6,7 @@ ghost use Rattle.cm_rows.specs.Placing.{IsPlaced, Breaks};
 
 use crate::live_loader::{LiveLoader, find};
 use crate::place_rules::{is_inside, row_limit, take_place};
-use cm_index::Slot;
+use cm_index::BookSlot;
 use cm_layout::{ClassRow, EntryRule};
 use cm_pool::{Geometry, Pool};
 
@@ -15,7 +15,7 @@ use cm_pool::{Geometry, Pool};
 pub fn place_class(
     geometry: Geometry,
     count: usize,
-    loaders: &[Slot<LiveLoader>],
+    loaders: &[BookSlot<LiveLoader>],
     row: &ClassRow,
     pool: &mut Pool,
 ) -> Option<EntryRule>

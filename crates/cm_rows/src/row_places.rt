@@ -3,7 +3,7 @@
 ghost use Rattle.std.specs.Prelude.{ℕ, IfOk};
 ghost use Rattle.cm_rows.specs.Places.{HasNoRows, HasRowRoom};
 
-use cm_index::{Index, Kept, Slot};
+use cm_index::{BookSlot, Index, Kept};
 use cm_layout::Row;
 use std::alloc::{AllocError, Global};
 
@@ -11,7 +11,7 @@ use std::alloc::{AllocError, Global};
 #[derive(Drop)]
 pub struct RowPlaces<P> {
     /// The rows, and between them those that live no more and aren't swept out yet.
-    pub slots: Vec<Slot<Row<P>>>,
+    pub slots: Vec<BookSlot<Row<P>>>,
     /// Beside each living row the place of the row of its loader before it.
     pub before: Vec<Option<u32>>,
     pub index: Index,

@@ -7,7 +7,7 @@ ghost use Rattle.cm_index.specs.Living.{living};
 ghost use Rattle.cm_layout.specs.Rows.{moved_row, row_with, bare};
 ghost use Rattle.cm_rows.specs.Held.{Holds, CanBeHeld, chunks_of, own_chunk, living_chunk};
 
-use cm_index::Slot;
+use cm_index::BookSlot;
 use cm_layout::Row;
 use cm_pool::{Chunk, Pool};
 
@@ -23,7 +23,7 @@ fn bare_row<Q>(row: &Row<Q>) -> Row<()>
 
 /// Puts the living rows of others in the place of the rows, where there is room for them, with
 /// nothing kept of a class.
-pub fn copy_rows<Q>(slots: &mut Vec<Slot<Row<()>>>, others: &[Slot<Row<Q>>])
+pub fn copy_rows<Q>(slots: &mut Vec<BookSlot<Row<()>>>, others: &[BookSlot<Row<Q>>])
     requires { length (living others.now) ≤ vec_capacity slots.old }
     ensures rows { living slots.new.items ≡ bare (living others.now) }
     ensures live { AllByRecursion (λ s. s.live ≡ true) slots.new.items }
@@ -39,13 +39,13 @@ pub fn copy_rows<Q>(slots: &mut Vec<Slot<Row<()>>>, others: &[Slot<Row<Q>>])
 }
 
 // Puts a row that lives behind the others, where there is room for it.
-fn push_living<P: Drop>(slots: &mut Vec<Slot<Row<P>>>, row: Row<P>)
+fn push_living<P: Drop>(slots: &mut Vec<BookSlot<Row<P>>>, row: Row<P>)
     requires { vec_len slots.old < vec_capacity slots.old }
     ensures slots { slots.new.items ≡ slots.old.items ++ record { item = row; live = true } ∷ [] }
     ensures capacity { vec_capacity slots.old ≤ vec_capacity slots.new }
 {
     slots
-        .push(Slot {
+        .push(BookSlot {
             item: row,
             live: true,
         })
@@ -53,7 +53,7 @@ fn push_living<P: Drop>(slots: &mut Vec<Slot<Row<P>>>, row: Row<P>)
 }
 
 /// Gives the chunks of all rows back to the pool.
-pub fn give_all<P>(slots: &[Slot<Row<P>>], pool: &mut Pool)
+pub fn give_all<P>(slots: &[BookSlot<Row<P>>], pool: &mut Pool)
     requires { Holds pool.old.geometry pool.old (chunks_of (living slots.now)) }
     ensures { Holds pool.old.geometry pool.new [] }
 {
@@ -65,7 +65,7 @@ pub fn give_all<P>(slots: &[Slot<Row<P>>], pool: &mut Pool)
 }
 
 /// Takes the chunks of rows out of a pool that holds none.
-pub fn take_all<P>(slots: &[Slot<Row<P>>], pool: &mut Pool)
+pub fn take_all<P>(slots: &[BookSlot<Row<P>>], pool: &mut Pool)
     requires none { Holds pool.old.geometry pool.old [] }
     requires apart { CanBeHeld pool.old.geometry (chunks_of (living slots.now)) }
     ensures { Holds pool.old.geometry pool.new (chunks_of (living slots.now)) }
@@ -78,7 +78,7 @@ pub fn take_all<P>(slots: &[Slot<Row<P>>], pool: &mut Pool)
 }
 
 // The chunk whose first record is this row's, if the row lives.
-fn living_chunk<P>(slot: &Slot<Row<P>>) -> Option<Chunk>
+fn living_chunk<P>(slot: &BookSlot<Row<P>>) -> Option<Chunk>
     ensures { result ≡ living_chunk slot.now }
 {
     if slot.live {

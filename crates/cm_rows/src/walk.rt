@@ -4,14 +4,14 @@ ghost use Rattle.std.specs.Prelude.{◌≡◌, [], ◌∷◌, drop, MatchOption}
 ghost use Rattle.cm_index.specs.Living.{living};
 ghost use Rattle.cm_rows.specs.Links.{ComesNext};
 
-use cm_index::Slot;
+use cm_index::BookSlot;
 use cm_layout::Row;
 use std::marker::Model;
 
 /// The rows of a book that are left to go over. Contracts see the list of these rows.
 #[derive(Drop)]
 pub struct Walk<'a, P> {
-    slots: &'a [Slot<Row<P>>],
+    slots: &'a [BookSlot<Row<P>>],
     at: usize,
 }
 
@@ -28,7 +28,7 @@ impl<'a, P> Model for Walk<'a, P> {
 }
 
 impl<'a, P> Walk<'a, P> {
-    pub(crate) fn over(slots: &'a [Slot<Row<P>>]) -> Walk<'a, P>
+    pub(crate) fn over(slots: &'a [BookSlot<Row<P>>]) -> Walk<'a, P>
         ensures { result ≡ living slots.now }
     {
         Walk { slots, at: 0 }
@@ -45,7 +45,7 @@ impl<'a, P> Walk<'a, P> {
 }
 
 // Where the next living row stands from a place on.
-fn next_living<T>(slots: &[Slot<T>], from: usize) -> Option<usize>
+fn next_living<T>(slots: &[BookSlot<T>], from: usize) -> Option<usize>
     ensures { MatchOption result (living (drop from slots.now) ≡ []) (ComesNext slots.now from) }
 {
     for place in from..slots.len() {

@@ -12,7 +12,7 @@ module _ (c : ClassFile) where
   field_anywhere : (rule : Rule) → (rule ≡ rules.FieldTwice → ⊥) → (i : ℕ) (m : Member)
       → field_constraint rule c m ≡ field_rule rule c i m
   unfolding field_rule
-  field_anywhere rules.TextForm other i m = refl
+  field_anywhere rules.Utf8Form other i m = refl
   field_anywhere rules.EntryKinds other i m = refl
   field_anywhere rules.HandleKind other i m = refl
   field_anywhere rules.ClassName other i m = refl
@@ -45,7 +45,7 @@ module _ (c : ClassFile) where
   method_anywhere : (rule : Rule) → (rule ≡ rules.MethodTwice → ⊥) → (i : ℕ) (m : Member)
       → method_constraint rule c m ≡ method_rule rule c i m
   unfolding method_rule
-  method_anywhere rules.TextForm other i m = refl
+  method_anywhere rules.Utf8Form other i m = refl
   method_anywhere rules.EntryKinds other i m = refl
   method_anywhere rules.HandleKind other i m = refl
   method_anywhere rules.ClassName other i m = refl

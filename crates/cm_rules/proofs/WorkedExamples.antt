@@ -121,7 +121,7 @@ this_unusable = refl
 abbrev fifth : List ℕ → ClassFile
 fifth bytes = with_slots (four ++ Usable (constant.Utf8 bytes) ∷ [])
 
-text_00 : fault (fifth (0 ∷ [])) ≡ broken rules.TextForm (Pool 5)
+text_00 : fault (fifth (0 ∷ [])) ≡ broken rules.Utf8Form (Pool 5)
 unfolding fault first_of broken_spot pool_rule this_rule super_rule interface_rule field_constraint
     field_rule method_constraint method_rule attribute_rule class_flags_agree interface_field_agrees
     field_flags_agree interface_method_agrees method_flags_agree is_known first_place past_parts
@@ -139,7 +139,7 @@ unfolding fault first_of broken_spot pool_rule this_rule super_rule interface_ru
     is_method_name is_field_descriptor parameters method_units
 text_C080 = refl
 
-text_F0 : fault (fifth (0xF0 ∷ [])) ≡ broken rules.TextForm (Pool 5)
+text_F0 : fault (fifth (0xF0 ∷ [])) ≡ broken rules.Utf8Form (Pool 5)
 unfolding fault first_of broken_spot pool_rule this_rule super_rule interface_rule field_constraint
     field_rule method_constraint method_rule attribute_rule class_flags_agree interface_field_agrees
     field_flags_agree interface_method_agrees method_flags_agree is_known first_place past_parts

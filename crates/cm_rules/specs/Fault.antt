@@ -30,7 +30,7 @@ use Rattle.cm_constraints.specs.Attributes.{field_attributes_are_right, method_a
 use Rattle.cm_constraints.specs.Attributes.{class_attribute_is_right, bootstrap_attribute_is_right}
 
 abbrev pub number : Rule → ℕ
-number rules.TextForm = 1
+number rules.Utf8Form = 1
 number rules.EntryKinds = 2
 number rules.HandleKind = 3
 number rules.ClassName = 4
@@ -57,7 +57,7 @@ number rules.BootstrapMethods = 24
 
 abbrev pub all_rules : List Rule
 all_rules =
-    rules.TextForm ∷ rules.EntryKinds ∷ rules.HandleKind ∷ rules.ClassName
+    rules.Utf8Form ∷ rules.EntryKinds ∷ rules.HandleKind ∷ rules.ClassName
     ∷ rules.FieldReference ∷ rules.MethodReference ∷ rules.DynamicCall ∷ rules.MethodType
     ∷ rules.HandleName ∷ rules.ClassFlags ∷ rules.ThisClass ∷ rules.SuperClass
     ∷ rules.FieldName ∷ rules.FieldFlags ∷ rules.FieldTwice ∷ rules.MethodName
@@ -68,7 +68,7 @@ all_rules =
 
 -- of a constant
 unfoldable pub pool_rule : Rule → ClassFile → Constant → Bool
-pool_rule rules.TextForm c constant = utf8_has_form constant
+pool_rule rules.Utf8Form c constant = utf8_has_form constant
 pool_rule rules.EntryKinds c constant = names_kinds c constant
 pool_rule rules.HandleKind c constant = handle_has_kind c constant
 pool_rule rules.ClassName c constant = class_has_name c constant

@@ -16,7 +16,7 @@ use std::alloc::{AllocError, Global};
 
 /// The rules, in the order in which they are judged.
 const RULES: [Rule; 24] = [
-    Rule::TextForm,
+    Rule::Utf8Form,
     Rule::EntryKinds,
     Rule::HandleKind,
     Rule::ClassName,

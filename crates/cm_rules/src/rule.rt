@@ -4,7 +4,7 @@ ghost use Rattle.std.specs.Prelude.{◌≡◌};
 #[derive(Clone, Copy, Debug, PartialEq, Eq)]
 pub enum Rule {
     /// Each Utf8 has its form (JVMS 4.4.7).
-    TextForm,
+    Utf8Form,
     /// Each index names a constant of the kind that it has to name (JVMS 4.4, 4.1, 4.5, 4.6, 4.7).
     EntryKinds,
     /// A method handle's kind is 1 to 9, and names a reference of its sort (JVMS 4.4.8).
@@ -84,7 +84,7 @@ impl Rule {
         ensures { result ≡ number self }
     {
         match self {
-            Rule::TextForm => 1,
+            Rule::Utf8Form => 1,
             Rule::EntryKinds => 2,
             Rule::HandleKind => 3,
             Rule::ClassName => 4,

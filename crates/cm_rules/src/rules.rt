@@ -22,7 +22,7 @@ pub(crate) fn pool_rule(findings: &Findings, rule: Rule, constant: &Constant) ->
 {
     let class = findings.class;
     match rule {
-        Rule::TextForm => utf8_has_form(constant),
+        Rule::Utf8Form => utf8_has_form(constant),
         Rule::EntryKinds => names_kinds(class, constant),
         Rule::HandleKind => handle_has_kind(class, constant),
         Rule::ClassName => class_has_name(&findings.subject, constant),

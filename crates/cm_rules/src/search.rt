@@ -130,7 +130,7 @@ fn speaks_of_pool(rule: Rule) -> bool
     ensures { result ≡ false → (c : ClassFile) (k : Constant) → pool_rule rule c k ≡ true }
 {
     match rule {
-        Rule::TextForm
+        Rule::Utf8Form
         | Rule::EntryKinds
         | Rule::HandleKind
         | Rule::ClassName

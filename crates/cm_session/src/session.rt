@@ -103,7 +103,7 @@ impl<D: Disk> Session<D> {
     }
 
     /// Hands out the oldest group of accepted commands; it waits until the committer takes it.
-    /// `None` where all commands were handed out. After an `Err`, for want of memory, they still
+    /// `None` where all commands were handed out. `Err` where an allocation failed: then they still
     /// wait. The disk isn't touched.
     pub fn seal(&mut self) -> Result<Option<Sealed>, AllocError>
         ensures machine { (k : Machine) → GoesWith k self.old

@@ -7,7 +7,7 @@ ghost use Rattle.cm_pool.specs.Chunks.{chunk_size};
 
 use crate::adopt::adopt_place;
 use crate::waiting::{Waiting, free_due};
-use cm_arena::{Arena, Refusal};
+use cm_arena::{Arena, PlaceRefusal};
 use cm_pool::{Chunk, Geometry, Place, Pool};
 use std::alloc::{AllocError, Global};
 use std::collections::{BTreeMap, VecDeque};
@@ -122,7 +122,7 @@ impl Space {
     /// `RegionFull` where the last chunk has no room, no chunk of the order needed is free, and all
     /// roots are present. `NoMemory` comes only where neither does and the last chunk has no room.
     /// A refusal changes nothing.
-    pub fn place(&mut self, loader: u64, words: u32) -> Result<Place, Refusal>
+    pub fn place(&mut self, loader: u64, words: u32) -> Result<Place, PlaceRefusal>
         requires known { IsKnown self.old loader }
         requires some { 1 ≤ words }
         ensures placed { IfOk result (λ place. Places (arena_of self.old loader) self.old.pool words
@@ -133,11 +133,11 @@ impl Space {
             }) }
         ensures inside { IfOk result (λ place. IsInside place × Owns self.new loader place.chunk) }
 
-        ensures too_long { IsErrOf result Refusal.RecordTooLong
+        ensures too_long { IsErrOf result PlaceRefusal.RecordTooLong
             ↔ (chunk_size self.old.pool.geometry.top < words) }
-        ensures full { IsErrOf result Refusal.RegionFull
+        ensures full { IsErrOf result PlaceRefusal.RegionFull
             ↔ IsFull (arena_of self.old loader) self.old.pool words }
-        ensures memory { IsErrOf result Refusal.NoMemory
+        ensures memory { IsErrOf result PlaceRefusal.NoMemory
             → ¬ HasRoom (arena_of self.old loader) words }
         ensures err { OnErr result (self.new ≡ self.old) }
     {

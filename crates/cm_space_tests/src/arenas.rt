@@ -2,18 +2,18 @@
 ghost use Rattle.std.specs.Prelude.{◌≤◌};
 
 use crate::samples::{Parts, chunk, empty_pool};
-use cm_arena::{Arena, Refusal};
+use cm_arena::{Arena, PlaceRefusal};
 use cm_pool::{Chunk, Geometry, Place, Pool};
 use std::process::Abort;
 use std::test::Fail;
 
 // Asks again where an allocation failed: arena and pool are as they were, so the answer is the one
 // that was due.
-fn place(arena: &mut Arena, words: u32, pool: &mut Pool) -> Result<Place, Refusal>
+fn place(arena: &mut Arena, words: u32, pool: &mut Pool) -> Result<Place, PlaceRefusal>
     requires { 1 ≤ words }
 {
     match arena.place(words, pool) {
-        Err(Refusal::NoMemory) => arena.place(words, pool),
+        Err(PlaceRefusal::NoMemory) => arena.place(words, pool),
         answer => answer,
     }
 }
@@ -25,12 +25,16 @@ fn is_placed(
     arena: &mut Arena,
     pool: &mut Pool,
     words: u32,
-    expected: Result<(Parts, u32), Refusal>,
+    expected: Result<(Parts, u32), PlaceRefusal>,
 )
     requires { 1 ≤ words }
 {
     let full = arena.is_full(words, pool);
-    assert_eq!(rt; full, expected == Err(Refusal::RegionFull), "at {words}");
+    assert_eq!(rt;
+        full,
+        expected == Err(PlaceRefusal::RegionFull),
+        "at {words}"
+    );
     let expected = expected.map(|(parts, offset)| Place {
         chunk: chunk(parts),
         offset,
@@ -47,8 +51,8 @@ const USED: [u32; 4] = [16, 113, 500, 128];
 fn place_each(rt: &impl Abort, arena: &mut Arena, pool: &mut Pool) {
     is_placed(rt, arena, pool, 16, Ok(((0, 0, 0), 0)));
     is_placed(rt, arena, pool, 113, Ok(((0, 1, 256), 0)));
-    is_placed(rt, arena, pool, 600, Err(Refusal::RegionFull));
-    is_placed(rt, arena, pool, 1025, Err(Refusal::RecordTooLong));
+    is_placed(rt, arena, pool, 600, Err(PlaceRefusal::RegionFull));
+    is_placed(rt, arena, pool, 1025, Err(PlaceRefusal::RecordTooLong));
     is_placed(rt, arena, pool, 200, Ok(((0, 2, 512), 0)));
     is_placed(rt, arena, pool, 300, Ok(((0, 2, 512), 200)));
     is_placed(rt, arena, pool, 128, Ok(((0, 0, 128), 0)));
@@ -90,8 +94,8 @@ fn grow(rt: &impl Abort, arena: &mut Arena, pool: &mut Pool) {
     for (words, expected) in &GROWING {
         is_placed(rt, arena, pool, *words, Ok((*expected, 0)));
     }
-    is_placed(rt, arena, pool, 128, Err(Refusal::RegionFull));
-    is_placed(rt, arena, pool, 4097, Err(Refusal::RecordTooLong));
+    is_placed(rt, arena, pool, 128, Err(PlaceRefusal::RegionFull));
+    is_placed(rt, arena, pool, 4097, Err(PlaceRefusal::RecordTooLong));
 }
 
 #[test]

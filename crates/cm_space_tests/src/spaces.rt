@@ -5,7 +5,7 @@ ghost use Rattle.std.specs.List.{AllByRecursion};
 ghost use Rattle.cm_space.specs.Space.{Waits};
 
 use crate::samples::{Parts, chunk};
-use cm_arena::Refusal;
+use cm_arena::PlaceRefusal;
 use cm_pool::{Chunk, Geometry, Place};
 use cm_space::Space;
 use std::alloc::Global;
@@ -36,7 +36,7 @@ fn add_loader(space: &mut Space, loader: u64) -> Result<(), Fail>
     Ok(())
 }
 
-fn place(space: &mut Space, loader: u64, words: u32) -> Result<Result<Place, Refusal>, Fail>
+fn place(space: &mut Space, loader: u64, words: u32) -> Result<Result<Place, PlaceRefusal>, Fail>
     requires { 1 ≤ words }
     ensures { space.new.waiting ≡ space.old.waiting }
 {
@@ -44,7 +44,7 @@ fn place(space: &mut Space, loader: u64, words: u32) -> Result<Result<Place, Ref
         return Err("not known".into());
     }
     match space.place(loader, words) {
-        Err(Refusal::NoMemory) => Ok(space.place(loader, words)),
+        Err(PlaceRefusal::NoMemory) => Ok(space.place(loader, words)),
         answer => Ok(answer),
     }
 }
@@ -109,7 +109,7 @@ fn leave_and_learn(rt: &impl Abort, space: &mut Space) -> Result<(), Fail>
         offset: 0,
         words: 16,
     };
-    let full = Err(Refusal::RegionFull);
+    let full = Err(PlaceRefusal::RegionFull);
     for (number, expected) in [(0, full), (3, full), (4, Ok(front))] {
         space.learn(number);
         assert_eq!(rt; is_full(space, 3, 16)?, expected == full, "at {number}");

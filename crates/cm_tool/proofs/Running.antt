@@ -19,7 +19,7 @@ use Rattle.cm_lines.specs.declared.line.Line.{Line}
 use Rattle.cm_lines.specs.declared.line_buffer.LineBuffer.{LineBuffer}
 use Rattle.cm_lines.specs.Lines.{lines_of, asked_by, seen}
 use Rattle.cm_lines.specs.Streams.{io, TakesLines, HasNoLine, Begins, Holds, ReadsLine, WritesPart}
-use Rattle.cm_tool.specs.declared.reply.Kind.{Kind}
+use Rattle.cm_tool.specs.declared.reply.ReplyKind.{ReplyKind}
 use Rattle.cm_tool.specs.declared.reply.Reply.{Reply}
 use Rattle.cm_tool.specs.Texts.{ReplyText}
 use Rattle.cm_tool.specs.Replies.{is_refused, is_unsure, reply_line, reply_lines}
@@ -140,7 +140,7 @@ pub record SoFar {D : Type 0} (Leaves : D → D → (List ℕ → Type 0) → Ty
   pub ready : IsReady between.served.machine
 
 -- the outcome with one more reply
-pub record IsAfter (old : Outcome) (k : Kind) (new : Outcome) : Type 0 where
+pub record IsAfter (old : Outcome) (k : ReplyKind) (new : Outcome) : Type 0 where
   pub refused : new.refused ≡ (old.refused || is_refused k)
   pub unsure : new.unsure ≡ (old.unsure || is_unsure k)
 
@@ -179,7 +179,7 @@ module _ {D : Type 0} (Leaves : D → D → (List ℕ → Type 0) → Type 0) (s
       }
 
 module _ {D : Type 0} (Leaves : D → D → (List ℕ → Type 0) → Type 0) (sizes : Sizes)
-    (a b c h k m : Option (List ℕ)) (s t u : Pause D) (o n : Outcome) (kind : Kind)
+    (a b c h k m : Option (List ℕ)) (s t u : Pause D) (o n : Outcome) (kind : ReplyKind)
     (so : SoFar Leaves sizes a b h k o s t)
     (turned : Turned sizes c (io b k m) kind t.served u.served)
     (moments : Leaves t.disk u.disk (StandsBetween sizes t.served.machine u.served.machine))
@@ -363,13 +363,13 @@ module _ {D : Type 0} (Leaves : D → D → (List ℕ → Type 0) → Type 0) (s
     (Goes Next : Machine → Type 0)
     (so : LedTo (λ s. SoFar Leaves sizes a b h k o first (pause s d)) f Goes) where
   -- what a line comes to, from whichever machine
-  abbrev LedBy : Result (Option Kind) ToolFault → Type 0
+  abbrev LedBy : Result (Option ReplyKind) ToolFault → Type 0
   LedBy result =
       (j : Machine) → Goes j → IsReady j
       → LedTo (λ s. Turns sizes c (io b k m) result (pause (served j f) d) (pause s e)) now
       (Went Leaves sizes d e Next j)
 
-  pub lines_more : (n : Outcome) (kind : Kind) → LedBy (Ok (Some kind)) → IsAfter o kind n
+  pub lines_more : (n : Outcome) (kind : ReplyKind) → LedBy (Ok (Some kind)) → IsAfter o kind n
       → n.unsure ≡ false
       → LedTo (λ s. SoFar Leaves sizes a c h m n first (pause s e)) now Next
   lines_more n kind turn after sure =
@@ -381,7 +381,7 @@ module _ {D : Type 0} (Leaves : D → D → (List ℕ → Type 0) → Type 0) (s
         goes = t.goes.goes;
       }
 
-  pub lines_lost : (n : Outcome) (kind : Kind) → LedBy (Ok (Some kind)) → IsAfter o kind n
+  pub lines_lost : (n : Outcome) (kind : ReplyKind) → LedBy (Ok (Some kind)) → IsAfter o kind n
       → n.unsure ≡ true
       → LedTo (λ s. IsRun Leaves sizes (io a h m) (Ok n) first (pause s e)) now Next
   lines_lost n kind turn after lost =

@@ -10,7 +10,7 @@ use Rattle.cm_lines.specs.declared.fault.LineFault.{LineFault}
 use Rattle.cm_lines.specs.declared.fault.LineFault.TheVariants as line_fault
 use Rattle.cm_lines.specs.Lines.{lines_of, asked_by}
 use Rattle.cm_lines.specs.Streams.{Io, TakesLines, HasNoLine, Begins, WritesPart}
-use Rattle.cm_tool.specs.declared.reply.Kind.{Kind}
+use Rattle.cm_tool.specs.declared.reply.ReplyKind.{ReplyKind}
 use Rattle.cm_tool.specs.Texts.{ReplyText}
 use Rattle.cm_tool.specs.Replies.{is_refused, is_unsure, reply_line, reply_lines}
 use Rattle.cm_tool.specs.declared.script.Outcome.{Outcome}
@@ -27,7 +27,8 @@ fault_of line_fault.NoMemory = fault.NoMemory
 -- ---- one line
 
 -- a line was read, run and answered
-pub record Turned (sizes : Sizes) (rest : Option (List ℕ)) (io : Io) (k : Kind) (old new : Served)
+pub record Turned (sizes : Sizes) (rest : Option (List ℕ)) (io : Io) (k : ReplyKind)
+    (old new : Served)
     : Type 0 where
   pub line : List ℕ
   pub given : ReplyText
@@ -73,7 +74,7 @@ Breaks sizes fault.NoMemory io old new =
     ⊎ (((b : BreaksIn sizes io old new) × (b.written.part ≡ [])) ⊎ LeavesUnstored sizes io old new)
 
 -- the rest is what the reader gives behind the line
-abbrev pub Turns : {D : Type 0} → Sizes → Option (List ℕ) → Io → Result (Option Kind) ToolFault
+abbrev pub Turns : {D : Type 0} → Sizes → Option (List ℕ) → Io → Result (Option ReplyKind) ToolFault
     → Pause D → Pause D → Type 0
 Turns sizes rest io (Ok (Some k)) old new = Turned sizes rest io k old.served new.served
 Turns sizes rest io (Ok None) old new = HasEnded io old new

@@ -63,7 +63,7 @@ Replies sizes question (Err e) old new =
     ⊎ (((given : ReplyText) × AnswersAsked sizes question old given new)
     ⊎ IsUnstored sizes question old new)
 
--- a command that isn't stored has a reply, but where memory was refused before it was handed out
+-- a command that isn't stored has a reply, but where an allocation failed before it was handed out
 abbrev pub TellsNotStored : {E : Type 0} → NotStored → Result Reply E → Type 0
 TellsNotStored (Refused r) result = IfOk result (IsReply (refusal_reply r))
 TellsNotStored (NoMemory n) (Ok reply) = ⊥

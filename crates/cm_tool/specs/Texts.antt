@@ -14,12 +14,12 @@ use Rattle.cm_prepare.specs.declared.refusal.Refusal.{Refusal}
 use Rattle.cm_prepare.specs.declared.refusal.Refusal.TheVariants as refusal
 use Rattle.cm_prepare.specs.Refusals.{refusal_number}
 use Rattle.cm_lines.specs.Escapes.{escaped}
-use Rattle.cm_tool.specs.declared.reply.Kind.{Kind}
-use Rattle.cm_tool.specs.declared.reply.Kind.TheVariants as kind
+use Rattle.cm_tool.specs.declared.reply.ReplyKind.{ReplyKind}
+use Rattle.cm_tool.specs.declared.reply.ReplyKind.TheVariants as kind
 
 -- what a reply tells of its command, and its text
 pub record ReplyText : Type 0 where
-  pub kind : Kind
+  pub kind : ReplyKind
   pub text : List ℕ
 
 -- ---- of commands that are done

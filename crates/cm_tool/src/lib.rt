@@ -8,5 +8,5 @@ mod script;
 mod texts;
 
 pub use apply::{ApplyFault, apply_script};
-pub use reply::{Kind, Reply};
+pub use reply::{Reply, ReplyKind};
 pub use script::{Outcome, ToolFault, run_script, run_to_end};

@@ -16,7 +16,7 @@ use std::alloc::{AllocError, Global};
 
 /// What a reply tells of its command.
 #[derive(Clone, Copy, Debug, PartialEq, Eq)]
-pub enum Kind {
+pub enum ReplyKind {
     /// It is done.
     Done,
     /// It isn't done, and nothing is changed.
@@ -28,7 +28,7 @@ pub enum Kind {
 /// A reply: its line, with the newline.
 #[derive(Debug, Drop)]
 pub struct Reply {
-    pub kind: Kind,
+    pub kind: ReplyKind,
     pub line: Vec<u8>,
 }
 
@@ -37,7 +37,7 @@ impl Reply {
     pub fn ok(alloc: Global, number: u64) -> Result<Reply, AllocError>
         ensures { IfOk result (IsReply (number_reply number)) }
     {
-        end(Kind::Done, word_with_number(alloc, b"ok ", number)?)
+        end(ReplyKind::Done, word_with_number(alloc, b"ok ", number)?)
     }
 
     /// `ok N CLASS`: the class of this name is defined.
@@ -47,7 +47,7 @@ impl Reply {
         let mut line = word_with_number(alloc, b"ok ", number)?;
         line.extend_from_slice(b" ")?;
         escape_into(&mut line, name)?;
-        end(Kind::Done, line)
+        end(ReplyKind::Done, line)
     }
 
     /// `class CLASS flags HHHH super S words W`: under this name this class is found.
@@ -67,14 +67,14 @@ impl Reply {
         }
         line.extend_from_slice(b" words ")?;
         push_number(alloc, &mut line, u64::from(class.words()))?;
-        end(Kind::Done, line)
+        end(ReplyKind::Done, line)
     }
 
     /// `none`: there is no such class.
     pub fn none(alloc: Global) -> Result<Reply, AllocError>
         ensures { IfOk result (IsReply none_reply) }
     {
-        end(Kind::Done, text(alloc, b"none")?)
+        end(ReplyKind::Done, text(alloc, b"none")?)
     }
 
     /// `refused K TEXT`, and `unsure N` of an unsure command. Of a class that breaks a rule, the
@@ -84,7 +84,7 @@ impl Reply {
     {
         let why = text_of_refusal(alloc, refusal)?;
         match refusal {
-            Refusal::Unsure(_) => end(Kind::Unsure, why),
+            Refusal::Unsure(_) => end(ReplyKind::Unsure, why),
             _ => refusal_line(alloc, refusal.number(), &why),
         }
     }
@@ -111,11 +111,11 @@ fn refusal_line(alloc: Global, number: u8, why: &[u8]) -> Result<Reply, AllocErr
     let mut line = word_with_number(alloc, b"refused ", u64::from(number))?;
     line.extend_from_slice(b" ")?;
     line.extend_from_slice(why)?;
-    end(Kind::Refused, line)
+    end(ReplyKind::Refused, line)
 }
 
 /// The reply of a line without its newline.
-fn end(kind: Kind, mut line: Vec<u8>) -> Result<Reply, AllocError>
+fn end(kind: ReplyKind, mut line: Vec<u8>) -> Result<Reply, AllocError>
     ensures { IfOk result (IsReply (record { kind = kind; text = line.items })) }
 {
     line.push(b'\n')?;

@@ -10,7 +10,7 @@ ghost use Rattle.cm_tool.specs.Answers.{Served, served, pause};
 ghost use Rattle.cm_tool.specs.Runs.{fault_of, Turns, IsRun};
 ghost use Rattle.cm_tool.specs.Serving.{IsReady, LedTo, GoesOn, MayGoOn, medium, LeavesDisk};
 
-use crate::Kind;
+use crate::ReplyKind;
 use crate::answer::answer;
 use cm_disk::Disk;
 use cm_lines::{LineBuffer, LineFault, read_line, write_line};
@@ -57,13 +57,13 @@ impl From<LineFault> for ToolFault {
 
 impl Outcome {
     /// The same with one more reply.
-    fn with_reply(self, kind: Kind) -> Outcome
+    fn with_reply(self, kind: ReplyKind) -> Outcome
         ensures refused { result.refused ≡ (self.refused || is_refused kind) }
         ensures unsure { result.unsure ≡ (self.unsure || is_unsure kind) }
     {
         Outcome {
-            refused: self.refused || matches!(kind, Kind::Refused),
-            unsure: self.unsure || matches!(kind, Kind::Unsure),
+            refused: self.refused || matches!(kind, ReplyKind::Refused),
+            unsure: self.unsure || matches!(kind, ReplyKind::Unsure),
         }
     }
 }
@@ -142,7 +142,7 @@ fn run_line<R: BufRead, W: Write, D: Disk>(
     writer: &mut W,
     session: &mut Session<D>,
     line: &mut LineBuffer,
-) -> Result<Option<Kind>, ToolFault>
+) -> Result<Option<ReplyKind>, ToolFault>
     ensures machine { (k : Machine) → GoesWith k session.old → IsReady k
         → LedTo (λ next. Turns session.old.committer.sizes (R.remaining reader.new)
         (io (R.remaining reader.old) (W.contents writer.old) (W.contents writer.new)) result
@@ -164,7 +164,7 @@ fn take_line<R: BufRead, W: Write, D: Disk>(
     writer: &mut W,
     session: &mut Session<D>,
     line: &mut LineBuffer,
-) -> Result<Option<Kind>, ToolFault>
+) -> Result<Option<ReplyKind>, ToolFault>
     ensures machine { (k : Machine) → GoesWith k session.old → IsReady k
         → LedTo (λ next. Turns session.old.committer.sizes (R.remaining reader.new)
         (io (R.remaining reader.old) (W.contents writer.old) (W.contents writer.new)) result

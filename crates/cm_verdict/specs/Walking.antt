@@ -4,8 +4,8 @@ use Rattle.cm_rows.specs.Rows.{is_above}
 use Rattle.cm_verdict.specs.declared.fault.Damage.{Damage}
 use Rattle.cm_verdict.specs.declared.fault.FileFault.{FileFault}
 use Rattle.cm_verdict.specs.declared.walk.HalfWalk.{HalfWalk}
-use Rattle.cm_verdict.specs.declared.walk.Step.{Step}
-use Rattle.cm_verdict.specs.declared.walk.Step.TheVariants.{On, End}
+use Rattle.cm_verdict.specs.declared.walk.WalkStep.{WalkStep}
+use Rattle.cm_verdict.specs.declared.walk.WalkStep.TheVariants.{On, End}
 use Rattle.cm_verdict.specs.Walk.{Walked, Turn, Stop, Go, Bad}
 
 abbrev pub walked : HalfWalk → Walked
@@ -33,7 +33,7 @@ IsStep (Ok u) next t = t ≡ Go next
 IsStep (Err what) next t = t ≡ Bad what
 
 -- what a slot says; where it ends the half, nothing has changed
-abbrev pub IsTurn : Result Step Damage → Walked → Walked → Turn → Type 0
+abbrev pub IsTurn : Result WalkStep Damage → Walked → Walked → Turn → Type 0
 IsTurn (Ok On) old next t = t ≡ Go next
 IsTurn (Ok End) old next t = (t ≡ Stop) × (next ≡ old)
 IsTurn (Err what) old next t = t ≡ Bad what

@@ -42,7 +42,7 @@ pub struct HalfWalk {
 
 /// How a walk goes on behind a slot.
 #[derive(Clone, Copy, Debug, PartialEq, Eq)]
-enum Step {
+enum WalkStep {
     On,
     End,
 }
@@ -163,7 +163,7 @@ impl HalfWalk {
     }
 
     // A gate: the head of a group, or the half's end.
-    fn gate_turn(&mut self, slot: &[u8; SLOT_BYTES]) -> Result<Step, Damage>
+    fn gate_turn(&mut self, slot: &[u8; SLOT_BYTES]) -> Result<WalkStep, Damage>
         requires steady { IsSteady self.old }
         requires room { self.old.slot < 65536 }
         ensures turned { IsTurn result (walked self.old) (walked self.new)
@@ -172,7 +172,7 @@ impl HalfWalk {
         ensures kept { (self.new.geometry ≡ self.old.geometry) × (self.new.first ≡ self.old.first) }
     {
         if slot[0] != OPEN_GATE {
-            return Ok(Step::End);
+            return Ok(WalkStep::End);
         }
         let Some(head) = group_head_in(slot) else {
             return Err(Damage::Head);
@@ -183,12 +183,12 @@ impl HalfWalk {
         self.slot += 1;
         self.live = false;
         self.left = u32::from(head.count);
-        Ok(Step::On)
+        Ok(WalkStep::On)
     }
 
     // What the next slot says.
     #[tactic(auto, unfolding(crate::specs::Walk::turn))]
-    fn turn(&mut self, slot: &[u8; SLOT_BYTES]) -> Result<Step, Damage>
+    fn turn(&mut self, slot: &[u8; SLOT_BYTES]) -> Result<WalkStep, Damage>
         requires steady { IsSteady self.old }
         requires room { self.old.slot < 65536 }
         ensures turned { IsTurn result (walked self.old) (walked self.new)
@@ -204,7 +204,7 @@ impl HalfWalk {
         } else {
             self.entry_turn(slot)?;
         }
-        Ok(Step::On)
+        Ok(WalkStep::On)
     }
 
     // The beginning of a walk through the half that counts, behind its head.
@@ -243,8 +243,8 @@ impl HalfWalk {
         let first = self.first;
         for at in 1..self.geometry.slots() {
             match self.turn(slot_at(half, at)) {
-                Ok(Step::On) => {}
-                Ok(Step::End) => return Ok(self),
+                Ok(WalkStep::On) => {}
+                Ok(WalkStep::End) => return Ok(self),
                 Err(what) => return Err(FileFault::Damaged {
                     what,
                     slot: first + at,

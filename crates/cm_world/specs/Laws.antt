@@ -33,7 +33,7 @@ FaultsStrike =
     (sizes : Sizes) (r : Reply) (before after : State) → IsStep sizes event.Advance r before after
     → is_some (sim_armed before.disk) ≡ true → calls_told r ≡ 1 → r ≡ reply.DeviceFailed
 
--- One fails only where a fault was armed or memory was refused in it.
+-- One fails only where a fault was armed or an allocation failed in it.
 abbrev pub FailuresHaveCause : Type 0
 FailuresHaveCause =
     (sizes : Sizes) (before after : State)

@@ -73,8 +73,8 @@ pub record HandedOut (r : Reply) (before after : State) : Type 0 where
   pub disk_stays : after.disk ≡ before.disk
 
 -- The machine's step. It makes no device call where nothing is left or the device failed before,
--- else exactly one. That fails exactly where a fault was armed for it or memory was refused in it,
--- and nothing is armed any more then.
+-- else exactly one. That fails exactly where a fault was armed for it or an allocation failed in
+-- it, and nothing is armed any more then.
 pub record Advanced (r : Reply) (before after : State) : Type 0 where
   pub result : Result Progress AdvanceFault
   pub reply_is : r ≡ advance_reply result

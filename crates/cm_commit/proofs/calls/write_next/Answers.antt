@@ -3,7 +3,7 @@ use Rattle.std.specs.Prelude.{Ok}
 use Rattle.cm_layout.specs.Offsets.{root_size}
 use Rattle.cm_layout.specs.Slots.{open_gate}
 use Rattle.cm_group.specs.Groups.{Carried, entries_in}
-use Rattle.cm_commit.specs.declared.step.Step.TheVariants as step
+use Rattle.cm_commit.specs.declared.step.CommitStep.TheVariants as step
 use Rattle.cm_commit.specs.Plans.{Turn}
 use Rattle.cm_commit.specs.GroupPlans.{writes_left, root_write, roots_of_entries}
 use Rattle.cm_commit.specs.Steps.{AreSmall, next_gate}

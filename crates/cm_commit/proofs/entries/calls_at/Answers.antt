@@ -1,7 +1,7 @@
 use Rattle.std.proofs.Common.{◌≡◌, ◌+◌, sym, ap, ◌∙◌, arith}
 use Rattle.cm_group.specs.Groups.{Handed}
-use Rattle.cm_commit.specs.declared.step.Step.{Step}
-use Rattle.cm_commit.specs.declared.step.Step.TheVariants as step
+use Rattle.cm_commit.specs.declared.step.CommitStep.{CommitStep}
+use Rattle.cm_commit.specs.declared.step.CommitStep.TheVariants as step
 use Rattle.cm_commit.specs.Plans.{calls_left}
 use Rattle.cm_commit.specs.Steps.{stages_at}
 use Rattle.cm_commit.proofs.Counting.{calls_write}
@@ -24,4 +24,4 @@ returns-in-Write c = λ j first learnt.
       c.roots_needed.ensures,
       c.records_from.ensures.counted j.geometry,
     ) in
-    counted ∙ ap (λ (s : Step). calls_left (stages_at j group s)) (sym c.in-Write.is)
+    counted ∙ ap (λ (s : CommitStep). calls_left (stages_at j group s)) (sym c.in-Write.is)

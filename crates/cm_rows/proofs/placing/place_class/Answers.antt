@@ -1,6 +1,6 @@
 use Rattle.std.proofs.Common.{◌<◌, true, length, get_or, inl, sym, ◌∙◌, arith}
 use Rattle.std.proofs.lemmas.List.{length-map}
-use Rattle.cm_index.specs.declared.slot.Slot.{Slot}
+use Rattle.cm_index.specs.declared.slot.BookSlot.{BookSlot}
 use Rattle.cm_rows.specs.declared.live_loader.LiveLoader.{LiveLoader}
 use Rattle.cm_rows.proofs.KeptPlaces.{nobody, same-default}
 use Rattle.cm_rows.proofs.placing.place_class.Goals as goal
@@ -9,10 +9,10 @@ pub returns-then-not-is_inside-clause-broken : goal.returns-then-not-is_inside-c
 returns-then-not-is_inside-clause-broken c =
     let loaders = c.args.loaders.now in
     let kept = c.in-Some.ensures.found in
-    let none : Slot LiveLoader = record { item = nobody; live = true } in
+    let none : BookSlot LiveLoader = record { item = nobody; live = true } in
     let slot = get_or loaders c.in-Some.at none in
     let within : c.in-Some.at < length loaders =
-    omega (arith, kept.at.within, length-map loaders (λ (s : Slot LiveLoader). s.item)) in
+    omega (arith, kept.at.within, length-map loaders (λ (s : BookSlot LiveLoader). s.item)) in
     record {
       at = c.in-Some.at;
       slot = slot;

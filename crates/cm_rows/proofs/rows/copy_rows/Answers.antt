@@ -4,7 +4,7 @@ use Rattle.std.proofs.Common.{append-nil}
 use Rattle.std.proofs.lemmas.List.{map-append}
 use Rattle.cm_layout.specs.Rows.{bare, row_with}
 use Rattle.cm_layout.specs.declared.row.Row.{Row}
-use Rattle.cm_index.specs.declared.slot.Slot.{Slot}
+use Rattle.cm_index.specs.declared.slot.BookSlot.{BookSlot}
 use Rattle.cm_index.specs.Living.{living}
 use Rattle.cm_index.proofs.Living.{living-push}
 use Rattle.cm_index.proofs.Sorted.{all-append}
@@ -60,13 +60,14 @@ loop-slot-preserved g c =
           let next : living (take (i + 1) others) ≡ living (take i others) ++ s.item ∷ [] =
           taken ∙ one-more (living (take i others)) s.live s.item w.if-slot.true in
           let row = w.bare_row.result in
-          let new : Slot (Row (Unit {0})) = record { item = row; live = true } in
+          let new : BookSlot (Row (Unit {0})) = record { item = row; live = true } in
           rw (w.slots-is, w.push_living.ensures.slots, next) (record {
             rows = living-push c.loop-slot.slots.items new refl ∙ ap (λ l. l ++ row ∷ []) h.rows
                 ∙ ap (λ (r : Row (Unit {0})). bare (living (take i others)) ++ r ∷ [])
                 w.bare_row.ensures ∙ sym
                 (map-append (row_with (λ q. tt)) (living (take i others)) (s.item ∷ []));
-            live = all-append (λ (s : Slot (Row (Unit {0}))). s.live ≡ true) c.loop-slot.slots.items
+            live = all-append (λ (s : BookSlot (Row (Unit {0}))). s.live
+                ≡ true) c.loop-slot.slots.items
                 (new ∷ []) h.live (refl, tt);
             count = omega (
               arith,

@@ -5,17 +5,17 @@ use Rattle.cm_rules.proofs.read.first_of.Goals as goal
 
 pub returns-in-Some : goal.returns-in-Some
 returns-in-Some c =
-    is_broken c.args.findings.now.class.now rules.TextForm c.args.rules.now c.loop-rule.rule-index
+    is_broken c.args.findings.now.class.now rules.Utf8Form c.args.rules.now c.loop-rule.rule-index
     c.in-Some.spot (first_of c.args.findings.now.class.now c.args.rules.now) c.loop-rule-test.true
     c.in-Some.ensures c.loop-rule.invariant
 
 pub loop-rule-preserved : goal.loop-rule-preserved
 loop-rule-preserved c =
-    is_kept c.args.findings.now.class.now rules.TextForm c.args.rules.now c.loop-rule.rule-index
+    is_kept c.args.findings.now.class.now rules.Utf8Form c.args.rules.now c.loop-rule.rule-index
     (first_of c.args.findings.now.class.now c.args.rules.now) c.loop-rule-test.true
     c.in-None.ensures c.loop-rule.invariant
 
 pub returns : goal.returns
-returns c = all_kept c.args.findings.now.class.now rules.TextForm c.args.rules.now
+returns c = all_kept c.args.findings.now.class.now rules.Utf8Form c.args.rules.now
     c.loop-rule.rule-index (first_of c.args.findings.now.class.now c.args.rules.now)
     c.loop-rule-test.false c.loop-rule.invariant

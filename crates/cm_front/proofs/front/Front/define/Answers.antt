@@ -5,8 +5,8 @@ use Rattle.cm_arena.specs.Placing.{IsFull, Places}
 use Rattle.cm_space.specs.Space.{arena_of}
 use Rattle.cm_pool.specs.Chunks.{chunk_size}
 use Rattle.std.proofs.lemmas.Result.{err_from_is_err_and}
-use Rattle.cm_arena.specs.declared.refusal.Refusal.{Refusal as PlaceRefusal}
-use Rattle.cm_arena.specs.declared.refusal.Refusal.TheVariants as of_place
+use Rattle.cm_arena.specs.declared.refusal.PlaceRefusal.{PlaceRefusal}
+use Rattle.cm_arena.specs.declared.refusal.PlaceRefusal.TheVariants as of_place
 use Rattle.cm_layout.specs.declared.entry.Entry.{Entry}
 use Rattle.cm_layout.specs.declared.entry.Entry.TheVariants as entry
 use Rattle.cm_layout.specs.declared.row.Row.TheVariants.{Class}

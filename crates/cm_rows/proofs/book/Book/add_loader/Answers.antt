@@ -5,7 +5,7 @@ use Rattle.cm_layout.specs.declared.entry_rule.EntryRule.TheVariants.{OnRows}
 use Rattle.cm_layout.specs.declared.row.Row.{Row}
 use Rattle.cm_layout.specs.declared.row.Row.TheVariants.{Loader}
 use Rattle.cm_layout.specs.Rules.{is_new_loader, row_limit}
-use Rattle.cm_index.specs.declared.slot.Slot.{Slot}
+use Rattle.cm_index.specs.declared.slot.BookSlot.{BookSlot}
 use Rattle.cm_index.specs.Index.{AreUnique}
 use Rattle.cm_index.specs.Living.{living}
 use Rattle.cm_index.proofs.Living.{living-push}
@@ -118,9 +118,9 @@ invariant_of-self g c =
     let above = rw (← c.self.view_is) at c.requires in
     let none = new-name sizes rows r fresh in
     let l : LiveLoader = record { number = r.number; last = None } in
-    let s : Slot LiveLoader = living_loader r.number None in
+    let s : BookSlot LiveLoader = living_loader r.number None in
     let loaders_are : living new_loaders.slots.items ≡ known ++ l ∷ [] =
-    ap (λ (k : List (Slot LiveLoader)). living k) c.push.ensures.slots ∙ living-push ls s refl
+    ap (λ (k : List (BookSlot LiveLoader)). living k) c.push.ensures.slots ∙ living-push ls s refl
     ∙ ap (λ k. k ++ l ∷ []) m.living_loaders in
     let below = loaders-below sizes rows known a.pool r.number c.self.invariant.0 above in
     let under = all-below ls r.number m.loaders.rises m.loaders.last

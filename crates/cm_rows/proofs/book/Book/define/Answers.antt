@@ -4,7 +4,7 @@ use Rattle.std.proofs.Common.{Some, true, refl, sym, ap, subst, ◌∙◌, arith
 use Rattle.cm_layout.specs.declared.row.Row.{Row}
 use Rattle.cm_layout.specs.declared.row.Row.TheVariants.{Class}
 use Rattle.cm_layout.specs.Rules.{row_limit}
-use Rattle.cm_index.specs.declared.slot.Slot.{Slot}
+use Rattle.cm_index.specs.declared.slot.BookSlot.{BookSlot}
 use Rattle.cm_index.specs.Index.{AreUnique}
 use Rattle.cm_index.specs.Living.{living}
 use Rattle.cm_index.proofs.Living.{living-push}
@@ -129,7 +129,7 @@ invariant_of-self-2 g c =
     let o : Option LastChunk = Some (used_to_end r) in
     let x : LiveLoader = record { number = r.loader; last = o } in
     let loaders_are : living new_loaders.slots.items ≡ set ls at_now.place x =
-    ap (λ (k : List (Slot LiveLoader)). living k) c.set_last.ensures.loaders ∙ at_now.changed x
+    ap (λ (k : List (BookSlot LiveLoader)). living k) c.set_last.ensures.loaders ∙ at_now.changed x
     ∙ ap (λ k. set k at_now.place x) m.living_loaders in
     let takes =
     subst (λ (k : Option LastChunk). TakesPlace k r.place a.pool c.place_class.new.pool) last

@@ -2,7 +2,7 @@ use Rattle.std.proofs.Common.{◌≡◌, ◌+◌, ◌-◌, suc, ℕ, List, lengt
 use Rattle.std.specs.Prelude.{nat_lt}
 use Rattle.std.specs.List.{list_all}
 use Rattle.cm_rows.specs.declared.live_loader.LiveLoader.{LiveLoader}
-use Rattle.cm_index.specs.declared.slot.Slot.{Slot}
+use Rattle.cm_index.specs.declared.slot.BookSlot.{BookSlot}
 use Rattle.cm_rows.proofs.KeptPlaces.{above-living}
 use Rattle.cm_rows.proofs.book.Book.is_above.Goals as goal
 
@@ -21,5 +21,5 @@ returns-else-count-eq0 g c =
     let all = above-living n ls k c.index.result.now c.self.invariant.3.rises count
     ((c.self.invariant.3.last k more).is c.index.result.now) in
     rw (← c.self.view_is) (ap
-    (λ (l : Slot LiveLoader). nat_lt l.item.number n) c.index.ensures ∙ sym all ∙ ap
+    (λ (l : BookSlot LiveLoader). nat_lt l.item.number n) c.index.ensures ∙ sym all ∙ ap
     (λ (ns : List ℕ). list_all (λ u. nat_lt u n) ns) c.self.invariant.0.loaders.numbers)

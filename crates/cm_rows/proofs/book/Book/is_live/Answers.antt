@@ -2,7 +2,7 @@ use Rattle.std.proofs.Common.{◌≡◌, Option, Some, None, is_some, IfSome, If
 use Rattle.cm_layout.specs.Rules.{is_live}
 use Rattle.cm_layout.specs.declared.row.Row.{Row}
 use Rattle.cm_rows.specs.declared.live_loader.LiveLoader.{LiveLoader}
-use Rattle.cm_index.specs.declared.slot.Slot.{Slot}
+use Rattle.cm_index.specs.declared.slot.BookSlot.{BookSlot}
 use Rattle.cm_rows.specs.Loaders.{IsKept, IsAbsent}
 use Rattle.cm_rows.specs.Book.{AreLoadersOf}
 use Rattle.cm_rows.proofs.Verdicts.{live-at, not_live}
@@ -10,7 +10,8 @@ use Rattle.cm_index.specs.Living.{living}
 use Rattle.cm_rows.proofs.KeptPlaces.{stands, at-living}
 use Rattle.cm_rows.proofs.book.Book.is_live.Goals as goal
 
-by_find : {P : Type 0} (rows : List (Row P)) (ls : List (Slot LiveLoader)) (u : ℕ) (o : Option ℕ)
+by_find : {P : Type 0} (rows : List (Row P)) (ls : List (BookSlot LiveLoader)) (u : ℕ)
+    (o : Option ℕ)
     → AreLoadersOf rows (living ls) → IfSome o (IsKept ls u) → IfNone o (IsAbsent (living ls) u)
     → is_some o ≡ is_live u rows
 by_find rows ls u (Some i) h found absent =

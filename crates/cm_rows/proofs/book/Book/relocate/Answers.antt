@@ -4,7 +4,7 @@ use Rattle.std.proofs.lemmas.List.{length-map}
 use Rattle.cm_layout.specs.declared.row.Row.{Row}
 use Rattle.cm_layout.specs.Rows.{classes_in, moved}
 use Rattle.cm_layout.specs.Rules.{move_fits}
-use Rattle.cm_index.specs.declared.slot.Slot.{Slot}
+use Rattle.cm_index.specs.declared.slot.BookSlot.{BookSlot}
 use Rattle.cm_index.specs.Index.{AreUnique}
 use Rattle.cm_index.specs.Living.{living, moved_slot}
 use Rattle.cm_index.proofs.Indexes.{index-moved}
@@ -153,7 +153,7 @@ invariant_of-self-2 g c =
     let is : living new_rows.slots.items ≡ moved e.from e.to rows =
     ap living c.move_rows.ensures.slots ∙ living-moved e.from e.to slots in
     let loaders_are : living new_loaders.slots.items ≡ set ls at.place x =
-    ap (λ (k : List (Slot LiveLoader)). living k) c.set_last.ensures.loaders ∙ at.changed x in
+    ap (λ (k : List (BookSlot LiveLoader)). living k) c.set_last.ensures.loaders ∙ at.changed x in
     let roomier : vec_capacity a.loaders.slots ≤ vec_capacity new_loaders.slots =
     omega (arith, c.set_last.ensures.capacity) in
     let as_long : length slots ≤ length new_rows.slots.items =

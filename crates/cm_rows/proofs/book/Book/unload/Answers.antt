@@ -6,7 +6,7 @@ use Rattle.cm_pool.specs.Geometry.{Sizes}
 use Rattle.cm_layout.specs.declared.row.Row.{Row}
 use Rattle.cm_layout.specs.Rows.{without_loader}
 use Rattle.cm_layout.specs.Rules.{is_live}
-use Rattle.cm_index.specs.declared.slot.Slot.{Slot}
+use Rattle.cm_index.specs.declared.slot.BookSlot.{BookSlot}
 use Rattle.cm_index.specs.Index.{AreUnique}
 use Rattle.cm_index.specs.Living.{living, unloaded}
 use Rattle.cm_index.proofs.Living.{living-unloaded}
@@ -59,7 +59,12 @@ pub end-requires-clause-within : goal.end-requires-clause-within
 end-requires-clause-within g c =
     let ls = c.self.inside.loaders.slots in
     let found = rw c.deref.ensures.value at c.in-Some.ensures.found in
-    omega (arith, found.at.within, length-map ls.items (λ (s : Slot LiveLoader). s.item), ls.ok.0)
+    omega (
+      arith,
+      found.at.within,
+      length-map ls.items (λ (s : BookSlot LiveLoader). s.item),
+      ls.ok.0,
+    )
 
 pub end-requires-clause-beside : goal.end-requires-clause-beside
 end-requires-clause-beside g c =
@@ -103,7 +108,7 @@ invariant_of-self g c =
     let x : LiveLoader = record { number = u; last = None } in
     let with = set loaders i (ended_loader u) in
     let loaders_are : living new_loaders.slots.items ≡ remove ls at.place =
-    ap (λ (k : List (Slot LiveLoader)). living k) e.slots_are
+    ap (λ (k : List (BookSlot LiveLoader)). living k) e.slots_are
     ∙ living-end with e.count e.is_end.behind ∙ at.ended x in
     let as_long : length slots ≤ length new_rows.slots.items =
     omega (arith, ap length unloads.slots, length-map slots (unloaded {P = g.row.P.Denot} u)) in (

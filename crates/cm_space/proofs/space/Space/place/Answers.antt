@@ -8,7 +8,7 @@ use Rattle.cm_pool.specs.FreeSpace.{FreeSpace}
 use Rattle.cm_pool.specs.Lists.{Among}
 use Rattle.cm_arena.specs.Chains.{Filled, chunks_of}
 use Rattle.cm_arena.specs.Placing.{Places, IsFull, HasRoom}
-use Rattle.cm_arena.specs.declared.refusal.Refusal as refusal
+use Rattle.cm_arena.specs.declared.refusal.PlaceRefusal as refusal
 use Rattle.cm_space.specs.Space.{SpaceState, arena_of}
 use Rattle.cm_space.specs.Ownership.{IsSpace}
 use Rattle.cm_space.proofs.Spaces.{KeepsOthers}
@@ -95,14 +95,15 @@ pub returns-clause-full : goal.returns-clause-full
 returns-clause-full c =
     let at = goal.at.returns-clause-full c in
     of_space at.After-place (lent-before (lent at.After-unwrap-arena c.place.new.self))
-    (λ chain p. IsErrOf c.place.result refusal.Refusal.RegionFull ↔ IsFull chain p c.args.words)
+    (λ chain p.
+    IsErrOf c.place.result refusal.PlaceRefusal.RegionFull ↔ IsFull chain p c.args.words)
     c.place.ensures.full
 
 pub returns-clause-memory : goal.returns-clause-memory
 returns-clause-memory c =
     let at = goal.at.returns-clause-memory c in
     of_space at.After-place (lent-before (lent at.After-unwrap-arena c.place.new.self))
-    (λ chain p. IsErrOf c.place.result refusal.Refusal.NoMemory → ¬ HasRoom chain c.args.words)
+    (λ chain p. IsErrOf c.place.result refusal.PlaceRefusal.NoMemory → ¬ HasRoom chain c.args.words)
     c.place.ensures.memory
 
 pub returns-clause-err : goal.returns-clause-err

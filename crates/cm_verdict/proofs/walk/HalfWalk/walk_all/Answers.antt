@@ -3,7 +3,7 @@ use Rattle.std.specs.Prelude.{Result}
 use Rattle.cm_pool.specs.Geometry.{Sizes}
 use Rattle.cm_verdict.specs.declared.fault.Damage.{Damage}
 use Rattle.cm_verdict.specs.declared.fault.FileFault.{FileFault}
-use Rattle.cm_verdict.specs.declared.walk.Step.{Step}
+use Rattle.cm_verdict.specs.declared.walk.WalkStep.{WalkStep}
 use Rattle.cm_verdict.specs.Walk.{Walked, Turn, Stop, Go, Bad, turn, slot_of, walk}
 use Rattle.cm_verdict.specs.Walking.{walked, IsTurn}
 use Rattle.cm_verdict.proofs.Turns.{goes_slot}
@@ -18,7 +18,7 @@ same_turn g h a b w x y t p q r e = sym (λ i. turn (p i) (q i) w (r i)) ∙ e
 abbrev done : Walked → Result Walked FileFault
 done w = Ok w
 
-abbrev said : Step → Result Step Damage
+abbrev said : WalkStep → Result WalkStep Damage
 said s = Ok s
 
 pub returns-in-Ok-End : goal.returns-in-Ok-End
@@ -28,7 +28,7 @@ returns-in-Ok-End c =
     let now = c.loop-at.self in
     let slot = c.slot_at.result.now in
     let t = c.in-Ok-End.ensures {u = tt} in
-    let ends = subst (λ (s : Step). IsTurn (said s) (walked now) (walked c.turn.new.self)
+    let ends = subst (λ (s : WalkStep). IsTurn (said s) (walked now) (walked c.turn.new.self)
     (turn now.geometry now.first (walked now) slot)) c.in-Ok-End.field-0-is t.turned in
     let stops : turn old.geometry old.first (walked now) (slot_of c.args.half.now c.loop-at.at)
     ≡ Stop =
@@ -64,7 +64,7 @@ loop-at-preserved c =
     let slot = c.slot_at.result.now in
     let t = c.in-Ok-On.ensures {u = tt} in
     let next = walked c.turn.new.self in
-    let goes = subst (λ (s : Step). IsTurn (said s) (walked now) (walked c.turn.new.self)
+    let goes = subst (λ (s : WalkStep). IsTurn (said s) (walked now) (walked c.turn.new.self)
     (turn now.geometry now.first (walked now) slot)) c.in-Ok-On.field-0-is t.turned in
     let goes_on : turn old.geometry old.first (walked now) (slot_of c.args.half.now c.loop-at.at)
     ≡ Go (walked c.turn.new.self) =

@@ -1,6 +1,6 @@
 use Rattle.std.proofs.Common.{length, arith, ap}
 use Rattle.cm_index.proofs.Sweeping.{fewer-swept}
-use Rattle.cm_index.proofs.block.Block.sweep.Goals as goal
+use Rattle.cm_index.proofs.block.IndexBlock.sweep.Goals as goal
 
 pub invariant_of-self : goal.invariant_of-self
 invariant_of-self g c =

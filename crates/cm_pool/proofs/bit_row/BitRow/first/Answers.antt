@@ -1,7 +1,7 @@
 use Rattle.std.proofs.Common.{List, ℕ, sym, subst}
 use Rattle.cm_pool.specs.Bits.{IsFirstBit, IsFirstWord}
 use Rattle.cm_pool.proofs.BitFacts.{first-word}
-use Rattle.cm_pool.proofs.bit_row.Row.first.Goals as goal
+use Rattle.cm_pool.proofs.bit_row.BitRow.first.Goals as goal
 
 pub lowest_bit-word-requires-clause-first : goal.lowest_bit-word-requires-clause-first
 lowest_bit-word-requires-clause-first c =

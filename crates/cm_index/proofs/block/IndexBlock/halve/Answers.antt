@@ -1,6 +1,6 @@
 use Rattle.std.proofs.Common.{◌≡◌, [], length, ap, ◌∙◌}
 use Rattle.std.proofs.lemmas.List.{take_rest, nil_from_length}
-use Rattle.cm_index.proofs.block.Block.halve.Goals as goal
+use Rattle.cm_index.proofs.block.IndexBlock.halve.Goals as goal
 
 pub returns-clause-upper : goal.returns-clause-upper
 returns-clause-upper c =

@@ -1,7 +1,7 @@
 use Rattle.std.proofs.Common.{◌≡◌, ◌++◌, ◌-◌, length, take, drop, vec_len, arith, ap, length-append}
 use Rattle.std.proofs.Common.{length-take, length-drop}
 use Rattle.cm_index.proofs.Joined.{turned}
-use Rattle.cm_index.proofs.block.Block.fill.Goals as goal
+use Rattle.cm_index.proofs.block.IndexBlock.fill.Goals as goal
 
 pub returns-clause-both : goal.returns-clause-both
 returns-clause-both c =

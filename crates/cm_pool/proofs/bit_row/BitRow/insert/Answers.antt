@@ -1,7 +1,7 @@
 use Rattle.std.proofs.Common.{◌*◌, ◌<◌, List, length, sym, subst}
 use Rattle.std.proofs.Common.{ℕ}
 use Rattle.cm_pool.proofs.BitFacts.{row-with}
-use Rattle.cm_pool.proofs.bit_row.Row.insert.Goals as goal
+use Rattle.cm_pool.proofs.bit_row.BitRow.insert.Goals as goal
 
 pub invariant_of-self : goal.invariant_of-self
 invariant_of-self c =

@@ -2,8 +2,8 @@ use Rattle.std.proofs.Common.{ℕ, ◌*◌, ◌/◌, ◌<◌, List, length, sym,
 use Rattle.std.proofs.lemmas.Bool.{eqb-true, eq-eqb, both_ways}
 use Rattle.cm_pool.specs.Bits.{word}
 use Rattle.cm_pool.proofs.BitFacts.{row-without, row-without_group, row-without_word}
-use Rattle.cm_pool.proofs.bit_row.Row.remove.Goals as goal
-use Rattle.cm_pool.proofs.bit_row.Row.remove.Goals.{After-clear_bit}
+use Rattle.cm_pool.proofs.bit_row.BitRow.remove.Goals as goal
+use Rattle.cm_pool.proofs.bit_row.BitRow.remove.Goals.{After-clear_bit}
 
 within : (c : After-clear_bit) → c.args.at < 64 * length c.self.inside.words.items
 within c = subst (λ (ws : List ℕ). c.args.at < 64 * length ws) (sym c.self.view_is) c.requires
