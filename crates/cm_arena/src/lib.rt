@@ -1,5 +1,4 @@
-//! Arenas: the chains of chunks in which the metadata of one class loader lie (the scheme of
-//! OpenJDK JEP 387).
+//! Arenas: the chains of chunks in which the metadata of one loader lies (OpenJDK JEP 387).
 #![tactic(auto)]
 
 mod arena;

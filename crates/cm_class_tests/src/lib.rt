@@ -1,8 +1,4 @@
-//! Classes, over what is public of `cm_stream`, `cm_names`, `cm_class`, `cm_duplicates`,
-//! `cm_record`,
-//! `cm_prepare` and `cm_tool`: streams of them, their names and descriptors, how they are read,
-//! which members stand twice, their records, which bytes are prepared and which are refused, and
-//! the replies that tell of them.
+//! Tests of class files: reading, names, duplicates, records, and replies that tell of them.
 #![tactic(auto)]
 
 #[cfg(test)]

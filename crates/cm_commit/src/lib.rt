@@ -1,5 +1,4 @@
-//! How what is committed in a region file goes on by one group: which groups may follow, the device
-//! calls that store one, and what a crash leaves of it.
+//! How a region file goes on by one group, call by call, and what a crash leaves of it.
 #![tactic(auto)]
 
 mod applying;

@@ -1,5 +1,4 @@
-//! What each static constraint of JVMS SE 8, chapter 4, asks of one part of a class whose shape is
-//! right.
+//! What each static constraint asks of one part of a class (JVMS SE 8, chapter 4).
 #![tactic(auto)]
 
 mod attributes;

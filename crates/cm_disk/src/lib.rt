@@ -1,6 +1,4 @@
-//! A disk as a crash-safe store sees it: what it holds now, what of that is surely stored, and what
-//! a crash may leave. The trait [`Disk`] carries the whole model; [`SimDisk`] is a disk in memory
-//! that can be crashed, [`FuseDisk`] one that fails from some call on.
+//! The model of a disk: what it holds, what of that is stored, and what a crash may leave.
 #![tactic(auto)]
 
 mod choice;

@@ -1,7 +1,4 @@
-//! Disks. In memory: what calls do, what a crash leaves, and which calls fail. Over files: what is
-//! opened and created, what reaches the file, and files that can't be written to, which no clause
-//! says of the system. And a committer of one record over any disk, with what `cm_guards` gives:
-//! what a crash leaves at each moment.
+//! Tests of disks in memory and over files, and of a small committer over any disk.
 #![tactic(auto)]
 
 #[cfg(test)]

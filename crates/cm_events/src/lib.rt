@@ -1,5 +1,4 @@
-//! Simulations as text: the lines that ask for the events of a world, the run of these events, and
-//! the lines of its replies.
+//! Simulations as text: lines that ask for a world's events, their run, and lines of replies.
 #![tactic(auto)]
 
 mod fault;

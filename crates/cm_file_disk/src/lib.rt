@@ -1,5 +1,4 @@
-//! A disk over a real file. It meets the trait of all disks with no premise: its bytes are read
-//! once, when it is opened, and after a failed write, cut or sync it answers nothing more.
+//! A disk over a real file, which meets the trait of all disks with no premise.
 #![tactic(auto)]
 
 mod course;

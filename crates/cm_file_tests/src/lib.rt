@@ -1,7 +1,4 @@
-//! What files hold. Over what is public of `cm_layout`: slots, written and read. Of `cm_verdict`:
-//! which damage of a file's front is told first. Of `cm_recover`: files that are made, and what
-//! they stand for. And for checking: what files hold after some commands. Of damaged ones
-//! `tests/check.sh` says what is told.
+//! Tests of what files hold: slots, halves, making, standing, and checking.
 #![tactic(auto)]
 
 #[cfg(test)]

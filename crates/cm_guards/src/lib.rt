@@ -1,6 +1,4 @@
-//! What a crash-safe store needs of its disk, whatever its layout: which bytes a claim rests on,
-//! that it holds of each image that a crash may leave while other bytes are written, and how the
-//! one byte of a gate turns one claim into the next.
+//! What a crash-safe store needs of any disk: guarded bytes, gates, and runs of calls.
 #![tactic(auto)]
 
 mod claim;

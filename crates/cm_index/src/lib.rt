@@ -1,5 +1,4 @@
-//! Rows by name: an index of places that leads to the first living row of each owner and name,
-//! without a scan and without memory.
+//! Rows by name: an index to the living rows of each owner and name, without a scan.
 #![tactic(auto)]
 
 mod block;

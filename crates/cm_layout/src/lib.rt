@@ -1,5 +1,4 @@
-//! The region file: where its parts lie, its slots, its rows, and which file contents frame which
-//! rows.
+//! The region file: where its parts lie, its slots, its rows, and what contents frame them.
 #![tactic(auto)]
 
 mod chunk_field;

@@ -1,5 +1,4 @@
-//! The text of scripts: their lines and what these ask for, the spelling of class names in them,
-//! and reading and writing line by line.
+//! The text of scripts: lines and what they ask for, names' spelling, reading and writing.
 #![tactic(auto)]
 
 mod cutting;

@@ -1,8 +1,4 @@
-//! The cache as an abstract machine, and that the accepted cache does what the machine does: the
-//! page to read first of what the cache promises. And that what an accepted cache hands over is
-//! always what a committer takes: the accepted commands that aren't stored yet lead from the
-//! committed rows to the accepted ones, and write into no chunk that rows use at any number in
-//! between.
+//! The cache as an abstract machine, which the accepted cache follows: the page to read first.
 #![tactic(auto)]
 
 mod handover;

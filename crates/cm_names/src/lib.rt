@@ -1,5 +1,4 @@
-//! Utf8s of class files on their bytes: their form (JVMS SE 8, section 4.4.7), names (4.2) and
-//! descriptors (4.3).
+//! Utf8s of class files: their form (JVMS SE 8, 4.4.7), names (4.2) and descriptors (4.3).
 #![tactic(auto)]
 
 mod descriptors;

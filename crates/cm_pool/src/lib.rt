@@ -1,5 +1,4 @@
-//! The chunks of a class metadata cache's region, and the pool that hands them out (the buddy
-//! scheme of OpenJDK JEP 387).
+//! The chunks of a region, and the pool that hands them out (buddy scheme of JEP 387).
 #![tactic(auto)]
 
 mod bit_row;

@@ -1,5 +1,4 @@
-//! A pool that keeps a sorted list of its free blocks: the body that `cm_pool` had first, with its
-//! proof. It meets the same contract, and stands for tests and the benchmark alone.
+//! A pool as a sorted list of free blocks: a plain body of the same contract, for tests.
 #![tactic(auto)]
 
 mod block;

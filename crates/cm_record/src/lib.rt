@@ -1,5 +1,4 @@
-//! Classes as records: rows of words that can lie anywhere in memory or in a file, since all places
-//! in them count from their first word.
+//! Classes as records: words that can lie anywhere, as all places count from their first.
 #![tactic(auto)]
 
 mod code;

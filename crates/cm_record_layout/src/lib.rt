@@ -1,5 +1,4 @@
-//! How a class is laid out as words that can lie anywhere: the definition, and bytes and small
-//! numbers in words.
+//! How a class is laid out as words: the definition, and bytes and small numbers in words.
 #![tactic(auto)]
 
 mod directory;

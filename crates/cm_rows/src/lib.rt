@@ -1,5 +1,4 @@
-//! The live rows of a cache, with the rules that entries keep; none of its calls but `new` takes
-//! memory.
+//! The live rows of a cache, with the rules that entries keep; only `new` takes memory.
 #![tactic(auto)]
 
 mod book;

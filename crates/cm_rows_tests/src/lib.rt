@@ -1,5 +1,4 @@
-//! What a region file holds, over what is public of `cm_layout`, `cm_rows` and `cm_group`: where
-//! parts lie, entries and the rows after them, and groups.
+//! Tests of rows: where parts of a region lie, entries and the rows after them, and groups.
 #![tactic(auto)]
 
 #[cfg(test)]

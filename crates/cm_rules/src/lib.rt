@@ -1,5 +1,4 @@
-//! The static rules on class files of version 52.0 (JVMS SE 8, chapter 4), each judged on a class
-//! whose shape is right.
+//! The static rules on class files of version 52.0 (JVMS SE 8, chapter 4), in their order.
 #![tactic(auto)]
 
 mod fault;

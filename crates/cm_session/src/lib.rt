@@ -1,5 +1,4 @@
-//! One thread's use of a cache file: the accepted cache, the committer of its disk, and the groups
-//! on the way from the one to the other. Each call is a step of the abstract machine.
+//! One thread's use of a cache file, each call of it a step of the abstract machine.
 #![tactic(auto)]
 
 mod joining;

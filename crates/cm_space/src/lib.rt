@@ -1,5 +1,4 @@
-//! The space of a region: its pool, the loaders' arenas, and the chunks that wait until what left
-//! them is stored.
+//! The space of a region: its pool, the loaders' arenas, and chunks that wait to be free.
 #![tactic(auto)]
 
 mod adopt;

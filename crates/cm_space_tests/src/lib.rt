@@ -1,6 +1,4 @@
-//! Buffers of words. Pools: the worked cases of a region with one root, a long run against a plain
-//! set of words, and both bodies on equal calls. Arenas: where words are placed, and which places
-//! are found again. Spaces: a left chunk waits for its number, and what was placed is found again.
+//! Tests of word buffers, of both bodies of a pool, of arenas and of spaces.
 #![tactic(auto)]
 
 #[cfg(test)]

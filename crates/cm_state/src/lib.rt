@@ -1,5 +1,4 @@
-//! The cache without chunks, journal or offsets: its state, its steps, and which contents stand for
-//! which state.
+//! The cache without chunks or journal: its state, its steps, and what contents stand for it.
 #![tactic(auto)]
 
 mod laws;

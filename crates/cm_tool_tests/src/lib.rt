@@ -1,6 +1,4 @@
-//! Scripts run on caches in memory: the worked cases, failing disks, and readers and writers that
-//! misbehave; lines by themselves, their forms and how names are spelled; and what is told of
-//! caches in memory, sound ones, damaged ones and those on failing disks.
+//! Tests of scripts: lines, readers, writers, failing disks, and what is told of caches.
 #![tactic(auto)]
 
 #[cfg(test)]

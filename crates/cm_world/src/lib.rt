@@ -1,7 +1,4 @@
-//! A cache over a disk in memory that is stopped, damaged by faults and crashed at will. What it
-//! replies is a run of the abstract machine, and whatever a crash leaves at any moment is opened as
-//! the loaders and classes after some beginning of the accepted commands that has all those that
-//! were acknowledged.
+//! A cache on a disk in memory, crashed at will: its replies are those of the machine.
 #![tactic(auto)]
 
 mod event;
