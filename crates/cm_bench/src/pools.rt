@@ -142,10 +142,10 @@ impl Pools {
         let mut bits = Pool::new(alloc, geometry)?;
         let mut list = ListPool::new(alloc, geometry)?;
         for _ in 0..256 {
-            let _both = (bits.add_root()?, list.add_root()?);
+            let _both = (bits.add_root()?, list.add_root()?); // there is room
         }
         for chunk in &crowd.used_chunks(alloc)? {
-            let _both = (bits.take(chunk), list.take(chunk));
+            let _both = (bits.take(chunk), list.take(chunk)); // it is free
         }
         Ok(Some(Pools {
             bits,

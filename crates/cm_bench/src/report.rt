@@ -93,7 +93,7 @@ fn best_of_pools(rt: &impl Clock, pools: &mut Pools, body: Body, passes: u32) ->
     let mut best = Duration::MAX;
     for _ in 0..passes {
         let start = Instant::now(rt)?;
-        let _tally = pools.run(body);
+        let _tally = pools.run(body); // told once, by another run
         best = best.min(start.elapsed(rt)?);
     }
     Ok(best)

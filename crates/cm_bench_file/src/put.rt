@@ -93,7 +93,7 @@ pub fn make_cache(
     make_file(rt, path, geometry)?;
     let mut session = open_session(rt, path)?;
     let added = add_loader(&mut session);
-    let _disk = session.into_disk();
+    let _disk = session.into_disk(); // closes the file
     added
 }
 

@@ -64,7 +64,7 @@ pub fn read_classes(
     let start = Instant::now(rt)?;
     let (front, committer) = open_disk(rt.alloc(), disk)?;
     let told = look_up(rt, &front, reading, start, is_timed);
-    let _disk = committer.into_disk();
+    let _disk = committer.into_disk(); // closes the file
     told
 }
 

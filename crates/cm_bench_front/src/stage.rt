@@ -97,7 +97,7 @@ impl Stage {
     pub fn new(alloc: Global, samples: &Samples) -> Result<Stage> {
         let geometry = Geometry::new(12, 256, 65_536).ok_or(anyhow!("sizes"))?;
         let mut front = Front::new(alloc, geometry)?;
-        let _added = add_loaders(&mut front, &samples.loaders);
+        let _added = add_loaders(&mut front, &samples.loaders); // how many, which is known
         Ok(Stage {
             alloc,
             front,
@@ -119,7 +119,7 @@ impl Stage {
             Phase::Seal => self.groups.reserve(1_000)?,
             Phase::Unload | Phase::UnloadFirst => self.before_unloads = self.front.number(),
             Phase::Learn | Phase::LearnFirst => {
-                let _sealed = self.seal();
+                let _sealed = self.seal(); // what is learnt has to be sealed
             }
             Phase::FindHit | Phase::FindMiss | Phase::AddLoader => self.groups.clear(),
         }

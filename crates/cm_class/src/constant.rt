@@ -2,10 +2,10 @@ ghost use Rattle.std.specs.Prelude.{◌≡◌};
 
 use crate::items::Items;
 
-/// An entry of the constant pool (JVMS 4.4). Each index is one of the pool, from 1 on.
+/// A constant of the pool (JVMS 4.4). Each index is one of the pool, from 1 on.
 #[derive(Debug, Drop)]
 pub enum Constant {
-    /// Tag 1: bytes, which rules of their own take for text.
+    /// Tag 1: bytes, whose form rules of their own judge.
     Utf8(Items<u8>),
     /// Tag 3: the number's bits.
     Integer(u32),

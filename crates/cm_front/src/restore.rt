@@ -88,7 +88,7 @@ fn take_row(space: &mut Space, row: &Row<Prepared>) -> Result<(), AllocError>
     match row {
         Row::Loader(row) => space.add_loader(row.number)?,
         Row::Class(row, _) => {
-            let _taken = space.adopt(row.loader, row.place)?;
+            let _taken = space.adopt(row.loader, row.place)?; // it can be taken
         }
     }
     let _is_space = space.geometry(); // so the proof knows that it is one

@@ -73,7 +73,7 @@ impl Unsealed {
     {
         let newest = self.newest.take();
         let joined = join(&mut self.full, newest, &mut self.spare, number, entry);
-        let _none = self.newest.replace(joined);
+        let _none = self.newest.replace(joined); // it was taken out above
     }
 
     /// Takes the oldest group out, if there is one. Takes no memory.

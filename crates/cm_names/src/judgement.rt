@@ -10,7 +10,7 @@ use crate::joined::are_names;
 use crate::marks::{ByteMarks, marks_of};
 use crate::utf8::are_characters;
 
-/// What is found out of a Utf8 once, however many entries and members name it.
+/// What is found out of a Utf8 once, however many constants and members name it.
 #[derive(Clone, Copy, Debug, PartialEq, Eq)]
 pub struct Judgement {
     /// Whether it has the form of a Utf8 (JVMS 4.4.7).

@@ -67,7 +67,7 @@ impl BitRow {
         ensures { self.new ≡ without_bit self.old at }
     {
         if clear_bit(&mut self.words, at) && clear_bit(&mut self.groups, at / 64) {
-            let _none_left = clear_bit(&mut self.heads, at / 64 / 64);
+            let _none_left = clear_bit(&mut self.heads, at / 64 / 64); // no row stands above
         }
     }
 

@@ -65,8 +65,8 @@ impl SharedRows {
         requires { broken_live_rule self.old.sizes base self.old.rows (Loader row.now) ≡ None }
         ensures { self.new ≡ record self.old { rows = self.old.rows ++ Loader row.now ∷ [] } }
     {
-        let _accepted = self.accepted.apply_live(base, Row::Loader(*row));
-        let _committed = self.committed.apply_live(base, Row::Loader(*row));
+        let _accepted = self.accepted.apply_live(base, Row::Loader(*row)); // it breaks no rule
+        let _committed = self.committed.apply_live(base, Row::Loader(*row)); // nor here
     }
 
     /// A class more, which keeps them.
@@ -81,7 +81,7 @@ impl SharedRows {
             (self.new ≡ record self.old { rows = self.old.rows ++ Class row class ∷ [] }) }
     {
         let shared = class.share()?;
-        let _accepted = self.accepted.apply_live(base, Row::Class(row, class));
+        let _accepted = self.accepted.apply_live(base, Row::Class(row, class)); // it breaks no rule
         let _committed = self
             .committed
             .apply_live(base, Row::Class(row, shared.into_record()));

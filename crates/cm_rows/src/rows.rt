@@ -72,7 +72,7 @@ pub fn take_all<P>(slots: &[BookSlot<Row<P>>], pool: &mut Pool)
 {
     for slot in slots {
         if let Some(chunk) = living_chunk(slot) {
-            let _taken = pool.take(&chunk);
+            let _taken = pool.take(&chunk); // it is free
         }
     }
 }

@@ -12,7 +12,7 @@ pub fn whole_pool(alloc: Global, geometry: Geometry) -> Result<Pool, AllocError>
 {
     let mut pool = Pool::new(alloc, geometry)?;
     for _root in 0..geometry.roots() {
-        let _added = pool.add_root()?;
+        let _added = pool.add_root()?; // there is room for it
     }
     Ok(pool)
 }

@@ -43,7 +43,7 @@ fn add_roots(pool: &mut Pool, root: u32) -> Result<(), AllocError>
     ensures err { OnErr result (IsOnTheWay pool.old root pool.new) }
 {
     while pool.roots() <= root {
-        let _added = pool.add_root()?;
+        let _added = pool.add_root()?; // there is room for it
     }
     Ok(())
 }
