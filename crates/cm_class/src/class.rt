@@ -34,15 +34,6 @@ impl Class {
         Class { file }
     }
 
-    /// Its parts.
-    pub fn into_file(self) -> ClassFile
-        ensures file { result ≡ self }
-        ensures spelled { HasSpelling result }
-    {
-        let Class { file } = self;
-        file
-    }
-
     /// The constant pool from index 1 on.
     pub fn slots(&self) -> &[Slot]
         ensures { result.now ≡ self.now.slots }

@@ -1,3 +1,5 @@
+ghost use Rattle.std.specs.Prelude.{◌≡◌};
+
 use crate::constant::Slot;
 use crate::items::Items;
 
@@ -9,6 +11,15 @@ pub struct Attribute {
     pub bytes: Items<u8>,
 }
 
+impl Attribute {
+    /// Its content.
+    pub fn content(&self) -> &[u8]
+        ensures { result.now ≡ self.now.bytes }
+    {
+        self.bytes.as_slice()
+    }
+}
+
 /// A field or a method (JVMS 4.5, 4.6).
 #[derive(Debug, Drop)]
 pub struct Member {
@@ -18,6 +29,15 @@ pub struct Member {
     /// Index of its descriptor in the pool.
     pub descriptor: u16,
     pub attributes: Items<Attribute>,
+}
+
+impl Member {
+    /// Its attributes, in the file's order.
+    pub fn attributes(&self) -> &[Attribute]
+        ensures { result.now ≡ self.now.attributes }
+    {
+        self.attributes.as_slice()
+    }
 }
 
 /// All that a class file of version 52.0 holds (JVMS 4.1), of any sizes: some have no spelling, as

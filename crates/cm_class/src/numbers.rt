@@ -5,10 +5,8 @@ ghost use Rattle.cm_class.specs.Spelling.{heading};
 ghost use Rattle.cm_class.specs.Reading.{GivesExactly, number_at, byte_at, bytes_at, sized_at};
 ghost use Rattle.cm_class.specs.Reading.{literal_at, expected_at, count_at};
 
-use crate::items::Items;
 use crate::stop::Stop;
 use byteorder::{BigEndian, ByteOrder};
-use std::alloc::{AllocError, Global};
 
 /// The magic number, minor version 0 and major version 52 (JVMS 4.1).
 const HEADING: [u8; 8] = [0xCA, 0xFE, 0xBA, 0xBE, 0, 0, 0, 52];
@@ -70,7 +68,7 @@ fn front(len: usize, bytes: &[u8]) -> Result<(&[u8], &[u8]), Stop>
     Ok(bytes.split_at(len))
 }
 
-/// Bytes behind their length in two bytes.
+/// A Utf8: bytes behind their length in two bytes.
 #[tactic(auto, unfolding(crate::specs::Reading::sized_at))]
 pub(crate) fn read_utf8(bytes: &[u8]) -> Result<(&[u8], &[u8]), Stop>
     ensures { GivesExactly (λ x. (x.0.now, x.1.now)) result (sized_at 2 bytes.now) }
@@ -86,13 +84,6 @@ pub(crate) fn content(bytes: &[u8]) -> Result<(&[u8], &[u8]), Stop>
 {
     let (len, rest) = read_u32(bytes)?;
     front(len as usize, rest)
-}
-
-/// A copy of bytes that were read.
-pub(crate) fn byte_items(alloc: Global, bytes: &[u8]) -> Result<Items<u8>, AllocError>
-    ensures { IfOk result (λ items. items ≡ bytes.now) }
-{
-    Ok(Items::from_vec(Vec::from_slice(alloc, bytes)?))
 }
 
 /// What follows this one byte.

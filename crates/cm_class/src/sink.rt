@@ -3,7 +3,6 @@ ghost use Rattle.std.specs.Prelude.{◌≡◌, ◌++◌, ◌∷◌, [], Bool, tr
 ghost use Rattle.cm_class.specs.declared.stop.Stop.TheVariants.{NoMemory};
 
 use crate::items::Items;
-use crate::numbers::byte_items;
 use crate::stop::Stop;
 use std::alloc::Global;
 
@@ -34,7 +33,7 @@ impl Sink for Global {
     ghost keeps = { true };
 
     fn bytes(self, bytes: &[u8]) -> Result<Items<u8>, Stop> {
-        Ok(byte_items(self, bytes)?)
+        Ok(Items::from_vec(Vec::from_slice(self, bytes)?))
     }
 
     fn room<T: Drop>(self, room: usize) -> Result<Vec<T>, Stop> {
