@@ -1,4 +1,5 @@
 -- Chains of chunks and used words that stand side by side.
+-- For `Arena::adopt`, `Arena::chunks`, `Arena::place` and others.
 use Rattle.std.proofs.Common.{◌≡◌, ℕ, zero, suc, ◌+◌, ◌<◌, true, false, cond, eqb, List, [], ◌∷◌}
 use Rattle.std.proofs.Common.{◌++◌, length, get_or, set, drop, Some, refl, ap, arith}
 use Rattle.std.specs.List.{AllByRecursion}

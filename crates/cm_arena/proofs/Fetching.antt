@@ -1,4 +1,5 @@
 -- A chunk that comes out of a pool.
+-- For `Arena::place`, `fetch`.
 use Rattle.std.proofs.Common.{ℕ, ◌≤◌, inl, inr, ◌⊎◌, arith}
 use Rattle.cm_pool.specs.declared.chunk.Chunk.{Chunk}
 use Rattle.cm_pool.specs.FreeSpace.{FreeSpace, HasFree}

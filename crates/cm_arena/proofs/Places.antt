@@ -1,4 +1,5 @@
 -- What holds of each place that an arena gives.
+-- For `Arena::place`.
 use Rattle.std.proofs.Common.{◌≡◌, ℕ, ◌≤◌, List, [], ◌∷◌, ◌++◌, Some, length, refl, sym, ap, ◌∙◌}
 use Rattle.std.proofs.Common.{subst, inl, inr, arith, append_assoc}
 use Rattle.std.specs.List.{AllByRecursion}

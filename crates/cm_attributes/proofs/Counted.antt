@@ -1,4 +1,5 @@
 -- Loops over rows of an attribute.
+-- For `skip_attributes`, `skip_bootstrap_methods`, `skip_handlers`, `skip_rows`.
 use Rattle.std.proofs.Common.{◌≡◌, ℕ, suc, ◌+◌, ◌-◌, ◌<◌, ◌≤◌, List, Option, Some, None, refl, sym}
 use Rattle.std.proofs.Common.{ap, ◌∙◌, arith}
 use Rattle.cm_attributes.specs.Contents.{◌>>=◌, u2_of, past_many, past_counted}

@@ -1,4 +1,6 @@
 -- The readers of attributes, members and whole classes.
+-- For `each_input_has_one_answer`, `no_spelling_begins_another`, `one_class_for_one_spelling` and
+-- others.
 use Rattle.std.proofs.Common.{◌≡◌, ℕ, List, ◌++◌, length, Result, refl, append_assoc}
 use Rattle.cm_class.specs.declared.stop.Stop.{Stop}
 use Rattle.cm_class.specs.declared.constant.Slot.{Slot}

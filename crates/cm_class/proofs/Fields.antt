@@ -1,4 +1,5 @@
 -- The readers of numbers, of rows of bytes and of fixed bytes.
+-- For `read_shape`, `read_whole`, `refusal` and others.
 use Rattle.std.proofs.Common.{Fits, w8, ◌≡◌, ℕ, zero, suc, ◌-◌, ◌^◌, ◌<◌, ◌≤◌, Bool, true, false}
 use Rattle.std.proofs.Common.{cond, ltb, List, [], ◌∷◌, ◌++◌, length, get_or, take, drop, replicate}
 use Rattle.std.proofs.Common.{Result, Ok, Err, refl, sym, ap, subst, ◌∙◌, arith}

@@ -1,4 +1,6 @@
 -- The readers of fixed bytes, of the pool's count and of counted lists.
+-- For `each_input_has_one_answer`, `no_spelling_begins_another`, `one_class_for_one_spelling` and
+-- others.
 use Rattle.std.proofs.Common.{◌≡◌, ℕ, zero, suc, ◌+◌, ◌<◌, Bool, true, false, cond, eqb, eq-eqb}
 use Rattle.std.proofs.Common.{ltb, List, [], ◌∷◌, ◌++◌, length, drop, Result, Ok, Err, refl, sym}
 use Rattle.std.proofs.Common.{ap, subst, ◌∙◌, arith}

@@ -1,4 +1,6 @@
 -- The readers of tags, constants and the pool.
+-- For `each_input_has_one_answer`, `no_spelling_begins_another`, `one_class_for_one_spelling` and
+-- others.
 use Rattle.std.proofs.Common.{◌≡◌, ℕ, zero, suc, ◌+◌, ◌-◌, ◌<◌, Bool, true, false, cond, eqb, List}
 use Rattle.std.proofs.Common.{[], ◌∷◌, ◌++◌, length, Option, Some, None, Ok, Err, refl, sym, ap}
 use Rattle.std.proofs.Common.{subst, ◌∙◌, arith}

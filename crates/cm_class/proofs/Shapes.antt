@@ -1,4 +1,6 @@
 -- From what the reader of a class file says to what is said of all the bytes.
+-- For `each_input_has_one_answer`, `no_spelling_begins_another`, `one_class_for_one_spelling` and
+-- others.
 use Rattle.std.proofs.Common.{◌≡◌, ◌⊎◌, inl, inr, ⊎_elim, ℕ, zero, suc, ◌-◌, ◌+◌, ◌≤◌, ◌<◌, Bool}
 use Rattle.std.proofs.Common.{true, false, cond, eqb, List, [], ◌∷◌, ◌++◌, length, take, Result, Ok}
 use Rattle.std.proofs.Common.{Err, refl, sym, ap, subst, ◌∙◌, append_assoc, arith}

@@ -1,4 +1,5 @@
 -- Reading items one after the other into a sink, as a loop does.
+-- For `many_attributes`, `many_members`, `many_numbers`, `slots`.
 use Rattle.std.proofs.Common.{◌≡◌, Bool, true, false, ℕ, ◌-◌, ◌+◌, ◌≤◌, ◌<◌, List, [], ◌∷◌, ◌++◌}
 use Rattle.std.proofs.Common.{Ok, Err, sym, ap, ◌∙◌}
 use Rattle.cm_class.specs.declared.stop.Stop.{Stop}

@@ -1,4 +1,5 @@
 -- What one device call makes of a committer.
+-- For `Committer::advance`, `Committer::images`, `Committer::offer`, `Committer::steps_left`.
 use Rattle.std.proofs.Common.{◌≡◌, ℕ, ◌+◌, ◌≤◌, Bool, true, false, cond, List, [], ◌∷◌, length}
 use Rattle.std.proofs.Common.{Option, Some, None, refl, sym, ap, subst, ◌∙◌, arith}
 use Rattle.std.specs.Prelude.{Result, Ok, Err, OnOk, OnErr}

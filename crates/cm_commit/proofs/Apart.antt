@@ -1,4 +1,5 @@
 -- A group's writes touch nothing that is guarded, and a disk takes them one after another.
+-- For `Committer::advance`, `Committer::images`, `Committer::offer` and others.
 use Rattle.std.proofs.Common.{◌≡◌, ℕ, zero, suc, ◌+◌, ◌-◌, ◌*◌, ◌^◌, ◌<◌, ◌≤◌, ◌⊎◌, inl, inr, Bool}
 use Rattle.std.proofs.Common.{true, false}
 use Rattle.std.proofs.Common.{cond, List, [], ◌∷◌, length, None, refl, sym, ap, subst, ◌∙◌, arith}

@@ -1,4 +1,5 @@
 -- What one device call makes of what stands on a disk, and what a crash leaves while it runs.
+-- For `Committer::advance`, `Committer::images`, `Committer::offer`, `Committer::steps_left`.
 use Rattle.std.proofs.Common.{◌≡◌, ℕ, List, [], ◌∷◌, length, inl, inr, refl, sym, ap, subst, ◌∙◌}
 use Rattle.std.proofs.Common.{arith}
 use Rattle.std.specs.Prelude.{Result, Ok, Err, OnOk, OnErr}

@@ -1,4 +1,5 @@
 -- Whether a class's name is new is told by what is committed and by the entries before it.
+-- For `take_group`.
 use Rattle.std.proofs.Common.{◌≡◌, ℕ, Bool, true, false, cond, not, List, []}
 use Rattle.std.proofs.Common.{◌∷◌, ◌++◌, Some, None, inl, inr, refl, sym, subst, ◌∙◌}
 use Rattle.std.proofs.Common.{eqb, is_some, is_none}

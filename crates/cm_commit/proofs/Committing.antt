@@ -1,4 +1,5 @@
 -- What a group that is taken makes of what a committer keeps.
+-- For `Committer::advance`, `may_join` and others.
 use Rattle.std.proofs.Common.{◌≡◌, ℕ, ◌+◌, ◌*◌, ◌^◌, ◌≤◌, inl, inr, Bool, true, false, cond, List}
 use Rattle.std.proofs.Common.{[], ◌∷◌, ◌++◌, length, None, is_none, refl, sym, ap, subst, arith}
 use Rattle.std.specs.Prelude.{nat_lt, not}

@@ -1,4 +1,5 @@
 -- What entries have that keep the rules.
+-- For `are_new`, `have_one_name`, `is_absent` and others.
 use Rattle.std.proofs.Common.{◌≡◌, ℕ, ◌+◌, ◌^◌, ◌<◌, ◌≤◌, Bool, true, false, cond, List, []}
 use Rattle.std.proofs.Common.{◌∷◌, length, Some, None, inl, inr, refl, sym, arith, eqb}
 use Rattle.std.specs.Prelude.{◌&&◌, ◌==◌, nat_le, is_some, is_none}

@@ -1,5 +1,6 @@
 -- The byte of a group's gate: with any other byte than the open gate's what was committed stands
 -- there, with that one what is committed after the group.
+-- For `Committer::offer`, `groups_turn`.
 use Rattle.std.proofs.Common.{◌≡◌, ◌≢◌, ℕ, suc, ◌+◌, ◌<◌, ◌≤◌, ◌⊎◌, inl, inr, List, ◌∷◌}
 use Rattle.std.proofs.Common.{◌++◌, length, take, drop, get_or, Some, None, sym, ap, subst, ◌∙◌}
 use Rattle.std.proofs.Common.{arith, drop-drop}

@@ -1,4 +1,5 @@
 -- What a framing rests on is guarded, and lies within the bytes that the rows need.
+-- For `committed_is_guarded`.
 use Rattle.std.proofs.Common.{◌≡◌, ℕ, ◌+◌, ◌≤◌, Bool, true, false, cond, List, [], ◌∷◌}
 use Rattle.std.proofs.Common.{Some, None, inl, inr, refl, sym, subst, arith}
 use Rattle.std.specs.Prelude.{nat_lt, Option}

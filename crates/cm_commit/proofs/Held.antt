@@ -1,4 +1,5 @@
 -- Records that stand in their places, while others are written.
+-- For `Committer::advance`, `Committer::images`, `Committer::offer` and others.
 use Rattle.std.proofs.Common.{◌≡◌, ℕ, ◌+◌, ◌*◌, ◌≤◌, inl, inr, Bool, true, false, cond}
 use Rattle.std.proofs.Common.{List, [], ◌∷◌, ◌++◌, length, take, drop, get_or, refl, sym, ap}
 use Rattle.std.proofs.Common.{◌∙◌, arith, drop-drop, length-drop, eqb}

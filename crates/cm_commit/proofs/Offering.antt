@@ -1,4 +1,5 @@
 -- What a committer keeps once it has taken a group.
+-- For `Committer::offer`.
 use Rattle.std.proofs.Common.{◌≡◌, ℕ, ◌+◌, Bool, true, false, cond, List, length}
 use Rattle.std.proofs.Common.{Some, None, refl, sym, ap, subst, ◌∙◌, arith, Option, is_some}
 use Rattle.std.specs.List.{AllByRecursion}

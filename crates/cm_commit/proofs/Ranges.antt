@@ -1,4 +1,5 @@
 -- Ranges of bytes, and what is guarded.
+-- For `Committer::advance`, `Committer::images`, `Committer::offer` and others.
 use Rattle.std.proofs.Common.{◌≡◌, ℕ, ◌+◌, ◌<◌, ◌≤◌, ◌⊎◌, inl, inr, Bool, true, false, List, []}
 use Rattle.std.proofs.Common.{◌∷◌, length, drop, get_or, refl, sym, ◌∙◌}
 use Rattle.std.proofs.Common.{arith, length-take, length-drop}

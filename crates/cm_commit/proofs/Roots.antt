@@ -1,4 +1,5 @@
 -- How many whole roots a file has once a group is written.
+-- For `Committer::offer`.
 use Rattle.std.proofs.Common.{◌≡◌, ℕ, zero, suc, ◌+◌, ◌-◌, ◌*◌, ◌^◌, ◌<◌, ◌≤◌, Bool, true, false}
 use Rattle.std.proofs.Common.{List, [], ◌∷◌, ◌++◌, length, None, refl, sym, ap, ◌∙◌, arith}
 use Rattle.std.specs.Prelude.{max, nat_lt}

@@ -1,5 +1,6 @@
 -- Contents that match what is committed stand for its cache, where its records are those of classes
 -- that keep the class rules.
+-- For `Committer::advance`, `Committer::images`, `Committer::offer`, `Committer::steps_left`.
 use Rattle.std.proofs.Common.{◌≡◌, ℕ, ◌≤◌, ◌^◌, Bool, true, false, cond, List, [], ◌∷◌, ◌++◌}
 use Rattle.std.proofs.Common.{length, drop, get_or, Some, None, inl, inr, refl, sym, ap, subst}
 use Rattle.std.proofs.Common.{arith}

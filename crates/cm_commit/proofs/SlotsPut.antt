@@ -1,4 +1,5 @@
 -- The bytes of a group's slots, one part behind another.
+-- For `put_slots`.
 use Rattle.std.proofs.Common.{◌≡◌, ℕ, ◌+◌, ◌<◌, ◌≤◌, Bool, cond, List, [], ◌++◌}
 use Rattle.std.proofs.Common.{sym, ap, ◌∙◌, append-nil}
 use Rattle.std.specs.List.{flat_map}

@@ -1,4 +1,5 @@
 -- What a committer asks of its books tells what is asked of a group.
+-- For `are_new`, `have_one_name`, `is_absent`, `may_join`.
 use Rattle.std.proofs.Common.{◌≡◌, ℕ, zero, suc, ◌+◌, Bool, true, false, cond, List, [], ◌∷◌, take}
 use Rattle.std.proofs.Common.{Bor, Option, Some, None, refl, sym, ap, ◌∙◌, is_none, is_some, not}
 use Rattle.std.specs.Prelude.{◌&&◌, ◌==◌, ◌↔◌, nat_le, IsTrue}

@@ -1,4 +1,5 @@
 -- Rows with something else kept of each class.
+-- For `Committer::advance`, `Committer::new`, `may_join`.
 use Rattle.std.proofs.Common.{◌≡◌, ℕ, Bool, true, false, cond, List, [], ◌∷◌, refl, ap}
 use Rattle.std.specs.Prelude.{◌==◌, not}
 use Rattle.std.proofs.lemmas.List.{map-append}

@@ -1,4 +1,5 @@
 -- What a list of writes leaves: its length, and each byte that none of them touches.
+-- For `Committer::advance`, `Committer::images`, `Committer::offer` and others.
 use Rattle.std.proofs.Common.{◌≡◌, ℕ, ◌+◌, ◌≤◌, false, List, [], ◌∷◌, ◌++◌, length}
 use Rattle.std.proofs.Common.{take, drop, get_or, refl, sym, ap, subst, ◌∙◌, arith, append_assoc}
 use Rattle.std.specs.Prelude.{max}

@@ -1,4 +1,5 @@
 -- What a table has of each slot.
+-- For `Subject::judgement`, `Subject::utf8s_have_form`.
 use Rattle.std.proofs.Common.{◌≡◌, ℕ, zero, suc, ◌-◌, List, [], ◌∷◌, map, refl, ap, ◌∙◌, arith}
 use Rattle.std.specs.Prelude.{◌&&◌, slice_get, unwrap_or, option_and_then}
 use Rattle.std.specs.List.{list_all}

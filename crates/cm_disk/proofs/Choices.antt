@@ -1,4 +1,5 @@
 -- What a choice takes is an image, and every image is taken by some choice.
+-- For `Medium::image`, `chosen_is_an_image`, `image_has_a_choice`.
 use Rattle.std.proofs.Common.{◌≡◌, ◌<◌, ◌≤◌, ◌+◌, ℕ, zero, suc, Bool, true, false, cond, List}
 use Rattle.std.proofs.Common.{length}
 use Rattle.std.proofs.Common.{add-one, ◌-◌, get_or, refl, sym, ◌∙◌, ap, subst, ⊎_elim, arith}

@@ -1,5 +1,6 @@
 -- How time goes on over one call of a disk in memory, which notes a moment before it changes its
 -- bytes.
+-- For `SimDisk::store`, `SimDiskDisk::cut`, `SimDiskDisk::sync` and others.
 use Rattle.std.proofs.Common.{◌≡◌, ◌≤◌, ◌⊎◌, ◌+◌, ◌-◌, ℕ, suc, List, ◌∷◌, length, ◌∙◌, inl, inr}
 use Rattle.std.proofs.Common.{⊎_elim, ap, sym, subst, refl, arith}
 use Rattle.std.specs.Prelude.{◌||◌, ◌++◌, [], max, false}

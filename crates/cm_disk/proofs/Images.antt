@@ -1,4 +1,5 @@
 -- Which images are images of more.
+-- For `SimDisk::store`, `SimDiskDisk::cut`, `torn_write_is_an_image` and others.
 use Rattle.std.proofs.Common.{◌≡◌, ◌<◌, ◌≤◌, ◌+◌, ◌-◌, ℕ, Bool, true, false, List, length, get_or}
 use Rattle.std.proofs.Common.{take, drop, refl, sym, ◌∙◌, ap, ⊎_elim, arith}
 use Rattle.std.proofs.Common.{drop-drop}

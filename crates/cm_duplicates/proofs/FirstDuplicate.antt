@@ -1,4 +1,5 @@
 -- Loops that look for the first duplicate, and what is found.
+-- For `first_among_repeated`, `first_by_pairs`, `first_duplicate_is_the_first`.
 use Rattle.std.proofs.Common.{◌≡◌, ⊎_elim, ℕ, zero, suc, ◌+◌, ◌<◌, ◌≤◌, Bool, true, false, cond}
 use Rattle.std.proofs.Common.{List, [], ◌∷◌, length, get_or, take, drop, Option, Some, None, refl}
 use Rattle.std.proofs.Common.{sym, ap, ◌∙◌, add-one, drop-cons, arith}

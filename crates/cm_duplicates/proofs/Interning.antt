@@ -1,4 +1,5 @@
 -- A table of Utf8s after one more.
+-- For `Interner::index_for`, `intern`.
 use Rattle.std.proofs.Common.{◌≡◌, ⊎_elim, ℕ, ◌<◌, Bool, true, false, cond, List, length, get_or}
 use Rattle.std.proofs.Common.{Option, Some, None, refl, sym, ap, ◌∙◌, unwrap_or, bytes_eq}
 use Rattle.std.proofs.Common.{get_or-set_same, get_or-set_other}

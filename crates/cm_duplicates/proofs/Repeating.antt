@@ -1,4 +1,5 @@
 -- Which numbers stand at two places, found in a sorted list.
+-- For `find_repeats`, `repeats_in`.
 use Rattle.std.proofs.Common.{◌≡◌, ⊎_elim, ℕ, zero, suc, ◌+◌, ◌-◌, ◌<◌, ◌≤◌, Bool, true, false, eqb}
 use Rattle.std.proofs.Common.{eq-eqb, List, [], ◌∷◌, ◌++◌, length, get_or, refl, sym, ap, subst}
 use Rattle.std.proofs.Common.{◌∙◌, arith}

@@ -1,4 +1,5 @@
 -- Members that were looked at, by what stands for their names and descriptors.
+-- For `first_among_repeated`, `first_by_strong_fingerprints`, `first_duplicate`.
 use Rattle.std.proofs.Common.{◌≡◌, ⊎_elim, inl, inr, ◌⊎◌, ℕ, zero, suc, ◌+◌, ◌<◌, Bool, true, false}
 use Rattle.std.proofs.Common.{cond, eqb, List, [], ◌∷◌, length, map, get_or, Option, Some, None}
 use Rattle.std.proofs.Common.{refl, sym, ap, ap₂, subst, ◌∙◌, arith}

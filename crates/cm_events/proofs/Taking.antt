@@ -1,4 +1,5 @@
 -- Lines that are taken one after another.
+-- For `read_events`.
 use Rattle.std.proofs.Common.{◌≡◌, ℕ, ◌+◌, ◌++◌, true, cond, List, [], ◌∷◌, Option, Some, sym, ap}
 use Rattle.std.proofs.Common.{subst, ◌∙◌, append_assoc, append-nil}
 use Rattle.std.specs.Prelude.{map, is_some}

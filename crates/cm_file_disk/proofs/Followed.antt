@@ -1,4 +1,5 @@
 -- A state that follows on each call: of a failed one, that it changed nothing.
+-- For `Course::note`.
 use Rattle.std.proofs.Common.{ℕ, List, refl, take}
 use Rattle.cm_disk.specs.Calls.{overwritten}
 use Rattle.cm_disk.proofs.Images.{untouched_torn, uncut}

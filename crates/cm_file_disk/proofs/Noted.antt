@@ -1,4 +1,5 @@
 -- Time goes on over a noted call as the disk model says.
+-- For `Disk::sync`, `Disk::write_at`, `FileDiskDisk::cut`.
 use Rattle.std.proofs.Common.{◌≡◌, ◌≤◌, ◌+◌, ℕ, List, [], ◌∷◌, length, take, ap, sym, ◌∙◌}
 use Rattle.std.proofs.Common.{subst, refl, arith}
 use Rattle.std.proofs.lemmas.List.{length-take-le}

@@ -1,4 +1,5 @@
 -- What an accepted cache answers, and what it is then.
+-- For `Front::add_loader`, `Front::define`, `Front::unload`.
 use Rattle.std.proofs.Common.{◌≡◌, ℕ, ◌+◌, ◌^◌, ◌<◌, ◌≤◌, Bool, true, false, cond, List, [], ◌∷◌}
 use Rattle.std.proofs.Common.{arith, length, Option, Some, None, inl, inr, refl, sym, ap, subst}
 use Rattle.std.proofs.Common.{◌∙◌}

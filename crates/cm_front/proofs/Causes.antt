@@ -1,4 +1,5 @@
 -- What is looked for by names in the rows is the first cause against a step of the cache.
+-- For `Front::add_loader`, `Front::define`, `Front::unload`.
 use Rattle.std.proofs.Common.{◌≡◌, ℕ, suc, ◌+◌, Bool, true, false, cond, List, [], ◌∷◌}
 use Rattle.std.proofs.Common.{length, Option, Some, None, refl, sym, ap, subst, ◌∙◌, arith, eqb}
 use Rattle.std.specs.Prelude.{not, nat_le, nat_lt, is_some, Result, Ok, Err, ◌&&◌}

@@ -1,4 +1,5 @@
 -- The cache goes on with an unload.
+-- For `Front::add_loader`, `Front::define`, `Front::unload`.
 use Rattle.std.proofs.Common.{◌≡◌, ℕ, ◌+◌, Bool, true, false, cond, not, List, [], ◌∷◌}
 use Rattle.std.proofs.Common.{◌++◌, None, refl, sym, ap, subst, ◌∙◌, arith, eqb, IsSome}
 use Rattle.std.specs.Prelude.{◌↔◌, unwrap_or, is_some}

@@ -1,5 +1,6 @@
 -- A place that a space finds, whose arenas are those of the rows, is one that the entry rules
 -- allow.
+-- For `places_keep_rules` and others.
 use Rattle.std.proofs.Common.{◌≡◌, ℕ, ◌+◌, ◌%◌, ◌≤◌, Bool, true, false, cond, List, [], ◌∷◌, ◌++◌}
 use Rattle.std.proofs.Common.{Option, Some, None, inl, inr, refl, sym, ap, subst, ◌∙◌, arith, eqb}
 use Rattle.std.proofs.Common.{length}

@@ -1,4 +1,5 @@
 -- What one row more, or one loader less, makes of what rows say.
+-- For `Front::add_loader`, `Front::define`, `Front::restore` and others.
 use Rattle.std.proofs.Common.{◌≡◌, ℕ, ◌+◌, ◌≤◌, Bool, true, false, cond, not, List, [], ◌∷◌, ◌++◌}
 use Rattle.std.proofs.Common.{Some, None, inl, inr, refl, sym, ap, ◌∙◌, arith, eqb}
 use Rattle.std.proofs.Common.{append-nil}

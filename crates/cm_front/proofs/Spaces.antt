@@ -1,4 +1,5 @@
 -- Arenas of a space with one changed.
+-- For `Front::add_loader`, `Front::define`, `Front::restore` and others.
 use Rattle.std.proofs.Common.{◌≡◌, ℕ, Bool, true, false, cond, List, Option, Some, None}
 use Rattle.std.proofs.Common.{refl, sym, ap, subst, ◌∙◌, eqb, IsSome}
 use Rattle.std.specs.Ordering.{nat_cmp, is_eq}

@@ -1,5 +1,6 @@
 -- Chains end at the top of their loader's last chunk, have the chunk of each class, and are the
 -- chunks that its classes begin.
+-- For `arenas_are_of_rows`, `chains_go_with_rows`.
 use Rattle.std.proofs.Common.{◌≡◌, ◌≤◌, ℕ, ◌+◌, ◌⊎◌, Bool, true, false, cond, List, [], ◌∷◌, ◌++◌}
 use Rattle.std.proofs.Common.{map, Option, Some, None, inl, inr, refl, sym, ap, subst, ◌∙◌, arith}
 use Rattle.std.proofs.Common.{eqb, append_assoc, append-nil}

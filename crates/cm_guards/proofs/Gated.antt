@@ -1,4 +1,6 @@
 -- One byte is written where all is stored: each image has some byte there, and nothing else new.
+-- For `cuts_behind_keep_a_claim`, `gates_turn_claims`, `guarded_claim_holds_of_each_image` and
+-- others.
 use Rattle.std.proofs.Common.{◌≡◌, ◌<◌, ◌+◌, ◌⊎◌, ℕ, Bool, true, false, List, [], ◌∷◌}
 use Rattle.std.proofs.Common.{length, get_or, take, drop, refl, sym, ◌∙◌, ap, subst, ⊎_elim}
 use Rattle.std.proofs.Common.{arith, inl, inr}

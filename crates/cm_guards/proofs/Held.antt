@@ -1,4 +1,6 @@
 -- The laws.
+-- For `cuts_behind_keep_a_claim`, `gates_turn_claims`, `guarded_claim_holds_of_each_image` and
+-- others.
 use Rattle.std.proofs.Common.{ℕ, List}
 use Rattle.cm_disk.specs.Disk.{widened, shortened}
 use Rattle.cm_guards.specs.Laws.{GuardedHolds, HoldsDuringWrites, HoldsAfterWrites}

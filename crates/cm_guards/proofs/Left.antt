@@ -1,4 +1,5 @@
 -- What a crash leaves at the moments inside runs of calls.
+-- For `reads_change_nothing`, `runs_leave_a_claim` and others.
 use Rattle.std.proofs.Common.{◌≡◌, ◌⊎◌, ℕ, List, ⊎_elim, inl, inr, arith, refl, ◌∙◌, subst}
 use Rattle.std.specs.Prelude.{Result, IsErr}
 use Rattle.cm_disk.specs.Disk.{Unsynced, IsImage}

@@ -1,5 +1,6 @@
 -- What one device call leaves at each moment, and what the disk holds after it: a line for each
 -- step of a committer over any disk.
+-- On `LeavesOnly`, `Guard`, `Guards`, for crates above.
 use Rattle.std.proofs.Common.{◌≡◌, ◌≤◌, ℕ, List, [], ◌∷◌, length, inl, arith, sym, ap, subst, take}
 use Rattle.std.proofs.Common.{◌∙◌}
 use Rattle.std.proofs.lemmas.List.{length-take-le}

@@ -1,4 +1,5 @@
 -- Lists in blocks: what is done to one block, said of all entries.
+-- For `Index::with_room`, `IndexBlock::fill`, `block_of` and others.
 use Rattle.std.proofs.Common.{◌≡◌, ℕ, zero, suc, ◌+◌, ◌*◌, ◌-◌, ◌<◌, ◌≤◌, List, [], ◌∷◌, ◌++◌}
 use Rattle.std.proofs.Common.{length, take, drop, get_or, set, refl, sym, ◌∙◌, ap, subst, arith}
 use Rattle.std.proofs.Common.{add-one, length-append, length-take, length-drop, length-set}

@@ -1,4 +1,5 @@
 -- What lives of places that are joined, changed, swept and unloaded.
+-- For `IndexBlock::sweep`, `add_entry`, `block_of` and others.
 use Rattle.std.proofs.Common.{◌≡◌, ℕ, suc, ◌≤◌, Bool, true, false, cond, List, []}
 use Rattle.std.proofs.Common.{◌∷◌, ◌++◌, map, length, refl, ◌∙◌, ap, arith}
 use Rattle.std.specs.Prelude.{not, ◌&&◌}

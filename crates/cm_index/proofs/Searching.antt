@@ -1,4 +1,5 @@
 -- A search in blocks: what one key says of the others, and what is found in one block, of all.
+-- For `block_of`, `find_row`, `search`, `sweep_blocks`.
 use Rattle.std.proofs.Common.{◌≡◌, ℕ, suc, ◌+◌, ◌<◌, List, [], ◌++◌, map, length, take, drop}
 use Rattle.std.proofs.Common.{get_or, sym, ◌∙◌, ap, subst, arith, add-one, length-append}
 use Rattle.std.specs.List.{AllByRecursion}

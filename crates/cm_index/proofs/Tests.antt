@@ -1,4 +1,5 @@
 -- Tests of numbers and of two tests together.
+-- For `IndexBlock::sweep`, `add_entry`, `block_of` and others.
 use Rattle.std.proofs.Common.{◌≡◌, ◌≢◌, ℕ, Bool, true, false, eqb, refl}
 use Rattle.std.specs.Prelude.{◌&&◌}
 use Rattle.std.proofs.lemmas.Bool.{eqb-true}

@@ -1,4 +1,5 @@
 -- The index once a loader is unloaded, and names that differ.
+-- On `AreUnique`, `IsIndex`, `unloaded`, for crates above.
 use Rattle.std.proofs.Common.{◌≡◌, ℕ, ◌⊎◌, Bool, true, false, cond, List}
 use Rattle.std.proofs.Common.{[], ◌∷◌, ◌++◌, map, Option, Some, None}
 use Rattle.std.proofs.Common.{refl, sym, ◌∙◌, ap, subst, arith, inl, inr}

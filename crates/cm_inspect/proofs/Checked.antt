@@ -1,4 +1,5 @@
 -- What a file stands for is what the report of its rows counts.
+-- For `check`.
 use Rattle.std.proofs.Common.{◌≡◌, ℕ, List, [], ◌∷◌, length, refl, sym, ap, subst, ◌∙◌, arith}
 use Rattle.std.proofs.Common.{Ok, is_some, true}
 use Rattle.cm_class.specs.declared.class_file.ClassFile.{ClassFile}

@@ -1,4 +1,5 @@
 -- What is counted of rows is what their state and their arenas hold.
+-- For `check`.
 use Rattle.std.proofs.Common.{◌≡◌, ℕ, suc, ◌+◌, Bool, true, false, cond, List, [], ◌∷◌, length}
 use Rattle.std.proofs.Common.{Option, Some, None, inl, inr, refl, sym, ap, subst, ◌∙◌, arith, eqb}
 use Rattle.std.proofs.Common.{is_some}

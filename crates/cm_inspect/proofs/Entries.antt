@@ -1,4 +1,5 @@
 -- Maps in memory and finite maps: their entries by the bytes of their keys.
+-- For `Gathered::add_class`, `Gathered::add_loader`, `classes_of`.
 use Rattle.std.proofs.Common.{◌≡◌, ℕ, Bool, true, false, cond, List, [], ◌∷◌, map, Option, Some}
 use Rattle.std.proofs.Common.{None, refl, sym, ap, ◌∙◌, eqb, length, arith}
 use Rattle.std.specs.BTreeMap.{BTreeMap, insert_entry, is_at}

@@ -1,4 +1,5 @@
 -- What is gathered of rows, and what is listed of that.
+-- For `gather`, `list`.
 use Rattle.std.proofs.Common.{◌≡◌, ℕ, Bool, true, false, cond, List, [], ◌∷◌, ◌++◌, map, refl}
 use Rattle.std.proofs.Common.{sym, ap, subst, ◌∙◌, eqb, append_assoc}
 use Rattle.std.proofs.Common.{length, arith}

@@ -1,4 +1,5 @@
 -- A listing without its places, entry by entry.
+-- For `listing_is_state`.
 use Rattle.std.proofs.Common.{◌≡◌, ℕ, Bool, true, false, cond, List, [], ◌∷◌, map}
 use Rattle.std.proofs.Common.{sym, ap, ◌∙◌, eqb}
 use Rattle.std.proofs.lemmas.Simd.{map-map}

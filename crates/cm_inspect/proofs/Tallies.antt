@@ -1,4 +1,5 @@
 -- Counting rows one after another.
+-- For `count`.
 use Rattle.std.proofs.Common.{◌≡◌, ◌+◌, ◌≤◌, Bool, true, false, cond, List, [], ◌∷◌, length}
 use Rattle.std.proofs.Common.{refl, arith, eqb}
 use Rattle.cm_layout.specs.declared.row.Row.{Row}

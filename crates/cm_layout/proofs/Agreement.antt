@@ -1,4 +1,5 @@
 -- Contents that agree on what is guarded match the same framing.
+-- For `agreement_frames` and others.
 use Rattle.std.proofs.Common.{◌≡◌, ℕ, ◌+◌, ◌*◌, ◌≤◌, Bool, cond, List, [], ◌∷◌}
 use Rattle.std.proofs.Common.{length, take, drop, get_or, Option, Some, None, sym, ap, subst}
 use Rattle.std.proofs.Common.{◌∙◌, arith, drop-drop, length-drop}

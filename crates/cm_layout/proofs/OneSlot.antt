@@ -1,4 +1,5 @@
 -- What is read from a slot is what was written there.
+-- For `slot_determines_entry`, `slot_determines_head`.
 use Rattle.std.proofs.Common.{◌≡◌, ℕ, ◌+◌, ◌<◌, ◌-◌, ◌^◌, List, length, take, drop, get_or}
 use Rattle.std.proofs.Common.{replicate, refl, sym, ap, ◌∙◌, arith}
 use Rattle.std.specs.Int.{w16, w32, w64, from_le_bytes, to_le_bytes}

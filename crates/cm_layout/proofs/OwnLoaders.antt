@@ -1,5 +1,6 @@
 -- Live rows that keep the rules: their loaders differ, have numbers of the past, and own each
 -- class.
+-- For `loaders_are_own` and others.
 use Rattle.std.proofs.Common.{◌≡◌, ℕ, ◌<◌, ◌≤◌, Bool, true, false, cond, List, [], ◌∷◌, ◌++◌}
 use Rattle.std.proofs.Common.{Option, Some, None, inl, inr, refl, sym, subst, ◌∙◌, ap, arith}
 use Rattle.std.proofs.Common.{append_assoc, eqb, is_some, is_none}

@@ -1,4 +1,5 @@
 -- Rows after entries that keep the rules are live rows that keep theirs: what a checkpoint writes.
+-- For `live_rows_go_on`, `rows_stay_live` and others.
 use Rattle.std.proofs.Common.{◌≡◌, ℕ, ◌+◌, ◌≤◌, ◌⊎◌, Bool, true, false, cond, List, []}
 use Rattle.std.proofs.Common.{◌∷◌, ◌++◌, length, map, Option, Some, None, inl, inr, refl, sym, ap}
 use Rattle.std.proofs.Common.{subst, ◌∙◌, arith, append_assoc, append-nil, eqb, is_some, is_none}

@@ -1,4 +1,5 @@
 -- A superblock is its front, zeros and a gate.
+-- For `Superblock::decode`, `Superblock::encode`, `are_zeros` and others.
 use Rattle.std.proofs.Common.{◌≡◌, ℕ, ◌-◌, List, [], ◌∷◌, ◌++◌, length, take, drop}
 use Rattle.std.proofs.Common.{replicate, subst, refl, sym, ap, ◌∙◌, arith, append_assoc}
 use Rattle.std.proofs.lemmas.List.{take-append-drop, length-replicate, get_or-replicate}

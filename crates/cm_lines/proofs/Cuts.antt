@@ -1,4 +1,5 @@
 -- Texts that are cut at a byte.
+-- For `parse` and others.
 use Rattle.std.proofs.Common.{◌≡◌, ◌≢◌, ℕ, Bool, true, false, cond, eqb, List, [], ◌∷◌, ◌++◌, All}
 use Rattle.std.proofs.Common.{refl, ap, ◌∙◌, eq-eqb, ne_eqb}
 use Rattle.std.specs.List.{onto_first}

@@ -1,4 +1,5 @@
 -- Names and their spellings.
+-- On `UnescapingUndoes`, `rest`, `is_plain`.
 use Rattle.std.proofs.Common.{◌≡◌, ◌<◌, ◌+◌, ◌*◌, ◌/◌, ◌%◌, ℕ, suc, Bool, true, false, cond, List}
 use Rattle.std.proofs.Common.{[], ◌∷◌, ◌++◌, Option, Some, None, refl, sym, ap, ◌∙◌, arith, eqb}
 use Rattle.std.specs.Option.{option_map, option_and_then}

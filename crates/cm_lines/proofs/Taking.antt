@@ -1,4 +1,5 @@
 -- Lines that are taken one after another.
+-- On `TakesLines`, `lines_of`, `Begins`.
 use Rattle.std.proofs.Common.{◌≡◌, ℕ, List, [], ◌++◌, Option, Some, None, refl, sym, ap, ◌∙◌}
 use Rattle.std.proofs.Common.{append_assoc, append-nil}
 use Rattle.std.specs.Option.{IfSome}

@@ -1,4 +1,5 @@
 -- A command that is accepted: one entry more that waits to be stored.
+-- For `ahead_stays_ahead`.
 use Rattle.std.proofs.Common.{◌≡◌, ℕ, ◌+◌, ◌-◌, ◌*◌, ◌≤◌, Bool, true, false, cond, List, []}
 use Rattle.std.proofs.Common.{◌∷◌, ◌++◌, length, Option, Some, None, Ok, Err, inl, inr, refl, sym}
 use Rattle.std.proofs.Common.{ap}

@@ -1,4 +1,5 @@
 -- The cause against a change is the same by classes and by the words of their records.
+-- For `commands_follow_the_machine`.
 use Rattle.std.proofs.Common.{◌≡◌, ℕ, ◌+◌, Bool, true, false, cond, List, [], ◌∷◌, length}
 use Rattle.std.proofs.Common.{Option, Some, None, Result, Ok, Err, refl, sym, ap}
 use Rattle.std.proofs.Common.{◌∙◌, is_some, eqb}

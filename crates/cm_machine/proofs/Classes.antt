@@ -1,4 +1,5 @@
 -- Rows with classes, and the same rows with the words of their records.
+-- For `commands_follow_the_machine`, `committed_rows_are_the_machines` and others.
 use Rattle.std.proofs.Common.{◌≡◌, ℕ, ◌+◌, Bool, true, false, cond, List, [], ◌∷◌, ◌++◌}
 use Rattle.std.proofs.Common.{Option, Some, None, refl, sym, ap, ◌∙◌, eqb}
 use Rattle.std.specs.Prelude.{◌&&◌, not}

@@ -1,4 +1,6 @@
 -- Entries one behind another: what is true of two runs of them, and of one more.
+-- For `ahead_stays_ahead`, `commands_follow_the_machine`, `committed_rows_are_the_machines` and
+-- others.
 use Rattle.std.proofs.Common.{◌≡◌, ℕ, suc, ◌+◌, ◌^◌, ◌≤◌, true, List, [], ◌∷◌, ◌++◌, length}
 use Rattle.std.proofs.Common.{refl, sym, subst, arith}
 use Rattle.std.specs.List.{AllByRecursion}

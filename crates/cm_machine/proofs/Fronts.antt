@@ -1,4 +1,5 @@
 -- The accepted cache does what the machine does.
+-- For `commands_follow_the_machine`, `committed_rows_are_the_machines`.
 use Rattle.std.proofs.Common.{◌≡◌, ℕ, suc, ◌+◌, ◌^◌, Bool, true, false, cond, List, [], ◌∷◌, ◌++◌}
 use Rattle.std.proofs.Common.{length, map, take, Option, Some, None, Result, Ok, Err, inl, inr}
 use Rattle.std.proofs.Common.{refl}

@@ -1,4 +1,5 @@
 -- What is handed out, learnt and committed.
+-- For `ahead_stays_ahead`, `handed_groups_are_next`, `opened_is_ahead`.
 use Rattle.std.proofs.Common.{◌≡◌, ℕ, suc, ◌+◌, ◌-◌, ◌^◌, ◌≤◌, List, [], ◌∷◌, ◌++◌, length}
 use Rattle.std.proofs.Common.{refl, sym, ap, subst, ◌∙◌, arith, append_assoc}
 use Rattle.std.specs.Prelude.{max}

@@ -1,4 +1,5 @@
 -- The changes that entries make, one after another, and the state that they lead to.
+-- For `committed_rows_are_the_machines`.
 use Rattle.std.proofs.Common.{◌≡◌, ℕ, suc, ◌+◌, ◌^◌, ◌≤◌, List, [], ◌∷◌, ◌++◌, length, map, Some}
 use Rattle.std.proofs.Common.{Result}
 use Rattle.std.proofs.Common.{None, Ok, Err, refl, sym, ap, subst, ◌∙◌, arith, append_assoc}

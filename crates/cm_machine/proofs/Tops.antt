@@ -1,6 +1,7 @@
 -- The last chunk of a loader, at some number and later: while entries are apart from the rows
 -- before, a chunk that is a loader's last is one that these rows don't use, or was its last then
 -- too.
+-- For `ahead_stays_ahead`, `commands_follow_the_machine`, `committed_rows_are_the_machines`.
 use Rattle.std.proofs.Common.{◌≡◌, ℕ, ◌+◌, ◌^◌, ◌≤◌, ◌⊎◌, Bool, true, false, cond, List, [], ◌∷◌}
 use Rattle.std.proofs.Common.{◌++◌}
 use Rattle.std.proofs.Common.{length, map, Option, Some, None, inl, inr, refl, sym, ap, subst, ◌∙◌}

@@ -1,4 +1,6 @@
 -- The words of rows' chunks aren't free, and none waits for a number that the rows have.
+-- For `ahead_stays_ahead`, `commands_follow_the_machine`, `committed_rows_are_the_machines` and
+-- others.
 use Rattle.std.proofs.Common.{◌≡◌, ℕ, ◌+◌, ◌<◌, ◌≤◌, List, [], ◌∷◌, inl, inr, refl, sym}
 use Rattle.std.proofs.Common.{subst, arith, Bool, true, false, cond}
 use Rattle.std.specs.Prelude.{◌⊎◌, nat_lt}

@@ -1,4 +1,6 @@
 -- What the kinds of bytes in a Utf8 tell of it: `judge` by its marks.
+-- For `has_utf8_form_by_marks`, `is_class_name_by_marks`, `is_field_descriptor_by_marks` and
+-- others.
 use Rattle.std.proofs.Common.{◌≡◌, ℕ, suc, eqb, cond, Bool, true, false, not, ◌&&◌, List, [], ◌∷◌}
 use Rattle.std.proofs.Common.{length, Option, Some, None, refl, sym, ap, ap₂, ◌∙◌, arith}
 use Rattle.std.specs.Prelude.{◌||◌, ◌==◌, bytes_eq}

@@ -1,4 +1,5 @@
 -- A Utf8 has its form exactly where it is a sequence of characters.
+-- For `utf8_is_characters`.
 use Rattle.std.proofs.Common.{◌≡◌, ℕ, zero, suc, ◌<◌, Bool, true, false, cond, List, [], ◌∷◌, ◌++◌}
 use Rattle.std.proofs.Common.{length, Some, None, refl, sym, ap, ◌∙◌, arith, IsTrue, ◌↔◌}
 use Rattle.std.specs.Prelude.{nat_le}

@@ -1,4 +1,5 @@
 -- A class name is exactly unqualified names joined by slashes.
+-- For `class_name_is_joined_names`.
 use Rattle.std.proofs.Common.{◌≡◌, ◌≢◌, ℕ, Bool, true, false, not, eqb, cond, List, [], ◌∷◌, length}
 use Rattle.std.proofs.Common.{Some, None, refl, sym, ap, ◌∙◌, arith, IsTrue, ◌↔◌}
 use Rattle.std.specs.List.{list_all, join_with_byte, AllByRecursion}

@@ -1,4 +1,5 @@
 -- The first stop of some bytes, and the class name before it.
+-- For `first_stop_of_few`, `first_stop_of_many`, `run_of_sixteen`.
 use Rattle.std.proofs.Common.{◌≡◌, ℕ, zero, suc, ◌+◌, ◌%◌, ◌^◌, ◌<◌, ◌≤◌, cond, Bool, true, false}
 use Rattle.std.proofs.Common.{not, List, [], ◌∷◌, map, length, get_or, take, drop, Fits, w8, ◌⊎◌}
 use Rattle.std.proofs.Common.{inl, inr, refl, sym, ap, ap₂, ◌∙◌, arith}

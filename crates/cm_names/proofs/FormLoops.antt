@@ -1,4 +1,5 @@
 -- Loops over the bytes of names and descriptors.
+-- For `are_characters`, `are_joined_names`, `has_utf8_form` and others.
 use Rattle.std.proofs.Common.{◌≡◌, ℕ, zero, suc, ◌+◌, ◌-◌, ◌<◌, ◌≤◌, Bool, true, false, not, eqb}
 use Rattle.std.proofs.Common.{eq-eqb, cond, List, [], ◌∷◌, length, get_or, drop, Option, Some, None}
 use Rattle.std.proofs.Common.{refl, sym, ap, ◌∙◌, add-one, add-zero, add_assoc, drop-cons, arith}

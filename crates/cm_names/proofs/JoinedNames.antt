@@ -1,4 +1,5 @@
 -- Names joined by slashes: the slashes of neighbours, and what stands behind a class name.
+-- For `are_names`, `many_are_apart`, `nine_are_apart` and others.
 use Rattle.std.proofs.Common.{◌≡◌, ℕ, zero, suc, ◌+◌, ◌-◌, ◌%◌, ◌^◌, ◌<◌, ◌≤◌, eqb, cond, Bool}
 use Rattle.std.proofs.Common.{true, false, not, ◌&&◌, List, [], ◌∷◌, map, length, get_or, take}
 use Rattle.std.proofs.Common.{drop, add-one, Option, Some, None, inl, inr, refl, sym, ap, ap₂, ◌∙◌}

@@ -1,4 +1,5 @@
 -- `marks_of`: from the lanes of loads to the kinds of bytes in them.
+-- For `first_stop_of_many`, `marks_of`, `marks_of_eight` and others.
 use Rattle.std.proofs.Common.{◌≡◌, ℕ, zero, suc, ◌+◌, ◌-◌, ◌*◌, ◌%◌, ◌^◌, ◌<◌, ◌≤◌, eqb, cond, Bool}
 use Rattle.std.proofs.Common.{true, false, not, ◌&&◌, List, [], ◌∷◌, ◌++◌, map, length, get_or}
 use Rattle.std.proofs.Common.{take, drop, drop-cons, add-one, replicate, Fits, w8, refl, sym, ap}

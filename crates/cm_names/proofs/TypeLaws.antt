@@ -1,4 +1,5 @@
 -- A descriptor is exactly the spelling of a type.
+-- For `field_descriptor_spells_a_type`, `method_descriptor_spells_types`.
 use Rattle.std.proofs.Common.{◌≡◌, ⊎_elim, ℕ, zero, suc, ◌+◌, ◌<◌, ◌≤◌, Bool, true, false, eqb}
 use Rattle.std.proofs.Common.{cond, List, [], ◌∷◌, ◌++◌, length, Option, Some, None, refl, sym, ap}
 use Rattle.std.proofs.Common.{ap₂, ◌∙◌, arith, IsTrue, ◌↔◌}

@@ -1,4 +1,5 @@
 -- One bit of a list of words, and what a summary says of it.
+-- For `BitRow::first`, `BitRow::insert`, `BitRow::remove`, `lowest_bit`.
 use Rattle.std.proofs.Common.{◌≡◌, ◌≢◌, ℕ, ◌+◌, ◌*◌, ◌/◌, ◌%◌, ◌^◌, ◌<◌, ◌≤◌, Bool, true, false}
 use Rattle.std.proofs.Common.{not, ◌||◌, ◌&&◌, eqb, List, length, replicate, bit_and}
 use Rattle.std.proofs.Common.{bit_or, refl, sym, ap, ◌∙◌, subst, inl, inr, arith, length-set, w64}

@@ -1,4 +1,5 @@
 -- Blocks of the tree of halves: where they start and stop, their halves, and what lies inside what.
+-- For `Pool::alloc`, `Pool::give`, `take_out`.
 use Rattle.std.proofs.Common.{◌≡◌, ℕ, suc, ◌+◌, ◌-◌, ◌*◌, ◌/◌, ◌%◌, ◌^◌, ◌<◌, ◌≤◌, Bool, true}
 use Rattle.std.proofs.Common.{false, cond, ◌||◌, eqb, refl, sym, ap, ◌∙◌, subst, inl, inr, ◌⊎◌}
 use Rattle.std.proofs.Common.{arith}

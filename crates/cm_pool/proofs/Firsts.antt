@@ -1,4 +1,5 @@
 -- The block that begins first, of those whose bits are set.
+-- For `first_in`.
 use Rattle.std.proofs.Common.{◌≡◌, ℕ, ◌+◌, ◌*◌, ◌^◌, ◌<◌, ◌≤◌, true, false, List, Option, Some}
 use Rattle.std.proofs.Common.{None, IfSome, IfNone, sym, ap, ◌∙◌, subst, inl, inr, ◌⊎◌, arith}
 use Rattle.std.proofs.lemmas.Bool.{both_ways, cases_lt}

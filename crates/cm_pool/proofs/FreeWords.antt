@@ -1,4 +1,5 @@
 -- What is free after a change, and that what is free determines a pool's value.
+-- For `Pool::add_root`, `Pool::alloc`, `Pool::geometry` and others.
 use Rattle.std.proofs.Common.{◌≡◌, ℕ, zero, suc, ◌+◌, ◌-◌, ◌*◌, ◌/◌, ◌%◌, ◌^◌, ◌<◌, ◌≤◌, Bool, true}
 use Rattle.std.proofs.Common.{false, ◌||◌, ◌&&◌, not, eqb, refl, sym, ap, ◌∙◌, subst, inl, inr, ◌⊎◌}
 use Rattle.std.proofs.Common.{◌↔◌, arith, Decides}

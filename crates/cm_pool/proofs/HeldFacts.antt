@@ -1,4 +1,5 @@
 -- Chunks stay held while others are taken and given back.
+-- On `FreeSpace`, `AreHeld`, `IsUsedChunk`.
 use Rattle.std.proofs.Common.{List, [], ◌∷◌, ◌++◌, refl, sym, subst, inl, inr, arith}
 use Rattle.std.specs.List.{AllByRecursion}
 use Rattle.std.proofs.lemmas.List.{append-nil}

@@ -1,4 +1,5 @@
 -- One block's bit in the rows: what changes with it, and what is covered then.
+-- For `give_back`.
 use Rattle.std.proofs.Common.{◌≡◌, ◌≢◌, ℕ, zero, suc, ◌+◌, ◌*◌, ◌/◌, ◌^◌, ◌<◌, ◌≤◌, Bool, true}
 use Rattle.std.proofs.Common.{false, not, ◌||◌, ◌&&◌, eqb, List, [], ◌∷◌, length, set, refl, sym}
 use Rattle.std.proofs.Common.{ap, ◌∙◌, inl, inr, ◌⊎◌, arith, length-set}

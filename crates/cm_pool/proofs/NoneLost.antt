@@ -1,4 +1,5 @@
 -- No word is lost where chunks are taken, given back, and roots added.
+-- On `NoneIsLost`, `FreeSpace`, `without`, for crates above.
 use Rattle.std.proofs.Common.{◌≡◌, ℕ, ◌+◌, ◌<◌, ◌≤◌, true, false, List, [], ◌∷◌, ◌++◌, refl, subst}
 use Rattle.std.proofs.Common.{inl, inr, ◌⊎◌, arith}
 use Rattle.std.specs.FinSet.{contains}

@@ -1,4 +1,5 @@
 -- A pool's rows and what they are seen as.
+-- For `Pool::add_root`, `Pool::alloc`, `Pool::geometry` and others.
 use Rattle.std.proofs.Common.{◌≡◌, ℕ, ◌+◌, ◌-◌, ◌*◌, ◌/◌, ◌^◌, ◌<◌, ◌≤◌, true, false, ◌||◌, ◌&&◌}
 use Rattle.std.proofs.Common.{not, List, length, refl, sym, ap, ◌∙◌, inl, inr, arith}
 use Rattle.std.specs.FinSet as set

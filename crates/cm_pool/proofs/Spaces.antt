@@ -1,4 +1,5 @@
 -- What rows of bits are seen as: the words of the blocks whose bits are set.
+-- For `Pool::alloc`, `Pool::give`, `Pool::take`.
 use Rattle.std.proofs.Common.{◌≡◌, ℕ, zero, suc, ◌+◌, ◌*◌, ◌/◌, ◌<◌, ◌≤◌, Bool, true, false, cond}
 use Rattle.std.proofs.Common.{◌||◌, ◌&&◌, not, eqb, ltb, List, [], ◌∷◌, length, refl, sym, ap, ◌∙◌}
 use Rattle.std.proofs.Common.{subst, inl, inr, arith, Decides}

@@ -1,4 +1,5 @@
 -- What the bits of a pool mean, kept as blocks are taken apart and joined.
+-- For `Pool::add_root`, `give_back`, `take_out`.
 use Rattle.std.proofs.Common.{◌≡◌, ℕ, zero, suc, ◌+◌, ◌-◌, ◌*◌, ◌/◌, ◌%◌, ◌^◌, ◌<◌, ◌≤◌, ◌↔◌, Bool}
 use Rattle.std.proofs.Common.{true, false, cond, not, ◌||◌, ◌&&◌, eqb, List, length, refl, sym, ap}
 use Rattle.std.proofs.Common.{◌∙◌, subst, inl, inr, ◌⊎◌, arith, length-set}

@@ -1,4 +1,5 @@
 -- Blocks of the tree of halves: where they start and stop, their halves, and what lies inside what.
+-- For `ListPool::alloc`, `ListPool::give`, `take_at`.
 use Rattle.std.proofs.Common.{◌≡◌, ℕ, suc, ◌+◌, ◌-◌, ◌*◌, ◌/◌, ◌^◌, ◌<◌, ◌≤◌, true, ◌||◌, eqb, refl}
 use Rattle.std.proofs.Common.{sym, ap, ◌∙◌, subst, inl, inr, ◌⊎◌, arith}
 use Rattle.std.proofs.lemmas.Nat.{pow_pos, shr-shr}

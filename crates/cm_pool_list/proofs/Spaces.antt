@@ -1,4 +1,5 @@
 -- What lists of blocks are seen as: the words that their blocks have.
+-- For `ListPool::alloc`, `ListPool::give`, `ListPool::take`.
 use Rattle.std.proofs.Common.{◌≡◌, ℕ, ◌+◌, ◌*◌, ◌/◌, ◌<◌, ◌≤◌, Bool, true, false, ◌||◌, ◌&&◌, not}
 use Rattle.std.proofs.Common.{List, [], ◌∷◌, refl, sym, ap, ◌∙◌, subst, arith, Decides}
 use Rattle.std.specs.List.{list_any, flat_map}

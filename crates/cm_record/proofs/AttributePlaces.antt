@@ -1,4 +1,5 @@
 -- The attributes of methods and their runs, found in the words of a record.
+-- For `Record::code`, `method_attributes`.
 use Rattle.std.proofs.Common.{◌≡◌, ◌<◌, ◌≤◌, ◌+◌, ◌*◌, ◌^◌, ℕ, zero, suc, List, [], ◌∷◌, ◌++◌}
 use Rattle.std.proofs.Common.{length, take, drop, get_or, slice_get, Bool, true, false, ◌⊎◌, inl}
 use Rattle.std.proofs.Common.{inr, Some, refl, sym, ◌∙◌, ap, subst, arith, length-append}

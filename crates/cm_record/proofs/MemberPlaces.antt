@@ -1,4 +1,5 @@
 -- The words of members, attributes and their runs, found in the words of a record.
+-- For `Record::code`, `Record::field`, `Record::method`, `method_attributes`.
 use Rattle.std.proofs.Common.{◌≡◌, ◌<◌, ◌≤◌, ◌+◌, ◌*◌, ℕ, zero, suc, Bool, false, List, [], ◌∷◌}
 use Rattle.std.proofs.Common.{◌++◌, length, drop, get_or, slice_get, Some, refl, sym, ◌∙◌, ap}
 use Rattle.std.proofs.Common.{subst, arith, length-append, append_assoc, get_or-drop, drop-drop}

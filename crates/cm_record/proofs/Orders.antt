@@ -1,4 +1,5 @@
 -- Lists of bytes compared one by one.
+-- For `cmp_run_to`, `cmp_runs`.
 use Rattle.std.proofs.Common.{◌≡◌, ◌<◌, ◌≤◌, ◌+◌, ◌⊎◌, inl, inr, ℕ, zero, suc, List, [], ◌∷◌}
 use Rattle.std.proofs.Common.{length, drop, get_or, min, refl, sym, ◌∙◌, ap, arith, drop-cons}
 use Rattle.std.proofs.Common.{length-drop}

@@ -1,4 +1,5 @@
 -- The bytes of a run, one by one.
+-- For `cmp_run_to`, `cmp_runs`, `code_in_run`, `u2`.
 use Rattle.std.proofs.Common.{◌≡◌, ◌<◌, ◌≤◌, ◌+◌, ◌*◌, ◌/◌, ◌%◌, ℕ, zero, suc, List, length, drop}
 use Rattle.std.proofs.Common.{get_or, refl, sym, ◌∙◌, ap, arith, length-drop, drop-drop}
 use Rattle.std.proofs.Common.{get_or-take, get_or-drop}

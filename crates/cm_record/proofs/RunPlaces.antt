@@ -1,4 +1,5 @@
 -- The runs of a class's Utf8, found in the words of its record.
+-- For `Record::super_name`, `class_name_run`, `cmp_run_to` and others.
 use Rattle.std.proofs.Common.{false, ◌≡◌, ◌≤◌, ◌-◌, ◌*◌, ◌/◌, ℕ, zero, suc, List, [], ◌∷◌, ◌++◌}
 use Rattle.std.proofs.Common.{length, take, drop, get_or, slice_get, Option, Some, None, refl, sym}
 use Rattle.std.proofs.Common.{◌∙◌, ap, subst, arith, length-append, append_assoc, drop-drop}

@@ -1,4 +1,5 @@
 -- Which words of the directory can be those of a Utf8 of given bytes.
+-- For `Marks::of`, `may_be_utf8_of`.
 use Rattle.std.proofs.Common.{◌≡◌, ◌<◌, ◌+◌, ◌*◌, ◌/◌, ◌%◌, ◌^◌, ℕ, Bool, true, false, List, length}
 use Rattle.std.proofs.Common.{get_or, Option, Some, None, refl, sym, ◌∙◌, ap, arith}
 use Rattle.std.specs.Prelude.{◌==◌, if◌then◌else◌, nat_le, option_map}

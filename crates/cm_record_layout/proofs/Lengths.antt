@@ -1,4 +1,5 @@
 -- How many words the sections have.
+-- On `attribute_runs`, `member_attributes`, `all_attributes`, for crates above.
 use Rattle.std.proofs.Common.{◌≡◌, ◌+◌, ◌*◌, ◌^◌, ℕ, suc, List, [], ◌∷◌, ◌++◌, length, refl, sym}
 use Rattle.std.proofs.Common.{◌∙◌, ap, arith, length-append, append_assoc}
 use Rattle.std.proofs.Common.{Bool, true, false, cond}

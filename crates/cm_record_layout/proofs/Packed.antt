@@ -1,4 +1,5 @@
 -- Runs, word by word.
+-- For `bytes_tell_words`, `word_of` and others.
 use Rattle.std.proofs.Common.{◌≡◌, ◌<◌, ◌^◌, ℕ, zero, suc, List, [], ◌∷◌, ◌++◌, length, get_or}
 use Rattle.std.proofs.Common.{drop, min, refl, ◌∙◌, ap, arith}
 use Rattle.std.specs.Int.{w64, from_le_bytes}

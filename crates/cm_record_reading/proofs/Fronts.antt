@@ -1,4 +1,5 @@
 -- What is read piece by piece.
+-- For `read_run`.
 use Rattle.std.proofs.Common.{◌≡◌, ◌<◌, ◌≤◌, ◌-◌, ℕ, zero, suc, true, false, List, [], ◌∷◌, ◌++◌}
 use Rattle.std.proofs.Common.{length, take, drop, get_or, min, Option, Some, None, refl, sym, ◌∙◌}
 use Rattle.std.proofs.Common.{ap, arith, append_assoc}

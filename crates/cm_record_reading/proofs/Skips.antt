@@ -1,4 +1,5 @@
 -- The turns of the loops that keep nothing. `all` is what the whole loop should leave.
+-- For `skip_attributes`, `skip_interfaces`, `skip_members` and others.
 use Rattle.std.proofs.Common.{◌≡◌, ◌<◌, ◌≤◌, ◌+◌, ◌-◌, ◌^◌, ℕ, zero, suc, Bool, true, false, List}
 use Rattle.std.proofs.Common.{[], ◌∷◌, length, take, drop, get_or, min, Option, Some, None, refl}
 use Rattle.std.proofs.Common.{sym, ◌∙◌, ap, arith}

@@ -1,5 +1,6 @@
 -- The turns of the loops that read lists. `all` is what the whole loop should read: what was read
 -- so far, and then what is read of what is left.
+-- For `read_attributes`, `read_interfaces`, `read_members`, `read_slots`.
 use Rattle.std.proofs.Common.{◌≡◌, ◌<◌, ◌≤◌, ◌+◌, ◌-◌, ◌^◌, ℕ, zero, suc, Bool, true, false, List}
 use Rattle.std.proofs.Common.{[], ◌∷◌, ◌++◌, length, take, drop, get_or, Option, Some, None, refl}
 use Rattle.std.proofs.Common.{sym, ◌∙◌, ap, arith, append_assoc}

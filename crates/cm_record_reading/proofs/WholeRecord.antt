@@ -1,4 +1,5 @@
 -- A whole record is read again.
+-- For `layout_determines_class` and others.
 use Rattle.std.proofs.Common.{◌≡◌, ◌≤◌, ◌+◌, ◌-◌, ◌*◌, ℕ, true, false, List, [], ◌++◌, length}
 use Rattle.std.proofs.Common.{get_or, drop, Some, None, refl, sym, ◌∙◌, ap, subst, arith}
 use Rattle.std.proofs.Common.{length-append}

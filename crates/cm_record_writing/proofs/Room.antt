@@ -1,4 +1,5 @@
 -- There is room for what is left to add.
+-- For `push_attribute_runs`, `push_attributes`, `push_attributes_and_runs` and others.
 use Rattle.std.proofs.Common.{◌≡◌, ◌≤◌, ◌+◌, ◌*◌, ℕ, List, ◌∷◌, ◌++◌, length, arith, ap}
 use Rattle.std.proofs.Common.{length-append}
 use Rattle.cm_class.specs.declared.class_file.Attribute.{Attribute}

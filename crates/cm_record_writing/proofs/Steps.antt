@@ -1,4 +1,5 @@
 -- Words that are added piece by piece.
+-- For `push_attributes_and_runs`, `push_member_attributes`, `push_pool_and_members`.
 use Rattle.std.proofs.Common.{◌≡◌, ◌+◌, ◌*◌, ℕ, List, [], ◌∷◌, ◌++◌, length, sym, ◌∙◌, ap, arith}
 use Rattle.std.proofs.Common.{append_assoc, length-append}
 use Rattle.cm_class.specs.declared.class_file.Attribute.{Attribute}

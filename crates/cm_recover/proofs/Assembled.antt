@@ -1,4 +1,5 @@
 -- A file in memory, put together out of what was found and the records that were read.
+-- For `read_standing`.
 use Rattle.std.proofs.Common.{◌≡◌, ℕ, List, [], Ok, length, ◌∙◌}
 use Rattle.std.specs.Arc.{arc_value}
 use Rattle.cm_pool.specs.Geometry.{Sizes}

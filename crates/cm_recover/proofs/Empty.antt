@@ -1,4 +1,5 @@
 -- A new file stands for the empty cache, and its gate makes it one.
+-- For `NewFile::new`, `NewFile::store`, `NewFile::write_gate` and others.
 use Rattle.std.proofs.Common.{◌≡◌, ℕ, zero, suc, ◌+◌, ◌-◌, ◌<◌, List, [], ◌∷◌, ◌++◌}
 use Rattle.std.proofs.Common.{length, get_or, refl, sym, ap, subst, ◌∙◌, arith, inl, inr}
 use Rattle.std.proofs.Common.{append_assoc}

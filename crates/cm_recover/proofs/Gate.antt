@@ -1,4 +1,5 @@
 -- The gate of a new file is written.
+-- For `NewFile::write_gate`.
 use Rattle.std.proofs.Common.{◌≡◌, ℕ, List, [], ◌∷◌, arith, inl, sym, subst}
 use Rattle.std.specs.Prelude.{Result, Ok, Err, OnOk}
 use Rattle.cm_pool.specs.Geometry.{Sizes, IsGeometry}

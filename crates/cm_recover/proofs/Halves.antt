@@ -1,4 +1,5 @@
 -- What is found in a file is what is found in its halves, read one after the other.
+-- For `read_found`, `read_sizes`.
 use Rattle.std.proofs.Common.{◌≡◌, ℕ, ◌+◌, ◌*◌, ◌<◌, ◌≤◌, List, length, take, Ok, Err}
 use Rattle.std.proofs.Common.{refl, sym, ap}
 use Rattle.std.proofs.Common.{subst, ◌∙◌, arith}

@@ -1,4 +1,5 @@
 -- What a file stands for has what the accepted cache and its committer are made of.
+-- For `open` and others.
 use Rattle.std.proofs.Common.{◌≡◌, ℕ, ◌+◌, ◌*◌, ◌^◌, ◌≤◌, Bool, true, false, cond, List, [], ◌∷◌}
 use Rattle.std.proofs.Common.{◌++◌, length, drop, Option, Some, None, Ok, refl, sym, ap, subst, ◌∙◌}
 use Rattle.std.proofs.Common.{arith, eqb}

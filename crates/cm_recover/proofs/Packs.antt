@@ -1,4 +1,5 @@
 -- Bytes as words, eight by eight.
+-- For `pack`.
 use Rattle.std.proofs.Common.{◌≡◌, ℕ, suc, ◌+◌, ◌/◌, ◌<◌, List, [], ◌∷◌, ◌++◌, length, drop}
 use Rattle.std.proofs.Common.{sym, ap, ◌∙◌, arith, append_assoc, append-nil}
 use Rattle.cm_record_layout.specs.Packing.{packed_into, word_from}

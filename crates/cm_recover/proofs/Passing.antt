@@ -1,4 +1,5 @@
 -- The second pass, row by row: what is still to be taken comes to what all rows do.
+-- For `SecondPass::take_all`, `SecondPass::take_class`, `SecondPass::take_row`.
 use Rattle.std.proofs.Common.{◌≡◌, ℕ, Bool, true, false, cond, List, [], ◌∷◌, ◌++◌, length}
 use Rattle.std.proofs.Common.{Option, Some, None, Ok, Err, refl, sym, ap, subst, ◌∙◌, eqb}
 use Rattle.std.proofs.Common.{is_some, is_none}

@@ -1,4 +1,5 @@
 -- Runs of reads, one behind the other, where the last one's fault is told.
+-- For `SecondPass::take_all`, `read_found`, `read_standing`.
 use Rattle.std.proofs.Common.{◌≡◌, ℕ, List, Ok, Err, inr, ◌⊎◌}
 use Rattle.std.specs.Prelude.{Result}
 use Rattle.cm_disk.specs.Disk.{Unsynced}

@@ -1,4 +1,5 @@
 -- What a crash may leave of a file until all but its gate is stored, and what it passes through.
+-- For `NewFile::open`, `NewFile::store`, `format`.
 use Rattle.std.proofs.Common.{◌≡◌, ◌≤◌, ℕ, zero, suc, Bool, List, refl, ap, subst, inl, inr, arith}
 use Rattle.std.specs.Prelude.{max, Result, Ok, Err, IsErr, is_ok}
 use Rattle.cm_pool.specs.Geometry.{Sizes}

@@ -1,4 +1,5 @@
 -- The verdict, step by step, and what is answered of it.
+-- For `SecondPass::take_all`, `SecondPass::take_class`, `read_standing` and others.
 use Rattle.std.proofs.Common.{◌≡◌, ◌⊎◌, ℕ, List, [], Ok, Err, ap, subst, sym, ◌∙◌, inl, inr}
 use Rattle.std.specs.Prelude.{Result, IsErrAnd}
 use Rattle.cm_class.specs.declared.class_file.ClassFile.{ClassFile}

@@ -1,4 +1,5 @@
 -- A book stays one: with a loader more, a class more, without a loader, and with a chunk moved.
+-- For `Book+unit::copy_from`, `Book::add_loader`, `Book::define` and others.
 use Rattle.std.proofs.Common.{◌≡◌, ◌≢◌, ℕ, ◌+◌, ◌<◌, ◌≤◌, ◌⊎◌, Bool, true, false, cond, eqb, List}
 use Rattle.std.proofs.Common.{[], ◌∷◌, ◌++◌, length, get_or, set, Option, Some, None, inl, inr, sym}
 use Rattle.std.proofs.Common.{◌∙◌, ap, subst, arith, length-append, append-nil}

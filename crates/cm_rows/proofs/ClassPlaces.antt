@@ -1,4 +1,5 @@
 -- What the place of a class says of the rules on its row.
+-- For `Book::define`.
 use Rattle.std.proofs.Common.{◌≡◌, ◌⊎◌, ℕ, Bool, true, false, List, length, Some, None, inl, inr}
 use Rattle.std.proofs.Common.{arith}
 use Rattle.cm_pool.specs.Geometry.{Sizes}

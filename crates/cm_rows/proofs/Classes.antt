@@ -1,5 +1,6 @@
 -- Rows of classes: what joining, leaving out and moving does to a loader's last chunk and to used
 -- words.
+-- For `Book+unit::copy_from`, `Book::add_loader`, `Book::clear` and others.
 use Rattle.std.proofs.Common.{◌≡◌, ◌≢◌, ℕ, ◌+◌, ◌≤◌, Bool, true, false, cond, eqb, List, [], ◌∷◌}
 use Rattle.std.proofs.Common.{◌++◌, map, Option, Some, None, inl, inr, refl, sym, ◌∙◌, ap, arith}
 use Rattle.std.specs.Prelude.{filter, sum}

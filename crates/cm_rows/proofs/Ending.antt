@@ -1,4 +1,5 @@
 -- A living row ends, and its chunk is given back where it is the first record there.
+-- For `end_row`, `unload_rows`.
 use Rattle.std.proofs.Common.{◌≡◌, ℕ, zero, suc, ◌+◌, ◌<◌, Bool, true, false, cond, List, [], ◌∷◌}
 use Rattle.std.proofs.Common.{◌++◌}
 use Rattle.std.proofs.Common.{length, set, get_or, Some, None, refl, sym, ◌∙◌, ap, subst, arith}

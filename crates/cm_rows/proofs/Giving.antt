@@ -1,4 +1,5 @@
 -- Rows gone over one by one: their chunks are given back, and taken.
+-- For `copy_rows`, `give_all`, `take_all`.
 use Rattle.std.proofs.Common.{◌≡◌, ℕ, ◌+◌, ◌<◌, Bool, true, false, cond, eqb}
 use Rattle.std.proofs.Common.{List, [], ◌∷◌, ◌++◌, map, length, take, drop, get_or, Some, None}
 use Rattle.std.proofs.Common.{refl, sym, ◌∙◌, ap, subst, append-nil, inl, inr}

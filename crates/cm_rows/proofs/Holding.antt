@@ -1,5 +1,6 @@
 -- A pool with all roots that holds the chunks of rows: taking one more, giving one back, and one
 -- for another.
+-- For `Book+unit::copy_from`, `Book::add_loader`, `Book::clear` and others.
 use Rattle.std.proofs.Common.{◌≡◌, ◌≢◌, ℕ, ◌↔◌, List, [], ◌∷◌, ◌++◌, map, inl, inr, refl, sym, ◌∙◌}
 use Rattle.std.proofs.Common.{ap, subst, arith, append_assoc, append-nil}
 use Rattle.std.specs.List.{AllByRecursion}

@@ -1,5 +1,6 @@
 -- Loaders that keep their places: what lives of them, where one stands among those, and what stays
 -- once the last ones that live no more are taken out.
+-- For `Book+unit::copy_from`, `Book::add_loader`, `Book::define` and others.
 use Rattle.std.proofs.Common.{◌≡◌, ◌≢◌, ℕ, zero, suc, ◌+◌, ◌<◌, ◌≤◌, ◌⊎◌, Bool, true, false, cond}
 use Rattle.std.proofs.Common.{List, [], ◌∷◌, ◌++◌, length, take, drop, get_or, set, Option, None}
 use Rattle.std.proofs.Common.{Result, Ok, Err, IfSome, inl, inr, refl, sym, ◌∙◌, ap, subst, arith}

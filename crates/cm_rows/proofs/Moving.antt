@@ -1,4 +1,5 @@
 -- A loader's rows are gone over from the last one on, and those on one chunk are put on another.
+-- For `Book::relocate`, `move_rows`.
 use Rattle.std.proofs.Common.{◌≡◌, ℕ, zero, suc, ◌+◌, ◌≤◌, Bool, true, false, cond, List, [], ◌∷◌}
 use Rattle.std.proofs.Common.{◌++◌, map, length, take, drop, set, get_or, Option, Some, None, refl}
 use Rattle.std.proofs.Common.{sym, ◌∙◌, ap, ap₂, subst, arith, take-append-drop, inl, inr}

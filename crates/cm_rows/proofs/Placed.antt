@@ -1,4 +1,5 @@
 -- A book's places, with a class more, a loader more, without a loader, and with a chunk moved.
+-- For `Book+unit::copy_from`, `Book::add_loader`, `Book::define` and others.
 use Rattle.std.proofs.Common.{◌≡◌, ℕ, ◌+◌, ◌*◌, ◌<◌, ◌≤◌, true, false, List, [], ◌∷◌, ◌++◌, map}
 use Rattle.std.proofs.Common.{length, take, get_or, set, Option, Some, None, refl, sym, ◌∙◌, ap}
 use Rattle.std.proofs.Common.{subst, arith, length-append, length-set, length-take, vec_capacity}

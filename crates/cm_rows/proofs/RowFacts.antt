@@ -1,4 +1,5 @@
 -- Rows: their classes and loaders after each change, and how many slots they take.
+-- For `Book::relocate`.
 use Rattle.std.proofs.Common.{◌≡◌, ℕ, ◌≤◌, Bool, true, false, cond, eqb, List, [], ◌∷◌, ◌++◌, map}
 use Rattle.std.proofs.Common.{length, Some, is_some, inl, inr, refl, sym, ap, arith}
 use Rattle.std.specs.Prelude.{not, filter}

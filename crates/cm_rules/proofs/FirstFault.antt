@@ -1,4 +1,5 @@
 -- The first fault is the least one.
+-- For `fault_is_the_first`.
 use Rattle.std.proofs.Common.{◌≡◌, Bool, true, false, not, cond, List, [], ◌∷◌, ◌++◌, Option, Some}
 use Rattle.std.proofs.Common.{None, refl, ap, subst}
 use Rattle.std.specs.Prelude.{find}

@@ -1,4 +1,5 @@
 -- A class whose parts keep all rules has no fault.
+-- For `keeps_rules`.
 use Rattle.std.proofs.Common.{◌≡◌, ℕ, ◌+◌, Bool, true, false, cond, List, [], ◌∷◌, Some, None, refl}
 use Rattle.std.proofs.Common.{◌∙◌}
 use Rattle.std.specs.Prelude.{◌&&◌}

@@ -1,4 +1,5 @@
 -- At most one answer is so of bytes.
+-- For `read_class`.
 use Rattle.std.proofs.Common.{◌≡◌, ◌⊎◌, inl, inr, ⊎_elim, ℕ, List, Some, None, Result, Ok, Err}
 use Rattle.std.proofs.Common.{refl, sym, ap, ◌∙◌}
 use Rattle.cm_class.specs.declared.class_file.ClassFile.{ClassFile}

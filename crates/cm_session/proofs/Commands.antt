@@ -1,4 +1,5 @@
 -- A command that is accepted or refused.
+-- For `Session::accept`, `Session::find`, `look_at`.
 use Rattle.std.proofs.Common.{◌≡◌, ℕ, ◌≤◌, Bool, true, false, List, ◌++◌, Option, Result, Ok, Err}
 use Rattle.std.proofs.Common.{inl, inr, refl, length, sym, ap, subst, ◌∙◌}
 use Rattle.std.specs.Prelude.{◌⊎◌}

@@ -1,4 +1,5 @@
 -- A file is opened that stands for some of the machine's commands.
+-- For `open`.
 use Rattle.std.proofs.Common.{◌≡◌, ℕ, ◌-◌, ◌≤◌, List, [], ◌∷◌, take, drop, refl}
 use Rattle.std.proofs.Common.{sym, ap, subst}
 use Rattle.std.proofs.Common.{◌∙◌, arith, Result, Ok, Err, false, map}

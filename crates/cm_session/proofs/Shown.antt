@@ -1,4 +1,5 @@
 -- What a crash may leave of a session's disk.
+-- For `Session::advance`, `Session::images` and others.
 use Rattle.std.proofs.Common.{◌≡◌, ℕ, ◌+◌, ◌≤◌, List, [], ◌∷◌, ◌++◌, length, map, inl, inr, refl}
 use Rattle.std.proofs.Common.{Bool, Option, Some, None, sym, ap, subst, ◌∙◌, arith, append_assoc}
 use Rattle.std.specs.Prelude.{◌⊎◌}

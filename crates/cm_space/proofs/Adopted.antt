@@ -1,4 +1,5 @@
 -- A place that is taken over, and what it leaves to others.
+-- For `Space::adopt`, `adopt_front`, `adopt_place`.
 use Rattle.std.proofs.Common.{◌≡◌, ℕ, suc, ◌+◌, ◌-◌, ◌≤◌, ◌<◌, Bool, true, false, cond, eqb, List}
 use Rattle.std.proofs.Common.{[], ◌∷◌, ◌++◌, refl, sym, ap, ◌∙◌, subst, inl, inr, arith}
 use Rattle.std.proofs.Common.{append_assoc, IsTrue, ◌↔◌, Result, Ok, Err, IfOk, MatchResult}

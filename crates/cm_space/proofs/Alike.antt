@@ -1,4 +1,5 @@
 -- Lists of chunks that are held alike, as the order in which chunks stand makes no difference.
+-- For `Space::add_loader`, `Space::adopt`, `Space::chunks` and others.
 use Rattle.std.proofs.Common.{◌≡◌, List, ◌++◌, sym, subst, inl, inr, append_assoc}
 use Rattle.cm_pool.specs.declared.chunk.Chunk.{Chunk}
 use Rattle.cm_pool.specs.Chunks.{Meets}

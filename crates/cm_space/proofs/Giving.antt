@@ -1,4 +1,5 @@
 -- Chunks that are made free, and the others stay held.
+-- For `free_due`, `give_all`.
 use Rattle.std.proofs.Common.{◌≡◌, ℕ, ◌<◌, ◌≤◌, Bool, true, false, cond, List, [], ◌∷◌, ◌++◌, refl}
 use Rattle.std.proofs.Common.{sym, ap, ◌∙◌, ◌+◌, subst, append_assoc, arith, length, drop, get_or}
 use Rattle.std.proofs.Common.{◌↔◌}

@@ -1,4 +1,5 @@
 -- Which words are free once a number is learnt.
+-- On `LearningFreesDue`.
 use Rattle.std.proofs.Common.{◌≡◌, ℕ, ◌≤◌, Bool, true, false, cond, List, [], ◌∷◌, ◌++◌, refl, sym}
 use Rattle.std.proofs.Common.{ap, ◌∙◌, subst, inl, inr, ◌⊎◌, ◌↔◌}
 use Rattle.std.specs.Prelude.{nat_le}

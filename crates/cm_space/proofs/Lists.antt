@@ -1,4 +1,5 @@
 -- Facts on lists: what holds of all elements, pair by pair, and which stand in a list.
+-- For `Space::add_loader`, `Space::adopt`, `Space::chunks` and others.
 use Rattle.std.proofs.Common.{◌≡◌, List, [], ◌∷◌, ◌++◌, sym, subst, inl, inr, ◌⊎◌, ◌∙◌}
 use Rattle.std.specs.List.{AllByRecursion}
 use Rattle.cm_pool.specs.Lists.{Pairwise, Among}

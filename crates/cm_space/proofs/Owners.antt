@@ -1,4 +1,5 @@
 -- Who has which chunk, from the lists of chunks.
+-- On `Waits`, `waiting_chunks`, `SpaceState`.
 use Rattle.std.proofs.Common.{◌≡◌, ℕ, Bool, true, false, cond, not, T, List, [], ◌∷◌, ◌++◌}
 use Rattle.std.proofs.Common.{Some, None, refl, sym, ap, ◌∙◌, subst, inl, inr}
 use Rattle.std.specs.Prelude.{unwrap_or}

@@ -1,4 +1,5 @@
 -- Pools with roots more, and chunks that are taken out of them.
+-- For `add_roots`, `adopt_place`, `roots_reach_what_is_adopted`.
 use Rattle.std.proofs.Common.{◌≡◌, ℕ, zero, suc, ◌+◌, ◌-◌, ◌≤◌, ◌<◌, Bool, true, cond, List}
 use Rattle.std.proofs.Common.{refl, sym, ap, ◌∙◌, subst, inl, inr, arith}
 use Rattle.cm_pool.specs.declared.chunk.Chunk.{Chunk}

@@ -1,4 +1,5 @@
 -- What is true of each space stays true with each change.
+-- For `Space::add_loader`, `Space::adopt`, `Space::learn` and others.
 use Rattle.std.proofs.Common.{◌≡◌, ℕ, ◌≤◌, List, [], ◌∷◌, ◌++◌, Some, None, refl, sym, ap, ◌∙◌}
 use Rattle.std.proofs.Common.{subst, append-nil, length, arith}
 use Rattle.std.specs.List.{AllByRecursion}

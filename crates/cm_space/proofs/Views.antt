@@ -1,4 +1,5 @@
 -- What the calls of the map of arenas make of a space.
+-- For `Space::add_loader`, `Space::adopt`, `Space::chunks` and others.
 use Rattle.std.proofs.Common.{◌≡◌, ℕ, List, [], ◌∷◌, ◌++◌, Option, Some, None, refl, sym, ap, ◌∙◌}
 use Rattle.std.proofs.Common.{subst, IsSome}
 use Rattle.std.specs.Prelude.{unwrap_or, option_map}

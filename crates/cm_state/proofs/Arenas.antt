@@ -1,4 +1,5 @@
 -- Arenas by loaders' names: their chunks share no word, and each record lies in its loader's.
+-- For `arenas_are_apart`.
 use Rattle.std.proofs.Common.{◌≡◌, ℕ, ◌+◌, ◌≤◌, Bool, true, false, cond, List, [], ◌∷◌, ◌++◌}
 use Rattle.std.proofs.Common.{map, Option, Some, None, inl, inr, refl, sym, ap, subst, ◌∙◌, arith}
 use Rattle.std.proofs.Common.{append_assoc, append-nil, eqb, is_some}

@@ -1,5 +1,6 @@
 -- Loaders and classes that differ: what is found by one is found by the other, and they differ on
 -- after an entry.
+-- For `arenas_are_apart`, `entries_are_steps`, `rows_tell_state`.
 use Rattle.std.proofs.Common.{◌≡◌, ℕ, Bool, true, false, cond, List, [], ◌∷◌, ◌++◌, Option, Some}
 use Rattle.std.proofs.Common.{None, inl, inr, refl, sym, ap, subst, ◌∙◌, eqb, is_some, append_assoc}
 use Rattle.std.proofs.Common.{append-nil}

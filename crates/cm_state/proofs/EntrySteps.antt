@@ -1,4 +1,5 @@
 -- An entry that may follow is a step of the cache.
+-- For `entries_are_steps`, `rows_tell_state` and others.
 use Rattle.std.proofs.Common.{◌≡◌, ℕ, ◌+◌, ◌^◌, ◌<◌, ◌≤◌, Bool, true, false, cond, List, [], ◌∷◌}
 use Rattle.std.proofs.Common.{◌++◌, Option, Some, None, Ok, refl, sym, ap, subst, ◌∙◌, arith, eqb}
 use Rattle.std.proofs.Common.{is_some, is_none, append-nil, append_assoc, length, inl, inr}

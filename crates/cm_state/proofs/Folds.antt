@@ -1,4 +1,5 @@
 -- Changes one after another: those behind others go on from where the others came to.
+-- For `changes_go_on`.
 use Rattle.std.proofs.Common.{◌≡◌, ℕ, ◌+◌, List, [], ◌∷◌, ◌++◌, length, Option, Some, None, Result}
 use Rattle.std.proofs.Common.{Ok, Err, refl, ap, arith}
 use Rattle.std.specs.Option.{option_and_then}

@@ -1,4 +1,5 @@
 -- Finite maps from names.
+-- For `arenas_are_apart`, `entries_are_steps`, `rows_tell_state` and others.
 use Rattle.std.proofs.Common.{◌≡◌, ℕ, cond, List}
 use Rattle.std.proofs.Common.{Some, None, ap, ◌∙◌}
 use Rattle.std.specs.Str.{bytes_eq}

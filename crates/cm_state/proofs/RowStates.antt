@@ -1,4 +1,5 @@
 -- What the state of rows holds, and how it changes with the rows.
+-- For `rows_tell_state` and others.
 use Rattle.std.proofs.Common.{◌≡◌, ℕ, Bool, true, false, cond, List, [], ◌∷◌, ◌++◌}
 use Rattle.std.proofs.Common.{Option, Some, None, inl, inr, refl, sym, ap, subst, ◌∙◌, eqb, is_some}
 use Rattle.std.specs.Prelude.{◌&&◌, not, unwrap_or}

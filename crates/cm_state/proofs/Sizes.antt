@@ -1,4 +1,5 @@
 -- The size of a state, as it grows.
+-- For `entries_are_steps`, `rows_tell_state`.
 use Rattle.std.proofs.Common.{◌≡◌, ℕ, suc, ◌+◌, Bool, true, false, cond, List, [], ◌∷◌, length}
 use Rattle.std.proofs.Common.{Option, Some, None, refl, ap, ◌∙◌, arith, is_some}
 use Rattle.std.specs.Prelude.{T, ◌&&◌}

@@ -1,4 +1,5 @@
 -- Four bytes of a length, there and back.
+-- For `classes_in`, `split`.
 use Rattle.std.proofs.Common.{◌≡◌, ℕ, ◌+◌, ◌^◌, ◌<◌, ◌≤◌, Bool, true, false, cond, ltb, List, ◌++◌}
 use Rattle.std.proofs.Common.{length, get_or, take, drop, Some, None, refl, sym, ap, arith, inl}
 use Rattle.std.proofs.Common.{inr}

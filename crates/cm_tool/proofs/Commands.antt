@@ -1,4 +1,5 @@
 -- From what a session answers to a command to what is replied.
+-- For `add_loader`, `answer`, `define` and others.
 use Rattle.std.proofs.Common.{◌≡◌, ◌≤◌, ◌⊎◌, ℕ, Bool, true, false, List, length, Option, Some, None}
 use Rattle.std.proofs.Common.{Result, Ok, Err, IfOk, OnOk, inl, inr, refl, sym, ap, subst, ◌∙◌}
 use Rattle.hex.specs.Hex.{decode_of}

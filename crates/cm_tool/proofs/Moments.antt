@@ -1,4 +1,5 @@
 -- What a crash leaves on the way through a line.
+-- For `answer`, `define`, `define_bytes` and others.
 use Rattle.std.proofs.Common.{◌≡◌, ◌≤◌, ◌⊎◌, ℕ, Bool, true, List, Result, Ok, Err, inl, inr, refl}
 use Rattle.std.proofs.Common.{sym, ◌∙◌, ap, subst, arith}
 use Rattle.cm_class.specs.declared.class_file.ClassFile.{ClassFile}

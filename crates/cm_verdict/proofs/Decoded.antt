@@ -1,4 +1,5 @@
 -- What is read from a slot is what was written there, and nothing else is read.
+-- For `entry_in`, `group_head_in`, `half_head_in` and others.
 use Rattle.std.proofs.Common.{◌≡◌, ℕ, ◌-◌, ◌<◌, ◌≤◌, ◌^◌, Bool, true, false, cond, List}
 use Rattle.std.proofs.Common.{length, take, drop, replicate, Option, Some, None, refl, sym, ap}
 use Rattle.std.proofs.Common.{subst, ◌∙◌, arith, length-take}

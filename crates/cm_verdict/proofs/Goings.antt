@@ -1,4 +1,5 @@
 -- The walk, one slot after another.
+-- For `HalfWalk::walk_all`.
 use Rattle.std.proofs.Common.{◌≡◌, ℕ, suc, ◌+◌, ◌-◌, ◌<◌, ◌≤◌, List, Ok, Err, sym, ap, ◌∙◌, arith}
 use Rattle.std.specs.Prelude.{Result}
 use Rattle.cm_pool.specs.Geometry.{Sizes}

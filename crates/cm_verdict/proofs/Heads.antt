@@ -1,4 +1,5 @@
 -- Which half counts: the open one of greater epoch, whose head is good.
+-- For `counting_half`.
 use Rattle.std.proofs.Common.{sym}
 use Rattle.std.proofs.Common.{◌≡◌, ◌≢◌, ℕ, ◌+◌, ◌≤◌, ◌^◌, Bool, true, false, cond}
 use Rattle.std.proofs.Common.{List, Option, Some, None, Ok, Err, refl, ap, subst, ◌∙◌, arith}

@@ -1,4 +1,5 @@
 -- Where a class was defined has no part in the rules, nor in what an entry makes of rows.
+-- For `found_is_framed`, `found_is_live` and others.
 use Rattle.std.proofs.Common.{◌≡◌, ℕ, List, [], ◌∷◌, ◌++◌, refl, sym, ap, ◌∙◌}
 use Rattle.cm_pool.specs.Geometry.{Sizes}
 use Rattle.cm_layout.specs.declared.row.Row.{Row}

@@ -1,5 +1,6 @@
 -- The second pass: each class that lives has a record of a class that keeps the rules, under a name
 -- that is new in its loader.
+-- For `are_kept`, `read_record`, `verdict_is_exact` and others.
 use Rattle.std.proofs.Common.{◌≡◌, ℕ, ◌+◌, ◌<◌, ◌≤◌, ◌^◌, Bool, true, false, cond, List, [], ◌∷◌}
 use Rattle.std.proofs.Common.{◌++◌, length, get_or, Option, Some, None, Ok, Err, refl, sym, ap}
 use Rattle.std.proofs.Common.{subst, ◌∙◌, arith, is_none, append_assoc, append-nil}

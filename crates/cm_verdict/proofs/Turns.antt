@@ -1,4 +1,5 @@
 -- One slot: where the walk stops, and how it goes on, both ways.
+-- For `HalfWalk::walk_all`.
 use Rattle.std.proofs.Common.{◌≡◌, ◌≢◌, ℕ, ◌+◌, ◌-◌, ◌≤◌, ◌^◌, Bool, true, false, cond, List, ◌++◌}
 use Rattle.std.proofs.Common.{◌∷◌, [], Option, Some, None, refl, sym, ap, ◌∙◌, arith}
 use Rattle.std.specs.Prelude.{◌&&◌, nat_le, ◌==◌}

@@ -1,4 +1,5 @@
 -- The layout of a block of places, as an allocator is asked for it.
+-- For `Cells::slice`, `allocate`, `deallocate`.
 use mathlib.Core.Path.{◌≡◌, sym, ap, ◌∙◌}
 use Prim.Native.Nat.{ℕ, zero, suc, ◌*◌, ◌<◌, ◌^◌}
 use native.Mathlib.Nat.{zero-mul, suc-mul}

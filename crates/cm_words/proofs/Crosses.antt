@@ -1,4 +1,5 @@
 -- The parts of a buffer may cross threads as its items and its allocator may.
+-- For `Cells` and `Deed`.
 use Rattle.std.specs.Prelude.{ℕ, ◌+◌, List, [], ◌∷◌, Option, Some, None}
 use Rattle.std.specs.Mem.{type_size}
 use base.Fraction.{full_share}

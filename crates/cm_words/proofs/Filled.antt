@@ -1,4 +1,5 @@
 -- Places that begin with values.
+-- For `Cells::write_all`, `WordBuf::as_slice`, `WordBuf::drop` and others.
 use Rattle.std.proofs.Common.{◌≡◌, ℕ, zero, suc, ◌+◌, ◌-◌, ◌<◌, ◌≤◌, List, [], ◌∷◌, ◌++◌, map}
 use Rattle.std.proofs.Common.{length, take, drop, set, get_or, replicate, Option, Some, None, refl}
 use Rattle.std.proofs.Common.{sym, ap, ◌∙◌, arith, length-append, append_assoc, append-nil, take_at}

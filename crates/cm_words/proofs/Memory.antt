@@ -1,6 +1,7 @@
 -- What the walks over the block share: how a value of one pointer, and one of no bytes, is had and
 -- made, how one place or a run of places is taken out of the row of places, put back, or seen, and
 -- how room for an array is a row of empty places. Assumes `Logic`.
+-- For `Cells::slice`, `Cells::write`, `allocate`, `deallocate`.
 use mathlib.Core.Path.{◌≡◌, refl, sym, ap, subst, ◌∙◌}
 use Prim.Native.Nat.{ℕ, zero, suc, ◌+◌, ◌*◌, ◌<◌, ◌≤◌}
 use native.Mathlib.Omega.{arith}

@@ -1,4 +1,5 @@
 -- A run with one event more.
+-- For `World::run`, `World::step`.
 use Rattle.std.proofs.Common.{◌≡◌, List, [], ◌∷◌, ◌++◌, map, length, refl, sym, ap, subst, ◌∙◌}
 use Rattle.std.proofs.lemmas.List.{map-append, length-map}
 use Rattle.cm_pool.specs.Geometry.{Sizes}

@@ -1,4 +1,5 @@
 -- What a crash leaves where an event touches nothing.
+-- For `World::arm`, `World::reopen`.
 use Rattle.std.proofs.Common.{◌≡◌, ℕ, List, Option, inl, refl, sym, subst, arith}
 use Rattle.cm_disk.specs.declared.sim.SimDisk.{SimDisk}
 use Rattle.cm_disk.specs.Disk.{IsImage}

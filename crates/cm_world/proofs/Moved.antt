@@ -1,4 +1,5 @@
 -- An event that leaves the file open.
+-- For `World::accept`, `World::advance`, `World::arm` and others.
 use Rattle.std.proofs.Common.{◌≡◌, ap, subst}
 use Rattle.cm_pool.specs.Geometry.{Sizes}
 use Rattle.cm_disk.specs.declared.sim.SimDisk.{SimDisk}

@@ -1,4 +1,5 @@
 -- A file that is opened.
+-- For `World::crash`, `World::new`, `World::reopen`.
 use Rattle.std.proofs.Common.{◌≡◌, ℕ, List, [], Result, Ok, Err, refl, sym, ap, subst, ◌∙◌, arith}
 use Rattle.std.proofs.Common.{false}
 use Rattle.std.specs.Prelude.{IfOk, ◌↔◌}

@@ -1,4 +1,5 @@
 -- What a reply tells of the calls of the disk.
+-- For `replies_tell_of_calls`.
 use Rattle.std.proofs.Common.{◌≡◌, ◌+◌, ℕ, List, Bool, true, false, Option, Some, None}
 use Rattle.std.proofs.Common.{Result, Ok, Err, refl, ap, ◌∙◌, arith}
 use Rattle.std.specs.Prelude.{◌||◌, not, is_some}
