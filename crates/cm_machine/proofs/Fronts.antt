@@ -224,7 +224,7 @@ module _ (known : Known) (steps : EntriesAreSteps ClassFile) (on : ChangesGoOn) 
         (change ∷ []) follows.make last_makes;
   }
 
-  is_accepted : IsAccepted k rows number out s new asked n
+  is_accepted : IsAccepted k (record { rows = rows; number = number; out = out }) s new asked n
   is_accepted = record {
     whole = running;
     change = change;

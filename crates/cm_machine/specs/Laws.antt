@@ -25,15 +25,21 @@ FollowsFront k rows number out s = Follows s.sizes k rows number (map filled (pe
 
 -- ---- commands
 
+-- committed rows with their number, and what was handed out behind them
+pub record Behind : Type 0 where
+  pub rows : List (Row (List ℕ))
+  pub number : ℕ
+  pub out : List Carried
+
 -- A command that is accepted is one of the machine's more.
-pub record IsAccepted (k : Machine) (rows : List (Row (List ℕ))) (number : ℕ) (out : List Carried)
-    (s new : FrontState) (asked : Change (List ℕ)) (n : ℕ) : Type 0 where
+pub record IsAccepted (k : Machine) (behind : Behind) (s new : FrontState)
+    (asked : Change (List ℕ)) (n : ℕ) : Type 0 where
   pub whole : s.broken ≡ false
   pub change : Change ClassFile
   pub asks : Asks asked change
   pub next : Machine
   pub accepts : Accepts s.sizes k change n next
-  pub follows : FollowsFront next rows number out new
+  pub follows : FollowsFront next behind.rows behind.number behind.out new
 
 abbrev pub AcceptedIsMade : Type 0
 AcceptedIsMade =
@@ -41,7 +47,8 @@ AcceptedIsMade =
     (s new : FrontState) (asked : Change (List ℕ)) (change : Change ClassFile) (n : ℕ) → IsFront s
     → IsFront new
     → IsAhead rows number end out s → FollowsFront k rows number out s → Asks asked change
-    → Answers s asked (Ok n) new → IsAccepted k rows number out s new asked n
+    → Answers s asked (Ok n) new
+    → IsAccepted k (record { rows = rows; number = number; out = out }) s new asked n
 
 -- One that is refused is refused by the machine, or since the cache is broken or closed.
 abbrev pub RefusedIsRefused : Type 0

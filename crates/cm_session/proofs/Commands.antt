@@ -15,7 +15,8 @@ use Rattle.cm_front.specs.Accepting.{Answers as FrontAnswers}
 use Rattle.cm_commit.specs.States.{CommitterState}
 use Rattle.cm_machine.specs.Handover.{AcceptedIsAhead}
 use Rattle.cm_machine.specs.Machine.{Machine, Asks, Accepts, Refuses}
-use Rattle.cm_machine.specs.Laws.{AcceptedIsMade, RefusedIsRefused, IsAccepted, FoundIsThere, Finds}
+use Rattle.cm_machine.specs.Laws.{AcceptedIsMade, RefusedIsRefused, IsAccepted, FoundIsThere}
+use Rattle.cm_machine.specs.Laws.{Finds, Behind}
 use Rattle.cm_session.specs.Session.{of_underway, commands_of, IsSession}
 use Rattle.cm_session.specs.Moves.{Accepting, IsAsked}
 
@@ -63,7 +64,9 @@ module _ {D : Type 0} (made : AcceptedIsMade) (refused : RefusedIsRefused) (ahea
   was_accepted : (n : ℕ) → FrontAnswers front asked (Ok n) new
       → Accepting committer.sizes k asked (Ok n) Goes
   was_accepted n answer =
-      let m : IsAccepted k committer.rows committer.number out front new asked n =
+      let behind : Behind =
+      record { rows = committer.rows; number = committer.number; out = out } in
+      let m : IsAccepted k behind front new asked n =
       made k committer.rows committer.number committer.end out front new asked change n i.is is_new
       i.ahead i.follows asks answer in
       let same = answer.2.after in
