@@ -18,20 +18,6 @@ chunks-chain_of [] us h = refl
 chunks-chain_of (c ∷ cs) [] h = absurd (omega arith)
 chunks-chain_of (c ∷ cs) (n ∷ us) h = ap (λ ds. c ∷ ds) (chunks-chain_of cs us (omega arith))
 
-pub same_chunk-refl : (c : Chunk) → same_chunk c c ≡ true
-same_chunk-refl c =
-    rw (eq-eqb c.root c.root refl, eq-eqb c.order c.order refl, eq-eqb c.at c.at refl)
-
-pub same_chunk-eq : (a b : Chunk) → same_chunk a b ≡ true → a ≡ b
-same_chunk-eq a b h =
-    let first = and_parts (eqb a.root b.root) _ h in
-    let second = and_parts (eqb a.order b.order) _ first.1 in
-    λ i. record {
-      root = eqb-true a.root b.root first.0 i;
-      order = eqb-true a.order b.order second.0 i;
-      at = eqb-true a.at b.at second.1 i;
-    }
-
 -- the first chunk that is left, and the others
 pub used_of-drop : (cs : List Chunk) (us : List ℕ) (at : ℕ) (d c : Chunk) (e : ℕ)
     → length cs ≡ length us → at < length cs

@@ -1,3 +1,3 @@
-pub mod Fetching
-pub mod ChainFacts
-pub mod Places
+mod Fetching
+mod ChainFacts
+mod Places

@@ -7,11 +7,11 @@ use Rattle.cm_pool.specs.declared.chunk.Chunk.{Chunk}
 use Rattle.cm_pool.specs.FreeSpace.{FreeSpace, with_root}
 use Rattle.cm_pool.specs.Lists.{Among}
 use Rattle.cm_pool.specs.Held.{AreHeld, NoneIsLost}
-use Rattle.cm_pool.proofs.SpaceLaws.{taken_is_held, roots_keep_held, taking_loses_none}
-use Rattle.cm_pool.proofs.SpaceLaws.{roots_lose_none}
 use Rattle.cm_pool.specs.declared.place.Place.{Place}
 use Rattle.cm_arena.specs.Chains.{Filled, chunks_of, last_of, with_more, IsFilled}
 use Rattle.cm_pool.specs.Places.{IsInside}
+use Rattle.cm_pool.proofs.SpaceLaws.{taken_is_held, roots_keep_held, taking_loses_none}
+use Rattle.cm_pool.proofs.SpaceLaws.{roots_lose_none}
 use Rattle.cm_arena.specs.Placing.{Fetches, Places, order_wanted}
 use Rattle.cm_arena.proofs.Fetching.{fetched-small}
 

@@ -10,8 +10,7 @@ use Rattle.std.proofs.lemmas.List.{append-nil}
 use Rattle.std.proofs.lemmas.Nat.{be_bytes_2, be_bytes_4}
 use Rattle.cm_class.specs.Spelling.{u2, u4, IsU2, IsU4, AreBytes}
 use Rattle.cm_class.specs.declared.class_file.ClassFile.{ClassFile}
-use Rattle.cm_class.proofs.Fields.{AreBytes-at}
-use Rattle.cm_class.proofs.Readers.{AreBytes-rest}
+use Rattle.cm_class.proofs.{AreBytes-at, AreBytes-rest}
 use Rattle.cm_attributes.specs.declared.part.Part.{Part}
 use Rattle.cm_attributes.specs.Contents.{◌>>=◌, u2_of, u4_of, is_whole, passes, past_part}
 use Rattle.cm_attributes.specs.Contents.{past_parts, past_many, past_counted}

@@ -7,6 +7,7 @@ use Rattle.std.specs.Prelude.{if◌then◌else◌, nat_lt, nat_le, ◌&&◌, ◌
 use Rattle.std.specs.List.{flat_map}
 use Rattle.std.specs.Option.{option_map_or}
 use Rattle.std.proofs.lemmas.Bool.{eqb-true, ltb-true, ltb-false, lt-ltb, le-ltb, leb-true, le-leb}
+use Rattle.std.proofs.lemmas.Bool.{or_cases}
 use Rattle.std.proofs.lemmas.List.{append-nil, drop_at, take-append-drop, length-append}
 use Rattle.std.proofs.lemmas.List.{length-take}
 use Rattle.cm_class.specs.Spelling.{u2, u4, IsU2, IsU4, AreBytes}
@@ -46,10 +47,6 @@ all_four a b c d e f g h = rw (e, f, g, h) refl
 both_true : (a b : Bool) → (a && b) ≡ true → (a ≡ true) × (b ≡ true)
 both_true true b e = (refl, e)
 both_true false b e = absurd cc
-
-either : (a b : Bool) → (a || b) ≡ true → (a ≡ true) ⊎ (b ≡ true)
-either true b e = inl refl
-either false b e = inr e
 
 -- ---- bytes passed over
 
@@ -147,7 +144,7 @@ handler_again start end handler catch rest f g h k =
 module _ (c : ClassFile) where
   zero_or_class : (n : ℕ) → passes c (ZeroOr kinds.Class) n ≡ true → (n ≡ 0)
       ⊎ (names kinds.Class c n ≡ true)
-  zero_or_class n e = by_either (either (n == 0) (names kinds.Class c n) e)
+  zero_or_class n e = by_either (or_cases (n == 0) (names kinds.Class c n) e)
     where
       by_either : ((n == 0) ≡ true) ⊎ (names kinds.Class c n ≡ true) → (n ≡ 0)
           ⊎ (names kinds.Class c n ≡ true)

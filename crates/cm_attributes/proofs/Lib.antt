@@ -1,4 +1,4 @@
-pub mod Counted
-pub mod PartsInOrder
-pub mod Exact
-pub mod ExactContents
+mod Counted
+mod PartsInOrder
+mod Exact
+mod ExactContents

@@ -9,11 +9,10 @@ use Rattle.cm_layout.specs.declared.row.Row.{Row}
 use Rattle.cm_layout.specs.Rows.{bare}
 use Rattle.cm_guards.specs.Guards.{EachImage}
 use Rattle.cm_guards.specs.Calls.{LeavesOnly}
-use Rattle.cm_guards.proofs.Gated.{settled_images}
-use Rattle.cm_guards.proofs.Left.{leaves_more}
+use Rattle.cm_guards.proofs.{settled_images, leaves_more}
 use Rattle.cm_rows.specs.Rows.{LiveRows}
 use Rattle.cm_group.specs.Groups.{Handed, entries_in, slots_taken}
-use Rattle.cm_group.proofs.Joining.{enough}
+use Rattle.cm_group.proofs.{enough}
 use Rattle.cm_disk.specs.Calls.{HasCause}
 use Rattle.cm_commit.specs.Plans.{Stage, Store, Turn, Settle, after_call, calls_left}
 use Rattle.cm_commit.specs.Committed.{Committed, with_group}
@@ -34,8 +33,8 @@ use Rattle.cm_commit.proofs.Called.{call_leaves}
 use Rattle.std.specs.Prelude.{IfOk, nat_lt}
 use Rattle.std.specs.List.{list_all}
 use Rattle.cm_layout.specs.Rows.{rows_with, numbers_in}
+use Rattle.cm_layout.proofs.{numbers-bare}
 use Rattle.cm_rows.specs.Rows.{is_above}
-use Rattle.cm_state.proofs.Bare.{numbers-bare}
 use Rattle.cm_commit.proofs.With.{bare-with}
 use Rattle.cm_commit.specs.declared.journal.Journal.{Journal}
 use Rattle.cm_commit.specs.declared.step.CommitStep.{CommitStep}

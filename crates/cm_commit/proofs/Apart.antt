@@ -7,8 +7,8 @@ use Rattle.std.specs.Prelude.{◌&&◌, ◌||◌, nat_le, nat_lt, max}
 use Rattle.std.proofs.Math.Nat.{mul-le-mul, div-mul-le_self, le-div_iff_mul-le}
 use Rattle.std.proofs.lemmas.Nat.{pow_pos}
 use Rattle.std.proofs.Math.Pow.{pow_mono}
-use Rattle.std.proofs.lemmas.Bool.{leb-true}
-use Rattle.cm_words.proofs.WordBytes.{length-word_bytes}
+use Rattle.std.proofs.lemmas.Bool.{leb-true, and_parts, or_cases}
+use Rattle.cm_words.proofs.{length-word_bytes}
 use Rattle.cm_record_layout.specs.Packing.{word_bytes}
 use Rattle.cm_disk.specs.Disk.{is_among}
 use Rattle.cm_pool.specs.Geometry.{Sizes, IsGeometry}
@@ -18,15 +18,13 @@ use Rattle.cm_layout.specs.declared.row.Row.{Row}
 use Rattle.cm_layout.specs.declared.row.Row.TheVariants.{Loader, Class}
 use Rattle.cm_layout.specs.declared.entry.Entry.TheVariants as entry
 use Rattle.cm_layout.specs.Offsets.{half_size, half_at, roots_at, root_at, root_size, record_at}
-use Rattle.cm_layout.specs.Superblock.{blank}
 use Rattle.cm_layout.specs.Rows.{classes_in, bare, rows_after, used_words}
 use Rattle.cm_layout.specs.Rules.{broken_rule, is_unused, is_last_chunk}
 use Rattle.cm_layout.specs.Frames.{BareEntry}
 use Rattle.cm_layout.specs.Framing.{Framing, IsRight, guards, needs, used_size, other_half}
 use Rattle.cm_layout.specs.Framing.{older_size, record_ranges}
-use Rattle.cm_layout.proofs.Apart.{both, either}
-use Rattle.cm_layout.proofs.Superblocks.{length-blank}
-use Rattle.cm_state.proofs.Bare.{classes-bare}
+use Rattle.cm_layout.proofs.{length-blank, classes-bare}
+use Rattle.cm_layout.specs.Zeros.{blank}
 use Rattle.cm_guards.specs.Guards.{IsApart}
 use Rattle.cm_guards.specs.Plans.{CanWrite}
 use Rattle.cm_group.specs.Groups.{Carried, entries_in}
@@ -67,7 +65,7 @@ in_record sizes (Loader r ∷ rows) i h =
 in_record sizes (Class r words ∷ rows) i h =
     let at = record_at sizes r.place in
     let n = 8 * r.place.words in
-    elim (either (is_among at n i) (is_in (record_ranges sizes rows) i) h) [
+    elim (or_cases (is_among at n i) (is_in (record_ranges sizes rows) i) h) [
       | inl here ↦ record {
         row = r;
         among = inl refl;
@@ -101,7 +99,7 @@ guarded_where sizes f rows number i right h =
     let small = older_ends f.older in
     let at_end = end_size used (half_size sizes) right.fits in
     let records = record_ranges sizes rows in
-    elim (either (is_among 0 4096 i) (is_among here used i || (is_among (here + used) one i
+    elim (or_cases (is_among 0 4096 i) (is_among here used i || (is_among (here + used) one i
     || (is_among there older i || is_in records i))) h) [
       | inl front ↦
           let to = among-to 0 4096 i front in
@@ -109,7 +107,7 @@ guarded_where sizes f rows number i right h =
             below = omega (arith, to);
             apart = λ at n from upto at_i to_i. omega (arith, begins, to, from, at_i);
           })
-      | inr h1 ↦ elim (either (is_among here used i) (is_among (here + used) one i
+      | inr h1 ↦ elim (or_cases (is_among here used i) (is_among (here + used) one i
           || (is_among there older i || is_in records i)) h1) [
             | inl half ↦
                 let to = among-to here used i half in
@@ -117,7 +115,7 @@ guarded_where sizes f rows number i right h =
                   below = omega (arith, to, ends, right.fits);
                   apart = λ at n from upto at_i to_i. omega (arith, to, from, at_i);
                 })
-            | inr h2 ↦ elim (either (is_among (here + used) one i) (is_among there older i
+            | inr h2 ↦ elim (or_cases (is_among (here + used) one i) (is_among there older i
                 || is_in records i) h2) [
                   | inl end ↦
                       let to = among-to (here + used) one i end in
@@ -126,7 +124,7 @@ guarded_where sizes f rows number i right h =
                         apart = λ at n from upto at_i to_i. omega
                             (arith, to, one_byte (nat_lt used (half_size sizes)), from, at_i);
                       })
-                  | inr h3 ↦ elim (either (is_among there older i) (is_in records i) h3) [
+                  | inr h3 ↦ elim (or_cases (is_among there older i) (is_in records i) h3) [
                     | inl other ↦
                         let from_other = among-from there older i other in
                         let to_other = among-to there older i other in
@@ -186,10 +184,10 @@ committed_free c r h =
     let last = is_last_chunk r.loader r.place.chunk (bare c.rows) in
     let behind = nat_le (used_words r.place.chunk (bare c.rows)) r.place.offset in
     let same : (unused || (last && behind)) ≡ true = rw (classes-bare c.rows) h in
-    elim (either unused (last && behind) same) [
+    elim (or_cases unused (last && behind) same) [
       | inl free ↦ inl free
       | inr on_last ↦
-          let parts = both last behind on_last in
+          let parts = and_parts last behind on_last in
           inr (parts.0, leb-true (used_words r.place.chunk (bare c.rows)) r.place.offset parts.1)
     ]
 

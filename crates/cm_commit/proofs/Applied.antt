@@ -12,9 +12,9 @@ use Rattle.cm_layout.specs.Rows.{rows_after, rows_after_all}
 use Rattle.cm_layout.specs.Rules.{broken_rule}
 use Rattle.cm_layout.specs.Frames.{BareRow, BareEntry}
 use Rattle.cm_rows.specs.Rows.{LiveRows, is_above}
+use Rattle.cm_rows.proofs.{above_entry}
 use Rattle.cm_group.specs.Groups.{Carried, entries_in}
 use Rattle.cm_commit.specs.Keeping.{keep_rules, AreApplied}
-use Rattle.cm_commit.proofs.Above.{above_entry}
 
 pub none_yet : (old : LiveRows (Unit {0})) (first : ℕ) (carried : List Carried)
     → is_above first old.rows ≡ true → AreApplied old first carried old first 0

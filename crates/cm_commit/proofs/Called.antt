@@ -10,10 +10,9 @@ use Rattle.cm_guards.specs.Gates.{OneOf, Turns}
 use Rattle.cm_guards.specs.Plans.{Write}
 use Rattle.cm_guards.specs.Calls.{LeavesOnly}
 use Rattle.cm_guards.specs.Laws.{Stays}
-use Rattle.cm_guards.proofs.Gated.{settled_images, turned}
-use Rattle.cm_guards.proofs.Planned.{plan_goes_on, written_goes_on, overwritten_size}
-use Rattle.cm_guards.proofs.Steps.{write_leaves, gate_leaves, sync_leaves, stays_written}
-use Rattle.cm_guards.proofs.Steps.{stays_synced, gate_images, images_synced, stays_images}
+use Rattle.cm_guards.proofs.{settled_images, turned, plan_goes_on, written_goes_on}
+use Rattle.cm_guards.proofs.{overwritten_size, write_leaves, gate_leaves, sync_leaves}
+use Rattle.cm_guards.proofs.{stays_written, stays_synced, gate_images, images_synced, stays_images}
 use Rattle.cm_commit.specs.Plans.{Stage, Store, Turn, Settle, after_call}
 use Rattle.cm_commit.specs.States.{leaves}
 use Rattle.cm_commit.specs.Standing.{CallsOnce, TakesCall}

@@ -16,13 +16,11 @@ use Rattle.cm_layout.specs.Rows.{slots_of_entries}
 use Rattle.cm_layout.specs.Rules.{broken_rule}
 use Rattle.cm_layout.specs.Frames.{BareRow, BareEntry, LiveRowsKeep}
 use Rattle.cm_layout.specs.Framing.{Framing}
-use Rattle.cm_layout.proofs.Apart.{entry-apart}
-use Rattle.cm_layout.proofs.StayLive.{entry-live, live-append}
-use Rattle.cm_layout.proofs.OwnLoaders.{own_loaders}
+use Rattle.cm_layout.proofs.{entry-apart, entry-live, live-append, own_loaders}
 use Rattle.cm_rows.specs.Rows.{is_above}
 use Rattle.cm_state.specs.State.{words_show}
 use Rattle.cm_state.specs.Entries.{AreCacheRows}
-use Rattle.cm_state.proofs.EntrySteps.{entries_are_steps}
+use Rattle.cm_state.proofs.{entries_step}
 use Rattle.cm_group.specs.Groups.{Carried, Handed, IsGroup, CarriesRight, IsRightRecord, entries_in}
 use Rattle.cm_commit.specs.declared.journal.Journal.{Journal}
 use Rattle.cm_commit.specs.Plans.{Stage, Store, Turn, Settle, calls_left, after_call}
@@ -141,7 +139,7 @@ pub cache_after : (sizes : Sizes) (committed rows : List (Row (List ℕ))) (n : 
 cache_after sizes committed rows n [] cache joins le =
     subst (λ (m : ℕ). AreCacheRows words_show sizes m rows) (omega arith) cache
 cache_after sizes committed rows n (c ∷ carried) cache joins le =
-    let one = entries_are_steps
+    let one = entries_step
     (λ s r m e apart k fits h.
     (entry-apart s r (m + 1) e apart h, entry-live s r m e apart k fits h))
     (λ s m r row k fits h. live-append s m [] r row k fits h) own_loaders words_show sizes n rows

@@ -11,13 +11,13 @@ use Rattle.cm_layout.specs.declared.entry.Entry.TheVariants as entry
 use Rattle.cm_layout.specs.declared.entry_rule.EntryRule.{EntryRule}
 use Rattle.cm_layout.specs.Rows.{bare, rows_with, entry_with, rows_after}
 use Rattle.cm_layout.specs.Rules.{broken_rule}
-use Rattle.cm_layout.specs.Frames.{BareRow}
+use Rattle.cm_layout.specs.Frames.{BareRow, bare_entry}
+use Rattle.cm_layout.proofs.{after-bare, rule-bare}
 use Rattle.cm_rows.specs.Rows.{LiveRows, is_above}
-use Rattle.cm_state.proofs.Bare.{bare_entry, after-bare, rule-bare}
+use Rattle.cm_rows.proofs.{above_entry}
 use Rattle.cm_group.specs.Groups.{Carried, entries_in}
 use Rattle.cm_commit.specs.Offers.{filled, carries_own, rows_after_group}
 use Rattle.cm_commit.specs.Keeping.{keep_rules}
-use Rattle.cm_commit.proofs.Above.{above_entry}
 use Rattle.cm_commit.proofs.Applied.{next_is, all_behind}
 use Rattle.cm_commit.proofs.Rights.{bare-filled}
 use Rattle.cm_commit.proofs.With.{after-with}

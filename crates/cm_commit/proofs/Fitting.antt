@@ -4,7 +4,7 @@ use Rattle.std.proofs.Common.{◌≡◌, ℕ, ◌+◌, ◌^◌, ◌<◌, ◌≤�
 use Rattle.std.proofs.Common.{◌∷◌, length, Some, None, inl, inr, refl, sym, arith, eqb}
 use Rattle.std.specs.Prelude.{◌&&◌, ◌==◌, nat_le, is_some, is_none}
 use Rattle.std.specs.List.{list_all}
-use Rattle.std.proofs.lemmas.Bool.{eqb-true, leb-true}
+use Rattle.std.proofs.lemmas.Bool.{eqb-true, leb-true, and_parts}
 use Rattle.std.proofs.Math.Pow.{pow_mono}
 use Rattle.cm_pool.specs.Geometry.{Sizes, IsGeometry}
 use Rattle.cm_pool.specs.Lists.{Among}
@@ -19,9 +19,7 @@ use Rattle.cm_layout.specs.Rows.{name_of, number_of, numbers_in}
 use Rattle.cm_layout.specs.Rules.{broken_rule, broken_of, is_live, has_room, class_fits}
 use Rattle.cm_layout.specs.Rules.{is_new_loader}
 use Rattle.cm_layout.specs.Frames.{BareRow, BareEntry, LiveRowsKeep}
-use Rattle.cm_layout.proofs.Apart.{both}
-use Rattle.cm_layout.proofs.OwnLoaders.{own_loaders}
-use Rattle.cm_layout.proofs.StayLive.{class_keeps}
+use Rattle.cm_layout.proofs.{own_loaders, class_keeps}
 use Rattle.cm_commit.specs.Offers.{HasRecords, carries_own}
 use Rattle.cm_commit.proofs.Places.{IsInside, inside}
 
@@ -76,7 +74,7 @@ short_name x named =
     let some = nat_le 1 (length x) in
     let short = nat_le (length x) name_limit in
     leb-true (length x) name_limit
-    (both some short (both (some && short) (list_all is_visible x) named).0).1
+    (and_parts some short (and_parts (some && short) (list_all is_visible x) named).0).1
 
 fits_class : (sizes : Sizes) (r : ClassRow) → IsGeometry sizes → r.loader < 2 ^ 64
     → IsInside sizes r.place → FitsClass r
@@ -100,10 +98,11 @@ pub fits_one : (sizes : Sizes) (n : ℕ) (rows : List BareRow) (e : BareEntry)
     → broken_rule sizes rows (n + 1) e ≡ None → HasRecords e records → FitsEntry e
 fits_one sizes n rows (entry.Live (Loader r)) records g small keep keeps has =
     let new = is_new_loader sizes rows r in
-    let parts = both (r.number == n + 1) new (rule_rows ((r.number == n + 1) && new) keeps) in
+    let parts = and_parts (r.number == n + 1) new (rule_rows ((r.number == n + 1) && new) keeps) in
     let named = is_loader_name r.name in
     let own = is_none (number_of r.name rows) in
-    let name = both named own (both (named && own) (has_room sizes rows (Loader r)) parts.1).0 in
+    let name = and_parts named own (and_parts (named && own) (has_room sizes rows (Loader r))
+    parts.1).0 in
     record {
       number = omega (arith, eqb-true r.number (n + 1) parts.0, small);
       name = short_name r.name name.0;
@@ -112,7 +111,7 @@ fits_one sizes n rows (entry.Live (Class r p)) records g small keep keeps has =
     let live = is_live r.loader rows in
     let room = has_room sizes rows (Class r p) in
     let rules = rule_both (live && room) (class_fits sizes rows r) keeps in
-    let past = live_past sizes n rows r.loader keep (both live room rules.0).0 in
+    let past = live_past sizes n rows r.loader keep (and_parts live room rules.0).0 in
     let k = class_keeps sizes rows r keeps in
     fits_class sizes r g (omega (arith, past, small)) (inside sizes r.place k.chunk k.within)
 fits_one sizes n rows (entry.Unload e) records g small keep keeps has =

@@ -15,9 +15,7 @@ use Rattle.cm_layout.specs.Rows.{classes_in, bare}
 use Rattle.cm_layout.specs.Frames.{LiveRowsKeep, number_at_end}
 use Rattle.cm_layout.specs.Framing.{Framing, IsRight, Range, guards, needs, used_size}
 use Rattle.cm_layout.specs.Framing.{other_half, older_size, record_ranges, open_half}
-use Rattle.cm_layout.proofs.Agreement.{agreement_matches}
-use Rattle.cm_layout.proofs.StayLive.{rows_stay_live}
-use Rattle.cm_state.proofs.Bare.{classes-bare}
+use Rattle.cm_layout.proofs.{agreement_matches, live_rows_stay, classes-bare}
 use Rattle.cm_guards.specs.Guards.{Guards, IsBounded}
 use Rattle.cm_commit.specs.Committed.{Committed}
 use Rattle.cm_commit.specs.Guarding.{guard_of, Shows}
@@ -64,7 +62,7 @@ pub rows_live : (sizes : Sizes) (f : Framing) (rows : List (Row (List ℕ))) (n 
 rows_live sizes f rows n right =
     subst (λ (m : ℕ). LiveRowsKeep sizes m [] (bare rows)) (sym right.number_is)
     (subst (LiveRowsKeep sizes (number_at_end (open_half f)) []) (sym right.rows_are)
-    (rows_stay_live sizes (open_half f) right.good))
+    (live_rows_stay sizes (open_half f) right.good))
 
 pub rows_stacked : (sizes : Sizes) (f : Framing) (rows : List (Row (List ℕ))) (n : ℕ)
     → IsRight sizes f rows n → AreStacked sizes (bare rows)

@@ -18,10 +18,9 @@ use Rattle.cm_layout.specs.Slots.{FitsEntry}
 use Rattle.cm_layout.specs.Rows.{bare, rows_after}
 use Rattle.cm_layout.specs.Rules.{broken_rule, is_live, has_room, class_fits, is_new_loader}
 use Rattle.cm_layout.specs.Frames.{BareRow, BareEntry, AreApart}
-use Rattle.cm_layout.proofs.OwnLoaders.{own_loaders}
+use Rattle.cm_layout.proofs.{own_loaders, name-bare, classes-bare, rule-bare}
 use Rattle.cm_state.specs.State.{words_show, class_among}
 use Rattle.cm_state.specs.Entries.{IsNewClass, AreCacheRows}
-use Rattle.cm_state.proofs.Bare.{rule-bare, classes-bare, name-bare}
 use Rattle.cm_group.specs.Groups.{Carried, entries_in}
 use Rattle.cm_commit.specs.Offers.{filled, own_record, HasRecords, carries_own, writes_apart}
 use Rattle.cm_commit.specs.Offers.{MayJoin, MayJoinAll}

@@ -1,30 +1,36 @@
-pub mod Counting
-pub mod Slots
-pub mod Ranges
-pub mod Places
-pub mod Guards
-pub mod Writing
-pub mod Held
-pub mod Rights
-pub mod Gate
-pub mod Records
-pub mod Apart
-pub mod Turning
-pub mod Above
-pub mod Applied
-pub mod Called
-pub mod Shown
-pub mod With
-pub mod NextRecords
-pub mod SlotsPut
-pub mod NextWrites
-pub mod Committing
-pub mod Advancing
-pub mod Filled
-pub mod Fitting
-pub mod ClassNames
-pub mod Roots
-pub mod Joins
-pub mod Testing
-pub mod Coming
-pub mod Offering
+-- What crates above may cite of these proofs is what `pub use` passes on; all else is private.
+mod Counting
+mod Slots
+mod Ranges
+mod Places
+mod Guards
+mod Writing
+mod Held
+mod Rights
+mod Gate
+mod Records
+mod Apart
+mod Turning
+mod Applied
+mod Called
+mod Shown
+mod With
+mod NextRecords
+mod SlotsPut
+mod NextWrites
+mod Committing
+mod Advancing
+mod Filled
+mod Fitting
+mod ClassNames
+mod Roots
+mod Joins
+mod Testing
+mod Coming
+mod Offering
+-- The slots of the half that counts, and of a group more.
+pub use Slots.{end_is}
+-- Where records lie that keep the rules: inside their chunks, one behind another.
+pub use Places.{inside, ends_in_root}
+-- What a group that is taken makes of what a committer keeps.
+pub use Committing.{one_call_less}

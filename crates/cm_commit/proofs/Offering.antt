@@ -9,7 +9,7 @@ use Rattle.cm_layout.specs.Slots.{open_gate}
 use Rattle.cm_layout.specs.declared.row.Row.{Row}
 use Rattle.cm_layout.specs.Rows.{bare, rows_with, rows_after_all}
 use Rattle.cm_guards.specs.Plans.{written}
-use Rattle.cm_guards.proofs.Kept.{keeps_settled}
+use Rattle.cm_guards.proofs.{keeps_settled}
 use Rattle.cm_rows.specs.Rows.{LiveRows}
 use Rattle.cm_group.specs.Groups.{Carried, Handed, IsGroup, entries_in}
 use Rattle.cm_commit.specs.Plans.{Stage, calls_left}

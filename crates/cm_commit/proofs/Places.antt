@@ -4,7 +4,8 @@ use Rattle.std.proofs.Common.{◌≡◌, ℕ, ◌+◌, ◌-◌, ◌*◌, ◌<◌
 use Rattle.std.proofs.Common.{◌∷◌, ◌++◌, refl, sym, ap, subst, ◌∙◌, arith, append_assoc, append-nil}
 use Rattle.std.proofs.Common.{filter, map, eqb}
 use Rattle.std.specs.Prelude.{◌&&◌, ◌%◌, ◌/◌, ◌==◌, nat_le, nat_lt, sum}
-use Rattle.std.proofs.lemmas.Bool.{leb-true, ltb-true, eqb-true, eq-eqb, cases_lt}
+use Rattle.std.proofs.lemmas.Bool.{leb-true, ltb-true, eqb-true, eq-eqb, cases_lt, and_parts}
+use Rattle.std.proofs.lemmas.Bool.{or_cases}
 use Rattle.std.proofs.lemmas.List.Elements.{filter-append}
 use Rattle.std.proofs.lemmas.List.Sums.{sum_by-append}
 use Rattle.std.proofs.lemmas.List.{map-append}
@@ -14,15 +15,15 @@ use Rattle.cm_pool.specs.declared.place.Place.{Place}
 use Rattle.cm_pool.specs.Chunks.{chunk_size, same_chunk, Meets, Covers}
 use Rattle.cm_pool.specs.Geometry.{Sizes}
 use Rattle.cm_pool.specs.Lists.{Among}
+use Rattle.cm_pool.proofs.{same_chunk-itself, among-push}
 use Rattle.cm_layout.specs.declared.class_row.ClassRow.{ClassRow}
 use Rattle.cm_layout.specs.declared.row.Row.TheVariants.{Loader, Class}
 use Rattle.cm_layout.specs.Offsets.{root_at, root_size, record_at}
 use Rattle.cm_layout.specs.Rows.{classes_in, used_words}
 use Rattle.cm_layout.specs.Rules.{is_chunk, is_unused, is_last_chunk, has_place}
 use Rattle.cm_layout.specs.Frames.{BareRow, LiveRowsKeep, AreApart}
-use Rattle.cm_layout.proofs.Apart.{both, either, is_unused-apart, append-among}
-use Rattle.cm_layout.proofs.Apart.{classes_in-append, is_last_chunk-among}
-use Rattle.cm_layout.proofs.StayLive.{class_keeps}
+use Rattle.cm_layout.proofs.{class_keeps, classes_in-append, is_unused-apart, is_last_chunk-among}
+use Rattle.cm_layout.proofs.{used-append, begins_behind}
 
 -- ---- inside
 
@@ -42,8 +43,8 @@ inside sizes place lawful within =
     let root = nat_lt c.root sizes.roots in
     let aligned = (c.at % chunk_size c.order) == 0 in
     let fits = nat_le (c.at + chunk_size c.order) (chunk_size sizes.top) in
-    let all = both (order && root && aligned) fits lawful in
-    let front = both order root (both (order && root) aligned all.0).0 in
+    let all = and_parts (order && root && aligned) fits lawful in
+    let front = and_parts order root (and_parts (order && root) aligned all.0).0 in
     record {
       order = leb-true c.order sizes.top front.0;
       root = ltb-true c.root sizes.roots front.1;
@@ -73,42 +74,8 @@ pub record AreStacked (sizes : Sizes) (rows : List BareRow) : Type 0 where
   pub each : (r : ClassRow) → Among r (classes_in rows) → IsInside sizes r.place
   pub stacked : IsStacked rows
 
-used-append : (c : Chunk) (xs ys : List BareRow)
-    → used_words c (xs ++ ys) ≡ used_words c xs + used_words c ys
-used-append c xs ys =
-    let test = λ (r : ClassRow). same_chunk r.place.chunk c in
-    let words = λ (r : ClassRow). r.place.words in
-    let listed : map words (filter test (classes_in (xs ++ ys)))
-    ≡ map words (filter test (classes_in xs)) ++ map words (filter test (classes_in ys)) =
-    ap (λ (l : List ClassRow). map words (filter test l)) (classes_in-append xs ys)
-    ∙ ap (map words) (filter-append test (classes_in xs) (classes_in ys))
-    ∙ map-append words (filter test (classes_in xs)) (filter test (classes_in ys)) in
-    ap sum listed ∙ sum_by-append (λ (n : ℕ). n) (map words (filter test (classes_in xs)))
-    (map words (filter test (classes_in ys)))
-
-same_as_itself : (c : Chunk) → same_chunk c c ≡ true
-same_as_itself c =
-    rw (eq-eqb c.root c.root refl, eq-eqb c.order c.order refl, eq-eqb c.at c.at refl) refl
-
 used-one : (r : ClassRow) → used_words r.place.chunk (Class r (tt {0}) ∷ []) ≡ r.place.words
-used-one r = rw (same_as_itself r.place.chunk) (omega arith)
-
--- where a class begins in its chunk there are as many words used before it, or none
-begins_behind : (pre : List BareRow) (r : ClassRow) → has_place pre r ≡ true
-    → r.place.offset ≤ used_words r.place.chunk pre
-begins_behind pre r h =
-    let on_last = is_last_chunk r.loader r.place.chunk pre in
-    let behind = eqb r.place.offset (used_words r.place.chunk pre) in
-    let front = eqb r.place.offset 0 in
-    let unused = is_unused r.place.chunk pre in
-    elim (either (on_last && behind) (front && unused) h) [
-      | inl last ↦
-          let e = eqb-true r.place.offset (used_words r.place.chunk pre)
-          (both on_last behind last).1
-          in omega (arith, e)
-      | inr new ↦
-          let e = eqb-true r.place.offset 0 (both front unused new).0 in omega (arith, e)
-    ]
+used-one r = rw (same_chunk-itself r.place.chunk) (omega arith)
 
 stacked-class : (sizes : Sizes) (pre : List BareRow) (r : ClassRow) → AreStacked sizes pre
     → IsInside sizes r.place → has_place pre r ≡ true
@@ -137,7 +104,7 @@ stacked-class sizes pre r are is h = record {
     earlier : (x : ClassRow) → Among x (classes_in (pre ++ Class r (tt {0}) ∷ []))
         → Among x (classes_in pre) ⊎ (x ≡ r)
     earlier x m =
-        append-among (classes_in pre) r x
+        among-push x r (classes_in pre)
         (subst (λ (l : List ClassRow). Among x l) (classes_in-append pre (Class r (tt {0}) ∷ [])) m)
 
 stacked-loader : (sizes : Sizes) (pre : List BareRow) (row : BareRow) → classes_in (row ∷ []) ≡ []
@@ -281,10 +248,10 @@ place-free rows r h =
     let behind = eqb r.place.offset (used_words r.place.chunk rows) in
     let front = eqb r.place.offset 0 in
     let unused = is_unused r.place.chunk rows in
-    elim (either (on_last && behind) (front && unused) h) [
+    elim (or_cases (on_last && behind) (front && unused) h) [
       | inl last ↦
-          let parts = both on_last behind last in
+          let parts = and_parts on_last behind last in
           let e = eqb-true r.place.offset (used_words r.place.chunk rows) parts.1 in
           inr (parts.0, omega (arith, e))
-      | inr new ↦ inl (both front unused new).1
+      | inr new ↦ inl (and_parts front unused new).1
     ]

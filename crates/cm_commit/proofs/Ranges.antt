@@ -4,7 +4,7 @@ use Rattle.std.proofs.Common.{◌≡◌, ℕ, ◌+◌, ◌<◌, ◌≤◌, ◌�
 use Rattle.std.proofs.Common.{◌∷◌, length, drop, get_or, refl, sym, ◌∙◌}
 use Rattle.std.proofs.Common.{arith, length-take, length-drop}
 use Rattle.std.specs.Prelude.{◌&&◌, ◌||◌, nat_le, nat_lt}
-use Rattle.std.proofs.lemmas.Bool.{le-leb, lt-ltb, leb-true, ltb-true}
+use Rattle.std.proofs.lemmas.Bool.{le-leb, lt-ltb, leb-true, ltb-true, and_parts, or_cases}
 use Rattle.std.proofs.lemmas.List.{ext_get_or, get_or-drop, get_or-take}
 use Rattle.cm_disk.specs.Disk.{is_among}
 use Rattle.cm_pool.specs.Geometry.{Sizes}
@@ -12,7 +12,6 @@ use Rattle.cm_layout.specs.declared.half.Half.{Half}
 use Rattle.cm_layout.specs.declared.half.Half.TheVariants.{Zero, One}
 use Rattle.cm_layout.specs.Offsets.{half_size, half_at, roots_at}
 use Rattle.cm_layout.specs.Framing.{Range, Agree, part, other_half}
-use Rattle.cm_layout.proofs.Apart.{both, either}
 use Rattle.cm_commit.specs.Guarding.{is_in}
 
 -- ---- tests
@@ -36,10 +35,10 @@ among at n i from to =
     and_both (nat_le at i) (nat_lt i (at + n)) (le-leb at i from) (lt-ltb i (at + n) to)
 
 pub among-from : (at n i : ℕ) → is_among at n i ≡ true → at ≤ i
-among-from at n i h = leb-true at i (both (nat_le at i) (nat_lt i (at + n)) h).0
+among-from at n i h = leb-true at i (and_parts (nat_le at i) (nat_lt i (at + n)) h).0
 
 pub among-to : (at n i : ℕ) → is_among at n i ≡ true → i < at + n
-among-to at n i h = ltb-true i (at + n) (both (nat_le at i) (nat_lt i (at + n)) h).1
+among-to at n i h = ltb-true i (at + n) (and_parts (nat_le at i) (nat_lt i (at + n)) h).1
 
 part_count : (at n : ℕ) (xs : List ℕ) → at + n ≤ length xs → length (part at n xs) ≡ n
 part_count at n xs le = omega (arith, le, length-take n (drop at xs), length-drop at xs)
@@ -83,7 +82,7 @@ pub bounded : (n : ℕ) (ranges : List Range) → AreWithin n ranges → (i : �
     → i < n
 bounded n [] within i h = absurd (cc)
 bounded n (r ∷ ranges) within i h =
-    elim (either (is_among r.at r.count i) (is_in ranges i) h) [
+    elim (or_cases (is_among r.at r.count i) (is_in ranges i) h) [
       | inl here ↦ omega (arith, among-to r.at r.count i here, within.0)
       | inr there ↦ bounded n ranges within.1 i there
     ]

@@ -6,7 +6,7 @@ use Rattle.std.proofs.Common.{List, [], ◌∷◌, length, drop, refl, sym, ap, 
 use Rattle.std.specs.Prelude.{max, None}
 use Rattle.std.specs.List.{AllByRecursion}
 use Rattle.std.proofs.Math.Nat.{mul-le-mul_right}
-use Rattle.cm_words.proofs.WordBytes.{length-word_bytes}
+use Rattle.cm_words.proofs.{length-word_bytes}
 use Rattle.cm_record_layout.specs.Packing.{packed_into, word_bytes}
 use Rattle.cm_disk.specs.Calls.{overwritten}
 use Rattle.cm_disk.specs.Disk.{is_among}
@@ -21,10 +21,9 @@ use Rattle.cm_layout.specs.Rows.{bare, rows_after}
 use Rattle.cm_layout.specs.Rules.{broken_rule}
 use Rattle.cm_layout.specs.Frames.{BareEntry, HoldsRecord}
 use Rattle.cm_layout.specs.Framing.{part}
-use Rattle.cm_layout.proofs.StayLive.{class_keeps}
-use Rattle.cm_state.proofs.Bare.{classes-bare}
+use Rattle.cm_layout.proofs.{class_keeps, classes-bare}
 use Rattle.cm_guards.specs.Plans.{written}
-use Rattle.cm_guards.proofs.Planned.{overwritten_size}
+use Rattle.cm_guards.proofs.{overwritten_size}
 use Rattle.cm_group.specs.Groups.{Carried, entries_in}
 use Rattle.cm_commit.specs.Offers.{filled, own_record, HasRecords, MayJoin, MayJoinAll}
 use Rattle.cm_commit.specs.Offers.{rows_after_group}

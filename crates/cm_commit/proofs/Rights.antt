@@ -13,11 +13,10 @@ use Rattle.cm_layout.specs.Rows.{rows_after, rows_after_all, classes_in, bare}
 use Rattle.cm_layout.specs.Rules.{broken_rule}
 use Rattle.cm_layout.specs.Frames.{BareRow, BareEntry, EntriesKeep, GroupKeeps, GroupsKeep}
 use Rattle.cm_layout.specs.Frames.{AreApart}
-use Rattle.cm_layout.specs.Frames.{LiveRowsKeep, rows_of, entries_of, group_slots}
+use Rattle.cm_layout.specs.Frames.{LiveRowsKeep, rows_of, entries_of, group_slots, bare_entry}
 use Rattle.cm_layout.specs.Framing.{IsRight, used_bytes, used_size, open_half}
-use Rattle.cm_layout.proofs.Apart.{entry-apart, rows_after_all-append}
-use Rattle.cm_layout.proofs.StayLive.{entry-live}
-use Rattle.cm_state.proofs.Bare.{bare_entry, after-bare, rule-bare, classes-bare}
+use Rattle.cm_layout.proofs.{entry-apart, rows_after_all-append, entry-live, classes-bare}
+use Rattle.cm_layout.proofs.{after-bare, rule-bare}
 use Rattle.cm_group.specs.Groups.{Carried, Handed, IsGroup, entries_in, slots_taken}
 use Rattle.cm_commit.specs.Committed.{Committed, end_slot, with_group}
 use Rattle.cm_commit.specs.Offers.{filled, MayJoin, MayJoinAll, IsNext, rows_after_group}

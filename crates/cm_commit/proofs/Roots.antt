@@ -6,17 +6,17 @@ use Rattle.std.specs.Prelude.{max, nat_lt}
 use Rattle.std.proofs.Math.Nat.{le-div_iff_mul-le, lt-div-mul-add}
 use Rattle.std.proofs.lemmas.Bool.{ltb-true, ltb-false}
 use Rattle.std.proofs.lemmas.Nat.{pow_pos}
-use Rattle.cm_words.proofs.WordBytes.{length-word_bytes}
+use Rattle.cm_words.proofs.{length-word_bytes}
 use Rattle.cm_pool.specs.Geometry.{Sizes}
 use Rattle.cm_layout.specs.declared.row.Row.{Row}
 use Rattle.cm_layout.specs.declared.row.Row.TheVariants.{Loader, Class}
 use Rattle.cm_layout.specs.declared.entry.Entry.TheVariants as entry
 use Rattle.cm_layout.specs.Offsets.{roots_at, root_at, root_size}
-use Rattle.cm_layout.specs.Superblock.{blank}
 use Rattle.cm_layout.specs.Rows.{bare, rows_after}
 use Rattle.cm_layout.specs.Rules.{broken_rule}
 use Rattle.cm_layout.specs.Frames.{BareEntry}
-use Rattle.cm_layout.proofs.Superblocks.{length-blank}
+use Rattle.cm_layout.proofs.{length-blank}
+use Rattle.cm_layout.specs.Zeros.{blank}
 use Rattle.cm_guards.specs.Plans.{written, CanWrite}
 use Rattle.cm_group.specs.Groups.{Carried, Handed, entries_in}
 use Rattle.cm_commit.specs.Committed.{Committed, end_slot}

@@ -12,7 +12,7 @@ use Rattle.cm_record_layout.specs.Packing.{second_of}
 use Rattle.cm_record.specs.Layout.{lay, limit, IsRecordOf}
 use Rattle.cm_record.specs.Names.{class_name_of, class_name_in}
 use Rattle.cm_record.specs.Runs.{name_run}
-use Rattle.cm_record.proofs.RunPlaces.{own_name, run_read}
+use Rattle.cm_record.proofs.{own_name, run_read}
 use Rattle.std.proofs.Math.Pow.{pow_mono}
 use Rattle.cm_pool.specs.Geometry.{Sizes, IsGeometry}
 use Rattle.cm_pool.specs.declared.place.Place.{Place}
@@ -23,7 +23,7 @@ use Rattle.cm_layout.specs.declared.row.Row.TheVariants.{Loader, Class}
 use Rattle.cm_layout.specs.Offsets.{roots_at}
 use Rattle.cm_layout.specs.Rows.{classes_in, rows_with, row_with}
 use Rattle.cm_layout.specs.Frames.{HoldsRow, Frames}
-use Rattle.cm_layout.proofs.Matched.{matches_frame}
+use Rattle.cm_layout.proofs.{matches_frame}
 use Rattle.std.specs.List.{AllByRecursion}
 use Rattle.cm_state.specs.State.{NamesDiffer, class_among, class_shows, words_show, state_of}
 use Rattle.cm_state.specs.Stands.{EachKeepsRules, arenas_among}

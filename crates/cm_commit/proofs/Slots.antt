@@ -9,11 +9,12 @@ use Rattle.cm_layout.specs.declared.row.Row.TheVariants.{Loader, Class}
 use Rattle.cm_layout.specs.declared.entry.Entry.TheVariants as entry
 use Rattle.cm_layout.specs.Slots.{half_head_slot, group_head_slot, row_slot}
 use Rattle.cm_layout.specs.Slots.{entry_slot, open_gate}
-use Rattle.cm_layout.specs.Slots.{FitsRow, FitsEntry, zeros}
+use Rattle.cm_layout.specs.Slots.{FitsRow, FitsEntry}
 use Rattle.cm_layout.specs.Rows.{slots_of_rows, slots_of_entries, rows_after, rows_after_all}
 use Rattle.cm_layout.specs.Frames.{BareRow, BareEntry, LiveRowsKeep, EntriesKeep, GroupsKeep}
 use Rattle.cm_layout.specs.Frames.{IsGoodHalf, group_slots, groups_slots}
 use Rattle.cm_layout.specs.Framing.{Framing, used_bytes, used_size, open_half}
+use Rattle.cm_layout.specs.Zeros.{zeros}
 use Rattle.cm_commit.specs.Committed.{slots_of_groups, end_slot, with_group}
 use Rattle.cm_commit.specs.GroupPlans.{slots_behind_gate}
 

@@ -7,9 +7,9 @@ use Rattle.std.proofs.lemmas.Bool.{lt-ltb, le-ltb}
 use Rattle.cm_pool.specs.Geometry.{Sizes}
 use Rattle.cm_layout.specs.Offsets.{slot_size}
 use Rattle.cm_layout.specs.Slots.{group_head_rest, entry_slot}
-use Rattle.cm_layout.specs.Superblock.{blank}
 use Rattle.cm_layout.specs.Rows.{slots_of_entries}
 use Rattle.cm_layout.specs.Frames.{BareEntry}
+use Rattle.cm_layout.specs.Zeros.{blank}
 use Rattle.cm_commit.specs.GroupPlans.{slots_behind_gate, shut_slot}
 
 pub front_put : (n count : ℕ) (es : List BareEntry) (head all : List ℕ)

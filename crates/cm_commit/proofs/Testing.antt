@@ -22,11 +22,10 @@ use Rattle.cm_layout.specs.Rows.{bare, rows_with, rows_after, classes_in, used_w
 use Rattle.cm_layout.specs.Rules.{broken_rule, is_chunk, is_unused, is_last_chunk, is_live}
 use Rattle.cm_layout.specs.Rules.{has_room, has_place, class_fits, move_fits}
 use Rattle.cm_layout.specs.Frames.{BareRow, BareEntry}
-use Rattle.cm_layout.proofs.Apart.{both}
+use Rattle.cm_layout.proofs.{classes-bare}
 use Rattle.cm_index.specs.Index.{class_of}
 use Rattle.cm_rows.specs.Rows.{LiveRows}
 use Rattle.cm_state.specs.State.{words_show, class_among}
-use Rattle.cm_state.proofs.Bare.{classes-bare}
 use Rattle.cm_group.specs.Groups.{Carried, entries_in}
 use Rattle.cm_commit.specs.Keeping.{keep_rules}
 use Rattle.cm_commit.specs.Offers.{carries_own, writes_apart}
@@ -60,8 +59,8 @@ inside_one sizes rows n (entry.Live (Class r p)) keeps =
     let chunk = is_chunk sizes r.place.chunk in
     let some = nat_le 1 r.place.words in
     let within = nat_le (r.place.offset + r.place.words) (chunk_size r.place.chunk.order) in
-    (both chunk some (both (chunk && some) within
-    (both (chunk && some && within) (has_place rows r) fits).0).0).0
+    (and_parts chunk some (and_parts (chunk && some) within
+    (and_parts (chunk && some && within) (has_place rows r) fits).0).0).0
 inside_one sizes rows n (entry.Unload e) keeps = refl
 inside_one sizes rows n (entry.Move e) keeps =
     let fits = rule_one (move_fits sizes rows e) _ keeps in
@@ -69,8 +68,8 @@ inside_one sizes rows n (entry.Move e) keeps =
     let chunk = is_chunk sizes e.to in
     let unused = is_unused e.to rows in
     let enough = nat_le (used_words e.from rows) (chunk_size e.to.order) in
-    (both last chunk (both (last && chunk) unused
-    (both (last && chunk && unused) enough fits).0).0).1
+    (and_parts last chunk (and_parts (last && chunk) unused
+    (and_parts (last && chunk && unused) enough fits).0).0).1
 
 none_is : {A : Type 0} (o : Option A) → is_none o ≡ true → o ≡ None
 none_is None e = refl

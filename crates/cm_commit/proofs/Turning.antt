@@ -17,15 +17,14 @@ use Rattle.cm_layout.specs.declared.class_row.ClassRow.{ClassRow}
 use Rattle.cm_layout.specs.declared.row.Row.{Row}
 use Rattle.cm_layout.specs.Offsets.{half_size, half_at, root_at}
 use Rattle.cm_layout.specs.Slots.{open_gate}
-use Rattle.cm_layout.specs.Superblock.{blank}
 use Rattle.cm_layout.specs.Rows.{bare, classes_in, slots_of_entries}
 use Rattle.cm_layout.specs.Frames.{BareEntry}
 use Rattle.cm_layout.specs.Framing.{part, used_size, needs}
-use Rattle.cm_layout.proofs.Superblocks.{length-blank}
+use Rattle.cm_layout.proofs.{length-blank, classes-bare}
 use Rattle.cm_guards.specs.Guards.{IsApart}
 use Rattle.cm_guards.specs.Gates.{OneOf}
 use Rattle.cm_guards.specs.Plans.{Write, Fits, written, CanWrite}
-use Rattle.cm_guards.proofs.Planned.{kept_by_plan, overwritten_size}
+use Rattle.cm_guards.proofs.{kept_by_plan, overwritten_size}
 use Rattle.cm_group.specs.Groups.{Handed, IsGroup, entries_in}
 use Rattle.cm_commit.specs.Committed.{Committed, end_slot, with_group}
 use Rattle.cm_commit.specs.Guarding.{guard_of, Shows, IsCommitted}
@@ -37,8 +36,8 @@ use Rattle.cm_commit.specs.GroupPlans.{slots_behind_gate}
 use Rattle.cm_commit.specs.GroupPlans.{shut_slot}
 use Rattle.cm_commit.proofs.Ranges.{among-from, among-to, half_ends}
 use Rattle.cm_commit.proofs.Slots.{end_is, used-more, group_count, behind-gate}
-use Rattle.cm_state.proofs.Bare.{classes-bare}
 use Rattle.cm_layout.specs.Offsets.{record_at}
+use Rattle.cm_layout.specs.Zeros.{blank}
 use Rattle.cm_commit.proofs.Places.{IsInside, are_stacked, begins_in_root}
 use Rattle.cm_commit.proofs.Guards.{guarded, needs_roots}
 use Rattle.cm_commit.proofs.Writing.{size_after, size_after-grows, can-append}
@@ -46,7 +45,7 @@ use Rattle.cm_commit.proofs.Writing.{written-append, written-size, part-written,
 use Rattle.cm_commit.proofs.Held.{HoldRows, hold-same, needs-held}
 use Rattle.cm_commit.proofs.Rights.{are_kept, kept-all, size-more, entries_keep}
 use Rattle.cm_commit.proofs.Rights.{right_after}
-use Rattle.cm_group.proofs.Joining.{enough}
+use Rattle.cm_group.proofs.{enough}
 use Rattle.cm_commit.specs.Laws.{TellsWords, IsTurned, GroupsTurn}
 use Rattle.cm_commit.proofs.Records.{records-stand, roots-mono}
 use Rattle.cm_commit.proofs.Apart.{guarded_where, can-records, can-roots, roots-size, whole-ends}

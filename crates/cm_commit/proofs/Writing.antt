@@ -6,11 +6,11 @@ use Rattle.std.specs.Prelude.{max}
 use Rattle.std.proofs.lemmas.List.{take_at, drop_at, length-take-le}
 use Rattle.cm_disk.specs.Calls.{overwritten}
 use Rattle.cm_disk.specs.Disk.{is_among}
-use Rattle.cm_disk.proofs.Images.{overwritten_torn, torn_same}
+use Rattle.cm_disk.proofs.{overwritten_torn, torn_same}
 use Rattle.cm_layout.specs.Framing.{part}
 use Rattle.cm_guards.specs.Guards.{Guard}
 use Rattle.cm_guards.specs.Plans.{Write, written, CanWrite}
-use Rattle.cm_guards.proofs.Planned.{overwritten_size}
+use Rattle.cm_guards.proofs.{overwritten_size}
 
 -- how long the contents are after them
 abbrev pub size_after : List Write → ℕ → ℕ

@@ -12,9 +12,9 @@ use Rattle.cm_layout.specs.declared.row.Row.TheVariants.{Loader, Class}
 use Rattle.cm_layout.specs.declared.entry.Entry.TheVariants as entry
 use Rattle.cm_layout.specs.Offsets.{slot_size, slot_at, roots_at, root_at, root_size, record_at}
 use Rattle.cm_layout.specs.Slots.{open_gate, group_head_rest, entry_slot}
-use Rattle.cm_layout.specs.Superblock.{blank}
 use Rattle.cm_layout.specs.Rows.{slots_of_entries}
 use Rattle.cm_layout.specs.Frames.{BareEntry}
+use Rattle.cm_layout.specs.Zeros.{blank}
 use Rattle.cm_guards.specs.Plans.{Write}
 use Rattle.cm_group.specs.Groups.{Carried, entries_in}
 use Rattle.cm_commit.specs.Plans.{Stage, Store, Turn}

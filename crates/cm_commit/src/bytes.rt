@@ -2,7 +2,7 @@
 
 ghost use Rattle.std.specs.Prelude.{◌≡◌, ◌≤◌, ◌+◌, ◌*◌, ◌++◌, ◌<◌, ◌^◌, length, vec_capacity};
 ghost use Rattle.cm_record_layout.specs.Packing.{word_bytes};
-ghost use Rattle.cm_layout.specs.Superblock.{blank};
+ghost use Rattle.cm_layout.specs.Zeros.{blank};
 ghost use Rattle.cm_layout.specs.Offsets.{slot_size};
 ghost use Rattle.cm_layout.specs.Slots.{group_head_rest, entry_slot};
 ghost use Rattle.std.specs.List.{flat_map};
@@ -15,7 +15,7 @@ use cm_layout::{GroupHead, SLOT_BYTES};
 use cm_record::Record;
 
 /// Puts so many zeros in the place of what is there.
-#[tactic(auto, unfolding(cm_layout::specs::Superblock::blank))]
+#[tactic(auto, unfolding(cm_layout::specs::Zeros::blank))]
 pub(crate) fn put_zeros(buffer: &mut Vec<u8>, count: usize)
     requires { count ≤ vec_capacity buffer.old }
     ensures zeros { buffer.new.items ≡ blank count }
@@ -59,7 +59,7 @@ fn put_head(buffer: &mut Vec<u8>, head: &GroupHead)
 }
 
 /// Puts a shut slot behind what is there.
-#[tactic(auto, unfolding(cm_layout::specs::Superblock::blank))]
+#[tactic(auto, unfolding(cm_layout::specs::Zeros::blank))]
 fn add_shut_slot(buffer: &mut Vec<u8>)
     requires { length buffer.old.items + slot_size ≤ vec_capacity buffer.old }
     ensures bytes { buffer.new.items ≡ buffer.old.items ++ blank slot_size }

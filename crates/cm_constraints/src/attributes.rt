@@ -45,7 +45,7 @@ fn has_content_of(class: &Class, among: &[Known], attribute: &Attribute) -> bool
     ensures { result ≡ has_content_of class.now among.now attribute.now }
 {
     among.iter().all(|known| {
-        !is_known(class, *known, attribute) || is_content(class, *known, attribute.bytes.as_slice())
+        !is_known(class, *known, attribute) || is_content(class, *known, attribute.content())
     })
 }
 
@@ -64,7 +64,7 @@ fn are_values_of(class: &Class, descriptor: &[u8], attributes: &[Attribute]) -> 
     attributes
         .iter()
         .filter(|attribute| is_known(class, Known::ConstantValue, attribute))
-        .all(|attribute| is_value_of(class, descriptor, attribute.bytes.as_slice()))
+        .all(|attribute| is_value_of(class, descriptor, attribute.content()))
 }
 
 /// Whether the value of a static field is one of its type (JVMS 4.7.2).
@@ -72,11 +72,7 @@ fn values_agree(class: &Class, field: &Member) -> bool
     ensures { result ≡ values_agree class.now field.now }
 {
     !has(field.flags, ACC_STATIC)
-        || are_values_of(
-            class,
-            class.utf8(field.descriptor),
-            field.attributes.as_slice(),
-        )
+        || are_values_of(class, class.utf8(field.descriptor), field.attributes())
 }
 
 /// Whether a field's attributes have their contents, with at most one ConstantValue, which is of
@@ -84,7 +80,7 @@ fn values_agree(class: &Class, field: &Member) -> bool
 pub fn field_attributes_are_right(class: &Class, field: &Member) -> bool
     ensures { result ≡ field_attributes_are_right class.now field.now }
 {
-    let attributes = field.attributes.as_slice();
+    let attributes = field.attributes();
     count(class, Known::ConstantValue, attributes) <= 1
         && have_content_of(class, &OF_FIELD, attributes)
         && values_agree(class, field)
@@ -95,7 +91,7 @@ pub fn field_attributes_are_right(class: &Class, field: &Member) -> bool
 pub fn method_attributes_are_right(class: &Class, method: &Member) -> bool
     ensures { result ≡ method_attributes_are_right class.now method.now }
 {
-    let attributes = method.attributes.as_slice();
+    let attributes = method.attributes();
     count(class, Known::Exceptions, attributes) <= 1
         && have_content_of(class, &OF_METHOD, attributes)
 }

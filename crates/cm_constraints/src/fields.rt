@@ -23,7 +23,7 @@ pub fn names_utf8s(class: &Class, member: &Member) -> bool
 {
     class.names(member.name, Kind::Utf8)
         && class.names(member.descriptor, Kind::Utf8)
-        && attributes_name_utf8s(class, member.attributes.as_slice())
+        && attributes_name_utf8s(class, member.attributes())
 }
 
 /// Whether a field has a field's name and descriptor (JVMS 4.5).

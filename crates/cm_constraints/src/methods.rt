@@ -57,7 +57,7 @@ pub fn flags_fit_method(class: &Class, method: &Member) -> bool
 pub fn code_count_is_right(class: &Class, method: &Member) -> bool
     ensures { result ≡ code_count_is_right class.now method.now }
 {
-    let codes = count(class, Known::Code, method.attributes.as_slice());
+    let codes = count(class, Known::Code, method.attributes());
     if is_clinit(class, method) {
         codes <= 1
     } else if has(method.flags, ACC_NATIVE | ACC_ABSTRACT) {
@@ -72,9 +72,8 @@ pub fn code_has_form(class: &Class, method: &Member) -> bool
     ensures { result ≡ code_has_form class.now method.now }
 {
     method
-        .attributes
-        .as_slice()
+        .attributes()
         .iter()
         .filter(|attribute| is_known(class, Known::Code, attribute))
-        .all(|attribute| is_content(class, Known::Code, attribute.bytes.as_slice()))
+        .all(|attribute| is_content(class, Known::Code, attribute.content()))
 }

@@ -11,12 +11,8 @@ use Rattle.cm_disk.specs.declared.medium.OpenRange.{OpenRange}
 use Rattle.cm_disk.specs.Disk.{is_among, Unsynced, IsImage, IsWithin, widened, shortened}
 use Rattle.cm_disk.specs.Calls.{IsTorn, IsCut, Elapses}
 use Rattle.cm_disk.specs.Moments.{Moment, MayLeave, LeftAtOne, noted_since, unsynced_of, is_in}
+use Rattle.cm_disk.specs.Moments.{LeftSince}
 use Rattle.cm_disk.proofs.Images.{within, after_write, after_cut}
-
--- left_since of a disk in memory
-abbrev pub Left : List ℕ → Unsynced → List Moment → ℕ → List ℕ → Type 0
-Left bytes unsynced moments t image =
-    IsImage bytes unsynced image ⊎ LeftAtOne (noted_since t moments) image
 
 abbrev pub unsynced_at : Moment → Unsynced
 unsynced_at m = unsynced_of m.ranges m.least m.greatest
@@ -34,7 +30,8 @@ pub elapses : (bytes bytes' : List ℕ) (u u' : Unsynced) (moments moments' : Li
     → ((image : List ℕ) → IsImage bytes u image → MayLeave m image)
     → ((image : List ℕ) → MayLeave m image → during image)
     → ((image : List ℕ) → IsImage bytes' u' image → during image)
-    → Elapses (length moments) (length moments') (Left bytes u moments) (Left bytes' u' moments')
+    → Elapses (length moments) (length moments') (LeftSince bytes u moments) (LeftSince bytes' u'
+    moments')
     during
 elapses bytes bytes' u u' moments moments' m during e covers allowed after =
     let since : (t : ℕ) → t ≤ length moments → noted_since t moments' ≡ m ∷ noted_since t moments =
@@ -54,7 +51,8 @@ pub elapses_write : (at n : ℕ) (bytes bytes' : List ℕ) (u u' : Unsynced)
     (moments moments' : List Moment) (m : Moment) → moments' ≡ m ∷ moments → m.bytes ≡ bytes
     → IsWithin (unsynced_at m) u → IsWithin (widened at n u) (unsynced_at m)
     → IsTorn at n bytes bytes' → IsWithin (widened at n u) u'
-    → Elapses (length moments) (length moments') (Left bytes u moments) (Left bytes' u' moments')
+    → Elapses (length moments) (length moments') (LeftSince bytes u moments) (LeftSince bytes' u'
+    moments')
     (IsImage bytes (widened at n u))
 elapses_write at n bytes bytes' u u' moments moments' m e same wider narrow torn w =
     elapses bytes bytes' u u' moments moments' m (IsImage bytes (widened at n u)) e
@@ -66,7 +64,8 @@ pub elapses_cut : (len : ℕ) (bytes bytes' : List ℕ) (u u' : Unsynced)
     (moments moments' : List Moment) (m : Moment) → moments' ≡ m ∷ moments → m.bytes ≡ bytes
     → IsWithin (unsynced_at m) u → IsWithin (shortened len u) (unsynced_at m)
     → IsCut len bytes bytes' → IsWithin (shortened len u) u'
-    → Elapses (length moments) (length moments') (Left bytes u moments) (Left bytes' u' moments')
+    → Elapses (length moments) (length moments') (LeftSince bytes u moments) (LeftSince bytes' u'
+    moments')
     (IsImage bytes (shortened len u))
 elapses_cut len bytes bytes' u u' moments moments' m e same wider narrow cut w =
     elapses bytes bytes' u u' moments moments' m (IsImage bytes (shortened len u)) e
@@ -77,7 +76,8 @@ elapses_cut len bytes bytes' u u' moments moments' m e same wider narrow cut w =
 pub elapses_sync : (bytes bytes' : List ℕ) (u u' : Unsynced) (moments moments' : List Moment)
     (m : Moment) → moments' ≡ m ∷ moments → m.bytes ≡ bytes
     → unsynced_at m ≡ u → bytes' ≡ bytes → IsWithin u u'
-    → Elapses (length moments) (length moments') (Left bytes u moments) (Left bytes' u' moments')
+    → Elapses (length moments) (length moments') (LeftSince bytes u moments) (LeftSince bytes' u'
+    moments')
     (IsImage bytes u)
 elapses_sync bytes bytes' u u' moments moments' m e same at_m stay w =
     elapses bytes bytes' u u' moments moments' m (IsImage bytes u) e

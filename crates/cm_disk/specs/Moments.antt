@@ -38,6 +38,11 @@ LeftAtOne (moment ∷ moments) image = MayLeave moment image ⊎ LeftAtOne momen
 abbrev pub noted_since : ℕ → List Moment → List Moment
 noted_since t moments = take (length moments - t) moments
 
+-- what a crash may leave of these bytes now, or might have left at a moment since number t
+abbrev pub LeftSince : List ℕ → Unsynced → List Moment → ℕ → List ℕ → Type 0
+LeftSince bytes unsynced moments t image =
+    IsImage bytes unsynced image ⊎ LeftAtOne (noted_since t moments) image
+
 none_noted : (moments : List Moment) (k : ℕ) (image : List ℕ) → k ≡ 0
     → LeftAtOne (take k moments) image → ⊥
 none_noted moments zero image e left = left

@@ -6,7 +6,7 @@ use Rattle.cm_disk.specs.declared.sim.SimDisk.{SimDisk}
 use Rattle.cm_disk.specs.Disk.{Unsynced, IsImage, IsSettled, IsWithin, widened, shortened}
 use Rattle.cm_disk.specs.Calls.{overwritten}
 use Rattle.cm_disk.specs.Medium.{medium_unsynced}
-use Rattle.cm_disk.specs.Moments.{LeftAtOne, noted_since}
+use Rattle.cm_disk.specs.Moments.{LeftAtOne, noted_since, LeftSince}
 
 abbrev pub sim_contents : SimDisk → List ℕ
 sim_contents disk = disk.medium.bytes.items
@@ -23,8 +23,7 @@ sim_moment disk = length disk.history.moments
 -- what a crash may leave now, or might have left at a moment since t
 abbrev pub sim_left_since : SimDisk → ℕ → List ℕ → Type 0
 sim_left_since disk t image =
-    IsImage (sim_contents disk) (sim_unsynced disk) image
-    ⊎ LeftAtOne (noted_since t disk.history.moments) image
+    LeftSince (sim_contents disk) (sim_unsynced disk) disk.history.moments t image
 
 -- the calls that it has had, whatever they were answered
 abbrev pub sim_calls : SimDisk → ℕ

@@ -6,7 +6,7 @@ use crate::turning::OPEN;
 use cm_disk::{DeviceFault, Disk};
 
 /// Reads two parts.
-#[tactic(auto, using(cm_guards::proofs::Left::reading))]
+#[tactic(auto, using(cm_guards::proofs::reading))]
 pub fn read_both<D: Disk>(
     disk: &mut D,
     at: u64,
@@ -29,7 +29,7 @@ pub fn read_both<D: Disk>(
 
 /// How many of the slots of 64 bytes begin with an open gate. The clause is on the run of reads
 /// alone.
-#[tactic(auto, using(cm_guards::proofs::Left::reading))]
+#[tactic(auto, using(cm_guards::proofs::reading))]
 pub fn count_open<D: Disk>(disk: &mut D, slots: u32) -> Result<u32, DeviceFault>
     requires { 64 * slots ≤ length (D.contents disk.old) }
     ensures reads { Reads D.contents D.unsynced D.failures D.moment D.left_since disk.old disk.new

@@ -9,7 +9,7 @@ use crate::turning::Guarded;
 use cm_disk::{DeviceFault, Disk};
 
 /// Cuts to a length that the claim doesn't need more than.
-#[tactic(auto, using(cm_guards::proofs::Steps::cutting))]
+#[tactic(auto, using(cm_guards::proofs::cutting))]
 pub fn cut_behind<D: Disk, P: Guarded>(disk: &mut D, len: u64) -> Result<(), DeviceFault>
     requires within { len ≤ length (D.contents disk.old) }
     requires guards { Guards P.guard P.holds }
@@ -24,7 +24,7 @@ pub fn cut_behind<D: Disk, P: Guarded>(disk: &mut D, len: u64) -> Result<(), Dev
 }
 
 /// Cuts, and stores the length.
-#[tactic(auto, using(cm_guards::proofs::Steps::syncing))]
+#[tactic(auto, using(cm_guards::proofs::syncing))]
 pub fn trim<D: Disk, P: Guarded>(disk: &mut D, len: u64) -> Result<(), DeviceFault>
     requires within { len ≤ length (D.contents disk.old) }
     requires guards { Guards P.guard P.holds }

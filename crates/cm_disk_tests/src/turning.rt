@@ -19,7 +19,7 @@ pub trait Guarded: Claim {
 }
 
 /// Writes bytes where nothing is guarded.
-#[tactic(auto, using(cm_guards::proofs::Steps::writing))]
+#[tactic(auto, using(cm_guards::proofs::writing))]
 pub fn write_apart<D: Disk, P: Guarded>(
     disk: &mut D,
     at: u64,
@@ -40,7 +40,7 @@ pub fn write_apart<D: Disk, P: Guarded>(
 }
 
 /// Writes them, and stores them.
-#[tactic(auto, using(cm_guards::proofs::Steps::syncing))]
+#[tactic(auto, using(cm_guards::proofs::syncing))]
 pub fn store_apart<D: Disk, P: Guarded>(
     disk: &mut D,
     at: u64,
@@ -63,7 +63,7 @@ pub fn store_apart<D: Disk, P: Guarded>(
 }
 
 /// Writes the gate's byte where all is stored.
-#[tactic(auto, using(cm_guards::proofs::Steps::gating))]
+#[tactic(auto, using(cm_guards::proofs::gating))]
 pub fn write_gate<D: Disk, P: Claim, Q: Claim>(disk: &mut D, gate: u64) -> Result<(), DeviceFault>
     requires within_limit { gate + 1 ≤ 2 ^ 40 }
     requires settled { IsSettled (D.contents disk.old) (D.unsynced disk.old) }
@@ -80,7 +80,7 @@ pub fn write_gate<D: Disk, P: Claim, Q: Claim>(disk: &mut D, gate: u64) -> Resul
 }
 
 /// Writes it, and stores it.
-#[tactic(auto, using(cm_guards::proofs::Steps::settling))]
+#[tactic(auto, using(cm_guards::proofs::settling))]
 pub fn turn_gate<D: Disk, P: Claim, Q: Claim>(disk: &mut D, gate: u64) -> Result<(), DeviceFault>
     requires within_limit { gate + 1 ≤ 2 ^ 40 }
     requires settled { IsSettled (D.contents disk.old) (D.unsynced disk.old) }
@@ -98,7 +98,7 @@ pub fn turn_gate<D: Disk, P: Claim, Q: Claim>(disk: &mut D, gate: u64) -> Result
 }
 
 /// From the first claim to the second: bytes apart from what the first rests on, and the gate.
-#[tactic(auto, using(cm_guards::proofs::Steps::turning))]
+#[tactic(auto, using(cm_guards::proofs::turning))]
 pub fn turn<D: Disk, P: Guarded, Q: Claim>(
     disk: &mut D,
     at: u64,

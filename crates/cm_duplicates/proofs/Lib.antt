@@ -1,4 +1,4 @@
-pub mod FirstDuplicate
-pub mod Interning
-pub mod Repeating
-pub mod SeenMembers
+mod FirstDuplicate
+mod Interning
+mod Repeating
+mod SeenMembers

@@ -2,7 +2,7 @@
 -- For `Course::note`.
 use Rattle.std.proofs.Common.{ℕ, List, refl, take}
 use Rattle.cm_disk.specs.Calls.{overwritten}
-use Rattle.cm_disk.proofs.Images.{untouched_torn, uncut}
+use Rattle.cm_disk.proofs.{untouched_torn, uncut}
 use Rattle.cm_file_disk.specs.declared.course.Call.{Call}
 use Rattle.cm_file_disk.specs.declared.course.Call.TheVariants.{Opened, Wrote, NotWritten, Cut}
 use Rattle.cm_file_disk.specs.declared.course.Call.TheVariants.{NotCut, Synced, Failed}

@@ -1,2 +1,2 @@
-pub mod Followed
-pub mod Noted
+mod Followed
+mod Noted

@@ -5,9 +5,9 @@ use Rattle.std.proofs.Common.{subst, refl, arith}
 use Rattle.std.proofs.lemmas.List.{length-take-le}
 use Rattle.cm_disk.specs.Disk.{Unsynced, IsImage, IsWithin, widened, shortened}
 use Rattle.cm_disk.specs.Calls.{IsTorn, IsCut, Elapses}
-use Rattle.cm_disk.specs.Moments.{Moment}
-use Rattle.cm_disk.proofs.Elapsed.{Left, elapses_write, elapses_cut, elapses_sync, wider, narrow}
-use Rattle.cm_disk.proofs.Images.{overwritten_torn}
+use Rattle.cm_disk.specs.Moments.{Moment, LeftSince}
+use Rattle.cm_disk.proofs.{elapses_write, elapses_cut, elapses_sync, wider, narrow}
+use Rattle.cm_disk.proofs.{overwritten_torn}
 use Rattle.cm_file_disk.specs.declared.course.Call.{Call}
 use Rattle.cm_file_disk.specs.declared.course.Call.TheVariants.{Wrote, NotWritten, Cut, NotCut}
 use Rattle.cm_file_disk.specs.declared.course.Call.TheVariants.{Synced}
@@ -18,8 +18,8 @@ use Rattle.cm_file_disk.specs.Calls.{Leaves, Follows, after, gone}
 abbrev pub Passes : Unsynced → State → State → Type 0
 Passes most old new =
     Elapses (length old.moments) (length new.moments)
-    (Left old.now.bytes (moment_unsynced old.now) old.moments)
-    (Left new.now.bytes (moment_unsynced new.now) new.moments) (IsImage old.now.bytes most)
+    (LeftSince old.now.bytes (moment_unsynced old.now) old.moments)
+    (LeftSince new.now.bytes (moment_unsynced new.now) new.moments) (IsImage old.now.bytes most)
 
 passes_write : (at n failures : ℕ) (old : State) (left : List ℕ) → IsTorn at n old.now.bytes left
     → Passes (widened at n (moment_unsynced old.now)) old

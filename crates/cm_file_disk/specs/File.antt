@@ -4,7 +4,7 @@ use Rattle.std.specs.Prelude.{Option, is_some, is_err, Result, not, if◌then◌
 use Rattle.std.specs.declared.io.Error.{Error}
 use Rattle.cm_disk.specs.declared.disk.DeviceFault.{DeviceFault}
 use Rattle.cm_disk.specs.Disk.{Unsynced, IsImage, IsSettled}
-use Rattle.cm_disk.specs.Moments.{LeftAtOne, noted_since}
+use Rattle.cm_disk.specs.Moments.{LeftAtOne, noted_since, LeftSince}
 use Rattle.cm_file_disk.specs.declared.disk.FileDisk.{FileDisk}
 use Rattle.cm_file_disk.specs.State.{State, moment_unsynced}
 use Rattle.cm_file_disk.specs.Image.{image_is_whole, image_cause}
@@ -27,8 +27,7 @@ file_moment disk = length (file_state disk).moments
 -- what a crash may leave now, or might have left at a moment since t
 abbrev pub file_left_since : FileDisk → ℕ → List ℕ → Type 0
 file_left_since disk t image =
-    IsImage (file_contents disk) (file_unsynced disk) image
-    ⊎ LeftAtOne (noted_since t (file_state disk).moments) image
+    LeftSince (file_contents disk) (file_unsynced disk) (file_state disk).moments t image
 
 -- its bytes are still those that were read: nothing was written or cut since it was opened
 abbrev pub is_whole : FileDisk → Bool

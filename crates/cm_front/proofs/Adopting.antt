@@ -6,7 +6,7 @@ use Rattle.std.proofs.Common.{cond, List, [], ◌∷◌, ◌++◌, map, Option, 
 use Rattle.std.proofs.Common.{sym, ap, subst, ◌∙◌, arith, eqb}
 use Rattle.std.specs.Prelude.{◌&&◌, nat_le, nat_lt, filter, sum, max}
 use Rattle.std.specs.Option.{option_map, option_map_or}
-use Rattle.std.proofs.lemmas.Bool.{eqb-true, ltb-true, leb-true}
+use Rattle.std.proofs.lemmas.Bool.{eqb-true, ltb-true, leb-true, and_parts, or_cases}
 use Rattle.cm_pool.specs.declared.chunk.Chunk.{Chunk}
 use Rattle.cm_pool.specs.declared.place.Place.{Place}
 use Rattle.cm_pool.specs.Places.{IsInside}
@@ -15,6 +15,7 @@ use Rattle.cm_pool.specs.Geometry.{Sizes, IsGeometry}
 use Rattle.cm_pool.specs.FreeSpace.{FreeSpace, IsFreeWord, IsFreeChunk}
 use Rattle.cm_pool.specs.Lists.{Among}
 use Rattle.cm_pool.specs.SpaceLaws.{RootsKeepHeld, RootsLoseNone}
+use Rattle.cm_pool.proofs.{same_chunk-true, same_chunk-itself}
 use Rattle.cm_arena.specs.Chains.{Filled, chunks_of, last_of}
 use Rattle.cm_arena.specs.Placing.{next_offset, with_place}
 use Rattle.cm_layout.specs.declared.class_row.ClassRow.{ClassRow}
@@ -24,14 +25,15 @@ use Rattle.cm_layout.specs.Rules.{is_live, has_room, broken_of}
 use Rattle.cm_layout.specs.declared.row.Row.TheVariants.{Loader, Class}
 use Rattle.std.proofs.lemmas.List.Sums.{sum_by-cons}
 use Rattle.cm_layout.specs.Frames.{BareRow, AreApart, LiveRowsKeep}
+use Rattle.cm_layout.proofs.{last_chunk-among, is_unused-apart}
 use Rattle.cm_space.specs.Space.{SpaceState, arena_of}
 use Rattle.cm_space.specs.Adopting.{with_roots, reaching, IsAdoptable}
 use Rattle.cm_space.specs.Ownership.{IsSpace, Owns, WaitsFor}
 use Rattle.cm_space.specs.Laws.{EachWord, RootsReach}
 use Rattle.cm_front.specs.Chains.{chain_from, top_of}
 use Rattle.cm_front.specs.Laws.{GoesWith}
-use Rattle.cm_front.proofs.Chains.{both, either, same_chunk-true, same-itself, never-on, last-row}
-use Rattle.cm_front.proofs.Chains.{unused-apart, no_last}
+use Rattle.cm_front.proofs.Chains.{never-on}
+use Rattle.cm_front.proofs.Chains.{no_last}
 use Rattle.cm_front.proofs.Tops.{chains_end_at_top}
 
 -- ---- whose chunks a chain has
@@ -155,10 +157,10 @@ some_words sizes n pre (Class r p ∷ rows) k s (inl e) =
     let chunk = is_chunk sizes r.place.chunk in
     let words = nat_le 1 r.place.words in
     let within = nat_le (r.place.offset + r.place.words) (chunk_size r.place.chunk.order) in
-    let front = both (chunk && words) within
-    (both (chunk && words && within) (has_place pre r) fits).0 in
+    let front = and_parts (chunk && words) within
+    (and_parts (chunk && words && within) (has_place pre r) fits).0 in
     subst (λ (t : ClassRow). 1 ≤ t.place.words) (sym e)
-    (leb-true 1 r.place.words (both chunk words front.0).1)
+    (leb-true 1 r.place.words (and_parts chunk words front.0).1)
 
 words_at_least : (c : Chunk) (classes : List ClassRow) (s : ClassRow) → Among s classes
     → s.place.chunk ≡ c → s.place.words ≤ words_of c classes
@@ -185,7 +187,7 @@ words_at_least c (r ∷ classes) s m e =
         omega (arith, first, behind)
     by_test rest false t (inl is) =
         absurd (true_not (sym (ap (λ (k : ClassRow). same_chunk k.place.chunk c) (sym is)
-        ∙ (ap (λ d. same_chunk d c) e ∙ same-itself c)) ∙ t))
+        ∙ (ap (λ d. same_chunk d c) e ∙ same_chunk-itself c)) ∙ t))
     by_test rest false t (inr later) = rest later
 
 -- ---- where a class's record goes
@@ -231,9 +233,9 @@ chunk_block sizes c e =
     let root = nat_lt c.root sizes.roots in
     let aligned = eqb (c.at % chunk_size c.order) 0 in
     let inside = nat_le (c.at + chunk_size c.order) (chunk_size sizes.top) in
-    let last = both (small && root && aligned) inside e in
-    let mid = both (small && root) aligned last.0 in
-    let begin = both small root mid.0 in
+    let last = and_parts (small && root && aligned) inside e in
+    let mid = and_parts (small && root) aligned last.0 in
+    let begin = and_parts small root mid.0 in
     record {
       within_top = leb-true c.order sizes.top begin.0;
       in_a_root = ltb-true c.root sizes.roots begin.1;
@@ -278,7 +280,7 @@ free_there laws sizes n pre space h c chunk unused =
         let mine : Covers c c.root word = record { same_root = refl; from = from; to = to } in
         let shared : Meets c row.0.place.chunk =
         subst (λ d. Meets c d) (sym row.2) (c.root, word, mine, owned.3) in
-        absurd (unused-apart c (classes_in pre) row.0 unused row.1 shared)
+        absurd (is_unused-apart c (classes_in pre) row.0 unused row.1 shared)
     by_word word from to (inr (inr waits)) =
         let among : Among waits.2.0 space.waiting = waits.2.1 in
         absurd (subst (λ l. Among waits.2.0 l) h.waiting among)
@@ -286,7 +288,7 @@ free_there laws sizes n pre space h c chunk unused =
 pub adoptable : SpaceLaws → (sizes : Sizes) (n : ℕ) (pre : List BareRow) (space : SpaceState)
     → Stands sizes n pre space → (r : ClassRow) → class_fits sizes pre r ≡ true
     → IsAdoptable (arena_of space r.loader) space.pool r.place
-adoptable laws sizes n pre space h r fits = by_place (either on_top new place)
+adoptable laws sizes n pre space h r fits = by_place (or_cases on_top new place)
   where
     chunk : Bool
     chunk = is_chunk sizes r.place.chunk
@@ -306,16 +308,16 @@ adoptable laws sizes n pre space h r fits = by_place (either on_top new place)
     new = eqb r.place.offset 0 && is_unused r.place.chunk pre
 
     parts : ((chunk && words && within) ≡ true) × (has_place pre r ≡ true)
-    parts = both (chunk && words && within) (has_place pre r) fits
+    parts = and_parts (chunk && words && within) (has_place pre r) fits
 
     front : ((chunk && words) ≡ true) × (within ≡ true)
-    front = both (chunk && words) within parts.0
+    front = and_parts (chunk && words) within parts.0
 
     place : has_place pre r ≡ true
     place = parts.1
 
     chunk_is : chunk ≡ true
-    chunk_is = (both chunk words front.0).0
+    chunk_is = (and_parts chunk words front.0).0
 
     inside : IsInside r.place
     inside =
@@ -325,12 +327,12 @@ adoptable laws sizes n pre space h r fits = by_place (either on_top new place)
         let end = nat_le (r.place.chunk.at + chunk_size r.place.chunk.order)
         (chunk_size sizes.top) in
         let order = leb-true r.place.chunk.order sizes.top
-        (both small root (both (small && root) aligned
-        (both (small && root && aligned) end chunk_is).0).0).0 in
+        (and_parts small root (and_parts (small && root) aligned
+        (and_parts (small && root && aligned) end chunk_is).0).0).0 in
         let top = h.lawful.top_to in
         record {
           small = omega (arith, order, top);
-          some = leb-true 1 r.place.words (both chunk words front.0).1;
+          some = leb-true 1 r.place.words (and_parts chunk words front.0).1;
           within = leb-true (r.place.offset + r.place.words)
               (chunk_size r.place.chunk.order) front.1;
         }
@@ -342,14 +344,14 @@ adoptable laws sizes n pre space h r fits = by_place (either on_top new place)
     by_place : (on_top ≡ true) ⊎ (new ≡ true)
         → IsAdoptable (arena_of space r.loader) space.pool r.place
     by_place (inl e) =
-        let both_on = both (is_last_chunk r.loader r.place.chunk pre)
+        let both_on = and_parts (is_last_chunk r.loader r.place.chunk pre)
         (eqb r.place.offset (used_words r.place.chunk pre)) e in
         let last = last_is (last_chunk r.loader (classes_in pre)) r.place.chunk both_on.0 in
         let offset = eqb-true r.place.offset (used_words r.place.chunk pre) both_on.1 in
         let here : last_of (arena_of space r.loader)
         ≡ Some (record { chunk = r.place.chunk; used = used_words r.place.chunk pre }) =
         tops ∙ ap (option_map (λ c. record { chunk = c; used = used_words c pre })) last in
-        let row = last-row r.loader (classes_in pre) r.place.chunk last in
+        let row = last_chunk-among r.loader (classes_in pre) r.place.chunk last in
         let some = some_words sizes n [] pre h.live row.0 row.1 in
         let counted : row.0.place.words ≤ used_words r.place.chunk pre =
         words_at_least r.place.chunk (classes_in pre) row.0 row.1 row.3 in
@@ -358,12 +360,13 @@ adoptable laws sizes n pre space h r fits = by_place (either on_top new place)
             inside = inside;
             offset = offset ∙ sym (next_at (arena_of space r.loader) r.place.chunk
                 (record { chunk = r.place.chunk; used = used_words r.place.chunk pre }) here
-                ∙ ap (λ t. cond t (used_words r.place.chunk pre) 0) (same-itself r.place.chunk));
+                ∙ ap (λ t. cond t (used_words r.place.chunk pre) 0) (same_chunk-itself
+                r.place.chunk));
           };
           front = λ zero_is. absurd (omega (arith, zero_is, offset, some, counted));
         }
     by_place (inr e) =
-        let both_new = both (eqb r.place.offset 0) (is_unused r.place.chunk pre) e in
+        let both_new = and_parts (eqb r.place.offset 0) (is_unused r.place.chunk pre) e in
         let zero_is = eqb-true r.place.offset 0 both_new.0 in
         record {
           next = record { inside = inside; offset = zero_is ∙ sym (next_zero both_new.1) };
@@ -387,7 +390,7 @@ adoptable laws sizes n pre space h r fits = by_place (either on_top new place)
                 (no_last (arena_of space r.loader)
                 (tops ∙ ap (option_map (λ c. record { chunk = c; used = used_words c pre })) is))
             by_last (Some d) is =
-                let row = last-row r.loader (classes_in pre) d is in
+                let row = last_chunk-among r.loader (classes_in pre) d is in
                 let other : same_chunk d r.place.chunk ≡ false =
                 subst (λ (c : Chunk). same_chunk c r.place.chunk ≡ false) row.3
                 (never-on r.place.chunk (classes_in pre) unused row.0 row.1) in

@@ -6,7 +6,8 @@ use Rattle.std.proofs.Common.{subst, ◌∙◌, arith, eqb}
 use Rattle.std.specs.Prelude.{◌&&◌, ◌||◌, not, filter, sum, nat_le, nat_lt, max, min}
 use Rattle.std.specs.List.{list_any}
 use Rattle.std.specs.Option.{option_map, option_map_or}
-use Rattle.std.proofs.lemmas.Bool.{eqb-true, eq-eqb, lt-ltb, ltb-true, leb-true}
+use Rattle.std.proofs.lemmas.Bool.{eqb-true, eq-eqb, lt-ltb, ltb-true, leb-true, and_parts}
+use Rattle.std.proofs.lemmas.Bool.{or_cases}
 use Rattle.std.proofs.lemmas.List.{map-append}
 use Rattle.std.proofs.lemmas.List.Sums.{sum_by-append}
 use Rattle.std.proofs.lemmas.List.Elements.{filter-append}
@@ -16,6 +17,7 @@ use Rattle.cm_pool.specs.declared.place.Place.{Place}
 use Rattle.cm_pool.specs.Chunks.{chunk_size, same_chunk, Meets, Covers}
 use Rattle.cm_pool.specs.Geometry.{Sizes}
 use Rattle.cm_pool.specs.Lists.{Among}
+use Rattle.cm_pool.proofs.{same_chunk-true, same_chunk-itself, meets-itself, same_chunk-false}
 use Rattle.cm_arena.specs.Chains.{Filled, last_of}
 use Rattle.cm_arena.specs.Placing.{with_place}
 use Rattle.cm_layout.specs.declared.class_row.ClassRow.{ClassRow}
@@ -24,75 +26,13 @@ use Rattle.cm_layout.specs.Rows.{classes_in, last_chunk, used_words}
 use Rattle.cm_layout.specs.Rules.{is_live, is_chunk, meets, is_unused, is_last_chunk, has_place}
 use Rattle.cm_layout.specs.Rules.{class_fits, broken_of, has_room}
 use Rattle.cm_layout.specs.Frames.{BareRow, AreApart}
+use Rattle.cm_layout.proofs.{meets-true, meets-from, last_chunk-among, is_unused-apart}
+use Rattle.cm_layout.proofs.{classes_in-append}
 use Rattle.cm_front.specs.Chains.{chain_from, chain_of, top_of}
 
 -- ---- tests
 
-pub both : (a b : Bool) → (a && b) ≡ true → (a ≡ true) × (b ≡ true)
-both true b h = (refl, h)
-both false b h = absurd (cc)
-
-pub either : (a b : Bool) → (a || b) ≡ true → (a ≡ true) ⊎ (b ≡ true)
-either true b h = inl refl
-either false b h = inr h
-
-pub same_chunk-true : (a b : Chunk) → same_chunk a b ≡ true → a ≡ b
-same_chunk-true a b h =
-    let p = both (eqb a.root b.root) (eqb a.order b.order && eqb a.at b.at) h in
-    let q = both (eqb a.order b.order) (eqb a.at b.at) p.1 in
-    let root : a.root ≡ b.root = eqb-true a.root b.root p.0 in
-    let order : a.order ≡ b.order = eqb-true a.order b.order q.0 in
-    let at_is : a.at ≡ b.at = eqb-true a.at b.at q.1 in
-    (λ i. record { root = root i; order = order i; at = at_is i })
-
-pub same-itself : (a : Chunk) → same_chunk a a ≡ true
-same-itself a =
-    rw (eq-eqb a.root a.root refl) (rw (eq-eqb a.order a.order refl) (eq-eqb a.at a.at refl))
-
-pub not_same : (c d : Chunk) → (c ≡ d → ⊥) → same_chunk c d ≡ false
-not_same c d differ = by_test (same_chunk c d) refl
-  where
-    by_test : (t : Bool) → same_chunk c d ≡ t → t ≡ false
-    by_test true e = absurd (differ (same_chunk-true c d e))
-    by_test false e = refl
-
-pub meets-itself : (a : Chunk) → Meets a a
-meets-itself a =
-    let some : 0 < 2 ^ a.order = pow_pos a.order in
-    let first : Covers a a.root a.at =
-    record { same_root = refl; from = omega arith; to = omega arith } in
-    (a.root, a.at, first, first)
-
-meets-true : (a b : Chunk) → Meets a b → meets a b ≡ true
-meets-true a b m =
-    let in_a : Covers a m.0 m.1 = m.2 in
-    let in_b : Covers b m.0 m.1 = m.3 in
-    let roots : a.root ≡ b.root = sym in_a.same_root ∙ in_b.same_root in
-    let test : eqb a.root b.root ≡ true = eq-eqb a.root b.root roots in
-    rw test (lt-ltb _ _ (omega (arith, in_a.from, in_a.to, in_b.from, in_b.to)))
-
--- chunks that pass the test share a word
-pub meets-from : (a b : Chunk) → meets a b ≡ true → Meets a b
-meets-from a b h =
-    let from = max a.at b.at in
-    let to = min (a.at + chunk_size a.order) (b.at + chunk_size b.order) in
-    let parts = both (eqb a.root b.root) (nat_lt from to) h in
-    let lt = ltb-true from to parts.1 in
-    let root = eqb-true a.root b.root parts.0 in
-    let in_a : Covers a a.root from =
-    record { same_root = refl; from = omega arith; to = omega (arith, lt) } in
-    let in_b : Covers b a.root from =
-    record { same_root = root; from = omega arith; to = omega (arith, lt) } in
-    (a.root, from, in_a, in_b)
-
 -- ---- one class more
-
-pub classes-more : (rows : List BareRow) (row : BareRow)
-    → classes_in (rows ++ row ∷ []) ≡ classes_in rows ++ classes_in (row ∷ [])
-classes-more [] (Loader r) = refl
-classes-more [] (Class r p) = refl
-classes-more (Loader s ∷ rows) row = classes-more rows row
-classes-more (Class s p ∷ rows) row = ap (λ l. s ∷ l) (classes-more rows row)
 
 chain-more : (chain : List Filled) (u : ℕ) (classes : List ClassRow) (r : ClassRow)
     → chain_from chain u (classes ++ r ∷ [])
@@ -132,7 +72,7 @@ chain-more chain u (s ∷ classes) r =
 pub chain_grows : (u : ℕ) (rows : List BareRow) (r : ClassRow) → r.loader ≡ u
     → chain_of u (rows ++ Class r (tt {0}) ∷ []) ≡ with_place (chain_of u rows) r.place
 chain_grows u rows r e =
-    ap (chain_from [] u) (classes-more rows (Class r (tt {0})))
+    ap (chain_from [] u) (classes_in-append rows (Class r (tt {0}) ∷ []))
     ∙ (chain-more [] u (classes_in rows) r
     ∙ ap (λ t. cond t (with_place (chain_of u rows) r.place) (chain_of u rows))
     (eq-eqb r.loader u e))
@@ -140,7 +80,7 @@ chain_grows u rows r e =
 pub chain_stays : (u : ℕ) (rows : List BareRow) (r : ClassRow) → eqb r.loader u ≡ false
     → chain_of u (rows ++ Class r (tt {0}) ∷ []) ≡ chain_of u rows
 chain_stays u rows r e =
-    ap (chain_from [] u) (classes-more rows (Class r (tt {0})))
+    ap (chain_from [] u) (classes_in-append rows (Class r (tt {0}) ∷ []))
     ∙ (chain-more [] u (classes_in rows) r
     ∙ ap (λ t. cond t (with_place (chain_of u rows) r.place) (chain_of u rows)) e)
 
@@ -199,7 +139,8 @@ used-more : (c : Chunk) (rows : List BareRow) (r : ClassRow)
     ≡ used_words c rows + cond (same_chunk r.place.chunk c) r.place.words 0
 unfolding words_on
 used-more c rows r =
-    ap (words_on c) (classes-more rows (Class r (tt {0}))) ∙ words-more c (classes_in rows) r
+    ap (words_on c) (classes_in-append rows (Class r (tt {0}) ∷ [])) ∙ words-more c
+    (classes_in rows) r
 
 -- no record is on a chunk that no row uses
 unused-words : (c : Chunk) (classes : List ClassRow)
@@ -260,25 +201,6 @@ no_last [] e = refl
 no_last (f ∷ []) e = absurd (cc)
 no_last (f ∷ g ∷ rest) e = let none : (g ∷ rest) ≡ [] = no_last (g ∷ rest) e in absurd (cc)
 
--- the row of a last chunk
-pub last-row : (u : ℕ) (classes : List ClassRow) (c : Chunk) → last_chunk u classes ≡ Some c
-    → (s : ClassRow) × Among s classes × (s.loader ≡ u) × (s.place.chunk ≡ c)
-last-row u [] c h = absurd (cc)
-last-row u (r ∷ classes) c h = by_rest (last_chunk u classes) (last-row u classes c) h
-  where
-    by_first : (t : Bool) → eqb r.loader u ≡ t → cond t (Some r.place.chunk) None ≡ Some c
-        → (s : ClassRow) × Among s (r ∷ classes) × (s.loader ≡ u) × (s.place.chunk ≡ c)
-    by_first true e is = (r, inl refl, eqb-true r.loader u e, cc)
-    by_first false e is = absurd (cc)
-
-    by_rest : (o : Option Chunk)
-        → (o ≡ Some c → (s : ClassRow) × Among s classes × (s.loader ≡ u) × (s.place.chunk ≡ c))
-        → elim o [ Some d ↦ Some d | None ↦ cond (eqb r.loader u) (Some r.place.chunk) None ]
-        ≡ Some c
-        → (s : ClassRow) × Among s (r ∷ classes) × (s.loader ≡ u) × (s.place.chunk ≡ c)
-    by_rest (Some d) later is = let found = later is in (found.0, inr found.1, found.2, found.3)
-    by_rest None later is = by_first (eqb r.loader u) refl is
-
 -- the last chunk, by the test on it
 last-is : (c : Chunk) (o : Option Chunk)
     → option_map_or (λ last. same_chunk last c) o false ≡ true → o ≡ Some c
@@ -293,45 +215,11 @@ own-last u rows r mine h =
     subst (λ (v : ℕ). last_chunk v (classes_in rows) ≡ Some r.place.chunk) mine
     (last-is r.place.chunk (last_chunk r.loader (classes_in rows)) h)
 
--- a chunk that no row uses is none of theirs
-pub unused-apart : (c : Chunk) (classes : List ClassRow) (s : ClassRow)
-    → not (list_any (meets c) (map (λ (r : ClassRow). r.place.chunk) classes)) ≡ true
-    → Among s classes → ¬ Meets c s.place.chunk
-unused-apart c [] s h none = absurd none
-unused-apart c (r ∷ classes) s h m =
-    by_first (λ later rest. unused-apart c classes s later rest) (meets c r.place.chunk) refl m h
-  where
-    by_first : (not (list_any (meets c) (map (λ (d : ClassRow). d.place.chunk) classes)) ≡ true
-        → Among s classes → ¬ Meets c s.place.chunk)
-        → (t : Bool) → meets c r.place.chunk ≡ t → Among s (r ∷ classes)
-        → not (t || list_any (meets c) (map (λ (d : ClassRow). d.place.chunk) classes)) ≡ true
-        → ¬ Meets c s.place.chunk
-    by_first behind true e m h = absurd (cc)
-    by_first behind false e (inl is) h = λ shared.
-        let yes : meets c r.place.chunk ≡ true =
-        subst (λ (d : ClassRow). meets c d.place.chunk ≡ true) is
-        (meets-true c s.place.chunk shared) in
-        absurd (cc)
-    by_first behind false e (inr later) h = behind h later
-
-pub apart-unused : (c : Chunk) (classes : List ClassRow)
-    → ((s : ClassRow) → Among s classes → ¬ Meets c s.place.chunk)
-    → not (list_any (meets c) (map (λ (r : ClassRow). r.place.chunk) classes)) ≡ true
-apart-unused c [] h = refl
-apart-unused c (r ∷ classes) h =
-    by_first (meets c r.place.chunk) refl (apart-unused c classes (λ s m. h s (inr m)))
-  where
-    by_first : (t : Bool) → meets c r.place.chunk ≡ t
-        → not (list_any (meets c) (map (λ (d : ClassRow). d.place.chunk) classes)) ≡ true
-        → not (t || list_any (meets c) (map (λ (d : ClassRow). d.place.chunk) classes)) ≡ true
-    by_first true e rest = absurd (h r (inl refl) (meets-from c r.place.chunk e))
-    by_first false e rest = rest
-
 pub never-on : (c : Chunk) (classes : List ClassRow)
     → not (list_any (meets c) (map (λ (r : ClassRow). r.place.chunk) classes)) ≡ true
     → (s : ClassRow) → Among s classes → same_chunk s.place.chunk c ≡ false
 never-on c classes h s m =
-    not_same s.place.chunk c (λ e. unused-apart c classes s h m
+    same_chunk-false s.place.chunk c (λ e. is_unused-apart c classes s h m
     (subst (λ (d : Chunk). Meets c d) (sym e) (meets-itself c)))
 
 class_kept : (a b : Bool) → broken_of a b ≡ None → b ≡ true
@@ -348,7 +236,7 @@ place_of sizes pre r h =
     let chunk = is_chunk sizes r.place.chunk in
     let words = nat_le 1 r.place.words in
     let within = nat_le (r.place.offset + r.place.words) (chunk_size r.place.chunk.order) in
-    (both (chunk && words && within) (has_place pre r)
+    (and_parts (chunk && words && within) (has_place pre r)
     (class_kept (is_live r.loader pre && has_room sizes pre (Class r tt))
     (class_fits sizes pre r) h)).1
 
@@ -361,10 +249,10 @@ some_words sizes pre r h =
     let chunk = is_chunk sizes r.place.chunk in
     let words = nat_le 1 r.place.words in
     let within = nat_le (r.place.offset + r.place.words) (chunk_size r.place.chunk.order) in
-    let fits = both (chunk && words && within) (has_place pre r)
+    let fits = and_parts (chunk && words && within) (has_place pre r)
     (class_kept (is_live r.loader pre && has_room sizes pre (Class r tt))
     (class_fits sizes pre r) h) in
-    leb-true 1 r.place.words (both chunk words (both (chunk && words) within fits.0).0).1
+    leb-true 1 r.place.words (and_parts chunk words (and_parts (chunk && words) within fits.0).0).1
 
 -- the chain of a loader ends at its top
 abbrev pub EndsAtTop : ℕ → List BareRow → Type 0
@@ -378,7 +266,7 @@ pub own_class : (u : ℕ) (pre : List BareRow) (r : ClassRow) → r.loader ≡ u
 unfolding top_with words_on
 own_class u pre r mine place before =
     ap last_of (chain_grows u pre r mine)
-    ∙ (by_place (either on_top new place) ∙ sym top)
+    ∙ (by_place (or_cases on_top new place) ∙ sym top)
   where
     on_top : Bool
     on_top = is_last_chunk r.loader r.place.chunk pre
@@ -392,7 +280,7 @@ own_class u pre r mine place before =
     used_now =
         used-more r.place.chunk pre r
         ∙ ap (λ t. used_words r.place.chunk pre + cond t r.place.words 0)
-        (same-itself r.place.chunk)
+        (same_chunk-itself r.place.chunk)
 
     top : top_of u (pre ++ Class r (tt {0}) ∷ [])
         ≡ top_with r.place.chunk (used_words r.place.chunk pre + r.place.words)
@@ -401,7 +289,7 @@ own_class u pre r mine place before =
           chunk = c;
           used = used_words c (pre ++ Class r (tt {0}) ∷ []);
         }))
-        (ap (last_chunk u) (classes-more pre (Class r (tt {0})))
+        (ap (last_chunk u) (classes_in-append pre (Class r (tt {0}) ∷ []))
         ∙ (last-more u (classes_in pre) r
         ∙ ap (λ t. cond t (Some r.place.chunk) (last_chunk u (classes_in pre)))
         (eq-eqb r.loader u mine)))
@@ -411,7 +299,7 @@ own_class u pre r mine place before =
         → last_of (with_place (chain_of u pre) r.place)
         ≡ top_with r.place.chunk (used_words r.place.chunk pre + r.place.words)
     by_place (inl h) =
-        let parts = both (is_last_chunk r.loader r.place.chunk pre)
+        let parts = and_parts (is_last_chunk r.loader r.place.chunk pre)
         (eqb r.place.offset (used_words r.place.chunk pre)) h in
         let last = own-last u pre r mine parts.0 in
         let here : last_of (chain_of u pre)
@@ -419,9 +307,9 @@ own_class u pre r mine place before =
         before ∙ ap (option_map (λ c. record { chunk = c; used = used_words c pre })) last in
         with_place-last (chain_of u pre) r.place r.place.chunk (used_words r.place.chunk pre) here
         ∙ ap (λ t. cond t (top_with r.place.chunk (used_words r.place.chunk pre + r.place.words))
-        (top_with r.place.chunk r.place.words)) (same-itself r.place.chunk)
+        (top_with r.place.chunk r.place.words)) (same_chunk-itself r.place.chunk)
     by_place (inr h) =
-        let parts = both (eqb r.place.offset 0) (is_unused r.place.chunk pre) h in
+        let parts = and_parts (eqb r.place.offset 0) (is_unused r.place.chunk pre) h in
         let none : used_words r.place.chunk pre ≡ 0 =
         unused-words r.place.chunk (classes_in pre)
         (never-on r.place.chunk (classes_in pre) parts.1) in
@@ -432,7 +320,7 @@ own_class u pre r mine place before =
             → is_unused r.place.chunk pre ≡ true
             → last_of (with_place (chain_of u pre) r.place) ≡ top_with r.place.chunk r.place.words
         by_last (Some d) is unused =
-            let row = last-row u (classes_in pre) d is in
+            let row = last_chunk-among u (classes_in pre) d is in
             let other : same_chunk d r.place.chunk ≡ false =
             subst (λ (c : Chunk). same_chunk c r.place.chunk ≡ false) row.3
             (never-on r.place.chunk (classes_in pre) unused row.0 row.1) in
@@ -464,7 +352,7 @@ other_class u pre r other apart before =
         ≡ top_over (pre ++ Class r (tt {0}) ∷ []) (last_chunk u (classes_in pre))
     same_last =
         ap (top_over (pre ++ Class r (tt {0}) ∷ []))
-        (ap (last_chunk u) (classes-more pre (Class r (tt {0})))
+        (ap (last_chunk u) (classes_in-append pre (Class r (tt {0}) ∷ []))
         ∙ (last-more u (classes_in pre) r
         ∙ ap (λ t. cond t (Some r.place.chunk) (last_chunk u (classes_in pre))) other))
 
@@ -480,15 +368,15 @@ other_class u pre r other apart before =
     by_last : (o : Option Chunk) → last_chunk u (classes_in pre) ≡ o
         → top_over pre o ≡ top_over (pre ++ Class r (tt {0}) ∷ []) o
     by_last (Some d) is =
-        let row = last-row u (classes_in pre) d is in
-        let split = classes-more pre (Class r (tt {0})) in
+        let row = last_chunk-among u (classes_in pre) d is in
+        let split = classes_in-append pre (Class r (tt {0}) ∷ []) in
         let first : Among row.0 all =
         subst (λ (l : List ClassRow). Among row.0 l) (sym split)
         (front-among (classes_in pre) (r ∷ []) row.0 row.1) in
         let second : Among r all =
         subst (λ (l : List ClassRow). Among r l) (sym split) (back-among (classes_in pre) r) in
         let differ : same_chunk r.place.chunk d ≡ false =
-        not_same r.place.chunk d (λ e.
+        same_chunk-false r.place.chunk d (λ e.
         let meets_it : Meets r.place.chunk row.0.place.chunk =
         subst (λ (c : Chunk). Meets r.place.chunk c) (e ∙ sym row.3) (meets-itself r.place.chunk) in
         let owner : r.loader ≡ row.0.loader = (apart r row.0 second first meets_it).1 in

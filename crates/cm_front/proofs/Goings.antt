@@ -7,7 +7,7 @@ use Rattle.std.specs.Prelude.{◌&&◌, ◌↔◌, unwrap_or, nat_le, nat_lt, is
 use Rattle.std.specs.List.{AllByRecursion}
 use Rattle.std.specs.FinMap as fin
 use Rattle.std.proofs.lemmas.Bool.{eqb-true, eq-eqb, ltb-true, leb-true, le-leb, leb-false}
-use Rattle.std.proofs.lemmas.Bool.{ltb-false}
+use Rattle.std.proofs.lemmas.Bool.{ltb-false, and_parts}
 use Rattle.cm_pool.specs.FreeSpace.{IsFreeSpace}
 use Rattle.cm_pool.specs.Lists.{Among}
 use Rattle.cm_layout.specs.declared.loader_row.LoaderRow.{LoaderRow}
@@ -21,6 +21,7 @@ use Rattle.cm_layout.specs.Rows.{slots_of_rows}
 use Rattle.cm_layout.specs.Rules.{is_live, row_limit}
 use Rattle.cm_layout.specs.Laws.{LoadersAreOwn}
 use Rattle.cm_layout.specs.Loaders.{HasOwnLoaders}
+use Rattle.cm_layout.proofs.{numbers-bare}
 use Rattle.cm_space.specs.Space.{SpaceState, Waits, IsKnown, arena_of, with_arena}
 use Rattle.cm_space.specs.Ownership.{IsSpace}
 use Rattle.cm_state.specs.State.{words_show}
@@ -32,14 +33,10 @@ use Rattle.cm_front.specs.Laws.{GoesWith}
 use Rattle.cm_front.specs.Front.{FrontState, IsFront, AreRight, IsDueLater}
 use Rattle.cm_front.specs.Accepting.{accepted, carried}
 use Rattle.cm_front.proofs.Groups.{follow_joined}
-use Rattle.cm_front.proofs.RowFacts.{numbers_bare, chain_bare, among_named}
+use Rattle.cm_front.proofs.RowFacts.{chain_bare, among_named}
 use Rattle.cm_front.proofs.RowFacts.{name_with_loader, chain_with_loader}
 use Rattle.cm_front.proofs.Spaces.{got_same, got_other, not_known}
 use Rattle.cm_front.proofs.Causes.{IsMade}
-
-pub both : (a b : Bool) → (a && b) ≡ true → (a ≡ true) × (b ≡ true)
-both true b h = (refl, h)
-both false b h = absurd (cc)
 
 -- ---- numbers
 
@@ -62,7 +59,7 @@ own_loaders own s f = own s.sizes s.number (bare s.rows) f.rows.live
 pub past : LoadersAreOwn → (s : FrontState) → IsFront s → (u : ℕ) → Among u (numbers_in s.rows)
     → u ≤ s.number
 past own s f u a =
-    (own_loaders own s f).past u (subst (λ l. Among u l) (sym (numbers_bare s.rows)) a)
+    (own_loaders own s f).past u (subst (λ l. Among u l) (sym (numbers-bare s.rows)) a)
 
 pub live_past : LoadersAreOwn → (s : FrontState) → IsFront s → (u : ℕ) → is_live u s.rows ≡ true
     → u ≤ s.number
@@ -115,7 +112,7 @@ loader_fits : (x : List ℕ) → is_loader_name x ≡ true → length x ≤ name
 loader_fits x named =
     let some = nat_le 1 (length x) in
     let short = nat_le (length x) name_limit in
-    leb-true (length x) name_limit (both some short (both (some && short) _ named).0).1
+    leb-true (length x) name_limit (and_parts some short (and_parts (some && short) _ named).0).1
 
 pub room_left : (s : FrontState) → nat_le (row_limit s.sizes) (length s.rows) ≡ false
     → nat_le (slots_of_rows s.rows + 1) (row_limit s.sizes) ≡ true

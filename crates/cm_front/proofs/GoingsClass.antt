@@ -5,7 +5,7 @@ use Rattle.std.proofs.Common.{[], ◌∷◌, ◌++◌, length, map, Some, None, 
 use Rattle.std.proofs.Common.{subst, ◌∙◌, arith, eqb, IsSome}
 use Rattle.std.specs.Prelude.{◌&&◌, ◌||◌, ◌↔◌, unwrap_or, nat_le, nat_lt, is_some, filter, sum}
 use Rattle.std.specs.FinMap as fin
-use Rattle.std.proofs.lemmas.Bool.{eqb-true, eq-eqb, ltb-true, leb-true}
+use Rattle.std.proofs.lemmas.Bool.{eqb-true, eq-eqb, ltb-true, leb-true, and_parts}
 use Rattle.std.proofs.Math.Pow.{pow_mono}
 use Rattle.std.specs.Cmp.Lexicographic.{bytes_decides}
 use Rattle.std.specs.Str.{bytes_eq}
@@ -29,6 +29,7 @@ use Rattle.cm_layout.specs.Slots.{FitsClass}
 use Rattle.cm_layout.specs.Frames.{AreApart, BareRow}
 use Rattle.cm_layout.specs.Laws.{LoadersAreOwn}
 use Rattle.cm_layout.specs.Loaders.{LoadersDiffer}
+use Rattle.cm_layout.proofs.{classes-bare}
 use Rattle.cm_space.specs.Space.{SpaceState, IsKnown, arena_of, with_arena}
 use Rattle.cm_space.specs.Ownership.{IsSpace}
 use Rattle.cm_state.specs.State.{words_show}
@@ -37,10 +38,10 @@ use Rattle.cm_group.specs.Groups.{IsRightRecord}
 use Rattle.cm_front.specs.Chains.{chain_of}
 use Rattle.cm_front.specs.Laws.{IsPlaceOf, PlacesKeepRules}
 use Rattle.cm_front.specs.Front.{FrontState, IsFront}
-use Rattle.cm_front.proofs.RowFacts.{classes_bare, chain_bare, name_with_class, chain_of_others}
+use Rattle.cm_front.proofs.RowFacts.{chain_bare, name_with_class, chain_of_others}
 use Rattle.cm_front.proofs.Spaces.{got_same, got_other}
 use Rattle.cm_front.proofs.Causes.{IsFree}
-use Rattle.cm_front.proofs.Goings.{both, Keeps, due_later, right_more, room_left, live_past}
+use Rattle.cm_front.proofs.Goings.{Keeps, due_later, right_more, room_left, live_past}
 
 -- ---- loaders by name and number
 
@@ -117,7 +118,7 @@ name_is own s x u f e =
 -- whether a class's row has its place is told by the rows of classes alone
 fits_bare : {A : Type 0} (sizes : Sizes) (rows : List (Row A)) (r : ClassRow)
     → class_fits sizes rows r ≡ class_fits sizes (bare rows) r
-fits_bare {A} sizes rows r = ap by_classes (sym (classes_bare rows))
+fits_bare {A} sizes rows r = ap by_classes (sym (classes-bare rows))
   where
     by_classes : List ClassRow → Bool
     by_classes classes =
@@ -137,14 +138,14 @@ fits_slot sizes rows r g loader h =
     let chunk = is_chunk sizes c in
     let words = nat_le 1 r.place.words in
     let within = nat_le (r.place.offset + r.place.words) (chunk_size c.order) in
-    let front = both (chunk && words && within) (has_place rows r) h in
-    let parts = both (chunk && words) within front.0 in
+    let front = and_parts (chunk && words && within) (has_place rows r) h in
+    let parts = and_parts (chunk && words) within front.0 in
     let small = nat_le c.order sizes.top in
     let root = nat_lt c.root sizes.roots in
     let aligned = eqb (c.at % chunk_size c.order) 0 in
     let inside = nat_le (c.at + chunk_size c.order) (chunk_size sizes.top) in
-    let last = both (small && root && aligned) inside (both chunk words parts.0).0 in
-    let begin = both small root (both (small && root) aligned last.0).0 in
+    let last = and_parts (small && root && aligned) inside (and_parts chunk words parts.0).0 in
+    let begin = and_parts small root (and_parts (small && root) aligned last.0).0 in
     let order = leb-true c.order sizes.top begin.0 in
     let below = ltb-true c.root sizes.roots begin.1 in
     let end = leb-true (c.at + chunk_size c.order) (chunk_size sizes.top) last.1 in
@@ -198,7 +199,7 @@ place_of : PlacesKeepRules → (s : FrontState) (u : ℕ) (words : List ℕ) (pl
     → IsPlaceOf s.sizes (bare s.rows) u (length words) place chain
 place_of keep s u words place chain left f p =
     keep s.sizes s.number (bare s.rows) s.space u (length words) place chain left f.rows.live
-    (subst (λ l. AreApart l) (sym (classes_bare s.rows)) f.rows.apart) f.space p.some p.places
+    (subst (λ l. AreApart l) (sym (classes-bare s.rows)) f.rows.apart) f.space p.some p.places
 
 may_class : PlacesKeepRules → LoadersAreOwn → (s : FrontState) (x words : List ℕ) (u : ℕ)
     (place : Place) (chain : List Filled) (left : FreeSpace) → IsFront s → IsFree s x words u

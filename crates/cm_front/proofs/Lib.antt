@@ -1,14 +1,20 @@
-pub mod Chains
-pub mod Tops
-pub mod Places
-pub mod Groups
-pub mod Causes
-pub mod RowFacts
-pub mod Spaces
-pub mod Goings
-pub mod GoingsClass
-pub mod GoingsUnload
-pub mod Answering
-pub mod Learning
-pub mod Adopting
-pub mod Taking
+-- What crates above may cite of these proofs is what `pub use` passes on; all else is private.
+mod Chains
+mod Tops
+mod Places
+mod Groups
+mod Causes
+mod RowFacts
+mod Spaces
+mod Goings
+mod GoingsClass
+mod GoingsUnload
+mod Answering
+mod Learning
+mod Adopting
+mod Taking
+-- A place that a space finds, whose arenas are those of the rows, is one that the entry rules
+-- allow.
+pub use Places.{used-with-root, fetched_free, some-top}
+-- What one row more, or one loader less, makes of what rows say.
+pub use RowFacts.{classes_left}

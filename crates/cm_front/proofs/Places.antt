@@ -15,6 +15,7 @@ use Rattle.cm_pool.specs.FreeSpace.{FreeSpace, IsFreeSpace, IsFreeWord, IsFreeCh
 use Rattle.cm_pool.specs.FreeSpace.{with_root}
 use Rattle.cm_pool.specs.Lists.{Among}
 use Rattle.cm_pool.specs.SpaceLaws.{RootsKeepHeld}
+use Rattle.cm_pool.proofs.{same_chunk-itself, meets-itself, same_chunk-false}
 use Rattle.cm_arena.specs.Chains.{Filled, chunks_of, last_of, with_more}
 use Rattle.cm_arena.specs.Placing.{Fetches, order_wanted, with_place}
 use Rattle.cm_space.specs.Space.{arena_of}
@@ -23,9 +24,10 @@ use Rattle.cm_layout.specs.declared.class_row.ClassRow.{ClassRow}
 use Rattle.cm_layout.specs.Rows.{classes_in, last_chunk, used_words}
 use Rattle.cm_layout.specs.Rules.{is_chunk, is_unused, is_last_chunk, has_place, class_fits}
 use Rattle.cm_layout.specs.Frames.{BareRow}
+use Rattle.cm_layout.proofs.{apart-unused}
 use Rattle.cm_front.specs.Chains.{chain_of, top_of}
 use Rattle.cm_front.specs.Laws.{PlacesKeepRules}
-use Rattle.cm_front.proofs.Chains.{same-itself, not_same, meets-itself, apart-unused, chain_grows}
+use Rattle.cm_front.proofs.Chains.{chain_grows}
 use Rattle.cm_front.proofs.Tops.{chains_end_at_top, chains_have_chunks}
 
 and_true : (a b : Bool) → a ≡ true → b ≡ true → (a && b) ≡ true
@@ -86,7 +88,7 @@ more-placed [] place words e count = absurd (cc)
 more-placed (f ∷ []) place words e count =
     let here : f ≡ record { chunk = place.chunk; used = place.offset } = cc in
     let same : same_chunk f.chunk place.chunk ≡ true =
-    ap (λ (g : Filled). same_chunk g.chunk place.chunk) here ∙ same-itself place.chunk in
+    ap (λ (g : Filled). same_chunk g.chunk place.chunk) here ∙ same_chunk-itself place.chunk in
     ap (λ (n : ℕ). filled f.chunk (f.used + n) ∷ []) (sym count)
     ∙ sym (ap (λ (t : Bool). cond t
     (filled f.chunk (f.used + place.words) ∷ [])
@@ -171,7 +173,7 @@ some-top u rows c used e = by_last (last_chunk u (classes_in rows)) e
     by_last None h = absurd (cc)
     by_last (Some d) h =
         let same = filled-is d c (used_words d rows) used h in (
-          ap (λ (k : Chunk). same_chunk k c) same.0 ∙ same-itself c,
+          ap (λ (k : Chunk). same_chunk k c) same.0 ∙ same_chunk-itself c,
           sym same.1 ∙ ap (λ (k : Chunk). used_words k rows) same.0,
         )
       where
@@ -247,7 +249,7 @@ places_keep_rules owned keep sizes n rows space u words place chain left live ap
           (eq-eqb place.offset 0 t.front)
           unused));
       chain_is = t.after ∙ (new-placed (arena_of space u) place words
-          (λ g last. not_same g.chunk place.chunk (λ same.
+          (λ g last. same_chunk-false g.chunk place.chunk (λ same.
           free.apart g.chunk (owned space goes.is u g.chunk (last-among (arena_of space u) g last))
           (subst (λ (c : Chunk). Meets place.chunk c) (sym same) (meets-itself place.chunk))))
           t.amount

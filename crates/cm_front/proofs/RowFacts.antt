@@ -13,32 +13,16 @@ use Rattle.cm_layout.specs.declared.class_row.ClassRow.{ClassRow}
 use Rattle.cm_layout.specs.declared.row.Row.{Row}
 use Rattle.cm_layout.specs.declared.row.Row.TheVariants.{Loader, Class}
 use Rattle.cm_layout.specs.Rows.{classes_in, numbers_in, name_of, without_loader, bare}
+use Rattle.cm_layout.proofs.{classes-bare, classes_in-append}
 use Rattle.cm_front.specs.Chains.{chain_from, chain_of}
 
 -- ---- with nothing kept
 
-pub classes_bare : {A : Type 0} (rows : List (Row A)) → classes_in (bare rows) ≡ classes_in rows
-classes_bare [] = refl
-classes_bare (Loader r ∷ rows) = classes_bare rows
-classes_bare (Class r p ∷ rows) = ap (λ l. r ∷ l) (classes_bare rows)
-
-pub numbers_bare : {A : Type 0} (rows : List (Row A)) → numbers_in (bare rows) ≡ numbers_in rows
-numbers_bare [] = refl
-numbers_bare (Loader r ∷ rows) = ap (λ l. r.number ∷ l) (numbers_bare rows)
-numbers_bare (Class r p ∷ rows) = numbers_bare rows
-
 pub chain_bare : {A : Type 0} (u : ℕ) (rows : List (Row A)) → chain_of u (bare rows)
     ≡ chain_of u rows
-chain_bare u rows = ap (chain_from [] u) (classes_bare rows)
+chain_bare u rows = ap (chain_from [] u) (classes-bare rows)
 
 -- ---- one row more
-
-pub classes_more : {A : Type 0} (rows : List (Row A)) (row : Row A)
-    → classes_in (rows ++ row ∷ []) ≡ classes_in rows ++ classes_in (row ∷ [])
-classes_more [] (Loader r) = refl
-classes_more [] (Class r p) = refl
-classes_more (Loader s ∷ rows) row = classes_more rows row
-classes_more (Class s p ∷ rows) row = ap (λ l. s ∷ l) (classes_more rows row)
 
 pub name_with_loader : {A : Type 0} (u : ℕ) (rows : List (Row A)) (r : _)
     → is_some (name_of u (rows ++ Loader r ∷ []))
@@ -164,7 +148,7 @@ name_left v u (Class r p ∷ rows) d = by_test (name_left v u rows d) (eqb r.loa
 pub chain_with_loader : {A : Type 0} (v : ℕ) (rows : List (Row A)) (r : _)
     → chain_of v (rows ++ Loader r ∷ []) ≡ chain_of v rows
 chain_with_loader v rows r =
-    ap (chain_from [] v) (classes_more rows (Loader r) ∙ append-nil (classes_in rows))
+    ap (chain_from [] v) (classes_in-append rows (Loader r ∷ []) ∙ append-nil (classes_in rows))
 
 others_from : (chain : List Filled) (v : ℕ) (classes : List ClassRow) (r : ClassRow)
     → eqb r.loader v ≡ false → chain_from chain v (classes ++ r ∷ []) ≡ chain_from chain v classes
@@ -185,7 +169,8 @@ others_from chain v (s ∷ classes) r e =
 pub chain_of_others : {A : Type 0} (v : ℕ) (rows : List (Row A)) (r : ClassRow) (p : A)
     → eqb r.loader v ≡ false → chain_of v (rows ++ Class r p ∷ []) ≡ chain_of v rows
 chain_of_others v rows r p e =
-    ap (chain_from [] v) (classes_more rows (Class r p)) ∙ others_from [] v (classes_in rows) r e
+    ap (chain_from [] v) (classes_in-append rows (Class r p ∷ [])) ∙ others_from [] v
+    (classes_in rows) r e
 
 gone_from : (chain : List Filled) (u : ℕ) (classes : List ClassRow)
     → chain_from chain u (filter (λ r. not (eqb r.loader u)) classes) ≡ chain

@@ -7,7 +7,7 @@ use Rattle.std.specs.Prelude.{◌&&◌, nat_le, nat_lt, max, is_some, unwrap_or}
 use Rattle.std.specs.List.{list_all}
 use Rattle.std.specs.FinMap as fin
 use Rattle.std.specs.Ordering.{nat_cmp}
-use Rattle.std.proofs.lemmas.Bool.{ltb-true}
+use Rattle.std.proofs.lemmas.Bool.{ltb-true, and_parts, or_cases}
 use Rattle.std.proofs.lemmas.List.{map-append}
 use Rattle.cm_pool.specs.declared.chunk.Chunk.{Chunk}
 use Rattle.cm_pool.specs.declared.place.Place.{Place}
@@ -24,14 +24,15 @@ use Rattle.cm_layout.specs.Rows.{classes_in, numbers_in, used_words, last_chunk,
 use Rattle.cm_layout.specs.Rules.{is_live, has_room, class_fits, has_place, is_chunk, is_last_chunk}
 use Rattle.cm_layout.specs.Rules.{is_unused, broken_of, broken_live_rule, is_new_loader}
 use Rattle.cm_layout.specs.Frames.{BareRow, LiveRowsKeep, AreApart}
+use Rattle.cm_layout.proofs.{classes-bare, numbers-bare, last_chunk-among, classes_in-append}
 use Rattle.cm_space.specs.Space.{SpaceState, IsKnown, arena_of, empty_space}
 use Rattle.cm_space.specs.Adopting.{pool_after, reaching}
 use Rattle.cm_space.specs.Ownership.{IsSpace}
 use Rattle.cm_state.specs.State.{words_show}
 use Rattle.cm_state.specs.Entries.{AreCacheRows}
 use Rattle.cm_front.specs.Restoring.{roots_of, IsSpaceOf, CanTake, Takes, IsOnTheWay}
-use Rattle.cm_front.proofs.Chains.{both, either, last-row, chain_grows}
-use Rattle.cm_front.proofs.RowFacts.{classes_bare, numbers_bare, among_named, classes_more}
+use Rattle.cm_front.proofs.Chains.{chain_grows}
+use Rattle.cm_front.proofs.RowFacts.{among_named}
 use Rattle.cm_front.proofs.Goings.{known_loader, chains_loader}
 use Rattle.cm_front.proofs.GoingsClass.{known_class, chains_class, name_bare}
 use Rattle.cm_front.proofs.Adopting.{SpaceLaws, Stands, adoptable, roots_geometry, fits_kept}
@@ -78,8 +79,8 @@ next_row sizes n rows taken rest row cache split =
     record {
       live = live_front sizes n [] (bare taken) (bare (row ∷ rest)) live;
       apart = λ a b x y. all.apart a b
-          (still_among a taken (row ∷ rest) (subst (λ l. Among a l) (classes_bare taken) x))
-          (still_among b taken (row ∷ rest) (subst (λ l. Among b l) (classes_bare taken) y));
+          (still_among a taken (row ∷ rest) (subst (λ l. Among a l) (classes-bare taken) x))
+          (still_among b taken (row ∷ rest) (subst (λ l. Among b l) (classes-bare taken) y));
       keeps = (live_behind sizes n [] (bare taken) (bare (row ∷ rest)) live).1;
     }
 
@@ -94,9 +95,9 @@ below_all : (m : ℕ) (numbers : List ℕ) → list_all (λ u. nat_lt u m) numbe
 below_all m [] h u a = absurd a
 below_all m (v ∷ numbers) h u (inl e) =
     subst (λ w. w < m) (sym e)
-    (ltb-true v m (both (nat_lt v m) (list_all (λ w. nat_lt w m) numbers) h).0)
+    (ltb-true v m (and_parts (nat_lt v m) (list_all (λ w. nat_lt w m) numbers) h).0)
 below_all m (v ∷ numbers) h u (inr a) =
-    below_all m numbers (both (nat_lt v m) (list_all (λ w. nat_lt w m) numbers) h).1 u a
+    below_all m numbers (and_parts (nat_lt v m) (list_all (λ w. nat_lt w m) numbers) h).1 u a
 
 never_before : (sizes : Sizes) (n : ℕ) (taken : List (Row (List ℕ))) (r : LoaderRow)
     (space : SpaceState)
@@ -108,10 +109,10 @@ never_before sizes n taken r space keeps s known =
     let above = list_all (λ u. nat_lt u r.number) (numbers_in (bare taken)) in
     let new = is_new_loader sizes (bare taken) r in
     let all = kept (some && past && above && new) _ keeps in
-    let rises = (both (some && past) above (both (some && past && above) new all).0).1 in
+    let rises = (and_parts (some && past) above (and_parts (some && past && above) new all).0).1 in
     let among = among_named r.number taken ((s.known r.number).0 known) in
     let less = below_all r.number (numbers_in (bare taken)) rises r.number
-    (subst (λ l. Among r.number l) (sym (numbers_bare taken)) among) in
+    (subst (λ l. Among r.number l) (sym (numbers-bare taken)) among) in
     absurd (omega (arith, less))
 
 took_loader : (sizes : Sizes) (taken : List (Row (List ℕ))) (r : LoaderRow) (old new : SpaceState)
@@ -129,7 +130,7 @@ took_loader sizes taken r old new never s t =
       known = known_loader taken old r s.known;
       waiting = s.waiting;
       roots = s.roots ∙ ap roots_of
-          (sym (classes_more taken (Loader r) ∙ append-nil (classes_in taken)));
+          (sym (classes_in-append taken (Loader r ∷ []) ∙ append-nil (classes_in taken)));
     })
 
 -- ---- a class
@@ -152,7 +153,7 @@ roots_least (r ∷ classes) s (inr m) =
 fits_live : (sizes : Sizes) (n : ℕ) (pre : List BareRow) (r : ClassRow)
     → broken_live_rule sizes n pre (Class r (tt {0})) ≡ None → is_live r.loader pre ≡ true
 fits_live sizes n pre r keeps =
-    (both (is_live r.loader pre) (has_room sizes pre (Class r (tt {0})))
+    (and_parts (is_live r.loader pre) (has_room sizes pre (Class r (tt {0})))
     (rows_kept (is_live r.loader pre && has_room sizes pre (Class r (tt {0})))
     (class_fits sizes pre r)
     keeps)).0
@@ -182,10 +183,10 @@ on_row sizes pre r fits behind =
     let chunk = is_chunk sizes r.place.chunk in
     let words = nat_le 1 r.place.words in
     let within = nat_le (r.place.offset + r.place.words) (chunk_size r.place.chunk.order) in
-    by_place (either (is_last_chunk r.loader r.place.chunk pre
+    by_place (or_cases (is_last_chunk r.loader r.place.chunk pre
     && eqb r.place.offset (used_words r.place.chunk pre))
     (eqb r.place.offset 0 && is_unused r.place.chunk pre)
-    (both (chunk && words && within) (has_place pre r) fits).1)
+    (and_parts (chunk && words && within) (has_place pre r) fits).1)
   where
     true_not : {X : Type 0} → true ≡ false → X
     true_not e = absurd (cc)
@@ -196,13 +197,13 @@ on_row sizes pre r fits behind =
         → r.place.chunk.root + 1 ≤ roots_of (classes_in pre)
     by_place (inl e) =
         let last = last_is (last_chunk r.loader (classes_in pre)) r.place.chunk
-        (both (is_last_chunk r.loader r.place.chunk pre)
+        (and_parts (is_last_chunk r.loader r.place.chunk pre)
         (eqb r.place.offset (used_words r.place.chunk pre)) e).0 in
-        let row = last-row r.loader (classes_in pre) r.place.chunk last in
+        let row = last_chunk-among r.loader (classes_in pre) r.place.chunk last in
         subst (λ (c : Chunk). c.root + 1 ≤ roots_of (classes_in pre)) row.3
         (roots_least (classes_in pre) row.0 row.1)
     by_place (inr e) =
-        true_not (sym (both (eqb r.place.offset 0) (is_unused r.place.chunk pre) e).0 ∙ behind)
+        true_not (sym (and_parts (eqb r.place.offset 0) (is_unused r.place.chunk pre) e).0 ∙ behind)
 
 after_roots : SpaceLaws → (sizes : Sizes) (pre : List BareRow) (r : ClassRow) (p : FreeSpace)
     → class_fits sizes pre r ≡ true → p.roots ≡ roots_of (classes_in pre)
@@ -258,9 +259,9 @@ took_class laws sizes n taken r words old new next s t =
       waiting = s.waiting;
       roots =
           after_roots laws sizes (bare taken) r old.pool fits
-          (s.roots ∙ ap roots_of (sym (classes_bare taken)))
-          ∙ ap roots_of (ap (λ l. l ++ r ∷ []) (classes_bare taken)
-          ∙ sym (classes_more taken (Class r words)));
+          (s.roots ∙ ap roots_of (sym (classes-bare taken)))
+          ∙ ap roots_of (ap (λ l. l ++ r ∷ []) (classes-bare taken)
+          ∙ sym (classes_in-append taken (Class r words ∷ [])));
     })
 
 -- ---- any row

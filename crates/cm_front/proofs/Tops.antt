@@ -6,7 +6,7 @@ use Rattle.std.proofs.Common.{map, Option, Some, None, inl, inr, refl, sym, ap, 
 use Rattle.std.proofs.Common.{eqb, append_assoc, append-nil}
 use Rattle.std.specs.Prelude.{◌&&◌, filter, sum}
 use Rattle.std.specs.Option.{option_map}
-use Rattle.std.proofs.lemmas.Bool.{eqb-true, eq-eqb, ne_eqb}
+use Rattle.std.proofs.lemmas.Bool.{eqb-true, eq-eqb, ne_eqb, and_parts, or_cases}
 use Rattle.std.proofs.lemmas.List.{map-append}
 use Rattle.std.proofs.lemmas.List.Sums.{sum_by-append}
 use Rattle.std.proofs.lemmas.List.Elements.{filter-append}
@@ -15,6 +15,7 @@ use Rattle.cm_pool.specs.declared.place.Place.{Place}
 use Rattle.cm_pool.specs.Chunks.{same_chunk}
 use Rattle.cm_pool.specs.Geometry.{Sizes}
 use Rattle.cm_pool.specs.Lists.{Among}
+use Rattle.cm_pool.proofs.{same_chunk-true, same_chunk-itself}
 use Rattle.cm_arena.specs.Chains.{Filled, chunks_of, last_of}
 use Rattle.cm_arena.specs.Placing.{with_place}
 use Rattle.cm_layout.specs.declared.loader_row.LoaderRow.{LoaderRow}
@@ -24,12 +25,13 @@ use Rattle.cm_layout.specs.Rows.{classes_in, last_chunk, used_words}
 use Rattle.cm_layout.specs.Rules.{is_live, is_unused, is_last_chunk, has_place, class_fits}
 use Rattle.cm_layout.specs.Rules.{broken_of, has_room}
 use Rattle.cm_layout.specs.Frames.{BareRow, AreApart, LiveRowsKeep}
+use Rattle.cm_layout.proofs.{last_chunk-among, classes_in-append}
 use Rattle.cm_state.specs.Stands.{chunks_of as chunks_begun}
 use Rattle.cm_front.specs.Chains.{chain_from, chain_of}
 use Rattle.cm_front.specs.Laws.{ChainsEndAtTop, ChainsHaveChunks}
 use Rattle.cm_front.proofs.Chains.{EndsAtTop, own_class, other_class, place_of, some_words}
-use Rattle.cm_front.proofs.Chains.{classes-more, chain_grows, chain_stays, own-last, last-row}
-use Rattle.cm_front.proofs.Chains.{never-on, same-itself, same_chunk-true, both, either}
+use Rattle.cm_front.proofs.Chains.{chain_grows, chain_stays, own-last}
+use Rattle.cm_front.proofs.Chains.{never-on}
 
 -- ---- tops
 
@@ -119,7 +121,7 @@ some-used c (r ∷ classes) s words m is =
     by_test rest false e (inl here) =
         let itself : same_chunk r.place.chunk c ≡ true =
         ap (λ (d : Chunk). same_chunk d c) (ap (λ (t : ClassRow). t.place.chunk) (sym here) ∙ is)
-        ∙ same-itself c in
+        ∙ same_chunk-itself c in
         absurd (cc)
     by_test rest false e (inr later) = rest later
 
@@ -132,7 +134,7 @@ record GoesOn (u : ℕ) (rows : List BareRow) : Type 0 where
 loader-kept : (u : ℕ) (pre : List BareRow) (r : LoaderRow) → GoesOn u pre
     → GoesOn u (pre ++ Loader r ∷ [])
 loader-kept u pre r before =
-    let same = sym (classes-more pre (Loader r) ∙ append-nil (classes_in pre)) in
+    let same = sym (classes_in-append pre (Loader r ∷ []) ∙ append-nil (classes_in pre)) in
     record {
       top = same-classes u pre (pre ++ Loader r ∷ []) same before.top;
       chunks = subst (λ (l : List ClassRow). chunks_of (chain_from [] u l) ≡ chunks_begun u l) same
@@ -143,7 +145,8 @@ loader-kept u pre r before =
 more-words : (pre : List BareRow) (r : ClassRow) → HasWords (classes_in pre) → 1 ≤ r.place.words
     → HasWords (classes_in (pre ++ Class r (tt {0}) ∷ []))
 more-words pre r words some s m =
-    by_end (classes_in pre) words (subst (λ l. Among s l) (classes-more pre (Class r tt)) m)
+    by_end (classes_in pre) words (subst (λ l. Among s l) (classes_in-append pre (Class r tt ∷ []))
+    m)
   where
     by_end : (classes : List ClassRow) → HasWords classes → Among s (classes ++ r ∷ [])
         → 1 ≤ s.place.words
@@ -157,7 +160,7 @@ own-chunks : (u : ℕ) (pre : List BareRow) (r : ClassRow) → r.loader ≡ u �
     → GoesOn u pre
     → chunks_of (with_place (chain_of u pre) r.place)
     ≡ chunks_begun u (classes_in pre) ++ cond (eqb r.place.offset 0) (r.place.chunk ∷ []) []
-own-chunks u pre r mine place before = by_place (either on_top new place)
+own-chunks u pre r mine place before = by_place (or_cases on_top new place)
   where
     on_top : Bool
     on_top = is_last_chunk r.loader r.place.chunk pre
@@ -182,7 +185,7 @@ own-chunks u pre r mine place before = by_place (either on_top new place)
             let none : Some f ≡ None = sym e ∙ (before.top ∙ ap (option_map filled) is) in
             absurd (cc)
         by_last (Some d) is =
-            let row = last-row u (classes_in pre) d is in
+            let row = last_chunk-among u (classes_in pre) d is in
             let here : Some f ≡ Some (filled d) =
             sym e ∙ (before.top ∙ ap (option_map filled) is) in
             let same : f ≡ filled d = cc in
@@ -194,20 +197,20 @@ own-chunks u pre r mine place before = by_place (either on_top new place)
         → chunks_of (with_place (chain_of u pre) r.place)
         ≡ begun ++ cond (eqb r.place.offset 0) (r.place.chunk ∷ []) []
     by_place (inl h) =
-        let parts = both (is_last_chunk r.loader r.place.chunk pre)
+        let parts = and_parts (is_last_chunk r.loader r.place.chunk pre)
         (eqb r.place.offset (used_words r.place.chunk pre)) h in
         let last = own-last u pre r mine parts.0 in
-        let row = last-row u (classes_in pre) r.place.chunk last in
+        let row = last_chunk-among u (classes_in pre) r.place.chunk last in
         let used = some-used r.place.chunk (classes_in pre) row.0 before.words row.1 row.3 in
         let offset = eqb-true r.place.offset (used_words r.place.chunk pre) parts.1 in
         let behind : eqb r.place.offset 0 ≡ false =
         ne_eqb r.place.offset 0 (λ front. omega (arith, used, offset, front)) in
         same-chunks (chain_of u pre) r.place (filled r.place.chunk)
-        (before.top ∙ ap (option_map filled) last) (same-itself r.place.chunk)
+        (before.top ∙ ap (option_map filled) last) (same_chunk-itself r.place.chunk)
         ∙ (before.chunks
         ∙ sym (ap (λ t. begun ++ cond t (r.place.chunk ∷ []) []) behind ∙ append-nil begun))
     by_place (inr h) =
-        let parts = both (eqb r.place.offset 0) (is_unused r.place.chunk pre) h in
+        let parts = and_parts (eqb r.place.offset 0) (is_unused r.place.chunk pre) h in
         another-chunk (chain_of u pre) r.place (other parts.1)
         ∙ (ap (λ l. l ++ r.place.chunk ∷ []) before.chunks
         ∙ sym (ap (λ t. begun ++ cond t (r.place.chunk ∷ []) []) parts.0))
@@ -225,7 +228,8 @@ class-kept sizes u pre r kept apart before = by_loader (eqb r.loader u) refl
     begun : chunks_begun u (classes_in (pre ++ Class r (tt {0}) ∷ []))
         ≡ chunks_begun u (classes_in pre)
         ++ cond (eqb r.loader u && eqb r.place.offset 0) (r.place.chunk ∷ []) []
-    begun = ap (chunks_begun u) (classes-more pre (Class r tt)) ∙ begun-more u (classes_in pre) r
+    begun = ap (chunks_begun u) (classes_in-append pre (Class r tt ∷ [])) ∙ begun-more u
+        (classes_in pre) r
 
     by_loader : (t : Bool) → eqb r.loader u ≡ t → GoesOn u (pre ++ Class r (tt {0}) ∷ [])
     by_loader true e =

@@ -12,7 +12,7 @@ use Rattle.std.proofs.lemmas.List.{ext_get_or, length-set, get_or-set_same, get_
 use Rattle.std.proofs.lemmas.List.{set_split}
 use Rattle.cm_disk.specs.Disk.{Unsynced, IsImage, IsWithin, IsSettled, IsSound, widened, is_among}
 use Rattle.cm_disk.specs.Calls.{IsTorn, overwritten}
-use Rattle.cm_disk.proofs.Images.{after_write}
+use Rattle.cm_disk.proofs.{after_write}
 use Rattle.cm_guards.specs.Guards.{EachImage}
 use Rattle.cm_guards.specs.Gates.{OneOf, Turns}
 

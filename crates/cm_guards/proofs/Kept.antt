@@ -9,7 +9,7 @@ use Rattle.std.proofs.lemmas.List.{get_or-take}
 use Rattle.cm_disk.specs.Disk.{Unsynced, IsImage, IsWithin, IsSettled, widened, shortened}
 use Rattle.cm_disk.specs.Disk.{is_among}
 use Rattle.cm_disk.specs.Calls.{IsTorn, IsCut}
-use Rattle.cm_disk.proofs.Images.{false_before, torn_same}
+use Rattle.cm_disk.proofs.{false_before, torn_same}
 use Rattle.cm_guards.specs.Guards.{Guard, Agrees, Guards, Keeps, EachImage, IsApart, IsBounded}
 
 -- an image agrees with the contents

@@ -6,7 +6,7 @@ use Rattle.std.proofs.Common.{◌∙◌, ap, subst, arith}
 use Rattle.std.specs.Prelude.{max}
 use Rattle.std.proofs.lemmas.List.{length-append, length-take-le, length-drop}
 use Rattle.cm_disk.specs.Calls.{overwritten}
-use Rattle.cm_disk.proofs.Images.{overwritten_torn}
+use Rattle.cm_disk.proofs.{overwritten_torn}
 use Rattle.cm_guards.specs.Guards.{Guard, Guards, Agrees}
 use Rattle.cm_guards.specs.Plans.{Write, written, CanWrite}
 use Rattle.cm_guards.proofs.Kept.{write_agrees}

@@ -7,7 +7,7 @@ use Rattle.std.proofs.lemmas.List.{length-take-le}
 use Rattle.std.specs.Prelude.{Result, Ok, Err, OnOk, OnErr}
 use Rattle.cm_disk.specs.Disk.{Unsynced, IsImage, IsSettled, IsWithin, widened, shortened}
 use Rattle.cm_disk.specs.Calls.{Elapses, overwritten, IsTorn, IsCut}
-use Rattle.cm_disk.proofs.Images.{overwritten_torn}
+use Rattle.cm_disk.proofs.{overwritten_torn}
 use Rattle.cm_guards.specs.Guards.{Guard, Guards, Keeps, EachImage, IsApart}
 use Rattle.cm_guards.specs.Gates.{OneOf, Turns}
 use Rattle.cm_guards.specs.Calls.{LeavesOnly}

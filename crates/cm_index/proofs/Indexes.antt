@@ -17,9 +17,11 @@ use Rattle.std.proofs.lemmas.List.{get_or-map, take_more}
 use Rattle.std.proofs.lemmas.List.Folds.{find-append}
 use Rattle.std.proofs.lemmas.Slice.Eq.{bytes_eq-Decides}
 use Rattle.std.specs.declared.cmp.Ordering.TheVariants.{Less, Equal, Greater}
+use Rattle.std.proofs.lemmas.Option.{slice_get-map}
 use Rattle.cm_pool.specs.declared.chunk.Chunk.{Chunk}
 use Rattle.cm_pool.specs.Chunks.{same_chunk}
 use Rattle.cm_pool.specs.Lists.{Among}
+use Rattle.cm_pool.proofs.{among-left, among-right, among-append, among-map, each-join}
 use Rattle.cm_layout.specs.declared.row.Row.{Row}
 use Rattle.cm_layout.specs.declared.row.Row.TheVariants.{Loader, Class}
 use Rattle.cm_layout.specs.Rows.{number_of, moved_row}
@@ -29,13 +31,12 @@ use Rattle.cm_index.specs.Living.{living, moved_slot}
 use Rattle.cm_index.specs.Index.{class_of, owner_of, rank, name_in, is_named, key, tail_at, key_at}
 use Rattle.cm_index.specs.Index.{keys_at, IsEntry, IsIndex, IsKeyAt, Parts, Rise, Leads, LivesAt}
 use Rattle.cm_index.specs.Index.{leads_to_life, renewed, number_in, kept_in}
-use Rattle.cm_index.proofs.Lists.{among-append, among-left, among-right, among-map}
 use Rattle.cm_index.proofs.Tests.{both_true}
 use Rattle.cm_index.proofs.Tests.{ne-eqb}
 use Rattle.cm_index.proofs.Living.{living-append, living-push, living-moved}
 use Rattle.cm_index.specs.Index.{Below, Above}
 use Rattle.cm_index.proofs.Sorted.{below-to, above-from, equal-itself, all-among, equal-is}
-use Rattle.cm_index.proofs.Sorted.{all-take, all-drop, all-append, all-at, rise-insert, parted}
+use Rattle.cm_index.proofs.Sorted.{all-take, all-drop, all-at, rise-insert, parted}
 
 -- ---- lists
 
@@ -48,12 +49,6 @@ get-left (y ∷ xs) ys (suc i) x h = get-left xs ys i x h
 get-last : {X : Type 0} (xs : List X) (x : X) → slice_get (xs ++ x ∷ []) (length xs) ≡ Some x
 get-last [] x = refl
 get-last (y ∷ xs) x = get-last xs x
-
-pub get-map : {X Y : Type 0} (f : X → Y) (xs : List X) (i : ℕ)
-    → slice_get (map f xs) i ≡ option_map f (slice_get xs i)
-get-map f [] i = refl
-get-map f (x ∷ xs) zero = refl
-get-map f (x ∷ xs) (suc i) = get-map f xs i
 
 pub find-true : {X : Type 0} (p : X → Bool) (xs : List X) (x : X) → find p xs ≡ Some x → p x ≡ true
 find-true p [] x h = absurd (cc)
@@ -368,7 +363,7 @@ module _ {P : Type 0} (mark : ℕ → List ℕ → ℕ) (name_of : P → List �
       ∙ ap (drop i) keys) in
       let each = each-left slots (s ∷ []) es h.each in
       record {
-        each = all-append (IsEntry mark name_of more) (take i es) (new ∷ drop i es)
+        each = each-join (IsEntry mark name_of more) (take i es) (new ∷ drop i es)
             (all-take (IsEntry mark name_of more) i es each)
             (is.entry, all-drop (IsEntry mark name_of more) i es each);
         rises = rw (split) (rise-insert ks i k h.rises p);
@@ -540,7 +535,7 @@ module _ {P : Type 0} (mark : ℕ → List ℕ → ℕ) (name_of : P → List �
       let test = is_named name_of (rank (owner_of row)) (name_in name_of row) in
       record {
         slot = moved_slot from to h.slot;
-        there = get-map (moved_slot from to) slots e.at
+        there = slice_get-map (moved_slot from to) slots e.at
             ∙ ap (option_map (moved_slot from to)) h.there;
         fingerprint = h.fingerprint ∙ ap (λ (t : ℕ). mark t (name_in name_of row)) (sym owner)
             ∙ ap (mark (rank (owner_of to_row))) (sym name);
@@ -567,7 +562,7 @@ module _ {P : Type 0} (mark : ℕ → List ℕ → ℕ) (name_of : P → List �
       → key_at name_of (map (moved_slot from to) slots) e ≡ key_at name_of slots e
   key-moved from to slots e s is =
       let there : slice_get (map (moved_slot from to) slots) e.at ≡ Some (moved_slot from to s) =
-      get-map (moved_slot from to) slots e.at ∙ ap (option_map (moved_slot from to)) is in
+      slice_get-map (moved_slot from to) slots e.at ∙ ap (option_map (moved_slot from to)) is in
       ap (λ (r : Option (BookSlot (Row P))). e.fingerprint ∷ tail_at name_of r) there
       ∙ ap (λ (t : List ℕ). e.fingerprint ∷ t) (slot-tail from to s)
       ∙ ap (λ (r : Option (BookSlot (Row P))). e.fingerprint ∷ tail_at name_of r) (sym is)
@@ -602,7 +597,7 @@ module _ {P : Type 0} (mark : ℕ → List ℕ → ℕ) (name_of : P → List �
             let l = h.complete o x was.0 was.1 in
             let t = leads-there slots l.entry l.lives in
             let there : slice_get all l.entry.at ≡ Some (moved_slot from to t.0) =
-            get-map (moved_slot from to) slots l.entry.at
+            slice_get-map (moved_slot from to) slots l.entry.at
             ∙ ap (option_map (moved_slot from to)) t.1 in
             record {
               entry = l.entry;

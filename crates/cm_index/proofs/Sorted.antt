@@ -14,6 +14,7 @@ use Rattle.std.proofs.lemmas.Slice.Eq.{bytes_eq-Decides}
 use Rattle.std.specs.declared.cmp.Ordering.{Ordering}
 use Rattle.std.specs.declared.cmp.Ordering.TheVariants.{Less, Equal, Greater}
 use Rattle.cm_pool.specs.Lists.{Among}
+use Rattle.cm_pool.proofs.{each-join}
 use Rattle.cm_index.specs.Index.{Rise, Parts, Below, Above}
 
 abbrev goes : List ℕ → List ℕ → Ordering
@@ -50,11 +51,6 @@ pub all-drop : {X : Type 0} (Q : X → Type 0) (n : ℕ) (xs : List X) → AllBy
 all-drop Q zero xs h = h
 all-drop Q (suc n) [] h = tt
 all-drop Q (suc n) (x ∷ xs) h = all-drop Q n xs h.1
-
-pub all-append : {X : Type 0} (Q : X → Type 0) (xs ys : List X) → AllByRecursion Q xs
-    → AllByRecursion Q ys → AllByRecursion Q (xs ++ ys)
-all-append Q [] ys h g = g
-all-append Q (x ∷ xs) ys h g = (h.0, all-append Q xs ys h.1 g)
 
 pub all-at : {X : Type 0} (Q : X → Type 0) (xs : List X) (i : ℕ) (d : X) → AllByRecursion Q xs
     → i < length xs → Q (get_or xs i d)
@@ -136,7 +132,7 @@ rise-insert ks zero k h p =
     (all-weaker (Above k) (λ b. goes k b ≡ Less) ks (λ b. turned-above b k) p.above, h)
 rise-insert [] (suc i) k h p = absurd (let w = p.within in omega arith)
 rise-insert (a ∷ ks) (suc i) k h p = (
-  all-append (λ b. goes a b ≡ Less) (take i ks) (k ∷ drop i ks)
+  each-join (λ b. goes a b ≡ Less) (take i ks) (k ∷ drop i ks)
       (all-take (λ b. goes a b ≡ Less) i ks h.0)
       (p.below.0, all-drop (λ b. goes a b ≡ Less) i ks h.0),
   rise-insert ks i k h.1 (record {
@@ -174,7 +170,7 @@ parts-inside [] ks behind i k below p above =
       within = omega (arith, length-append ks behind, within);
       below = subst (AllByRecursion (Below k)) (sym (take-append-le i ks behind within)) p.below;
       above = subst (AllByRecursion (Above k)) (sym (drop-append-le i ks behind within))
-          (all-append (Above k) (drop i ks) behind p.above above);
+          (each-join (Above k) (drop i ks) behind p.above above);
     } in
     subst (λ (n : ℕ). Parts (ks ++ behind) n k) (omega arith) here
 parts-inside (a ∷ before) ks behind i k below p above =

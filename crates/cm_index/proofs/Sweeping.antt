@@ -13,6 +13,7 @@ use Rattle.cm_index.specs.Blocks.{joined}
 use Rattle.std.proofs.lemmas.Option.{slice_get_within}
 use Rattle.std.specs.declared.cmp.Ordering.TheVariants.{Less, Equal}
 use Rattle.cm_pool.specs.Lists.{Among}
+use Rattle.cm_pool.proofs.{among-map, among-map_from, among-filter}
 use Rattle.cm_layout.specs.declared.row.Row.{Row}
 use Rattle.cm_index.specs.declared.index.IndexEntry.{IndexEntry}
 use Rattle.cm_index.specs.declared.slot.BookSlot.{BookSlot}
@@ -20,7 +21,6 @@ use Rattle.cm_index.specs.Living.{swept}
 use Rattle.cm_index.specs.Index.{owner_of, rank, name_in, is_named, key, tail_at, key_at, keys_at}
 use Rattle.cm_index.specs.Index.{IsEntry, IsIndex, Rise, leads_to_life}
 use Rattle.cm_index.specs.Sweep.{places_from, shifted, swept_entries}
-use Rattle.cm_index.proofs.Lists.{among-map, among-map_from, among-filter}
 use Rattle.cm_index.proofs.Living.{living-swept}
 use Rattle.cm_index.proofs.Sorted.{equal-itself, all-among}
 use Rattle.cm_index.proofs.Indexes.{leads-is, leads-there}

@@ -10,6 +10,7 @@ use Rattle.std.proofs.lemmas.List.{length-map}
 use Rattle.cm_pool.specs.declared.chunk.Chunk.{Chunk}
 use Rattle.cm_pool.specs.Chunks.{same_chunk}
 use Rattle.cm_pool.specs.Lists.{Among}
+use Rattle.cm_pool.proofs.{among-push, among-filter_from}
 use Rattle.cm_layout.specs.declared.loader_row.LoaderRow.{LoaderRow}
 use Rattle.cm_layout.specs.declared.class_row.ClassRow.{ClassRow}
 use Rattle.cm_layout.specs.declared.row.Row.{Row}
@@ -17,16 +18,15 @@ use Rattle.cm_layout.specs.declared.row.Row.TheVariants.{Loader, Class}
 use Rattle.cm_layout.specs.Rows.{is_of, without_loader, number_of, moved, bare}
 use Rattle.std.specs.Str.{bytes_eq}
 use Rattle.std.proofs.lemmas.Slice.Eq.{bytes_eq-Decides}
+use Rattle.std.proofs.lemmas.Option.{slice_get-map}
 use Rattle.cm_index.specs.declared.index.IndexEntry.{IndexEntry}
 use Rattle.cm_index.specs.declared.slot.BookSlot.{BookSlot}
 use Rattle.cm_index.specs.Living.{living, unloaded}
 use Rattle.cm_index.specs.Index.{owner_of, rank, name_in, is_named, key, tail_at, key_at, keys_at}
 use Rattle.cm_index.specs.Index.{IsEntry, IsIndex, AreUnique, Leads}
-use Rattle.cm_index.proofs.Lists.{among-filter_from}
-use Rattle.cm_index.proofs.Lists.{among-push}
 use Rattle.cm_index.proofs.Living.{living-unloaded}
 use Rattle.cm_index.proofs.Sorted.{all-among}
-use Rattle.cm_index.proofs.Indexes.{find-true, named-is, get-map, leads-is}
+use Rattle.cm_index.proofs.Indexes.{find-true, named-is, leads-is}
 
 find-filter : {X : Type 0} (p q : X → Bool) (xs : List X) (x : X) → find p xs ≡ Some x
     → q x ≡ true → find p (filter q xs) ≡ Some x
@@ -102,7 +102,7 @@ module _ {P : Type 0} (mark : ℕ → List ℕ → ℕ) (name_of : P → List �
       let test = is_named name_of (rank (owner_of h.slot.item)) (name_in name_of h.slot.item) in
       record {
         slot = unloaded u h.slot;
-        there = get-map (unloaded u) slots e.at ∙ ap (option_map (unloaded u)) h.there;
+        there = slice_get-map (unloaded u) slots e.at ∙ ap (option_map (unloaded u)) h.there;
         fingerprint = h.fingerprint;
         first = λ live.
             let on = living-on h.slot live in
@@ -122,7 +122,7 @@ module _ {P : Type 0} (mark : ℕ → List ℕ → ℕ) (name_of : P → List �
       → key_at name_of (map (unloaded u) slots) e ≡ key_at name_of slots e
   key-unloaded slots e s is =
       ap (λ (r : Option (BookSlot (Row P))). e.fingerprint ∷ tail_at name_of r)
-      (get-map (unloaded u) slots e.at ∙ ap (option_map (unloaded u)) is)
+      (slice_get-map (unloaded u) slots e.at ∙ ap (option_map (unloaded u)) is)
       ∙ ap (λ (r : Option (BookSlot (Row P))). e.fingerprint ∷ tail_at name_of r) (sym is)
 
   keys-unloaded : (slots : List (BookSlot (Row P))) (es : List IndexEntry)
@@ -166,7 +166,7 @@ module _ {P : Type 0} (mark : ℕ → List ℕ → ℕ) (name_of : P → List �
       same-loader rows unique s.item row there among.0 (owner ∙ sym two.0) (name ∙ sym two.1) in
       let other : is_of u s.item ≡ false = loaders ∙ not-not (is_of u row) among.1 in
       let gone : slice_get all l.entry.at ≡ Some (unloaded u s) =
-      get-map (unloaded u) slots l.entry.at ∙ ap (option_map (unloaded u)) entry.there in
+      slice_get-map (unloaded u) slots l.entry.at ∙ ap (option_map (unloaded u)) entry.there in
       record {
         entry = l.entry;
         among = l.among;

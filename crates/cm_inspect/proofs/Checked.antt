@@ -12,15 +12,15 @@ use Rattle.cm_layout.specs.Loaders.{HasOwnLoaders}
 use Rattle.cm_layout.specs.Rules.{is_live}
 use Rattle.cm_layout.specs.Frames.{AreApart, LiveRowsKeep}
 use Rattle.cm_layout.specs.Laws.{LoadersAreOwn}
+use Rattle.cm_layout.proofs.{name-bare, classes-bare, differ-bare}
 use Rattle.cm_pool.specs.Lists.{Among}
 use Rattle.cm_rows.specs.Rows.{LiveRows}
 use Rattle.cm_state.specs.State.{class_shows}
 use Rattle.cm_state.specs.Entries.{AreCacheRows}
 use Rattle.cm_state.specs.Laws.{SizesAgree}
-use Rattle.cm_state.proofs.Bare.{name-bare, classes-bare, differ-bare}
 use Rattle.cm_verdict.specs.Verdict.{Standing, verdict}
 use Rattle.cm_verdict.specs.Laws.{FoundIsLive, FoundIsFramed, VerdictStands, Proves, IsFramed}
-use Rattle.cm_verdict.proofs.Parts.{bare_words}
+use Rattle.cm_verdict.proofs.{bare_words}
 use Rattle.cm_recover.specs.declared.standing.StandingFile.{StandingFile}
 use Rattle.cm_recover.specs.Standing.{IsStanding}
 use Rattle.cm_inspect.specs.declared.report.Report.{Report}

@@ -26,8 +26,7 @@ use Rattle.cm_layout.specs.Rules.{is_live}
 use Rattle.cm_layout.specs.Loaders.{LoadersDiffer}
 use Rattle.cm_state.specs.State.{ByName, Shows, classes_of, loaders_among}
 use Rattle.cm_state.specs.Stands.{Arenas, arenas_among, chunks_of}
-use Rattle.cm_state.proofs.Maps.{got-insert}
-use Rattle.cm_state.proofs.RowStates.{loader_found}
+use Rattle.cm_state.proofs.{got-insert, loader_found}
 use Rattle.cm_inspect.specs.Report.{chunks_together, chunk_count, first_records}
 
 -- ---- loaders

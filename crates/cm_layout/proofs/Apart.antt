@@ -6,12 +6,13 @@ use Rattle.std.proofs.Common.{◌∙◌, arith, append_assoc, append-nil, eqb}
 use Rattle.std.specs.Prelude.{not, ◌&&◌, ◌||◌, nat_le}
 use Rattle.std.specs.List.{list_any, flat_map}
 use Rattle.std.specs.Option.{option_map_or}
-use Rattle.std.proofs.lemmas.Bool.{eqb-true, lt-ltb, eq-eqb}
+use Rattle.std.proofs.lemmas.Bool.{eqb-true, lt-ltb, eq-eqb, and_parts, or_cases}
 use Rattle.std.proofs.lemmas.Nat.{pow_pos}
 use Rattle.cm_pool.specs.declared.chunk.Chunk.{Chunk}
 use Rattle.cm_pool.specs.Chunks.{chunk_size, same_chunk, Meets, Covers}
 use Rattle.cm_pool.specs.Geometry.{Sizes}
 use Rattle.cm_pool.specs.Lists.{Among}
+use Rattle.cm_pool.proofs.{same_chunk-true, meets-turned, meets-itself, among-push}
 use Rattle.cm_layout.specs.declared.class_row.ClassRow.{ClassRow}
 use Rattle.cm_layout.specs.declared.row.Row.TheVariants.{Loader, Class}
 use Rattle.cm_layout.specs.declared.entry.Entry.TheVariants as entry
@@ -25,113 +26,12 @@ use Rattle.cm_layout.specs.Rules.{has_room}
 use Rattle.cm_layout.specs.Frames.{BareRow, BareEntry, AreApart, LiveRowsKeep, EntriesKeep}
 use Rattle.cm_layout.specs.Frames.{GroupsKeep}
 use Rattle.cm_layout.specs.Laws.{RowsAreApart}
+use Rattle.cm_layout.proofs.ClassPlaces.{meets-true, classes_in-append, is_unused-apart}
+use Rattle.cm_layout.proofs.ClassPlaces.{last_chunk-among, is_last_chunk-among}
 
 -- ---- chunks
 
--- the first test of two, or the second
-pub both : (a b : Bool) → (a && b) ≡ true → (a ≡ true) × (b ≡ true)
-both true b h = (refl, h)
-both false b h = absurd (cc)
-
-pub either : (a b : Bool) → (a || b) ≡ true → (a ≡ true) ⊎ (b ≡ true)
-either true b h = inl refl
-either false b h = inr h
-
-pub same_chunk-true : (a b : Chunk) → same_chunk a b ≡ true → a ≡ b
-same_chunk-true a b h =
-    let p = both (eqb a.root b.root) (eqb a.order b.order && eqb a.at b.at) h in
-    let q = both (eqb a.order b.order) (eqb a.at b.at) p.1 in
-    let root : a.root ≡ b.root = eqb-true a.root b.root p.0 in
-    let order : a.order ≡ b.order = eqb-true a.order b.order q.0 in
-    let at_is : a.at ≡ b.at = eqb-true a.at b.at q.1 in
-    (λ i. record { root = root i; order = order i; at = at_is i })
-
--- chunks that share a word pass the test
-pub meets-true : (a b : Chunk) → Meets a b → meets a b ≡ true
-meets-true a b m =
-    let in_a : Covers a m.0 m.1 = m.2 in
-    let in_b : Covers b m.0 m.1 = m.3 in
-    let roots : a.root ≡ b.root = sym in_a.same_root ∙ in_b.same_root in
-    let test : eqb a.root b.root ≡ true = eq-eqb a.root b.root roots in
-    rw test (lt-ltb _ _ (omega (arith, in_a.from, in_a.to, in_b.from, in_b.to)))
-
-pub meets-turned : (a b : Chunk) → Meets a b → Meets b a
-meets-turned a b m = (m.0, m.1, m.3, m.2)
-
--- a chunk shares its first word with itself
-pub meets-itself : (a : Chunk) → Meets a a
-meets-itself a =
-    let some : 0 < 2 ^ a.order = pow_pos a.order in
-    let first : Covers a a.root a.at =
-    record { same_root = refl; from = omega arith; to = omega arith } in
-    (a.root, a.at, first, first)
-
 -- ---- rows of classes
-
-pub append-among : (xs : List ClassRow) (y x : ClassRow) → Among x (xs ++ y ∷ []) → Among x xs
-    ⊎ (x ≡ y)
-append-among [] y x (inl e) = inr e
-append-among [] y x (inr none) = absurd none
-append-among (z ∷ xs) y x (inl e) = inl (inl e)
-append-among (z ∷ xs) y x (inr m) =
-    elim (append-among xs y x m) [ inl among ↦ inl (inr among) | inr e ↦ inr e ]
-
-pub classes_in-append : (rows more : List BareRow)
-    → classes_in (rows ++ more) ≡ classes_in rows ++ classes_in more
-classes_in-append [] more = refl
-classes_in-append (Loader r ∷ rows) more = classes_in-append rows more
-classes_in-append (Class r p ∷ rows) more = ap (λ l. r ∷ l) (classes_in-append rows more)
-
-last_chunk-among : (u : ℕ) (rows : List ClassRow) (c : Chunk) → last_chunk u rows ≡ Some c
-    → (s : ClassRow) × Among s rows × (s.loader ≡ u) × (s.place.chunk ≡ c)
-last_chunk-among u [] c h = absurd (cc)
-last_chunk-among u (r ∷ rows) c h = by_rest (last_chunk u rows) (last_chunk-among u rows c) h
-  where
-    by_first : (t : Bool) → eqb r.loader u ≡ t → cond t (Some r.place.chunk) None ≡ Some c
-        → (s : ClassRow) × Among s (r ∷ rows) × (s.loader ≡ u) × (s.place.chunk ≡ c)
-    by_first true e is = (r, inl refl, eqb-true r.loader u e, cc)
-    by_first false e is = absurd (cc)
-
-    by_rest : (o : Option Chunk)
-        → (o ≡ Some c → (s : ClassRow) × Among s rows × (s.loader ≡ u) × (s.place.chunk ≡ c))
-        → elim o [ Some d ↦ Some d | None ↦ cond (eqb r.loader u) (Some r.place.chunk) None ]
-        ≡ Some c
-        → (s : ClassRow) × Among s (r ∷ rows) × (s.loader ≡ u) × (s.place.chunk ≡ c)
-    by_rest (Some d) later is = let found = later is in (found.0, inr found.1, found.2, found.3)
-    by_rest None later is = by_first (eqb r.loader u) refl is
-
-pub is_last_chunk-among : (u : ℕ) (c : Chunk) (rows : List BareRow) → is_last_chunk u c rows ≡ true
-    → (s : ClassRow) × Among s (classes_in rows) × (s.loader ≡ u) × (s.place.chunk ≡ c)
-is_last_chunk-among u c rows h = by_last (last_chunk u (classes_in rows)) refl h
-  where
-    by_last : (o : Option Chunk) → last_chunk u (classes_in rows) ≡ o
-        → option_map_or (λ last. same_chunk last c) o false ≡ true
-        → (s : ClassRow) × Among s (classes_in rows) × (s.loader ≡ u) × (s.place.chunk ≡ c)
-    by_last (Some last) e is =
-        let found = last_chunk-among u (classes_in rows) last e in
-        (found.0, found.1, found.2, found.3 ∙ same_chunk-true last c is)
-    by_last None e is = absurd (cc)
-
--- a chunk that no row uses meets none of theirs
-pub is_unused-apart : (c : Chunk) (classes : List ClassRow) (s : ClassRow)
-    → not (list_any (meets c) (map (λ (r : ClassRow). r.place.chunk) classes)) ≡ true
-    → Among s classes → ¬ Meets c s.place.chunk
-is_unused-apart c [] s h none = absurd none
-is_unused-apart c (r ∷ classes) s h m =
-    by_first (λ later rest. is_unused-apart c classes s later rest) (meets c r.place.chunk) refl m h
-  where
-    by_first : (not (list_any (meets c) (map (λ (d : ClassRow). d.place.chunk) classes)) ≡ true
-        → Among s classes → ¬ Meets c s.place.chunk)
-        → (t : Bool) → meets c r.place.chunk ≡ t → Among s (r ∷ classes)
-        → not (t || list_any (meets c) (map (λ (d : ClassRow). d.place.chunk) classes)) ≡ true
-        → ¬ Meets c s.place.chunk
-    by_first behind true e m h = absurd (cc)
-    by_first behind false e (inl is) h = λ shared.
-        let yes : meets c r.place.chunk ≡ true =
-        subst (λ (d : ClassRow). meets c d.place.chunk ≡ true) is
-        (meets-true c s.place.chunk shared) in
-        absurd (cc)
-    by_first behind false e (inr later) h = behind h later
 
 -- ---- one entry more
 
@@ -144,7 +44,7 @@ Joins r classes =
 apart-append : (classes : List ClassRow) (r : ClassRow) → AreApart classes → Joins r classes
     → AreApart (classes ++ r ∷ [])
 apart-append classes r apart joins x y mx my m =
-    by_x (append-among classes r x mx) (append-among classes r y my)
+    by_x (among-push x r classes mx) (among-push y r classes my)
   where
     by_x : Among x classes ⊎ (x ≡ r) → Among y classes ⊎ (y ≡ r)
         → (x.place.chunk ≡ y.place.chunk) × (x.loader ≡ y.loader)
@@ -172,16 +72,17 @@ place-joins rows r apart h s m meet =
     let behind = eqb r.place.offset (used_words r.place.chunk rows) in
     let front = eqb r.place.offset 0 in
     let unused = is_unused r.place.chunk rows in
-    elim (either (on_last && behind) (front && unused) h) [
+    elim (or_cases (on_last && behind) (front && unused) h) [
       | inl last ↦
-          let found = is_last_chunk-among r.loader r.place.chunk rows (both on_last behind last).0
+          let found = is_last_chunk-among r.loader r.place.chunk rows (and_parts on_last behind
+          last).0
           in
           let t = found.0 in
           let same = apart t s found.1 m
           (subst (λ (c : Chunk). Meets c s.place.chunk) (sym found.3) meet) in
           (sym found.3 ∙ same.0, sym found.2 ∙ same.1)
       | inr new ↦ absurd
-          (is_unused-apart r.place.chunk (classes_in rows) s (both front unused new).1 m meet)
+          (is_unused-apart r.place.chunk (classes_in rows) s (and_parts front unused new).1 m meet)
     ]
 
 pub chunks_kept : (on_rows on_chunks : Bool) → broken_of on_rows on_chunks ≡ None → on_chunks ≡ true
@@ -194,7 +95,7 @@ fits-place : (sizes : Sizes) (rows : List BareRow) (r : ClassRow) → class_fits
 fits-place sizes rows r h =
     let front = is_chunk sizes r.place.chunk && nat_le 1 r.place.words
     && nat_le (r.place.offset + r.place.words) (chunk_size r.place.chunk.order) in
-    (both front (has_place rows r) h).1
+    (and_parts front (has_place rows r) h).1
 
 class-apart : (rows : List BareRow) (r : ClassRow) → AreApart (classes_in rows)
     → has_place rows r ≡ true → AreApart (classes_in (rows ++ Class r tt ∷ []))
@@ -364,7 +265,7 @@ entry-apart sizes rows n (entry.Move e) apart h =
     let fits : ((last && lawful && unused) && room) ≡ true =
     rule_kept (move_fits sizes rows e) OnChunks h in
     let free : unused ≡ true =
-    (both (last && lawful) unused (both (last && lawful && unused) room fits).0).1 in
+    (and_parts (last && lawful) unused (and_parts (last && lawful && unused) room fits).0).1 in
     subst AreApart (sym (classes_in-moved e.from e.to rows))
     (move-apart e.from e.to (classes_in rows) apart
     (λ s m. is_unused-apart e.to (classes_in rows) s free m))

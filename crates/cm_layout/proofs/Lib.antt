@@ -1,8 +1,32 @@
-pub mod OneSlot
-pub mod Apart
-pub mod OneReading
-pub mod Superblocks
-pub mod StayLive
-pub mod OwnLoaders
-pub mod Agreement
-pub mod Matched
+-- What crates above may cite of these proofs is what `pub use` passes on; all else is private.
+mod OneSlot
+mod Apart
+mod OneReading
+mod Superblocks
+mod StayLive
+mod OwnLoaders
+mod Agreement
+mod Matched
+mod BareRows
+mod ClassPlaces
+-- Chunks of rows that keep the rules share no word, but for the records of one loader on one chunk.
+pub use Apart.{entry-apart, rows_after_all-append}
+-- Contents frame at most one thing: the sizes, the rows with their words, and the number.
+pub use OneReading.{slot_count}
+-- A superblock is its front, zeros and a gate.
+pub use Superblocks.{length-blank}
+-- Rows after entries that keep the rules are live rows that keep theirs: what a checkpoint writes.
+pub use StayLive.{class_keeps, live-append, numbers-moved, number-moved, entry-live, live_rows_stay}
+-- Live rows that keep the rules: their loaders differ, have numbers of the past, and own each
+-- class.
+pub use OwnLoaders.{own_loaders}
+-- Contents that agree on what is guarded match the same framing.
+pub use Agreement.{record_part, agreement_matches}
+-- Contents frame rows exactly where they match a framing that is right for them.
+pub use Matched.{matches_frame}
+-- Rows with nothing kept of a class have the same loaders, numbers, chunks and rules.
+pub use BareRows.{bare-with, number-bare, name-bare, numbers-bare, classes-bare, slots-bare}
+pub use BareRows.{differ-bare, more-bare, after-bare, rule-bare}
+-- Where classes lie: what the tests on chunks, on last chunks and on words in use say.
+pub use ClassPlaces.{meets-true, meets-from, classes_in-append, used-append, is_unused-apart}
+pub use ClassPlaces.{apart-unused, last_chunk-among, is_last_chunk-among, begins_behind}

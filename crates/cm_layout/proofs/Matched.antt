@@ -14,7 +14,7 @@ use Rattle.cm_layout.specs.declared.row.Row.{Row}
 use Rattle.cm_layout.specs.declared.row.Row.TheVariants.{Loader, Class}
 use Rattle.cm_layout.specs.Offsets.{superblock_size, slot_size, half_size, half_at, roots_at}
 use Rattle.cm_layout.specs.Slots.{open_gate, half_head_slot, row_slot}
-use Rattle.cm_layout.specs.Superblock.{superblock_bytes, superblock_front, blank}
+use Rattle.cm_layout.specs.Superblock.{superblock_bytes, superblock_front}
 use Rattle.cm_layout.specs.Superblock.{superblock_zeros}
 use Rattle.cm_layout.specs.Rows.{bare}
 use Rattle.cm_layout.specs.Frames.{Frames, Region, region_bytes, Counts, OpenHalf, IsGoodHalf}
@@ -23,6 +23,7 @@ use Rattle.cm_layout.specs.Framing.{Framing, IsRight, Matches, HasOlder, IsRight
 use Rattle.cm_layout.specs.Framing.{used_bytes, used_size, open_half, other_half}
 use Rattle.cm_layout.specs.Laws.{IsFramed, FramesAreMatched, MatchesFrame}
 use Rattle.cm_layout.proofs.Superblocks.{length-blank}
+use Rattle.cm_layout.specs.Zeros.{blank}
 
 length-superblock : (sizes : Sizes) → length (superblock_bytes sizes) ≡ superblock_size
 length-superblock sizes =

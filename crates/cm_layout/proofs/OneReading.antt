@@ -12,7 +12,7 @@ use Rattle.cm_layout.specs.declared.row.Row.{Row}
 use Rattle.cm_layout.specs.declared.row.Row.TheVariants.{Loader, Class}
 use Rattle.cm_layout.specs.declared.entry.Entry.TheVariants as entry
 use Rattle.cm_layout.specs.Slots.{half_head_slot, row_slot, entry_slot}
-use Rattle.cm_layout.specs.Slots.{FitsGroupHead, zeros}
+use Rattle.cm_layout.specs.Slots.{FitsGroupHead}
 use Rattle.cm_layout.specs.Slots.{FitsEntry}
 use Rattle.cm_layout.specs.Superblock.{superblock_front, superblock_bytes}
 use Rattle.cm_layout.specs.Rows.{slots_of, slots_of_rows, slots_of_entries}
@@ -24,6 +24,7 @@ use Rattle.cm_layout.specs.Frames.{number_at_end, IsOlder, Counts, HoldsRecord, 
 use Rattle.cm_layout.specs.Frames.{Region, region_bytes, Frames}
 use Rattle.cm_layout.specs.Laws.{FramesAreOne}
 use Rattle.cm_layout.proofs.OneSlot.{same_entry, same_half_head, same_group_head, same_four}
+use Rattle.cm_layout.specs.Zeros.{zeros}
 
 -- ---- lists that begin alike
 
@@ -53,7 +54,8 @@ same_sizes s t x y gs gt e =
 
 -- ---- slots one behind another
 
-slot_count : (e : BareEntry) → FitsEntry e → length (entry_slot e) ≡ 64
+-- each entry has one slot
+pub slot_count : (e : BareEntry) → FitsEntry e → length (entry_slot e) ≡ 64
 slot_count (entry.Live (Loader r)) fits =
     omega (
       arith,

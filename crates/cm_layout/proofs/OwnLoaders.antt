@@ -8,7 +8,7 @@ use Rattle.std.specs.Prelude.{nat_lt}
 use Rattle.std.specs.Str.{bytes_eq}
 use Rattle.std.specs.List.{list_all}
 use Rattle.std.specs.Cmp.Lexicographic.{bytes_decides}
-use Rattle.std.proofs.lemmas.Bool.{eqb-true, leb-true, ltb-true}
+use Rattle.std.proofs.lemmas.Bool.{eqb-true, leb-true, ltb-true, and_parts}
 use Rattle.cm_pool.specs.Geometry.{Sizes}
 use Rattle.cm_pool.specs.Lists.{Among}
 use Rattle.cm_layout.specs.declared.class_row.ClassRow.{ClassRow}
@@ -18,7 +18,6 @@ use Rattle.cm_layout.specs.Names.{is_loader_name}
 use Rattle.cm_layout.specs.Rules.{is_live}
 use Rattle.cm_layout.specs.Loaders.{LoadersDiffer, HasOwnLoaders}
 use Rattle.cm_layout.specs.Frames.{BareRow, LiveRowsKeep}
-use Rattle.cm_layout.proofs.Apart.{both}
 use Rattle.cm_layout.proofs.StayLive.{loader_keeps, class_keeps}
 
 -- ---- rows behind others
@@ -130,10 +129,10 @@ all-among : (m : ℕ) (numbers : List ℕ) (u : ℕ) → list_all (λ v. nat_lt 
     → Among u numbers → u < m
 all-among m [] u h none = absurd none
 all-among m (v ∷ numbers) u h (inl e) =
-    let parts = both (nat_lt v m) (list_all (λ w. nat_lt w m) numbers) h in
+    let parts = and_parts (nat_lt v m) (list_all (λ w. nat_lt w m) numbers) h in
     omega (arith, ltb-true v m parts.0, e)
 all-among m (v ∷ numbers) u h (inr more) =
-    let parts = both (nat_lt v m) (list_all (λ w. nat_lt w m) numbers) h in
+    let parts = and_parts (nat_lt v m) (list_all (λ w. nat_lt w m) numbers) h in
     all-among m numbers u parts.1 more
 
 number-apart : (sizes : Sizes) (n : ℕ) (pre rows : List BareRow) (u : ℕ)

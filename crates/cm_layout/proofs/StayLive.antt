@@ -7,12 +7,13 @@ use Rattle.std.specs.Prelude.{not, ◌&&◌, ◌||◌, nat_lt, nat_le, min, max,
 use Rattle.std.specs.Str.{bytes_eq}
 use Rattle.std.specs.List.{list_any, list_all, flat_map}
 use Rattle.std.specs.Option.{option_map_or, option_map}
-use Rattle.std.proofs.lemmas.Bool.{eqb-true, eq-eqb, leb-true, le-leb, lt-ltb}
+use Rattle.std.proofs.lemmas.Bool.{eqb-true, eq-eqb, leb-true, le-leb, lt-ltb, and_parts, or_cases}
 use Rattle.std.proofs.lemmas.List.Elements.{filter-append}
 use Rattle.cm_pool.specs.declared.chunk.Chunk.{Chunk}
 use Rattle.cm_pool.specs.Chunks.{chunk_size, same_chunk, Meets}
 use Rattle.cm_pool.specs.Geometry.{Sizes}
 use Rattle.cm_pool.specs.Lists.{Among}
+use Rattle.cm_pool.proofs.{same_chunk-itself, same_chunk-true, meets-itself, among-push}
 use Rattle.cm_layout.specs.declared.loader_row.LoaderRow.{LoaderRow}
 use Rattle.cm_layout.specs.declared.class_row.ClassRow.{ClassRow}
 use Rattle.cm_layout.specs.declared.row.Row.TheVariants.{Loader, Class}
@@ -30,11 +31,13 @@ use Rattle.cm_layout.specs.Frames.{BareRow, BareEntry, AreApart, LiveRowsKeep, E
 use Rattle.cm_layout.specs.Frames.{GroupsKeep}
 use Rattle.cm_layout.specs.Laws.{RowsStayLive}
 use Rattle.cm_layout.specs.declared.entry.Entry.TheVariants as entry
-use Rattle.cm_layout.proofs.Apart.{both, either, same_chunk-true, meets-itself}
-use Rattle.cm_layout.proofs.Apart.{is_last_chunk-among, chunks_kept, rule_kept, live-apart}
-use Rattle.cm_layout.proofs.Apart.{classes_in-moved, moved_class, meets-true}
-use Rattle.cm_layout.proofs.Apart.{classes_in-append, append-among, entry-apart, entries-apart}
+use Rattle.cm_layout.proofs.Apart.{chunks_kept, rule_kept, live-apart}
+use Rattle.cm_layout.proofs.Apart.{classes_in-moved, moved_class}
+use Rattle.cm_layout.proofs.Apart.{entry-apart, entries-apart}
 use Rattle.cm_layout.proofs.Apart.{live_rows-apart, rows_after_all-append}
+use Rattle.cm_layout.proofs.ClassPlaces.{meets-true, classes_in-append, is_last_chunk-among}
+use Rattle.cm_layout.proofs.ClassPlaces.{used-append, begins_behind}
+use Rattle.cm_layout.specs.declared.row.Row.{Row}
 use Rattle.std.proofs.lemmas.List.Sums.{sum_by-append}
 use Rattle.std.proofs.lemmas.List.{map-append, length-append}
 
@@ -91,16 +94,16 @@ loader_keeps sizes base pre r h =
     let name = is_loader_name r.name in
     let new = is_none (number_of r.name pre) in
     let room = has_room sizes pre (Loader r) in
-    let all = both (some && past && above) (name && new && room)
+    let all = and_parts (some && past && above) (name && new && room)
     (rule_kept (some && past && above && (name && new && room)) OnRows h) in
-    let number = both (some && past) above all.0 in
-    let rest = both (name && new) room all.1 in
+    let number = and_parts (some && past) above all.0 in
+    let rest = and_parts (name && new) room all.1 in
     record {
-      from = (both some past number.0).0;
-      to = (both some past number.0).1;
+      from = (and_parts some past number.0).0;
+      to = (and_parts some past number.0).1;
       above = number.1;
-      name = (both name new rest.0).0;
-      new = (both name new rest.0).1;
+      name = (and_parts name new rest.0).0;
+      new = (and_parts name new rest.0).1;
       room = rest.1;
     }
 
@@ -136,15 +139,15 @@ class_keeps sizes pre r h =
     let chunk = is_chunk sizes r.place.chunk in
     let words = nat_le 1 r.place.words in
     let within = nat_le (r.place.offset + r.place.words) (chunk_size r.place.chunk.order) in
-    let rows = both live room (rows_kept (live && room) (class_fits sizes pre r) h) in
-    let fits = both (chunk && words && within) (has_place pre r)
+    let rows = and_parts live room (rows_kept (live && room) (class_fits sizes pre r) h) in
+    let fits = and_parts (chunk && words && within) (has_place pre r)
     (chunks_kept (live && room) (class_fits sizes pre r) h) in
-    let front = both (chunk && words) within fits.0 in
+    let front = and_parts (chunk && words) within fits.0 in
     record {
       live = rows.0;
       room = rows.1;
-      chunk = (both chunk words front.0).0;
-      words = (both chunk words front.0).1;
+      chunk = (and_parts chunk words front.0).0;
+      words = (and_parts chunk words front.0).1;
       within = front.1;
       place = fits.1;
     }
@@ -210,7 +213,7 @@ numbers-without : (p : ℕ → Bool) (u : ℕ) (rows : List BareRow) → list_al
     → list_all p (numbers_in (without_loader u rows)) ≡ true
 numbers-without p u [] h = refl
 numbers-without p u (Loader r ∷ rows) h =
-    let parts = both (p r.number) (list_all p (numbers_in rows)) h in
+    let parts = and_parts (p r.number) (list_all p (numbers_in rows)) h in
     by_test (eqb r.number u) parts.0 (numbers-without p u rows parts.1)
   where
     by_test : (t : Bool) → p r.number ≡ true
@@ -412,9 +415,9 @@ place-without u pre r other apart h =
     let last_same : on_last' ≡ on_last =
     ap (λ (o : Option Chunk). option_map_or (λ last. same_chunk last chunk) o false)
     (last-without r.loader u pre other) in
-    elim (either (on_last && behind) (front && unused) h) [
+    elim (or_cases (on_last && behind) (front && unused) h) [
       | inl last ↦
-          let parts = both on_last behind last in
+          let parts = and_parts on_last behind last in
           let found = is_last_chunk-among r.loader chunk pre parts.0 in
           let none = λ (s : ClassRow) (m : Among s (classes_in pre)) (is : s.loader ≡ u).
           not_same s.place.chunk chunk (λ e. other
@@ -429,7 +432,7 @@ place-without u pre r other apart h =
           (and_true on_last' behind' (last_same ∙ parts.0)
           (ap (λ (n : ℕ). eqb r.place.offset n) used ∙ parts.1))
       | inr new ↦
-          let parts = both front unused new in
+          let parts = and_parts front unused new in
           or_right (on_last' && behind') (front && unused')
           (and_true front unused' parts.0 (unused-without chunk u pre parts.1))
     ]
@@ -521,7 +524,7 @@ class_words from to r = by_test (same_chunk r.place.chunk from)
     by_test true = refl
     by_test false = refl
 
-numbers-moved : (from to : Chunk) (rows : List BareRow)
+pub numbers-moved : {A : Type 0} (from to : Chunk) (rows : List (Row A))
     → numbers_in (moved from to rows) ≡ numbers_in rows
 numbers-moved from to [] = refl
 numbers-moved from to (Loader r ∷ rows) = ap (λ l. r.number ∷ l) (numbers-moved from to rows)
@@ -535,13 +538,13 @@ numbers-moved from to (Class r p ∷ rows) =
     by_test true rest = rest
     by_test false rest = rest
 
-new-moved : (x : List ℕ) (from to : Chunk) (rows : List BareRow)
+pub number-moved : {A : Type 0} (x : List ℕ) (from to : Chunk) (rows : List (Row A))
     → number_of x (moved from to rows) ≡ number_of x rows
-new-moved x from to [] = refl
-new-moved x from to (Loader r ∷ rows) =
-    ap (λ (o : Option ℕ). cond (bytes_eq r.name x) (Some r.number) o) (new-moved x from to rows)
-new-moved x from to (Class r p ∷ rows) =
-    by_test (same_chunk r.place.chunk from) (new-moved x from to rows)
+number-moved x from to [] = refl
+number-moved x from to (Loader r ∷ rows) =
+    ap (λ (o : Option ℕ). cond (bytes_eq r.name x) (Some r.number) o) (number-moved x from to rows)
+number-moved x from to (Class r p ∷ rows) =
+    by_test (same_chunk r.place.chunk from) (number-moved x from to rows)
   where
     by_test : (t : Bool) → number_of x (moved from to rows) ≡ number_of x rows
         → number_of x (cond t (Class (record r { place = record r.place { chunk = to } }) p)
@@ -632,12 +635,6 @@ words-elsewhere c from to (r ∷ classes) f t =
         by_chunk true = ap (λ (l : List ℕ). r.place.words ∷ l) rest
         by_chunk false = rest
 
-same-itself : (c : Chunk) → same_chunk c c ≡ true
-same-itself c = and_true (eqb c.root c.root) (eqb c.order c.order && eqb c.at c.at)
-    (eq-eqb c.root c.root refl)
-    (and_true (eqb c.order c.order) (eqb c.at c.at) (eq-eqb c.order c.order refl)
-    (eq-eqb c.at c.at refl))
-
 words-onto : (from to : Chunk) (classes : List ClassRow)
     → ((s : ClassRow) → Among s classes → same_chunk s.place.chunk to ≡ false)
     → words_on to (map (moved_class from to) classes) ≡ words_on from classes
@@ -655,7 +652,7 @@ words-onto from to (r ∷ classes) none =
         ≡ map (λ (d : ClassRow). d.place.words) (cond s (r ∷ filter
         (λ (d : ClassRow). same_chunk d.place.chunk from) classes) (filter
         (λ (d : ClassRow). same_chunk d.place.chunk from) classes))
-    by_test true rest = rw (same-itself to) (ap (λ (l : List ℕ). r.place.words ∷ l) rest)
+    by_test true rest = rw (same_chunk-itself to) (ap (λ (l : List ℕ). r.place.words ∷ l) rest)
     by_test false rest = rw (none r (inl refl)) rest
 
 unused-moved : (c from to : Chunk) (classes : List ClassRow) → meets c to ≡ false
@@ -761,7 +758,7 @@ not_met-differs c d apart = not_same d c (λ e. no_both
 
 same-turned : (c d : Chunk) → same_chunk c d ≡ false → same_chunk d c ≡ false
 same-turned c d differ = not_same d c (λ e. no_both
-    (subst (λ (x : Chunk). same_chunk c x ≡ true) (sym e) (same-itself c)) differ)
+    (subst (λ (x : Chunk). same_chunk c x ≡ true) (sym e) (same_chunk-itself c)) differ)
 
 used-words : (c : Chunk) (rows : List BareRow)
     → used_words c rows ≡ sum (words_on c (classes_in rows))
@@ -784,7 +781,7 @@ last_there : (from to : Chunk) (o : Option Chunk)
     → option_map_or (λ last. same_chunk last to) (option_map (there from to) o) false ≡ true
 unfolding there
 last_there from to None h = absurd (cc)
-last_there from to (Some l) h = rw h (same-itself to)
+last_there from to (Some l) h = rw h (same_chunk-itself to)
 
 last_chunk-moved : (v : ℕ) (from to : Chunk) (rows : List BareRow)
     → last_chunk v (classes_in (moved from to rows))
@@ -805,9 +802,9 @@ place-kept from to pre r differ apart h =
     let on_last' = is_last_chunk r.loader chunk (moved from to pre) in
     let behind' = eqb r.place.offset (used_words chunk (moved from to pre)) in
     let unused' = is_unused chunk (moved from to pre) in
-    elim (either (on_last && behind) (front && unused) h) [
+    elim (or_cases (on_last && behind) (front && unused) h) [
       | inl last ↦
-          let parts = both on_last behind last in
+          let parts = and_parts on_last behind last in
           let stays =
           last_kept chunk from to (last_chunk r.loader (classes_in pre)) differ parts.0 in
           let last' : on_last' ≡ true =
@@ -823,7 +820,7 @@ place-kept from to pre r differ apart h =
           (and_true on_last' behind' last'
           (ap (λ (n : ℕ). eqb r.place.offset n) used ∙ parts.1))
       | inr new ↦
-          let parts = both front unused new in
+          let parts = and_parts front unused new in
           let free = unused-moved chunk from to (classes_in pre)
           (meets-turned-test chunk to ∙ apart) parts.1 in
           let free' : unused' ≡ true =
@@ -852,9 +849,9 @@ place-onto from to pre r is none h =
     let here : ((on_last && behind) || (front && unused)) ≡ true =
     subst (λ (c : Chunk). ((is_last_chunk r.loader c pre && eqb r.place.offset (used_words c pre))
     || (front && is_unused c pre)) ≡ true) is h in
-    elim (either (on_last && behind) (front && unused) here) [
+    elim (or_cases (on_last && behind) (front && unused) here) [
       | inl last ↦
-          let parts = both on_last behind last in
+          let parts = and_parts on_last behind last in
           let goes = last_there from to (last_chunk r.loader (classes_in pre)) parts.0 in
           let last' : on_last' ≡ true =
           subst (λ (o : Option Chunk). option_map_or (λ d. same_chunk d to) o false ≡ true)
@@ -869,7 +866,7 @@ place-onto from to pre r is none h =
           (and_true on_last' behind' last'
           (ap (λ (n : ℕ). eqb r.place.offset n) used ∙ parts.1))
       | inr new ↦
-          let parts = both front unused new in
+          let parts = and_parts front unused new in
           let same = classes_in-moved from to pre ∙ none_moved from to (classes_in pre) parts.1 in
           let free' : unused' ≡ true =
           subst (λ (l : List ClassRow). not (list_any (meets to) (map
@@ -880,44 +877,13 @@ place-onto from to pre r is none h =
 
 -- ---- a row after a move keeps the rules
 
-used-append : (c : Chunk) (xs ys : List BareRow)
-    → used_words c (xs ++ ys) ≡ used_words c xs + used_words c ys
-unfolding words_on
-used-append c xs ys =
-    let test = λ (r : ClassRow). same_chunk r.place.chunk c in
-    let words = λ (r : ClassRow). r.place.words in
-    let listed : map words (filter test (classes_in (xs ++ ys)))
-    ≡ map words (filter test (classes_in xs)) ++ map words (filter test (classes_in ys)) =
-    ap (λ (l : List ClassRow). map words (filter test l)) (classes_in-append xs ys)
-    ∙ ap (map words) (filter-append test (classes_in xs) (classes_in ys))
-    ∙ map-append words (filter test (classes_in xs)) (filter test (classes_in ys)) in
-    ap sum listed ∙ sum_by-append (λ (n : ℕ). n) (map words (filter test (classes_in xs)))
-    (map words (filter test (classes_in ys)))
-
 used_first : (r : ClassRow) (rows : List BareRow)
     → r.place.words ≤ used_words r.place.chunk (Class r (tt {0}) ∷ rows)
 used_first r rows =
     let split = used-append r.place.chunk (Class r (tt {0}) ∷ []) rows in
     let one : used_words r.place.chunk (Class r (tt {0}) ∷ []) ≡ r.place.words =
-    rw (same-itself r.place.chunk) (omega arith) in
+    rw (same_chunk-itself r.place.chunk) (omega arith) in
     omega (arith, split, one)
-
--- where a class begins in its chunk there are as many words used before it, or none
-begins_behind : (pre : List BareRow) (r : ClassRow) → has_place pre r ≡ true
-    → r.place.offset ≤ used_words r.place.chunk pre
-begins_behind pre r h =
-    let on_last = is_last_chunk r.loader r.place.chunk pre in
-    let behind = eqb r.place.offset (used_words r.place.chunk pre) in
-    let front = eqb r.place.offset 0 in
-    let unused = is_unused r.place.chunk pre in
-    elim (either (on_last && behind) (front && unused) h) [
-      | inl last ↦
-          let e = eqb-true r.place.offset (used_words r.place.chunk pre)
-          (both on_last behind last).1 in
-          omega (arith, e)
-      | inr new ↦
-          let e = eqb-true r.place.offset 0 (both front unused new).0 in omega (arith, e)
-    ]
 
 room-moved : (sizes : Sizes) (from to : Chunk) (pre : List BareRow) (row : BareRow)
     → has_room sizes pre row ≡ true → has_room sizes (moved from to pre) row ≡ true
@@ -934,7 +900,7 @@ loader-moved sizes base from to pre r h =
       to = k.to;
       above = ap (list_all (λ u. nat_lt u r.number)) (numbers-moved from to pre) ∙ k.above;
       name = k.name;
-      new = ap is_none (new-moved r.name from to pre) ∙ k.new;
+      new = ap is_none (number-moved r.name from to pre) ∙ k.new;
       room = room-moved sizes from to pre (Loader r) k.room;
     })
 
@@ -992,7 +958,7 @@ meets-none : (to : Chunk) (pre : List BareRow) (r : ClassRow) → NoneMeets to (
     → meets to r.place.chunk ≡ false → NoneMeets to (classes_in (pre ++ Class r (tt {0}) ∷ []))
 unfolding NoneMeets
 meets-none to pre r none one s m =
-    by_place (append-among (classes_in pre) r s
+    by_place (among-push s r (classes_in pre)
     (subst (λ (l : List ClassRow). Among s l) (classes_in-append pre (Class r (tt {0}) ∷ [])) m))
   where
     by_place : Among s (classes_in pre) ⊎ (s ≡ r) → meets to s.place.chunk ≡ false
@@ -1105,19 +1071,19 @@ loader-live : (sizes : Sizes) (n : ℕ) (rows : List BareRow) (r : LoaderRow)
 loader-live sizes n rows r k h =
     let own = eqb r.number (n + 1) in
     let fresh = is_new_loader sizes rows r in
-    let parts = both own fresh (rule_kept (own && fresh) OnRows h) in
+    let parts = and_parts own fresh (rule_kept (own && fresh) OnRows h) in
     let name = is_loader_name r.name in
     let new = is_none (number_of r.name rows) in
     let room = has_room sizes rows (Loader r) in
-    let rest = both (name && new) room parts.1 in
+    let rest = and_parts (name && new) room parts.1 in
     let number : r.number ≡ n + 1 = eqb-true r.number (n + 1) parts.0 in
     keeps_loader sizes (n + 1) rows r (record {
       from = le-leb 1 r.number (omega (arith, number));
       to = le-leb r.number (n + 1) (omega (arith, number));
       above = subst (λ (m : ℕ). list_all (λ u. nat_lt u m) (numbers_in rows) ≡ true) (sym number)
           (below_all n (numbers_in rows) (numbers-past sizes n [] rows k));
-      name = (both name new rest.0).0;
-      new = (both name new rest.0).1;
+      name = (and_parts name new rest.0).0;
+      new = (and_parts name new rest.0).1;
       room = rest.1;
     })
 
@@ -1141,9 +1107,9 @@ entry-live sizes rows n (entry.Move e) apart k fits h =
     let unused = is_unused e.to rows in
     let room = nat_le (used_words e.from rows) (chunk_size e.to.order) in
     let parts =
-    both (last && lawful && unused) room (rule_kept (move_fits sizes rows e) OnChunks h) in
-    let front = both (last && lawful) unused parts.0 in
-    stay-moved sizes (n + 1) e.from e.to [] rows fits.to (both last lawful front.0).1
+    and_parts (last && lawful && unused) room (rule_kept (move_fits sizes rows e) OnChunks h) in
+    let front = and_parts (last && lawful) unused parts.0 in
+    stay-moved sizes (n + 1) e.from e.to [] rows fits.to (and_parts last lawful front.0).1
     (none_at_all e.to)
     (none_meets e.to (classes_in rows) front.1)
     (leb-true (used_words e.from rows) (chunk_size e.to.order) parts.1)
@@ -1178,7 +1144,7 @@ groups-live sizes rows n (group ∷ groups) apart k keep =
     (subst (λ (m : ℕ). LiveRowsKeep sizes m [] (rows_after_all (rows_after_all rows group) more))
     (omega (arith, length-append group more)) here)
 
-pub rows_stay_live : RowsStayLive
-rows_stay_live sizes h good =
+pub live_rows_stay : RowsStayLive
+live_rows_stay sizes h good =
     groups-live sizes h.live h.head.base h.groups
     (live_rows-apart sizes h.head.base [] h.live none_apart good.live) good.live good.groups

@@ -7,7 +7,8 @@ use Rattle.std.proofs.lemmas.List.{ext_get_or}
 use Rattle.std.proofs.lemmas.List.Elements.{All-replicate}
 use Rattle.std.specs.List.{All}
 use Rattle.cm_pool.specs.Geometry.{Sizes}
-use Rattle.cm_layout.specs.Superblock.{superblock_front, superblock_bytes, blank}
+use Rattle.cm_layout.specs.Superblock.{superblock_front, superblock_bytes}
+use Rattle.cm_layout.specs.Zeros.{blank}
 
 pub whole : (block front rest : List ℕ) (g : Sizes) → front ≡ take 24 block → rest ≡ drop 24 block
     → front ≡ superblock_front g → rest ≡ blank 4071 ++ 165 ∷ [] → block ≡ superblock_bytes g

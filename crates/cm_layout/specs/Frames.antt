@@ -21,7 +21,7 @@ use Rattle.cm_layout.specs.Slots.{FitsHalfHead, FitsRow, FitsEntry}
 use Rattle.cm_layout.specs.Superblock.{superblock_bytes}
 use Rattle.cm_layout.specs.Rows.{slots_of_rows, slots_of_entries, group_limit, classes_in}
 use Rattle.cm_layout.specs.Rows.{rows_after}
-use Rattle.cm_layout.specs.Rows.{rows_after_all, bare}
+use Rattle.cm_layout.specs.Rows.{rows_after_all, bare, row_with, entry_with}
 use Rattle.cm_layout.specs.Rules.{row_limit, broken_rule, broken_live_rule}
 
 -- with nothing kept of a class, as in the journal
@@ -30,6 +30,12 @@ BareRow = Row (Unit {0})
 
 abbrev pub BareEntry : Type 0
 BareEntry = Entry (Unit {0})
+
+abbrev pub bare_row : {P : Type 0} → Row P → BareRow
+bare_row row = row_with (λ p. tt {0}) row
+
+abbrev pub bare_entry : {P : Type 0} → Entry P → BareEntry
+bare_entry e = entry_with (λ p. tt {0}) e
 
 -- ---- rows, entries and groups, one behind another
 

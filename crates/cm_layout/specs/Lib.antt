@@ -8,3 +8,4 @@ pub mod Rules
 pub mod Frames
 pub mod Framing
 pub mod Laws
+pub mod Zeros

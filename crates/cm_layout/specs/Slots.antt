@@ -1,7 +1,7 @@
 -- The slots of a region file: 64 bytes each, numbers little-endian. Byte 0 of a head is its gate,
 -- open exactly where it is A5; byte 0 of an entry is 00. Byte 1 says what the slot is. All bytes
 -- that aren't named are 00.
-use Rattle.std.specs.Prelude.{ℕ, ◌<◌, ◌≤◌, ◌-◌, ◌^◌, List, ◌∷◌, ◌++◌, length, replicate}
+use Rattle.std.specs.Prelude.{ℕ, ◌<◌, ◌≤◌, ◌-◌, ◌^◌, List, ◌∷◌, ◌++◌, length}
 use Rattle.std.specs.Int.{w16, w32, w64, to_le_bytes}
 use Rattle.cm_pool.specs.declared.chunk.Chunk.{Chunk}
 use Rattle.cm_layout.specs.declared.heads.HalfHead.{HalfHead}
@@ -15,10 +15,7 @@ use Rattle.cm_layout.specs.declared.row.Row.TheVariants.{Loader, Class}
 use Rattle.cm_layout.specs.declared.entry.Entry.{Entry}
 use Rattle.cm_layout.specs.declared.entry.Entry.TheVariants as entry
 use Rattle.cm_layout.specs.Names.{name_limit}
-
--- n bytes 00
-abbrev pub zeros : ℕ → List ℕ
-zeros n = replicate n 0
+use Rattle.cm_layout.specs.Zeros.{zeros}
 
 -- the gate byte of a head that is open
 abbrev pub open_gate : ℕ

@@ -4,7 +4,8 @@ use Rattle.std.specs.Prelude.{ℕ, ◌-◌, List, [], ◌∷◌, ◌++◌}
 use Rattle.std.specs.Int.{w32, to_le_bytes}
 use Rattle.cm_pool.specs.Geometry.{Sizes}
 use Rattle.cm_layout.specs.Offsets.{superblock_size}
-use Rattle.cm_layout.specs.Slots.{zeros, open_gate}
+use Rattle.cm_layout.specs.Slots.{open_gate}
+use Rattle.cm_layout.specs.Zeros.{blank}
 
 -- the ASCII text CMCACHE1
 abbrev pub magic : List ℕ
@@ -18,10 +19,6 @@ superblock_front g =
 
 abbrev pub front_size : ℕ
 front_size = 24
-
--- n bytes 00; a name for long rows, which nobody wants to see written out
-unfoldable pub blank : ℕ → List ℕ
-blank n = zeros n
 
 -- between the front and the gate, which is the last byte
 abbrev pub superblock_zeros : ℕ

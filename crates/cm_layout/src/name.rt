@@ -1,8 +1,9 @@
 //! Names of loaders, and names as a slot has room for them.
 
-ghost use Rattle.std.specs.Prelude.{◌≡◌, ◌≤◌, ◌-◌, ◌↔◌, ◌++◌, length, replicate, IsSome, IfSome};
+ghost use Rattle.std.specs.Prelude.{◌≡◌, ◌≤◌, ◌-◌, ◌↔◌, ◌++◌, length, IsSome, IfSome};
 ghost use Rattle.std.specs.List.{list_all};
 ghost use Rattle.cm_layout.specs.Names.{is_loader_name, is_visible, name_limit};
+ghost use Rattle.cm_layout.specs.Zeros.{zeros};
 
 use std::marker::Model;
 
@@ -17,26 +18,27 @@ pub struct SlotName {
 }
 
 impl Model for SlotName {
-    ghost use Rattle.std.specs.Prelude.{◌≡◌, ◌≤◌, ◌-◌, ◌++◌, List, ℕ, length, take, replicate};
+    ghost use Rattle.std.specs.Prelude.{◌≡◌, ◌≤◌, ◌-◌, ◌++◌, List, ℕ, length, take};
     ghost use Rattle.std.proofs.Common.{ap, sym, ◌∙◌, arith, length-take-le};
     ghost use Rattle.cm_layout.specs.Names.{name_limit};
+    ghost use Rattle.cm_layout.specs.Zeros.{zeros};
 
     ghost Value = { List ℕ };
 
     ghost view = { λ n. take n.len n.bytes };
 
     ghost invariant = { λ n. (n.len ≤ name_limit) × (length n.bytes ≡ name_limit)
-        × (n.bytes ≡ take n.len n.bytes ++ replicate (name_limit - n.len) 0) };
+        × (n.bytes ≡ take n.len n.bytes ++ zeros (name_limit - n.len)) };
 
     ghost inverse = { λ name. record {
-      bytes = name ++ replicate (name_limit - length name) 0;
+      bytes = name ++ zeros (name_limit - length name);
       len = length name;
     } };
 
     ghost inverse_ok = { λ n h i.
         let fits = length-take-le n.len n.bytes (omega (arith, h.0, h.1)) in record {
           bytes =
-              (ap (λ len. take n.len n.bytes ++ replicate (name_limit - len) 0) fits ∙ sym h.2) i;
+              (ap (λ len. take n.len n.bytes ++ zeros (name_limit - len)) fits ∙ sym h.2) i;
           len = fits i;
         } };
 }
@@ -68,7 +70,7 @@ impl SlotName {
 
     /// The name's bytes with zeros behind them.
     pub fn slot_bytes(&self) -> [u8; NAME_BYTES]
-        ensures { result ≡ self.now ++ replicate (name_limit - length self.now) 0 }
+        ensures { result ≡ self.now ++ zeros (name_limit - length self.now) }
     {
         self.bytes
     }

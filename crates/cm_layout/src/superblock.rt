@@ -4,7 +4,8 @@ ghost use Rattle.std.specs.Prelude.{◌≡◌, ◌↔◌, ◌++◌, ◌∷◌, [
 ghost use Rattle.std.specs.List.{All};
 ghost use Rattle.cm_pool.specs.Geometry.{Sizes, IsGeometry};
 ghost use Rattle.cm_layout.specs.Slots.{open_gate};
-ghost use Rattle.cm_layout.specs.Superblock.{superblock_front, superblock_bytes, blank};
+ghost use Rattle.cm_layout.specs.Superblock.{superblock_front, superblock_bytes};
+ghost use Rattle.cm_layout.specs.Zeros.{blank};
 ghost use Rattle.cm_layout.specs.Superblock.{superblock_zeros};
 
 use crate::slot::{OPEN_GATE, SUPERBLOCK_BYTES};

@@ -1,7 +1,12 @@
-pub mod Cuts
-pub mod Reading
-pub mod Writing
-pub mod Taking
-pub mod Rows
-pub mod LineLaws
-pub mod EscapeLaws
+-- What crates above may cite of these proofs is what `pub use` passes on; all else is private.
+mod Cuts
+mod Reading
+mod Writing
+mod Taking
+mod WorkedExamples
+mod LineLaws
+mod EscapeLaws
+-- Texts that are cut at a byte.
+pub use Cuts.{pieces_cut, pieces_none, pieces_some}
+-- A line that is read in pieces.
+pub use Reading.{lines_cut, lines_last}

@@ -6,7 +6,7 @@ use Rattle.std.proofs.Common.{subst, ◌∙◌, append_assoc, append-nil, eq-eqb
 use Rattle.std.specs.Prelude.{codes}
 use Rattle.std.specs.List.{AllByRecursion, onto_first, join_with_byte}
 use Rattle.std.specs.Str.{bytes_eq}
-use Rattle.std.proofs.lemmas.Bool.{lt-ltb, ltb-true}
+use Rattle.std.proofs.lemmas.Bool.{lt-ltb, ltb-true, and_parts}
 use Rattle.std.proofs.lemmas.List.Elements.{All-nil, All-cons, All-from_recursion}
 use Rattle.std.proofs.lemmas.List.Splits.{join_with_byte-slice_split}
 use Rattle.std.proofs.lemmas.Slice.Eq.{bytes_eq-Decides}
@@ -85,10 +85,6 @@ lines_make_script script =
 
 -- ---- words
 
-both : (a b : Bool) → (a && b) ≡ true → (a ≡ true) × (b ≡ true)
-both true b e = (refl, e)
-both false b e = absurd cc
-
 chosen : (t : Bool) (x y : Asked) (rest : Option Asked) → cond t (Some x) rest ≡ Some y
     → ((t ≡ true) × (x ≡ y)) ⊎ (rest ≡ Some y)
 chosen true x y rest e = inl (refl, (cc))
@@ -106,7 +102,7 @@ of_loader : (verb name line : List ℕ) (question : Asked) → verb ++ 32 ∷ na
     → IsSpelled line question
 unfolding IsSpelled
 of_loader verb name line question joined clean h =
-    let t = both (bytes_eq verb (codes "loader")) (is_word name) h.0 in
+    let t = and_parts (bytes_eq verb (codes "loader")) (is_word name) h.0 in
     let is = (bytes_eq-Decides verb (codes "loader")).0 t.0 in
     subst (λ q. (line ≡ spelled q) × AreWords q) h.1
     (sym joined ∙ ap (λ v. v ++ 32 ∷ name) is, word name t.1 clean)
@@ -117,7 +113,7 @@ of_unload : (verb name line : List ℕ) (question : Asked) → verb ++ 32 ∷ na
     → IsSpelled line question
 unfolding IsSpelled
 of_unload verb name line question joined clean h =
-    let t = both (bytes_eq verb (codes "unload")) (is_word name) h.0 in
+    let t = and_parts (bytes_eq verb (codes "unload")) (is_word name) h.0 in
     let is = (bytes_eq-Decides verb (codes "unload")).0 t.0 in
     subst (λ q. (line ≡ spelled q) × AreWords q) h.1
     (sym joined ∙ ap (λ v. v ++ 32 ∷ name) is, word name t.1 clean)
@@ -129,8 +125,8 @@ of_define : (verb loader digits line : List ℕ) (question : Asked)
     × (AsksDefine loader digits ≡ question) → IsSpelled line question
 unfolding IsSpelled
 of_define verb loader digits line question joined clean clean' h =
-    let t = both (bytes_eq verb (codes "define")) (is_word loader && is_word digits) h.0 in
-    let w = both (is_word loader) (is_word digits) t.1 in
+    let t = and_parts (bytes_eq verb (codes "define")) (is_word loader && is_word digits) h.0 in
+    let w = and_parts (is_word loader) (is_word digits) t.1 in
     let is = (bytes_eq-Decides verb (codes "define")).0 t.0 in
     subst (λ q. (line ≡ spelled q) × AreWords q) h.1 (
       sym joined ∙ ap (λ v. v ++ (32 ∷ (loader ++ (32 ∷ digits)))) is,
@@ -144,8 +140,8 @@ of_find : (verb loader name line : List ℕ) (question : Asked)
     × (AsksFind loader name ≡ question) → IsSpelled line question
 unfolding IsSpelled
 of_find verb loader name line question joined clean clean' h =
-    let t = both (bytes_eq verb (codes "find")) (is_word loader && is_word name) h.0 in
-    let w = both (is_word loader) (is_word name) t.1 in
+    let t = and_parts (bytes_eq verb (codes "find")) (is_word loader && is_word name) h.0 in
+    let w = and_parts (is_word loader) (is_word name) t.1 in
     let is = (bytes_eq-Decides verb (codes "find")).0 t.0 in
     subst (λ q. (line ≡ spelled q) × AreWords q) h.1 (
       sym joined ∙ ap (λ v. v ++ (32 ∷ (loader ++ (32 ∷ name)))) is,

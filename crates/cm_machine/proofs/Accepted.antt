@@ -23,6 +23,7 @@ use Rattle.cm_layout.specs.declared.entry.Entry.TheVariants as entry
 use Rattle.cm_layout.specs.Rows.{rows_after, bare, classes_in, last_chunk, used_words}
 use Rattle.cm_layout.specs.Rules.{is_last_chunk, is_unused}
 use Rattle.cm_layout.specs.Frames.{AreApart}
+use Rattle.cm_layout.proofs.{classes-bare, apart-unused}
 use Rattle.cm_group.specs.Groups.{Carried, Handed, slots_taken, group_limit}
 use Rattle.cm_space.specs.Space.{SpaceState, Waits, arena_of}
 use Rattle.cm_space.specs.Laws.{OwnedIsUsed, OwnedOrWaiting}
@@ -38,9 +39,7 @@ use Rattle.cm_front.specs.Chains.{chain_of}
 use Rattle.cm_front.specs.Laws.{ChainsEndAtTop, ChainsHaveChunks}
 use Rattle.cm_front.specs.Front.{FrontState, IsFront, is_half_full, first_refusal}
 use Rattle.cm_front.specs.Accepting.{Accepts, SpaceAfter, accepted, carried, joined_by}
-use Rattle.cm_front.proofs.RowFacts.{classes_bare}
-use Rattle.cm_front.proofs.Chains.{apart-unused}
-use Rattle.cm_front.proofs.Places.{some-top, fetched_free}
+use Rattle.cm_front.proofs.{some-top, fetched_free}
 use Rattle.cm_machine.specs.Ahead.{AllFollow, AtEach, AllApart, AreUsed, UseNoneDue}
 use Rattle.cm_machine.specs.Ahead.{pending, IsAhead}
 use Rattle.cm_machine.specs.Handover.{AcceptedIsAhead}
@@ -100,7 +99,7 @@ on_top : ChainsEndAtTop → (s : FrontState) (r : ClassRow) → IsFront s
     → GoesOnTop s.rows r
 on_top tops s r f e =
     let apart : AreApart (classes_in (bare s.rows)) =
-    subst (λ l. AreApart l) (sym (classes_bare s.rows)) f.rows.apart in
+    subst (λ l. AreApart l) (sym (classes-bare s.rows)) f.rows.apart in
     let here : last_of (chain_of r.loader (bare s.rows))
     ≡ Some (record { chunk = r.place.chunk; used = r.place.offset }) =
     subst (λ (l : List Filled). last_of l
@@ -111,9 +110,9 @@ on_top tops s r f e =
       last = subst (λ (l : List ClassRow).
           option_map_or (λ (last : Chunk). same_chunk last r.place.chunk) (last_chunk r.loader l)
           false
-          ≡ true) (classes_bare s.rows) top.0;
+          ≡ true) (classes-bare s.rows) top.0;
       behind = subst (λ (l : List ClassRow). r.place.offset ≡ used_in r.place.chunk l)
-          (classes_bare s.rows) top.1;
+          (classes-bare s.rows) top.1;
     }
 
 -- a chunk that is fetched isn't used at any number before

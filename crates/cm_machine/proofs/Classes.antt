@@ -21,9 +21,10 @@ use Rattle.cm_layout.specs.Slots.{FitsEntry}
 use Rattle.cm_layout.specs.Rows.{name_of, number_of, rows_after, without_loader, moved, bare}
 use Rattle.cm_layout.specs.Rows.{row_with, rows_with, entry_with}
 use Rattle.cm_layout.specs.Rules.{broken_rule}
+use Rattle.cm_layout.specs.Frames.{bare_entry}
+use Rattle.cm_layout.proofs.{rule-bare}
 use Rattle.cm_state.specs.State.{class_shows, words_show, class_among}
 use Rattle.cm_state.specs.Entries.{MayFollow, IsNewClass}
-use Rattle.cm_state.proofs.Bare.{bare_entry, rule-bare}
 use Rattle.cm_machine.specs.Machine.{IsRight}
 use Rattle.cm_machine.specs.Following.{AreRight, IsRightEntry}
 

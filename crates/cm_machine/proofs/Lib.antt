@@ -1,9 +1,12 @@
-pub mod Following
-pub mod Tops
-pub mod Used
-pub mod Accepted
-pub mod Handed
-pub mod Classes
-pub mod Causes
-pub mod Making
-pub mod Fronts
+-- What crates above may cite of these proofs is what `pub use` passes on; all else is private.
+mod Following
+mod Tops
+mod Used
+mod Accepted
+mod Handed
+mod Classes
+mod Causes
+mod Making
+mod Fronts
+-- Rows with classes, and the same rows with the words of their records.
+pub use Classes.{bare_words}

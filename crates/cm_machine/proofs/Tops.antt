@@ -9,7 +9,7 @@ use Rattle.std.proofs.Common.{arith, eqb, append-nil}
 use Rattle.std.specs.Prelude.{◌&&◌, ◌||◌, not, filter, sum, nat_le}
 use Rattle.std.specs.List.{AllByRecursion}
 use Rattle.std.specs.Option.{option_map_or}
-use Rattle.std.proofs.lemmas.Bool.{eqb-true, eq-eqb, leb-true, le-leb}
+use Rattle.std.proofs.lemmas.Bool.{eqb-true, eq-eqb, leb-true, le-leb, and_parts, or_cases}
 use Rattle.std.proofs.lemmas.List.{map-append}
 use Rattle.std.proofs.lemmas.List.Sums.{sum_by-append}
 use Rattle.std.proofs.lemmas.List.Elements.{filter-append}
@@ -17,6 +17,7 @@ use Rattle.cm_pool.specs.Geometry.{Sizes}
 use Rattle.cm_pool.specs.declared.chunk.Chunk.{Chunk}
 use Rattle.cm_pool.specs.Chunks.{chunk_size, same_chunk, Meets}
 use Rattle.cm_pool.specs.Lists.{Among}
+use Rattle.cm_pool.proofs.{same_chunk-true, same_chunk-itself, meets-itself}
 use Rattle.cm_layout.specs.declared.class_row.ClassRow.{ClassRow}
 use Rattle.cm_layout.specs.declared.row.Row.TheVariants.{Loader, Class}
 use Rattle.cm_layout.specs.declared.entry.Entry.TheVariants as entry
@@ -25,13 +26,13 @@ use Rattle.cm_layout.specs.Rules.{is_unused, is_last_chunk, has_place, class_fit
 use Rattle.cm_layout.specs.Rules.{broken_of}
 use Rattle.cm_layout.specs.Rules.{is_live, has_room}
 use Rattle.cm_layout.specs.Frames.{AreApart, BareEntry}
+use Rattle.cm_layout.proofs.{begins_behind, classes_in-append}
 use Rattle.cm_group.specs.Groups.{Carried}
 use Rattle.cm_state.specs.State.{words_show}
 use Rattle.cm_state.specs.Entries.{AreCacheRows, MayFollow}
 use Rattle.cm_state.specs.Laws.{EntriesAreSteps}
 use Rattle.cm_commit.specs.Offers.{filled, own_record, HasRecords, writes_apart, rows_after_group}
-use Rattle.cm_front.proofs.RowFacts.{classes_more, classes_left}
-use Rattle.cm_front.proofs.Chains.{both, either, same_chunk-true, same-itself, meets-itself}
+use Rattle.cm_front.proofs.{classes_left}
 use Rattle.cm_machine.specs.Ahead.{AllFollow, AtEach, AllApart}
 use Rattle.cm_machine.proofs.Following.{WordRows}
 
@@ -55,7 +56,7 @@ used_more c a b =
     ∙ sum_by-append (λ (n : ℕ). n) (map words (filter test a)) (map words (filter test b)))
 
 used_here : (r : ClassRow) → used_in r.place.chunk (r ∷ []) ≡ r.place.words
-used_here r = rw (same-itself r.place.chunk) (omega arith)
+used_here r = rw (same_chunk-itself r.place.chunk) (omega arith)
 
 last_more : (u : ℕ) (classes : List ClassRow) (r : ClassRow)
     → last_chunk u (classes ++ r ∷ [])
@@ -189,33 +190,16 @@ may_go : (old : WordRows) (r : ClassRow)
     || (is_last_chunk r.loader r.place.chunk old
     && nat_le (used_words r.place.chunk old) r.place.offset)) ≡ true → MayGo old r
 may_go old r h =
-    elim (either (is_unused r.place.chunk old)
+    elim (or_cases (is_unused r.place.chunk old)
     (is_last_chunk r.loader r.place.chunk old
     && nat_le (used_words r.place.chunk old) r.place.offset) h) [
       | inl unused ↦ inl unused
       | inr last ↦
           let parts =
-          both (is_last_chunk r.loader r.place.chunk old)
+          and_parts (is_last_chunk r.loader r.place.chunk old)
           (nat_le (used_words r.place.chunk old) r.place.offset) last
           in
           inr (parts.0, leb-true (used_words r.place.chunk old) r.place.offset parts.1)
-    ]
-
--- a class that has its place begins where the words of its chunk end
-begins : (now : WordRows) (r : ClassRow) → has_place now r ≡ true
-    → r.place.offset ≤ used_words r.place.chunk now
-begins now r h =
-    let on_last = is_last_chunk r.loader r.place.chunk now in
-    let behind = eqb r.place.offset (used_words r.place.chunk now) in
-    let front = eqb r.place.offset 0 in
-    let unused = is_unused r.place.chunk now in
-    elim (either (on_last && behind) (front && unused) h) [
-      | inl last ↦
-          let e = eqb-true r.place.offset (used_words r.place.chunk now)
-          (both on_last behind last).1
-          in omega (arith, e)
-      | inr new ↦
-          let e = eqb-true r.place.offset 0 (both front unused new).0 in omega (arith, e)
     ]
 
 same_last : (c d : Chunk) → option_map_or (λ (last : Chunk). same_chunk last c) (Some d) false ≡
@@ -236,7 +220,7 @@ grown_class old now r words g place go = record {
 }
   where
     next : classes_in (now ++ Class r words ∷ []) ≡ classes_in now ++ r ∷ []
-    next = classes_more now (Class r words)
+    next = classes_in-append now (Class r words ∷ [])
 
     more : (c : Chunk)
         → used_words c (now ++ Class r words ∷ []) ≡ used_words c now + used_in c (r ∷ [])
@@ -257,7 +241,7 @@ grown_class old now r words g place go = record {
         (elim go [
           | inl unused ↦ inl unused
           | inr last ↦
-              let from = begins now r place in
+              let from = begins_behind now r place in
               let behind = last.1 in
               let all = more r.place.chunk in
               inr (last.0, omega (arith, from, behind, all))
@@ -368,7 +352,7 @@ kept false b h = absurd (cc)
 pub rule_place : (sizes : Sizes) (rows : WordRows) (r : ClassRow)
     → class_fits sizes rows r ≡ true → has_place rows r ≡ true
 rule_place sizes rows r h =
-    (both (is_chunk sizes r.place.chunk && nat_le 1 r.place.words
+    (and_parts (is_chunk sizes r.place.chunk && nat_le 1 r.place.words
     && nat_le (r.place.offset + r.place.words) (chunk_size r.place.chunk.order)) (has_place rows r)
     h).1
 
@@ -381,7 +365,7 @@ grown_entry : (sizes : Sizes) (n : ℕ) (old now : WordRows) (e : BareEntry) (re
     → writes_apart old e ≡ true → IsGrown old (rows_after now (filled (entry_of e records)))
 grown_entry sizes n old now (entry.Live (Loader r)) records g are may has apart =
     by_classes old now (now ++ Loader r ∷ [])
-    (classes_more now (Loader r) ∙ append-nil (classes_in now)) g
+    (classes_in-append now (Loader r ∷ []) ∙ append-nil (classes_in now)) g
 grown_entry sizes n old now (entry.Live (Class r p)) records g are may has apart =
     grown_class old now r (own_record records) g
     (rule_place sizes now r

@@ -14,14 +14,14 @@ use Rattle.cm_arena.specs.Chains.{Filled, chunks_of}
 use Rattle.cm_arena.specs.Placing.{Fetches}
 use Rattle.cm_layout.specs.declared.class_row.ClassRow.{ClassRow}
 use Rattle.cm_layout.specs.Rows.{classes_in, bare}
+use Rattle.cm_layout.proofs.{classes-bare}
 use Rattle.cm_space.specs.Space.{SpaceState, Waits, learnt, with_chunks, waiting_chunks, due}
 use Rattle.cm_space.specs.Space.{not_due}
 use Rattle.cm_space.specs.Ownership.{Owns, WaitsFor}
 use Rattle.cm_space.specs.Laws.{OwnedIsUsed, OwnedOrWaiting, LearningFreesDue}
 use Rattle.cm_front.specs.Laws.{ChainsHaveChunks}
 use Rattle.cm_front.specs.Front.{FrontState, IsFront}
-use Rattle.cm_front.proofs.RowFacts.{classes_bare}
-use Rattle.cm_front.proofs.Places.{used-with-root}
+use Rattle.cm_front.proofs.{used-with-root}
 use Rattle.cm_machine.specs.Ahead.{AreUsed, UseNoneDue}
 use Rattle.cm_machine.proofs.Following.{WordRows}
 
@@ -32,7 +32,7 @@ pub owned : ChainsHaveChunks → (s : FrontState) → IsFront s → (r : ClassRo
 owned chains s f r m =
     subst (λ (chain : List Filled). Among r.place.chunk (chunks_of chain))
     (sym (f.space.chains r.loader))
-    (chains (bare s.rows) r (subst (λ l. Among r l) (sym (classes_bare s.rows)) m))
+    (chains (bare s.rows) r (subst (λ l. Among r l) (sym (classes-bare s.rows)) m))
 
 pub front_uses : ChainsHaveChunks → OwnedIsUsed → (s : FrontState) → IsFront s
     → AreUsed s.space.pool s.rows

@@ -1,8 +1,8 @@
-pub mod ByMarks
-pub mod CharacterLaws
-pub mod ClassNameLaws
-pub mod FirstStop
-pub mod FormLoops
-pub mod JoinedNames
-pub mod MarksOf
-pub mod TypeLaws
+mod ByMarks
+mod CharacterLaws
+mod ClassNameLaws
+mod FirstStop
+mod FormLoops
+mod JoinedNames
+mod MarksOf
+mod TypeLaws

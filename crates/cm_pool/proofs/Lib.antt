@@ -1,16 +1,32 @@
-pub mod Lists
-pub mod Dyadic
-pub mod Marks
-pub mod Trees
-pub mod FreeWords
-pub mod Spaces
-pub mod Places
-pub mod Pools
-pub mod Emptiness
-pub mod Firsts
-pub mod ChunkLaws
-pub mod HeldFacts
-pub mod Largest
-pub mod NoneLost
+-- What crates above may cite of these proofs is what `pub use` passes on, and the laws on held
+-- chunks and free words (`SpaceLaws`); all else is private.
+mod Lists
+mod Dyadic
+mod Marks
+mod Trees
+mod FreeWords
+mod Spaces
+mod Places
+mod Pools
+mod Emptiness
+mod Firsts
+mod ChunkLaws
+mod HeldFacts
+mod Largest
+mod NoneLost
 pub mod SpaceLaws
-pub mod BitFacts
+mod BitFacts
+mod SameChunks
+-- Laws on lists: what holds of each element, or of each two, and which elements stand in one.
+pub use Lists.{each-weaker, each-among, each-join, each-front, each-back, pairs-front, pairs-back}
+pub use Lists.{pairs-insert, pairs-remove, pairs-before, pairs-behind, pairs-among, among-at}
+pub use Lists.{among-left, among-right, among-append, among-push, among-map, among-map_from}
+pub use Lists.{among-filter, among-filter_from}
+-- What is free after a change, and that what is free determines a pool's value.
+pub use FreeWords.{number-order, range-decides, words-decides, free-with_chunk, free-with_root}
+pub use FreeWords.{same_numbers, chunk-word}
+-- No word is lost where chunks are taken, given back, and roots added.
+pub use NoneLost.{none_lost-given}
+-- When two chunks are one, by the test on them, and that they meet both ways.
+pub use SameChunks.{same_chunk-true, same_chunk-itself, same_chunk-is, same_chunk-cases}
+pub use SameChunks.{same_chunk-false, meets-turned, meets-itself}

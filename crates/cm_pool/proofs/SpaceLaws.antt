@@ -1,5 +1,5 @@
--- The laws on held chunks and free words, for the crates above: what they cite of this crate's
--- proofs is this file.
+-- The laws on held chunks and free words.
+-- On `GivingBackRestores`, `TakenIsUsed`, `TakenIsHeld`, for crates above.
 use Rattle.cm_pool.specs.SpaceLaws.{TakenIsUsed, TakenIsHeld, HeldIsGiven, RootsKeepHeld}
 use Rattle.cm_pool.specs.SpaceLaws.{TakingLosesNone, RootsLoseNone, RootsAreFree, LargeHasSmall}
 use Rattle.cm_pool.specs.Laws.{GivingBackRestores}

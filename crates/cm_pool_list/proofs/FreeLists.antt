@@ -10,7 +10,7 @@ use Rattle.std.proofs.lemmas.Bool.{cases_lt, or_cases, or_left, or_right, both_w
 use Rattle.cm_pool_list.specs.declared.block.Block.{Block}
 use Rattle.cm_pool_list.specs.Blocks.{is_in, is_covered, start, stop, Inside, Apart}
 use Rattle.cm_pool.specs.Lists.{Pairwise}
-use Rattle.cm_pool.proofs.Lists.{each-weaker, pairs-among}
+use Rattle.cm_pool.proofs.{each-weaker, pairs-among}
 use Rattle.cm_pool.specs.Lists.{Among}
 use Rattle.cm_pool_list.proofs.Dyadic.{half_eq, twice, is_in-bounds, is_in-start, is_in-last}
 use Rattle.cm_pool_list.proofs.Dyadic.{inside-is_in, inside-same_order, inside-from_shared}

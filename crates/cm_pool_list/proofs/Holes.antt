@@ -11,8 +11,8 @@ use Rattle.std.proofs.Math.Nat.{mul-le-mul_left}
 use Rattle.cm_pool_list.specs.declared.block.Block.{Block}
 use Rattle.cm_pool_list.specs.Blocks.{is_in, is_covered, start, stop, Apart, IsFreeList, IsHole}
 use Rattle.cm_pool_list.specs.Blocks.{left_half, right_half}
-use Rattle.cm_pool.proofs.Lists.{each-weaker, each-join, each-front, each-back, pairs-insert}
-use Rattle.cm_pool.proofs.Lists.{pairs-remove, pairs-before, pairs-behind}
+use Rattle.cm_pool.proofs.{each-weaker, each-join, each-front, each-back, pairs-insert}
+use Rattle.cm_pool.proofs.{pairs-remove, pairs-before, pairs-behind}
 use Rattle.cm_pool_list.proofs.Dyadic.{is_in-halves, start-left_half, stop-left_half}
 use Rattle.cm_pool_list.proofs.Dyadic.{stop-right_half, halves-touch}
 use Rattle.cm_pool_list.proofs.FreeLists.{covered-middle, apart-both}

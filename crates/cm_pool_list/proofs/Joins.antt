@@ -12,8 +12,8 @@ use Rattle.cm_pool_list.specs.declared.block.Block.{Block}
 use Rattle.cm_pool_list.specs.Blocks.{is_in, is_covered, start, stop, AreHalves, Apart, IsFreeList}
 use Rattle.cm_pool_list.specs.Blocks.{IsHole, IsHalfBeside, HasNoHalfBeside, block_above}
 use Rattle.cm_pool.specs.Lists.{Pairwise}
-use Rattle.cm_pool.proofs.Lists.{each-weaker, each-join, each-front, each-back, pairs-insert}
-use Rattle.cm_pool.proofs.Lists.{pairs-remove, pairs-before, pairs-behind, pairs-front, pairs-back}
+use Rattle.cm_pool.proofs.{each-weaker, each-join, each-front, each-back, pairs-insert}
+use Rattle.cm_pool.proofs.{pairs-remove, pairs-before, pairs-behind, pairs-front, pairs-back}
 use Rattle.cm_pool_list.proofs.Dyadic.{is_in-from_bounds, is_in-start, halves-touch}
 use Rattle.cm_pool_list.proofs.Dyadic.{start-block_above, stop-block_above, is_in-block_above}
 use Rattle.cm_pool_list.proofs.Dyadic.{above-halves, order-block_above}

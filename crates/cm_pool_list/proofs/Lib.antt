@@ -1,7 +1,7 @@
-pub mod Dyadic
-pub mod FreeLists
-pub mod Holes
-pub mod Joins
-pub mod Spaces
-pub mod Places
-pub mod Pools
+mod Dyadic
+mod FreeLists
+mod Holes
+mod Joins
+mod Spaces
+mod Places
+mod Pools

@@ -17,14 +17,14 @@ use Rattle.cm_pool.specs.FreeSpace.{with_root}
 use Rattle.cm_pool_list.specs.Blocks.{is_in, is_covered, start, stop, Inside, Apart, IsFreeList}
 use Rattle.cm_pool_list.specs.Blocks.{IsPool, IsSame, space_of}
 use Rattle.cm_pool.specs.Lists.{Pairwise}
-use Rattle.cm_pool.proofs.Lists.{each-among, each-join, pairs-insert, pairs-behind, each-weaker}
+use Rattle.cm_pool.proofs.{each-among, each-join, pairs-insert, pairs-behind, each-weaker}
+use Rattle.cm_pool.proofs.{number-order}
 use Rattle.cm_pool.specs.Lists.{Among}
 use Rattle.cm_pool_list.proofs.Dyadic.{twice, is_in-bounds, inside-is_in, inside-start}
 use Rattle.cm_pool_list.proofs.FreeLists.{covered-middle, stops-below, covered-inside}
 use Rattle.cm_pool_list.proofs.FreeLists.{covered-among, Holder}
 use Rattle.cm_pool_list.proofs.Holes.{split_at}
 use Rattle.cm_pool_list.proofs.Places.{chunk-place}
-use Rattle.cm_pool.proofs.FreeWords.{number-order}
 use Rattle.cm_pool_list.proofs.Spaces.{contains-space_of, free-covered, covered-free}
 use Rattle.cm_pool_list.proofs.Spaces.{space-with_root}
 

@@ -17,7 +17,7 @@ use Rattle.cm_pool.specs.FreeSpace.{word_number, IsFreeChunk, IsUsedChunk, words
 use Rattle.cm_pool.specs.FreeSpace.{with_chunk, with_root}
 use Rattle.cm_pool_list.specs.Blocks.{is_in, is_covered, block_words, space_of, IsSame}
 use Rattle.cm_pool_list.proofs.Dyadic.{is_in-bounds, is_in-from_bounds}
-use Rattle.cm_pool.proofs.FreeWords.{range-decides, words-decides, same_numbers, chunk-word}
+use Rattle.cm_pool.proofs.{range-decides, words-decides, same_numbers, chunk-word}
 
 -- a word of a block lies in one of its granules
 granule : (b : Block) (n : ℕ) → Decides (is_in b (n / 128)) ((b.index * chunk_size b.order ≤ n)

@@ -20,12 +20,11 @@ use Rattle.cm_record.specs.declared.run.Run.{Run}
 use Rattle.cm_record.specs.Members.{IsFirst}
 use Rattle.cm_record.specs.Runs.{IsRunOf, attribute_run_at}
 use Rattle.cm_record.specs.Code.{code_name, attributes_before, attributes_place, run_place}
-use Rattle.cm_record_layout.proofs.Digits.{first-attribute, upper-attribute}
-use Rattle.cm_record_layout.proofs.Lengths.{all_attributes_len, attributes_append}
-use Rattle.cm_record_layout.proofs.Lengths.{attribute_runs_append, attributes_len, all_runs}
-use Rattle.cm_record_layout.proofs.Lengths.{lay_len}
-use Rattle.cm_record_layout.proofs.Sections.{methods_at, attributes_tail, attributes_there}
-use Rattle.cm_record_layout.proofs.Sections.{tail_joined, runs_there, of_fields, of_methods}
+use Rattle.cm_record_layout.proofs.{first-attribute, upper-attribute, all_attributes_len}
+use Rattle.cm_record_layout.proofs.{attributes_append, attribute_runs_append, attributes_len}
+use Rattle.cm_record_layout.proofs.{all_runs, lay_len}
+use Rattle.cm_record_layout.proofs.{attributes_there, tail_joined, runs_there}
+use Rattle.cm_record_layout.specs.Tails.{of_fields, of_methods, methods_at, attributes_tail}
 use Rattle.cm_record.proofs.MemberPlaces.{item_there, twice_more, fits_there, methods_on}
 use Rattle.cm_record.proofs.MemberPlaces.{methods_have, fields_place, fields_count}
 

@@ -20,9 +20,9 @@ use Rattle.cm_record_layout.specs.Layout.{IsRecordOf}
 use Rattle.cm_record_layout.specs.Packing.{first_of, second_of, third_of, fourth_of, upper_of}
 use Rattle.cm_record.specs.Constants.{kept_constant, is_wide_word, is_second_word, word_kept}
 use Rattle.cm_record.specs.Constants.{constant_at_index, constant_kept, utf8_at}
-use Rattle.cm_record_layout.proofs.Sections.{main_there, methods_at, attributes_tail, word_8}
-use Rattle.cm_record_layout.proofs.Sections.{count_there}
-use Rattle.cm_record_layout.proofs.Lengths.{lay_len}
+use Rattle.cm_record_layout.proofs.{main_there, word_8, count_there}
+use Rattle.cm_record_layout.proofs.{lay_len}
+use Rattle.cm_record_layout.specs.Tails.{methods_at, attributes_tail}
 use Rattle.cm_class.specs.Names.{constant_in, constant_named}
 
 -- ---- a constant from its words

@@ -12,11 +12,11 @@ use Rattle.cm_record_layout.specs.Packing.{four_numbers, first_of, second_of, th
 use Rattle.cm_record_layout.specs.Layout.{lay, directory, members, members_at, attributes_at}
 use Rattle.cm_record_layout.specs.Layout.{runs_at, IsRecordOf}
 use Rattle.cm_record.specs.Members.{leads_to, has_both, IsFirst, IsLeastMember}
-use Rattle.cm_record_layout.proofs.Digits.{first-four_numbers, second-four_numbers}
-use Rattle.cm_record_layout.proofs.Digits.{third-four_numbers, fourth-four_numbers}
-use Rattle.cm_record_layout.proofs.Lengths.{all_members_len, members_len, directory_len, lay_len}
-use Rattle.cm_record_layout.proofs.Sections.{main_there, methods_at, attributes_tail, word_5}
-use Rattle.cm_record_layout.proofs.Sections.{fields_there, methods_there}
+use Rattle.cm_record_layout.proofs.{first-four_numbers, second-four_numbers, third-four_numbers}
+use Rattle.cm_record_layout.proofs.{fourth-four_numbers, all_members_len, members_len}
+use Rattle.cm_record_layout.proofs.{directory_len, lay_len, main_there}
+use Rattle.cm_record_layout.proofs.{word_5, fields_there, methods_there}
+use Rattle.cm_record_layout.specs.Tails.{methods_at, attributes_tail}
 
 pub twice_more : (k j : ℕ) → k ≡ 2 * suc j → (i : ℕ) × (k ≡ suc (suc i)) × (i ≡ 2 * j)
 twice_more zero j e = absurd (omega arith)

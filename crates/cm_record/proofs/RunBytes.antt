@@ -5,11 +5,11 @@ use Rattle.std.proofs.Common.{get_or, refl, sym, ◌∙◌, ap, arith, length-dr
 use Rattle.std.proofs.Common.{get_or-take, get_or-drop}
 use Rattle.std.proofs.lemmas.List.{get_or_append_left}
 use Rattle.cm_class.specs.Spelling.{AreBytes}
+use Rattle.cm_class.proofs.{AreBytes-at}
 use Rattle.cm_record_layout.specs.Packing.{bytes_of, word_from, packed_into, packed, run_words}
 use Rattle.cm_record.specs.declared.run.Run.{Run}
 use Rattle.cm_record.specs.Runs.{IsRunOf}
-use Rattle.cm_record_layout.proofs.Packed.{packed_len}
-use Rattle.cm_record_layout.proofs.Runs.{byte_at, bytes_from, front_back}
+use Rattle.cm_record_layout.proofs.{packed_len, bytes_from, front_back}
 use Rattle.cm_record.proofs.RunPlaces.{run_words_there}
 
 packed_at : (n k : ℕ) (bytes : List ℕ) → k < n
@@ -29,7 +29,7 @@ word_byte xs are j lt within =
 
 drop_fits : (n : ℕ) (bytes : List ℕ) → AreBytes bytes → AreBytes (drop n bytes)
 drop_fits n bytes are = bytes_from (drop n bytes)
-    (λ i lt. omega (arith, get_or-drop n bytes i 0, byte_at bytes are (n + i)))
+    (λ i lt. omega (arith, get_or-drop n bytes i 0, AreBytes-at bytes are (n + i)))
 
 -- a run ends where its words do
 pub run_fits : (words : List ℕ) (run : Run) (bytes : List ℕ) → IsRunOf words run bytes

@@ -20,11 +20,10 @@ use Rattle.cm_record.specs.declared.run.Run.{Run}
 use Rattle.cm_record.specs.Constants.{kept_constant, constant_at_index, utf8_at}
 use Rattle.cm_record.specs.Runs.{IsRunOf, run_of_utf8, no_bytes, utf8_run, class_link, name_run}
 use Rattle.cm_record_reading.specs.Reading.{run_at}
-use Rattle.cm_record_reading.proofs.RunsBack.{run_again}
-use Rattle.cm_record_layout.proofs.Sections.{runs_tail, runs_there, lay_short, this_there}
-use Rattle.cm_record_layout.proofs.Sections.{super_there}
-use Rattle.cm_record_layout.proofs.Packed.{packed_len}
-use Rattle.cm_record_reading.proofs.Taken.{some_same}
+use Rattle.cm_record_reading.proofs.{run_again, some_same}
+use Rattle.cm_record_layout.proofs.{runs_there, lay_short, this_there, super_there}
+use Rattle.cm_record_layout.proofs.{packed_len}
+use Rattle.cm_record_layout.specs.Tails.{runs_tail}
 use Rattle.cm_record.proofs.Constants.{constant_is, words_at, words_within, fits_at}
 
 -- what a Utf8's run is, among those of all slots

@@ -18,8 +18,7 @@ use Rattle.cm_record_layout.specs.Layout.{IsRecordOf}
 use Rattle.cm_record.specs.declared.run.Run.{Run}
 use Rattle.cm_record.specs.Constants.{kept_constant, constant_at_index, constant_kept, utf8_at}
 use Rattle.cm_record.specs.Runs.{IsRunOf, run_of_utf8, no_bytes, utf8_run}
-use Rattle.cm_record_layout.proofs.Packed.{packed_more}
-use Rattle.cm_record_layout.proofs.Sections.{lay_short}
+use Rattle.cm_record_layout.proofs.{packed_more, lay_short}
 use Rattle.cm_record.proofs.Constants.{constant_is}
 use Rattle.cm_record.proofs.RunPlaces.{utf8_run_is}
 

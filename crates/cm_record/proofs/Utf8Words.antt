@@ -10,7 +10,7 @@ use Rattle.cm_class.specs.declared.kind.Kind.{Kind}
 use Rattle.cm_class.specs.declared.kind.Kind.TheVariants as kinds
 use Rattle.cm_class.specs.Names.{names_utf8, utf8}
 use Rattle.cm_class.specs.Reading.{tag_of, tag_number}
-use Rattle.cm_class.proofs.PoolLaws.{number_is}
+use Rattle.cm_class.proofs.{number_is}
 use Rattle.cm_record_layout.specs.Packing.{first_of, second_of, third_of, fourth_of, upper_of}
 use Rattle.cm_record_layout.specs.Layout.{IsRecordOf}
 use Rattle.cm_record.specs.declared.run.Run.{Run}

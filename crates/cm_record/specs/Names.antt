@@ -1,6 +1,6 @@
 -- The names of a class and of its super class, as `cm_class` has them; and the class's name out of
 -- the words of its record.
-use Rattle.std.specs.Prelude.{ℕ, List, [], drop, get_or, Some, None}
+use Rattle.std.specs.Prelude.{◌≡◌, ℕ, List, [], drop, get_or, Some, None}
 use Rattle.cm_record_layout.specs.Packing.{second_of}
 use Rattle.cm_record_reading.specs.Reading.{run_at}
 use Rattle.cm_record_layout.specs.Layout.{IsRecordOf}
@@ -20,3 +20,8 @@ IsNameRun words run = (c : ClassFile) → IsRecordOf c words → IsRunOf words r
 -- the name of the class whose record these words are
 unfoldable pub class_name_in : List ℕ → List ℕ
 class_name_in words = bytes_in words (name_run words (second_of (get_or words 1 0)))
+
+-- a record's words tell the name of its class
+abbrev pub WordsTellName : Type 0
+WordsTellName =
+    (c : ClassFile) (words : List ℕ) → IsRecordOf c words → class_name_in words ≡ class_name_of c

@@ -9,14 +9,9 @@ use Rattle.std.proofs.lemmas.List.{get_or-replicate, get_or_past, append-nil}
 use Rattle.std.proofs.lemmas.Nat.{le_bytes_8}
 use Rattle.std.proofs.lemmas.Bool.{cases_lt}
 use Rattle.cm_class.specs.Spelling.{AreBytes}
+use Rattle.cm_class.proofs.{AreBytes-at}
 use Rattle.cm_record_layout.specs.Packing.{word_from, bytes_of}
 use Rattle.cm_record_layout.proofs.Packed.{word_same}
-
--- each byte, by its place
-pub byte_at : (bytes : List ℕ) → AreBytes bytes → (i : ℕ) → get_or bytes i 0 < 256
-byte_at [] are i = omega arith
-byte_at (b ∷ bytes) are zero = are.0
-byte_at (b ∷ bytes) are (suc i) = byte_at bytes are.1 i
 
 pub bytes_from : (bytes : List ℕ) → ((i : ℕ) → i < length bytes → get_or bytes i 0 < 256)
     → AreBytes bytes
@@ -59,7 +54,7 @@ padded_len bytes =
 
 padded_small : (bytes : List ℕ) → AreBytes bytes → (i : ℕ) → get_or (padded bytes) i 0 < 256
 padded_small bytes are i = elim (cases_lt i 8) [
-  | inl lt ↦ omega (arith, padded_at bytes i lt, byte_at bytes are i)
+  | inl lt ↦ omega (arith, padded_at bytes i lt, AreBytes-at bytes are i)
   | inr past ↦ omega (arith, get_or_past (padded bytes) i 0 (omega (arith, padded_len bytes)))
 ]
 

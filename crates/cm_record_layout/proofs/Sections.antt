@@ -17,6 +17,8 @@ use Rattle.cm_record_layout.proofs.Digits.{third-four_numbers, fourth-four_numbe
 use Rattle.cm_record_layout.proofs.Lengths.{attributes_append, attribute_runs_append}
 use Rattle.cm_record_layout.proofs.Lengths.{members_append, all_runs, attributes_len, members_len}
 use Rattle.cm_record_layout.proofs.Lengths.{directory_len, lay_len}
+use Rattle.cm_record_layout.specs.Tails.{of_fields, of_methods, method_runs_at, own_runs_at}
+use Rattle.cm_record_layout.specs.Tails.{methods_at, runs_tail, attributes_tail, main_tail}
 
 regroup_tail : (f a b c t : List ℕ) → f ++ (a ++ (b ++ (c ++ t))) ≡ (f ++ (a ++ b ++ c)) ++ t
 regroup_tail f a b c t = simp append_assoc
@@ -25,63 +27,30 @@ regroup_main : (d i m n t : List ℕ) → d ++ i ++ (m ++ n) ++ t ≡ d ++ (i ++
 regroup_main d i m n t = simp append_assoc
 
 module _ (c : ClassFile) where
-  abbrev pub of_fields : List Attribute
-  of_fields = member_attributes c.fields
-
-  abbrev pub of_methods : List Attribute
-  of_methods = member_attributes c.methods
-
-  -- where the runs of the attributes of methods, and of the class, begin
-  abbrev pub method_runs_at : ℕ
-  method_runs_at = attribute_runs_at c + length (attribute_runs of_fields)
-
-  abbrev pub own_runs_at : ℕ
-  own_runs_at = method_runs_at + length (attribute_runs of_methods)
-
-  abbrev pub methods_at : ℕ
-  methods_at = attributes_at c + 2 * length of_fields
-
-  -- the record from the runs on, from the attributes on, from slot 1 on
-  abbrev pub runs_tail : List ℕ
-  runs_tail =
-      utf8_runs c.slots ++ (attribute_runs of_fields
-      ++ (attribute_runs of_methods ++ (attribute_runs c.attributes ++ [])))
-
-  abbrev pub attributes_tail : List ℕ
-  attributes_tail =
-      attributes (attribute_runs_at c) of_fields
-      ++ (attributes method_runs_at of_methods
-      ++ (attributes own_runs_at c.attributes ++ runs_tail))
-
-  abbrev pub main_tail : List ℕ
-  main_tail =
-      directory (runs_at c) c.slots
-      ++ (c.interfaces ++ (members (attributes_at c) c.fields
-      ++ (members methods_at c.methods ++ attributes_tail)))
-
   attributes_split : attributes (attribute_runs_at c) (all_attributes c)
-      ≡ attributes (attribute_runs_at c) of_fields ++ attributes method_runs_at of_methods
-      ++ attributes own_runs_at c.attributes
+      ≡ attributes (attribute_runs_at c) (of_fields c) ++ attributes (method_runs_at c) (of_methods
+      c)
+      ++ attributes (own_runs_at c) c.attributes
   attributes_split =
-      let place : attribute_runs_at c + length (attribute_runs (of_fields ++ of_methods))
-      ≡ own_runs_at =
+      let place : attribute_runs_at c + length (attribute_runs (of_fields c ++ of_methods c))
+      ≡ own_runs_at c =
       omega (
         arith,
-        ap length (attribute_runs_append of_fields of_methods),
-        length-append (attribute_runs of_fields) (attribute_runs of_methods),
+        ap length (attribute_runs_append (of_fields c) (of_methods c)),
+        length-append (attribute_runs (of_fields c)) (attribute_runs (of_methods c)),
       ) in
-      attributes_append (attribute_runs_at c) (of_fields ++ of_methods) c.attributes
-      ∙ rw (place, attributes_append (attribute_runs_at c) of_fields of_methods) refl
+      attributes_append (attribute_runs_at c) (of_fields c ++ of_methods c) c.attributes
+      ∙ rw (place, attributes_append (attribute_runs_at c) (of_fields c) (of_methods c)) refl
 
   pub tail_joined : attributes (attribute_runs_at c) (all_attributes c) ++ utf8_runs c.slots
-      ++ attribute_runs (all_attributes c) ≡ attributes_tail
+      ++ attribute_runs (all_attributes c) ≡ attributes_tail c
   tail_joined = rw (attributes_split, all_runs c) (simp (append_assoc, append-nil))
 
   abbrev front : List ℕ
   front = head c ++ (0 ∷ directory (runs_at c) c.slots) ++ c.interfaces
       ++ members (attributes_at c) (all_members c)
 
-  lay_split : lay c ≡ front ++ attributes_tail
+  lay_split : lay c ≡ front ++ attributes_tail c
   unfolding lay
   lay_split =
       let A = attributes (attribute_runs_at c) (all_attributes c) in
@@ -104,52 +73,54 @@ module _ (c : ClassFile) where
           members_len (attributes_at c) (all_members c),
         )
 
-    pub attributes_there : drop (attributes_at c) (lay c) ≡ attributes_tail
+    pub attributes_there : drop (attributes_at c) (lay c) ≡ attributes_tail c
     attributes_there = ap (drop (attributes_at c)) lay_split
-        ∙ drop_at front attributes_tail (attributes_at c) front_len
+        ∙ drop_at front (attributes_tail c) (attributes_at c) front_len
 
-    pub attributes_tail_len : length attributes_tail + attributes_at c ≡ length (lay c)
+    pub attributes_tail_len : length (attributes_tail c) + attributes_at c ≡ length (lay c)
     attributes_tail_len =
-        omega (arith, ap length lay_split, length-append front attributes_tail, front_len)
+        omega (arith, ap length lay_split, length-append front (attributes_tail c), front_len)
 
     -- the attributes without the runs
     abbrev middle : List ℕ
-    middle = attributes (attribute_runs_at c) of_fields ++ attributes method_runs_at of_methods
-        ++ attributes own_runs_at c.attributes
+    middle = attributes (attribute_runs_at c) (of_fields c) ++ attributes (method_runs_at c)
+        (of_methods c)
+        ++ attributes (own_runs_at c) c.attributes
 
     middle_len : length middle ≡ 2 * length (all_attributes c)
     middle_len =
         sym (ap length attributes_split) ∙ attributes_len (attribute_runs_at c) (all_attributes c)
 
-    runs_split : lay c ≡ (front ++ middle) ++ runs_tail
+    runs_split : lay c ≡ (front ++ middle) ++ runs_tail c
     runs_split =
-        lay_split ∙ regroup_tail front (attributes (attribute_runs_at c) of_fields)
-        (attributes method_runs_at of_methods) (attributes own_runs_at c.attributes) runs_tail
+        lay_split ∙ regroup_tail front (attributes (attribute_runs_at c) (of_fields c))
+        (attributes (method_runs_at c) (of_methods c)) (attributes (own_runs_at c) c.attributes)
+        (runs_tail c)
 
-    pub runs_there : drop (runs_at c) (lay c) ≡ runs_tail
+    pub runs_there : drop (runs_at c) (lay c) ≡ runs_tail c
     runs_there = ap (drop (runs_at c)) runs_split
-        ∙ drop_at (front ++ middle) runs_tail (runs_at c)
+        ∙ drop_at (front ++ middle) (runs_tail c) (runs_at c)
         (omega (arith, length-append front middle, front_len, middle_len))
 
-    pub runs_tail_len : length runs_tail + runs_at c ≡ length (lay c)
+    pub runs_tail_len : length (runs_tail c) + runs_at c ≡ length (lay c)
     runs_tail_len =
         omega (
           arith,
           ap length runs_split,
-          length-append (front ++ middle) runs_tail,
+          length-append (front ++ middle) (runs_tail c),
           length-append front middle,
           front_len,
           middle_len,
         )
 
-    pub main_there : drop 9 (lay c) ≡ main_tail
+    pub main_there : drop 9 (lay c) ≡ main_tail c
     main_there =
         let d = directory (runs_at c) c.slots in
         ap (drop 9) lay_split ∙ (ap
-        (λ w. d ++ c.interfaces ++ w ++ attributes_tail)
+        (λ w. d ++ c.interfaces ++ w ++ attributes_tail c)
         (members_append (attributes_at c) c.fields c.methods)
         ∙ regroup_main d c.interfaces (members (attributes_at c) c.fields)
-        (members methods_at c.methods) attributes_tail)
+        (members (methods_at c) c.methods) (attributes_tail c))
 
 -- the first words of a record
 module _ (c : ClassFile) where

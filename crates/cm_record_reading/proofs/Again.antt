@@ -23,17 +23,15 @@ use Rattle.cm_record_layout.specs.Layout.{attribute_runs, whole_word}
 use Rattle.cm_record_reading.specs.Reading.{candidate, entry_word, entry_of, constant_at, slots_at}
 use Rattle.cm_record_reading.specs.Reading.{run_at, interfaces_from, attribute_at, attributes_from}
 use Rattle.cm_record_reading.specs.Reading.{member_at, members_from}
-use Rattle.cm_record_layout.proofs.Digits.{first-attribute, upper-attribute, first-four_numbers}
-use Rattle.cm_record_layout.proofs.Digits.{second-four_numbers, third-four_numbers}
-use Rattle.cm_record_layout.proofs.Digits.{fourth-four_numbers}
+use Rattle.cm_record_layout.proofs.{first-attribute, upper-attribute, first-four_numbers}
+use Rattle.cm_record_layout.proofs.{second-four_numbers, third-four_numbers, fourth-four_numbers}
+use Rattle.cm_record_layout.proofs.{attributes_append, attribute_runs_append, attributes_len}
 use Rattle.cm_record_reading.proofs.Candidates.{long_back, double_back, utf8_back, integer_back}
 use Rattle.cm_record_reading.proofs.Candidates.{float_back, class_back, string_back}
 use Rattle.cm_record_reading.proofs.Candidates.{method_type_back, fieldref_back, methodref_back}
 use Rattle.cm_record_reading.proofs.Candidates.{interface_methodref_back, name_and_type_back}
 use Rattle.cm_record_reading.proofs.Candidates.{invoke_dynamic_back, method_handle_back}
 use Rattle.cm_record_reading.proofs.RunsBack.{run_again}
-use Rattle.cm_record_layout.proofs.Lengths.{attributes_append, attribute_runs_append}
-use Rattle.cm_record_layout.proofs.Lengths.{attributes_len}
 
 same_number : (n : ℕ) → (n == n) ≡ true
 same_number n = eq-eqb n n refl

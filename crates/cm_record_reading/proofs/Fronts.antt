@@ -8,7 +8,7 @@ use Rattle.std.proofs.lemmas.List.{take_min, take_all, length-take, append-nil}
 use Rattle.std.proofs.lemmas.Bool.{eq-eqb, ne_eqb}
 use Rattle.cm_record_layout.specs.Packing.{word_from, bytes_of, run_words}
 use Rattle.cm_record_reading.specs.Reading.{◌>>=◌, run_from, run_at, with_front}
-use Rattle.cm_record_layout.proofs.Packed.{length-bytes_of}
+use Rattle.cm_record_layout.proofs.{length-bytes_of}
 
 pub with_front-nil : {A B : Type 0} (read : Option (List A × B)) → with_front [] read ≡ read
 with_front-nil None = refl

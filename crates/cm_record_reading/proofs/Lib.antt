@@ -1,9 +1,18 @@
-pub mod Candidates
-pub mod RunsBack
-pub mod Again
-pub mod WholeRecord
-pub mod Fronts
-pub mod Turns
-pub mod Taken
-pub mod TakenRecord
-pub mod Skips
+-- What crates above may cite of these proofs is what `pub use` passes on; all else is private.
+mod Candidates
+mod RunsBack
+mod Again
+mod WholeRecord
+mod Fronts
+mod Turns
+mod Taken
+mod TakenRecord
+mod Skips
+-- A run is read back.
+pub use RunsBack.{run_again}
+-- A whole record is read again.
+pub use WholeRecord.{class_again}
+-- What is read was laid out so.
+pub use Taken.{some_same}
+-- A whole record that is read was laid out so.
+pub use TakenRecord.{class_taken}

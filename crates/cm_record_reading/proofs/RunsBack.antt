@@ -7,7 +7,7 @@ use Rattle.std.proofs.lemmas.List.{length-drop, take-append-drop}
 use Rattle.std.proofs.lemmas.Bool.{eq-eqb}
 use Rattle.cm_class.specs.Spelling.{AreBytes}
 use Rattle.cm_record_layout.specs.Packing.{word_from, packed_into, packed, run_words}
-use Rattle.cm_record_layout.proofs.Runs.{front_back, front_word}
+use Rattle.cm_record_layout.proofs.{front_back, front_word}
 use Rattle.cm_record_reading.specs.Reading.{front_of, run_from, run_at}
 
 pub front_again : (bytes : List ℕ) → AreBytes bytes

@@ -16,7 +16,7 @@ use Rattle.cm_record_reading.specs.Reading.{◌>>=◌, run_from, run_at, interfa
 use Rattle.cm_record_reading.specs.Reading.{slots_at, attribute_at, attributes_from, member_at}
 use Rattle.cm_record_reading.specs.Reading.{members_from, with_front, left1, left2, left3}
 use Rattle.cm_record_reading.specs.Reading.{width_left}
-use Rattle.cm_record_layout.proofs.Packed.{length-bytes_of}
+use Rattle.cm_record_layout.proofs.{length-bytes_of}
 use Rattle.cm_record_reading.proofs.Fronts.{run_none, run_bad, run_good}
 
 left1-with_front : {A B : Type 0} (front : List A) (read : Option (List A × B))

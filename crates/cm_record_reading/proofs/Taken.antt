@@ -31,9 +31,8 @@ use Rattle.cm_record_reading.specs.Reading.{entry_of_kind, entry_word, entry_of,
 use Rattle.cm_record_reading.specs.Reading.{constant_from, constant_at, slots_at, interfaces_from}
 use Rattle.cm_record_reading.specs.Reading.{attribute_word, attribute_at, attributes_from}
 use Rattle.cm_record_reading.specs.Reading.{member_at, members_from}
-use Rattle.cm_record_layout.proofs.Packed.{packed_more, word_same, length-bytes_of}
-use Rattle.cm_record_layout.proofs.Lengths.{attributes_append, attribute_runs_append}
-use Rattle.cm_record_layout.proofs.Lengths.{attributes_len}
+use Rattle.cm_record_layout.proofs.{packed_more, word_same, length-bytes_of, attributes_append}
+use Rattle.cm_record_layout.proofs.{attribute_runs_append, attributes_len}
 
 -- ---- what an answer says of the steps before it
 

@@ -3,7 +3,7 @@
 use Rattle.std.proofs.Common.{◌≡◌, ◌<◌, ◌≤◌, ◌+◌, ◌-◌, ◌*◌, ◌^◌, ℕ, true, false, List, [], ◌∷◌}
 use Rattle.std.proofs.Common.{◌++◌, length, get_or, drop, Option, Some, None, Result, Ok, Err, refl}
 use Rattle.std.proofs.Common.{sym, ◌∙◌, ap, subst, arith, append_assoc, length-append}
-use Rattle.std.specs.Prelude.{◌==◌, nat_le, is_some, IfOk, IsErrOf}
+use Rattle.std.specs.Prelude.{◌==◌, nat_le, is_some, IfOk, IsErrOf, ◌&&◌}
 use Rattle.std.proofs.lemmas.List.{drop_at, drop-drop, length-drop}
 use Rattle.std.proofs.lemmas.Bool.{eqb-true, leb-true, and_parts}
 use Rattle.cm_class.specs.declared.constant.Slot.{Slot}
@@ -16,22 +16,23 @@ use Rattle.cm_record_layout.specs.Layout.{lay, limit, directory, utf8_runs, memb
 use Rattle.cm_record_layout.specs.Layout.{member_attributes, attributes, attribute_runs}
 use Rattle.cm_record_layout.specs.Layout.{attributes_at, runs_at, record_len, IsRecord, IsRecordOf}
 use Rattle.cm_record_reading.specs.Reading.{slots_at, interfaces_from, attributes_from}
-use Rattle.cm_record_reading.specs.Reading.{members_from, starts_right, sections_follow}
+use Rattle.cm_record_reading.specs.Reading.{members_from, is_counted, has_directory}
+use Rattle.cm_record_reading.specs.Reading.{sections_follow}
 use Rattle.cm_record_reading.specs.Reading.{sections_lie_within, head_is_right, sections_end}
 use Rattle.cm_record_reading.specs.Reading.{pool_from}
 use Rattle.cm_record_reading.specs.Reading.{body_from, pool_of, body_of, class_at, Gives}
 use Rattle.cm_record_reading.specs.declared.fault.RecordFault.{RecordFault}
 use Rattle.cm_record_reading.specs.declared.fault.RecordFault.TheVariants.{NotARecord}
-use Rattle.cm_record_layout.proofs.Digits.{four_numbers_parts}
-use Rattle.cm_record_layout.proofs.Lengths.{attributes_len, all_attributes_len, all_members_len}
-use Rattle.cm_record_layout.proofs.Lengths.{all_runs_len, lay_len}
+use Rattle.cm_record_layout.proofs.{four_numbers_parts, attributes_len, all_attributes_len}
+use Rattle.cm_record_layout.proofs.{all_members_len, all_runs_len, lay_len, main_there}
+use Rattle.cm_record_layout.proofs.{word_0, word_1, word_2, word_3, word_4, word_5, word_6, word_7}
+use Rattle.cm_record_layout.proofs.{word_8}
+use Rattle.cm_record_layout.specs.Tails.{main_tail}
 use Rattle.cm_record_reading.proofs.Taken.{bind_some, only_if_some, some_same, SlotsTaken}
 use Rattle.cm_record_reading.proofs.Taken.{InterfacesTaken, MembersTaken, AttributesTaken}
 use Rattle.cm_record_reading.proofs.Taken.{slots_taken, interfaces_taken, members_taken}
 use Rattle.cm_record_reading.proofs.Taken.{attributes_taken}
 use Rattle.cm_record_reading.proofs.WholeRecord.{class_again, always_read}
-use Rattle.cm_record_layout.proofs.Sections.{main_tail, main_there, word_0, word_1, word_2, word_3}
-use Rattle.cm_record_layout.proofs.Sections.{word_4, word_5, word_6, word_7, word_8}
 
 -- the first nine words of a list that is long enough
 nine : (w : List ℕ) → 9 ≤ length w
@@ -65,21 +66,21 @@ pub record IsHead (w : List ℕ) : Type 0 where
 pub head_facts : (w : List ℕ) → head_is_right w ≡ true → IsHead w
 head_facts w e =
     let groups = and_parts _ (sections_lie_within w) e in
-    let first = and_parts (starts_right w) (sections_follow w) groups.0 in
+    let first = and_parts (is_counted w && has_directory w) (sections_follow w) groups.0 in
+    let start = and_parts (is_counted w) (has_directory w) first.0 in
     let t8 = and_parts (nat_le (get_or w 6 0) (length w)) (nat_le (get_or w 7 0) (length w))
     groups.1 in
     let t7 = and_parts _ (get_or w 6 0 == get_or w 5 0
     + 2 * (second_of (get_or w 2 0) + third_of (get_or w 2 0))) first.1 in
     let t6 = and_parts (get_or w 4 0 == 8 + first_of (get_or w 2 0))
     (get_or w 5 0 == get_or w 4 0 + fourth_of (get_or w 1 0)) t7.0 in
-    let t4 = and_parts _ (nat_le 1 (first_of (get_or w 2 0))) first.0 in
-    let t3 = and_parts _ (get_or w 8 0 == 0) t4.0 in
-    let t2 = and_parts _ (get_or w 3 0 == 8) t3.0 in
-    let t1 = and_parts (nat_le 9 (length w)) (get_or w 0 0 == length w) t2.0 in
+    let t4 = and_parts _ (nat_le 1 (first_of (get_or w 2 0))) start.1 in
+    let t3 = and_parts (get_or w 3 0 == 8) (get_or w 8 0 == 0) t4.0 in
+    let t1 = and_parts (nat_le 9 (length w)) (get_or w 0 0 == length w) start.0 in
     record {
       long = leb-true 9 (length w) t1.0;
       total = eqb-true (get_or w 0 0) (length w) t1.1;
-      directory = eqb-true (get_or w 3 0) 8 t2.1;
+      directory = eqb-true (get_or w 3 0) 8 t3.0;
       slot_0 = eqb-true (get_or w 8 0) 0 t3.1;
       count = leb-true 1 (first_of (get_or w 2 0)) t4.1;
       interfaces = eqb-true (get_or w 4 0) (8 + first_of (get_or w 2 0)) t6.0;

@@ -10,14 +10,14 @@ use Rattle.cm_record_layout.specs.Packing.{first_of, second_of, third_of, fourth
 use Rattle.cm_record_layout.specs.Layout.{lay, utf8_runs, members, attributes, attribute_runs}
 use Rattle.cm_record_layout.specs.Layout.{attributes_at, runs_at, attribute_runs_at, IsRecordOf}
 use Rattle.cm_record_layout.specs.Layout.{IsRecord}
-use Rattle.cm_record_layout.proofs.Lengths.{all_members_len, attributes_len, lay_len}
-use Rattle.cm_record_layout.proofs.Sections.{of_fields, of_methods, method_runs_at, own_runs_at}
-use Rattle.cm_record_layout.proofs.Sections.{methods_at, runs_tail, attributes_tail, main_tail}
-use Rattle.cm_record_layout.proofs.Sections.{attributes_there, attributes_tail_len, runs_there}
-use Rattle.cm_record_layout.proofs.Sections.{runs_tail_len, main_there, word_0, word_3, word_4}
-use Rattle.cm_record_layout.proofs.Sections.{word_5, word_6, word_7, word_8, flags_there}
-use Rattle.cm_record_layout.proofs.Sections.{this_there, super_there, interfaces_there, count_there}
-use Rattle.cm_record_layout.proofs.Sections.{fields_there, methods_there, own_there}
+use Rattle.cm_record_layout.proofs.{all_members_len, attributes_len, lay_len}
+use Rattle.cm_record_layout.proofs.{attributes_there}
+use Rattle.cm_record_layout.proofs.{attributes_tail_len, runs_there, runs_tail_len, main_there}
+use Rattle.cm_record_layout.proofs.{word_0, word_3, word_4, word_5, word_6, word_7, word_8}
+use Rattle.cm_record_layout.proofs.{flags_there, this_there, super_there, interfaces_there}
+use Rattle.cm_record_layout.proofs.{count_there, fields_there, methods_there, own_there}
+use Rattle.cm_record_layout.specs.Tails.{of_fields, of_methods, method_runs_at, own_runs_at}
+use Rattle.cm_record_layout.specs.Tails.{methods_at, runs_tail, attributes_tail, main_tail}
 use Rattle.cm_record_reading.specs.Reading.{slots_at, interfaces_from, attributes_from}
 use Rattle.cm_record_reading.specs.Reading.{members_from, head_is_right, sections_end, pool_from}
 use Rattle.cm_record_reading.specs.Reading.{body_from, class_at}
@@ -34,12 +34,10 @@ pub head_right : (words : List ℕ) → 9 ≤ length words → get_or words 0 0 
     + 2 * (second_of (get_or words 2 0) + third_of (get_or words 2 0))
     → get_or words 6 0 ≤ length words → get_or words 7 0 ≤ length words → head_is_right words ≡ true
 head_right words h0 h1 h2 h3 h4 h5 h6 h7 h8 h9 =
-    and_from _ _ (and_from _ _
-    (and_from _ _ (and_from _ _
-    (and_from _ _ (and_from _ _ (le-leb 9 (length words) h0)
-    (eq-eqb (get_or words 0 0) (length words) h1))
-    (eq-eqb (get_or words 3 0) 8 h2)) (eq-eqb (get_or words 8 0) 0 h3))
-    (le-leb 1 (first_of (get_or words 2 0)) h4))
+    and_from _ _ (and_from _ _ (and_from _ _
+    (and_from _ _ (le-leb 9 (length words) h0) (eq-eqb (get_or words 0 0) (length words) h1))
+    (and_from _ _ (and_from _ _ (eq-eqb (get_or words 3 0) 8 h2) (eq-eqb (get_or words 8 0) 0 h3))
+    (le-leb 1 (first_of (get_or words 2 0)) h4)))
     (and_from _ _ (and_from _ _ (eq-eqb (get_or words 4 0) (8 + first_of (get_or words 2 0)) h5)
     (eq-eqb (get_or words 5 0) (get_or words 4 0 + fourth_of (get_or words 1 0)) h6))
     (eq-eqb (get_or words 6 0)

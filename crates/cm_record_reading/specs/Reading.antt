@@ -204,11 +204,14 @@ members_from total (suc n) main attrs runs = do
 abbrev pub member_count : List ℕ → ℕ
 member_count words = second_of (head_counts words) + third_of (head_counts words)
 
--- the words are counted, and the directory begins behind the head, with its slot 0
-abbrev pub starts_right : List ℕ → Bool
-starts_right words =
-    nat_le 9 (length words) && head_total words == length words
-    && head_directory_at words == 8 && get_or words 8 0 == 0
+-- the head and slot 0 are there, and the words are counted
+abbrev pub is_counted : List ℕ → Bool
+is_counted words = nat_le 9 (length words) && head_total words == length words
+
+-- the directory begins behind the head, with its slot 0
+abbrev pub has_directory : List ℕ → Bool
+has_directory words =
+    head_directory_at words == 8 && get_or words 8 0 == 0
     && nat_le 1 (first_of (head_counts words))
 
 -- each next section begins where the one before it ends, as far as counts tell
@@ -227,7 +230,8 @@ sections_lie_within words =
 -- the numbers of classes, and where the sections begin, fit together
 abbrev pub head_is_right : List ℕ → Bool
 head_is_right words =
-    starts_right words && sections_follow words && sections_lie_within words
+    is_counted words && has_directory words && sections_follow words
+    && sections_lie_within words
 
 -- each section ended where the next began
 abbrev pub sections_end : List ℕ → List ℕ → List ℕ → List ℕ → Bool

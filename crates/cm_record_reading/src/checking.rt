@@ -174,7 +174,7 @@ fn skip_attributes<'a, 'b>(
 }
 
 /// What is left behind a member.
-#[tactic(auto, using(cm_record_layout::proofs::Digits::four_numbers_test), unfolding(crate::specs::Reading::member_at))]
+#[tactic(auto, using(cm_record_layout::proofs::four_numbers_test), unfolding(crate::specs::Reading::member_at))]
 fn skip_member<'a, 'b, 'c>(
     total: usize,
     main: &'a [u64],

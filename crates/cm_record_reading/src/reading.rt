@@ -197,7 +197,7 @@ pub(crate) fn read_attributes<'a, 'b>(
 }
 
 /// A member, from the members, the attributes and the runs.
-#[tactic(auto, using(cm_record_layout::proofs::Digits::four_numbers_test), unfolding(crate::specs::Reading::member_at))]
+#[tactic(auto, using(cm_record_layout::proofs::four_numbers_test), unfolding(crate::specs::Reading::member_at))]
 fn read_member<'a, 'b, 'c>(
     alloc: Global,
     total: usize,

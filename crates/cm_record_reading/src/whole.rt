@@ -2,7 +2,8 @@
 ghost use Rattle.std.specs.Prelude.{◌≡◌, ◌≤◌, ◌+◌, ◌↔◌, length, slice_index, IsTrue, IfOk, IsErrOf};
 ghost use Rattle.cm_record_layout.specs.Layout.{limit, IsRecord, IsRecordOf};
 ghost use Rattle.cm_record_reading.specs.Reading.{Gives, head_is_right as head_is_right_of};
-ghost use Rattle.cm_record_reading.specs.Reading.{starts_right as starts_right_of};
+ghost use Rattle.cm_record_reading.specs.Reading.{is_counted as is_counted_of};
+ghost use Rattle.cm_record_reading.specs.Reading.{has_directory as has_directory_of};
 ghost use Rattle.cm_record_reading.specs.Reading.{sections_follow as sections_follow_of};
 ghost use Rattle.cm_record_reading.specs.Reading.{sections_lie_within as sections_lie_within_of};
 ghost use Rattle.cm_record_reading.specs.Reading.{sections_end as sections_end_of, pool_from};
@@ -19,15 +20,21 @@ use cm_record_layout::{
 };
 use std::alloc::Global;
 
-/// The words are counted, and the directory begins behind the head, with its slot 0.
-fn starts_right(words: &[u64]) -> bool
-    ensures test { result ≡ starts_right_of words.now }
+/// The head and slot 0 are there, and the words are counted.
+fn is_counted(words: &[u64]) -> bool
+    ensures test { result ≡ is_counted_of words.now }
     ensures long { IsTrue result → 9 ≤ length words.now }
+{
+    words.len() >= SLOT_1_AT && words[HEAD_TOTAL] == words.len() as u64
+}
+
+/// The directory begins behind the head, with its slot 0.
+fn has_directory(words: &[u64]) -> bool
+    requires { 9 ≤ length words.now }
+    ensures test { result ≡ has_directory_of words.now }
     ensures slots { IsTrue result → 1 ≤ first_of (slice_index words.now 2) }
 {
-    words.len() >= SLOT_1_AT
-        && words[HEAD_TOTAL] == words.len() as u64
-        && words[HEAD_DIRECTORY_AT] == DIRECTORY_AT as u64
+    words[HEAD_DIRECTORY_AT] == DIRECTORY_AT as u64
         && words[DIRECTORY_AT] == 0
         && first(words[HEAD_COUNTS]) >= 1
 }
@@ -63,7 +70,10 @@ pub(crate) fn head_is_right(words: &[u64]) -> bool
     ensures attributes { IsTrue result → slice_index words.now 6 ≤ length words.now }
     ensures runs { IsTrue result → slice_index words.now 7 ≤ length words.now }
 {
-    starts_right(words) && sections_follow(words) && sections_lie_within(words)
+    is_counted(words)
+        && has_directory(words)
+        && sections_follow(words)
+        && sections_lie_within(words)
 }
 
 /// How many fields, methods and attributes a class has of its own.

@@ -8,8 +8,8 @@ use Rattle.cm_class.specs.declared.class_file.ClassFile.{ClassFile}
 use Rattle.cm_record_layout.specs.Layout.{directory, members, member_attributes, attributes}
 use Rattle.cm_record_layout.specs.Layout.{attribute_runs, utf8_runs, all_members, all_attributes}
 use Rattle.cm_record_layout.specs.Layout.{attributes_at, runs_at}
-use Rattle.cm_record_layout.proofs.Lengths.{attributes_len, members_len, all_members_len}
-use Rattle.cm_record_layout.proofs.Lengths.{all_attributes_len, all_runs_len}
+use Rattle.cm_record_layout.proofs.{attributes_len, members_len, all_members_len}
+use Rattle.cm_record_layout.proofs.{all_attributes_len, all_runs_len}
 
 -- what was added so far and what is left fit, where all fitted at first
 pub room_left : (words rest start all : List ℕ) (capacity room : ℕ)

@@ -7,8 +7,8 @@ use Rattle.cm_class.specs.declared.class_file.ClassFile.{ClassFile}
 use Rattle.cm_record_layout.specs.Layout.{directory, members, member_attributes, attributes}
 use Rattle.cm_record_layout.specs.Layout.{attribute_runs, utf8_runs, all_members, all_attributes}
 use Rattle.cm_record_layout.specs.Layout.{attributes_at, runs_at, attribute_runs_at}
-use Rattle.cm_record_layout.proofs.Lengths.{attributes_append, attribute_runs_append}
-use Rattle.cm_record_layout.proofs.Lengths.{members_append, all_runs}
+use Rattle.cm_record_layout.proofs.{attributes_append, attribute_runs_append, members_append}
+use Rattle.cm_record_layout.proofs.{all_runs}
 
 -- one member's attributes more
 pub attributes_step : (words words' target : List ℕ) (at at' : ℕ) (all own rest : List Attribute)

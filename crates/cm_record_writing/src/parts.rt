@@ -30,7 +30,7 @@ fn push_member_attributes(words: &mut WordBuf, at: u64, these: &[Member]) -> u64
 {
     let mut at = at;
     for member in these {
-        at = push_attributes(words, at, member.attributes.as_slice());
+        at = push_attributes(words, at, member.attributes());
     }
     at
 }
@@ -44,7 +44,7 @@ fn push_member_runs(words: &mut WordBuf, these: &[Member])
     ensures capacity { words.new.capacity ≡ words.old.capacity }
 {
     for member in these {
-        push_attribute_runs(words, member.attributes.as_slice());
+        push_attribute_runs(words, member.attributes());
     }
 }
 

@@ -42,7 +42,7 @@ fn member_words(these: &[Member]) -> u64
     for member in these {
         total = total
             .saturating_add(2)
-            .saturating_add(attribute_words(member.attributes.as_slice()));
+            .saturating_add(attribute_words(member.attributes()));
     }
     total
 }
@@ -54,7 +54,7 @@ fn attribute_count(these: &[Member]) -> u64
 {
     let mut total: u64 = 0;
     for member in these {
-        total += member.attributes.as_slice().len() as u64;
+        total += member.attributes().len() as u64;
     }
     total
 }
@@ -87,7 +87,7 @@ impl Places {
     ghost use Rattle.cm_record_writing.specs.Places.{ArePlaces};
 
     /// The places in the record of a class; none where the record is too long.
-    #[tactic(auto, using(cm_record_layout::proofs::Lengths::lay_len))]
+    #[tactic(auto, using(cm_record_layout::proofs::lay_len))]
     pub(crate) fn of(class: &Class) -> Option<Places>
         ensures spelled { HasSpelling class.now }
         ensures laid { length (lay class.now) ≡ record_len class.now }

@@ -110,7 +110,7 @@ pub(crate) fn push_members(words: &mut WordBuf, at: u64, these: &[Member]) -> u6
 {
     let mut at = at;
     for member in these {
-        let count = member.attributes.as_slice().len();
+        let count = member.attributes().len();
         words.push(four_numbers(member.flags, member.name, member.descriptor, count as u16));
         words.push(at);
         at += 2 * count as u64;
@@ -119,20 +119,20 @@ pub(crate) fn push_members(words: &mut WordBuf, at: u64, these: &[Member]) -> u6
 }
 
 /// How many words an attribute's run takes.
-#[tactic(auto, using(cm_record_layout::proofs::Packed::packed_len))]
+#[tactic(auto, using(cm_record_layout::proofs::packed_len))]
 pub(crate) fn attribute_run_words(attribute: &Attribute) -> u64
     ensures { result ≡ length (attribute_run attribute.now) }
 {
-    run_words(attribute.bytes.as_slice().len())
+    run_words(attribute.content().len())
 }
 
 /// The word of an attribute's name and length.
-#[tactic(auto, using(cm_record_layout::proofs::Packed::packed_len))]
+#[tactic(auto, using(cm_record_layout::proofs::packed_len))]
 fn attribute_word(attribute: &Attribute) -> u64
     requires { length (attribute_run attribute.now) ≤ limit }
     ensures { result ≡ attribute.now.name + 2 ^ 32 * length attribute.now.bytes }
 {
-    u64::from(attribute.name) + THIRD * attribute.bytes.as_slice().len() as u64
+    u64::from(attribute.name) + THIRD * attribute.content().len() as u64
 }
 
 /// Adds attributes, where the run of the first begins at `at`. It gives where that of the next
@@ -160,6 +160,6 @@ pub(crate) fn push_attribute_runs(words: &mut WordBuf, these: &[Attribute])
     ensures capacity { words.new.capacity ≡ words.old.capacity }
 {
     for attribute in these {
-        push_run(words, attribute.bytes.as_slice());
+        push_run(words, attribute.content());
     }
 }

@@ -13,8 +13,10 @@ use Rattle.std.proofs.lemmas.List.{take_all}
 use Rattle.cm_pool.specs.Geometry.{Sizes, IsGeometry}
 use Rattle.cm_layout.specs.Offsets.{half_size, roots_at}
 use Rattle.cm_layout.specs.Slots.{half_head_slot}
-use Rattle.cm_layout.specs.Superblock.{superblock_bytes, superblock_front, superblock_zeros, blank}
+use Rattle.cm_layout.specs.Superblock.{superblock_bytes, superblock_front, superblock_zeros}
 use Rattle.cm_layout.specs.Frames.{Frames, IsEnd}
+use Rattle.cm_layout.proofs.{length-blank}
+use Rattle.cm_layout.specs.Zeros.{blank}
 use Rattle.cm_guards.specs.Gates.{OneOf}
 use Rattle.cm_recover.specs.NewFile.{first_head, new_bytes, shut_bytes, zeros_behind, IsNoCache}
 use Rattle.cm_recover.specs.NewFile.{IsEmptyCache}
@@ -22,10 +24,6 @@ use Rattle.cm_recover.specs.Laws.{NewIsEmpty, GateTurns}
 use Rattle.cm_recover.proofs.Shut.{shut_is_no_cache}
 
 -- ---- zeros
-
-length-blank : (n : ℕ) → length (blank n) ≡ n
-unfolding blank
-length-blank n = length-replicate n 0
 
 blank-split : (a b : ℕ) → blank (a + b) ≡ blank a ++ blank b
 unfolding blank

@@ -5,7 +5,7 @@ use Rattle.std.specs.Prelude.{Result, Ok, Err, OnOk}
 use Rattle.cm_pool.specs.Geometry.{Sizes, IsGeometry}
 use Rattle.cm_disk.specs.Calls.{overwritten}
 use Rattle.cm_guards.specs.Gates.{Turns}
-use Rattle.cm_guards.proofs.Gated.{turned}
+use Rattle.cm_guards.proofs.{turned}
 use Rattle.cm_recover.specs.NewFile.{new_bytes, shut_bytes, IsNoCache, IsEmptyCache}
 use Rattle.cm_recover.proofs.Empty.{gate_turns, shut_new, opened, length-shut}
 

@@ -17,8 +17,8 @@ use Rattle.cm_verdict.specs.declared.fault.FileFault.TheVariants.{NotACache, Dam
 use Rattle.cm_verdict.specs.Faults.{◌>>=◌}
 use Rattle.cm_verdict.specs.Walk.{Walked}
 use Rattle.cm_verdict.specs.Found.{counting_half, walk_through, found_walked, half_in, head_in}
-use Rattle.cm_verdict.specs.Found.{Found, sizes_found, found_in}
-use Rattle.cm_verdict.proofs.Parts.{Begins, begun_with, half_within, part_long}
+use Rattle.cm_verdict.specs.Found.{Found, sizes_found, found_in, Begins}
+use Rattle.cm_verdict.proofs.{begun_with, half_within, part_long}
 use Rattle.cm_recover.specs.declared.fault.OpenFault.{OpenFault}
 use Rattle.cm_recover.specs.declared.fault.OpenFault.TheVariants as open_fault
 use Rattle.cm_recover.specs.declared.reading.FoundFile.{FoundFile}

@@ -1,14 +1,19 @@
-pub mod Shut
-pub mod Empty
-pub mod Gate
-pub mod Unfinished
-pub mod Halves
-pub mod Readings
-pub mod Packs
-pub mod RecordPlaces
-pub mod Verdicts
-pub mod Passing
-pub mod Shared
-pub mod Assembled
-pub mod SyncRuns
-pub mod Opened
+-- What crates above may cite of these proofs is what `pub use` passes on; all else is private.
+mod Shut
+mod Empty
+mod Gate
+mod Unfinished
+mod Halves
+mod Readings
+mod Packs
+mod RecordPlaces
+mod Verdicts
+mod Passing
+mod Shared
+mod Assembled
+mod SyncRuns
+mod Opened
+-- The verdict, step by step, and what is answered of it.
+pub use Verdicts.{fault_told}
+-- What a file stands for has what the accepted cache and its committer are made of.
+pub use Opened.{are_short, opened}

@@ -11,7 +11,7 @@ use Rattle.std.proofs.lemmas.List.{map-append}
 use Rattle.cm_class.specs.declared.class_file.ClassFile.{ClassFile}
 use Rattle.cm_class.specs.Names.{class_name_of}
 use Rattle.cm_record.specs.Layout.{lay, limit, IsRecordOf}
-use Rattle.cm_record.specs.Names.{class_name_in}
+use Rattle.cm_record.specs.Names.{class_name_in, WordsTellName}
 use Rattle.cm_pool.specs.Geometry.{Sizes, IsGeometry}
 use Rattle.cm_layout.specs.declared.row.Row.{Row}
 use Rattle.cm_layout.specs.Offsets.{roots_at}
@@ -21,7 +21,7 @@ use Rattle.cm_layout.specs.Rows.{rows_with, row_with, bare, classes_in}
 use Rattle.cm_layout.specs.Frames.{BareRow, LiveRowsKeep, HoldsRow}
 use Rattle.cm_layout.specs.Framing.{Framing, IsRight, Matches}
 use Rattle.cm_commit.specs.Committed.{end_slot}
-use Rattle.cm_commit.proofs.Slots.{end_is as ends_with_slots}
+use Rattle.cm_commit.proofs.{end_is as ends_with_slots}
 use Rattle.cm_state.specs.State.{NamesDiffer, class_shows, words_show, class_among}
 use Rattle.cm_state.specs.Stands.{EachKeepsRules, arenas_among, chunks_of as chunks_begun}
 use Rattle.cm_state.specs.Entries.{AreCacheRows}
@@ -30,7 +30,7 @@ use Rattle.cm_verdict.specs.Found.{Found}
 use Rattle.cm_verdict.specs.Verdict.{Standing, verdict}
 use Rattle.cm_verdict.specs.Laws.{FoundIsLive, FoundIsFramed, VerdictStands, Proves, IsFramed}
 use Rattle.cm_verdict.specs.Laws.{IsLive}
-use Rattle.cm_verdict.proofs.Parts.{bare_words}
+use Rattle.cm_verdict.proofs.{bare_words}
 use Rattle.std.specs.Arc.{arc_value}
 use Rattle.cm_disk.specs.Disk.{Unsynced, IsSettled}
 use Rattle.cm_rows.specs.Rows.{LiveRows}
@@ -43,22 +43,11 @@ use Rattle.cm_front.specs.Arenas.{ArenasAreOfRows, chunks_owned}
 use Rattle.cm_front.specs.Restoring.{Restores}
 use Rattle.cm_recover.specs.declared.standing.StandingFile.{StandingFile}
 use Rattle.cm_recover.specs.Standing.{TellNames, Tells, IsStanding}
-use Rattle.cm_recover.specs.Opened.{Opens, arenas_by_name}
+use Rattle.cm_recover.specs.Opened.{Opens, arenas_by_name, AreShort, IsOpened}
 use Rattle.cm_recover.proofs.RecordPlaces.{place_of, short_enough}
 use Rattle.cm_recover.proofs.Passing.{more_named}
 
--- the name of a class stands in the words of its record
-abbrev pub TellsName : Type 0
-TellsName =
-    (c : ClassFile) (words : List ℕ) → IsRecordOf c words → class_name_in words ≡ class_name_of c
-
 -- ---- records
-
--- no record is longer than any may be
-abbrev pub AreShort : List (Row (List ℕ)) → Type 0
-AreShort [] = Unit {0}
-AreShort (Loader r ∷ rows) = AreShort rows
-AreShort (Class r words ∷ rows) = (length words ≤ limit) × AreShort rows
 
 pub are_short : (sizes : Sizes) → IsGeometry sizes → (n : ℕ) (roots : List ℕ) (pre : List BareRow)
     (rows : List (Row (List ℕ))) → LiveRowsKeep sizes n pre (bare rows)
@@ -73,7 +62,7 @@ are_short sizes g n roots pre (Class r words ∷ rows) live held = (
   are_short sizes g n roots (pre ++ Class r (tt {0}) ∷ []) rows live.2 held.1,
 )
 
-tell_names : TellsName → (classes : List (Row ClassFile)) → EachKeepsRules classes
+tell_names : WordsTellName → (classes : List (Row ClassFile)) → EachKeepsRules classes
     → AreShort (rows_with lay classes) → TellNames classes
 tell_names tells [] kept short = tt
 tell_names tells (Loader r ∷ rows) kept short = tell_names tells rows kept short
@@ -152,19 +141,8 @@ names_differ before (Class r c ∷ rows) told named differ = (
 
 -- ---- the file
 
--- what a file stands for is what its contents frame, with rows of a cache
-pub record IsOpened (contents : List ℕ) (s : Standing) (rows : List (Row (List ℕ))) : Type 0 where
-  pub framing : Framing
-  pub counting_is : framing.counting ≡ s.found.half
-  pub end_is : end_slot framing ≡ s.found.end
-  pub right : IsRight s.found.sizes framing rows s.found.number
-  pub matches : Matches s.found.sizes framing rows contents
-  pub cache : AreCacheRows words_show s.found.sizes s.found.number rows
-  pub records : AreRight rows
-  pub number_is : s.found.number ≤ 2 ^ 63
-  pub lawful : IsGeometry s.found.sizes
-
-module _ (live : FoundIsLive) (framed : FoundIsFramed) (stands : VerdictStands) (tells : TellsName)
+module _ (live : FoundIsLive) (framed : FoundIsFramed) (stands : VerdictStands)
+    (tells : WordsTellName)
     (contents : List ℕ) (s : Standing) (e : verdict contents ≡ Ok s) where
   abbrev found : Found
   found = s.found
@@ -228,7 +206,8 @@ committed_right [] right = tt
 committed_right (Loader r ∷ rows) right = (tt, committed_right rows right)
 committed_right (Class r words ∷ rows) right = (right.0, committed_right rows right.1)
 
-module _ (live : FoundIsLive) (framed : FoundIsFramed) (stands : VerdictStands) (tells : TellsName)
+module _ (live : FoundIsLive) (framed : FoundIsFramed) (stands : VerdictStands)
+    (tells : WordsTellName)
     (contents : List ℕ) (file : StandingFile)
     (t : Tells (IsStanding contents) (verdict contents) file) where
   abbrev told : Standing

@@ -17,11 +17,11 @@ use Rattle.cm_layout.specs.declared.row.Row.{Row}
 use Rattle.cm_layout.specs.declared.row.Row.TheVariants.{Loader, Class}
 use Rattle.cm_layout.specs.Rows.{rows_with, row_with, bare}
 use Rattle.cm_layout.specs.Rules.{broken_live_rule}
-use Rattle.cm_layout.specs.Frames.{BareRow, LiveRowsKeep}
+use Rattle.cm_layout.specs.Frames.{BareRow, LiveRowsKeep, bare_row}
+use Rattle.cm_layout.proofs.{more-bare}
 use Rattle.cm_index.specs.Index.{class_of}
 use Rattle.cm_rows.specs.Rows.{LiveRows}
 use Rattle.cm_state.specs.State.{class_shows, class_among}
-use Rattle.cm_state.proofs.Bare.{bare_row, more-bare}
 use Rattle.cm_verdict.specs.declared.defined_at.DefinedAt.{DefinedAt}
 use Rattle.cm_verdict.specs.declared.fault.Damage.{Damage}
 use Rattle.cm_verdict.specs.declared.fault.Damage.TheVariants as damage
@@ -30,7 +30,7 @@ use Rattle.cm_verdict.specs.declared.fault.FileFault.TheVariants.{Damaged}
 use Rattle.cm_verdict.specs.Faults.{◌>>=◌, at_slot}
 use Rattle.cm_verdict.specs.Verdict.{is_whole, class_kept, words_at, if_new, class_found}
 use Rattle.cm_verdict.specs.Verdict.{classes_found}
-use Rattle.cm_verdict.proofs.Placed.{live_rule_bare}
+use Rattle.cm_verdict.proofs.{live_rule_bare}
 use Rattle.cm_recover.specs.declared.fault.OpenFault.{OpenFault}
 use Rattle.cm_recover.specs.declared.fault.OpenFault.TheVariants as open_fault
 use Rattle.cm_recover.specs.Opening.{IsFaultIn}

@@ -4,7 +4,7 @@ use Rattle.std.proofs.Common.{◌≡◌, ℕ, List, Ok, Err, inr, ◌⊎◌}
 use Rattle.std.specs.Prelude.{Result}
 use Rattle.cm_disk.specs.Disk.{Unsynced}
 use Rattle.cm_guards.specs.Calls.{Reads}
-use Rattle.cm_guards.proofs.Left.{reads_on, reads_less}
+use Rattle.cm_guards.proofs.{reads_on, reads_less}
 use Rattle.cm_recover.specs.declared.fault.OpenFault.{OpenFault}
 
 -- what is answered is no fault then

@@ -16,14 +16,14 @@ use Rattle.cm_layout.specs.declared.row.Row.TheVariants.{Class}
 use Rattle.cm_layout.specs.Offsets.{root_at, record_at}
 use Rattle.cm_layout.specs.Rules.{broken_live_rule}
 use Rattle.cm_layout.specs.Frames.{BareRow}
-use Rattle.cm_layout.proofs.StayLive.{class_keeps}
-use Rattle.cm_commit.proofs.Places.{inside, ends_in_root}
+use Rattle.cm_layout.proofs.{class_keeps}
+use Rattle.cm_commit.proofs.{inside, ends_in_root}
 use Rattle.cm_verdict.specs.declared.fault.Damage.TheVariants as damage
 use Rattle.cm_verdict.specs.declared.fault.FileFault.TheVariants.{Damaged}
 use Rattle.cm_verdict.specs.Faults.{at_slot}
 use Rattle.cm_verdict.specs.Verdict.{class_kept, words_at}
 use Rattle.cm_verdict.specs.Kept.{IsKeptRecord}
-use Rattle.cm_verdict.proofs.Records.{is_kept}
+use Rattle.cm_verdict.proofs.{is_kept}
 use Rattle.cm_recover.specs.Standing.{IsPlace, Tells, if_class, class_in_place, IsRecorded}
 use Rattle.cm_recover.specs.Standing.{IsKeptClass}
 

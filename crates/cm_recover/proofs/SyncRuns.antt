@@ -7,7 +7,7 @@ use Rattle.cm_disk.specs.Disk.{Unsynced, IsImage, IsSettled, IsSound, IsWithin}
 use Rattle.cm_disk.specs.Calls.{Elapses, HasCause}
 use Rattle.cm_guards.specs.Guards.{EachImage}
 use Rattle.cm_guards.specs.Calls.{LeavesOnly, Reads}
-use Rattle.cm_guards.proofs.Left.{one_call, leaves_on, leaves_more, leaves_none}
+use Rattle.cm_guards.proofs.{one_call, leaves_on, leaves_more, leaves_none}
 use Rattle.cm_recover.specs.Opened.{SyncsAndReads}
 
 -- what is settled is within what any sound disk may have unsynced

@@ -8,8 +8,7 @@ use Rattle.cm_disk.specs.Disk.{Unsynced, IsImage, IsSettled, IsWithin, widened}
 use Rattle.cm_disk.specs.Calls.{Elapses}
 use Rattle.cm_guards.specs.Guards.{EachImage}
 use Rattle.cm_guards.specs.Calls.{LeavesOnly}
-use Rattle.cm_guards.proofs.Left.{one_call, leaves_on}
-use Rattle.cm_guards.proofs.Steps.{run_then_sync}
+use Rattle.cm_guards.proofs.{one_call, leaves_on, run_then_sync}
 use Rattle.cm_recover.specs.NewFile.{shut_bytes, IsNoneOrEmpty}
 use Rattle.cm_recover.specs.Making.{IsUnfinished, CallsAtMost, FormatsThrough}
 use Rattle.cm_recover.proofs.Shut.{shut_is_no_cache}

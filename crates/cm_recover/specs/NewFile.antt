@@ -5,8 +5,9 @@ use Rattle.cm_pool.specs.Geometry.{Sizes}
 use Rattle.cm_layout.specs.declared.heads.HalfHead.{HalfHead}
 use Rattle.cm_layout.specs.Offsets.{superblock_size, slot_size, half_size}
 use Rattle.cm_layout.specs.Slots.{half_head_slot}
-use Rattle.cm_layout.specs.Superblock.{superblock_bytes, blank}
+use Rattle.cm_layout.specs.Superblock.{superblock_bytes}
 use Rattle.cm_layout.specs.Frames.{entry_version}
+use Rattle.cm_layout.specs.Zeros.{blank}
 use Rattle.cm_guards.specs.Gates.{OneOf}
 use Rattle.cm_state.specs.Stands.{Stands}
 use Rattle.cm_verdict.specs.declared.fault.FileFault.TheVariants.{NotACache}

@@ -1,20 +1,26 @@
 -- What a file is opened as: the accepted cache and its committer, both with what the file stands
 -- for.
-use Rattle.std.specs.Prelude.{◌≡◌, ◌<◌, ◌≤◌, ℕ, List, [], ◌∷◌, None, Result, Ok, Err, false}
+use Rattle.std.specs.Prelude.{◌≡◌, ◌<◌, ◌≤◌, ◌^◌, ℕ, List, [], ◌∷◌, length, None}
+use Rattle.std.specs.Prelude.{Result, Ok, Err, false}
 use Rattle.std.specs.FinMap as map
 use Rattle.cm_class.specs.declared.class_file.ClassFile.{ClassFile}
-use Rattle.cm_record.specs.Layout.{lay}
+use Rattle.cm_pool.specs.Geometry.{IsGeometry}
+use Rattle.cm_record.specs.Layout.{lay, limit}
 use Rattle.cm_layout.specs.declared.row.Row.{Row}
 use Rattle.cm_layout.specs.declared.row.Row.TheVariants.{Loader, Class}
 use Rattle.cm_layout.specs.Rows.{rows_with}
+use Rattle.cm_layout.specs.Framing.{Framing, IsRight, Matches}
 use Rattle.cm_disk.specs.Disk.{Unsynced, IsImage, IsSettled, IsWithin}
 use Rattle.cm_guards.specs.Calls.{LeavesOnly}
 use Rattle.cm_state.specs.Stands.{Stands, Arenas}
+use Rattle.cm_state.specs.State.{words_show}
+use Rattle.cm_state.specs.Entries.{AreCacheRows}
 use Rattle.cm_verdict.specs.Verdict.{Standing, state_in, arenas_in, verdict}
-use Rattle.cm_front.specs.Front.{FrontState}
+use Rattle.cm_front.specs.Front.{FrontState, AreRight}
 use Rattle.cm_front.specs.Arenas.{chunks_owned}
 use Rattle.cm_front.specs.Restoring.{Restores}
 use Rattle.cm_commit.specs.States.{CommitterState}
+use Rattle.cm_commit.specs.Committed.{end_slot}
 use Rattle.cm_recover.specs.declared.opening.NotOpened.{NotOpened}
 use Rattle.cm_recover.specs.declared.fault.OpenFault.TheVariants as open_fault
 
@@ -24,6 +30,24 @@ arenas_by_name [] front = map.empty
 arenas_by_name (Loader r ∷ rows) front =
     map.insert (arenas_by_name rows front) r.name (chunks_owned front r.number)
 arenas_by_name (Class r c ∷ rows) front = arenas_by_name rows front
+
+-- no record is longer than any may be
+abbrev pub AreShort : List (Row (List ℕ)) → Type 0
+AreShort [] = Unit {0}
+AreShort (Loader r ∷ rows) = AreShort rows
+AreShort (Class r words ∷ rows) = (length words ≤ limit) × AreShort rows
+
+-- what a file stands for is what its contents frame, with rows of a cache
+pub record IsOpened (contents : List ℕ) (s : Standing) (rows : List (Row (List ℕ))) : Type 0 where
+  pub framing : Framing
+  pub counting_is : framing.counting ≡ s.found.half
+  pub end_is : end_slot framing ≡ s.found.end
+  pub right : IsRight s.found.sizes framing rows s.found.number
+  pub matches : Matches s.found.sizes framing rows contents
+  pub cache : AreCacheRows words_show s.found.sizes s.found.number rows
+  pub records : AreRight rows
+  pub number_is : s.found.number ≤ 2 ^ 63
+  pub lawful : IsGeometry s.found.sizes
 
 -- the contents stand for this, and both have its rows with the words of their records, and its
 -- number: the accepted cache has the arenas that they stand for, and nothing to hand out; the

@@ -68,7 +68,7 @@ impl NewFile {
     }
 
     /// Writes the gate of its superblock, where all else is stored.
-    #[tactic(auto, using(cm_guards::proofs::Steps::gating))]
+    #[tactic(auto, using(cm_guards::proofs::gating))]
     fn write_gate<D: Disk>(&self, disk: &mut D) -> Result<(), DeviceFault>
         requires lawful { IsGeometry self.now.geometry }
         requires shut { D.contents disk.old ≡ shut_bytes self.now.geometry }
@@ -86,7 +86,7 @@ impl NewFile {
 
     /// Opens its superblock, where all else is stored: until this is stored too, a crash leaves no
     /// cache or the empty one, at each moment and after a fault.
-    #[tactic(auto, using(cm_guards::proofs::Steps::settling))]
+    #[tactic(auto, using(cm_guards::proofs::settling))]
     pub(crate) fn open<D: Disk>(&self, disk: &mut D) -> Result<(), DeviceFault>
         requires lawful { IsGeometry self.now.geometry }
         requires shut { D.contents disk.old ≡ shut_bytes self.now.geometry }

@@ -25,7 +25,7 @@ pub struct FoundFile {
 }
 
 // Reads so many bytes.
-#[tactic(auto, using(cm_guards::proofs::Left::reading))]
+#[tactic(auto, using(cm_guards::proofs::reading))]
 fn read_part<D: Disk>(
     alloc: Global,
     disk: &mut D,
@@ -44,7 +44,7 @@ fn read_part<D: Disk>(
 }
 
 // Reads the superblock: the file's sizes.
-#[tactic(auto, using(cm_guards::proofs::Left::reading))]
+#[tactic(auto, using(cm_guards::proofs::reading))]
 fn read_sizes<D: Disk>(alloc: Global, disk: &mut D) -> Result<Geometry, OpenFault>
     ensures sizes { IsAnswer (λ g. g) result
         (sizes_found_in (length (D.contents disk.old)) (take 4096 (D.contents disk.old))) }

@@ -39,7 +39,7 @@ impl RecordWords {
     }
 
     /// Reads so many words.
-    #[tactic(auto, using(cm_guards::proofs::Left::reading))]
+    #[tactic(auto, using(cm_guards::proofs::reading))]
     pub(crate) fn read<D: Disk>(
         &mut self,
         disk: &mut D,

@@ -12,6 +12,8 @@ use Rattle.cm_pool.specs.Geometry.{Sizes}
 use Rattle.cm_pool.specs.Chunks.{Meets}
 use Rattle.cm_pool.specs.FreeSpace.{FreeSpace, IsFreeChunk, IsUsedChunk, without, with_chunk}
 use Rattle.cm_pool.specs.Lists.{Among}
+use Rattle.cm_pool.proofs.{meets-itself, among-left, among-push, among-map_from, among-filter}
+use Rattle.cm_pool.proofs.{among-filter_from}
 use Rattle.cm_layout.specs.declared.class_row.ClassRow.{ClassRow}
 use Rattle.cm_layout.specs.declared.loader_row.LoaderRow.{LoaderRow}
 use Rattle.cm_layout.specs.declared.relocation.Move.{Move}
@@ -19,24 +21,21 @@ use Rattle.cm_layout.specs.declared.row.Row.{Row}
 use Rattle.cm_layout.specs.declared.row.Row.TheVariants.{Loader, Class}
 use Rattle.cm_layout.specs.Rows.{classes_in, numbers_in, without_loader, moved, bare, row_with}
 use Rattle.cm_layout.specs.Rules.{row_limit, is_chunk, has_place}
+use Rattle.cm_layout.proofs.{last_chunk-among, numbers-moved}
 use Rattle.cm_rows.specs.declared.live_loader.LastChunk.{LastChunk}
 use Rattle.cm_rows.specs.declared.live_loader.LiveLoader.{LiveLoader}
 use Rattle.cm_rows.specs.Rows.{last_of, is_above}
 use Rattle.cm_rows.specs.Loaders.{IsAt}
 use Rattle.cm_rows.specs.Held.{Holds, first_chunks, AreFounded, TakesPlace, HasNoPlace}
 use Rattle.cm_rows.specs.Book.{AreLoadersOf, AreLiveRows, IsBook}
-use Rattle.cm_index.proofs.Lists.{among-left, among-push, among-map_from, among-filter}
-use Rattle.cm_index.proofs.Lists.{among-filter_from}
-use Rattle.cm_rows.proofs.Chunks.{meets-itself}
 use Rattle.cm_rows.proofs.Classes.{used, used-some, moved_class, is_moved, first-push, first-moved}
-use Rattle.cm_rows.proofs.Classes.{last-among}
 use Rattle.cm_rows.proofs.Loaders.{last_in-set, last_in-remove, last_in-push, numbers-set}
 use Rattle.cm_rows.proofs.Loaders.{rises-set, numbers-remove, rises-remove, numbers-push}
 use Rattle.cm_rows.proofs.Loaders.{rises-push, all-numbers, at-among}
 use Rattle.cm_rows.proofs.Holding.{free-is, take-push, swap}
 use Rattle.cm_rows.proofs.RowFacts.{numbers-few, classes-push_class, numbers-push_class}
 use Rattle.cm_rows.proofs.RowFacts.{classes-push_loader, numbers-push_loader, classes-without}
-use Rattle.cm_rows.proofs.RowFacts.{numbers-without, length-without, classes-moved, numbers-moved}
+use Rattle.cm_rows.proofs.RowFacts.{numbers-without, length-without, classes-moved}
 use Rattle.cm_rows.proofs.RowFacts.{length-moved, classes-bare, numbers-bare}
 use Rattle.cm_rows.proofs.Verdicts.{above-all, last-at, has_room_for, room-from, place-top}
 use Rattle.cm_rows.proofs.Verdicts.{place-front, place-none}
@@ -132,7 +131,7 @@ module _ {P : Type 0} where
       let joins = joins-top (classes_in rows) r h.live.founded some on_top in
       let is = use-chunk r.loader (classes_in rows)
       (record { chunk = r.place.chunk; used = r.place.offset }) on_top in
-      let t = last-among r.loader (classes_in rows) r.place.chunk is.0 in
+      let t = last_chunk-among r.loader (classes_in rows) r.place.chunk is.0 in
       let behind : 1 ≤ used r.place.chunk (classes_in rows) =
       used-some r.place.chunk (classes_in rows) t.0 t.1 t.3 (h.live.founded.words t.0 t.1) in
       let same : first_chunks (classes_in rows ++ r ∷ []) ≡ first_chunks (classes_in rows) =
@@ -251,7 +250,7 @@ module _ {P : Type 0} where
       let k = classes_in rows in
       let is = use-chunk u k (record { chunk = from; used = used_words }) (sym (last_of-is u rows)
       ∙ last) in
-      let t = last-among u k from is.0 in
+      let t = last_chunk-among u k from is.0 in
       let on : Among from (first_chunks k) = subst
       (λ (c : Chunk). Among c (first_chunks k)) t.3 (h.live.founded.first t.0 t.1) in
       let swapped = swap sizes p (first_chunks k) from to h.live.holds on free in

@@ -8,19 +8,20 @@ use Rattle.std.specs.Option.{option_map}
 use Rattle.std.proofs.lemmas.Bool.{eqb-true, eq-eqb}
 use Rattle.cm_pool.specs.declared.chunk.Chunk.{Chunk}
 use Rattle.cm_pool.specs.Lists.{Among}
+use Rattle.cm_pool.proofs.{same_chunk-itself, same_chunk-cases, same_chunk-false, among-left}
+use Rattle.cm_pool.proofs.{among-right, among-push, among-map, among-map_from, among-filter}
+use Rattle.cm_pool.proofs.{among-filter_from}
 use Rattle.cm_layout.specs.declared.class_row.ClassRow.{ClassRow}
 use Rattle.cm_layout.specs.Rows.{classes_in, last_chunk, used_words}
 use Rattle.cm_rows.specs.declared.live_loader.LastChunk.{LastChunk}
 use Rattle.cm_rows.specs.Rows.{last_of}
 use Rattle.cm_rows.specs.Held.{first_chunks, AreFounded}
-use Rattle.cm_index.proofs.Lists.{among-left, among-right, among-push, among-map, among-map_from}
-use Rattle.cm_index.proofs.Lists.{among-filter, among-filter_from}
-use Rattle.cm_rows.proofs.Chunks.{same_chunk-itself, same_chunk-false, same_chunk-cases}
 use Rattle.cm_rows.proofs.Classes.{used, used-is, used-append, used-none, used-filter, last-push}
-use Rattle.cm_rows.proofs.Classes.{last-among, last-none, last-filter, goes, moved_class, IsMoved}
+use Rattle.cm_rows.proofs.Classes.{last-none, last-filter, goes, moved_class, IsMoved}
 use Rattle.cm_rows.proofs.Classes.{is_moved, last-moved, used-elsewhere, used-moved, first-push}
 use Rattle.cm_rows.proofs.Classes.{first-moved, first-among, among-first}
 use Rattle.cm_layout.specs.declared.row.Row.{Row}
+use Rattle.cm_layout.proofs.{last_chunk-among}
 
 -- a chunk with its used words
 abbrev pub with_used : List ClassRow → Chunk → LastChunk
@@ -124,7 +125,7 @@ last_use-push rs r v j =
         → option_map (with_used (rs ++ r ∷ [])) o ≡ option_map (with_used rs) o
     others None e f = refl
     others (Some c) e f =
-        let s = last-among v rs c e in
+        let s = last_chunk-among v rs c e in
         let differs : r.place.chunk ≢ c = λ same. let yes : eqb r.loader v ≡ true =
         eq-eqb r.loader v (sym (j.owner s.0 s.1 (s.3 ∙ sym same)) ∙ s.2) in absurd (cc) in
         let none : used c (r ∷ []) ≡ 0 = rw (same_chunk-false r.place.chunk c differs) refl in
@@ -144,7 +145,7 @@ pub joins-top : (rs : List ClassRow) (r : ClassRow) → AreFounded rs → 1 ≤ 
     → Joins rs r
 joins-top rs r h some last =
     let is = use-chunk r.loader rs (record { chunk = r.place.chunk; used = r.place.offset }) last in
-    let t = last-among r.loader rs r.place.chunk is.0 in
+    let t = last_chunk-among r.loader rs r.place.chunk is.0 in
     record {
       words = some;
       first = subst
@@ -189,7 +190,7 @@ last_use-without u rs v h = by_test (eqb u v) refl
         → option_map (with_used (others_than u rs)) o ≡ option_map (with_used rs) o
     others n None e = refl
     others n (Some c) e =
-        let s = last-among v rs c e in
+        let s = last_chunk-among v rs c e in
         ap (λ k. Some (record { chunk = c; used = k }))
         (used-filter c (λ (r : ClassRow). not (eqb r.loader u)) rs (λ r m on. eqb-not r.loader u
         (λ is. n (sym is ∙ h.owner r s.0 m s.1 (on ∙ sym s.3) ∙ s.2))))
@@ -254,8 +255,8 @@ last_use-moved u from to rs v h last unused =
         ≡ option_map (with_used rs) o
     others n None e = refl
     others n (Some c) e =
-        let s = last-among v rs c e in
-        let t = last-among u rs from last in
+        let s = last_chunk-among v rs c e in
+        let t = last_chunk-among u rs from last in
         let not_from : c ≢ from =
         λ is. n (sym t.2 ∙ h.owner t.0 s.0 t.1 s.1 (t.3 ∙ sym is ∙ sym s.3) ∙ s.2) in
         let not_to : c ≢ to = λ is. unused s.0 s.1 (s.3 ∙ is) in

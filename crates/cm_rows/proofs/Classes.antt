@@ -10,13 +10,13 @@ use Rattle.std.proofs.lemmas.List.Sums.{sum-map, sum_by-cons}
 use Rattle.cm_pool.specs.declared.chunk.Chunk.{Chunk}
 use Rattle.cm_pool.specs.Chunks.{same_chunk}
 use Rattle.cm_pool.specs.Lists.{Among}
+use Rattle.cm_pool.proofs.{same_chunk-itself, same_chunk-is, same_chunk-cases, same_chunk-false}
+use Rattle.cm_pool.proofs.{among-map, among-map_from, among-filter, among-filter_from}
 use Rattle.cm_layout.specs.declared.class_row.ClassRow.{ClassRow}
 use Rattle.cm_layout.specs.Rows.{classes_in, used_words, last_chunk}
 use Rattle.cm_rows.specs.Held.{first_chunks}
-use Rattle.cm_index.proofs.Lists.{among-map, among-map_from, among-filter, among-filter_from}
-use Rattle.cm_rows.proofs.Chunks.{same_chunk-is, same_chunk-cases, same_chunk-itself}
-use Rattle.cm_rows.proofs.Chunks.{same_chunk-false}
 use Rattle.cm_layout.specs.declared.row.Row.{Row}
+use Rattle.cm_layout.proofs.{last_chunk-among}
 
 -- ---- the words used of a chunk, by recursion
 
@@ -118,24 +118,6 @@ last-push u (s ∷ rs) r = ap (or_own u s) (last-push u rs r) ∙ by_test (eqb r
     by_test true = refl
     by_test false = refl
 
-pub last-among : (u : ℕ) (rs : List ClassRow) (c : Chunk) → last_chunk u rs ≡ Some c
-    → (s : ClassRow) × Among s rs × (s.loader ≡ u) × (s.place.chunk ≡ c)
-last-among u [] c h = absurd (cc)
-last-among u (r ∷ rows) c h = by_rest (last_chunk u rows) (last-among u rows c) h
-  where
-    by_first : (t : Bool) → eqb r.loader u ≡ t → cond t (Some r.place.chunk) None ≡ Some c
-        → (s : ClassRow) × Among s (r ∷ rows) × (s.loader ≡ u) × (s.place.chunk ≡ c)
-    by_first true e is = (r, inl refl, eqb-true r.loader u e, cc)
-    by_first false e is = absurd (cc)
-
-    by_rest : (o : Option Chunk) → (o ≡ Some c → (s : ClassRow) × Among s rows × (s.loader ≡ u)
-        × (s.place.chunk ≡ c))
-        → elim o [ Some d ↦ Some d | None ↦ cond (eqb r.loader u) (Some r.place.chunk) None ]
-        ≡ Some c
-        → (s : ClassRow) × Among s (r ∷ rows) × (s.loader ≡ u) × (s.place.chunk ≡ c)
-    by_rest (Some d) later is = let found = later is in (found.0, inr found.1, found.2, found.3)
-    by_rest None later is = by_first (eqb r.loader u) refl is
-
 -- a loader with no class has none
 pub last-none : (u : ℕ) (rs : List ClassRow) → ((r : ClassRow) → Among r rs → r.loader ≢ u)
     → last_chunk u rs ≡ None
@@ -143,7 +125,7 @@ last-none u rs h = by_last (last_chunk u rs) refl
   where
     by_last : (o : Option Chunk) → last_chunk u rs ≡ o → o ≡ None
     by_last None e = refl
-    by_last (Some c) e = let s = last-among u rs c e in absurd (h s.0 s.1 s.2)
+    by_last (Some c) e = let s = last_chunk-among u rs c e in absurd (h s.0 s.1 s.2)
 
 -- where all of a loader's classes stay
 pub last-filter : (u : ℕ) (p : ClassRow → Bool) (rs : List ClassRow) → ((r : ClassRow)

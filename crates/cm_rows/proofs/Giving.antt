@@ -12,17 +12,16 @@ use Rattle.std.proofs.lemmas.List.Elements.{filter-append}
 use Rattle.cm_pool.specs.declared.chunk.Chunk.{Chunk}
 use Rattle.cm_pool.specs.Geometry.{Sizes}
 use Rattle.cm_pool.specs.FreeSpace.{FreeSpace, IsFreeChunk, IsUsedChunk, without, with_chunk}
+use Rattle.cm_pool.proofs.{meets-turned, among-right}
 use Rattle.cm_layout.specs.declared.class_row.ClassRow.{ClassRow}
 use Rattle.cm_layout.specs.declared.row.Row.{Row}
 use Rattle.cm_layout.specs.declared.row.Row.TheVariants.{Loader, Class}
 use Rattle.cm_layout.specs.Rows.{classes_in}
 use Rattle.cm_index.specs.declared.slot.BookSlot.{BookSlot}
 use Rattle.cm_index.specs.Living.{living}
-use Rattle.cm_index.proofs.Living.{living-append}
+use Rattle.cm_index.proofs.{living-append}
 use Rattle.std.proofs.lemmas.List.{take-append-drop}
 use Rattle.cm_rows.specs.Held.{Holds, CanBeHeld, first_chunks, chunks_of, own_chunk, living_chunk}
-use Rattle.cm_index.proofs.Lists.{among-right}
-use Rattle.cm_rows.proofs.Chunks.{meets-turned}
 use Rattle.cm_rows.proofs.Holding.{each-among, free-is, take-push, give-back}
 
 module _ {P : Type 0} where

@@ -10,10 +10,10 @@ use Rattle.cm_pool.specs.Chunks.{Meets, Covers, IsBlock, IsChunk}
 use Rattle.cm_pool.specs.FreeSpace.{FreeSpace, IsFreeWord, IsFreeChunk, IsUsedChunk, without}
 use Rattle.cm_pool.specs.FreeSpace.{with_chunk}
 use Rattle.cm_pool.specs.Lists.{Among, Pairwise}
-use Rattle.cm_pool.proofs.HeldFacts.{held-put, held-given}
-use Rattle.cm_pool.proofs.NoneLost.{none_lost-put, none_lost-given}
+use Rattle.cm_pool.proofs.{none_lost-given, same_chunk-itself}
+use Rattle.cm_pool.proofs.{same_chunk-false, meets-itself}
+use Rattle.cm_pool.proofs.SpaceLaws.{taken_is_held, held_is_given, taking_loses_none}
 use Rattle.cm_rows.specs.Held.{Holds}
-use Rattle.cm_rows.proofs.Chunks.{same_chunk-itself, same_chunk-false, meets-itself}
 use Rattle.cm_rows.proofs.Classes.{goes}
 
 pub each-among : {X : Type 0} (P : X → Type 0) (xs : List X) (x : X) → AllByRecursion P xs
@@ -64,8 +64,8 @@ take-put sizes p xs c ys h free =
     record {
       geometry = h.geometry;
       roots = h.roots;
-      held = held-put p xs c ys h.held free;
-      none_lost = none_lost-put p xs c ys h.none_lost free;
+      held = taken_is_held p xs c ys h.held free;
+      none_lost = taking_loses_none p xs c ys h.none_lost free;
     }
 
 -- taken, behind the others
@@ -77,7 +77,7 @@ take-push sizes p cs c h free = take-put sizes p cs c [] (subst
 pub give-back : (sizes : Sizes) (p : FreeSpace) (xs : List Chunk) (c : Chunk) (ys : List Chunk)
     → Holds sizes p (xs ++ c ∷ ys) → IsUsedChunk p c × Holds sizes (with_chunk p c) (xs ++ ys)
 give-back sizes p xs c ys h =
-    let given = held-given p xs c ys h.held in (
+    let given = held_is_given p xs c ys h.held in (
       given.0,
       record {
         geometry = h.geometry;

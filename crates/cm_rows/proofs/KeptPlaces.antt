@@ -19,7 +19,7 @@ use Rattle.cm_pool.specs.Lists.{Among, Pairwise}
 use Rattle.cm_index.specs.declared.slot.BookSlot.{BookSlot}
 use Rattle.cm_index.specs.Living.{living, swept}
 use Rattle.cm_index.specs.Index.{LivesAt}
-use Rattle.cm_index.proofs.Living.{living-append, length-swept}
+use Rattle.cm_index.proofs.{living-append, length-swept}
 use Rattle.cm_rows.specs.declared.live_loader.LiveLoader.{LiveLoader}
 use Rattle.cm_rows.specs.Loaders.{numbers_of, Rises, IsAt, IsAbsent, items, IsKept}
 use Rattle.cm_rows.proofs.Loaders.{rises-at, at-among, absent-among}

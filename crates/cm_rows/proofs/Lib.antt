@@ -1,15 +1,18 @@
-pub mod Chunks
-pub mod Classes
-pub mod Loaders
-pub mod KeptPlaces
-pub mod Linking
-pub mod Moving
-pub mod Holding
-pub mod RowFacts
-pub mod Changes
-pub mod Giving
-pub mod Ending
-pub mod Verdicts
-pub mod Books
-pub mod Placed
-pub mod ClassPlaces
+-- What crates above may cite of these proofs is what `pub use` passes on; all else is private.
+mod Classes
+mod Loaders
+mod KeptPlaces
+mod Linking
+mod Moving
+mod Holding
+mod RowFacts
+mod Changes
+mod Giving
+mod Ending
+mod Verdicts
+mod Books
+mod Placed
+mod ClassPlaces
+mod Above
+-- Numbers of commands are above those of all loaders that live.
+pub use Above.{above_row, above_entry}

@@ -7,11 +7,11 @@ use Rattle.std.proofs.Common.{length-set, add-one}
 use Rattle.std.specs.Prelude.{not, ◌&&◌}
 use Rattle.std.specs.Option.{option_map}
 use Rattle.std.specs.List.{slice_get, AllByRecursion}
-use Rattle.std.proofs.lemmas.Bool.{eqb-true, eq-eqb}
+use Rattle.std.proofs.lemmas.Bool.{eqb-true, eq-eqb, and_parts}
 use Rattle.std.proofs.lemmas.List.{length-map, take-append-le}
 use Rattle.std.proofs.Math.Seq.{take-append_seam, get_or-append_seam}
 use Rattle.std.proofs.Math.ListN.{get_or-append}
-use Rattle.std.proofs.lemmas.Option.{slice_get_within}
+use Rattle.std.proofs.lemmas.Option.{slice_get_within, slice_get-map}
 use Rattle.cm_pool.specs.declared.chunk.Chunk.{Chunk}
 use Rattle.cm_pool.specs.Chunks.{same_chunk}
 use Rattle.cm_pool.specs.Lists.{Among, Pairwise}
@@ -21,7 +21,6 @@ use Rattle.cm_layout.specs.declared.row.Row.TheVariants.{Loader, Class}
 use Rattle.cm_layout.specs.Rows.{is_of, moved_row, classes_in, numbers_in}
 use Rattle.cm_index.specs.declared.slot.BookSlot.{BookSlot}
 use Rattle.cm_index.specs.Living.{living, unloaded, moved_slot}
-use Rattle.cm_index.proofs.Indexes.{get-map}
 use Rattle.cm_rows.specs.declared.live_loader.LiveLoader.{LiveLoader}
 use Rattle.cm_rows.specs.Loaders.{numbers_of, items}
 use Rattle.cm_rows.specs.Links.{loader_in, place_behind, last_place, AreLinked, last_places, ended}
@@ -105,11 +104,6 @@ option-from f None y h = absurd (cc)
 option-from f (Some x) y h = (x, refl, cc)
 
 -- ---- tests
-
-both : (a b : Bool) → (a && b) ≡ true → (a ≡ true) × (b ≡ true)
-both true true h = (refl, refl)
-both true false h = absurd (cc)
-both false b h = absurd (cc)
 
 and-false : (a : Bool) → (a && false) ≡ false
 and-false true = refl
@@ -217,7 +211,7 @@ module _ {P : Type 0} where
       by_place : ((i : ℕ) → last_place u slots ≡ Some i → StandsLast u slots i) → (o : Option ℕ)
           → last_place u slots ≡ o → (t : Bool) → mine u s ≡ t → (i : ℕ)
           → place_behind o t ≡ Some i → StandsLast u (s ∷ slots) i
-      by_place behind None is true e zero h = let p = both s.live (is_of u s.item) e in
+      by_place behind None is true e zero h = let p = and_parts s.live (is_of u s.item) e in
           record { slot = s; there = refl; lives = p.0; own = p.1 }
       by_place behind None is true e (suc i) h = absurd (cc)
       by_place behind None is false e i h = absurd (cc)
@@ -412,7 +406,7 @@ module _ {P : Type 0} where
         same = h.same ∙ sym (length-map slots (moved_slot {P = P} from to));
         each = λ i r there live.
             let was = option-from (moved_slot from to) (slice_get slots i) r
-            (sym (get-map (moved_slot from to) slots i) ∙ there) in
+            (sym (slice_get-map (moved_slot from to) slots i) ∙ there) in
             let alive : (was.0).live ≡ true = ap (λ (s : BookSlot (Row P)). s.live) was.2 ∙ live in
             let loader : loader_in (was.0).item ≡ loader_in r.item =
             sym (slot-loader_in from to was.0)

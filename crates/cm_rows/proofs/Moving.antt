@@ -11,6 +11,7 @@ use Rattle.std.proofs.lemmas.Option.{slice_get_within}
 use Rattle.cm_pool.specs.declared.chunk.Chunk.{Chunk}
 use Rattle.cm_pool.specs.Chunks.{same_chunk}
 use Rattle.cm_pool.specs.Lists.{Among}
+use Rattle.cm_pool.proofs.{same_chunk-true}
 use Rattle.cm_layout.specs.declared.class_row.ClassRow.{ClassRow}
 use Rattle.cm_layout.specs.declared.row.Row.{Row}
 use Rattle.cm_layout.specs.declared.row.Row.TheVariants.{Loader, Class}
@@ -18,7 +19,6 @@ use Rattle.cm_layout.specs.Rows.{is_of, moved_row, classes_in}
 use Rattle.cm_index.specs.declared.slot.BookSlot.{BookSlot}
 use Rattle.cm_index.specs.Living.{living, moved_slot}
 use Rattle.cm_rows.specs.Held.{AreFounded}
-use Rattle.cm_rows.proofs.Chunks.{same_chunk-true}
 use Rattle.cm_rows.specs.Links.{loader_in, place_behind, last_place, AreLinked, OthersStay}
 use Rattle.cm_rows.proofs.Linking.{stands-last, of-is, get-take, take-few, take-set_before}
 

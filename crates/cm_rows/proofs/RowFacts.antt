@@ -114,19 +114,6 @@ module _ {P : Type 0} where
       by_test true behind = ap (λ l. record r { place = record r.place { chunk = to } } ∷ l) behind
       by_test false behind = ap (λ l. r ∷ l) behind
 
-  pub numbers-moved : (from to : Chunk) (rows : List (Row P))
-      → numbers_in (moved from to rows) ≡ numbers_in rows
-  numbers-moved from to [] = refl
-  numbers-moved from to (Loader r ∷ rows) = ap (λ l. r.number ∷ l) (numbers-moved from to rows)
-  numbers-moved from to (Class r p ∷ rows) =
-      by_test (same_chunk r.place.chunk from) (numbers-moved from to rows)
-    where
-      by_test : (t : Bool) → numbers_in (moved from to rows) ≡ numbers_in rows
-          → numbers_in (cond t (Class (record r { place = record r.place { chunk = to } }) p)
-          (Class r p) ∷ moved from to rows) ≡ numbers_in rows
-      by_test true behind = behind
-      by_test false behind = behind
-
   pub length-moved : (from to : Chunk) (rows : List (Row P))
       → length (moved from to rows) ≡ length rows
   length-moved from to [] = refl

@@ -6,7 +6,7 @@ use Rattle.std.proofs.Common.{ap, subst, arith}
 use Rattle.std.specs.Prelude.{not, ◌==◌, ◌^◌, ◌&&◌, ◌||◌, nat_le, nat_lt, max, min, is_none}
 use Rattle.std.specs.List.{list_any, list_all, AllByRecursion}
 use Rattle.std.specs.Option.{option_map, option_map_or}
-use Rattle.std.proofs.lemmas.Bool.{eqb-true, eq-eqb, ltb-true, leb-true}
+use Rattle.std.proofs.lemmas.Bool.{eqb-true, eq-eqb, ltb-true, leb-true, and_parts, or_cases}
 use Rattle.std.proofs.Math.Nat.{pow-le-pow_right}
 use Rattle.std.proofs.lemmas.Bool.Decides.{nat_tests}
 use Rattle.cm_pool.specs.declared.chunk.Chunk.{Chunk}
@@ -14,6 +14,7 @@ use Rattle.cm_pool.specs.Geometry.{Sizes}
 use Rattle.cm_pool.specs.Chunks.{chunk_size, same_chunk, Meets, IsChunk}
 use Rattle.cm_pool.specs.FreeSpace.{FreeSpace, IsFreeChunk}
 use Rattle.cm_pool.specs.Lists.{Among}
+use Rattle.cm_pool.proofs.{same_chunk-true, same_chunk-is, among-map, among-map_from}
 use Rattle.cm_layout.specs.declared.class_row.ClassRow.{ClassRow}
 use Rattle.cm_layout.specs.declared.loader_row.LoaderRow.{LoaderRow}
 use Rattle.cm_layout.specs.declared.relocation.Move.{Move}
@@ -25,6 +26,7 @@ use Rattle.cm_layout.specs.Rows.{last_chunk}
 use Rattle.cm_layout.specs.Rules.{is_chunk, meets, is_unused, is_last_chunk, has_place, move_fits}
 use Rattle.cm_layout.specs.Rules.{has_room, row_limit, broken_of, is_live, is_new_loader}
 use Rattle.cm_layout.specs.declared.entry_rule.EntryRule.TheVariants.{OnRows, OnChunks}
+use Rattle.cm_layout.proofs.{meets-true}
 use Rattle.cm_rows.specs.declared.live_loader.LastChunk.{LastChunk}
 use Rattle.cm_rows.specs.declared.live_loader.LiveLoader.{LiveLoader}
 use Rattle.cm_rows.specs.Rows.{last_of, is_above}
@@ -32,9 +34,6 @@ use Rattle.cm_rows.specs.Loaders.{IsAt, IsAbsent}
 use Rattle.cm_rows.specs.Held.{first_chunks, AreFounded}
 use Rattle.cm_rows.specs.Book.{AreLoadersOf, AreLiveRows}
 use Rattle.cm_rows.specs.Placing.{is_inside}
-use Rattle.cm_rows.proofs.Chunks.{both_true, either_true, same_chunk-true, same_chunk-is}
-use Rattle.cm_rows.proofs.Chunks.{meets-true}
-use Rattle.cm_index.proofs.Lists.{among-map, among-map_from}
 use Rattle.cm_rows.proofs.Classes.{first-among}
 use Rattle.cm_rows.proofs.Loaders.{at-among, absent-among, last_in-at, last_in-absent}
 use Rattle.cm_rows.proofs.Holding.{free-is}
@@ -110,7 +109,7 @@ module _ {P : Type 0} where
 
 meets-means : (a b : Chunk) → meets a b ≡ true → Meets a b
 meets-means a b h =
-    let p = both_true (eqb a.root b.root) _ h in
+    let p = and_parts (eqb a.root b.root) _ h in
     let root : a.root ≡ b.root = eqb-true a.root b.root p.0 in
     let lt : max a.at b.at < min (a.at + chunk_size a.order) (b.at + chunk_size b.order) =
     ltb-true _ _ p.1 in (
@@ -125,9 +124,9 @@ chunk-is sizes c = (forth, back)
   where
     forth : is_chunk sizes c ≡ true → IsChunk sizes c
     forth h =
-        let p = both_true _ (nat_le (c.at + chunk_size c.order) (chunk_size sizes.top)) h in
-        let q = both_true _ (eqb (c.at % chunk_size c.order) 0) p.0 in
-        let r = both_true (nat_le c.order sizes.top) (nat_lt c.root sizes.roots) q.0 in
+        let p = and_parts _ (nat_le (c.at + chunk_size c.order) (chunk_size sizes.top)) h in
+        let q = and_parts _ (eqb (c.at % chunk_size c.order) 0) p.0 in
+        let r = and_parts (nat_le c.order sizes.top) (nat_lt c.root sizes.roots) q.0 in
         record {
           within_top = grind (arith, nat_tests);
           in_a_root = grind (arith, nat_tests);
@@ -214,7 +213,7 @@ module _ {P : Type 0} where
       by_last None = (λ h. absurd (cc), λ h. absurd (cc))
       by_last (Some d) = (
         λ h.
-            let p = both_true (same_chunk d c) (eqb n (used_words c rows)) h in
+            let p = and_parts (same_chunk d c) (eqb n (used_words c rows)) h in
             let same : d ≡ c = same_chunk-true d c p.0 in
             let words : n ≡ used_words c rows = eqb-true n (used_words c rows) p.1 in
             ap (λ (x : Chunk). Some (with_words rows x)) same ∙ ap
@@ -248,12 +247,12 @@ module _ {P : Type 0} where
       → (r.place.offset ≡ 0 → ¬ IsFreeChunk p r.place.chunk) → has_place rows r ≡ false
   place-none sizes rows p r h chunk not_top not_front =
       not-true (has_place rows r) (λ yes.
-      elim (either_true (is_last_chunk r.loader r.place.chunk rows
+      elim (or_cases (is_last_chunk r.loader r.place.chunk rows
       && eqb r.place.offset (used_words r.place.chunk rows))
       (eqb r.place.offset 0 && is_unused r.place.chunk rows) yes) [
         | inl top ↦ not_top ((top-is rows r.loader r.place.offset r.place.chunk).0 top)
         | inr front ↦
-            let q = both_true (eqb r.place.offset 0) (is_unused r.place.chunk rows) front in
+            let q = and_parts (eqb r.place.offset 0) (is_unused r.place.chunk rows) front in
             not_front (eqb-true r.place.offset 0 q.0)
             ((free-unused sizes rows p r.place.chunk h).1 (chunk, q.1))
       ])
@@ -328,16 +327,16 @@ module _ {P : Type 0} where
       → is_new_loader sizes rows r ≡ true → number_of r.name rows ≡ None
   new-name sizes rows r h =
       let first =
-      both_true (is_loader_name r.name && is_none (number_of r.name rows))
+      and_parts (is_loader_name r.name && is_none (number_of r.name rows))
       (nat_lt (length rows) (row_limit sizes)) (sym (new-is sizes rows r) ∙ h) in
       none-is (number_of r.name rows)
-      (both_true (is_loader_name r.name) (is_none (number_of r.name rows)) first.0).1
+      (and_parts (is_loader_name r.name) (is_none (number_of r.name rows)) first.0).1
 
   pub new-few : (sizes : Sizes) (rows : List (Row P)) (r : LoaderRow)
       → is_new_loader sizes rows r ≡ true → length rows < row_limit sizes
   new-few sizes rows r h =
       let last =
-      (both_true (is_loader_name r.name && is_none (number_of r.name rows))
+      (and_parts (is_loader_name r.name && is_none (number_of r.name rows))
       (nat_lt (length rows) (row_limit sizes)) (sym (new-is sizes rows r) ∙ h)).1 in
       ltb-true _ _ last
 
@@ -380,29 +379,29 @@ on_none false room inside place l r i p = absurd (cc)
 pub inside-chunk : (sizes : Sizes) (r : ClassRow) → is_inside sizes r ≡ true
     → (is_chunk sizes r.place.chunk ≡ true) × (1 ≤ r.place.words)
 inside-chunk sizes r h =
-    let p = both_true (is_chunk sizes r.place.chunk && nat_le 1 r.place.words)
+    let p = and_parts (is_chunk sizes r.place.chunk && nat_le 1 r.place.words)
     (nat_le (r.place.offset + r.place.words) (chunk_size r.place.chunk.order)) h in
-    let q = both_true (is_chunk sizes r.place.chunk) (nat_le 1 r.place.words) p.0 in
+    let q = and_parts (is_chunk sizes r.place.chunk) (nat_le 1 r.place.words) p.0 in
     (q.0, grind (arith, nat_tests))
 
 pub inside-few : (sizes : Sizes) (r : ClassRow) → is_inside sizes r ≡ true → sizes.top ≤ 12
     → r.place.offset + r.place.words ≤ 524288
 inside-few sizes r h top =
     let c = r.place.chunk in
-    let p = both_true (is_chunk sizes c && nat_le 1 r.place.words)
+    let p = and_parts (is_chunk sizes c && nat_le 1 r.place.words)
     (nat_le (r.place.offset + r.place.words) (chunk_size c.order)) h in
     let fits : r.place.offset + r.place.words ≤ chunk_size c.order =
     leb-true (r.place.offset + r.place.words) (chunk_size c.order) p.1 in
-    let chunk = (both_true (is_chunk sizes c) (nat_le 1 r.place.words) p.0).0 in
+    let chunk = (and_parts (is_chunk sizes c) (nat_le 1 r.place.words) p.0).0 in
     let three =
-    (both_true (nat_le c.order sizes.top && nat_lt c.root sizes.roots
+    (and_parts (nat_le c.order sizes.top && nat_lt c.root sizes.roots
     && (c.at % chunk_size c.order == 0))
     (nat_le (c.at + chunk_size c.order) (chunk_size sizes.top)) chunk).0 in
-    let two = (both_true (nat_le c.order sizes.top && nat_lt c.root sizes.roots)
+    let two = (and_parts (nat_le c.order sizes.top && nat_lt c.root sizes.roots)
     (c.at % chunk_size c.order == 0) three).0 in
     let order : c.order ≤ sizes.top =
     leb-true c.order sizes.top
-    (both_true (nat_le c.order sizes.top) (nat_lt c.root sizes.roots) two).0 in
+    (and_parts (nat_le c.order sizes.top) (nat_lt c.root sizes.roots) two).0 in
     let small : c.order ≤ 12 = omega (arith, order, top) in
     let size : 2 ^ c.order ≤ 2 ^ 12 = pow-le-pow_right {n = 2} (omega arith) small in
     omega (arith, fits, size)
@@ -441,9 +440,9 @@ and-true false b h = absurd (cc)
 room-chunk : (sizes : Sizes) (l : LastChunk) (e : Move) → has_room_for sizes l e ≡ true
     → (l.chunk ≡ e.from) × (is_chunk sizes e.to ≡ true)
 room-chunk sizes l e h =
-    let p = both_true (same_chunk l.chunk e.from && is_chunk sizes e.to)
+    let p = and_parts (same_chunk l.chunk e.from && is_chunk sizes e.to)
     (nat_le l.used (chunk_size e.to.order)) h in
-    let q = both_true (same_chunk l.chunk e.from) (is_chunk sizes e.to) p.0 in
+    let q = and_parts (same_chunk l.chunk e.from) (is_chunk sizes e.to) p.0 in
     (same_chunk-true l.chunk e.from q.0, q.1)
 
 pub room-from : (sizes : Sizes) (l : LastChunk) (e : Move) → has_room_for sizes l e ≡ true
@@ -474,7 +473,7 @@ module _ {P : Type 0} where
 all-tested : (n : ℕ) (ns : List ℕ) → list_all (λ u. nat_lt u n) ns ≡ true → AllByRecursion
     (λ u. u < n) ns
 all-tested n [] h = tt
-all-tested n (u ∷ ns) h = let p = both_true (nat_lt u n) (list_all
+all-tested n (u ∷ ns) h = let p = and_parts (nat_lt u n) (list_all
     (λ u. nat_lt u n) ns) h in (ltb-true u n p.0, all-tested n ns p.1)
 
 module _ {P : Type 0} where

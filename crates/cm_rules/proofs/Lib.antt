@@ -1,7 +1,7 @@
-pub mod Searches
-pub mod RulesInOrder
-pub mod OneAnswer
-pub mod FirstFault
-pub mod KeptRules
-pub mod Elsewhere
-pub mod WorkedExamples
+mod Searches
+mod RulesInOrder
+mod OneAnswer
+mod FirstFault
+mod KeptRules
+mod Elsewhere
+mod WorkedExamples

@@ -6,7 +6,7 @@ use Rattle.cm_class.specs.declared.class_file.ClassFile.{ClassFile}
 use Rattle.cm_class.specs.declared.fault.ShapeFault.{ShapeFault}
 use Rattle.cm_class.specs.declared.fault.ShapeFault.TheVariants as shapes
 use Rattle.cm_class.specs.Shape.{IsSpelling, IsAnswer}
-use Rattle.cm_class.proofs.Shapes.{one_answer}
+use Rattle.cm_class.proofs.{one_answer}
 use Rattle.cm_rules.specs.declared.rule.Broken.{Broken}
 use Rattle.cm_rules.specs.declared.fault.ClassFault.{ClassFault}
 use Rattle.cm_rules.specs.declared.fault.ClassFault.TheVariants.{Truncated, Trailing, Malformed}

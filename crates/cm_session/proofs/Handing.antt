@@ -19,7 +19,7 @@ use Rattle.cm_state.specs.State.{class_shows, state_of}
 use Rattle.cm_machine.specs.Machine.{Base, Machine, Holds, Seals, accepted_to}
 use Rattle.cm_session.specs.Session.{of_underway, commands_of, GoBehind, IsSession}
 use Rattle.cm_session.specs.Moves.{Leads, Learns}
-use Rattle.cm_verdict.proofs.Walks.{slots_many}
+use Rattle.cm_verdict.proofs.{slots_many}
 use Rattle.cm_session.proofs.Queued.{commands_more, behind_more}
 
 -- ---- another machine with the same commands

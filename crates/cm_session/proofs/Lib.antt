@@ -1,7 +1,10 @@
-pub mod Queued
-pub mod Commands
-pub mod Handing
-pub mod Shown
-pub mod Stepping
-pub mod Reopened
-pub mod Stored
+-- What crates above may cite of these proofs is what `pub use` passes on; all else is private.
+mod Queued
+mod Commands
+mod Handing
+mod Shown
+mod Stepping
+mod Reopened
+mod Stored
+-- What a crash may leave of a session's disk.
+pub use Shown.{leaves_so}

@@ -6,26 +6,27 @@ use Rattle.std.proofs.Common.{◌∙◌, arith, Result, Ok, Err, false, map}
 use Rattle.cm_class.specs.declared.class_file.ClassFile.{ClassFile}
 use Rattle.cm_pool.specs.Geometry.{Sizes}
 use Rattle.cm_record.specs.Layout.{lay}
+use Rattle.cm_record.specs.Names.{WordsTellName}
 use Rattle.cm_layout.specs.declared.row.Row.{Row}
 use Rattle.cm_layout.specs.declared.row.Row.TheVariants.{Loader, Class}
 use Rattle.cm_layout.specs.Offsets.{roots_at}
 use Rattle.cm_layout.specs.Rows.{rows_with, classes_in}
 use Rattle.cm_layout.specs.Frames.{LiveRowsKeep, AreApart}
-use Rattle.cm_front.proofs.RowFacts.{classes_bare}
+use Rattle.cm_layout.proofs.{classes-bare}
 use Rattle.cm_state.specs.Laws.{StandForOne}
 use Rattle.cm_state.specs.Stands.{EachKeepsRules}
 use Rattle.cm_state.specs.State.{class_shows, state_of}
 use Rattle.cm_verdict.specs.Verdict.{Standing, verdict, state_in, arenas_in}
 use Rattle.cm_verdict.specs.Laws.{FoundIsLive, FoundIsFramed, VerdictStands, StandsInVerdict}
 use Rattle.cm_verdict.specs.Laws.{Proves}
-use Rattle.cm_commit.proofs.Slots.{end_is as ends_with_slots}
+use Rattle.cm_commit.proofs.{end_is as ends_with_slots}
 use Rattle.cm_commit.specs.States.{CommitterState}
 use Rattle.cm_front.specs.Front.{FrontState, IsFront}
 use Rattle.cm_recover.specs.declared.fault.OpenFault.{OpenFault}
 use Rattle.cm_recover.specs.declared.fault.OpenFault.TheVariants as open_fault
 use Rattle.cm_recover.specs.Opening.{IsFaultIn}
-use Rattle.cm_recover.specs.Opened.{Opens}
-use Rattle.cm_recover.proofs.Opened.{AreShort, are_short, IsOpened, TellsName, opened}
+use Rattle.cm_recover.specs.Opened.{Opens, AreShort, IsOpened}
+use Rattle.cm_recover.proofs.{are_short, opened}
 use Rattle.cm_machine.specs.Handover.{OpenedIsAhead}
 use Rattle.cm_machine.specs.Machine.{Base, Machine, Reopens, Holds, commands_to}
 use Rattle.cm_machine.specs.Machine.{machine_from}
@@ -33,7 +34,7 @@ use Rattle.cm_machine.specs.Following.{AreRight, AreClasses, Follows}
 use Rattle.cm_machine.specs.Laws.{OpenedFollows, IsAfter, FollowsFront}
 use Rattle.cm_commit.specs.Offers.{filled}
 use Rattle.cm_machine.specs.Ahead.{pending}
-use Rattle.cm_machine.proofs.Classes.{bare_words}
+use Rattle.cm_machine.proofs.{bare_words}
 use Rattle.cm_session.specs.Images.{StandsFor, StandsForSome}
 use Rattle.cm_session.specs.Session.{IsSession, commands_of}
 use Rattle.cm_session.specs.Moves.{Leads, Reopening, IsOutside}
@@ -48,10 +49,11 @@ are_right (Class r c ∷ rows) kept short =
 
 same_places : (rows : List (Row ClassFile)) → classes_in (rows_with lay rows) ≡ classes_in rows
 same_places rows =
-    sym (classes_bare (rows_with lay rows)) ∙ (ap classes_in (bare_words rows) ∙ classes_bare rows)
+    sym (classes-bare (rows_with lay rows)) ∙ (ap classes_in (bare_words rows) ∙ classes-bare rows)
 
 module _ {D : Type 0} (one : StandForOne) (live : FoundIsLive) (framed : FoundIsFramed)
-    (proves : VerdictStands) (tells : TellsName) (ahead : OpenedIsAhead) (goes_on : OpenedFollows)
+    (proves : VerdictStands) (tells : WordsTellName) (ahead : OpenedIsAhead)
+    (goes_on : OpenedFollows)
     (sizes : Sizes) (k : Machine) (contents : List ℕ) (some : StandsForSome sizes k contents)
     (front : FrontState) (committer : CommitterState D) (o : Opens contents front committer)
     (is : IsFront front) where

@@ -15,7 +15,7 @@ use Rattle.cm_commit.specs.States.{CommitterState, Takes, with_taken}
 use Rattle.cm_commit.specs.declared.progress.Progress.{Progress}
 use Rattle.cm_commit.specs.declared.progress.AdvanceFault.{AdvanceFault}
 use Rattle.cm_commit.specs.Advances.{Rests, Works, Finishes, Breaks, StaysBroken, Advances}
-use Rattle.cm_commit.proofs.Committing.{one_call_less}
+use Rattle.cm_commit.proofs.{one_call_less}
 use Rattle.cm_front.specs.Front.{FrontState}
 use Rattle.cm_machine.specs.Ahead.{IsAhead, pending}
 use Rattle.cm_machine.specs.Handover.{CommittedIsAhead, HandedMayBeNext, MayBeNext}

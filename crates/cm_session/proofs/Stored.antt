@@ -17,7 +17,7 @@ use Rattle.cm_commit.specs.declared.progress.AdvanceFault.TheVariants.{Device, B
 use Rattle.cm_commit.specs.Plans.{Stage, calls_left}
 use Rattle.cm_commit.specs.States.{CommitterState}
 use Rattle.cm_commit.specs.Advances.{Advances, HasRisen}
-use Rattle.cm_commit.proofs.Committing.{one_call_less}
+use Rattle.cm_commit.proofs.{one_call_less}
 use Rattle.cm_prepare.specs.declared.refusal.Refusal.{Refusal}
 use Rattle.cm_machine.specs.Machine.{Machine, Asks, Seals, accepted_to}
 use Rattle.cm_session.specs.declared.session.Sealed.{Sealed}

@@ -12,23 +12,14 @@ use Rattle.cm_pool.specs.FreeSpace.{FreeSpace, IsFreeChunk, IsUsedChunk, without
 use Rattle.cm_pool.specs.Held.{AreHeld, NoneIsLost}
 use Rattle.cm_pool.specs.Lists.{Among}
 use Rattle.cm_pool.specs.Places.{IsInside}
+use Rattle.cm_pool.proofs.{each-among, among-left}
+use Rattle.cm_pool.proofs.{same_chunk-true}
 use Rattle.cm_pool.proofs.SpaceLaws.{taken_is_held, taking_loses_none}
 use Rattle.cm_arena.specs.Chains.{Filled, chunks_of}
 use Rattle.cm_arena.specs.Placing.{next_offset, with_place, IsNext}
 use Rattle.cm_space.specs.Adopting.{reaching, pool_after, IsAdoptable, IsOnTheWay}
-use Rattle.cm_space.proofs.Lists.{each-among, among-left}
 use Rattle.cm_space.proofs.Rooted.{rooted-held, rooted-kept, reaching-free, reaching-present}
 use Rattle.cm_space.proofs.Spaces.{KeepsOthers}
-
-same_chunk-eq : (a b : Chunk) → same_chunk a b ≡ true → a ≡ b
-same_chunk-eq a b h =
-    let one = and_parts (eqb a.root b.root) _ h in
-    let two = and_parts (eqb a.order b.order) _ one.1 in
-    λ i. record {
-      root = eqb-true a.root b.root one.0 i;
-      order = eqb-true a.order b.order two.0 i;
-      at = eqb-true a.at b.at two.1 i;
-    }
 
 -- no chunk is free and used
 free-not_used : (p : FreeSpace) (c : Chunk) → IsFreeChunk p c → ¬ IsUsedChunk p c
@@ -54,7 +45,7 @@ not_among-new [] place h = record { offset = refl; chunks = refl }
 not_among-new (f ∷ []) place h = by_test (same_chunk f.chunk place.chunk) refl
   where
     by_test : (t : Bool) → same_chunk f.chunk place.chunk ≡ t → IsNew (f ∷ []) place
-    by_test true e = absurd (h (inl (sym (same_chunk-eq f.chunk place.chunk e))))
+    by_test true e = absurd (h (inl (sym (same_chunk-true f.chunk place.chunk e))))
     by_test false e = record { offset = rw (e) refl; chunks = rw (e) refl }
 not_among-new (f ∷ g ∷ rest) place h =
     let more = not_among-new (g ∷ rest) place (λ m. h (inr m)) in

@@ -5,6 +5,7 @@ use Rattle.cm_pool.specs.declared.chunk.Chunk.{Chunk}
 use Rattle.cm_pool.specs.Chunks.{Meets}
 use Rattle.cm_pool.specs.FreeSpace.{FreeSpace, IsUsedChunk}
 use Rattle.cm_pool.specs.Held.{AreHeld, NoneIsLost}
+use Rattle.cm_pool.proofs.{meets-turned}
 use Rattle.cm_space.proofs.Lists.{each-trade, pairs-trade, among-trade}
 
 -- whatever stands before: where the ones are held and none is lost, so with the others
@@ -13,9 +14,6 @@ pub record IsAlike (xs ys : List Chunk) : Type 0 where
       → AreHeld p (front ++ ys)
   pub kept : (p : FreeSpace) (front : List Chunk) → NoneIsLost p (front ++ xs)
       → NoneIsLost p (front ++ ys)
-
-pub meets-turned : (a b : Chunk) → Meets a b → Meets b a
-meets-turned a b m = (m.0, m.1, m.3, m.2)
 
 pub alike-same : (xs ys : List Chunk) → xs ≡ ys → IsAlike xs ys
 alike-same xs ys e = record {

@@ -12,9 +12,8 @@ use Rattle.cm_pool.specs.Chunks.{Meets}
 use Rattle.cm_pool.specs.FreeSpace.{FreeSpace, IsUsedChunk, with_chunk}
 use Rattle.cm_pool.specs.Held.{AreHeld, NoneIsLost}
 use Rattle.cm_pool.specs.Lists.{Pairwise}
+use Rattle.cm_pool.proofs.{none_lost-given, each-front, pairs-front}
 use Rattle.cm_pool.proofs.SpaceLaws.{held_is_given}
-use Rattle.cm_pool.proofs.NoneLost.{none_lost-given}
-use Rattle.cm_space.proofs.Lists.{each-front, pairs-front}
 use Rattle.cm_space.specs.Space.{Waits, with_chunks, waiting_chunks, due, not_due, IsLater}
 
 pub with_chunks-append : (p : FreeSpace) (cs ds : List Chunk)

@@ -8,8 +8,8 @@ use Rattle.cm_pool.specs.Chunks.{Covers}
 use Rattle.cm_pool.specs.FreeSpace.{FreeSpace, IsFreeWord, with_chunk}
 use Rattle.cm_pool.specs.Held.{AreHeld, IsHeldWord}
 use Rattle.cm_pool.specs.Lists.{Among}
+use Rattle.cm_pool.proofs.{free-with_chunk}
 use Rattle.cm_pool.proofs.SpaceLaws.{held_is_given}
-use Rattle.cm_pool.proofs.FreeWords.{free-with_chunk}
 use Rattle.cm_space.specs.Space.{Waits, with_chunks, waiting_chunks, due, not_due}
 use Rattle.cm_space.specs.Laws.{LearningFreesDue}
 use Rattle.cm_space.proofs.Giving.{due-parts, chunks-append, is_due-true}

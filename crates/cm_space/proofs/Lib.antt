@@ -1,10 +1,10 @@
-pub mod Lists
-pub mod Alike
-pub mod Giving
-pub mod Arenas
-pub mod Spaces
-pub mod Rooted
-pub mod Owners
-pub mod Adopted
-pub mod Views
-pub mod Learning
+mod Lists
+mod Alike
+mod Giving
+mod Arenas
+mod Spaces
+mod Rooted
+mod Owners
+mod Adopted
+mod Views
+mod Learning

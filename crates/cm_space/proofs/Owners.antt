@@ -11,14 +11,14 @@ use Rattle.cm_pool.specs.declared.chunk.Chunk.{Chunk}
 use Rattle.cm_pool.specs.Chunks.{Meets}
 use Rattle.cm_pool.specs.FreeSpace.{IsUsedChunk}
 use Rattle.cm_pool.specs.Lists.{Pairwise, Among}
+use Rattle.cm_pool.proofs.{meets-turned, each-among, pairs-back, pairs-front, pairs-among}
+use Rattle.cm_pool.proofs.{among-left, among-right, among-append}
 use Rattle.cm_arena.specs.Chains.{Filled, chunks_of}
 use Rattle.cm_space.specs.Space.{SpaceState, Waits, waiting_chunks}
 use Rattle.cm_space.specs.Ownership.{Owns, WaitsFor, owned_chunks, held_chunks}
 use Rattle.cm_space.specs.Laws.{OneOwner, OneNumber, OwnedOrWaiting, OwnedIsUsed, WaitingIsUsed}
 use Rattle.cm_space.specs.Laws.{EachWord}
-use Rattle.cm_space.proofs.Lists.{each-among, pairs-front, pairs-back, pairs-across, pairs-among}
-use Rattle.cm_space.proofs.Lists.{among-left, among-right, among-append}
-use Rattle.cm_space.proofs.Alike.{meets-turned}
+use Rattle.cm_space.proofs.Lists.{pairs-across}
 use Rattle.cm_space.proofs.Arenas.{Entries, others, first, second, less, same_key, of_others}
 use Rattle.cm_space.proofs.Spaces.{taken-apart}
 

@@ -8,8 +8,8 @@ use Rattle.cm_pool.specs.Geometry.{Sizes}
 use Rattle.cm_pool.specs.Chunks.{chunk_size, IsChunk}
 use Rattle.cm_pool.specs.FreeSpace.{FreeSpace, IsFreeWord, IsFreeChunk, with_root}
 use Rattle.cm_pool.specs.Held.{AreHeld, NoneIsLost}
+use Rattle.cm_pool.proofs.{free-with_root}
 use Rattle.cm_pool.proofs.SpaceLaws.{roots_keep_held, roots_lose_none}
-use Rattle.cm_pool.proofs.FreeWords.{free-with_root}
 use Rattle.cm_space.specs.Adopting.{with_roots, reaching, IsOnTheWay}
 use Rattle.cm_space.specs.Laws.{RootsReach}
 

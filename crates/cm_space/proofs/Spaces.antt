@@ -10,11 +10,12 @@ use Rattle.cm_pool.specs.Chunks.{Meets}
 use Rattle.cm_pool.specs.Geometry.{Sizes}
 use Rattle.cm_pool.specs.FreeSpace.{FreeSpace, IsUsedChunk}
 use Rattle.cm_pool.specs.Held.{AreHeld, NoneIsLost}
+use Rattle.cm_pool.proofs.{each-back, pairs-back}
 use Rattle.cm_arena.specs.Chains.{Filled, chunks_of}
 use Rattle.cm_space.specs.Space.{SpaceState, Waits, with_arena, without_arena, waiting_chunks}
 use Rattle.cm_space.specs.Space.{learnt, empty_space, due, not_due}
 use Rattle.cm_space.specs.Ownership.{IsSpace, held_chunks, owned_chunks}
-use Rattle.cm_space.proofs.Lists.{pairs-push, pairs-back, each-back}
+use Rattle.cm_space.proofs.Lists.{pairs-push}
 use Rattle.cm_space.proofs.Alike.{alike-same, alike-then, alike-trade, alike-behind}
 use Rattle.cm_space.proofs.Arenas.{owned, of_others, insert-back, had-out, none-others}
 use Rattle.cm_space.proofs.Arenas.{remove-others}

@@ -1,1 +1,1 @@
-pub mod Splits
+mod Splits

@@ -10,7 +10,7 @@ use Rattle.std.specs.Ordering.{nat_cmp}
 use Rattle.std.specs.Str.{bytes_eq}
 use Rattle.std.specs.Cmp.Lexicographic.{slice_cmp}
 use Rattle.std.specs.FinMap.{get, get-empty}
-use Rattle.std.proofs.lemmas.Bool.{eqb-true, eq-eqb, leb-true}
+use Rattle.std.proofs.lemmas.Bool.{eqb-true, eq-eqb, leb-true, and_parts, or_cases}
 use Rattle.std.proofs.lemmas.List.{map-append}
 use Rattle.std.proofs.lemmas.List.Sums.{sum_by-cons}
 use Rattle.std.proofs.lemmas.List.Elements.{filter-append}
@@ -20,6 +20,7 @@ use Rattle.cm_pool.specs.Geometry.{Sizes}
 use Rattle.cm_pool.specs.declared.chunk.Chunk.{Chunk}
 use Rattle.cm_pool.specs.Chunks.{same_chunk, Meets}
 use Rattle.cm_pool.specs.Lists.{Among, Pairwise}
+use Rattle.cm_pool.proofs.{meets-turned, same_chunk-itself, among-push}
 use Rattle.cm_layout.specs.declared.class_row.ClassRow.{ClassRow}
 use Rattle.cm_layout.specs.declared.row.Row.{Row}
 use Rattle.cm_layout.specs.declared.row.Row.TheVariants.{Loader, Class}
@@ -29,14 +30,12 @@ use Rattle.cm_layout.specs.Loaders.{LoadersDiffer, HasOwnLoaders}
 use Rattle.cm_layout.specs.Frames.{BareRow, OpenHalf, IsGoodHalf, AreApart, LiveRowsKeep, Counts}
 use Rattle.cm_layout.specs.Frames.{rows_of, number_at_end}
 use Rattle.cm_layout.specs.Laws.{RowsStayLive, LoadersAreOwn}
-use Rattle.cm_layout.proofs.Apart.{both, either, append-among, classes_in-append}
-use Rattle.cm_layout.proofs.Apart.{is_last_chunk-among, is_unused-apart, meets-turned}
-use Rattle.cm_layout.proofs.StayLive.{class_keeps}
+use Rattle.cm_layout.proofs.{class_keeps, bare-with, name-bare, classes-bare, differ-bare}
+use Rattle.cm_layout.proofs.{classes_in-append, is_unused-apart, is_last_chunk-among}
 use Rattle.cm_state.specs.State.{CacheState}
 use Rattle.cm_state.specs.Stands.{Arenas, Stands, arenas_among, chunks_of}
 use Rattle.cm_state.specs.Laws.{ArenasAreApart, EachRecordIsInItsArena, IsInItsArena}
 use Rattle.cm_state.proofs.Maps.{got-insert}
-use Rattle.cm_state.proofs.Bare.{bare-with, classes-bare, name-bare, differ-bare}
 use Rattle.cm_state.proofs.Differ.{name_found, number_found, some_name}
 
 -- ---- lists
@@ -114,10 +113,6 @@ chunk_is_of u (r ∷ classes) c m =
 
 -- ---- the words of a record are among those of its chunk
 
-same_itself : (c : Chunk) → same_chunk c c ≡ true
-same_itself c =
-    rw (eq-eqb c.root c.root refl) (rw (eq-eqb c.order c.order refl) (eq-eqb c.at c.at refl))
-
 first_in : (a b : ℕ) (ns : List ℕ) → a ≡ b → a ≤ sum (b ∷ ns)
 first_in a b ns e =
     let cons : sum (b ∷ ns) ≡ b + sum ns = sum_by-cons (λ (n : ℕ). n) b ns in
@@ -177,16 +172,17 @@ held_now pre r told h =
     let front = eqb r.place.offset 0 in
     let unused = is_unused r.place.chunk pre in
     subst (λ cs. Among r.place.chunk cs) (sym (chunks_more r.loader (classes_in pre) r))
-    (elim (either (on_last && behind) (front && unused) h) [
+    (elim (or_cases (on_last && behind) (front && unused) h) [
       | inl last ↦
-          let t = is_last_chunk-among r.loader r.place.chunk pre (both on_last behind last).0 in
+          let t = is_last_chunk-among r.loader r.place.chunk pre (and_parts on_last behind last).0
+          in
           among_front r.place.chunk (chunks_of r.loader (classes_in pre))
           (chunks_of r.loader (r ∷ []))
           (subst (λ (c : Chunk). Among c (chunks_of r.loader (classes_in pre))) t.3
           (subst (λ (u : ℕ). Among t.0.place.chunk (chunks_of u (classes_in pre))) t.2
           (told.held t.0 t.1)))
       | inr new ↦ by_tests (eqb r.loader r.loader) (eq-eqb r.loader r.loader refl)
-          (eqb r.place.offset 0) (both front unused new).0
+          (eqb r.place.offset 0) (and_parts front unused new).0
     ])
   where
     by_tests : (s : Bool) → s ≡ true → (t : Bool) → t ≡ true
@@ -206,18 +202,18 @@ first_apart pre r told h first s m shared =
     let behind = eqb r.place.offset (used_words r.place.chunk pre) in
     let front = eqb r.place.offset 0 in
     let unused = is_unused r.place.chunk pre in
-    elim (either (on_last && behind) (front && unused) h) [
+    elim (or_cases (on_last && behind) (front && unused) h) [
       | inl last ↦
-          let parts = both on_last behind last in
+          let parts = and_parts on_last behind last in
           let t = is_last_chunk-among r.loader r.place.chunk pre parts.0 in
           let some = told.words t.0 t.1 in
           let used = used_some r.place.chunk (classes_in pre) t.0 t.1
-          (ap (λ (c : Chunk). same_chunk c r.place.chunk) t.3 ∙ same_itself r.place.chunk) in
+          (ap (λ (c : Chunk). same_chunk c r.place.chunk) t.3 ∙ same_chunk-itself r.place.chunk) in
           let at_0 = eqb-true r.place.offset 0 first in
           let at_used = eqb-true r.place.offset (used_words r.place.chunk pre) parts.1 in
           absurd (omega (arith, some, used, at_0, at_used))
       | inr new ↦ absurd (is_unused-apart r.place.chunk (classes_in pre) s
-          (both front unused new).1 m
+          (and_parts front unused new).1 m
           (meets-turned s.place.chunk r.place.chunk shared))
     ]
 
@@ -251,11 +247,11 @@ apart_now pre r told h u =
 more_told : (pre : List BareRow) (r : ClassRow) → AreTold (classes_in pre) → has_place pre r ≡ true
     → 1 ≤ r.place.words → AreTold (classes_in pre ++ r ∷ [])
 more_told pre r told h some = record {
-  words = λ s m. elim (append-among (classes_in pre) r s m) [
+  words = λ s m. elim (among-push s r (classes_in pre) m) [
     | inl before ↦ told.words s before
     | inr e ↦ subst (λ (d : ClassRow). 1 ≤ d.place.words) (sym e) some
   ];
-  held = λ s m. elim (append-among (classes_in pre) r s m) [
+  held = λ s m. elim (among-push s r (classes_in pre) m) [
     | inl before ↦
         subst (λ (cs : List Chunk). Among s.place.chunk cs)
         (sym (chunks_more s.loader (classes_in pre) r))

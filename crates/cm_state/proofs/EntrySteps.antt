@@ -9,7 +9,7 @@ use Rattle.std.specs.Option.{option_map, option_map_or, option_and_then}
 use Rattle.std.specs.Ordering.{nat_cmp}
 use Rattle.std.specs.Cmp.Lexicographic.{slice_cmp}
 use Rattle.std.specs.FinMap.{get, insert, remove, empty, entries, len-entries, len-empty}
-use Rattle.std.proofs.lemmas.Bool.{eqb-true, leb-true, ltb-true}
+use Rattle.std.proofs.lemmas.Bool.{eqb-true, leb-true, ltb-true, and_parts}
 use Rattle.cm_pool.specs.Geometry.{Sizes}
 use Rattle.cm_pool.specs.declared.chunk.Chunk.{Chunk}
 use Rattle.cm_pool.specs.Chunks.{chunk_size, same_chunk}
@@ -30,8 +30,10 @@ use Rattle.cm_layout.specs.Rules.{row_limit, has_room, is_live, is_new_loader, i
 use Rattle.cm_layout.specs.Rules.{class_fits, broken_of, broken_live_rule, move_fits}
 use Rattle.cm_layout.specs.Rules.{is_last_chunk, is_unused}
 use Rattle.cm_layout.specs.Loaders.{HasOwnLoaders}
-use Rattle.cm_layout.specs.Frames.{AreApart, LiveRowsKeep}
+use Rattle.cm_layout.specs.Frames.{AreApart, LiveRowsKeep, bare_row, bare_entry}
 use Rattle.cm_layout.specs.Laws.{EntriesStayLive, RowsGrow, LoadersAreOwn}
+use Rattle.cm_layout.proofs.{number-bare, name-bare, numbers-bare, classes-bare, slots-bare}
+use Rattle.cm_layout.proofs.{differ-bare, more-bare, after-bare, rule-bare}
 use Rattle.cm_state.specs.State.{ByName, Loaders, Shows, NamesDiffer, class_among, class_in}
 use Rattle.cm_state.specs.State.{size, total, classes_of, state_of}
 use Rattle.cm_state.specs.Step.{AddLoader, Define, Unload, Tighten, step, is_full, last_number}
@@ -42,17 +44,10 @@ use Rattle.cm_state.proofs.RowStates.{loader_found, class_found, is_loader_found
 use Rattle.cm_state.proofs.RowStates.{state_with_loader, state_with_class, state_without}
 use Rattle.cm_state.proofs.RowStates.{state_moved}
 use Rattle.cm_state.proofs.Sizes.{size_more_loader, size_more_class}
-use Rattle.cm_state.proofs.Bare.{bare_row, bare_entry, number-bare, name-bare, numbers-bare}
-use Rattle.cm_state.proofs.Bare.{classes-bare, slots-bare, differ-bare, more-bare, after-bare}
-use Rattle.cm_state.proofs.Bare.{rule-bare}
 use Rattle.cm_state.proofs.Differ.{number_found, only_name, some_name, number_among}
 use Rattle.cm_state.proofs.Differ.{loader_differs, class_differs, differ_without, differ_moved}
 
 -- ---- tests
-
-both : (a b : Bool) → (a && b) ≡ true → (a ≡ true) × (b ≡ true)
-both true b h = (refl, h)
-both false b h = absurd (cc)
 
 kept : (t : Bool) → cond t None (Some OnRows) ≡ None → t ≡ true
 kept true h = refl
@@ -128,8 +123,8 @@ loader_may {A} sizes rows r h =
     let name = is_loader_name r.name in
     let new = is_none (number_of r.name rows) in
     let room = has_room sizes rows (Loader r) in
-    let parts = both (name && new) room h in
-    let front = both name new parts.0 in
+    let parts = and_parts (name && new) room h in
+    let front = and_parts name new parts.0 in
     record {
       name = front.0;
       new = none_is (number_of r.name rows) front.1;
@@ -152,15 +147,15 @@ class_may {A} sizes rows r c h =
     let words = nat_le 1 r.place.words in
     let within = nat_le (r.place.offset + r.place.words) (chunk_size r.place.chunk.order) in
     let all = rows_kept (live && room) (class_fits sizes rows r) h in
-    let on_rows = both live room all.0 in
-    let fits = both (chunk && words && within) (has_place rows r) all.1 in
-    let front = both (chunk && words) within fits.0 in
+    let on_rows = and_parts live room all.0 in
+    let fits = and_parts (chunk && words && within) (has_place rows r) all.1 in
+    let front = and_parts (chunk && words) within fits.0 in
     let small = nat_le r.place.chunk.order sizes.top in
     let root = nat_lt r.place.chunk.root sizes.roots in
     let aligned = eqb (r.place.chunk.at % chunk_size r.place.chunk.order) 0 in
     let inside =
     nat_le (r.place.chunk.at + chunk_size r.place.chunk.order) (chunk_size sizes.top) in
-    let last = both (small && root && aligned) inside (both chunk words front.0).0 in
+    let last = and_parts (small && root && aligned) inside (and_parts chunk words front.0).0 in
     record {
       live = on_rows.0;
       room = leb-true (slots_of_rows rows + 1) (row_limit sizes) on_rows.1;
@@ -250,10 +245,10 @@ all_below : (m : ℕ) (numbers : List ℕ) → list_all (λ v. nat_lt v m) numbe
     → Among u numbers → u < m
 all_below m [] h u none = absurd none
 all_below m (v ∷ numbers) h u (inl e) =
-    let parts = both (nat_lt v m) (list_all (λ w. nat_lt w m) numbers) h in
+    let parts = and_parts (nat_lt v m) (list_all (λ w. nat_lt w m) numbers) h in
     omega (arith, ltb-true v m parts.0, e)
 all_below m (v ∷ numbers) h u (inr more) =
-    let parts = both (nat_lt v m) (list_all (λ w. nat_lt w m) numbers) h in
+    let parts = and_parts (nat_lt v m) (list_all (λ w. nat_lt w m) numbers) h in
     all_below m numbers parts.1 u more
 
 live_loader : {A : Type 0} (sizes : Sizes) (n : ℕ) (rows : List (Row A)) (r : LoaderRow)
@@ -263,10 +258,10 @@ live_loader {A} sizes n rows r h =
     let from = nat_le 1 r.number in
     let to = nat_le r.number n in
     let above = list_all (λ u. nat_lt u r.number) (numbers_in rows) in
-    let parts = both (from && to && above) (is_new_loader sizes rows r)
+    let parts = and_parts (from && to && above) (is_new_loader sizes rows r)
     (kept (from && to && above && is_new_loader sizes rows r) h) in
     record {
-      above = all_below r.number (numbers_in rows) (both (from && to) above parts.0).1;
+      above = all_below r.number (numbers_in rows) (and_parts (from && to) above parts.0).1;
       is_new = parts.1;
     }
 
@@ -383,8 +378,8 @@ mover_lives {A} sizes n rows own e h =
     let lawful = is_chunk sizes e.to in
     let unused = is_unused e.to rows in
     let room = nat_le (used_words e.from rows) (chunk_size e.to.order) in
-    let all = both (last && lawful && unused) room (all_kept (move_fits sizes rows e) h) in
-    let front = both last lawful (both (last && lawful) unused all.0).0 in
+    let all = and_parts (last && lawful && unused) room (all_kept (move_fits sizes rows e) h) in
+    let front = and_parts last lawful (and_parts (last && lawful) unused all.0).0 in
     let one = some_last e.loader (classes_in rows) e.from front.0 in
     subst (λ (u : ℕ). is_live u rows ≡ true) one.2 (own.owned one.0 one.1)
 
@@ -407,11 +402,11 @@ next_rows {A} stay shows sizes n rows e are may differ =
       differ = differ;
     }
 
-pub entries_are_steps : {A : Type 0} → EntriesStayLive → RowsGrow → LoadersAreOwn
+pub entries_step : {A : Type 0} → EntriesStayLive → RowsGrow → LoadersAreOwn
     → EntriesAreSteps A
-entries_are_steps {A} stay grow own shows sizes n rows (entry.Live (Loader r)) are may small =
+entries_step {A} stay grow own shows sizes n rows (entry.Live (Loader r)) are may small =
     let mine = own-bare n rows (own sizes n (bare rows) are.live) in
-    let parts = both (eqb r.number (n + 1)) (is_new_loader sizes rows r)
+    let parts = and_parts (eqb r.number (n + 1)) (is_new_loader sizes rows r)
     (kept (eqb r.number (n + 1) && is_new_loader sizes rows r) may.keeps) in
     let number = eqb-true r.number (n + 1) parts.0 in
     let this = loader_may sizes rows r parts.1 in
@@ -427,7 +422,7 @@ entries_are_steps {A} stay grow own shows sizes n rows (entry.Live (Loader r)) a
       rows_are = next_rows stay shows sizes n rows (entry.Live (Loader r)) are may
           (loader_differs shows [] rows r are.differ);
     }
-entries_are_steps {A} stay grow own shows sizes n rows (entry.Live (Class r c)) are may small =
+entries_step {A} stay grow own shows sizes n rows (entry.Live (Class r c)) are may small =
     let mine = own-bare n rows (own sizes n (bare rows) are.live) in
     let this = class_may sizes rows r c may.keeps in
     let named = some_name r.loader rows this.live in
@@ -447,7 +442,7 @@ entries_are_steps {A} stay grow own shows sizes n rows (entry.Live (Class r c)) 
       rows_are = next_rows stay shows sizes n rows (entry.Live (Class r c)) are may
           (class_differs shows [] rows r c are.differ may.new.0);
     }
-entries_are_steps {A} stay grow own shows sizes n rows (entry.Unload e) are may small =
+entries_step {A} stay grow own shows sizes n rows (entry.Unload e) are may small =
     let mine = own-bare n rows (own sizes n (bare rows) are.live) in
     let named = some_name e.loader rows (kept (is_live e.loader rows) may.keeps) in
     let x = named.0 in
@@ -462,7 +457,7 @@ entries_are_steps {A} stay grow own shows sizes n rows (entry.Unload e) are may 
       rows_are = next_rows stay shows sizes n rows (entry.Unload e) are may
           (differ_without shows e.loader [] rows are.differ);
     }
-entries_are_steps {A} stay grow own shows sizes n rows (entry.Move e) are may small =
+entries_step {A} stay grow own shows sizes n rows (entry.Move e) are may small =
     let mine = own-bare n rows (own sizes n (bare rows) are.live) in
     let named = some_name e.loader rows (mover_lives sizes n rows mine e may.keeps) in
     let x = named.0 in

@@ -18,6 +18,7 @@ use Rattle.cm_layout.specs.declared.row.Row.{Row}
 use Rattle.cm_layout.specs.declared.row.Row.TheVariants.{Loader, Class}
 use Rattle.cm_layout.specs.Rows.{number_of, classes_in, without_loader, moved}
 use Rattle.cm_layout.specs.Loaders.{LoadersDiffer}
+use Rattle.cm_layout.proofs.{number-moved}
 use Rattle.cm_state.specs.State.{ByName, Shows, class_in, classes_of, class_among}
 use Rattle.cm_state.specs.State.{loaders_among, state_of}
 use Rattle.cm_state.specs.Step.{with_loader, with_class}
@@ -460,21 +461,6 @@ state_without {A} shows rows u x there only differ =
 
 -- ---- records on another chunk
 
-number_moved : {A : Type 0} (x : List ℕ) (from to : Chunk) (rows : List (Row A))
-    → number_of x (moved from to rows) ≡ number_of x rows
-number_moved x from to [] = refl
-number_moved x from to (Loader r ∷ rows) =
-    ap (cond (bytes_eq r.name x) (Some r.number)) (number_moved x from to rows)
-number_moved {A} x from to (Class r c ∷ rows) =
-    by_test (same_chunk r.place.chunk from) (number_moved x from to rows)
-  where
-    by_test : (t : Bool) → number_of x (moved from to rows) ≡ number_of x rows
-        → number_of x (cond t (Class (record r { place = record r.place { chunk = to } }) c)
-        (Class r c)
-        ∷ moved from to rows) ≡ number_of x rows
-    by_test true rest = rest
-    by_test false rest = rest
-
 pub class_moved : {A : Type 0} (shows : Shows A) (u : ℕ) (name : List ℕ) (from to : Chunk)
     (rows : List (Row A))
     → class_among shows u name (moved from to rows) ≡ class_among shows u name rows
@@ -495,7 +481,7 @@ class_moved {A} shows u name from to (Class r c ∷ rows) =
 pub state_moved : {A : Type 0} (shows : Shows A) (from to : Chunk) (rows : List (Row A))
     → state_of shows (moved from to rows) ≡ state_of shows rows
 state_moved shows from to rows =
-    same_state shows (moved from to rows) rows (λ x. number_moved x from to rows) (λ u.
+    same_state shows (moved from to rows) rows (λ x. number-moved x from to rows) (λ u.
     same (classes_of shows u (moved from to rows)) (classes_of shows u rows) (λ name.
     class_found shows u (moved from to rows) name
     ∙ (class_moved shows u name from to rows ∙ sym (class_found shows u rows name))))

@@ -1,2 +1,2 @@
-pub mod Numbers
-pub mod Streams
+mod Numbers
+mod Streams

@@ -45,7 +45,7 @@ IsFault bytes (InLength at) = EndsEarly bytes at EndsInLength
 IsFault bytes (InClass at) = EndsEarly bytes at EndsInClass
 IsFault bytes NoMemory = Unit {0}
 
--- the answer for a stream of these classes, unless an allocation refused
+-- the answer for a stream of these classes, unless an allocation fails
 abbrev pub Answers : {X : Type 0} → (X → List (List ℕ)) → List (List ℕ) → Result X StreamFault
     → Type 0
 Answers view classes (Ok found) = view found ≡ classes

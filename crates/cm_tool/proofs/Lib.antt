@@ -1,4 +1,4 @@
-pub mod Commands
-pub mod Moments
-pub mod Running
-pub mod Rows
+mod Commands
+mod Moments
+mod Running
+mod WorkedExamples

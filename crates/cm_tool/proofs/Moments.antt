@@ -7,7 +7,7 @@ use Rattle.cm_pool.specs.Geometry.{Sizes}
 use Rattle.cm_disk.specs.Disk.{Unsynced, IsImage}
 use Rattle.cm_guards.specs.Guards.{EachImage}
 use Rattle.cm_guards.specs.Calls.{LeavesOnly}
-use Rattle.cm_guards.proofs.Left.{leaves_none, leaves_more}
+use Rattle.cm_guards.proofs.{leaves_none, leaves_more}
 use Rattle.cm_state.specs.Step.{Change}
 use Rattle.cm_commit.specs.States.{CommitterState}
 use Rattle.cm_machine.specs.Machine.{Machine}

@@ -19,20 +19,20 @@ use Rattle.cm_layout.specs.Frames.{AreApart, groups_slots, rows_of, number_at_en
 use Rattle.cm_layout.specs.Framing.{Framing, IsRight, Matches, used_bytes, used_size}
 use Rattle.cm_layout.specs.Framing.{open_half, other_half, needs}
 use Rattle.cm_layout.specs.Laws.{RowsAreApart, RowsStayLive, FramesAreMatched, MatchesFrame}
-use Rattle.cm_state.proofs.Bare.{classes-bare}
+use Rattle.cm_layout.proofs.{classes-bare}
 use Rattle.cm_verdict.specs.declared.counting.Counting.{Counting}
 use Rattle.cm_verdict.specs.declared.fault.FileFault.{FileFault}
 use Rattle.cm_verdict.specs.Faults.{◌>>=◌}
 use Rattle.cm_verdict.specs.Walk.{Walked, slot_of, start, first_slot}
 use Rattle.cm_verdict.specs.Found.{counting, counting_half, Found, half_in, head_in}
-use Rattle.cm_verdict.specs.Found.{found_walked, walk_through, sizes_found, found_in}
+use Rattle.cm_verdict.specs.Found.{found_walked, walk_through, sizes_found, found_in, Begins}
 use Rattle.cm_verdict.specs.Laws.{rows_words, AreWhole, IsLive, FoundIsLive, IsFramed}
 use Rattle.cm_verdict.specs.Laws.{FoundIsFramed, IsFound, FramedIsFound}
 use Rattle.cm_verdict.proofs.Walks.{end_from, from_slot, next_from, slots_one, HasGroups, HasLive}
 use Rattle.cm_verdict.proofs.Walks.{live_walked}
 use Rattle.cm_verdict.proofs.WalksBack.{Reaches, live_found}
 use Rattle.cm_verdict.proofs.Heads.{IsCounting, counted, counting_back}
-use Rattle.cm_verdict.proofs.Parts.{Begins, begun_with, begins_so, half_within, part_long}
+use Rattle.cm_verdict.proofs.Parts.{begun_with, begins_so, half_within, part_long}
 use Rattle.cm_verdict.proofs.Parts.{first_shut, has_older, older_head, used_split, bare_words}
 use Rattle.cm_verdict.proofs.Parts.{each_held, needs_long, SameWords, same_words}
 

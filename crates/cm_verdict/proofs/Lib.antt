@@ -1,11 +1,20 @@
-pub mod Decoded
-pub mod Turns
-pub mod Placed
-pub mod Walks
-pub mod WalksBack
-pub mod Heads
-pub mod Parts
-pub mod Contents
-pub mod Records
-pub mod Above
-pub mod Goings
+-- What crates above may cite of these proofs is what `pub use` passes on; all else is private.
+mod Decoded
+mod Turns
+mod Placed
+mod Walks
+mod WalksBack
+mod Heads
+mod Parts
+mod Contents
+mod Records
+mod Goings
+-- Where a class was defined has no part in the rules, nor in what an entry makes of rows.
+pub use Placed.{live_rule_bare}
+-- Where the walk comes to an end, the half is what a half is made of.
+pub use Walks.{slots_many}
+-- The parts of a file: its superblock, its halves, and the records of rows.
+pub use Parts.{begun_with, half_within, part_long, bare_words}
+-- The second pass: each class that lives has a record of a class that keeps the rules, under a name
+-- that is new in its loader.
+pub use Records.{is_kept}

@@ -13,6 +13,7 @@ use Rattle.std.proofs.lemmas.List.{get_or-append_right, get_or-drop, get_or-take
 use Rattle.std.proofs.lemmas.List.{length-replicate}
 use Rattle.std.proofs.lemmas.Slice.Eq.{bytes_eq-Decides}
 use Rattle.cm_record_layout.specs.Packing.{packed_into}
+use Rattle.cm_record_layout.proofs.{length-packed_into}
 use Rattle.cm_pool.specs.Geometry.{Sizes, IsGeometry}
 use Rattle.cm_layout.specs.declared.half.Half.{Half}
 use Rattle.cm_layout.specs.declared.half.Half.TheVariants.{Zero, One}
@@ -23,17 +24,19 @@ use Rattle.cm_layout.specs.declared.row.Row.TheVariants.{Loader, Class}
 use Rattle.cm_layout.specs.Offsets.{slot_size, half_size, half_at, roots_at}
 use Rattle.cm_layout.specs.Offsets.{record_at, record_in_roots}
 use Rattle.cm_layout.specs.Slots.{open_gate, half_head_slot, row_slot}
-use Rattle.cm_layout.specs.Superblock.{superblock_bytes, superblock_front, blank, superblock_zeros}
+use Rattle.cm_layout.specs.Superblock.{superblock_bytes, superblock_front, superblock_zeros}
 use Rattle.cm_layout.specs.Superblock.{magic}
 use Rattle.cm_layout.specs.Rows.{bare}
 use Rattle.cm_layout.specs.Frames.{HoldsRow, HoldsRecord, IsEnd, groups_slots}
 use Rattle.cm_layout.specs.Framing.{Framing, HasOlder, part, needs, used_bytes}
+use Rattle.cm_layout.proofs.{length-blank, record_part}
+use Rattle.cm_layout.specs.Zeros.{blank}
 use Rattle.cm_verdict.specs.declared.defined_at.DefinedAt.{DefinedAt}
 use Rattle.cm_verdict.specs.declared.fault.Damage.TheVariants as damage
 use Rattle.cm_verdict.specs.declared.fault.FileFault.{FileFault}
 use Rattle.cm_verdict.specs.declared.fault.FileFault.TheVariants.{NotACache, Damaged}
 use Rattle.cm_verdict.specs.Decoding.{sizes_in}
-use Rattle.cm_verdict.specs.Found.{is_cache, sizes_spelled, sizes_found}
+use Rattle.cm_verdict.specs.Found.{is_cache, sizes_spelled, sizes_found, Begins}
 use Rattle.cm_verdict.specs.Laws.{rows_words, AreWhole}
 use Rattle.cm_verdict.specs.Verdict.{words_at}
 use Rattle.cm_verdict.proofs.Decoded.{sizes_spelled as block_spelled, sizes_again}
@@ -41,21 +44,11 @@ use Rattle.cm_verdict.proofs.Heads.{IsHeadOf}
 
 -- ---- the superblock
 
-length-blank : (n : ℕ) → length (blank n) ≡ n
-unfolding blank
-length-blank n = length-replicate n 0
-
 gate_at : (front zeros : List ℕ) → length front ≡ 24 → length zeros ≡ 4071
     → get_or (front ++ (zeros ++ 165 ∷ [])) 4095 0 ≡ 165
 gate_at front zeros f z =
     get_or-append_right front (zeros ++ 165 ∷ []) 24 4095 0 f (omega arith)
     ∙ get_or-append_right zeros (165 ∷ []) 4071 4071 0 z (omega arith)
-
--- a file of this length begins with the superblock of these sizes, and has both halves
-pub record Begins (long : ℕ) (block : List ℕ) (sizes : Sizes) : Type 0 where
-  pub block_is : block ≡ superblock_bytes sizes
-  pub lawful : IsGeometry sizes
-  pub halves : roots_at sizes ≤ long
 
 abbrev sizes_ok : Sizes → Result Sizes FileFault
 sizes_ok g = Ok g
@@ -165,18 +158,6 @@ bare_words sizes contents (Loader r ∷ rows) =
 bare_words sizes contents (Class r at ∷ rows) =
     ap (λ l. Class r tt ∷ l) (bare_words sizes contents rows)
 
-packed_count : (n : ℕ) (bytes : List ℕ) → length (packed_into n bytes) ≡ n
-packed_count zero bytes = refl
-packed_count (suc n) bytes = let rest = packed_count n (drop 8 bytes) in omega (arith, rest)
-
-record_part : (sizes : Sizes) (r : ClassRow) (contents : List ℕ)
-    → take (8 * r.place.words)
-    (drop (record_in_roots sizes r.place) (drop (roots_at sizes) contents))
-    ≡ part (record_at sizes r.place) (8 * r.place.words) contents
-record_part sizes r contents =
-    ap (take (8 * r.place.words))
-    (drop-drop (record_in_roots sizes r.place) (roots_at sizes) contents)
-
 pub each_held : (sizes : Sizes) (contents : List ℕ) (rows : List (Row DefinedAt))
     → AreWhole sizes (length contents) rows
     → AllByRecursion (HoldsRow sizes (drop (roots_at sizes) contents))
@@ -185,7 +166,7 @@ each_held sizes contents [] whole = tt
 each_held sizes contents (Loader r ∷ rows) whole = (tt, each_held sizes contents rows whole)
 each_held sizes contents (Class r at ∷ rows) whole = (
   record {
-    count = packed_count r.place.words
+    count = length-packed_into r.place.words
         (part (record_at sizes r.place) (8 * r.place.words) contents);
     whole = omega (arith, whole.0, length-drop (roots_at sizes) contents);
     held = ap (packed_into r.place.words) (record_part sizes r contents);

@@ -7,9 +7,9 @@ use Rattle.cm_layout.specs.declared.row.Row.TheVariants.{Loader, Class}
 use Rattle.cm_layout.specs.declared.entry.Entry.TheVariants as entry
 use Rattle.cm_layout.specs.Rows.{bare, rows_after}
 use Rattle.cm_layout.specs.Rules.{broken_rule, broken_live_rule}
-use Rattle.cm_layout.specs.Frames.{BareRow, BareEntry}
-use Rattle.cm_state.proofs.Bare.{bare_row, bare_entry, number-bare, name-bare, numbers-bare}
-use Rattle.cm_state.proofs.Bare.{classes-bare, slots-bare, more-bare, after-bare, rule-bare}
+use Rattle.cm_layout.specs.Frames.{BareRow, BareEntry, bare_row, bare_entry}
+use Rattle.cm_layout.proofs.{number-bare, name-bare, numbers-bare, classes-bare, slots-bare}
+use Rattle.cm_layout.proofs.{more-bare, after-bare, rule-bare}
 use Rattle.cm_verdict.specs.declared.defined_at.DefinedAt.{DefinedAt}
 use Rattle.cm_verdict.specs.Walk.{placed_row, placed_entry}
 

@@ -13,8 +13,7 @@ use Rattle.cm_record_layout.specs.Layout.{lay}
 use Rattle.cm_record_layout.specs.Layout.{limit, IsRecord, IsRecordOf}
 use Rattle.std.specs.Prelude.{is_some}
 use Rattle.cm_record_reading.specs.Reading.{class_at}
-use Rattle.cm_record_reading.proofs.TakenRecord.{class_taken}
-use Rattle.cm_record_reading.proofs.WholeRecord.{class_again}
+use Rattle.cm_record_reading.proofs.{class_taken, class_again}
 use Rattle.cm_rules.specs.declared.rule.Broken.{Broken}
 use Rattle.cm_rules.specs.Fault.{fault}
 use Rattle.cm_rules.specs.Keeps.{KeepsRules}

@@ -11,12 +11,14 @@ use Rattle.cm_pool.specs.Geometry.{Sizes}
 use Rattle.cm_layout.specs.declared.heads.GroupHead.{GroupHead}
 use Rattle.cm_layout.specs.declared.row.Row.TheVariants.{Loader, Class}
 use Rattle.cm_layout.specs.declared.entry.Entry.TheVariants as entry
-use Rattle.cm_layout.specs.Slots.{group_head_slot, row_slot, entry_slot, FitsEntry, zeros}
+use Rattle.cm_layout.specs.Slots.{group_head_slot, row_slot, entry_slot, FitsEntry}
 use Rattle.cm_layout.specs.Slots.{FitsGroupHead}
 use Rattle.cm_layout.specs.Rules.{broken_rule, broken_live_rule}
 use Rattle.cm_layout.specs.Rows.{slots_of_rows, slots_of_entries, rows_after, rows_after_all, bare}
 use Rattle.cm_layout.specs.Frames.{BareRow, BareEntry, LiveRowsKeep, EntriesKeep, GroupKeeps}
 use Rattle.cm_layout.specs.Frames.{GroupsKeep, groups_slots, IsEnd}
+use Rattle.cm_layout.proofs.{slot_count}
+use Rattle.cm_layout.specs.Zeros.{zeros}
 use Rattle.cm_verdict.specs.Decoding.{is_open}
 use Rattle.cm_verdict.specs.Walk.{Walked, Go, placed_row, placed_entry, next_slot}
 use Rattle.cm_verdict.specs.Walk.{begun, turn, slot_of, on_turn, walk}
@@ -25,18 +27,6 @@ use Rattle.cm_verdict.proofs.Placed.{placed_live_rule, placed_rule, placed_more,
 use Rattle.cm_verdict.proofs.Walks.{from_slot, slots_one, slots_many}
 
 -- ---- slots
-
-pub slot_count : (e : BareEntry) → FitsEntry e → length (entry_slot e) ≡ 64
-slot_count (entry.Live (Loader r)) fits =
-    omega (
-      arith,
-      length-append r.name (zeros (48 - length r.name)),
-      length-replicate {A = ℕ} (48 - length r.name) 0,
-      fits.name,
-    )
-slot_count (entry.Live (Class r p)) fits = refl
-slot_count (entry.Unload e) fits = refl
-slot_count (entry.Move e) fits = refl
 
 entries_count : (sizes : Sizes) (rows : List BareRow) (n : ℕ) (es : List BareEntry)
     → EntriesKeep sizes rows n es → length (flat_map entry_slot es) ≡ 64 * slots_of_entries es

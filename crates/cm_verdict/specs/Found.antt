@@ -1,17 +1,18 @@
 -- What is found in a file without looking at records: its sizes, the half that counts, and what
 -- lives by the entries of that half; or the first damage. The superblock comes first, then the
 -- file's length, the heads of both halves, their epochs, and the walk.
-use Rattle.std.specs.Prelude.{ℕ, ◌-◌, ◌^◌, ◌+◌, ◌==◌, ◌&&◌, nat_le, nat_lt, Bool, if◌then◌else◌}
+use Rattle.std.specs.Prelude.{◌≡◌, ◌≤◌, ◌-◌, ◌^◌, ◌+◌, ◌==◌, ◌&&◌, nat_le, nat_lt, if◌then◌else◌}
+use Rattle.std.specs.Prelude.{ℕ, Bool}
 use Rattle.std.specs.Prelude.{List, length, take, get_or, Option, Some, None, Result, Ok, Err}
 use Rattle.std.specs.Str.{bytes_eq}
-use Rattle.cm_pool.specs.Geometry.{Sizes}
+use Rattle.cm_pool.specs.Geometry.{Sizes, IsGeometry}
 use Rattle.cm_layout.specs.declared.half.Half.{Half}
 use Rattle.cm_layout.specs.declared.half.Half.TheVariants.{Zero, One}
 use Rattle.cm_layout.specs.declared.heads.HalfHead.{HalfHead}
 use Rattle.cm_layout.specs.declared.row.Row.{Row}
 use Rattle.cm_layout.specs.Offsets.{superblock_size, slot_size, half_size, half_at, roots_at}
 use Rattle.cm_layout.specs.Slots.{open_gate}
-use Rattle.cm_layout.specs.Superblock.{magic}
+use Rattle.cm_layout.specs.Superblock.{magic, superblock_bytes}
 use Rattle.cm_layout.specs.Rules.{row_limit}
 use Rattle.cm_layout.specs.Frames.{entry_version}
 use Rattle.cm_layout.specs.Framing.{part}
@@ -42,6 +43,12 @@ sizes_spelled long (Some sizes) =
 unfoldable pub sizes_found : ℕ → List ℕ → Result Sizes FileFault
 sizes_found long block =
     if is_cache long block then sizes_spelled long (sizes_in block) else Err NotACache
+
+-- a file of this length begins with the superblock of these sizes, and has both halves
+pub record Begins (long : ℕ) (block : List ℕ) (sizes : Sizes) : Type 0 where
+  pub block_is : block ≡ superblock_bytes sizes
+  pub lawful : IsGeometry sizes
+  pub halves : roots_at sizes ≤ long
 
 -- ---- the half that counts
 

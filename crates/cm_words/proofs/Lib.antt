@@ -1,6 +1,9 @@
-pub mod BlockLayout
-pub mod Crosses
-pub mod Filled
-pub mod Memory
-pub mod Sharing
-pub mod WordBytes
+-- What crates above may cite of these proofs is what `pub use` passes on; all else is private.
+mod BlockLayout
+mod Crosses
+mod Filled
+mod Memory
+mod Sharing
+mod WordBytes
+-- Words written one by one.
+pub use WordBytes.{length-word_bytes}

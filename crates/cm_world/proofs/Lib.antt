@@ -1,5 +1,5 @@
-pub mod Kept
-pub mod Chains
-pub mod Moved
-pub mod Reopened
-pub mod Told
+mod Kept
+mod Chains
+mod Moved
+mod Reopened
+mod Told

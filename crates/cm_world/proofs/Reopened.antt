@@ -11,7 +11,7 @@ use Rattle.cm_disk.specs.Sim.{sim_contents, sim_unsynced, sim_moment, sim_left_s
 use Rattle.cm_recover.specs.NewFile.{new_bytes, IsEmptyCache}
 use Rattle.cm_machine.specs.Machine.{Machine, empty_machine, commands_to}
 use Rattle.cm_session.specs.Images.{StandsForSome}
-use Rattle.cm_session.proofs.Shown.{leaves_so}
+use Rattle.cm_session.proofs.{leaves_so}
 use Rattle.cm_world.specs.declared.event.Event.{Event}
 use Rattle.cm_world.specs.declared.reply.Reply.{Reply}
 use Rattle.cm_world.specs.declared.world.World.{World}

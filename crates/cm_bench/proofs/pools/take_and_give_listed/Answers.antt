@@ -1,6 +1,6 @@
 use Rattle.std.proofs.Common.{sym, ap, ◌∙◌, subst}
 use Rattle.cm_pool.specs.FreeSpace.{FreeSpace, IsUsedChunk, with_chunk}
-use Rattle.cm_pool.proofs.SpaceLaws.{taken_is_used, giving_back_restores}
+use Rattle.cm_pool.proofs.SpaceLaws.{giving_back_restores, taken_is_used}
 use Rattle.cm_bench.proofs.pools.take_and_give_listed.Goals as goal
 
 pub give-requires : goal.give-requires

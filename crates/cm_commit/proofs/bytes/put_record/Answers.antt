@@ -1,5 +1,5 @@
 use Rattle.std.proofs.Common.{◌*◌, length, ap, arith}
-use Rattle.cm_layout.proofs.Superblocks.{length-blank}
+use Rattle.cm_layout.proofs.{length-blank}
 use Rattle.cm_commit.proofs.bytes.put_record.Goals as goal
 
 pub bytes_into-requires : goal.bytes_into-requires

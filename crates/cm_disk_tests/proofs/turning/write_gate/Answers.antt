@@ -1,4 +1,4 @@
-use Rattle.cm_guards.proofs.Steps.{gate_leaves}
+use Rattle.cm_guards.proofs.{gate_leaves}
 use Rattle.cm_disk_tests.proofs.turning.write_gate.Goals as goal
 
 pub returns-clause-any_moment : goal.returns-clause-any_moment

@@ -1,6 +1,6 @@
 use Rattle.std.proofs.Common.{◌≡◌, ◌∷◌, sym, ap, ◌∙◌}
 use Rattle.cm_lines.specs.Lines.{pieces}
-use Rattle.cm_lines.proofs.Cuts.{pieces_cut, pieces_none, pieces_some}
+use Rattle.cm_lines.proofs.{pieces_cut, pieces_none, pieces_some}
 use Rattle.cm_events.specs.Asked.{geometry_of_words}
 use Rattle.cm_events.proofs.geometry.parse_words.Goals as goal
 

@@ -1,5 +1,5 @@
 use Rattle.std.proofs.Common.{sym, ap, ◌∙◌}
-use Rattle.cm_lines.proofs.Cuts.{pieces_cut, pieces_none}
+use Rattle.cm_lines.proofs.{pieces_cut, pieces_none}
 use Rattle.cm_events.specs.Asked.{asked_of_words}
 use Rattle.cm_events.proofs.line.parse_words.Goals as goal
 

@@ -1,6 +1,6 @@
 use Rattle.std.proofs.Common.{◌≡◌, ◌∷◌, sym, ap, ◌∙◌}
 use Rattle.cm_lines.specs.Lines.{pieces}
-use Rattle.cm_lines.proofs.Cuts.{pieces_cut, pieces_none, pieces_some}
+use Rattle.cm_lines.proofs.{pieces_cut, pieces_none, pieces_some}
 use Rattle.cm_events.specs.Asked.{asked_of_words}
 use Rattle.cm_events.proofs.line.with_words.Goals as goal
 

@@ -1,6 +1,6 @@
 use Rattle.std.proofs.Common.{◌<◌, length, arith}
 use Rattle.std.proofs.lemmas.Grind.{common_steps}
-use Rattle.cm_lines.proofs.Reading.{lines_cut, lines_last}
+use Rattle.cm_lines.proofs.{lines_cut, lines_last}
 use Rattle.cm_events.proofs.lines.next_line.Goals as goal
 
 pub returns-in-Some-clause-some : goal.returns-in-Some-clause-some

@@ -1,5 +1,5 @@
 use Rattle.cm_verdict.specs.Verdict.{verdict}
-use Rattle.cm_recover.proofs.Verdicts.{fault_told}
+use Rattle.cm_recover.proofs.{fault_told}
 use Rattle.cm_inspect.specs.Report.{Reports}
 use Rattle.cm_inspect.proofs.Checked.{reports, counted}
 use Rattle.cm_inspect.proofs.checking.check.Goals as goal

@@ -1,5 +1,5 @@
-use Rattle.cm_layout.proofs.StayLive.{rows_stay_live}
+use Rattle.cm_layout.proofs.StayLive.{live_rows_stay}
 use Rattle.cm_layout.proofs.laws.rows_stay_live.Goals as goal
 
 pub returns : goal.returns
-returns c = rows_stay_live
+returns c = live_rows_stay

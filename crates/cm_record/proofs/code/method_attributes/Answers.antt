@@ -1,5 +1,5 @@
 use Rattle.std.proofs.Common.{◌∙◌, ◌+◌, ◌*◌, get_or, ap, arith}
-use Rattle.cm_record_layout.proofs.Sections.{record_long}
+use Rattle.cm_record_layout.proofs.{record_long}
 use Rattle.cm_record.proofs.MemberPlaces.{members_fit, methods_count, item_there}
 use Rattle.cm_record.proofs.AttributePlaces.{attributes_found, attributes_counted}
 use Rattle.cm_record.proofs.AttributePlaces.{attributes_inside}

@@ -1,7 +1,7 @@
 use Rattle.std.proofs.Common.{◌≡◌, false, true, length, min, refl, ap, ap₂, sym, ◌∙◌, arith}
 use Rattle.std.proofs.lemmas.Bool.{eq-eqb}
 use Rattle.cm_record_layout.specs.Packing.{packed}
-use Rattle.cm_record_layout.proofs.Packed.{packed_more}
+use Rattle.cm_record_layout.proofs.{packed_more}
 use Rattle.cm_record.specs.Fingerprints.{further, folded}
 use Rattle.cm_record.proofs.fingerprints.fold_bytes.Goals as goal
 

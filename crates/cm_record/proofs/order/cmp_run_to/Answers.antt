@@ -1,6 +1,6 @@
 use Rattle.std.proofs.Common.{◌≡◌, ◌∙◌, ◌*◌, length, get_or, sym, ap, refl, arith}
 use Rattle.std.specs.Ordering.{nat_cmp}
-use Rattle.cm_record_layout.proofs.Runs.{bytes_from}
+use Rattle.cm_record_layout.proofs.{bytes_from}
 use Rattle.cm_record.proofs.RunBytes.{run_fits, byte_there, same_in_run}
 use Rattle.cm_record.proofs.RunPlaces.{run_words_there}
 use Rattle.cm_record.proofs.Orders.{same_byte, same_bytes, other_byte, one_ends}

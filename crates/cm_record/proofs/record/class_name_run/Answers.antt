@@ -1,5 +1,5 @@
 use Rattle.std.proofs.Common.{◌∙◌, ap, sym, subst, arith}
-use Rattle.cm_record_layout.proofs.Sections.{directory_within}
+use Rattle.cm_record_layout.proofs.{directory_within}
 use Rattle.cm_record.specs.declared.run.Run.{Run}
 use Rattle.cm_record.specs.Names.{class_name_of}
 use Rattle.cm_record.specs.Runs.{IsRunOf, name_run}

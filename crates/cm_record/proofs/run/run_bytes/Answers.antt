@@ -1,7 +1,7 @@
 use Rattle.std.proofs.Common.{◌≡◌, ◌∙◌, ap, sym, None, Some, List, ℕ}
 use Rattle.cm_record_reading.specs.Reading.{run_at}
 use Rattle.cm_record.proofs.RunPlaces.{run_read}
-use Rattle.cm_record_reading.proofs.Taken.{some_same}
+use Rattle.cm_record_reading.proofs.{some_same}
 use Rattle.cm_record.proofs.run.run_bytes.Goals as goal
 
 not_none : {A : Type 0} (x : A) → Some x ≡ None → ⊥

@@ -1,6 +1,6 @@
 use Rattle.std.proofs.Common.{◌∙◌, ap, sym, arith}
 use Rattle.cm_record_layout.specs.Packing.{packed}
-use Rattle.cm_record_layout.proofs.Runs.{bytes_from}
+use Rattle.cm_record_layout.proofs.{bytes_from}
 use Rattle.cm_record.proofs.RunPlaces.{packed_same}
 use Rattle.cm_record.proofs.utf8.is_run_of.Goals as goal
 

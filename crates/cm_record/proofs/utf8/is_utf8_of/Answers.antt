@@ -1,5 +1,5 @@
 use Rattle.std.proofs.Common.{arith}
-use Rattle.cm_record_layout.proofs.Sections.{directory_within}
+use Rattle.cm_record_layout.proofs.{directory_within}
 use Rattle.cm_record.proofs.utf8.is_utf8_of.Goals as goal
 
 pub wide_words_before-wide-requires : goal.wide_words_before-wide-requires

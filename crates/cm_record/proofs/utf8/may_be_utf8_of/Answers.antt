@@ -1,6 +1,6 @@
 use Rattle.std.proofs.Common.{◌∙◌, sym, arith}
 use Rattle.std.proofs.lemmas.Bool.{eq-eqb}
-use Rattle.cm_record_layout.proofs.Sections.{directory_within, record_long}
+use Rattle.cm_record_layout.proofs.{directory_within, record_long}
 use Rattle.cm_record.proofs.Utf8Words.{leads_to_none}
 use Rattle.cm_record.proofs.utf8.may_be_utf8_of.Goals as goal
 

@@ -1,7 +1,7 @@
 use Rattle.std.proofs.Common.{◌∙◌, ap, ◌++◌, ◌+◌, length, arith}
 use Rattle.cm_record_layout.specs.Layout.{attributes, utf8_runs, member_attributes, attribute_runs}
 use Rattle.cm_record_layout.specs.Layout.{attribute_runs_at}
-use Rattle.cm_record_layout.proofs.Lengths.{attributes_len}
+use Rattle.cm_record_layout.proofs.{attributes_len}
 use Rattle.cm_record_writing.proofs.Room.{grown, grown_attributes, attributes_and_runs_len}
 use Rattle.cm_record_writing.proofs.Steps.{attributes_and_runs}
 use Rattle.cm_record_writing.proofs.parts.push_attributes_and_runs.Goals as goal

@@ -1,7 +1,7 @@
 use Rattle.std.proofs.Common.{◌≡◌, ◌∙◌, ◌+◌, ◌++◌, ap, length, drop, arith, length-append}
 use Rattle.std.proofs.lemmas.Grind.{common_steps}
 use Rattle.cm_record_layout.specs.Layout.{attributes, member_attributes, attribute_runs}
-use Rattle.cm_record_layout.proofs.Lengths.{attribute_runs_append, attributes_len}
+use Rattle.cm_record_layout.proofs.{attribute_runs_append, attributes_len}
 use Rattle.cm_record_writing.proofs.Room.{room_left}
 use Rattle.cm_record_writing.proofs.Steps.{attributes_step}
 use Rattle.cm_record_writing.proofs.parts.push_member_attributes.Goals as goal
@@ -23,8 +23,8 @@ push_attributes-at-requires-clause-room c =
       attributes_len l.at all,
       ap length split,
       length-append own rest,
-      attributes_len l.at c.as_slice.result.now,
-      ap length c.as_slice.ensures,
+      attributes_len l.at c.attributes.result.now,
+      ap length c.attributes.ensures,
     )
 
 pub loop-member-preserved : goal.loop-member-preserved
@@ -41,7 +41,7 @@ loop-member-preserved c =
     ap (λ xs. length (attribute_runs xs)) split
     ∙ (ap length (attribute_runs_append own rest)
     ∙ length-append (attribute_runs own) (attribute_runs rest)) in
-    let slice = c.as_slice.ensures in
+    let slice = c.attributes.ensures in
     let pushed = c.push_attributes-at in
     let added : pushed.new.words.words ≡ l.words.words ++ attributes at own =
     pushed.ensures.words ∙ ap (λ xs. l.words.words ++ attributes at xs) slice in

@@ -1,7 +1,7 @@
 use Rattle.std.proofs.Common.{◌≡◌, ◌∙◌, ◌+◌, ◌++◌, length, drop, length-append, ap, arith}
 use Rattle.std.proofs.lemmas.Grind.{common_steps}
 use Rattle.cm_record_layout.specs.Layout.{attribute_runs, member_attributes}
-use Rattle.cm_record_layout.proofs.Lengths.{attribute_runs_append}
+use Rattle.cm_record_layout.proofs.{attribute_runs_append}
 use Rattle.cm_record_writing.proofs.Room.{room_left}
 use Rattle.cm_record_writing.proofs.parts.push_member_runs.Goals as goal
 
@@ -21,5 +21,5 @@ push_attribute_runs-requires c =
           c.args.words.now.capacity l.invariant.added l.invariant.capacity c.requires,
       ap length parts,
       length-append (attribute_runs own) (attribute_runs rest),
-      ap (λ xs. length (attribute_runs xs)) c.as_slice.ensures,
+      ap (λ xs. length (attribute_runs xs)) c.attributes.ensures,
     )

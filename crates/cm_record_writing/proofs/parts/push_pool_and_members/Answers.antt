@@ -2,7 +2,7 @@ use Rattle.std.proofs.Common.{◌∙◌, [], ◌∷◌, ap, ◌++◌, ◌+◌, �
 use Rattle.cm_words.specs.Words.{Words}
 use Rattle.cm_record_layout.specs.Layout.{directory, members, member_attributes, runs_at}
 use Rattle.cm_record_layout.specs.Layout.{attributes_at}
-use Rattle.cm_record_layout.proofs.Lengths.{members_len}
+use Rattle.cm_record_layout.proofs.{members_len}
 use Rattle.cm_record_writing.proofs.Room.{grown, grown_members, pool_and_members_len}
 use Rattle.cm_record_writing.proofs.Steps.{pool_and_members}
 use Rattle.cm_record_writing.proofs.parts.push_pool_and_members.Goals as goal

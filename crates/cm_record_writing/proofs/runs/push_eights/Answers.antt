@@ -2,7 +2,7 @@ use Rattle.std.proofs.Common.{◌≡◌, ◌∙◌, ◌+◌, ap, sym, ◌++◌, 
 use Rattle.std.proofs.Common.{append_assoc, arith}
 use Rattle.std.proofs.lemmas.List.{get_or-take}
 use Rattle.cm_record_layout.specs.Packing.{packed, word_from}
-use Rattle.cm_record_layout.proofs.Packed.{packed_more, word_same}
+use Rattle.cm_record_layout.proofs.{packed_more, word_same}
 use Rattle.cm_words.specs.Words.{Words}
 use Rattle.cm_record_writing.proofs.Room.{room_left}
 use Rattle.cm_record_writing.proofs.runs.push_eights.Goals as goal

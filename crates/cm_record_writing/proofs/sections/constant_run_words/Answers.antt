@@ -1,6 +1,6 @@
 use Rattle.std.proofs.Common.{◌∙◌, ap, sym, length}
 use Rattle.cm_record_layout.specs.Packing.{run_words}
-use Rattle.cm_record_layout.proofs.Packed.{packed_len}
+use Rattle.cm_record_layout.proofs.{packed_len}
 use Rattle.cm_record_writing.proofs.sections.constant_run_words.Goals as goal
 
 pub returns-in-Utf8 : goal.returns-in-Utf8

@@ -19,5 +19,5 @@ push_run-requires c =
           l.invariant.capacity c.requires,
       ap (λ xs. length (attribute_runs xs)) split,
       length-append (attribute_run a) (attribute_runs behind),
-      ap (λ xs. length (packed xs)) c.as_slice.ensures,
+      ap (λ xs. length (packed xs)) c.content.ensures,
     )

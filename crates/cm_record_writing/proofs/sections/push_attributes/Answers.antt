@@ -1,7 +1,7 @@
 use Rattle.std.proofs.Common.{[], ◌∷◌, length, drop, length-drop, length-append, ap, arith}
 use Rattle.cm_words.specs.Words.{Words}
 use Rattle.cm_record_layout.specs.Layout.{attributes}
-use Rattle.cm_record_layout.proofs.Lengths.{attributes_len}
+use Rattle.cm_record_layout.proofs.{attributes_len}
 use Rattle.cm_record_writing.proofs.Room.{room_left}
 use Rattle.cm_record_writing.proofs.sections.push_attributes.Goals as goal
 

@@ -1,5 +1,5 @@
 use Rattle.std.proofs.Common.{ap, length, arith}
-use Rattle.cm_record_layout.proofs.Packed.{packed_len}
+use Rattle.cm_record_layout.proofs.{packed_len}
 use Rattle.cm_record_writing.proofs.sections.push_constant.Goals as goal
 
 pub utf8_word-requires : goal.utf8_word-requires

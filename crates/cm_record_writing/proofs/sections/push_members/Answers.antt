@@ -1,7 +1,7 @@
 use Rattle.std.proofs.Common.{[], ◌∷◌, length, drop, length-drop, length-append, ap, arith}
 use Rattle.cm_words.specs.Words.{Words}
 use Rattle.cm_record_layout.specs.Layout.{members}
-use Rattle.cm_record_layout.proofs.Lengths.{members_len}
+use Rattle.cm_record_layout.proofs.{members_len}
 use Rattle.cm_record_writing.proofs.Room.{room_left}
 use Rattle.cm_record_writing.proofs.sections.push_members.Goals as goal
 

@@ -1,8 +1,8 @@
 use Rattle.std.proofs.Common.{ap, length, arith, length-append}
 use Rattle.cm_words.specs.Words.{Words}
 use Rattle.cm_record_layout.specs.Layout.{lay, head, runs_at, attributes_at, attribute_runs_at}
-use Rattle.cm_record_layout.proofs.Lengths.{directory_len, all_members_len, all_attributes_len}
-use Rattle.cm_record_layout.proofs.Lengths.{all_runs_len}
+use Rattle.cm_record_layout.proofs.{directory_len, all_members_len, all_attributes_len}
+use Rattle.cm_record_layout.proofs.{all_runs_len}
 use Rattle.cm_record_writing.proofs.Room.{pool_and_members_len, pool_behind_len}
 use Rattle.cm_record_writing.proofs.Room.{attributes_and_runs_len}
 use Rattle.cm_record_writing.proofs.writing.words_of_class.Goals as goal

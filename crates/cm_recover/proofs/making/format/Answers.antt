@@ -1,6 +1,6 @@
 use Rattle.std.proofs.Common.{◌∙◌, ap, subst, sym, rules, refl}
 use Rattle.std.specs.Prelude.{Ok}
-use Rattle.cm_guards.proofs.Gated.{settled_images}
+use Rattle.cm_guards.proofs.{settled_images}
 use Rattle.cm_recover.specs.NewFile.{new_bytes, IsEmptyCache}
 use Rattle.cm_recover.proofs.Empty.{new_is_empty}
 use Rattle.cm_recover.proofs.Unfinished.{calls_on, ends_asked, ends_unstored, passes_shut}

@@ -1,5 +1,5 @@
 use Rattle.std.proofs.Common.{ap, length, take, arith}
-use Rattle.cm_verdict.proofs.Parts.{part_long}
+use Rattle.cm_verdict.proofs.{part_long}
 use Rattle.cm_recover.proofs.Halves.{short_file}
 use Rattle.cm_recover.proofs.reading.read_sizes.Goals as goal
 

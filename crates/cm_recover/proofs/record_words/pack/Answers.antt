@@ -1,7 +1,7 @@
 use Rattle.std.proofs.Common.{◌≡◌, ◌∙◌, ◌/◌, ◌++◌, ap, get_or, length}
 use Rattle.std.proofs.lemmas.List.{get_or-take}
 use Rattle.cm_record_layout.specs.Packing.{packed_into, word_from}
-use Rattle.cm_record_layout.proofs.Packed.{word_same}
+use Rattle.cm_record_layout.proofs.{word_same}
 use Rattle.cm_recover.proofs.Packs.{pack_on}
 use Rattle.cm_recover.proofs.record_words.pack.Goals as goal
 

@@ -9,7 +9,7 @@ use Rattle.cm_recover.specs.Opening.{IsFaultIn, found_of}
 use Rattle.cm_recover.specs.Standing.{Tells, AreRecorded, IsStanding}
 use Rattle.cm_recover.proofs.Verdicts.{fault_told, no_found, no_classes}
 use Rattle.cm_recover.proofs.Assembled.{assembled, same_classes}
-use Rattle.cm_guards.proofs.Left.{one_read}
+use Rattle.cm_guards.proofs.{one_read}
 use Rattle.cm_recover.specs.declared.fault.OpenFault.TheVariants as open_fault
 use Rattle.cm_recover.proofs.Readings.{then_reads, no_more, ok_no_fault}
 use Rattle.cm_recover.proofs.standing.read_standing.Goals as goal

@@ -1,7 +1,7 @@
 use Rattle.std.proofs.Common.{length, sym, ap, ◌∙◌, arith, subst}
 use Rattle.cm_index.specs.Index.{AreUnique}
 use Rattle.cm_index.specs.Living.{living}
-use Rattle.cm_index.proofs.Living.{living-swept, swept-live, length-swept}
+use Rattle.cm_index.proofs.{living-swept, swept-live, length-swept}
 use Rattle.cm_rows.proofs.KeptPlaces.{items-swept, rises-living, each-lives}
 use Rattle.cm_rows.proofs.links.make_room.Goals as goal
 

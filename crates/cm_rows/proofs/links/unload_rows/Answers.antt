@@ -2,7 +2,7 @@ use Rattle.std.proofs.Common.{◌≡◌, ◌<◌, ◌+◌, Some, set, length, ma
 use Rattle.std.proofs.Common.{subst}
 use Rattle.std.proofs.lemmas.Option.{slice_get_within, get_or_from_slice_get}
 use Rattle.cm_index.specs.Living.{living, unloaded}
-use Rattle.cm_index.proofs.Living.{length-living}
+use Rattle.cm_index.proofs.{length-living}
 use Rattle.cm_rows.specs.Links.{ended, last_place, places_left, AreLinked}
 use Rattle.cm_pool.specs.Geometry.{Sizes}
 use Rattle.cm_layout.specs.Rows.{classes_in}

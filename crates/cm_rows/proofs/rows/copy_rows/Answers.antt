@@ -6,11 +6,11 @@ use Rattle.cm_layout.specs.Rows.{bare, row_with}
 use Rattle.cm_layout.specs.declared.row.Row.{Row}
 use Rattle.cm_index.specs.declared.slot.BookSlot.{BookSlot}
 use Rattle.cm_index.specs.Living.{living}
-use Rattle.cm_index.proofs.Living.{living-push}
-use Rattle.cm_index.proofs.Sorted.{all-append}
+use Rattle.cm_index.proofs.{living-push}
 use Rattle.cm_rows.proofs.Giving.{split-living, taken-living}
 use Rattle.cm_rows.proofs.rows.copy_rows.Goals as goal
 use Rattle.cm_rows.proofs.rows.copy_rows.Goals.{then-slot, else-slot}
+use Rattle.cm_pool.proofs.{each-join}
 
 more-live : {X : Type 0} (n : List X) (t : Bool) (x : X) (rest : List X) → t ≡ true
     → length n + 1 ≤ length (n ++ cond t (x ∷ rest) rest)
@@ -66,7 +66,7 @@ loop-slot-preserved g c =
                 ∙ ap (λ (r : Row (Unit {0})). bare (living (take i others)) ++ r ∷ [])
                 w.bare_row.ensures ∙ sym
                 (map-append (row_with (λ q. tt)) (living (take i others)) (s.item ∷ []));
-            live = all-append (λ (s : BookSlot (Row (Unit {0}))). s.live
+            live = each-join (λ (s : BookSlot (Row (Unit {0}))). s.live
                 ≡ true) c.loop-slot.slots.items
                 (new ∷ []) h.live (refl, tt);
             count = omega (

@@ -2,7 +2,7 @@ use Rattle.std.proofs.Common.{◌≡◌, ◌<◌, ◌+◌, ℕ, Bool, cond, [], 
 use Rattle.cm_pool.specs.Geometry.{Sizes}
 use Rattle.cm_pool.specs.FreeSpace.{FreeSpace, with_root}
 use Rattle.cm_pool.specs.Held.{NoneIsLost}
-use Rattle.cm_pool.proofs.NoneLost.{none_lost-with_root}
+use Rattle.cm_pool.proofs.SpaceLaws.{roots_lose_none}
 use Rattle.cm_rows.proofs.whole_pool.whole_pool.Goals as goal
 
 pub loop-root-preserved : goal.loop-root-preserved
@@ -24,5 +24,5 @@ loop-root-preserved c =
       geometry = ap (λ (p : FreeSpace). p.geometry) is ∙ h.geometry;
       roots = ap (λ (p : FreeSpace). p.roots) is ∙ ap (λ (n : ℕ). n + 1) h.roots;
       none_lost = subst
-          (λ (p : FreeSpace). NoneIsLost p []) (sym is) (none_lost-with_root old [] h.none_lost);
+          (λ (p : FreeSpace). NoneIsLost p []) (sym is) (roots_lose_none old [] h.none_lost);
     }

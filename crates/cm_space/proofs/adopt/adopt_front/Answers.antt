@@ -1,6 +1,6 @@
 use Rattle.std.proofs.Common.{◌≡◌, cond, sym, ap, ◌∙◌, subst}
 use Rattle.cm_pool.specs.FreeSpace.{FreeSpace, IsUsedChunk, without, with_chunk}
-use Rattle.cm_pool.proofs.SpaceLaws.{taken_is_used, giving_back_restores}
+use Rattle.cm_pool.proofs.SpaceLaws.{giving_back_restores, taken_is_used}
 use Rattle.cm_arena.specs.Placing.{with_place}
 use Rattle.cm_space.proofs.Adopted.{front-next}
 use Rattle.cm_space.proofs.adopt.adopt_front.Goals as goal

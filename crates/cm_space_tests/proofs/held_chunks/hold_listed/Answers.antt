@@ -2,8 +2,8 @@ use Rattle.std.proofs.Common.{◌≡◌, List, [], ◌∷◌, ◌++◌, sym, ap,
 use Rattle.cm_pool.specs.declared.chunk.Chunk.{Chunk}
 use Rattle.cm_pool.specs.FreeSpace.{FreeSpace, without}
 use Rattle.cm_pool.specs.Held.{AreHeld}
-use Rattle.std.proofs.lemmas.List.{append-nil}
 use Rattle.cm_pool.proofs.SpaceLaws.{taken_is_held}
+use Rattle.std.proofs.lemmas.List.{append-nil}
 use Rattle.cm_space_tests.proofs.held_chunks.hold_listed.Goals as goal
 
 pub returns : goal.returns

@@ -1,6 +1,6 @@
 use Rattle.std.specs.Prelude.{ℕ, List}
 use Rattle.cm_class.specs.declared.class_file.ClassFile.{ClassFile}
-use Rattle.cm_state.proofs.EntrySteps.{entries_are_steps}
+use Rattle.cm_state.proofs.EntrySteps.{entries_step}
 use Rattle.cm_state.proofs.laws.entries_are_steps.Goals as goal
 
 pub returns : goal.returns
@@ -9,6 +9,6 @@ returns c =
     let grow = c.live_rows_go_on.ensures.rows in
     let own = c.loaders_are_own.ensures in
     record {
-      classes = entries_are_steps {A = ClassFile} stay grow own;
-      words = entries_are_steps {A = List ℕ} stay grow own;
+      classes = entries_step {A = ClassFile} stay grow own;
+      words = entries_step {A = List ℕ} stay grow own;
     }

@@ -4,9 +4,10 @@ use Rattle.std.proofs.Common.{length-set, length-append}
 use Rattle.std.specs.List.{AllByRecursion}
 use Rattle.cm_pool.specs.declared.chunk.Chunk.{Chunk}
 use Rattle.cm_pool.specs.Chunks.{same_chunk}
+use Rattle.cm_pool.proofs.{same_chunk-true}
 use Rattle.cm_arena.specs.Chains.{Filled, chain_of, IsFilled, IsArena}
 use Rattle.cm_arena.specs.Placing.{next_offset, with_place}
-use Rattle.cm_arena.proofs.ChainFacts.{next-chain_of, same_chunk-eq, more-chain_of, filled-set}
+use Rattle.cm_arena.proofs.ChainFacts.{next-chain_of, more-chain_of, filled-set}
 use Rattle.cm_arena.proofs.ChainFacts.{filled-push, chain_of-push, place-on_top, place-in_new}
 use Rattle.cm_arena.proofs.arena.Arena.adopt.Goals as goal
 use Rattle.cm_arena.proofs.arena.Arena.adopt.Goals.{After-next_offset-offset, After-len-last}
@@ -30,7 +31,7 @@ last_one : (b : Bool) (cs : List Chunk) (us : List ℕ) (k : ℕ) (c : Chunk) (n
     → length cs ≡ suc k → same_chunk (get_or cs k c) c ≡ b → n ≡ cond b (get_or us k 0) 0 → 0 < n
     → IsLastOne cs us k c n
 last_one true cs us k c n len same e pos =
-    record { len = len; chunk = same_chunk-eq _ _ same; used = sym e }
+    record { len = len; chunk = same_chunk-true _ _ same; used = sym e }
 last_one false cs us k c n len same e pos = absurd (omega arith)
 
 at_last : (c : After-len-last) → 0 < c.next_offset-offset.result

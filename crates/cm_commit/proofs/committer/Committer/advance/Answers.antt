@@ -2,7 +2,7 @@ use Rattle.std.proofs.Common.{◌≡◌, ◌+◌, [], length, Some, refl, sym, a
 use Rattle.std.proofs.Common.{subst, ◌∙◌, arith}
 use Rattle.std.specs.Prelude.{vec_capacity, Option, is_ok, is_err}
 use Rattle.std.specs.Arc.{arc_value}
-use Rattle.cm_guards.proofs.Left.{leaves_none}
+use Rattle.cm_guards.proofs.{leaves_none}
 use Rattle.cm_layout.specs.Rows.{rows_with, bare}
 use Rattle.cm_group.specs.Groups.{Handed, entries_in}
 use Rattle.cm_commit.specs.Plans.{after_call, calls_left}

@@ -8,7 +8,7 @@ use Rattle.cm_pool_list.specs.declared.block.Block.{Block}
 use Rattle.cm_pool.specs.FreeSpace.{FreeSpace, IsFreeChunk, HasFree, without}
 use Rattle.cm_pool.specs.Chunks.{IsBlock}
 use Rattle.cm_pool_list.specs.Blocks.{IsSame, start, stop}
-use Rattle.cm_pool.proofs.Lists.{among-at}
+use Rattle.cm_pool.proofs.{among-at}
 use Rattle.cm_pool.specs.Lists.{Among}
 use Rattle.cm_pool_list.proofs.Dyadic.{inside-stop, is_in-start}
 use Rattle.cm_pool_list.proofs.FreeLists.{covered-among}

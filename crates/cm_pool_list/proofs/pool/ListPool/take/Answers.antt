@@ -6,7 +6,7 @@ use Rattle.cm_pool_list.specs.declared.block.Block.{Block}
 use Rattle.cm_pool.specs.FreeSpace.{FreeSpace, IsFreeChunk, without}
 use Rattle.cm_pool.specs.Chunks.{IsBlock}
 use Rattle.cm_pool_list.specs.Blocks.{IsSame, Inside}
-use Rattle.cm_pool.proofs.Lists.{each-among, among-at}
+use Rattle.cm_pool.proofs.{each-among, among-at}
 use Rattle.cm_pool_list.proofs.Spaces.{space-without}
 use Rattle.cm_pool_list.proofs.Pools.{free-held, held-free, listed-room, pool-taken}
 use Rattle.cm_pool_list.proofs.pool.ListPool.take.Goals as goal

@@ -6,7 +6,7 @@ use Rattle.std.proofs.lemmas.Bool.Decides.{leb_tells}
 use Rattle.std.proofs.lemmas.List.{get_or-set_same, get_or-set_other, get_or-replicate}
 use Rattle.std.proofs.lemmas.List.{length-set, length-replicate}
 use Rattle.cm_class.specs.Names.{names_utf8}
-use Rattle.cm_record_layout.proofs.Sections.{directory_within, record_long}
+use Rattle.cm_record_layout.proofs.{directory_within, record_long}
 use Rattle.cm_record.specs.Constants.{is_second_word, is_wide_word}
 use Rattle.cm_record.proofs.Constants.{first_is_no_second}
 use Rattle.cm_record.proofs.RunTests.{no_utf8}

@@ -1,6 +1,6 @@
 use Rattle.std.proofs.Common.{◌∙◌, sym, subst}
 use Rattle.cm_record_layout.specs.Layout.{IsRecord}
-use Rattle.cm_record_layout.proofs.Sections.{directory_within}
+use Rattle.cm_record_layout.proofs.{directory_within}
 use Rattle.cm_record.proofs.record.Record.as_slice.Goals as goal
 
 pub returns-clause-words : goal.returns-clause-words

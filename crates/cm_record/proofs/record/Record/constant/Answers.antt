@@ -1,7 +1,7 @@
 use Rattle.std.proofs.Common.{◌∙◌, ap}
 use Rattle.cm_record.specs.Constants.{constant_at_index}
 use Rattle.cm_record.proofs.Constants.{constant_is}
-use Rattle.cm_record_layout.proofs.Sections.{lay_short}
+use Rattle.cm_record_layout.proofs.{lay_short}
 use Rattle.cm_record.proofs.record.Record.constant.Goals as goal
 
 pub returns : goal.returns

@@ -1,6 +1,6 @@
 use Rattle.std.proofs.Common.{◌∙◌, ap, get_or}
 use Rattle.cm_record_layout.specs.Packing.{first_of}
-use Rattle.cm_record_layout.proofs.Sections.{flags_read}
+use Rattle.cm_record_layout.proofs.{flags_read}
 use Rattle.cm_record.proofs.record.Record.flags.Goals as goal
 
 pub returns : goal.returns

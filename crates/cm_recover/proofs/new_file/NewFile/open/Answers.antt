@@ -1,4 +1,4 @@
-use Rattle.cm_guards.proofs.Steps.{run_then_sync}
+use Rattle.cm_guards.proofs.{run_then_sync}
 use Rattle.cm_recover.specs.NewFile.{IsNoneOrEmpty}
 use Rattle.cm_recover.proofs.Unfinished.{calls_once, calls_on}
 use Rattle.cm_recover.proofs.new_file.NewFile.open.Goals as goal

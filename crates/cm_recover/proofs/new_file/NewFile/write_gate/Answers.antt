@@ -1,5 +1,5 @@
 use Rattle.std.proofs.Common.{ap, length, arith}
-use Rattle.cm_guards.proofs.Steps.{gate_images, gate_leaves}
+use Rattle.cm_guards.proofs.{gate_images, gate_leaves}
 use Rattle.cm_recover.specs.NewFile.{IsNoCache, IsEmptyCache}
 use Rattle.cm_recover.proofs.Empty.{length-shut}
 use Rattle.cm_recover.proofs.Gate.{turns_here, none_here, gate_done}

@@ -1,6 +1,6 @@
 use Rattle.std.proofs.Common.{◌∙◌, ◌*◌, ap, length, arith}
 use Rattle.cm_layout.specs.Framing.{part}
-use Rattle.cm_record_layout.proofs.Packed.{length-packed_into}
+use Rattle.cm_record_layout.proofs.{length-packed_into}
 use Rattle.cm_recover.proofs.RecordPlaces.{short_enough}
 use Rattle.cm_recover.proofs.standing.SecondPass.class_at.Goals as goal
 

@@ -1,5 +1,5 @@
 use Rattle.std.proofs.Common.{ℕ, List, [], ◌∷◌, subst}
-use Rattle.cm_guards.proofs.Left.{no_read}
+use Rattle.cm_guards.proofs.{no_read}
 use Rattle.cm_layout.specs.declared.row.Row.{Row}
 use Rattle.cm_verdict.specs.declared.defined_at.DefinedAt.{DefinedAt}
 use Rattle.cm_verdict.specs.Verdict.{classes_found}

@@ -5,8 +5,7 @@ use Rattle.cm_layout.specs.Rows.{row_with, bare}
 use Rattle.cm_layout.specs.Rules.{row_limit}
 use Rattle.cm_index.specs.Index.{AreUnique}
 use Rattle.cm_index.specs.Living.{living}
-use Rattle.cm_index.proofs.Living.{living-swept, swept-live, length-swept}
-use Rattle.cm_index.proofs.Unloading.{unique-bare}
+use Rattle.cm_index.proofs.{living-swept, swept-live, length-swept, unique-bare}
 use Rattle.cm_rows.specs.declared.loader_places.LoaderPlaces.{LoaderPlaces}
 use Rattle.cm_rows.specs.Rows.{LiveRows}
 use Rattle.cm_rows.specs.Held.{Holds, chunks_of}

@@ -8,8 +8,7 @@ use Rattle.cm_layout.specs.Rules.{is_new_loader, row_limit}
 use Rattle.cm_index.specs.declared.slot.BookSlot.{BookSlot}
 use Rattle.cm_index.specs.Index.{AreUnique}
 use Rattle.cm_index.specs.Living.{living}
-use Rattle.cm_index.proofs.Living.{living-push}
-use Rattle.cm_index.proofs.Unloading.{unique-loader}
+use Rattle.cm_index.proofs.{living-push, unique-loader}
 use Rattle.cm_rows.specs.declared.live_loader.LiveLoader.{LiveLoader}
 use Rattle.cm_rows.specs.declared.loader_places.LoaderPlaces.{LoaderPlaces}
 use Rattle.cm_rows.specs.declared.row_places.RowPlaces.{RowPlaces}

@@ -1,7 +1,7 @@
 use Rattle.std.proofs.Common.{◌*◌, [], length, refl, ap, subst, arith}
 use Rattle.cm_pool.specs.Geometry.{Sizes}
 use Rattle.cm_layout.specs.Rules.{row_limit}
-use Rattle.cm_index.proofs.Indexes.{index-none}
+use Rattle.cm_index.proofs.{index-none}
 use Rattle.cm_rows.specs.Held.{Holds}
 use Rattle.cm_rows.proofs.Linking.{linked-none}
 use Rattle.cm_rows.proofs.book.Book.clear.Goals as goal

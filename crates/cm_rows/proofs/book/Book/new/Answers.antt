@@ -1,5 +1,5 @@
 use Rattle.std.proofs.Common.{length, refl, rules, ap, arith}
-use Rattle.cm_index.proofs.Indexes.{index-none}
+use Rattle.cm_index.proofs.{index-none}
 use Rattle.cm_rows.proofs.Linking.{linked-none}
 use Rattle.cm_rows.proofs.book.Book.new.Goals as goal
 

@@ -4,19 +4,17 @@ use Rattle.std.proofs.lemmas.List.{length-map}
 use Rattle.cm_layout.specs.declared.row.Row.{Row}
 use Rattle.cm_layout.specs.Rows.{classes_in, moved}
 use Rattle.cm_layout.specs.Rules.{move_fits}
+use Rattle.cm_layout.proofs.{last_chunk-among}
 use Rattle.cm_index.specs.declared.slot.BookSlot.{BookSlot}
 use Rattle.cm_index.specs.Index.{AreUnique}
 use Rattle.cm_index.specs.Living.{living, moved_slot}
-use Rattle.cm_index.proofs.Indexes.{index-moved}
-use Rattle.cm_index.proofs.Living.{living-moved}
-use Rattle.cm_index.proofs.Unloading.{unique-moved}
+use Rattle.cm_index.proofs.{index-moved, living-moved, unique-moved}
 use Rattle.cm_rows.specs.declared.live_loader.LastChunk.{LastChunk}
 use Rattle.cm_rows.specs.declared.live_loader.LiveLoader.{LiveLoader}
 use Rattle.cm_rows.specs.declared.loader_places.LoaderPlaces.{LoaderPlaces}
 use Rattle.cm_rows.specs.declared.row_places.RowPlaces.{RowPlaces}
 use Rattle.cm_rows.proofs.Books.{relocated}
 use Rattle.cm_rows.proofs.Changes.{last_of-is, use-chunk}
-use Rattle.cm_rows.proofs.Classes.{last-among}
 use Rattle.cm_rows.proofs.KeptPlaces.{stands, at-living, same-kept}
 use Rattle.cm_rows.proofs.Moving.{others-stay}
 use Rattle.cm_rows.proofs.Placed.{last-at-place, links-moved, loaders-set}
@@ -111,7 +109,7 @@ move_rows-requires-clause-others g c =
     ∙ c.in-Some-last.is in
     let last_used = use-chunk e.loader (classes_in rows) l (sym (last_of-is e.loader rows)
     ∙ last) in
-    let t = last-among e.loader (classes_in rows) l.chunk last_used.0 in
+    let t = last_chunk-among e.loader (classes_in rows) l.chunk last_used.0 in
     others-stay e.loader e.from e.to a.rows.slots.items t.0 c.self.invariant.0.live.founded t.1 t.2
     (t.3 ∙ room-from a.geometry l e (sym c.has_room.ensures ∙ c.if-not-has_room.false))
 

@@ -9,8 +9,7 @@ use Rattle.cm_layout.specs.Rules.{is_live}
 use Rattle.cm_index.specs.declared.slot.BookSlot.{BookSlot}
 use Rattle.cm_index.specs.Index.{AreUnique}
 use Rattle.cm_index.specs.Living.{living, unloaded}
-use Rattle.cm_index.proofs.Living.{living-unloaded}
-use Rattle.cm_index.proofs.Unloading.{unique-without, index-unloaded}
+use Rattle.cm_index.proofs.{living-unloaded, unique-without, index-unloaded}
 use Rattle.cm_rows.specs.declared.live_loader.LiveLoader.{LiveLoader}
 use Rattle.cm_rows.specs.declared.loader_places.LoaderPlaces.{LoaderPlaces}
 use Rattle.cm_rows.specs.declared.row_places.RowPlaces.{RowPlaces}

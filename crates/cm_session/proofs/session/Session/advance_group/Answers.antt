@@ -1,7 +1,7 @@
 use Rattle.std.proofs.Common.{subst, ◌∙◌}
 use Rattle.cm_pool.specs.Geometry.{Sizes}
 use Rattle.cm_guards.specs.Calls.{LeavesOnly}
-use Rattle.cm_guards.proofs.Left.{leaves_on}
+use Rattle.cm_guards.proofs.{leaves_on}
 use Rattle.cm_session.specs.Images.{StandsForSome}
 use Rattle.cm_session.proofs.Stored.{some_left, goes_on, risen}
 use Rattle.cm_session.proofs.session.Session.advance_group.Goals as goal

@@ -1,7 +1,7 @@
 use Rattle.std.proofs.Common.{◌+◌, ap, ◌∙◌, arith}
 use Rattle.cm_rows.specs.Rows.{LiveRows, is_above}
+use Rattle.cm_rows.proofs.{above_row}
 use Rattle.cm_verdict.specs.declared.defined_at.DefinedAt.{DefinedAt}
-use Rattle.cm_verdict.proofs.Above.{above_row}
 use Rattle.cm_verdict.proofs.walk.HalfWalk.live_turn.Goals as goal
 
 pub returns-clause-steady : goal.returns-clause-steady

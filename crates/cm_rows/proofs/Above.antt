@@ -1,9 +1,10 @@
 -- Numbers of commands are above those of all loaders that live.
+-- On `sizes`, `rows`, `is_above`, for crates above.
 use Rattle.std.proofs.Common.{◌≡◌, ℕ, ◌+◌, ◌<◌, ◌≤◌, Bool, true, false, cond, List, [], ◌∷◌, ◌++◌}
-use Rattle.std.proofs.Common.{Some}
-use Rattle.std.proofs.Common.{None, refl, arith}
-use Rattle.std.specs.Prelude.{◌&&◌, nat_lt, not, ◌==◌}
-use Rattle.std.proofs.lemmas.Bool.{and_parts, and_from, ltb-true, lt-ltb, eqb-true}
+use Rattle.std.proofs.Common.{Some, None, refl, arith}
+use Rattle.std.specs.Prelude.{◌&&◌, nat_lt, nat_le, not, ◌==◌}
+use Rattle.std.specs.List.{list_all}
+use Rattle.std.proofs.lemmas.Bool.{and_parts, and_from, ltb-true, lt-ltb, leb-true, eqb-true}
 use Rattle.cm_pool.specs.Geometry.{Sizes}
 use Rattle.cm_pool.specs.declared.chunk.Chunk.{Chunk}
 use Rattle.cm_pool.specs.Chunks.{same_chunk}
@@ -12,8 +13,8 @@ use Rattle.cm_layout.specs.declared.row.Row.{Row}
 use Rattle.cm_layout.specs.declared.row.Row.TheVariants.{Loader, Class}
 use Rattle.cm_layout.specs.declared.entry.Entry.{Entry}
 use Rattle.cm_layout.specs.declared.entry.Entry.TheVariants as entry
-use Rattle.cm_layout.specs.Rows.{without_loader, moved, rows_after}
-use Rattle.cm_layout.specs.Rules.{broken_rule, is_new_loader}
+use Rattle.cm_layout.specs.Rows.{numbers_in, without_loader, moved, rows_after}
+use Rattle.cm_layout.specs.Rules.{broken_rule, broken_live_rule, is_new_loader}
 use Rattle.cm_rows.specs.Rows.{is_above}
 
 -- each loader's number is below
@@ -82,6 +83,24 @@ below_moved {P} n from to (Class r c ∷ rows) b =
 kept : (t : Bool) → None ≡ cond t None (Some OnRows) → t ≡ true
 kept true h = refl
 kept false h = absurd (cc)
+
+pub above_row : {P : Type 0} (sizes : Sizes) (n : ℕ) (rows : List (Row P)) (row : Row P)
+    → None ≡ broken_live_rule sizes n rows row → is_above (n + 1) rows ≡ true
+    → is_above (n + 1) (rows ++ row ∷ []) ≡ true
+above_row sizes n rows (Loader r) keeps above =
+    let all = kept (nat_le 1 r.number && nat_le r.number n
+    && list_all (λ u. nat_lt u r.number) (numbers_in rows) && is_new_loader sizes rows r) keeps in
+    let a = and_parts (nat_le 1 r.number && nat_le r.number n
+    && list_all (λ u. nat_lt u r.number) (numbers_in rows)) (is_new_loader sizes rows r) all in
+    let b = and_parts (nat_le 1 r.number && nat_le r.number n)
+    (list_all (λ u. nat_lt u r.number) (numbers_in rows)) a.0 in
+    let c = and_parts (nat_le 1 r.number) (nat_le r.number n) b.0 in
+    let small : r.number < n + 1 = omega (arith, leb-true r.number n c.1) in
+    below_to (n + 1) (rows ++ Loader r ∷ [])
+    (below_append (n + 1) rows (Loader r ∷ []) (below_from (n + 1) rows above) (small, tt))
+above_row sizes n rows (Class r p) keeps above =
+    below_to (n + 1) (rows ++ Class r p ∷ [])
+    (below_append (n + 1) rows (Class r p ∷ []) (below_from (n + 1) rows above) tt)
 
 pub above_entry : {P : Type 0} (sizes : Sizes) (n : ℕ) (rows : List (Row P)) (e : Entry P)
     → None ≡ broken_rule sizes rows (n + 1) e → is_above (n + 1) rows ≡ true

@@ -1,4 +1,5 @@
 -- Rows with nothing kept of a class have the same loaders, numbers, chunks and rules.
+-- On `bare`, `bare_entry`, `rows_with`, for crates above.
 use Rattle.std.proofs.Common.{◌≡◌, ℕ, ◌+◌, Bool, true, false, cond, List, [], ◌∷◌, ◌++◌, refl}
 use Rattle.std.proofs.Common.{Some, sym, ap, ◌∙◌, eqb}
 use Rattle.std.specs.Prelude.{not}
@@ -15,14 +16,8 @@ use Rattle.cm_layout.specs.Rows.{without_loader, moved, rows_after, row_with, ro
 use Rattle.cm_layout.specs.Rows.{bare}
 use Rattle.cm_layout.specs.Rules.{broken_rule}
 use Rattle.cm_layout.specs.Loaders.{LoadersDiffer}
-use Rattle.cm_layout.specs.Frames.{BareRow, BareEntry}
+use Rattle.cm_layout.specs.Frames.{BareRow, BareEntry, bare_row, bare_entry}
 use Rattle.std.proofs.lemmas.List.{map-append}
-
-abbrev pub bare_row : {A : Type 0} → Row A → BareRow
-bare_row {A} row = row_with (λ (c : A). tt {0}) row
-
-abbrev pub bare_entry : {A : Type 0} → Entry A → BareEntry
-bare_entry {A} e = entry_with (λ (c : A). tt {0}) e
 
 pub bare-with : {A B : Type 0} (f : A → B) (rows : List (Row A)) → bare (rows_with f rows)
     ≡ bare rows

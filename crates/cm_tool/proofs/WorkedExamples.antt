@@ -9,7 +9,7 @@ use Rattle.cm_rules.specs.declared.rule.Rule.TheVariants as rules
 use Rattle.cm_rules.specs.declared.rule.Spot.TheVariants as spot
 use Rattle.cm_prepare.specs.declared.bad_class.BadClass.TheVariants as bad
 use Rattle.cm_prepare.specs.declared.refusal.Refusal.TheVariants as refusal
-use Rattle.cm_tool.specs.declared.reply.Kind.TheVariants as kind
+use Rattle.cm_tool.specs.declared.reply.ReplyKind.TheVariants as kind
 use Rattle.cm_tool.specs.Texts.{number_reply, defined_reply, none_reply, class_reply}
 use Rattle.cm_tool.specs.Texts.{bad_line_reply, refusal_reply}
 
@@ -143,7 +143,7 @@ unfolding digits
 this_is_no_class = refl
 
 fifth_text : (refusal_reply
-    (refusal.BadClass (bad.Rule (record { rule = rules.TextForm; spot = spot.Pool 5 })))).text
+    (refusal.BadClass (bad.Rule (record { rule = rules.Utf8Form; spot = spot.Pool 5 })))).text
     ≡ codes "refused 14 V1 pool 5"
 unfolding digits
 fifth_text = refl

@@ -1,26 +1,17 @@
--- Chunks: the tests on them and what they mean.
+-- When two chunks are one, by the test on them, and that they meet both ways.
+-- On `same_chunk`, `Meets`, for crates above.
 use Rattle.std.proofs.Common.{◌≡◌, ◌≢◌, ◌^◌, ◌<◌, ◌⊎◌, Bool, true, false, eqb, inl, inr, refl, sym}
 use Rattle.std.proofs.Common.{◌∙◌, subst, arith}
-use Rattle.std.specs.Prelude.{◌&&◌, ◌||◌}
-use Rattle.std.proofs.lemmas.Bool.{eqb-true, lt-ltb, eq-eqb}
+use Rattle.std.specs.Prelude.{◌&&◌}
+use Rattle.std.proofs.lemmas.Bool.{and_parts, eqb-true, eq-eqb}
 use Rattle.std.proofs.lemmas.Nat.{pow_pos}
 use Rattle.cm_pool.specs.declared.chunk.Chunk.{Chunk}
 use Rattle.cm_pool.specs.Chunks.{same_chunk, Meets, Covers}
-use Rattle.cm_layout.specs.Rules.{meets}
-
--- the first test of two, or the second
-pub both_true : (a b : Bool) → (a && b) ≡ true → (a ≡ true) × (b ≡ true)
-both_true true b h = (refl, h)
-both_true false b h = absurd (cc)
-
-pub either_true : (a b : Bool) → (a || b) ≡ true → (a ≡ true) ⊎ (b ≡ true)
-either_true true b h = inl refl
-either_true false b h = inr h
 
 pub same_chunk-true : (a b : Chunk) → same_chunk a b ≡ true → a ≡ b
 same_chunk-true a b h =
-    let p = both_true (eqb a.root b.root) (eqb a.order b.order && eqb a.at b.at) h in
-    let q = both_true (eqb a.order b.order) (eqb a.at b.at) p.1 in
+    let p = and_parts (eqb a.root b.root) (eqb a.order b.order && eqb a.at b.at) h in
+    let q = and_parts (eqb a.order b.order) (eqb a.at b.at) p.1 in
     let root : a.root ≡ b.root = eqb-true a.root b.root p.0 in
     let order : a.order ≡ b.order = eqb-true a.order b.order q.0 in
     let at_is : a.at ≡ b.at = eqb-true a.at b.at q.1 in
@@ -45,15 +36,6 @@ same_chunk-cases a b = by_test (same_chunk a b) refl
 
 pub same_chunk-false : (a b : Chunk) → a ≢ b → same_chunk a b ≡ false
 same_chunk-false a b n = elim (same_chunk-cases a b) [ inl (t, e) ↦ absurd (n e) | inr (f, d) ↦ f ]
-
--- chunks that share a word pass the test, and no others
-pub meets-true : (a b : Chunk) → Meets a b → meets a b ≡ true
-meets-true a b m =
-    let in_a : Covers a m.0 m.1 = m.2 in
-    let in_b : Covers b m.0 m.1 = m.3 in
-    let roots : a.root ≡ b.root = sym in_a.same_root ∙ in_b.same_root in
-    let test : eqb a.root b.root ≡ true = eq-eqb a.root b.root roots in
-    rw test (lt-ltb _ _ (omega (arith, in_a.from, in_a.to, in_b.from, in_b.to)))
 
 pub meets-turned : (a b : Chunk) → Meets a b → Meets b a
 meets-turned a b m = (m.0, m.1, m.3, m.2)
