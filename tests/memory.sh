@@ -1,32 +1,65 @@
 #!/usr/bin/env bash
-# Failed allocations. Each test named here, and the program on a script, runs once for each of its allocations, with that
-# one refused, up to the first run that meets no refusal; each run has to pass, and the number of refusals has to be what
-# it is. A pool, an arena or a store that isn't as it was before the failed call gives other answers, and so does a reader
-# that says `NoMemory` in place of a fault. And what a class file's counts claim falsely is never asked for.
+# Failed allocations. Each test named here, and the program on a script, runs once for each of its
+# allocations, with that one refused, up to the first run that meets no refusal; each run has to
+# pass, and the number of refusals has to be what it is. A pool, an arena or a store that isn't as
+# it was before the failed call gives other answers, and so does a reader that says `NoMemory` in
+# place of a fault. And what a class file's counts claim falsely is never asked for.
 #
-# Needs a C compiler, and the executables that the gate leaves (it builds what is missing).
+# The sweeps run side by side, one a processor, each with a folder of its own; what each says
+# is told in turn.
+#
+# Needs a C compiler, Python 3, and the executables that the gate leaves (what is missing it
+# builds).
 set -u
 cd "$(dirname "$0")/.." || exit 1
 . tests/lib.sh
 
 library=$work/allocations.so
-cc -O2 -Wall -Werror -shared -fPIC -o "$library" tests/allocations.c || { echo "0 passed, 1 failed"; exit 1; }
+if ! cc -O2 -Wall -Werror -shared -fPIC -o "$library" tests/allocations.c; then
+    echo "0 passed, 1 failed"
+    exit 1
+fi
 
 # count N: the Nth of the three counts that the last run left (asked for, most bytes, refused).
 count() { od -An -t u8 -j $((8 * ($1 - 1))) -N 8 "$work/counts" | tr -d ' '; }
 
+# beside SWEEP WORD..: runs a sweep as soon as a processor is free.
+sweeps=0
+beside() {
+    while [ "$(jobs -rp | wc -l)" -ge "$(nproc)" ]; do wait -n; done
+    sweeps=$((sweeps + 1))
+    mkdir "$work/$sweeps"
+    (
+        work=$work/$sweeps passed=0 failed=0
+        "$@"
+        echo "$passed $failed" >"$work/end"
+    ) >"$work/$sweeps/told" 2>&1 &
+}
+
+# tell_sweeps: waits for all sweeps, tells in turn what each said, and counts its checks.
+tell_sweeps() {
+    local sweep good bad
+    wait
+    for sweep in $(seq "$sweeps"); do
+        cat "$work/$sweep/told"
+        read -r good bad <"$work/$sweep/end" || good=0 bad=1
+        passed=$((passed + good))
+        failed=$((failed + bad))
+    done
+}
+
 # sweep CRATE TEST REFUSALS
 sweep() {
     local tests=crates/$1/out/$1_tests refuse=0 broken=0
-    [ -x "$tests" ] || (cd "crates/$1" && rt test) >"$work/log" 2>&1 || cat "$work/log"
     while [ $refuse -lt 2000 ]; do
         refuse=$((refuse + 1))
         rm -f "$work/counts"
-        ALLOCATIONS=$work/counts REFUSE=$refuse LD_PRELOAD=$library "$tests" "$2" >"$work/log" 2>&1 || {
+        if ! ALLOCATIONS=$work/counts REFUSE=$refuse LD_PRELOAD=$library \
+            "$tests" "$2" >"$work/log" 2>&1; then
             broken=1
             echo "$1 $2 with its allocation $refuse refused:"
             tail -n 3 "$work/log"
-        }
+        fi
         [ "$(count 3)" = 0 ] && break
     done
     [ $broken = 0 ]
@@ -35,38 +68,51 @@ sweep() {
     check_last "$1 $2: $((refuse - 1)) refusals were met, and not $3"
 }
 
-sweep cm_space_tests pools::a_failed_allocation_leaves_the_pool_as_it_was 13
-sweep cm_space_tests arenas::places_words 15
-sweep cm_space_tests arenas::takes_larger_chunks_in_a_longer_chain 25
-sweep cm_class_tests faults::a_fault_behind_a_refusal 11
-sweep cm_world_tests commands::a_left_chunk_waits_for_its_receipt 212
+for crate in cm_space_tests cm_class_tests cm_world_tests; do
+    [ -x "crates/$crate/out/${crate}_tests" ] && continue
+    (cd "crates/$crate" && rt test) >"$work/log" 2>&1 || cat "$work/log"
+done
+beside sweep cm_space_tests pools::a_failed_allocation_leaves_the_pool_as_it_was 13
+beside sweep cm_space_tests arenas::places_words 15
+beside sweep cm_space_tests arenas::takes_larger_chunks_in_a_longer_chain 25
+beside sweep cm_class_tests faults::a_fault_behind_a_refusal 11
+beside sweep cm_world_tests commands::a_left_chunk_waits_for_its_receipt 212
 
-# The program's own: making a file, and scripts with commands that are done, refused, and looked up, in memory and on a file.
-a=cafebabe000000340005070002010001410700040100106a6176612f6c616e672f4f626a6563740021000100030000000000000000
+# The program's own: making a file, and scripts with commands that are done, refused, and looked up,
+# in memory and on a file.
+a=cafebabe0000003400050700020100014107000401
+a+=00106a6176612f6c616e672f4f626a6563740021000100030000000000000000
 built=$(executable)
-printf 'loader app\ndefine app %s\nfind app A\nloader app\nunload app\nfind app A\n' "$a" >"$work/in"
-# sweep_program REFUSALS WORD..
+printf 'loader app\ndefine app %s\nfind app A\nloader app\nunload app\nfind app A\n' "$a" \
+    >"$work/script"
+# sweep_program SCRIPT REFUSALS WORD..
 sweep_program() {
-    WORK=$work tests/refused_memory.py "$built" "$library" "$@" <"$work/in"
-    check_last "the program with a refused allocation: $*"
+    WORK=$work tests/refused_memory.py "$built" "$library" "${@:2}" <"$1"
+    check_last "the program with a refused allocation: ${*:2}"
 }
-sweep_program 325 apply --memory
-sweep_program 324 apply FILE
-sweep_program 83 format FILE
+beside sweep_program "$work/script" 325 apply --memory
+beside sweep_program "$work/script" 324 apply FILE
+beside sweep_program "$work/script" 83 format FILE
 # Opening a file alone, and looking at it.
-: >"$work/in"
-sweep_program 318 apply FILE
-sweep_program 243 check FILE
-sweep_program 356 list FILE
+beside sweep_program /dev/null 318 apply FILE
+beside sweep_program /dev/null 243 check FILE
+beside sweep_program /dev/null 356 list FILE
+tell_sweeps
 
-# asks NAME HEX: reading, judging and recording this class asks for no more than 4,096 bytes at once, though it claims more.
+# asks NAME HEX: reading, judging and recording this class asks for no more than 4,096 bytes at
+# once, though it claims more.
 bench=$(built cm_bench)
 asks() {
-    local length=$((${#2} / 2))
-    printf '%08x%s' "$length" "$2" | python3 -c 'import sys; sys.stdout.buffer.write(bytes.fromhex(sys.stdin.read()))' >"$work/in"
+    local length=$((${#2} / 2)) status most
+    printf '%08x%s' "$length" "$2" >"$work/hex"
+    python3 -c 'import sys; sys.stdout.buffer.write(bytes.fromhex(sys.stdin.read()))' \
+        <"$work/hex" >"$work/in"
     rm -f "$work/counts"
-    ALLOCATIONS=$work/counts LD_PRELOAD=$library "$bench" <"$work/in" >"$work/got" && [ "$(count 2)" -le 4096 ] && grep -q "faults $3" "$work/got"
-    check_last "$1: $(count 2) bytes were asked for at once"
+    ALLOCATIONS=$work/counts LD_PRELOAD=$library "$bench" <"$work/in" >"$work/got"
+    status=$?
+    most=$(count 2)
+    [ "$status" = 0 ] && [ "$most" -le 4096 ] && grep -q "faults $3" "$work/got"
+    check_last "$1: $most bytes were asked for at once"
 }
 asks "class A" "$a" 0
 asks "65,535 constants" cafebabe00000034ffff 1
@@ -76,6 +122,7 @@ asks "65,535 fields" "${a%000000000000}ffff" 1
 asks "65,535 methods" "${a%00000000}ffff" 1
 asks "65,535 attributes" "${a%0000}ffff" 1
 asks "a field with 65,535 attributes" "${a%000000000000}0001000100020002ffff" 1
+asks "a method with 65,535 attributes" "${a%00000000}0001000100020002ffff" 1
 asks "an attribute of 4 GiB" "${a%0000}00010002ffffffff" 1
 
 finish

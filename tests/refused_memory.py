@@ -1,15 +1,17 @@
 #!/usr/bin/env python3
-"""Runs the program once for each allocation that it makes, with that one refused, and looks at what it says and leaves.
+"""Runs the program once for each allocation that it makes, with that one refused, and looks at what
+it says and leaves.
 
     tests/refused_memory.py PROGRAM ALLOCATIONS_LIBRARY REFUSALS WORD.. <SCRIPT
 
-The words are the program's; FILE among them is a file: for `format` none that is there, for a script that of an empty cache,
-and for `check`, `list` and a script without lines, which only opens it, that of a cache with classes. Each run has to end,
-and to write replies that are true: a line is answered as ever, or `refused 9 memory` where nothing else refuses it, or, of a
-cache in memory, `unsure N` as the last reply (a disk in memory that can't grow is a device that failed); fewer replies than
-lines come with status 3 alone. A file holds what was acknowledged then, or that and the next command; one that `format` didn't
-make isn't there, and one that is only looked at has its bytes. REFUSALS is how many runs have to meet a refusal; the first
-that meets none ends the sweep.
+The words are the program's; FILE among them is a file: for `format` none that is there, for a
+script that of an empty cache, and for `check`, `list` and a script without lines, which only opens
+it, that of a cache with classes. Each run has to end, and to write replies that are true: a line is
+answered as ever, or `refused 9 memory` where nothing else refuses it, or, of a cache in memory,
+`unsure N` as the last reply (a disk in memory that can't grow is a device that failed); fewer
+replies than lines come with status 3 alone. A file holds what was acknowledged then, or that and
+the next command; one that `format` didn't make isn't there, and one that is only looked at has its
+bytes. REFUSALS is how many runs have to meet a refusal; the first that meets none ends the sweep.
 """
 import copy
 import os
@@ -69,7 +71,8 @@ class Sweep:
         self.checks = runs.Checks()
         # Whether the file is only looked at.
         self.looks = words[0] in ("check", "list") or not lines
-        self.begins = region.file_of(held_cache()) if self.looks else bytes(region.Region(oracle.Geometry()).bytes)
+        self.begins = (region.file_of(held_cache()) if self.looks
+                       else bytes(region.Region(oracle.Geometry()).bytes))
 
     def run(self, refuse):
         """What came of the run with that allocation refused, and whether there was one."""
@@ -89,7 +92,8 @@ class Sweep:
         if replies in ([b"memory"], [b"device"]) and status == 3:
             replies = []
         cache = oracle.Cache()
-        self.checks.check(f"{name}: the replies", is_true(self.lines, replies, status, cache, self.path), f"{ran}")
+        self.checks.check(f"{name}: the replies",
+                          is_true(self.lines, replies, status, cache, self.path), f"{ran}")
         if self.path:
             line = self.lines[len(replies)] if len(replies) < len(self.lines) else None
             runs.settle(self.checks, f"{name}: the file", self.path, cache, line)
@@ -106,7 +110,8 @@ class Sweep:
         file = region.File(self.begins)
         due = {"check": [file.report().encode()], "list": [*file.listed()]}.get(self.words[0], [])
         replies, status, errors = ran
-        cut = status == 3 and (errors or replies == [b"memory"]) and (replies == [b"memory"] or replies == due[:len(replies)])
+        cut = (status == 3 and (errors or replies == [b"memory"])
+               and (replies == [b"memory"] or replies == due[:len(replies)]))
         self.checks.check(name, ran == (due, 0, "") or cut, f"{ran}")
         with open(self.path, "rb") as held:
             self.checks.check(f"{name}: the file", held.read() == self.begins)
@@ -123,13 +128,15 @@ class Sweep:
                 self.check_script(name, ran)
             if not has_met:
                 break
-        self.checks.check("the number of refusals", refuse - 1 == wanted, f"{refuse - 1} were met, and not {wanted}")
+        self.checks.check("the number of refusals", refuse - 1 == wanted,
+                          f"{refuse - 1} were met, and not {wanted}")
         return self.checks.finish()
 
 
 def main(program, library, wanted, *words):
     with tempfile.TemporaryDirectory(dir=os.environ.get("WORK")) as folder:
-        return Sweep(program, library, words, oracle.lines_of(sys.stdin.buffer.read()), folder).sweep(int(wanted))
+        lines = oracle.lines_of(sys.stdin.buffer.read())
+        return Sweep(program, library, words, lines, folder).sweep(int(wanted))
 
 
 if __name__ == "__main__":
