@@ -1,6 +1,6 @@
 #!/usr/bin/env bash
-# The command line and the program's edges: wrong words, help, failing inputs and outputs, and their statuses.
-# Needs /dev/full (Linux) and Python 3.
+# The command line and the program's edges: wrong words, help, failing inputs and outputs, and their
+# statuses. Needs /dev/full (Linux) and Python 3.
 set -u
 . "$(dirname "$0")/lib.sh"
 
@@ -25,12 +25,18 @@ check_status "a word that isn't UTF-8" 2 says
 grep -q '^Usage' "$work/errors"
 check_last "a word that isn't UTF-8: the usage text is told"
 
+# output_failed CASE: the last run ended with 3, and told that the output failed.
+output_failed() {
+    check_status "$1" 3
+    grep -qx 'cmcache: the output failed' "$work/errors"
+    check_last "$1: it says that the output failed"
+}
 "$program" --help >/dev/full 2>"$work/errors"
 status=$?
-check_status "help into a full device" 3 says
+output_failed "help into a full device"
 "$program" --help >&- 2>"$work/errors"
 status=$?
-check_status "help into a closed output" 3 says
+output_failed "help into a closed output"
 "$program" nonsense >"$work/got" 2>/dev/full
 status=$?
 check_status "wrong words with a full standard error" 2
@@ -46,8 +52,8 @@ for words in -h "format new --help" "apply -h"; do
     check_streams "help: $words" some none
 done
 
-# Numbers are whole, within their limits, and nothing else; each of them is told by its option. Words that stand in no
-# place are told with the usage text.
+# Numbers are whole, within their limits, and nothing else; each of them is told by its option.
+# Words that stand in no place are told with the usage text.
 mkdir "$work/folder"
 cd "$work/folder" || exit 1
 # wrong_words TEXT WORD..: the words are wrong, and standard error tells the text.
@@ -69,7 +75,8 @@ done
 [ -z "$(ls -A)" ]
 check_last "wrong words make no file"
 
-# A path is the word that stands in its place, whatever it looks like: behind `--` an option's name too.
+# A path is the word that stands in its place, whatever it looks like: behind `--` an option's
+# name too.
 mkdir folder
 run format folder/a
 check_status "a path with a folder" 0
@@ -130,33 +137,77 @@ printf 'ok 1\nnone\n' >"$work/want"
 status=$?
 check "through a link" 0
 
-# The converter of class files ends with one line on what it can't read.
+# The converter of class files ends with one line on what it can't read or write, which names it.
+converter=$top/examples/define_lines.py
 convert() {
-    "$top/examples/define_lines.py" "$@" >"$work/got" 2>"$work/errors"
+    "$converter" "$@" >"$work/got" 2>"$work/errors"
     status=$?
 }
-one_line() { [ "$(wc -l <"$work/errors")" = 1 ]; }
+# told CASE NAME: the converter ended with status 1, and with one line, which begins with the name.
+told() {
+    check_status "define_lines.py: $1" 1
+    [ "$(wc -l <"$work/errors")" = 1 ] && [[ $(<"$work/errors") == "define_lines.py: $2: "* ]]
+    check_last "define_lines.py: $1: one line tells it"
+}
+# jar NAME METHOD [PLACE BITS]..: a jar of one class, stored (0) or deflated (8), in which these
+# bits are turned of the bytes at these places. Its file header begins at 0, the class's bytes at
+# 37, and its entry in the directory at -75.
+jar() {
+    python3 - "$work/$1.jar" "${@:2}" <<'END'
+import sys, zipfile
+path, method, *turned = sys.argv[1:]
+with zipfile.ZipFile(path, "w", int(method)) as jar:
+    jar.writestr("A.class", bytes.fromhex("cafebabe") + bytes(40))
+with open(path, "r+b") as file:
+    made = bytearray(file.read())
+    for place, bits in zip(turned[::2], turned[1::2]):
+        made[int(place)] ^= int(bits)
+    file.seek(0)
+    file.write(made)
+END
+}
+jar good 8
+printf 'loader app\ndefine app cafebabe%080d\n' 0 >"$work/want"
+convert app "$work/good.jar"
+check "define_lines.py: a jar" 0
 convert app "$work/nothing.class"
-check_status "define_lines.py: a missing path" 1
-one_line
-check_last "define_lines.py: one line on a missing path"
+told "a missing path" "$work/nothing.class"
+convert app "$work/good.jar" "$work/nothing.class" "$work/good.jar"
+told "a missing path among others" "$work/nothing.class"
 echo "no jar" >"$work/bad.jar"
 convert app "$work/bad.jar"
-check_status "define_lines.py: a bad jar" 1
-one_line
-check_last "define_lines.py: one line on a bad jar"
+told "a bad jar" "$work/bad.jar"
+jar deflated 8 37 4
+convert app "$work/deflated.jar"
+told "a flipped bit in a deflated class" "$work/deflated.jar!A.class"
+jar stored 0 50 1
+convert app "$work/good.jar" "$work/stored.jar"
+told "a flipped bit in a stored class" "$work/stored.jar!A.class"
+jar encrypted 0 6 1 -67 1
+convert app "$work/encrypted.jar"
+told "an encrypted class" "$work/encrypted.jar!A.class"
+jar unknown 0 8 99 -65 99
+convert app "$work/unknown.jar"
+told "a class that is compressed in an unknown way" "$work/unknown.jar!A.class"
 echo "no class" >"$work/bad.class"
 convert app "$work/bad.class"
-check_status "define_lines.py: no class" 1
-one_line
-check_last "define_lines.py: one line on what is no class"
+told "no class" "$work/bad.class"
+"$converter" app "$work/good.jar" >/dev/full 2>"$work/errors"
+status=$?
+told "a full output" "standard output"
+"$converter" app "$work/nothing.class" >/dev/full 2>"$work/errors"
+status=$?
+told "a full output and a missing path" "standard output"
+"$converter" app "$work/good.jar" >&- 2>"$work/errors"
+status=$?
+told "a closed output" "standard output"
 convert "my app" "$work/bad.class"
 check_status "define_lines.py: a loader's name with a space" 2 says
 convert app
 check_status "define_lines.py: no path" 2 says
 mkdir "$work/many"
 for i in $(seq 3000); do printf '\xca\xfe\xba\xbe%0200d' "$i" >"$work/many/$i.class"; done
-"$top/examples/define_lines.py" app "$work/many" 2>"$work/errors" | head -1 >"$work/got"
+"$converter" app "$work/many" 2>"$work/errors" | head -1 >"$work/got"
 [ ! -s "$work/errors" ]
 check_last "define_lines.py: a closed pipe is no error to tell of"
 
