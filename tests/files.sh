@@ -1,16 +1,19 @@
 #!/usr/bin/env bash
-# Caches in files: what `format` and `apply FILE` reply, the statuses they end with, and what the file holds then. The
-# replies and the bytes of each file are those of tests/oracle.py and tests/region.py, which share no code with the
-# program. Needs Python 3; where it isn't run by root, files without permission are the caller's own.
+# Caches in files: what `format` and `apply FILE` reply, the statuses they end with, and what the
+# file holds then. The replies and the bytes of each file are those of tests/oracle.py and
+# tests/region.py, which share no code with the program. Needs Python 3; where it isn't run by root,
+# files without permission are the caller's own.
 set -u
 cd "$(dirname "$0")/.." || exit 1
 . tests/lib.sh
 
-a=cafebabe000000340005070002010001410700040100106a6176612f6c616e672f4f626a6563740021000100030000000000000000
+a=cafebabe0000003400050700020100014107000401
+a+=00106a6176612f6c616e672f4f626a6563740021000100030000000000000000
 
 # padded X M: class A with another name of one letter, and an attribute of M zeros.
 padded() {
-    printf 'cafebabe000000340006070002010001%02x0700040100106a6176612f6c616e672f4f626a65637401000158' "'$1"
+    printf 'cafebabe000000340006070002010001%02x' "'$1"
+    printf '0700040100106a6176612f6c616e672f4f626a65637401000158'
     printf '002100010003000000000000000100''05%08x' "$2"
     [ "$2" = 0 ] || printf '00%.0s' $(seq "$2")
 }
@@ -29,8 +32,8 @@ check_file() {
     check_last "$1"
 }
 
-# check_says NAME STATUS WORDS [PATH]: the words are all of standard output. With a path standard error tells it, once;
-# without one it is empty.
+# check_says NAME STATUS WORDS [PATH]: the words are all of standard output. With a path standard
+# error tells it, once; without one it is empty.
 check_says() {
     printf '%s\n' "$3" >"$work/want"
     check "$1" "$2"
@@ -44,8 +47,10 @@ check_says() {
 
 # check_size NAME FILE BYTES
 check_size() {
-    [ "$(stat -c %s "$2")" = "$3" ]
-    check_last "$1: $(stat -c %s "$2") bytes"
+    local size
+    size=$(stat -c %s "$2")
+    [ "$size" = "$3" ]
+    check_last "$1: $size bytes"
 }
 
 # ---- a file is made, and goes on from run to run
@@ -87,8 +92,10 @@ check "the second example once more" 1
 check_file "the bytes after that" "$cache"
 
 {
-    printf 'loader a\nfind a A\ndefine a %s\nunload a\nfind a A\nunload a\nloader a\ndefine a %s\nfind a A\n' "$a" "$(padded A 0)"
-    printf 'unload\nunload a b\nunload \nunload a\xff\nunload 0123456789012345678901234567890123456789012345678\n'
+    printf 'loader a\nfind a A\ndefine a %s\nunload a\nfind a A\nunload a\n' "$a"
+    printf 'loader a\ndefine a %s\nfind a A\n' "$(padded A 0)"
+    printf 'unload\nunload a b\nunload \nunload a\xff\n'
+    printf 'unload 0123456789012345678901234567890123456789012345678\n'
 } >"$work/in"
 expect
 run apply "$cache"
@@ -112,7 +119,8 @@ python3 tests/region.py new 3 1 256 | cmp -s - "$small"
 check_last "the bytes of a small file"
 printf 'loader a\ndefine a %s\nloader b\ndefine b %s\nunload a\ndefine b %s\nfind b B\n' \
     "$(padded A 8032)" "$(padded B 0)" "$(padded B 0)" >"$work/in"
-printf 'ok 1\nok 2 A\nok 3\nrefused 6 region full\nok 4\nok 5 B\nclass B flags 0021 super java/lang/Object words 20\n' >"$work/want"
+printf '%s\n' 'ok 1' 'ok 2 A' 'ok 3' 'refused 6 region full' 'ok 4' 'ok 5 B' \
+    'class B flags 0021 super java/lang/Object words 20' >"$work/want"
 run apply "$small"
 check "an unloaded loader's room is used again" 1
 
@@ -127,13 +135,25 @@ utf8=$(printf '61%.0s' $(seq 65535))
     long=${long/01000141/01000145}
     printf 'define a %s\n' "${long/4f626a656374/4f626a65637401ffff$utf8}"
 } >"$work/in"
-printf 'ok 1\nok 2 A\nok 3 B\nok 4 C\nrefused 5 record too long\nrefused 5 record too long\n' >"$work/want"
+printf '%s\n' 'ok 1' 'ok 2 A' 'ok 3 B' 'ok 4 C' \
+    'refused 5 record too long' 'refused 5 record too long' >"$work/want"
 run apply "$small"
 check "records that no root holds" 1
 sed 1d "$work/in" >"$work/rest" && sed 's/ a / b /; 1i loader b' "$work/rest" >"$work/in"
-printf 'ok 5\nok 6 A\nok 7 B\nok 8 C\nrefused 5 record too long\nrefused 5 record too long\n' >"$work/want"
+printf '%s\n' 'ok 5' 'ok 6 A' 'ok 7 B' 'ok 8 C' \
+    'refused 5 record too long' 'refused 5 record too long' >"$work/want"
 run apply "$small"
 check "and in another run" 1
+
+rm "$small"
+: >"$work/in"
+run format "$small"
+printf 'loader a\ndefine a %s\ndefine a %s\nfind a A\n' \
+    "$(padded A 261984)" "$(padded B 261985)" >"$work/in"
+printf 'ok 1\nok 2 A\nrefused 5 record too long\n' >"$work/want"
+echo 'class A flags 0021 super java/lang/Object words 32768' >>"$work/want"
+run apply "$small"
+check "a record that fills a root of the usual size, and one of a word more" 1
 
 rm "$small"
 : >"$work/in"
@@ -143,7 +163,8 @@ for i in $(seq 127); do echo "ok $i"; done >"$work/want"
 run apply "$small"
 check "127 loaders fill the half" 0
 printf 'loader l128\nunload l1\nfind l1 A\nloader l1\n' >"$work/in"
-printf 'refused 7 journal full\nrefused 7 journal full\nnone\nrefused 2 loader exists\n' >"$work/want"
+printf '%s\n' 'refused 7 journal full' 'refused 7 journal full' none \
+    'refused 2 loader exists' >"$work/want"
 run apply "$small"
 check "no command follows them" 1
 
@@ -156,7 +177,8 @@ for gate in A4 00 FF A5; do
     printf "\x$gate" | dd of="$small" bs=1 seek=$((4096 + 64 * 3)) conv=notrunc status=none
     printf 'find app A\nloader app\n' >"$work/in2"
     if [ $gate = A5 ]; then
-        printf 'class A flags 0021 super java/lang/Object words 16\nrefused 2 loader exists\n' >"$work/want"
+        printf '%s\n' 'class A flags 0021 super java/lang/Object words 16' \
+            'refused 2 loader exists' >"$work/want"
     else
         printf 'none\nrefused 2 loader exists\n' >"$work/want"
     fi
@@ -169,7 +191,8 @@ done
 
 : >"$work/in"
 damaged() { # NAME WORDS STATUS OFFSET BYTES..: a good file with bytes changed
-    printf 'loader a\ndefine a %s\ndefine a %s\n' "$a" "$(padded B 0)" | python3 tests/region.py after >"$work/damaged"
+    printf 'loader a\ndefine a %s\ndefine a %s\n' "$a" "$(padded B 0)" |
+        python3 tests/region.py after >"$work/damaged"
     [ -n "$4" ] && printf "$5" | dd of="$work/damaged" bs=1 seek="$4" conv=notrunc status=none
     cp "$work/damaged" "$work/kept"
     run apply "$work/damaged"
@@ -236,7 +259,8 @@ run apply "$work/linked"
 printf 'class A flags 0021 super java/lang/Object words 20\n' >"$work/want"
 check "a link to a cache" 0
 
-# A file that the caller may not read, one that he may only read, and a folder that he may not write to.
+# A file that the caller may not read, one that he may only read, and a folder that he may not
+# write to.
 mine=$work/mine
 mkdir "$mine" "$mine/closed"
 cp "$(executable)" "$mine/cmcache"
@@ -309,7 +333,8 @@ check_status "format with a closed output" 3 says
 "$program" format "$work/silent" <&- >&- 2>&-
 status=$?
 check_status "format with all streams closed" 3
-python3 tests/region.py new 8 64 4096 | tee >(cmp -s - "$work/unheard" || touch "$work/differs") | cmp -s - "$work/silent" && [ ! -e "$work/differs" ]
+python3 tests/region.py new 8 64 4096 >"$work/due"
+cmp -s "$work/due" "$work/unheard" && cmp -s "$work/due" "$work/silent"
 check_last "the files are made all the same"
 "$program" apply "$cache" </ >"$work/got" 2>"$work/errors"
 status=$?
@@ -317,11 +342,12 @@ check_status "a folder as input" 3 says
 
 # ---- words
 
-for words in format "format $work/new $work/other" "format $work/new --top 2" "format $work/new --top 13" \
-    "format $work/new --top x" "format $work/new --top" "format $work/new --roots 0" "format $work/new --roots 257" \
+for words in format "format $work/new $work/other" "format $work/new --top 2" \
+    "format $work/new --top 13" "format $work/new --top x" "format $work/new --top" \
+    "format $work/new --roots 0" "format $work/new --roots 257" \
     "format $work/new --slots 255" "format $work/new --slots 65537" "format $work/new --slots -1" \
-    "format $work/new --slots 1e3" "format $work/new --slots 18446744073709551872" "format $work/new --memory" \
-    "format $work/new --top 3 --top 3" \
+    "format $work/new --slots 1e3" "format $work/new --slots 18446744073709551872" \
+    "format $work/new --memory" "format $work/new --top 3 --top 3" \
     apply "apply $cache --memory" "apply $cache $work/other" "apply $cache --top 3" "check" "list" \
     "check $cache $cache" "list $cache --memory" "forma $work/new" "$cache"; do
     # shellcheck disable=SC2086
@@ -333,7 +359,8 @@ run format $'\xff'
 check_status "a path that isn't UTF-8" 2 says
 [ ! -e "$work/new" ] && [ ! -e "$work/other" ]
 check_last "wrong words make no file"
-for words in --help help "format --help" "apply --help" "check --help" "list --help" "help format"; do
+for words in --help help "format --help" "apply --help" "check --help" "list --help" \
+    "help format"; do
     # shellcheck disable=SC2086
     run $words
     check_status "help: $words" 0
@@ -345,13 +372,16 @@ check_last "the help tells of each line"
 
 # ---- a file in the narrow form, where each class has a root of its own
 
-# The program made it while caches lay in memory only: it is what its disk held after the lines of narrow.txt.
+# The program made it while caches lay in memory only: it is what its disk held after the lines
+# of narrow.txt.
 narrow=$work/narrow
 gzip -dc tests/data/narrow.gz >"$narrow"
 cp tests/data/narrow.txt "$work/before"
 {
-    printf 'find app A\nfind ext A\nfind ext %%C3%%A9\nfind app org/eclipse/jetty/io/ByteArrayEndPoint\nfind empty A\n'
-    printf 'loader empty\ndefine app %s\nloader new\ndefine new %s\nunload app\nfind app A\nfind new A\n' "$a" "$a"
+    printf '%s\n' 'find app A' 'find ext A' 'find ext %C3%A9' \
+        'find app org/eclipse/jetty/io/ByteArrayEndPoint' 'find empty A'
+    printf 'loader empty\ndefine app %s\nloader new\ndefine new %s\n' "$a" "$a"
+    printf '%s\n' 'unload app' 'find app A' 'find new A'
 } >"$work/in"
 expect
 run apply "$narrow"
