@@ -12,15 +12,19 @@ import org.objectweb.asm.ClassReader;
 import org.objectweb.asm.tree.ClassNode;
 
 /**
- * A mature library's full read of the class files on standard input, each behind its length in four bytes. Prints a line
- * in the form of cm_bench.
+ * A mature library's full read of the class files on standard input, each behind its length in four
+ * bytes. Prints a line in the form of cm_bench.
  *
- * Arguments: the library (ASM, Javassist or BCEL), passes to warm up, and passes of which the best counts.
+ * Arguments: the library (ASM, Javassist or BCEL), passes to warm up, and passes of which the best
+ * counts.
  */
 public final class ReadAll {
     private ReadAll() {}
 
-    /** Reads one class file, and tells how many members it has: what is read must be used, or it may be left out. */
+    /**
+     * Reads one class file, and tells how many members it has: what is read must be used, or it may
+     * be left out.
+     */
     private interface Library {
         long members(byte[] bytes) throws IOException;
     }
@@ -33,11 +37,13 @@ public final class ReadAll {
                 return node.fields.size() + node.methods.size();
             },
             "Javassist", bytes -> {
-                ClassFile file = new ClassFile(new DataInputStream(new ByteArrayInputStream(bytes)));
+                ByteArrayInputStream in = new ByteArrayInputStream(bytes);
+                ClassFile file = new ClassFile(new DataInputStream(in));
                 return file.getFields().size() + file.getMethods().size();
             },
             "BCEL", bytes -> {
-                JavaClass parsed = new ClassParser(new ByteArrayInputStream(bytes), "input").parse();
+                ByteArrayInputStream in = new ByteArrayInputStream(bytes);
+                JavaClass parsed = new ClassParser(in, "input").parse();
                 return parsed.getFields().length + parsed.getMethods().length;
             });
 

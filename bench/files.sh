@@ -1,25 +1,29 @@
 #!/usr/bin/env bash
-# Measures what storing classes in a file costs, beside SQLite and LMDB, and what opening a file costs, beside reading its
-# classes. It isn't part of the gate.
+# Measures what storing classes in a file costs, beside SQLite and LMDB, and what opening a file
+# costs, beside reading its classes. It isn't part of the gate.
 #
 #     bench/files.sh [RUNS] [FOLDER]
 #
-# cm_bench_file defines ordinary classes (those of bench/run.sh) in a new file in FOLDER (the crate's out/), one a commit and 64
-# a commit. The same records, as they stand in that file, are then stored by SQLite (write-ahead log, synchronous=FULL), by
-# LMDB, by the bare device calls that the same commits make (bench/stores.c), and by two other choices of these calls, on the
-# same file system. Each row has the best of RUNS runs (5), and the worst for the machine's noise; all take turns, so that a
-# busy disk slows all of them.
+# cm_bench_file defines ordinary classes (those of bench/run.sh) in a new file in FOLDER (the
+# crate's out/), one a commit and 64 a commit. The same records, as they stand in that file, are
+# then stored by SQLite (write-ahead log, synchronous=FULL), by LMDB, by the bare device calls that
+# the same commits make (bench/stores.c), and by two other choices of these calls, on the same file
+# system. Each row has the best of RUNS runs (5), and the worst for the machine's noise; all take
+# turns, so that a busy disk slows all of them.
 #
-# Then files of 10,000, 20,000 and 30,000 classes (bench/many_classes.py) are read into memory and opened; beside the opening are
-# cm_bench's rows on the same classes: read_class (reading and judging) and Record::read (checking records).
+# Then files of 10,000, 20,000 and 30,000 classes (bench/many_classes.py) are read into memory and
+# opened; beside the opening are cm_bench's rows on the same classes: read_class (reading and
+# judging) and Record::read (checking records).
 #
-# What isn't installed is fetched, if the machine reaches Debian's packages. A store that still isn't there is named and left
-# out.
+# What isn't installed is fetched, if the machine reaches Debian's packages. A store that still
+# isn't there is named and left out.
 set -eu
 top=$(cd "$(dirname "${BASH_SOURCE[0]}")/.." && pwd)
 runs=${1:-5}
-packages=(libasm-java libcommons-io-java libcommons-lang3-java libguava-java libsqlite3-dev liblmdb-dev)
-jars=(/usr/share/java/{asm,asm-analysis,asm-commons,asm-tree,asm-util,commons-io,commons-lang3,guava}.jar)
+packages=(libasm-java libcommons-io-java libcommons-lang3-java libguava-java
+    libsqlite3-dev liblmdb-dev)
+jars=(/usr/share/java/asm{,-analysis,-commons,-tree,-util}.jar
+    /usr/share/java/{commons-io,commons-lang3,guava}.jar)
 sizes=(--top 12 --roots 64 --slots 16384)
 
 fetch() {
@@ -29,10 +33,10 @@ fetch() {
 
 # build CRATE
 build() {
-    (cd "$top/crates/$1" && rt run </dev/null) >"$work/log" 2>&1 || [ -x "$top/crates/$1/out/$1" ] || {
-        cat "$work/log" >&2
-        exit 1
-    }
+    (cd "$top/crates/$1" && rt run </dev/null) >"$work/log" 2>&1 && return
+    [ -x "$top/crates/$1/out/$1" ] && return
+    cat "$work/log" >&2
+    exit 1
 }
 
 # has HEADER: whether the C compiler finds it
@@ -46,12 +50,22 @@ trap 'rm -rf "$work" ${folder:+"$folder"}' EXIT
 
 fetch
 for jar in "${jars[@]}"; do
-    [ -e "$jar" ] || { echo "missing: $jar (of ${packages[*]:0:4}): no classes to measure" >&2; exit 1; }
+    [ -e "$jar" ] && continue
+    echo "missing: $jar (of ${packages[*]:0:4}): no classes to measure" >&2
+    exit 1
 done
 stores=(bare joined holes)
 flags=()
-if has sqlite3.h; then stores+=(sqlite) flags+=(-DWITH_SQLITE -lsqlite3); else echo "missing: libsqlite3-dev: no row of SQLite"; fi
-if has lmdb.h; then stores+=(lmdb) flags+=(-DWITH_LMDB -llmdb); else echo "missing: liblmdb-dev: no row of LMDB"; fi
+if has sqlite3.h; then
+    stores+=(sqlite) flags+=(-DWITH_SQLITE -lsqlite3)
+else
+    echo "missing: libsqlite3-dev: no row of SQLite"
+fi
+if has lmdb.h; then
+    stores+=(lmdb) flags+=(-DWITH_LMDB -llmdb)
+else
+    echo "missing: liblmdb-dev: no row of LMDB"
+fi
 gcc -O2 -o "$work/stores" "$top/bench/stores.c" "${flags[@]}"
 build cm_bench_file
 build cm_bench
@@ -66,7 +80,10 @@ rm "$folder/first"
 for group in 1 64; do
     for ((run = 0; run < runs; run++)); do
         "$bench" put "$folder/cache" --group "$group" "${sizes[@]}" --times <"$work/classes" |
-            awk -v g="$group" '{ print "cmcache", g, $2, $6, $15; print "cmcache+prepare", g, $2, $6, $20 }'
+            awk -v g="$group" '{
+                print "cmcache", g, $2, $6, $15
+                print "cmcache+prepare", g, $2, $6, $20
+            }'
         rm "$folder/cache"
         for store in "${stores[@]}"; do
             "$work/stores" "$store" "$folder/$store" "$group" <"$work/records" |
@@ -86,8 +103,9 @@ done | awk '
     END {
         for (key in best) {
             split(key, part, " ")
-            printf "%2d a commit  %-16s %6d records %6d commits %11.0f ns (worst %.2f)  %9.0f ns a commit  %5.2f of the bare calls\n",
-                part[1], part[2], records[key], commits[key], best[key], worst[key] / best[key],
+            printf "%2d a commit  %-16s %6d records %6d commits %11.0f ns (worst %.2f)",
+                part[1], part[2], records[key], commits[key], best[key], worst[key] / best[key]
+            printf "  %9.0f ns a commit  %5.2f of the bare calls\n",
                 best[key] / commits[key], best[key] / best[part[1] " bare"]
         }
     }' | sort
@@ -109,9 +127,11 @@ for count in 10000 20000 30000; do
             classes = $2
         }
         END {
-            printf "read: file of %d classes read in %.0f ns, opened in %.0f ns (worst %.2f), %.0f ns a class,",
-                classes, read, opened, worst / opened, opened / classes
-            printf " %.2f of reading, judging and checking alone; each found in %.0f ns\n", opened / alone, found / classes
+            printf "read: file of %d classes read in %.0f ns, opened in %.0f ns (worst %.2f),",
+                classes, read, opened, worst / opened
+            printf " %.0f ns a class, %.2f of reading, judging and checking alone;",
+                opened / classes, opened / alone
+            printf " each found in %.0f ns\n", found / classes
         }'
     rm "$folder/many"
 done

@@ -1,13 +1,15 @@
 #!/usr/bin/env python3
-"""Measures what `cmcache check` takes for files that are full of records, the longest that there may be among them. It isn't
-part of the gate.
+"""Measures what `cmcache check` takes for files that are full of records, the longest that there
+may be among them. It isn't part of the gate.
 
     bench/full_file.py PROGRAM [RUNS] [FOLDER]
 
-A file has the greatest sizes that there are: roots of 4 MiB, up to 256, and 65,536 slots in each half. In each root lie the
-127 classes of one loader, one behind another in one chunk, so of 256 roots 32,768 rows live, which is as many as there may be.
-It is written from docs/REGION.md, and its records are tests/oracle.py's; nothing of the program's code is in it. Each row has
-the least of RUNS runs (3), with the file in the page cache; the files lie in FOLDER (one beside the program) and go again.
+A file has the greatest sizes that there are: roots of 4 MiB, up to 256, and 65,536 slots in each
+half. In each root lie the 127 classes of one loader, one behind another in one chunk, so of 256
+roots 32,768 rows live, which is as many as there may be. It is written from docs/REGION.md, and its
+records are tests/oracle.py's; nothing of the program's code is in it. Each row has the least of
+RUNS runs (3), with the file in the page cache; the files lie in FOLDER (one beside the program) and
+go again.
 """
 import os
 import struct
@@ -36,8 +38,10 @@ def reference(tag, *numbers):
 
 
 def class_file(name, filling):
-    """A class with as many methods, each with code, a reference to each, and an attribute of so many bytes."""
-    texts = [b"java/lang/Object", name, b"()V", b"Code", b"Filling"] + [b"method%03d" % i for i in range(METHODS)]
+    """A class with as many methods, each with code, a reference to each, and an attribute of so
+    many bytes."""
+    texts = ([b"java/lang/Object", name, b"()V", b"Code", b"Filling"]
+             + [b"method%03d" % i for i in range(METHODS)])
     base, this, descriptor, code, own = range(1, 6)
     first = len(texts) + 1
     pool = [utf8(text) for text in texts]
@@ -75,7 +79,8 @@ def slots(roots):
         yield region.entry_slot(("loader", root + 1, b"loader%03d" % root))
     for root in range(roots):
         for place in range(CLASSES):
-            yield region.spelled(region.DEFINE, "2xIQIIII", WORDS, root + 1, root, TOP, 0, WORDS * place)
+            yield region.spelled(region.DEFINE, "2xIQIIII", WORDS, root + 1, root, TOP, 0,
+                                 WORDS * place)
 
 
 def write_file(path, records, roots):
@@ -91,7 +96,8 @@ def write_file(path, records, roots):
 
 
 def measured(program, path, wanted):
-    """The seconds that a check takes, those of them on a processor, and the KiB that it has at most."""
+    """The seconds that a check takes, those of them on a processor, and the KiB that it has at
+    most."""
     begun = time.monotonic()
     child = subprocess.Popen([program, "check", path], stdout=subprocess.PIPE)
     said = child.stdout.read()
@@ -103,16 +109,20 @@ def measured(program, path, wanted):
 
 
 def main(program, runs=3, folder=None):
-    records = b"".join(record(b"Class%03d" % place) for place in range(CLASSES)).ljust(8 * ROOT_WORDS, b"\0")
-    with tempfile.TemporaryDirectory(dir=folder or os.path.dirname(os.path.abspath(program))) as folder:
+    records = b"".join(record(b"Class%03d" % place)
+                       for place in range(CLASSES)).ljust(8 * ROOT_WORDS, b"\0")
+    with tempfile.TemporaryDirectory(
+            dir=folder or os.path.dirname(os.path.abspath(program))) as folder:
         path = os.path.join(folder, "full")
         for roots in (32, 64, 128, 256):
             long = write_file(path, records, roots)
             classes = CLASSES * roots
-            wanted = b"ok loaders %d classes %d chunks %d number %d\n" % (roots, classes, roots, roots)
+            wanted = b"ok loaders %d classes %d chunks %d number %d\n" % (
+                roots, classes, roots, roots)
             times = [measured(program, path, wanted) for _ in range(runs)]
             took, used, most = (min(column) for column in zip(*times))
-            print(f"{long:13,} bytes  {classes:6,} classes  {took:6.2f} s, {used:6.2f} s on a processor  {most:9,} KiB")
+            print(f"{long:13,} bytes  {classes:6,} classes  {took:6.2f} s, "
+                  f"{used:6.2f} s on a processor  {most:9,} KiB")
             os.remove(path)
 
 

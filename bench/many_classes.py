@@ -1,7 +1,7 @@
 #!/usr/bin/env python3
-"""Makes many classes of a few: reads a stream of class files from standard input, each behind its length (four bytes,
-big-endian), and writes another one of COUNT classes. They are those of the input, in turn, each with a number of its own
-behind its name, so that no name stands twice.
+"""Makes many classes of a few: reads a stream of class files from standard input, each behind its
+length (four bytes, big-endian), and writes another one of COUNT classes. They are those of the
+input, in turn, each with a number of its own behind its name, so that no name stands twice.
 
     bench/many_classes.py COUNT
 """
@@ -10,7 +10,8 @@ import struct
 import sys
 
 UTF8, CLASS = 1, 7
-LENGTHS = {3: 4, 4: 4, 5: 8, 6: 8, 7: 2, 8: 2, 9: 4, 10: 4, 11: 4, 12: 4, 15: 3, 16: 2, 17: 4, 18: 4, 19: 2, 20: 2}
+LENGTHS = {3: 4, 4: 4, 5: 8, 6: 8, 7: 2, 8: 2, 9: 4, 10: 4, 11: 4, 12: 4, 15: 3, 16: 2, 17: 4,
+           18: 4, 19: 2, 20: 2}
 COUNT_AT, POOL_AT = 8, 10
 
 
@@ -40,7 +41,8 @@ def renamed(data, place, number):
     (length,) = struct.unpack_from(">H", data, place)
     end = place + 2 + length
     suffix = b"$%d" % number
-    return data[:place] + struct.pack(">H", length + len(suffix)) + data[place + 2 : end] + suffix + data[end:]
+    return (data[:place] + struct.pack(">H", length + len(suffix)) + data[place + 2 : end] + suffix
+            + data[end:])
 
 
 def main(count):

@@ -1,7 +1,7 @@
 #!/usr/bin/env python3
-"""Writes the records of a region file to standard output, in the order of their commands, each behind its length in
-four bytes and its place in the file in eight, big-endian. docs/REGION.md says how such a file is read; of its journal
-this reads half 0 alone.
+"""Writes the records of a region file to standard output, in the order of their commands, each
+behind its length in four bytes and its place in the file in eight, big-endian. docs/REGION.md says
+how such a file is read; of its journal this reads half 0 alone.
 
     bench/records.py FILE
 """
@@ -28,7 +28,8 @@ def main(path):
                 (words,) = struct.unpack_from("<I", data, entry + 4)
                 root, _order, place, offset = struct.unpack_from("<4I", data, entry + 16)
                 record = roots_at + root * root_bytes + 8 * (place + offset)
-                sys.stdout.buffer.write(struct.pack(">IQ", 8 * words, record) + data[record : record + 8 * words])
+                sys.stdout.buffer.write(struct.pack(">IQ", 8 * words, record)
+                                        + data[record : record + 8 * words])
         at += SLOT * (count + 1)
 
 

@@ -1,27 +1,30 @@
 #!/usr/bin/env bash
-# Measures what reading, judging and recording class files costs, and what calls of the accepted cache cost, and prints two
-# tables. It isn't part of the gate.
+# Measures what reading, judging and recording class files costs, and what calls of the accepted
+# cache cost, and prints two tables. It isn't part of the gate.
 #
 #     bench/run.sh [PASSES]
 #
-# It builds cm_bench, runs it over ordinary class files (version 52.0, from jars of Debian packages) and over hostile
-# ones (bench/bench_classes.py says what they are), and lets mature libraries (ASM, Javassist, BCEL) read the same
-# ordinary files whole. Each row has the best of PASSES passes (20; of hostile files 3). "ratio" is the time for each byte
-# of class file, compared with the same step on ordinary files. Then cm_bench_front makes its calls, the best of PASSES passes,
-# and bench/files.sh stores classes in files, beside SQLite and LMDB.
+# It builds cm_bench, runs it over ordinary class files (version 52.0, from jars of Debian packages)
+# and over hostile ones (bench/bench_classes.py says what they are), and lets mature libraries (ASM,
+# Javassist, BCEL) read the same ordinary files whole. Each row has the best of PASSES passes (20;
+# of hostile files 3). "ratio" is the time for each byte of class file, compared with the same step
+# on ordinary files. Then cm_bench_front makes its calls, the best of PASSES passes, and
+# bench/files.sh stores classes in files, beside SQLite and LMDB.
 set -eu
 top=$(cd "$(dirname "${BASH_SOURCE[0]}")/.." && pwd)
 passes=${1:-20}
 work=$(mktemp -d)
 trap 'rm -rf "$work"' EXIT
 
-packages=(libasm-java libbcel-java libjavassist-java libcommons-io-java libcommons-lang3-java libguava-java)
+packages=(libasm-java libbcel-java libjavassist-java
+    libcommons-io-java libcommons-lang3-java libguava-java)
 libraries=(ASM Javassist BCEL)
-jars=(/usr/share/java/{asm,asm-analysis,asm-commons,asm-tree,asm-util,commons-io,commons-lang3,guava}.jar)
-hostile=(fields fields-equal fields-few fields-middle fields-middle-twice fields-middle-bootstrap fields-meeting
-    fields-all-twice
-    methods methods-equal methods-middle methods-middle-twice methods-middle-bootstrap methods-meeting
-    methods-all-twice
+jars=(/usr/share/java/asm{,-analysis,-commons,-tree,-util}.jar
+    /usr/share/java/{commons-io,commons-lang3,guava}.jar)
+hostile=(fields fields-equal fields-few fields-middle fields-middle-twice
+    fields-middle-bootstrap fields-meeting fields-all-twice
+    methods methods-equal methods-middle methods-middle-twice
+    methods-middle-bootstrap methods-meeting methods-all-twice
     references dimensions dynamic length)
 
 fetch() {
@@ -45,7 +48,8 @@ read_by_libraries() {
     path=$(printf '/usr/share/java/%s.jar:' asm asm-tree bcel javassist)$work
     javac -cp "$path" -d "$work" "$top/bench/ReadAll.java"
     for library in "${libraries[@]}"; do
-        java -cp "$path" ReadAll "$library" 30 "$passes" <"$work/ordinary.bin" | sed 's/^/ordinary /'
+        java -cp "$path" ReadAll "$library" 30 "$passes" <"$work/ordinary.bin" |
+            sed 's/^/ordinary /'
     done
 }
 
@@ -72,11 +76,13 @@ done
         step = $2 ~ /^(ASM|Javassist|BCEL)$/ ? "" : $2
         ratio = "-"
         if (step && $6) ratio = sprintf("%.2f", each / base[step])
-        printf "%-24s %-17s %11d bytes %6d faults %13d ns %8s MB/s  ratio %s\n", $1, $2, $6, $8, $10, $12, ratio
+        printf "%-24s %-17s %11d bytes %6d faults %13d ns %8s MB/s  ratio %s\n",
+            $1, $2, $6, $8, $10, $12, ratio
         if ($1 == "ordinary" && !step) library[$2] = each
         if ($1 == "ordinary" && $2 == "read_class+build")
             for (name in library)
-                printf "%-24s time of read_class+build for each byte, to that of %s: %.2f\n", "", name, each / library[name]
+                printf "%-24s time of read_class+build for each byte, to that of %s: %.2f\n",
+                    "", name, each / library[name]
     }'
 "$top/crates/cm_bench_front/out/cm_bench_front" --times "$passes"
 echo "load of the machine at the end: $(cut -d' ' -f1 /proc/loadavg) on $(nproc) cores"

@@ -2,14 +2,16 @@
  *
  *     stores sqlite|lmdb|bare|joined|holes FILE GROUP < RECORDS
  *
- * RECORDS are records one behind another, each behind its length in four bytes and its place in the cache's file in
- * eight, big-endian. GROUP of them make a commit, which is on the disk when it returns: SQLite with a write-ahead log
- * and synchronous=FULL, LMDB as it comes. `bare` makes the device calls that a commit of the cache makes, and nothing
- * else: zeros where the file has too few roots, each record in its place, the group's slots, fdatasync, the gate's
- * byte, fdatasync. `joined` makes one write of records that lie one behind another, and `holes` that and grows the file
- * without writing zeros, as the cache doesn't: they tell what that would bring. It prints the records, the commits and the nanoseconds of all commits together; making and opening
- * the file isn't counted, in none of the three. Each of the two libraries is there where WITH_SQLITE or WITH_LMDB is
- * defined. */
+ * RECORDS are records one behind another, each behind its length in four bytes and its place in the
+ * cache's file in eight, big-endian. GROUP of them make a commit, which is on the disk when it
+ * returns: SQLite with a write-ahead log and synchronous=FULL, LMDB as it comes. `bare` makes the
+ * device calls that a commit of the cache makes, and nothing else: zeros where the file has too few
+ * roots, each record in its place, the group's slots, fdatasync, the gate's byte, fdatasync.
+ * `joined` makes one write of records that lie one behind another, and `holes` that and grows the
+ * file without writing zeros, as the cache doesn't: they tell what that would bring. It prints the
+ * records, the commits and the nanoseconds of all commits together; making and opening the file
+ * isn't counted, for none of them. Each of the two libraries is there where WITH_SQLITE or
+ * WITH_LMDB is defined. */
 #include <fcntl.h>
 #include <stdint.h>
 #include <stdio.h>
@@ -24,8 +26,9 @@
 #include <sqlite3.h>
 #endif
 
-/* The sizes of files.sh: top 12, 16384 slots. Zeros are written in pieces, as the cache writes them. */
-enum { SLOT = 64, GROUP_LIMIT = 64, SLOTS = 16384, JOURNAL = 4096, ROOTS = JOURNAL + 2 * SLOTS * SLOT };
+/* The sizes of files.sh: top 12, 16384 slots. Zeros are written in pieces, as the cache does. */
+enum { SLOT = 64, GROUP_LIMIT = 64, SLOTS = 16384 };
+enum { JOURNAL = 4096, ROOTS = JOURNAL + 2 * SLOTS * SLOT };
 enum { ROOT = 8 * 128 << 12, PIECE = 65536, HEAD = 12 };
 
 struct record {
@@ -118,7 +121,8 @@ static void sqlite_open(const char *path)
     run_sql("PRAGMA journal_mode=WAL");
     run_sql("PRAGMA synchronous=FULL");
     run_sql("CREATE TABLE records (name TEXT PRIMARY KEY, record BLOB) WITHOUT ROWID");
-    if (sqlite3_prepare_v2(database, "INSERT INTO records VALUES (?, ?)", -1, &insert, NULL) != SQLITE_OK)
+    if (sqlite3_prepare_v2(database, "INSERT INTO records VALUES (?, ?)", -1, &insert, NULL)
+        != SQLITE_OK)
         fail("sqlite3_prepare_v2");
 }
 
@@ -148,7 +152,8 @@ static void lmdb_open(const char *path)
 {
     MDB_txn *open;
     if (mdb_env_create(&environment) || mdb_env_set_mapsize(environment, (size_t)1 << 31)
-        || mdb_env_open(environment, path, MDB_NOSUBDIR, 0644) || mdb_txn_begin(environment, NULL, 0, &open)
+        || mdb_env_open(environment, path, MDB_NOSUBDIR, 0644)
+        || mdb_txn_begin(environment, NULL, 0, &open)
         || mdb_dbi_open(open, NULL, MDB_CREATE, &table) || mdb_txn_commit(open))
         fail("opening LMDB");
 }
@@ -205,7 +210,8 @@ static void bare_open(const char *path)
     grow_to(ROOTS);
     if (fsync(file))
         fail("fsync");
-    journal_end = JOURNAL + 3 * SLOT; /* behind the half's head and the group that makes the loader */
+    /* Behind the half's head and the group that makes the loader. */
+    journal_end = JOURNAL + 3 * SLOT;
 }
 
 /* The group's slots and its gate, once its records are written. */
@@ -237,7 +243,8 @@ static void write_joined(const struct record *group, size_t count)
     for (size_t i = 0; i < count;) {
         size_t length = 0;
         off_t place = group[i].place;
-        for (; i < count && group[i].place == place + (off_t)length && length + group[i].length <= sizeof buffer; i++) {
+        for (; i < count && group[i].place == place + (off_t)length
+               && length + group[i].length <= sizeof buffer; i++) {
             memcpy(buffer + length, group[i].bytes, group[i].length);
             length += group[i].length;
         }
@@ -298,7 +305,8 @@ int main(int count, char **words)
         stores[i].open(words[2]);
         uint64_t start = now();
         for (size_t at = 0; at < records.count; at += group, commits++)
-            stores[i].commit(records.all + at, records.count - at < group ? records.count - at : group, at);
+            stores[i].commit(records.all + at,
+                records.count - at < group ? records.count - at : group, at);
         printf("%s records %zu commits %zu ns %llu\n", words[1], records.count, commits,
                (unsigned long long)(now() - start));
         return 0;

@@ -1,8 +1,9 @@
 /*
  * Loaded before a program (LD_PRELOAD), counts its allocations and makes one of them fail.
  *
- * ALLOCATIONS names a file of three 64-bit numbers, which is kept up to date: how many allocations were asked for, the
- * most bytes that one of them asked for, and how many were refused. REFUSE=N refuses the Nth, counted from 1.
+ * ALLOCATIONS names a file of three 64-bit numbers, which is kept up to date: how many allocations
+ * were asked for, the most bytes that one of them asked for, and how many were refused. REFUSE=N
+ * refuses the Nth, counted from 1.
  */
 #define _GNU_SOURCE
 #include <errno.h>

@@ -1,11 +1,12 @@
 /*
  * Loaded before a program (LD_PRELOAD), logs its calls on files and makes one of them fail.
  *
- * CALLS names the log. Each record is a letter, two 64-bit numbers and the bytes: `w` a write at a place (place, length,
- * bytes), `s` a sync, `c` a cut (length), `r` bytes for standard output (0, length, bytes). A call that fails has the
- * letter in upper case, and the bytes that were written all the same. FAIL=N lets the Nth call of `w`, `s` and `c` fail,
- * counted from 1; a write that fails stores its first STORES bytes. What comes behind it is let through. KEEP lets no
- * file be removed.
+ * CALLS names the log. Each record is a letter, two 64-bit numbers and the bytes: `w` a write at a
+ * place (place, length, bytes), `s` a sync, `c` a cut (length), `r` bytes for standard output (0,
+ * length, bytes). A call that fails has the letter in upper case, and the bytes that were written
+ * all the same. FAIL=N lets the Nth call of `w`, `s` and `c` fail, counted from 1; a write that
+ * fails stores its first STORES bytes. What comes behind it is let through. KEEP lets no file be
+ * removed.
  */
 #define _GNU_SOURCE
 #include <errno.h>

@@ -1,11 +1,13 @@
 #!/usr/bin/env python3
-"""Says of many small files, sound and damaged, what `cmcache check FILE` and `list FILE` have to say, and compares.
+"""Says of many small files, sound and damaged, what `cmcache check FILE` and `list FILE` have to
+say, and compares.
 
     check.py PROGRAM COUNT SEED
 
-The first files are those of region.py; of each damaged one some bytes were changed at places drawn by the seed, most of them
-in its slots, its superblock and its records. Then comes a file that has an entry of each kind, of which each byte that is in
-use has each of some other values in turn. What is right is said by region.py, which shares no code with the program.
+The first files are those of region.py; of each damaged one some bytes were changed at places drawn
+by the seed, most of them in its slots, its superblock and its records. Then comes a file that has
+an entry of each kind, of which each byte that is in use has each of some other values in turn. What
+is right is said by region.py, which shares no code with the program.
 """
 import multiprocessing
 import os
@@ -17,7 +19,9 @@ import sys
 import oracle
 import region
 
-A = ("cafebabe000000340005070002010001410700040100106a6176612f6c616e672f4f626a6563740021000100030000000000000000")
+A = (
+    "cafebabe0000003400050700020100014107000401"
+    "00106a6176612f6c616e672f4f626a6563740021000100030000000000000000")
 B = A.replace("0141", "0142")
 SCRIPTS = [
     "",
@@ -42,7 +46,8 @@ def wanted(data):
     except (region.NotACache, region.Damaged) as verdict:
         said = f"{verdict}\n".encode()
         return {"check": said, "list": said}, 1
-    return {"check": f"{file.report()}\n".encode(), "list": b"".join(line + b"\n" for line in file.listed())}, 0
+    return {"check": f"{file.report()}\n".encode(),
+            "list": b"".join(line + b"\n" for line in file.listed())}, 0
 
 
 def damage(data, draw):
@@ -50,11 +55,13 @@ def damage(data, draw):
     slots = region.SUPERBLOCK + region.SLOT * draw.choice([1, 2, 3, 4, 5, 6, 7, 8, 9])
     for _ in range(draw.choice([1, 1, 1, 2])):
         place = draw.choice([
-            draw.randrange(24), 4095, region.SUPERBLOCK + draw.randrange(64), slots + draw.randrange(40),
-            slots + draw.randrange(40), region.SUPERBLOCK + 2 * region.SLOT * 256 + draw.randrange(200),
+            draw.randrange(24), 4095, region.SUPERBLOCK + draw.randrange(64),
+            slots + draw.randrange(40), slots + draw.randrange(40),
+            region.SUPERBLOCK + 2 * region.SLOT * 256 + draw.randrange(200),
         ])
         if place < len(data):
-            data[place] = draw.choice([0, 1, 2, 3, 5, 0x11, 0x12, 0x13, 0xA4, 0xA5, 0xFF, draw.randrange(256)])
+            data[place] = draw.choice(
+                [0, 1, 2, 3, 5, 0x11, 0x12, 0x13, 0xA4, 0xA5, 0xFF, draw.randrange(256)])
     if draw.randrange(10) == 0:
         del data[draw.randrange(len(data)):]
 
@@ -67,7 +74,8 @@ VALUES = 0x00, 0x01, 0x02, 0x11, 0x7F, 0x80, 0xA4, 0xA5, 0xFE, 0xFF
 
 
 def whole_file():
-    """A file with an entry of each kind. Half 1 counts, of which a loader and a class live; half 0 is an older one."""
+    """A file with an entry of each kind. Half 1 counts, of which a loader and a class live; half 0
+    is an older one."""
     one, two = (oracle.read_shape(bytes.fromhex(text))[0].record() for text in (A, B))
     first, second, third = (0, 0, 0), (0, 0, 128), (0, 1, 256)
     slots = [
@@ -94,12 +102,15 @@ WHOLE = b"ok loaders 2 classes 3 chunks 2 number 9\n"
 
 
 def changes():
-    """Places and the bytes that are to stand there: in the superblock, in both halves' heads with the slots behind them, and
-    in records. Of the zeros in the superblock each has one other value."""
+    """Places and the bytes that are to stand there: in the superblock, in both halves' heads with
+    the slots behind them, and in records. Of the zeros in the superblock each has one other
+    value."""
     data = whole_file()
     zeros = range(32, region.SUPERBLOCK - 8)
-    used = [*range(32), *range(zeros.stop, HALVES[0] + 2 * region.SLOT), *range(HALVES[1], HALVES[1] + 12 * region.SLOT)]
-    used += [ROOTS + 8 * at + byte for begin, end in ((128, 145), (256, 289)) for at in range(begin, end) for byte in range(8)]
+    used = [*range(32), *range(zeros.stop, HALVES[0] + 2 * region.SLOT),
+            *range(HALVES[1], HALVES[1] + 12 * region.SLOT)]
+    used += [ROOTS + 8 * at + byte for begin, end in ((128, 145), (256, 289))
+             for at in range(begin, end) for byte in range(8)]
     for at in used:
         for value in sorted({*VALUES, (data[at] + 1) % 256} - {data[at]}):
             yield at, value
@@ -108,7 +119,8 @@ def changes():
 
 
 def check_changed(program, path, some):
-    """Checks the file with each of some changes alone; tells how many were right, and which weren't."""
+    """Checks the file with each of some changes alone; tells how many were right, and which
+    weren't."""
     data = whole_file()
     with open(path, "wb") as file:
         file.write(data)
@@ -120,8 +132,10 @@ def check_changed(program, path, some):
             words, status = wanted(data)
             ran = subprocess.run([program, "check", path], capture_output=True, check=False)
             is_same = os.pread(file.fileno(), len(data) + 1, 0) == data
-            if (ran.stdout, ran.returncode, ran.stderr) != (words["check"], status, b"") or not is_same:
-                wrong.append(f"check with {value:#x} at {at}: {ran.stdout!r}, status {ran.returncode}; wanted {words['check']}")
+            if ((ran.stdout, ran.returncode, ran.stderr) != (words["check"], status, b"")
+                    or not is_same):
+                wrong.append(f"check with {value:#x} at {at}: {ran.stdout!r}, "
+                             f"status {ran.returncode}; wanted {words['check']}")
             data[at] = was
             os.pwrite(file.fileno(), bytes([was]), at)
     os.remove(path)
@@ -134,14 +148,16 @@ def each_byte(program, folder):
         return 0, ["the file of each kind of entry isn't sound"]
     count = 4 * os.cpu_count()
     every = list(changes())
-    parts = [(program, os.path.join(folder, f"changed-{part}"), every[part::count]) for part in range(count)]
+    parts = [(program, os.path.join(folder, f"changed-{part}"), every[part::count])
+             for part in range(count)]
     with multiprocessing.Pool() as pool:
         found = pool.starmap(check_changed, parts, chunksize=1)
     return sum(right for right, _ in found), [line for _, wrong in found for line in wrong]
 
 
 def drawn(program, path, count, seed):
-    """Checks and lists so many files, most of them with some bytes changed; tells how many were right, and which weren't."""
+    """Checks and lists so many files, most of them with some bytes changed; tells how many were
+    right, and which weren't."""
     draw = random.Random(seed)
     passed, wrong = 0, []
     for number in range(count):
@@ -158,7 +174,8 @@ def drawn(program, path, count, seed):
             if (ran.stdout, ran.returncode, ran.stderr) == (said, status, b"") and is_same:
                 passed += 1
             else:
-                wrong.append(f"{verb} of file {number}, seed {seed}: {ran.stdout!r}, status {ran.returncode}; wanted {said}, {status}")
+                wrong.append(f"{verb} of file {number}, seed {seed}: {ran.stdout!r}, "
+                             f"status {ran.returncode}; wanted {said}, {status}")
     return passed, wrong
 
 

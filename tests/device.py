@@ -1,12 +1,14 @@
 #!/usr/bin/env python3
-"""Runs the program on files with each of its calls on the file failing in turn, and cuts its runs short at each of them.
+"""Runs the program on files with each of its calls on the file failing in turn, and cuts its runs
+short at each of them.
 
     tests/device.py PROGRAM CALLS_LIBRARY
 
-Without a fault the calls are those that region.py makes of the commands, each reply behind those of its command. With one,
-the replies end with the right `unsure`, no call on the file follows, and the file, read by region.py and looked up by
-another run, holds what was acknowledged. And wherever the machine stops, whatever becomes of the bytes that aren't synced
-then: what they leave is a cache with all that was acknowledged, and nothing that nobody asked for.
+Without a fault the calls are those that region.py makes of the commands, each reply behind those of
+its command. With one, the replies end with the right `unsure`, no call on the file follows, and the
+file, read by region.py and looked up by another run, holds what was acknowledged. And wherever the
+machine stops, whatever becomes of the bytes that aren't synced then: what they leave is a cache
+with all that was acknowledged, and nothing that nobody asked for.
 """
 import os
 import random
@@ -52,7 +54,8 @@ class Bench:
         """A run under the library: what it came to, and its calls."""
         if os.path.exists(self.log):
             os.remove(self.log)
-        env = {"LD_PRELOAD": self.library, "CALLS": self.log, **{name: str(value) for name, value in names.items()}}
+        env = {"LD_PRELOAD": self.library, "CALLS": self.log,
+               **{name: str(value) for name, value in names.items()}}
         return runs.run(self.program, words, lines, env), calls_in(self.log)
 
     def new_file(self, geometry):
@@ -119,15 +122,18 @@ def fail_one(bench, fails, stores, due):
     count = sum(call[0] == "r" for call in done)
     wanted = [cache.answer(line) for line in SCRIPT[:count]]
     wanted.append(b"unsure %d" % (cache.number + 1) if fails > 1 else b"device")
-    bench.checks.check(f"{name}: the replies", ran == (wanted, 3, f"cmcache: {path}: {EIO}\n"), f"{ran}, wanted {wanted}")
-    bench.checks.check(f"{name}: no call follows", len(device_calls(calls)) == fails and device_calls(calls)[-1][0].isupper())
+    bench.checks.check(f"{name}: the replies", ran == (wanted, 3, f"cmcache: {path}: {EIO}\n"),
+                       f"{ran}, wanted {wanted}")
+    bench.checks.check(f"{name}: no call follows",
+                       len(device_calls(calls)) == fails and device_calls(calls)[-1][0].isupper())
     line = SCRIPT[count] if fails > 1 else None
     runs.settle(bench.checks, f"{name}: the file", path, cache, line)
     runs.look_up(bench.checks, f"{name}: the classes", bench.program, path, cache)
     rest = SCRIPT[count:]
     wanted = runs.answers(cache, rest)
     ran = runs.run(bench.program, ["apply", path], rest)
-    bench.checks.check(f"{name}: the rest of the script", ran == (*wanted, ""), f"{ran}, wanted {wanted}")
+    bench.checks.check(f"{name}: the rest of the script", ran == (*wanted, ""),
+                       f"{ran}, wanted {wanted}")
     runs.settle(bench.checks, f"{name}: the file after it", path, cache, None)
 
 
@@ -154,7 +160,8 @@ class Stopped:
             self.since.append(call)
 
     def left(self, fate):
-        """The bytes, where what isn't synced of a write came out as its fate has it; None leaves it unwritten."""
+        """The bytes, where what isn't synced of a write came out as its fate has it; None leaves it
+        unwritten."""
         data = bytearray(self.synced)
         for _, at, written in self.since:
             stored = fate(written)
@@ -173,7 +180,8 @@ def fates(rng):
         "zeros": lambda data: bytes(len(data)),
         "all A5": lambda data: b"\xa5" * len(data),
         "any bytes": lambda data: rng.randbytes(len(data)),
-        "some bytes": lambda data: bytes(byte if rng.random() < 0.5 else rng.randrange(256) for byte in data),
+        "some bytes": lambda data: bytes(byte if rng.random() < 0.5 else rng.randrange(256)
+                                         for byte in data),
     }
 
 
@@ -200,18 +208,21 @@ def stop_at_each_call(bench, calls):
             state, number = runs.state_in(path)
             name = f"the machine stops behind call {at}, unsynced bytes: {fate}"
             good = number in (cache.number, cache.number + 1) and state == states[number]
-            if bench.checks.check(name, good, f"number {number}, {cache.number} acknowledged: {state!s:.100}"):
+            if bench.checks.check(name, good,
+                                  f"number {number}, {cache.number} acknowledged: {state!s:.100}"):
                 ran = runs.run(bench.program, ["apply", path], runs.FINDS)
                 bench.checks.check(f"{name}: the classes", ran[0] == found_in(state), f"{ran}")
 
 
 def found_in(state):
-    """The replies to the finds on a file with these classes, whose flags and super class are all the same."""
+    """The replies to the finds on a file with these classes, whose flags and super class are all
+    the same."""
     replies = []
     for line in runs.FINDS:
         _, loader, name = line.split(b" ")
         words = state.get(loader, {}).get(name)
-        told = b"class %s flags 0021 super java/lang/Object words %d" % (name, len(words)) if words else b"none"
+        told = (b"class %s flags 0021 super java/lang/Object words %d" % (name, len(words)) if words
+                else b"none")
         replies.append(told)
     return replies
 
@@ -225,22 +236,26 @@ def format_with_faults(bench):
     new = bytes(region.Region(SMALL).bytes)
     closed = new[:4095] + b"\0" + new[4096:]
     syncs = [("s", 0, b"")]
-    due = syncs * 2 + pieces((0, closed)) + syncs + [("w", 4095, b"\xa5")] + syncs + [("r", 0, b"ok\n")]
+    due = (syncs * 2 + pieces((0, closed)) + syncs + [("w", 4095, b"\xa5")] + syncs
+           + [("r", 0, b"ok\n")])
     bench.checks.check("format: its calls", ran == ([b"ok"], 0, "") and calls == due)
     os.remove(path)
     for fails, (_, _, data) in enumerate(device_calls(due), 1):
         for stores in sorted({0, len(data) // 2, len(data)}):
             name = f"format, call {fails} fails, {stores} bytes stored"
             ran, calls = bench.run(words, FAIL=fails, STORES=stores)
-            bench.checks.check(f"{name}: what it says", ran == ([b"device"], 3, f"cmcache: {path}: {EIO}\n"), f"{ran}")
+            bench.checks.check(f"{name}: what it says",
+                               ran == ([b"device"], 3, f"cmcache: {path}: {EIO}\n"), f"{ran}")
             bench.checks.check(f"{name}: no call follows", len(device_calls(calls)) == fails)
             bench.checks.check(f"{name}: no file stays", not os.path.exists(path))
             ran = runs.run(bench.program, words)
             bench.checks.check(f"{name}: the next one", ran == ([b"ok"], 0, ""), f"{ran}")
             os.remove(path)
     ran, _ = bench.run(words, FAIL=3, KEEP=1)
-    good = ran[:2] == ([b"device"], 3) and f"cmcache: {path}: {EIO}\n" in ran[2] and "holds no cache" in ran[2]
-    bench.checks.check("format fails, and its file can't be removed", good and os.path.exists(path), f"{ran}")
+    good = (ran[:2] == ([b"device"], 3) and f"cmcache: {path}: {EIO}\n" in ran[2]
+            and "holds no cache" in ran[2])
+    bench.checks.check("format fails, and its file can't be removed", good and os.path.exists(path),
+                       f"{ran}")
 
 
 def main(program, library):
@@ -251,7 +266,8 @@ def main(program, library):
         bench.checks.check("the calls of a script", calls == due and ran[1:] == (1, ""), f"{ran}")
         usual = oracle.Geometry()
         ran, long_calls = bench.run(["apply", bench.new_file(usual)], SCRIPT)
-        bench.checks.check("the calls on a file of the usual sizes", long_calls == due_calls(usual, SCRIPT), f"{ran}")
+        bench.checks.check("the calls on a file of the usual sizes",
+                           long_calls == due_calls(usual, SCRIPT), f"{ran}")
         fail_each(bench, due)
         stop_at_each_call(bench, calls)
         format_with_faults(bench)

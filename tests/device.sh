@@ -1,10 +1,13 @@
 #!/usr/bin/env bash
-# A device that fails at each call of a script in turn, and a machine that stops at each of them: then the file is opened
-# again. Needs a C compiler and Python 3.
+# A device that fails at each call of a script in turn, and a machine that stops at each of them:
+# then the file is opened again. Needs a C compiler and Python 3.
 set -u
 cd "$(dirname "$0")/.." || exit 1
 . tests/lib.sh
 
 library=$work/calls.so
-cc -O2 -Wall -Werror -shared -fPIC -o "$library" tests/calls.c || { echo "0 passed, 1 failed"; exit 1; }
+if ! cc -O2 -Wall -Werror -shared -fPIC -o "$library" tests/calls.c; then
+    echo "0 passed, 1 failed"
+    exit 1
+fi
 WORK=$work python3 tests/device.py "$(executable)" "$library"

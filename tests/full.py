@@ -1,10 +1,12 @@
 #!/usr/bin/env python3
-"""Runs the program where a file can't grow: under a limit on the size of files, and on a small tmpfs.
+"""Runs the program where a file can't grow: under a limit on the size of files, and on a small
+tmpfs.
 
     tests/full.py PROGRAM FOLDER [tmpfs]
 
-The run ends with the right `unsure` (of `format` with `device`, and no file stays); once there is room, all that was
-acknowledged is there, and the rest of the script is done. With `tmpfs` it mounts some below FOLDER.
+The run ends with the right `unsure` (of `format` with `device`, and no file stays); once there is
+room, all that was acknowledged is there, and the rest of the script is done. With `tmpfs` it mounts
+some below FOLDER.
 """
 import contextlib
 import os
@@ -31,11 +33,13 @@ SCRIPT = [
 
 
 def run_out(checks, name, program, path, cache, cause, limit=None):
-    """The script up to where there is no more room: the lines that are left. At least one command is stored."""
+    """The script up to where there is no more room: the lines that are left. At least one command
+    is stored."""
     replies, status, told = runs.run(program, ["apply", path], SCRIPT, limit=limit)
     wanted = [cache.answer(line) for line in SCRIPT[:len(replies) - 1]]
     wanted.append(b"unsure %d" % (cache.number + 1))
-    good = (replies, status, told) == (wanted, 3, f"cmcache: {path}: {cause}\n") and cache.number > 0
+    good = ((replies, status, told) == (wanted, 3, f"cmcache: {path}: {cause}\n")
+            and cache.number > 0)
     checks.check(f"{name}: the replies", good, f"{replies} {status} {told}, wanted {wanted}")
     return SCRIPT[len(wanted) - 1:]
 
@@ -54,8 +58,10 @@ def new_file(path, geometry):
 
 
 def under_limits(checks, program, folder):
-    # So many KiB, of 36 in front of the roots, which have 8 each: no room for a root, for a part of the first, and so on.
-    for geometry, limit in [(SMALL, 36), (SMALL, 37), (SMALL, 44), (SMALL, 45), (SMALL, 51), (oracle.Geometry(), 600)]:
+    # So many KiB, of 36 in front of the roots, which have 8 each: no room for a root, for a part of
+    # the first, and so on.
+    for geometry, limit in [(SMALL, 36), (SMALL, 37), (SMALL, 44), (SMALL, 45), (SMALL, 51),
+                            (oracle.Geometry(), 600)]:
         path, cache = f"{folder}/limited", runs.new_cache(geometry)
         new_file(path, geometry)
         name = f"files of {limit} KiB"
@@ -64,7 +70,8 @@ def under_limits(checks, program, folder):
     path = f"{folder}/new"
     for limit in [0, 1, 300, 515]:
         ran = runs.run(program, ["format", path], limit=limit)
-        good = ran == ([b"device"], 3, f"cmcache: {path}: {TOO_LARGE}\n") and not os.path.exists(path)
+        good = (ran == ([b"device"], 3, f"cmcache: {path}: {TOO_LARGE}\n")
+                and not os.path.exists(path))
         checks.check(f"format where files have {limit} KiB", good, f"{ran}")
     ran = runs.run(program, ["format", path], limit=516)
     checks.check("format where files have 516 KiB", ran == ([b"ok"], 0, ""), f"{ran}")
@@ -82,7 +89,8 @@ def mounted(folder, size):
 
 
 def on_full_disks(checks, program, folder):
-    for geometry, size in [(SMALL, 36), (SMALL, 40), (SMALL, 44), (SMALL, 48), (oracle.Geometry(), 600)]:
+    for geometry, size in [(SMALL, 36), (SMALL, 40), (SMALL, 44), (SMALL, 48),
+                           (oracle.Geometry(), 600)]:
         with mounted(f"{folder}/full", size) as small:
             path, cache = f"{small}/cache", runs.new_cache(geometry)
             new_file(path, geometry)
@@ -93,7 +101,8 @@ def on_full_disks(checks, program, folder):
     with mounted(f"{folder}/full", 300) as small:
         path = f"{small}/cache"
         ran = runs.run(program, ["format", path])
-        good = ran == ([b"device"], 3, f"cmcache: {path}: {NO_SPACE}\n") and not os.path.exists(path)
+        good = (ran == ([b"device"], 3, f"cmcache: {path}: {NO_SPACE}\n")
+                and not os.path.exists(path))
         checks.check("format on a full disk", good, f"{ran}")
         subprocess.run(["mount", "-o", "remount,size=600k", small], check=True)
         ran = runs.run(program, ["format", path])

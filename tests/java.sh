@@ -1,14 +1,16 @@
 #!/usr/bin/env bash
-# Classes that the machine's Java compiler writes for version 52.0 are taken, and found again with the flags and the super
-# class that the JDK's own disassembler tells; their records tell each method's max stack, max locals and code length as it
-# does. The same classes with single bytes changed get the replies that tests/oracle.py works out, which shares no code
-# with the program; it gives those of tests/vectors too. Needs a JDK (javac, javap) and Python 3.
+# Classes that the machine's Java compiler writes for version 52.0 are taken, and found again with
+# the flags and the super class that the JDK's own disassembler tells; their records tell each
+# method's max stack, max locals and code length as it does. The same classes with single bytes
+# changed get the replies that tests/oracle.py works out, which shares no code with the program; it
+# gives those of tests/vectors too. Needs a JDK (javac, javap) and Python 3.
 set -u
 cd "$(dirname "$0")/.." || exit 1
 . tests/lib.sh
 
 mkdir "$work/classes"
-if ! javac --release 8 -Xlint:none -nowarn -g -d "$work/classes" tests/java/*.java 2>"$work/errors"; then
+if ! javac --release 8 -Xlint:none -nowarn -g -d "$work/classes" \
+    tests/java/*.java 2>"$work/errors"; then
     cat "$work/errors"
     echo "0 passed, 1 failed"
     exit 1
@@ -43,16 +45,18 @@ run apply --memory
 sed -E -i 's/^(class .*) words [0-9]+$/\1/' "$work/got"
 check "${#names[@]} compiled classes" 0
 
-# What the disassembler says of each method: class, name, descriptor, and of its code max stack, max locals and the length,
-# which is where the last instruction ends.
+# What the disassembler says of each method: class, name, descriptor, and of its code max stack, max
+# locals and the length, which is where the last instruction ends.
 told_methods() {
     javap -v -p "$1" | awk '
         function size(mnemonic) {
             if (mnemonic ~ /^(.?return|athrow)$/) return 1
-            return mnemonic == "goto" ? 3 : mnemonic == "goto_w" ? 5 : "an end that this script does not know"
+            if (mnemonic == "goto") return 3
+            return mnemonic == "goto_w" ? 5 : "an end that this script does not know"
         }
         function tell() {
-            if (method) print class, method, descriptor, (stack == "" ? "none" : stack " " locals " " at + size(last))
+            code = stack == "" ? "none" : stack " " locals " " at + size(last)
+            if (method) print class, method, descriptor, code
             method = stack = ""
         }
         /^  this_class: / { class = dotted = $NF; gsub("/", ".", dotted) }

@@ -1,11 +1,13 @@
 #!/usr/bin/env python3
-"""Kills the program at random moments while it runs scripts on a file, and looks at what the file holds then.
+"""Kills the program at random moments while it runs scripts on a file, and looks at what the file
+holds then.
 
     tests/kill.py PROGRAM KILLS SEED
 
-Each reply that came before the kill has to be the right one; the file, read by region.py, checked, listed and looked up by the
-program, has to hold all commands that were acknowledged and, of the others, at most the one that was being run. The next run
-goes on with the file as it is. Some kills hit `format`: its file is no cache then, or the empty one, or there is none.
+Each reply that came before the kill has to be the right one; the file, read by region.py, checked,
+listed and looked up by the program, has to hold all commands that were acknowledged and, of the
+others, at most the one that was being run. The next run goes on with the file as it is. Some kills
+hit `format`: its file is no cache then, or the empty one, or there is none.
 """
 import os
 import random
@@ -24,12 +26,15 @@ LINES = 400
 
 
 def format_words(path, geometry):
-    return ["format", path, "--top", str(geometry.top), "--roots", str(geometry.roots), "--slots", str(geometry.slots)]
+    return ["format", path, "--top", str(geometry.top), "--roots", str(geometry.roots),
+            "--slots", str(geometry.slots)]
 
 
 def killed(words, lines, delay):
-    """Runs the program and kills it after so many seconds: its lines of output, and whether the kill hit it."""
-    process = subprocess.Popen(words, stdin=subprocess.PIPE, stdout=subprocess.PIPE, stderr=subprocess.DEVNULL)
+    """Runs the program and kills it after so many seconds: its lines of output, and whether the
+    kill hit it."""
+    process = subprocess.Popen(words, stdin=subprocess.PIPE, stdout=subprocess.PIPE,
+                               stderr=subprocess.DEVNULL)
 
     def feed():
         try:
@@ -72,7 +77,8 @@ def kill_format(checks, program, path, rng, longest):
     killed([program, "format", path], [], rng.uniform(0, longest))
     if os.path.exists(path):
         state, number = runs.state_in(path)
-        checks.check("format killed: the file", (state, number) in [("not a cache", None), ({}, 0)], f"{state} {number}")
+        checks.check("format killed: the file", (state, number) in [("not a cache", None), ({}, 0)],
+                     f"{state} {number}")
         os.remove(path)
 
 
@@ -86,7 +92,8 @@ def main(program, kills, seed):
     rng, checks = random.Random(seed), runs.Checks()
     with tempfile.TemporaryDirectory(dir=os.environ.get("WORK")) as folder:
         path, other = f"{folder}/cache", f"{folder}/other"
-        # How long a run takes that only opens, and one of all lines: kills come at any moment of it.
+        # How long a run takes that only opens, and one of all lines: kills come at any moment
+        # of it.
         runs.run(program, ["format", path])
         lines = [runs.some_line(rng) for _ in range(LINES)]
         longest = 1.1 * time_of(lambda: runs.run(program, ["apply", path], lines))
@@ -100,7 +107,9 @@ def main(program, kills, seed):
                 geometry = GEOMETRIES[done // 7 % 2]
                 cache = runs.new_cache(geometry)
                 os.remove(path)
-                if not checks.check("format", runs.run(program, format_words(path, geometry)) == ([b"ok"], 0, "")):
+                if not checks.check(
+                        "format",
+                        runs.run(program, format_words(path, geometry)) == ([b"ok"], 0, "")):
                     break
             was_hit, good = kill_apply(checks, program, path, cache, rng, delay)
             hits += was_hit
@@ -112,7 +121,8 @@ def main(program, kills, seed):
             if done % 5 == 0:
                 kill_format(checks, program, other, rng, making)
         checks.check(f"{kills} kills", hits == kills, f"{hits} of {done} runs were killed")
-        print(f"seed {seed}: {hits} of {done} runs were killed; a whole run of {LINES} lines takes {longest / 1.1:.2f} s")
+        print(f"seed {seed}: {hits} of {done} runs were killed; "
+              f"a whole run of {LINES} lines takes {longest / 1.1:.2f} s")
     return checks.finish()
 
 

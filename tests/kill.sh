@@ -1,6 +1,7 @@
 #!/usr/bin/env bash
-# `apply FILE` is killed at random moments and the file opened again: every acknowledged command is there, and nothing that
-# nobody asked for. KILLS=N kills more often than 50 times, SEED=N at other moments. Needs Python 3.
+# `apply FILE` is killed at random moments and the file opened again: every acknowledged command is
+# there, and nothing that nobody asked for. KILLS=N kills more often than 50 times, SEED=N at other
+# moments. Needs Python 3.
 set -u
 cd "$(dirname "$0")/.." || exit 1
 . tests/lib.sh

@@ -6,7 +6,8 @@ trap 'rm -rf "$work"' EXIT
 passed=0
 failed=0
 
-# check NAME STATUS: the program's last run ended with the status, and wrote what stands in $work/want.
+# check NAME STATUS: the program's last run ended with the status, and wrote what stands
+# in $work/want.
 check() {
     if [ "$status" = "$2" ] && cmp -s "$work/got" "$work/want"; then
         passed=$((passed + 1))
@@ -17,7 +18,8 @@ check() {
     fi
 }
 
-# check_status NAME STATUS: only the status, and that standard error says something where told so by a third word.
+# check_status NAME STATUS: only the status, and that standard error says something where told so by
+# a third word.
 check_status() {
     if [ "$status" = "$2" ] && { [ "${3:-}" != "says" ] || [ -s "$work/errors" ]; }; then
         passed=$((passed + 1))
@@ -27,7 +29,7 @@ check_status() {
     fi
 }
 
-# check_last NAME: the last command ended with 0.
+# check_last NAME: the last command ended with 0. A command inside the name would be the last one.
 check_last() {
     if [ $? = 0 ]; then
         passed=$((passed + 1))
@@ -37,7 +39,8 @@ check_last() {
     fi
 }
 
-# check_streams NAME OUT ERR: whether there is something or nothing ("some", "none") on standard output and error.
+# check_streams NAME OUT ERR: whether there is something or nothing ("some", "none") on standard
+# output and error.
 check_streams() {
     local out=none err=none
     [ -s "$work/got" ] && out=some
@@ -59,11 +62,17 @@ executable() {
     echo "$top/crates/cmcache/out/cmcache"
 }
 
-# built CRATE: the path of a crate's executable, which is built where it is missing or older than what it is made of.
+# built CRATE: the path of a crate's executable, which is built where it is missing or older than
+# what it is made of.
 built() {
     local made=$top/crates/$1/out/$1
-    if [ ! -x "$made" ] || [ -n "$(find "$top/crates" -path '*/out' -prune -o -type f -newer "$made" -print -quit)" ]; then
-        if (cd "$top/crates/$1" && rt run -- --help </dev/null) >"$work/log" 2>&1; then touch "$made"; else cat "$work/log" >&2; fi
+    if [ ! -x "$made" ] || [ -n "$(find "$top/crates" -path '*/out' -prune \
+        -o -type f -newer "$made" -print -quit)" ]; then
+        if (cd "$top/crates/$1" && rt run -- --help </dev/null) >"$work/log" 2>&1; then
+            touch "$made"
+        else
+            cat "$work/log" >&2
+        fi
     fi
     echo "$made"
 }

@@ -3,9 +3,10 @@
 
     tests/oracle.py < SCRIPT > REPLIES
 
-It is written from the project's description of lines, faults, rules, records and chunks and from JVMS SE 8, chapter 4,
-and shares no code with the program. It knows of no device, and takes all the memory that it wants: no reply is `unsure`,
-and none is a refusal 9 or 10. What a file holds after a script is region.py's part.
+It is written from the project's description of lines, faults, rules, records and chunks and from
+JVMS SE 8, chapter 4, and shares no code with the program. It knows of no device, and takes all the
+memory that it wants: no reply is `unsure`, and none is a refusal 9 or 10. What a file holds after a
+script is region.py's part.
 """
 import re
 import sys
@@ -31,9 +32,9 @@ METHOD_HANDLE, METHOD_TYPE, INVOKE_DYNAMIC = 15, 16, 18
 
 # The sizes of the numbers behind each tag but that of a Utf8.
 BODIES = {
-    INTEGER: (4,), FLOAT: (4,), LONG: (8,), DOUBLE: (8,), CLASS: (2,), STRING: (2,), METHOD_TYPE: (2,),
-    FIELDREF: (2, 2), METHODREF: (2, 2), INTERFACE_METHODREF: (2, 2), NAME_AND_TYPE: (2, 2),
-    METHOD_HANDLE: (1, 2), INVOKE_DYNAMIC: (2, 2),
+    INTEGER: (4,), FLOAT: (4,), LONG: (8,), DOUBLE: (8,), CLASS: (2,), STRING: (2,),
+    METHOD_TYPE: (2,), FIELDREF: (2, 2), METHODREF: (2, 2), INTERFACE_METHODREF: (2, 2),
+    NAME_AND_TYPE: (2, 2), METHOD_HANDLE: (1, 2), INVOKE_DYNAMIC: (2, 2),
 }
 
 
@@ -145,7 +146,8 @@ class ClassFile:
             yield "method", index, method
 
     def record(self):
-        """The words of the record: the head, the directory, interfaces, members, attributes, and the runs."""
+        """The words of the record: the head, the directory, interfaces, members, attributes, and
+        the runs."""
         lists = [member.attributes for _, _, member in self.members()] + [self.attributes]
         attributes = [attribute for some in lists for attribute in some]
         interfaces = 8 + self.count
@@ -157,7 +159,8 @@ class ClassFile:
         def run(content):
             """Where the run of these bytes begins."""
             at = runs + len(tail)
-            tail.extend(int.from_bytes(content[i:i + 8], "little") for i in range(0, len(content), 8))
+            tail.extend(int.from_bytes(content[i:i + 8], "little")
+                        for i in range(0, len(content), 8))
             return at
 
         directory = [0] * self.count
@@ -173,9 +176,11 @@ class ClassFile:
                 directory[index] = packed(tag, low=content[0])
         spelled, first = [], 0
         for _, _, member in self.members():
-            spelled += [packed(member.flags, member.name, member.descriptor, len(member.attributes)), rows + 2 * first]
+            spelled += [packed(member.flags, member.name, member.descriptor,
+                               len(member.attributes)), rows + 2 * first]
             first += len(member.attributes)
-        listed = [word for name, content in attributes for word in (packed(name, low=len(content)), run(content))]
+        listed = [word for name, content in attributes
+                  for word in (packed(name, low=len(content)), run(content))]
         head = [
             runs + len(tail),
             packed(self.flags, self.this_class, self.super_class, len(self.interfaces)),
@@ -232,7 +237,8 @@ def is_field_descriptor(text):
 
 
 def units(text):
-    """How many units a method descriptor's parameters take; None where it is no method descriptor."""
+    """How many units a method descriptor's parameters take; None where it is no method
+    descriptor."""
     match = IS_METHOD.fullmatch(text)
     if not match:
         return None
@@ -299,8 +305,9 @@ def v2(c):
 
 
 HANDLE_TARGETS = {
-    1: (FIELDREF,), 2: (FIELDREF,), 3: (FIELDREF,), 4: (FIELDREF,), 5: (METHODREF,), 8: (METHODREF,),
-    6: (METHODREF, INTERFACE_METHODREF), 7: (METHODREF, INTERFACE_METHODREF), 9: (INTERFACE_METHODREF,),
+    1: (FIELDREF,), 2: (FIELDREF,), 3: (FIELDREF,), 4: (FIELDREF,), 5: (METHODREF,),
+    8: (METHODREF,), 6: (METHODREF, INTERFACE_METHODREF), 7: (METHODREF, INTERFACE_METHODREF),
+    9: (INTERFACE_METHODREF,),
 }
 
 
@@ -313,7 +320,8 @@ def v3(c):
 def v4(c):
     for index, _, (name,) in constants(c, CLASS):
         text = c.text(name)
-        if not IS_CLASS_NAME.fullmatch(text) and not (text.startswith(b"[") and is_field_descriptor(text)):
+        if (not IS_CLASS_NAME.fullmatch(text)
+                and not (text.startswith(b"[") and is_field_descriptor(text))):
             yield f"pool {index}"
 
 
@@ -383,7 +391,8 @@ def v12(c):
 
 def v13(c):
     for index, field in enumerate(c.fields):
-        if not (is_unqualified(c.text(field.name)) and is_field_descriptor(c.text(field.descriptor))):
+        if not (is_unqualified(c.text(field.name))
+                and is_field_descriptor(c.text(field.descriptor))):
             yield f"field {index}"
 
 
@@ -418,7 +427,8 @@ def v15(c):
 
 def v16(c):
     for index, method in enumerate(c.methods):
-        if not (is_method_name(c.text(method.name)) and is_method_descriptor(c.text(method.descriptor))):
+        if not (is_method_name(c.text(method.name))
+                and is_method_descriptor(c.text(method.descriptor))):
             yield f"method {index}"
 
 
@@ -516,8 +526,8 @@ def common_is_good(c, name, content):
 
 
 VALUES = {
-    b"J": LONG, b"F": FLOAT, b"D": DOUBLE, b"I": INTEGER, b"S": INTEGER, b"C": INTEGER, b"B": INTEGER, b"Z": INTEGER,
-    b"Ljava/lang/String;": STRING,
+    b"J": LONG, b"F": FLOAT, b"D": DOUBLE, b"I": INTEGER, b"S": INTEGER, b"C": INTEGER,
+    b"B": INTEGER, b"Z": INTEGER, b"Ljava/lang/String;": STRING,
 }
 
 
@@ -542,7 +552,8 @@ def v22(c):
         good = all(common_is_good(c, c.text(name), content) for name, content in member.attributes)
         if sort == "field":
             values = contents(c, member.attributes, b"ConstantValue")
-            good = good and len(values) <= 1 and all(constant_value_is_good(c, member, each) for each in values)
+            good = (good and len(values) <= 1
+                    and all(constant_value_is_good(c, member, each) for each in values))
         else:
             lists = contents(c, member.attributes, b"Exceptions")
             good = good and len(lists) <= 1 and all(exceptions_are_good(c, each) for each in lists)
@@ -607,7 +618,8 @@ def bootstrap_rows(c, content):
 
 
 def v24(c):
-    lists = [(index, bootstrap_rows(c, content)) for index, (name, content) in enumerate(c.attributes)
+    lists = [(index, bootstrap_rows(c, content))
+             for index, (name, content) in enumerate(c.attributes)
              if c.text(name) == b"BootstrapMethods"]
     rows = (lists[0][1] or 0) if lists else 0
     for index, _, (bootstrap_method, _) in constants(c, INVOKE_DYNAMIC):
@@ -618,7 +630,8 @@ def v24(c):
             yield f"attribute {index}"
 
 
-RULES = [v1, v2, v3, v4, v5, v6, v7, v8, v9, v10, v11, v12, v13, v14, v15, v16, v17, v18, v19, v20, v21, v22, v23, v24]
+RULES = [v1, v2, v3, v4, v5, v6, v7, v8, v9, v10, v11, v12, v13, v14, v15, v16, v17, v18, v19, v20,
+         v21, v22, v23, v24]
 
 
 def first_fault(c):
@@ -748,7 +761,8 @@ class Live:
 
 
 class Cache:
-    """A cache whose commands are stored one by one. Each is kept with what the journal says of it."""
+    """A cache whose commands are stored one by one. Each is kept with what the journal says of
+    it."""
 
     def __init__(self, geometry=None):
         self.geometry = geometry or Geometry()
@@ -770,7 +784,8 @@ class Cache:
             raise Refused("1 name")
 
     def check_group(self):
-        """A group of two slots goes behind those of the commands so far, and the half's last slot stays free."""
+        """A group of two slots goes behind those of the commands so far, and the half's last slot
+        stays free."""
         if 1 + 2 * self.number + 1 > self.geometry.slots - 1:
             raise Refused("7 journal full")
 
@@ -829,7 +844,8 @@ class Cache:
         super_name = escaped(found.class_name(found.super_class)) if found.super_class else b"-"
         told = b"flags %04x super %s words %d" % (found.flags, super_name, len(words))
         loader.classes[class_name] = Live(told, words, chunk, offset)
-        return b"ok %d %s" % (self.done("define", loader.number, chunk, offset, words), escaped(class_name))
+        return b"ok %d %s" % (self.done("define", loader.number, chunk, offset, words),
+                              escaped(class_name))
 
     def find(self, name, class_name):
         loader = self.loaders.get(name)

@@ -4,9 +4,11 @@
     tests/region.py check FILE             what `cmcache check FILE` has to say of it
     tests/region.py list FILE              what `cmcache list FILE` has to say of it
     tests/region.py new TOP ROOTS SLOTS    writes the bytes of a new file
-    tests/region.py after < SCRIPT         writes the bytes of a new file after the script, whose replies oracle.py gives
+    tests/region.py after < SCRIPT         writes the bytes of a new file after the script, whose
+                                           replies oracle.py gives
 
-It is written from docs/REGION.md and docs/CRASH.md (the order of device calls), and shares no code with the program.
+It is written from docs/REGION.md and docs/CRASH.md (the order of device calls), and shares no code
+with the program.
 """
 import struct
 import sys
@@ -73,7 +75,8 @@ class Region:
         self.bytes = bytearray(superblock + halves)
 
     def calls(self, number, entry):
-        """The device calls that store a command: each a place and the bytes to write there, or None for a sync."""
+        """The device calls that store a command: each a place and the bytes to write there, or None
+        for a sync."""
         size = oracle.UNIT * 8 << self.geometry.top
         roots = SUPERBLOCK + 2 * SLOT * self.geometry.slots
         if entry[0] == "define":
@@ -125,7 +128,8 @@ def number(data, at, size):
 
 def meet(chunk, other):
     (root, order, at), (other_root, other_order, other_at) = chunk, other
-    return root == other_root and at < other_at + (oracle.UNIT << other_order) and other_at < at + (oracle.UNIT << order)
+    return (root == other_root and at < other_at + (oracle.UNIT << other_order)
+            and other_at < at + (oracle.UNIT << order))
 
 
 class File:
@@ -167,7 +171,8 @@ class File:
                 continue
             live, epoch, base = number(slot, 4, 4), number(slot, 8, 8), number(slot, 16, 8)
             good = slot == head_slot(live, epoch, base, gate=OPEN)
-            if not (good and live <= self.slots // 2 and base <= NUMBERS and 1 <= epoch <= base + 1):
+            if not (good and live <= self.slots // 2 and base <= NUMBERS
+                    and 1 <= epoch <= base + 1):
                 raise Damaged(4, index)
             halves[half] = (epoch, live, base)
         if not halves or len(halves) == 2 and halves[0][0] == halves[1][0]:
@@ -233,10 +238,12 @@ class File:
         return len(self.rows) < self.slots // 2
 
     def add_loader(self, index, own, loader, name):
-        good = 1 <= len(name) <= 48 and all(0x21 <= byte <= 0x7E for byte in name) and self.has_room()
+        good = (1 <= len(name) <= 48 and all(0x21 <= byte <= 0x7E for byte in name)
+                and self.has_room())
         good = good and all(row.name != name for row in self.loaders())
         if own is None:
-            good = good and 1 <= loader <= self.number and all(row.loader < loader for row in self.loaders())
+            good = (good and 1 <= loader <= self.number
+                    and all(row.loader < loader for row in self.loaders()))
         else:
             good = good and loader == own
         if not good:
@@ -255,7 +262,8 @@ class File:
         classes = self.classes(loader)
         if not classes:
             return None, 0
-        return classes[-1].chunk, sum(row.words for row in classes if row.chunk == classes[-1].chunk)
+        return (classes[-1].chunk,
+                sum(row.words for row in classes if row.chunk == classes[-1].chunk))
 
     def is_apart(self, chunk):
         return not any(row.chunk and meet(chunk, row.chunk) for row in self.rows)
@@ -264,7 +272,8 @@ class File:
         if not self.lives(loader) or not self.has_room():
             raise Damaged(6, index)
         good = self.is_chunk(chunk) and words >= 1 and offset + words <= oracle.UNIT << chunk[1]
-        if not good or ((chunk, offset) != self.last_chunk(loader) and not (offset == 0 and self.is_apart(chunk))):
+        if not good or ((chunk, offset) != self.last_chunk(loader)
+                        and not (offset == 0 and self.is_apart(chunk))):
             raise Damaged(7, index)
         self.rows.append(Row(index, loader, chunk=chunk, offset=offset, words=words))
 
@@ -275,7 +284,8 @@ class File:
 
     def move(self, index, loader, old, new):
         last, used = self.last_chunk(loader)
-        if last is None or last != old or not self.is_chunk(new) or not self.is_apart(new) or used > oracle.UNIT << new[1]:
+        if (last is None or last != old or not self.is_chunk(new) or not self.is_apart(new)
+                or used > oracle.UNIT << new[1]):
             raise Damaged(7, index)
         for row in self.classes(loader):
             if row.chunk == old:
@@ -300,14 +310,16 @@ class File:
     def report(self):
         classes = [row for row in self.rows if row.chunk]
         chunks = {row.chunk for row in classes}
-        return f"ok loaders {len(self.loaders())} classes {len(classes)} chunks {len(chunks)} number {self.number}"
+        return (f"ok loaders {len(self.loaders())} classes {len(classes)} "
+                f"chunks {len(chunks)} number {self.number}")
 
     def listed(self):
         for loader in sorted(self.loaders(), key=lambda row: row.name):
             yield b"loader %s" % loader.name
             for row in sorted(self.classes(loader.loader), key=lambda row: row.name):
                 place = row.chunk[2] + row.offset
-                yield b"class %s words %d root %d at %d" % (oracle.escaped(row.name), row.words, row.chunk[0], place)
+                yield b"class %s words %d root %d at %d" % (oracle.escaped(row.name), row.words,
+                                                            row.chunk[0], place)
 
     def state(self):
         """Each loader's classes, by their records' words."""
@@ -328,7 +340,8 @@ def class_of(words):
     except (IndexError, struct.error):
         return None
     found, fault = oracle.read_shape(data)
-    if fault or len(words) > oracle.RECORD_LIMIT or found.record() != words or oracle.first_fault(found):
+    if (fault or len(words) > oracle.RECORD_LIMIT or found.record() != words
+            or oracle.first_fault(found)):
         return None
     return found
 
@@ -338,7 +351,8 @@ def parts(word):
 
 
 def class_file_of(words):
-    """The class file that a record would be of, if it is one; where it is none, any bytes or an IndexError."""
+    """The class file that a record would be of, if it is one; where it is none, any bytes or an
+    IndexError."""
     flags, this_class, super_class, interface_count = parts(words[1])
     count, field_count, method_count, attribute_count = parts(words[2])
     _, interfaces, members, rows, _ = words[3:8]
@@ -361,7 +375,8 @@ def class_file_of(words):
         if not sizes:
             raise IndexError
         numbers = [word >> 32 & 0xFFFF, word >> 48] if len(sizes) == 2 else [word >> 32]
-        return bytes([tag]) + b"".join((n & (1 << 8 * size) - 1).to_bytes(size, "big") for n, size in zip(numbers, sizes))
+        return bytes([tag]) + b"".join((n & (1 << 8 * size) - 1).to_bytes(size, "big")
+                                       for n, size in zip(numbers, sizes))
 
     def attributes(begin, how_many):
         out = struct.pack(">H", how_many)

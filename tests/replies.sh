@@ -1,9 +1,11 @@
 #!/usr/bin/env bash
-# Scripts run by the built program: replies, refusals and statuses. Needs nothing beyond the machine's own tools.
+# Scripts run by the built program: replies, refusals and statuses. Needs nothing beyond the
+# machine's own tools.
 set -u
 . "$(dirname "$0")/lib.sh"
 
-a=cafebabe000000340005070002010001410700040100106a6176612f6c616e672f4f626a6563740021000100030000000000000000
+a=cafebabe0000003400050700020100014107000401
+a+=00106a6176612f6c616e672f4f626a6563740021000100030000000000000000
 
 cp "$top/examples/first.txt" "$work/in"
 printf 'ok 1\nok 2 A\nclass A flags 0021 super java/lang/Object words 16\n' >"$work/want"
@@ -20,8 +22,13 @@ printf 'ok 1\n' >"$work/want"
 run apply --memory
 check "a script without a last newline" 0
 
-printf 'loader app\n\nloader\nloader  app\nloader app \nfind app\nfind app %%41\nfind app %%g0\nfind app A\nnope\n' >"$work/in"
-printf 'ok 1\nrefused 15 line\nrefused 15 line\nrefused 15 line\nrefused 15 line\nrefused 15 line\nrefused 15 line\nrefused 15 line\nnone\nrefused 15 line\n' >"$work/want"
+printf '%s\n' 'loader app' '' loader 'loader  app' 'loader app ' 'find app' 'find app %41' \
+    'find app %g0' 'find app A' nope >"$work/in"
+{
+    echo 'ok 1'
+    for _ in $(seq 7); do echo 'refused 15 line'; done
+    printf '%s\n' none 'refused 15 line'
+} >"$work/want"
 run apply --memory
 check "lines of no known form" 1
 
@@ -52,7 +59,9 @@ check "bytes that aren't UTF-8" 1
     echo "define app $a"
     echo "define app $a"
 } >"$work/in"
-printf 'ok 1\nrefused 14 trailing 53\nrefused 14 truncated\nrefused 14 malformed 5\nrefused 14 malformed 7\nrefused 15 line\nrefused 15 line\nrefused 3 no loader\nok 2 A\nrefused 4 class exists\n' >"$work/want"
+printf '%s\n' 'ok 1' 'refused 14 trailing 53' 'refused 14 truncated' 'refused 14 malformed 5' \
+    'refused 14 malformed 7' 'refused 15 line' 'refused 15 line' 'refused 3 no loader' 'ok 2 A' \
+    'refused 4 class exists' >"$work/want"
 run apply --memory
 check "classes that are refused" 1
 
@@ -61,18 +70,24 @@ printf 'ok 1\nok 2\nok 3 A\nok 4 A\nrefused 4 class exists\n' >"$work/want"
 run apply --memory
 check "one class in two loaders" 1
 
-n=cafebabe00000034000507000201 # a class whose name is the two bytes c3a9
-printf 'loader app\ndefine app %s\nfind app %%c3%%a9\n' "${n}0002c3a90700040100106a6176612f6c616e672f4f626a6563740021000100030000000000000000" >"$work/in"
-printf 'ok 1\nok 2 %%C3%%A9\nclass %%C3%%A9 flags 0021 super java/lang/Object words 16\n' >"$work/want"
+# A class whose name is the two bytes c3a9.
+n=cafebabe000000340005070002010002c3a907000401
+n+=00106a6176612f6c616e672f4f626a6563740021000100030000000000000000
+printf '%s\n' 'loader app' "define app $n" 'find app %c3%a9' >"$work/in"
+printf '%s\n' 'ok 1' 'ok 2 %C3%A9' 'class %C3%A9 flags 0021 super java/lang/Object words 16' \
+    >"$work/want"
 run apply --memory
 check "a name outside ASCII" 0
 
 {
-    printf 'unload app\nloader app\ndefine app %s\nunload app\nfind app A\nunload app\nloader app\nfind app A\ndefine app %s\n' "$a" "$a"
-    printf 'unload\nunload app ext\nunload  app\nunload app \nunload \xff\nunload %%41\nloader %%41\nunload %%41\n'
+    printf '%s\n' 'unload app' 'loader app' "define app $a" 'unload app' 'find app A' \
+        'unload app' 'loader app' 'find app A' "define app $a"
+    printf 'unload\nunload app ext\nunload  app\nunload app \nunload \xff\n'
+    printf '%s\n' 'unload %41' 'loader %41' 'unload %41'
 } >"$work/in"
-printf 'refused 3 no loader\nok 1\nok 2 A\nok 3\nnone\nrefused 3 no loader\nok 4\nnone\nok 5 A\n' >"$work/want"
-printf 'refused 15 line\nrefused 15 line\nrefused 15 line\nrefused 15 line\nrefused 1 name\nrefused 3 no loader\nok 6\nok 7\n' >>"$work/want"
+printf '%s\n' 'refused 3 no loader' 'ok 1' 'ok 2 A' 'ok 3' none 'refused 3 no loader' 'ok 4' none \
+    'ok 5 A' 'refused 15 line' 'refused 15 line' 'refused 15 line' 'refused 15 line' \
+    'refused 1 name' 'refused 3 no loader' 'ok 6' 'ok 7' >"$work/want"
 run apply --memory
 check "loaders that are unloaded" 1
 
@@ -93,7 +108,10 @@ run apply --memory
 check "a hundred classes" 0
 
 for i in $(seq 2050); do echo "loader l$i"; done >"$work/in"
-{ for i in $(seq 2047); do echo "ok $i"; done; for i in 1 2 3; do echo "refused 7 journal full"; done; } >"$work/want"
+{
+    for i in $(seq 2047); do echo "ok $i"; done
+    for i in 1 2 3; do echo "refused 7 journal full"; done
+} >"$work/want"
 run apply --memory
 check "a journal at its end" 1
 

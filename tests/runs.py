@@ -1,4 +1,5 @@
-"""What the scripts share that run the program on files and stop it: runs, scripts by chance, and how a file is looked at."""
+"""What the scripts share that run the program on files and stop it: runs, scripts by chance, and
+how a file is looked at."""
 import os
 import subprocess
 
@@ -7,14 +8,16 @@ import region
 
 LOADERS = [b"app", b"ext", b"lib", b"web"]
 CLASSES = [b"A", b"B", b"C", b"D", b"E", b"F"]
-HEAD = bytes.fromhex("cafebabe00000034000607000201000141" "0700040100106a6176612f6c616e672f4f626a656374" "01000158")
+HEAD = bytes.fromhex(
+    "cafebabe00000034000607000201000141" "0700040100106a6176612f6c616e672f4f626a656374" "01000158")
 TAIL = bytes.fromhex("002100010003" "000000000000" "0001" "0005")
 
 
 def padded(name, zeros):
-    """Class A under another name of one letter, with an attribute of so many zeros: its record has 20 words and one more for
-    each eight of them."""
-    return HEAD.replace(b"\x01\x00\x01A", b"\x01\x00\x01" + name) + TAIL + zeros.to_bytes(4, "big") + bytes(zeros)
+    """Class A under another name of one letter, with an attribute of so many zeros: its record has
+    20 words and one more for each eight of them."""
+    return (HEAD.replace(b"\x01\x00\x01A", b"\x01\x00\x01" + name) + TAIL + zeros.to_bytes(4, "big")
+            + bytes(zeros))
 
 
 def define(loader, name, zeros):
@@ -61,12 +64,13 @@ class Checks:
 
 
 def run(program, words, lines=(), env=None, limit=None):
-    """Runs the program to its end: its lines of output, its status and what it tells on standard error. A limit is one on the
-    size of files, whose signal is ignored."""
+    """Runs the program to its end: its lines of output, its status and what it tells on standard
+    error. A limit is one on the size of files, whose signal is ignored."""
     words = [program, *words]
     if limit is not None:
         words = ["bash", "-c", f"trap '' XFSZ; ulimit -f {limit}; exec \"$@\"", "bash", *words]
-    ran = subprocess.run(words, input=b"".join(line + b"\n" for line in lines), stdout=subprocess.PIPE, stderr=subprocess.PIPE,
+    ran = subprocess.run(words, input=b"".join(line + b"\n" for line in lines),
+                         stdout=subprocess.PIPE, stderr=subprocess.PIPE,
                          env={**os.environ, **(env or {})}, check=False)
     return ran.stdout.split(b"\n")[:-1], ran.returncode, ran.stderr.decode(errors="replace")
 
@@ -87,13 +91,15 @@ def state_in(path):
 
 
 def settle(checks, name, path, cache, line):
-    """Looks at a file after a run that ended early. The file holds what was acknowledged, which is the cache's; or, besides,
-    the change of the line that was being run. The cache is left as the file is."""
+    """Looks at a file after a run that ended early. The file holds what was acknowledged, which is
+    the cache's; or, besides, the change of the line that was being run. The cache is left as the
+    file is."""
     state, number = state_in(path)
     if line is not None and is_change(line) and number == cache.number + 1:
         cache.answer(line)
     holds = number == cache.number and state == region.state_of(cache)
-    return checks.check(name, holds, f"the file holds number {number}, {cache.number} was acknowledged: {state!s:.200}")
+    return checks.check(name, holds, f"the file holds number {number}, "
+                        f"{cache.number} was acknowledged: {state!s:.200}")
 
 
 def look_up(checks, name, program, path, cache):
@@ -108,8 +114,10 @@ def tell(checks, name, program, path):
     """Checks and lists the file by the program, each in a run of its own."""
     file = region.read(path)
     checked, listed = run(program, ["check", path]), run(program, ["list", path])
-    good = checks.check(f"{name}, checked", checked == ([file.report().encode()], 0, ""), f"got {checked}")
-    return checks.check(f"{name}, listed", listed == ([*file.listed()], 0, ""), f"got {listed}") and good
+    good = checks.check(f"{name}, checked", checked == ([file.report().encode()], 0, ""),
+                        f"got {checked}")
+    return (checks.check(f"{name}, listed", listed == ([*file.listed()], 0, ""), f"got {listed}")
+            and good)
 
 
 def new_cache(geometry=None):

@@ -1,12 +1,16 @@
 #!/usr/bin/env python3
-"""Compares `cm_simulate` with a plain model of the world: event lists drawn at random, and walks stopped at each device call.
+"""Compares `cm_simulate` with a plain model of the world: event lists drawn at random, and walks
+stopped at each device call.
 
-    tests/simulate.py PROGRAM            event lists, walks, lines of another form, the file of the disk
-    tests/simulate.py PROGRAM LIBRARY N  a simulation once for each of its allocations, with that one refused; N are met
+    tests/simulate.py PROGRAM            event lists, walks, lines of another form, the file of the
+                                         disk
+    tests/simulate.py PROGRAM LIBRARY N  a simulation once for each of its allocations, with that
+                                         one refused; N are met
 
-The model holds loaders and classes as dictionaries, what is handed out and what is acknowledged, and what the device call
-under way may leave of the file. It is written from the project's description and shares no code with the program; the class
-files are judged by tests/oracle.py. Its random numbers have fixed seeds.
+The model holds loaders and classes as dictionaries, what is handed out and what is acknowledged,
+and what the device call under way may leave of the file. It is written from the project's
+description and shares no code with the program; the class files are judged by tests/oracle.py. Its
+random numbers have fixed seeds.
 """
 import os
 import random
@@ -33,13 +37,15 @@ def utf8(text):
 def class_a(name=b"A"):
     """A class of this name, of java/lang/Object, with nothing in it."""
     pool = b"\x07\x00\x02" + utf8(name) + b"\x07\x00\x04" + utf8(b"java/lang/Object")
-    return b"\xca\xfe\xba\xbe\x00\x00\x00\x34\x00\x05" + pool + b"\x00\x21\x00\x01\x00\x03" + bytes(8)
+    return (b"\xca\xfe\xba\xbe\x00\x00\x00\x34\x00\x05" + pool + b"\x00\x21\x00\x01\x00\x03"
+            + bytes(8))
 
 
 def class_p(name, count):
     """The same with an attribute X of so many zeros."""
     data = class_a(name)
-    return data[:9] + b"\x06" + data[10:-14] + utf8(b"X") + data[-14:-2] + b"\x00\x01\x00\x05" + struct.pack(">I", count) + bytes(count)
+    return (data[:9] + b"\x06" + data[10:-14] + utf8(b"X") + data[-14:-2] + b"\x00\x01\x00\x05"
+            + struct.pack(">I", count) + bytes(count))
 
 
 def judged(data):
@@ -54,7 +60,8 @@ def judged(data):
 # ---- the world
 
 class Group:
-    """Commands that are stored together: the number of the last, how many, and the device calls to make."""
+    """Commands that are stored together: the number of the last, how many, and the device calls to
+    make."""
 
     def __init__(self, first, last):
         self.first = first
@@ -65,7 +72,8 @@ class Group:
 
 
 class World:
-    """All classes fit into the first root: no region is full, and a file grows by one root at most."""
+    """All classes fit into the first root: no region is full, and a file grows by one root at
+    most."""
 
     def __init__(self, top, roots, slots):
         self.root_words = 128 << top
@@ -140,7 +148,8 @@ class World:
             refusal = 1
         elif name not in self.loaders():
             refusal = 3
-        return self.accept(("unload", {n: c for n, c in self.loaders().items() if n != name}), refusal)
+        return self.accept(("unload", {n: c for n, c in self.loaders().items() if n != name}),
+                           refusal)
 
     def define(self, name, data):
         class_name, words = judged(data)
@@ -158,7 +167,8 @@ class World:
         elif self.rows() >= self.slots // 2:
             refusal = 7
         else:
-            change = ("define", {**self.loaders(), name: {**self.loaders()[name], class_name: words}})
+            change = ("define",
+                      {**self.loaders(), name: {**self.loaders()[name], class_name: words}})
         return self.accept(change, refusal)
 
     def look(self, name, class_name):
@@ -243,7 +253,8 @@ class World:
 
     def crash(self, length, fill):
         """Once anything is loose behind the gate's own sync, nothing else is."""
-        self.stops.append("crash, gate loose" if self.loose else f"crash before {self.calls[0]}" if self.calls else "crash at rest")
+        self.stops.append("crash, gate loose" if self.loose
+                          else f"crash before {self.calls[0]}" if self.calls else "crash at rest")
         gate = fill[0] if self.loose and fill else self.gate
         self.length = self.least = self.greatest = max(self.least, min(length, self.greatest))
         self.open_again(self.in_file(gate))
@@ -275,7 +286,8 @@ class Simulation:
 
 
 def run(program, text, *words, **names):
-    ran = subprocess.run([program, *words], input=text, stdout=subprocess.PIPE, stderr=subprocess.PIPE, env={**os.environ, **names})
+    ran = subprocess.run([program, *words], input=text, stdout=subprocess.PIPE,
+                         stderr=subprocess.PIPE, env={**os.environ, **names})
     return ran.stdout.decode().split("\n")[:-1], ran.returncode, ran.stderr.decode()
 
 
@@ -296,8 +308,10 @@ class Checks:
 # ---- event lists
 
 NAMES = [b"a", b"b", b"c", b"app", b"~!%"]
-CLASSES = [(class_a(n), n) for n in (b"A", b"B", b"C")] + [(class_p(b"A", 0), b"A"), (class_p(b"D", 33), b"D"), (class_p(b"E", 8), b"E")]
-BAD = [class_a() + b"\x00", class_a()[:-1], b"\xca", class_a()[:-2] + b"\x00\x01", class_a().replace(b"\x00\x21", b"\x02\x21")]
+CLASSES = ([(class_a(n), n) for n in (b"A", b"B", b"C")]
+           + [(class_p(b"A", 0), b"A"), (class_p(b"D", 33), b"D"), (class_p(b"E", 8), b"E")])
+BAD = [class_a() + b"\x00", class_a()[:-1], b"\xca", class_a()[:-2] + b"\x00\x01",
+       class_a().replace(b"\x00\x21", b"\x02\x21")]
 TOO_LONG = class_p(b"L", 8 * (4097 - 20))
 FILLS = [b"", b"\xa5", b"\x00", b"\xa4", b"\xff" * 3]
 
@@ -306,16 +320,19 @@ def draw_name(draw, world):
     """A loader's name: mostly one that lives."""
     if world.loaders() and draw.random() < 0.7:
         return draw.choice(sorted(world.loaders()))
-    return draw.choice(NAMES) if draw.random() < 0.9 else draw.choice([b"x" * 48, b"x" * 49, b"\x7f", b"\xc3\xa9"])
+    return (draw.choice(NAMES) if draw.random() < 0.9
+            else draw.choice([b"x" * 48, b"x" * 49, b"\x7f", b"\xc3\xa9"]))
 
 
 def draw_command(draw, add, world):
     kind = draw.random()
-    name = draw_name(draw, world) if kind >= 0.35 else draw.choice(NAMES + [b"x" * 48, b"x" * 49, b"\xff"])
+    name = (draw_name(draw, world) if kind >= 0.35
+            else draw.choice(NAMES + [b"x" * 48, b"x" * 49, b"\xff"]))
     if kind < 0.35:
         add("loader", name)
     elif kind < 0.85:
-        add("define", name, draw.choice(BAD) if draw.random() < 0.05 else TOO_LONG if draw.random() < 0.01 else draw.choice(CLASSES)[0])
+        add("define", name, draw.choice(BAD) if draw.random() < 0.05
+            else TOO_LONG if draw.random() < 0.01 else draw.choice(CLASSES)[0])
     else:
         add("unload", name)
 
@@ -338,12 +355,14 @@ def draw_event(draw, simulation, busy, at_rest):
     elif kind == 6:
         add("reopen")
     else:
-        length = draw.choice([0, 1 << 40, world.base, world.base + draw.randrange(world.root_bytes), world.base + world.root_bytes])
-        add("crash", length, draw.choice(FILLS) if draw.random() < 0.7 else draw.randbytes(draw.randrange(1, 200)))
+        length = draw.choice([0, 1 << 40, world.base, world.base + draw.randrange(world.root_bytes),
+                              world.base + world.root_bytes])
+        add("crash", length,
+            draw.choice(FILLS) if draw.random() < 0.7 else draw.randbytes(draw.randrange(1, 200)))
 
 
-# How often there are commands, seals, advances, learns, look-ups, faults, openings and crashes, where a group waits or is
-# under way, and where none is.
+# How often there are commands, seals, advances, learns, look-ups, faults, openings and crashes,
+# where a group waits or is under way, and where none is.
 BUSY = [(4, 2, 30, 2, 2, 4, 1, 3), (2, 1, 40, 1, 1, 1, 1, 4), (8, 4, 20, 1, 1, 6, 2, 2)]
 AT_REST = [(20, 8, 1, 3, 5, 1, 1, 1), (30, 4, 1, 2, 2, 1, 0, 1)]
 
@@ -371,7 +390,8 @@ def draw_list(seed):
     for _ in range(draw.randrange(5, 90)):
         before = len(simulation.lines)
         draw_event(draw, simulation, *mixes)
-        defines += simulation.lines[before].startswith(b"define") and simulation.due.startswith("number")
+        defines += (simulation.lines[before].startswith(b"define")
+                    and simulation.due.startswith("number"))
         if defines == 24:
             # More might not fit into one root.
             break
@@ -392,8 +412,10 @@ def compare(checks, program, simulation, what):
     due = replies_due(simulation)
     got, status, _ = run(program, simulation.text())
     at = next((i for i, pair in enumerate(zip(due, got)) if pair[0] != pair[1]), None)
-    line = "" if at is None else f", line {at + 2} {simulation.lines[at + 1][:60]!r}: {got[at]} and not {due[at]}"
-    checks.check(got == due and status == 0, f"{what}: status {status}, {len(got)} of {len(due)} replies{line}")
+    line = ("" if at is None
+            else f", line {at + 2} {simulation.lines[at + 1][:60]!r}: {got[at]} and not {due[at]}")
+    checks.check(got == due and status == 0,
+                 f"{what}: status {status}, {len(got)} of {len(due)} replies{line}")
     return due
 
 
@@ -402,16 +424,20 @@ def check_lists(checks, program):
     for seed in range(LISTS):
         simulation = draw_list(seed)
         due = compare(checks, program, simulation, f"list {seed}")
-        replies = [reply if reply.startswith("refused") or reply == "none" else reply.split()[0] for reply in due]
+        replies = [reply if reply.startswith("refused") or reply == "none" else reply.split()[0]
+                   for reply in due]
         for kind in replies + simulation.world.stops:
             met[kind] = met.get(kind, 0) + 1
     wanted = [f"refused {n}" for n in (1, 2, 3, 4, 5, 7, 10, 14)]
-    wanted += ["number", "group", "none", "idle", "working", "done", "device", "broken", "learnt", "class", "armed", "opened"]
+    wanted += ["number", "group", "none", "idle", "working", "done", "device", "broken", "learnt",
+               "class", "armed", "opened"]
     # A root is the first call of its group: before it the cache is at rest.
-    wanted += [f"fault in {call}" for call in set(CALLS)] + [f"crash before {call}" for call in set(CALLS) - {"root"}]
+    wanted += ([f"fault in {call}" for call in set(CALLS)]
+               + [f"crash before {call}" for call in set(CALLS) - {"root"}])
     wanted += ["crash, gate loose", "crash at rest"]
     missed = [f"{kind} ({met.get(kind, 0)})" for kind in wanted if met.get(kind, 0) < 20]
-    checks.check(not missed, f"the lists meet each reply and each stop at least 20 times, but not {missed}")
+    checks.check(not missed,
+                 f"the lists meet each reply and each stop at least 20 times, but not {missed}")
     return met
 
 
@@ -423,7 +449,8 @@ CALLS = ["root", "record", "group", "sync", "gate", "sync"]
 def beginning():
     """A loader that is stored, and a class that is handed out."""
     simulation = Simulation(3, 2, 256)
-    for event in ("loader", b"app"), ("seal",), ("advance",), ("advance",), ("advance",), ("advance",), ("learn",):
+    for event in (("loader", b"app"), ("seal",), ("advance",), ("advance",), ("advance",),
+                  ("advance",), ("learn",)):
         simulation.add(*event)
     simulation.add("define", b"app", class_a())
     simulation.add("seal")
@@ -439,7 +466,8 @@ def ends():
 
 
 def check_walk(checks, program, calls, stored, end):
-    """A define is stopped behind so many device calls, the last of which fails where bytes are given that it stores."""
+    """A define is stopped behind so many device calls, the last of which fails where bytes are
+    given that it stores."""
     simulation = beginning()
     for call in range(calls):
         if stored is not None and call == calls - 1:
@@ -448,7 +476,8 @@ def check_walk(checks, program, calls, stored, end):
     simulation.add(*end)
     simulation.add("look", b"app", b"A")
     what = f"a define stopped behind {calls} calls, {stored} bytes stored of the last, {end[0]}"
-    # From the papers' words: the class is there exactly where its gate is A5 in the file that is opened.
+    # As docs/CRASH.md has it: the class is there exactly where its gate is A5 in the file that
+    # is opened.
     last = CALLS[calls - 1] if calls else None
     gate = 0xa5 if calls >= 5 and not (calls == 5 and stored == 0) else 0
     if end[0] == "crash" and end[2] and (calls == 5 or calls == 6 and stored is not None):
@@ -456,7 +485,9 @@ def check_walk(checks, program, calls, stored, end):
     there = gate == 0xa5
     due = compare(checks, program, simulation, what)
     wanted = ["opened 2", "class 16"] if there else ["opened 1", "none"]
-    checks.check(due[-2:] == wanted and (last != "sync" or calls < 6 or stored is not None or there), f"{what}: the model")
+    checks.check(
+        due[-2:] == wanted and (last != "sync" or calls < 6 or stored is not None or there),
+        f"{what}: the model")
     # What is opened goes on.
     simulation.add("loader", b"next")
     simulation.add("seal")
@@ -478,13 +509,16 @@ def check_walks(checks, program):
 
 
 def check_region(checks, program):
-    """A left chunk waits for the receipt of what left it. Worked out by hand: one root, and classes as long as it."""
+    """A left chunk waits for the receipt of what left it. Worked out by hand: one root, and classes
+    as long as it."""
     data, other = class_p(b"A", 8032), class_p(b"B", 0)
-    lines = [b"geometry 3 1 256", b"loader a", b"define a " + data.hex().encode(), b"loader b", b"unload a"]
+    lines = [b"geometry 3 1 256", b"loader a", b"define a " + data.hex().encode(), b"loader b",
+             b"unload a"]
     full = b"define b " + other.hex().encode()
     lines += [full, b"seal"] + [b"advance"] * 6 + [full, b"learn", full, b"look b B"]
     # A root, one record, the group, a sync, the gate, a sync.
-    wanted = ["number 1", "number 2", "number 3", "number 4", "refused 6", "group 1 4"] + ["working"] * 5
+    wanted = (["number 1", "number 2", "number 3", "number 4", "refused 6", "group 1 4"]
+              + ["working"] * 5)
     wanted += ["done 4", "refused 6", "learnt 4", "number 5", "class 20"]
     got, status, _ = run(program, b"\n".join(lines))
     checks.check(got == wanted and status == 0, f"one root, two loaders: {got}")
@@ -498,22 +532,31 @@ def check_region(checks, program):
 
 def check_forms(checks, program):
     first = b"geometry 3 1 256\n"
-    bad = [b"", b" ", b"seal ", b" seal", b"Seal", b"seal 1", b"loader", b"loader ", b"loader a b", b"loader  a", b"define a", b"define a 0"]
-    bad += [b"define a 0g", b"define a -", b"define a 00 00", b"unload", b"unload a b", b"look a", b"look a A B", b"fault", b"fault -1", b"fault +1"]
-    bad += [b"fault 1x", b"fault 18446744073709551616", b"fault 0x1", b"reopen 1", b"crash", b"crash 0", b"crash 0 ", b"crash - 00", b"crash 0 0"]
-    bad += [b"crash 0 00 00", b"crash 0 --", b"tighten a", b"trim", b"geometry 3 1 256", b"advance\r", b"learn\t", b"\xff"]
+    bad = [b"", b" ", b"seal ", b" seal", b"Seal", b"seal 1", b"loader", b"loader ", b"loader a b",
+           b"loader  a", b"define a", b"define a 0"]
+    bad += [b"define a 0g", b"define a -", b"define a 00 00", b"unload", b"unload a b", b"look a",
+            b"look a A B", b"fault", b"fault -1", b"fault +1"]
+    bad += [b"fault 1x", b"fault 18446744073709551616", b"fault 0x1", b"reopen 1", b"crash",
+            b"crash 0", b"crash 0 ", b"crash - 00", b"crash 0 0"]
+    bad += [b"crash 0 00 00", b"crash 0 --", b"tighten a", b"trim", b"geometry 3 1 256",
+            b"advance\r", b"learn\t", b"\xff"]
     for line in bad:
         for before in 0, 3:
             text = first + b"seal\n" * before + line + b"\nlearn\nnone of it\n"
             got, status, errors = run(program, text)
             right = status == 2 and not got and re.search(rf"\b{before + 2}\b", errors)
-            checks.check(right, f"line {line!r} as number {before + 2}: status {status}, {errors!r}")
-    for line in [b"", b"geometry", b"geometry 3 1", b"geometry 3 1 256 1", b"geometry 2 1 256", b"geometry 13 1 256", b"geometry 3 0 256",
-                 b"geometry 3 257 256", b"geometry 3 1 255", b"geometry 3 1 65537", b"geometry 3 1 4294967552", b"geometry  3 1 256", b"seal"]:
+            checks.check(right,
+                         f"line {line!r} as number {before + 2}: status {status}, {errors!r}")
+    for line in [b"", b"geometry", b"geometry 3 1", b"geometry 3 1 256 1", b"geometry 2 1 256",
+                 b"geometry 13 1 256", b"geometry 3 0 256",
+                 b"geometry 3 257 256", b"geometry 3 1 255", b"geometry 3 1 65537",
+                 b"geometry 3 1 4294967552", b"geometry  3 1 256", b"seal"]:
         for rest in b"", b"\nseal\n":
             got, status, errors = run(program, line + rest)
-            checks.check(status == 2 and not got and re.search(r"\b1\b", errors), f"first line {line!r}: status {status}, {errors!r}")
-    good = [b"geometry 12 256 65536", b"geometry 3 1 256\nloader a", b"geometry 003 1 256\nfault 18446744073709551615\ncrash 0 fF\n"]
+            checks.check(status == 2 and not got and re.search(r"\b1\b", errors),
+                         f"first line {line!r}: status {status}, {errors!r}")
+    good = [b"geometry 12 256 65536", b"geometry 3 1 256\nloader a",
+            b"geometry 003 1 256\nfault 18446744073709551615\ncrash 0 fF\n"]
     for text, wanted in zip(good, ([], ["number 1"], ["armed", "opened 0"])):
         got, status, _ = run(program, text)
         checks.check(got == wanted and status == 0, f"{text!r}: status {status}, {got}")
@@ -547,7 +590,8 @@ def check_disk(checks, program):
         _, status, _ = run(program, lines, "--disk", path)
         with open(path, "rb") as held:
             checks.check(status == 0 and held.read() == file, "the file behind one loader")
-        run(program, lines + b"define app " + class_a().hex().encode() + b"\nseal\nadvance\nfault 0\n", "--disk", path)
+        run(program, lines + b"define app " + class_a().hex().encode()
+            + b"\nseal\nadvance\nfault 0\n", "--disk", path)
         with open(path, "rb") as held:
             checks.check(held.read() == file + bytes(8192), "the file behind one loader and a root")
         _, status, errors = run(program, lines, "--disk", os.path.join(folder, "no", "disk"))
@@ -555,7 +599,8 @@ def check_disk(checks, program):
     _, status, errors = run(program, lines, "--disc", "x")
     checks.check(status == 2 and errors, f"a word that isn't known: status {status}")
     got, status, errors = run(program, lines, "--help")
-    checks.check(status == 0 and any("--disk" in line for line in got) and not errors, f"help: status {status}")
+    checks.check(status == 0 and any("--disk" in line for line in got) and not errors,
+                 f"help: status {status}")
 
 
 # ---- refused allocations
@@ -564,7 +609,8 @@ def sweep_script():
     simulation = beginning()
     for _ in CALLS:
         simulation.add("advance")
-    for event in ("learn",), ("look", b"app", b"A"), ("unload", b"none"), ("define", b"app", BAD[0]), ("reopen",), ("look", b"app", b"A"):
+    for event in (("learn",), ("look", b"app", b"A"), ("unload", b"none"),
+                  ("define", b"app", BAD[0]), ("reopen",), ("look", b"app", b"A")):
         simulation.add(*event)
     simulation.add("loader", b"b")
     simulation.add("seal")
@@ -581,7 +627,8 @@ def is_true(simulation, replies):
     for (name, words), reply in zip(simulation.events, replies):
         if left and name == "advance" and reply == "device":
             due, left = world.advance(may_fail=True), 0
-        elif left and name in ("loader", "define", "unload", "seal", "look") and reply == "refused 9":
+        elif (left and name in ("loader", "define", "unload", "seal", "look")
+                and reply == "refused 9"):
             due, left = reply, 0
         else:
             due = getattr(world, name)(*words)
@@ -595,7 +642,8 @@ def sweep(checks, program, library, wanted):
     told = set()
     for refuse in range(1, MOST_ALLOCATIONS):
         with tempfile.NamedTemporaryFile() as counts:
-            got, status, errors = run(program, simulation.text(), LD_PRELOAD=library, ALLOCATIONS=counts.name, REFUSE=str(refuse))
+            got, status, errors = run(program, simulation.text(), LD_PRELOAD=library,
+                                      ALLOCATIONS=counts.name, REFUSE=str(refuse))
             refused = struct.unpack("3Q", counts.read(24))[2]
         right = is_true(simulation, got) if status == 0 else status == 3 and not got and errors
         checks.check(right, f"with allocation {refuse} refused: status {status}, {errors!r}, {got}")
@@ -612,7 +660,8 @@ def main(words):
         sweep(checks, words[0], words[1], int(words[2]))
     else:
         met = check_lists(checks, words[0])
-        print(f"{LISTS} event lists:", ", ".join(f"{kind} {count}" for kind, count in sorted(met.items())))
+        print(f"{LISTS} event lists:",
+              ", ".join(f"{kind} {count}" for kind, count in sorted(met.items())))
         for check in check_walks, check_region, check_forms, check_disk:
             check(checks, words[0])
     print(f"{checks.passed} passed, {checks.failed} failed")

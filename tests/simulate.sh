@@ -1,6 +1,7 @@
 #!/usr/bin/env bash
-# cm_simulate beside a plain model of the world: event lists drawn with fixed seeds, a define stopped at each of its device
-# calls, lines of another form, the file of the disk, and each allocation of a simulation refused in turn.
+# cm_simulate beside a plain model of the world: event lists drawn with fixed seeds, a define
+# stopped at each of its device calls, lines of another form, the file of the disk, and each
+# allocation of a simulation refused in turn.
 #
 # Needs Python and a C compiler.
 set -u
@@ -10,7 +11,10 @@ cd "$(dirname "$0")/.." || exit 1
 bin/cm_simulate --help >"$work/log" 2>&1 || cat "$work/log" # builds it where it is missing
 built=$top/crates/cm_simulate/out/cm_simulate
 library=$work/allocations.so
-cc -O2 -Wall -Werror -shared -fPIC -o "$library" tests/allocations.c || { echo "0 passed, 1 failed"; exit 1; }
+if ! cc -O2 -Wall -Werror -shared -fPIC -o "$library" tests/allocations.c; then
+    echo "0 passed, 1 failed"
+    exit 1
+fi
 
 # checks ARGS..: those of tests/simulate.py, which tells in its last line how many passed.
 checks() {
