@@ -1,6 +1,7 @@
 #!/usr/bin/env python3
-"""Looks whether README.md and docs/ name what is there: reads the repository at the current folder, prints a line for each thing
-named that isn't, and last how many were looked at: 'N passed, M failed'.
+"""Looks whether README.md and docs/ name what is there: reads the repository at the current folder,
+prints a line for each thing named that isn't, and last how many were looked at: 'N passed, M
+failed'.
 
     tests/docs.py
 """
@@ -12,7 +13,8 @@ TOP = Path(".")
 PROOFS = TOP / "docs/PROOFS.md"
 DOCUMENTS = [TOP / "README.md", *sorted((TOP / "docs").glob("*.md"))]
 NAME = r"[A-Za-z_][A-Za-z_0-9]*"
-CRATES = [line.split()[0].rstrip(":") for line in (TOP / "crates.txt").read_text().splitlines() if line and line[0] != "#"]
+CRATES = [line.split()[0].rstrip(":") for line in (TOP / "crates.txt").read_text().splitlines()
+          if line and line[0] != "#"]
 
 
 def lines_of(path):
@@ -20,7 +22,8 @@ def lines_of(path):
 
 
 def cells(line):
-    """The cells of a table's row, without their spaces; none of another line. A bar inside a code span is no end of a cell."""
+    """The cells of a table's row, without their spaces; none of another line. A bar inside a code
+    span is no end of a cell."""
     if not line.startswith("|"):
         return []
     hidden = re.sub(r"`[^`]*`", lambda span: span.group().replace("|", "\0"), line)
@@ -72,11 +75,13 @@ def map_rows():
         for number, last in found:
             yield crate in CRATES, f"{path}:{number}: the crate {crate}"
             for name in spans(last):
-                yield (TOP / "crates" / crate / name).exists(), f"{path}:{number}: {name} in {crate}"
+                yield ((TOP / "crates" / crate / name).exists(),
+                       f"{path}:{number}: {name} in {crate}")
 
 
 def claims():
-    """The rows of the tables of claims, each with its line's number and the crates that the text above its table names."""
+    """The rows of the tables of claims, each with its line's number and the crates that the text
+    above its table names."""
     is_table = False
     crates = set()
     for number, line in lines_of(PROOFS):
@@ -91,16 +96,59 @@ def claims():
 
 
 def contracts():
-    """Contracts and worked examples that the proofs' tables name: files, or names that stand in sources or definitions."""
-    sources = [path for kind in ("src", "specs") for path in (TOP / "crates").glob(f"*/{kind}/**/*") if path.is_file()]
+    """Contracts and worked examples that the proofs' tables name: files, or names that stand in
+    sources or definitions."""
+    sources = [path for kind in ("src", "specs") for path in (TOP / "crates").glob(f"*/{kind}/**/*")
+               if path.is_file()]
     known = set().union(*(re.findall(NAME, path.read_text()) for path in sources), CRATES)
     for number, _, (_, contract, _, example) in claims():
         for span in spans(contract) + spans(example):
             if "/" in span:
-                there = any((folder / span).exists() for folder in (TOP, TOP / "crates", *(TOP / "crates").iterdir()))
+                there = any((folder / span).exists()
+                            for folder in (TOP, TOP / "crates", *(TOP / "crates").iterdir()))
             else:
                 there = known.issuperset(re.findall(NAME, span))
             yield there, f"{PROOFS}:{number}: the name {span}"
+
+
+KINDS = "fn|struct|enum|trait|const|static|type"
+PUBLIC = re.compile(rf"pub (?:unsafe |const |ghost )*(?:{KINDS}) ({NAME})")
+TYPE = re.compile(rf"(?:pub )?(?:unsafe )?(?:impl(?:<.*?>)? (?:.* for )?&?|trait |enum )({NAME})")
+MEMBER = re.compile(
+    rf"    (?:(?:pub(?:\(\w+\))? )?(?:unsafe |const |ghost )*fn ({NAME})|([A-Z]\w*))")
+
+
+def items(crate):
+    """The items of a crate that are public, and of its types each function and variant, as
+    Type::name."""
+    found = set()
+    for path in (TOP / "crates" / crate / "src").glob("**/*.rt"):
+        inside = None
+        for line in path.read_text().splitlines():
+            if public := PUBLIC.match(line):
+                found.add(public[1])
+            if line[:1].strip(" {"):
+                inside = TYPE.match(line)
+            elif inside and (member := MEMBER.match(line)):
+                found.add(f"{inside[1]}::{member[1] or member[2]}")
+    return found
+
+
+def paths():
+    """Each path crate::item or Type::name, but for those of std, names what stands in that crate,
+    or in any."""
+    there = {crate: items(crate) for crate in CRATES}
+    for document in DOCUMENTS:
+        for number, line in lines_of(document):
+            for span in spans(line):
+                first, _, rest = span.partition("::")
+                if first == "std" or not re.fullmatch(rf"{NAME}(::{NAME})+", span):
+                    continue
+                if first in there:
+                    is_there = rest in there[first]
+                else:
+                    is_there = any(span in found for found in there.values())
+                yield is_there, f"{document}:{number}: the path {span}"
 
 
 def having(kinds):
@@ -114,29 +162,35 @@ def having(kinds):
 
 
 def planted():
-    """The planted bugs that the proofs' tables name, by their path in the audit or in a crate of their row: one that the row or
-    the text above its table names, or whose type the contract names; where there is none, one that has a function named there."""
+    """The planted bugs that the proofs' tables name, by their path in the audit or in a crate of
+    their row: one that the row or the text above its table names, or whose type the contract names;
+    where there is none, one that has a function named there."""
     in_gate = {crate: edits(f"crates/{crate}/must-fail") for crate in CRATES}
     in_audit = {crate: edits(f"audit/{crate}") for crate in CRATES}
     audited = {f"audit/{crate}/{name}" for crate in CRATES for name in in_audit[crate]}
     types, functions = having("struct|enum|trait"), having("fn")
     for number, above, (claim, contract, column, _) in claims():
         names = [span.split("::")[0] for span in spans(contract)]
-        crates = above.union(crates_in(claim + contract + column), *(types.get(name, ()) for name in names))
+        crates = above.union(crates_in(claim + contract + column),
+                             *(types.get(name, ()) for name in names))
         crates = crates or set().union(*(functions.get(name, ()) for name in names))
         of = f"of {', '.join(sorted(crates)) or 'no crate'}"
         named, _, behind = column.partition("in the audit")
         for name in spans(named):
-            there = name in audited or name in CRATES or any(name in in_gate[crate] for crate in crates)
+            there = (name in audited or name in CRATES
+                     or any(name in in_gate[crate] for crate in crates))
             yield there, f"{PROOFS}:{number}: the edit {name} {of}"
         for name in spans(behind):
-            yield any(name in in_audit[crate] for crate in crates), f"{PROOFS}:{number}: the edit {name} in the audit {of}"
+            yield (any(name in in_audit[crate] for crate in crates),
+                   f"{PROOFS}:{number}: the edit {name} in the audit {of}")
 
 
 def costs_rows():
-    """The table of what each crate takes has a row for each, with its number of edits in the gate."""
+    """The table of what each crate takes has a row for each, with its number of edits in the
+    gate."""
     path = TOP / "docs/CONTRIBUTING.md"
-    rows = {spans(row[0])[0]: row for _, line in lines_of(path) if len(row := cells(line)) == 5 and spans(row[0])}
+    rows = {spans(row[0])[0]: row for _, line in lines_of(path)
+            if len(row := cells(line)) == 5 and spans(row[0])}
     for crate in CRATES:
         yield crate in rows, f"{path}: a row for {crate}"
         count = str(len(edits(f"crates/{crate}/must-fail")) or "-")
@@ -148,7 +202,7 @@ def costs_rows():
 
 def main():
     passed = failed = 0
-    for look in (links, map_rows, contracts, planted, costs_rows):
+    for look in (links, map_rows, paths, contracts, planted, costs_rows):
         looked = list(look())
         if not looked:
             failed += 1

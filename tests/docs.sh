@@ -1,6 +1,6 @@
 #!/usr/bin/env bash
-# README.md and docs/ name what is there: links, crates and files of the map, contracts, planted bugs, edits of each crate. Needs
-# python3.
+# README.md and docs/ name what is there: links, crates and files of the map, paths of items,
+# contracts, planted bugs, edits of each crate. Needs python3.
 set -u
 cd "$(dirname "$0")/.." || exit 1
 exec python3 tests/docs.py
