@@ -1,6 +1,9 @@
 #!/usr/bin/env python3
-"""Looks at the sources of the repository at the current folder: prints a line for each file with a line of more than 100 columns, and
-for each planted bug whose old text doesn't stand exactly once in its file, and last how many were looked at: 'N passed, M failed'.
+"""Looks at the sources of the repository at the current folder: prints a line for each file with a
+line of more than 100 columns, for each planted bug whose old text doesn't stand exactly once in its
+file, for each law that a crate passes on and no other cites, or the other way round, and for each
+file of lemmas that doesn't say what it serves; and last how many were looked at: 'N passed, M
+failed'.
 
     tests/sources.py
 """
@@ -12,21 +15,25 @@ COLUMNS = 100
 # What rt fmt keeps in one line: an import of one name, and an attribute.
 UNBROKEN = re.compile(r"\s*(((pub|ghost) )*use [^,]*|#\[.*\])$")
 
-
 PARTS = ("src", "specs", "proofs")
+SCRIPTS = ("tests/*.py", "tests/*.sh", "tests/*.c", "tests/java/*", "bench/*", "examples/*.py",
+           "bin/*", ".ci/run")
 
 
 def columns():
-    """No line of code, of a definition or of a proof has more than 100 columns."""
-    files = {path for part in PARTS for kind in ("rt", "antt") for path in Path("crates").glob(f"*/{part}/**/*.{kind}")}
-    for path in sorted(files):
+    """No line of code, of a definition, of a proof or of a script has more than 100 columns."""
+    parts = [f"crates/*/{part}/**/*.{kind}" for part in PARTS for kind in ("rt", "antt")]
+    files = {path for form in (*parts, *SCRIPTS) for path in Path(".").glob(form)}
+    for path in sorted(path for path in files if path.is_file()):
         lines = enumerate(path.read_text().splitlines(), 1)
-        long = [number for number, line in lines if len(line) > COLUMNS and not UNBROKEN.match(line)]
+        long = [number for number, line in lines if len(line) > COLUMNS
+                and not UNBROKEN.match(line)]
         yield not long, f"{path}: more than {COLUMNS} columns in line {', '.join(map(str, long))}"
 
 
 def is_planted(edit, crate):
-    """Whether each old text of an edit stands exactly once in its file, as the pairs before it leave that, and is replaced by another."""
+    """Whether each old text of an edit stands exactly once in its file, as the pairs before it
+    leave that, and is replaced by another."""
     texts, file, old = {}, None, None
     for line in edit.read_text().splitlines():
         kind, _, text = line.partition(": ")
@@ -45,13 +52,77 @@ def is_planted(edit, crate):
 
 def planted():
     """Each planted bug of the gate and of the audit names what is there."""
-    for edit in sorted([*Path("crates").glob("*/must-fail/*.edit"), *Path("audit").glob("*/*.edit")]):
-        yield is_planted(edit, Path("crates") / edit.parts[1]), f"{edit}: its old text stands once in its file, and the new one differs"
+    for edit in sorted(
+        [*Path("crates").glob("*/must-fail/*.edit"), *Path("audit").glob("*/*.edit")]):
+        yield (is_planted(edit, Path("crates") / edit.parts[1]),
+               f"{edit}: its old text stands once in its file, and the new one differs")
+
+
+PROOFS = re.compile(r"^use Rattle\.(cm_\w+)\.proofs\.?([\w.]*)\.\{([^}]*)\}$", re.MULTILINE)
+# What a crate passes on of its proofs, in proofs/Lib.antt; modules that are passed on whole.
+PASSED_ON = re.compile(r"^pub use (\w+)\.\{([^}]*)\}$", re.MULTILINE)
+WHOLE = re.compile(r"^pub mod (\w+)$", re.MULTILINE)
+
+
+def cited_laws():
+    """What proofs cite of the proofs of other crates, as pairs of a crate and a name, or of a crate
+    and a module that is cited by its name."""
+    for path in Path("crates").glob("*/*/**/*.*"):
+        if path.suffix not in (".antt", ".rt") or path.parts[2] not in PARTS:
+            continue
+        text = path.read_text()
+        for crate, module, names in PROOFS.findall(text):
+            if crate != path.parts[1]:
+                for name in [module] if module else names.split(","):
+                    yield crate, name.split(" as ")[0].strip()
+        for crate, name in re.findall(r"\b(cm_\w+)::proofs::([\w-]+)", text):
+            if crate != path.parts[1]:
+                yield crate, name
+
+
+def laws():
+    """Of a crate's proofs others cite exactly what its proofs/Lib.antt passes on."""
+    cited = set(cited_laws())
+    passed_on = set()
+    for path in Path("crates").glob("*/proofs/Lib.antt"):
+        text = path.read_text()
+        crate = path.parts[1]
+        passed_on |= {(crate, name.strip()) for _, names in PASSED_ON.findall(text)
+                      for name in names.split(",")}
+        passed_on |= {(crate, module) for module in WHOLE.findall(text)}
+    for crate, name in sorted(cited | passed_on):
+        yield ((crate, name) in cited and (crate, name) in passed_on,
+               f"{crate}: its proofs pass on {name}, and another crate cites it")
+
+
+def names_of(crate):
+    """The functions, types and definitions of a crate."""
+    found = set()
+    for path in (crate / "src").glob("**/*.rt"):
+        found.update(re.findall(r"\b(?:fn|struct|enum|trait) (\w+)", path.read_text()))
+    for path in (crate / "specs").glob("**/*.antt"):
+        found.update(re.findall(r"^ *(?:(?:pub|abbrev|unfoldable|pattern|data|record) )+([\w-]+)",
+                                path.read_text(), re.MULTILINE))
+    return found
+
+
+def lemmas():
+    """The heading of each file of lemmas names functions, types or definitions that it serves."""
+    for crate in sorted(Path("crates").iterdir()):
+        there = names_of(crate)
+        for path in sorted((crate / "proofs").glob("*.antt")):
+            if path.stem in ("Lib", "WorkedExamples"):
+                continue
+            heading = re.match(r"(?:--.*\n)*", path.read_text())[0]
+            served = re.search(r"^-- (?:For|On) (`(?:.|\n)*)", heading, re.MULTILINE)
+            named = re.findall(r"`([\w:-]+)`", served[1]) if served else []
+            yield (bool(named) and all(name.split("::")[-1] in there for name in named),
+                   f"{path}: its heading names functions or definitions that are there")
 
 
 def main():
     passed = failed = 0
-    for look in (columns, planted):
+    for look in (columns, planted, laws, lemmas):
         looked = list(look())
         if not looked:
             failed += 1
