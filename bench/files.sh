@@ -31,13 +31,7 @@ fetch() {
     { apt-get update -qq && apt-get install -y -qq "${packages[@]}"; } >&2 || true
 }
 
-# build CRATE
-build() {
-    (cd "$top/crates/$1" && rt run </dev/null) >"$work/log" 2>&1 && return
-    [ -x "$top/crates/$1/out/$1" ] && return
-    cat "$work/log" >&2
-    exit 1
-}
+. "$top/bench/lib.sh"
 
 # has HEADER: whether the C compiler finds it
 has() {

@@ -4,12 +4,12 @@
 #
 #     bench/run.sh [PASSES]
 #
-# It builds cm_bench, runs it over ordinary class files (version 52.0, from jars of Debian packages)
-# and over hostile ones (bench/bench_classes.py says what they are), and lets mature libraries (ASM,
-# Javassist, BCEL) read the same ordinary files whole. Each row has the best of PASSES passes (20;
-# of hostile files 3). "ratio" is the time for each byte of class file, compared with the same step
-# on ordinary files. Then cm_bench_front makes its calls, the best of PASSES passes, and
-# bench/files.sh stores classes in files, beside SQLite and LMDB.
+# It builds cm_bench where the gate didn't, runs it over ordinary class files (version 52.0, from
+# jars of Debian packages) and over hostile ones (bench/bench_classes.py says what they are), and
+# lets mature libraries (ASM, Javassist, BCEL) read the same ordinary files whole. Each row has the
+# best of PASSES passes (20; of hostile files 3). "ratio" is the time for each byte of class file,
+# compared with the same step on ordinary files. Then cm_bench_front makes its calls, the best of
+# PASSES passes, and bench/files.sh stores classes in files, beside SQLite and LMDB.
 set -eu
 top=$(cd "$(dirname "${BASH_SOURCE[0]}")/.." && pwd)
 passes=${1:-20}
@@ -33,10 +33,7 @@ fetch() {
     apt-get install -y -qq "${packages[@]}" >&2
 }
 
-# build CRATE
-build() {
-    (cd "$top/crates/$1" && rt run </dev/null) >"$work/log" 2>&1 || { cat "$work/log" >&2; exit 1; }
-}
+. "$top/bench/lib.sh"
 
 # Rows of cm_bench, with the stream's name in front.
 measure() {
