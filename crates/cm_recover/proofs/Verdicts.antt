@@ -1,17 +1,22 @@
 -- The verdict, step by step, and what is answered of it.
 -- For `SecondPass::take_all`, `SecondPass::take_class`, `read_standing` and others.
-use Rattle.std.proofs.Common.{◌≡◌, ◌⊎◌, ℕ, List, [], Ok, Err, ap, subst, sym, ◌∙◌, inl, inr}
+use Rattle.std.proofs.Common.{◌≡◌, ◌⊎◌, ℕ, List, [], length, Ok, Err, ap, subst, sym, ◌∙◌, inl, inr}
+use Rattle.std.proofs.Common.{Bool, true, None, if◌then◌else◌}
 use Rattle.std.specs.Prelude.{Result, IsErrAnd}
 use Rattle.cm_class.specs.declared.class_file.ClassFile.{ClassFile}
+use Rattle.cm_pool.specs.Geometry.{Sizes}
+use Rattle.cm_pool.specs.declared.place.Place.{Place}
 use Rattle.cm_layout.specs.declared.row.Row.{Row}
 use Rattle.cm_verdict.specs.declared.fault.FileFault.{FileFault}
 use Rattle.cm_verdict.specs.Faults.{◌>>=◌}
 use Rattle.cm_verdict.specs.Found.{Found, found_in}
+use Rattle.cm_verdict.specs.declared.fault.Damage.TheVariants as damage
 use Rattle.cm_verdict.specs.Verdict.{Standing, standing, classes_found, verdict}
+use Rattle.cm_verdict.specs.Verdict.{is_whole, class_kept, words_at}
 use Rattle.cm_recover.specs.declared.fault.OpenFault.{OpenFault}
 use Rattle.cm_recover.specs.declared.fault.OpenFault.TheVariants as open_fault
 use Rattle.cm_recover.specs.Opening.{IsFaultIn}
-use Rattle.cm_recover.specs.Standing.{Answers}
+use Rattle.cm_recover.specs.Standing.{Answers, if_class, class_in_place}
 
 -- a fault goes through
 pub through : {A B : Type 0} (e : OpenFault) (x : Result A FileFault) (f : A → Result B FileFault)
@@ -30,6 +35,16 @@ quiet_fault (open_fault.Damaged what slot) x (inl e) = absurd (cc)
 quiet_fault (open_fault.Damaged what slot) x (inr e) = absurd (cc)
 quiet_fault open_fault.Device x h = tt
 quiet_fault open_fault.NoMemory x h = tt
+
+-- words that are no record of a class that keeps the rules
+pub bad_record : (sizes : Sizes) (contents : List ℕ) (place : Place)
+    → is_whole sizes (length contents) place ≡ true
+    → class_kept (words_at sizes contents place) ≡ None
+    → class_in_place sizes contents place ≡ Err damage.Record
+bad_record sizes contents place whole none =
+    let words = words_at sizes contents place in
+    ap (λ (b : Bool). if b then if_class (class_kept words) else Err damage.Chunks) whole
+    ∙ ap if_class none
 
 -- it is answered as it came
 pub fault_told : {A B : Type 0} (Alike : A → B → Type 0) (r : Result A OpenFault) (e : OpenFault)

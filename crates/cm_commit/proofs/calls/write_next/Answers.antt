@@ -1,15 +1,29 @@
-use Rattle.std.proofs.Common.{Bor, ◌+◌, ◌<◌, ℕ, List, [], ◌∷◌, length, drop, sym, ap, subst, arith}
+use Rattle.std.proofs.Common.{Bor, ◌≡◌, ◌+◌, ◌<◌, ◌≤◌, ℕ, List, [], ◌∷◌, length, drop, sym}
+use Rattle.std.proofs.Common.{ap, subst, arith}
 use Rattle.std.specs.Prelude.{Ok}
 use Rattle.cm_layout.specs.Offsets.{root_size}
 use Rattle.cm_layout.specs.Slots.{open_gate}
 use Rattle.cm_group.specs.Groups.{Carried, entries_in}
 use Rattle.cm_commit.specs.declared.step.CommitStep.TheVariants as step
 use Rattle.cm_commit.specs.Plans.{Turn}
-use Rattle.cm_commit.specs.GroupPlans.{writes_left, root_write, roots_of_entries}
-use Rattle.cm_commit.specs.Steps.{AreSmall, next_gate}
+use Rattle.cm_commit.specs.GroupPlans.{writes_left, root_write, place_write, slots_write}
+use Rattle.cm_commit.specs.GroupPlans.{roots_of_entries}
+use Rattle.cm_commit.specs.Steps.{AreSmall, WritesFirst, WritesNone, next_gate}
 use Rattle.cm_commit.proofs.NextRecords.{small_drop}
-use Rattle.cm_commit.proofs.NextWrites.{next_root, left_behind, calls_first, wrote_ok}
+use Rattle.cm_commit.proofs.NextWrites.{next_root, next_place, next_slots, left_behind}
+use Rattle.cm_commit.proofs.NextWrites.{calls_first, wrote_ok}
 use Rattle.cm_commit.proofs.calls.write_next.Goals as goal
+
+no_root_left : (given all : List Carried) (needed roots : ℕ) → needed ≤ roots
+    → needed ≡ roots_of_entries (entries_in given) → given ≡ all
+    → roots_of_entries (entries_in all) ≤ roots
+no_root_left given all needed roots le needed_is same =
+    omega (
+      arith,
+      le,
+      needed_is,
+      ap (λ (l : List Carried). roots_of_entries (entries_in l)) same,
+    )
 
 pub returns-then-roots-roots_needed-clause-called :
     goal.returns-then-roots-roots_needed-clause-called
@@ -67,3 +81,50 @@ write_record-requires-clause-room g c =
       ap (λ (k : Bor (List ℕ)). length k.now) c.in-Some.class-is,
       c.requires.room,
     )
+
+pub returns-in_ok-write_record-in-Some-clause-called :
+    goal.returns-in_ok-write_record-in-Some-clause-called
+returns-in_ok-write_record-in-Some-clause-called g c =
+    let j = c.args.journal in
+    let all = c.args.group.now.entries in
+    let unwritten = drop c.args.from all in
+    let behind = drop (c.in-Some.at + 1) all in
+    let write = place_write j.geometry c.in-Some.place c.in-Some.class.now in
+    let le = no_root_left c.entries.result.now all c.roots_needed.result c.args.roots
+    c.if-roots-roots_needed.false c.roots_needed.ensures c.entries.ensures in
+    let first : WritesFirst unwritten behind c.in-Some.place c.in-Some.class.now =
+    subst (λ (l : List Carried). WritesFirst (drop c.args.from l) (drop (c.in-Some.at + 1) l)
+    c.in-Some.place c.in-Some.class.now) c.entries-2.ensures c.in-Some.ensures.found in
+    calls_first g.D.Disk.contents g.D.Disk.unsynced g.D.Disk.failures g.D.Disk.moment
+    g.D.Disk.left_since c.args.disk.now c.write_record.new.disk
+    (writes_left j.geometry j.half j.end j.number all c.args.roots unwritten)
+    (writes_left j.geometry j.half j.end j.number all c.args.roots behind)
+    write (Turn (next_gate j) open_gate ∷ []) (Ok (step.Write c.args.roots (c.in-Some.at + 1)))
+    (next_place j.geometry j.half j.end j.number all c.args.roots unwritten behind c.in-Some.place
+    c.in-Some.class.now le first)
+    (wrote_ok g.D.Disk.contents g.D.Disk.unsynced g.D.Disk.failures g.D.Disk.moment
+    g.D.Disk.left_since c.args.disk.now c.write_record.new.disk write
+    c.in_ok-write_record-in-Some.field-0 (step.Write c.args.roots (c.in-Some.at + 1))
+    c.in_ok-write_record-in-Some.ensures.written)
+
+pub returns-in_ok-write_slots-in-None-clause-called :
+    goal.returns-in_ok-write_slots-in-None-clause-called
+returns-in_ok-write_slots-in-None-clause-called g c =
+    let j = c.args.journal in
+    let all = c.args.group.now.entries in
+    let unwritten = drop c.args.from all in
+    let write = slots_write j.geometry j.half j.end j.number (entries_in all) in
+    let le = no_root_left c.entries.result.now all c.roots_needed.result c.args.roots
+    c.if-roots-roots_needed.false c.roots_needed.ensures c.entries.ensures in
+    let none : WritesNone unwritten =
+    subst (λ (l : List Carried). WritesNone (drop c.args.from l)) c.entries-2.ensures
+    c.in-None.ensures.found in
+    calls_first g.D.Disk.contents g.D.Disk.unsynced g.D.Disk.failures g.D.Disk.moment
+    g.D.Disk.left_since c.args.disk.now c.write_slots.new.disk
+    (writes_left j.geometry j.half j.end j.number all c.args.roots unwritten) []
+    write (Turn (next_gate j) open_gate ∷ []) (Ok step.Sync)
+    (next_slots j.geometry j.half j.end j.number all c.args.roots unwritten le none)
+    (wrote_ok g.D.Disk.contents g.D.Disk.unsynced g.D.Disk.failures g.D.Disk.moment
+    g.D.Disk.left_since c.args.disk.now c.write_slots.new.disk write
+    c.in_ok-write_slots-in-None.field-0 step.Sync
+    c.in_ok-write_slots-in-None.ensures.written)

@@ -1,7 +1,8 @@
-use Rattle.std.proofs.Common.{ap, sym, ◌∙◌}
-use Rattle.cm_index.specs.Index.{rank, owner_of, name_in, key}
+use Rattle.std.proofs.Common.{◌≤◌, length, take, drop, ap, sym, subst, ◌∙◌, arith}
+use Rattle.std.specs.List.{AllByRecursion}
+use Rattle.cm_index.specs.Index.{IsIndex, rank, owner_of, name_in, key}
 use Rattle.cm_index.specs.Sought.{key_sought}
-use Rattle.cm_index.specs.Blocks.{joined, place_of}
+use Rattle.cm_index.specs.Blocks.{joined, place_of, half_size}
 use Rattle.cm_index.proofs.Indexes.{further-new, further-known}
 use Rattle.cm_index.proofs.index.add_entry.Goals as goal
 
@@ -30,3 +31,27 @@ returns-in-Ok-clause-index g c =
     (further-known g.P.Kept.mark g.P.Kept.name c.args.slots.now c.args.at c.index-slots-at.result
     (joined bs) (place_of bs c.in-Ok.spot) c.row-sought.result.fingerprint k c.requires.within
     c.index-slots-at.is c.requires.lives c.requires.index own own found)
+
+pub search-requires : goal.search-requires
+search-requires g c =
+    let bs = c.requires.blocks in
+    let value = sym c.deref.ensures.value in
+    record {
+      index = subst (λ b. IsIndex g.P.Kept.mark g.P.Kept.name (take c.args.at c.args.slots.now)
+          (joined b)) value c.requires.index;
+      some = omega (arith, ap length c.deref.ensures.value, bs.within);
+      half = subst (λ b. AllByRecursion (λ entries. half_size ≤ length entries) (drop 1 b)) value
+          bs.half;
+    }
+
+pub returns-in-Ok-clause-blocks : goal.returns-in-Ok-clause-blocks
+returns-in-Ok-clause-blocks g c =
+    let bs = c.requires.blocks in
+    let renewed = c.renew.ensures in
+    record {
+      within = omega (arith, renewed.count, bs.within);
+      half = renewed.half;
+      empty = bs.empty;
+      room = omega (arith, renewed.count, renewed.capacity, bs.room);
+      spare_room = omega (arith, renewed.count, bs.spare_room);
+    }

@@ -14,3 +14,15 @@ returns-in-Err-clause-bad c bad =
     ∙ ap (λ text. named_by c.loop-byte.name.items (spelled_from c.loop-byte.awaited text))
     (drop_more word i 0 (omega arith))
     ∙ ap (named_by c.loop-byte.name.items) none
+
+pub loop-byte-preserved : goal.loop-byte-preserved
+loop-byte-preserved c =
+    let word = c.args.word.now in
+    let i = c.loop-byte.byte-index in
+    record {
+      spelled = c.in-Ok.ensures.spelled (drop (i + 1) word)
+          ∙ ap (λ text. named_by c.loop-byte.name.items (spelled_from c.loop-byte.awaited text))
+          (sym (drop_more word i 0 (omega arith)))
+          ∙ c.loop-byte.invariant.spelled;
+      digit = c.in-Ok.ensures.digit;
+    }

@@ -1,6 +1,10 @@
-use Rattle.std.proofs.Common.{ap, length, take, arith}
+use Rattle.std.proofs.Common.{ℕ, ap, sym, ◌∙◌, refl, length, take, arith}
+use Rattle.cm_guards.proofs.{one_read}
+use Rattle.cm_verdict.specs.Found.{sizes_found}
 use Rattle.cm_verdict.proofs.{part_long}
+use Rattle.cm_recover.specs.declared.fault.OpenFault.TheVariants as open_fault
 use Rattle.cm_recover.proofs.Halves.{short_file}
+use Rattle.cm_recover.proofs.Readings.{then_reads, no_more, ok_no_fault}
 use Rattle.cm_recover.proofs.reading.read_sizes.Goals as goal
 
 pub returns-then-long-clause-sizes : goal.returns-then-long-clause-sizes
@@ -14,3 +18,25 @@ find_sizes-requires g c =
     let long = part_long 0 4096 contents
     (omega (arith, ap length c.len.ensures.contents, c.in_ok-long.ensures.len)) in
     omega (arith, ap length c.deref.ensures.value, ap length c.in_ok-block.ensures.bytes, long)
+
+pub returns-clause-sizes : goal.returns-clause-sizes
+returns-clause-sizes g c =
+    let contents = g.D.Disk.contents c.args.disk.now in
+    let block = c.deref.result.now in
+    let same = c.deref.ensures.value
+    ∙ (c.in_ok-block.ensures.bytes ∙ ap (take 4096) c.len.ensures.contents) in
+    sym (c.in_ok-geometry.ensures {u = tt}
+    ∙ (ap (λ (long : ℕ). sizes_found long block) c.in_ok-long.ensures.len
+    ∙ ap (sizes_found (length contents)) same))
+
+pub returns-clause-reads : goal.returns-clause-reads
+returns-clause-reads g c =
+    let disk = g.D.Disk in
+    let len =
+    one_read disk.moment disk.left_since disk.contents disk.unsynced disk.failures
+    c.args.disk.now c.len.new.self c.len.result g.met.D.Disk.only_now c.len.ensures.contents
+    c.len.ensures.unsynced c.len.ensures.time c.len.ensures.cause in
+    no_more disk.moment disk.left_since disk.contents disk.unsynced disk.failures c.args.disk.now
+    c.read_part.new.disk _ _ (ok_no_fault _ _ open_fault.Device refl)
+    (then_reads disk.moment disk.left_since disk.contents disk.unsynced disk.failures
+    c.args.disk.now c.len.new.self c.read_part.new.disk _ _ len c.in_ok-block.ensures.reads)

@@ -1,7 +1,7 @@
 use Rattle.std.proofs.Common.{◌≡◌, ◌<◌, ◌+◌, ℕ, List, ◌++◌, ◌∷◌, [], Option, Some, None, IfSome}
 use Rattle.std.proofs.Common.{IfNone, IsSome, get_or, set, take, length, sym, ap, ◌∙◌, arith, refl}
 use Rattle.std.proofs.Common.{subst, length-take}
-use Rattle.std.proofs.lemmas.List.{take_more}
+use Rattle.std.proofs.lemmas.List.{take_more, take_all}
 use Rattle.cm_pool.specs.Lists.{Among}
 use Rattle.cm_rows.specs.declared.live_loader.LiveLoader.{LiveLoader}
 use Rattle.cm_index.specs.Living.{living}
@@ -76,3 +76,16 @@ loop-at-preserved g c =
       capacity = omega (arith, h.capacity, c.link.ensures.capacity);
       newest_capacity = omega (arith, h.newest_capacity, c.link.ensures.newest_capacity);
     }
+
+pub returns-clause-linked : goal.returns-clause-linked
+returns-clause-linked g c =
+    let at = c.loop-at.at in
+    subst (λ l. AreLinked l c.loop-at.before.items)
+    (take_all at c.args.slots.now c.loop-at-test.false) c.loop-at.invariant.linked
+
+pub returns-clause-newest : goal.returns-clause-newest
+returns-clause-newest g c =
+    let at = c.loop-at.at in
+    c.loop-at.invariant.newest
+    ∙ ap (λ l. last_places l (numbers_of (items c.args.loaders.now)))
+    (take_all at c.args.slots.now c.loop-at-test.false)

@@ -1,7 +1,7 @@
 use Rattle.std.proofs.Common.{◌≡◌, ◌<◌, ◌≤◌, ◌+◌, ◌++◌, ◌∷◌, [], List, Bool, true, false, cond}
 use Rattle.std.proofs.Common.{length, take, drop, refl, sym, ap, ◌∙◌, arith, length-append}
 use Rattle.std.proofs.Common.{append-nil}
-use Rattle.std.proofs.lemmas.List.{map-append}
+use Rattle.std.proofs.lemmas.List.{map-append, take_all}
 use Rattle.cm_layout.specs.Rows.{bare, row_with}
 use Rattle.cm_layout.specs.declared.row.Row.{Row}
 use Rattle.cm_index.specs.declared.slot.BookSlot.{BookSlot}
@@ -82,3 +82,13 @@ loop-slot-preserved g c =
           taken ∙ none-more (living (take i others)) s.live s.item w.if-slot.false in
           rw (w.slots-is, next) h
     ]
+
+pub returns-clause-rows : goal.returns-clause-rows
+returns-clause-rows g c =
+    c.loop-slot.invariant.rows ∙ ap (λ l. bare (living l))
+    (take_all c.loop-slot.slot-index c.args.others.now c.loop-slot-test.false)
+
+pub returns-clause-count : goal.returns-clause-count
+returns-clause-count g c =
+    c.loop-slot.invariant.count ∙ ap (λ l. length (living l))
+    (take_all c.loop-slot.slot-index c.args.others.now c.loop-slot-test.false)
