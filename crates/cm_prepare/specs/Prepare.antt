@@ -22,6 +22,12 @@ IsBad bytes (Trailing at) = IsTrailing bytes at
 IsBad bytes (Malformed at) = IsMalformed bytes at
 IsBad bytes (Rule broken) = IsBroken bytes broken
 
+-- what may keep a class from having a record
+abbrev pub IsUnbuilt : ClassFile → Refusal → Type 0
+IsUnbuilt class refusal.RecordTooLong = limit < length (lay class)
+IsUnbuilt class refusal.NoMemory = Unit {0}
+IsUnbuilt class _ = ⊥
+
 -- that an allocation failed is told only of bytes that spell a class
 abbrev pub IsUnprepared : List ℕ → Refusal → Type 0
 IsUnprepared bytes (refusal.BadClass bad) = IsBad bytes bad

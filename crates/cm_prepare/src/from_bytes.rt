@@ -4,12 +4,13 @@ ghost use Rattle.std.specs.Prelude.{◌≡◌, IfOk, IfErr};
 ghost use Rattle.cm_class.specs.declared.class_file.ClassFile.{ClassFile};
 ghost use Rattle.cm_record.specs.Layout.{lay};
 ghost use Rattle.cm_rules.specs.Answer.{IsRight};
-ghost use Rattle.cm_prepare.specs.Prepare.{IsUnprepared, refusal_for};
+ghost use Rattle.cm_prepare.specs.Prepare.{IsUnbuilt, IsUnprepared, refusal_for};
 
 use crate::bad_class::BadClass;
 use crate::prepared::Prepared;
 use crate::refusal::Refusal;
-use cm_record::{RecordRefusal, build};
+use cm_class::Class;
+use cm_record::{Record, RecordRefusal, build};
 use cm_rules::{ClassFault, read_class};
 use std::alloc::Global;
 
@@ -25,6 +26,29 @@ fn of_class(fault: ClassFault) -> Refusal
     }
 }
 
+/// The record of a class that was read.
+fn build_record(alloc: Global, class: &Class) -> Result<Record, Refusal>
+    ensures ok { IfOk result (λ words. words ≡ lay class.now) }
+    ensures refused { IfErr result (IsUnbuilt class.now) }
+{
+    match build(alloc, class) {
+        Ok(record) => Ok(record),
+        Err(RecordRefusal::TooLong) => Err(Refusal::RecordTooLong),
+        Err(RecordRefusal::NoMemory) => Err(Refusal::NoMemory),
+    }
+}
+
+/// The record of a class's bytes, which is judged by the rules.
+fn record_of_bytes(alloc: Global, bytes: &[u8]) -> Result<Record, Refusal>
+    ensures ok { IfOk result (λ words. (c : ClassFile) × IsRight bytes.now c × (words ≡ lay c)) }
+    ensures refused { IfErr result (IsUnprepared bytes.now) }
+{
+    match read_class(alloc, bytes) {
+        Ok(class) => build_record(alloc, &class),
+        Err(fault) => Err(of_class(fault)),
+    }
+}
+
 /// Reads a class, judges it by the rules and makes its record. No lock is needed for it.
 ///
 /// It is refused, in this order, as `BadClass` for the file's shape, as `BadClass` for the first
@@ -34,15 +58,7 @@ pub fn prepare(alloc: Global, bytes: &[u8]) -> Result<Prepared, Refusal>
     ensures ok { IfOk result (λ p. (c : ClassFile) × IsRight bytes.now c × (p ≡ lay c)) }
     ensures refused { IfErr result (IsUnprepared bytes.now) }
 {
-    let class = match read_class(alloc, bytes) {
-        Ok(class) => class,
-        Err(fault) => return Err(of_class(fault)),
-    };
-    let record = match build(alloc, &class) {
-        Ok(record) => record,
-        Err(RecordRefusal::TooLong) => return Err(Refusal::RecordTooLong),
-        Err(RecordRefusal::NoMemory) => return Err(Refusal::NoMemory),
-    };
+    let record = record_of_bytes(alloc, bytes)?;
     match Prepared::of_record(alloc, record) {
         Ok(prepared) => Ok(prepared),
         Err(_) => Err(Refusal::NoMemory),

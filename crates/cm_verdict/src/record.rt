@@ -1,7 +1,8 @@
 //! The records of classes that keep the class rules.
 
-ghost use Rattle.std.specs.Prelude.{◌≡◌, ◌≤◌, length, IfOk, is_some};
+ghost use Rattle.std.specs.Prelude.{◌≡◌, ◌≤◌, length, IfOk, is_some, is_none};
 ghost use Rattle.cm_record_layout.specs.Layout.{limit};
+ghost use Rattle.cm_rules.specs.Fault.{fault};
 ghost use Rattle.cm_verdict.specs.Verdict.{class_kept};
 ghost use Rattle.cm_verdict.specs.Kept.{IsKeptRecord};
 
@@ -11,20 +12,23 @@ use cm_record_reading::read_class;
 use cm_rules::first_fault;
 use std::alloc::{AllocError, Global};
 
+// Whether a class keeps the class rules.
+fn keeps_rules(alloc: Global, class: &Class) -> Result<bool, AllocError>
+    ensures { IfOk result (λ kept. kept ≡ is_none (fault class.now)) }
+{
+    let broken = first_fault(alloc, class)?;
+    Ok(broken.is_none())
+}
+
 // Whether these words are the record of a class that keeps the class rules.
 fn are_kept(alloc: Global, words: &[u64]) -> Result<bool, AllocError>
     requires { length words.now ≤ limit }
     ensures { IfOk result (λ kept. kept ≡ is_some (class_kept words.now)) }
 {
-    let class = match read_class(alloc, words) {
-        Ok(file) => Class::from_file(file),
-        Err(RecordFault::NotARecord) => return Ok(false),
-        Err(RecordFault::NoMemory) => return Err(AllocError),
-    };
-    let broken = first_fault(alloc, &class)?;
-    match broken {
-        None => Ok(true),
-        Some(_) => Ok(false),
+    match read_class(alloc, words) {
+        Ok(file) => keeps_rules(alloc, &Class::from_file(file)),
+        Err(RecordFault::NotARecord) => Ok(false),
+        Err(RecordFault::NoMemory) => Err(AllocError),
     }
 }
 
