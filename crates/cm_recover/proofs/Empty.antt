@@ -8,7 +8,7 @@ use Rattle.std.proofs.Math.ListN.{set}
 use Rattle.std.proofs.lemmas.Bool.{cases_eq}
 use Rattle.std.proofs.lemmas.List.{length-append, length-set, get_or-set_same, get_or-set_other}
 use Rattle.std.proofs.lemmas.List.{ext_get_or, get_or_append_left, get_or-append_right}
-use Rattle.std.proofs.lemmas.List.{length-replicate, replicate-append-replicate, set-get_or}
+use Rattle.std.proofs.lemmas.List.{replicate-append-replicate, set-get_or}
 use Rattle.std.proofs.lemmas.List.{take_all}
 use Rattle.cm_pool.specs.Geometry.{Sizes, IsGeometry}
 use Rattle.cm_layout.specs.Offsets.{half_size, roots_at}

@@ -1,7 +1,7 @@
 -- What a file stands for has what the accepted cache and its committer are made of.
 -- For `open` and others.
-use Rattle.std.proofs.Common.{◌≡◌, ℕ, ◌+◌, ◌*◌, ◌^◌, ◌≤◌, Bool, true, false, cond, List, [], ◌∷◌}
-use Rattle.std.proofs.Common.{◌++◌, length, drop, Option, Some, None, Ok, refl, sym, ap, subst, ◌∙◌}
+use Rattle.std.proofs.Common.{◌≡◌, ℕ, ◌^◌, ◌≤◌, Bool, true, false, cond, List, [], ◌∷◌}
+use Rattle.std.proofs.Common.{◌++◌, length, drop, Some, None, Ok, refl, sym, ap, subst, ◌∙◌}
 use Rattle.std.proofs.Common.{arith, eqb}
 use Rattle.std.specs.Prelude.{◌&&◌}
 use Rattle.std.specs.FinMap as map
@@ -10,8 +10,8 @@ use Rattle.std.specs.Str.{bytes_eq}
 use Rattle.std.proofs.lemmas.List.{map-append}
 use Rattle.cm_class.specs.declared.class_file.ClassFile.{ClassFile}
 use Rattle.cm_class.specs.Names.{class_name_of}
-use Rattle.cm_record.specs.Layout.{lay, limit, IsRecordOf}
-use Rattle.cm_record.specs.Names.{class_name_in, WordsTellName}
+use Rattle.cm_record.specs.Layout.{lay}
+use Rattle.cm_record.specs.Names.{WordsTellName}
 use Rattle.cm_pool.specs.Geometry.{Sizes, IsGeometry}
 use Rattle.cm_layout.specs.declared.row.Row.{Row}
 use Rattle.cm_layout.specs.Offsets.{roots_at}
@@ -19,8 +19,7 @@ use Rattle.cm_layout.specs.declared.row.Row.TheVariants.{Loader, Class}
 use Rattle.cm_layout.specs.declared.class_row.ClassRow.{ClassRow}
 use Rattle.cm_layout.specs.Rows.{rows_with, row_with, bare, classes_in}
 use Rattle.cm_layout.specs.Frames.{BareRow, LiveRowsKeep, HoldsRow}
-use Rattle.cm_layout.specs.Framing.{Framing, IsRight, Matches}
-use Rattle.cm_commit.specs.Committed.{end_slot}
+use Rattle.cm_layout.specs.Framing.{IsRight, Matches}
 use Rattle.cm_commit.proofs.{end_is as ends_with_slots}
 use Rattle.cm_state.specs.State.{NamesDiffer, class_shows, words_show, class_among}
 use Rattle.cm_state.specs.Stands.{EachKeepsRules, arenas_among, chunks_of as chunks_begun}

@@ -1,13 +1,12 @@
 -- A sync, and reads behind it.
 -- For `read_synced`.
-use Rattle.std.proofs.Common.{◌≡◌, ◌⊎◌, ◌≤◌, ◌<◌, ℕ, Bool, true, false, List, length, get_or, refl}
+use Rattle.std.proofs.Common.{◌≡◌, ℕ, Bool, true, false, List, length, get_or, refl}
 use Rattle.std.proofs.Common.{sym, ap, subst, ◌∙◌, arith}
 use Rattle.std.specs.Prelude.{Result, Ok, Err, IsErr, OnOk}
 use Rattle.cm_disk.specs.Disk.{Unsynced, IsImage, IsSettled, IsSound, IsWithin}
 use Rattle.cm_disk.specs.Calls.{Elapses, HasCause}
-use Rattle.cm_guards.specs.Guards.{EachImage}
 use Rattle.cm_guards.specs.Calls.{LeavesOnly, Reads}
-use Rattle.cm_guards.proofs.{one_call, leaves_on, leaves_more, leaves_none}
+use Rattle.cm_guards.proofs.{one_call, leaves_on, leaves_more}
 use Rattle.cm_recover.specs.Opened.{SyncsAndReads}
 
 -- what is settled is within what any sound disk may have unsynced

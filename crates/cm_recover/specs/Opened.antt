@@ -10,7 +10,7 @@ use Rattle.cm_layout.specs.declared.row.Row.{Row}
 use Rattle.cm_layout.specs.declared.row.Row.TheVariants.{Loader, Class}
 use Rattle.cm_layout.specs.Rows.{rows_with}
 use Rattle.cm_layout.specs.Framing.{Framing, IsRight, Matches}
-use Rattle.cm_disk.specs.Disk.{Unsynced, IsImage, IsSettled, IsWithin}
+use Rattle.cm_disk.specs.Disk.{Unsynced, IsImage, IsWithin}
 use Rattle.cm_guards.specs.Calls.{LeavesOnly}
 use Rattle.cm_state.specs.Stands.{Stands, Arenas}
 use Rattle.cm_state.specs.State.{words_show}

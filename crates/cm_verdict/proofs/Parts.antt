@@ -1,8 +1,8 @@
 -- The parts of a file: its superblock, its halves, and the records of rows.
 -- For `find_sizes` and others.
-use Rattle.std.proofs.Common.{◌≡◌, ◌≢◌, ℕ, zero, suc, ◌+◌, ◌*◌, ◌<◌, ◌≤◌, Bool, true, false, cond}
+use Rattle.std.proofs.Common.{◌≡◌, ◌≢◌, ℕ, ◌+◌, ◌*◌, ◌<◌, ◌≤◌, Bool, true, false, cond}
 use Rattle.std.proofs.Common.{List, [], ◌∷◌, ◌++◌, length, take, drop, get_or, Option, Some, None}
-use Rattle.std.proofs.Common.{Ok, Err, refl, sym, ap, subst, ◌∙◌, arith, append_assoc, drop-drop}
+use Rattle.std.proofs.Common.{Ok, Err, refl, sym, ap, subst, ◌∙◌, arith, append_assoc}
 use Rattle.std.proofs.Common.{length-drop, length-take}
 use Rattle.std.specs.Prelude.{Result, nat_le, ◌==◌}
 use Rattle.std.specs.List.{flat_map, AllByRecursion}
@@ -10,11 +10,10 @@ use Rattle.std.specs.Str.{bytes_eq}
 use Rattle.std.proofs.lemmas.Bool.{lt-leb}
 use Rattle.std.proofs.lemmas.Bool.{and_from, leb-true, le-leb, eq-eqb, eqb-false, ne_eqb}
 use Rattle.std.proofs.lemmas.List.{get_or-append_right, get_or-drop, get_or-take}
-use Rattle.std.proofs.lemmas.List.{length-replicate}
 use Rattle.std.proofs.lemmas.Slice.Eq.{bytes_eq-Decides}
 use Rattle.cm_record_layout.specs.Packing.{packed_into}
 use Rattle.cm_record_layout.proofs.{length-packed_into}
-use Rattle.cm_pool.specs.Geometry.{Sizes, IsGeometry}
+use Rattle.cm_pool.specs.Geometry.{Sizes}
 use Rattle.cm_layout.specs.declared.half.Half.{Half}
 use Rattle.cm_layout.specs.declared.half.Half.TheVariants.{Zero, One}
 use Rattle.cm_layout.specs.declared.heads.HalfHead.{HalfHead}
@@ -22,9 +21,9 @@ use Rattle.cm_layout.specs.declared.class_row.ClassRow.{ClassRow}
 use Rattle.cm_layout.specs.declared.row.Row.{Row}
 use Rattle.cm_layout.specs.declared.row.Row.TheVariants.{Loader, Class}
 use Rattle.cm_layout.specs.Offsets.{slot_size, half_size, half_at, roots_at}
-use Rattle.cm_layout.specs.Offsets.{record_at, record_in_roots}
+use Rattle.cm_layout.specs.Offsets.{record_at}
 use Rattle.cm_layout.specs.Slots.{open_gate, half_head_slot, row_slot}
-use Rattle.cm_layout.specs.Superblock.{superblock_bytes, superblock_front, superblock_zeros}
+use Rattle.cm_layout.specs.Superblock.{superblock_front, superblock_zeros}
 use Rattle.cm_layout.specs.Superblock.{magic}
 use Rattle.cm_layout.specs.Rows.{bare}
 use Rattle.cm_layout.specs.Frames.{HoldsRow, HoldsRecord, IsEnd, groups_slots}

@@ -1,24 +1,22 @@
 -- A half that is made of live rows and groups is walked through to its end.
 -- For `found_is_framed`, `found_is_live`.
-use Rattle.std.proofs.Common.{◌≡◌, ◌≢◌, ℕ, zero, suc, ◌+◌, ◌-◌, ◌*◌, ◌<◌, ◌≤◌, ◌⊎◌, inl, inr}
+use Rattle.std.proofs.Common.{◌≡◌, ◌≢◌, ℕ, zero, suc, ◌+◌, ◌*◌, ◌<◌, ◌≤◌, ◌⊎◌, inl, inr}
 use Rattle.std.proofs.Common.{Bool, true, false, List, [], ◌∷◌, ◌++◌, length, take, drop, get_or}
 use Rattle.std.proofs.Common.{None, Ok, refl, sym, ap, subst, ◌∙◌, arith, append_assoc}
 use Rattle.std.proofs.Common.{append-nil, drop-drop, length-drop}
 use Rattle.std.specs.List.{flat_map}
 use Rattle.std.proofs.lemmas.Bool.{ne_eqb}
-use Rattle.std.proofs.lemmas.List.{take_at, drop_at, get_or-take, length-append, length-replicate}
+use Rattle.std.proofs.lemmas.List.{take_at, drop_at, get_or-take, length-append}
 use Rattle.cm_pool.specs.Geometry.{Sizes}
 use Rattle.cm_layout.specs.declared.heads.GroupHead.{GroupHead}
-use Rattle.cm_layout.specs.declared.row.Row.TheVariants.{Loader, Class}
 use Rattle.cm_layout.specs.declared.entry.Entry.TheVariants as entry
-use Rattle.cm_layout.specs.Slots.{group_head_slot, row_slot, entry_slot, FitsEntry}
+use Rattle.cm_layout.specs.Slots.{group_head_slot, row_slot, entry_slot}
 use Rattle.cm_layout.specs.Slots.{FitsGroupHead}
 use Rattle.cm_layout.specs.Rules.{broken_rule, broken_live_rule}
 use Rattle.cm_layout.specs.Rows.{slots_of_rows, slots_of_entries, rows_after, rows_after_all, bare}
 use Rattle.cm_layout.specs.Frames.{BareRow, BareEntry, LiveRowsKeep, EntriesKeep, GroupKeeps}
 use Rattle.cm_layout.specs.Frames.{GroupsKeep, groups_slots, IsEnd}
 use Rattle.cm_layout.proofs.{slot_count}
-use Rattle.cm_layout.specs.Zeros.{zeros}
 use Rattle.cm_verdict.specs.Decoding.{is_open}
 use Rattle.cm_verdict.specs.Walk.{Walked, Go, placed_row, placed_entry, next_slot}
 use Rattle.cm_verdict.specs.Walk.{begun, turn, slot_of, on_turn, walk}
