@@ -14,30 +14,42 @@ fn whole_and_part(disk: &mut SimDisk) -> Result<([u8; 8], [u8; 3]), DeviceFault>
     Ok((whole, part))
 }
 
+/// Writes six letters, four over their end, and one in the middle.
+fn write_over_and_past(disk: &mut SimDisk) -> Result<(), DeviceFault> {
+    fill(disk)?;
+    disk.write_at(4, b"WXYZ")?;
+    disk.write_at(1, b"-")?;
+    disk.sync()
+}
+
 #[test]
 fn writes_over_and_past_the_end(rt: HostRuntime) -> Result<(), Fail> {
     let mut disk = SimDisk::new(rt.alloc());
-    assert_eq!(rt; disk.len()?, 0);
-    fill(&mut disk)?;
-    disk.write_at(4, b"WXYZ")?;
+    assert_eq!(rt; disk.len(), Ok(0));
+    write_over_and_past(&mut disk)?;
     assert!(rt; !disk.was_refused());
-    disk.write_at(1, b"-")?;
-    disk.sync()?;
     assert_eq!(rt; whole_and_part(&mut disk)?, (*b"a-cdWXYZ", *b"dWX"));
     Ok(())
+}
+
+/// How many syncs there were behind each sync, and the length behind a cut and behind a write of
+/// no bytes.
+fn cut_and_count(disk: &mut SimDisk) -> Result<([u64; 3], [u64; 2]), DeviceFault> {
+    fill(disk)?;
+    let none = disk.syncs();
+    disk.sync()?;
+    let one = disk.syncs();
+    disk.cut(2)?;
+    let cut = disk.len()?;
+    disk.sync()?;
+    let two = disk.syncs();
+    disk.write_at(2, b"")?;
+    Ok(([none, one, two], [cut, disk.len()?]))
 }
 
 #[test]
 fn cuts_and_counts_syncs(rt: HostRuntime) -> Result<(), Fail> {
     let mut disk = SimDisk::new(rt.alloc());
-    fill(&mut disk)?;
-    assert_eq!(rt; disk.syncs(), 0);
-    disk.sync()?;
-    disk.cut(2)?;
-    assert_eq!(rt; disk.len()?, 2);
-    disk.sync()?;
-    assert_eq!(rt; disk.syncs(), 2);
-    disk.write_at(2, b"")?;
-    assert_eq!(rt; disk.len()?, 2);
+    assert_eq!(rt; cut_and_count(&mut disk)?, ([0, 1, 2], [2, 2]));
     Ok(())
 }

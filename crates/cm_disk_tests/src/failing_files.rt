@@ -5,18 +5,39 @@ use cm_file_disk::FileDisk;
 use std::test::*;
 use std::{fs, io};
 
-/// Every call fails, and the cause stays.
-fn is_lost(disk: &mut FileDisk, cause: Option<io::ErrorKind>) -> bool {
-    let before = disk.cause().map(|error| error.kind());
-    let answers = [
-        disk.len().map(|_| ()),
-        disk.write_at(0, b""),
-        disk.sync(),
-        disk.cut(0),
-        disk.read(0, &mut []),
-    ];
-    let after = disk.cause().map(|error| error.kind());
-    answers.iter().all(|answer| answer.is_err()) && before == cause && after == cause
+fn kind_of_cause(disk: &FileDisk) -> Option<io::ErrorKind> {
+    disk.cause().map(|error| error.kind())
+}
+
+/// Every call fails.
+fn is_lost(disk: &mut FileDisk) -> bool {
+    disk.len().is_err()
+        && disk.write_at(0, b"").is_err()
+        && disk.sync().is_err()
+        && disk.cut(0).is_err()
+        && disk.read(0, &mut []).is_err()
+}
+
+/// Whether it holds six letters.
+fn holds_letters(disk: &mut FileDisk) -> Result<bool, DeviceFault> {
+    if disk.len()? != 6 {
+        return Ok(false);
+    }
+    let mut bytes = [0; 6];
+    disk.read(0, &mut bytes)?;
+    disk.sync()?;
+    Ok(bytes == *b"abcdef")
+}
+
+/// Whether a change fails, and from then on every call, for the same cause.
+fn fails_for_good(disk: &mut FileDisk, cuts: bool) -> bool {
+    let is_changed = if cuts {
+        disk.cut(0).is_ok()
+    } else {
+        disk.write_at(0, b"X").is_ok()
+    };
+    let cause = kind_of_cause(disk);
+    !is_changed && cause.is_some() && is_lost(disk) && kind_of_cause(disk) == cause
 }
 
 #[test]
@@ -25,20 +46,8 @@ fn after_a_write_that_failed_every_call_fails(rt: HostRuntime) -> Result<(), Fai
     fs::write(&rt, path, b"abcdef".as_slice())?;
     for cuts in [false, true] {
         let mut disk = FileDisk::open_read_only(&rt, rt.alloc(), path)?;
-        assert_eq!(rt; disk.len(), Ok(6));
-        let mut bytes = [0; 6];
-        disk.read(0, &mut bytes)?;
-        assert_eq!(rt; bytes, *b"abcdef");
-        disk.sync()?;
-        let answer = if cuts {
-            disk.cut(3)
-        } else {
-            disk.write_at(0, b"X")
-        };
-        assert_eq!(rt; answer, Err(DeviceFault));
-        let cause = disk.cause().map(|error| error.kind());
-        assert_eq!(rt; cause.is_some(), true);
-        assert!(rt; is_lost(&mut disk, cause));
+        assert!(rt; holds_letters(&mut disk)?);
+        assert!(rt; fails_for_good(&mut disk, cuts));
         assert_eq!(rt; fs::read_to_string(&rt, path)?.as_str(), "abcdef");
     }
     fs::remove_file(&rt, path)?;

@@ -2,18 +2,23 @@ use crate::held::{fill, hold_record};
 use cm_disk::{Disk, FuseDisk, SimDisk};
 use std::test::Fail;
 
+/// Whether the third call of it fails, and each one that is armed at once.
+fn fails_where_armed(disk: &mut SimDisk) -> bool {
+    let is_filled = fill(disk).is_ok();
+    disk.arm(2);
+    let writes = disk.write_at(0, b"WXYZ").is_ok() || disk.was_refused();
+    disk.arm(0);
+    let syncs = disk.sync().is_ok();
+    disk.arm(0);
+    let tells_len = disk.len().is_ok();
+    is_filled && !writes && !syncs && !tells_len
+}
+
 #[test]
 fn an_armed_call_fails_and_the_next_does_not(rt: HostRuntime) -> Result<(), Fail> {
     let alloc = rt.alloc();
     let mut disk = SimDisk::new(alloc);
-    fill(&mut disk)?;
-    disk.arm(2);
-    assert!(rt; disk.write_at(0, b"WXYZ").is_err());
-    assert!(rt; !disk.was_refused());
-    disk.arm(0);
-    assert!(rt; disk.sync().is_err());
-    disk.arm(0);
-    assert!(rt; disk.len().is_err());
+    assert!(rt; fails_where_armed(&mut disk));
     disk.arm(0);
     disk.disarm();
     let bytes = hold_record(alloc, &mut disk)?;
@@ -22,18 +27,19 @@ fn an_armed_call_fails_and_the_next_does_not(rt: HostRuntime) -> Result<(), Fail
     Ok(())
 }
 
+/// Whether a write, a sync and a look at the length go through, and nothing behind them.
+fn lets_three_through(disk: &mut FuseDisk) -> bool {
+    let are_through = fill(disk).is_ok() && disk.sync().is_ok() && disk.len() == Ok(6);
+    are_through && fill(disk).is_err() && disk.sync().is_err()
+}
+
 #[test]
 fn a_fuse_lets_so_many_calls_through(rt: HostRuntime) -> Result<(), Fail> {
-    let alloc = rt.alloc();
-    let mut fuse = FuseDisk::new(SimDisk::new(alloc), 3, 1);
-    fill(&mut fuse)?;
-    fuse.sync()?;
-    assert_eq!(rt; fuse.len()?, 6);
-    assert!(rt; fill(&mut fuse).is_err());
-    assert!(rt; fuse.sync().is_err());
+    let mut fuse = FuseDisk::new(SimDisk::new(rt.alloc()), 3, 1);
+    assert!(rt; lets_three_through(&mut fuse));
     let mut disk = fuse.into_inner();
     disk.disarm();
-    assert_eq!(rt; disk.len()?, 6);
+    assert_eq!(rt; disk.len(), Ok(6));
     assert_eq!(rt; disk.syncs(), 1);
     Ok(())
 }

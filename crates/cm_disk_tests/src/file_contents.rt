@@ -1,4 +1,5 @@
 //! What reaches the file, and what is read of it.
+ghost use Rattle.std.specs.Prelude.{◌≤◌, ◌+◌, ◌^◌, ℕ, length};
 
 use cm_disk::{DeviceFault, Disk};
 use cm_file_disk::FileDisk;
@@ -30,6 +31,12 @@ fn middle_and_end(disk: &mut FileDisk) -> Result<([u8; 4], [u8; 1]), DeviceFault
     Ok((middle, end))
 }
 
+/// Whether it holds the seven bytes, and nothing of it failed.
+fn holds_seven(disk: &mut FileDisk) -> Result<bool, DeviceFault> {
+    let parts = middle_and_end(disk)?;
+    Ok(parts == (*b"cdWX", *b"Y") && disk.cause().is_none())
+}
+
 #[test]
 fn stored_bytes_are_read_when_it_is_opened_again(rt: HostRuntime) -> Result<(), Fail> {
     let path = "cm_file_disk_stored.tmp";
@@ -40,11 +47,31 @@ fn stored_bytes_are_read_when_it_is_opened_again(rt: HostRuntime) -> Result<(), 
     drop(disk);
     for _ in 0..2 {
         let mut disk = FileDisk::open(&rt, rt.alloc(), path)?;
-        assert_eq!(rt; middle_and_end(&mut disk)?, (*b"cdWX", *b"Y"));
-        assert!(rt; disk.cause().is_none());
+        assert!(rt; holds_seven(&mut disk)?);
     }
     fs::remove_file(&rt, path)?;
     Ok(())
+}
+
+/// Each byte another than its neighbours, with no period of a power of two.
+fn count_up(bytes: &mut [u8]) {
+    for (i, byte) in bytes.iter_mut().enumerate() {
+        *byte = (i % 251) as u8;
+    }
+}
+
+/// Writes these bytes over the last three of ten, and gives the length.
+fn write_behind_seven(disk: &mut FileDisk, bytes: &[u8]) -> Result<u64, DeviceFault>
+    requires within_limit { 7 + length bytes.now ≤ 2 ^ 40 }
+{
+    disk.write_at(0, b"0123456789")?;
+    disk.write_at(7, bytes)?;
+    disk.len()
+}
+
+fn is_behind_seven(held: &[u8], bytes: &[u8]) -> bool {
+    held.strip_prefix(b"0123456")
+        .is_some_and(|rest| rest == bytes)
 }
 
 #[test]
@@ -52,17 +79,11 @@ fn a_write_of_many_pieces_is_written_whole(rt: HostRuntime) -> Result<(), Fail> 
     let path = "cm_file_disk_pieces.tmp";
     let _ = fs::remove_file(&rt, path);
     let mut bytes = Vec::from_elem(rt.alloc(), 0u8, 200_000)?;
-    for (i, byte) in bytes.iter_mut().enumerate() {
-        *byte = (i % 251) as u8;
-    }
+    count_up(&mut bytes);
     let mut disk = FileDisk::create(&rt, rt.alloc(), path)?;
-    disk.write_at(0, b"0123456789")?;
-    disk.write_at(7, &bytes)?;
-    assert_eq!(rt; disk.len(), Ok(200_007));
+    assert_eq!(rt; write_behind_seven(&mut disk, &bytes)?, 200_007);
     let held = fs::read(&rt, path)?;
-    assert_eq!(rt; held.len(), 200_007);
-    assert!(rt; held.starts_with(b"0123456"));
-    assert!(rt; held[7..].iter().eq(bytes.iter()));
+    assert!(rt; is_behind_seven(&held, &bytes));
     fs::remove_file(&rt, path)?;
     Ok(())
 }

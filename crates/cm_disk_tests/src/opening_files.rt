@@ -11,31 +11,41 @@ use std::{format, fs};
 /// What isn't opened: `None` for what is no regular file, else the kind of the system's error.
 fn refuse_open(rt: &HostRuntime, path: &str) -> Result<Option<ErrorKind>, Fail> {
     match FileDisk::open(rt, rt.alloc(), path) {
-        Err(OpenError::NotRegular) => Ok(None),
-        Err(OpenError::Device(error)) => Ok(Some(error.kind())),
-        _ => Err(Fail::new("another answer")),
+        Ok(_) => Err(Fail::new("it is opened")),
+        Err(error) => kind_of_refusal(&error),
     }
 }
 
+fn kind_of_refusal(error: &OpenError) -> Result<Option<ErrorKind>, Fail> {
+    match error {
+        OpenError::NotRegular => Ok(None),
+        OpenError::Device(error) => Ok(Some(error.kind())),
+        _ => Err(Fail::new("another refusal")),
+    }
+}
+
+/// What isn't opened, and why not.
+const REFUSED: [(&str, Option<ErrorKind>); 5] = [
+    (".", None),
+    ("/dev/null", None),
+    ("no such file", Some(ErrorKind::NotFound)),
+    ("no such folder/file", Some(ErrorKind::NotFound)),
+    ("/dev/null/file", Some(ErrorKind::NotADirectory)),
+];
+
 #[test]
 fn only_a_regular_file_is_opened(rt: HostRuntime) -> Result<(), Fail> {
+    for (path, kind) in &REFUSED {
+        assert_eq!(rt; refuse_open(&rt, path)?, *kind, "at {path}");
+    }
+    Ok(())
+}
+
+#[test]
+fn a_pipe_is_not_opened(rt: HostRuntime) -> Result<(), Fail> {
     let (reader, _writer) = io::pipe(&rt)?;
     let pipe = format!(in rt.alloc(); "/proc/self/fd/{}", reader.as_raw_fd())?;
-    assert_eq!(rt; refuse_open(&rt, ".")?, None);
-    assert_eq!(rt; refuse_open(&rt, "/dev/null")?, None);
     assert_eq!(rt; refuse_open(&rt, pipe.as_str())?, None);
-    assert_eq!(rt;
-        refuse_open(&rt, "no such file")?,
-        Some(ErrorKind::NotFound)
-    );
-    assert_eq!(rt;
-        refuse_open(&rt, "no such folder/file")?,
-        Some(ErrorKind::NotFound)
-    );
-    assert_eq!(rt;
-        refuse_open(&rt, "/dev/null/file")?,
-        Some(ErrorKind::NotADirectory)
-    );
     Ok(())
 }
 
@@ -49,6 +59,14 @@ fn a_file_past_the_limit_is_not_read(rt: HostRuntime) -> Result<(), Fail> {
     Ok(())
 }
 
+/// Whether no file is made there, since something has the name.
+fn is_taken(rt: &HostRuntime, path: &str) -> bool {
+    matches!(
+        FileDisk::create(rt, rt.alloc(), path),
+        Err(CreateError::Exists)
+    )
+}
+
 #[test]
 fn a_name_that_is_taken_stays(rt: HostRuntime) -> Result<(), Fail> {
     let (path, link) = ("cm_file_disk_taken.tmp", "cm_file_disk_link.tmp");
@@ -56,8 +74,7 @@ fn a_name_that_is_taken_stays(rt: HostRuntime) -> Result<(), Fail> {
     let _ = fs::remove_file(&rt, link);
     symlink(&rt, "no such file", link)?;
     for taken in [path, link, "."] {
-        let answer = FileDisk::create(&rt, rt.alloc(), taken);
-        assert!(rt; matches!(answer, Err(CreateError::Exists)), "at {taken}");
+        assert!(rt; is_taken(&rt, taken), "at {taken}");
     }
     assert_eq!(rt; fs::read_to_string(&rt, path)?.as_str(), "abc");
     fs::remove_file(&rt, path)?;
