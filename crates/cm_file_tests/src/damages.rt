@@ -1,107 +1,120 @@
 //! What is found in the front of a small file, and which damage is told first.
 
-ghost use Rattle.std.specs.Prelude.{◌≤◌};
-
-use crate::found::Summary;
-use crate::halves::{Told, damage_at, find_half, small_front};
-use cm_verdict::{Damage, FileFault};
-use std::alloc::{AllocGlobal, Global};
-use std::process::Abort;
+use crate::disks::put;
+use crate::found::Found::{Damaged, NotACache, Sound};
+use crate::found::{Found, Summary};
+use crate::halves::{Told, find_half, small_front};
+use cm_verdict::Damage;
+use std::alloc::Global;
 use std::test::*;
 
-// How many rows live at the number of the last command, and where the groups end.
-const fn sound(rows: usize, number: u64, end: u32) -> Told {
-    Ok(Summary { rows, number, end })
-}
+/// What is in the small file, and in one without its last group.
+const WHOLE: Summary = Summary {
+    rows: 3,
+    number: 3,
+    end: 7,
+};
 
-// Where a slot of half 0 begins.
-const fn slot(number: usize) -> usize
-    ensures { result ≤ 36_864 }
-{
-    4_096 + 64 * (number % 512)
-}
+const SHORT: Summary = Summary {
+    rows: 2,
+    number: 2,
+    end: 5,
+};
 
-// A byte, what stands in its place, and what is found then.
-fn changes() -> [(usize, u8, Told); 24] {
-    [
-        // nothing changed
-        (slot(0), 0xA5, sound(3, 3, 7)),
-        // the superblock: its magic, its gate, its version, a size, a byte behind them
-        (0, 0, Err(FileFault::NotACache)),
-        (4_095, 0xA4, Err(FileFault::NotACache)),
-        (8, 2, damage_at(Damage::Superblock, 0)),
-        (12, 2, damage_at(Damage::Superblock, 0)),
-        (100, 1, damage_at(Damage::Superblock, 0)),
-        // more slots than the file has room for
-        (21, 2, damage_at(Damage::Length, 0)),
-        // no half is open; the head of half 0 is of another version, of an epoch to come; the head
-        // of half 1 is blank
-        (slot(0), 0, damage_at(Damage::Halves, 0)),
-        (slot(0) + 2, 2, damage_at(Damage::Head, 0)),
-        (slot(0) + 8, 2, damage_at(Damage::Head, 0)),
-        (slot(256), 0xA5, damage_at(Damage::Head, 256)),
-        // a group of none, of another number, of 65 entries
-        (slot(1) + 2, 0, damage_at(Damage::Head, 1)),
-        (slot(3) + 8, 3, damage_at(Damage::Head, 3)),
-        (slot(3) + 2, 65, damage_at(Damage::Head, 3)),
-        // a group whose gate isn't open isn't there
-        (slot(5), 0xA4, sound(2, 2, 5)),
-        (slot(5), 0, sound(2, 2, 5)),
-        (slot(5), 0xFF, sound(2, 2, 5)),
-        // no entry, padding that isn't 0
-        (slot(4) + 1, 0x15, damage_at(Damage::Slot, 4)),
-        (slot(4) + 63, 1, damage_at(Damage::Slot, 4)),
-        // a name of no bytes, a loader of another number, a class of no loader
-        (slot(2) + 2, 0, damage_at(Damage::Slot, 2)),
-        (slot(2) + 8, 2, damage_at(Damage::Rows, 2)),
-        (slot(4) + 8, 2, damage_at(Damage::Rows, 4)),
-        // an order of four billion, and a record that begins inside the one before it
-        (slot(4) + 23, 238, damage_at(Damage::Chunks, 4)),
-        (slot(6) + 28, 15, damage_at(Damage::Chunks, 6)),
-    ]
-}
+/// Where half 0 and half 1 begin, and how long a slot is.
+const ZERO: usize = 4_096;
+
+const ONE: usize = 20_480;
+
+const SLOT: usize = 64;
+
+/// A byte, what stands in its place, and what is found then.
+const CHANGES: [(usize, u8, Found<Summary>); 24] = [
+    // nothing changed
+    (ZERO, 0xA5, Sound(WHOLE)),
+    // the superblock: its magic, its gate, its version, a size, a byte behind them
+    (0, 0, NotACache),
+    (4_095, 0xA4, NotACache),
+    (8, 2, Damaged(Damage::Superblock, 0)),
+    (12, 2, Damaged(Damage::Superblock, 0)),
+    (100, 1, Damaged(Damage::Superblock, 0)),
+    // more slots than the file has room for
+    (21, 2, Damaged(Damage::Length, 0)),
+    // no half is open; the head of half 0 is of another version, of an epoch to come; the head
+    // of half 1 is blank
+    (ZERO, 0, Damaged(Damage::Halves, 0)),
+    (ZERO + 2, 2, Damaged(Damage::Head, 0)),
+    (ZERO + 8, 2, Damaged(Damage::Head, 0)),
+    (ONE, 0xA5, Damaged(Damage::Head, 256)),
+    // a group of none, of another number, of 65 entries
+    (ZERO + SLOT + 2, 0, Damaged(Damage::Head, 1)),
+    (ZERO + 3 * SLOT + 8, 3, Damaged(Damage::Head, 3)),
+    (ZERO + 3 * SLOT + 2, 65, Damaged(Damage::Head, 3)),
+    // a group whose gate isn't open isn't there
+    (ZERO + 5 * SLOT, 0xA4, Sound(SHORT)),
+    (ZERO + 5 * SLOT, 0, Sound(SHORT)),
+    (ZERO + 5 * SLOT, 0xFF, Sound(SHORT)),
+    // no entry, padding that isn't 0
+    (ZERO + 4 * SLOT + 1, 0x15, Damaged(Damage::Slot, 4)),
+    (ZERO + 4 * SLOT + 63, 1, Damaged(Damage::Slot, 4)),
+    // a name of no bytes, a loader of another number, a class of no loader
+    (ZERO + 2 * SLOT + 2, 0, Damaged(Damage::Slot, 2)),
+    (ZERO + 2 * SLOT + 8, 2, Damaged(Damage::Rows, 2)),
+    (ZERO + 4 * SLOT + 8, 2, Damaged(Damage::Rows, 4)),
+    // an order of four billion, and a record that begins inside the one before it
+    (ZERO + 4 * SLOT + 23, 238, Damaged(Damage::Chunks, 4)),
+    (ZERO + 6 * SLOT + 28, 15, Damaged(Damage::Chunks, 6)),
+];
 
 // What is found with another byte at a place.
 fn find_damage(alloc: Global, front: &[u8], at: usize, byte: u8) -> Result<Told, Fail> {
     let mut bytes = Vec::from_slice(alloc, front)?;
-    if let Some(there) = bytes.get_mut(at) {
-        *there = byte;
-    }
+    put(&mut bytes, at, byte);
     find_half(alloc, &bytes)
 }
 
-fn change_each(rt: &(impl Abort + AllocGlobal), front: &[u8]) -> Result<(), Fail> {
-    for (at, byte, expected) in changes() {
-        let told = find_damage(rt.alloc(), front, at, byte)?;
-        assert_eq!(rt; told, expected, "{byte} at {at}");
+// Which change is the first behind which something else is found.
+fn first_other_change(alloc: Global, front: &[u8]) -> Result<Option<(usize, u8)>, Fail> {
+    for (at, byte, found) in &CHANGES {
+        if find_damage(alloc, front, *at, *byte)? != found.in_bytes() {
+            return Ok(Some((*at, *byte)));
+        }
     }
-    Ok(())
+    Ok(None)
 }
 
 #[test]
 fn the_first_damage_is_told(rt: HostRuntime) -> Result<(), Fail> {
     let front = small_front(rt.alloc())?;
-    change_each(&rt, &front)
+    assert_eq!(rt; first_other_change(rt.alloc(), &front)?, None);
+    Ok(())
 }
 
-fn cut_each(rt: &(impl Abort + AllocGlobal), front: &[u8]) -> Result<(), Fail> {
-    for (long, expected) in [
-        (0, Err(FileFault::NotACache)),
-        (4_095, Err(FileFault::NotACache)),
-        (4_096, damage_at(Damage::Length, 0)),
-        (36_863, damage_at(Damage::Length, 0)),
-        (36_864, sound(3, 3, 7)),
-    ] {
-        let bytes = front.get(..long).ok_or("not longer")?;
-        assert_eq!(rt; find_half(rt.alloc(), bytes)?, expected, "{long} bytes");
+/// How many bytes there are, and what is found in them.
+const BEGINNINGS: [(usize, Found<Summary>); 5] = [
+    (0, NotACache),
+    (4_095, NotACache),
+    (4_096, Damaged(Damage::Length, 0)),
+    (36_863, Damaged(Damage::Length, 0)),
+    (36_864, Sound(WHOLE)),
+];
+
+// Which beginning is the first in which something else is found.
+fn first_other_beginning(alloc: Global, front: &[u8]) -> Result<Option<usize>, Fail> {
+    for (long, found) in &BEGINNINGS {
+        let bytes = front.get(..*long).ok_or("not longer")?;
+        if find_half(alloc, bytes)? != found.in_bytes() {
+            return Ok(Some(*long));
+        }
     }
-    Ok(())
+    Ok(None)
 }
 
 #[test]
 fn a_short_file_is_no_cache_or_damaged(rt: HostRuntime) -> Result<(), Fail> {
     let front = small_front(rt.alloc())?;
-    cut_each(&rt, &front)
+    assert_eq!(rt; first_other_beginning(rt.alloc(), &front)?, None);
+    Ok(())
 }
 
 const NUMBERS: [(Damage, u8); 9] = [

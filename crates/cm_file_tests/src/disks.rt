@@ -21,3 +21,10 @@ pub fn disk_of(alloc: Global, bytes: &[u8]) -> Result<SimDisk, Fail> {
     disk.sync()?;
     Ok(disk)
 }
+
+/// Puts a byte at a place, if there is one.
+pub fn put(bytes: &mut [u8], at: usize, byte: u8) {
+    if let Some(there) = bytes.get_mut(at) {
+        *there = byte;
+    }
+}

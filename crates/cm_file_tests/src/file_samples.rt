@@ -1,5 +1,6 @@
 //! Files of one loader with two classes, each in a group of its own, with their records.
 
+use crate::disks::put;
 use cm_layout::{
     ClassRow, GroupHead, HalfHead, LoaderRow, SLOT_BYTES, SUPERBLOCK_BYTES, SlotName, Superblock,
 };
@@ -21,21 +22,27 @@ pub const CLASS_B: &[u8] = b"cafebabe000000340006070002010001420700040100106a617
     00000000";
 
 /// Where the roots begin.
-pub const ROOTS_AT: u64 = 36_864;
+pub const ROOTS_AT: usize = 36_864;
+
+// The class that has these bytes.
+fn class_of_bytes(alloc: Global, bytes: &[u8]) -> Result<Prepared, Fail> {
+    match prepare(alloc, bytes) {
+        Ok(class) => Ok(class),
+        Err(_) => Err("a class".into()),
+    }
+}
 
 // The class that a text spells.
 fn class(alloc: Global, text: &[u8]) -> Result<Prepared, Fail> {
     let bytes = hex::decode(alloc, text)?;
-    Ok(prepare(alloc, &bytes).ok().ok_or("a class")?)
+    class_of_bytes(alloc, &bytes)
 }
 
 /// The class of this name of one letter, whose record has 16 words.
 pub fn class_of_name(alloc: Global, name: u8) -> Result<Prepared, Fail> {
     let mut bytes = hex::decode(alloc, CLASS_A)?;
-    if let Some(there) = bytes.get_mut(NAME_AT) {
-        *there = name;
-    }
-    Ok(prepare(alloc, &bytes).ok().ok_or("a class")?)
+    put(&mut bytes, NAME_AT, name);
+    class_of_bytes(alloc, &bytes)
 }
 
 fn record_bytes(alloc: Global, class: &Prepared) -> Result<Vec<u8>, Fail> {
@@ -73,13 +80,18 @@ pub fn push_halves(bytes: &mut Vec<u8>, first: u32, second: u32) -> Result<(), F
         base: 0,
     };
     let name = SlotName::new(b"a").ok_or("a short name")?;
-    bytes.extend_from_slice(&head.encode())?;
-    bytes.extend_from_slice(&group(1))?;
-    bytes.extend_from_slice(&LoaderRow { number: 1, name }.encode())?;
-    bytes.extend_from_slice(&group(2))?;
-    bytes.extend_from_slice(&class_row(0, first).encode())?;
-    bytes.extend_from_slice(&group(3))?;
-    bytes.extend_from_slice(&class_row(first, second).encode())?;
+    let slots = [
+        head.encode(),
+        group(1),
+        LoaderRow { number: 1, name }.encode(),
+        group(2),
+        class_row(0, first).encode(),
+        group(3),
+        class_row(first, second).encode(),
+    ];
+    for slot in &slots {
+        bytes.extend_from_slice(slot)?;
+    }
     bytes.resize(SUPERBLOCK_BYTES + 2 * 256 * SLOT_BYTES, 0)?;
     Ok(())
 }
@@ -100,7 +112,7 @@ fn push_rest(
     push_halves(bytes, first.words(), second.words())?;
     push_record(alloc, bytes, first)?;
     push_record(alloc, bytes, second)?;
-    bytes.resize(ROOTS_AT as usize + 8_192, 0)?;
+    bytes.resize(ROOTS_AT + 8_192, 0)?;
     Ok(())
 }
 

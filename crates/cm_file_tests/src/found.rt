@@ -2,6 +2,7 @@
 
 use cm_disk::Disk;
 use cm_recover::{OpenFault, read_found};
+use cm_verdict::{Damage, FileFault, HalfWalk};
 use std::alloc::Global;
 
 /// What is found in a file: how many rows live, the number of the last command, and the slot where
@@ -13,20 +14,61 @@ pub struct Summary {
     pub end: u32,
 }
 
-/// The empty cache.
-pub const EMPTY: Result<Summary, OpenFault> = Ok(Summary {
+/// What is in a new file.
+pub const NEW: Summary = Summary {
     rows: 0,
     number: 0,
     end: 1,
-});
+};
+
+/// The empty cache.
+pub const EMPTY: Result<Summary, OpenFault> = Ok(NEW);
+
+/// What is to be found, so that a test is a table of changes and what is found then.
+pub enum Found<S> {
+    Sound(S),
+    NotACache,
+    Damaged(Damage, u32),
+}
+
+impl<S: Copy> Found<S> {
+    /// In bytes.
+    pub fn in_bytes(&self) -> Result<S, FileFault> {
+        match self {
+            Found::Sound(summary) => Ok(*summary),
+            Found::NotACache => Err(FileFault::NotACache),
+            Found::Damaged(what, slot) => Err(FileFault::Damaged {
+                what: *what,
+                slot: *slot,
+            }),
+        }
+    }
+
+    /// On a disk.
+    pub fn on_disk(&self) -> Result<S, OpenFault> {
+        match self {
+            Found::Sound(summary) => Ok(*summary),
+            Found::NotACache => Err(OpenFault::NotACache),
+            Found::Damaged(what, slot) => Err(OpenFault::Damaged {
+                what: *what,
+                slot: *slot,
+            }),
+        }
+    }
+}
+
+/// What the groups of a half tell.
+pub fn tell_half(walk: HalfWalk) -> Summary {
+    let (number, end) = (walk.number(), walk.end());
+    Summary {
+        rows: walk.into_book().len(),
+        number,
+        end,
+    }
+}
 
 /// What is found in a file.
 pub fn find_in<D: Disk>(alloc: Global, disk: &mut D) -> Result<Summary, OpenFault> {
     let file = read_found(alloc, disk)?;
-    let (number, end) = (file.walk.number(), file.walk.end());
-    Ok(Summary {
-        rows: file.walk.into_book().len(),
-        number,
-        end,
-    })
+    Ok(tell_half(file.walk))
 }

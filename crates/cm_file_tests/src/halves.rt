@@ -1,22 +1,18 @@
 //! The front of a file, up to its roots, and what is found in it: one loader with two classes, each
 //! in a group of its own.
 
-ghost use Rattle.std.specs.Prelude.{◌≡◌, ◌≤◌, ◌*◌, ◌^◌, length};
+ghost use Rattle.std.specs.Prelude.{◌≡◌, ◌≤◌, ◌*◌, ◌^◌, IfOk, IfSome, length};
 
 use crate::file_samples::push_halves;
-use crate::found::Summary;
-use cm_layout::{SLOT_BYTES, SUPERBLOCK_BYTES, Superblock};
+use crate::found::{Summary, tell_half};
+use cm_layout::{Half, SLOT_BYTES, SUPERBLOCK_BYTES, Superblock};
 use cm_pool::Geometry;
 use cm_rows::Book;
-use cm_verdict::{Counting, Damage, FileFault, HalfWalk, counting_half, find_sizes, walk_through};
+use cm_verdict::{Counting, FileFault, counting_half, find_sizes, walk_through};
 use std::alloc::Global;
 use std::test::Fail;
 
 pub type Told = Result<Summary, FileFault>;
-
-pub fn damage_at(what: Damage, slot: u32) -> Told {
-    Err(FileFault::Damaged { what, slot })
-}
 
 /// A file's superblock and halves.
 pub fn small_front(alloc: Global) -> Result<Vec<u8>, Fail> {
@@ -33,15 +29,6 @@ fn sizes(alloc: Global, front: &[u8]) -> Result<Result<Geometry, FileFault>, Fai
     filled.extend_from_slice(block)?;
     filled.resize(SUPERBLOCK_BYTES, 0)?;
     Ok(find_sizes(front.len() as u64, &filled))
-}
-
-fn tell_half(walk: HalfWalk) -> Summary {
-    let (number, end) = (walk.number(), walk.end());
-    Summary {
-        rows: walk.into_book().len(),
-        number,
-        end,
-    }
 }
 
 // What the groups of a half tell.
@@ -61,25 +48,46 @@ fn walk_half(
     }
 }
 
+// The halves of a front, which have so many bytes each.
+fn both_halves(front: &[u8], size: usize) -> Option<(&[u8], &[u8])>
+    ensures zero { IfSome result (λ halves. length halves.0.now ≡ size) }
+    ensures one { IfSome result (λ halves. length halves.1.now ≡ size) }
+{
+    let halves = front.get(SUPERBLOCK_BYTES..)?;
+    let zero = halves.get(..size)?;
+    let one = halves.get(size..2 * size)?;
+    Some((zero, one))
+}
+
+// What the heads of two halves tell.
+fn count(geometry: Geometry, zero: &[u8], one: &[u8]) -> Option<Result<Counting, FileFault>>
+    ensures base { IfSome result (λ answer. IfOk answer (λ counts. counts.head.base ≤ 2 ^ 63)) }
+{
+    let head_0 = zero.first_chunk::<SLOT_BYTES>()?;
+    let head_1 = one.first_chunk::<SLOT_BYTES>()?;
+    Some(counting_half(geometry, head_0, head_1))
+}
+
+// What is found in a front of these sizes.
+fn find_counted(alloc: Global, geometry: Geometry, front: &[u8]) -> Result<Told, Fail> {
+    let size = SLOT_BYTES * geometry.slots() as usize;
+    let (zero, one) = both_halves(front, size).ok_or("two halves")?;
+    match count(geometry, zero, one).ok_or("two heads")? {
+        Ok(counts) => {
+            let half = match counts.half {
+                Half::Zero => zero,
+                Half::One => one,
+            };
+            walk_half(alloc, geometry, &counts, half)
+        }
+        Err(fault) => Ok(Err(fault)),
+    }
+}
+
 /// What is found in the front of a file, up to its roots.
 pub fn find_half(alloc: Global, front: &[u8]) -> Result<Told, Fail> {
-    let geometry = match sizes(alloc, front)? {
-        Ok(geometry) => geometry,
-        Err(fault) => return Ok(Err(fault)),
-    };
-    let size = SLOT_BYTES * geometry.slots() as usize;
-    let halves = front.get(SUPERBLOCK_BYTES..).ok_or("a superblock")?;
-    let zero = halves.get(..size).ok_or("half 0")?;
-    let one = halves.get(size..2 * size).ok_or("half 1")?;
-    let head_0 = zero.first_chunk::<SLOT_BYTES>().ok_or("a slot")?;
-    let head_1 = one.first_chunk::<SLOT_BYTES>().ok_or("a slot")?;
-    let counts = match counting_half(geometry, head_0, head_1) {
-        Ok(counts) => counts,
-        Err(fault) => return Ok(Err(fault)),
-    };
-    let half = match counts.half {
-        cm_layout::Half::Zero => zero,
-        cm_layout::Half::One => one,
-    };
-    walk_half(alloc, geometry, &counts, half)
+    match sizes(alloc, front)? {
+        Ok(geometry) => find_counted(alloc, geometry, front),
+        Err(fault) => Ok(Err(fault)),
+    }
 }

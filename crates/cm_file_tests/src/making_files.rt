@@ -1,27 +1,23 @@
 //! Making files, and stops at each device call.
 
 use crate::found::{EMPTY, Summary, find_in};
-use cm_disk::{Choice, Disk, FuseDisk, SimDisk};
+use cm_disk::{Choice, DeviceFault, Disk, FuseDisk, SimDisk};
 use cm_pool::Geometry;
 use cm_recover::{FormatFault, OpenFault, format};
-use std::alloc::{AllocGlobal, Global};
-use std::process::Abort;
+use std::alloc::Global;
 use std::test::*;
 
 const NONE: Result<Summary, OpenFault> = Err(OpenFault::NotACache);
 
-// An empty disk becomes a file of these sizes, which is so long.
+// Whether a disk becomes a file of these sizes; its length, its syncs, and what is found in it.
 fn make(
-    rt: &(impl Abort + AllocGlobal),
+    alloc: Global,
     disk: &mut SimDisk,
     geometry: Geometry,
-    long: u64,
-) -> Result<(), Fail> {
-    assert_eq!(rt; format(rt.alloc(), disk, geometry), Ok(()));
-    assert_eq!(rt; disk.len()?, long);
-    assert_eq!(rt; disk.syncs(), 2);
-    assert_eq!(rt; find_in(rt.alloc(), disk), EMPTY);
-    Ok(())
+) -> Result<(bool, u64, u64, Result<Summary, OpenFault>), DeviceFault> {
+    let is_made = format(alloc, disk, geometry).is_ok();
+    let long = disk.len()?;
+    Ok((is_made, long, disk.syncs(), find_in(alloc, disk)))
 }
 
 /// The order of a root, the roots, the slots, and how long a new file is.
@@ -35,36 +31,34 @@ const SIZES: [(u32, u32, u32, u64); 3] = [
 fn a_new_file_is_the_empty_cache(rt: HostRuntime) -> Result<(), Fail> {
     for (top, roots, slots, long) in &SIZES {
         let geometry = Geometry::new(*top, *roots, *slots).ok_or("within the limits")?;
-        make(&rt, &mut SimDisk::new(rt.alloc()), geometry, *long)?;
+        let made = make(rt.alloc(), &mut SimDisk::new(rt.alloc()), geometry)?;
+        assert_eq!(rt; made, (true, *long, 2, EMPTY));
     }
     Ok(())
 }
 
-// A disk of one byte doesn't become a file, and stays as it was.
-fn stays(
-    rt: &(impl Abort + AllocGlobal),
+// What comes of a disk of one byte that is to become a file; and its length, byte and syncs then.
+fn make_of_byte(
+    alloc: Global,
     disk: &mut SimDisk,
     geometry: Geometry,
-) -> Result<(), Fail> {
+) -> Result<(Result<(), FormatFault>, u64, [u8; 1], u64), DeviceFault> {
     disk.write_at(0, b"x")?;
-    assert_eq!(rt;
-        format(rt.alloc(), disk, geometry),
-        Err(FormatFault::NotEmpty)
-    );
-    assert_eq!(rt; disk.len()?, 1);
+    let made = format(alloc, disk, geometry);
+    let long = disk.len()?;
     let mut byte = [0];
-    if disk.len()? == 1 {
+    if long == 1 {
         disk.read(0, &mut byte)?;
     }
-    assert_eq!(rt; byte, *b"x");
-    assert_eq!(rt; disk.syncs(), 0);
-    Ok(())
+    Ok((made, long, byte, disk.syncs()))
 }
 
 #[test]
 fn a_file_that_has_bytes_stays(rt: HostRuntime) -> Result<(), Fail> {
     let geometry = Geometry::new(3, 1, 256).ok_or("within the limits")?;
-    stays(&rt, &mut SimDisk::new(rt.alloc()), geometry)
+    let left = make_of_byte(rt.alloc(), &mut SimDisk::new(rt.alloc()), geometry)?;
+    assert_eq!(rt; left, (Err(FormatFault::NotEmpty), 1, *b"x", 0));
+    Ok(())
 }
 
 /// Lets so many calls through; a write that fails stores so many bytes.
@@ -103,7 +97,7 @@ const LEFT: [(u64, usize, u64, &[u8], Result<Summary, OpenFault>); 14] = [
 ];
 
 // Whether the file is made, and what is found where this is chosen at the crash.
-fn crash_disk(
+fn crash_as_chosen(
     alloc: Global,
     pass: u64,
     stores: usize,
@@ -114,14 +108,23 @@ fn crash_disk(
     Ok((made.is_ok(), find_in(alloc, &mut left)))
 }
 
+fn crash_disk(
+    alloc: Global,
+    [pass, len]: [u64; 2],
+    stores: usize,
+    fill: &[u8],
+) -> Result<(bool, Result<Summary, OpenFault>), Fail> {
+    let choice = Choice {
+        len,
+        fill: Vec::from_slice(alloc, fill)?,
+    };
+    crash_as_chosen(alloc, pass, stores, &choice)
+}
+
 #[test]
 fn a_crash_leaves_no_cache_or_the_empty_one(rt: HostRuntime) -> Result<(), Fail> {
     for (pass, stores, len, fill, expected) in &LEFT {
-        let choice = Choice {
-            len: *len,
-            fill: Vec::from_slice(rt.alloc(), fill)?,
-        };
-        let told = crash_disk(rt.alloc(), *pass, *stores, &choice)?;
+        let told = crash_disk(rt.alloc(), [*pass, *len], *stores, fill)?;
         assert_eq!(rt; told, (*pass == 5, *expected), "{pass} calls");
     }
     Ok(())

@@ -1,6 +1,7 @@
 //! What is found in a file by reads, and which damage is told first.
 
-use crate::found::{EMPTY, Summary, find_in};
+use crate::found::Found::{Damaged, NotACache, Sound};
+use crate::found::{EMPTY, Found, NEW, Summary, find_in};
 use cm_disk::{Disk, FuseDisk, SimDisk};
 use cm_pool::Geometry;
 use cm_recover::{OpenFault, format};
@@ -20,25 +21,19 @@ fn small(alloc: Global) -> Result<SimDisk, Fail> {
 
 type Told = Result<Summary, OpenFault>;
 
-fn damage_at(what: Damage, slot: u32) -> Told {
-    Err(OpenFault::Damaged { what, slot })
-}
-
 /// A byte of a new file, what stands in its place, and what is found then.
-fn changes() -> [(u64, u8, Told); 9] {
-    [
-        (0, b'C', EMPTY),
-        (0, b'c', Err(OpenFault::NotACache)),
-        (4_095, 0xA4, Err(OpenFault::NotACache)),
-        (8, 2, damage_at(Damage::Superblock, 0)),
-        (21, 2, damage_at(Damage::Length, 0)),
-        // the gates of both halves, and of a group
-        (4_096, 0, damage_at(Damage::Halves, 0)),
-        (20_480, 0xA5, damage_at(Damage::Head, 256)),
-        (4_160, 0xA5, damage_at(Damage::Head, 1)),
-        (4_160, 0xA4, EMPTY),
-    ]
-}
+const CHANGES: [(u64, u8, Found<Summary>); 9] = [
+    (0, b'C', Sound(NEW)),
+    (0, b'c', NotACache),
+    (4_095, 0xA4, NotACache),
+    (8, 2, Damaged(Damage::Superblock, 0)),
+    (21, 2, Damaged(Damage::Length, 0)),
+    // the gates of both halves, and of a group
+    (4_096, 0, Damaged(Damage::Halves, 0)),
+    (20_480, 0xA5, Damaged(Damage::Head, 256)),
+    (4_160, 0xA5, Damaged(Damage::Head, 1)),
+    (4_160, 0xA4, Sound(NEW)),
+];
 
 fn change(disk: &mut SimDisk, at: u64, byte: u8) -> Result<(), Fail> {
     if at < 40_000 && at < disk.len()? {
@@ -55,12 +50,9 @@ fn find_with(alloc: Global, at: u64, byte: u8) -> Result<Told, Fail> {
 
 #[test]
 fn the_first_damage_is_told(rt: HostRuntime) -> Result<(), Fail> {
-    for (at, byte, expected) in changes() {
-        assert_eq!(rt;
-            find_with(rt.alloc(), at, byte)?,
-            expected,
-            "{byte} at {at}"
-        );
+    for (at, byte, found) in &CHANGES {
+        let told = find_with(rt.alloc(), *at, *byte)?;
+        assert_eq!(rt; told, found.on_disk(), "{byte} at {at}");
     }
     Ok(())
 }
@@ -78,16 +70,20 @@ fn find_short(alloc: Global, len: u64) -> Result<Told, Fail> {
     Ok(find_in(alloc, &mut disk))
 }
 
+/// How long the beginning of a new file is, and what is found in it.
+const BEGINNINGS: [(u64, Found<Summary>); 5] = [
+    (0, NotACache),
+    (4_095, NotACache),
+    (4_096, Damaged(Damage::Length, 0)),
+    (36_863, Damaged(Damage::Length, 0)),
+    (36_864, Sound(NEW)),
+];
+
 #[test]
 fn a_short_file_is_no_cache_or_damaged(rt: HostRuntime) -> Result<(), Fail> {
-    for (len, expected) in [
-        (0, Err(OpenFault::NotACache)),
-        (4_095, Err(OpenFault::NotACache)),
-        (4_096, damage_at(Damage::Length, 0)),
-        (36_863, damage_at(Damage::Length, 0)),
-        (36_864, EMPTY),
-    ] {
-        assert_eq!(rt; find_short(rt.alloc(), len)?, expected, "{len} bytes");
+    for (len, found) in &BEGINNINGS {
+        let told = find_short(rt.alloc(), *len)?;
+        assert_eq!(rt; told, found.on_disk(), "{len} bytes");
     }
     Ok(())
 }
@@ -105,10 +101,8 @@ fn find_behind(alloc: Global, pass: u64) -> Result<(Told, Told, u64), Fail> {
 #[test]
 fn a_failing_read_is_told(rt: HostRuntime) -> Result<(), Fail> {
     for pass in 0..4 {
-        let (broken, whole, syncs) = find_behind(rt.alloc(), pass)?;
-        assert_eq!(rt; broken, Err(OpenFault::Device));
-        assert_eq!(rt; whole, EMPTY);
-        assert_eq!(rt; syncs, 2);
+        let found = find_behind(rt.alloc(), pass)?;
+        assert_eq!(rt; found, (Err(OpenFault::Device), EMPTY, 2));
     }
     Ok(())
 }

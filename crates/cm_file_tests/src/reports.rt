@@ -6,8 +6,7 @@ use crate::stored_calls::{Call, disk_after, new_disk};
 use cm_disk::{Disk, FuseDisk, SimDisk};
 use cm_inspect::{Report, check};
 use cm_recover::OpenFault;
-use std::alloc::{AllocGlobal, Global};
-use std::process::Abort;
+use std::alloc::Global;
 use std::test::*;
 
 const fn report(
@@ -166,10 +165,8 @@ fn look_after(alloc: Global, calls: &[Call]) -> Result<(Told, bool, bool), Fail>
 
 #[test]
 fn a_file_is_looked_at_by_reads_alone(rt: HostRuntime) -> Result<(), Fail> {
-    let (told, has_same_bytes, has_same_syncs) = look_after(rt.alloc(), &TWO)?;
-    assert_eq!(rt; told, report(2, 2, 2, 4));
-    assert!(rt; has_same_bytes);
-    assert!(rt; has_same_syncs);
+    let looked_at = look_after(rt.alloc(), &TWO)?;
+    assert_eq!(rt; looked_at, (report(2, 2, 2, 4), true, true));
     Ok(())
 }
 
@@ -182,17 +179,21 @@ fn tell_behind(alloc: Global, bytes: &[u8], pass: u64) -> Result<(Told, Told), F
     Ok((told, check(alloc, &mut disk)))
 }
 
-fn is_told(rt: &(impl Abort + AllocGlobal), bytes: &[u8]) -> Result<(), Fail> {
+// Behind how many calls a failure is the first that is told otherwise. The seven calls are the
+// length, the superblock, both halves, the length again, and two records.
+fn first_other(alloc: Global, bytes: &[u8]) -> Result<Option<u64>, Fail> {
     let whole = report(2, 2, 2, 4);
-    // the length, the superblock, both halves, the length again, and two records
-    for pass in 0..7 {
-        let (broken, then) = tell_behind(rt.alloc(), bytes, pass)?;
-        assert_eq!(rt; broken, Err(OpenFault::Device), "{pass} calls");
-        assert_eq!(rt; then, whole);
+    for pass in 0..8 {
+        let broken = if pass < 7 {
+            Err(OpenFault::Device)
+        } else {
+            whole
+        };
+        if tell_behind(alloc, bytes, pass)? != (broken, whole) {
+            return Ok(Some(pass));
+        }
     }
-    let (told, _) = tell_behind(rt.alloc(), bytes, 7)?;
-    assert_eq!(rt; told, whole);
-    Ok(())
+    Ok(None)
 }
 
 fn bytes_after(alloc: Global, calls: &[Call]) -> Result<Vec<u8>, Fail> {
@@ -203,5 +204,6 @@ fn bytes_after(alloc: Global, calls: &[Call]) -> Result<Vec<u8>, Fail> {
 #[test]
 fn a_failing_call_is_told(rt: HostRuntime) -> Result<(), Fail> {
     let bytes = bytes_after(rt.alloc(), &TWO)?;
-    is_told(&rt, &bytes)
+    assert_eq!(rt; first_other(rt.alloc(), &bytes)?, None);
+    Ok(())
 }

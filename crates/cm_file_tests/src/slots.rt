@@ -1,6 +1,7 @@
 //! Slots of heads, rows and entries, written and read.
 use cm_layout::{
-    ClassRow, Entry, GroupHead, HalfHead, LoaderRow, Move, Row, SlotName, Unload, is_loader_name,
+    ClassRow, Entry, GroupHead, HalfHead, LoaderRow, Move, Row, SLOT_BYTES, SlotName, Unload,
+    is_loader_name,
 };
 use cm_pool::{Chunk, Place};
 use std::test::Fail;
@@ -9,8 +10,20 @@ fn chunk(root: u32, order: u32, at: u32) -> Chunk {
     Chunk { root, order, at }
 }
 
+/// Whether a slot has these bytes at a place.
+fn has(slot: &[u8], at: usize, bytes: &[u8]) -> bool {
+    match slot.get(at..) {
+        Some(rest) => rest.starts_with(bytes),
+        None => false,
+    }
+}
+
+fn is_half_head(slot: &[u8; SLOT_BYTES], head: HalfHead) -> bool {
+    HalfHead::decode(slot) == Some(head) && GroupHead::decode(slot).is_none()
+}
+
 #[test]
-fn heads_are_written_and_read(rt: HostRuntime) {
+fn heads_of_halves_are_written_and_read(rt: HostRuntime) {
     let head = HalfHead {
         version: 1,
         live: 3,
@@ -18,19 +31,23 @@ fn heads_are_written_and_read(rt: HostRuntime) {
         base: 127,
     };
     let slot = head.encode();
-    assert_eq!(rt; &slot[..4], [0xA5, 1, 1, 0].as_slice());
-    assert_eq!(rt; slot[16], 127);
-    assert_eq!(rt; HalfHead::decode(&slot), Some(head));
-    assert_eq!(rt; GroupHead::decode(&slot), None);
+    assert!(rt; has(&slot, 0, &[0xA5, 1, 1, 0]) && has(&slot, 16, &[127]));
+    assert!(rt; is_half_head(&slot, head));
+}
 
+#[test]
+fn heads_of_groups_are_written_and_read(rt: HostRuntime) {
     let group = GroupHead {
         count: 64,
         first: 258,
     };
     let slot = group.encode();
-    assert_eq!(rt; &slot[..4], [0xA5, 2, 64, 0].as_slice());
-    assert_eq!(rt; &slot[8..10], [2, 1].as_slice());
+    assert!(rt; has(&slot, 0, &[0xA5, 2, 64, 0]) && has(&slot, 8, &[2, 1]));
     assert_eq!(rt; GroupHead::decode(&slot), Some(group));
+}
+
+fn is_class(slot: &[u8; SLOT_BYTES], class: ClassRow) -> bool {
+    ClassRow::decode(slot) == Some(class) && LoaderRow::decode(slot).is_none()
 }
 
 #[test]
@@ -44,50 +61,57 @@ fn classes_are_written_and_read(rt: HostRuntime) {
         },
     };
     let slot = class.encode();
-    assert_eq!(rt; slot[1], 0x12);
-    assert_eq!(rt; slot[4], 16);
-    assert_eq!(rt; slot[16], 2);
-    assert_eq!(rt; ClassRow::decode(&slot), Some(class));
-    assert!(rt; LoaderRow::decode(&slot).is_none());
+    assert!(rt; has(&slot, 1, &[0x12]) && has(&slot, 4, &[16]) && has(&slot, 16, &[2]));
+    assert!(rt; is_class(&slot, class));
+}
+
+fn loader_slot(name: SlotName) -> [u8; SLOT_BYTES] {
+    let loader: Row<()> = Row::Loader(LoaderRow { number: 9, name });
+    Entry::Live(loader).encode()
+}
+
+fn is_loader(slot: &[u8; SLOT_BYTES]) -> bool {
+    matches!(Entry::decode(slot), Some(Entry::Live(Row::Loader(_))))
 }
 
 #[test]
 fn loaders_are_written_and_read(rt: HostRuntime) -> Result<(), Fail> {
-    let name = SlotName::new(b"app").ok_or("three bytes fit")?;
-    let loader: Row<()> = Row::Loader(LoaderRow { number: 9, name });
-    let slot = Entry::Live(loader).encode();
-    assert_eq!(rt; &slot[..3], [0, 0x11, 3].as_slice());
-    assert_eq!(rt; &slot[16..20], b"app\0".as_slice());
-    assert!(rt; matches!(Entry::decode(&slot), Some(Entry::Live(Row::Loader(_)))));
+    let slot = loader_slot(SlotName::new(b"app").ok_or("three bytes fit")?);
+    assert!(rt; has(&slot, 0, &[0, 0x11, 3]) && has(&slot, 16, b"app\0"));
+    assert!(rt; is_loader(&slot));
     Ok(())
 }
 
+fn is_unload(slot: &[u8; SLOT_BYTES], unload: Unload) -> bool {
+    let is_entry = matches!(Entry::decode(slot), Some(Entry::Unload(_)));
+    is_entry && Unload::decode(slot) == Some(unload)
+}
+
 #[test]
-fn other_entries_are_written_and_read(rt: HostRuntime) {
+fn unloadings_are_written_and_read(rt: HostRuntime) {
     let unload = Unload { loader: 258 };
     let slot = unload.encode();
-    assert_eq!(rt; &slot[..2], [0, 0x13].as_slice());
-    assert_eq!(rt; &slot[8..11], [2, 1, 0].as_slice());
-    assert_eq!(rt; Unload::decode(&slot), Some(unload));
-    assert!(rt; matches!(Entry::decode(&slot), Some(Entry::Unload(_))));
+    assert!(rt; has(&slot, 0, &[0, 0x13]) && has(&slot, 8, &[2, 1, 0]));
+    assert!(rt; is_unload(&slot, unload));
+}
 
+fn is_move(slot: &[u8; SLOT_BYTES], moved: Move) -> bool {
+    let is_entry = matches!(Entry::decode(slot), Some(Entry::Move(_)));
+    is_entry && Move::decode(slot) == Some(moved)
+}
+
+#[test]
+fn moves_are_written_and_read(rt: HostRuntime) {
     let moved = Move {
         loader: 1,
         from: chunk(0, 1, 256),
         to: chunk(0, 0, 128),
     };
     let slot = moved.encode();
-    assert_eq!(rt; &slot[..2], [0, 0x14].as_slice());
-    assert_eq!(rt;
-        &slot[16..28],
-        [0, 0, 0, 0, 1, 0, 0, 0, 0, 1, 0, 0].as_slice()
-    );
-    assert_eq!(rt;
-        &slot[28..40],
-        [0, 0, 0, 0, 0, 0, 0, 0, 128, 0, 0, 0].as_slice()
-    );
-    assert_eq!(rt; Move::decode(&slot), Some(moved));
-    assert!(rt; matches!(Entry::decode(&slot), Some(Entry::Move(_))));
+    assert!(rt; has(&slot, 0, &[0, 0x14]));
+    assert!(rt; has(&slot, 16, &[0, 0, 0, 0, 1, 0, 0, 0, 0, 1, 0, 0]));
+    assert!(rt; has(&slot, 28, &[0, 0, 0, 0, 0, 0, 0, 0, 128, 0, 0, 0]));
+    assert!(rt; is_move(&slot, moved));
 }
 
 #[test]

@@ -1,12 +1,13 @@
 //! What files stand for, and which damage of a record is told first.
 
-use crate::disks::disk_of;
+use crate::disks::{disk_of, put};
 use crate::file_samples::{CLASS_A, CLASS_B, ROOTS_AT, file_of};
+use crate::found::Found;
+use crate::found::Found::{Damaged, NotACache, Sound};
 use cm_disk::{Disk, FuseDisk};
 use cm_recover::{OpenFault, StandingFile, read_standing};
 use cm_verdict::Damage;
-use std::alloc::{AllocGlobal, Global};
-use std::process::Abort;
+use std::alloc::Global;
 use std::test::*;
 
 /// What a file stands for: how many rows live, twice, how many words the records of class `A` and
@@ -24,14 +25,14 @@ struct Summary {
 type Told = Result<Summary, OpenFault>;
 
 /// The file of two classes.
-const WHOLE: Told = Ok(Summary {
+const WHOLE: Summary = Summary {
     rows: 3,
     committed: 3,
     words: [16, 20],
     number: 3,
     end: 7,
     roots: 1,
-});
+};
 
 fn words(file: &StandingFile, name: &[u8]) -> u32 {
     file.rows.class(1, name).map_or(0, |class| class.words())
@@ -53,29 +54,22 @@ fn read_standing_of<D: Disk>(alloc: Global, disk: &mut D) -> Told {
     Ok(summary_of(&file))
 }
 
-fn damage_at(what: Damage, slot: u32) -> Told {
-    Err(OpenFault::Damaged { what, slot })
-}
-
 /// A byte of the file, what stands in its place, and what is found then.
-fn changes() -> [(usize, u8, Told); 7] {
-    let roots = ROOTS_AT as usize;
-    [
-        // nothing changed
-        (0, b'C', WHOLE),
-        // a record that begins inside the one before it
-        (4_508, 15, damage_at(Damage::Chunks, 6)),
-        // the second class in a root that the file doesn't have
-        (4_496, 1, damage_at(Damage::Chunks, 6)),
-        // a constant of no kind, in the record of the first class and in that of the second
-        (roots + 72, 2, damage_at(Damage::Record, 4)),
-        (roots + 200, 2, damage_at(Damage::Record, 6)),
-        // the name of the second class is that of the first
-        (roots + 256, b'A', damage_at(Damage::ClassTwice, 6)),
-        // behind the records
-        (roots + 288, 1, WHOLE),
-    ]
-}
+const CHANGES: [(usize, u8, Found<Summary>); 7] = [
+    // nothing changed
+    (0, b'C', Sound(WHOLE)),
+    // a record that begins inside the one before it
+    (4_508, 15, Damaged(Damage::Chunks, 6)),
+    // the second class in a root that the file doesn't have
+    (4_496, 1, Damaged(Damage::Chunks, 6)),
+    // a constant of no kind, in the record of the first class and in that of the second
+    (ROOTS_AT + 72, 2, Damaged(Damage::Record, 4)),
+    (ROOTS_AT + 200, 2, Damaged(Damage::Record, 6)),
+    // the name of the second class is that of the first
+    (ROOTS_AT + 256, b'A', Damaged(Damage::ClassTwice, 6)),
+    // behind the records
+    (ROOTS_AT + 288, 1, Sound(WHOLE)),
+];
 
 /// What a file of these bytes stands for.
 fn tell_standing(alloc: Global, bytes: &[u8]) -> Result<Told, Fail> {
@@ -86,51 +80,59 @@ fn tell_standing(alloc: Global, bytes: &[u8]) -> Result<Told, Fail> {
 /// And with another byte at a place.
 fn tell_with(alloc: Global, file: &[u8], at: usize, byte: u8) -> Result<Told, Fail> {
     let mut bytes = Vec::from_slice(alloc, file)?;
-    if let Some(there) = bytes.get_mut(at) {
-        *there = byte;
-    }
+    put(&mut bytes, at, byte);
     tell_standing(alloc, &bytes)
 }
 
-fn change_each(rt: &(impl Abort + AllocGlobal), file: &[u8]) -> Result<(), Fail> {
-    for (at, byte, expected) in changes() {
-        let told = tell_with(rt.alloc(), file, at, byte)?;
-        assert_eq!(rt; told, expected, "{byte} at {at}");
+// Which change is the first behind which the file stands for something else.
+fn first_other_change(alloc: Global, file: &[u8]) -> Result<Option<(usize, u8)>, Fail> {
+    for (at, byte, found) in &CHANGES {
+        if tell_with(alloc, file, *at, *byte)? != found.on_disk() {
+            return Ok(Some((*at, *byte)));
+        }
     }
-    Ok(())
+    Ok(None)
 }
 
 #[test]
 fn the_first_damage_of_a_record_is_told(rt: HostRuntime) -> Result<(), Fail> {
     let file = file_of(rt.alloc(), CLASS_A, CLASS_B)?;
-    change_each(&rt, &file)
+    assert_eq!(rt; first_other_change(rt.alloc(), &file)?, None);
+    Ok(())
 }
 
-fn cut_each(rt: &(impl Abort + AllocGlobal), file: &[u8]) -> Result<(), Fail> {
-    for (long, expected) in [
-        (4_095, Err(OpenFault::NotACache)),
-        (36_863, damage_at(Damage::Length, 0)),
-        (36_864, damage_at(Damage::Chunks, 4)),
-        (45_055, damage_at(Damage::Chunks, 4)),
-        (45_056, WHOLE),
-    ] {
-        let bytes = file.get(..long).ok_or("not longer")?;
-        assert_eq!(rt; tell_standing(rt.alloc(), bytes)?, expected, "{long} bytes");
+/// How long the beginning of the file is, and what is found in it.
+const BEGINNINGS: [(usize, Found<Summary>); 5] = [
+    (4_095, NotACache),
+    (36_863, Damaged(Damage::Length, 0)),
+    (36_864, Damaged(Damage::Chunks, 4)),
+    (45_055, Damaged(Damage::Chunks, 4)),
+    (45_056, Sound(WHOLE)),
+];
+
+// Which beginning is the first that stands for something else.
+fn first_other_beginning(alloc: Global, file: &[u8]) -> Result<Option<usize>, Fail> {
+    for (long, found) in &BEGINNINGS {
+        let bytes = file.get(..*long).ok_or("not longer")?;
+        if tell_standing(alloc, bytes)? != found.on_disk() {
+            return Ok(Some(*long));
+        }
     }
-    Ok(())
+    Ok(None)
 }
 
 #[test]
 fn a_record_lies_in_a_whole_root(rt: HostRuntime) -> Result<(), Fail> {
     let file = file_of(rt.alloc(), CLASS_A, CLASS_B)?;
-    cut_each(&rt, &file)
+    assert_eq!(rt; first_other_beginning(rt.alloc(), &file)?, None);
+    Ok(())
 }
 
 #[test]
 fn a_class_is_defined_once_in_a_loader(rt: HostRuntime) -> Result<(), Fail> {
     let file = file_of(rt.alloc(), CLASS_A, CLASS_A)?;
-    let told = tell_standing(rt.alloc(), &file);
-    assert_eq!(rt; told?, damage_at(Damage::ClassTwice, 6));
+    let told = tell_standing(rt.alloc(), &file)?;
+    assert_eq!(rt; told, Damaged(Damage::ClassTwice, 6).on_disk());
     Ok(())
 }
 
@@ -143,17 +145,19 @@ fn tell_behind(alloc: Global, file: &[u8], pass: u64) -> Result<(Told, Told), Fa
     Ok((broken, read_standing_of(alloc, &mut disk)))
 }
 
-fn fail_each(rt: &(impl Abort + AllocGlobal), file: &[u8]) -> Result<(), Fail> {
+// Behind how many calls a failure is the first that is told otherwise.
+fn first_other_failure(alloc: Global, file: &[u8]) -> Result<Option<u64>, Fail> {
     for pass in 0..7 {
-        let (broken, whole) = tell_behind(rt.alloc(), file, pass)?;
-        assert_eq!(rt; broken, Err(OpenFault::Device));
-        assert_eq!(rt; whole, WHOLE);
+        if tell_behind(alloc, file, pass)? != (Err(OpenFault::Device), Ok(WHOLE)) {
+            return Ok(Some(pass));
+        }
     }
-    Ok(())
+    Ok(None)
 }
 
 #[test]
 fn a_failing_call_is_told(rt: HostRuntime) -> Result<(), Fail> {
     let file = file_of(rt.alloc(), CLASS_A, CLASS_B)?;
-    fail_each(&rt, &file)
+    assert_eq!(rt; first_other_failure(rt.alloc(), &file)?, None);
+    Ok(())
 }
