@@ -3,8 +3,8 @@ ghost use Rattle.std.specs.Prelude.{◌≤◌};
 
 use crate::samples::{Parts, chunk, empty_pool};
 use cm_arena::{Arena, PlaceRefusal};
-use cm_pool::{Chunk, Geometry, Place, Pool};
-use std::process::Abort;
+use cm_pool::{Chunk, Place, Pool};
+use std::alloc::AllocError;
 use std::test::Fail;
 
 // Asks again where an allocation failed: arena and pool are as they were, so the answer is the one
@@ -18,90 +18,121 @@ fn place(arena: &mut Arena, words: u32, pool: &mut Pool) -> Result<Place, PlaceR
     }
 }
 
-// That so many words are placed in this chunk behind so many others, or refused, and that asking
+// A chunk and how many words in it are used before, or a refusal.
+type Answer = Result<(Parts, u32), PlaceRefusal>;
+
+// Whether so many words are placed in this chunk behind so many others, or refused, and asking
 // first tells whether the region is full.
-fn is_placed(
-    rt: &impl Abort,
-    arena: &mut Arena,
-    pool: &mut Pool,
-    words: u32,
-    expected: Result<(Parts, u32), PlaceRefusal>,
-)
+fn is_placed(arena: &mut Arena, pool: &mut Pool, words: u32, expected: &Answer) -> bool
     requires { 1 ≤ words }
 {
     let full = arena.is_full(words, pool);
-    assert_eq!(rt;
-        full,
-        expected == Err(PlaceRefusal::RegionFull),
-        "at {words}"
-    );
-    let expected = expected.map(|(parts, offset)| Place {
-        chunk: chunk(parts),
-        offset,
-        words,
-    });
-    assert_eq!(rt; place(arena, words, pool), expected, "at {words}");
-}
-
-// The chunks of an arena, and how many words of each are used.
-const CHUNKS: [Parts; 4] = [(0, 0, 0), (0, 1, 256), (0, 2, 512), (0, 0, 128)];
-
-const USED: [u32; 4] = [16, 113, 500, 128];
-
-fn place_each(rt: &impl Abort, arena: &mut Arena, pool: &mut Pool) {
-    is_placed(rt, arena, pool, 16, Ok(((0, 0, 0), 0)));
-    is_placed(rt, arena, pool, 113, Ok(((0, 1, 256), 0)));
-    is_placed(rt, arena, pool, 600, Err(PlaceRefusal::RegionFull));
-    is_placed(rt, arena, pool, 1025, Err(PlaceRefusal::RecordTooLong));
-    is_placed(rt, arena, pool, 200, Ok(((0, 2, 512), 0)));
-    is_placed(rt, arena, pool, 300, Ok(((0, 2, 512), 200)));
-    is_placed(rt, arena, pool, 128, Ok(((0, 0, 128), 0)));
-}
-
-fn has_chunks(rt: &impl Abort, arena: &Arena) {
-    assert_eq!(rt; arena.chunks(), CHUNKS.map(chunk).as_slice());
-    for (parts, used) in CHUNKS.iter().zip(&USED) {
-        assert_eq!(rt; arena.used_words(&chunk(*parts)), Some(*used));
+    let placed = place(arena, words, pool);
+    match expected {
+        Ok((parts, offset)) => {
+            let expected = Place {
+                chunk: chunk(*parts),
+                offset: *offset,
+                words,
+            };
+            !full && placed == Ok(expected)
+        }
+        Err(refusal) => {
+            full == (*refusal == PlaceRefusal::RegionFull) && placed == Err(*refusal)
+        }
     }
-    assert_eq!(rt; arena.used_words(&chunk((0, 3, 0))), None);
+}
+
+// Numbers of words that are placed in turn.
+const PLACED: [(u32, Answer); 7] = [
+    (16, Ok(((0, 0, 0), 0))),
+    (113, Ok(((0, 1, 256), 0))),
+    (600, Err(PlaceRefusal::RegionFull)),
+    (1025, Err(PlaceRefusal::RecordTooLong)),
+    (200, Ok(((0, 2, 512), 0))),
+    (300, Ok(((0, 2, 512), 200))),
+    (128, Ok(((0, 0, 128), 0))),
+];
+
+// The first number of words that is answered otherwise.
+fn place_each(arena: &mut Arena, pool: &mut Pool) -> Option<u32> {
+    for (words, expected) in &PLACED {
+        if !is_placed(arena, pool, *words, expected) {
+            return Some(*words);
+        }
+    }
+    None
+}
+
+// How many words are used of a chunk, or that it is none of the arena's.
+type Used = (Parts, Option<u32>);
+
+const USED: [Used; 5] = [
+    ((0, 0, 0), Some(16)),
+    ((0, 1, 256), Some(113)),
+    ((0, 2, 512), Some(500)),
+    ((0, 0, 128), Some(128)),
+    ((0, 3, 0), None),
+];
+
+fn uses(arena: &Arena, cases: &[Used]) -> bool {
+    let mut equal = true;
+    for (parts, used) in cases {
+        equal = arena.used_words(&chunk(*parts)) == *used && equal;
+    }
+    equal
+}
+
+// Whether these are the chunks that `USED` has, in order.
+fn are_used(chunks: &[Chunk]) -> bool {
+    let expected = [
+        chunk((0, 0, 0)),
+        chunk((0, 1, 256)),
+        chunk((0, 2, 512)),
+        chunk((0, 0, 128)),
+    ];
+    chunks == expected.as_slice()
 }
 
 #[test]
 fn places_words(rt: HostRuntime) -> Result<(), Fail> {
-    let mut pool = empty_pool(rt.alloc(), Geometry::new(3, 1, 256).ok_or("sizes")?)?;
+    let mut pool = empty_pool(rt.alloc(), 3, 1)?;
     let mut arena = Arena::new(rt.alloc());
-    place_each(&rt, &mut arena, &mut pool);
-    has_chunks(&rt, &arena);
-    let released = arena.release();
-    assert_eq!(rt; released.as_slice(), CHUNKS.map(chunk).as_slice());
+    assert_eq!(rt; place_each(&mut arena, &mut pool), None);
+    assert!(rt; are_used(arena.chunks()) && uses(&arena, &USED));
+    assert!(rt; are_used(&arena.release()));
     Ok(())
 }
 
 // Each of these fills a chunk: of order 0, 1, 2, 3, then of order 4 and no larger, out of a second
-// root; then no chunk of order 4 is free, but one of the order needed.
-const GROWING: [(u32, Parts); 8] = [
-    (128, (0, 0, 0)),
-    (256, (0, 1, 256)),
-    (512, (0, 2, 512)),
-    (1024, (0, 3, 1024)),
-    (2048, (0, 4, 2048)),
-    (2048, (1, 4, 0)),
-    (2048, (1, 4, 2048)),
-    (1, (0, 0, 128)),
+// root; then no chunk of order 4 is free, but one of the order needed. The last two are refused.
+const GROWING: [(u32, Answer); 10] = [
+    (128, Ok(((0, 0, 0), 0))),
+    (256, Ok(((0, 1, 256), 0))),
+    (512, Ok(((0, 2, 512), 0))),
+    (1024, Ok(((0, 3, 1024), 0))),
+    (2048, Ok(((0, 4, 2048), 0))),
+    (2048, Ok(((1, 4, 0), 0))),
+    (2048, Ok(((1, 4, 2048), 0))),
+    (1, Ok(((0, 0, 128), 0))),
+    (128, Err(PlaceRefusal::RegionFull)),
+    (4097, Err(PlaceRefusal::RecordTooLong)),
 ];
 
-fn grow(rt: &impl Abort, arena: &mut Arena, pool: &mut Pool) {
+// The first number of words that is answered otherwise.
+fn grow(arena: &mut Arena, pool: &mut Pool) -> Option<u32> {
     for (words, expected) in &GROWING {
-        is_placed(rt, arena, pool, *words, Ok((*expected, 0)));
+        if !is_placed(arena, pool, *words, expected) {
+            return Some(*words);
+        }
     }
-    is_placed(rt, arena, pool, 128, Err(PlaceRefusal::RegionFull));
-    is_placed(rt, arena, pool, 4097, Err(PlaceRefusal::RecordTooLong));
+    None
 }
 
 #[test]
 fn takes_larger_chunks_in_a_longer_chain(rt: HostRuntime) -> Result<(), Fail> {
-    let mut pool = empty_pool(rt.alloc(), Geometry::new(5, 2, 256).ok_or("sizes")?)?;
-    grow(&rt, &mut Arena::new(rt.alloc()), &mut pool);
+    let mut pool = empty_pool(rt.alloc(), 5, 2)?;
+    assert_eq!(rt; grow(&mut Arena::new(rt.alloc()), &mut pool), None);
     Ok(())
 }
 
@@ -120,21 +151,26 @@ const NEXT: [(Parts, u32, u32, bool); 11] = [
     ((0, 4_000_000_000, 0), 0, 1, false),
 ];
 
-fn adopt_each(rt: &impl Abort, arena: &mut Arena) -> Result<(), Fail> {
+// The first place that is answered otherwise.
+fn adopt_each(arena: &mut Arena) -> Result<Option<Place>, AllocError> {
     for (parts, offset, words, next) in &NEXT {
         let place = Place {
             chunk: chunk(*parts),
             offset: *offset,
             words: *words,
         };
-        assert_eq!(rt; arena.adopt(place)?, *next, "at {place:?}");
+        if arena.adopt(place)? != *next {
+            return Ok(Some(place));
+        }
     }
-    assert_eq!(rt; arena.used_words(&chunk((0, 0, 0))), Some(128));
-    assert_eq!(rt; arena.used_words(&chunk((0, 1, 256))), Some(256));
-    Ok(())
+    Ok(None)
 }
 
+const ADOPTED: [Used; 2] = [((0, 0, 0), Some(128)), ((0, 1, 256), Some(256))];
+
 #[test]
-fn adopts_the_next_place(rt: HostRuntime) -> Result<(), Fail> {
-    adopt_each(&rt, &mut Arena::new(rt.alloc()))
+fn adopts_the_next_place(rt: HostRuntime) {
+    let mut arena = Arena::new(rt.alloc());
+    assert_eq!(rt; adopt_each(&mut arena), Ok(None));
+    assert!(rt; uses(&arena, &ADOPTED));
 }

@@ -2,6 +2,7 @@
 ghost use Rattle.std.specs.Prelude.{◌≤◌};
 
 use crate::held_chunks::{give_held, give_listed, hold, hold_listed};
+use crate::samples::{HANDED_OUT, chunk};
 use cm_pool::{Chunk, Geometry, Pool};
 use cm_pool_list::ListPool;
 use std::alloc::{AllocError, Global};
@@ -29,22 +30,29 @@ impl Model for Both {
     ghost invariant = { λ b. AreHeld b.pool b.held.items × AreHeld b.listed b.held_listed.items };
 }
 
+// Adds so many roots to each.
+fn add_roots(pool: &mut Pool, listed: &mut ListPool, roots: u32) -> Result<(), Fail> {
+    for _ in 0..roots {
+        if pool.add_root()? != listed.add_root()? {
+            return Err("roots".into());
+        }
+    }
+    Ok(())
+}
+
 impl Both {
     // Both with all their roots.
     fn whole(alloc: Global, top: u32, roots: u32) -> Result<Both, Fail> {
         let geometry = Geometry::new(top, roots, 256).ok_or("sizes")?;
-        let mut both = Both {
-            pool: Pool::new(alloc, geometry)?,
+        let mut pool = Pool::new(alloc, geometry)?;
+        let mut listed = ListPool::new(alloc, geometry)?;
+        add_roots(&mut pool, &mut listed, roots)?;
+        Ok(Both {
+            pool,
             held: Vec::new(alloc),
-            listed: ListPool::new(alloc, geometry)?,
+            listed,
             held_listed: Vec::new(alloc),
-        };
-        for _ in 0..roots {
-            if both.pool.add_root()? != both.listed.add_root()? {
-                return Err("roots".into());
-            }
-        }
-        Ok(both)
+        })
     }
 
     // What each takes for the order.
@@ -65,15 +73,6 @@ impl Both {
     }
 }
 
-// Whether both hand out these chunks, or none, for these orders.
-fn hand_out(both: &mut Both, cases: &[(u32, Option<Chunk>)]) -> Result<bool, AllocError> {
-    let mut equal = true;
-    for (order, first) in cases {
-        equal = both.hold(*order)? == (*first, *first) && equal;
-    }
-    Ok(equal)
-}
-
 // How many of so many chunks, the first ones that are held, are the same where they are given back.
 fn give_first(both: &mut Both, times: u32) -> u32 {
     let mut equal = 0;
@@ -85,31 +84,29 @@ fn give_first(both: &mut Both, times: u32) -> u32 {
     equal
 }
 
-fn chunk(order: u32, at: u32) -> Option<Chunk> {
-    Some(Chunk { root: 0, order, at })
+// Whether both hand out the chunks that are due, give the three back alike, and hand out the whole
+// root then.
+fn hand_out(both: &mut Both) -> Result<bool, AllocError> {
+    let mut equal = true;
+    for (order, first) in &HANDED_OUT {
+        equal = both.hold(*order)? == (*first, *first) && equal;
+    }
+    let whole = Some(chunk((0, 3, 0)));
+    Ok(equal && give_first(both, 3) == 3 && both.hold(3)? == (whole, whole))
 }
 
 #[test]
 fn both_hand_out_the_first_chunk(rt: HostRuntime) -> Result<(), Fail> {
     let mut both = Both::whole(rt.alloc(), 3, 1)?;
-    let taken = [
-        (0, chunk(0, 0)),
-        (1, chunk(1, 256)),
-        (0, chunk(0, 128)),
-        (3, None),
-    ];
-    assert!(rt; hand_out(&mut both, &taken)?);
-    assert_eq!(rt; give_first(&mut both, 3), 3);
-    assert!(rt; hand_out(&mut both, &[(3, chunk(3, 0))])?);
+    assert!(rt; hand_out(&mut both)?);
     Ok(())
 }
 
 // Allocates 2,000 times, and gives back every third chunk: how many of these calls both answer
 // alike.
-fn equal_answers(alloc: Global, top: u32, roots: u32) -> Result<u32, Fail>
+fn compare_calls(both: &mut Both, top: u32) -> Result<u32, Fail>
     requires { top ≤ 12 }
 {
-    let mut both = Both::whole(alloc, top, roots)?;
     let mut equal = 0;
     for call in 0..2000 {
         let (taken, listed) = both.hold((call * 7 + call / 3) % (top + 1))?;
@@ -121,6 +118,13 @@ fn equal_answers(alloc: Global, top: u32, roots: u32) -> Result<u32, Fail>
         }
     }
     Ok(equal)
+}
+
+fn equal_answers(alloc: Global, top: u32, roots: u32) -> Result<u32, Fail>
+    requires { top ≤ 12 }
+{
+    let mut both = Both::whole(alloc, top, roots)?;
+    compare_calls(&mut both, top)
 }
 
 // In the second region rows are longer than a word, and one of them than 64.
@@ -150,12 +154,19 @@ fn root_of_the_only_free(both: &mut Both, at: usize) -> Result<u32, Fail> {
     Ok(given.root)
 }
 
+// Whether both take all blocks alike, none is left then, and the last one is of the last root.
+fn take_all(both: &mut Both) -> Result<bool, Fail> {
+    Ok(
+        take_smallest(both, 9 * 512)? == 9 * 512
+            && both.hold(0)? == (None, None)
+            && root_of_the_only_free(both, 9 * 512 - 1)? == 8,
+    )
+}
+
 // Every word is taken, one of each order at least, down to the last block of the last row.
 #[test]
 fn both_are_empty_at_once(rt: HostRuntime) -> Result<(), Fail> {
     let mut both = Both::whole(rt.alloc(), 9, 9)?;
-    assert_eq!(rt; take_smallest(&mut both, 9 * 512)?, 9 * 512);
-    assert_eq!(rt; both.hold(0)?, (None, None));
-    assert_eq!(rt; root_of_the_only_free(&mut both, 9 * 512 - 1)?, 8);
+    assert!(rt; take_all(&mut both)?);
     Ok(())
 }

@@ -1,11 +1,14 @@
 // The worked cases of a region with one root of 1,024 words, and a long run against a plain set of
 // words.
+ghost use Rattle.cm_pool.specs.Held.{AreHeld};
+
 use crate::held_chunks::{give_held, hold};
-use crate::samples::{Parts, chunk, empty_pool};
+use crate::samples::{HANDED_OUT, Parts, chunk, empty_pool};
 use cm_pool::{Chunk, Geometry, Pool};
 use std::alloc::{AllocError, Global};
 use std::collections::BTreeSet;
 use std::ops::Range;
+use std::process::Abort;
 use std::test::Fail;
 
 // The order of a root, the roots, the slots, and whether there is such a region.
@@ -20,16 +23,22 @@ const SIZES: [(u32, u32, u32, bool); 8] = [
     (3, 1, 65_537, false),
 ];
 
-fn sizes_of(geometry: Geometry) -> (u32, u32, u32) {
-    (geometry.top(), geometry.roots(), geometry.slots())
+// Whether there is a region of these sizes, which are its own then, or none.
+fn keeps_sizes(top: u32, roots: u32, slots: u32, within: bool) -> bool {
+    match Geometry::new(top, roots, slots) {
+        Some(geometry) => {
+            let sizes = (geometry.top(), geometry.roots(), geometry.slots());
+            within && sizes == (top, roots, slots)
+        }
+        None => !within,
+    }
 }
 
 #[test]
 fn keeps_sizes_within_limits(rt: HostRuntime) {
     for (top, roots, slots, within) in &SIZES {
-        let sizes = Geometry::new(*top, *roots, *slots).map(sizes_of);
-        let expected = within.then_some((*top, *roots, *slots));
-        assert_eq!(rt; sizes, expected, "at {top} {roots} {slots}");
+        let kept = keeps_sizes(*top, *roots, *slots, *within);
+        assert!(rt; kept, "at {top} {roots} {slots}");
     }
 }
 
@@ -54,8 +63,8 @@ const MEETING: [(Parts, Parts, bool); 12] = [
 fn meets_where_a_word_is_shared(rt: HostRuntime) {
     for (a, b, meets) in &MEETING {
         let (a, b) = (chunk(*a), chunk(*b));
-        assert_eq!(rt; a.meets(&b), *meets, "at {a:?} {b:?}");
-        assert_eq!(rt; b.meets(&a), *meets, "at {b:?} {a:?}");
+        let is_due = a.meets(&b) == *meets && b.meets(&a) == *meets;
+        assert!(rt; is_due, "at {a:?} {b:?}");
     }
 }
 
@@ -69,34 +78,46 @@ fn add_root(pool: &mut Pool) -> Result<bool, AllocError> {
 
 // A pool with all its roots.
 fn whole_pool(alloc: Global, top: u32, roots: u32) -> Result<Pool, Fail> {
-    let geometry = Geometry::new(top, roots, 256).ok_or("sizes")?;
-    let mut pool = empty_pool(alloc, geometry)?;
+    let mut pool = empty_pool(alloc, top, roots)?;
     for _ in 0..roots {
         let _added = add_root(&mut pool)?;
     }
     Ok(pool)
 }
 
+// Whether the chunks are handed out that are due.
+fn hand_out(pool: &mut Pool, held: &mut Vec<Chunk>) -> Result<bool, AllocError>
+    requires { AreHeld pool.old held.old.items }
+    ensures { AreHeld pool.new held.new.items }
+{
+    let mut equal = true;
+    for (order, first) in &HANDED_OUT {
+        equal = hold(pool, held, *order)? == *first && equal;
+    }
+    Ok(equal)
+}
+
+// Whether the whole root is handed out once all that was held is given back.
+fn hand_out_again(pool: &mut Pool, held: &mut Vec<Chunk>) -> Result<bool, AllocError>
+    requires { AreHeld pool.old held.old.items }
+{
+    while !held.is_empty() {
+        let _given = give_held(pool, held, 0);
+    }
+    Ok(hold(pool, held, 3)? == Some(chunk((0, 3, 0))))
+}
+
+fn hand_out_twice(rt: &impl Abort, alloc: Global, pool: &mut Pool) -> Result<(), Fail> {
+    assert!(rt; !pool.add_root()? && pool.roots() == 1);
+    let mut held = Vec::new(alloc);
+    assert!(rt; hand_out(pool, &mut held)? && hand_out_again(pool, &mut held)?);
+    Ok(())
+}
+
 #[test]
 fn hands_out_the_first_chunk(rt: HostRuntime) -> Result<(), Fail> {
     let mut pool = whole_pool(rt.alloc(), 3, 1)?;
-    let mut held = Vec::new(rt.alloc());
-    assert!(rt; !pool.add_root()?);
-    assert_eq!(rt; pool.roots(), 1);
-    let cases = [
-        (0, Some(chunk((0, 0, 0)))),
-        (1, Some(chunk((0, 1, 256)))),
-        (0, Some(chunk((0, 0, 128)))),
-        (3, None),
-    ];
-    for (order, first) in cases {
-        assert_eq!(rt; hold(&mut pool, &mut held, order)?, first);
-    }
-    while !held.is_empty() {
-        let _given = give_held(&mut pool, &mut held, 0);
-    }
-    assert_eq!(rt; hold(&mut pool, &mut held, 3)?, Some(chunk((0, 3, 0))));
-    Ok(())
+    hand_out_twice(&rt, rt.alloc(), &mut pool)
 }
 
 // Chunks that are asked for in turn, and whether each is taken.
@@ -116,13 +137,22 @@ const TAKEN: [(Parts, bool); 12] = [
     ((0, 2, 512), true),
 ];
 
+// The first chunk that is answered otherwise.
+fn take_each(pool: &mut Pool) -> Option<Chunk> {
+    for (wanted, taken) in &TAKEN {
+        let wanted = chunk(*wanted);
+        if pool.take(&wanted) != *taken {
+            return Some(wanted);
+        }
+    }
+    None
+}
+
 #[test]
 fn takes_what_is_free(rt: HostRuntime) -> Result<(), Fail> {
     let mut pool = whole_pool(rt.alloc(), 3, 1)?;
-    for (wanted, taken) in &TAKEN {
-        assert_eq!(rt; pool.take(&chunk(*wanted)), *taken, "at {wanted:?}");
-    }
-    assert_eq!(rt; hold(&mut pool, &mut Vec::new(rt.alloc()), 0)?, None);
+    assert_eq!(rt; take_each(&mut pool), None);
+    assert!(rt; pool.alloc(0).is_none());
     Ok(())
 }
 
@@ -153,33 +183,73 @@ fn first_in(free: &BTreeSet<u64>, order: u32) -> Option<Chunk> {
     None
 }
 
-#[test]
-fn agrees_with_a_set_of_words(rt: HostRuntime) -> Result<(), Fail> {
-    let mut pool = whole_pool(rt.alloc(), 4, 2)?;
-    let mut held = Vec::new(rt.alloc());
-    let mut free = BTreeSet::new(rt.alloc());
-    for word in 0..2 * ROOT {
+fn insert_words(free: &mut BTreeSet<u64>, words: Range<u64>) -> Result<(), AllocError> {
+    for word in words {
         free.insert(word)?;
     }
+    Ok(())
+}
+
+// Takes the first chunk of an order, and its words out of the set: whether it is the first one
+// there.
+fn take_first(
+    pool: &mut Pool,
+    held: &mut Vec<Chunk>,
+    free: &mut BTreeSet<u64>,
+    order: u32,
+) -> Result<bool, AllocError>
+    requires { AreHeld pool.old held.old.items }
+    ensures { AreHeld pool.new held.new.items }
+{
+    let first = first_in(free, order);
+    let taken = hold(pool, held, order)?;
+    if let Some(chunk) = taken {
+        for word in words_of(&chunk) {
+            free.remove(&word);
+        }
+    }
+    Ok(taken == first)
+}
+
+// Allocates 2,000 times, and gives back every third chunk: the first call that is answered
+// otherwise than the set of free words tells.
+fn compare_calls(
+    pool: &mut Pool,
+    held: &mut Vec<Chunk>,
+    free: &mut BTreeSet<u64>,
+) -> Result<Option<u32>, AllocError>
+    requires { AreHeld pool.old held.old.items }
+{
     for call in 0..2000 {
-        let order = (call * 7 + call / 3) % 5;
-        let first = first_in(&free, order);
-        let taken = hold(&mut pool, &mut held, order)?;
-        assert_eq!(rt; taken, first, "call {call}, order {order}");
-        if let Some(chunk) = taken {
-            for word in words_of(&chunk) {
-                free.remove(&word);
-            }
+        if !take_first(pool, held, free, (call * 7 + call / 3) % 5)? {
+            return Ok(Some(call));
         }
         if call % 3 == 2 && !held.is_empty() {
             let at = call as usize * 5 % held.len();
-            let given = give_held(&mut pool, &mut held, at);
-            for word in words_of(&given) {
-                free.insert(word)?;
-            }
+            insert_words(free, words_of(&give_held(pool, held, at)))?;
         }
     }
+    Ok(None)
+}
+
+fn compare_all_calls(alloc: Global, pool: &mut Pool) -> Result<Option<u32>, AllocError> {
+    let mut free = BTreeSet::new(alloc);
+    insert_words(&mut free, 0..2 * ROOT)?;
+    compare_calls(pool, &mut Vec::new(alloc), &mut free)
+}
+
+#[test]
+fn agrees_with_a_set_of_words(rt: HostRuntime) -> Result<(), Fail> {
+    let mut pool = whole_pool(rt.alloc(), 4, 2)?;
+    assert_eq!(rt; compare_all_calls(rt.alloc(), &mut pool)?, None);
     Ok(())
+}
+
+// Whether there are two roots: the first is handed out whole, and then the front of the second.
+fn hand_out_both(pool: &mut Pool) -> bool {
+    pool.roots() == 2
+        && pool.alloc(3) == Some(chunk((0, 3, 0)))
+        && pool.alloc(0) == Some(chunk((1, 0, 0)))
 }
 
 // Whichever allocation fails, the pool is as it was: what is asked again is answered as if nothing
@@ -187,9 +257,7 @@ fn agrees_with_a_set_of_words(rt: HostRuntime) -> Result<(), Fail> {
 #[test]
 fn a_failed_allocation_leaves_the_pool_as_it_was(rt: HostRuntime) -> Result<(), Fail> {
     let mut pool = whole_pool(rt.alloc(), 3, 2)?;
-    assert_eq!(rt; pool.roots(), 2);
-    assert_eq!(rt; pool.alloc(3), Some(chunk((0, 3, 0))));
-    assert_eq!(rt; pool.alloc(0), Some(chunk((1, 0, 0))));
-    assert_eq!(rt; add_root(&mut pool)?, false);
+    assert!(rt; hand_out_both(&mut pool));
+    assert!(rt; !add_root(&mut pool)?);
     Ok(())
 }

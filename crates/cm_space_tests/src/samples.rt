@@ -1,6 +1,7 @@
 // Chunks, and pools to begin with.
 use cm_pool::{Chunk, Geometry, Pool};
 use std::alloc::{AllocError, Global};
+use std::test::Fail;
 
 // A chunk as tables have it: its root, its order, and its first word there.
 pub type Parts = (u32, u32, u32);
@@ -11,9 +12,40 @@ pub fn chunk(parts: Parts) -> Chunk {
 }
 
 // An empty pool; asked for once more where an allocation failed.
-pub fn empty_pool(alloc: Global, geometry: Geometry) -> Result<Pool, AllocError> {
+pub fn empty_pool(alloc: Global, top: u32, roots: u32) -> Result<Pool, Fail> {
+    let geometry = Geometry::new(top, roots, 256).ok_or("sizes")?;
     match Pool::new(alloc, geometry) {
         Ok(pool) => Ok(pool),
-        Err(AllocError) => Pool::new(alloc, geometry),
+        Err(AllocError) => Ok(Pool::new(alloc, geometry)?),
     }
 }
+
+// The orders of chunks that are asked for in turn, of one root of order 3, and the chunks that are
+// handed out.
+pub const HANDED_OUT: [(u32, Option<Chunk>); 4] = [
+    (
+        0,
+        Some(Chunk {
+            root: 0,
+            order: 0,
+            at: 0,
+        }),
+    ),
+    (
+        1,
+        Some(Chunk {
+            root: 0,
+            order: 1,
+            at: 256,
+        }),
+    ),
+    (
+        0,
+        Some(Chunk {
+            root: 0,
+            order: 0,
+            at: 128,
+        }),
+    ),
+    (3, None),
+];

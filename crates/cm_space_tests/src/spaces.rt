@@ -12,6 +12,18 @@ use std::alloc::Global;
 use std::process::Abort;
 use std::test::Fail;
 
+// A chunk, an offset in it, and a number of words there.
+type PlaceParts = (Parts, u32, u32);
+
+fn place_of(parts: PlaceParts) -> Place {
+    let (in_chunk, offset, words) = parts;
+    Place {
+        chunk: chunk(in_chunk),
+        offset,
+        words,
+    }
+}
+
 // An empty space. Like all that follows it is asked for once more where an allocation failed: a
 // space is as it was then, so the answer is the one that was due.
 fn empty(alloc: Global, top: u32, roots: u32) -> Result<Space, Fail>
@@ -84,45 +96,60 @@ fn adopt(space: &mut Space, loader: u64, place: Place) -> Result<bool, Fail> {
     }
 }
 
-#[test]
-fn a_left_chunk_waits_for_its_number(rt: HostRuntime) -> Result<(), Fail> {
-    let mut space = empty(rt.alloc(), 3, 1)?;
-    leave_and_learn(&rt, &mut space)
+// Loader 1 has the whole root, and leaves it for the number 4: whether it is known no more.
+fn leave_whole(space: &mut Space) -> Result<bool, Fail>
+    requires { space.old.waiting ≡ [] }
+{
+    add_loader(space, 1)?;
+    let is_whole = place(space, 1, 1024)? == Ok(place_of(((0, 3, 0), 0, 1024)));
+    add_loader(space, 3)?;
+    leave(space, 1, 4)?;
+    Ok(is_whole && !space.is_known(1) && space.chunks(1).is_none())
+}
+
+// A number that is learnt, and where words find a place then: at the front of the root, or nowhere.
+const LEARNT: [(u64, Result<PlaceParts, PlaceRefusal>); 3] = [
+    (0, Err(PlaceRefusal::RegionFull)),
+    (3, Err(PlaceRefusal::RegionFull)),
+    (4, Ok(((0, 0, 0), 0, 16))),
+];
+
+// The first number behind which 16 words are answered otherwise, or it isn't told whether the
+// region is full.
+fn learn_and_place(space: &mut Space) -> Result<Option<u64>, Fail> {
+    for (number, expected) in &LEARNT {
+        space.learn(*number);
+        let full = is_full(space, 3, 16)?;
+        let is_due = place(space, 3, 16)? == expected.map(place_of);
+        if !is_due || full != expected.is_err() {
+            return Ok(Some(*number));
+        }
+    }
+    Ok(None)
+}
+
+// Whether loader 3 has the front of the only root, and loader 1 nothing.
+fn has_front(space: &Space) -> bool {
+    let front = chunk((0, 0, 0));
+    space.chunks(3).unwrap_or(&[]) == [front].as_slice()
+        && space.used_words(3, &front) == Some(16)
+        && space.used_words(1, &front).is_none()
+        && space.roots() == 1
 }
 
 fn leave_and_learn(rt: &impl Abort, space: &mut Space) -> Result<(), Fail>
     requires { space.old.waiting ≡ [] }
 {
-    add_loader(space, 1)?;
-    let whole = Place {
-        chunk: chunk((0, 3, 0)),
-        offset: 0,
-        words: 1024,
-    };
-    assert_eq!(rt; place(space, 1, 1024)?, Ok(whole));
-    add_loader(space, 3)?;
-    leave(space, 1, 4)?;
-    assert!(rt; !space.is_known(1));
-    assert!(rt; space.chunks(1).is_none());
-    let front = Place {
-        chunk: chunk((0, 0, 0)),
-        offset: 0,
-        words: 16,
-    };
-    let full = Err(PlaceRefusal::RegionFull);
-    for (number, expected) in [(0, full), (3, full), (4, Ok(front))] {
-        space.learn(number);
-        assert_eq!(rt; is_full(space, 3, 16)?, expected == full, "at {number}");
-        assert_eq!(rt; place(space, 3, 16)?, expected, "at {number}");
-    }
-    assert_eq!(rt;
-        space.chunks(3).unwrap_or(&[]),
-        [chunk((0, 0, 0))].as_slice()
-    );
-    assert_eq!(rt; space.used_words(3, &chunk((0, 0, 0))), Some(16));
-    assert_eq!(rt; space.used_words(1, &chunk((0, 0, 0))), None);
-    assert_eq!(rt; space.roots(), 1);
+    assert!(rt; leave_whole(space)?);
+    assert_eq!(rt; learn_and_place(space)?, None);
+    assert!(rt; has_front(space));
     Ok(())
+}
+
+#[test]
+fn a_left_chunk_waits_for_its_number(rt: HostRuntime) -> Result<(), Fail> {
+    let mut space = empty(rt.alloc(), 3, 1)?;
+    leave_and_learn(&rt, &mut space)
 }
 
 #[test]
@@ -145,13 +172,29 @@ fn leave_two(space: &mut Space) -> Result<(), Fail>
     leave(space, 2, 6)
 }
 
+const FRONT: Chunk = Chunk {
+    root: 0,
+    order: 2,
+    at: 0,
+};
+
+const BACK: Chunk = Chunk {
+    root: 0,
+    order: 2,
+    at: 512,
+};
+
+// A number that is learnt, and the half of the root that is free then.
+const HALVES: [(u64, Option<Chunk>); 3] = [(3, None), (5, Some(FRONT)), (6, Some(BACK))];
+
 fn learn_each(rt: &impl Abort, space: &mut Space) -> Result<(), Fail> {
-    let cases = [(3, None), (5, Some(0)), (6, Some(512))];
-    for (number, at) in cases {
-        space.learn(number);
-        let at_number = place(space, 3, 512)?;
-        let found = at_number.ok().map(|place| place.chunk);
-        assert_eq!(rt; found, at.map(|at| chunk((0, 2, at))), "at {number}");
+    for (number, half) in &HALVES {
+        space.learn(*number);
+        let found = match place(space, 3, 512)? {
+            Ok(place) => Some(place.chunk),
+            Err(_) => None,
+        };
+        assert!(rt; found == *half, "at {number}");
     }
     Ok(())
 }
@@ -160,9 +203,10 @@ fn learn_each(rt: &impl Abort, space: &mut Space) -> Result<(), Fail> {
 fn places_that_are_found_again_make_the_same_space(rt: HostRuntime) -> Result<(), Fail> {
     let mut first = empty(rt.alloc(), 5, 2)?;
     let mut second = empty(rt.alloc(), 5, 2)?;
-    find_again(&rt, &mut first, &mut second)?;
-    go_on(&rt, &mut first, &mut second)
+    make_the_same(&rt, &mut first, &mut second)
 }
+
+const LOADERS: [u64; 2] = [1, 3];
 
 // A loader, and how many words are placed for it.
 const PLACED: [(u64, u32); 8] = [
@@ -176,49 +220,75 @@ const PLACED: [(u64, u32); 8] = [
     (1, 12),
 ];
 
-// What the first space places the second one adopts, once.
-fn find_again(rt: &impl Abort, first: &mut Space, second: &mut Space) -> Result<(), Fail> {
-    for loader in [1, 3] {
-        add_loader(first, loader)?;
-        add_loader(second, loader)?;
+// Whether the second space adopts a place once, and both use as many words of its chunk then.
+fn adopt_once(first: &Space, second: &mut Space, loader: u64, found: Place) -> Result<bool, Fail> {
+    let once = adopt(second, loader, found)? && !adopt(second, loader, found)?;
+    let used = first.used_words(loader, &found.chunk);
+    Ok(once && second.used_words(loader, &found.chunk) == used)
+}
+
+// What the first space places the second one adopts, once: the first place that it doesn't.
+fn find_again(first: &mut Space, second: &mut Space) -> Result<Option<Place>, Fail> {
+    for loader in &LOADERS {
+        add_loader(first, *loader)?;
+        add_loader(second, *loader)?;
     }
     for (loader, words) in &PLACED {
-        let found = place(first, *loader, *words)?.ok().ok_or("refused")?;
-        assert_eq!(rt; adopt(second, *loader, found)?, true, "at {found:?}");
-        assert_eq!(rt; adopt(second, *loader, found)?, false, "again {found:?}");
-        let used = first.used_words(*loader, &found.chunk);
-        assert_eq!(rt;
-            second.used_words(*loader, &found.chunk),
-            used,
-            "at {found:?}"
-        );
+        let Ok(found) = place(first, *loader, *words)? else {
+            return Err("refused".into());
+        };
+        if !adopt_once(first, second, *loader, found)? {
+            return Ok(Some(found));
+        }
     }
+    Ok(None)
+}
+
+// Whether the roots and each loader's chunks are the same.
+fn have_the_same(first: &Space, second: &Space) -> bool {
+    let mut equal = second.roots() == first.roots();
+    for loader in &LOADERS {
+        let chunks = first.chunks(*loader).unwrap_or(&[]);
+        equal = second.chunks(*loader).unwrap_or(&[]) == chunks && equal;
+    }
+    equal
+}
+
+fn make_the_same(rt: &impl Abort, first: &mut Space, second: &mut Space) -> Result<(), Fail> {
+    assert_eq!(rt; find_again(first, second)?, None);
+    assert!(rt; have_the_same(first, second));
+    assert_eq!(rt; go_on(first, second)?, None);
     Ok(())
 }
 
-// What is owned and what is free is the same in both.
-fn go_on(rt: &impl Abort, first: &mut Space, second: &mut Space) -> Result<(), Fail> {
-    assert_eq!(rt; second.roots(), first.roots());
-    for loader in [1, 3] {
-        let chunks = first.chunks(loader).unwrap_or(&[]);
-        assert_eq!(rt; second.chunks(loader).unwrap_or(&[]), chunks);
+// Numbers of words that are placed in both.
+const GOING_ON: [u32; 7] = [1, 128, 129, 600, 1, 2000, 40];
+
+// What is free is the same in both: the first number of words that has another answer in each.
+fn go_on(first: &mut Space, second: &mut Space) -> Result<Option<u32>, Fail> {
+    for words in &GOING_ON {
+        if place(second, 3, *words)? != place(first, 3, *words)? {
+            return Ok(Some(*words));
+        }
     }
-    for words in [1, 128, 129, 600, 1, 2000, 40] {
-        let expected = place(first, 3, words)?;
-        assert_eq!(rt; place(second, 3, words)?, expected, "at {words}");
-    }
-    Ok(())
+    Ok(None)
 }
 
 #[test]
 fn adopts_the_next_place_of_a_free_chunk(rt: HostRuntime) -> Result<(), Fail> {
     let mut space = empty(rt.alloc(), 3, 3)?;
-    refuse_before_roots(&rt, &mut space)?;
-    adopt_or_refuse(&rt, &mut space)
+    adopt_next(&rt, &mut space)
 }
 
-// A chunk, an offset in it and a number of words, which are no place where no root is.
-const REFUSED: [(Parts, u32, u32); 7] = [
+fn adopt_next(rt: &impl Abort, space: &mut Space) -> Result<(), Fail> {
+    assert_eq!(rt; refuse_before_roots(space)?, None);
+    assert_eq!(rt; adopt_or_refuse(space)?, None);
+    assert!(rt; has_adopted(space));
+    Ok(())
+}
+
+// What is no place where no root is.
+const REFUSED: [PlaceParts; 7] = [
     ((2, 1, 1), 0, 256),
     ((2, 4, 0), 0, 256),
     ((3, 1, 0), 0, 256),
@@ -228,52 +298,47 @@ const REFUSED: [(Parts, u32, u32); 7] = [
     ((2, 1, 0), 1, 255),
 ];
 
-// No root is added for a place that is refused.
-fn refuse_before_roots(rt: &impl Abort, space: &mut Space) -> Result<(), Fail> {
+// No root is added for a place that is refused: the first one that isn't, or has a root added.
+fn refuse_before_roots(space: &mut Space) -> Result<Option<Place>, Fail> {
     add_loader(space, 1)?;
     add_loader(space, 2)?;
-    for (parts, offset, words) in &REFUSED {
-        let place = Place {
-            chunk: chunk(*parts),
-            offset: *offset,
-            words: *words,
-        };
-        assert_eq!(rt; adopt(space, 1, place)?, false, "at {place:?}");
-        assert_eq!(rt; space.roots(), 0);
+    for parts in &REFUSED {
+        let place = place_of(*parts);
+        if adopt(space, 1, place)? || space.roots() != 0 {
+            return Ok(Some(place));
+        }
     }
-    Ok(())
+    Ok(None)
 }
 
 // The loader, the place, whether it is taken over, and the roots that are present then.
-const ADOPTED: [(u64, Parts, u32, u32, bool, u32); 11] = [
-    (1, (1, 1, 0), 0, 100, true, 2),
-    (2, (1, 1, 0), 0, 100, false, 2),
-    (2, (1, 1, 0), 100, 156, false, 2),
-    (2, (1, 0, 128), 0, 100, false, 2),
-    (2, (1, 2, 0), 0, 100, false, 2),
-    (1, (1, 1, 0), 100, 156, true, 2),
-    (1, (1, 1, 0), 0, 100, false, 2),
-    (2, (1, 1, 256), 0, 1, true, 2),
-    (2, (2, 3, 0), 0, 1024, true, 3),
-    (2, (1, 1, 256), 1, 1, false, 3),
-    (2, (0, 3, 0), 0, 1, true, 3),
+const ADOPTED: [(u64, PlaceParts, bool, u32); 11] = [
+    (1, ((1, 1, 0), 0, 100), true, 2),
+    (2, ((1, 1, 0), 0, 100), false, 2),
+    (2, ((1, 1, 0), 100, 156), false, 2),
+    (2, ((1, 0, 128), 0, 100), false, 2),
+    (2, ((1, 2, 0), 0, 100), false, 2),
+    (1, ((1, 1, 0), 100, 156), true, 2),
+    (1, ((1, 1, 0), 0, 100), false, 2),
+    (2, ((1, 1, 256), 0, 1), true, 2),
+    (2, ((2, 3, 0), 0, 1024), true, 3),
+    (2, ((1, 1, 256), 1, 1), false, 3),
+    (2, ((0, 3, 0), 0, 1), true, 3),
 ];
 
-fn adopt_or_refuse(rt: &impl Abort, space: &mut Space) -> Result<(), Fail> {
-    for (loader, parts, offset, words, taken, roots) in &ADOPTED {
-        let place = Place {
-            chunk: chunk(*parts),
-            offset: *offset,
-            words: *words,
-        };
-        let found = adopt(space, *loader, place)?;
-        assert_eq!(rt; found, *taken, "at {loader} {place:?}");
-        assert_eq!(rt; space.roots(), *roots, "at {loader} {place:?}");
+// The loader and the place that are answered otherwise first.
+fn adopt_or_refuse(space: &mut Space) -> Result<Option<(u64, Place)>, Fail> {
+    for (loader, parts, taken, roots) in &ADOPTED {
+        let place = place_of(*parts);
+        if adopt(space, *loader, place)? != *taken || space.roots() != *roots {
+            return Ok(Some((*loader, place)));
+        }
     }
-    assert_eq!(rt;
-        space.chunks(1).unwrap_or(&[]),
-        [chunk((1, 1, 0))].as_slice()
-    );
-    assert_eq!(rt; space.used_words(1, &chunk((1, 1, 0))), Some(256));
-    Ok(())
+    Ok(None)
+}
+
+// Whether loader 1 has the whole of its only chunk.
+fn has_adopted(space: &Space) -> bool {
+    let only = chunk((1, 1, 0));
+    space.chunks(1).unwrap_or(&[]) == [only].as_slice() && space.used_words(1, &only) == Some(256)
 }
