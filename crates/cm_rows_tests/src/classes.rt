@@ -1,6 +1,6 @@
 //! Classes by name, in a book of their records.
-use crate::samples::{chunk, class_row, loader, offer, small_book, unload};
-use cm_class::read_shape;
+use crate::samples::{chunk, class_row, loader, small_book, take, unload};
+use cm_class::{Class, read_shape};
 use cm_layout::{Entry, Row};
 use cm_record::{Record, build};
 use cm_rows::Book;
@@ -18,9 +18,13 @@ fn push_class(bytes: &mut Vec<u8>, name: &[u8]) -> Result<(), Fail> {
     Ok(())
 }
 
+fn record_of_class(alloc: Global, class: &Class) -> Result<Record, Fail> {
+    Ok(build(alloc, class)?)
+}
+
 fn record_of(alloc: Global, bytes: &[u8]) -> Result<Record, Fail> {
     let class = read_shape(alloc, bytes)?;
-    Ok(build(alloc, &class)?)
+    record_of_class(alloc, &class)
 }
 
 // And its record.
@@ -45,9 +49,7 @@ type Classes = Book<Arc<Record, Global>>;
 
 fn add_loaders(book: &mut Classes) -> Result<(), Fail> {
     for (number, name) in &[(1, b"app"), (2, b"lib"), (3, b"web")] {
-        if offer(book, *number, loader(*number, *name)?)?.is_some() {
-            return Err("a loader".into());
-        }
+        take(book, *number, loader(*number, *name)?)?;
     }
     Ok(())
 }
@@ -57,10 +59,7 @@ fn add_class(alloc: Global, book: &mut Classes, loader: u64, name: &[u8]) -> Res
     let at = u32::try_from(loader)?.wrapping_mul(128);
     let row = class_row(loader, chunk(0, at), offset, 1);
     let entry = Entry::Live(Row::Class(row, record_of_name(alloc, name)?));
-    if offer(book, 4, entry)?.is_some() {
-        return Err("a class".into());
-    }
-    Ok(())
+    take(book, 4, entry)
 }
 
 fn add_all(alloc: Global, book: &mut Classes) -> Result<(), Fail> {
@@ -122,11 +121,16 @@ fn finds_each_class_in_its_loader(rt: HostRuntime) -> Result<(), Fail> {
     finds_each(&rt, &book)
 }
 
+// Whether the second loader's class is away, one of that name is there, and one of the third.
+fn has_others(book: &Classes) -> bool {
+    book.class(2, b"A").is_none()
+        && book.class(1, b"A").is_some()
+        && book.class(3, b"java/lang/String").is_some()
+}
+
 fn finds_others(rt: &impl Abort, book: &mut Classes) -> Result<(), Fail> {
-    assert_eq!(rt; offer(book, 4, unload(2))?, None);
-    assert!(rt; book.class(2, b"A").is_none());
-    assert!(rt; book.class(1, b"A").is_some());
-    assert!(rt; book.class(3, b"java/lang/String").is_some());
+    take(book, 4, unload(2))?;
+    assert!(rt; has_others(book));
     Ok(())
 }
 

@@ -1,13 +1,13 @@
 //! Worked entries, one after another, with the rule that each breaks.
 
-ghost use Rattle.std.specs.Prelude.{◌≡◌, IfOk};
+ghost use Rattle.std.specs.Prelude.{◌≡◌};
 
 use crate::samples::Sample::{Class, Loader, Move, Unload};
-use crate::samples::{CHUNKS, Case, ROWS, chunk, class_row, first_wrong, loader_row, small_book};
+use crate::samples::{CHUNKS, Case, ROWS, chunk, class_row, loader_row, offer_each, small_book};
 use cm_layout::{EntryRule, Row};
 use cm_pool::Chunk;
 use cm_rows::{Book, LastChunk};
-use std::alloc::{AllocGlobal, Global};
+use std::alloc::AllocGlobal;
 use std::process::Abort;
 use std::test::*;
 
@@ -22,7 +22,7 @@ const SECOND: (u32, u32) = (0, 128);
 
 const FIFTH: (u32, u32) = (0, 512);
 
-const JUDGED: [Case<'_>; 22] = [
+static JUDGED: [Case<'_>; 22] = [
     (1, Loader(1, b"app"), None),
     (2, Loader(3, b"lib"), ROWS),
     (2, Loader(2, b"app"), ROWS),
@@ -47,16 +47,18 @@ const JUDGED: [Case<'_>; 22] = [
     (8, Loader(8, b"app"), None),
 ];
 
+// Whether the loader of the last row is live under its name, and of the others what was left.
+fn has_what_is_left(book: &Book<()>) -> bool {
+    book.loader(b"app") == Some(8)
+        && book.loader(b"boot").is_none()
+        && book.is_live(2)
+        && !book.is_live(1)
+        && book.len() == 4
+}
+
 fn judge_each(rt: &impl Abort, book: &mut Book<()>) -> Result<(), Fail> {
-    assert_eq!(rt; first_wrong(book, &JUDGED)?, None);
-    assert_eq!(rt;
-        (book.loader(b"app"), book.loader(b"boot")),
-        (Some(8), None)
-    );
-    assert_eq!(rt;
-        (book.is_live(2), book.is_live(1), book.len()),
-        (true, false, 4)
-    );
+    offer_each(book, &JUDGED)?;
+    assert!(rt; has_what_is_left(book));
     Ok(())
 }
 
@@ -66,7 +68,7 @@ fn judges_each_entry(rt: HostRuntime) -> Result<(), Fail> {
     judge_each(&rt, &mut book)
 }
 
-const MOVED: [Case<'_>; 12] = [
+static MOVED: [Case<'_>; 12] = [
     (1, Loader(1, b"app"), None),
     (2, Class(1, FOUR, 0, 100), None),
     (3, Class(1, FOUR, 100, 28), None),
@@ -81,28 +83,31 @@ const MOVED: [Case<'_>; 12] = [
     (7, Move(1, (1, 256), SECOND), CHUNKS),
 ];
 
-// The chunks of a book's classes, in the order of their rows.
-fn chunks_of(alloc: Global, book: &Book<()>) -> Result<Vec<Chunk>, Fail> {
-    let mut chunks = Vec::new(alloc);
+// Whether the chunks of a book's classes are these, in the order of their rows.
+fn lie_on(book: &Book<()>, chunks: &[Chunk]) -> bool {
+    let mut expected = chunks.iter();
     let mut walk = book.walk();
     for _ in 0..book.len() {
         if let Some(Row::Class(row, _)) = walk.next() {
-            chunks.push(row.place.chunk)?;
+            if expected.next() != Some(&row.place.chunk) {
+                return false;
+            }
         }
     }
-    Ok(chunks)
+    expected.next().is_none()
 }
 
-fn move_last(rt: &(impl Abort + AllocGlobal), book: &mut Book<()>) -> Result<(), Fail> {
+// Whether the one loader that has classes has this last chunk.
+fn has_last(book: &Book<()>, chunk: Chunk, used: u32) -> bool {
+    book.last(1) == Some(LastChunk { chunk, used }) && book.last(2).is_none()
+}
+
+fn move_last(rt: &impl Abort, book: &mut Book<()>) -> Result<(), Fail> {
     // a chunk that isn't the last one, another loader's, one that is too small, one that is in use
-    assert_eq!(rt; first_wrong(book, &MOVED)?, None);
-    let last = LastChunk {
-        chunk: chunk(1, 256),
-        used: 129,
-    };
-    assert_eq!(rt; (book.last(1), book.last(2)), (Some(last), None));
+    offer_each(book, &MOVED)?;
+    assert!(rt; has_last(book, chunk(1, 256), 129));
     let moved = [chunk(0, 512), chunk(0, 512), chunk(0, 0), chunk(1, 256)];
-    assert_eq!(rt; &chunks_of(rt.alloc(), book)?[..], moved.as_slice());
+    assert!(rt; lie_on(book, &moved));
     Ok(())
 }
 
@@ -130,7 +135,7 @@ impl LiveSample {
     }
 }
 
-const LIVE: [(LiveSample, Option<EntryRule>); 7] = [
+static LIVE: [(LiveSample, Option<EntryRule>); 7] = [
     (LiveSample::Loader(0, b"app"), ROWS),
     (LiveSample::Loader(8, b"app"), ROWS),
     (LiveSample::Class(1, 1), ROWS),
@@ -155,69 +160,65 @@ fn takes_live_rows_in_their_order(rt: HostRuntime) -> Result<(), Fail> {
 
 // Two classes of the one loader that a book had, and what a copy of another book takes behind that
 // one's rows.
-const OLD: [Case<'_>; 2] = [
+static OLD: [Case<'_>; 2] = [
     (1, Loader(1, b"old"), None),
     (2, Class(1, FOUR, 0, 8), None),
 ];
 
-const COPIED: [Case<'_>; 2] = [
+static COPIED: [Case<'_>; 2] = [
     (1, Loader(1, b"app"), None),
     (2, Class(1, SECOND, 0, 8), None),
 ];
 
-const BEHIND_A_COPY: [Case<'_>; 3] = [
+static BEHIND_A_COPY: [Case<'_>; 3] = [
     (3, Class(1, SECOND, 8, 8), None),
     (4, Class(1, FOUR, 0, 8), CHUNKS),
     (4, Class(1, FIRST, 0, 8), None),
 ];
 
-// A book that had other rows, with those of this one.
-fn copy_of(alloc: Global, book: &Book<()>) -> Result<Book<()>, Fail>
-    requires { book.now.sizes ≡ record { top = 3; roots = 1; slots = 256 } }
-    ensures { IfOk result (λ copy. copy.sizes ≡ record { top = 3; roots = 1; slots = 256 }) }
+// Whether it has one loader, of a name that no loader had before, and a class without a name.
+fn has_copied(copy: &Book<()>) -> bool {
+    copy.len() == 2
+        && copy.loader(b"old").is_none()
+        && copy.loader(b"app") == Some(1)
+        && copy.class(1, b"").is_some()
+}
+
+// Fills a book with other rows, then with those of this one.
+fn copy_over(rt: &impl Abort, copy: &mut Book<()>, book: &Book<()>) -> Result<(), Fail>
+    requires { copy.old.sizes ≡ book.now.sizes }
 {
-    let mut copy = small_book(alloc)?;
-    if first_wrong(&mut copy, &OLD)?.is_some() {
-        return Err("the rows that it had".into());
-    }
+    offer_each(copy, &OLD)?;
     copy.copy_from(book);
-    Ok(copy)
+    assert!(rt; has_copied(copy));
+    offer_each(copy, &BEHIND_A_COPY)
 }
 
-fn answer_as_book(rt: &impl Abort, copy: &mut Book<()>) -> Result<(), Fail> {
-    assert_eq!(rt; copy.len(), 2);
-    assert_eq!(rt; (copy.loader(b"old"), copy.loader(b"app")), (None, Some(1)));
-    assert!(rt; copy.class(1, b"").is_some());
-    assert_eq!(rt; first_wrong(copy, &BEHIND_A_COPY)?, None);
-    Ok(())
-}
-
-fn copy_and_answer(rt: &(impl Abort + AllocGlobal), book: &mut Book<()>) -> Result<(), Fail>
+fn fill_and_copy(rt: &(impl Abort + AllocGlobal), book: &mut Book<()>) -> Result<(), Fail>
     requires { book.old.sizes ≡ record { top = 3; roots = 1; slots = 256 } }
 {
-    assert_eq!(rt; first_wrong(book, &COPIED)?, None);
-    let mut copy = copy_of(rt.alloc(), book)?;
-    answer_as_book(rt, &mut copy)
+    offer_each(book, &COPIED)?;
+    let mut copy = small_book(rt.alloc())?;
+    copy_over(rt, &mut copy, book)
 }
 
 #[test]
 fn a_copy_answers_as_its_book(rt: HostRuntime) -> Result<(), Fail> {
     let mut book = small_book(rt.alloc())?;
-    copy_and_answer(&rt, &mut book)
+    fill_and_copy(&rt, &mut book)
 }
 
 // All of the region, once a book that had half of it is cleared.
-const WHOLE: [Case<'_>; 2] = [
+static WHOLE: [Case<'_>; 2] = [
     (1, Loader(1, b"app"), None),
     (2, Class(1, (3, 0), 0, 1024), None),
 ];
 
 fn clear_and_fill(rt: &impl Abort, book: &mut Book<()>) -> Result<(), Fail> {
-    assert_eq!(rt; first_wrong(book, &OLD)?, None);
+    offer_each(book, &OLD)?;
     book.clear();
     assert_eq!(rt; book.len(), 0);
-    assert_eq!(rt; first_wrong(book, &WHOLE)?, None);
-    Ok(())
+    offer_each(book, &WHOLE)
 }
 
 #[test]

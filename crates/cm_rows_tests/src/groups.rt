@@ -27,11 +27,10 @@ fn unload_group(alloc: Global, loader: u64) -> CarriedEntry {
 }
 
 fn takes_64(rt: &(impl Abort + AllocGlobal), group: &mut Group) {
-    assert_eq!(rt; group.count(), 64);
-    assert_eq!(rt; group.first(), 5);
-    assert_eq!(rt; group.learnt_number(), 0);
-    assert_eq!(rt; push_one(rt.alloc(), group), false);
-    assert_eq!(rt; group.count(), 64);
+    let (first, learnt, full) = (group.first(), group.learnt_number(), group.count());
+    let is_pushed = push_one(rt.alloc(), group);
+    assert_eq!(rt; (first, learnt, full), (5, 0, 64));
+    assert!(rt; !is_pushed && group.count() == 64);
 }
 
 #[test]

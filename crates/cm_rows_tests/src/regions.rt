@@ -4,22 +4,27 @@ use cm_pool::{Chunk, Geometry, Place};
 use std::process::Abort;
 use std::test::Fail;
 
-fn is_as_described(rt: &impl Abort, bytes: &[u8]) {
-    assert_eq!(rt; bytes.len(), 4_096);
-    assert_eq!(rt; &bytes[..8], b"CMCACHE1".as_slice());
-    assert_eq!(rt;
-        &bytes[8..24],
-        [1, 0, 0, 0, 8, 0, 0, 0, 64, 0, 0, 0, 0, 16, 0, 0].as_slice()
-    );
-    assert_eq!(rt; bytes[24..4_095].iter().all(|b| *b == 0), true);
-    assert_eq!(rt; bytes[4_095], 0xA5);
+// Magic, version, and sizes: a top of 8, 64 roots, 4,096 slots.
+const FRONT: [u8; 24] = *b"CMCACHE1\x01\0\0\0\x08\0\0\0\x40\0\0\0\0\x10\0\0";
+
+// Whether bytes are that front, zeros, and an open gate.
+fn is_as_described(bytes: &[u8]) -> bool {
+    let Some(rest) = bytes.strip_prefix(&FRONT) else {
+        return false;
+    };
+    match rest.split_last() {
+        Some((gate, zeros)) => {
+            *gate == 0xA5 && zeros.len() == 4_071 && zeros.iter().all(|b| *b == 0)
+        }
+        None => false,
+    }
 }
 
 #[test]
 fn a_superblock_is_its_front_zeros_and_an_open_gate(rt: HostRuntime) -> Result<(), Fail> {
     let geometry = Geometry::new(8, 64, 4096).ok_or("within the limits")?;
     let bytes = Superblock { geometry }.encode(rt.alloc())?;
-    is_as_described(&rt, &bytes);
+    assert!(rt; is_as_described(&bytes));
     assert_eq!(rt; Superblock::decode(&bytes), Some(Superblock { geometry }));
     Ok(())
 }
@@ -36,33 +41,45 @@ const WRONG: [(usize, u8); 7] = [
     (4_095, 0),
 ];
 
-// Whether bytes are read with another byte at a place.
-fn is_read_with(mut bytes: Vec<u8>, at: usize, byte: u8) -> bool {
+// Whether bytes are read with another byte at a place, which is put back; or have no such place.
+fn is_read_with(bytes: &mut [u8], at: usize, byte: u8) -> bool {
+    let Some(there) = bytes.get_mut(at) else {
+        return true;
+    };
+    let kept = *there;
+    *there = byte;
+    let is_read = Superblock::decode(bytes).is_some();
     if let Some(there) = bytes.get_mut(at) {
-        *there = byte;
+        *there = kept;
     }
-    Superblock::decode(&bytes).is_some()
+    is_read
+}
+
+// The first place with another byte of which bytes are read, or their end where they are read
+// without their last one.
+fn first_read(bytes: &mut [u8]) -> Option<usize> {
+    for (at, byte) in &WRONG {
+        if is_read_with(bytes, *at, *byte) {
+            return Some(*at);
+        }
+    }
+    match bytes.split_last() {
+        Some((_, shorter)) if Superblock::decode(shorter).is_none() => None,
+        _ => Some(bytes.len()),
+    }
 }
 
 #[test]
 fn a_superblock_has_no_other_spelling(rt: HostRuntime) -> Result<(), Fail> {
     let geometry = Geometry::new(3, 1, 256).ok_or("within the limits")?;
-    let bytes = Superblock { geometry }.encode(rt.alloc())?;
-    for (at, byte) in &WRONG {
-        assert!(rt; !is_read_with(bytes.clone()?, *at, *byte), "at {at}");
-    }
-    let (_, shorter) = bytes.split_last().ok_or("4,096 bytes")?;
-    assert_eq!(rt; Superblock::decode(shorter), None);
+    let mut bytes = Superblock { geometry }.encode(rt.alloc())?;
+    assert_eq!(rt; first_read(&mut bytes), None);
     Ok(())
 }
 
 #[test]
 fn parts_lie_where_the_sizes_say(rt: HostRuntime) -> Result<(), Fail> {
     let geometry = Geometry::new(8, 64, 4096).ok_or("within the limits")?;
-    assert_eq!(rt; slot_at(geometry, Half::Zero, 1), 4_160);
-    assert_eq!(rt; slot_at(geometry, Half::One, 0), 266_240);
-    assert_eq!(rt; root_at(geometry, 0), 528_384);
-    assert_eq!(rt; root_at(geometry, 1), 790_528);
     let place = Place {
         chunk: Chunk {
             root: 0,
@@ -72,6 +89,14 @@ fn parts_lie_where_the_sizes_say(rt: HostRuntime) -> Result<(), Fail> {
         offset: 16,
         words: 20,
     };
-    assert_eq!(rt; record_at(geometry, place), 528_384 + 8 * 272);
+    let found = [
+        slot_at(geometry, Half::Zero, 1),
+        slot_at(geometry, Half::One, 0),
+        root_at(geometry, 0),
+        root_at(geometry, 1),
+        record_at(geometry, place),
+    ];
+    let expected = [4_160, 266_240, 528_384, 790_528, 528_384 + 8 * 272];
+    assert_eq!(rt; found, expected);
     Ok(())
 }

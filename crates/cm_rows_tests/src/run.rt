@@ -5,8 +5,7 @@ ghost use Rattle.std.specs.Prelude.{◌≡◌};
 
 use crate::plain::Plain;
 use crate::random::{Random, name_of};
-use crate::samples::{loader, offer, unload};
-use cm_pool::Geometry;
+use crate::samples::{loader, offer, sized_book, take, unload};
 use cm_rows::Book;
 use std::alloc::Global;
 use std::test::*;
@@ -55,8 +54,7 @@ fn run(book: &mut Book<()>, plain: &mut Plain) -> Result<u32, Fail> {
 }
 
 fn run_both(alloc: Global) -> Result<u32, Fail> {
-    let geometry = Geometry::new(3, 2, 256).ok_or("within the limits")?;
-    let mut book: Book<()> = Book::new(alloc, geometry)?;
+    let mut book = sized_book(alloc, 2, 256)?;
     run(&mut book, &mut Plain::new(alloc))
 }
 
@@ -71,11 +69,9 @@ fn agrees_with_a_plain_list_of_rows(rt: HostRuntime) -> Result<(), Fail> {
 fn add_many(book: &mut Book<()>) -> Result<(), Fail> {
     for at in 1..9000 {
         let number = 2 * at;
-        if offer(book, number, loader(number, &name_of(at))?)?.is_some() {
-            return Err("a loader".into());
-        }
-        if at % 3 != 0 && offer(book, number + 1, unload(number))?.is_some() {
-            return Err("an unload".into());
+        take(book, number, loader(number, &name_of(at))?)?;
+        if at % 3 != 0 {
+            take(book, number + 1, unload(number))?;
         }
     }
     Ok(())
@@ -92,11 +88,14 @@ fn tells_a_third(book: &Book<()>) -> bool {
     true
 }
 
+fn tells_of_many(book: &mut Book<()>) -> Result<bool, Fail> {
+    add_many(book)?;
+    Ok(tells_a_third(book))
+}
+
 fn adds_and_tells(alloc: Global) -> Result<bool, Fail> {
-    let geometry = Geometry::new(3, 1, 8192).ok_or("within the limits")?;
-    let mut book: Book<()> = Book::new(alloc, geometry)?;
-    add_many(&mut book)?;
-    Ok(tells_a_third(&book))
+    let mut book = sized_book(alloc, 1, 8192)?;
+    tells_of_many(&mut book)
 }
 
 // Whose names are there is told also where the index stands in many blocks, and once it was swept.

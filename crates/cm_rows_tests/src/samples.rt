@@ -27,12 +27,27 @@ pub fn offer<P: Kept>(
     Ok(book.apply(number, entry))
 }
 
-// A book of a region with one root of 1,024 words.
+// Offers an entry that breaks no rule.
+pub fn take<P: Kept>(book: &mut Book<P>, number: u64, entry: Entry<P>) -> Result<(), Fail> {
+    match offer(book, number, entry)? {
+        None => Ok(()),
+        Some(rule) => Err(rule.into()),
+    }
+}
+
+// A book of a region with so many roots of 1,024 words, and so many slots.
+pub fn sized_book<P: Kept>(alloc: Global, roots: u32, slots: u32) -> Result<Book<P>, Fail>
+    ensures { IfOk result (λ book. book.sizes ≡ record { top = 3; roots = roots; slots = slots }) }
+{
+    let geometry = Geometry::new(3, roots, slots).ok_or("within the limits")?;
+    Ok(Book::new(alloc, geometry)?)
+}
+
+// A book of a region with one root.
 pub fn small_book<P: Kept>(alloc: Global) -> Result<Book<P>, Fail>
     ensures { IfOk result (λ book. book.sizes ≡ record { top = 3; roots = 1; slots = 256 }) }
 {
-    let geometry = Geometry::new(3, 1, 256).ok_or("within the limits")?;
-    Ok(Book::new(alloc, geometry)?)
+    sized_book(alloc, 1, 256)
 }
 
 pub fn chunk(order: u32, at: u32) -> Chunk {
@@ -101,16 +116,16 @@ impl<'a> Sample<'a> {
 /// A sample with its number, and the rule that it breaks.
 pub type Case<'a> = (u64, Sample<'a>, Option<EntryRule>);
 
-/// Offers entries one after another. The place of the first whose rule is another one; none where
-/// each breaks the rule beside it.
-pub fn first_wrong(book: &mut Book<()>, cases: &[Case<'_>]) -> Result<Option<usize>, Fail>
+/// Offers entries one after another, and fails at the first that breaks another rule than the one
+/// beside it.
+pub fn offer_each(book: &mut Book<()>, cases: &[Case<'_>]) -> Result<(), Fail>
     ensures { book.new.sizes ≡ book.old.sizes }
 {
     for (at, case) in cases.iter().enumerate() {
         let (number, sample, rule) = *case;
         if offer(book, number, sample.entry()?)? != rule {
-            return Ok(Some(at));
+            return Err(Fail::new(format_args!("another rule, at {at}")));
         }
     }
-    Ok(None)
+    Ok(())
 }
