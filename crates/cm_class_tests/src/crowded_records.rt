@@ -2,20 +2,16 @@
 use crate::member_samples::{Indexes, class_of};
 use crate::record_samples::{record_of, record_of_class};
 use cm_record::{Constant, Record};
-use std::alloc::Global;
-use std::process::Abort;
+use std::alloc::{AllocError, Global};
 use std::test::Fail;
-
-const DESCRIPTORS: [&[u8]; 5] = [b"()B", b"()C", b"()D", b"()F", b"()B"];
 
 const MEMBERS: [Indexes; 5] = [(1, 2), (1, 3), (1, 4), (1, 5), (1, 6)];
 
 // Fields and methods of one name, each with another descriptor but for the last one.
 fn overloads(alloc: Global, name: &[u8]) -> Result<Record, Fail> {
-    let mut utf8s = Vec::new(alloc);
-    utf8s.push(name)?;
-    utf8s.extend_from_slice(&DESCRIPTORS)?;
-    record_of_class(alloc, &class_of(alloc, &utf8s, &MEMBERS, &MEMBERS)?)
+    let utf8s: [&[u8]; 6] = [name, b"()B", b"()C", b"()D", b"()F", b"()B"];
+    let class = class_of(alloc, &utf8s, &MEMBERS, &MEMBERS)?;
+    record_of_class(alloc, &class)
 }
 
 fn indexes(record: &Record, name: &[u8], descriptor: &[u8]) -> [Option<u16>; 2] {
@@ -35,17 +31,28 @@ const EXPECTED: [(&[u8], Option<u16>); 6] = [
     (b"()", None),
 ];
 
+// Whether each descriptor is found under the name.
+fn has_each(record: &Record, name: &[u8]) -> bool {
+    for (descriptor, index) in &EXPECTED {
+        if indexes(record, name, descriptor) != [*index; 2] {
+            return false;
+        }
+    }
+    true
+}
+
+fn has_none(record: &Record, name: &[u8]) -> bool {
+    indexes(record, name, b"()B") == [None; 2]
+}
+
 // Two comparisons of the name are more words than the record has.
 #[test]
 fn members_of_one_long_name_are_found(rt: HostRuntime) -> Result<(), Fail> {
     let mut name = Vec::from_elem(rt.alloc(), b'n', 4_000)?;
     let record = overloads(rt.alloc(), &name)?;
-    for (descriptor, index) in &EXPECTED {
-        assert_eq!(rt; indexes(&record, &name, descriptor), [*index; 2]);
-    }
+    assert!(rt; has_each(&record, &name));
     name[3_999] = b'm';
-    assert_eq!(rt; indexes(&record, &name, b"()B"), [None; 2]);
-    assert_eq!(rt; indexes(&record, &name[..3_999], b"()B"), [None; 2]);
+    assert!(rt; has_none(&record, &name) && has_none(&record, &name[..3_999]));
     Ok(())
 }
 
@@ -76,10 +83,9 @@ fn put_method(bytes: &mut Vec<u8>, second_name: u16) -> Result<(), Fail> {
     put_attribute(bytes, JUNK + 1, &BODY)
 }
 
-// A class with that method, and in front of the Utf8s in its pool Longs of value 5, as the word of
-// a Long is, but for the last one, which has these bits.
-fn behind_longs(alloc: Global, last: u64, second_name: u16) -> Result<Record, Fail> {
-    let mut bytes = Vec::new(alloc);
+// A heading, and a pool: in front of the Utf8s Longs of value 5, as the word of a Long is, but for
+// the last one, which has these bits.
+fn put_pool(bytes: &mut Vec<u8>, last: u64) -> Result<(), AllocError> {
     bytes.extend_from_slice(&[0xca, 0xfe, 0xba, 0xbe, 0, 0, 0, 0x34])?;
     bytes.extend_from_slice(&u16::to_be_bytes(JUNK + 3))?;
     for at in 1..=LONGS {
@@ -87,11 +93,21 @@ fn behind_longs(alloc: Global, last: u64, second_name: u16) -> Result<Record, Fa
         bytes.push(5)?;
         bytes.extend_from_slice(&bits.to_be_bytes())?;
     }
-    bytes.extend_from_slice(&UTF8S)?;
+    bytes.extend_from_slice(&UTF8S)
+}
+
+fn put_class(bytes: &mut Vec<u8>, last: u64, second_name: u16) -> Result<(), Fail> {
+    put_pool(bytes, last)?;
     // No flags, no class of its own, no super class, no interfaces, no fields.
     bytes.extend_from_slice(&[0; 10])?;
-    put_method(&mut bytes, second_name)?;
-    bytes.extend_from_slice(&[0, 0])?;
+    put_method(bytes, second_name)?;
+    Ok(bytes.extend_from_slice(&[0, 0])?)
+}
+
+// A class with that method and such a pool.
+fn behind_longs(alloc: Global, last: u64, second_name: u16) -> Result<Record, Fail> {
+    let mut bytes = Vec::new(alloc);
+    put_class(&mut bytes, last, second_name)?;
     record_of(alloc, &bytes)
 }
 
@@ -102,25 +118,34 @@ fn find_member(record: &Record) -> Option<(u16, u16, u16)> {
     Some((method.index, code.max_stack, code.max_locals))
 }
 
+// Whether the method is found, none of another name, and no constant at the last Long's second
+// slot.
+fn has_one_method(record: &Record) -> bool {
+    find_member(record) == Some((0, 1, 2))
+        && record.method(b"Code", b"()V").is_none()
+        && record.constant(JUNK - 1).is_none()
+}
+
 #[test]
 fn what_stands_behind_longs_is_found(rt: HostRuntime) -> Result<(), Fail> {
     let record = behind_longs(rt.alloc(), 5, JUNK)?;
-    assert_eq!(rt; find_member(&record), Some((0, 1, 2)));
-    assert_eq!(rt; record.method(b"Code", b"()V"), None);
-    assert_eq!(rt; record.constant(JUNK - 1), None);
+    assert!(rt; has_one_method(&record));
     Ok(())
+}
+
+// The directory's word of `Code`.
+fn word_of_code(record: &Record) -> Result<u64, Fail> {
+    let Some(Constant::Utf8 { at, len }) = record.constant(JUNK + 1) else {
+        return Err(Fail::new("it has the name"));
+    };
+    Ok(1 + (u64::from(len) << 16) + (u64::from(at / 8) << 32))
 }
 
 // The second slot of the last Long has the word of `Code`, and is none.
 #[test]
 fn a_second_slot_leads_to_no_name(rt: HostRuntime) -> Result<(), Fail> {
-    let record = behind_longs(rt.alloc(), 5, JUNK)?;
-    let Some(Constant::Utf8 { at, len }) = record.constant(JUNK + 1) else {
-        return Err(Fail::new("it has the name"));
-    };
-    let word = 1 + (u64::from(len) << 16) + (u64::from(at / 8) << 32);
+    let word = word_of_code(&behind_longs(rt.alloc(), 5, JUNK)?)?;
     let record = behind_longs(rt.alloc(), word, JUNK - 1)?;
-    assert_eq!(rt; record.constant(JUNK - 1), None);
-    assert_eq!(rt; find_member(&record), Some((0, 1, 2)));
+    assert!(rt; has_one_method(&record));
     Ok(())
 }

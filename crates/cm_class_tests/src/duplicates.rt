@@ -36,12 +36,10 @@ fn is_first(
     place: Option<u16>,
 ) -> Result<(), Fail> {
     let (alloc, count) = (rt.alloc(), members.len());
-    let (field, method) = find_duplicate(alloc, utf8s, members, &[])?;
-    assert_eq!(rt; field, place, "among {count} fields");
-    assert_eq!(rt; method, None);
-    let (field, method) = find_duplicate(alloc, utf8s, &[], members)?;
-    assert_eq!(rt; field, None);
-    assert_eq!(rt; method, place, "among {count} methods");
+    let found = find_duplicate(alloc, utf8s, members, &[])?;
+    assert!(rt; found == (place, None), "among {count} fields");
+    let found = find_duplicate(alloc, utf8s, &[], members)?;
+    assert!(rt; found == (None, place), "among {count} methods");
     Ok(())
 }
 
@@ -57,7 +55,7 @@ fn pairs(alloc: Global) -> Result<Vec<Indexes>, Fail> {
 }
 
 /// Members by the indexes of `a`, `b`, `a`, `I` and `J`, and the first duplicate.
-const FEW: [(&[Indexes], Option<u16>); 7] = [
+static FEW: [(&[Indexes], Option<u16>); 7] = [
     (&[], None),
     (&[(1, 4)], None),
     (&[(1, 4), (2, 4), (1, 5)], None),
@@ -77,6 +75,22 @@ fn few_members(rt: HostRuntime) -> Result<(), Fail> {
     Ok(())
 }
 
+/// That none of 64 members is a duplicate, and the first that comes behind them is one, with and
+/// without those behind it.
+fn are_told_apart(
+    rt: &(impl Abort + AllocGlobal),
+    utf8s: &[&[u8]],
+    members: &mut Vec<Indexes>,
+    more: &[Indexes],
+) -> Result<(), Fail> {
+    is_first(rt, utf8s, members, None)?;
+    for member in more {
+        members.push(*member)?;
+        is_first(rt, utf8s, members, Some(64))?;
+    }
+    Ok(())
+}
+
 #[test]
 fn many_members(rt: HostRuntime) -> Result<(), Fail> {
     let utf8s: [&[u8]; 17] = [
@@ -84,15 +98,11 @@ fn many_members(rt: HostRuntime) -> Result<(), Fail> {
         b"Z", b"c",
     ];
     let mut members = pairs(rt.alloc())?;
-    is_first(&rt, &utf8s, &members, None)?;
-    members.push((17, 10))?;
-    is_first(&rt, &utf8s, &members, Some(64))?;
-    members.push((1, 9))?;
-    is_first(&rt, &utf8s, &members, Some(64))
+    are_told_apart(&rt, &utf8s, &mut members, &[(17, 10), (1, 9)])
 }
 
 /// Names that one quick fingerprint stands for, descriptors, and the third name again.
-const MEETING: [&[u8]; 17] = [
+static MEETING: [&[u8]; 17] = [
     b"aaaaaaaaaaaaaa10oO\x0f$\x14NN]_______a",
     b"aaaaaaaaaaaaaa10oO\x0f$\x14NN]_______b",
     b"aaaaaaaaaaaaaa10oO\x0f$\x14NN]_______c",
@@ -130,8 +140,5 @@ fn names_meet(rt: HostRuntime) {
 #[test]
 fn members_that_meet(rt: HostRuntime) -> Result<(), Fail> {
     let mut members = pairs(rt.alloc())?;
-    is_first(&rt, &MEETING, &members, None)?;
-    members.push((17, 16))?;
-    members.push((1, 9))?;
-    is_first(&rt, &MEETING, &members, Some(64))
+    are_told_apart(&rt, &MEETING, &mut members, &[(17, 16), (1, 9)])
 }

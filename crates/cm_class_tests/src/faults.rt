@@ -23,12 +23,16 @@ fn fault(alloc: Global, bytes: &[u8]) -> Option<ShapeFault> {
     read_shape(alloc, bytes).err()
 }
 
+fn has_fault(alloc: Global, bytes: &[u8], expected: ShapeFault) -> bool {
+    fault(alloc, bytes) == Some(expected)
+}
+
 #[test]
 fn beginnings_are_truncated(rt: HostRuntime) {
     for bytes in [CLASS_A.as_slice(), EACH_KIND.as_slice()] {
         for len in 0..bytes.len() {
-            let fault = fault(rt.alloc(), &bytes[..len]);
-            assert_eq!(rt; fault, Some(ShapeFault::Truncated), "at {len}");
+            let is_truncated = has_fault(rt.alloc(), &bytes[..len], ShapeFault::Truncated);
+            assert!(rt; is_truncated, "at {len}");
         }
     }
 }
@@ -42,20 +46,26 @@ fn fault_with(
     Ok(fault(alloc, &bytes))
 }
 
+/// Whether bytes behind a class begin what is trailing, at this place.
+fn are_trailing(alloc: Global, bytes: &[u8], behind: &[u8], at: usize) -> Result<bool, AllocError> {
+    Ok(fault_with(alloc, bytes, behind)? == Some(ShapeFault::Trailing(at)))
+}
+
 #[test]
 fn what_follows_is_trailing(rt: HostRuntime) -> Result<(), AllocError> {
-    let fault = fault_with(rt.alloc(), &CLASS_A, &[0])?;
-    assert_eq!(rt; fault, Some(ShapeFault::Trailing(53)));
-    let fault = fault_with(rt.alloc(), &EACH_KIND, &[0xca, 0xfe, 0xba])?;
-    assert_eq!(rt; fault, Some(ShapeFault::Trailing(125)));
+    assert!(rt; are_trailing(rt.alloc(), &CLASS_A, &[0], 53)?);
+    assert!(rt; are_trailing(rt.alloc(), &EACH_KIND, &[0xca, 0xfe, 0xba], 125)?);
     Ok(())
 }
 
 #[test]
 fn the_first_wrong_byte(rt: HostRuntime) {
     for (place, byte, at) in &WRONG {
-        let fault = fault(rt.alloc(), &with_byte(*place, *byte));
-        assert_eq!(rt; fault, Some(ShapeFault::Malformed(*at)), "at {place}");
+        let bytes = with_byte(*place, *byte);
+        assert!(rt;
+            has_fault(rt.alloc(), &bytes, ShapeFault::Malformed(*at)),
+            "at {place}"
+        );
     }
 }
 
@@ -66,11 +76,9 @@ fn no_second_slot(rt: HostRuntime) {
     for tag in [5, 6] {
         let mut bytes = with_byte(9, 2);
         bytes[10] = tag;
-        assert_eq!(rt; fault(alloc, &bytes), Some(ShapeFault::Malformed(10)));
-        let found = fault(alloc, &bytes[..11]);
-        assert_eq!(rt; found, Some(ShapeFault::Malformed(10)));
-        let found = fault(alloc, &bytes[..10]);
-        assert_eq!(rt; found, Some(ShapeFault::Truncated));
+        assert!(rt; has_fault(alloc, &bytes, ShapeFault::Malformed(10)));
+        assert!(rt; has_fault(alloc, &bytes[..11], ShapeFault::Malformed(10)));
+        assert!(rt; has_fault(alloc, &bytes[..10], ShapeFault::Truncated));
     }
 }
 
@@ -83,6 +91,10 @@ fn a_false_length(rt: HostRuntime) -> Result<(), AllocError> {
     Ok(())
 }
 
+fn flags_of_class_a(alloc: Global) -> Result<u16, ShapeFault> {
+    Ok(read_shape(alloc, &CLASS_A)?.flags())
+}
+
 /// A fault is answered though an allocation failed to what stands before it, and a class is asked
 /// for again: so under `rt try --test --fail-alloc`, whichever allocation of these reads is
 /// refused.
@@ -91,17 +103,13 @@ fn a_fault_behind_a_refusal(rt: HostRuntime) -> Result<(), Fail> {
     let alloc = rt.alloc();
     let mut trailing = [0; 54];
     trailing[..53].copy_from_slice(&CLASS_A);
-    assert_eq!(rt; fault(alloc, &trailing), Some(ShapeFault::Trailing(53)));
-    assert_eq!(rt; fault(alloc, &CLASS_A[..52]), Some(ShapeFault::Truncated));
-    assert_eq!(rt;
-        fault(alloc, &with_byte(20, 17)),
-        Some(ShapeFault::Malformed(20))
-    );
-    let class = match read_shape(alloc, &CLASS_A) {
-        Err(ShapeFault::NoMemory) => read_shape(alloc, &CLASS_A),
+    assert!(rt; has_fault(alloc, &trailing, ShapeFault::Trailing(53)));
+    assert!(rt; has_fault(alloc, &CLASS_A[..52], ShapeFault::Truncated));
+    assert!(rt; has_fault(alloc, &with_byte(20, 17), ShapeFault::Malformed(20)));
+    let flags = match flags_of_class_a(alloc) {
+        Err(ShapeFault::NoMemory) => flags_of_class_a(alloc),
         answer => answer,
     };
-    let flags = class?.flags();
-    assert_eq!(rt; flags, 0x21);
+    assert_eq!(rt; flags?, 0x21);
     Ok(())
 }

@@ -10,24 +10,32 @@ fn put(bytes: &mut Vec<u8>, number: u16) -> Result<(), AllocError> {
     bytes.extend_from_slice(&number.to_be_bytes())
 }
 
+fn put_count(bytes: &mut Vec<u8>, count: usize) -> Result<(), Fail> {
+    Ok(put(bytes, u16::try_from(count)?)?)
+}
+
+fn put_utf8(bytes: &mut Vec<u8>, utf8: &[u8]) -> Result<(), Fail> {
+    bytes.push(1)?;
+    put_count(bytes, utf8.len())?;
+    Ok(bytes.extend_from_slice(utf8)?)
+}
+
 /// The count of a pool, which is one more than that of its constants, and these Utf8s.
 fn put_pool(bytes: &mut Vec<u8>, utf8s: &[&[u8]]) -> Result<(), Fail> {
-    put(bytes, u16::try_from(utf8s.len().saturating_add(1))?)?;
+    put_count(bytes, utf8s.len().saturating_add(1))?;
     for utf8 in utf8s {
-        bytes.push(1)?;
-        put(bytes, u16::try_from(utf8.len())?)?;
-        bytes.extend_from_slice(utf8)?;
+        put_utf8(bytes, utf8)?;
     }
     Ok(())
 }
 
 fn put_members(bytes: &mut Vec<u8>, members: &[Indexes]) -> Result<(), Fail> {
-    put(bytes, u16::try_from(members.len())?)?;
+    put_count(bytes, members.len())?;
     for (name, descriptor) in members {
-        put(bytes, 0)?;
-        put(bytes, *name)?;
-        put(bytes, *descriptor)?;
-        put(bytes, 0)?;
+        // No flags and no attributes.
+        for number in [0, *name, *descriptor, 0] {
+            put(bytes, number)?;
+        }
     }
     Ok(())
 }

@@ -6,7 +6,7 @@ use cm_names::{
 };
 
 /// Bytes, and whether they are a text's.
-const FORMS: [(&[u8], bool); 12] = [
+static FORMS: [(&[u8], bool); 12] = [
     (b"", true),
     (b"\x01\x7f", true),
     (b"\xc0\x80", true),
@@ -29,7 +29,7 @@ fn utf8_forms(rt: HostRuntime) {
 }
 
 /// Bytes, and whether they are an unqualified name, a method's name, a class name.
-const NAMES: [(&[u8], bool, bool, bool); 12] = [
+static NAMES: [(&[u8], bool, bool, bool); 12] = [
     (b"a", true, true, true),
     (b"a b", true, true, true),
     (b"<init>", true, true, true),
@@ -54,7 +54,7 @@ fn names(rt: HostRuntime) {
 }
 
 /// Bytes, and whether they are a field's descriptor.
-const FIELDS: [(&[u8], bool); 11] = [
+static FIELDS: [(&[u8], bool); 11] = [
     (b"B", true),
     (b"Z", true),
     (b"[[J", true),
@@ -76,7 +76,7 @@ fn field_descriptors(rt: HostRuntime) {
 }
 
 /// Bytes, and the units of what they take, where they are a method's descriptor.
-const METHODS: [(&[u8], Option<u8>); 10] = [
+static METHODS: [(&[u8], Option<u8>); 10] = [
     (b"()V", Some(0)),
     (b"(I)I", Some(1)),
     (b"(JD)V", Some(4)),
@@ -144,7 +144,7 @@ const THREE_UNITS: Judgement = Judgement {
 };
 
 /// Bytes that are characters, and what is judged of them.
-const JUDGED: [(&[u8], Judgement); 62] = [
+static JUDGED: [(&[u8], Judgement); 62] = [
     (b"", NOTHING),
     (b"a", NAME),
     (b"V", NAME),
@@ -229,7 +229,7 @@ fn judgements(rt: HostRuntime) {
 }
 
 /// Bytes that are no characters, and what is judged of them but for that.
-const JUDGED_NO_CHARACTERS: [(&[u8], Judgement); 9] = [
+static JUDGED_NO_CHARACTERS: [(&[u8], Judgement); 9] = [
     (b"\x00", NAME),
     (b"twelve bytes and a \x00", NAME),
     (b"\xc3", NAME),

@@ -43,23 +43,28 @@ fn numbers(slot: &Slot) -> Option<Numbers> {
     })
 }
 
-/// That a class has these slots, from index 1 on, and no more.
-fn has_slots(rt: &impl Abort, class: &Class, expected: &[Option<Numbers>]) {
-    assert_eq!(rt; class.slots().len(), expected.len());
+/// Whether a class has these slots, from index 1 on, and no more.
+fn has_slots(class: &Class, expected: &[Option<Numbers>]) -> bool {
     for (slot, expected) in class.slots().iter().zip(expected) {
-        assert_eq!(rt; numbers(slot), *expected);
+        if numbers(slot) != *expected {
+            return false;
+        }
     }
+    class.slots().len() == expected.len()
 }
 
-/// That the slots of a class have these texts, where a slot that holds no Utf8 has none.
-fn has_texts(rt: &impl Abort, class: &Class, expected: &[&[u8]]) {
+/// Whether the slots of a class have these texts, where a slot that holds no Utf8 has none.
+fn has_texts(class: &Class, expected: &[&[u8]]) -> bool {
     for (slot, expected) in class.slots().iter().zip(expected) {
         let text = match slot {
             Slot::Usable(Constant::Utf8(text)) => text.as_slice(),
             _ => &[],
         };
-        assert_eq!(rt; text, *expected);
+        if text != *expected {
+            return false;
+        }
     }
+    true
 }
 
 fn is_class_a(rt: &impl Abort, class: &Class) {
@@ -71,8 +76,8 @@ fn is_class_a(rt: &impl Abort, class: &Class) {
         Some((7, 4, 0)),
         Some((1, 0, 0)),
     ];
-    has_slots(rt, class, &slots);
-    has_texts(rt, class, &[b"", b"A", b"", b"java/lang/Object"]);
+    assert!(rt; has_slots(class, &slots));
+    assert!(rt; has_texts(class, &[b"", b"A", b"", b"java/lang/Object"]));
     let counts = [
         class.interfaces().len(),
         class.fields().len(),
@@ -90,7 +95,7 @@ fn class_a(rt: HostRuntime) -> Result<(), Fail> {
 }
 
 /// The constants of the class with each kind of part.
-const CONSTANTS: [Option<Numbers>; 16] = [
+static CONSTANTS: [Option<Numbers>; 16] = [
     Some((1, 0, 0)),
     Some((3, 0x0102_0304, 0)),
     Some((4, 0x7fc0_0000, 0)),
@@ -112,38 +117,47 @@ const CONSTANTS: [Option<Numbers>; 16] = [
 #[test]
 fn each_kind_of_constant(rt: HostRuntime) -> Result<(), Fail> {
     let class = read_shape(rt.alloc(), &EACH_KIND)?;
-    has_slots(&rt, &class, &CONSTANTS);
+    assert!(rt; has_slots(&class, &CONSTANTS));
     Ok(())
 }
 
-/// That there is one attribute, with this name and these bytes.
-fn has_one_attribute(rt: &impl Abort, attributes: &[Attribute], name: u16, bytes: &[u8]) {
-    assert_eq!(rt; attributes.len(), 1);
-    for attribute in attributes {
-        assert_eq!(rt; attribute.name, name);
-        assert_eq!(rt; attribute.content(), bytes);
+/// Whether there is one attribute, with this name and these bytes.
+fn is_one_attribute(attributes: &[Attribute], name: u16, bytes: &[u8]) -> bool {
+    match attributes.split_first() {
+        Some((first, others)) => {
+            others.is_empty() && first.name == name && first.content() == bytes
+        }
+        None => false,
     }
 }
 
-/// That there is one member, of these flags and these indexes of its name and descriptor.
-fn has_one_member(rt: &impl Abort, members: &[Member], expected: [u16; 3]) {
-    assert_eq!(rt; members.len(), 1);
-    for member in members {
-        assert_eq!(rt; [member.flags, member.name, member.descriptor], expected);
+/// The one member, where there is one, of these flags and these indexes of its name and descriptor.
+fn one_member(members: &[Member], expected: [u16; 3]) -> Option<&Member> {
+    let (first, others) = members.split_first()?;
+    let numbers = [first.flags, first.name, first.descriptor];
+    if others.is_empty() && numbers == expected {
+        Some(first)
+    } else {
+        None
     }
+}
+
+fn has_field(class: &Class) -> bool {
+    one_member(class.fields(), [0x19, 1, 1]).is_some_and(|field| is_one_attribute(
+        field.attributes(),
+        1,
+        &[0xab, 0xcd],
+    ))
+}
+
+fn has_method(class: &Class) -> bool {
+    one_member(class.methods(), [0x401, 2, 3]).is_some_and(|method| method.attributes().is_empty())
 }
 
 fn has_each_part(rt: &impl Abort, class: &Class) {
     assert_eq!(rt; class.interfaces(), [8].as_slice());
-    has_one_member(rt, class.fields(), [0x19, 1, 1]);
-    for field in class.fields() {
-        has_one_attribute(rt, field.attributes(), 1, &[0xab, 0xcd]);
-    }
-    has_one_member(rt, class.methods(), [0x401, 2, 3]);
-    for method in class.methods() {
-        assert_eq!(rt; method.attributes().len(), 0);
-    }
-    has_one_attribute(rt, class.attributes(), 5, &[]);
+    assert!(rt; has_field(class) && has_method(class));
+    assert!(rt; is_one_attribute(class.attributes(), 5, &[]));
 }
 
 #[test]

@@ -4,7 +4,6 @@ use crate::samples::{CLASS_A, join_parts, with_attribute};
 use cm_prepare::{BadClass, Prepared, Refusal, prepare};
 use cm_rules::{Broken, Rule, Spot};
 use std::alloc::{AllocError, Global};
-use std::process::Abort;
 use std::test::Fail;
 
 // Asked once more where an allocation failed: nothing is changed then.
@@ -15,37 +14,42 @@ fn prepare_bytes(alloc: Global, bytes: &[u8]) -> Result<Prepared, Refusal> {
     }
 }
 
-fn is_class_a(rt: &(impl Abort + AllocGlobal), class: &Prepared) -> Result<(), Fail> {
-    assert_eq!(rt; class.words(), 16);
-    assert_eq!(rt; class.class_name(rt.alloc())?.as_slice(), b"A".as_slice());
-    Ok(())
+fn is_class_a(alloc: Global, class: &Prepared) -> Result<bool, AllocError> {
+    Ok(class.class_name(alloc)?.as_slice() == b"A".as_slice() && class.words() == 16)
 }
 
-fn is_shared(rt: &(impl Abort + AllocGlobal), class: &Prepared) -> Result<(), Fail> {
+/// Whether both are class A.
+fn are_class_a(alloc: Global, one: &Prepared, other: &Prepared) -> Result<bool, AllocError> {
+    let are_both = is_class_a(alloc, one)? && is_class_a(alloc, other)?;
+    Ok(are_both && one.record().same_name(other.record()))
+}
+
+fn words_of_record(class: Prepared) -> u32 {
+    class.into_record().words()
+}
+
+fn is_shared(alloc: Global, class: &Prepared) -> Result<bool, AllocError> {
     let again = class.share()?;
-    is_class_a(rt, class)?;
-    is_class_a(rt, &again)?;
-    assert!(rt; class.record().same_name(again.record()));
-    assert_eq!(rt; again.into_record().words(), 16);
-    assert_eq!(rt; class.words(), 16);
-    Ok(())
+    let are_class_a = are_class_a(alloc, class, &again)?;
+    Ok(are_class_a && words_of_record(again) == 16 && class.words() == 16)
 }
 
 #[test]
 fn a_class_is_shared(rt: HostRuntime) -> Result<(), Fail> {
     let class = prepare_bytes(rt.alloc(), &CLASS_A).ok().ok_or("class A")?;
-    is_shared(&rt, &class)
+    assert!(rt; is_shared(rt.alloc(), &class)?);
+    Ok(())
 }
 
-/// The refusal of the bytes of these parts.
-fn refusal(alloc: Global, parts: &[&[u8]]) -> Result<Option<Refusal>, AllocError> {
+/// Whether the bytes of these parts are refused as such a class.
+fn is_refused(alloc: Global, parts: &[&[u8]], expected: BadClass) -> Result<bool, AllocError> {
     let bytes = join_parts(alloc, parts)?;
-    Ok(prepare_bytes(alloc, &bytes).err())
+    Ok(prepare_bytes(alloc, &bytes).err() == Some(Refusal::BadClass(expected)))
 }
 
 /// What class A begins with here, what stands behind it, and why it is no class: a byte more; other
 /// versions; half a heading.
-const NO_CLASS: [(&[u8], &[u8], BadClass); 4] = [
+static NO_CLASS: [(&[u8], &[u8], BadClass); 4] = [
     (
         b"\xca\xfe\xba\xbe\x00\x00\x00\x34",
         &[0],
@@ -68,11 +72,10 @@ const NO_CLASS: [(&[u8], &[u8], BadClass); 4] = [
 fn bytes_that_are_no_class_are_refused(rt: HostRuntime) -> Result<(), Fail> {
     let alloc = rt.alloc();
     for (heading, behind, expected) in &NO_CLASS {
-        let answer = refusal(alloc, &[heading, &CLASS_A[8..], behind])?;
-        assert_eq!(rt; answer, Some(Refusal::BadClass(*expected)));
+        let parts = [heading, &CLASS_A[8..], behind];
+        assert!(rt; is_refused(alloc, &parts, *expected)?, "{expected}");
     }
-    let answer = refusal(alloc, &[])?;
-    assert_eq!(rt; answer, Some(Refusal::BadClass(BadClass::Truncated)));
+    assert!(rt; is_refused(alloc, &[], BadClass::Truncated)?);
     Ok(())
 }
 
@@ -90,29 +93,34 @@ fn a_class_that_breaks_a_rule_is_refused(rt: HostRuntime) -> Result<(), Fail> {
         &[5, 0, 0, 0, 0, 0, 0, 0, 0],
         &[0, 0x21, 0, 6, 0, 3, 0, 0, 0, 0, 0, 0, 0, 0],
     ];
-    let answer = refusal(rt.alloc(), &parts)?;
-    assert_eq!(rt; answer, Some(Refusal::BadClass(BadClass::Rule(broken))));
+    assert!(rt; is_refused(rt.alloc(), &parts, BadClass::Rule(broken))?);
     Ok(())
 }
 
-/// How many words a class has that has an attribute of so many bytes.
-fn words_with(alloc: Global, count: u32) -> Result<Result<u32, Refusal>, AllocError> {
+/// How many words a class has.
+fn words_of(alloc: Global, bytes: &[u8]) -> Result<u32, Refusal> {
+    Ok(prepare_bytes(alloc, bytes)?.words())
+}
+
+/// Whether a class that has an attribute of so many bytes has so many words, or this refusal.
+fn has_words(
+    alloc: Global,
+    count: u32,
+    expected: Result<u32, Refusal>,
+) -> Result<bool, AllocError> {
     let bytes = with_attribute(alloc, count)?;
-    Ok(match prepare_bytes(alloc, &bytes) {
-        Ok(class) => Ok(class.words()),
-        Err(refusal) => Err(refusal),
-    })
+    Ok(words_of(alloc, &bytes) == expected)
 }
 
 #[test]
 fn records_have_a_limit(rt: HostRuntime) -> Result<(), Fail> {
     let alloc = rt.alloc();
-    assert_eq!(rt; words_with(alloc, 4_194_144)?, Ok(524_288));
-    assert_eq!(rt; words_with(alloc, 4_194_145)?, Err(Refusal::RecordTooLong));
+    assert!(rt; has_words(alloc, 4_194_144, Ok(524_288))?);
+    assert!(rt; has_words(alloc, 4_194_145, Err(Refusal::RecordTooLong))?);
     Ok(())
 }
 
-const TOLD: [(Refusal, u8, &str); 15] = [
+static TOLD: [(Refusal, u8, &str); 15] = [
     (Refusal::BadName, 1, "name"),
     (Refusal::LoaderExists, 2, "loader exists"),
     (Refusal::NoLoader, 3, "no loader"),
@@ -130,12 +138,16 @@ const TOLD: [(Refusal, u8, &str); 15] = [
     (Refusal::BadLine, 15, "line"),
 ];
 
+fn has_text(alloc: Global, refusal: Refusal, text: &str) -> Result<bool, AllocError> {
+    let told = format!(in alloc; "{refusal}")?;
+    Ok(told.as_str() == text)
+}
+
 #[test]
 fn refusals_have_their_numbers_and_texts(rt: HostRuntime) -> Result<(), AllocError> {
     for (refusal, number, text) in &TOLD {
         assert_eq!(rt; refusal.number(), *number);
-        let told = format!(in rt.alloc(); "{refusal}")?;
-        assert_eq!(rt; told.as_str(), *text);
+        assert!(rt; has_text(rt.alloc(), *refusal, text)?, "{text}");
     }
     Ok(())
 }

@@ -3,67 +3,88 @@ use crate::record_samples::{
     ALL_TAGS, RECORD_A, RECORD_ALL_TAGS, bytes_of, record_bytes, record_of, record_of_class,
 };
 use crate::samples::{CLASS_A, with_attribute};
-use cm_class::read_shape;
+use cm_class::{Class, read_shape};
 use cm_record::{Record, RecordRefusal, build};
-use std::alloc::Global;
-use std::process::Abort;
+use std::alloc::{AllocError, Global};
 use std::test::Fail;
 
-fn has_words(rt: &(impl Abort + AllocGlobal), record: &Record, words: &[u64]) -> Result<(), Fail> {
-    let found = record_bytes(rt.alloc(), record)?;
-    let expected = bytes_of(rt.alloc(), words)?;
-    assert_eq!(rt; found, expected);
-    Ok(())
+fn has_words(alloc: Global, record: &Record, words: &[u64]) -> Result<bool, AllocError> {
+    let found = record_bytes(alloc, record)?;
+    Ok(found == bytes_of(alloc, words)?)
+}
+
+/// Whether the record of a class has so many words, and these.
+fn is_laid(alloc: Global, bytes: &[u8], words: &[u64], count: u32) -> Result<bool, Fail> {
+    let record = record_of(alloc, bytes)?;
+    Ok(has_words(alloc, &record, words)? && record.words() == count)
 }
 
 #[test]
 fn records_are_as_described(rt: HostRuntime) -> Result<(), Fail> {
-    is_laid(&rt, &CLASS_A, &RECORD_A, 16)?;
-    is_laid(&rt, &ALL_TAGS, &RECORD_ALL_TAGS, 44)
+    assert!(rt; is_laid(rt.alloc(), &CLASS_A, &RECORD_A, 16)?);
+    assert!(rt; is_laid(rt.alloc(), &ALL_TAGS, &RECORD_ALL_TAGS, 44)?);
+    Ok(())
 }
 
-/// That the record of a class has so many words, and these.
-fn is_laid(
-    rt: &(impl Abort + AllocGlobal),
-    bytes: &[u8],
-    words: &[u64],
-    count: u32,
-) -> Result<(), Fail> {
-    let record = record_of(rt.alloc(), bytes)?;
-    assert_eq!(rt; record.words(), count);
-    has_words(rt, &record, words)
+/// The class of the record that has these words.
+fn class_of_words(alloc: Global, words: &[u64]) -> Result<Class, Fail> {
+    let record = Record::read(alloc, words)?;
+    Ok(record.to_class(alloc)?)
 }
 
-fn comes_back(rt: &(impl Abort + AllocGlobal), words: &[u64]) -> Result<(), Fail> {
-    let class = Record::read(rt.alloc(), words)?.to_class(rt.alloc())?;
-    let again = record_of_class(rt.alloc(), &class)?;
-    has_words(rt, &again, words)
+fn record_again(alloc: Global, words: &[u64]) -> Result<Record, Fail> {
+    let class = class_of_words(alloc, words)?;
+    record_of_class(alloc, &class)
+}
+
+/// Whether the record of the class that a record gives has its words.
+fn comes_back(alloc: Global, words: &[u64]) -> Result<bool, Fail> {
+    let again = record_again(alloc, words)?;
+    Ok(has_words(alloc, &again, words)?)
 }
 
 #[test]
 fn records_are_read_and_give_their_class(rt: HostRuntime) -> Result<(), Fail> {
-    comes_back(&rt, &RECORD_A)?;
-    comes_back(&rt, &RECORD_ALL_TAGS)
+    assert!(rt; comes_back(rt.alloc(), &RECORD_A)?);
+    assert!(rt; comes_back(rt.alloc(), &RECORD_ALL_TAGS)?);
+    Ok(())
+}
+
+/// How many words a class's record has.
+fn words_of(alloc: Global, class: &Class) -> Result<u32, RecordRefusal> {
+    Ok(build(alloc, class)?.words())
 }
 
 /// How many words the record of a class has that has an attribute of so many bytes.
 fn words_with(alloc: Global, count: u32) -> Result<Result<u32, RecordRefusal>, Fail> {
-    let bytes = with_attribute(alloc, count)?;
-    let class = read_shape(alloc, &bytes)?;
-    Ok(match build(alloc, &class) {
-        Ok(record) => Ok(record.words()),
-        Err(refusal) => Err(refusal),
-    })
+    let class = class_with(alloc, count)?;
+    Ok(words_of(alloc, &class))
 }
+
+/// Class A with an attribute of so many bytes.
+fn class_with(alloc: Global, count: u32) -> Result<Class, Fail> {
+    let bytes = with_attribute(alloc, count)?;
+    Ok(read_shape(alloc, &bytes)?)
+}
+
+/// As many bytes of an attribute as the longest record has, behind 20 words.
+const MOST: u32 = 8 * (524_288 - 20);
+
+/// Bytes of an attribute, and the words of the record: 20, and one for each eight bytes.
+const COUNTS: [(u32, Result<u32, RecordRefusal>); 4] = [
+    (0, Ok(20)),
+    (9, Ok(22)),
+    (MOST, Ok(524_288)),
+    (MOST + 1, Err(RecordRefusal::TooLong)),
+];
 
 #[test]
 fn a_record_has_at_most_the_greatest_number_of_words(rt: HostRuntime) -> Result<(), Fail> {
-    let alloc = rt.alloc();
-    // 20 words, and one for each eight bytes of the attribute.
-    assert_eq!(rt; words_with(alloc, 0)?, Ok(20));
-    assert_eq!(rt; words_with(alloc, 9)?, Ok(22));
-    let most = 8 * (524_288 - 20);
-    assert_eq!(rt; words_with(alloc, most)?, Ok(524_288));
-    assert_eq!(rt; words_with(alloc, most + 1)?, Err(RecordRefusal::TooLong));
+    for (count, words) in &COUNTS {
+        assert!(rt;
+            words_with(rt.alloc(), *count)? == *words,
+            "of {count} bytes"
+        );
+    }
     Ok(())
 }

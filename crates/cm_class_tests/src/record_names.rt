@@ -2,27 +2,36 @@
 use crate::record_samples::{RECORD_A, RECORD_ALL_TAGS, with_word};
 use cm_record::Record;
 use std::alloc::{AllocError, Global};
-use std::process::Abort;
 use std::test::Fail;
 
-fn has_names(
-    rt: &(impl Abort + AllocGlobal),
-    record: &Record,
+fn has_name(alloc: Global, record: &Record, name: &[u8]) -> Result<bool, AllocError> {
+    Ok(record.class_name(alloc)?.as_slice() == name)
+}
+
+fn has_super_name(alloc: Global, record: &Record, name: Option<&[u8]>) -> Result<bool, AllocError> {
+    Ok(record.super_name(alloc)?.as_deref() == name)
+}
+
+/// Whether the record of these words has flags 0021 and these names.
+fn has_parts(
+    alloc: Global,
+    words: &[u64],
     name: &[u8],
     super_name: Option<&[u8]>,
-) -> Result<(), AllocError> {
-    assert_eq!(rt; record.class_name(rt.alloc())?.as_slice(), name);
-    assert_eq!(rt; record.super_name(rt.alloc())?.as_deref(), super_name);
-    Ok(())
+) -> Result<bool, Fail> {
+    let record = Record::read(alloc, words)?;
+    let is_named = has_name(alloc, &record, name)?;
+    let has_super = has_super_name(alloc, &record, super_name)?;
+    Ok(record.flags() == 0x21 && is_named && has_super)
 }
 
 #[test]
 fn accessors_give_the_parts_of_the_class(rt: HostRuntime) -> Result<(), Fail> {
-    let record = Record::read(rt.alloc(), &RECORD_A)?;
-    assert_eq!(rt; record.flags(), 0x21);
-    has_names(&rt, &record, b"A", Some(b"java/lang/Object"))?;
-    let record = Record::read(rt.alloc(), &RECORD_ALL_TAGS)?;
-    has_names(&rt, &record, &[1, 2, 3, 4, 5, 6, 7, 8, 9], None)?;
+    let alloc = rt.alloc();
+    let super_name = Some(b"java/lang/Object".as_slice());
+    assert!(rt; has_parts(alloc, &RECORD_A, b"A", super_name)?);
+    let name = [1, 2, 3, 4, 5, 6, 7, 8, 9];
+    assert!(rt; has_parts(alloc, &RECORD_ALL_TAGS, &name, None)?);
     Ok(())
 }
 

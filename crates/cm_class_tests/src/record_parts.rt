@@ -8,7 +8,7 @@ use std::process::Abort;
 use std::test::Fail;
 
 // The constants of the class with all tags, by their indexes; its first run begins at word 39.
-const CONSTANTS: [(u16, Option<Constant>); 18] = [
+static CONSTANTS: [(u16, Option<Constant>); 18] = [
     (0, None),
     (1, Some(Constant::Utf8 { at: 312, len: 9 })),
     (2, Some(Constant::Integer(0x0102_0304))),
@@ -67,7 +67,7 @@ const CONSTANTS: [(u16, Option<Constant>); 18] = [
 
 fn has_constants(rt: &impl Abort, record: &Record, rows: &[(u16, Option<Constant>)]) {
     for (index, constant) in rows {
-        assert_eq!(rt; record.constant(*index), *constant, "at {index}");
+        assert!(rt; record.constant(*index) == *constant, "at {index}");
     }
 }
 
@@ -122,7 +122,7 @@ const MORE_SLOTS: [u8; 21] = [
 ];
 
 // Max stack 2, max locals 3, one byte of code, one handler, no attributes.
-const BODY: [u8; 21] = [
+static BODY: [u8; 21] = [
     0, 2, 0, 3, 0, 0, 0, 1, 0xb1, 0, 1, 0, 0, 0, 1, 0, 0, 0, 0, 0, 0,
 ];
 
@@ -171,26 +171,27 @@ const OTHERS: [(&[u8], &[u8]); 5] = [
     (b"java/lang/Object", b"A"),
 ];
 
-fn has_members(rt: &impl Abort, record: &Record) {
-    let fields = [record.field(b"m", b"I"), record.field(b"m", b"()V")];
-    let expected = [Some(member(false, 0, 1, 0)), Some(member(false, 1, 2, 0))];
-    assert_eq!(rt; fields, expected);
-    let methods = [record.method(b"m", b"I"), record.method(b"m", b"()V")];
-    let expected = [Some(member(true, 0, 1, 0)), Some(member(true, 1, 9, 3))];
-    assert_eq!(rt; methods, expected);
+fn has_members(record: &Record) -> bool {
+    record.field(b"m", b"I") == Some(member(false, 0, 1, 0))
+        && record.field(b"m", b"()V") == Some(member(false, 1, 2, 0))
+        && record.method(b"m", b"I") == Some(member(true, 0, 1, 0))
+        && record.method(b"m", b"()V") == Some(member(true, 1, 9, 3))
+}
+
+fn has_no_others(record: &Record) -> bool {
     for (name, descriptor) in &OTHERS {
-        let found = [
-            record.field(name, descriptor),
-            record.method(name, descriptor),
-        ];
-        assert_eq!(rt; found, [None, None]);
+        if record.field(name, descriptor).is_some() || record.method(name, descriptor).is_some() {
+            return false;
+        }
     }
+    true
 }
 
 #[test]
 fn members_are_found_by_name_and_descriptor(rt: HostRuntime) -> Result<(), Fail> {
     let record = with_members(rt.alloc(), &BODY)?;
-    has_members(&rt, &record);
+    assert!(rt; has_members(&record));
+    assert!(rt; has_no_others(&record));
     Ok(())
 }
 
@@ -201,37 +202,49 @@ fn method_of(record: &Record) -> Result<Member, Fail> {
     }
 }
 
-fn others_have_no_code(rt: &impl Abort, record: &Record, method: Member) {
-    let other = Member {
+// Whether neither a field of the method's index nor another method has code.
+fn others_have_none(record: &Record, method: Member) -> bool {
+    let field = Member {
         is_method: false,
         ..method
     };
-    assert_eq!(rt; record.code(&other), None);
-    for index in [0, 2, 3, 0xffff] {
-        let other = Member { index, ..method };
-        assert_eq!(rt; record.code(&other), None, "method {index}");
+    if record.code(&field).is_some() {
+        return false;
     }
+    for index in &[0, 2, 3, 0xffff] {
+        let other = Member {
+            index: *index,
+            ..method
+        };
+        if record.code(&other).is_some() {
+            return false;
+        }
+    }
+    true
 }
 
-// That the method's code has the parts of the body, which lies there among the record's bytes.
-fn has_code(rt: &impl Abort, record: &Record, bytes: &[u8]) -> Result<(), Fail> {
-    let method = method_of(record)?;
-    let Some(code) = record.code(&method) else {
-        return Err(Fail::new("it has a code"));
-    };
+// Whether a code has the parts of the body, which lies there among the record's bytes.
+fn is_body(code: &Code, bytes: &[u8]) -> bool {
     let expected = Code {
         max_stack: 2,
         max_locals: 3,
         code_len: 1,
         handlers: 1,
-        ..code
+        ..*code
     };
-    assert_eq!(rt; code, expected);
-    assert_eq!(rt; code.handlers_at.checked_sub(code.code_at), Some(3));
     let (at, end) = (code.code_at as usize, code.code_at as usize + 11);
-    assert!(rt; end <= bytes.len());
-    assert_eq!(rt; &bytes[at..end], &BODY[8..19]);
-    others_have_no_code(rt, record, method);
+    *code == expected
+        && code.handlers_at.checked_sub(code.code_at) == Some(3)
+        && end <= bytes.len()
+        && &bytes[at..end] == &BODY[8..19]
+}
+
+// That the method has the code of the body, and nothing else has code.
+fn has_code(rt: &impl Abort, record: &Record, bytes: &[u8]) -> Result<(), Fail> {
+    let method = method_of(record)?;
+    let code = record.code(&method).ok_or("it has a code")?;
+    assert!(rt; is_body(&code, bytes));
+    assert!(rt; others_have_none(record, method));
     Ok(())
 }
 
@@ -253,25 +266,33 @@ fn is_code(alloc: Global, body: &[u8]) -> Result<bool, Fail> {
 #[test]
 fn a_code_that_ends_early_is_none(rt: HostRuntime) -> Result<(), Fail> {
     for end in 0..BODY.len() {
-        let found = is_code(rt.alloc(), &BODY[..end])?;
-        assert_eq!(rt; found, end >= 19, "of {end} bytes");
+        let is_found = is_code(rt.alloc(), &BODY[..end])?;
+        assert!(rt; is_found == (end >= 19), "of {end} bytes");
     }
     Ok(())
 }
 
-fn same_name(one: &Record, other: Record) -> bool {
-    one.same_name(&other)
+// Bytes of class A, what stands in their place, and whether it has the same name then: a letter of
+// its name; this_class 3, which leads to `java/lang/Object`, and 2, a Utf8, which leads to no name.
+const OTHER_BYTES: [(usize, u8, bool); 4] = [
+    (16, 0x42, false),
+    (42, 3, false),
+    (42, 2, false),
+    (42, 1, true),
+];
+
+fn has_same_name(alloc: Global, one: &Record, place: usize, byte: u8) -> Result<bool, Fail> {
+    let other = record_of(alloc, &with_byte(place, byte))?;
+    Ok(one.same_name(&other))
 }
 
 fn is_compared(rt: &(impl Abort + AllocGlobal), one: &Record) -> Result<(), Fail> {
-    let alloc = rt.alloc();
-    assert!(rt; same_name(one, with_members(alloc, &BODY)?));
-    assert!(rt; !same_name(one, record_of(alloc, &with_byte(16, 0x42))?));
-    // this_class 3 leads to `java/lang/Object`, and 2, a Utf8, to no name.
-    for (this_class, same) in &[(3, false), (2, false), (1, true)] {
-        let other = record_of(alloc, &with_byte(42, *this_class))?;
-        assert_eq!(rt; same_name(one, other), *same);
+    for (place, byte, is_same) in &OTHER_BYTES {
+        let found = has_same_name(rt.alloc(), one, *place, *byte)?;
+        assert!(rt; found == *is_same, "{byte} at {place}");
     }
+    let other = with_members(rt.alloc(), &BODY)?;
+    assert!(rt; one.same_name(&other));
     Ok(())
 }
 
@@ -288,6 +309,13 @@ fn order(alloc: Global, one: u8, two: u8) -> Result<Ordering, Fail> {
     Ok(one.cmp_name(&two))
 }
 
+// Two letters, and the order of the first beside the second.
+const ORDERS: [(u8, u8, Ordering); 3] = [
+    (b'B', 0xc3, Ordering::Less),
+    (0xc3, b'B', Ordering::Greater),
+    (b'B', b'B', Ordering::Equal),
+];
+
 const LETTERS: [(&[u8], Ordering); 5] = [
     (b"A", Ordering::Greater),
     (b"", Ordering::Greater),
@@ -302,19 +330,27 @@ const NINES: [(&[u8], Ordering); 3] = [
     (&[1, 2, 3, 4, 5, 6, 7, 8, 10], Ordering::Less),
 ];
 
-fn are_ordered(rt: &impl Abort, record: &Record, names: &[(&[u8], Ordering)]) {
+fn are_ordered(record: &Record, names: &[(&[u8], Ordering)]) -> bool {
     for (name, order) in names {
-        assert_eq!(rt; record.cmp_name_to(name), *order);
+        if record.cmp_name_to(name) != *order {
+            return false;
+        }
     }
+    true
+}
+
+// Whether the name of the class of these bytes is in this order beside each of these.
+fn is_ordered(alloc: Global, bytes: &[u8], names: &[(&[u8], Ordering)]) -> Result<bool, Fail> {
+    let record = record_of(alloc, bytes)?;
+    Ok(are_ordered(&record, names))
 }
 
 #[test]
 fn names_are_ordered_by_their_bytes(rt: HostRuntime) -> Result<(), Fail> {
-    let alloc = rt.alloc();
-    assert_eq!(rt; order(alloc, b'B', 0xc3)?, Ordering::Less);
-    assert_eq!(rt; order(alloc, 0xc3, b'B')?, Ordering::Greater);
-    assert_eq!(rt; order(alloc, b'B', b'B')?, Ordering::Equal);
-    are_ordered(&rt, &record_of(alloc, &with_byte(16, b'B'))?, &LETTERS);
-    are_ordered(&rt, &record_of(alloc, &ALL_TAGS)?, &NINES);
+    for (one, two, expected) in &ORDERS {
+        assert_eq!(rt; order(rt.alloc(), *one, *two)?, *expected);
+    }
+    assert!(rt; is_ordered(rt.alloc(), &with_byte(16, b'B'), &LETTERS)?);
+    assert!(rt; is_ordered(rt.alloc(), &ALL_TAGS, &NINES)?);
     Ok(())
 }

@@ -8,6 +8,10 @@ use std::alloc::AllocError;
 use std::process::Abort;
 use std::test::Fail;
 
+fn tells(reply: &Reply, kind: ReplyKind, line: &[u8]) -> bool {
+    reply.kind == kind && reply.line.as_slice() == line
+}
+
 /// That there is a reply, of this kind and with this line.
 fn is_told(
     rt: &impl Abort,
@@ -16,8 +20,7 @@ fn is_told(
     line: &[u8],
 ) -> Result<(), AllocError> {
     let reply = reply?;
-    assert_eq!(rt; reply.kind, kind);
-    assert_eq!(rt; reply.line.as_slice(), line);
+    assert!(rt; tells(&reply, kind, line));
     Ok(())
 }
 
@@ -49,7 +52,7 @@ fn a_class_is_told_with_its_flags_and_its_super_class(rt: HostRuntime) -> Result
     Ok(is_told(&rt, reply, ReplyKind::Done, line)?)
 }
 
-const REFUSED: [(Refusal, &[u8]); 22] = [
+static REFUSED: [(Refusal, &[u8]); 22] = [
     (Refusal::BadName, b"refused 1 name\n"),
     (Refusal::LoaderExists, b"refused 2 loader exists\n"),
     (Refusal::NoLoader, b"refused 3 no loader\n"),
@@ -129,9 +132,8 @@ fn refusals_are_told_by_number_and_text(rt: HostRuntime) -> Result<(), AllocErro
             line,
         )?;
     }
-    let reply = Reply::bad_line(rt.alloc())?;
-    assert_eq!(rt; reply.line.as_slice(), b"refused 15 line\n".as_slice());
-    Ok(())
+    let reply = Reply::bad_line(rt.alloc());
+    is_told(&rt, reply, ReplyKind::Refused, b"refused 15 line\n")
 }
 
 #[test]
