@@ -1,9 +1,9 @@
 //! Disks that hold a cache, and what is in it.
 
-use cm_disk::SimDisk;
+use cm_disk::{Disk, SimDisk};
 use cm_pool::Geometry;
 use cm_recover::format;
-use cm_tool::apply_script;
+use cm_tool::{ApplyFault, Outcome, apply_script};
 use std::alloc::Global;
 use std::test::*;
 
@@ -11,31 +11,32 @@ use std::test::*;
 pub fn new_disk(alloc: Global) -> Result<SimDisk, Fail> {
     let geometry = Geometry::new(8, 64, 4096).ok_or("a geometry")?;
     let mut disk = SimDisk::new(alloc);
-    format(alloc, &mut disk, geometry)
-        .ok()
-        .ok_or("a new cache")?;
+    if format(alloc, &mut disk, geometry).is_err() {
+        return Err("a new cache".into());
+    }
     Ok(disk)
 }
 
-/// Whether the cache on a disk has loaders of these names, and this is the reply to one more.
-pub fn names_are_there(
+/// The replies to a script on a disk, what it came to, and the disk.
+pub fn replies<D: Disk>(
     alloc: Global,
-    disk: SimDisk,
-    names: &[&[u8]],
-    next: &[u8],
-) -> Result<bool, Fail> {
-    let mut script = Vec::new(alloc);
-    let mut wanted = Vec::new(alloc);
-    for name in names {
-        script.extend_from_slice(b"loader ")?;
-        script.extend_from_slice(name)?;
-        script.push(b'\n')?;
-        wanted.extend_from_slice(b"refused 2 loader exists\n")?;
-    }
-    script.extend_from_slice(b"loader another\n")?;
-    wanted.extend_from_slice(next)?;
-    let mut reader = script.as_slice();
+    script: &[u8],
+    disk: D,
+) -> (Vec<u8>, Result<Outcome, ApplyFault>, D) {
+    let mut reader = script;
     let mut written = Vec::new(alloc);
-    let _ended = apply_script(alloc, &mut reader, &mut written, disk);
-    Ok(written == wanted)
+    let (outcome, disk) = apply_script(alloc, &mut reader, &mut written, disk);
+    (written, outcome, disk)
+}
+
+/// Whether these are the replies to a script on a disk.
+pub fn are_replies(alloc: Global, disk: SimDisk, script: &[u8], wanted: &[u8]) -> bool {
+    let (written, _outcome, _disk) = replies(alloc, script, disk);
+    written.as_slice() == wanted
+}
+
+/// Whether the cache on a disk has loader `a`, and one more is its second.
+pub fn has_one_loader(alloc: Global, disk: SimDisk) -> bool {
+    let script = b"loader a\nloader another\n";
+    are_replies(alloc, disk, script, b"refused 2 loader exists\nok 2\n")
 }

@@ -1,11 +1,12 @@
 //! Disks that hold a cache.
 
-use cm_disk::{Disk, SimDisk};
-use cm_inspect::{NotInspected, Status};
+use crate::disks::replies;
+use cm_disk::{DeviceFault, Disk, SimDisk};
+use cm_inspect::{NotInspected, Status, check_to, list_to};
 use cm_pool::Geometry;
 use cm_recover::format;
-use cm_tool::apply_script;
 use std::alloc::Global;
+use std::io::Write;
 use std::test::*;
 
 /// The class `A` of `java/lang/Object` up to the length of its name, and from behind its name on.
@@ -18,9 +19,9 @@ const CLASS: (&[u8], &[u8]) = (
 pub fn empty_cache(alloc: Global) -> Result<SimDisk, Fail> {
     let geometry = Geometry::new(3, 2, 256).ok_or("within the limits")?;
     let mut disk = SimDisk::new(alloc);
-    format(alloc, &mut disk, geometry)
-        .ok()
-        .ok_or("a new cache")?;
+    if format(alloc, &mut disk, geometry).is_err() {
+        return Err("a new cache".into());
+    }
     Ok(disk)
 }
 
@@ -37,32 +38,66 @@ fn expand(alloc: Global, script: &[u8]) -> Result<Vec<u8>, Fail> {
     Ok(text)
 }
 
+/// The disk after a script that runs to its end.
+fn run_script(alloc: Global, script: &[u8], disk: SimDisk) -> Result<SimDisk, Fail> {
+    let (_replies, outcome, disk) = replies(alloc, script, disk);
+    match outcome {
+        Ok(_) => Ok(disk),
+        Err(_) => Err("a run to the end".into()),
+    }
+}
+
 /// A disk that holds the cache after this script.
 pub fn cache_after(alloc: Global, script: &[u8]) -> Result<SimDisk, Fail> {
     let script = expand(alloc, script)?;
-    let mut reader = script.as_slice();
-    let mut replies = Vec::new(alloc);
-    let (outcome, disk) = apply_script(alloc, &mut reader, &mut replies, empty_cache(alloc)?);
-    outcome.ok().ok_or("a run to the end")?;
-    Ok(disk)
+    run_script(alloc, &script, empty_cache(alloc)?)
+}
+
+fn change(disk: &mut SimDisk, at: u64, byte: u8) -> Result<(), DeviceFault> {
+    if at < 100_000 && at <= disk.len()? {
+        disk.write_at(at, &[byte])?;
+    }
+    Ok(())
 }
 
 /// A disk with the empty cache but for one byte.
 pub fn changed_cache(alloc: Global, at: u64, byte: u8) -> Result<SimDisk, Fail> {
     let mut disk = empty_cache(alloc)?;
-    if at < 100_000 && at <= disk.len()? {
-        disk.write_at(at, &[byte])?;
-    }
+    change(&mut disk, at, byte)?;
     Ok(disk)
+}
+
+fn shorten(disk: &mut SimDisk, len: u64) -> Result<(), DeviceFault> {
+    if len <= disk.len()? {
+        disk.cut(len)?;
+    }
+    Ok(())
 }
 
 /// A disk with the beginning of the empty cache.
 pub fn shortened_cache(alloc: Global, len: u64) -> Result<SimDisk, Fail> {
     let mut disk = empty_cache(alloc)?;
-    if len <= disk.len()? {
-        disk.cut(len)?;
-    }
+    shorten(&mut disk, len)?;
     Ok(disk)
+}
+
+/// What is told of a disk.
+#[derive(Clone, Copy)]
+pub enum Verb {
+    Check,
+    List,
+}
+
+pub fn tell<W: Write, D: Disk>(
+    alloc: Global,
+    verb: Verb,
+    writer: &mut W,
+    disk: D,
+) -> Result<(Status, D), NotInspected<D>> {
+    match verb {
+        Verb::Check => check_to(alloc, writer, disk),
+        Verb::List => list_to(alloc, writer, disk),
+    }
 }
 
 /// The status and the disk of what was told to the end.
@@ -78,4 +113,25 @@ pub fn tell_to_end<D: Drop>(
             },
         ) => Err("a status".into()),
     }
+}
+
+/// Whether these lines were to be told with the status, or that the device failed, where it did.
+fn is_due(status: Status, told: &[u8], lines: &[u8]) -> bool {
+    match status {
+        Status::Failed => told == b"device\n".as_slice(),
+        _ => told == lines,
+    }
+}
+
+/// The status of what is told of a disk, whether it is these lines or that the device failed, and
+/// the disk.
+pub fn status_of<D: Disk + Drop>(
+    alloc: Global,
+    verb: Verb,
+    disk: D,
+    lines: &[u8],
+) -> Result<(Status, bool, D), Fail> {
+    let mut told = Vec::new(alloc);
+    let (status, disk) = tell_to_end(tell(alloc, verb, &mut told, disk))?;
+    Ok((status, is_due(status, &told, lines), disk))
 }

@@ -1,28 +1,17 @@
 //! What is told of files that aren't opened.
 
-use crate::inspect_disks::{cache_after, changed_cache, empty_cache, shortened_cache, tell_to_end};
-use cm_disk::{Disk, FuseDisk, SimDisk};
-use cm_inspect::{Status, check_to, list_to};
+use crate::inspect_disks::{
+    Verb, cache_after, changed_cache, empty_cache, shortened_cache, status_of,
+};
+use cm_disk::{FuseDisk, SimDisk};
+use cm_inspect::Status;
 use std::alloc::Global;
 use std::test::*;
 
-/// What a check and a list tell of two like disks, with the statuses.
-fn tell_fault_of<D: Disk + Drop>(
-    alloc: Global,
-    checked: D,
-    listed: D,
-) -> Result<(Vec<u8>, Status, Vec<u8>, Status), Fail> {
-    let (mut check, mut list) = (Vec::new(alloc), Vec::new(alloc));
-    let (check_status, _checked) = tell_to_end(check_to(alloc, &mut check, checked))?;
-    let (list_status, _listed) = tell_to_end(list_to(alloc, &mut list, listed))?;
-    Ok((check, check_status, list, list_status))
-}
-
-/// Whether both verbs tell this line of two like disks, and that they are refused.
-fn is_refused(alloc: Global, checked: SimDisk, listed: SimDisk, line: &[u8]) -> Result<bool, Fail> {
-    let (check, check_status, list, list_status) = tell_fault_of(alloc, checked, listed)?;
-    let is_told = check.as_slice() == line && list.as_slice() == line;
-    Ok(is_told && check_status == Status::Refused && list_status == Status::Refused)
+/// Whether this line is told of a disk, and that it is refused.
+fn is_refused(alloc: Global, verb: Verb, disk: SimDisk, line: &[u8]) -> Result<bool, Fail> {
+    let (status, is_told, _disk) = status_of(alloc, verb, disk, line)?;
+    Ok(status == Status::Refused && is_told)
 }
 
 /// A byte of the empty cache, what stands in its place, and what is told then.
@@ -45,73 +34,76 @@ const CHANGES: [(u64, u8, &[u8]); 8] = [
 fn damaged_files_are_refused(rt: HostRuntime) -> Result<(), Fail> {
     let alloc = rt.alloc();
     for (at, byte, line) in &CHANGES {
-        let checked = changed_cache(alloc, *at, *byte)?;
-        let listed = changed_cache(alloc, *at, *byte)?;
-        assert!(rt; is_refused(alloc, checked, listed, line)?, "{byte} at {at}");
+        for verb in [Verb::Check, Verb::List] {
+            let is_refused = is_refused(alloc, verb, changed_cache(alloc, *at, *byte)?, line)?;
+            assert!(rt; is_refused, "{byte} at {at}");
+        }
     }
     Ok(())
 }
 
+/// The length of the beginning of a cache, and what is told of it.
+const BEGINNINGS: [(u64, &[u8]); 4] = [
+    (0, b"not a cache\n"),
+    (4_095, b"not a cache\n"),
+    (4_096, b"damaged 2 0\n"),
+    (36_863, b"damaged 2 0\n"),
+];
+
 #[test]
 fn short_files_are_refused(rt: HostRuntime) -> Result<(), Fail> {
     let alloc = rt.alloc();
-    let cases: [(u64, &[u8]); 4] = [
-        (0, b"not a cache\n"),
-        (4_095, b"not a cache\n"),
-        (4_096, b"damaged 2 0\n"),
-        (36_863, b"damaged 2 0\n"),
-    ];
-    for (len, line) in &cases {
-        let checked = shortened_cache(alloc, *len)?;
-        let listed = shortened_cache(alloc, *len)?;
-        assert!(rt; is_refused(alloc, checked, listed, line)?, "{len} bytes");
+    for (len, line) in &BEGINNINGS {
+        for verb in [Verb::Check, Verb::List] {
+            let is_refused = is_refused(alloc, verb, shortened_cache(alloc, *len)?, line)?;
+            assert!(rt; is_refused, "{len} bytes");
+        }
     }
     Ok(())
+}
+
+/// The status of what is told of a cache of one class where the device fails behind so many calls,
+/// and whether it is these lines or that the device failed.
+fn tell_behind(alloc: Global, verb: Verb, pass: u64, lines: &[u8]) -> Result<(Status, bool), Fail> {
+    let disk = cache_after(alloc, b"loader app\ndefine app <0141>\n")?;
+    let (status, is_told, _disk) = status_of(alloc, verb, FuseDisk::new(disk, pass, 0), lines)?;
+    Ok((status, is_told))
 }
 
 /// The device fails at one call after another, until all pass.
 #[test]
 fn a_failing_device_is_told(rt: HostRuntime) -> Result<(), Fail> {
     let alloc = rt.alloc();
-    let script = b"loader app\ndefine app <0141>\n";
+    let report = b"ok loaders 1 classes 1 chunks 1 number 2\n";
+    let lines = b"loader app\nclass A words 16 root 0 at 0\n";
     for pass in 0..100 {
-        let checked = FuseDisk::new(cache_after(alloc, script)?, pass, 0);
-        let listed = FuseDisk::new(cache_after(alloc, script)?, pass, 0);
-        let (check, check_status, list, list_status) = tell_fault_of(alloc, checked, listed)?;
-        if list_status == Status::Done {
-            assert_eq!(rt; check_status, Status::Done);
-            assert_eq!(rt;
-                check.as_slice(),
-                b"ok loaders 1 classes 1 chunks 1 number 2\n".as_slice()
-            );
-            assert_eq!(rt;
-                list.as_slice(),
-                b"loader app\nclass A words 16 root 0 at 0\n".as_slice()
-            );
+        let (check, is_checked) = tell_behind(alloc, Verb::Check, pass, report)?;
+        let (list, is_listed) = tell_behind(alloc, Verb::List, pass, lines)?;
+        assert!(rt; is_checked && is_listed, "{pass} calls");
+        if list == Status::Done {
+            assert_eq!(rt; check, Status::Done);
             assert!(rt; pass > 2);
             return Ok(());
         }
-        assert_eq!(rt; list_status, Status::Failed);
-        assert_eq!(rt; list.as_slice(), b"device\n".as_slice());
-        if check_status != Status::Done {
-            assert_eq!(rt; check_status, Status::Failed);
-            assert_eq!(rt; check.as_slice(), b"device\n".as_slice());
-        }
+        assert_eq!(rt; list, Status::Failed);
+        assert!(rt; check != Status::Refused);
     }
     Err("no run met no failure".into())
 }
 
+/// The status of a check of a disk that fails, and that of one when it doesn't fail any more.
+fn check_twice(alloc: Global, disk: FuseDisk) -> Result<[Status; 2], Fail> {
+    let (failed, _, disk) = status_of(alloc, Verb::Check, disk, b"")?;
+    let mut disk = disk.into_inner();
+    disk.disarm();
+    let (done, _, _disk) = status_of(alloc, Verb::Check, disk, b"")?;
+    Ok([failed, done])
+}
+
 #[test]
 fn a_disk_that_failed_is_given_back(rt: HostRuntime) -> Result<(), Fail> {
-    let alloc = rt.alloc();
-    let fuse = FuseDisk::new(empty_cache(alloc)?, 0, 0);
-    let mut line = Vec::new(alloc);
-    let (status, fuse) = tell_to_end(check_to(alloc, &mut line, fuse))?;
-    assert_eq!(rt; status, Status::Failed);
-    let mut disk = fuse.into_inner();
-    disk.disarm();
-    let mut again = Vec::new(alloc);
-    let (status, _) = tell_to_end(check_to(alloc, &mut again, disk))?;
-    assert_eq!(rt; status, Status::Done);
+    let fuse = FuseDisk::new(empty_cache(rt.alloc())?, 0, 0);
+    let statuses = check_twice(rt.alloc(), fuse)?;
+    assert_eq!(rt; statuses, [Status::Failed, Status::Done]);
     Ok(())
 }

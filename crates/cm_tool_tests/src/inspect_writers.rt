@@ -1,9 +1,9 @@
 //! Writers that take a part, or can't pass on what they took.
 
-use crate::inspect_disks::{cache_after, tell_to_end};
+use crate::inspect_disks::{Verb, cache_after, tell, tell_to_end};
 use crate::line_writers::StuckWriter;
 use cm_disk::SimDisk;
-use cm_inspect::{InspectFault, NotInspected, Status, check_to, list_to};
+use cm_inspect::{InspectFault, NotInspected, Status};
 use std::alloc::Global;
 use std::io::{self, ErrorKind, Write};
 use std::test::*;
@@ -55,81 +55,96 @@ fn tell_to_failing(
     }
 }
 
-/// Whether a check into so much room fails behind the report's beginning, and the disk.
-fn check_is_cut(alloc: Global, disk: SimDisk, room: usize) -> Result<(bool, SimDisk), Fail> {
+/// Whether what is told into so much room fails behind the beginning of a text, and the disk.
+fn is_cut(
+    alloc: Global,
+    verb: Verb,
+    disk: SimDisk,
+    text: &[u8],
+    room: usize,
+) -> Result<(bool, SimDisk), Fail> {
     let mut writer = narrow(alloc, room);
-    let (fault, disk) = tell_to_failing(check_to(alloc, &mut writer, disk))?;
-    let is_beginning = Some(writer.bytes.as_slice()) == REPORT.get(..room);
+    let (fault, disk) = tell_to_failing(tell(alloc, verb, &mut writer, disk))?;
+    let is_beginning = Some(writer.bytes.as_slice()) == text.get(..room);
     Ok((fault == InspectFault::Output && is_beginning, disk))
 }
 
-/// The same of a list.
-fn list_is_cut(alloc: Global, disk: SimDisk, room: usize) -> Result<(bool, SimDisk), Fail> {
-    let mut writer = narrow(alloc, room);
-    let (fault, disk) = tell_to_failing(list_to(alloc, &mut writer, disk))?;
-    let is_beginning = Some(writer.bytes.as_slice()) == LIST.get(..room);
-    Ok((fault == InspectFault::Output && is_beginning, disk))
+/// Whether rooms for so much of a report and of a list cut both short, and the disk.
+fn are_both_cut(
+    alloc: Global,
+    disk: SimDisk,
+    (report, report_room): (&[u8], usize),
+    (list, list_room): (&[u8], usize),
+) -> Result<(bool, SimDisk), Fail> {
+    let (check, disk) = is_cut(alloc, Verb::Check, disk, report, report_room)?;
+    let (list, disk) = is_cut(alloc, Verb::List, disk, list, list_room)?;
+    Ok((check && list, disk))
 }
 
-/// How many of the 40 rooms that are less than the list takes cut both short, and the disk.
-fn rooms_that_cut(alloc: Global, disk: SimDisk) -> Result<(u32, SimDisk), Fail> {
+/// How many of the 40 rooms that are less than the list takes cut both short.
+fn rooms_that_cut(alloc: Global, disk: SimDisk) -> Result<u32, Fail> {
     let mut disk = disk;
     let mut cuts = 0;
     for room in 0..40 {
-        let (check, left) = check_is_cut(alloc, disk, room)?;
-        let (list, left) = list_is_cut(alloc, left, room)?;
-        cuts = u32::from(check && list).saturating_add(cuts);
+        let (are_cut, left) = are_both_cut(alloc, disk, (REPORT, room), (LIST, room))?;
+        cuts = u32::from(are_cut).saturating_add(cuts);
         disk = left;
     }
-    Ok((cuts, disk))
+    Ok(cuts)
 }
 
 #[test]
 fn a_writer_that_fails_has_a_beginning(rt: HostRuntime) -> Result<(), Fail> {
     let alloc = rt.alloc();
     let disk = cache_after(alloc, b"loader app\ndefine app <0141>\n")?;
-    let (cuts, _) = rooms_that_cut(alloc, disk)?;
-    assert_eq!(rt; cuts, 40);
+    assert_eq!(rt; rooms_that_cut(alloc, disk)?, 40);
     Ok(())
+}
+
+/// Whether what is told into room for a text is the text, and the disk.
+fn is_whole(
+    alloc: Global,
+    verb: Verb,
+    disk: SimDisk,
+    text: &[u8],
+) -> Result<(bool, SimDisk), Fail> {
+    let mut writer = narrow(alloc, text.len());
+    let (status, disk) = tell_to_end(tell(alloc, verb, &mut writer, disk))?;
+    let is_text = writer.bytes.as_slice() == text;
+    Ok((status == Status::Done && is_text, disk))
 }
 
 #[test]
 fn a_writer_of_just_enough_room_has_it_all(rt: HostRuntime) -> Result<(), Fail> {
     let alloc = rt.alloc();
     let disk = cache_after(alloc, b"loader app\ndefine app <0141>\n")?;
-    let mut writer = narrow(alloc, 41);
-    let (status, disk) = tell_to_end(check_to(alloc, &mut writer, disk))?;
-    assert_eq!(rt; status, Status::Done);
-    assert_eq!(rt; writer.bytes.as_slice(), REPORT);
-    let mut writer = narrow(alloc, 40);
-    let (status, _) = tell_to_end(list_to(alloc, &mut writer, disk))?;
-    assert_eq!(rt; status, Status::Done);
-    assert_eq!(rt; writer.bytes.as_slice(), LIST);
+    let (has_report, disk) = is_whole(alloc, Verb::Check, disk, REPORT)?;
+    let (has_list, _disk) = is_whole(alloc, Verb::List, disk, LIST)?;
+    assert!(rt; has_report && has_list);
     Ok(())
 }
 
 #[test]
 fn a_fault_that_is_not_written_is_no_status(rt: HostRuntime) -> Result<(), Fail> {
-    let alloc = rt.alloc();
-    let mut writer = narrow(alloc, 3);
-    let (fault, disk) = tell_to_failing(check_to(alloc, &mut writer, SimDisk::new(alloc)))?;
-    assert_eq!(rt; fault, InspectFault::Output);
-    assert_eq!(rt; writer.bytes.as_slice(), b"not".as_slice());
-    let mut writer = narrow(alloc, 11);
-    let (fault, _) = tell_to_failing(list_to(alloc, &mut writer, disk))?;
-    assert_eq!(rt; fault, InspectFault::Output);
-    assert_eq!(rt; writer.bytes.as_slice(), b"not a cache".as_slice());
+    let line = b"not a cache\n".as_slice();
+    let disk = SimDisk::new(rt.alloc());
+    let (are_cut, _disk) = are_both_cut(rt.alloc(), disk, (line, 3), (line, 11))?;
+    assert!(rt; are_cut);
     Ok(())
+}
+
+/// Why a check and a list of a disk aren't passed on.
+fn stuck_faults(alloc: Global, disk: SimDisk) -> Result<[InspectFault; 2], Fail> {
+    let (check, disk) = tell_to_failing(tell(alloc, Verb::Check, &mut StuckWriter, disk))?;
+    let (list, _disk) = tell_to_failing(tell(alloc, Verb::List, &mut StuckWriter, disk))?;
+    Ok([check, list])
 }
 
 #[test]
 fn lines_that_are_not_passed_on_are_a_fault(rt: HostRuntime) -> Result<(), Fail> {
-    let alloc = rt.alloc();
-    let disk = cache_after(alloc, b"loader app\n")?;
-    let (fault, disk) = tell_to_failing(check_to(alloc, &mut StuckWriter, disk))?;
-    assert_eq!(rt; fault, InspectFault::Output);
-    let (fault, _) = tell_to_failing(list_to(alloc, &mut StuckWriter, disk))?;
-    assert_eq!(rt; fault, InspectFault::Output);
+    let disk = cache_after(rt.alloc(), b"loader app\n")?;
+    let faults = stuck_faults(rt.alloc(), disk)?;
+    assert_eq!(rt; faults, [InspectFault::Output; 2]);
     Ok(())
 }
 

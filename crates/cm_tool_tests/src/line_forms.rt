@@ -1,4 +1,5 @@
 use cm_lines::{Line, NameFault, escape_into, parse, unescape};
+use std::alloc::Global;
 use std::test::*;
 
 const FORMS: [(&[u8], Line<'_>); 5] = [
@@ -12,7 +13,7 @@ const FORMS: [(&[u8], Line<'_>); 5] = [
 #[test]
 fn lines_of_known_forms_are_parsed(rt: HostRuntime) -> Result<(), Fail> {
     for (line, wanted) in &FORMS {
-        assert_eq!(rt; parse(line), Some(*wanted));
+        assert!(rt; parse(line) == Some(*wanted));
     }
     Ok(())
 }
@@ -39,23 +40,38 @@ const OTHERS: [&[u8]; 16] = [
 #[test]
 fn other_lines_ask_for_nothing(rt: HostRuntime) -> Result<(), Fail> {
     for line in &OTHERS {
-        assert_eq!(rt; parse(line), None);
+        assert!(rt; parse(line).is_none());
     }
     Ok(())
 }
 
 const BAD_ESCAPES: [&[u8]; 6] = [b"%41", b"%", b"%C", b"a b", b"%g0", b"\x80"];
 
+/// Whether this text is written for a name.
+fn is_escaped(alloc: Global, name: &[u8], text: &[u8]) -> Result<bool, Fail> {
+    let mut written = Vec::new(alloc);
+    escape_into(&mut written, name)?;
+    Ok(written.as_slice() == text)
+}
+
+/// Whether this name is read from a text.
+fn is_unescaped(alloc: Global, text: &[u8], name: &[u8]) -> bool {
+    match unescape(alloc, text) {
+        Ok(found) => found.as_slice() == name,
+        Err(_) => false,
+    }
+}
+
+fn is_bad_escape(alloc: Global, text: &[u8]) -> bool {
+    matches!(unescape(alloc, text), Err(NameFault::BadEscape))
+}
+
 #[test]
 fn names_are_escaped_and_read_again(rt: HostRuntime) -> Result<(), Fail> {
-    let alloc = rt.alloc();
-    let mut text = Vec::new(alloc);
-    escape_into(&mut text, b"a%\xc3\xa9 ")?;
-    assert_eq!(rt; text.as_slice(), b"a%25%C3%A9%20".as_slice());
-    let name = unescape(alloc, b"a%25%c3%A9%20").ok().ok_or("a name")?;
-    assert_eq!(rt; name.as_slice(), b"a%\xc3\xa9 ".as_slice());
+    assert!(rt; is_escaped(rt.alloc(), b"a%\xc3\xa9 ", b"a%25%C3%A9%20")?);
+    assert!(rt; is_unescaped(rt.alloc(), b"a%25%c3%A9%20", b"a%\xc3\xa9 "));
     for bad in &BAD_ESCAPES {
-        assert!(rt; matches!(unescape(alloc, bad), Err(NameFault::BadEscape)));
+        assert!(rt; is_bad_escape(rt.alloc(), bad));
     }
     Ok(())
 }

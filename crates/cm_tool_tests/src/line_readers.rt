@@ -5,49 +5,79 @@ use std::alloc::Global;
 use std::io::{self, BufRead, BufReader, ErrorKind, Read};
 use std::test::*;
 
+/// Whether the next lines ask for this.
+fn asks<R: BufRead>(reader: &mut R, line: &mut LineBuffer, questions: &[Option<Line<'_>>]) -> bool {
+    for question in questions {
+        if read_line(reader, line) != Ok(true) || line.question() != *question {
+            return false;
+        }
+    }
+    true
+}
+
+/// Whether a reader gives lines that ask for this, and then this answer.
+fn gives<R: BufRead>(
+    alloc: Global,
+    reader: &mut R,
+    questions: &[Option<Line<'_>>],
+    end: Result<bool, LineFault>,
+) -> bool {
+    let mut line = LineBuffer::new(alloc);
+    asks(reader, &mut line, questions) && read_line(reader, &mut line) == end
+}
+
+/// What the lines ask for that are read in pieces.
+const QUESTIONS: [Option<Line<'_>>; 4] = [
+    Some(Line::Loader(b"app")),
+    None,
+    Some(Line::Unload(b"app")),
+    Some(Line::Find(b"app", b"A")),
+];
+
 #[test]
 fn lines_are_read_in_pieces(rt: HostRuntime) -> Result<(), Fail> {
-    let alloc = rt.alloc();
     let script = b"loader app\n\nunload app\nfind app A".as_slice();
-    let mut reader = BufReader::with_capacity(alloc, 3, script)?;
-    let mut line = LineBuffer::new(alloc);
-    let questions = [
-        Some(Line::Loader(b"app")),
-        None,
-        Some(Line::Unload(b"app")),
-        Some(Line::Find(b"app", b"A")),
-    ];
-    for wanted in questions {
-        assert_eq!(rt; read_line(&mut reader, &mut line), Ok(true));
-        assert_eq!(rt; line.question(), wanted);
-    }
-    assert_eq!(rt; read_line(&mut reader, &mut line), Ok(false));
+    let mut reader = BufReader::with_capacity(rt.alloc(), 3, script)?;
+    let are_read = gives(rt.alloc(), &mut reader, &QUESTIONS, Ok(false));
+    assert!(rt; are_read);
     Ok(())
 }
 
 /// A line of so many bytes that adds a loader, and one behind it that unloads another.
-fn long_script(alloc: Global, len: usize) -> Result<Vec<u8>, Fail> {
-    let mut script = Vec::from_slice(alloc, b"loader ")?;
-    for _ in 7..len {
-        script.push(b'a')?;
-    }
+fn push_long_script(script: &mut Vec<u8>, len: usize) -> Result<(), Fail> {
+    script.extend_from_slice(b"loader ")?;
+    script.resize(len, b'a')?;
     script.extend_from_slice(b"\nunload b\n")?;
-    Ok(script)
+    Ok(())
+}
+
+/// Whether the first line of a script asks for something: none where its second doesn't unload a
+/// loader, or isn't the last.
+fn first_asks(script: &[u8], line: &mut LineBuffer) -> Option<bool> {
+    let mut reader = script;
+    let is_read = read_line(&mut reader, line) == Ok(true);
+    let asks = line.question().is_some();
+    let is_next = is_read && read_line(&mut reader, line) == Ok(true);
+    let unloads = is_next && line.question() == Some(Line::Unload(b"b"));
+    if unloads && read_line(&mut reader, line) == Ok(false) {
+        Some(asks)
+    } else {
+        None
+    }
+}
+
+/// Whether a line of so many bytes asks for something.
+fn long_line_asks(alloc: Global, len: usize) -> Result<Option<bool>, Fail> {
+    let mut script = Vec::new(alloc);
+    push_long_script(&mut script, len)?;
+    let mut line = LineBuffer::new(alloc);
+    Ok(first_asks(&script, &mut line))
 }
 
 #[test]
 fn a_line_has_at_most_16777216_bytes(rt: HostRuntime) -> Result<(), Fail> {
-    let alloc = rt.alloc();
-    for (len, asks) in [(16_777_216, true), (16_777_217, false)] {
-        let script = long_script(alloc, len)?;
-        let mut reader = script.as_slice();
-        let mut line = LineBuffer::new(alloc);
-        assert_eq!(rt; read_line(&mut reader, &mut line), Ok(true));
-        assert_eq!(rt; line.question().is_some(), asks);
-        assert_eq!(rt; read_line(&mut reader, &mut line), Ok(true));
-        assert_eq!(rt; line.question(), Some(Line::Unload(b"b")));
-        assert_eq!(rt; read_line(&mut reader, &mut line), Ok(false));
-    }
+    assert_eq!(rt; long_line_asks(rt.alloc(), 16_777_216)?, Some(true));
+    assert_eq!(rt; long_line_asks(rt.alloc(), 16_777_217)?, Some(false));
     Ok(())
 }
 
@@ -90,9 +120,7 @@ fn a_reader_that_fails_in_mid_line_gives_no_line(rt: HostRuntime) -> Result<(), 
         bytes: b"loader a\nloader b",
         was_interrupted: false,
     };
-    let mut line = LineBuffer::new(rt.alloc());
-    assert_eq!(rt; read_line(&mut reader, &mut line), Ok(true));
-    assert_eq!(rt; line.question(), Some(Line::Loader(b"a")));
-    assert_eq!(rt; read_line(&mut reader, &mut line), Err(LineFault::Input));
+    let questions = [Some(Line::Loader(b"a"))];
+    assert!(rt; gives(rt.alloc(), &mut reader, &questions, Err(LineFault::Input)));
     Ok(())
 }

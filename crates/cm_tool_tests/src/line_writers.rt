@@ -55,12 +55,16 @@ impl Write for NarrowWriter {
     }
 }
 
+/// Whether this comes of a line, and the writer has these bytes then.
+fn takes(writer: &mut NarrowWriter, answer: Result<(), LineFault>, bytes: &[u8]) -> bool {
+    write_line(writer, b"ok 1\n") == answer && writer.bytes.as_slice() == bytes
+}
+
 #[test]
 fn a_line_is_written_whole_and_passed_on(rt: HostRuntime) -> Result<(), Fail> {
     let mut writer = NarrowWriter::new(rt.alloc(), 100, true);
-    assert_eq!(rt; write_line(&mut writer, b"ok 1\n"), Ok(()));
-    assert_eq!(rt; writer.bytes.as_slice(), b"ok 1\n".as_slice());
-    assert!(rt; writer.is_passed_on);
+    let is_taken = takes(&mut writer, Ok(()), b"ok 1\n") && writer.is_passed_on;
+    assert!(rt; is_taken);
     Ok(())
 }
 
@@ -68,8 +72,7 @@ fn a_line_is_written_whole_and_passed_on(rt: HostRuntime) -> Result<(), Fail> {
 fn a_writer_that_fails_or_takes_nothing_has_a_beginning(rt: HostRuntime) -> Result<(), Fail> {
     for fails in [true, false] {
         let mut writer = NarrowWriter::new(rt.alloc(), 3, fails);
-        assert_eq!(rt; write_line(&mut writer, b"ok 1\n"), Err(LineFault::Output));
-        assert_eq!(rt; writer.bytes.as_slice(), b"ok ".as_slice());
+        assert!(rt; takes(&mut writer, Err(LineFault::Output), b"ok "));
     }
     Ok(())
 }

@@ -1,6 +1,6 @@
 //! Scripts and the replies to them.
 
-use crate::disks::{names_are_there, new_disk};
+use crate::disks::{has_one_loader, new_disk, replies};
 use cm_disk::{Disk, FuseDisk, SimDisk};
 use cm_recover::OpenFault;
 use cm_tool::{ApplyFault, Outcome, apply_script};
@@ -27,18 +27,6 @@ const UNSURE: Outcome = Outcome {
     unsure: true,
 };
 
-/// The replies to a script on a disk, what it came to, and the disk.
-fn replies<D: Disk>(
-    alloc: Global,
-    script: &[u8],
-    disk: D,
-) -> (Vec<u8>, Result<Outcome, ApplyFault>, D) {
-    let mut reader = script;
-    let mut written = Vec::new(alloc);
-    let (outcome, disk) = apply_script(alloc, &mut reader, &mut written, disk);
-    (written, outcome, disk)
-}
-
 /// A script in which `@` stands for class A.
 fn expand(alloc: Global, script: &[u8]) -> Result<Vec<u8>, Fail> {
     let mut text = Vec::new(alloc);
@@ -52,39 +40,56 @@ fn expand(alloc: Global, script: &[u8]) -> Result<Vec<u8>, Fail> {
     Ok(text)
 }
 
+/// Scripts, and the replies to each.
+const CASES: [(&[u8], &[u8]); 10] = [
+    (b"", b""),
+    (b"loader app", b"ok 1\n"),
+    (
+        b"loader app\ndefine app @\nfind app A\n",
+        b"ok 1\nok 2 A\nclass A flags 0021 super java/lang/Object words 16\n",
+    ),
+    (b"define app\n", b"refused 15 line\n"),
+    (b"define app 0\n", b"refused 15 line\n"),
+    (b"define nobody @\n", b"refused 3 no loader\n"),
+    (
+        b"loader a\ndefine a @00\n",
+        b"ok 1\nrefused 14 trailing 53\n",
+    ),
+    (
+        b"loader a\nloader b\ndefine a @\ndefine b @\ndefine a @\n",
+        b"ok 1\nok 2\nok 3 A\nok 4 A\nrefused 4 class exists\n",
+    ),
+    (
+        b"loader a\nloader a\nloader \x7f\nunload b\n",
+        b"ok 1\nrefused 2 loader exists\nrefused 1 name\nrefused 3 no loader\n",
+    ),
+    (
+        b"loader a\ndefine a @\nunload a\nfind a A\nloader a\nfind a A\nfind a %41\n",
+        b"ok 1\nok 2 A\nok 3\nnone\nok 4\nnone\nrefused 15 line\n",
+    ),
+];
+
+/// What a script comes to on a new disk, and whether these are the replies.
+fn answer_to(
+    alloc: Global,
+    script: &[u8],
+    wanted: &[u8],
+) -> Result<(Result<Outcome, ApplyFault>, bool), Fail> {
+    let (written, outcome, _disk) = replies(alloc, script, new_disk(alloc)?);
+    Ok((outcome, written.as_slice() == wanted))
+}
+
+/// Whether these are the replies to a script in which `@` stands for class A.
+fn is_answered(alloc: Global, script: &[u8], wanted: &[u8]) -> Result<bool, Fail> {
+    let script = expand(alloc, script)?;
+    let (_outcome, is_answered) = answer_to(alloc, &script, wanted)?;
+    Ok(is_answered)
+}
+
 #[test]
 fn scripts_are_answered(rt: HostRuntime) -> Result<(), Fail> {
-    let alloc = rt.alloc();
-    let cases: [(&[u8], &[u8]); 10] = [
-        (b"", b""),
-        (b"loader app", b"ok 1\n"),
-        (
-            b"loader app\ndefine app @\nfind app A\n",
-            b"ok 1\nok 2 A\nclass A flags 0021 super java/lang/Object words 16\n",
-        ),
-        (b"define app\n", b"refused 15 line\n"),
-        (b"define app 0\n", b"refused 15 line\n"),
-        (b"define nobody @\n", b"refused 3 no loader\n"),
-        (
-            b"loader a\ndefine a @00\n",
-            b"ok 1\nrefused 14 trailing 53\n",
-        ),
-        (
-            b"loader a\nloader b\ndefine a @\ndefine b @\ndefine a @\n",
-            b"ok 1\nok 2\nok 3 A\nok 4 A\nrefused 4 class exists\n",
-        ),
-        (
-            b"loader a\nloader a\nloader \x7f\nunload b\n",
-            b"ok 1\nrefused 2 loader exists\nrefused 1 name\nrefused 3 no loader\n",
-        ),
-        (
-            b"loader a\ndefine a @\nunload a\nfind a A\nloader a\nfind a A\nfind a %41\n",
-            b"ok 1\nok 2 A\nok 3\nnone\nok 4\nnone\nrefused 15 line\n",
-        ),
-    ];
-    for (script, wanted) in &cases {
-        let (written, _, _) = replies(alloc, &expand(alloc, script)?, new_disk(alloc)?);
-        assert_eq!(rt; written.as_slice(), *wanted);
+    for (script, wanted) in &CASES {
+        assert!(rt; is_answered(rt.alloc(), script, wanted)?);
     }
     Ok(())
 }
@@ -92,44 +97,56 @@ fn scripts_are_answered(rt: HostRuntime) -> Result<(), Fail> {
 #[test]
 fn a_refused_line_shows_in_the_outcome(rt: HostRuntime) -> Result<(), Fail> {
     let alloc = rt.alloc();
-    let (_, fine, _) = replies(alloc, b"loader a\n", new_disk(alloc)?);
-    assert_eq!(rt; fine, Ok(FINE));
-    let (_, refused, _) = replies(alloc, b"loader a\nloader a\n", new_disk(alloc)?);
-    assert_eq!(rt; refused, Ok(REFUSED));
+    let fine = answer_to(alloc, b"loader a\n", b"ok 1\n")?;
+    assert_eq!(rt; fine, (Ok(FINE), true));
+    let replies = b"ok 1\nrefused 2 loader exists\n";
+    let refused = answer_to(alloc, b"loader a\nloader a\n", replies)?;
+    assert_eq!(rt; refused, (Ok(REFUSED), true));
     Ok(())
+}
+
+/// Whether the cache on a disk has the class, and nothing of its loader behind an unloading.
+fn finds_class_and_unloads(alloc: Global, disk: SimDisk) -> bool {
+    let (written, outcome, _disk) = replies(alloc, b"find app A\nunload app\nfind app A", disk);
+    let wanted = b"class A flags 0021 super java/lang/Object words 16\nok 3\nnone\n".as_slice();
+    outcome == Ok(FINE) && written.as_slice() == wanted
+}
+
+/// Whether a loader and its class are stored on a new disk, and found by another script.
+fn goes_on(alloc: Global, script: &[u8]) -> Result<bool, Fail> {
+    let (written, outcome, mut disk) = replies(alloc, script, new_disk(alloc)?);
+    let is_stored = outcome == Ok(FINE) && disk.len() == Ok(790_528);
+    let is_answered = written.as_slice() == b"ok 1\nok 2 A\n".as_slice();
+    Ok(is_stored && is_answered && finds_class_and_unloads(alloc, disk))
 }
 
 #[test]
 fn a_second_script_goes_on_where_the_first_ended(rt: HostRuntime) -> Result<(), Fail> {
-    let alloc = rt.alloc();
-    let first = expand(alloc, b"loader app\ndefine app @\n")?;
-    let (written, outcome, mut disk) = replies(alloc, &first, new_disk(alloc)?);
-    assert_eq!(rt; written.as_slice(), b"ok 1\nok 2 A\n".as_slice());
-    assert_eq!(rt; outcome, Ok(FINE));
-    assert_eq!(rt; disk.len(), Ok(790_528));
-    let (written, outcome, _) = replies(alloc, b"find app A\nunload app\nfind app A", disk);
-    assert_eq!(rt;
-        written.as_slice(),
-        b"class A flags 0021 super java/lang/Object words 16\nok 3\nnone\n".as_slice()
-    );
-    assert_eq!(rt; outcome, Ok(FINE));
+    let script = expand(rt.alloc(), b"loader app\ndefine app @\n")?;
+    assert!(rt; goes_on(rt.alloc(), &script)?);
     Ok(())
+}
+
+/// What a script comes to that is read in pieces of three bytes, and whether these are the replies.
+fn answer_to_pieces(
+    alloc: Global,
+    script: &[u8],
+    wanted: &[u8],
+) -> Result<(Result<Outcome, ApplyFault>, bool), Fail> {
+    let disk = new_disk(alloc)?;
+    let mut reader = BufReader::with_capacity(alloc, 3, script)?;
+    let mut written = Vec::new(alloc);
+    let (outcome, _disk) = apply_script(alloc, &mut reader, &mut written, disk);
+    Ok((outcome, written.as_slice() == wanted))
 }
 
 #[test]
 fn a_script_is_read_in_pieces(rt: HostRuntime) -> Result<(), Fail> {
-    let alloc = rt.alloc();
-    let script = expand(alloc, b"loader app\n\ndefine app @\nfind app A")?;
-    let mut reader = BufReader::with_capacity(alloc, 3, script.as_slice())?;
-    let mut written = Vec::new(alloc);
-    let (outcome, _) = apply_script(alloc, &mut reader, &mut written, new_disk(alloc)?);
-    assert_eq!(rt; outcome, Ok(REFUSED));
-    assert_eq!(rt;
-        written.as_slice(),
-        b"ok 1\nrefused 15 line\nok 2 A\n\
-          class A flags 0021 super java/lang/Object words 16\n"
-            .as_slice()
-    );
+    let script = expand(rt.alloc(), b"loader app\n\ndefine app @\nfind app A")?;
+    let replies = b"ok 1\nrefused 15 line\nok 2 A\n\
+          class A flags 0021 super java/lang/Object words 16\n";
+    let answer = answer_to_pieces(rt.alloc(), &script, replies)?;
+    assert_eq!(rt; answer, (Ok(REFUSED), true));
     Ok(())
 }
 
@@ -137,30 +154,45 @@ fn a_script_is_read_in_pieces(rt: HostRuntime) -> Result<(), Fail> {
 fn a_disk_without_a_cache_is_refused(rt: HostRuntime) -> Result<(), Fail> {
     let alloc = rt.alloc();
     let (written, outcome, mut disk) = replies(alloc, b"loader a\n", SimDisk::new(alloc));
-    assert_eq!(rt; written.len(), 0);
+    let left = (written.len(), disk.len());
     assert_eq!(rt; outcome, Err(ApplyFault::Open(OpenFault::NotACache)));
-    assert_eq!(rt; disk.len(), Ok(0));
+    assert_eq!(rt; left, (0, Ok(0)));
     Ok(())
+}
+
+/// What is replied to a loader of which this comes.
+fn reply_for(outcome: Result<Outcome, ApplyFault>) -> &'static [u8] {
+    match outcome {
+        Err(_) => b"",
+        Ok(UNSURE) => b"unsure 1\n",
+        Ok(_) => b"ok 1\n",
+    }
+}
+
+/// What comes of a loader where the device fails behind so many calls, and whether that is replied,
+/// and the loader is there.
+fn add_behind(alloc: Global, pass: u64) -> Result<(Result<Outcome, ApplyFault>, [bool; 2]), Fail> {
+    let disk = FuseDisk::new(new_disk(alloc)?, pass, 0);
+    let (written, outcome, disk) = replies(alloc, b"loader a\n", disk);
+    let is_replied = written.as_slice() == reply_for(outcome);
+    let is_there = has_one_loader(alloc, disk.into_inner());
+    Ok((outcome, [is_replied, is_there]))
 }
 
 /// A loader takes four calls: its entry is written, synced, its gate written, and synced again.
 /// Where the last of them fails, the file holds it, and it is there when the file is opened again.
 #[test]
 fn a_command_is_unsure_where_the_device_fails(rt: HostRuntime) -> Result<(), Fail> {
-    let alloc = rt.alloc();
     let mut unsure = 0u32;
     for pass in 0..100 {
-        let disk = FuseDisk::new(new_disk(alloc)?, pass, 0);
-        let (written, outcome, disk) = replies(alloc, b"loader a\n", disk);
+        let (outcome, [is_replied, is_there]) = add_behind(rt.alloc(), pass)?;
+        assert!(rt; is_replied, "{pass} calls");
         match outcome {
-            Err(ApplyFault::Open(fault)) => {
-                assert_eq!(rt; fault, OpenFault::Device);
-                assert_eq!(rt; written.len(), 0);
+            Err(fault) => {
+                assert_eq!(rt; fault, ApplyFault::Open(OpenFault::Device));
             }
             Ok(UNSURE) => {
                 unsure = unsure.saturating_add(1);
-                assert_eq!(rt; written.as_slice(), b"unsure 1\n".as_slice());
-                let is_there = names_are_there(alloc, disk.into_inner(), &[b"a"], b"ok 2\n")?;
                 assert_eq!(rt; is_there, unsure == 4);
             }
             other => {
@@ -173,48 +205,55 @@ fn a_command_is_unsure_where_the_device_fails(rt: HostRuntime) -> Result<(), Fai
     Err("no run met no failure".into())
 }
 
+/// Of three commands, where the device fails behind so many calls: whether the second is unsure and
+/// the last that is replied to, and whether the first is there.
+fn add_three_behind(alloc: Global, pass: u64) -> Result<[bool; 2], Fail> {
+    let disk = FuseDisk::new(new_disk(alloc)?, pass, 0);
+    let (written, outcome, disk) = replies(alloc, b"loader a\nloader b\nloader c\n", disk);
+    let is_second = written.as_slice() == b"ok 1\nunsure 2\n".as_slice();
+    let is_there = has_one_loader(alloc, disk.into_inner());
+    Ok([outcome == Ok(UNSURE) && is_second, is_there])
+}
+
 #[test]
 fn nothing_follows_an_unsure_command(rt: HostRuntime) -> Result<(), Fail> {
-    let alloc = rt.alloc();
     for pass in 0..100 {
-        let disk = FuseDisk::new(new_disk(alloc)?, pass, 0);
-        let (written, outcome, disk) = replies(alloc, b"loader a\nloader b\nloader c\n", disk);
-        if outcome == Ok(UNSURE) && written.as_slice() == b"ok 1\nunsure 2\n".as_slice() {
-            assert_eq!(rt;
-                names_are_there(alloc, disk.into_inner(), &[b"a"], b"ok 2\n")?,
-                true
-            );
+        let [is_second, is_there] = add_three_behind(rt.alloc(), pass)?;
+        if is_second {
+            assert!(rt; is_there);
             return Ok(());
         }
     }
     Err("the second command was never unsure".into())
 }
 
+/// So many times the same.
+fn repeat(alloc: Global, bytes: &[u8], count: usize) -> Result<Vec<u8>, Fail> {
+    let mut all = Vec::new(alloc);
+    for _ in 0..count {
+        all.extend_from_slice(bytes)?;
+    }
+    Ok(all)
+}
+
+/// Whether all of a script is done on a new disk, and these are the last replies.
+fn is_done(alloc: Global, script: &[u8], last: &[u8]) -> Result<bool, Fail> {
+    let (written, outcome, _disk) = replies(alloc, script, new_disk(alloc)?);
+    Ok(outcome == Ok(FINE) && written.as_slice().ends_with(last))
+}
+
 #[test]
 fn a_script_of_1200_commands_is_done(rt: HostRuntime) -> Result<(), Fail> {
-    let alloc = rt.alloc();
-    let mut script = Vec::new(alloc);
-    for _ in 0..600 {
-        script.extend_from_slice(b"loader a\nunload a\n")?;
-    }
-    let (written, outcome, _) = replies(alloc, &script, new_disk(alloc)?);
-    assert_eq!(rt; outcome, Ok(FINE));
-    let last = b"ok 1199\nok 1200\n".as_slice();
-    assert!(rt; written.as_slice().ends_with(last));
+    let script = repeat(rt.alloc(), b"loader a\nunload a\n", 600)?;
+    assert!(rt; is_done(rt.alloc(), &script, b"ok 1199\nok 1200\n")?);
     Ok(())
 }
 
 #[test]
 fn a_script_of_70000_lines_is_answered(rt: HostRuntime) -> Result<(), Fail> {
-    let alloc = rt.alloc();
-    let mut script = Vec::new(alloc);
-    let mut wanted = Vec::new(alloc);
-    for _ in 0..70_000 {
-        script.extend_from_slice(b"find nobody A\n")?;
-        wanted.extend_from_slice(b"none\n")?;
-    }
-    let (written, outcome, _) = replies(alloc, &script, new_disk(alloc)?);
-    assert_eq!(rt; outcome, Ok(FINE));
-    assert!(rt; written == wanted);
+    let script = repeat(rt.alloc(), b"find nobody A\n", 70_000)?;
+    let replies = repeat(rt.alloc(), b"none\n", 70_000)?;
+    let answer = answer_to(rt.alloc(), &script, &replies)?;
+    assert_eq!(rt; answer, (Ok(FINE), true));
     Ok(())
 }

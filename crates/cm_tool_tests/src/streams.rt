@@ -1,10 +1,21 @@
 //! Readers and writers that fail, are interrupted, or take nothing.
 
-use crate::disks::{names_are_there, new_disk};
+use crate::disks::{are_replies, has_one_loader, new_disk};
+use cm_disk::SimDisk;
 use cm_tool::{ApplyFault, Outcome, ToolFault, apply_script};
+use std::alloc::Global;
 use std::cell::Cell;
 use std::io::{self, BufRead, ErrorKind, Read, Write};
 use std::test::*;
+
+/// What a run came to on a new disk, and the disk.
+fn run<R: BufRead, W: Write>(
+    alloc: Global,
+    reader: &mut R,
+    writer: &mut W,
+) -> Result<(Result<Outcome, ApplyFault>, SimDisk), Fail> {
+    Ok(apply_script(alloc, reader, writer, new_disk(alloc)?))
+}
 
 /// Gives its bytes, and then fails.
 #[derive(Drop)]
@@ -33,18 +44,23 @@ impl<'a> BufRead for FailingReader<'a> {
     }
 }
 
-#[test]
-fn a_reader_that_fails_in_mid_line_ends_the_run(rt: HostRuntime) -> Result<(), Fail> {
-    let alloc = rt.alloc();
-    let disk = new_disk(alloc)?;
+/// What a run came to whose reader fails, whether its first line is answered, and whether what that
+/// adds is all that is there.
+fn run_failing(alloc: Global) -> Result<(Result<Outcome, ApplyFault>, [bool; 2]), Fail> {
     let mut reader = FailingReader {
         bytes: b"loader a\nloader b",
     };
     let mut written = Vec::new(alloc);
-    let (outcome, disk) = apply_script(alloc, &mut reader, &mut written, disk);
+    let (outcome, disk) = run(alloc, &mut reader, &mut written)?;
+    let is_answered = written.as_slice() == b"ok 1\n".as_slice();
+    Ok((outcome, [is_answered, has_one_loader(alloc, disk)]))
+}
+
+#[test]
+fn a_reader_that_fails_in_mid_line_ends_the_run(rt: HostRuntime) -> Result<(), Fail> {
+    let (outcome, is_there) = run_failing(rt.alloc())?;
     assert_eq!(rt; outcome, Err(ApplyFault::Script(ToolFault::Input)));
-    assert_eq!(rt; written.as_slice(), b"ok 1\n".as_slice());
-    assert_eq!(rt; names_are_there(alloc, disk, &[b"a"], b"ok 2\n")?, true);
+    assert_eq!(rt; is_there, [true; 2]);
     Ok(())
 }
 
@@ -71,15 +87,13 @@ impl Write for FailingWriter {
 #[test]
 fn a_writer_that_fails_at_the_second_reply_ends_the_run(rt: HostRuntime) -> Result<(), Fail> {
     let alloc = rt.alloc();
-    let disk = new_disk(alloc)?;
     let mut reader = b"loader a\nloader b\nloader c\n".as_slice();
-    let mut writer = FailingWriter { replies: 1 };
-    let (outcome, disk) = apply_script(alloc, &mut reader, &mut writer, disk);
+    let (outcome, disk) = run(alloc, &mut reader, &mut FailingWriter { replies: 1 })?;
+    let script = b"loader a\nloader b\nloader another\n";
+    let replies = b"refused 2 loader exists\nrefused 2 loader exists\nok 3\n";
+    let are_there = are_replies(alloc, disk, script, replies);
     assert_eq!(rt; outcome, Err(ApplyFault::Script(ToolFault::Output)));
-    assert_eq!(rt;
-        names_are_there(alloc, disk, &[b"a", b"b"], b"ok 3\n")?,
-        true
-    );
+    assert!(rt; are_there);
     Ok(())
 }
 
@@ -140,19 +154,29 @@ impl Write for InterruptedWriter {
     }
 }
 
-#[test]
-fn an_interrupted_reader_and_writer_go_on(rt: HostRuntime) -> Result<(), Fail> {
-    let alloc = rt.alloc();
-    let disk = new_disk(alloc)?;
+/// What a run came to whose reader and writer are interrupted, and whether these are the replies.
+fn run_interrupted(
+    alloc: Global,
+    bytes: &[u8],
+    replies: &[u8],
+) -> Result<(Result<Outcome, ApplyFault>, bool), Fail> {
     let mut reader = InterruptedReader {
-        bytes: b"loader a\nloader a\nfind a B",
+        bytes,
         was_interrupted: false,
     };
     let mut writer = InterruptedWriter {
         bytes: Vec::new(alloc),
         was_interrupted: false,
     };
-    let (outcome, _) = apply_script(alloc, &mut reader, &mut writer, disk);
+    let (outcome, _disk) = run(alloc, &mut reader, &mut writer)?;
+    Ok((outcome, writer.bytes.as_slice() == replies))
+}
+
+#[test]
+fn an_interrupted_reader_and_writer_go_on(rt: HostRuntime) -> Result<(), Fail> {
+    let script = b"loader a\nloader a\nfind a B";
+    let replies = b"ok 1\nrefused 2 loader exists\nnone\n";
+    let (outcome, is_answered) = run_interrupted(rt.alloc(), script, replies)?;
     assert_eq!(rt;
         outcome,
         Ok(Outcome {
@@ -160,8 +184,7 @@ fn an_interrupted_reader_and_writer_go_on(rt: HostRuntime) -> Result<(), Fail> {
             unsure: false
         })
     );
-    let wanted = b"ok 1\nrefused 2 loader exists\nnone\n".as_slice();
-    assert_eq!(rt; writer.bytes.as_slice(), wanted);
+    assert!(rt; is_answered);
     Ok(())
 }
 
@@ -182,11 +205,11 @@ impl Write for FullWriter {
 #[test]
 fn a_writer_that_takes_nothing_ends_the_run(rt: HostRuntime) -> Result<(), Fail> {
     let alloc = rt.alloc();
-    let disk = new_disk(alloc)?;
     let mut reader = b"loader a\nloader b\n".as_slice();
-    let (outcome, disk) = apply_script(alloc, &mut reader, &mut FullWriter, disk);
+    let (outcome, disk) = run(alloc, &mut reader, &mut FullWriter)?;
+    let is_there = has_one_loader(alloc, disk);
     assert_eq!(rt; outcome, Err(ApplyFault::Script(ToolFault::Output)));
-    assert_eq!(rt; names_are_there(alloc, disk, &[b"a"], b"ok 2\n")?, true);
+    assert!(rt; is_there);
     Ok(())
 }
 
@@ -246,21 +269,27 @@ impl<'a> Write for HoldingWriter<'a> {
     }
 }
 
-#[test]
-fn a_reply_is_passed_on_before_the_next_line_is_read(rt: HostRuntime) -> Result<(), Fail> {
-    let alloc = rt.alloc();
-    let disk = new_disk(alloc)?;
-    let held_back = Cell::new(0u64);
-    let mut reader = PatientReader {
-        bytes: b"loader a\nfind a B\nloader b\n",
-        held_back: &held_back,
-    };
+/// Whether a run goes to its end that reads a line where all replies before it are passed on, and
+/// these are the replies.
+fn is_passed_on(
+    alloc: Global,
+    held_back: &Cell<u64>,
+    bytes: &[u8],
+    replies: &[u8],
+) -> Result<bool, Fail> {
+    let mut reader = PatientReader { bytes, held_back };
     let mut writer = HoldingWriter {
         bytes: Vec::new(alloc),
-        held_back: &held_back,
+        held_back,
     };
-    let (outcome, _) = apply_script(alloc, &mut reader, &mut writer, disk);
-    assert!(rt; outcome.is_ok());
-    assert_eq!(rt; writer.bytes.as_slice(), b"ok 1\nnone\nok 2\n".as_slice());
+    let (outcome, _disk) = run(alloc, &mut reader, &mut writer)?;
+    Ok(outcome.is_ok() && writer.bytes.as_slice() == replies)
+}
+
+#[test]
+fn a_reply_is_passed_on_before_the_next_line_is_read(rt: HostRuntime) -> Result<(), Fail> {
+    let held_back = Cell::new(0u64);
+    let (script, replies) = (b"loader a\nfind a B\nloader b\n", b"ok 1\nnone\nok 2\n");
+    assert!(rt; is_passed_on(rt.alloc(), &held_back, script, replies)?);
     Ok(())
 }

@@ -1,8 +1,8 @@
 //! What is told of sound caches.
 
-use crate::inspect_disks::{cache_after, tell_to_end};
-use cm_disk::{Disk, SimDisk};
-use cm_inspect::{Status, check_to, list_to};
+use crate::inspect_disks::{Verb, cache_after, status_of, tell, tell_to_end};
+use cm_disk::{DeviceFault, Disk, SimDisk};
+use cm_inspect::Status;
 use std::alloc::Global;
 use std::test::*;
 
@@ -43,46 +43,58 @@ const CASES: [Case<'_>; 5] = [
     ),
 ];
 
-/// What a check tells of a disk, with the status, and the disk.
-fn check_lines_of(alloc: Global, disk: SimDisk) -> Result<(Vec<u8>, Status, SimDisk), Fail> {
-    let mut told = Vec::new(alloc);
-    let (status, disk) = tell_to_end(check_to(alloc, &mut told, disk))?;
-    Ok((told, status, disk))
+/// Whether these lines are told of a sound cache, and the disk.
+fn is_told(
+    alloc: Global,
+    verb: Verb,
+    disk: SimDisk,
+    lines: &[u8],
+) -> Result<(bool, SimDisk), Fail> {
+    let (status, is_told, disk) = status_of(alloc, verb, disk, lines)?;
+    Ok((status == Status::Done && is_told, disk))
 }
 
-/// What a list tells of a disk, with the status, and the disk.
-fn list_lines_of(alloc: Global, disk: SimDisk) -> Result<(Vec<u8>, Status, SimDisk), Fail> {
-    let mut told = Vec::new(alloc);
-    let (status, disk) = tell_to_end(list_to(alloc, &mut told, disk))?;
-    Ok((told, status, disk))
+/// Whether this is reported of a disk, listed, and reported again.
+fn are_told(alloc: Global, disk: SimDisk, report: &[u8], list: &[u8]) -> Result<[bool; 3], Fail> {
+    let (is_reported, disk) = is_told(alloc, Verb::Check, disk, report)?;
+    let (is_listed, disk) = is_told(alloc, Verb::List, disk, list)?;
+    let (is_reported_again, _disk) = is_told(alloc, Verb::Check, disk, report)?;
+    Ok([is_reported, is_listed, is_reported_again])
 }
 
 #[test]
 fn caches_are_checked_and_listed(rt: HostRuntime) -> Result<(), Fail> {
     let alloc = rt.alloc();
     for (script, report, list) in &CASES {
-        let (told, status, disk) = check_lines_of(alloc, cache_after(alloc, script)?)?;
-        assert_eq!(rt; told.as_slice(), *report);
-        assert_eq!(rt; status, Status::Done);
-        let (told, status, disk) = list_lines_of(alloc, disk)?;
-        assert_eq!(rt; told.as_slice(), *list);
-        assert_eq!(rt; status, Status::Done);
-        let (told, _, _) = check_lines_of(alloc, disk)?;
-        assert_eq!(rt; told.as_slice(), *report);
+        let are_told = are_told(alloc, cache_after(alloc, script)?, report, list)?;
+        assert_eq!(rt; are_told, [true; 3]);
     }
     Ok(())
 }
 
+/// How many syncs a disk had, has behind a check, and behind a list, and then its length.
+fn count_syncs(alloc: Global, disk: SimDisk) -> Result<([u64; 3], Result<u64, DeviceFault>), Fail> {
+    let before = disk.syncs();
+    let (_, disk) = is_told(alloc, Verb::Check, disk, b"")?;
+    let checked = disk.syncs();
+    let (_, mut disk) = is_told(alloc, Verb::List, disk, b"")?;
+    Ok(([before, checked, disk.syncs()], disk.len()))
+}
+
 #[test]
 fn a_list_syncs_once_and_a_check_never(rt: HostRuntime) -> Result<(), Fail> {
-    let alloc = rt.alloc();
-    let disk = cache_after(alloc, b"loader app\ndefine app <0141>\n")?;
-    let before = disk.syncs();
-    let (_, _, disk) = check_lines_of(alloc, disk)?;
-    assert_eq!(rt; disk.syncs(), before);
-    let (_, _, mut disk) = list_lines_of(alloc, disk)?;
-    assert_eq!(rt; disk.syncs(), before.saturating_add(1));
-    assert_eq!(rt; disk.len(), Ok(45_056));
+    let disk = cache_after(rt.alloc(), b"loader app\ndefine app <0141>\n")?;
+    let ([before, checked, listed], len) = count_syncs(rt.alloc(), disk)?;
+    assert_eq!(rt; checked, before);
+    assert_eq!(rt; listed, before.saturating_add(1));
+    assert_eq!(rt; len, Ok(45_056));
+    Ok(())
+}
+
+/// A list of a disk, and behind it a report.
+fn list_and_check(alloc: Global, told: &mut Vec<u8>, disk: SimDisk) -> Result<(), Fail> {
+    let (_, disk) = tell_to_end(tell(alloc, Verb::List, told, disk))?;
+    let (_, _disk) = tell_to_end(tell(alloc, Verb::Check, told, disk))?;
     Ok(())
 }
 
@@ -90,9 +102,7 @@ fn a_list_syncs_once_and_a_check_never(rt: HostRuntime) -> Result<(), Fail> {
 fn lines_go_behind_what_is_written(rt: HostRuntime) -> Result<(), Fail> {
     let alloc = rt.alloc();
     let mut told = Vec::from_slice(alloc, b"before\n")?;
-    let disk = cache_after(alloc, b"loader app\n")?;
-    let (_, disk) = tell_to_end(list_to(alloc, &mut told, disk))?;
-    let _told = tell_to_end(check_to(alloc, &mut told, disk))?;
+    list_and_check(alloc, &mut told, cache_after(alloc, b"loader app\n")?)?;
     assert_eq!(rt;
         told.as_slice(),
         b"before\nloader app\nok loaders 1 classes 0 chunks 0 number 1\n".as_slice()
