@@ -76,7 +76,7 @@ beside sweep cm_space_tests pools::a_failed_allocation_leaves_the_pool_as_it_was
 beside sweep cm_space_tests arenas::places_words 15
 beside sweep cm_space_tests arenas::takes_larger_chunks_in_a_longer_chain 25
 beside sweep cm_class_tests faults::a_fault_behind_a_refusal 11
-beside sweep cm_world_tests commands::a_left_chunk_waits_for_its_receipt 212
+beside sweep cm_world_tests commands::a_left_chunk_waits_for_its_receipt 208
 
 # The program's own: making a file, and scripts with commands that are done, refused, and looked up,
 # in memory and on a file.

@@ -21,3 +21,36 @@ pub fn class(alloc: Global, text: &[u8]) -> Result<Prepared, Fail> {
     let bytes = hex::decode(alloc, text)?;
     class_of(alloc, &bytes)
 }
+
+/// Appends parts, one behind another.
+pub fn push_parts(bytes: &mut Vec<u8>, parts: &[&[u8]]) -> Option<()> {
+    for part in parts {
+        bytes.extend_from_slice(part).ok()?;
+    }
+    Some(())
+}
+
+fn push_zeros(bytes: &mut Vec<u8>, count: usize) -> Option<()> {
+    for _byte in 0..count {
+        bytes.push(0).ok()?;
+    }
+    Some(())
+}
+
+// Parts one behind another, and so many bytes of 0 behind them.
+fn join(alloc: Global, parts: &[&[u8]], zeros: usize) -> Option<Vec<u8>> {
+    let mut bytes = Vec::new(alloc);
+    push_parts(&mut bytes, parts)?;
+    push_zeros(&mut bytes, zeros)?;
+    Some(bytes)
+}
+
+/// The class that has these parts and so many bytes of 0 behind them. It is asked for once more
+/// where an allocation failed.
+pub fn class_of_parts(alloc: Global, parts: &[&[u8]], zeros: usize) -> Result<Prepared, Fail> {
+    let bytes = match join(alloc, parts, zeros) {
+        Some(bytes) => bytes,
+        None => join(alloc, parts, zeros).ok_or("bytes")?,
+    };
+    class_of(alloc, &bytes)
+}

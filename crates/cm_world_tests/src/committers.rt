@@ -36,8 +36,10 @@ pub fn open_committer(alloc: Global, disk: SimDisk) -> Result<(Front, Committer<
 
 /// A committer of a new file.
 pub fn new_committer(alloc: Global) -> Result<Committer<SimDisk>, Fail> {
-    let (_front, committer) = open_committer(alloc, new_file(alloc)?)?;
-    Ok(committer)
+    match open_committer(alloc, new_file(alloc)?) {
+        Ok((_front, committer)) => Ok(committer),
+        Err(fail) => Err(fail),
+    }
 }
 
 fn is_whole(group: &Group, first: u64, count: usize) -> bool {

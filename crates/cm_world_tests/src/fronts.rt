@@ -2,18 +2,19 @@
 //! Where an allocation failed a call is made once more: the cache is as it was, so the answer is
 //! the one that was due.
 
+use crate::classes::class_of_parts;
 use cm_front::Front;
 use cm_pool::Geometry;
-use cm_prepare::{Command, Prepared, Refusal, prepare};
+use cm_prepare::{Command, Prepared, Refusal};
 use std::alloc::{AllocError, Global};
 use std::test::Fail;
 
 /// A class with a name of one letter and one attribute named `X`: what stands before the letter,
 /// and between it and the attribute's length.
-const BEFORE_NAME: &[u8] = b"cafebabe0000003400060700020100";
+const BEFORE_NAME: &[u8] = b"\xca\xfe\xba\xbe\0\0\0\x34\0\x06\x07\0\x02\x01\0\x01";
 
-const BEHIND_NAME: &[u8] =
-    b"0700040100106a6176612f6c616e672f4f626a656374010001580021000100030000000000000001";
+const BEHIND_NAME: &[u8] = b"\x07\0\x04\x01\0\x10java/lang/Object\x01\0\x01X\
+    \0\x21\0\x01\0\x03\0\0\0\0\0\0\0\x01\0\x05";
 
 /// A cache of these sizes with nothing in it.
 pub fn empty_of(alloc: Global, geometry: Geometry) -> Result<Front, Fail> {
@@ -29,41 +30,12 @@ pub fn empty(alloc: Global, top: u32, roots: u32) -> Result<Front, Fail> {
     empty_of(alloc, geometry)
 }
 
-// What follows `BEFORE_NAME`.
-fn push_rest(alloc: Global, bytes: &mut Vec<u8>, name: u8, count: u32) -> Option<()> {
-    bytes.extend_from_slice(&[1, name]).ok()?;
-    let behind = hex::decode(alloc, BEHIND_NAME).ok()?;
-    bytes.extend_from_slice(&behind).ok()?;
-    bytes.extend_from_slice(&[0, 5]).ok()?;
-    bytes.extend_from_slice(&count.to_be_bytes()).ok()?;
-    for _byte in 0..count {
-        bytes.push(0).ok()?;
-    }
-    Some(())
-}
-
-fn bytes_of(alloc: Global, name: u8, count: u32) -> Option<Vec<u8>> {
-    let mut bytes = hex::decode(alloc, BEFORE_NAME).ok()?;
-    push_rest(alloc, &mut bytes, name, count)?;
-    Some(bytes)
-}
-
-/// The class that has these bytes.
-pub fn class_of(alloc: Global, bytes: &[u8]) -> Result<Prepared, Fail> {
-    match prepare(alloc, bytes) {
-        Ok(class) => Ok(class),
-        Err(_) => Ok(prepare(alloc, bytes).ok().ok_or("a class")?),
-    }
-}
-
 /// The class of this name with so many bytes in its attribute: its record has 20 words and one for
 /// each eight bytes.
 pub fn class(alloc: Global, name: u8, count: u32) -> Result<Prepared, Fail> {
-    let bytes = match bytes_of(alloc, name, count) {
-        Some(bytes) => bytes,
-        None => bytes_of(alloc, name, count).ok_or("bytes")?,
-    };
-    class_of(alloc, &bytes)
+    let long = count.to_be_bytes();
+    let parts: [&[u8]; 4] = [BEFORE_NAME, &[name], BEHIND_NAME, &long];
+    class_of_parts(alloc, &parts, count as usize)
 }
 
 pub fn add_loader(front: &mut Front, name: &[u8]) -> Result<u64, Refusal> {

@@ -1,10 +1,9 @@
 //! Groups that are made by hand, of entries that are values, so that a test is a table of groups.
 
-use crate::classes::class_of;
+use crate::fronts::class;
 use cm_group::{CarriedEntry, Group};
 use cm_layout::{ClassRow, LoaderRow, Move, SlotName, Unload};
 use cm_pool::{Chunk, Place};
-use cm_prepare::Prepared;
 use std::alloc::Global;
 use std::test::Fail;
 
@@ -22,42 +21,15 @@ pub enum Sample {
     Move(u64, u32),
 }
 
-/// How many words the record of each class has.
+/// How many words the record of each class has. Its attribute has no bytes.
 pub const WORDS: u32 = 20;
-
-/// A class with a name of one letter and an attribute of no bytes: what stands before the letter,
-/// and behind it.
-const BEFORE_NAME: &[u8] = b"cafebabe0000003400060700020100";
-
-const BEHIND_NAME: &[u8] = b"0700040100106a6176612f6c616e672f4f626a656374010001580021000100030000\
-    00000000000100050000\
-    0000";
-
-// What follows `BEFORE_NAME`.
-fn push_rest(alloc: Global, name: u8, bytes: &mut Vec<u8>) -> Option<()> {
-    bytes.extend_from_slice(&[1, name]).ok()?;
-    let behind = hex::decode(alloc, BEHIND_NAME).ok()?;
-    bytes.extend_from_slice(&behind).ok()
-}
-
-fn bytes_of(alloc: Global, name: u8) -> Option<Vec<u8>> {
-    let mut bytes = hex::decode(alloc, BEFORE_NAME).ok()?;
-    push_rest(alloc, name, &mut bytes)?;
-    Some(bytes)
-}
-
-/// The class of this name.
-pub fn class(alloc: Global, name: u8) -> Result<Prepared, Fail> {
-    let bytes = bytes_of(alloc, name).ok_or("bytes")?;
-    class_of(alloc, &bytes)
-}
 
 fn chunk(root: u32, at: u32) -> Chunk {
     Chunk { root, order: 0, at }
 }
 
 fn class_entry(alloc: Global, loader: u64, name: u8, place: Place) -> Result<CarriedEntry, Fail> {
-    let class = class(alloc, name)?;
+    let class = class(alloc, name, 0)?;
     let row = ClassRow { loader, place };
     Ok(CarriedEntry::class(alloc, row, class.into_record())?)
 }

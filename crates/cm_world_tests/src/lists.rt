@@ -1,11 +1,11 @@
 //! What is listed of accepted caches.
 
+use crate::classes::push_parts;
 use crate::list_calls::Call::{Define, Loader, Unload};
-use crate::list_calls::{Call, front_after};
+use crate::list_calls::{Call, accept_all, small_front};
 use cm_front::Front;
 use cm_inspect::{ListedClass, ListedLoader, list_accepted};
-use std::alloc::{AllocGlobal, Global};
-use std::process::Abort;
+use std::alloc::Global;
 use std::test::*;
 
 /// Commands, and what is listed then, as text: each loader's name in a line, and behind it each
@@ -87,30 +87,26 @@ const CASES: [(&[Call], &[u8]); 8] = [
 ];
 
 fn write_name(alloc: Global, class: &ListedClass, text: &mut Vec<u8>) -> Result<(), Fail> {
-    text.push(b' ')?;
-    text.extend_from_slice(&class.class.class_name(alloc)?)?;
+    let name = class.class.class_name(alloc)?;
+    push_parts(text, &[b" ", &name]).ok_or("memory")?;
     Ok(())
 }
 
-fn write_number(alloc: Global, number: u32, text: &mut Vec<u8>) -> Result<(), Fail> {
-    let digits = format!(in alloc; " {number}")?;
-    text.extend_from_slice(digits.as_bytes())?;
+fn write_numbers(alloc: Global, class: &ListedClass, text: &mut Vec<u8>) -> Result<(), Fail> {
+    let (words, place) = (class.class.words(), &class.place);
+    let (root, at, offset) = (place.chunk.root, place.chunk.at, place.offset);
+    let numbers = format!(in alloc; " {words} {root} {at} {offset}\n")?;
+    text.extend_from_slice(numbers.as_bytes())?;
     Ok(())
 }
 
 fn write_class(alloc: Global, class: &ListedClass, text: &mut Vec<u8>) -> Result<(), Fail> {
     write_name(alloc, class, text)?;
-    write_number(alloc, class.class.words(), text)?;
-    write_number(alloc, class.place.chunk.root, text)?;
-    write_number(alloc, class.place.chunk.at, text)?;
-    write_number(alloc, class.place.offset, text)?;
-    text.push(b'\n')?;
-    Ok(())
+    write_numbers(alloc, class, text)
 }
 
 fn write_loader(alloc: Global, loader: &ListedLoader, text: &mut Vec<u8>) -> Result<(), Fail> {
-    text.extend_from_slice(&loader.name)?;
-    text.push(b'\n')?;
+    push_parts(text, &[&loader.name, b"\n"]).ok_or("memory")?;
     for class in &loader.classes {
         write_class(alloc, class, text)?;
     }
@@ -124,24 +120,23 @@ fn write_front(alloc: Global, front: &Front, text: &mut Vec<u8>) -> Result<(), F
     Ok(())
 }
 
-fn text_after(alloc: Global, calls: &[Call]) -> Result<Vec<u8>, Fail> {
-    let front = front_after(alloc, calls)?;
+fn text_of(alloc: Global, front: &mut Front, calls: &[Call]) -> Result<Vec<u8>, Fail> {
+    accept_all(alloc, front, calls)?;
     let mut text = Vec::new(alloc);
-    write_front(alloc, &front, &mut text)?;
+    write_front(alloc, front, &mut text)?;
     Ok(text)
 }
 
-// That such a text is listed after these commands.
-fn is_listed(rt: &(impl Abort + AllocGlobal), calls: &[Call], expected: &[u8]) -> Result<(), Fail> {
-    let text = text_after(rt.alloc(), calls)?;
-    assert_eq!(rt; text.as_slice(), expected);
-    Ok(())
+// What is listed of a small cache after these commands.
+fn text_after(alloc: Global, calls: &[Call]) -> Result<Vec<u8>, Fail> {
+    let mut front = small_front(alloc)?;
+    text_of(alloc, &mut front, calls)
 }
 
 #[test]
 fn names_come_in_byte_order_with_places(rt: HostRuntime) -> Result<(), Fail> {
     for (calls, expected) in &CASES {
-        is_listed(&rt, calls, expected)?;
+        assert_eq!(rt; text_after(rt.alloc(), calls)?.as_slice(), *expected);
     }
     Ok(())
 }
@@ -150,20 +145,41 @@ fn names_come_in_byte_order_with_places(rt: HostRuntime) -> Result<(), Fail> {
 const LETTERS: &[u8] = b"!#$%&'()*+-./0123456789:;<=>?@ABCDEFGHIJKLMNOPQRSTUVWXYZ[]^_`\
     abcdefghijklmnopqrstuvwxyz{|}~";
 
-fn push_loaders(calls: &mut Vec<Call>, lines: &mut Vec<u8>) -> Result<(), Fail> {
+fn letter(at: usize) -> &'static [u8] {
+    LETTERS.get(at..at.saturating_add(1)).unwrap_or(&[])
+}
+
+fn push_loaders(calls: &mut Vec<Call>) -> Result<(), Fail> {
     for at in 0..91 {
         // each comes once, and neighbours come apart
-        let place = at * 37 % 91;
-        calls.push(Loader(LETTERS.get(place..place + 1).ok_or("a letter")?))?;
-        lines.extend_from_slice(LETTERS.get(at..at + 1).ok_or("a letter")?)?;
-        lines.push(b'\n')?;
+        calls.push(Loader(letter(at * 37 % 91)))?;
     }
     Ok(())
 }
 
+fn push_lines(lines: &mut Vec<u8>) -> Result<(), Fail> {
+    for at in 0..91 {
+        push_parts(lines, &[letter(at), b"\n"]).ok_or("memory")?;
+    }
+    Ok(())
+}
+
+fn text_of_many(alloc: Global) -> Result<Vec<u8>, Fail> {
+    let mut calls = Vec::new(alloc);
+    push_loaders(&mut calls)?;
+    text_after(alloc, &calls)
+}
+
+// Whether all of them are listed in their order.
+fn are_listed(alloc: Global, text: &[u8]) -> Result<bool, Fail> {
+    let mut lines = Vec::new(alloc);
+    push_lines(&mut lines)?;
+    Ok(text == lines.as_slice())
+}
+
 #[test]
 fn many_loaders_come_in_byte_order(rt: HostRuntime) -> Result<(), Fail> {
-    let (mut calls, mut expected) = (Vec::new(rt.alloc()), Vec::new(rt.alloc()));
-    push_loaders(&mut calls, &mut expected)?;
-    is_listed(&rt, &calls, &expected)
+    let text = text_of_many(rt.alloc())?;
+    assert!(rt; are_listed(rt.alloc(), &text)?);
+    Ok(())
 }

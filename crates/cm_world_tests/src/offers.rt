@@ -72,10 +72,8 @@ const TAKEN: [(&[Sample], u64, u64); 7] = [
 fn a_group_that_may_come_next_is_taken(rt: HostRuntime) -> Result<(), Fail> {
     for (samples, steps, number) in &TAKEN {
         // the class behind it is refused while it is under way
-        assert_eq!(rt;
-            answers(rt.alloc(), 3, samples)?,
-            (Ok(*steps), REFUSED, Some(*number))
-        );
+        let answers = answers(rt.alloc(), 3, samples)?;
+        assert!(rt; answers == (Ok(*steps), REFUSED, Some(*number)));
     }
     Ok(())
 }
@@ -123,10 +121,8 @@ const REFUSALS: [(u64, &[Sample]); 14] = [
 #[test]
 fn another_group_comes_back_and_nothing_is_changed(rt: HostRuntime) -> Result<(), Fail> {
     for (first, samples) in &REFUSALS {
-        assert_eq!(rt;
-            answers(rt.alloc(), *first, samples)?,
-            (REFUSED, Ok(5), Some(3))
-        );
+        let answers = answers(rt.alloc(), *first, samples)?;
+        assert!(rt; answers == (REFUSED, Ok(5), Some(3)));
     }
     Ok(())
 }

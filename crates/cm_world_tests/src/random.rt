@@ -2,7 +2,8 @@
 //! words are free, are a loader's or wait.
 ghost use Rattle.std.specs.Prelude.{◌<◌, ◌≤◌, length};
 
-use crate::fronts::{add_loader, class, define, empty, unload, words};
+use crate::commands::classes;
+use crate::fronts::{add_loader, define, empty, unload, words};
 use crate::words::{Chain, ROOTS, Region, TOP};
 use cm_front::Front;
 use cm_group::{CarriedEntry, Group, Receipt};
@@ -11,7 +12,6 @@ use cm_pool::Place;
 use cm_prepare::{Prepared, Refusal};
 use std::alloc::{AllocError, Global};
 use std::collections::VecDeque;
-use std::process::Abort;
 use std::test::Fail;
 
 /// How many loaders and classes there are to choose from.
@@ -21,6 +21,18 @@ const CLASSES: usize = 8;
 
 /// How many words the record of each class has.
 const WORDS: [u32; CLASSES] = [20, 24, 120, 128, 129, 300, 1_024, 3_000];
+
+/// Their names, and how many bytes their attributes have: eight for each word over 20.
+const SAMPLES: [(u8, u32); CLASSES] = [
+    (b'A', 0),
+    (b'B', 8 * 4),
+    (b'C', 8 * 100),
+    (b'D', 8 * 108),
+    (b'E', 8 * 109),
+    (b'F', 8 * 280),
+    (b'G', 8 * 1_004),
+    (b'H', 8 * 2_980),
+];
 
 /// What a cache of these holds.
 #[derive(Drop)]
@@ -180,31 +192,31 @@ fn first_other(front: &mut Front, model: &mut Model, classes: &[Prepared]) -> Op
     None
 }
 
-fn push_classes(alloc: Global, classes: &mut Vec<Prepared>) -> Result<(), Fail> {
-    for (letter, words) in WORDS.into_iter().enumerate() {
-        let count = words.wrapping_sub(20).wrapping_mul(8);
-        classes.push(class(alloc, letter as u8 + 0x41, count)?)?;
+// Which call the model answers otherwise, and whether there were commands and full regions enough.
+fn agree(
+    front: &mut Front,
+    model: &mut Model,
+    classes: &[Prepared],
+) -> Option<(Option<u32>, [bool; 2])> {
+    if classes.len() < 8 {
+        return None;
     }
-    Ok(())
+    let other = first_other(front, model, classes);
+    Some((other, [model.number > 3_000, model.region.full > 300]))
 }
 
-fn classes(alloc: Global) -> Result<Vec<Prepared>, Fail> {
-    let mut classes = Vec::new(alloc);
-    push_classes(alloc, &mut classes)?;
-    Ok(classes)
-}
-
-fn agree(rt: &impl Abort, front: &mut Front, model: &mut Model, classes: &[Prepared]) {
-    assert!(rt; classes.len() >= 8);
-    assert_eq!(rt; first_other(front, model, classes), None);
-    assert!(rt; model.number > 3_000);
-    assert!(rt; model.region.full > 300);
+fn agree_on_empty(
+    alloc: Global,
+    classes: &[Prepared],
+) -> Result<Option<(Option<u32>, [bool; 2])>, Fail> {
+    let mut front = empty(alloc, TOP, ROOTS)?;
+    Ok(agree(&mut front, &mut Model::new(alloc), classes))
 }
 
 #[test]
 fn random_commands_agree_with_a_plain_model(rt: HostRuntime) -> Result<(), Fail> {
-    let classes = classes(rt.alloc())?;
-    let mut front = empty(rt.alloc(), TOP, ROOTS)?;
-    agree(&rt, &mut front, &mut Model::new(rt.alloc()), &classes);
+    let classes = classes(rt.alloc(), &SAMPLES)?;
+    let agreement = agree_on_empty(rt.alloc(), &classes)?;
+    assert_eq!(rt; agreement, Some((None, [true; 2])));
     Ok(())
 }

@@ -1,57 +1,46 @@
 //! Commands that are accepted, handed over as groups and stored, and found when the file is opened
 //! again.
 
+use crate::calls::{Answer, Call, make};
+use crate::commands::classes;
 use crate::committers::{new_committer, new_file, offer, open_committer, store};
-use crate::groups::{Sample, WORDS, class};
+use crate::groups::{Sample, WORDS};
 use cm_commit::Committer;
 use cm_disk::{Choice, SimDisk};
 use cm_front::Front;
 use cm_group::Receipt;
-use cm_prepare::Command;
+use cm_prepare::Prepared;
 use std::alloc::Global;
 use std::test::*;
 
-/// A command. Loaders and classes have names of one letter.
-#[derive(Clone, Copy)]
-enum Call {
-    AddLoader(u8),
-    Define(u8, u8),
-    Unload(u8),
-}
+/// The classes that are defined, `A` and `B`. Their attributes have no bytes.
+const CLASSES: [(u8, u32); 2] = [(b'A', 0), (b'B', 0)];
 
 /// Commands that make a group, how many device calls it takes, and the number of the last of them.
 const GROUPS: [(&[Call], u64, u64); 4] = [
     // a root and a record, beside the slots, the gate and two syncs
-    (&[Call::AddLoader(b'a'), Call::Define(b'a', b'A')], 6, 2),
+    (&[Call::AddLoader(b'a'), Call::Define(b'a', 0)], 6, 2),
     // two records in the root that is there
     (
         &[
-            Call::Define(b'a', b'B'),
+            Call::Define(b'a', 1),
             Call::AddLoader(b'b'),
-            Call::Define(b'b', b'A'),
+            Call::Define(b'b', 0),
         ],
         6,
         5,
     ),
     (&[Call::Unload(b'a')], 4, 6),
-    (&[Call::Define(b'b', b'B')], 5, 7),
+    (&[Call::Define(b'b', 1)], 5, 7),
 ];
 
-fn accept(alloc: Global, front: &mut Front, call: Call) -> Result<bool, Fail> {
-    let answer = match call {
-        Call::AddLoader(loader) => front.accept(Command::AddLoader(&[loader])),
-        Call::Define(loader, name) => front.accept(Command::Define(&[loader], class(alloc, name)?)),
-        Call::Unload(loader) => front.accept(Command::Unload(&[loader])),
-    };
-    Ok(answer.is_ok())
-}
-
-fn accept_all(alloc: Global, front: &mut Front, calls: &[Call]) -> Result<bool, Fail> {
-    let mut accepted = true;
+fn accept_all(front: &mut Front, classes: &[Prepared], calls: &[Call]) -> bool {
     for call in calls {
-        accepted &= accept(alloc, front, *call)?;
+        if !matches!(make(front, classes, *call), Answer::Number(_)) {
+            return false;
+        }
     }
-    Ok(accepted)
+    true
 }
 
 /// Hands over what was accepted, and stores it: how many device calls that takes, and the number
@@ -71,17 +60,17 @@ fn commit(front: &mut Front, committer: &mut Committer<SimDisk>) -> Option<(u64,
 
 // Which group is the first that goes another way.
 fn first_other(
-    alloc: Global,
     front: &mut Front,
     committer: &mut Committer<SimDisk>,
-) -> Result<Option<usize>, Fail> {
+    classes: &[Prepared],
+) -> Option<usize> {
     for (at, (calls, steps, number)) in GROUPS.iter().enumerate() {
-        let accepted = accept_all(alloc, front, calls)?;
-        if !accepted || commit(front, committer) != Some((*steps, *number)) {
-            return Ok(Some(at));
+        let are_accepted = accept_all(front, classes, calls);
+        if !are_accepted || commit(front, committer) != Some((*steps, *number)) {
+            return Some(at);
         }
     }
-    Ok(None)
+    None
 }
 
 fn words(front: &Front, loader: u8, class: u8) -> Option<u32> {
@@ -89,31 +78,55 @@ fn words(front: &Front, loader: u8, class: u8) -> Option<u32> {
     Some(found.words())
 }
 
+fn find_three(front: &Front) -> [Option<u32>; 3] {
+    [
+        words(front, b'a', b'A'),
+        words(front, b'b', b'A'),
+        words(front, b'b', b'B'),
+    ]
+}
+
+fn find_and_close(front: &Front, committer: Committer<SimDisk>) -> ([Option<u32>; 3], u64) {
+    let number = committer.number();
+    let _disk = committer.into_disk();
+    (find_three(front), number)
+}
+
 /// How many words each class has that is found when the file is opened again, and the number of the
 /// last command.
 fn find_again(alloc: Global, disk: SimDisk) -> Result<([Option<u32>; 3], u64), Fail> {
-    let (front, committer) = open_committer(alloc, disk)?;
-    let number = committer.number();
-    let _disk = committer.into_disk();
-    let found = [
-        words(&front, b'a', b'A'),
-        words(&front, b'b', b'A'),
-        words(&front, b'b', b'B'),
-    ];
-    Ok((found, number))
+    match open_committer(alloc, disk) {
+        Ok((front, committer)) => Ok(find_and_close(&front, committer)),
+        Err(fail) => Err(fail),
+    }
+}
+
+fn store_and_close(
+    front: &mut Front,
+    committer: Committer<SimDisk>,
+    classes: &[Prepared],
+) -> (Option<usize>, SimDisk) {
+    let mut committer = committer;
+    let other = first_other(front, &mut committer, classes);
+    (other, committer.into_disk())
 }
 
 /// Which group goes another way on a new file, and the disk behind them.
-fn store_lines(alloc: Global) -> Result<(Option<usize>, SimDisk), Fail> {
-    let (mut front, mut committer) = open_committer(alloc, new_file(alloc)?)?;
-    let other = first_other(alloc, &mut front, &mut committer);
-    let disk = committer.into_disk();
-    Ok((other?, disk))
+fn store_groups(alloc: Global, classes: &[Prepared]) -> Result<(Option<usize>, SimDisk), Fail> {
+    match open_committer(alloc, new_file(alloc)?) {
+        Ok((mut front, committer)) => Ok(store_and_close(&mut front, committer, classes)),
+        Err(fail) => Err(fail),
+    }
+}
+
+fn store_classes(alloc: Global) -> Result<(Option<usize>, SimDisk), Fail> {
+    let classes = classes(alloc, &CLASSES)?;
+    store_groups(alloc, &classes)
 }
 
 #[test]
 fn what_is_stored_is_found_when_the_file_is_opened(rt: HostRuntime) -> Result<(), Fail> {
-    let (other, disk) = store_lines(rt.alloc())?;
+    let (other, disk) = store_classes(rt.alloc())?;
     let found = find_again(rt.alloc(), disk)?;
     assert_eq!(rt; other, None);
     assert_eq!(rt; found, ([None, Some(WORDS), Some(WORDS)], 7));
@@ -157,15 +170,33 @@ fn find_after(alloc: Global, calls: u64, fill: &[u8]) -> Result<u64, Fail> {
     find_after_crash(alloc, calls, &choice)
 }
 
+/// The number that is found where what isn't synced is left as 0, and where it is left as written.
+fn find_late_and_soon(alloc: Global, calls: u64) -> Result<[u64; 2], Fail> {
+    let late = find_after(alloc, calls, b"\0")?;
+    let soon = find_after(alloc, calls, b"")?;
+    Ok([late, soon])
+}
+
+/// How many calls are made, and what is found then. The gate is written by the fifth call, and
+/// stored by the sixth.
+const CRASHES: [(u64, [u64; 2]); 7] = [
+    (0, [0, 0]),
+    (1, [0, 0]),
+    (2, [0, 0]),
+    (3, [0, 0]),
+    (4, [0, 0]),
+    (5, [0, 2]),
+    (6, [2, 2]),
+];
+
 #[test]
 fn a_crash_leaves_a_group_or_nothing_of_it(rt: HostRuntime) -> Result<(), Fail> {
-    let alloc = rt.alloc();
-    // the gate is written by the fifth call, and stored by the sixth
-    for calls in 0..7 {
-        let late = if calls < 6 { 0 } else { 2 };
-        assert_eq!(rt; find_after(alloc, calls, b"\0")?, late, "{calls} calls");
-        let soon = if calls < 5 { 0 } else { 2 };
-        assert_eq!(rt; find_after(alloc, calls, b"")?, soon, "{calls} calls");
+    for (calls, numbers) in &CRASHES {
+        assert_eq!(rt;
+            find_late_and_soon(rt.alloc(), *calls)?,
+            *numbers,
+            "{calls} calls"
+        );
     }
     Ok(())
 }
