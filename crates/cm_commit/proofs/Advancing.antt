@@ -1,47 +1,45 @@
 -- What one device call makes of a committer.
 -- For `Committer::advance`, `Committer::images`, `Committer::offer`, `Committer::steps_left`.
-use Rattle.std.proofs.Common.{◌≡◌, ℕ, ◌+◌, ◌≤◌, Bool, true, false, cond, List, [], ◌∷◌, length}
+use Rattle.std.proofs.Common.{◌≡◌, ℕ, ◌+◌, ◌^◌, ◌<◌, ◌≤◌, Bool, true, false, cond, List, []}
+use Rattle.std.proofs.Common.{◌∷◌, ◌++◌, length}
 use Rattle.std.proofs.Common.{Option, Some, None, refl, sym, ap, subst, ◌∙◌, arith}
-use Rattle.std.specs.Prelude.{Result, Ok, Err, OnOk, OnErr}
+use Rattle.std.specs.Prelude.{Result, Ok, Err, OnOk, OnErr, IfOk, nat_lt}
+use Rattle.std.specs.List.{list_all}
 use Rattle.cm_disk.specs.Disk.{Unsynced, IsImage, IsSound}
 use Rattle.cm_pool.specs.Geometry.{Sizes}
 use Rattle.cm_layout.specs.declared.row.Row.{Row}
-use Rattle.cm_layout.specs.Rows.{bare}
+use Rattle.cm_layout.specs.Rows.{bare, rows_with, numbers_in}
+use Rattle.cm_layout.specs.Frames.{BareRow}
+use Rattle.cm_layout.proofs.{numbers-bare}
 use Rattle.cm_guards.specs.Guards.{EachImage}
 use Rattle.cm_guards.specs.Calls.{LeavesOnly}
-use Rattle.cm_guards.proofs.{settled_images, leaves_more}
-use Rattle.cm_rows.specs.Rows.{LiveRows}
+use Rattle.cm_guards.specs.Stages.{Stage, after_call, calls_left, leaves, CallsOnce, TakesCall}
+use Rattle.cm_guards.specs.Stages.{StagesStand}
+use Rattle.cm_guards.proofs.{settled_images, leaves_more, takes_call, stages_leave, call_done}
+use Rattle.cm_guards.proofs.{call_failed, call_moments as moments_of, leaves_so}
+use Rattle.cm_rows.specs.Rows.{LiveRows, is_above}
 use Rattle.cm_group.specs.Groups.{Handed, entries_in, slots_taken}
-use Rattle.cm_group.proofs.{enough}
-use Rattle.cm_disk.specs.Calls.{HasCause}
-use Rattle.cm_commit.specs.Plans.{Stage, Store, Turn, Settle, after_call, calls_left}
-use Rattle.cm_commit.specs.Committed.{Committed, with_group}
-use Rattle.cm_commit.specs.Offers.{rows_after_group, committed_after}
-use Rattle.cm_commit.specs.Guarding.{guard_of, Shows, IsCommitted}
-use Rattle.cm_commit.specs.Standing.{StagesStand, StagesBroken, CallsOnce, TakesCall}
-use Rattle.cm_commit.specs.States.{CommitterState, MayLeave, ShowsCommitted, ShowsWith, leaves}
 use Rattle.cm_state.specs.State.{words_show}
 use Rattle.cm_state.specs.Entries.{AreCacheRows}
-use Rattle.cm_commit.specs.GroupPlans.{whole_roots}
+use Rattle.cm_commit.specs.declared.journal.Journal.{Journal}
+use Rattle.cm_commit.specs.declared.step.PlanStep.{PlanStep}
+use Rattle.cm_commit.specs.declared.step.PlanStep.TheVariants as plan
+use Rattle.cm_commit.specs.declared.step.CommitStep.TheVariants as step
+use Rattle.cm_commit.specs.Committed.{Committed, journal_of, with_group}
+use Rattle.cm_commit.specs.Checkpoints.{ready_for, target_of}
+use Rattle.cm_commit.specs.Offers.{rows_after_group, committed_after}
+use Rattle.cm_commit.specs.GroupPlans.{whole_roots, roots_of_entries}
+use Rattle.cm_commit.specs.Guarding.{Shows, Holds, IsCommitted}
+use Rattle.cm_commit.specs.States.{CommitterState, MayLeave, ShowsCommitted, ShowsWith, journal_at}
+use Rattle.cm_commit.specs.Steps.{FitsJournal, FitsHalf, plan_left, stages_left, checkpoint_left}
+use Rattle.cm_commit.specs.Advances.{with_committed}
 use Rattle.cm_commit.specs.Keeps.{IsCommitter, IsIdle, IsBusy, IsAt, StandsBroken, roots_then}
 use Rattle.cm_commit.specs.Keeps.{AreRight, rows_then}
-use Rattle.cm_commit.proofs.Guards.{guarded}
-use Rattle.cm_commit.proofs.Rights.{right_after}
+use Rattle.cm_commit.proofs.Committing.{fits_journal, cache_after, right_rows_after}
+use Rattle.cm_commit.proofs.Journals.{half_fits, target_is, end_after}
 use Rattle.cm_commit.proofs.Shown.{shows_cache}
-use Rattle.cm_commit.proofs.Called.{takes_call, each_stage, each_broken, call_done, call_failed}
-use Rattle.cm_commit.proofs.Called.{call_leaves}
-use Rattle.std.specs.Prelude.{IfOk, nat_lt}
-use Rattle.std.specs.List.{list_all}
-use Rattle.cm_layout.specs.Rows.{rows_with, numbers_in}
-use Rattle.cm_layout.proofs.{numbers-bare}
-use Rattle.cm_rows.specs.Rows.{is_above}
+use Rattle.cm_commit.proofs.Through.{shows_holds, ready_right, ready_next, after_right}
 use Rattle.cm_commit.proofs.With.{bare-with}
-use Rattle.cm_commit.specs.declared.journal.Journal.{Journal}
-use Rattle.cm_commit.specs.declared.step.CommitStep.{CommitStep}
-use Rattle.cm_commit.specs.declared.step.CommitStep.TheVariants as step
-use Rattle.cm_commit.specs.Steps.{FitsJournal, stages_at, stages_left}
-use Rattle.cm_commit.proofs.Committing.{fits_journal, cache_after, right_rows_after, end_after}
-use Rattle.cm_commit.proofs.Committing.{leaves_so}
 
 of_ok : {T E : Type 0} (r : Result T E) (A : Type 0) (x : T) → r ≡ Ok x → OnOk r A → A
 of_ok (Ok y) A x e a = a
@@ -57,8 +55,16 @@ module _ {D : Type 0} (contents : D → List ℕ) (unsynced : D → Unsynced) (s
   abbrev before : Committed
   before = record { sizes = s.sizes; rows = s.rows; number = s.number; framing = i.framing }
 
-  shows_before : (image : List ℕ) → Shows before image → ShowsCommitted s image
-  shows_before image shows = shows_cache before image i.right i.records i.cache.differ shows
+  shows_before : (image : List ℕ) → Holds before image → ShowsCommitted s image
+  shows_before image held =
+      shows_cache (record before { framing = held.framing }) image held.right i.records
+      i.cache.differ held.matches
+
+  -- the half of a checkpoint fits
+  pub half : FitsHalf (journal_at s) (bare s.rows)
+  half =
+      subst (λ (j : Journal). FitsHalf j (bare s.rows)) (sym i.journal_is)
+      (half_fits before i.right)
 
   -- ---- nothing is under way
 
@@ -73,36 +79,46 @@ module _ {D : Type 0} (contents : D → List ℕ) (unsynced : D → Unsynced) (s
       record {
         each = λ image is.
             subst (λ (l : List Stage). leaves l (ShowsCommitted s) (ShowsWith s s.underway) image)
-            (sym empty) (shows_before image (images.each image is));
+            (sym empty)
+            (shows_before image (shows_holds before image i.right (images.each image is)));
       }
 
   -- ---- a group is under way
 
   module _ (group : Handed) (underway : s.underway ≡ Some group) where
-    abbrev after : Committed
-    after = committed_after before group
-
     pub busy : IsBusy before roots group s.left s.broken (contents s.disk) (unsynced s.disk)
     busy =
         subst (λ (o : Option Handed). IsAt before roots o s.left s.broken (contents s.disk)
         (unsynced s.disk)) underway i.at
 
+    -- what is committed, in halves that have room for it
+    abbrev ready : Committed
+    ready = ready_for before group.entries
+
+    abbrev after : Committed
+    after = committed_after ready group
+
+    -- where it goes
+    pub target_ready : target_of (journal_at s) (bare s.rows) group.entries ≡ journal_of ready
+    target_ready =
+        ap (λ (j : Journal). target_of j (bare s.rows) group.entries) i.journal_is
+        ∙ target_is before group.entries
+
     -- the writes of the group fit
-    pub fits : FitsJournal (record {
-      geometry = s.sizes;
-      half = s.half;
-      end = s.end;
-      number = s.number;
-    }) group
+    pub fits : FitsJournal (target_of (journal_at s) (bare s.rows) group.entries) group
     fits =
-        fits_journal
-        (record { geometry = s.sizes; half = s.half; end = s.end; number = s.number }) s.rows
-        i.framing group i.end_is i.right busy.is busy.next
+        subst (λ (j : Journal). FitsJournal j group) (sym target_ready)
+        (fits_journal ready group (ready_right before group i.right busy.is busy.next) busy.is
+        (ready_next before group i.right busy.is busy.next))
+
+    pub few_roots : roots_of_entries (entries_in group.entries) < 2 ^ 32
+    few_roots =
+        let f = fits_journal ready group (ready_right before group i.right busy.is busy.next)
+        busy.is (ready_next before group i.right busy.is busy.next) in
+        omega (arith, f.roots, f.lawful.roots_to)
 
     right-next : IsCommitted after
-    right-next =
-        right_after before group i.right busy.is busy.next
-        (omega (arith, busy.is.some, enough group.entries))
+    right-next = after_right before group i.right busy.is busy.next
 
     cache-next : AreCacheRows words_show s.sizes after.number after.rows
     cache-next =
@@ -119,9 +135,9 @@ module _ {D : Type 0} (contents : D → List ℕ) (unsynced : D → Unsynced) (s
         subst (λ (o : Option Handed). ShowsWith s o image) (sym underway)
         (shows_cache after image right-next records-next cache-next.differ shows)
 
-    so : (image : List ℕ) → leaves s.left (Shows before) (Shows after) image → MayLeave s image
+    so : (image : List ℕ) → leaves s.left (Holds before) (Shows after) image → MayLeave s image
     so image l =
-        leaves_so s.left (Shows before) (Shows after) (ShowsCommitted s) (ShowsWith s s.underway)
+        leaves_so s.left (Holds before) (Shows after) (ShowsCommitted s) (ShowsWith s s.underway)
         shows_before shows_after image l
 
     abbrev Stand : Bool → Type 0
@@ -132,25 +148,22 @@ module _ {D : Type 0} (contents : D → List ℕ) (unsynced : D → Unsynced) (s
       where
         by_test : (t : Bool) → Stand t → EachImage (contents s.disk) (unsynced s.disk) (MayLeave s)
         by_test false stands =
-            let images = each_stage (guard_of before) (Shows before) (Shows after) busy.long s.left
-            (contents s.disk) (unsynced s.disk) (guarded before i.right) busy.some stands in
+            let images = stages_leave (Holds before) (Shows after) busy.long s.left
+            (contents s.disk) (unsynced s.disk) busy.some stands in
             record { each = λ image is. so image (images.each image is) }
-        by_test true stands =
-            let images = each_broken (Shows before) (Shows after) s.left (contents s.disk)
-            (unsynced s.disk) stands in
-            record { each = λ image is. so image (images.each image is) }
+        by_test true stands = record { each = λ image is. so image (stands.each image is) }
 
     module _ (sound : s.broken ≡ false) where
-      stands : StagesStand (guard_of before) (Shows before) (Shows after) busy.long s.left
-          (contents s.disk) (unsynced s.disk)
+      stands : StagesStand (Holds before) (Shows after) busy.long s.left (contents s.disk)
+          (unsynced s.disk)
       stands = subst Stand sound busy.stands
 
       -- the next call can be made
       pub takes : IsSound (contents s.disk) (unsynced s.disk)
           → TakesCall s.left (length (contents s.disk))
       takes is =
-          takes_call (guard_of before) (Shows before) (Shows after) busy.long s.left
-          (contents s.disk) (unsynced s.disk) is busy.some stands
+          takes_call (Holds before) (Shows after) busy.long s.left (contents s.disk)
+          (unsynced s.disk) is busy.some stands
 
       module _ {T E : Type 0} (failures moment : D → ℕ) (left_since : D → ℕ → List ℕ → Type 0)
           (only_now : (disk : D) (image : List ℕ) → left_since disk (moment disk) image
@@ -159,21 +172,19 @@ module _ {D : Type 0} (contents : D → List ℕ) (unsynced : D → Unsynced) (s
         -- what a crash leaves meanwhile
         pub call_moments : LeavesOnly moment left_since s.disk new (MayLeave s)
         call_moments =
-            leaves_more moment left_since s.disk new (leaves s.left (Shows before) (Shows after))
+            leaves_more moment left_since s.disk new (leaves s.left (Holds before) (Shows after))
             (MayLeave s) so
-            (call_leaves contents unsynced failures moment left_since only_now (guard_of before)
-            (Shows before) (Shows after) busy.long (guarded before i.right) s.disk new r s.left
-            stands call)
+            (moments_of contents unsynced failures moment left_since only_now (Holds before)
+            (Shows after) busy.long s.disk new r s.left stands call)
 
         done : (x : T) → r ≡ Ok x
-            → StagesStand (guard_of before) (Shows before) (Shows after) busy.long
-            (after_call s.left) (contents new) (unsynced new)
+            → StagesStand (Holds before) (Shows after) busy.long (after_call s.left)
+            (contents new) (unsynced new)
         done x e =
-            of_ok r (StagesStand (guard_of before) (Shows before) (Shows after) busy.long
-            (after_call s.left) (contents new) (unsynced new)) x e
-            (call_done contents unsynced failures moment left_since only_now (guard_of before)
-            (Shows before) (Shows after) busy.long (guarded before i.right) s.disk new r s.left
-            stands call)
+            of_ok r (StagesStand (Holds before) (Shows after) busy.long (after_call s.left)
+            (contents new) (unsynced new)) x e
+            (call_done contents unsynced failures moment left_since only_now (Holds before)
+            (Shows after) busy.long s.disk new r s.left stands call)
 
         -- it failed
         pub is_broken : (f : E) → r ≡ Err f → (more : ℕ) → room ≤ more
@@ -181,8 +192,7 @@ module _ {D : Type 0} (contents : D → List ℕ) (unsynced : D → Unsynced) (s
             roots more
         is_broken f e more le = record {
           framing = i.framing;
-          counting_is = i.counting_is;
-          end_is = i.end_is;
+          journal_is = i.journal_is;
           right = i.right;
           cache = i.cache;
           records = i.records;
@@ -197,11 +207,10 @@ module _ {D : Type 0} (contents : D → List ℕ) (unsynced : D → Unsynced) (s
                 some = busy.some;
                 long = busy.long;
                 roots_are = busy.roots_are;
-                stands = of_err r (StagesBroken (Shows before) (Shows after) s.left (contents new)
-                    (unsynced new)) f e
+                stands = of_err r (EachImage (contents new) (unsynced new)
+                    (leaves s.left (Holds before) (Shows after))) f e
                     (call_failed contents unsynced failures moment left_since only_now
-                    (guard_of before) (Shows before) (Shows after) busy.long
-                    (guarded before i.right) s.disk new r s.left stands call);
+                    (Holds before) (Shows after) busy.long s.disk new r s.left stands call);
               });
         }
 
@@ -212,8 +221,7 @@ module _ {D : Type 0} (contents : D → List ℕ) (unsynced : D → Unsynced) (s
             more
         is_working x e left left_is some more le = record {
           framing = i.framing;
-          counting_is = i.counting_is;
-          end_is = i.end_is;
+          journal_is = i.journal_is;
           right = i.right;
           cache = i.cache;
           records = i.records;
@@ -230,33 +238,38 @@ module _ {D : Type 0} (contents : D → List ℕ) (unsynced : D → Unsynced) (s
                 some = some;
                 long = busy.long;
                 roots_are = busy.roots_are;
-                stands = subst (λ (l : List Stage). StagesStand (guard_of before) (Shows before)
-                    (Shows after) busy.long l (contents new) (unsynced new)) (sym left_is)
-                    (done x e);
+                stands = subst (λ (l : List Stage). StagesStand (Holds before) (Shows after)
+                    busy.long l (contents new) (unsynced new)) (sym left_is) (done x e);
               }));
         }
 
-        -- it was the last
-        pub is_finished : (x : T) → r ≡ Ok x → after_call s.left ≡ [] → (more : ℕ) → room ≤ more
-            → IsCommitter contents unsynced (record {
-              disk = new;
-              sizes = s.sizes;
-              rows = rows_after_group s.rows group.entries;
-              number = s.number + length group.entries;
-              half = s.half;
-              end = s.end + 1 + slots_taken group.entries;
-              underway = None;
-              left = [];
-              broken = s.broken;
-            }) sizes next (roots_then roots group) more
-        is_finished x e last more le =
-            let stored = subst (λ (l : List Stage). StagesStand (guard_of before) (Shows before)
-            (Shows after) busy.long l (contents new) (unsynced new)) last (done x e) in
+        -- it was the last; the group went where the journal goes on so
+        abbrev done_at : Journal → CommitterState D
+        done_at to = record {
+          disk = new;
+          sizes = to.geometry;
+          rows = rows_after_group s.rows group.entries;
+          number = to.number + length group.entries;
+          half = to.half;
+          end = to.end + 1 + slots_taken group.entries;
+          epoch = to.epoch;
+          other_open = to.other_open;
+          underway = None;
+          left = [];
+          broken = s.broken;
+        }
+
+        finished_ready : (x : T) → r ≡ Ok x → after_call s.left ≡ [] → (more : ℕ) → room ≤ more
+            → IsCommitter contents unsynced (done_at (journal_of ready)) sizes next
+            (roots_then roots group) more
+        finished_ready x e last more le =
+            let stored = subst (λ (l : List Stage). StagesStand (Holds before) (Shows after)
+            busy.long l (contents new) (unsynced new)) last (done x e) in
             record {
-              framing = with_group i.framing (entries_in group.entries);
-              counting_is = i.counting_is;
-              end_is = end_after i.framing (entries_in group.entries)
-                  ∙ ap (λ (k : ℕ). k + 1 + slots_taken group.entries) i.end_is;
+              framing = with_group ready.framing (entries_in group.entries);
+              journal_is = λ k. record (journal_of after) {
+                end = sym (end_after ready.framing (entries_in group.entries)) k;
+              };
               right = right-next;
               cache = cache-next;
               records = records-next;
@@ -271,11 +284,20 @@ module _ {D : Type 0} (contents : D → List ℕ) (unsynced : D → Unsynced) (s
               at = record {
                 sound = sound;
                 settled = stored.settled;
-                shows = stored.holds;
+                shows = stored.ready.holds;
                 roots_are = busy.roots_are
-                    ∙ ap (whole_roots s.sizes) (sym stored.size);
+                    ∙ ap (whole_roots s.sizes) (sym stored.ready.size);
               };
             }
+
+        pub is_finished : (to : Journal)
+            → to ≡ target_of (journal_at s) (bare s.rows) group.entries → (x : T) → r ≡ Ok x
+            → after_call s.left ≡ [] → (more : ℕ) → room ≤ more
+            → IsCommitter contents unsynced (done_at to) sizes next (roots_then roots group) more
+        is_finished to to_is x e last more le =
+            subst (λ (j : Journal). IsCommitter contents unsynced (done_at j) sizes next
+            (roots_then roots group) more) (sym (to_is ∙ target_ready))
+            (finished_ready x e last more le)
 
   -- ---- either way
 
@@ -293,19 +315,51 @@ pub steps_are : (broken : Bool) (left : List Stage) (n : ℕ) → broken ≡ fal
 steps_are true left n e same = absurd (cc)
 steps_are false left n e same = same
 
+-- what is seen once a group is committed, where it went to such a journal
+pub as_committed : {D : Type 0} (s : CommitterState D) (to target : Journal) (group : Handed)
+    (disk : D) → to ≡ target → target.geometry ≡ s.sizes → target.number ≡ s.number
+    → record {
+      disk = disk;
+      sizes = to.geometry;
+      rows = rows_after_group s.rows group.entries;
+      number = to.number + length group.entries;
+      half = to.half;
+      end = to.end + 1 + slots_taken group.entries;
+      epoch = to.epoch;
+      other_open = to.other_open;
+      underway = None;
+      left = [];
+      broken = s.broken;
+    }
+    ≡ with_committed s target group disk
+as_committed s to target group disk e sizes number = λ i. record {
+  disk = disk;
+  sizes = (ap (λ (j : Journal). j.geometry) e ∙ sizes) i;
+  rows = rows_after_group s.rows group.entries;
+  number = (ap (λ (j : Journal). j.number) e ∙ number) i + length group.entries;
+  half = (e i).half;
+  end = (e i).end + 1 + slots_taken group.entries;
+  epoch = (e i).epoch;
+  other_open = (e i).other_open;
+  underway = None;
+  left = [];
+  broken = s.broken;
+}
+
 -- a committer as its parts are seen
-abbrev pub seen : {D : Type 0} → D → Journal → List (Row (List ℕ)) → Option Handed → CommitStep
-    → Bool
-    → CommitterState D
-seen disk j rows group now broken = record {
+abbrev pub seen : {D : Type 0} → D → Journal → List (Row (List ℕ)) → ℕ → Option Handed → PlanStep
+    → Bool → CommitterState D
+seen disk j rows roots group now broken = record {
   disk = disk;
   sizes = j.geometry;
   rows = rows;
   number = j.number;
   half = j.half;
   end = j.end;
+  epoch = j.epoch;
+  other_open = j.other_open;
   underway = group;
-  left = stages_left j group now;
+  left = stages_left j (bare rows) roots group now;
   broken = broken;
 }
 
@@ -313,32 +367,28 @@ pub told_ok : {T E : Type 0} (r : Result T E) (P : T → Type 0) (x : T) → r �
 told_ok (Ok y) P x e p = subst P (cc) p
 told_ok (Err f) P x e p = absurd (cc)
 
-pub some_stages : (j : Journal) (group : Handed) (now : CommitStep) → (now ≡ step.Done → ⊥)
-    → stages_at j group now ≡ [] → ⊥
-some_stages j group (step.Write roots from) isnt e = absurd (cc)
-some_stages j group step.Sync isnt e = absurd (cc)
-some_stages j group step.Gate isnt e = absurd (cc)
-some_stages j group step.LastSync isnt e = absurd (cc)
-some_stages j group step.Done isnt e = isnt refl
+pub some_behind : (front : List Stage) (stage : Stage) (stages : List Stage)
+    → front ++ stage ∷ stages ≡ [] → ⊥
+some_behind [] stage stages e = absurd (cc)
+some_behind (first ∷ front) stage stages e = absurd (cc)
+
+-- while calls are left, stages are
+pub some_stages : (j : Journal) (rows : List BareRow) (roots : ℕ) (group : Handed) (now : PlanStep)
+    → (now ≡ plan.Group step.Done → ⊥) → plan_left j rows roots group now ≡ [] → ⊥
+some_stages j rows roots group (plan.Checkpoint at) isnt e =
+    some_behind (checkpoint_left j rows at) _ _ e
+some_stages j rows roots group (plan.Group (step.Write r from)) isnt e = absurd (cc)
+some_stages j rows roots group (plan.Group step.Sync) isnt e = absurd (cc)
+some_stages j rows roots group (plan.Group step.Gate) isnt e = absurd (cc)
+some_stages j rows roots group (plan.Group step.LastSync) isnt e = absurd (cc)
+some_stages j rows roots group (plan.Group step.Done) isnt e = isnt refl
+
+pub no_stages : (j : Journal) (rows : List BareRow) (roots : ℕ) (group : Handed) (now : PlanStep)
+    → now ≡ plan.Group step.Done → plan_left j rows roots group now ≡ []
+no_stages j rows roots group now is = ap (plan_left j rows roots group) is
 
 pub above_own : {P : Type 0} (f : P → List ℕ) (rows : List (Row P)) (n : ℕ)
     → is_above n (bare (rows_with f rows)) ≡ true → is_above n rows ≡ true
 above_own f rows n h =
     ap (list_all (λ u. nat_lt u n))
     (sym (ap numbers_in (bare-with f rows) ∙ numbers-bare rows)) ∙ h
-
--- a fault is told only where the device failed
-pub call_cause : {D T E : Type 0} (contents : D → List ℕ) (unsynced : D → Unsynced)
-    (failures moment : D → ℕ) (left_since : D → ℕ → List ℕ → Type 0) (old new : D)
-    (r : Result T E) (left : List Stage)
-    → CallsOnce contents unsynced failures moment left_since left old new r
-    → HasCause (failures old) (failures new) r
-call_cause contents unsynced failures moment left_since old new r [] call = absurd call
-call_cause contents unsynced failures moment left_since old new r (Store [] ∷ behind) call =
-    call.cause
-call_cause contents unsynced failures moment left_since old new r (Store (w ∷ ws) ∷ behind) call =
-    call.cause
-call_cause contents unsynced failures moment left_since old new r (Turn gate byte ∷ behind) call =
-    call.cause
-call_cause contents unsynced failures moment left_since old new r (Settle ∷ behind) call =
-    call.cause

@@ -12,25 +12,20 @@ use Rattle.cm_layout.specs.declared.row.Row.TheVariants.{Loader, Class}
 use Rattle.cm_layout.specs.declared.entry.Entry.TheVariants as entry
 use Rattle.cm_layout.specs.Offsets.{root_size}
 use Rattle.cm_layout.specs.Rows.{bare, numbers_in, rows_after, without_loader, is_of}
-use Rattle.cm_layout.specs.Rows.{slots_of_entries}
 use Rattle.cm_layout.specs.Rules.{broken_rule}
 use Rattle.cm_layout.specs.Frames.{BareRow, BareEntry, LiveRowsKeep}
-use Rattle.cm_layout.specs.Framing.{Framing}
 use Rattle.cm_layout.proofs.{entry-apart, entry-live, live-append, own_loaders}
 use Rattle.cm_rows.specs.Rows.{is_above}
 use Rattle.cm_state.specs.State.{words_show}
 use Rattle.cm_state.specs.Entries.{AreCacheRows}
 use Rattle.cm_state.proofs.{entries_step}
 use Rattle.cm_group.specs.Groups.{Carried, Handed, IsGroup, CarriesRight, IsRightRecord, entries_in}
-use Rattle.cm_commit.specs.declared.journal.Journal.{Journal}
-use Rattle.cm_commit.specs.Plans.{Stage, Store, Turn, Settle, calls_left, after_call}
-use Rattle.cm_commit.specs.Committed.{Committed, end_slot, with_group, slots_of_groups}
+use Rattle.cm_commit.specs.Committed.{Committed, journal_of}
 use Rattle.cm_commit.specs.Offers.{filled, own_record, HasRecords, MayJoinAll, IsNext}
 use Rattle.cm_commit.specs.Offers.{carries_own, rows_after_group}
 use Rattle.cm_commit.specs.Guarding.{IsCommitted}
 use Rattle.cm_commit.specs.Keeping.{keep_rules}
 use Rattle.cm_commit.specs.Keeps.{AreRight}
-use Rattle.cm_commit.specs.States.{leaves}
 use Rattle.cm_commit.specs.Steps.{AreSmall, FitsJournal}
 use Rattle.cm_commit.proofs.Apart.{roots-few}
 use Rattle.cm_commit.proofs.Records.{class_inside}
@@ -81,29 +76,18 @@ small_all sizes committed rows n (c ∷ carried) joins = (
   small_all sizes committed (rows_after rows (filled c)) (n + 1) carried joins.1,
 )
 
-pub fits_journal : (j : Journal) (rows : List (Row (List ℕ))) (f : Framing) (group : Handed)
-    → end_slot f ≡ j.end
-    → IsCommitted (record { sizes = j.geometry; rows = rows; number = j.number; framing = f })
-    → IsGroup group
-    → IsNext (record { sizes = j.geometry; rows = rows; number = j.number; framing = f }) group
-    → FitsJournal j group
-fits_journal j rows f group end_is right is next =
-    let c : Committed = record {
-      sizes = j.geometry;
-      rows = rows;
-      number = j.number;
-      framing = f;
-    } in
-    record {
-      lawful = right.lawful;
-      own = own_all j.geometry rows rows j.number group.entries next.entries;
-      small = small_all j.geometry rows rows j.number group.entries next.entries;
-      roots = roots-few c j.number rows group.entries next.entries;
-      number = omega (arith, is.some, next.ends);
-      room = omega (arith, end_is, next.room, right.lawful.slots_from);
-      size = entries_count j.geometry (bare rows) j.number (entries_in group.entries)
-          (entries_keep j.geometry rows rows j.number group.entries next.entries);
-    }
+pub fits_journal : (c : Committed) (group : Handed) → IsCommitted c → IsGroup group → IsNext c group
+    → FitsJournal (journal_of c) group
+fits_journal c group right is next = record {
+  lawful = right.lawful;
+  own = own_all c.sizes c.rows c.rows c.number group.entries next.entries;
+  small = small_all c.sizes c.rows c.rows c.number group.entries next.entries;
+  roots = roots-few c c.number c.rows group.entries next.entries;
+  number = omega (arith, is.some, next.ends);
+  room = next.room;
+  size = entries_count c.sizes (bare c.rows) c.number (entries_in group.entries)
+      (entries_keep c.sizes c.rows c.rows c.number group.entries next.entries);
+}
 
 -- ---- the rows after the group
 
@@ -184,40 +168,3 @@ right_rows_after sizes committed rows n [] right all joins = right
 right_rows_after sizes committed rows n (c ∷ carried) right all joins =
     right_rows_after sizes committed (rows_after rows (filled c)) (n + 1) carried
     (right-one rows c.entry c.records right all.0 joins.0.records) all.1 joins.1
-
--- ---- the end of the half
-
-slots-append : (groups : List (List BareEntry)) (group : List BareEntry)
-    → slots_of_groups (groups ++ group ∷ [])
-    ≡ slots_of_groups groups + (1 + slots_of_entries group)
-slots-append [] group = omega arith
-slots-append (g ∷ groups) group = omega (arith, slots-append groups group)
-
-pub end_after : (f : Framing) (group : List BareEntry)
-    → end_slot (with_group f group) ≡ end_slot f + 1 + slots_of_entries group
-end_after f group = omega (arith, slots-append f.groups group)
-
--- ---- what is left
-
-pub one_call_less : (left : List Stage) → (left ≡ [] → ⊥)
-    → calls_left left ≡ 1 + calls_left (after_call left)
-one_call_less [] some = absurd (some refl)
-one_call_less (Store [] ∷ behind) some = omega arith
-one_call_less (Store (w ∷ writes) ∷ behind) some = omega arith
-one_call_less (Turn gate byte ∷ behind) some = omega arith
-one_call_less (Settle ∷ behind) some = omega arith
-
-pub some_calls : (left : List Stage) → (left ≡ [] → ⊥) → 1 ≤ calls_left left
-some_calls left some = omega (arith, one_call_less left some)
-
-pub leaves_so : (left : List Stage) (P Q R S : List ℕ → Type 0)
-    → ((image : List ℕ) → P image → R image) → ((image : List ℕ) → Q image → S image)
-    → (image : List ℕ) → leaves left P Q image → leaves left R S image
-leaves_so [] P Q R S f g image l = f image l
-leaves_so (Store writes ∷ behind) P Q R S f g image l = f image l
-leaves_so (Turn gate byte ∷ behind) P Q R S f g image l = record {
-  which = elim l.which [ inl p ↦ inl (f image p) | inr q ↦ inr (g image q) ];
-}
-leaves_so (Settle ∷ behind) P Q R S f g image l = record {
-  which = elim l.which [ inl p ↦ inl (f image p) | inr q ↦ inr (g image q) ];
-}

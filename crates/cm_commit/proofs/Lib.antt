@@ -11,14 +11,20 @@ mod Gate
 mod Records
 mod Apart
 mod Turning
+mod NewHalves
+mod Shutting
+mod Reopened
+mod Renewing
 mod Applied
-mod Called
 mod Shown
 mod With
 mod NextRecords
 mod SlotsPut
 mod NextWrites
 mod Committing
+mod Journals
+mod CheckpointCalls
+mod Through
 mod Advancing
 mod Filled
 mod Fitting
@@ -32,5 +38,3 @@ mod Offering
 pub use Slots.{end_is}
 -- Where records lie that keep the rules: inside their chunks, one behind another.
 pub use Places.{inside, ends_in_root}
--- What a group that is taken makes of what a committer keeps.
-pub use Committing.{one_call_less}

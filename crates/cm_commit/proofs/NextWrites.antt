@@ -10,10 +10,10 @@ use Rattle.cm_pool.specs.declared.place.Place.{Place}
 use Rattle.cm_layout.specs.declared.half.Half.{Half}
 use Rattle.cm_guards.specs.Plans.{Write}
 use Rattle.cm_group.specs.Groups.{Carried, entries_in}
-use Rattle.cm_commit.specs.Plans.{Stage, Store, after_call}
+use Rattle.cm_guards.specs.Stages.{Stage, Store, after_call}
 use Rattle.cm_commit.specs.GroupPlans.{root_write, root_writes, place_write, record_writes}
 use Rattle.cm_commit.specs.GroupPlans.{slots_write, writes_left, roots_of_entries}
-use Rattle.cm_commit.specs.Standing.{WritesOnce, CallsOnce, TakesCall, TakesWrite}
+use Rattle.cm_guards.specs.Stages.{WritesOnce, CallsOnce, TakesCall, TakesWrite}
 use Rattle.cm_commit.specs.Steps.{WritesNone, WritesFirst}
 
 module _ (sizes : Sizes) (half : Half) (slot n : ℕ) (carried : List Carried) (roots : ℕ) where

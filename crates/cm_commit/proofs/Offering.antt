@@ -1,34 +1,32 @@
 -- What a committer keeps once it has taken a group.
 -- For `Committer::offer`.
-use Rattle.std.proofs.Common.{◌≡◌, ℕ, ◌+◌, Bool, true, false, cond, List, length}
-use Rattle.std.proofs.Common.{Some, None, refl, sym, ap, subst, ◌∙◌, arith, Option, is_some}
+use Rattle.std.proofs.Common.{◌≡◌, ℕ, ◌+◌, ◌-◌, Bool, true, false, cond, List, [], ◌++◌}
+use Rattle.std.proofs.Common.{length}
+use Rattle.std.proofs.Common.{Some, None, refl, sym, ap, subst, ◌∙◌, Option, is_some}
 use Rattle.std.specs.List.{AllByRecursion}
 use Rattle.cm_disk.specs.Disk.{Unsynced}
 use Rattle.cm_pool.specs.Geometry.{Sizes}
-use Rattle.cm_layout.specs.Slots.{open_gate}
 use Rattle.cm_layout.specs.declared.row.Row.{Row}
 use Rattle.cm_layout.specs.Rows.{bare, rows_with, rows_after_all}
-use Rattle.cm_guards.specs.Plans.{written}
-use Rattle.cm_guards.proofs.{keeps_settled}
+use Rattle.cm_guards.specs.Stages.{Stage, StagesStand, calls_left, gone_through}
+use Rattle.cm_guards.proofs.{ready_stands}
 use Rattle.cm_rows.specs.Rows.{LiveRows}
 use Rattle.cm_group.specs.Groups.{Carried, Handed, IsGroup, entries_in}
-use Rattle.cm_commit.specs.Plans.{Stage, calls_left}
-use Rattle.cm_commit.specs.Committed.{Committed, end_slot}
-use Rattle.cm_commit.specs.GroupPlans.{plan_at, group_writes, gate_at, whole_roots}
-use Rattle.cm_commit.specs.GroupPlans.{roots_to_add, record_writes}
-use Rattle.cm_commit.specs.Guarding.{guard_of, Shows}
+use Rattle.cm_commit.specs.Committed.{Committed, journal_of}
+use Rattle.cm_commit.specs.Checkpoints.{ready_for, is_due, is_due_at, checkpoint_of, target_of}
+use Rattle.cm_commit.specs.GroupPlans.{plan_of, plan_at, whole_roots, roots_to_add, record_writes}
+use Rattle.cm_commit.specs.GroupPlans.{roots_of_entries}
+use Rattle.cm_commit.specs.Guarding.{Shows, Holds}
 use Rattle.cm_commit.specs.Keeps.{IsCommitter, IsIdle, IsBusy, IsAt, StandsBroken, roots_then}
 use Rattle.cm_commit.specs.Keeps.{rows_then}
 use Rattle.cm_commit.specs.Laws.{TellsWords}
-use Rattle.cm_commit.specs.Offers.{IsNext, MayCome, rows_after_group, committed_after}
-use Rattle.cm_commit.specs.Standing.{StagesStand}
-use Rattle.cm_commit.specs.States.{CommitterState, Takes, with_taken}
-use Rattle.cm_commit.proofs.Counting.{calls_write}
+use Rattle.cm_commit.specs.Offers.{rows_after_group, committed_after}
+use Rattle.cm_commit.specs.States.{CommitterState, Takes, with_taken, journal_at}
+use Rattle.cm_commit.proofs.Advancing.{some_behind}
+use Rattle.cm_commit.proofs.Counting.{plan_counts}
 use Rattle.cm_commit.proofs.Rights.{all-bare}
+use Rattle.cm_commit.proofs.Through.{groups_go_through}
 use Rattle.cm_commit.proofs.With.{bare-with}
-use Rattle.cm_commit.proofs.Guards.{guard_bounded, needs_roots}
-use Rattle.cm_commit.proofs.Roots.{roots-written}
-use Rattle.cm_commit.proofs.Turning.{groups_turn}
 
 -- ---- the books
 
@@ -80,7 +78,7 @@ module _ {D : Type 0} (contents : D → List ℕ) (unsynced : D → Unsynced) (s
 
   -- the stages of its plan
   abbrev pub plan : List Stage
-  plan = plan_at s.sizes s.half s.end s.number roots group.entries
+  plan = plan_of (journal_at s) (bare s.rows) roots group.entries
 
   abbrev pub with_group_underway : CommitterState D
   with_group_underway = record s { underway = Some group; left = plan }
@@ -95,57 +93,55 @@ module _ {D : Type 0} (contents : D → List ℕ) (unsynced : D → Unsynced) (s
         subst (λ (o : Option Handed). IsAt before roots o s.left s.broken now (unsynced s.disk))
         takes.idle i.at
 
-    comes : IsNext before group
-    comes =
-        subst (λ (k : ℕ). MayCome s.sizes s.rows s.number k group) (sym i.end_is) takes.next
-
-    same_plan : plan_at s.sizes i.framing.counting (end_slot i.framing) s.number
-        (whole_roots s.sizes (length now)) group.entries
+    same_plan : plan_of (journal_of before) (bare s.rows) (whole_roots s.sizes (length now))
+        group.entries
         ≡ plan
     same_plan =
-        λ j. plan_at s.sizes (i.counting_is j) (i.end_is j) s.number (sym idle.roots_are j)
-        group.entries
+        λ j. plan_of (sym i.journal_is j) (bare s.rows) (sym idle.roots_are j) group.entries
+
+    abbrev after : Committed
+    after = committed_after (ready_for before group.entries) group
 
     abbrev behind : List ℕ
-    behind = written (group_writes before (length now) group.entries) now
+    behind = gone_through plan now
 
-    stands : StagesStand (guard_of before) (Shows before) (Shows (committed_after before group))
-        (length behind) plan now (unsynced s.disk)
+    stands : StagesStand (Holds before) (Shows after) (length behind) plan now (unsynced s.disk)
     stands =
-        let turned = groups_turn before group now i.right is comes tells idle.shows in
-        subst (λ (l : List Stage). StagesStand (guard_of before) (Shows before)
-        (Shows (committed_after before group)) (length behind) l now (unsynced s.disk)) same_plan
-        (record {
-          gate = gate_at before;
-          byte = open_gate;
-          behind_is = refl;
-          stays = record {
-            keeps = keeps_settled (guard_of before) now (unsynced s.disk)
-                (guard_bounded before i.right) idle.shows.long idle.settled;
-            holds = idle.shows;
-          };
-          can = turned.can;
-          turns = turned.turns;
-          grows = refl;
-        })
+        let through = groups_go_through before group now i.right is takes.next tells idle.shows in
+        subst (λ (l : List Stage). StagesStand (Holds before) (Shows after)
+        (length (gone_through l now)) l now (unsynced s.disk)) same_plan
+        (ready_stands (Holds before) (Shows after) _ _ now (unsynced s.disk) idle.settled
+        through.ready)
+
+    some_plan : plan ≡ [] → ⊥
+    some_plan e = by_test (is_due (journal_at s) group.entries) e
+      where
+        by_test : (t : Bool)
+            → (cond t (checkpoint_of (journal_at s) (bare s.rows)) []
+            ++ plan_at (target_of (journal_at s) (bare s.rows) group.entries).geometry
+            (target_of (journal_at s) (bare s.rows) group.entries).half
+            (target_of (journal_at s) (bare s.rows) group.entries).end
+            (target_of (journal_at s) (bare s.rows) group.entries).number roots group.entries ≡ [])
+            → ⊥
+        by_test true e = some_behind (checkpoint_of (journal_at s) (bare s.rows)) _ _ e
+        by_test false e = absurd (cc)
 
     roots_so : roots_then roots group ≡ whole_roots s.sizes (length behind)
     roots_so =
-        let turned = groups_turn before group now i.right is comes tells idle.shows in
-        let long = needs_roots s.sizes s.rows in
+        let through = groups_go_through before group now i.right is takes.next tells idle.shows in
         ap (λ (k : ℕ). roots_then k group) idle.roots_are
-        ∙ roots-written before group now i.right comes (omega (arith, long, idle.shows.long))
-        turned.can
+        ∙ through.roots
+        ∙ ap (λ (l : List Stage). whole_roots s.sizes (length (gone_through l now))) same_plan
 
     busy : IsBusy before roots group plan s.broken now (unsynced s.disk)
     busy = record {
       is = is;
-      next = comes;
-      some = λ none. absurd (cc);
+      next = takes.next;
+      some = some_plan;
       long = length behind;
       roots_are = roots_so;
-      stands = subst (λ (b : Bool). StandsBroken b before (committed_after before group)
-          (length behind) plan now (unsynced s.disk)) (sym takes.sound) stands;
+      stands = subst (λ (b : Bool). StandsBroken b before after (length behind) plan now
+          (unsynced s.disk)) (sym takes.sound) stands;
     }
 
     pub taken : (new : LiveRows (Unit {0}))
@@ -156,8 +152,7 @@ module _ {D : Type 0} (contents : D → List ℕ) (unsynced : D → Unsynced) (s
         → IsCommitter contents unsynced with_group_underway sizes new roots room
     taken new new_is = record {
       framing = i.framing;
-      counting_is = i.counting_is;
-      end_is = i.end_is;
+      journal_is = i.journal_is;
       right = i.right;
       cache = i.cache;
       records = i.records;
@@ -172,20 +167,15 @@ module _ {D : Type 0} (contents : D → List ℕ) (unsynced : D → Unsynced) (s
     as_taken =
         ap (λ (k : ℕ). record s {
           underway = Some group;
-          left = plan_at s.sizes s.half s.end s.number k group.entries;
+          left = plan_of (journal_at s) (bare s.rows) k group.entries;
         }) idle.roots_are
 
     pub steps : calls_left plan
         ≡ 4 + roots_to_add s.sizes (length now) (entries_in group.entries)
         + length (record_writes s.sizes group.entries)
+        + cond (is_due_at s.sizes s.end group.entries) 6 0
     steps =
-        omega (
-          arith,
-          calls_write (record {
-            geometry = s.sizes;
-            half = s.half;
-            end = s.end;
-            number = s.number;
-          }) group roots 0,
-          idle.roots_are,
-        )
+        plan_counts (journal_at s) (bare s.rows) roots group.entries
+        ∙ ap (λ (k : ℕ). 4 + (roots_of_entries
+        (entries_in group.entries) - k) + length (record_writes s.sizes group.entries)
+        + cond (is_due_at s.sizes s.end group.entries) 6 0) idle.roots_are

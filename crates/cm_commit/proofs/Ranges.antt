@@ -43,7 +43,7 @@ among-to at n i h = ltb-true i (at + n) (and_parts (nat_le at i) (nat_lt i (at +
 part_count : (at n : ℕ) (xs : List ℕ) → at + n ≤ length xs → length (part at n xs) ≡ n
 part_count at n xs le = omega (arith, le, length-take n (drop at xs), length-drop at xs)
 
-byte_in_part : (at n i : ℕ) (xs : List ℕ) → i < n
+pub byte_in_part : (at n i : ℕ) (xs : List ℕ) → i < n
     → get_or (part at n xs) i 0 ≡ get_or xs (at + i) 0
 byte_in_part at n i xs lt = get_or-take n (drop at xs) i 0 lt ∙ get_or-drop at xs i 0
 

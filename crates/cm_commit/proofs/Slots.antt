@@ -35,7 +35,8 @@ entry_count (entry.Live row) fits = row_count row fits
 entry_count (entry.Unload e) fits = refl
 entry_count (entry.Move e) fits = refl
 
-live_count : (sizes : Sizes) (base : ℕ) (pre rows : List BareRow) → LiveRowsKeep sizes base pre rows
+pub live_count : (sizes : Sizes) (base : ℕ) (pre rows : List BareRow)
+    → LiveRowsKeep sizes base pre rows
     → length (flat_map row_slot rows) ≡ 64 * slots_of_rows rows
 live_count sizes base pre [] k = refl
 live_count sizes base pre (row ∷ rows) k =

@@ -1,6 +1,8 @@
 -- Rows with something else kept of each class.
--- For `Committer::advance`, `Committer::new`, `may_join`.
-use Rattle.std.proofs.Common.{◌≡◌, ℕ, Bool, true, false, cond, List, [], ◌∷◌, refl, ap}
+-- For `Committer::advance`, `Committer::new`, `add_rows`, `may_join`, `renewed` and others.
+use Rattle.std.proofs.Common.{◌≡◌, ℕ, Bool, true, false, cond, List, [], ◌∷◌, ◌++◌, length, refl}
+use Rattle.std.proofs.Common.{ap, arith}
+use Rattle.std.specs.List.{flat_map}
 use Rattle.std.specs.Prelude.{◌==◌, not}
 use Rattle.std.proofs.lemmas.List.{map-append}
 use Rattle.cm_pool.specs.declared.chunk.Chunk.{Chunk}
@@ -10,7 +12,8 @@ use Rattle.cm_layout.specs.declared.row.Row.TheVariants.{Loader, Class}
 use Rattle.cm_layout.specs.declared.entry.Entry.{Entry}
 use Rattle.cm_layout.specs.declared.entry.Entry.TheVariants as entry
 use Rattle.cm_layout.specs.Rows.{bare, rows_with, row_with, rows_after, entry_with, moved}
-use Rattle.cm_layout.specs.Rows.{without_loader}
+use Rattle.cm_layout.specs.Rows.{without_loader, slots_of_rows}
+use Rattle.cm_layout.specs.Slots.{row_slot, loader_slot, class_slot}
 use Rattle.cm_layout.specs.Frames.{BareRow}
 
 pub bare-with : {P Q : Type 0} (f : P → Q) (rows : List (Row P))
@@ -68,3 +71,20 @@ pub after-with : {P Q : Type 0} (f : P → Q) (rows : List (Row P)) (e : Entry P
 after-with f rows (entry.Live row) = map-append (row_with f) rows (row ∷ [])
 after-with f rows (entry.Unload e) = without-with f e.loader rows
 after-with f rows (entry.Move e) = moved-with f e.from e.to rows
+
+-- ---- in a half
+
+-- what is kept of a class has no part in its slot
+pub slots-with : {P Q : Type 0} (f : P → Q) (rows : List (Row P))
+    → flat_map row_slot (bare (rows_with f rows)) ≡ flat_map row_slot rows
+slots-with f [] = refl
+slots-with f (Loader r ∷ rows) =
+    ap (λ (l : List ℕ). loader_slot r ++ l) (slots-with f rows)
+slots-with f (Class r p ∷ rows) =
+    ap (λ (l : List ℕ). class_slot r ++ l) (slots-with f rows)
+
+-- each takes a slot
+pub counted-with : {P Q : Type 0} (f : P → Q) (rows : List (Row P))
+    → slots_of_rows (bare (rows_with f rows)) ≡ length rows
+counted-with f [] = refl
+counted-with f (row ∷ rows) = omega (arith, counted-with f rows)

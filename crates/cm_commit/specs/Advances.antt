@@ -1,15 +1,18 @@
 -- What one step of a committer does.
 use Rattle.std.specs.Prelude.{◌≡◌, ℕ, ◌+◌, ◌≤◌, ◌<◌, Bool, true, false, [], length, Some, None}
 use Rattle.std.specs.Prelude.{Result, Ok, Err}
+use Rattle.cm_layout.specs.Rows.{bare}
 use Rattle.cm_group.specs.declared.receipt.Receipt.{Receipt}
 use Rattle.cm_group.specs.Groups.{Handed, slots_taken}
 use Rattle.cm_commit.specs.declared.progress.Progress.{Progress}
 use Rattle.cm_commit.specs.declared.progress.Progress.TheVariants.{Idle, Working, Done}
 use Rattle.cm_commit.specs.declared.progress.AdvanceFault.{AdvanceFault}
 use Rattle.cm_commit.specs.declared.progress.AdvanceFault.TheVariants.{Device, Broken}
-use Rattle.cm_commit.specs.Plans.{calls_left, after_call}
+use Rattle.cm_guards.specs.Stages.{calls_left, after_call}
+use Rattle.cm_commit.specs.declared.journal.Journal.{Journal}
 use Rattle.cm_commit.specs.Offers.{rows_after_group}
-use Rattle.cm_commit.specs.States.{CommitterState}
+use Rattle.cm_commit.specs.Checkpoints.{target_of}
+use Rattle.cm_commit.specs.States.{CommitterState, journal_at}
 
 -- nothing is left: no call, no change
 pub record Rests {D : Type 0} (old new : CommitterState D) : Type 0 where
@@ -23,6 +26,21 @@ pub record Works {D : Type 0} (old new : CommitterState D) : Type 0 where
   pub more : 2 ≤ calls_left old.left
   pub new_is : new ≡ record old { disk = new.disk; left = after_call old.left }
 
+-- once a group is committed, of so many slots, which went where the journal goes on so
+abbrev pub with_committed : {D : Type 0} → CommitterState D → Journal → Handed → D
+    → CommitterState D
+with_committed s to group disk = record s {
+  disk = disk;
+  rows = rows_after_group s.rows group.entries;
+  number = s.number + length group.entries;
+  half = to.half;
+  end = to.end + 1 + slots_taken group.entries;
+  epoch = to.epoch;
+  other_open = to.other_open;
+  underway = None;
+  left = [];
+}
+
 -- the last call is made: the group is committed, and its last number is told
 pub record Finishes {D : Type 0} (old : CommitterState D) (receipt : Receipt)
     (new : CommitterState D) : Type 0 where
@@ -31,14 +49,8 @@ pub record Finishes {D : Type 0} (old : CommitterState D) (receipt : Receipt)
   pub group : Handed
   pub underway : old.underway ≡ Some group
   pub told : receipt.number ≡ old.number + length group.entries
-  pub new_is : new ≡ record old {
-    disk = new.disk;
-    rows = rows_after_group old.rows group.entries;
-    number = old.number + length group.entries;
-    end = old.end + 1 + slots_taken group.entries;
-    underway = None;
-    left = [];
-  }
+  pub new_is : new ≡ with_committed old
+      (target_of (journal_at old) (bare old.rows) group.entries) group new.disk
 
 -- the call failed
 pub record Breaks {D : Type 0} (old new : CommitterState D) : Type 0 where

@@ -1,10 +1,11 @@
 -- What stands for sure in a region file.
-use Rattle.std.specs.Prelude.{ℕ, ◌+◌, List, [], ◌∷◌, ◌++◌}
+use Rattle.std.specs.Prelude.{ℕ, ◌+◌, List, [], ◌∷◌, ◌++◌, is_some}
 use Rattle.cm_pool.specs.Geometry.{Sizes}
 use Rattle.cm_layout.specs.declared.row.Row.{Row}
 use Rattle.cm_layout.specs.Rows.{slots_of_rows, slots_of_entries}
 use Rattle.cm_layout.specs.Frames.{BareEntry}
 use Rattle.cm_layout.specs.Framing.{Framing}
+use Rattle.cm_commit.specs.declared.journal.Journal.{Journal}
 
 -- The rows, each class with the words of its record; the number of the last command; and what the
 -- halves of the journal hold.
@@ -26,3 +27,14 @@ end_slot f = 1 + slots_of_rows f.live + slots_of_groups f.groups
 -- the half that counts, with a group more
 abbrev pub with_group : Framing → List BareEntry → Framing
 with_group f group = record f { groups = f.groups ++ group ∷ [] }
+
+-- where the journal goes on
+abbrev pub journal_of : Committed → Journal
+journal_of c = record {
+  geometry = c.sizes;
+  half = c.framing.counting;
+  end = end_slot c.framing;
+  epoch = c.framing.head.epoch;
+  other_open = is_some c.framing.older;
+  number = c.number;
+}

@@ -13,12 +13,14 @@ use Rattle.cm_layout.specs.declared.entry.Entry.TheVariants as entry
 use Rattle.cm_layout.specs.Offsets.{slot_size, slot_at, roots_at, root_at, root_size, record_at}
 use Rattle.cm_layout.specs.Slots.{open_gate, group_head_rest, entry_slot}
 use Rattle.cm_layout.specs.Rows.{slots_of_entries}
-use Rattle.cm_layout.specs.Frames.{BareEntry}
+use Rattle.cm_layout.specs.Frames.{BareRow, BareEntry}
 use Rattle.cm_layout.specs.Zeros.{blank}
 use Rattle.cm_guards.specs.Plans.{Write}
 use Rattle.cm_group.specs.Groups.{Carried, entries_in}
-use Rattle.cm_commit.specs.Plans.{Stage, Store, Turn}
+use Rattle.cm_guards.specs.Stages.{Stage, Store, Turn}
+use Rattle.cm_commit.specs.declared.journal.Journal.{Journal}
 use Rattle.cm_commit.specs.Committed.{Committed, end_slot}
+use Rattle.cm_commit.specs.Checkpoints.{checkpoint_of, is_due, target_of}
 use Rattle.cm_commit.specs.Offers.{own_record}
 
 -- ---- roots
@@ -124,3 +126,14 @@ abbrev pub group_plan : Committed → ℕ → List Carried → List Stage
 group_plan c len carried =
     plan_at c.sizes c.framing.counting (end_slot c.framing) c.number (whole_roots c.sizes len)
     carried
+
+-- ---- with a checkpoint
+
+-- What stores a group, where the journal goes on so, its live rows are these, and the file has so
+-- many whole roots: a checkpoint where the half that counts has no room for the group, and then the
+-- group.
+abbrev pub plan_of : Journal → List BareRow → ℕ → List Carried → List Stage
+plan_of j rows roots carried =
+    let to = target_of j rows carried in
+    (if is_due j carried then checkpoint_of j rows else [])
+    ++ plan_at to.geometry to.half to.end to.number roots carried

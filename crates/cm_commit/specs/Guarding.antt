@@ -1,8 +1,10 @@
--- What is guarded while a group is stored: all that what is committed rests on.
-use Rattle.std.specs.Prelude.{ℕ, Bool, false, ◌||◌, List, [], ◌∷◌}
+-- What is guarded while a group is stored: all that what is committed rests on. While a checkpoint
+-- is written, it is the same but for the other half, of which the shut gate alone counts.
+use Rattle.std.specs.Prelude.{ℕ, Bool, false, ◌||◌, List, [], ◌∷◌, None}
 use Rattle.cm_disk.specs.Disk.{is_among}
 use Rattle.cm_layout.specs.Framing.{Range, IsRight, Matches, guards}
 use Rattle.cm_layout.specs.Framing.{needs}
+use Rattle.cm_layout.specs.Laws.{IsFramed}
 use Rattle.cm_guards.specs.Guards.{Guard}
 use Rattle.cm_commit.specs.Committed.{Committed}
 
@@ -25,3 +27,11 @@ guard_of c = record {
 -- the contents show what is committed
 abbrev pub Shows : Committed → List ℕ → Type 0
 Shows c contents = Matches c.sizes c.framing c.rows contents
+
+-- they show it in these halves or in others: they frame its rows and its number
+abbrev pub Holds : Committed → List ℕ → Type 0
+Holds c contents = IsFramed c.sizes contents c.rows c.number
+
+-- the same with the other half's gate shut
+abbrev pub shut_other : Committed → Committed
+shut_other c = record c { framing = record c.framing { older = None } }

@@ -6,21 +6,22 @@ use Rattle.cm_disk.specs.Disk.{Unsynced, IsSettled}
 use Rattle.cm_pool.specs.Geometry.{Sizes}
 use Rattle.cm_layout.specs.declared.row.Row.{Row}
 use Rattle.cm_layout.specs.declared.row.Row.TheVariants.{Loader, Class}
-use Rattle.cm_layout.specs.Offsets.{root_size}
+use Rattle.cm_layout.specs.Offsets.{half_size, root_size}
 use Rattle.cm_layout.specs.Rows.{bare}
 use Rattle.cm_layout.specs.Framing.{Framing, IsRight, Matches}
+use Rattle.cm_guards.specs.Guards.{EachImage}
+use Rattle.cm_guards.specs.Stages.{Stage, StagesStand, leaves}
 use Rattle.cm_group.specs.Groups.{Handed, IsGroup, IsRightRecord, entries_in}
 use Rattle.cm_rows.specs.Rows.{LiveRows}
 use Rattle.cm_state.specs.State.{words_show}
 use Rattle.cm_state.specs.Entries.{AreCacheRows}
 use Rattle.cm_commit.specs.declared.journal.Journal.{Journal}
-use Rattle.cm_commit.specs.Plans.{Stage}
-use Rattle.cm_commit.specs.Committed.{Committed, end_slot}
-use Rattle.cm_commit.specs.Offers.{IsNext, rows_after_group, committed_after}
+use Rattle.cm_commit.specs.Committed.{Committed, journal_of}
+use Rattle.cm_commit.specs.Checkpoints.{ready_for}
+use Rattle.cm_commit.specs.Offers.{MayCome, rows_after_group, committed_after}
 use Rattle.cm_commit.specs.GroupPlans.{whole_roots, roots_of_entries}
-use Rattle.cm_commit.specs.Guarding.{guard_of, Shows}
-use Rattle.cm_commit.specs.Standing.{StagesStand, StagesBroken}
-use Rattle.cm_commit.specs.States.{CommitterState}
+use Rattle.cm_commit.specs.Guarding.{Shows, Holds}
+use Rattle.cm_commit.specs.States.{CommitterState, journal_at}
 
 -- each record is that of a class that keeps the class rules
 abbrev pub HasRightRecord : Row (List ℕ) → Type 0
@@ -31,13 +32,17 @@ abbrev pub AreRight : List (Row (List ℕ)) → Type 0
 AreRight rows = AllByRecursion HasRightRecord rows
 
 -- Contents hold the cache of these rows, and the journal goes on there: they match a framing whose
--- half that counts ends at its slot, they have so many whole roots, and all of it is stored.
+-- halves are as the journal says, they have so many whole roots, and all of it is stored.
 pub record IsHeld (contents : List ℕ) (unsynced : Unsynced) (journal : Journal)
     (rows : List (Row (List ℕ))) (roots : ℕ) : Type 0 where
   pub settled : IsSettled contents unsynced
   pub framing : Framing
-  pub counting_is : framing.counting ≡ journal.half
-  pub end_is : end_slot framing ≡ journal.end
+  pub journal_is : journal ≡ journal_of (record {
+    sizes = journal.geometry;
+    rows = rows;
+    number = journal.number;
+    framing = framing;
+  })
   pub right : IsRight journal.geometry framing rows journal.number
   pub matches : Matches journal.geometry framing rows contents
   pub cache : AreCacheRows words_show journal.geometry journal.number rows
@@ -64,39 +69,49 @@ pub record IsIdle (c : Committed) (roots : ℕ) (broken : Bool) (contents : List
   pub shows : Shows c contents
   pub roots_are : roots ≡ whole_roots c.sizes (length contents)
 
+-- what stands on the disk between two calls, or after one that failed
 abbrev pub StandsBroken : Bool → Committed → Committed → ℕ → List Stage → List ℕ → Unsynced → Type 0
 StandsBroken false c next long left contents unsynced =
-    StagesStand (guard_of c) (Shows c) (Shows next) long left contents unsynced
+    StagesStand (Holds c) (Shows next) long left contents unsynced
 StandsBroken true c next long left contents unsynced =
-    StagesBroken (Shows c) (Shows next) left contents unsynced
+    EachImage contents unsynced (leaves left (Holds c) (Shows next))
 
 -- a group is under way
 pub record IsBusy (c : Committed) (roots : ℕ) (group : Handed) (left : List Stage) (broken : Bool)
     (contents : List ℕ) (unsynced : Unsynced) : Type 0 where
   pub is : IsGroup group
-  pub next : IsNext c group
+  pub next : MayCome c.sizes c.rows c.number group
   pub some : (left ≡ []) → ⊥
   pub long : ℕ
   pub roots_are : roots_then roots group ≡ whole_roots c.sizes long
-  pub stands : StandsBroken broken c (committed_after c group) long left contents unsynced
+  pub stands : StandsBroken broken c (committed_after (ready_for c group.entries) group) long left
+      contents unsynced
 
 abbrev pub IsAt : Committed → ℕ → Option Handed → List Stage → Bool → List ℕ → Unsynced → Type 0
 IsAt c roots None left broken contents unsynced = IsIdle c roots broken contents unsynced
 IsAt c roots (Some group) left broken contents unsynced =
     IsBusy c roots group left broken contents unsynced
 
+-- how many bytes a root has, or a half, whichever are more
+abbrev pub most_written : Sizes → ℕ
+most_written sizes = max (root_size sizes) (half_size sizes)
+
 pub record IsCommitter {D : Type 0} (contents : D → List ℕ) (unsynced : D → Unsynced)
     (s : CommitterState D) (sizes : Sizes) (next : LiveRows (Unit {0}))
     (roots room : ℕ) : Type 0 where
   pub framing : Framing
-  pub counting_is : framing.counting ≡ s.half
-  pub end_is : end_slot framing ≡ s.end
+  pub journal_is : journal_at s ≡ journal_of (record {
+    sizes = s.sizes;
+    rows = s.rows;
+    number = s.number;
+    framing = framing;
+  })
   pub right : IsRight s.sizes framing s.rows s.number
   pub cache : AreCacheRows words_show s.sizes s.number s.rows
   pub records : AreRight s.rows
   pub number_is : s.number ≤ 2 ^ 63
   pub sizes_are : sizes ≡ s.sizes
   pub next_is : next ≡ record { sizes = s.sizes; rows = bare (rows_then s.rows s.underway) }
-  pub room_is : root_size s.sizes ≤ room
+  pub room_is : most_written s.sizes ≤ room
   pub at : IsAt (record { sizes = s.sizes; rows = s.rows; number = s.number; framing = framing })
       roots s.underway s.left s.broken (contents s.disk) (unsynced s.disk)

@@ -1,10 +1,9 @@
-pub mod Plans
 pub mod Committed
+pub mod Checkpoints
 pub mod Offers
 pub mod GroupPlans
 pub mod States
 pub mod Steps
-pub mod Standing
 pub mod Guarding
 pub mod Keeps
 pub mod Laws

@@ -1,5 +1,5 @@
 -- Which groups a committer takes, and what is committed after one.
-use Rattle.std.specs.Prelude.{◌≡◌, ℕ, ◌+◌, ◌-◌, ◌^◌, ◌≤◌, Bool, true, false, ◌==◌, ◌&&◌, ◌||◌}
+use Rattle.std.specs.Prelude.{◌≡◌, ℕ, ◌+◌, ◌^◌, ◌≤◌, ◌<◌, Bool, true, false, ◌==◌, ◌&&◌, ◌||◌}
 use Rattle.std.specs.Prelude.{nat_le, List, [], ◌∷◌, length, map}
 use Rattle.cm_pool.specs.Geometry.{Sizes}
 use Rattle.cm_layout.specs.declared.row.Row.{Row}
@@ -76,17 +76,19 @@ MayJoinAll sizes committed rows n (c ∷ carried) =
 
 -- ---- a group
 
--- It goes on where the commands end that are committed, the half that counts has slots for it from
--- the slot where it ends, and its entries may join.
-pub record MayCome (sizes : Sizes) (rows : List (Row (List ℕ))) (number end : ℕ)
+-- It goes on where the commands end that are committed, and its entries may join.
+pub record MayCome (sizes : Sizes) (rows : List (Row (List ℕ))) (number : ℕ)
     (group : Handed) : Type 0 where
   pub begins : group.first ≡ number + 1
   pub ends : number + length group.entries ≤ 2 ^ 63
-  pub room : end + slots_taken group.entries ≤ sizes.slots - 1
   pub entries : MayJoinAll sizes rows rows number group.entries
 
-abbrev pub IsNext : Committed → Handed → Type 0
-IsNext c group = MayCome c.sizes c.rows c.number (end_slot c.framing) group
+-- So does one that has room in the half that counts, from the slot where that ends.
+pub record IsNext (c : Committed) (group : Handed) : Type 0 where
+  pub begins : group.first ≡ c.number + 1
+  pub ends : c.number + length group.entries ≤ 2 ^ 63
+  pub entries : MayJoinAll c.sizes c.rows c.rows c.number group.entries
+  pub room : end_slot c.framing + slots_taken group.entries < c.sizes.slots
 
 -- the rows after it, and all that is committed then
 abbrev pub rows_after_group : List (Row (List ℕ)) → List Carried → List (Row (List ℕ))

@@ -1,22 +1,23 @@
 -- What a committer is seen as, and what a crash may leave of it.
-use Rattle.std.specs.Prelude.{◌≡◌, ℕ, ◌+◌, Bool, false, List, [], ◌∷◌, Option, Some, None, length}
+use Rattle.std.specs.Prelude.{◌≡◌, ℕ, ◌+◌, Bool, false, List, Option, Some, None, length}
 use Rattle.cm_record.specs.Layout.{lay}
 use Rattle.cm_pool.specs.Geometry.{Sizes}
 use Rattle.cm_layout.specs.declared.half.Half.{Half}
 use Rattle.cm_layout.specs.declared.row.Row.{Row}
-use Rattle.cm_layout.specs.Rows.{rows_with}
-use Rattle.cm_guards.specs.Gates.{OneOf}
+use Rattle.cm_layout.specs.Rows.{rows_with, bare}
 use Rattle.cm_group.specs.Groups.{Handed}
 use Rattle.cm_state.specs.State.{CacheState}
 use Rattle.cm_state.specs.Stands.{Arenas, Stands}
-use Rattle.cm_commit.specs.Plans.{Stage, Store, Turn, Settle}
+use Rattle.cm_guards.specs.Stages.{Stage, leaves}
+use Rattle.cm_commit.specs.declared.journal.Journal.{Journal}
 use Rattle.cm_commit.specs.Offers.{MayCome, rows_after_group}
-use Rattle.cm_commit.specs.GroupPlans.{plan_at, whole_roots}
+use Rattle.cm_commit.specs.GroupPlans.{plan_of, whole_roots}
 
 -- A committer: its disk; the region's sizes; the rows that are committed, each class with the words
--- of its record; the number of the last command; the half of the journal that counts, and the slot
--- where it ends; the group that is under way, and the stages of it that are still to be gone
--- through. It is broken once the device failed.
+-- of its record; the number of the last command; the half of the journal that counts, the slot
+-- where it ends and its epoch, and whether the gate of the other half is open; the group that is
+-- under way, and the stages that are still to be gone through for it. It is broken once the device
+-- failed.
 pub record CommitterState (D : Type 0) : Type 0 where
   pub disk : D
   pub sizes : Sizes
@@ -24,21 +25,34 @@ pub record CommitterState (D : Type 0) : Type 0 where
   pub number : ℕ
   pub half : Half
   pub end : ℕ
+  pub epoch : ℕ
+  pub other_open : Bool
   pub underway : Option Handed
   pub left : List Stage
   pub broken : Bool
+
+-- where its journal goes on
+abbrev pub journal_at : {D : Type 0} → CommitterState D → Journal
+journal_at s = record {
+  geometry = s.sizes;
+  half = s.half;
+  end = s.end;
+  epoch = s.epoch;
+  other_open = s.other_open;
+  number = s.number;
+}
 
 -- a committer that is neither broken nor busy takes a group that may come next
 pub record Takes {D : Type 0} (s : CommitterState D) (group : Handed) : Type 0 where
   pub sound : s.broken ≡ false
   pub idle : s.underway ≡ None
-  pub next : MayCome s.sizes s.rows s.number s.end group
+  pub next : MayCome s.sizes s.rows s.number group
 
 -- and goes through the stages of its plan from then on
 abbrev pub with_taken : {D : Type 0} → (D → List ℕ) → CommitterState D → Handed → CommitterState D
 with_taken contents s group = record s {
   underway = Some group;
-  left = plan_at s.sizes s.half s.end s.number (whole_roots s.sizes (length (contents s.disk)))
+  left = plan_of (journal_at s) (bare s.rows) (whole_roots s.sizes (length (contents s.disk)))
       group.entries;
 }
 
@@ -63,13 +77,7 @@ ShowsWith s (Some group) contents =
     ShowsCache s.sizes (rows_after_group s.rows group.entries) (s.number + length group.entries)
     contents
 
--- what a crash may leave: what is committed; once the bytes before a gate are stored, that or what
--- is committed with the group
-abbrev pub leaves : List Stage → (List ℕ → Type 0) → (List ℕ → Type 0) → List ℕ → Type 0
-leaves [] before after image = before image
-leaves (Store writes ∷ stages) before after image = before image
-leaves (Turn gate byte ∷ stages) before after image = OneOf before after image
-leaves (Settle ∷ stages) before after image = OneOf before after image
-
+-- what a crash may leave: what is committed; once the bytes before the group's gate are stored,
+-- that or what is committed with the group
 abbrev pub MayLeave : {D : Type 0} → CommitterState D → List ℕ → Type 0
 MayLeave s image = leaves s.left (ShowsCommitted s) (ShowsWith s s.underway) image

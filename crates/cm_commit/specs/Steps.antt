@@ -1,17 +1,28 @@
--- The steps that a committer takes through a group's plan.
-use Rattle.std.specs.Prelude.{◌≡◌, ℕ, ◌+◌, ◌*◌, ◌^◌, ◌<◌, ◌≤◌, true, List, [], ◌∷◌, drop, Option}
+-- The steps that a committer takes through a checkpoint and a group's plan.
+use Rattle.std.specs.Prelude.{◌≡◌, ℕ, ◌+◌, ◌*◌, ◌^◌, ◌<◌, ◌≤◌, Bool, true, false, List, []}
+use Rattle.std.specs.Prelude.{◌∷◌, ◌++◌, drop, Option}
 use Rattle.std.specs.Prelude.{Some, None, length}
 use Rattle.std.specs.List.{flat_map, list_all, AllByRecursion}
 use Rattle.cm_pool.specs.Geometry.{Sizes, IsGeometry}
 use Rattle.cm_pool.specs.declared.place.Place.{Place}
-use Rattle.cm_layout.specs.Offsets.{slot_at}
-use Rattle.cm_layout.specs.Offsets.{root_size}
-use Rattle.cm_layout.specs.Slots.{open_gate, entry_slot}
+use Rattle.cm_layout.specs.Offsets.{slot_at, half_at, root_size}
+use Rattle.cm_layout.specs.Slots.{open_gate, row_slot, entry_slot}
+use Rattle.cm_layout.specs.Rows.{slots_of_rows}
+use Rattle.cm_layout.specs.Rules.{row_limit}
+use Rattle.cm_layout.specs.Frames.{BareRow}
+use Rattle.cm_layout.specs.Framing.{other_half}
 use Rattle.cm_group.specs.Groups.{Carried, Handed, entries_in, slots_taken}
 use Rattle.cm_commit.specs.declared.journal.Journal.{Journal}
 use Rattle.cm_commit.specs.declared.step.CommitStep.{CommitStep}
 use Rattle.cm_commit.specs.declared.step.CommitStep.TheVariants as step
-use Rattle.cm_commit.specs.Plans.{Stage, Store, Turn, Settle}
+use Rattle.cm_commit.specs.declared.step.CheckpointStep.{CheckpointStep}
+use Rattle.cm_commit.specs.declared.step.CheckpointStep.TheVariants as checkpoint
+use Rattle.cm_commit.specs.declared.step.PlanStep.{PlanStep}
+use Rattle.cm_commit.specs.declared.step.PlanStep.TheVariants as plan
+use Rattle.cm_guards.specs.Plans.{Write}
+use Rattle.cm_guards.specs.Stages.{Stage, Store, Turn, Settle}
+use Rattle.cm_commit.specs.Checkpoints.{next_head, half_write, half_stages, checkpoint_of}
+use Rattle.cm_commit.specs.Checkpoints.{target_of}
 use Rattle.cm_commit.specs.Offers.{carries_own, own_record}
 use Rattle.cm_commit.specs.GroupPlans.{writes_left, record_writes, place_write, roots_of_entries}
 
@@ -30,9 +41,58 @@ stages_at j group step.Gate = Turn (next_gate j) open_gate ∷ []
 stages_at j group step.LastSync = Settle ∷ []
 stages_at j group step.Done = []
 
-abbrev pub stages_left : Journal → Option Handed → CommitStep → List Stage
-stages_left j None s = []
-stages_left j (Some group) s = stages_at j group s
+-- the half that a checkpoint writes, and its gate
+abbrev pub renewed_half : Journal → List BareRow → List Stage
+renewed_half j rows =
+    half_stages j.geometry (other_half j.half) (next_head j.epoch j.number rows) rows
+
+abbrev pub half_gate : Journal → ℕ
+half_gate j = half_at j.geometry (other_half j.half)
+
+abbrev pub renewed_write : Journal → List BareRow → Write
+renewed_write j rows =
+    half_write j.geometry (other_half j.half) (next_head j.epoch j.number rows) rows
+
+-- the sync behind what shuts the other half's gate, where that was open or not
+abbrev pub shut_sync : Bool → Stage
+shut_sync true = Settle
+shut_sync false = Store []
+
+-- the stages of a checkpoint that are left at a step
+abbrev pub checkpoint_left : Journal → List BareRow → CheckpointStep → List Stage
+checkpoint_left j rows checkpoint.Shut = checkpoint_of j rows
+checkpoint_left j rows checkpoint.SyncShut = shut_sync j.other_open ∷ renewed_half j rows
+checkpoint_left j rows checkpoint.Write = renewed_half j rows
+checkpoint_left j rows checkpoint.SyncWritten = Store [] ∷ Turn (half_gate j) open_gate ∷ []
+checkpoint_left j rows checkpoint.Open = Turn (half_gate j) open_gate ∷ []
+checkpoint_left j rows checkpoint.SyncOpened = Settle ∷ []
+
+-- and none at the end
+abbrev pub checkpoint_rest : Journal → List BareRow → Option CheckpointStep → List Stage
+checkpoint_rest j rows None = []
+checkpoint_rest j rows (Some at) = checkpoint_left j rows at
+
+-- The stages of a group that are left at a step, where the journal went on so before it, with these
+-- live rows, and the file had so many whole roots.
+abbrev pub plan_left : Journal → List BareRow → ℕ → Handed → PlanStep → List Stage
+plan_left j rows roots group (plan.Checkpoint at) =
+    checkpoint_left j rows at
+    ++ stages_at (target_of j rows group.entries) group (step.Write roots 0)
+plan_left j rows roots group (plan.Group s) = stages_at (target_of j rows group.entries) group s
+
+abbrev pub stages_left : Journal → List BareRow → ℕ → Option Handed → PlanStep → List Stage
+stages_left j rows roots None s = []
+stages_left j rows roots (Some group) s = plan_left j rows roots group s
+
+-- ---- what the writes of a checkpoint need
+
+-- the half that it writes has room for the rows, and its head's numbers fit
+pub record FitsHalf (j : Journal) (rows : List BareRow) : Type 0 where
+  pub lawful : IsGeometry j.geometry
+  pub few : slots_of_rows rows ≤ row_limit j.geometry
+  pub size : length (flat_map row_slot rows) ≡ 64 * slots_of_rows rows
+  pub epoch : j.epoch + 1 < 2 ^ 64
+  pub number : j.number < 2 ^ 64
 
 -- ---- what the writes of a group need
 

@@ -1,18 +1,24 @@
-//! The bytes of a group's writes.
+//! The bytes of the writes of groups and checkpoints.
 
 ghost use Rattle.std.specs.Prelude.{◌≡◌, ◌≤◌, ◌+◌, ◌*◌, ◌++◌, ◌<◌, ◌^◌, length, vec_capacity};
 ghost use Rattle.cm_record_layout.specs.Packing.{word_bytes};
 ghost use Rattle.cm_layout.specs.Zeros.{blank};
 ghost use Rattle.cm_layout.specs.Offsets.{slot_size};
-ghost use Rattle.cm_layout.specs.Slots.{group_head_rest, entry_slot};
+ghost use Rattle.cm_layout.specs.Slots.{half_head_rest, group_head_rest, row_slot, entry_slot};
+ghost use Rattle.cm_layout.specs.Rows.{bare, rows_with};
+ghost use Rattle.std.specs.Arc.{arc_value};
+ghost use Rattle.cm_commit.specs.Checkpoints.{half_behind_gate};
 ghost use Rattle.std.specs.List.{flat_map};
 ghost use Rattle.cm_group.specs.Groups.{entries_in, slots_taken};
 ghost use Rattle.cm_commit.specs.GroupPlans.{slots_behind_gate, shut_slot};
 
 use crate::journal::Journal;
 use cm_group::CarriedEntry;
-use cm_layout::{GroupHead, SLOT_BYTES};
+use cm_layout::{GroupHead, HalfHead, Row, SLOT_BYTES};
 use cm_record::Record;
+use cm_rows::Book;
+use std::alloc::Global;
+use std::sync::Arc;
 
 /// Puts so many zeros in the place of what is there.
 #[tactic(auto, unfolding(cm_layout::specs::Zeros::blank))]
@@ -46,6 +52,55 @@ fn add_entries(buffer: &mut Vec<u8>, entries: &[CarriedEntry])
     for carried in entries {
         buffer.extend_from_slice(&carried.entry().encode()).unwrap();
     }
+}
+
+/// Puts the head of a half, behind the byte of its gate, in the place of what is there.
+fn put_half_head(buffer: &mut Vec<u8>, head: &HalfHead)
+    requires { 63 ≤ vec_capacity buffer.old }
+    ensures bytes { buffer.new.items ≡ half_head_rest head.now }
+    ensures room { vec_capacity buffer.old ≤ vec_capacity buffer.new }
+{
+    buffer.clear();
+    buffer.extend_from_slice(&head.encode()[1..]).unwrap();
+}
+
+/// The slot of a live row.
+fn row_bytes<P>(row: &Row<P>) -> [u8; SLOT_BYTES]
+    ensures { result ≡ row_slot row.now }
+{
+    match row {
+        Row::Loader(row) => row.encode(),
+        Row::Class(row, _) => row.encode(),
+    }
+}
+
+/// Puts the slots of live rows behind what is there.
+fn add_rows(buffer: &mut Vec<u8>, rows: &Book<Arc<Record, Global>>)
+    requires { length buffer.old.items
+        + length (flat_map row_slot (bare (rows_with arc_value rows.now.rows)))
+        ≤ vec_capacity buffer.old }
+    ensures bytes { buffer.new.items ≡ buffer.old.items
+        ++ flat_map row_slot (bare (rows_with arc_value rows.now.rows)) }
+    ensures room { vec_capacity buffer.old ≤ vec_capacity buffer.new }
+{
+    let mut left = rows.walk();
+    while let Some(row) = left.next() {
+        buffer.extend_from_slice(&row_bytes(row)).unwrap();
+    }
+}
+
+/// Puts a half of the journal, behind the byte of its gate, in the place of what is there: its
+/// head, the live rows, and a shut slot behind them.
+pub(crate) fn put_half(buffer: &mut Vec<u8>, head: &HalfHead, rows: &Book<Arc<Record, Global>>)
+    requires room { 127 + length (flat_map row_slot (bare (rows_with arc_value rows.now.rows)))
+        ≤ vec_capacity buffer.old }
+    ensures bytes { buffer.new.items
+        ≡ half_behind_gate head.now (bare (rows_with arc_value rows.now.rows)) }
+    ensures room { vec_capacity buffer.old ≤ vec_capacity buffer.new }
+{
+    put_half_head(buffer, head);
+    add_rows(buffer, rows);
+    add_shut_slot(buffer);
 }
 
 /// Puts the head of a group, behind the byte of its gate, in the place of what is there.

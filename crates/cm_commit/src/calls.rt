@@ -5,10 +5,10 @@ ghost use Rattle.cm_layout.specs.Offsets.{root_size};
 ghost use Rattle.cm_layout.specs.Slots.{open_gate};
 ghost use Rattle.cm_group.specs.Groups.{entries_in, group_limit};
 ghost use Rattle.cm_commit.specs.declared.step.CommitStep.TheVariants as step;
-ghost use Rattle.cm_commit.specs.Plans.{after_call};
+ghost use Rattle.cm_guards.specs.Stages.{after_call};
 ghost use Rattle.cm_commit.specs.GroupPlans.{root_write, place_write, slots_write};
-ghost use Rattle.cm_commit.specs.Standing.{WritesOnce, CallsOnce, TakesWrite, TakesCall};
-ghost use Rattle.cm_commit.specs.Standing.{gate_write};
+ghost use Rattle.cm_guards.specs.Stages.{WritesOnce, CallsOnce, TakesWrite, TakesCall};
+ghost use Rattle.cm_guards.specs.Stages.{gate_write};
 ghost use Rattle.cm_commit.specs.Steps.{FitsJournal, next_gate, stages_at};
 
 use crate::bytes::{put_record, put_slots, put_zeros};
@@ -136,8 +136,9 @@ fn write_gate<D: Disk>(disk: &mut D, journal: Journal) -> Result<(), DeviceFault
     disk.write_at(gate, &[OPEN_GATE])
 }
 
-/// Makes the next device call of a group, and tells the step behind it.
-pub(crate) fn make_call<D: Disk>(
+/// Makes the next device call of a group, those of a checkpoint left out, and tells the step behind
+/// it.
+pub(crate) fn make_group_call<D: Disk>(
     disk: &mut D,
     buffer: &mut Vec<u8>,
     journal: Journal,

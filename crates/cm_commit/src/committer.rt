@@ -9,27 +9,28 @@ ghost use Rattle.cm_guards.specs.Guards.{EachImage};
 ghost use Rattle.cm_guards.specs.Calls.{LeavesOnly};
 ghost use Rattle.cm_rows.specs.Rows.{is_above};
 ghost use Rattle.cm_group.specs.Groups.{entries_in, slots_taken};
-ghost use Rattle.cm_commit.specs.Plans.{calls_left};
+ghost use Rattle.cm_guards.specs.Stages.{calls_left};
+ghost use Rattle.cm_commit.specs.Checkpoints.{is_due_at};
 ghost use Rattle.cm_commit.specs.Offers.{carries_own, rows_after_group};
 ghost use Rattle.cm_commit.specs.GroupPlans.{roots_of_entries, roots_to_add, record_writes};
 ghost use Rattle.cm_commit.specs.Keeping.{keep_rules};
 ghost use Rattle.cm_commit.specs.States.{MayLeave, Takes, with_taken};
 ghost use Rattle.cm_commit.specs.Advances.{Advances, CallsDevice, HasRisen};
-ghost use Rattle.cm_layout.specs.Offsets.{root_size};
+ghost use Rattle.cm_layout.specs.Offsets.{half_size};
 ghost use Rattle.cm_layout.specs.Rows.{bare, rows_with};
-ghost use Rattle.cm_commit.specs.Keeps.{IsHeld, roots_then};
+ghost use Rattle.cm_commit.specs.Keeps.{IsHeld, most_written, roots_then};
 
 use crate::applying::fill_all;
-use crate::calls::make_call;
-use crate::entries::{calls_at, roots_needed};
+use crate::entries::roots_needed;
 use crate::joining::take_group;
-use crate::journal::Journal;
+use crate::journal::{Journal, target_of};
 use crate::mismatch::Mismatch;
+use crate::plan::{calls_at, first_step, is_done, make_call};
 use crate::progress::{AdvanceFault, Progress};
-use crate::step::CommitStep;
+use crate::step::{CommitStep, PlanStep};
 use cm_disk::{Disk, SimDisk};
 use cm_group::{Group, Receipt};
-use cm_layout::root_bytes;
+use cm_layout::{SLOT_BYTES, root_bytes};
 use cm_pool::Geometry;
 use cm_record::Record;
 use cm_rows::Book;
@@ -54,16 +55,16 @@ pub struct Committer<D: Disk> {
     /// How many whole roots the file had when the last group was done.
     roots: u32,
     group: Option<Group>,
-    step: CommitStep,
+    step: PlanStep,
     is_broken: bool,
-    /// Room for the bytes of one write: no more than a root has.
+    /// Room for the bytes of one write: no more than a root has, or a half of the journal.
     buffer: Vec<u8>,
 }
 
 impl<D: Disk> Model for Committer<D> {
     ghost use Rattle.std.specs.Prelude.{vec_capacity};
     ghost use Rattle.std.specs.Arc.{arc_value};
-    ghost use Rattle.cm_layout.specs.Rows.{rows_with};
+    ghost use Rattle.cm_layout.specs.Rows.{bare, rows_with};
     ghost use Rattle.cm_commit.specs.States.{CommitterState};
     ghost use Rattle.cm_commit.specs.Steps.{stages_left};
     ghost use Rattle.cm_commit.specs.Keeps.{IsCommitter};
@@ -77,8 +78,10 @@ impl<D: Disk> Model for Committer<D> {
       number = c.journal.number;
       half = c.journal.half;
       end = c.journal.end;
+      epoch = c.journal.epoch;
+      other_open = c.journal.other_open;
       underway = c.group;
-      left = stages_left c.journal c.group c.step;
+      left = stages_left c.journal (bare (rows_with arc_value c.rows.rows)) c.roots c.group c.step;
       broken = c.is_broken;
     } };
 
@@ -90,8 +93,11 @@ impl<D: Disk> Model for Committer<D> {
           number = c.journal.number;
           half = c.journal.half;
           end = c.journal.end;
+          epoch = c.journal.epoch;
+          other_open = c.journal.other_open;
           underway = c.group;
-          left = stages_left c.journal c.group c.step;
+          left = stages_left c.journal (bare (rows_with arc_value c.rows.rows)) c.roots c.group
+              c.step;
           broken = c.is_broken;
         }) c.rows.sizes c.next c.roots (vec_capacity c.buffer) };
 }
@@ -103,6 +109,13 @@ pub struct NotMade<D> {
     pub disk: D,
 }
 
+/// How many bytes a half of the journal has.
+fn half_bytes(geometry: Geometry) -> u64
+    ensures { result ≡ half_size geometry }
+{
+    SLOT_BYTES as u64 * u64::from(geometry.slots())
+}
+
 /// The rows again with nothing kept, and room for the bytes of one write.
 fn take_memory(
     alloc: Global,
@@ -111,39 +124,43 @@ fn take_memory(
 ) -> Result<(Book<()>, Vec<u8>), AllocError>
     requires { rows.now.sizes ≡ geometry }
     ensures next { IfOk result (λ p. p.0 ≡ record { sizes = geometry; rows = bare rows.now.rows }) }
-    ensures room { IfOk result (λ p. root_size geometry ≤ vec_capacity p.1) }
+    ensures room { IfOk result (λ p. most_written geometry ≤ vec_capacity p.1) }
 {
     let mut next = Book::new(alloc, geometry)?;
     next.copy_from(rows);
-    let buffer = Vec::with_capacity(alloc, root_bytes(geometry) as usize)?;
+    let most = root_bytes(geometry).max(half_bytes(geometry));
+    let buffer = Vec::with_capacity(alloc, most as usize)?;
     Ok((next, buffer))
 }
 
-/// Commits a group: its entries are applied to the rows, and the half that counts ends behind it.
+/// Commits a group that went where the journal goes on so: its entries are applied to the rows, and
+/// the half ends behind it.
 fn finish(
+    target: Journal,
     journal: &mut Journal,
     rows: &mut Book<Arc<Record, Global>>,
     roots: &mut u32,
     group: Group,
 ) -> Receipt
-    requires first { group.first ≡ journal.old.number + 1 }
-    requires above { IsTrue (is_above (journal.old.number + 1) rows.old.rows) }
+    requires first { group.first ≡ target.number + 1 }
+    requires above { IsTrue (is_above (target.number + 1) rows.old.rows) }
     requires own { list_all carries_own group.entries ≡ true }
-    requires kept { keep_rules rows.old.sizes (bare rows.old.rows) (journal.old.number + 1)
+    requires kept { keep_rules rows.old.sizes (bare rows.old.rows) (target.number + 1)
         (entries_in group.entries) ≡ true }
     requires needed { roots_of_entries (entries_in group.entries) < 2 ^ 32 }
-    requires end { journal.old.end + slots_taken group.entries < 65536 }
-    ensures journal { journal.new ≡ record journal.old {
-      end = journal.old.end + 1 + slots_taken group.entries;
-      number = journal.old.number + length group.entries;
+    requires end { target.end + slots_taken group.entries < 65536 }
+    ensures journal { journal.new ≡ record target {
+      end = target.end + 1 + slots_taken group.entries;
+      number = target.number + length group.entries;
     } }
     ensures rows { rows_with arc_value rows.new.rows
         ≡ rows_after_group (rows_with arc_value rows.old.rows) group.entries }
     ensures sizes { rows.new.sizes ≡ rows.old.sizes }
     ensures roots { roots.new ≡ roots_then roots.old group }
-    ensures told { result.number ≡ journal.old.number + length group.entries }
+    ensures told { result.number ≡ target.number + length group.entries }
 {
     let first = group.first();
+    *journal = target;
     journal.number += group.count() as u64;
     journal.end += 1 + group.slots() as u32;
     *roots = (*roots).max(roots_needed(group.entries()));
@@ -173,6 +190,8 @@ impl<D: Disk> Committer<D> {
           number = journal.number;
           half = journal.half;
           end = journal.end;
+          epoch = journal.epoch;
+          other_open = journal.other_open;
           underway = None;
           left = [];
           broken = false;
@@ -189,7 +208,7 @@ impl<D: Disk> Committer<D> {
             next,
             roots,
             group: None,
-            step: CommitStep::Done,
+            step: PlanStep::Group(CommitStep::Done),
             is_broken: false,
             buffer,
         })
@@ -199,17 +218,19 @@ impl<D: Disk> Committer<D> {
     /// made, and no memory is taken.
     ///
     /// The group is handed back, and nothing is changed, exactly where the committer is broken or
-    /// busy, where the group doesn't begin one past the committer's number, where the half that
-    /// counts has no slots for it, and where an entry may not join: it breaks a rule, writes into a
-    /// chunk that committed rows use (but behind the records on its loader's last one), makes a
-    /// class that its loader has by then, carries other records than it needs, or is a move.
+    /// busy, where the group doesn't begin one past the committer's number, and where an entry may
+    /// not join: it breaks a rule, writes into a chunk that committed rows use (but behind the
+    /// records on its loader's last one), makes a class that its loader has by then, carries other
+    /// records than it needs, or is a move. Where the half of the journal that counts has no room
+    /// for it, a checkpoint comes first, which takes six device calls.
     pub fn offer(&mut self, group: Group) -> Result<(), Mismatch>
         ensures takes { IsOk result ↔ Takes self.old group }
         ensures taken { OnOk result (self.new ≡ with_taken D.contents self.old group) }
         ensures steps { OnOk result (calls_left self.new.left
             ≡ 4 + roots_to_add self.old.sizes (length (D.contents self.old.disk))
             (entries_in group.entries)
-            + length (record_writes self.old.sizes group.entries)) }
+            + length (record_writes self.old.sizes group.entries)
+            + (if is_due_at self.old.sizes self.old.end group.entries then 6 else 0)) }
         ensures handed_back { IfErr result (λ e. e.group ≡ group) }
         ensures same { OnErr result (self.new ≡ self.old) }
     {
@@ -219,22 +240,24 @@ impl<D: Disk> Committer<D> {
         if self.group.is_some() {
             return Err(Mismatch { group });
         }
-        if !take_group(self.journal, &mut self.rows, &mut self.next, &group) {
+        if !take_group(&self.journal, &mut self.rows, &mut self.next, &group) {
             return Err(Mismatch { group });
         }
-        self.step = CommitStep::Write {
-            roots: self.roots,
-            from: 0,
-        };
+        self.step = first_step(&self.journal, self.roots, &group);
         self.group = Some(group);
         Ok(())
     }
 
     /// Makes the next device call of the group that is under way, exactly one where any is left:
-    /// a write of a root of zeros for each root by which the file has to grow, a write of each
-    /// record in the order of the entries, a write of the slots behind the gate's byte, a sync, the
-    /// write of the gate's byte, a sync. The last of them commits the group and answers its
-    /// receipt. After `Device` the committer is broken, and makes no call any more.
+    /// those of a checkpoint where the half that counts has no room for the group; a write of a
+    /// root of zeros for each root by which the file has to grow, a write of each record in the
+    /// order of the entries, a write of the slots behind the gate's byte, a sync, the write of the
+    /// gate's byte, a sync. The last of them commits the group and returns its receipt. After
+    /// `Device` the committer is broken, and makes no more calls.
+    ///
+    /// A checkpoint writes the other half of the journal anew, with the live rows: a write of 0 to
+    /// its gate, where that is open, or else a sync; a sync; the write of the half behind its gate;
+    /// a sync; the write of its gate's byte; a sync. It leaves what is committed as it is.
     pub fn advance(&mut self) -> Result<Progress, AdvanceFault>
         ensures moved { Advances self.old result self.new }
         ensures any_moment { LeavesOnly D.moment D.left_since self.old.disk self.new.disk
@@ -251,7 +274,9 @@ impl<D: Disk> Committer<D> {
         let called = make_call(
             &mut self.disk,
             &mut self.buffer,
-            self.journal,
+            &self.journal,
+            &self.rows,
+            self.roots,
             group,
             self.step,
         );
@@ -260,14 +285,19 @@ impl<D: Disk> Committer<D> {
             return Err(AdvanceFault::Device);
         };
         self.step = step;
-        match step {
-            CommitStep::Done => {
-                let group = self.group.take().unwrap();
-                let receipt = finish(&mut self.journal, &mut self.rows, &mut self.roots, group);
-                Ok(Progress::Done(receipt))
-            }
-            _ => Ok(Progress::Working),
+        if !is_done(step) {
+            return Ok(Progress::Working);
         }
+        let group = self.group.take().unwrap();
+        let target = target_of(&self.journal, &self.rows, &group);
+        let receipt = finish(
+            target,
+            &mut self.journal,
+            &mut self.rows,
+            &mut self.roots,
+            group,
+        );
+        Ok(Progress::Done(receipt))
     }
 
     /// Does nothing: its clause says what a crash leaves now. That is the cache that is committed,
@@ -289,7 +319,7 @@ impl<D: Disk> Committer<D> {
         let Some(group) = &self.group else {
             return 0;
         };
-        calls_at(self.step, group.entries())
+        calls_at(self.step, self.roots, group.entries())
     }
 
     /// The number of the last command that is committed.

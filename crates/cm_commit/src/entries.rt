@@ -3,7 +3,7 @@
 ghost use Rattle.std.specs.Prelude.{◌≡◌, ◌<◌, ◌≤◌, ◌+◌, ◌^◌, true, MatchOption, drop, length, ℕ};
 ghost use Rattle.cm_pool.specs.Geometry.{Sizes};
 ghost use Rattle.cm_commit.specs.declared.journal.Journal.{Journal};
-ghost use Rattle.cm_commit.specs.Plans.{calls_left};
+ghost use Rattle.cm_guards.specs.Stages.{calls_left};
 ghost use Rattle.cm_commit.specs.GroupPlans.{record_writes};
 ghost use Rattle.cm_commit.specs.Steps.{stages_at};
 ghost use Rattle.std.specs.Arc.{arc_value};
@@ -108,11 +108,13 @@ fn records_from(entries: &[CarriedEntry], from: usize) -> u64
     count
 }
 
-/// How many device calls of a group with these entries are left at a step.
-pub(crate) fn calls_at(now: CommitStep, entries: &[CarriedEntry]) -> u64
+/// How many device calls of a group with these entries are left at a step, those of a checkpoint
+/// left out.
+pub(crate) fn group_calls(now: CommitStep, entries: &[CarriedEntry]) -> u64
     requires { roots_of_entries (entries_in entries.now) < 2 ^ 32 }
-    ensures { (j : Journal) (first learnt : ℕ) → result ≡ calls_left (stages_at j
+    ensures calls { (j : Journal) (first learnt : ℕ) → result ≡ calls_left (stages_at j
         (record { first = first; learnt = learnt; entries = entries.now }) now) }
+    ensures few { result ≤ 2 ^ 32 + length entries.now + 4 }
 {
     match now {
         CommitStep::Write { roots, from } => {

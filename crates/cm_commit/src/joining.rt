@@ -209,33 +209,30 @@ fn may_join(
     all_write_apart(rows, entries) && are_new(rows, entries)
 }
 
-/// Whether a group begins where the commands end that are committed, and the half that counts has
-/// slots for it.
-fn goes_on(journal: Journal, group: &Group) -> bool
-    requires { journal.number ≤ 2 ^ 63 }
-    ensures on { result ≡ ((group.now.first == journal.number + 1)
-        && nat_lt (journal.end + slots_taken group.now.entries) journal.geometry.slots) }
+/// Whether a group begins where the commands end that are committed.
+fn goes_on(number: u64, group: &Group) -> bool
+    requires { number ≤ 2 ^ 63 }
+    ensures on { result ≡ (group.now.first == number + 1) }
     ensures lawful { IsGroup group.now }
 {
-    group.first() == journal.number + 1
-        && journal.end as usize + group.slots() < journal.geometry.slots() as usize
+    group.first() == number + 1
 }
 
 /// Whether a group may come next. Then the next rows are those after it; else nothing is changed.
 pub(crate) fn take_group(
-    journal: Journal,
+    journal: &Journal,
     rows: &mut Book<Arc<Record, Global>>,
     next: &mut Book<()>,
     group: &Group,
 ) -> bool
-    requires lawful { IsGeometry journal.geometry }
-    requires sizes { rows.old.sizes ≡ journal.geometry }
-    requires number { journal.number ≤ 2 ^ 63 }
+    requires lawful { IsGeometry journal.now.geometry }
+    requires sizes { rows.old.sizes ≡ journal.now.geometry }
+    requires number { journal.now.number ≤ 2 ^ 63 }
     requires next_is { next.old ≡ record { sizes = rows.old.sizes; rows = bare rows.old.rows } }
-    requires cache { AreCacheRows words_show journal.geometry journal.number
+    requires cache { AreCacheRows words_show journal.now.geometry journal.now.number
         (rows_with arc_value rows.old.rows) }
-    ensures comes { IsTrue result ↔ MayCome journal.geometry (rows_with arc_value rows.old.rows)
-        journal.number journal.end group.now }
+    ensures comes { IsTrue result ↔ MayCome journal.now.geometry
+        (rows_with arc_value rows.old.rows) journal.now.number group.now }
     ensures told { IsTrue result → AllByRecursion TellsWords group.now.entries }
     ensures next { next.new ≡ (if result
         then record next.old { rows = rows_after_all next.old.rows (entries_in group.now.entries) }
@@ -244,7 +241,7 @@ pub(crate) fn take_group(
     ensures group { IsGroup group.now }
 {
     let number = journal.number;
-    if !goes_on(journal, group) {
+    if !goes_on(number, group) {
         return false;
     }
     let joins = may_join(rows, next, number, group.entries());

@@ -1,7 +1,23 @@
-//! Where a group goes in the journal.
+//! Where the journal goes on.
 
-use cm_layout::Half;
+ghost use Rattle.std.specs.Prelude.{◌≡◌, ◌≤◌, ◌<◌, ◌+◌, ◌^◌};
+ghost use Rattle.std.specs.Arc.{arc_value};
+ghost use Rattle.cm_layout.specs.Framing.{other_half as other_of};
+ghost use Rattle.cm_layout.specs.Rows.{bare, rows_with, slots_of_rows};
+ghost use Rattle.cm_commit.specs.Checkpoints.{is_due as is_due_for, next_head, renewed_journal};
+ghost use Rattle.cm_commit.specs.Checkpoints.{target_of as target};
+ghost use Rattle.cm_commit.specs.Steps.{FitsHalf};
+
+use cm_group::Group;
+use cm_layout::{Half, HalfHead};
 use cm_pool::Geometry;
+use cm_record::Record;
+use cm_rows::Book;
+use std::alloc::Global;
+use std::sync::Arc;
+
+/// The version of entries in the halves that are written here.
+const ENTRY_VERSION: u16 = 1;
 
 /// Where the journal goes on: the half that counts ends at this slot, behind the command of this
 /// number.
@@ -12,6 +28,74 @@ pub struct Journal {
     pub half: Half,
     /// The slot where the half's groups end.
     pub end: u32,
+    /// The half's epoch: the open half of greater epoch is the one that counts.
+    pub epoch: u64,
+    /// Whether the other half's gate is open.
+    pub other_open: bool,
     /// The number of the last command.
     pub number: u64,
+}
+
+/// The half that isn't this one.
+pub(crate) fn other_half(half: Half) -> Half
+    ensures { result ≡ other_of half }
+{
+    match half {
+        Half::Zero => Half::One,
+        Half::One => Half::Zero,
+    }
+}
+
+/// Whether the half that counts has no room for a group, so that a checkpoint comes first.
+pub(crate) fn is_due(journal: &Journal, group: &Group) -> bool
+    ensures { result ≡ is_due_for journal.now group.now.entries }
+{
+    journal.end as usize + group.slots() >= journal.geometry.slots() as usize
+}
+
+/// The head of the half that a checkpoint writes.
+pub(crate) fn renewed_head(journal: &Journal, rows: &Book<Arc<Record, Global>>) -> HalfHead
+    requires { FitsHalf journal.now (bare (rows_with arc_value rows.now.rows)) }
+    ensures { result ≡ next_head journal.now.epoch journal.now.number
+        (bare (rows_with arc_value rows.now.rows)) }
+{
+    HalfHead {
+        version: ENTRY_VERSION,
+        live: rows.len() as u32,
+        epoch: journal.epoch + 1,
+        base: journal.number,
+    }
+}
+
+/// Where the journal goes on after a checkpoint.
+fn renewed(journal: &Journal, rows: &Book<Arc<Record, Global>>) -> Journal
+    requires { FitsHalf journal.now (bare (rows_with arc_value rows.now.rows)) }
+    ensures { result ≡ renewed_journal journal.now (bare (rows_with arc_value rows.now.rows)) }
+{
+    let head = renewed_head(journal, rows);
+    Journal {
+        geometry: journal.geometry,
+        half: other_half(journal.half),
+        end: 1 + head.live,
+        epoch: head.epoch,
+        other_open: true,
+        number: head.base,
+    }
+}
+
+/// Where a group goes: behind the last one, or behind the rows of a checkpoint.
+pub(crate) fn target_of(
+    journal: &Journal,
+    rows: &Book<Arc<Record, Global>>,
+    group: &Group,
+) -> Journal
+    requires { FitsHalf journal.now (bare (rows_with arc_value rows.now.rows)) }
+    ensures { result
+        ≡ target journal.now (bare (rows_with arc_value rows.now.rows)) group.now.entries }
+{
+    if is_due(journal, group) {
+        renewed(journal, rows)
+    } else {
+        *journal
+    }
 }

@@ -1,9 +1,12 @@
 //! What holds of the definitions themselves, as laws.
 
 ghost use Rattle.cm_commit.specs.Laws.{PlansHaveSteps, CommittedIsGuarded, GroupsTurn};
+ghost use Rattle.cm_commit.specs.Laws.{ShutHalvesMayChange, OtherHalvesShut, OthersAreTold};
+ghost use Rattle.cm_commit.specs.Laws.{WrittenHalvesOpen, CheckpointsRenew, GroupsGoThrough};
 
-/// A group takes four device calls, one more for each root by which the file grows, and one more
-/// for each record that it writes.
+/// A group takes four device calls, one more for each root by which the file grows, one more for
+/// each record that it writes, and six more for a checkpoint where the half that counts has no room
+/// for it.
 pub fn plans_have_steps()
     ensures { PlansHaveSteps }
 {}
@@ -19,4 +22,42 @@ pub fn committed_is_guarded()
 /// it is what was committed before.
 pub fn groups_turn()
     ensures { GroupsTurn }
+{}
+
+/// While the gate of the half that doesn't count is shut, whatever bytes may come to stand behind
+/// it: what is committed stays.
+pub fn shut_halves_may_change()
+    ensures { ShutHalvesMayChange }
+{}
+
+/// The half that doesn't count may be shut at any time: with any byte at its gate but the one that
+/// opens it, what is committed stays.
+pub fn other_halves_shut()
+    ensures { OtherHalvesShut }
+{}
+
+/// The byte at that half's gate tells whether the half is open.
+pub fn others_are_told()
+    ensures { OthersAreTold }
+{}
+
+/// Once that half is written behind its shut gate, with the live rows, the number of the last
+/// command and an epoch one greater, the byte that opens the gate makes it the half that counts,
+/// for the same rows and the same number.
+pub fn written_halves_open()
+    ensures { WrittenHalvesOpen }
+{}
+
+/// A checkpoint can be made wherever its head is a good one. At each moment of its six device calls
+/// what is committed stands, and at their end it stands in renewed halves. Whatever calls can
+/// follow there can follow the checkpoint.
+pub fn checkpoints_renew()
+    ensures { CheckpointsRenew }
+{}
+
+/// A group's device calls, with those of a checkpoint before them where there is one, lead from
+/// what is committed to what is committed after the group. Until the group's own gate is written,
+/// what is committed stands at each moment.
+pub fn groups_go_through()
+    ensures { GroupsGoThrough }
 {}

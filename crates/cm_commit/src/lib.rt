@@ -4,17 +4,22 @@
 mod applying;
 mod bytes;
 mod calls;
+mod checkpoint;
 mod committer;
 mod entries;
 mod joining;
 mod journal;
 mod laws;
 mod mismatch;
+mod plan;
 mod progress;
 mod step;
 
 pub use committer::{Committer, NotMade};
 pub use journal::Journal;
-pub use laws::{committed_is_guarded, groups_turn, plans_have_steps};
+pub use laws::{
+    checkpoints_renew, committed_is_guarded, groups_go_through, groups_turn, other_halves_shut,
+    others_are_told, plans_have_steps, shut_halves_may_change, written_halves_open,
+};
 pub use mismatch::Mismatch;
 pub use progress::{AdvanceFault, Progress};

@@ -1,4 +1,4 @@
-//! How far a group is stored.
+//! How far a checkpoint is written, and a group stored.
 
 /// What the next device call of a group is.
 #[derive(Clone, Copy, Debug, PartialEq, Eq)]
@@ -14,4 +14,30 @@ pub(crate) enum CommitStep {
     LastSync,
     /// None: all calls are made.
     Done,
+}
+
+/// What the next device call of a checkpoint is.
+#[derive(Clone, Copy, Debug, PartialEq, Eq)]
+pub(crate) enum CheckpointStep {
+    /// The write of the other half's gate, where that is open; else a sync in place of it.
+    Shut,
+    /// The sync behind it.
+    SyncShut,
+    /// The write of the other half behind its gate.
+    Write,
+    /// The sync before its gate.
+    SyncWritten,
+    /// The write of its gate's byte.
+    Open,
+    /// The sync behind it.
+    SyncOpened,
+}
+
+/// What the next device call is.
+#[derive(Clone, Copy, Debug, PartialEq, Eq)]
+pub(crate) enum PlanStep {
+    /// One of the checkpoint that comes before the group.
+    Checkpoint(CheckpointStep),
+    /// One of the group.
+    Group(CommitStep),
 }

@@ -31,7 +31,6 @@ use Rattle.cm_state.specs.Entries.{change_of}
 use Rattle.cm_state.specs.Laws.{EntriesAreSteps}
 use Rattle.cm_prepare.specs.declared.refusal.Refusal.{Refusal}
 use Rattle.cm_prepare.specs.declared.refusal.Refusal.TheVariants as refusal
-use Rattle.cm_front.specs.declared.opened.Opened.{Opened}
 use Rattle.cm_front.specs.Unsealed.{Waits, GoUpTo, Follow}
 use Rattle.cm_front.specs.Front.{FrontState, IsFront, IsDueLater, front_of, first_refusal}
 use Rattle.cm_front.specs.Accepting.{Answers, Accepts, IsFullFor, accepted, carried}
@@ -48,10 +47,10 @@ use Rattle.cm_front.proofs.Goings.{past, Keeps, goes_on, keeps_loader, not_last}
 
 -- only the groups matter of what isn't handed out
 pub same_groups : (book : LiveRows (List ℕ)) (space : SpaceState) (old new : Waits)
-    (number sealed learnt : ℕ) (broken closed : Bool) (opened : Opened) → new.groups ≡ old.groups
-    → front_of book space new number sealed learnt broken closed opened
-    ≡ front_of book space old number sealed learnt broken closed opened
-same_groups book space old new number sealed learnt broken closed opened e = λ i. record {
+    (number sealed learnt : ℕ) (broken closed : Bool) → new.groups ≡ old.groups
+    → front_of book space new number sealed learnt broken closed
+    ≡ front_of book space old number sealed learnt broken closed
+same_groups book space old new number sealed learnt broken closed e = λ i. record {
   sizes = book.sizes;
   rows = book.rows;
   number = number;
@@ -61,16 +60,15 @@ same_groups book space old new number sealed learnt broken closed opened e = λ 
   space = space;
   broken = broken;
   closed = closed;
-  opened = opened;
 }
 
 pub went_on : (book next : LiveRows (List ℕ)) (space left : SpaceState) (old new : Waits)
-    (number n sealed learnt : ℕ) (broken closed : Bool) (opened : Opened) (e : Entry (List ℕ))
+    (number n sealed learnt : ℕ) (broken closed : Bool) (e : Entry (List ℕ))
     → next ≡ record { sizes = book.sizes; rows = rows_after book.rows e }
     → new.groups ≡ joined_by (number + 1) old.groups (carried e) → n ≡ number + 1
-    → front_of next left new n sealed learnt broken closed opened
-    ≡ accepted (front_of book space old number sealed learnt broken closed opened) e left
-went_on book next space left old new number n sealed learnt broken closed opened e rows groups is =
+    → front_of next left new n sealed learnt broken closed
+    ≡ accepted (front_of book space old number sealed learnt broken closed) e left
+went_on book next space left old new number n sealed learnt broken closed e rows groups is =
     λ i. record {
       sizes = (rows i).sizes;
       rows = (rows i).rows;
@@ -81,7 +79,6 @@ went_on book next space left old new number n sealed learnt broken closed opened
       space = left;
       broken = broken;
       closed = closed;
-      opened = opened;
     }
 
 -- a rule that isn't broken lets the rows go on
@@ -150,33 +147,32 @@ pub record Went (s : FrontState) (change : Change (List ℕ)) (n : ℕ)
   pub accepts : Accepts s change n new
 
 pub went_all : EntriesAreSteps (List ℕ) → (book next : LiveRows (List ℕ)) (space left : SpaceState)
-    (old mid new : Waits) (number n sealed learnt : ℕ) (broken closed : Bool) (opened : Opened)
+    (old mid new : Waits) (number n sealed learnt : ℕ) (broken closed : Bool)
     (e : Entry (List ℕ)) (change : Change (List ℕ)) (o : Option EntryRule)
-    → IsFront (front_of book space old number sealed learnt broken closed opened)
+    → IsFront (front_of book space old number sealed learnt broken closed)
     → number < 2 ^ 63 → n ≡ number + 1
-    → Keeps (front_of book space old number sealed learnt broken closed opened) e left
-    → SpaceAfter (front_of book space old number sealed learnt broken closed opened) e left
+    → Keeps (front_of book space old number sealed learnt broken closed) e left
+    → SpaceAfter (front_of book space old number sealed learnt broken closed) e left
     → change_of book.rows e ≡ Some change → o ≡ broken_rule book.sizes book.rows n e
     → next ≡ cond (is_none o) (record { sizes = book.sizes; rows = rows_after book.rows e }) book
     → mid.groups ≡ old.groups → new.groups ≡ joined_by n mid.groups (carried e)
-    → Went (front_of book space old number sealed learnt broken closed opened) change n
-    (front_of next left new n sealed learnt broken closed opened)
-went_all steps book next space left old mid new number n sealed learnt broken closed
-    opened e change o
+    → Went (front_of book space old number sealed learnt broken closed) change n
+    (front_of next left new n sealed learnt broken closed)
+went_all steps book next space left old mid new number n sealed learnt broken closed e change o
     f below is keeps after some rule rows same groups =
-    let s : FrontState = front_of book space old number sealed learnt broken closed opened in
+    let s : FrontState = front_of book space old number sealed learnt broken closed in
     let none : o ≡ None =
     rule ∙ ap (λ k. broken_rule book.sizes book.rows k e) is ∙ keeps.may.keeps in
     let joined : new.groups ≡ joined_by (number + 1) old.groups (carried e) =
     groups ∙ (ap (λ k. joined_by k mid.groups (carried e)) is
     ∙ ap (λ l. joined_by (number + 1) l (carried e)) same) in
-    let whole = went_on book next space left old new number n sealed learnt broken closed opened e
+    let whole = went_on book next space left old new number n sealed learnt broken closed e
     (applied o next (record { sizes = book.sizes; rows = rows_after book.rows e }) book none rows)
     joined is in
     record {
       front = subst IsFront (sym whole) (goes_on steps s e left f below keeps);
       accepts =
-          accepts s (front_of next left new n sealed learnt broken closed opened) change n e left is
+          accepts s (front_of next left new n sealed learnt broken closed) change n e left is
           keeps after whole some;
     }
 

@@ -21,28 +21,26 @@ use Rattle.cm_state.specs.Laws.{LoadersAreFound, ClassesAreFound, SizesAgree}
 use Rattle.cm_prepare.specs.declared.refusal.Refusal.{Refusal}
 use Rattle.cm_prepare.specs.declared.refusal.Refusal.TheVariants as refusal
 use Rattle.cm_prepare.specs.Refusals.{refusal_of}
-use Rattle.cm_front.specs.Front.{FrontState, IsFront, first_refusal, is_half_full}
+use Rattle.cm_front.specs.Front.{FrontState, IsFront, first_refusal}
 use Rattle.cm_front.specs.Refusing.{loader_asked, loader_made, class_free, class_asked}
-use Rattle.cm_front.specs.Refusing.{loader_left}
 
 -- the refusal in an answer
 abbrev pub refused : Result ℕ Refusal → Option Refusal
 refused (Ok n) = None
 refused (Err r) = Some r
 
--- the cause of a step, and that the half is full, as a refusal
-abbrev first : Result (Loaders (List ℕ)) Cause → Bool → Option Refusal
-first (Ok next) h = cond h (Some refusal.JournalFull) None
-first (Err cause) h = Some (refusal_of cause)
+-- the cause of a step as a refusal
+abbrev first : Result (Loaders (List ℕ)) Cause → Option Refusal
+first (Ok next) = None
+first (Err cause) = Some (refusal_of cause)
 
 -- ---- a new loader
 
-abbrev made : Bool → Bool → Bool → Bool → Bool → ℕ → Result ℕ Refusal
-made named spent found full h n =
+abbrev made : Bool → Bool → Bool → Bool → ℕ → Result ℕ Refusal
+made named spent found full n =
     cond (not named) (Err refusal.BadName)
     (cond spent (Err refusal.NumbersSpent)
-    (cond found (Err refusal.LoaderExists)
-    (cond (cond full true h) (Err refusal.JournalFull) (Ok n))))
+    (cond found (Err refusal.LoaderExists) (cond full (Err refusal.JournalFull) (Ok n))))
 
 abbrev loader_step : Bool → Bool → Bool → Bool → Loaders (List ℕ) → Result (Loaders (List ℕ)) Cause
 loader_step named spent found full next =
@@ -50,14 +48,13 @@ loader_step named spent found full next =
     (cond spent (Err step.NumbersSpent)
     (cond found (Err step.LoaderExists) (cond full (Err step.JournalFull) (Ok next))))
 
-made_as_step : (named spent found full h : Bool) (next : Loaders (List ℕ)) (n : ℕ)
-    → first (loader_step named spent found full next) h ≡ refused (made named spent found full h n)
-made_as_step false spent found full h next n = refl
-made_as_step true true found full h next n = refl
-made_as_step true false true full h next n = refl
-made_as_step true false false true h next n = refl
-made_as_step true false false false true next n = refl
-made_as_step true false false false false next n = refl
+made_as_step : (named spent found full : Bool) (next : Loaders (List ℕ)) (n : ℕ)
+    → first (loader_step named spent found full next) ≡ refused (made named spent found full n)
+made_as_step false spent found full next n = refl
+made_as_step true true found full next n = refl
+made_as_step true false true full next n = refl
+made_as_step true false false true next n = refl
+made_as_step true false false false next n = refl
 
 -- ---- the rows tell the state
 
@@ -81,16 +78,11 @@ size_is sizes s f = sizes words_show s.sizes s.number s.rows f.rows ∙ slots_ar
 running : (s : FrontState) (change : Change (List ℕ)) → s.closed ≡ false → s.broken ≡ false
     → first_refusal s change
     ≡ first (step.step words_show s.sizes (state_of words_show s.rows) s.number change)
-    (is_half_full s)
 running s change closed broken = rw closed (rw broken
     (by_answer (step.step words_show s.sizes (state_of words_show s.rows) s.number change)))
   where
     by_answer : (a : Result (Loaders (List ℕ)) Cause)
-        → (elim a [
-          | Err cause ↦ Some (refusal_of cause)
-          | Ok next ↦ cond (is_half_full s) (Some refusal.JournalFull) None
-        ])
-        ≡ first a (is_half_full s)
+        → (elim a [ Err cause ↦ Some (refusal_of cause) | Ok next ↦ None ]) ≡ first a
     by_answer (Ok next) = refl
     by_answer (Err cause) = refl
 
@@ -100,30 +92,30 @@ pub loader_refused : LoadersAreFound (List ℕ) → SizesAgree (List ℕ) → (s
 loader_refused loaders sizes s x f closed broken =
     running s (AddLoader x) closed broken
     ∙ (ap (λ (b : Bool). first (loader_step (is_loader_name x) (eqb s.number last_number) b
-    (nat_le (row_limit s.sizes) (size m)) (step.with_loader m x)) (is_half_full s))
+    (nat_le (row_limit s.sizes) (size m)) (step.with_loader m x)))
     (loaders words_show s.rows x)
     ∙ (ap (λ (k : ℕ). first (loader_step (is_loader_name x) (eqb s.number last_number)
-    (is_some (number_of x s.rows)) (nat_le (row_limit s.sizes) k) (step.with_loader m x))
-    (is_half_full s)) (size_is sizes s f)
+    (is_some (number_of x s.rows)) (nat_le (row_limit s.sizes) k) (step.with_loader m x)))
+    (size_is sizes s f)
     ∙ made_as_step (is_loader_name x) (eqb s.number last_number) (is_some (number_of x s.rows))
-    (nat_le (row_limit s.sizes) (length s.rows)) (is_half_full s) (step.with_loader m x)
-    (suc s.number)))
+    (nat_le (row_limit s.sizes) (length s.rows)) (step.with_loader m x) (suc s.number)))
   where
     m : Loaders (List ℕ)
     m = state_of words_show s.rows
 
--- ---- a class
+-- ---- a loader that lives
 
 abbrev asked : Bool → Bool → Option ℕ → Result ℕ Refusal
 asked named spent o =
     cond (not named) (Err refusal.BadName)
     (cond spent (Err refusal.NumbersSpent) (elim o [ Some u ↦ Ok u | None ↦ Err refusal.NoLoader ]))
 
-abbrev free : Bool → Bool → Bool → Bool → ℕ → Result ℕ Refusal
-free taken long full h u =
+-- ---- a class
+
+abbrev free : Bool → Bool → Bool → ℕ → Result ℕ Refusal
+free taken long full u =
     cond taken (Err refusal.ClassExists)
-    (cond long (Err refusal.RecordTooLong)
-    (cond (cond full true h) (Err refusal.JournalFull) (Ok u)))
+    (cond long (Err refusal.RecordTooLong) (cond full (Err refusal.JournalFull) (Ok u)))
 
 abbrev class_step : Bool → Bool → Bool → Bool → Bool → Bool → Loaders (List ℕ)
     → Result (Loaders (List ℕ)) Cause
@@ -134,25 +126,23 @@ class_step named spent there taken long full next =
     (cond taken (Err step.ClassExists)
     (cond long (Err step.RecordTooLong) (cond full (Err step.JournalFull) (Ok next))))))
 
-free_as_step : (taken long full h : Bool) (next : Loaders (List ℕ)) (u : ℕ)
-    → first (class_step true false true taken long full next) h ≡ refused (free taken long full h u)
-free_as_step true long full h next u = refl
-free_as_step false true full h next u = refl
-free_as_step false false true h next u = refl
-free_as_step false false false true next u = refl
-free_as_step false false false false next u = refl
+free_as_step : (taken long full : Bool) (next : Loaders (List ℕ)) (u : ℕ)
+    → first (class_step true false true taken long full next) ≡ refused (free taken long full u)
+free_as_step true long full next u = refl
+free_as_step false true full next u = refl
+free_as_step false false true next u = refl
+free_as_step false false false next u = refl
 
 class_as_step : (named spent : Bool) (o : Option ℕ) (among : ℕ → Option (List ℕ))
-    (long full h : Bool) (next : Loaders (List ℕ))
+    (long full : Bool) (next : Loaders (List ℕ))
     → first (class_step named spent (is_some o) (is_some (option_and_then among o)) long full next)
-    h
     ≡ refused (elim (asked named spent o)
-    [ Err r ↦ Err r | Ok u ↦ free (is_some (among u)) long full h u ])
-class_as_step false spent o among long full h next = refl
-class_as_step true true o among long full h next = refl
-class_as_step true false None among long full h next = refl
-class_as_step true false (Some u) among long full h next =
-    free_as_step (is_some (among u)) long full h next u
+    [ Err r ↦ Err r | Ok u ↦ free (is_some (among u)) long full u ])
+class_as_step false spent o among long full next = refl
+class_as_step true true o among long full next = refl
+class_as_step true false None among long full next = refl
+class_as_step true false (Some u) among long full next =
+    free_as_step (is_some (among u)) long full next u
 
 pub class_refused : LoadersAreFound (List ℕ) → ClassesAreFound (List ℕ) → SizesAgree (List ℕ)
     → (s : FrontState) (x words : List ℕ) → IsFront s → s.closed ≡ false → s.broken ≡ false
@@ -160,18 +150,17 @@ pub class_refused : LoadersAreFound (List ℕ) → ClassesAreFound (List ℕ) �
 class_refused loaders classes sizes s x words f closed broken =
     running s (Define x words) closed broken
     ∙ (ap (λ (b : Bool). first (class_step named spent b
-    (is_some (class_in m x (class_name_in words))) long (nat_le (row_limit s.sizes) (size m)) next)
-    half)
+    (is_some (class_in m x (class_name_in words))) long (nat_le (row_limit s.sizes) (size m)) next))
     (loaders words_show s.rows x)
     ∙ (ap (λ (o : Option (List ℕ)). first (class_step named spent (is_some o_x) (is_some o) long
-    (nat_le (row_limit s.sizes) (size m)) next) half)
+    (nat_le (row_limit s.sizes) (size m)) next))
     (classes words_show s.rows x (class_name_in words))
     ∙ (ap (λ (k : ℕ). first (class_step named spent (is_some o_x)
     (is_some (option_and_then among o_x))
-    long (nat_le (row_limit s.sizes) k) next) half) (size_is sizes s f)
-    ∙ (class_as_step named spent o_x among long full half next
+    long (nat_le (row_limit s.sizes) k) next)) (size_is sizes s f)
+    ∙ (class_as_step named spent o_x among long full next
     ∙ ap (λ (g : ℕ → Option (List ℕ)). refused (elim (asked named spent o_x)
-    [ Err r ↦ Err r | Ok u ↦ free (is_some (g u)) long full half u ])) same))))
+    [ Err r ↦ Err r | Ok u ↦ free (is_some (g u)) long full u ])) same))))
   where
     m : Loaders (List ℕ)
     m = state_of words_show s.rows
@@ -194,9 +183,6 @@ class_refused loaders classes sizes s x words f closed broken =
     full : Bool
     full = nat_le (row_limit s.sizes) (length s.rows)
 
-    half : Bool
-    half = is_half_full s
-
     next : Loaders (List ℕ)
     next = step.with_class words_show m x words
 
@@ -205,35 +191,26 @@ class_refused loaders classes sizes s x words f closed broken =
 
 -- ---- an unload
 
-abbrev left : Bool → ℕ → Result ℕ Refusal
-left h u = cond h (Err refusal.JournalFull) (Ok u)
-
 abbrev unload_step : Bool → Bool → Bool → Loaders (List ℕ) → Result (Loaders (List ℕ)) Cause
 unload_step named spent there next =
     cond (not named) (Err step.BadName)
     (cond spent (Err step.NumbersSpent) (cond (not there) (Err step.NoLoader) (Ok next)))
 
-left_as_step : (h : Bool) (next : Loaders (List ℕ)) (u : ℕ)
-    → first (unload_step true false true next) h ≡ refused (left h u)
-left_as_step true next u = refl
-left_as_step false next u = refl
-
-unload_as_step : (named spent : Bool) (o : Option ℕ) (h : Bool) (next : Loaders (List ℕ))
-    → first (unload_step named spent (is_some o) next) h
-    ≡ refused (elim (asked named spent o) [ Err r ↦ Err r | Ok u ↦ left h u ])
-unload_as_step false spent o h next = refl
-unload_as_step true true o h next = refl
-unload_as_step true false None h next = refl
-unload_as_step true false (Some u) h next = left_as_step h next u
+unload_as_step : (named spent : Bool) (o : Option ℕ) (next : Loaders (List ℕ))
+    → first (unload_step named spent (is_some o) next) ≡ refused (asked named spent o)
+unload_as_step false spent o next = refl
+unload_as_step true true o next = refl
+unload_as_step true false None next = refl
+unload_as_step true false (Some u) next = refl
 
 pub unload_refused : LoadersAreFound (List ℕ) → (s : FrontState) (x : List ℕ) → s.closed ≡ false
-    → s.broken ≡ false → first_refusal s (Unload x) ≡ refused (loader_left s x)
+    → s.broken ≡ false → first_refusal s (Unload x) ≡ refused (loader_asked s x)
 unload_refused loaders s x closed broken =
     running s (Unload x) closed broken
     ∙ (ap (λ (b : Bool). first (unload_step (is_loader_name x) (eqb s.number last_number) b
-    (map.remove m x)) (is_half_full s)) (loaders words_show s.rows x)
+    (map.remove m x))) (loaders words_show s.rows x)
     ∙ unload_as_step (is_loader_name x) (eqb s.number last_number) (number_of x s.rows)
-    (is_half_full s) (map.remove m x))
+    (map.remove m x))
   where
     m : Loaders (List ℕ)
     m = state_of words_show s.rows
@@ -275,19 +252,18 @@ none_of : (o : Option ℕ) → is_some o ≡ false → o ≡ None
 none_of None e = refl
 none_of (Some n) e = absurd (cc)
 
-is_made : (named spent found full h : Bool) (n k : ℕ) → made named spent found full h n ≡ Ok k
+is_made : (named spent found full : Bool) (n k : ℕ) → made named spent found full n ≡ Ok k
     → (named ≡ true) × (spent ≡ false) × (found ≡ false) × (full ≡ false) × (n ≡ k)
-is_made false spent found full h n k e = err_not_ok refusal.BadName k e
-is_made true true found full h n k e = err_not_ok refusal.NumbersSpent k e
-is_made true false true full h n k e = err_not_ok refusal.LoaderExists k e
-is_made true false false true h n k e = err_not_ok refusal.JournalFull k e
-is_made true false false false true n k e = err_not_ok refusal.JournalFull k e
-is_made true false false false false n k e = (refl, refl, refl, refl, ok_same n k e)
+is_made false spent found full n k e = err_not_ok refusal.BadName k e
+is_made true true found full n k e = err_not_ok refusal.NumbersSpent k e
+is_made true false true full n k e = err_not_ok refusal.LoaderExists k e
+is_made true false false true n k e = err_not_ok refusal.JournalFull k e
+is_made true false false false n k e = (refl, refl, refl, refl, ok_same n k e)
 
 pub was_made : (s : FrontState) (x : List ℕ) (n : ℕ) → loader_made s x ≡ Ok n → IsMade s x n
 was_made s x n e =
     let h = is_made (is_loader_name x) (eqb s.number last_number) (is_some (number_of x s.rows))
-    (nat_le (row_limit s.sizes) (length s.rows)) (is_half_full s) (suc s.number) n e in
+    (nat_le (row_limit s.sizes) (length s.rows)) (suc s.number) n e in
     let next : suc s.number ≡ n = h.4 in
     record {
       named = h.0;
@@ -307,13 +283,12 @@ none_kept : (o : Option (List ℕ)) → is_some o ≡ false → o ≡ None
 none_kept None e = refl
 none_kept (Some n) e = absurd (cc)
 
-is_free : (taken long full h : Bool) (u v : ℕ) → free taken long full h u ≡ Ok v
+is_free : (taken long full : Bool) (u v : ℕ) → free taken long full u ≡ Ok v
     → (taken ≡ false) × (long ≡ false) × (full ≡ false) × (u ≡ v)
-is_free true long full h u v e = err_not_ok refusal.ClassExists v e
-is_free false true full h u v e = err_not_ok refusal.RecordTooLong v e
-is_free false false true h u v e = err_not_ok refusal.JournalFull v e
-is_free false false false true u v e = err_not_ok refusal.JournalFull v e
-is_free false false false false u v e = (refl, refl, refl, ok_same u v e)
+is_free true long full u v e = err_not_ok refusal.ClassExists v e
+is_free false true full u v e = err_not_ok refusal.RecordTooLong v e
+is_free false false true u v e = err_not_ok refusal.JournalFull v e
+is_free false false false u v e = (refl, refl, refl, ok_same u v e)
 
 pub was_free : (s : FrontState) (x words : List ℕ) (u : ℕ) → class_asked s x words ≡ Ok u
     → IsFree s x words u
@@ -326,7 +301,7 @@ was_free s x words u e = by_answer (loader_asked s x) refl e
     by_answer (Ok v) a h =
         let taken = is_some (class_of class_name_in v (class_name_in words) s.rows) in
         let p = is_free taken (nat_lt (chunk_size s.sizes.top) (length words))
-        (nat_le (row_limit s.sizes) (length s.rows)) (is_half_full s) v u h in
+        (nat_le (row_limit s.sizes) (length s.rows)) v u h in
         let same : v ≡ u = p.3 in
         record {
           asked = subst (λ k. IsAsked s x k) same (was_asked s x v a);
@@ -336,18 +311,3 @@ was_free s x words u e = by_answer (loader_asked s x) refl e
           fits = p.1;
           room = p.2;
         }
-
-pub was_left : (s : FrontState) (x : List ℕ) (u : ℕ) → loader_left s x ≡ Ok u → IsAsked s x u
-was_left s x u e = by_answer (loader_asked s x) refl e
-  where
-    is_left : (h : Bool) (v : ℕ) → left h v ≡ Ok u → v ≡ u
-    is_left true v p = err_not_ok refusal.JournalFull u p
-    is_left false v p = ok_same v u p
-
-    by_answer : (a : Result ℕ Refusal) → loader_asked s x ≡ a
-        → ◌≡◌ {A = Result ℕ Refusal}
-        (elim a [ Err r ↦ Err r | Ok v ↦ left (is_half_full s) v ]) (Ok u)
-        → IsAsked s x u
-    by_answer (Err r) a h = err_not_ok r u h
-    by_answer (Ok v) a h =
-        subst (λ k. IsAsked s x k) (is_left (is_half_full s) v h) (was_asked s x v a)

@@ -89,7 +89,6 @@ goes_on steps s e space f below k =
       learnt = f.learnt;
       numbers = omega (arith, below);
       groups = follow_joined s.unsealed (s.sealed + 1) (s.number + 1) (carried e) f.groups;
-      opened = let h = f.opened in omega (arith, h);
     }
 
 -- what waits for a number waits for it also when there is one more

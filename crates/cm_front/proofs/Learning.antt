@@ -19,7 +19,6 @@ use Rattle.cm_space.specs.Space.{due, not_due, learnt}
 use Rattle.cm_space.specs.Ownership.{IsSpace}
 use Rattle.cm_state.specs.State.{words_show, state_of, class_in, class_among}
 use Rattle.cm_state.specs.Laws.{ClassesAreFound}
-use Rattle.cm_front.specs.declared.opened.Opened.{Opened}
 use Rattle.cm_front.specs.Unsealed.{Waits}
 use Rattle.cm_front.specs.Front.{IsFront, IsDueLater, front_of}
 use Rattle.cm_front.specs.Accepting.{HandsOut}
@@ -45,20 +44,20 @@ what_is_there classes rows x name u o found is =
 -- ---- handing out
 
 pub handed : (book : LiveRows (List ℕ)) (space : SpaceState) (old new : Waits)
-    (number sealed learnt k : ℕ) (broken closed : Bool) (opened : Opened) (oldest group : Handed)
+    (number sealed learnt k : ℕ) (broken closed : Bool) (oldest group : Handed)
     → old.groups ≡ oldest ∷ new.groups
     → group ≡ record { first = oldest.first; learnt = learnt; entries = oldest.entries }
     → k ≡ next_number oldest - 1
-    → HandsOut (front_of book space old number sealed learnt broken closed opened) group
-    (front_of book space new number k learnt broken closed opened)
-handed book space old new number sealed learnt k broken closed opened oldest group is
+    → HandsOut (front_of book space old number sealed learnt broken closed) group
+    (front_of book space new number k learnt broken closed)
+handed book space old new number sealed learnt k broken closed oldest group is
     group_is k_is =
     record {
       oldest = oldest;
       rest = new.groups;
       is_oldest = is;
       group_is = group_is;
-      after = ap (λ n. front_of book space new number n learnt broken closed opened) k_is;
+      after = ap (λ n. front_of book space new number n learnt broken closed) k_is;
     }
 
 pub last_handed : (oldest group : Handed) (learnt first count : ℕ)
@@ -88,15 +87,15 @@ later learnt m n (w ∷ ws) h = by_test (later learnt m n ws h.1) (nat_lt m w.nu
     by_test rest false e = rest
 
 pub learnt_front : (book : LiveRows (List ℕ)) (space left : SpaceState) (unsealed : Waits)
-    (number sealed old m k : ℕ) (broken closed : Bool) (opened : Opened)
-    → IsFront (front_of book space unsealed number sealed old broken closed opened)
+    (number sealed old m k : ℕ) (broken closed : Bool)
+    → IsFront (front_of book space unsealed number sealed old broken closed)
     → m ≡ max old k → k ≤ sealed → left ≡ learnt space m → IsSpace left → IsFreeSpace left.pool
-    → IsFront (front_of book left unsealed number sealed m broken closed opened)
-learnt_front book space left unsealed number sealed old m k broken closed opened f is below
+    → IsFront (front_of book left unsealed number sealed m broken closed)
+learnt_front book space left unsealed number sealed old m k broken closed f is below
     left_is whole
     free =
     let before = f.learnt in
-    subst (λ t. IsFront (front_of book t unsealed number sealed m broken closed opened))
+    subst (λ t. IsFront (front_of book t unsealed number sealed m broken closed))
     (sym left_is)
     (record {
       lawful = f.lawful;
@@ -114,5 +113,4 @@ learnt_front book space left unsealed number sealed old m k broken closed opened
       learnt = omega (arith, is, below, before);
       numbers = f.numbers;
       groups = f.groups;
-      opened = f.opened;
     })

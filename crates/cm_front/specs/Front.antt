@@ -1,6 +1,6 @@
 -- What the accepted cache is seen as, and what is true of it between two calls.
-use Rattle.std.specs.Prelude.{◌≡◌, ℕ, ◌+◌, ◌*◌, ◌-◌, ◌^◌, ◌<◌, ◌≤◌, ◌↔◌, Bool, true, nat_lt, List}
-use Rattle.std.specs.Prelude.{[], ◌∷◌, Option, Some, None, Ok, Err, if◌then◌else◌, refl}
+use Rattle.std.specs.Prelude.{◌≡◌, ℕ, ◌+◌, ◌^◌, ◌<◌, ◌≤◌, ◌↔◌, Bool, true, List, [], ◌∷◌, Option}
+use Rattle.std.specs.Prelude.{Some, None, Ok, Err, if◌then◌else◌, refl}
 use Rattle.std.specs.List.{AllByRecursion}
 use Rattle.std.specs.Coded.{Coded, code_by, coded×, codes}
 use Rattle.cm_pool.specs.Geometry.{Sizes, IsGeometry}
@@ -17,7 +17,6 @@ use Rattle.cm_state.specs.Entries.{AreCacheRows}
 use Rattle.cm_prepare.specs.declared.refusal.Refusal.{Refusal}
 use Rattle.cm_prepare.specs.declared.refusal.Refusal.TheVariants as refusal
 use Rattle.cm_prepare.specs.Refusals.{refusal_of}
-use Rattle.cm_front.specs.declared.opened.Opened.{Opened}
 use Rattle.cm_front.specs.Laws.{GoesWith}
 use Rattle.cm_front.specs.Unsealed.{Waits, Follow}
 
@@ -34,12 +33,11 @@ pub record FrontState : Type 0 where
   pub space : SpaceState
   pub broken : Bool
   pub closed : Bool
-  pub opened : Opened
 
 -- how the code keeps it
-abbrev pub front_of : LiveRows (List ℕ) → SpaceState → Waits → ℕ → ℕ → ℕ → Bool → Bool → Opened
+abbrev pub front_of : LiveRows (List ℕ) → SpaceState → Waits → ℕ → ℕ → ℕ → Bool → Bool
     → FrontState
-front_of book space unsealed number sealed learnt broken closed opened =
+front_of book space unsealed number sealed learnt broken closed =
     record {
       sizes = book.sizes;
       rows = book.rows;
@@ -50,7 +48,6 @@ front_of book space unsealed number sealed learnt broken closed opened =
       space = space;
       broken = broken;
       closed = closed;
-      opened = opened;
     }
 
 -- a value of this kind as data: what has a code of its own, and the space
@@ -63,7 +60,6 @@ pub record Parts : Type 0 where
   pub unsealed : List Handed
   pub broken : Bool
   pub closed : Bool
-  pub opened : Opened
 
 pub parts_code : Coded Parts
 parts_code = Prim.hlevel codes
@@ -81,7 +77,6 @@ front_code =
         unsealed = s.unsealed;
         broken = s.broken;
         closed = s.closed;
-        opened = s.opened;
       },
       s.space,
     ))
@@ -95,7 +90,6 @@ front_code =
       space = t.1;
       broken = t.0.broken;
       closed = t.0.closed;
-      opened = t.0.opened;
     })
     (λ _. refl)
 
@@ -122,15 +116,8 @@ pub record IsFront (s : FrontState) : Type 0 where
   pub learnt : s.learnt ≤ s.sealed
   pub numbers : s.number ≤ 2 ^ 63
   pub groups : Follow (s.sealed + 1) s.unsealed (s.number + 1)
-  pub opened : s.opened.number ≤ s.number
 
 -- ---- refusals
-
--- Until there are checkpoints: the half has no room for another group, where each command so far
--- took one.
-abbrev pub is_half_full : FrontState → Bool
-is_half_full s =
-    nat_lt (s.sizes.slots - 1) (s.opened.slot + 2 * (s.number - s.opened.number) + 1)
 
 -- the first refusal that applies, in the order in which they are looked for, but for want of room
 -- in the region and of memory
@@ -140,5 +127,5 @@ first_refusal s change =
     else if s.broken then Some refusal.Broken
     else elim (step words_show s.sizes (state_of words_show s.rows) s.number change) [
       | Err cause ↦ Some (refusal_of cause)
-      | Ok next ↦ if is_half_full s then Some refusal.JournalFull else None
+      | Ok next ↦ None
     ]

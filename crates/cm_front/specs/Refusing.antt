@@ -1,5 +1,5 @@
 -- The causes against a command as they are looked for: by names in the rows.
-use Rattle.std.specs.Prelude.{ℕ, suc, ◌==◌, Bool, true, not, nat_lt, nat_le, if◌then◌else◌, List}
+use Rattle.std.specs.Prelude.{ℕ, suc, ◌==◌, Bool, not, nat_lt, nat_le, if◌then◌else◌, List}
 use Rattle.std.specs.Prelude.{length, Some, None, is_some, Result, Ok, Err}
 use Rattle.cm_pool.specs.Chunks.{chunk_size}
 use Rattle.cm_layout.specs.Names.{is_loader_name}
@@ -12,7 +12,7 @@ use Rattle.cm_prepare.specs.declared.refusal.Refusal.{Refusal}
 use Rattle.cm_prepare.specs.declared.refusal.Refusal.TheVariants as refusal
 use Rattle.cm_arena.specs.declared.refusal.PlaceRefusal.{PlaceRefusal}
 use Rattle.cm_arena.specs.declared.refusal.PlaceRefusal.TheVariants as of_place
-use Rattle.cm_front.specs.Front.{FrontState, is_half_full}
+use Rattle.cm_front.specs.Front.{FrontState}
 
 -- the number of the live loader that a command names
 abbrev pub loader_asked : FrontState → List ℕ → Result ℕ Refusal
@@ -21,9 +21,9 @@ loader_asked s x =
     else if s.number == last_number then Err refusal.NumbersSpent
     else elim (number_of x s.rows) [ Some u ↦ Ok u | None ↦ Err refusal.NoLoader ]
 
--- as many rows live as may, or the half is full
+-- as many loaders and classes live as may
 abbrev pub journal_full : FrontState → Bool
-journal_full s = if nat_le (row_limit s.sizes) (length s.rows) then true else is_half_full s
+journal_full s = nat_le (row_limit s.sizes) (length s.rows)
 
 -- the number that the new loader gets
 abbrev pub loader_made : FrontState → List ℕ → Result ℕ Refusal
@@ -45,12 +45,6 @@ class_free s u words =
 abbrev pub class_asked : FrontState → List ℕ → List ℕ → Result ℕ Refusal
 class_asked s x words =
     elim (loader_asked s x) [ Err r ↦ Err r | Ok u ↦ class_free s u words ]
-
--- the number of the loader that can be unloaded
-abbrev pub loader_left : FrontState → List ℕ → Result ℕ Refusal
-loader_left s x =
-    elim (loader_asked s x)
-    [ Err r ↦ Err r | Ok u ↦ if is_half_full s then Err refusal.JournalFull else Ok u ]
 
 -- why a class has no place
 abbrev pub refusal_of_place : PlaceRefusal → Refusal

@@ -54,7 +54,7 @@ pub record IsOnTheWay (sizes : Sizes) (rows rest : List (Row (List ℕ)))
 -- ---- the cache
 
 -- everything is stored, and nothing is to be handed out
-pub record Restores (book : LiveRows (List ℕ)) (number slot : ℕ) (front : FrontState) : Type 0 where
+pub record Restores (book : LiveRows (List ℕ)) (number : ℕ) (front : FrontState) : Type 0 where
   pub space : IsSpaceOf book.sizes book.rows front.space
   pub front_is : front ≡ record {
     sizes = book.sizes;
@@ -66,5 +66,4 @@ pub record Restores (book : LiveRows (List ℕ)) (number slot : ℕ) (front : Fr
     space = front.space;
     broken = false;
     closed = false;
-    opened = record { slot = slot; number = number };
   }

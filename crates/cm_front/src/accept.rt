@@ -26,8 +26,9 @@ impl Front {
     ///
     /// The refusals are looked for in this order: `Closed`, `Broken`, `BadName`, `NumbersSpent`,
     /// `LoaderExists` or `NoLoader`, `ClassExists`, `RecordTooLong`, `JournalFull`, `RegionFull`;
-    /// `NoMemory` is told only where none of these applies. A refused command takes no number and
-    /// leaves all as it was.
+    /// `NoMemory` is told only where none of these applies. `JournalFull` says that as many loaders
+    /// and classes live as may, half as many as a half of the journal has slots, so no unload meets
+    /// it. A refused command takes no number and leaves all as it was.
     pub fn accept(&mut self, command: Command<'_>) -> Result<u64, Refusal>
         ensures { Answers self.old (change_asked command.entry) result self.new }
     {
@@ -103,7 +104,7 @@ impl Front {
         rows_tell_state();
         loaders_are_own();
         entries_are_steps();
-        let loader = self.check_unload(name)?;
+        let loader = self.loader_asked(name)?;
         self.unsealed.make_ready()?;
         let number = self.number + 1;
         self.space.leave(loader, number)?;

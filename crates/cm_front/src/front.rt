@@ -4,7 +4,6 @@ ghost use Rattle.std.specs.Prelude.{◌≡◌, ◌<◌, true, OnOk, OnErr, IsOk,
 ghost use Rattle.std.specs.Option.{option_map};
 ghost use Rattle.std.specs.Arc.{arc_value};
 
-use crate::opened::Opened;
 use crate::unsealed::Unsealed;
 use cm_group::{Group, Receipt};
 use cm_pool::Geometry;
@@ -40,7 +39,6 @@ pub struct Front {
     pub(crate) learnt: u64,
     pub(crate) is_broken: bool,
     pub(crate) is_closed: bool,
-    pub(crate) opened: Opened,
 }
 
 impl Model for Front {
@@ -51,12 +49,11 @@ impl Model for Front {
     ghost coded = { front_code };
 
     ghost view = { λ f.
-        front_of f.book f.space f.unsealed f.number f.sealed f.learnt f.is_broken f.is_closed
-        f.opened };
+        front_of f.book f.space f.unsealed f.number f.sealed f.learnt f.is_broken f.is_closed };
 
     ghost invariant = { λ f.
         IsFront (front_of f.book f.space f.unsealed f.number f.sealed f.learnt f.is_broken
-        f.is_closed f.opened) };
+        f.is_closed) };
 }
 
 impl Front {

@@ -5,10 +5,8 @@ mod accept;
 mod checks;
 mod front;
 mod laws;
-mod opened;
 mod restore;
 mod unsealed;
 
 pub use front::{Front, Stranger};
 pub use laws::{arenas_are_of_rows, chains_go_with_rows, places_keep_rules};
-pub use opened::Opened;

@@ -8,7 +8,6 @@ ghost use Rattle.cm_front.specs.Front.{AreRight};
 ghost use Rattle.cm_front.specs.Restoring.{IsSpaceOf, CanTake, Takes, Restores};
 
 use crate::front::Front;
-use crate::opened::Opened;
 use crate::unsealed::Unsealed;
 use cm_layout::Row;
 use cm_pool::{Geometry, roots_are_free};
@@ -18,31 +17,29 @@ use cm_space::{Space, each_word_has_its_place, roots_reach_what_is_adopted};
 use std::alloc::{AllocError, Global};
 
 impl Front {
-    /// The cache of a new file: it has no loaders, nothing was commanded yet, and the half that
-    /// counts is used up to its first slot. It is an `Err` only where an allocation failed.
+    /// The cache of a new file: it has no loaders, and nothing was commanded yet. It is an `Err`
+    /// only where an allocation failed.
     pub fn new(alloc: Global, geometry: Geometry) -> Result<Front, AllocError>
-        ensures { IfOk result (Restores (record { sizes = geometry; rows = [] }) 0 1) }
+        ensures { IfOk result (Restores (record { sizes = geometry; rows = [] }) 0) }
     {
         let book = Book::new(alloc, geometry)?;
-        Front::restore(alloc, geometry, book, 0, 1)
+        Front::restore(alloc, geometry, book, 0)
     }
 
     /// The cache of the rows of a book, as recovery finds them: all commands up to `number` are
-    /// stored, nothing is to be handed out, and as many roots are present as the rows use. The half
-    /// that counts is used up to `slot`. It is an `Err`, and there is no cache, only where an
-    /// allocation failed.
+    /// stored, nothing is to be handed out, and as many roots are present as the rows use. It is an
+    /// `Err`, and there is no cache, only where an allocation failed.
     pub fn restore(
         alloc: Global,
         geometry: Geometry,
         book: Book<Prepared>,
         number: u64,
-        slot: u32,
     ) -> Result<Front, AllocError>
         requires sizes { book.sizes ≡ geometry }
         requires rows { AreCacheRows words_show book.sizes number book.rows }
         requires right { AreRight book.rows }
         requires last { number ≤ 2 ^ 63 }
-        ensures { IfOk result (λ front. Restores book number slot front) }
+        ensures { IfOk result (λ front. Restores book number front) }
     {
         let _lawful = geometry.top(); // so the proof knows that its sizes are within the limits
         let mut space = Space::new(alloc, geometry)?;
@@ -58,7 +55,6 @@ impl Front {
             learnt: number,
             is_broken: false,
             is_closed: false,
-            opened: Opened { slot, number },
         })
     }
 }

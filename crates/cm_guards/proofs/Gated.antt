@@ -100,7 +100,7 @@ turned_after P Q gate byte base now before after turns settled torn within = rec
 }
 
 -- the contents once the byte is written have the second fact
-gate_written : (gate byte : ℕ) (base : List ℕ) → gate < length base
+pub gate_written : (gate byte : ℕ) (base : List ℕ) → gate < length base
     → overwritten gate (byte ∷ []) base ≡ set base gate byte
 gate_written gate byte base inside =
     let e : gate + 1 ≡ suc gate = omega arith in

@@ -5,19 +5,20 @@ mod Planned
 mod Left
 mod Held
 mod Steps
--- What is guarded stays, in each image too, while what isn't is written or cut.
-pub use Kept.{keeps_settled}
+mod Going
 -- One byte is written where all is stored: each image has some byte there, and nothing else new.
-pub use Gated.{settled_images, turned}
+pub use Gated.{settled_images, turned, gate_written}
 -- Writes that are left: what one of them leaves of the plan, and what all of them leave.
-pub use Planned.{overwritten_size, plan_goes_on, written_goes_on, kept_by_plan}
+pub use Planned.{overwritten_size, kept_by_plan}
 -- What a crash leaves at the moments inside runs of calls.
 pub use Left.{one_call, leaves_none, leaves_on, leaves_more, no_read, one_read, reads_on}
 pub use Left.{reads_less}
 pub use Left.{reading}
 -- What one device call leaves at each moment, and what the disk holds after it: a line for each
--- step of a committer over any disk.
-pub use Steps.{write_leaves, gate_leaves, sync_leaves, stays_written, gate_images, stays_synced}
-pub use Steps.{images_synced, stays_images, run_then_sync, writing, cutting, syncing, gating}
+-- step of a writer over any disk.
+pub use Steps.{gate_leaves, gate_images, run_then_sync, writing, cutting, syncing, gating}
 pub use Steps.{settling}
 pub use Steps.{turning}
+-- Stages: what stands between two calls, what one call makes of it, and what a crash leaves.
+pub use Going.{ready_stands, takes_call, stages_leave, call_done, call_failed, call_moments}
+pub use Going.{call_cause, calls_left-append, gone_through-append, one_call_less, leaves_so}

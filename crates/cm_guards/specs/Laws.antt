@@ -1,12 +1,16 @@
 -- What guards, plans, gates and runs of calls give.
-use Rattle.std.specs.Prelude.{◌≡◌, ◌≤◌, ◌⊎◌, ℕ, List, [], ◌∷◌, length, Result, IsErr}
+use Rattle.std.specs.Prelude.{◌≡◌, ◌≤◌, ◌⊎◌, ℕ, List, [], ◌∷◌, length, Result, IsErr, OnOk}
+use Rattle.std.specs.Prelude.{OnErr}
 use Rattle.cm_disk.specs.declared.disk.DeviceFault.{DeviceFault}
-use Rattle.cm_disk.specs.Disk.{Unsynced, IsImage, IsSettled, IsWithin, widened, shortened}
+use Rattle.cm_disk.specs.Disk.{Unsynced, IsImage, IsSettled, IsSound, IsWithin, widened}
+use Rattle.cm_disk.specs.Disk.{shortened}
 use Rattle.cm_disk.specs.Calls.{overwritten, IsTorn, IsCut, Elapses, HasCause}
 use Rattle.cm_guards.specs.Guards.{Guard, Guards, IsBounded, Keeps, EachImage, IsApart}
 use Rattle.cm_guards.specs.Plans.{Write, written, CanWrite}
 use Rattle.cm_guards.specs.Gates.{OneOf, Turns}
 use Rattle.cm_guards.specs.Calls.{LeavesOnly, Reads}
+use Rattle.cm_guards.specs.Stages.{Stage, CallsOnce, TakesCall, IsReady, StagesStand, leaves}
+use Rattle.cm_guards.specs.Stages.{after_call}
 
 -- ---- guards
 
@@ -100,6 +104,45 @@ abbrev pub TurnsContents : (List ℕ → Type 0) → (List ℕ → Type 0) → T
 TurnsContents P Q =
     (gate byte : ℕ) (base now : List ℕ) → Turns P Q gate byte base
     → now ≡ overwritten gate (byte ∷ []) base → Q now
+
+-- ---- stages, from the fact P to the fact Q, to contents of some length
+
+-- where all is stored, stages that are ready stand
+abbrev pub ReadyStagesStand : (List ℕ → Type 0) → (List ℕ → Type 0) → Type 0
+ReadyStagesStand P Q =
+    (long : ℕ) (left : List Stage) (contents : List ℕ) (unsynced : Unsynced)
+    → IsSettled contents unsynced → IsReady P Q long left contents
+    → StagesStand P Q long left contents unsynced
+
+-- while they stand, a disk takes their next call, and a crash leaves P, or at the last gate P or Q
+abbrev pub StagesTakeCalls : (List ℕ → Type 0) → (List ℕ → Type 0) → Type 0
+StagesTakeCalls P Q =
+    (long : ℕ) (left : List Stage) (contents : List ℕ) (unsynced : Unsynced)
+    → IsSound contents unsynced → (left ≡ [] → ⊥) → StagesStand P Q long left contents unsynced
+    → TakesCall left (length contents)
+
+abbrev pub StagesLeave : (List ℕ → Type 0) → (List ℕ → Type 0) → Type 0
+StagesLeave P Q =
+    (long : ℕ) (left : List Stage) (contents : List ℕ) (unsynced : Unsynced)
+    → (left ≡ [] → ⊥) → StagesStand P Q long left contents unsynced
+    → EachImage contents unsynced (leaves left P Q)
+
+-- one call: done, the stages behind it stand; failed, a crash leaves what it left before; and so at
+-- each moment of the call
+pub record CallGoesOn {D : Type 0} (contents : D → List ℕ) (unsynced : D → Unsynced)
+    (moment : D → ℕ) (left_since : D → ℕ → List ℕ → Type 0) (P Q : List ℕ → Type 0) (long : ℕ)
+    (left : List Stage) (old new : D) (result : Result (Unit {0}) DeviceFault) : Type 0 where
+  pub done : OnOk result (StagesStand P Q long (after_call left) (contents new) (unsynced new))
+  pub failed : OnErr result (EachImage (contents new) (unsynced new) (leaves left P Q))
+  pub moments : LeavesOnly moment left_since old new (leaves left P Q)
+
+abbrev pub CallsGoOn : (D : Type 0) → (D → List ℕ) → (D → Unsynced) → (D → ℕ) → (D → ℕ)
+    → (D → ℕ → List ℕ → Type 0) → (List ℕ → Type 0) → (List ℕ → Type 0) → Type 0
+CallsGoOn D contents unsynced failures moment left_since P Q =
+    (long : ℕ) (left : List Stage) (old new : D) (result : Result (Unit {0}) DeviceFault)
+    → StagesStand P Q long left (contents old) (unsynced old)
+    → CallsOnce contents unsynced failures moment left_since left old new result
+    → CallGoesOn contents unsynced moment left_since P Q long left old new result
 
 -- ---- runs of calls, where the moment and what a crash may have left since one are a disk's
 

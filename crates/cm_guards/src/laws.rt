@@ -3,6 +3,7 @@ ghost use Rattle.cm_guards.specs.Laws.{GuardedHolds, HoldsDuringWrites, HoldsAft
 ghost use Rattle.cm_guards.specs.Laws.{HoldsDuringCuts, HoldsAfterCuts, SettledHolds, SettledKeeps};
 ghost use Rattle.cm_guards.specs.Laws.{PlansGoOn, PlansKeep};
 ghost use Rattle.cm_guards.specs.Laws.{TurnsDuring, TurnsAfter, TurnsContents};
+ghost use Rattle.cm_guards.specs.Laws.{ReadyStagesStand, StagesTakeCalls, StagesLeave, CallsGoOn};
 ghost use Rattle.cm_guards.specs.Laws.{RunsJoin, CallsLeave, ReadsJoin, ReadIsRun};
 
 use crate::claim::Claim;
@@ -46,6 +47,18 @@ pub fn gates_turn_claims<P: Claim, Q: Claim>()
     ensures during { TurnsDuring P.holds Q.holds }
     ensures after { TurnsAfter P.holds Q.holds }
     ensures contents { TurnsContents P.holds Q.holds }
+{}
+
+/// A plan of stages is gone through call by call, from one claim to another. Where all is stored,
+/// one that is ready stands; while it stands, a disk takes its next call, after which the rest of
+/// it stands. A crash leaves the first claim, at each moment and after a fault, but at the last
+/// gate, where it leaves the one or the other.
+pub fn stages_are_gone_through<D: Disk, P: Claim, Q: Claim>()
+    ensures ready { ReadyStagesStand P.holds Q.holds }
+    ensures takes { StagesTakeCalls P.holds Q.holds }
+    ensures images { StagesLeave P.holds Q.holds }
+    ensures call { CallsGoOn D D.contents D.unsynced D.failures D.moment D.left_since P.holds
+        Q.holds }
 {}
 
 /// What a crash may leave at any moment of a call, or of two runs of calls one after the other.

@@ -1,14 +1,13 @@
 -- A command that is accepted: one entry more that waits to be stored.
 -- For `ahead_stays_ahead`.
-use Rattle.std.proofs.Common.{◌≡◌, ℕ, ◌+◌, ◌-◌, ◌*◌, ◌≤◌, Bool, true, false, cond, List, []}
-use Rattle.std.proofs.Common.{◌∷◌, ◌++◌, length, Option, Some, None, Ok, Err, inl, inr, refl, sym}
+use Rattle.std.proofs.Common.{◌≡◌, ℕ, ◌+◌, ◌≤◌, Bool, true, false, cond, List, []}
+use Rattle.std.proofs.Common.{◌∷◌, ◌++◌, length, Some, inl, inr, refl, sym}
 use Rattle.std.proofs.Common.{ap}
 use Rattle.std.proofs.Common.{subst, ◌∙◌, arith, append_assoc, append-nil}
-use Rattle.std.specs.Prelude.{◌⊎◌, ◌&&◌, nat_le, nat_lt, Result}
+use Rattle.std.specs.Prelude.{◌⊎◌, ◌&&◌, nat_le}
 use Rattle.std.specs.List.{flat_map}
 use Rattle.std.specs.Option.{option_map_or}
 use Rattle.std.proofs.lemmas.List.{length-append}
-use Rattle.std.proofs.lemmas.Bool.{ltb-false}
 use Rattle.cm_pool.specs.declared.chunk.Chunk.{Chunk}
 use Rattle.cm_pool.specs.Chunks.{same_chunk}
 use Rattle.cm_pool.specs.FreeSpace.{FreeSpace, IsUsedChunk}
@@ -27,17 +26,13 @@ use Rattle.cm_layout.proofs.{classes-bare, apart-unused}
 use Rattle.cm_group.specs.Groups.{Carried, Handed, slots_taken, group_limit}
 use Rattle.cm_space.specs.Space.{SpaceState, Waits, arena_of}
 use Rattle.cm_space.specs.Laws.{OwnedIsUsed, OwnedOrWaiting}
-use Rattle.cm_prepare.specs.declared.refusal.Refusal.{Refusal}
-use Rattle.cm_prepare.specs.declared.refusal.Refusal.TheVariants as refusal
-use Rattle.cm_prepare.specs.Refusals.{refusal_of}
-use Rattle.cm_state.specs.State.{words_show, state_of}
-use Rattle.cm_state.specs.Step.{Change, Cause, step}
+use Rattle.cm_state.specs.State.{words_show}
 use Rattle.cm_state.specs.Entries.{MayFollow}
 use Rattle.cm_state.specs.Laws.{EntriesAreSteps}
 use Rattle.cm_commit.specs.Offers.{filled, HasRecords, writes_apart, rows_after_group}
 use Rattle.cm_front.specs.Chains.{chain_of}
 use Rattle.cm_front.specs.Laws.{ChainsEndAtTop, ChainsHaveChunks}
-use Rattle.cm_front.specs.Front.{FrontState, IsFront, is_half_full, first_refusal}
+use Rattle.cm_front.specs.Front.{FrontState, IsFront}
 use Rattle.cm_front.specs.Accepting.{Accepts, SpaceAfter, accepted, carried, joined_by}
 use Rattle.cm_front.proofs.{some-top, fetched_free}
 use Rattle.cm_machine.specs.Ahead.{AllFollow, AtEach, AllApart, AreUsed, UseNoneDue}
@@ -190,14 +185,14 @@ pub record Known : Type 0 where
   pub apart : OwnedOrWaiting
   pub steps : EntriesAreSteps (List ℕ)
 
-entry_apart : Known → (rows : WordRows) (number end : ℕ) (out : List Carried) (s : FrontState)
-    (e : Entry (List ℕ)) (new : SpaceState) → IsFront s → IsAhead rows number end out s
+entry_apart : Known → (rows : WordRows) (number : ℕ) (out : List Carried) (s : FrontState)
+    (e : Entry (List ℕ)) (new : SpaceState) → IsFront s → IsAhead rows number out s
     → SpaceAfter s e new
     → AtEach (λ k at. writes_apart at (carried e).entry ≡ true) number rows (pending out s)
-entry_apart known rows number end out s (entry.Live (Loader r)) new f a after =
+entry_apart known rows number out s (entry.Live (Loader r)) new f a after =
     at_all (λ n at. AreUsed s.space.pool at) (λ k at. true ≡ true) number rows (pending out s)
     (λ k at h. refl) a.used
-entry_apart known rows number end out s (entry.Live (Class r words)) new f a after =
+entry_apart known rows number out s (entry.Live (Class r words)) new f a after =
     elim after.0 [
       | inl top ↦
           tops_apart known.steps s.sizes number rows (pending out s) r a.cache a.follow a.apart
@@ -211,58 +206,18 @@ entry_apart known rows number end out s (entry.Live (Class r words)) new f a aft
           (order_wanted fetched.need (length (arena_of s.space r.loader)) s.space.pool.geometry.top)
           fetched.need f fetched.fetches at h) a.used
     ]
-entry_apart known rows number end out s (entry.Unload e) new f a after =
+entry_apart known rows number out s (entry.Unload e) new f a after =
     at_all (λ n at. AreUsed s.space.pool at) (λ k at. true ≡ true) number rows (pending out s)
     (λ k at h. refl) a.used
-entry_apart known rows number end out s (entry.Move e) new f a after = absurd after
-
--- ---- slots
-
-not_half_full : (s : FrontState) (change : Change (List ℕ)) → first_refusal s change ≡ None
-    → is_half_full s ≡ false
-not_half_full s change h =
-    by_closed s.closed s.broken
-    (step words_show s.sizes (state_of words_show s.rows) s.number change) (is_half_full s) h
-  where
-    by_full : (t : Bool)
-        → ◌≡◌ {A = Option Refusal} (cond t (Some refusal.JournalFull) None) None → t ≡ false
-    by_full true e = absurd (cc)
-    by_full false e = refl
-
-    by_step : {M : Type 0} (answer : Result M Cause) (t : Bool)
-        → ◌≡◌ {A = Option Refusal} (elim answer [
-          | Err cause ↦ Some (refusal_of cause)
-          | Ok next ↦ cond t (Some refusal.JournalFull) None
-        ]) None → t ≡ false
-    by_step (Err cause) t e = absurd (cc)
-    by_step (Ok next) t e = by_full t e
-
-    by_closed : {M : Type 0} (closed broken : Bool) (answer : Result M Cause) (t : Bool)
-        → ◌≡◌ {A = Option Refusal} (cond closed (Some refusal.Closed) (cond broken (Some
-        refusal.Broken)
-        (elim answer [
-          | Err cause ↦ Some (refusal_of cause)
-          | Ok next ↦ cond t (Some refusal.JournalFull) None
-        ]))) None → t ≡ false
-    by_closed true broken answer t e = absurd (cc)
-    by_closed false true answer t e = absurd (cc)
-    by_closed false false answer t e = by_step answer t e
-
-slots_left : (slots opened_slot opened n : ℕ)
-    → nat_lt (slots - 1) (opened_slot + 2 * (n - opened) + 1) ≡ false → opened ≤ n
-    → opened_slot + 2 * (n + 1 - opened) ≤ slots
-slots_left slots opened_slot opened n e to =
-    let room = ltb-false (slots - 1) (opened_slot + 2 * (n - opened) + 1) e in
-    omega (arith, room, to)
+entry_apart known rows number out s (entry.Move e) new f a after = absurd after
 
 -- ---- one command more
 
-accepted_ahead : Known → (rows : WordRows) (number end : ℕ) (out : List Carried) (s : FrontState)
+accepted_ahead : Known → (rows : WordRows) (number : ℕ) (out : List Carried) (s : FrontState)
     (e : Entry (List ℕ)) (space : SpaceState) → IsFront s → IsFront (accepted s e space)
-    → IsAhead rows number end out s → MayFollow words_show s.sizes s.number s.rows e
-    → SpaceAfter s e space → is_half_full s ≡ false
-    → IsAhead rows number end out (accepted s e space)
-accepted_ahead known rows number end out s e space f g a may after room = record {
+    → IsAhead rows number out s → MayFollow words_show s.sizes s.number s.rows e
+    → SpaceAfter s e space → IsAhead rows number out (accepted s e space)
+accepted_ahead known rows number out s e space f g a may after = record {
   cache = a.cache;
   numbers =
       let is = a.numbers in
@@ -277,7 +232,7 @@ accepted_ahead known rows number end out s e space f g a may after room = record
       (last_follows.0, last_follows.1, tt));
   apart = subst (λ l. AllApart rows l) (sym longer)
       (apart_one_more number rows before (carried e) a.apart
-      (entry_apart known rows number end out s e space f a after));
+      (entry_apart known rows number out s e space f a after));
   used = subst (λ l. AtEach (λ n at. AreUsed space.pool at) number rows l) (sym longer)
       (at_one_more (λ n at. AreUsed space.pool at) number rows before (carried e)
       (at_all (λ n at. AreUsed s.space.pool at) (λ n at. AreUsed space.pool at) number rows before
@@ -295,13 +250,6 @@ accepted_ahead known rows number end out s e space f g a may after room = record
       a.due)
       (subst (λ l. UseNoneDue space.waiting (number + length before + 1) l) (sym next_rows)
       (front_due known.chunks known.apart _ (number + length before + 1) g)));
-  slots = record {
-    since = a.slots.since;
-    end_to = a.slots.end_to;
-    all_to =
-        let opened = f.opened in
-        slots_left s.sizes.slots s.opened.slot s.opened.number s.number room opened;
-  };
 }
   where
     before : List Carried
@@ -332,8 +280,8 @@ accepted_ahead known rows number end out s e space f g a may after room = record
     )
 
 pub accepted_is_ahead : Known → AcceptedIsAhead
-accepted_is_ahead known rows number end out s new change n f g a answer =
+accepted_is_ahead known rows number out s new change n f g a answer =
     let is : Accepts s change n new = answer.2 in
-    subst (λ t. IsAhead rows number end out t) (sym is.after)
-    (accepted_ahead known rows number end out s is.entry new.space f
-    (subst (λ t. IsFront t) is.after g) a is.may is.space (not_half_full s change answer.0))
+    subst (λ t. IsAhead rows number out t) (sym is.after)
+    (accepted_ahead known rows number out s is.entry new.space f
+    (subst (λ t. IsFront t) is.after g) a is.may is.space)

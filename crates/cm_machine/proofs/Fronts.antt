@@ -26,7 +26,7 @@ use Rattle.cm_state.specs.Step.{Change, AddLoader, Define, Unload, Tighten, Caus
 use Rattle.cm_state.specs.Entries.{AreCacheRows, MayFollow, change_of}
 use Rattle.cm_state.specs.Laws.{EntriesAreSteps, ChangesGoOn}
 use Rattle.cm_commit.specs.Offers.{filled}
-use Rattle.cm_front.specs.Front.{FrontState, IsFront, is_half_full, first_refusal}
+use Rattle.cm_front.specs.Front.{FrontState, IsFront, first_refusal}
 use Rattle.cm_front.specs.Accepting.{Accepts, IsFullFor, SpaceAfter, accepted, carried}
 use Rattle.cm_machine.specs.Ahead.{IsAhead, pending}
 use Rattle.cm_machine.proofs.Accepted.{filled_again, pending_accepted}
@@ -45,18 +45,18 @@ some_is x y e = cc
 -- ---- all that is accepted
 
 whole_of : EntriesAreSteps ClassFile → ChangesGoOn → (k : Machine) (rows : List (Row (List ℕ)))
-    (number end : ℕ) (out : List Carried) (s : FrontState) → IsFront s
-    → IsAhead rows number end out s → (follows : FollowsFront k rows number out s) → Whole follows
-whole_of steps on k rows number end out s f a follows =
+    (number : ℕ) (out : List Carried) (s : FrontState) → IsFront s
+    → IsAhead rows number out s → (follows : FollowsFront k rows number out s) → Whole follows
+whole_of steps on k rows number out s f a follows =
     whole steps on s.sizes k rows number (map filled (pending out s)) follows
     (let to = f.numbers in
     let is = a.numbers in
     let long = map_length filled (pending out s) in
     omega (arith, to, is, long))
 
-as_many : (rows : List (Row (List ℕ))) (number end : ℕ) (out : List Carried) (s : FrontState)
-    → IsAhead rows number end out s → number + length (map filled (pending out s)) ≡ s.number
-as_many rows number end out s a =
+as_many : (rows : List (Row (List ℕ))) (number : ℕ) (out : List Carried) (s : FrontState)
+    → IsAhead rows number out s → number + length (map filled (pending out s)) ≡ s.number
+as_many rows number out s a =
     ap (λ n. number + n) (map_length filled (pending out s)) ∙ a.numbers
 
 -- ---- a command that is accepted
@@ -120,9 +120,9 @@ entry_of s rows (entry.Unload u) space asked change are is after asks =
 entry_of s rows (entry.Move m) space asked change are is after asks = absurd after
 
 module _ (known : Known) (steps : EntriesAreSteps ClassFile) (on : ChangesGoOn) (k : Machine)
-    (rows : List (Row (List ℕ))) (number end : ℕ) (out : List Carried) (s new : FrontState)
+    (rows : List (Row (List ℕ))) (number : ℕ) (out : List Carried) (s new : FrontState)
     (asked : Change (List ℕ)) (change : Change ClassFile) (n : ℕ) (f : IsFront s) (g : IsFront new)
-    (a : IsAhead rows number end out s) (follows : FollowsFront k rows number out s)
+    (a : IsAhead rows number out s) (follows : FollowsFront k rows number out s)
     (asks : Asks asked change) (running : s.broken ≡ false) (made : Accepts s asked n new) where
   abbrev waits : List (Entry (List ℕ))
   waits = map filled (pending out s)
@@ -131,13 +131,13 @@ module _ (known : Known) (steps : EntriesAreSteps ClassFile) (on : ChangesGoOn) 
   classes = rows_after_all follows.classes follows.entries
 
   w : Whole follows
-  w = whole_of steps on k rows number end out s f a follows
+  w = whole_of steps on k rows number out s f a follows
 
   abbrev next : Machine
   next = record k { commands = k.commands ++ change ∷ [] }
 
   all_of : number + length waits ≡ s.number
-  all_of = as_many rows number end out s a
+  all_of = as_many rows number out s a
 
   are : rows_with lay classes ≡ s.rows
   are = w.words ∙ a.rows_are
@@ -240,7 +240,7 @@ runs s asked h =
     by_flags s.closed s.broken
     (elim (step words_show s.sizes (state_of words_show s.rows) s.number asked) [
       | Err cause ↦ Some (refusal_of cause)
-      | Ok next ↦ cond (is_half_full s) (Some refusal.JournalFull) None
+      | Ok next ↦ None
     ]) h
   where
     by_flags : (closed broken : Bool) (rest : Option Refusal)
@@ -252,9 +252,9 @@ runs s asked h =
     by_flags false false rest e = refl
 
 pub accepted_is_made : Known → EntriesAreSteps ClassFile → ChangesGoOn → AcceptedIsMade
-accepted_is_made known steps on k rows number end out s new asked change n f g a follows asks
+accepted_is_made known steps on k rows number out s new asked change n f g a follows asks
     answer =
-    is_accepted known steps on k rows number end out s new asked change n f g a follows asks
+    is_accepted known steps on k rows number out s new asked change n f g a follows asks
     (runs s asked answer.0) answer.2
 
 -- ---- a command that is refused
@@ -279,59 +279,49 @@ wants_room s (Define x words) change r asks (inl full) =
     subst (λ c. WantsRoom c r) (sym asks.3) (inl (full.0, tt))
 wants_room s (Unload x) change r asks (inl full) = absurd full.1
 wants_room s (Tighten x) change r asks (inl full) = absurd full.1
-wants_room s asked change r asks (inr memory) = inr (inr memory.0)
+wants_room s asked change r asks (inr memory) = inr memory.0
 
 module _ (known : Known) (sizes : Sizes) (n : ℕ) (classes : ClassRows) (s : FrontState)
     (asked : Change (List ℕ)) (change : Change ClassFile) (r : Refusal)
     (same : cause_in (step words_show s.sizes (state_of words_show s.rows) s.number asked)
     ≡ cause_in (step class_shows sizes (state_of class_shows classes) n change))
     (asks : Asks asked change) where
-  abbrev Told : Bool → Bool → Result (Loaders (List ℕ)) Cause → Bool → Type 0
-  Told closed broken answer full =
+  abbrev Told : Bool → Bool → Result (Loaders (List ℕ)) Cause → Type 0
+  Told closed broken answer =
       ((◌≡◌ {A = Option Refusal} (cond closed (Some refusal.Closed) (cond broken (Some
       refusal.Broken)
-      (elim answer [
-        | Err cause ↦ Some (refusal_of cause)
-        | Ok m ↦ cond full (Some refusal.JournalFull) None
-      ]))) (Some r))
+      (elim answer [ Err cause ↦ Some (refusal_of cause) | Ok m ↦ None ]))) (Some r))
       ⊎ ((◌≡◌ {A = Option Refusal} (cond closed (Some refusal.Closed) (cond broken (Some
       refusal.Broken)
-      (elim answer [
-        | Err cause ↦ Some (refusal_of cause)
-        | Ok m ↦ cond full (Some refusal.JournalFull) None
-      ]))) None)
+      (elim answer [ Err cause ↦ Some (refusal_of cause) | Ok m ↦ None ]))) None)
       × (((r ≡ refusal.RegionFull) × IsFullFor s asked)
       ⊎ ((r ≡ refusal.NoMemory) × ¬ IsFullFor s asked))))
 
   abbrev Reason : Type 0
   Reason = IsMachineReason (step class_shows sizes (state_of class_shows classes) n change) change r
 
-  by_answer : (answer : Result (Loaders (List ℕ)) Cause) (full : Bool)
+  by_answer : (answer : Result (Loaders (List ℕ)) Cause)
       → cause_in answer ≡ cause_in (step class_shows sizes (state_of class_shows classes) n change)
-      → Told false false answer full → Reason
-  by_answer (Err cause) full e (inl told) =
+      → Told false false answer → Reason
+  by_answer (Err cause) e (inl told) =
       subst (λ o. IsMachineReason o change r)
       (sym (cause_is (step class_shows sizes (state_of class_shows classes) n change) cause (sym
       e)))
       (sym (some_is (refusal_of cause) r told))
-  by_answer (Err cause) full e (inr room) = absurd (none_not room.0)
+  by_answer (Err cause) e (inr room) = absurd (none_not room.0)
     where
       none_not : ◌≡◌ {A = Option Refusal} (Some (refusal_of cause)) None → ⊥
       none_not h = absurd (cc)
-  by_answer (Ok m) true e (inl told) =
-      let ok = none_is (step class_shows sizes (state_of class_shows classes) n change) (sym e) in
-      subst (λ o. IsMachineReason o change r) (sym ok.1)
-      (inr (inl (sym (some_is refusal.JournalFull r told))))
-  by_answer (Ok m) false e (inl told) = absurd (none_not told)
+  by_answer (Ok m) e (inl told) = absurd (none_not told)
     where
       none_not : ◌≡◌ {A = Option Refusal} None (Some r) → ⊥
       none_not h = absurd (cc)
-  by_answer (Ok m) full e (inr room) =
+  by_answer (Ok m) e (inr room) =
       let ok = none_is (step class_shows sizes (state_of class_shows classes) n change) (sym e) in
       subst (λ o. IsMachineReason o change r) (sym ok.1) (wants_room s asked change r asks room.1)
 
   by_flags : (closed broken : Bool) → Told closed broken
-      (step words_show s.sizes (state_of words_show s.rows) s.number asked) (is_half_full s)
+      (step words_show s.sizes (state_of words_show s.rows) s.number asked)
       → ((closed ≡ true) × (r ≡ refusal.Closed))
       ⊎ (((broken ≡ true) × (r ≡ refusal.Broken)) ⊎ ((broken ≡ false) × Reason))
   by_flags true broken (inl told) = inl (refl, sym (some_is refusal.Closed r told))
@@ -347,12 +337,11 @@ module _ (known : Known) (sizes : Sizes) (n : ℕ) (classes : ClassRows) (s : Fr
   by_flags false false told =
       inr (inr (
         refl,
-        by_answer (step words_show s.sizes (state_of words_show s.rows) s.number asked)
-            (is_half_full s) same told,
+        by_answer (step words_show s.sizes (state_of words_show s.rows) s.number asked) same told,
       ))
 
 pub refused_is_refused : Known → EntriesAreSteps ClassFile → ChangesGoOn → RefusedIsRefused
-refused_is_refused known steps on k rows number end out s new asked change r f a follows asks
+refused_is_refused known steps on k rows number out s new asked change r f a follows asks
     answer =
     elim (by_flags known s.sizes (number + length (map filled (pending out s))) (rows_after_all
     follows.classes follows.entries) s asked change r
@@ -372,13 +361,13 @@ refused_is_refused known steps on k rows number end out s new asked change r f a
     ]
   where
     w : Whole follows
-    w = whole_of steps on k rows number end out s f a follows
+    w = whole_of steps on k rows number out s f a follows
 
     are : rows_with lay (rows_after_all follows.classes follows.entries) ≡ s.rows
     are = w.words ∙ a.rows_are
 
     all_of : number + length (map filled (pending out s)) ≡ s.number
-    all_of = as_many rows number end out s a
+    all_of = as_many rows number out s a
 
     both : Both s.sizes s.number (rows_after_all follows.classes follows.entries)
     both = record {
@@ -404,8 +393,8 @@ refused_is_refused known steps on k rows number end out s new asked change r f a
 -- ---- looking up
 
 pub found_is_there : Known → EntriesAreSteps ClassFile → ChangesGoOn → FoundIsThere
-found_is_there known steps on k rows number end out s loader class f a follows =
-    let w = whole_of steps on k rows number end out s f a follows in
+found_is_there known steps on k rows number out s loader class f a follows =
+    let w = whole_of steps on k rows number out s f a follows in
     record {
       state = state_of class_shows (rows_after_all follows.classes follows.entries);
       holds = w.holds;

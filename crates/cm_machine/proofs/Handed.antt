@@ -1,14 +1,11 @@
 -- What is handed out, learnt and committed.
 -- For `ahead_stays_ahead`, `handed_groups_are_next`, `opened_is_ahead`.
-use Rattle.std.proofs.Common.{◌≡◌, ℕ, suc, ◌+◌, ◌-◌, ◌^◌, ◌≤◌, List, [], ◌∷◌, ◌++◌, length}
+use Rattle.std.proofs.Common.{◌≡◌, ℕ, ◌+◌, ◌-◌, ◌^◌, ◌≤◌, List, [], ◌∷◌, ◌++◌, length}
 use Rattle.std.proofs.Common.{refl, sym, ap, subst, ◌∙◌, arith, append_assoc}
 use Rattle.std.specs.Prelude.{max}
 use Rattle.std.specs.List.{flat_map}
 use Rattle.std.proofs.lemmas.List.{length-append}
-use Rattle.cm_layout.specs.declared.entry.Entry.TheVariants as entry
-use Rattle.cm_layout.specs.Rows.{slots_of_entries}
-use Rattle.cm_layout.specs.Frames.{BareEntry}
-use Rattle.cm_group.specs.Groups.{Carried, Handed, next_number, slots_taken, entries_in}
+use Rattle.cm_group.specs.Groups.{Carried, Handed, next_number}
 use Rattle.cm_space.specs.Space.{learnt}
 use Rattle.cm_space.specs.Laws.{OwnedIsUsed, OwnedOrWaiting, LearningFreesDue}
 use Rattle.cm_state.specs.Laws.{EntriesAreSteps}
@@ -29,8 +26,8 @@ use Rattle.cm_machine.proofs.Used.{front_uses, front_due, used_once_learnt, due_
 -- ---- opened
 
 pub opened_is_ahead : ChainsHaveChunks → OwnedIsUsed → OwnedOrWaiting → OpenedIsAhead
-opened_is_ahead chunks used apart book number slot s f are is within =
-    subst (λ t. IsAhead book.rows number slot [] t) (sym is.front_is) (record {
+opened_is_ahead chunks used apart book number s f are is =
+    subst (λ t. IsAhead book.rows number [] t) (sym is.front_is) (record {
       cache = are;
       numbers = omega arith;
       sealed = omega arith;
@@ -42,19 +39,14 @@ opened_is_ahead chunks used apart book number slot s f are is within =
           (front_uses chunks used s f);
       due = subst (λ (t : FrontState). UseNoneDue s.space.waiting number t.rows) is.front_is
           (front_due chunks apart s number f);
-      slots = record {
-        since = omega arith;
-        end_to = omega arith;
-        all_to = omega (arith, within);
-      };
     })
 
 -- ---- handed out
 
 pub handed_is_ahead : HandedIsAhead
-handed_is_ahead rows number end out s new group f a h =
-    subst (λ t. IsAhead rows number end (out ++ group.entries) t) (sym h.after)
-    (subst (λ (g : Handed). IsAhead rows number end (out ++ g.entries) after) (sym h.group_is)
+handed_is_ahead rows number out s new group f a h =
+    subst (λ t. IsAhead rows number (out ++ group.entries) t) (sym h.after)
+    (subst (λ (g : Handed). IsAhead rows number (out ++ g.entries) after) (sym h.group_is)
     (record {
       cache = a.cache;
       numbers = ap (λ l. number + length l) same ∙ a.numbers;
@@ -70,11 +62,6 @@ handed_is_ahead rows number end out s new group f a h =
       apart = subst (λ l. AllApart rows l) (sym same) a.apart;
       used = subst (λ l. AtEach (λ n at. AreUsed s.space.pool at) number rows l) (sym same) a.used;
       due = subst (λ l. AtEach (UseNoneDue s.space.waiting) number rows l) (sym same) a.due;
-      slots = record {
-        since = a.slots.since;
-        end_to = a.slots.end_to;
-        all_to = a.slots.all_to;
-      };
     }))
   where
     after : FrontState
@@ -89,7 +76,7 @@ handed_is_ahead rows number end out s new group f a h =
 -- ---- learnt
 
 pub learnt_is_ahead : LearningFreesDue → LearntIsAhead
-learnt_is_ahead frees rows number end out s k f a to = record {
+learnt_is_ahead frees rows number out s k f a to = record {
   cache = a.cache;
   numbers = a.numbers;
   sealed = a.sealed;
@@ -101,11 +88,6 @@ learnt_is_ahead frees rows number end out s k f a to = record {
   due = at_each_also (UseNoneDue s.space.waiting) (UseNoneDue (learnt s.space m).waiting) number
       rows
       (pending out s) (λ n at from end none. due_once_learnt s.space m n at none) a.due;
-  slots = record {
-    since = a.slots.since;
-    end_to = a.slots.end_to;
-    all_to = a.slots.all_to;
-  };
 }
   where
     m : ℕ
@@ -129,7 +111,7 @@ learnt_is_ahead frees rows number end out s k f a to = record {
 -- ---- failed
 
 pub failed_is_ahead : FailedIsAhead
-failed_is_ahead rows number end out s broken closed a = record {
+failed_is_ahead rows number out s broken closed a = record {
   cache = a.cache;
   numbers = a.numbers;
   sealed = a.sealed;
@@ -139,24 +121,9 @@ failed_is_ahead rows number end out s broken closed a = record {
   apart = a.apart;
   used = a.used;
   due = a.due;
-  slots = record {
-    since = a.slots.since;
-    end_to = a.slots.end_to;
-    all_to = a.slots.all_to;
-  };
 }
 
 -- ---- committed
-
-slots_more : (e : BareEntry) (l : List Carried) → slots_taken l ≡ length l
-    → slots_of_entries (e ∷ entries_in l) ≡ suc (length l)
-slots_more (entry.Live row) l rest = omega (arith, rest)
-slots_more (entry.Unload e) l rest = omega (arith, rest)
-slots_more (entry.Move e) l rest = omega (arith, rest)
-
-one_slot_each : (l : List Carried) → slots_taken l ≡ length l
-one_slot_each [] = refl
-one_slot_each (c ∷ l) = slots_more c.entry l (one_slot_each l)
 
 -- how the oldest ones and the others make all that waits
 split : (first out : List Carried) (s : FrontState)
@@ -164,16 +131,8 @@ split : (first out : List Carried) (s : FrontState)
 split first out s = append_assoc first out (flat_map (λ (g : Handed). g.entries) s.unsealed)
 
 pub handed_may_be_next : HandedMayBeNext
-handed_may_be_next rows number end group out s f is a = record {
+handed_may_be_next rows number group out s f a = record {
   ends = within;
-  room =
-      let slots = one_slot_each group.entries in
-      let some = is.some in
-      let end_to = a.slots.end_to in
-      let all_to = a.slots.all_to in
-      let since = a.slots.since in
-      let last = a.numbers in
-      omega (arith, slots, some, end_to, all_to, since, count, last);
   entries = may_join s.sizes rows rows number group.entries
       (follow_first s.sizes rows number group.entries (pending out s) follow)
       (apart_from_first rows group.entries (pending out s) apart);
@@ -197,7 +156,7 @@ handed_may_be_next rows number end group out s f is a = record {
     apart = subst (λ l. AllApart rows l) (split group.entries out s) a.apart
 
 pub committed_is_ahead : EntriesAreSteps (List ℕ) → CommittedIsAhead
-committed_is_ahead steps rows number end group out s f is a = record {
+committed_is_ahead steps rows number group out s f a = record {
   cache = cache_after steps s.sizes rows number group.entries a.cache
       (follow_first s.sizes rows number group.entries (pending out s) follow)
       (let to = f.numbers in let last = a.numbers in omega (arith, to, last, count));
@@ -217,16 +176,6 @@ committed_is_ahead steps rows number end group out s f is a = record {
       (subst (λ l. AtEach (λ n at. AreUsed s.space.pool at) number rows l) whole a.used);
   due = at_rest (UseNoneDue s.space.waiting) number rows group.entries (pending out s)
       (subst (λ l. AtEach (UseNoneDue s.space.waiting) number rows l) whole a.due);
-  slots = record {
-    since = let since = a.slots.since in omega (arith, since);
-    end_to =
-        let slots = one_slot_each group.entries in
-        let some = is.some in
-        let end_to = a.slots.end_to in
-        let since = a.slots.since in
-        omega (arith, slots, some, end_to, since);
-    all_to = a.slots.all_to;
-  };
 }
   where
     whole : pending (group.entries ++ out) s ≡ group.entries ++ pending out s

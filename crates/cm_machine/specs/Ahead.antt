@@ -1,6 +1,6 @@
 -- The cache that is accepted goes ahead of the one that is committed: by the commands that wait to
 -- be stored.
-use Rattle.std.specs.Prelude.{◌≡◌, ℕ, ◌+◌, ◌-◌, ◌*◌, ◌≤◌, true, List, [], ◌∷◌, ◌++◌, length}
+use Rattle.std.specs.Prelude.{◌≡◌, ℕ, ◌+◌, ◌≤◌, true, List, [], ◌∷◌, ◌++◌, length}
 use Rattle.std.specs.List.{AllByRecursion, flat_map}
 use Rattle.cm_pool.specs.declared.chunk.Chunk.{Chunk}
 use Rattle.cm_pool.specs.Chunks.{Meets}
@@ -53,25 +53,16 @@ UseNoneDue waiting n rows =
     (w : Waits) (c : Chunk) → Among w waiting → w.number ≤ n → Among c w.chunks → (r : ClassRow)
     → Among r (classes_in rows) → ¬ Meets r.place.chunk c
 
--- ---- slots of the half that counts
-
--- Each command takes at most two slots, from those on that were used when the file was opened, and
--- there are so many.
-pub record HasSlots (number end : ℕ) (s : FrontState) : Type 0 where
-  pub since : s.opened.number ≤ number
-  pub end_to : end ≤ s.opened.slot + 2 * (number - s.opened.number)
-  pub all_to : s.opened.slot + 2 * (s.number - s.opened.number) ≤ s.sizes.slots
-
 -- ---- the accepted cache
 
 -- what waits to be stored: what was handed out, and what wasn't yet
 abbrev pub pending : List Carried → FrontState → List Carried
 pending out s = out ++ flat_map (λ g. g.entries) s.unsealed
 
--- Rows are committed with this number, where the half ends at this slot. These commands were
--- handed out and aren't stored yet; the others wait in the cache. What was learnt is committed; and
--- at each number from the committed one on, no word is free that rows use.
-pub record IsAhead (rows : List (Row (List ℕ))) (number end : ℕ) (out : List Carried)
+-- Rows are committed with this number. These commands were handed out and aren't stored yet; the
+-- others wait in the cache. What was learnt is committed; and at each number from the committed one
+-- on, no word is free that rows use.
+pub record IsAhead (rows : List (Row (List ℕ))) (number : ℕ) (out : List Carried)
     (s : FrontState) : Type 0 where
   pub cache : AreCacheRows words_show s.sizes number rows
   pub numbers : number + length (pending out s) ≡ s.number
@@ -82,4 +73,3 @@ pub record IsAhead (rows : List (Row (List ℕ))) (number end : ℕ) (out : List
   pub apart : AllApart rows (pending out s)
   pub used : AtEach (λ n at. AreUsed s.space.pool at) number rows (pending out s)
   pub due : AtEach (UseNoneDue s.space.waiting) number rows (pending out s)
-  pub slots : HasSlots number end s

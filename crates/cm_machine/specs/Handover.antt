@@ -1,7 +1,7 @@
 -- What is handed over is always what a committer takes.
-use Rattle.std.specs.Prelude.{ℕ, ◌+◌, ◌-◌, ◌^◌, ◌≤◌, Bool, List, [], ◌++◌, length, Ok}
+use Rattle.std.specs.Prelude.{ℕ, ◌+◌, ◌^◌, ◌≤◌, Bool, List, [], ◌++◌, length, Ok}
 use Rattle.cm_layout.specs.declared.row.Row.{Row}
-use Rattle.cm_group.specs.Groups.{Carried, Handed, IsGroup, slots_taken}
+use Rattle.cm_group.specs.Groups.{Carried, Handed}
 use Rattle.cm_rows.specs.Rows.{LiveRows}
 use Rattle.cm_state.specs.State.{words_show}
 use Rattle.cm_state.specs.Step.{Change}
@@ -17,55 +17,53 @@ use Rattle.cm_machine.specs.Ahead.{IsAhead}
 -- A cache that was just opened is ahead by nothing.
 abbrev pub OpenedIsAhead : Type 0
 OpenedIsAhead =
-    (book : LiveRows (List ℕ)) (number slot : ℕ) (s : FrontState) → IsFront s
-    → AreCacheRows words_show book.sizes number book.rows → Restores book number slot s
-    → slot ≤ book.sizes.slots → IsAhead book.rows number slot [] s
+    (book : LiveRows (List ℕ)) (number : ℕ) (s : FrontState) → IsFront s
+    → AreCacheRows words_show book.sizes number book.rows → Restores book number s
+    → IsAhead book.rows number [] s
 
 -- Each command that is accepted keeps it ahead, and so does handing out, learning what is
 -- committed, and a failure.
 abbrev pub AcceptedIsAhead : Type 0
 AcceptedIsAhead =
-    (rows : List (Row (List ℕ))) (number end : ℕ) (out : List Carried) (s new : FrontState)
+    (rows : List (Row (List ℕ))) (number : ℕ) (out : List Carried) (s new : FrontState)
     (change : Change (List ℕ)) (n : ℕ) → IsFront s → IsFront new
-    → IsAhead rows number end out s → Answers s change (Ok n) new → IsAhead rows number end out new
+    → IsAhead rows number out s → Answers s change (Ok n) new → IsAhead rows number out new
 
 abbrev pub HandedIsAhead : Type 0
 HandedIsAhead =
-    (rows : List (Row (List ℕ))) (number end : ℕ) (out : List Carried) (s new : FrontState)
-    (group : Handed) → IsFront s → IsAhead rows number end out s → HandsOut s group new
-    → IsAhead rows number end (out ++ group.entries) new
+    (rows : List (Row (List ℕ))) (number : ℕ) (out : List Carried) (s new : FrontState)
+    (group : Handed) → IsFront s → IsAhead rows number out s → HandsOut s group new
+    → IsAhead rows number (out ++ group.entries) new
 
 abbrev pub LearntIsAhead : Type 0
 LearntIsAhead =
-    (rows : List (Row (List ℕ))) (number end : ℕ) (out : List Carried) (s : FrontState) (learnt : ℕ)
-    → IsFront s → IsAhead rows number end out s → learnt ≤ number
-    → IsAhead rows number end out (with_learnt s learnt)
+    (rows : List (Row (List ℕ))) (number : ℕ) (out : List Carried) (s : FrontState) (learnt : ℕ)
+    → IsFront s → IsAhead rows number out s → learnt ≤ number
+    → IsAhead rows number out (with_learnt s learnt)
 
 abbrev pub FailedIsAhead : Type 0
 FailedIsAhead =
-    (rows : List (Row (List ℕ))) (number end : ℕ) (out : List Carried) (s : FrontState)
-    (broken closed : Bool) → IsAhead rows number end out s
-    → IsAhead rows number end out (record s { broken = broken; closed = closed })
+    (rows : List (Row (List ℕ))) (number : ℕ) (out : List Carried) (s : FrontState)
+    (broken closed : Bool) → IsAhead rows number out s
+    → IsAhead rows number out (record s { broken = broken; closed = closed })
 
 -- ---- the committed rows
 
 -- The oldest commands that were handed out, as one group, are what may be committed next.
-pub record MayBeNext (rows : List (Row (List ℕ))) (number end : ℕ) (group : Handed)
+pub record MayBeNext (rows : List (Row (List ℕ))) (number : ℕ) (group : Handed)
     (s : FrontState) : Type 0 where
   pub ends : number + length group.entries ≤ 2 ^ 63
-  pub room : end + slots_taken group.entries ≤ s.sizes.slots - 1
   pub entries : MayJoinAll s.sizes rows rows number group.entries
 
 abbrev pub HandedMayBeNext : Type 0
 HandedMayBeNext =
-    (rows : List (Row (List ℕ))) (number end : ℕ) (group : Handed) (out : List Carried)
-    (s : FrontState) → IsFront s → IsGroup group → IsAhead rows number end (group.entries ++ out) s
-    → MayBeNext rows number end group s
+    (rows : List (Row (List ℕ))) (number : ℕ) (group : Handed) (out : List Carried)
+    (s : FrontState) → IsFront s → IsAhead rows number (group.entries ++ out) s
+    → MayBeNext rows number group s
 
 -- Once they are committed, the cache is ahead of the rows after them.
 abbrev pub CommittedIsAhead : Type 0
 CommittedIsAhead =
-    (rows : List (Row (List ℕ))) (number end : ℕ) (group : Handed) (out : List Carried)
-    (s : FrontState) → IsFront s → IsGroup group → IsAhead rows number end (group.entries ++ out) s
-    → IsAhead (rows_after_group rows group.entries) (number + length group.entries)
-    (end + 1 + slots_taken group.entries) out s
+    (rows : List (Row (List ℕ))) (number : ℕ) (group : Handed) (out : List Carried)
+    (s : FrontState) → IsFront s → IsAhead rows number (group.entries ++ out) s
+    → IsAhead (rows_after_group rows group.entries) (number + length group.entries) out s

@@ -43,19 +43,19 @@ pub record IsAccepted (k : Machine) (behind : Behind) (s new : FrontState)
 
 abbrev pub AcceptedIsMade : Type 0
 AcceptedIsMade =
-    (k : Machine) (rows : List (Row (List ℕ))) (number end : ℕ) (out : List Carried)
+    (k : Machine) (rows : List (Row (List ℕ))) (number : ℕ) (out : List Carried)
     (s new : FrontState) (asked : Change (List ℕ)) (change : Change ClassFile) (n : ℕ) → IsFront s
     → IsFront new
-    → IsAhead rows number end out s → FollowsFront k rows number out s → Asks asked change
+    → IsAhead rows number out s → FollowsFront k rows number out s → Asks asked change
     → Answers s asked (Ok n) new
     → IsAccepted k (record { rows = rows; number = number; out = out }) s new asked n
 
 -- One that is refused is refused by the machine, or since the cache is broken or closed.
 abbrev pub RefusedIsRefused : Type 0
 RefusedIsRefused =
-    (k : Machine) (rows : List (Row (List ℕ))) (number end : ℕ) (out : List Carried)
+    (k : Machine) (rows : List (Row (List ℕ))) (number : ℕ) (out : List Carried)
     (s new : FrontState) (asked : Change (List ℕ)) (change : Change ClassFile) (r : Refusal)
-    → IsFront s → IsAhead rows number end out s → FollowsFront k rows number out s
+    → IsFront s → IsAhead rows number out s → FollowsFront k rows number out s
     → Asks asked change → Answers s asked (Err r) new
     → ((s.closed ≡ true) × (r ≡ refusal.Closed))
     ⊎ (((s.broken ≡ true) × (r ≡ refusal.Broken))
@@ -72,8 +72,8 @@ pub record Finds (sizes : Sizes) (k : Machine) (loader class : List ℕ)
 
 abbrev pub FoundIsThere : Type 0
 FoundIsThere =
-    (k : Machine) (rows : List (Row (List ℕ))) (number end : ℕ) (out : List Carried)
-    (s : FrontState) (loader class : List ℕ) → IsFront s → IsAhead rows number end out s
+    (k : Machine) (rows : List (Row (List ℕ))) (number : ℕ) (out : List Carried)
+    (s : FrontState) (loader class : List ℕ) → IsFront s → IsAhead rows number out s
     → FollowsFront k rows number out s
     → Finds s.sizes k loader class (class_in (state_of words_show s.rows) loader class)
 

@@ -85,12 +85,9 @@ pub record Accepts (sizes : Sizes) (k : Machine) (change : Change ClassFile) (nu
   pub number_is : number ≡ accepted_to k + 1
   pub next_is : next ≡ record k { commands = k.commands ++ change ∷ [] }
 
--- a command may be refused for want of room against which no cause stands: in the region, in the
--- half of the journal that counts, in memory
+-- a command may be refused for want of room against which no cause stands: in the region, in memory
 abbrev pub WantsRoom : Change ClassFile → Refusal → Type 0
-WantsRoom change r =
-    ((r ≡ refusal.RegionFull) × IsClass change)
-    ⊎ ((r ≡ refusal.JournalFull) ⊎ (r ≡ refusal.NoMemory))
+WantsRoom change r = ((r ≡ refusal.RegionFull) × IsClass change) ⊎ (r ≡ refusal.NoMemory)
   where
     IsClass : Change ClassFile → Type 0
     IsClass (Define x c) = Unit {0}

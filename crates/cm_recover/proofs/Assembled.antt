@@ -11,6 +11,7 @@ use Rattle.cm_verdict.specs.declared.defined_at.DefinedAt.{DefinedAt}
 use Rattle.cm_verdict.specs.Found.{Found, found_in}
 use Rattle.cm_verdict.specs.Verdict.{standing, classes_found, verdict}
 use Rattle.cm_recover.specs.declared.standing.StandingFile.{StandingFile}
+use Rattle.cm_recover.specs.Opening.{other_is_open}
 use Rattle.cm_recover.specs.Standing.{Tells, AreRecorded, IsStanding}
 use Rattle.cm_recover.proofs.Verdicts.{stands_for}
 
@@ -21,6 +22,8 @@ pub record IsMadeOf (contents : List ℕ) (file : StandingFile) (f : Found)
   pub half : file.journal.half ≡ f.half
   pub number : file.journal.number ≡ f.number
   pub end : file.journal.end ≡ f.end
+  pub epoch : file.journal.epoch ≡ f.head.epoch
+  pub other : file.journal.other_open ≡ other_is_open f.sizes f.half contents
   pub roots : file.roots ≡ whole_roots f.sizes (length contents)
   pub rows_are : file.rows ≡ rows
   pub committed_sizes : file.committed.sizes ≡ rows.sizes
@@ -44,6 +47,8 @@ assembled contents file f rows found t made = record {
     half = made.half;
     number = made.number;
     end = made.end;
+    epoch = made.epoch;
+    other = made.other;
     roots = made.roots;
     rows = made.rows_are
         ∙ (λ i. record { sizes = t.alike.sizes_are i; rows = t.alike.words i });

@@ -1,16 +1,17 @@
 -- What is found in a file is what is found in its halves, read one after the other.
 -- For `read_found`, `read_sizes`.
-use Rattle.std.proofs.Common.{◌≡◌, ℕ, ◌+◌, ◌*◌, ◌<◌, ◌≤◌, List, length, take, Ok, Err}
+use Rattle.std.proofs.Common.{◌≡◌, ℕ, ◌+◌, ◌*◌, ◌<◌, ◌≤◌, List, length, take, drop, get_or, Ok, Err}
 use Rattle.std.proofs.Common.{refl, sym, ap}
 use Rattle.std.proofs.Common.{subst, ◌∙◌, arith}
-use Rattle.std.specs.Prelude.{Result, IsErrAnd}
+use Rattle.std.specs.Prelude.{Result, IsErrAnd, IfOk, ◌==◌}
 use Rattle.std.proofs.lemmas.Bool.{lt-leb}
-use Rattle.std.proofs.lemmas.List.{take-take}
+use Rattle.std.proofs.lemmas.List.{take-take, get_or-take, get_or-drop}
 use Rattle.cm_pool.specs.Geometry.{Sizes, IsGeometry}
 use Rattle.cm_layout.specs.declared.half.Half.{Half}
 use Rattle.cm_layout.specs.declared.half.Half.TheVariants.{Zero, One}
 use Rattle.cm_layout.specs.Offsets.{half_size, half_at}
-use Rattle.cm_layout.specs.Framing.{part}
+use Rattle.cm_layout.specs.Framing.{part, other_half}
+use Rattle.cm_layout.specs.Slots.{open_gate}
 use Rattle.cm_verdict.specs.declared.counting.Counting.{Counting}
 use Rattle.cm_verdict.specs.declared.fault.FileFault.{FileFault}
 use Rattle.cm_verdict.specs.declared.fault.FileFault.TheVariants.{NotACache, Damaged}
@@ -23,7 +24,7 @@ use Rattle.cm_recover.specs.declared.fault.OpenFault.{OpenFault}
 use Rattle.cm_recover.specs.declared.fault.OpenFault.TheVariants as open_fault
 use Rattle.cm_recover.specs.declared.reading.FoundFile.{FoundFile}
 use Rattle.cm_recover.specs.Opening.{fault_of, IsFaultIn, IsAnswer, half_of, found_in_halves}
-use Rattle.cm_recover.specs.Opening.{found_of}
+use Rattle.cm_recover.specs.Opening.{found_of, other_is_open}
 
 -- a fault of the verdict is told as it is
 pub fault_answers : {B : Type 0} (f : FileFault) (verdict : Result B FileFault) → verdict ≡ Err f
@@ -149,3 +150,28 @@ module _ (contents : List ℕ) (sizes : Sizes)
       ((λ i. found_in_halves sizes (z i) (o i))
       ∙ sym (found_by_halves contents sizes begins.lawful e))
       told
+
+  -- the byte at the other half's gate
+  pub other_told : (r : Result FoundFile OpenFault) (zero one : List ℕ)
+      → zero ≡ half_in sizes contents Zero → one ≡ half_in sizes contents One
+      → IfOk r (λ f. f.geometry ≡ sizes)
+      → IfOk r (λ f. f.other_open
+      ≡ (get_or (half_of (other_half f.counts.half) zero one) 0 0 == open_gate))
+      → IfOk r (λ f. f.other_open ≡ other_is_open f.geometry f.counts.half contents)
+  other_told (Ok f) zero one z o same told =
+      told ∙ (ap (λ (b : ℕ). b == open_gate) (gate_read f.counts.half)
+      ∙ ap (λ (s : Sizes). other_is_open s f.counts.half contents) (sym same))
+    where
+      gate_byte : (h : Half) → get_or (half_in sizes contents h) 0 0
+          ≡ get_or contents (half_at sizes h) 0
+      gate_byte h =
+          get_or-take (half_size sizes) (drop (half_at sizes h) contents) 0 0
+          (omega (arith, begins.lawful.slots_from))
+          ∙ get_or-drop (half_at sizes h) contents 0 0
+          ∙ ap (λ (i : ℕ). get_or contents i 0) (omega arith)
+
+      gate_read : (h : Half) → get_or (half_of (other_half h) zero one) 0 0
+          ≡ get_or contents (half_at sizes (other_half h)) 0
+      gate_read Zero = ap (λ (l : List ℕ). get_or l 0 0) o ∙ gate_byte One
+      gate_read One = ap (λ (l : List ℕ). get_or l 0 0) z ∙ gate_byte Zero
+  other_told (Err f) zero one z o same told = tt

@@ -2,7 +2,7 @@
 -- For `open` and others.
 use Rattle.std.proofs.Common.{◌≡◌, ℕ, ◌^◌, ◌≤◌, Bool, true, false, cond, List, [], ◌∷◌}
 use Rattle.std.proofs.Common.{◌++◌, length, drop, Some, None, Ok, refl, sym, ap, subst, ◌∙◌}
-use Rattle.std.proofs.Common.{arith, eqb}
+use Rattle.std.proofs.Common.{arith, eqb, is_some}
 use Rattle.std.specs.Prelude.{◌&&◌}
 use Rattle.std.specs.FinMap as map
 use Rattle.std.specs.List.{AllByRecursion}
@@ -13,6 +13,8 @@ use Rattle.cm_class.specs.Names.{class_name_of}
 use Rattle.cm_record.specs.Layout.{lay}
 use Rattle.cm_record.specs.Names.{WordsTellName}
 use Rattle.cm_pool.specs.Geometry.{Sizes, IsGeometry}
+use Rattle.cm_layout.specs.declared.half.Half.{Half}
+use Rattle.cm_layout.specs.declared.heads.HalfHead.{HalfHead}
 use Rattle.cm_layout.specs.declared.row.Row.{Row}
 use Rattle.cm_layout.specs.Offsets.{roots_at}
 use Rattle.cm_layout.specs.declared.row.Row.TheVariants.{Loader, Class}
@@ -35,6 +37,9 @@ use Rattle.cm_disk.specs.Disk.{Unsynced, IsSettled}
 use Rattle.cm_rows.specs.Rows.{LiveRows}
 use Rattle.cm_commit.specs.declared.journal.Journal.{Journal}
 use Rattle.cm_commit.specs.GroupPlans.{whole_roots}
+use Rattle.cm_commit.specs.Committed.{journal_of}
+use Rattle.cm_commit.specs.Laws.{OthersAreTold}
+use Rattle.cm_recover.specs.Opening.{other_is_open}
 use Rattle.cm_commit.specs.Keeps.{IsHeld, AreRight as AreCommittedRight}
 use Rattle.cm_commit.specs.States.{CommitterState}
 use Rattle.cm_front.specs.Front.{FrontState, IsFront}
@@ -182,6 +187,7 @@ module _ (live : FoundIsLive) (framed : FoundIsFramed) (stands : VerdictStands)
   opened = record {
     framing = b.framing;
     counting_is = b.counting_is;
+    head_is = b.head_is;
     end_is =
         let used = ends_with_slots found.sizes b.framing right_here.good in
         let end = b.end_is in
@@ -206,7 +212,7 @@ committed_right (Loader r ∷ rows) right = (tt, committed_right rows right)
 committed_right (Class r words ∷ rows) right = (right.0, committed_right rows right.1)
 
 module _ (live : FoundIsLive) (framed : FoundIsFramed) (stands : VerdictStands)
-    (tells : WordsTellName)
+    (tells : WordsTellName) (others : OthersAreTold)
     (contents : List ℕ) (file : StandingFile)
     (t : Tells (IsStanding contents) (verdict contents) file) where
   abbrev told : Standing
@@ -228,18 +234,51 @@ module _ (live : FoundIsLive) (framed : FoundIsFramed) (stands : VerdictStands)
   pub front_last : file.journal.number ≤ 2 ^ 63
   front_last = let n = t.alike.number in omega (arith, n, o.number_is)
 
-  journal_is : file.journal ≡ record {
+  abbrev journal_told : Journal
+  journal_told = record {
     geometry = told.found.sizes;
     half = told.found.half;
     end = told.found.end;
+    epoch = told.found.head.epoch;
+    other_open = other_is_open told.found.sizes told.found.half contents;
     number = told.found.number;
   }
+
+  journal_is : file.journal ≡ journal_told
   journal_is = λ i. record {
     geometry = t.alike.geometry i;
     half = t.alike.half i;
     end = t.alike.end i;
+    epoch = t.alike.epoch i;
+    other_open = t.alike.other i;
     number = t.alike.number i;
   }
+
+  -- the other half's gate is told by what stands there
+  goes_on : journal_told ≡ journal_of (record {
+    sizes = told.found.sizes;
+    rows = rows_with lay told.rows;
+    number = told.found.number;
+    framing = o.framing;
+  })
+  goes_on =
+      let other : other_is_open told.found.sizes told.found.half contents
+      ≡ is_some o.framing.older =
+      ap (λ (h : Half). other_is_open told.found.sizes h contents) (sym o.counting_is)
+      ∙ sym (others (record {
+        sizes = told.found.sizes;
+        rows = rows_with lay told.rows;
+        number = told.found.number;
+        framing = o.framing;
+      }) contents o.matches) in
+      λ i. record {
+        geometry = told.found.sizes;
+        half = sym o.counting_is i;
+        end = sym o.end_is i;
+        epoch = sym (ap (λ (h : HalfHead). h.epoch) o.head_is) i;
+        other_open = other i;
+        number = told.found.number;
+      }
 
   pub held : (now : List ℕ) (unsynced : Unsynced) → IsSettled now unsynced → now ≡ contents
       → IsHeld now unsynced file.journal (rows_with arc_value file.committed.rows) file.roots
@@ -249,8 +288,7 @@ module _ (live : FoundIsLive) (framed : FoundIsFramed) (stands : VerdictStands)
       (whole_roots told.found.sizes (length contents))) (sym journal_is) (record {
         settled = settled;
         framing = o.framing;
-        counting_is = o.counting_is;
-        end_is = o.end_is;
+        journal_is = goes_on;
         right = o.right;
         matches = subst (Matches told.found.sizes o.framing (rows_with lay told.rows)) (sym same)
             o.matches;
@@ -262,7 +300,7 @@ module _ (live : FoundIsLive) (framed : FoundIsFramed) (stands : VerdictStands)
 
   pub opens : {D : Type 0} (arenas : ArenasAreOfRows) (disk : D) (front : FrontState)
       (committer : CommitterState D) → IsFront front
-      → Restores file.rows file.journal.number file.journal.end front
+      → Restores file.rows file.journal.number front
       → committer ≡ record {
         disk = disk;
         sizes = file.journal.geometry;
@@ -270,6 +308,8 @@ module _ (live : FoundIsLive) (framed : FoundIsFramed) (stands : VerdictStands)
         number = file.journal.number;
         half = file.journal.half;
         end = file.journal.end;
+        epoch = file.journal.epoch;
+        other_open = file.journal.other_open;
         underway = None;
         left = [];
         broken = false;
@@ -282,13 +322,9 @@ module _ (live : FoundIsLive) (framed : FoundIsFramed) (stands : VerdictStands)
     front_is = subst (λ (n : ℕ). Restores (record {
       sizes = told.found.sizes;
       rows = rows_with lay told.rows;
-    }) told.found.number n front) t.alike.end
-        (subst (λ (n : ℕ). Restores (record {
-          sizes = told.found.sizes;
-          rows = rows_with lay told.rows;
-        }) n file.journal.end front) t.alike.number
-        (subst (λ (l : LiveRows (List ℕ)). Restores l file.journal.number file.journal.end front)
-        t.alike.rows restored));
+    }) n front) t.alike.number
+        (subst (λ (l : LiveRows (List ℕ)). Restores l file.journal.number front) t.alike.rows
+        restored);
     arenas_are = arenas_told front (classes_in told.rows)
         (λ u. arenas front is u ∙ (ap (λ (f : FrontState). chunks_begun u (classes_in f.rows))
         restored.front_is
@@ -301,6 +337,8 @@ module _ (live : FoundIsLive) (framed : FoundIsFramed) (stands : VerdictStands)
       number = t.alike.number i;
       half = t.alike.half i;
       end = t.alike.end i;
+      epoch = t.alike.epoch i;
+      other_open = t.alike.other i;
       underway = None;
       left = [];
       broken = false;

@@ -21,6 +21,7 @@ use Rattle.cm_front.specs.Arenas.{chunks_owned}
 use Rattle.cm_front.specs.Restoring.{Restores}
 use Rattle.cm_commit.specs.States.{CommitterState}
 use Rattle.cm_commit.specs.Committed.{end_slot}
+use Rattle.cm_recover.specs.Opening.{other_is_open}
 use Rattle.cm_recover.specs.declared.opening.NotOpened.{NotOpened}
 use Rattle.cm_recover.specs.declared.fault.OpenFault.TheVariants as open_fault
 
@@ -41,6 +42,7 @@ AreShort (Class r words ∷ rows) = (length words ≤ limit) × AreShort rows
 pub record IsOpened (contents : List ℕ) (s : Standing) (rows : List (Row (List ℕ))) : Type 0 where
   pub framing : Framing
   pub counting_is : framing.counting ≡ s.found.half
+  pub head_is : framing.head ≡ s.found.head
   pub end_is : end_slot framing ≡ s.found.end
   pub right : IsRight s.found.sizes framing rows s.found.number
   pub matches : Matches s.found.sizes framing rows contents
@@ -61,7 +63,7 @@ pub record Opens {D : Type 0} (contents : List ℕ) (front : FrontState)
       standing.found.number
   pub front_is : Restores
       (record { sizes = standing.found.sizes; rows = rows_with lay standing.rows })
-      standing.found.number standing.found.end front
+      standing.found.number front
   pub arenas_are : arenas_by_name standing.rows front ≡ arenas_in standing
   pub committer_is : committer ≡ record {
     disk = committer.disk;
@@ -70,6 +72,8 @@ pub record Opens {D : Type 0} (contents : List ℕ) (front : FrontState)
     number = standing.found.number;
     half = standing.found.half;
     end = standing.found.end;
+    epoch = standing.found.head.epoch;
+    other_open = other_is_open standing.found.sizes standing.found.half contents;
     underway = None;
     left = [];
     broken = false;

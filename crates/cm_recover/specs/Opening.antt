@@ -1,10 +1,12 @@
 -- What is answered of a file that is opened: what the verdict's definitions say of its contents,
 -- unless the device or an allocation failed.
-use Rattle.std.specs.Prelude.{◌≡◌, ℕ, List, take, Result, Ok, Err}
+use Rattle.std.specs.Prelude.{◌≡◌, ◌==◌, ℕ, Bool, List, take, get_or, Result, Ok, Err}
 use Rattle.cm_pool.specs.Geometry.{Sizes}
 use Rattle.cm_layout.specs.declared.half.Half.{Half}
 use Rattle.cm_layout.specs.declared.half.Half.TheVariants.{Zero, One}
-use Rattle.cm_layout.specs.Offsets.{slot_size}
+use Rattle.cm_layout.specs.Offsets.{slot_size, half_at}
+use Rattle.cm_layout.specs.Slots.{open_gate}
+use Rattle.cm_layout.specs.Framing.{other_half}
 use Rattle.cm_verdict.specs.declared.fault.FileFault.{FileFault}
 use Rattle.cm_verdict.specs.declared.fault.FileFault.TheVariants.{NotACache, Damaged}
 use Rattle.cm_verdict.specs.Faults.{◌>>=◌}
@@ -35,6 +37,11 @@ IsAnswer seen (Err fault) verdict = IsFaultIn fault verdict
 abbrev pub half_of : Half → List ℕ → List ℕ → List ℕ
 half_of Zero zero one = zero
 half_of One zero one = one
+
+-- whether the gate is open of the half that isn't this one
+abbrev pub other_is_open : Sizes → Half → List ℕ → Bool
+other_is_open sizes half contents =
+    get_or contents (half_at sizes (other_half half)) 0 == open_gate
 
 -- what is found in them
 abbrev pub found_in_halves : Sizes → List ℕ → List ℕ → Result Found FileFault

@@ -25,7 +25,7 @@ use Rattle.cm_verdict.specs.Faults.{◌>>=◌, at_slot}
 use Rattle.cm_verdict.specs.Verdict.{Standing, is_whole, class_kept, words_at, class_found}
 use Rattle.cm_recover.specs.declared.fault.OpenFault.{OpenFault}
 use Rattle.cm_recover.specs.declared.standing.StandingFile.{StandingFile}
-use Rattle.cm_recover.specs.Opening.{IsFaultIn}
+use Rattle.cm_recover.specs.Opening.{IsFaultIn, other_is_open}
 
 -- ---- answers
 
@@ -111,6 +111,8 @@ pub record IsStanding (contents : List ℕ) (file : StandingFile) (s : Standing)
   pub half : file.journal.half ≡ s.found.half
   pub number : file.journal.number ≡ s.found.number
   pub end : file.journal.end ≡ s.found.end
+  pub epoch : file.journal.epoch ≡ s.found.head.epoch
+  pub other : file.journal.other_open ≡ other_is_open s.found.sizes s.found.half contents
   pub roots : file.roots ≡ whole_roots s.found.sizes (length contents)
   pub rows : file.rows ≡ record { sizes = s.found.sizes; rows = rows_with lay s.rows }
   pub committed_sizes : file.committed.sizes ≡ s.found.sizes

@@ -10,7 +10,7 @@ ghost use Rattle.cm_recover.specs.Opened.{SyncsAndReads, Opens, disk_after, Meet
 
 use crate::fault::OpenFault;
 use crate::standing::{StandingFile, read_standing};
-use cm_commit::{Committer, NotMade};
+use cm_commit::{Committer, NotMade, others_are_told};
 use cm_disk::Disk;
 use cm_front::{Front, arenas_are_of_rows};
 use cm_record::words_tell_name;
@@ -58,18 +58,13 @@ pub fn open<D: Disk>(alloc: Global, mut disk: D) -> Result<(Front, Committer<D>)
     verdict_is_exact();
     words_tell_name();
     arenas_are_of_rows();
+    others_are_told();
     let file = match read_synced(alloc, &mut disk) {
         Ok(file) => file,
         Err(fault) => return Err(NotOpened { fault, disk }),
     };
     let journal = file.journal;
-    let Ok(front) = Front::restore(
-        alloc,
-        journal.geometry,
-        file.rows,
-        journal.number,
-        journal.end,
-    ) else {
+    let Ok(front) = Front::restore(alloc, journal.geometry, file.rows, journal.number) else {
         return Err(NotOpened {
             fault: OpenFault::NoMemory,
             disk,

@@ -1,15 +1,18 @@
 //! What a file holds without its records, by a run of reads.
 
-ghost use Rattle.std.specs.Prelude.{◌≡◌, ◌≤◌, ◌+◌, ◌*◌, ◌⊎◌, length, take, Err, IfOk, IfErr};
+ghost use Rattle.std.specs.Prelude.{◌≡◌, ◌≤◌, ◌+◌, ◌*◌, ◌⊎◌, ◌==◌, length, take, get_or, Err};
+ghost use Rattle.std.specs.Prelude.{IfOk, IfErr};
 ghost use Rattle.cm_guards.specs.Calls.{Reads};
-ghost use Rattle.cm_layout.specs.Framing.{part};
+ghost use Rattle.cm_layout.specs.Framing.{part, other_half};
+ghost use Rattle.cm_layout.specs.Slots.{open_gate};
 ghost use Rattle.cm_verdict.specs.Found.{sizes_found as sizes_found_in, found_in};
 ghost use Rattle.cm_recover.specs.declared.fault.OpenFault.TheVariants as open_fault;
-ghost use Rattle.cm_recover.specs.Opening.{IsAnswer, found_in_halves, found_of};
+ghost use Rattle.cm_recover.specs.Opening.{IsAnswer, found_in_halves, found_of, half_of};
+ghost use Rattle.cm_recover.specs.Opening.{other_is_open};
 
 use crate::fault::OpenFault;
 use cm_disk::Disk;
-use cm_layout::{Half, SLOT_BYTES, SUPERBLOCK_BYTES, half_at};
+use cm_layout::{Half, OPEN_GATE, SLOT_BYTES, SUPERBLOCK_BYTES, half_at};
 use cm_pool::Geometry;
 use cm_rows::Book;
 use cm_verdict::{Counting, HalfWalk, counting_half, find_sizes, walk_through};
@@ -21,6 +24,8 @@ use std::alloc::Global;
 pub struct FoundFile {
     pub geometry: Geometry,
     pub counts: Counting,
+    /// Whether the gate of the other half is open.
+    pub other_open: bool,
     pub walk: HalfWalk,
 }
 
@@ -71,6 +76,19 @@ fn first_slot(half: &[u8]) -> &[u8; SLOT_BYTES]
     }
 }
 
+// Whether the gate is open of the half that isn't this one.
+fn is_other_open(half: Half, zero: &[u8], one: &[u8]) -> bool
+    requires zero { 1 ≤ length zero.now }
+    requires one { 1 ≤ length one.now }
+    ensures { result ≡ (get_or (half_of (other_half half) zero.now one.now) 0 0 == open_gate) }
+{
+    let other = match half {
+        Half::Zero => one,
+        Half::One => zero,
+    };
+    other[0] == OPEN_GATE
+}
+
 // Walks through the half that counts.
 fn walk_halves(
     alloc: Global,
@@ -81,6 +99,9 @@ fn walk_halves(
     requires long_0 { length zero.now ≡ 64 * geometry.slots }
     requires long_1 { length one.now ≡ 64 * geometry.slots }
     ensures found { IsAnswer found_of result (found_in_halves geometry zero.now one.now) }
+    ensures sizes { IfOk result (λ f. f.geometry ≡ geometry) }
+    ensures other { IfOk result (λ f. f.other_open
+        ≡ (get_or (half_of (other_half f.counts.half) zero.now one.now) 0 0 == open_gate)) }
     ensures in_memory { result ≡ Err open_fault.Device → ⊥ }
 {
     let _lawful = geometry.top(); // so the proof knows that its sizes are within the limits
@@ -89,11 +110,13 @@ fn walk_halves(
         Half::Zero => zero,
         Half::One => one,
     };
+    let other_open = is_other_open(counts.half, zero, one);
     let book = Book::new(alloc, geometry)?;
     let walk = walk_through(geometry, book, &counts, half)?;
     Ok(FoundFile {
         geometry,
         counts,
+        other_open,
         walk,
     })
 }
@@ -105,6 +128,8 @@ fn walk_halves(
 /// failed, `NoMemory` where an allocation did: they say nothing of the contents.
 pub fn read_found<D: Disk>(alloc: Global, disk: &mut D) -> Result<FoundFile, OpenFault>
     ensures found { IsAnswer found_of result (found_in (D.contents disk.old)) }
+    ensures other { IfOk result (λ f. f.other_open
+        ≡ other_is_open f.geometry f.counts.half (D.contents disk.old)) }
     ensures reads { Reads D.contents D.unsynced D.failures D.moment D.left_since disk.old disk.new
         (result ≡ Err open_fault.Device) }
 {

@@ -218,6 +218,8 @@ pub fn read_standing<D: Disk>(alloc: Global, disk: &mut D) -> Result<StandingFil
             geometry: found.geometry,
             half: found.counts.half,
             end,
+            epoch: found.counts.head.epoch,
+            other_open: found.other_open,
             number: pass.number,
         },
         roots: whole_roots(found.geometry, long),

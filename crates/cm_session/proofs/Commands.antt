@@ -46,7 +46,7 @@ finds there k front committer queue sealed failed i loader class found same =
     subst (λ o. Finds committer.sizes k loader class o) (sym same)
     (subst (λ z. Finds z k loader class (class_in (state_of words_show front.rows) loader class))
     i.sizes
-    (there k committer.rows committer.number committer.end
+    (there k committer.rows committer.number
     (commands_of (of_underway committer.underway ++ queue)) front loader class i.is i.ahead
     i.follows))
 
@@ -67,7 +67,7 @@ module _ {D : Type 0} (made : AcceptedIsMade) (refused : RefusedIsRefused) (ahea
       let behind : Behind =
       record { rows = committer.rows; number = committer.number; out = out } in
       let m : IsAccepted k behind front new asked n =
-      made k committer.rows committer.number committer.end out front new asked change n i.is is_new
+      made k committer.rows committer.number out front new asked change n i.is is_new
       i.ahead i.follows asks answer in
       let same = answer.2.after in
       record {
@@ -85,7 +85,7 @@ module _ {D : Type 0} (made : AcceptedIsMade) (refused : RefusedIsRefused) (ahea
             running = ap (λ (s : FrontState). s.closed) same ∙ i.running;
             groups = i.groups;
             busy = i.busy;
-            ahead = ahead committer.rows committer.number committer.end out front new asked n i.is
+            ahead = ahead committer.rows committer.number out front new asked n i.is
                 is_new i.ahead answer;
             follows = m.follows;
             acknowledged_is =
@@ -118,7 +118,7 @@ module _ {D : Type 0} (made : AcceptedIsMade) (refused : RefusedIsRefused) (ahea
       reason : ((k.noticed ≡ true) × (r ≡ refusal.Broken))
           ⊎ ((k.noticed ≡ false) × Refuses committer.sizes k change r)
       reason =
-          elim (refused k committer.rows committer.number committer.end out front new asked change r
+          elim (refused k committer.rows committer.number out front new asked change r
           i.is i.ahead i.follows asks answer) [
             | inl closed ↦ absurd (open_and_closed front.closed i.running closed.0)
             | inr (inl broken) ↦ inl (i.noticed_is ∙ broken.0, broken.1)

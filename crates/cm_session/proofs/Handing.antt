@@ -115,9 +115,9 @@ module _ {D : Type 0} (counted : CommandsAreCounted) (handed : HandedIsAhead) (k
       ≡ out ++ group.entries
   out_are = ap commands_of groups_are ∙ commands_more groups group
 
-  ahead_then : IsAhead committer.rows committer.number committer.end (out ++ group.entries) new
+  ahead_then : IsAhead committer.rows committer.number (out ++ group.entries) new
   ahead_then =
-      handed committer.rows committer.number committer.end out front new group i.is i.ahead h
+      handed committer.rows committer.number out front new group i.is i.ahead h
 
   waits_are : pending (out ++ group.entries) new ≡ pending out front
   waits_are =
@@ -183,7 +183,7 @@ module _ {D : Type 0} (counted : CommandsAreCounted) (handed : HandedIsAhead) (k
           let sealed = i.ahead.sealed in
           omega (arith, first, sealed)) is);
       busy = i.busy;
-      ahead = subst (λ l. IsAhead committer.rows committer.number committer.end l new)
+      ahead = subst (λ l. IsAhead committer.rows committer.number l new)
           (sym out_are) ahead_then;
       follows = subst (λ l. FollowsFront next committer.rows committer.number l new) (sym out_are)
           follows_then;
@@ -218,12 +218,12 @@ module _ {D : Type 0} (frees : LearntIsAhead) (fails : FailedIsAhead) (k : Machi
   all_out = commands_of (of_underway committer.underway ++ queue)
 
   noted : (broken : Bool) → k.noticed || k.failed ≡ broken
-      → IsAhead committer.rows committer.number committer.end all_out
+      → IsAhead committer.rows committer.number all_out
       (with_learnt (record front { broken = broken }) committer.number)
   noted broken told =
-      frees committer.rows committer.number committer.end all_out (record front { broken = broken })
+      frees committer.rows committer.number all_out (record front { broken = broken })
       committer.number is_broken
-      (fails committer.rows committer.number committer.end all_out front broken
+      (fails committer.rows committer.number all_out front broken
       front.closed i.ahead)
       (omega arith)
     where
@@ -238,7 +238,6 @@ module _ {D : Type 0} (frees : LearntIsAhead) (fails : FailedIsAhead) (k : Machi
         learnt = i.is.learnt;
         numbers = i.is.numbers;
         groups = i.is.groups;
-        opened = i.is.opened;
       }
 
   pub learns : (broken : Bool) → k.noticed || k.failed ≡ broken
@@ -253,7 +252,7 @@ module _ {D : Type 0} (frees : LearntIsAhead) (fails : FailedIsAhead) (k : Machi
       running = ap (λ (s : FrontState). s.closed) after ∙ i.running;
       groups = i.groups;
       busy = i.busy;
-      ahead = subst (λ s. IsAhead committer.rows committer.number committer.end all_out s)
+      ahead = subst (λ s. IsAhead committer.rows committer.number all_out s)
           (sym after) (noted broken told);
       follows = subst (λ s. FollowsFront next committer.rows committer.number all_out s)
           (sym after) (same_commands front.sizes k next refl refl i.follows);

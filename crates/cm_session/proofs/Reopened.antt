@@ -19,7 +19,6 @@ use Rattle.cm_state.specs.State.{class_shows, state_of}
 use Rattle.cm_verdict.specs.Verdict.{Standing, verdict, state_in, arenas_in}
 use Rattle.cm_verdict.specs.Laws.{FoundIsLive, FoundIsFramed, VerdictStands, StandsInVerdict}
 use Rattle.cm_verdict.specs.Laws.{Proves}
-use Rattle.cm_commit.proofs.{end_is as ends_with_slots}
 use Rattle.cm_commit.specs.States.{CommitterState}
 use Rattle.cm_front.specs.Front.{FrontState, IsFront}
 use Rattle.cm_recover.specs.declared.fault.OpenFault.{OpenFault}
@@ -118,13 +117,6 @@ module _ {D : Type 0} (one : StandForOne) (live : FoundIsLive) (framed : FoundIs
     noticed = false;
   }
 
-  slots : s.found.end ≤ s.found.sizes.slots
-  slots =
-      let used = ends_with_slots s.found.sizes file.framing file.right.good in
-      let end = file.end_is in
-      let fits = file.right.fits in
-      omega (arith, used, end, fits)
-
   front_is : front ≡ record {
     sizes = s.found.sizes;
     rows = rows;
@@ -135,7 +127,6 @@ module _ {D : Type 0} (one : StandForOne) (live : FoundIsLive) (framed : FoundIs
     space = front.space;
     broken = false;
     closed = false;
-    opened = record { slot = s.found.end; number = number };
   }
   front_is = o.front_is.front_is
 
@@ -159,8 +150,8 @@ module _ {D : Type 0} (one : StandForOne) (live : FoundIsLive) (framed : FoundIs
           running = ap (λ (f : FrontState). f.closed) front_is;
           groups = tt;
           busy = refl;
-          ahead = ahead (record { sizes = s.found.sizes; rows = rows }) number s.found.end front is
-              file.cache o.front_is slots;
+          ahead = ahead (record { sizes = s.found.sizes; rows = rows }) number front is file.cache
+              o.front_is;
           follows = follows;
           acknowledged_is = refl;
           sealed_is = sym (ap (λ (f : FrontState). f.sealed) front_is);

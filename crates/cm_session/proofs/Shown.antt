@@ -15,8 +15,8 @@ use Rattle.cm_guards.specs.Calls.{LeavesOnly}
 use Rattle.cm_state.specs.State.{class_shows, state_of}
 use Rattle.cm_state.specs.Stands.{EachKeepsRules, arenas_among}
 use Rattle.cm_commit.specs.Offers.{filled, rows_after_group}
-use Rattle.cm_commit.specs.Plans.{Stage, Store, Turn, Settle}
-use Rattle.cm_commit.specs.States.{CommitterState, ShowsCache, ShowsWith, leaves, MayLeave}
+use Rattle.cm_guards.specs.Stages.{Stage, Store, Turn, Settle, Cut, turned, leaves}
+use Rattle.cm_commit.specs.States.{CommitterState, ShowsCache, ShowsWith, MayLeave}
 use Rattle.cm_front.specs.Front.{FrontState}
 use Rattle.cm_machine.specs.Ahead.{pending}
 use Rattle.cm_machine.specs.Machine.{Machine, accepted_to}
@@ -54,12 +54,18 @@ shows sizes k rows number contents known is s = record {
 
 -- ---- what is committed, and what is under way
 
+at_gate : (stages : List Stage) (before after : List ℕ → Type 0) (image : List ℕ)
+    → turned stages before after image → before image ⊎ after image
+at_gate [] before after image l = l.which
+at_gate (stage ∷ stages) before after image l = inl l
+
 either : (left : List Stage) (before after : List ℕ → Type 0) (image : List ℕ)
     → leaves left before after image → before image ⊎ after image
 either [] before after image l = inl l
 either (Store writes ∷ stages) before after image l = inl l
-either (Turn gate byte ∷ stages) before after image l = l.which
-either (Settle ∷ stages) before after image l = l.which
+either (Turn gate byte ∷ stages) before after image l = at_gate stages before after image l
+either (Settle ∷ stages) before after image l = at_gate stages before after image l
+either (Cut len ∷ stages) before after image l = inl l
 
 module _ {D : Type 0} (committed : CommittedFollows) (counted : CommandsAreCounted)
     (after : RowsAreAfter) (k : Machine) (front : FrontState) (committer : CommitterState D)

@@ -9,13 +9,13 @@ use Rattle.cm_group.specs.declared.receipt.Receipt.{Receipt}
 use Rattle.cm_group.specs.Groups.{Handed}
 use Rattle.cm_commit.specs.declared.progress.Progress.TheVariants.{Idle, Working, Done}
 use Rattle.cm_commit.specs.declared.progress.AdvanceFault.TheVariants.{Device, Broken}
-use Rattle.cm_commit.specs.Plans.{Stage, calls_left, after_call}
+use Rattle.cm_guards.specs.Stages.{Stage, calls_left, after_call}
 use Rattle.cm_commit.specs.Offers.{filled, rows_after_group, MayCome}
 use Rattle.cm_commit.specs.States.{CommitterState, Takes, with_taken}
 use Rattle.cm_commit.specs.declared.progress.Progress.{Progress}
 use Rattle.cm_commit.specs.declared.progress.AdvanceFault.{AdvanceFault}
 use Rattle.cm_commit.specs.Advances.{Rests, Works, Finishes, Breaks, StaysBroken, Advances}
-use Rattle.cm_commit.proofs.{one_call_less}
+use Rattle.cm_guards.proofs.{one_call_less}
 use Rattle.cm_front.specs.Front.{FrontState}
 use Rattle.cm_machine.specs.Ahead.{IsAhead, pending}
 use Rattle.cm_machine.specs.Handover.{CommittedIsAhead, HandedMayBeNext, MayBeNext}
@@ -152,8 +152,7 @@ module _ {D : Type 0} (k : Machine) (front : FrontState) (old new : CommitterSta
       running = i.running;
       groups = behind.2;
       busy = refl;
-      ahead = next_ahead old.rows old.number old.end group (commands_of queue) front i.is behind.1
-          ahead;
+      ahead = next_ahead old.rows old.number group (commands_of queue) front i.is ahead;
       follows = same_commands front.sizes k next refl refl follows;
       acknowledged_is = f.told;
       sealed_is = i.sealed_is;
@@ -173,9 +172,9 @@ module _ {D : Type 0} (k : Machine) (front : FrontState) (old new : CommitterSta
       behind : GoBehind old.number (group ∷ queue)
       behind = subst (λ u. GoBehind old.number (of_underway u ++ queue)) f.underway i.groups
 
-      ahead : IsAhead old.rows old.number old.end (group.entries ++ commands_of queue) front
+      ahead : IsAhead old.rows old.number (group.entries ++ commands_of queue) front
       ahead =
-          subst (λ u. IsAhead old.rows old.number old.end (commands_of (of_underway u ++ queue))
+          subst (λ u. IsAhead old.rows old.number (commands_of (of_underway u ++ queue))
           front) f.underway i.ahead
 
       split : pending (group.entries ++ commands_of queue) front
@@ -295,25 +294,23 @@ module _ {D : Type 0} (next : HandedMayBeNext) (k : Machine) (front : FrontState
   out : commands_of (of_underway committer.underway ++ queue) ≡ commands_of (group ∷ rest)
   out = ap (λ (u : Option Handed). commands_of (of_underway u ++ queue)) none ∙ sym same
 
-  ahead : IsAhead committer.rows committer.number committer.end (commands_of (group ∷ rest)) front
+  ahead : IsAhead committer.rows committer.number (commands_of (group ∷ rest)) front
   ahead =
-      subst (λ l. IsAhead committer.rows committer.number committer.end l front) out i.ahead
+      subst (λ l. IsAhead committer.rows committer.number l front) out i.ahead
 
-  comes : MayBeNext committer.rows committer.number committer.end group front
+  comes : MayBeNext committer.rows committer.number group front
   comes =
-      next committer.rows committer.number committer.end group (commands_of rest) front i.is
-      behind.1 ahead
+      next committer.rows committer.number group (commands_of rest) front i.is ahead
 
   -- it is what the committer takes
   pub is_taken : committer.broken ≡ false → Takes committer group
   is_taken sound = record {
     sound = sound;
     idle = none;
-    next = subst (λ z. MayCome z committer.rows committer.number committer.end group) i.sizes
+    next = subst (λ z. MayCome z committer.rows committer.number group) i.sizes
         (record {
           begins = behind.0;
           ends = comes.ends;
-          room = comes.room;
           entries = comes.entries;
         });
   }

@@ -14,10 +14,10 @@ use Rattle.cm_commit.specs.declared.progress.Progress.{Progress}
 use Rattle.cm_commit.specs.declared.progress.Progress.TheVariants.{Idle, Working, Done}
 use Rattle.cm_commit.specs.declared.progress.AdvanceFault.{AdvanceFault}
 use Rattle.cm_commit.specs.declared.progress.AdvanceFault.TheVariants.{Device, Broken}
-use Rattle.cm_commit.specs.Plans.{Stage, calls_left}
+use Rattle.cm_guards.specs.Stages.{Stage, calls_left}
 use Rattle.cm_commit.specs.States.{CommitterState}
 use Rattle.cm_commit.specs.Advances.{Advances, HasRisen}
-use Rattle.cm_commit.proofs.{one_call_less}
+use Rattle.cm_guards.proofs.{one_call_less}
 use Rattle.cm_prepare.specs.declared.refusal.Refusal.{Refusal}
 use Rattle.cm_machine.specs.Machine.{Machine, Asks, Seals, accepted_to}
 use Rattle.cm_session.specs.declared.session.Sealed.{Sealed}

@@ -13,7 +13,7 @@ use Rattle.cm_commit.specs.declared.progress.Progress.TheVariants.{Idle, Working
 use Rattle.cm_commit.specs.declared.progress.AdvanceFault.{AdvanceFault}
 use Rattle.cm_commit.specs.declared.progress.AdvanceFault.TheVariants.{Device, Broken}
 use Rattle.cm_group.specs.Groups.{Handed}
-use Rattle.cm_commit.specs.Plans.{calls_left}
+use Rattle.cm_guards.specs.Stages.{calls_left}
 use Rattle.cm_commit.specs.States.{CommitterState, with_taken}
 use Rattle.cm_commit.specs.Advances.{Advances}
 use Rattle.cm_recover.specs.declared.opening.NotOpened.{NotOpened}

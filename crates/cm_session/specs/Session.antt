@@ -5,7 +5,7 @@ use Rattle.std.specs.Prelude.{Option, Some, None}
 use Rattle.std.specs.List.{flat_map}
 use Rattle.cm_group.specs.Groups.{Carried, Handed, IsGroup, GoesOn}
 use Rattle.cm_front.specs.Front.{FrontState, IsFront}
-use Rattle.cm_commit.specs.Plans.{Stage, calls_left}
+use Rattle.cm_guards.specs.Stages.{Stage, calls_left}
 use Rattle.cm_commit.specs.States.{CommitterState}
 use Rattle.cm_machine.specs.Ahead.{IsAhead}
 use Rattle.cm_machine.specs.Machine.{Machine}
@@ -48,7 +48,7 @@ pub record IsSession {D : Type 0} (k : Machine) (front : FrontState) (committer 
   pub running : front.closed ≡ false
   pub groups : GoBehind committer.number (of_underway committer.underway ++ queue)
   pub busy : IsBusyWith committer.underway committer.left
-  pub ahead : IsAhead committer.rows committer.number committer.end
+  pub ahead : IsAhead committer.rows committer.number
       (commands_of (of_underway committer.underway ++ queue)) front
   pub follows : FollowsFront k committer.rows committer.number
       (commands_of (of_underway committer.underway ++ queue)) front

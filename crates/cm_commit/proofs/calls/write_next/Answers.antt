@@ -5,7 +5,7 @@ use Rattle.cm_layout.specs.Offsets.{root_size}
 use Rattle.cm_layout.specs.Slots.{open_gate}
 use Rattle.cm_group.specs.Groups.{Carried, entries_in}
 use Rattle.cm_commit.specs.declared.step.CommitStep.TheVariants as step
-use Rattle.cm_commit.specs.Plans.{Turn}
+use Rattle.cm_guards.specs.Stages.{Turn}
 use Rattle.cm_commit.specs.GroupPlans.{writes_left, root_write, place_write, slots_write}
 use Rattle.cm_commit.specs.GroupPlans.{roots_of_entries}
 use Rattle.cm_commit.specs.Steps.{AreSmall, WritesFirst, WritesNone, next_gate}

@@ -1,6 +1,7 @@
 use Rattle.std.proofs.Common.{◌∙◌}
 use Rattle.cm_layout.specs.declared.half.Half.TheVariants.{Zero, One}
 use Rattle.cm_recover.proofs.Halves.{sizes_told, half_inside, half_read, half_long, answered}
+use Rattle.cm_recover.proofs.Halves.{other_told}
 use Rattle.cm_recover.proofs.Readings.{then_reads, no_more}
 use Rattle.cm_recover.proofs.reading.read_found.Goals as goal
 
@@ -72,3 +73,20 @@ returns-clause-reads g c =
     c.args.disk.now c.read_sizes.new.disk c.read_part.new.disk _ _
     c.in_ok-geometry.ensures.reads c.in_ok-zero.ensures.reads)
     c.in_ok-one.ensures.reads)
+
+pub returns-clause-other : goal.returns-clause-other
+returns-clause-other g c =
+    let contents = g.D.Disk.contents c.args.disk.now in
+    let sizes = c.in_ok-geometry.ensures in
+    other_told contents c.in_ok-geometry.geometry sizes.sizes c.walk_halves.result
+    c.deref.result.now c.deref-2.result.now
+    (c.deref.ensures.value
+    ∙ half_read contents c.in_ok-geometry.geometry sizes.sizes Zero c.half_at.result c.slots.result
+    (g.D.Disk.contents c.read_sizes.new.disk) c.in_ok-zero.zero.items c.half_at.ensures
+    c.slots.ensures.value sizes.reads.contents_stay c.in_ok-zero.ensures.bytes)
+    (c.deref-2.ensures.value
+    ∙ half_read contents c.in_ok-geometry.geometry sizes.sizes One c.half_at-2.result c.slots.result
+    (g.D.Disk.contents c.read_part.new.disk) c.in_ok-one.one.items c.half_at-2.ensures
+    c.slots.ensures.value (c.in_ok-zero.ensures.reads.contents_stay ∙ sizes.reads.contents_stay)
+    c.in_ok-one.ensures.bytes)
+    c.walk_halves.ensures.sizes c.walk_halves.ensures.other

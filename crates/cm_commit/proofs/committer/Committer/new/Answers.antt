@@ -9,8 +9,7 @@ invariant_of-result g c =
     let held = c.requires.held in
     record {
       framing = held.framing;
-      counting_is = held.counting_is;
-      end_is = held.end_is;
+      journal_is = held.journal_is;
       right = held.right;
       cache = held.cache;
       records = held.records;

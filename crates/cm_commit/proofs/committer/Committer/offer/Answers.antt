@@ -1,7 +1,7 @@
 use Rattle.std.proofs.Common.{sym, ◌∙◌}
 use Rattle.std.specs.Prelude.{vec_capacity}
 use Rattle.std.specs.Arc.{arc_value}
-use Rattle.cm_layout.specs.Rows.{rows_with}
+use Rattle.cm_layout.specs.Rows.{bare, rows_with}
 use Rattle.cm_commit.specs.States.{Takes}
 use Rattle.cm_commit.proofs.Advancing.{seen}
 use Rattle.cm_commit.proofs.Offering.{none_under_way, next_before, next_after, taken, as_taken}
@@ -19,7 +19,7 @@ pub invariant_of-self-2 : goal.invariant_of-self-2
 invariant_of-self-2 g c =
     let s = c.self.inside in
     let rows = rows_with arc_value s.rows.rows in
-    let v = seen s.disk s.journal rows s.group s.step s.is_broken in
+    let v = seen s.disk s.journal rows s.roots s.group s.step s.is_broken in
     let i = c.self.invariant in
     let none = none_under_way s.group (sym c.is_some.ensures ∙ c.if-is_some.false) in
     let takes : Takes v c.args.group = record {
@@ -30,7 +30,7 @@ invariant_of-self-2 g c =
     let told = c.take_group.ensures.told c.if-not-take_group.false in
     let before = next_before arc_value s.journal.geometry s.rows.sizes s.rows.rows s.group s.next
     i.sizes_are none i.next_is in
-    rw (c.take_group.ensures.same)
+    rw (c.take_group.ensures.same, c.first_step-self-inside.ensures (bare rows))
     (taken g.D.Disk.contents g.D.Disk.unsynced v s.rows.sizes s.next s.roots
     (vec_capacity s.buffer) i c.args.group takes c.take_group.ensures.group told
     c.take_group.new.next
@@ -42,7 +42,7 @@ pub returns-clause-taken : goal.returns-clause-taken
 returns-clause-taken g c =
     let s = c.self.inside in
     let rows = rows_with arc_value s.rows.rows in
-    let v = seen s.disk s.journal rows s.group s.step s.is_broken in
+    let v = seen s.disk s.journal rows s.roots s.group s.step s.is_broken in
     let i = c.self.invariant in
     let none = none_under_way s.group (sym c.is_some.ensures ∙ c.if-is_some.false) in
     let takes : Takes v c.args.group = record {
@@ -51,7 +51,7 @@ returns-clause-taken g c =
       next = c.take_group.ensures.comes.0 c.if-not-take_group.false;
     } in
     let told = c.take_group.ensures.told c.if-not-take_group.false in
-    rw (← c.self.view_is, c.take_group.ensures.same)
+    rw (← c.self.view_is, c.take_group.ensures.same, c.first_step-self-inside.ensures (bare rows))
     (as_taken g.D.Disk.contents g.D.Disk.unsynced v s.rows.sizes s.next s.roots
     (vec_capacity s.buffer) i c.args.group takes c.take_group.ensures.group told)
 
@@ -59,7 +59,7 @@ pub returns-clause-steps : goal.returns-clause-steps
 returns-clause-steps g c =
     let s = c.self.inside in
     let rows = rows_with arc_value s.rows.rows in
-    let v = seen s.disk s.journal rows s.group s.step s.is_broken in
+    let v = seen s.disk s.journal rows s.roots s.group s.step s.is_broken in
     let i = c.self.invariant in
     let none = none_under_way s.group (sym c.is_some.ensures ∙ c.if-is_some.false) in
     let takes : Takes v c.args.group = record {
@@ -68,6 +68,6 @@ returns-clause-steps g c =
       next = c.take_group.ensures.comes.0 c.if-not-take_group.false;
     } in
     let told = c.take_group.ensures.told c.if-not-take_group.false in
-    rw (← c.self.view_is)
+    rw (← c.self.view_is, c.take_group.ensures.same, c.first_step-self-inside.ensures (bare rows))
     (steps g.D.Disk.contents g.D.Disk.unsynced v s.rows.sizes s.next s.roots
     (vec_capacity s.buffer) i c.args.group takes c.take_group.ensures.group told)

@@ -42,7 +42,7 @@ returns-in_err-make_ready c =
     s x (subst IsFront c.self.view_is c.self.invariant) c.requires.running c.requires.whole in
     let same =
     same_groups i.book i.space i.unsealed c.make_ready.new.self i.number i.sealed i.learnt
-    i.is_broken i.is_closed i.opened c.make_ready.ensures.groups ∙ c.self.view_is in
+    i.is_broken i.is_closed c.make_ready.ensures.groups ∙ c.self.view_is in
     rw (p.1, p.2) (no_memory s _ (AddLoader x) (loader_made s x) c.in_ok-number.number first
     (sym c.in_ok-number.ensures) same (λ b. b))
 
@@ -65,9 +65,9 @@ returns-in_err-add_loader c =
     let first = loader_refused c.rows_tell_state.ensures.loaders.1 c.rows_tell_state.ensures.sizes.1
     s x (subst IsFront c.self.view_is c.self.invariant) c.requires.running c.requires.whole in
     let same = ap (λ space. front_of i.book space c.make_ready.new.self i.number i.sealed i.learnt
-    i.is_broken i.is_closed i.opened) c.in_err-add_loader.ensures.err
+    i.is_broken i.is_closed) c.in_err-add_loader.ensures.err
     ∙ (same_groups i.book i.space i.unsealed c.make_ready.new.self i.number i.sealed i.learnt
-    i.is_broken i.is_closed i.opened c.make_ready.ensures.groups ∙ c.self.view_is) in
+    i.is_broken i.is_closed c.make_ready.ensures.groups ∙ c.self.view_is) in
     rw (p.1, p.2) (no_memory s _ (AddLoader x) (loader_made s x) c.in_ok-number.number first
     (sym c.in_ok-number.ensures) same (λ b. b))
 
@@ -91,19 +91,17 @@ join-requires-clause-next c =
 
 went : (c : goal.After-self-1)
     → Went (front_of c.self.inside.book c.self.inside.space c.self.inside.unsealed
-    c.self.inside.number
-    c.self.inside.sealed c.self.inside.learnt c.self.inside.is_broken c.self.inside.is_closed
-    c.self.inside.opened) (AddLoader c.args.name.now) c.in_ok-number.number
+    c.self.inside.number c.self.inside.sealed c.self.inside.learnt c.self.inside.is_broken
+    c.self.inside.is_closed)
+    (AddLoader c.args.name.now) c.in_ok-number.number
     (front_of c.apply-rule.new.self c.add_loader.new.self c.join.new.self c.in_ok-number.number
-    c.self.inside.sealed c.self.inside.learnt c.self.inside.is_broken c.self.inside.is_closed
-    c.self.inside.opened)
+    c.self.inside.sealed c.self.inside.learnt c.self.inside.is_broken c.self.inside.is_closed)
 went c =
     let i = c.self.inside in
     let x = c.args.name.now in
     let n = c.in_ok-number.number in
     let s : FrontState =
-    front_of i.book i.space i.unsealed i.number i.sealed i.learnt i.is_broken i.is_closed
-    i.opened in
+    front_of i.book i.space i.unsealed i.number i.sealed i.learnt i.is_broken i.is_closed in
     let made = was_made s x n
     (subst (λ t. ◌≡◌ {A = Result ℕ Refusal} (loader_made t x) (Ok n)) (sym c.self.view_is)
     (sym c.in_ok-number.ensures)) in
@@ -115,7 +113,7 @@ went c =
     went_all c.entries_are_steps.ensures.words i.book c.apply-rule.new.self i.space
     c.add_loader.new.self i.unsealed c.make_ready.new.self c.join.new.self i.number n
     i.sealed i.learnt
-    i.is_broken i.is_closed i.opened e (AddLoader x) c.apply-rule.result f
+    i.is_broken i.is_closed e (AddLoader x) c.apply-rule.result f
     (not_last i.number f.numbers made.left) made.number keeps c.in_ok-add_loader.ensures.ok refl
     (c.apply-rule.ensures.broken
     ∙ ap (λ d. broken_rule i.book.sizes i.book.rows n d) c.loader_entry.ensures)
@@ -143,5 +141,5 @@ returns c =
     (sym c.in_ok-number.ensures) (λ b. b)
     (subst (λ (t : FrontState). Accepts t (AddLoader x) c.in_ok-number.number
     (front_of c.apply-rule.new.self c.add_loader.new.self c.join.new.self c.in_ok-number.number
-    c.self.inside.sealed c.self.inside.learnt c.self.inside.is_broken c.self.inside.is_closed
-    c.self.inside.opened)) c.self.view_is (went c).accepts)
+    c.self.inside.sealed c.self.inside.learnt c.self.inside.is_broken c.self.inside.is_closed))
+    c.self.view_is (went c).accepts)

@@ -42,8 +42,7 @@ pub is_full-requires-clause-known : goal.is_full-requires-clause-known
 is_full-requires-clause-known c =
     let i = c.self.inside in
     let s : FrontState =
-    front_of i.book i.space i.unsealed i.number i.sealed i.learnt i.is_broken i.is_closed
-    i.opened in
+    front_of i.book i.space i.unsealed i.number i.sealed i.learnt i.is_broken i.is_closed in
     let x = c.args.name.now in
     let w = c.args.class in
     let u = c.in_ok-loader.loader in
@@ -69,15 +68,15 @@ returns-in_default c =
     class_refused c.rows_tell_state.ensures.loaders.1 c.rows_tell_state.ensures.classes.1
     c.rows_tell_state.ensures.sizes.1 s x k f c.requires.running c.requires.whole in
     let same = ap (λ space. front_of i.book space c.room_for.new.unsealed i.number i.sealed i.learnt
-    i.is_broken i.is_closed i.opened) c.is_full.ensures.left
+    i.is_broken i.is_closed) c.is_full.ensures.left
     ∙ (same_groups i.book i.space i.unsealed c.room_for.new.unsealed i.number i.sealed i.learnt
-    i.is_broken i.is_closed i.opened c.room_for.ensures.groups ∙ c.self.view_is) in
+    i.is_broken i.is_closed c.room_for.ensures.groups ∙ c.self.view_is) in
     let free = was_free s x k u (sym c.in_ok-loader.ensures) in
     let tells = subst (λ (t : FrontState). IsTrue c.is_full.result
     ↔ IsFull (arena_of t.space u) t.space.pool c.words-words.result) c.self.view_is
     c.is_full.ensures.full in
     let new = front_of i.book c.is_full.new.self c.room_for.new.unsealed i.number i.sealed i.learnt
-    i.is_broken i.is_closed i.opened in
+    i.is_broken i.is_closed in
     let answer =
     full_answer s new x k u c.words-words.result first (sym c.in_ok-loader.ensures) same
     c.words-words.ensures.words free.asked.found c.is_full.result tells in
@@ -97,8 +96,7 @@ pub place-requires-clause-known : goal.place-requires-clause-known
 place-requires-clause-known c =
     let i = c.self.inside in
     let s : FrontState =
-    front_of i.book i.space i.unsealed i.number i.sealed i.learnt i.is_broken i.is_closed
-    i.opened in
+    front_of i.book i.space i.unsealed i.number i.sealed i.learnt i.is_broken i.is_closed in
     let x = c.args.name.now in
     let w = c.args.class in
     let u = c.in_ok-loader.loader in
@@ -130,9 +128,9 @@ returns-in-Err c =
     class_refused c.rows_tell_state.ensures.loaders.1 c.rows_tell_state.ensures.classes.1
     c.rows_tell_state.ensures.sizes.1 s x w f c.requires.running c.requires.whole in
     let same = ap (λ space. front_of i.book space c.room_for.new.unsealed i.number i.sealed i.learnt
-    i.is_broken i.is_closed i.opened) c.in-Err.ensures.err
+    i.is_broken i.is_closed) c.in-Err.ensures.err
     ∙ (same_groups i.book i.space i.unsealed c.room_for.new.unsealed i.number i.sealed i.learnt
-    i.is_broken i.is_closed i.opened c.room_for.ensures.groups ∙ c.self.view_is) in
+    i.is_broken i.is_closed c.room_for.ensures.groups ∙ c.self.view_is) in
     let free = was_free s x w u (sym c.in_ok-loader.ensures) in
     let long = subst (λ (t : FrontState). ◌≡◌ {A = Result Place PlaceRefusal} (Err c.in-Err.refusal)
     (Err of_place.RecordTooLong) → chunk_size t.space.pool.geometry.top < c.words-words.result)
@@ -142,7 +140,7 @@ returns-in-Err c =
     (Err of_place.RegionFull) ↔ IsFull (arena_of t.space u) t.space.pool c.words-words.result)
     c.self.view_is c.in-Err.ensures.full in
     let new = front_of i.book c.place.new.self c.room_for.new.unsealed i.number i.sealed i.learnt
-    i.is_broken i.is_closed i.opened in
+    i.is_broken i.is_closed in
     subst (λ r. Answers s (Define x w) (Err r) new) (sym c.refusal_of_place.ensures)
     (place_answer s new x w u c.words-words.result first (sym c.in_ok-loader.ensures) same
     c.words-words.ensures.words f free c.in-Err.refusal (λ e. long (ap Err e))
@@ -153,14 +151,13 @@ pub apply-rule-requires : goal.apply-rule-requires
 apply-rule-requires c =
     let i = c.self.inside in
     above c.loaders_are_own.ensures (front_of i.book i.space i.unsealed i.number i.sealed i.learnt
-    i.is_broken i.is_closed i.opened) c.self.invariant
+    i.is_broken i.is_closed) c.self.invariant
 
 pub join-requires-clause-to : goal.join-requires-clause-to
 join-requires-clause-to c =
     let i = c.self.inside in
     let s : FrontState =
-    front_of i.book i.space i.unsealed i.number i.sealed i.learnt i.is_broken i.is_closed
-    i.opened in
+    front_of i.book i.space i.unsealed i.number i.sealed i.learnt i.is_broken i.is_closed in
     let x = c.args.name.now in
     let w = c.args.class in
     let u = c.in_ok-loader.loader in
@@ -172,12 +169,11 @@ join-requires-clause-to c =
 
 went : (c : goal.After-self-1)
     → Went (front_of c.self.inside.book c.self.inside.space c.self.inside.unsealed
-    c.self.inside.number
-    c.self.inside.sealed c.self.inside.learnt c.self.inside.is_broken c.self.inside.is_closed
-    c.self.inside.opened) (Define c.args.name.now c.args.class) (c.self.inside.number + 1)
+    c.self.inside.number c.self.inside.sealed c.self.inside.learnt c.self.inside.is_broken
+    c.self.inside.is_closed)
+    (Define c.args.name.now c.args.class) (c.self.inside.number + 1)
     (front_of c.apply-rule.new.self c.place.new.self c.join.new.self (c.self.inside.number + 1)
-    c.self.inside.sealed c.self.inside.learnt c.self.inside.is_broken c.self.inside.is_closed
-    c.self.inside.opened)
+    c.self.inside.sealed c.self.inside.learnt c.self.inside.is_broken c.self.inside.is_closed)
 went c =
     let i = c.self.inside in
     let x = c.args.name.now in
@@ -185,8 +181,7 @@ went c =
     let u = c.in_ok-loader.loader in
     let place = c.in-Ok-place.place in
     let s : FrontState =
-    front_of i.book i.space i.unsealed i.number i.sealed i.learnt i.is_broken i.is_closed
-    i.opened in
+    front_of i.book i.space i.unsealed i.number i.sealed i.learnt i.is_broken i.is_closed in
     let free = was_free s x w u
     (subst (λ t. ◌≡◌ {A = Result ℕ Refusal} (class_asked t x w) (Ok u)) (sym c.self.view_is)
     (sym c.in_ok-loader.ensures)) in
@@ -200,7 +195,7 @@ went c =
     went_all c.entries_are_steps.ensures.words i.book c.apply-rule.new.self i.space
     c.place.new.self i.unsealed c.room_for.new.unsealed c.join.new.self i.number
     (i.number + 1) i.sealed
-    i.learnt i.is_broken i.is_closed i.opened e (Define x w) c.apply-rule.result f
+    i.learnt i.is_broken i.is_closed e (Define x w) c.apply-rule.result f
     (not_last i.number f.numbers free.asked.left) refl keeps (
       subst (λ n. Places (arena_of s.space u) s.space.pool n place (arena_of c.place.new.self u)
           c.place.new.self.pool) c.words-words.ensures.words c.in-Ok-place.ensures.placed,
@@ -242,5 +237,5 @@ returns c =
     (sym c.words-words.ensures.words) h))))
     (subst (λ (t : FrontState). Accepts t (Define x w) (c.self.inside.number + 1)
     (front_of c.apply-rule.new.self c.place.new.self c.join.new.self (c.self.inside.number + 1)
-    c.self.inside.sealed c.self.inside.learnt c.self.inside.is_broken c.self.inside.is_closed
-    c.self.inside.opened)) c.self.view_is (went c).accepts)
+    c.self.inside.sealed c.self.inside.learnt c.self.inside.is_broken c.self.inside.is_closed))
+    c.self.view_is (went c).accepts)

@@ -1,6 +1,6 @@
 use Rattle.std.proofs.Common.{◌≡◌, ◌≤◌}
 use Rattle.cm_guards.specs.Calls.{LeavesOnly}
-use Rattle.cm_commit.specs.Plans.{calls_left}
+use Rattle.cm_guards.specs.Stages.{calls_left}
 use Rattle.cm_commit.specs.Advances.{HasRisen}
 use Rattle.cm_machine.specs.Machine.{Machine}
 use Rattle.cm_session.specs.Images.{StandsForSome}

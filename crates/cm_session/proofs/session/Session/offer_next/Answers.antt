@@ -1,5 +1,5 @@
 use Rattle.std.proofs.Common.{ℕ, ◌∷◌, ap, subst, sym, ◌∙◌, arith}
-use Rattle.cm_commit.specs.Plans.{calls_left}
+use Rattle.cm_guards.specs.Stages.{calls_left}
 use Rattle.cm_commit.specs.States.{CommitterState, with_taken}
 use Rattle.cm_session.specs.Session.{commands_of, GoBehind, IsSession}
 use Rattle.cm_session.proofs.Handing.{on_ok}
@@ -26,9 +26,12 @@ returns-clause-machine g c =
     none same joined sound in
     let taken = on_ok c.offer-taken.result (c.offer-taken.ensures.takes.1 may)
     c.offer-taken.ensures.taken in
+    let steps = on_ok c.offer-taken.result (c.offer-taken.ensures.takes.1 may)
+    c.offer-taken.ensures.steps in
+    let calls = ap (λ (z : CommitterState _). calls_left z.left) taken in
     subst (λ (z : CommitterState _). IsSession k s.front z rest s.sealed s.has_failed) (sym taken)
     (takes law k s.front s.committer s.queue.items rest s.sealed s.has_failed group i none same
-    joined (with_taken g.D.Disk.contents s.committer group).left (omega arith))
+    joined (with_taken g.D.Disk.contents s.committer group).left (omega (arith, steps, calls)))
 
 pub returns-clause-taken : goal.returns-clause-taken
 returns-clause-taken g c =

@@ -2,13 +2,24 @@ use Rattle.std.proofs.Common.{◌≡◌, ◌+◌, sym, ap, ◌∙◌, arith}
 use Rattle.cm_group.specs.Groups.{Handed}
 use Rattle.cm_commit.specs.declared.step.CommitStep.{CommitStep}
 use Rattle.cm_commit.specs.declared.step.CommitStep.TheVariants as step
-use Rattle.cm_commit.specs.Plans.{calls_left}
+use Rattle.cm_guards.specs.Stages.{calls_left}
 use Rattle.cm_commit.specs.Steps.{stages_at}
 use Rattle.cm_commit.proofs.Counting.{calls_write}
-use Rattle.cm_commit.proofs.entries.calls_at.Goals as goal
+use Rattle.cm_commit.proofs.entries.group_calls.Goals as goal
 
-pub returns-in-Write : goal.returns-in-Write
-returns-in-Write c = λ j first learnt.
+pub returns-in-Write-clause-few : goal.returns-in-Write-clause-few
+returns-in-Write-clause-few c =
+    omega (
+      arith,
+      c.requires,
+      c.from.ensures,
+      c.saturating_sub-zeros.ensures,
+      c.roots_needed.ensures,
+      c.records_from.ensures.few,
+    )
+
+pub returns-in-Write-clause-calls : goal.returns-in-Write-clause-calls
+returns-in-Write-clause-calls c = λ j first learnt.
     let group : Handed = record {
       first = first;
       learnt = learnt;

@@ -1,0 +1,151 @@
+//! The device calls of a checkpoint.
+
+ghost use Rattle.std.specs.Prelude.{◌≡◌, ◌≤◌, IfOk, is_ok, length, vec_capacity, List};
+ghost use Rattle.std.specs.Arc.{arc_value};
+ghost use Rattle.cm_layout.specs.Offsets.{half_size};
+ghost use Rattle.cm_layout.specs.Rows.{bare, rows_with};
+ghost use Rattle.cm_layout.specs.Slots.{open_gate};
+ghost use Rattle.cm_guards.specs.Stages.{WritesOnce, CallsOnce, TakesWrite, TakesCall, after_call};
+ghost use Rattle.cm_guards.specs.Stages.{gate_write, calls_left};
+ghost use Rattle.cm_layout.specs.declared.row.Row.{Row};
+ghost use Rattle.cm_commit.specs.declared.journal.Journal.{Journal};
+ghost use Rattle.cm_commit.specs.declared.step.CheckpointStep.TheVariants as checkpoint;
+ghost use Rattle.cm_commit.specs.Steps.{FitsHalf, checkpoint_left, checkpoint_rest};
+ghost use Rattle.cm_commit.specs.Steps.{half_gate as gate_of, renewed_write};
+
+use crate::bytes::put_half;
+use crate::journal::{Journal, other_half, renewed_head};
+use crate::step::CheckpointStep;
+use cm_disk::{DeviceFault, Disk};
+use cm_layout::{OPEN_GATE, half_at};
+use cm_record::Record;
+use cm_rows::Book;
+use std::alloc::Global;
+use std::sync::Arc;
+
+/// A byte of a gate that is shut.
+const SHUT_GATE: u8 = 0;
+
+/// Where the gate of the half that doesn't count stands.
+fn half_gate(journal: &Journal) -> u64
+    ensures { result ≡ gate_of journal.now }
+{
+    half_at(journal.geometry, other_half(journal.half))
+}
+
+/// Writes a byte to the gate of the half that doesn't count.
+fn write_gate<D: Disk>(disk: &mut D, journal: &Journal, byte: u8) -> Result<(), DeviceFault>
+    requires fits { TakesWrite (gate_write (gate_of journal.now) byte)
+        (length (D.contents disk.old)) }
+    ensures written { WritesOnce D.contents D.unsynced D.failures D.moment D.left_since
+        (gate_write (gate_of journal.now) byte) disk.old disk.new result }
+    ensures answered { D.called disk.old disk.new (is_ok result) }
+{
+    disk.write_at(half_gate(journal), &[byte])
+}
+
+/// Shuts the half that doesn't count, where its gate is open. A gate that is shut isn't written
+/// over, since a crash could leave it open: a sync comes in place of that.
+fn shut<D: Disk>(disk: &mut D, journal: &Journal) -> Result<(), DeviceFault>
+    requires fits { (rows : List (Row (Unit {0}))) → TakesCall
+        (checkpoint_left journal.now rows checkpoint.Shut) (length (D.contents disk.old)) }
+    ensures called { (rows : List (Row (Unit {0}))) → CallsOnce D.contents D.unsynced D.failures
+        D.moment D.left_since (checkpoint_left journal.now rows checkpoint.Shut) disk.old disk.new
+        result }
+    ensures answered { D.called disk.old disk.new (is_ok result) }
+{
+    if journal.other_open {
+        write_gate(disk, journal, SHUT_GATE)
+    } else {
+        disk.sync()
+    }
+}
+
+/// Writes the half that doesn't count, behind its gate: its head, the live rows, and a shut slot.
+fn write_half<D: Disk>(
+    disk: &mut D,
+    buffer: &mut Vec<u8>,
+    journal: &Journal,
+    rows: &Book<Arc<Record, Global>>,
+) -> Result<(), DeviceFault>
+    requires room { half_size journal.now.geometry ≤ vec_capacity buffer.old }
+    requires half { FitsHalf journal.now (bare (rows_with arc_value rows.now.rows)) }
+    requires fits { TakesWrite
+        (renewed_write journal.now (bare (rows_with arc_value rows.now.rows)))
+        (length (D.contents disk.old)) }
+    ensures written { WritesOnce D.contents D.unsynced D.failures D.moment D.left_since
+        (renewed_write journal.now (bare (rows_with arc_value rows.now.rows))) disk.old disk.new
+        result }
+    ensures answered { D.called disk.old disk.new (is_ok result) }
+    ensures room { vec_capacity buffer.old ≤ vec_capacity buffer.new }
+{
+    let head = renewed_head(journal, rows);
+    put_half(buffer, &head, rows);
+    disk.write_at(half_gate(journal) + 1, buffer)
+}
+
+/// Makes the next device call of a checkpoint, and tells the step behind it, or `None` behind the
+/// last. After that the journal goes on in the other half, behind the live rows.
+pub(crate) fn make_checkpoint_call<D: Disk>(
+    disk: &mut D,
+    buffer: &mut Vec<u8>,
+    journal: &Journal,
+    rows: &Book<Arc<Record, Global>>,
+    now: CheckpointStep,
+) -> Result<Option<CheckpointStep>, DeviceFault>
+    requires room { half_size journal.now.geometry ≤ vec_capacity buffer.old }
+    requires half { FitsHalf journal.now (bare (rows_with arc_value rows.now.rows)) }
+    requires fits { TakesCall (checkpoint_left journal.now
+        (bare (rows_with arc_value rows.now.rows)) now) (length (D.contents disk.old)) }
+    ensures called { CallsOnce D.contents D.unsynced D.failures D.moment D.left_since
+        (checkpoint_left journal.now (bare (rows_with arc_value rows.now.rows)) now) disk.old
+        disk.new result }
+    ensures answered { D.called disk.old disk.new (is_ok result) }
+    ensures next { IfOk result (λ s. checkpoint_rest journal.now
+        (bare (rows_with arc_value rows.now.rows)) s
+        ≡ after_call (checkpoint_left journal.now (bare (rows_with arc_value rows.now.rows)) now)) }
+    ensures room { vec_capacity buffer.old ≤ vec_capacity buffer.new }
+{
+    match now {
+        CheckpointStep::Shut => {
+            shut(disk, journal)?;
+            Ok(Some(CheckpointStep::SyncShut))
+        }
+        CheckpointStep::SyncShut => {
+            disk.sync()?;
+            Ok(Some(CheckpointStep::Write))
+        }
+        CheckpointStep::Write => {
+            write_half(disk, buffer, journal, rows)?;
+            Ok(Some(CheckpointStep::SyncWritten))
+        }
+        CheckpointStep::SyncWritten => {
+            disk.sync()?;
+            Ok(Some(CheckpointStep::Open))
+        }
+        CheckpointStep::Open => {
+            write_gate(disk, journal, OPEN_GATE)?;
+            Ok(Some(CheckpointStep::SyncOpened))
+        }
+        CheckpointStep::SyncOpened => {
+            disk.sync()?;
+            Ok(None)
+        }
+    }
+}
+
+/// How many device calls of a checkpoint are left at a step.
+pub(crate) fn checkpoint_calls(now: CheckpointStep) -> u64
+    ensures few { result ≤ 6 }
+    ensures calls { (j : Journal) (rows : List (Row (Unit {0})))
+        → result ≡ calls_left (checkpoint_left j rows now) }
+{
+    match now {
+        CheckpointStep::Shut => 6,
+        CheckpointStep::SyncShut => 5,
+        CheckpointStep::Write => 4,
+        CheckpointStep::SyncWritten => 3,
+        CheckpointStep::Open => 2,
+        CheckpointStep::SyncOpened => 1,
+    }
+}

@@ -1,0 +1,119 @@
+//! The device calls that a group takes, those of a checkpoint before it among them.
+
+ghost use Rattle.std.specs.Prelude.{◌≡◌, ◌≤◌, ◌<◌, ◌^◌, ◌↔◌, IfOk, IsTrue, is_ok, length};
+ghost use Rattle.std.specs.Prelude.{vec_capacity, ℕ, List};
+ghost use Rattle.std.specs.Arc.{arc_value};
+ghost use Rattle.cm_layout.specs.declared.row.Row.{Row};
+ghost use Rattle.cm_layout.specs.Rows.{bare, rows_with};
+ghost use Rattle.cm_guards.specs.Stages.{CallsOnce, TakesCall, after_call, calls_left};
+ghost use Rattle.cm_group.specs.Groups.{entries_in, group_limit};
+ghost use Rattle.cm_commit.specs.declared.journal.Journal.{Journal};
+ghost use Rattle.cm_commit.specs.declared.step.CommitStep.TheVariants as step;
+ghost use Rattle.cm_commit.specs.declared.step.PlanStep.TheVariants as plan;
+ghost use Rattle.cm_commit.specs.Checkpoints.{target_of as target};
+ghost use Rattle.cm_commit.specs.GroupPlans.{plan_of, roots_of_entries};
+ghost use Rattle.cm_commit.specs.Keeps.{most_written};
+ghost use Rattle.cm_commit.specs.Steps.{FitsHalf, FitsJournal, plan_left};
+
+use crate::calls::make_group_call;
+use crate::checkpoint::{checkpoint_calls, make_checkpoint_call};
+use crate::entries::group_calls;
+use crate::journal::{Journal, is_due, target_of};
+use crate::step::{CheckpointStep, CommitStep, PlanStep};
+use cm_disk::{DeviceFault, Disk};
+use cm_group::{CarriedEntry, Group};
+use cm_record::Record;
+use cm_rows::Book;
+use std::alloc::Global;
+use std::sync::Arc;
+
+/// What the first call of a group is, where the file has so many whole roots.
+pub(crate) fn first_step(journal: &Journal, roots: u32, group: &Group) -> PlanStep
+    ensures { (rows : List (Row (Unit {0}))) → plan_left journal.now rows roots group.now result
+        ≡ plan_of journal.now rows roots group.now.entries }
+{
+    if is_due(journal, group) {
+        PlanStep::Checkpoint(CheckpointStep::Shut)
+    } else {
+        PlanStep::Group(CommitStep::Write { roots, from: 0 })
+    }
+}
+
+/// The step behind one of a checkpoint.
+fn behind_checkpoint(next: Option<CheckpointStep>, roots: u32) -> PlanStep
+    ensures { result ≡ elim next
+        [ Some at ↦ plan.Checkpoint at | None ↦ plan.Group (step.Write roots 0) ] }
+{
+    match next {
+        Some(at) => PlanStep::Checkpoint(at),
+        None => PlanStep::Group(CommitStep::Write { roots, from: 0 }),
+    }
+}
+
+/// Makes the next device call of a group, where the file had so many whole roots before it, and
+/// tells the step behind it.
+pub(crate) fn make_call<D: Disk>(
+    disk: &mut D,
+    buffer: &mut Vec<u8>,
+    journal: &Journal,
+    rows: &Book<Arc<Record, Global>>,
+    roots: u32,
+    group: &Group,
+    now: PlanStep,
+) -> Result<PlanStep, DeviceFault>
+    requires room { most_written journal.now.geometry ≤ vec_capacity buffer.old }
+    requires half { FitsHalf journal.now (bare (rows_with arc_value rows.now.rows)) }
+    requires group { FitsJournal (target journal.now (bare (rows_with arc_value rows.now.rows))
+        group.now.entries) group.now }
+    requires fits { TakesCall (plan_left journal.now (bare (rows_with arc_value rows.now.rows))
+        roots group.now now) (length (D.contents disk.old)) }
+    ensures called { CallsOnce D.contents D.unsynced D.failures D.moment D.left_since
+        (plan_left journal.now (bare (rows_with arc_value rows.now.rows)) roots group.now now)
+        disk.old disk.new result }
+    ensures answered { D.called disk.old disk.new (is_ok result) }
+    ensures next { IfOk result (λ s. plan_left journal.now
+        (bare (rows_with arc_value rows.now.rows)) roots group.now s
+        ≡ after_call (plan_left journal.now (bare (rows_with arc_value rows.now.rows)) roots
+        group.now now)) }
+    ensures room { vec_capacity buffer.old ≤ vec_capacity buffer.new }
+{
+    match now {
+        PlanStep::Checkpoint(at) => {
+            let next = make_checkpoint_call(disk, buffer, journal, rows, at)?;
+            Ok(behind_checkpoint(next, roots))
+        }
+        PlanStep::Group(at) => {
+            let target = target_of(journal, rows, group);
+            let next = make_group_call(disk, buffer, target, group, at)?;
+            Ok(PlanStep::Group(next))
+        }
+    }
+}
+
+/// Whether all calls are made.
+pub(crate) fn is_done(now: PlanStep) -> bool
+    ensures { IsTrue result ↔ now ≡ plan.Group step.Done }
+{
+    match now {
+        PlanStep::Group(CommitStep::Done) => true,
+        PlanStep::Group(_) | PlanStep::Checkpoint(_) => false,
+    }
+}
+
+/// How many device calls of a group with these entries are left at a step, where the file had so
+/// many whole roots before it.
+pub(crate) fn calls_at(now: PlanStep, roots: u32, entries: &[CarriedEntry]) -> u64
+    requires roots { roots_of_entries (entries_in entries.now) < 2 ^ 32 }
+    requires few { length entries.now ≤ group_limit }
+    ensures { (j : Journal) (rows : List (Row (Unit {0}))) (first learnt : ℕ)
+        → result ≡ calls_left (plan_left j rows roots
+        (record { first = first; learnt = learnt; entries = entries.now }) now) }
+{
+    match now {
+        PlanStep::Checkpoint(at) => {
+            let group = group_calls(CommitStep::Write { roots, from: 0 }, entries);
+            checkpoint_calls(at) + group
+        }
+        PlanStep::Group(at) => group_calls(at, entries),
+    }
+}

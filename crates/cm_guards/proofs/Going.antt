@@ -1,0 +1,437 @@
+-- Stages: what stands between two calls, what one call makes of it, and what a crash leaves.
+-- For `stages_are_gone_through`.
+use Rattle.std.proofs.Common.{◌≡◌, ◌≤◌, ◌+◌, ℕ, List, [], ◌∷◌, ◌++◌, length, take, inl, inr, refl}
+use Rattle.std.proofs.Common.{sym, subst, ◌∙◌, arith, ⊎_elim}
+use Rattle.std.specs.Prelude.{Result, Ok, Err, OnOk, OnErr}
+use Rattle.cm_disk.specs.Disk.{Unsynced, IsImage, IsSettled, IsSound}
+use Rattle.cm_disk.specs.Calls.{overwritten, HasCause}
+use Rattle.cm_guards.specs.Guards.{Guard, Agrees, Guards, Keeps, EachImage}
+use Rattle.cm_guards.specs.Gates.{OneOf}
+use Rattle.cm_guards.specs.Plans.{Write, written}
+use Rattle.cm_guards.specs.Calls.{LeavesOnly}
+use Rattle.cm_guards.specs.Laws.{Stays}
+use Rattle.cm_guards.specs.Stages.{Stage, Store, Turn, Settle, Cut, after_call, CallsOnce}
+use Rattle.cm_guards.specs.Stages.{TakesCall}
+use Rattle.cm_guards.specs.Stages.{turned, leaves, claim_behind, Rests, IsReady, StagesStand}
+use Rattle.cm_guards.specs.Stages.{calls_left, gone_through}
+use Rattle.cm_guards.proofs.Kept.{guarded_images, keeps_settled}
+use Rattle.cm_guards.proofs.Gated.{settled_images}
+use Rattle.cm_guards.proofs.Planned.{plan_goes_on, written_goes_on}
+use Rattle.cm_guards.proofs.Left.{leaves_more}
+use Rattle.cm_guards.proofs.Steps.{write_leaves, cut_leaves, gate_leaves, sync_leaves}
+use Rattle.cm_guards.proofs.Steps.{stays_written, stays_cut, gate_images}
+use Rattle.cm_guards.proofs.Steps.{images_synced, stays_images}
+
+-- ---- what agrees with contents is guarded
+
+agrees_on : (g : Guard) (a b c : List ℕ) → Agrees g a b → Agrees g b c → Agrees g a c
+agrees_on g a b c first second = record {
+  long = second.long;
+  same = λ i guarded. first.same i guarded ∙ second.same i guarded;
+}
+
+agrees_itself : (g : Guard) (contents : List ℕ) → g.needs ≤ length contents
+    → Agrees g contents contents
+agrees_itself g contents long = record { long = long; same = λ i guarded. refl }
+
+agreement_guards : (g : Guard) (base : List ℕ) → Guards g (Agrees g base)
+agreement_guards g base = record {
+  carries = λ a b long agrees holds. agrees_on g base a b holds agrees;
+}
+
+-- ---- a plan before its first call
+
+module _ (P Q : List ℕ → Type 0) (long : ℕ) where
+  rests_hold : (g : Guard) (contents : List ℕ) → Rests g P contents → P contents
+  rests_hold g contents rests =
+      rests.each contents (agrees_itself g contents rests.long)
+
+  -- where stages are left, the first fact holds
+  ready_holds : (stage : Stage) (stages : List Stage) (contents : List ℕ)
+      → IsReady P Q long (stage ∷ stages) contents → P contents
+  ready_holds (Store writes) stages contents ready =
+      rests_hold ready.guard contents ready.rests
+  ready_holds (Turn gate byte) stages contents ready = ready.holds
+  ready_holds Settle stages contents ready = absurd ready
+  ready_holds (Cut len) stages contents ready = rests_hold ready.guard contents ready.rests
+
+  ready_turned : (stages : List Stage) (contents : List ℕ) → IsReady P Q long stages contents
+      → turned stages P Q contents
+  ready_turned [] contents ready = record { which = inr ready.holds }
+  ready_turned (stage ∷ stages) contents ready = ready_holds stage stages contents ready
+
+  -- where all is stored, stages that are ready stand
+  pub ready_stands : (left : List Stage) (contents : List ℕ) (unsynced : Unsynced)
+      → IsSettled contents unsynced → IsReady P Q long left contents
+      → StagesStand P Q long left contents unsynced
+  ready_stands [] contents unsynced settled ready =
+      record { settled = settled; ready = ready }
+  ready_stands (Store writes ∷ stages) contents unsynced settled ready = record {
+    guard = ready.guard;
+    keeps = keeps_settled ready.guard contents unsynced ready.rests.ends ready.rests.long settled;
+    each = ready.rests.each;
+    can = ready.can;
+    behind = ready.behind;
+  }
+  ready_stands (Turn gate byte ∷ stages) contents unsynced settled ready =
+      record { settled = settled; ready = ready }
+  ready_stands (Settle ∷ stages) contents unsynced settled ready = absurd ready
+  ready_stands (Cut len ∷ stages) contents unsynced settled ready =
+      record { settled = settled; ready = ready }
+
+  -- the next call can be made
+  pub takes_call : (left : List Stage) (contents : List ℕ) (unsynced : Unsynced)
+      → IsSound contents unsynced → (left ≡ [] → ⊥) → StagesStand P Q long left contents unsynced
+      → TakesCall left (length contents)
+  takes_call [] contents unsynced sound some stands = some refl
+  takes_call (Store [] ∷ stages) contents unsynced sound some stands = tt
+  takes_call (Store (w ∷ ws) ∷ stages) contents unsynced sound some stands = record {
+    starts_within = stands.can.0.starts_within;
+    within_limit = stands.can.0.within_limit;
+  }
+  takes_call (Turn gate byte ∷ stages) contents unsynced sound some stands =
+      let inside = stands.ready.turns.inside in
+      record {
+        starts_within = omega (arith, inside);
+        within_limit = omega (arith, inside, sound.greatest, sound.limit);
+      }
+  takes_call (Settle ∷ stages) contents unsynced sound some stands = tt
+  takes_call (Cut len ∷ stages) contents unsynced sound some stands = stands.ready.within
+
+  -- what is left to a crash between two calls
+  pub stages_leave : (left : List Stage) (contents : List ℕ) (unsynced : Unsynced)
+      → (left ≡ [] → ⊥) → StagesStand P Q long left contents unsynced
+      → EachImage contents unsynced (leaves left P Q)
+  stages_leave [] contents unsynced some stands = absurd (some refl)
+  stages_leave (Store writes ∷ stages) contents unsynced some stands = record {
+    each = λ image is.
+        stands.each image
+        ((guarded_images stands.guard (Agrees stands.guard contents) contents unsynced
+        (agreement_guards stands.guard contents) stands.keeps
+        (agrees_itself stands.guard contents stands.keeps.long)).each image is);
+  }
+  stages_leave (Turn gate byte ∷ []) contents unsynced some stands = record {
+    each = λ image is. record {
+      which = inl
+          ((settled_images P contents unsynced stands.settled stands.ready.holds).each image is);
+    };
+  }
+  stages_leave (Turn gate byte ∷ stage ∷ stages) contents unsynced some stands = record {
+    each = (settled_images P contents unsynced stands.settled stands.ready.holds).each;
+  }
+  stages_leave (Settle ∷ stages) contents unsynced some stands =
+      record { each = stands.images.each }
+  stages_leave (Cut len ∷ stages) contents unsynced some stands = record {
+    each = (settled_images P contents unsynced stands.settled
+        (rests_hold stands.ready.guard contents stands.ready.rests)).each;
+  }
+
+-- ---- one call
+
+on_ok : {T E : Type 0} (r : Result T E) (A B : Type 0) → (A → B) → OnOk r A → OnOk r B
+on_ok (Ok x) A B f a = f a
+on_ok (Err e) A B f a = tt
+
+on_err : {T E : Type 0} (r : Result T E) (B : Type 0) → B → OnErr r B
+on_err (Ok x) B b = tt
+on_err (Err e) B b = b
+
+-- a gate's byte leaves the one fact or the other; the other is the last one only at the last gate
+either_turned : (P Q : List ℕ → Type 0) (stages : List Stage) (contents : List ℕ)
+    → OneOf P (claim_behind stages P Q) contents → turned stages P Q contents
+either_turned P Q [] contents one = one
+either_turned P Q (stage ∷ stages) contents one =
+    ⊎_elim (λ p. p) (λ p. p) one.which
+
+module _ {D T E : Type 0} (contents : D → List ℕ) (unsynced : D → Unsynced)
+    (failures moment : D → ℕ)
+    (left_since : D → ℕ → List ℕ → Type 0)
+    (only_now : (disk : D) (image : List ℕ) → left_since disk (moment disk) image
+    → IsImage (contents disk) (unsynced disk) image) (P Q : List ℕ → Type 0) (long : ℕ)
+    (old new : D) (r : Result T E) where
+  abbrev Calls : List Stage → Type 0
+  Calls left = CallsOnce contents unsynced failures moment left_since left old new r
+
+  abbrev Stand : List Stage → D → Type 0
+  Stand left disk = StagesStand P Q long left (contents disk) (unsynced disk)
+
+  -- ---- a write apart from what is guarded
+
+  module _ (w : Write) (ws : List Write) (stages : List Stage)
+      (at : Stand (Store (w ∷ ws) ∷ stages) old) (call : Calls (Store (w ∷ ws) ∷ stages)) where
+    abbrev g : Guard
+    g = at.guard
+
+    abbrev Same : List ℕ → Type 0
+    Same = Agrees g (contents old)
+
+    stays : Stays g Same (contents new) (unsynced new)
+    stays =
+        stays_written r g Same w.at w.bytes (contents old) (contents new) (unsynced old)
+        (unsynced new) (agreement_guards g (contents old)) at.keeps at.can.0.apart
+        (agrees_itself g (contents old) at.keeps.long) at.can.0.starts_within call.written
+        call.torn call.opens
+
+    wrote : OnOk r (Stand (Store ws ∷ stages) new)
+    wrote =
+        let kept = stays in
+        on_ok r (contents new ≡ overwritten w.at w.bytes (contents old))
+        (Stand (Store ws ∷ stages) new) (λ done. record {
+          guard = g;
+          keeps = kept.keeps;
+          each = λ other agrees.
+              at.each other (agrees_on g (contents old) (contents new) other kept.holds agrees);
+          can = plan_goes_on g w ws (contents old) (contents new) at.can done;
+          behind = subst (IsReady P Q long stages)
+              (written_goes_on w ws (contents old) (contents new) done) at.behind;
+        }) call.written
+
+    write_failed : EachImage (contents new) (unsynced new) P
+    write_failed =
+        let images = stays_images g Same (contents new) (unsynced new)
+        (agreement_guards g (contents old)) stays in
+        record { each = λ image is. at.each image (images.each image is) }
+
+    write_moments : LeavesOnly moment left_since old new P
+    write_moments =
+        leaves_more moment left_since old new Same P at.each
+        (write_leaves contents unsynced moment left_since only_now old new g Same w.at
+        (length w.bytes) (agreement_guards g (contents old)) at.keeps at.can.0.apart
+        (agrees_itself g (contents old) at.keeps.long) call.time)
+
+  -- ---- the sync behind the writes
+
+  module _ (stages : List Stage) (at : Stand (Store [] ∷ stages) old)
+      (call : Calls (Store [] ∷ stages)) where
+    stored : OnOk r (Stand stages new)
+    stored =
+        on_ok r (IsSettled (contents new) (unsynced new)) (Stand stages new) (λ settled.
+        ready_stands P Q long stages (contents new) (unsynced new) settled
+        (subst (IsReady P Q long stages) (sym call.same) at.behind)) call.settled
+
+    images_before : EachImage (contents old) (unsynced old) P
+    images_before = record {
+      each = (stages_leave P Q long (Store [] ∷ stages) (contents old) (unsynced old)
+          (λ none. absurd (cc)) at).each;
+    }
+
+    holds_before : P (contents old)
+    holds_before =
+        at.each (contents old) (agrees_itself at.guard (contents old) at.keeps.long)
+
+    sync_failed : EachImage (contents new) (unsynced new) P
+    sync_failed =
+        images_synced r P (contents old) (contents new) (unsynced old) (unsynced new) holds_before
+        images_before call.same call.settled call.not_settled
+
+    sync_moments : LeavesOnly moment left_since old new P
+    sync_moments =
+        sync_leaves contents unsynced moment left_since only_now old new P images_before call.time
+
+  -- ---- a gate's byte
+
+  module _ (gate byte : ℕ) (stages : List Stage) (at : Stand (Turn gate byte ∷ stages) old)
+      (call : Calls (Turn gate byte ∷ stages)) where
+    abbrev Next : List ℕ → Type 0
+    Next = claim_behind stages P Q
+
+    gate_stays : EachImage (contents new) (unsynced new) (turned stages P Q)
+    gate_stays =
+        let images = gate_images r P Next gate byte (contents old) (contents new) (unsynced old)
+        (unsynced new) at.ready.turns at.settled call.written call.torn call.opens in
+        record { each = λ image is. either_turned P Q stages image (images.each image is) }
+
+    opened : OnOk r (Stand (Settle ∷ stages) new)
+    opened =
+        let images = gate_stays in
+        on_ok r (contents new ≡ overwritten gate (byte ∷ []) (contents old))
+        (Stand (Settle ∷ stages) new) (λ done. record {
+          images = images;
+          behind = subst (IsReady P Q long stages) (sym done) at.ready.behind;
+        }) call.written
+
+    gate_moments : LeavesOnly moment left_since old new (turned stages P Q)
+    gate_moments =
+        leaves_more moment left_since old new (OneOf P Next) (turned stages P Q)
+        (λ image one. either_turned P Q stages image one)
+        (gate_leaves contents unsynced moment left_since only_now old new P Next gate byte
+        at.ready.turns at.settled at.ready.holds call.time)
+
+  -- ---- the sync behind it
+
+  module _ (stages : List Stage) (at : Stand (Settle ∷ stages) old)
+      (call : Calls (Settle ∷ stages)) where
+    settled_behind : OnOk r (Stand stages new)
+    settled_behind =
+        on_ok r (IsSettled (contents new) (unsynced new)) (Stand stages new) (λ settled.
+        ready_stands P Q long stages (contents new) (unsynced new) settled
+        (subst (IsReady P Q long stages) (sym call.same) at.behind)) call.settled
+
+    settle_failed : EachImage (contents new) (unsynced new) (turned stages P Q)
+    settle_failed =
+        images_synced r (turned stages P Q) (contents old) (contents new) (unsynced old)
+        (unsynced new) (ready_turned P Q long stages (contents old) at.behind) at.images call.same
+        call.settled call.not_settled
+
+    settle_moments : LeavesOnly moment left_since old new (turned stages P Q)
+    settle_moments =
+        sync_leaves contents unsynced moment left_since only_now old new (turned stages P Q)
+        at.images call.time
+
+  -- ---- a cut behind what is guarded
+
+  module _ (len : ℕ) (stages : List Stage) (at : Stand (Cut len ∷ stages) old)
+      (call : Calls (Cut len ∷ stages)) where
+    abbrev b : Guard
+    b = at.ready.guard
+
+    abbrev Alike : List ℕ → Type 0
+    Alike = Agrees b (contents old)
+
+    abbrev rests : Rests b P (contents old)
+    rests = at.ready.rests
+
+    keeps_before : Keeps b (contents old) (unsynced old)
+    keeps_before =
+        keeps_settled b (contents old) (unsynced old) rests.ends rests.long at.settled
+
+    cut_stays : Stays b Alike (contents new) (unsynced new)
+    cut_stays =
+        stays_cut r b Alike len (contents old) (contents new) (unsynced old) (unsynced new)
+        (agreement_guards b (contents old))
+        (record {
+          keeps = keeps_before;
+          holds = agrees_itself b (contents old) rests.long;
+        })
+        at.ready.enough at.ready.within call.cut call.between call.shortens
+
+    cut_done : OnOk r (Stand (Store [] ∷ stages) new)
+    cut_done =
+        let kept = cut_stays in
+        on_ok r (contents new ≡ take len (contents old)) (Stand (Store [] ∷ stages) new)
+        (λ done. record {
+          guard = b;
+          keeps = kept.keeps;
+          each = λ other agrees.
+              rests.each other (agrees_on b (contents old) (contents new) other kept.holds agrees);
+          can = tt;
+          behind = subst (IsReady P Q long stages) (sym done) at.ready.behind;
+        }) call.cut
+
+    cut_failed : EachImage (contents new) (unsynced new) P
+    cut_failed =
+        let images = stays_images b Alike (contents new) (unsynced new)
+        (agreement_guards b (contents old)) cut_stays in
+        record { each = λ image is. rests.each image (images.each image is) }
+
+    cut_moments : LeavesOnly moment left_since old new P
+    cut_moments =
+        leaves_more moment left_since old new Alike P rests.each
+        (cut_leaves contents unsynced moment left_since only_now old new b Alike len
+        (agreement_guards b (contents old)) keeps_before at.ready.enough
+        (agrees_itself b (contents old) rests.long) call.time)
+
+  -- ---- any of them
+
+  pub call_done : (left : List Stage) → Stand left old → Calls left
+      → OnOk r (Stand (after_call left) new)
+  call_done [] at call = absurd call
+  call_done (Store [] ∷ stages) at call = stored stages at call
+  call_done (Store (w ∷ ws) ∷ stages) at call = wrote w ws stages at call
+  call_done (Turn gate byte ∷ stages) at call = opened gate byte stages at call
+  call_done (Settle ∷ stages) at call = settled_behind stages at call
+  call_done (Cut len ∷ stages) at call = cut_done len stages at call
+
+  pub call_failed : (left : List Stage) → Stand left old → Calls left
+      → OnErr r (EachImage (contents new) (unsynced new) (leaves left P Q))
+  call_failed [] at call = absurd call
+  call_failed (Store [] ∷ stages) at call =
+      on_err r (EachImage (contents new) (unsynced new) (leaves (Store [] ∷ stages) P Q))
+      (record { each = (sync_failed stages at call).each })
+  call_failed (Store (w ∷ ws) ∷ stages) at call =
+      on_err r (EachImage (contents new) (unsynced new) (leaves (Store (w ∷ ws) ∷ stages) P Q))
+      (record { each = (write_failed w ws stages at call).each })
+  call_failed (Turn gate byte ∷ stages) at call =
+      on_err r (EachImage (contents new) (unsynced new) (leaves (Turn gate byte ∷ stages) P Q))
+      (record { each = (gate_stays gate byte stages at call).each })
+  call_failed (Settle ∷ stages) at call =
+      on_err r (EachImage (contents new) (unsynced new) (leaves (Settle ∷ stages) P Q))
+      (record { each = (settle_failed stages at call).each })
+  call_failed (Cut len ∷ stages) at call =
+      on_err r (EachImage (contents new) (unsynced new) (leaves (Cut len ∷ stages) P Q))
+      (record { each = (cut_failed len stages at call).each })
+
+  pub call_moments : (left : List Stage) → Stand left old → Calls left
+      → LeavesOnly moment left_since old new (leaves left P Q)
+  call_moments [] at call = absurd call
+  call_moments (Store [] ∷ stages) at call = sync_moments stages at call
+  call_moments (Store (w ∷ ws) ∷ stages) at call = write_moments w ws stages at call
+  call_moments (Turn gate byte ∷ stages) at call = gate_moments gate byte stages at call
+  call_moments (Settle ∷ stages) at call = settle_moments stages at call
+  call_moments (Cut len ∷ stages) at call = cut_moments len stages at call
+
+-- a fault is told only where the device failed
+pub call_cause : {D T E : Type 0} (contents : D → List ℕ) (unsynced : D → Unsynced)
+    (failures moment : D → ℕ) (left_since : D → ℕ → List ℕ → Type 0) (left : List Stage)
+    (old new : D) (r : Result T E)
+    → CallsOnce contents unsynced failures moment left_since left old new r
+    → HasCause (failures old) (failures new) r
+call_cause contents unsynced failures moment left_since [] old new r call = absurd call
+call_cause contents unsynced failures moment left_since (Store [] ∷ stages) old new r call =
+    call.cause
+call_cause contents unsynced failures moment left_since (Store (w ∷ ws) ∷ stages) old new r call =
+    call.cause
+call_cause contents unsynced failures moment left_since (Turn gate byte ∷ stages) old new r call =
+    call.cause
+call_cause contents unsynced failures moment left_since (Settle ∷ stages) old new r call =
+    call.cause
+call_cause contents unsynced failures moment left_since (Cut len ∷ stages) old new r call =
+    call.cause
+
+-- ---- plans one behind another
+
+pub calls_left-append : (xs ys : List Stage)
+    → calls_left (xs ++ ys) ≡ calls_left xs + calls_left ys
+calls_left-append [] ys = omega arith
+calls_left-append (stage ∷ xs) ys = omega (arith, calls_left-append xs ys)
+
+pub gone_through-append : (xs ys : List Stage) (contents : List ℕ)
+    → gone_through (xs ++ ys) contents ≡ gone_through ys (gone_through xs contents)
+gone_through-append [] ys contents = refl
+gone_through-append (Store writes ∷ xs) ys contents =
+    gone_through-append xs ys (written writes contents)
+gone_through-append (Turn gate byte ∷ xs) ys contents =
+    gone_through-append xs ys (overwritten gate (byte ∷ []) contents)
+gone_through-append (Settle ∷ xs) ys contents = gone_through-append xs ys contents
+gone_through-append (Cut len ∷ xs) ys contents = gone_through-append xs ys (take len contents)
+
+-- ---- what is left
+
+pub one_call_less : (left : List Stage) → (left ≡ [] → ⊥)
+    → calls_left left ≡ 1 + calls_left (after_call left)
+one_call_less [] some = absurd (some refl)
+one_call_less (Store [] ∷ stages) some = omega arith
+one_call_less (Store (w ∷ ws) ∷ stages) some = omega arith
+one_call_less (Turn gate byte ∷ stages) some = omega arith
+one_call_less (Settle ∷ stages) some = omega arith
+one_call_less (Cut len ∷ stages) some = omega arith
+
+pub leaves_so : (left : List Stage) (P Q R S : List ℕ → Type 0)
+    → ((image : List ℕ) → P image → R image) → ((image : List ℕ) → Q image → S image)
+    → (image : List ℕ) → leaves left P Q image → leaves left R S image
+leaves_so [] P Q R S f g image l = f image l
+leaves_so (Store writes ∷ stages) P Q R S f g image l = f image l
+leaves_so (Turn gate byte ∷ stages) P Q R S f g image l = turned_so stages P Q R S f g image l
+  where
+    turned_so : (stages : List Stage) (P Q R S : List ℕ → Type 0)
+        → ((image : List ℕ) → P image → R image) → ((image : List ℕ) → Q image → S image)
+        → (image : List ℕ) → turned stages P Q image → turned stages R S image
+    turned_so [] P Q R S f g image l = record {
+      which = elim l.which [ inl p ↦ inl (f image p) | inr q ↦ inr (g image q) ];
+    }
+    turned_so (stage ∷ stages) P Q R S f g image l = f image l
+leaves_so (Settle ∷ []) P Q R S f g image l = record {
+  which = elim l.which [ inl p ↦ inl (f image p) | inr q ↦ inr (g image q) ];
+}
+leaves_so (Settle ∷ stage ∷ stages) P Q R S f g image l = f image l
+leaves_so (Cut len ∷ stages) P Q R S f g image l = f image l

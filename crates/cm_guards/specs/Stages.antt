@@ -1,0 +1,220 @@
+-- A plan of device calls, as stages: what is written and stored, one gate's byte after another, and
+-- what a crash leaves while the stages are gone through, from one fact on the contents, P, to
+-- another, Q. The last gate turns P into Q; each gate before it leaves P, whatever byte stands
+-- there.
+use Rattle.std.specs.Prelude.{◌≡◌, ℕ, ◌+◌, ◌^◌, ◌≤◌, List, [], ◌∷◌, length, take}
+use Rattle.std.specs.Prelude.{Result, OnOk, OnErr}
+use Rattle.cm_disk.specs.Disk.{Unsynced, IsImage, IsSettled, IsWithin, widened, shortened}
+use Rattle.cm_disk.specs.Calls.{overwritten, IsTorn, IsCut, Elapses, HasCause}
+use Rattle.cm_guards.specs.Guards.{Guard, Agrees, IsBounded, Keeps, EachImage}
+use Rattle.cm_guards.specs.Gates.{OneOf, Turns}
+use Rattle.cm_guards.specs.Plans.{Write, written, CanWrite}
+
+-- bytes that are written, then stored; one byte, which is stored; once that byte is written, that
+-- it is stored; a cut to a length, which is stored
+pub data Stage : Type 0 where
+  Store : List Write → Stage
+  Turn : ℕ → ℕ → Stage
+  Settle : Stage
+  Cut : ℕ → Stage
+
+-- how many device calls it is: each write or cut, and a sync
+abbrev pub calls_in : Stage → ℕ
+calls_in (Store writes) = length writes + 1
+calls_in (Turn gate byte) = 2
+calls_in Settle = 1
+calls_in (Cut len) = 2
+
+abbrev pub calls_left : List Stage → ℕ
+calls_left [] = 0
+calls_left (stage ∷ stages) = calls_in stage + calls_left stages
+
+-- what is left once one more call is made
+abbrev pub after_call : List Stage → List Stage
+after_call [] = []
+after_call (Store [] ∷ stages) = stages
+after_call (Store (write ∷ writes) ∷ stages) = Store writes ∷ stages
+after_call (Turn gate byte ∷ stages) = Settle ∷ stages
+after_call (Settle ∷ stages) = stages
+after_call (Cut len ∷ stages) = Store [] ∷ stages
+
+-- the contents once all calls are made
+abbrev pub gone_through : List Stage → List ℕ → List ℕ
+gone_through [] contents = contents
+gone_through (Store writes ∷ stages) contents = gone_through stages (written writes contents)
+gone_through (Turn gate byte ∷ stages) contents =
+    gone_through stages (overwritten gate (byte ∷ []) contents)
+gone_through (Settle ∷ stages) contents = gone_through stages contents
+gone_through (Cut len ∷ stages) contents = gone_through stages (take len contents)
+
+-- ---- one device call
+
+-- one write was made, done or failed
+pub record WritesOnce {D T E : Type 0} (contents : D → List ℕ) (unsynced : D → Unsynced)
+    (failures moment : D → ℕ) (left_since : D → ℕ → List ℕ → Type 0) (write : Write) (old new : D)
+    (result : Result T E) : Type 0 where
+  pub written : OnOk result (contents new ≡ overwritten write.at write.bytes (contents old))
+  pub torn : OnErr result (IsTorn write.at (length write.bytes) (contents old) (contents new))
+  pub opens : IsWithin (widened write.at (length write.bytes) (unsynced old)) (unsynced new)
+  pub time : Elapses (moment old) (moment new) (left_since old) (left_since new)
+      (IsImage (contents old) (widened write.at (length write.bytes) (unsynced old)))
+  pub cause : HasCause (failures old) (failures new) result
+
+-- one sync
+pub record SyncsOnce {D T E : Type 0} (contents : D → List ℕ) (unsynced : D → Unsynced)
+    (failures moment : D → ℕ) (left_since : D → ℕ → List ℕ → Type 0) (old new : D)
+    (result : Result T E) : Type 0 where
+  pub settled : OnOk result (IsSettled (contents new) (unsynced new))
+  pub not_settled : OnErr result (unsynced new ≡ unsynced old)
+  pub same : contents new ≡ contents old
+  pub time : Elapses (moment old) (moment new) (left_since old) (left_since new)
+      (IsImage (contents old) (unsynced old))
+  pub cause : HasCause (failures old) (failures new) result
+
+-- one cut
+pub record CutsOnce {D T E : Type 0} (contents : D → List ℕ) (unsynced : D → Unsynced)
+    (failures moment : D → ℕ) (left_since : D → ℕ → List ℕ → Type 0) (len : ℕ) (old new : D)
+    (result : Result T E) : Type 0 where
+  pub cut : OnOk result (contents new ≡ take len (contents old))
+  pub between : OnErr result (IsCut len (contents old) (contents new))
+  pub shortens : IsWithin (shortened len (unsynced old)) (unsynced new)
+  pub time : Elapses (moment old) (moment new) (left_since old) (left_since new)
+      (IsImage (contents old) (shortened len (unsynced old)))
+  pub cause : HasCause (failures old) (failures new) result
+
+-- the byte of a gate, as a write
+abbrev pub gate_write : ℕ → ℕ → Write
+gate_write gate byte = record { at = gate; bytes = byte ∷ [] }
+
+-- the next call of these stages was made
+abbrev pub CallsOnce : {D T E : Type 0} → (D → List ℕ) → (D → Unsynced) → (D → ℕ) → (D → ℕ)
+    → (D → ℕ → List ℕ → Type 0) → List Stage → D → D → Result T E → Type 0
+CallsOnce contents unsynced failures moment left_since [] old new result = ⊥
+CallsOnce contents unsynced failures moment left_since (Store [] ∷ stages) old new result =
+    SyncsOnce contents unsynced failures moment left_since old new result
+CallsOnce contents unsynced failures moment left_since (Store (write ∷ writes) ∷ stages) old new
+    result =
+    WritesOnce contents unsynced failures moment left_since write old new result
+CallsOnce contents unsynced failures moment left_since (Turn gate byte ∷ stages) old new result =
+    WritesOnce contents unsynced failures moment left_since (gate_write gate byte) old new result
+CallsOnce contents unsynced failures moment left_since (Settle ∷ stages) old new result =
+    SyncsOnce contents unsynced failures moment left_since old new result
+CallsOnce contents unsynced failures moment left_since (Cut len ∷ stages) old new result =
+    CutsOnce contents unsynced failures moment left_since len old new result
+
+-- a disk of that length takes the write
+pub record TakesWrite (write : Write) (len : ℕ) : Type 0 where
+  pub starts_within : write.at ≤ len
+  pub within_limit : write.at + length write.bytes ≤ 2 ^ 40
+
+-- and the next call of these stages
+abbrev pub TakesCall : List Stage → ℕ → Type 0
+TakesCall [] len = ⊥
+TakesCall (Store [] ∷ stages) len = Unit {0}
+TakesCall (Store (write ∷ writes) ∷ stages) len = TakesWrite write len
+TakesCall (Turn gate byte ∷ stages) len = TakesWrite (gate_write gate byte) len
+TakesCall (Settle ∷ stages) len = Unit {0}
+TakesCall (Cut to ∷ stages) len = to ≤ len
+
+-- ---- what a crash may leave
+
+-- while a gate's byte is written, where these stages are behind it
+abbrev pub turned : List Stage → (List ℕ → Type 0) → (List ℕ → Type 0) → List ℕ → Type 0
+turned [] P Q contents = OneOf P Q contents
+turned (stage ∷ stages) P Q contents = P contents
+
+-- while these stages are left
+abbrev pub leaves : List Stage → (List ℕ → Type 0) → (List ℕ → Type 0) → List ℕ → Type 0
+leaves [] P Q contents = P contents
+leaves (Store writes ∷ stages) P Q contents = P contents
+leaves (Turn gate byte ∷ stages) P Q contents = turned stages P Q contents
+leaves (Settle ∷ stages) P Q contents = turned stages P Q contents
+leaves (Cut len ∷ stages) P Q contents = P contents
+
+-- ---- stages that can be gone through
+
+-- what the contents have once a gate's byte is stored, where these stages are behind it
+abbrev pub claim_behind : List Stage → (List ℕ → Type 0) → (List ℕ → Type 0) → List ℕ → Type 0
+claim_behind [] P Q contents = Q contents
+claim_behind (stage ∷ stages) P Q contents = P contents
+
+-- The contents have the fact, and so has what agrees with them wherever it is guarded.
+pub record Rests (g : Guard) (P : List ℕ → Type 0) (contents : List ℕ) : Type 0 where
+  pub ends : IsBounded g
+  pub long : g.needs ≤ length contents
+  pub each : (other : List ℕ) → Agrees g contents other → P other
+
+-- writes that touch nothing on which the fact rests; what they lead to has the last fact
+pub record IsStoreReady (P Behind : List ℕ → Type 0) (writes : List Write)
+    (contents : List ℕ) : Type 0 where
+  pub guard : Guard
+  pub rests : Rests guard P contents
+  pub can : CanWrite guard writes (length contents)
+  pub behind : Behind (written writes contents)
+
+-- a gate's byte, which turns the one fact into the other
+pub record IsTurnReady (P Next Behind : List ℕ → Type 0) (gate byte : ℕ)
+    (contents : List ℕ) : Type 0 where
+  pub holds : P contents
+  pub turns : Turns P Next gate byte contents
+  pub behind : Behind (overwritten gate (byte ∷ []) contents)
+
+-- a cut behind all that the fact rests on
+pub record IsCutReady (P Behind : List ℕ → Type 0) (len : ℕ) (contents : List ℕ) : Type 0 where
+  pub guard : Guard
+  pub rests : Rests guard P contents
+  pub enough : guard.needs ≤ len
+  pub within : len ≤ length contents
+  pub behind : Behind (take len contents)
+
+-- at the end: the second fact, and so many bytes
+pub record IsThrough (Q : List ℕ → Type 0) (long : ℕ) (contents : List ℕ) : Type 0 where
+  pub holds : Q contents
+  pub size : length contents ≡ long
+
+-- Where all is stored, these stages lead from P to Q, and to contents of that length. No plan
+-- begins with the sync of a byte that is written already.
+abbrev pub IsReady : (List ℕ → Type 0) → (List ℕ → Type 0) → ℕ → List Stage → List ℕ → Type 0
+IsReady P Q long [] contents = IsThrough Q long contents
+IsReady P Q long (Store writes ∷ stages) contents =
+    IsStoreReady P (IsReady P Q long stages) writes contents
+IsReady P Q long (Turn gate byte ∷ stages) contents =
+    IsTurnReady P (claim_behind stages P Q) (IsReady P Q long stages) gate byte contents
+IsReady P Q long (Settle ∷ stages) contents = ⊥
+IsReady P Q long (Cut len ∷ stages) contents =
+    IsCutReady P (IsReady P Q long stages) len contents
+
+-- ---- between two calls
+
+-- bytes are written where nothing is guarded
+pub record IsStoring (P Behind : List ℕ → Type 0) (writes : List Write) (contents : List ℕ)
+    (unsynced : Unsynced) : Type 0 where
+  pub guard : Guard
+  pub keeps : Keeps guard contents unsynced
+  pub each : (other : List ℕ) → Agrees guard contents other → P other
+  pub can : CanWrite guard writes (length contents)
+  pub behind : Behind (written writes contents)
+
+-- a gate's byte is written
+pub record IsSettling (P Behind : List ℕ → Type 0) (contents : List ℕ)
+    (unsynced : Unsynced) : Type 0 where
+  pub images : EachImage contents unsynced P
+  pub behind : Behind contents
+
+-- all is stored
+pub record IsStored (Ready : List ℕ → Type 0) (contents : List ℕ)
+    (unsynced : Unsynced) : Type 0 where
+  pub settled : IsSettled contents unsynced
+  pub ready : Ready contents
+
+abbrev pub StagesStand : (List ℕ → Type 0) → (List ℕ → Type 0) → ℕ → List Stage → List ℕ → Unsynced
+    → Type 0
+StagesStand P Q long [] contents unsynced = IsStored (IsReady P Q long []) contents unsynced
+StagesStand P Q long (Store writes ∷ stages) contents unsynced =
+    IsStoring P (IsReady P Q long stages) writes contents unsynced
+StagesStand P Q long (Turn gate byte ∷ stages) contents unsynced =
+    IsStored (IsReady P Q long (Turn gate byte ∷ stages)) contents unsynced
+StagesStand P Q long (Settle ∷ stages) contents unsynced =
+    IsSettling (turned stages P Q) (IsReady P Q long stages) contents unsynced
+StagesStand P Q long (Cut len ∷ stages) contents unsynced =
+    IsStored (IsReady P Q long (Cut len ∷ stages)) contents unsynced
