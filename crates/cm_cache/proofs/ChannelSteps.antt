@@ -1,0 +1,317 @@
+-- Each step on the channel keeps its rule.
+-- For `NewChannel`, `Outgoing`, `Incoming`.
+use Rattle.std.proofs.Common.{◌≡◌, ◌≢◌, ℕ, zero, suc, true, false, true≢false, List, [], ◌∷◌, ◌++◌}
+use Rattle.std.proofs.Common.{length, set, refl, sym, ap, subst, ◌∙◌, ⊎_elim, append_assoc}
+use Rattle.std.proofs.lemmas.List.{append-nil}
+use mathlib.Core.Option.{some, some-ne-none}
+use lib.ListN.{get_elem?}
+use Rattle.crossbeam_channel.specs.Fifo.{Pushes, Pops, Forks, Merges, Learns}
+use Rattle.atomic_table.proofs.Lists.{at_set, at_snoc}
+use Rattle.cm_group.specs.Groups.{Carried}
+use Rattle.cm_cache.specs.declared.channel.Base.{Base}
+use Rattle.cm_cache.specs.declared.channel.ChannelView.{ChannelView}
+use Rattle.cm_cache.specs.declared.channel.Message.{Message}
+use Rattle.cm_cache.specs.declared.channel.Message.TheVariants.{Group, End}
+use Rattle.cm_cache.specs.Channel.{entries_of, is_open, MayBeSent, InOrder, FitsChannel}
+use Rattle.cm_cache.specs.Channel.{IsRelayed, HasSent, HasReceived}
+use Rattle.cm_cache.specs.Channel.{IsAll, sender, receiver, both_ends, no_end, no_base}
+
+-- ---- messages in order
+
+-- one more may be sent
+sends_more : (base : Base) (before : List Carried) (sent : List Message) (x : Message)
+    → InOrder base before sent → is_open sent ≡ true → MayBeSent base (before ++ entries_of sent) x
+    → InOrder base before (sent ++ x ∷ [])
+sends_more base before [] (Group g) ordered is_on may_be =
+    (subst (λ l. MayBeSent base l (Group g)) (append-nil before) may_be, tt)
+sends_more base before [] End ordered is_on may_be = refl
+sends_more base before (Group g ∷ sent) x ordered is_on may_be = (
+  ordered.0,
+  sends_more base (before ++ g.entries) sent x ordered.1 is_on
+      (subst (λ l. MayBeSent base l x) (sym (append_assoc before g.entries (entries_of sent)))
+      may_be),
+)
+sends_more base before (End ∷ sent) x ordered is_on may_be = absurd (true≢false (sym is_on))
+
+-- each message that is received may have been sent then
+may_be_next : (base : Base) (before : List Carried) (got : List Message) (x : Message)
+    (items : List Message) → InOrder base before (got ++ x ∷ items)
+    → MayBeSent base (before ++ entries_of got) x
+may_be_next base before [] (Group g) items ordered =
+    subst (λ l. MayBeSent base l (Group g)) (sym (append-nil before)) ordered.0
+may_be_next base before [] End items ordered = tt
+may_be_next base before (Group g ∷ got) x items ordered =
+    subst (λ l. MayBeSent base l x) (append_assoc before g.entries (entries_of got))
+    (may_be_next base (before ++ g.entries) got x items ordered.1)
+may_be_next base before (End ∷ got) x items ordered = absurd (not_empty got ordered)
+  where
+    not_empty : (l : List Message) → l ++ x ∷ items ≡ [] → ⊥
+    not_empty [] e = cc
+    not_empty (y ∷ l) e = cc
+
+-- nothing is sent after an End
+pub none_after : (base : Base) (before : List Carried) (got items : List Message)
+    → InOrder base before (got ++ items) → is_open got ≡ false → got ++ items ≡ got
+none_after base before [] items ordered closed = absurd (true≢false closed)
+none_after base before (Group g ∷ got) items ordered closed =
+    ap (λ l. Group g ∷ l) (none_after base (before ++ g.entries) got items ordered.1 closed)
+none_after base before (End ∷ got) items ordered closed =
+    ap (λ l. End ∷ l) (ordered ∙ sym (first_empty got ordered))
+  where
+    first_empty : (l : List Message) → l ++ items ≡ [] → l ≡ []
+    first_empty [] e = refl
+    first_empty (y ∷ l) e = absurd (cc)
+
+-- ---- views
+
+off : false ≡ true → ⊥
+off e = true≢false (sym e)
+
+-- the view of one end changes, and what is known to the others stays right
+each_set : (F : ℕ → ChannelView → Type 0) (views : List ChannelView) (port : ℕ) (w : ChannelView)
+    → F port w
+    → ((j : ℕ) (u : ChannelView) → j ≢ port → get_elem? views j ≡ some u → F j u)
+    → (j : ℕ) (u : ChannelView) → get_elem? (set views port w) j ≡ some u → F j u
+each_set F views port w mine others j u e =
+    ⊎_elim
+    (λ (x : (j ≡ port) × (w ≡ u)).
+    subst (λ (y : ℕ × ChannelView). F y.0 y.1) (λ i. (sym x.0 i, x.1 i)) mine)
+    (λ (x : (j ≢ port) × (get_elem? views j ≡ some u)). others j u x.0 x.1)
+    (at_set views port j w u e)
+
+at_end : (l : List ChannelView) (a b : ChannelView) (j : ℕ) → get_elem? l j ≢ some b
+    → get_elem? (l ++ a ∷ []) j ≡ some b → j ≡ length l
+at_end [] a b zero n e = refl
+at_end [] a b (suc j) n e = absurd (some-ne-none b (sym e))
+at_end (x ∷ xs) a b zero n e = absurd (n e)
+at_end (x ∷ xs) a b (suc j) n e = ap suc (at_end xs a b j n e)
+
+-- an end that may do nothing knows nothing that could be wrong
+idle_fits : (writer reader : ℕ) (base : Base) (sent got : List Message) (port : ℕ) (v : ChannelView)
+    → v.sends ≡ false → v.receives ≡ false → FitsChannel writer reader base sent got port v
+idle_fits writer reader base sent got port v s g = record {
+  sends = λ may. absurd (off (sym s ∙ may));
+  receives = λ may. absurd (off (sym g ∙ may));
+}
+
+-- ---- steps
+
+pub begins : IsRelayed [] (both_ends no_base [] [] ∷ [])
+begins = record {
+  writer = 0;
+  reader = 0;
+  base = no_base;
+  sent = [];
+  received = [];
+  all = refl;
+  ordered = tt;
+  each = each_set (FitsChannel 0 0 no_base [] []) (both_ends no_base [] [] ∷ []) 0
+      (both_ends no_base [] [])
+      (record { sends = λ _. (refl, refl, refl); receives = λ _. (refl, refl, refl) })
+      (λ j u other e. absurd (other (at_end [] _ u j (λ x. some-ne-none u (sym x)) e)));
+}
+
+pub sends : (n port : ℕ) (v : ChannelView) (x : Message) → v.sends ≡ true → is_open v.sent ≡ true
+    → MayBeSent v.base (entries_of v.sent) x → Pushes IsRelayed n port v x (HasSent v x)
+sends n port v x may is_on may_be items views _ h at = (
+  w,
+  record {
+    writer = h.writer;
+    reader = h.reader;
+    base = h.base;
+    sent = h.sent ++ x ∷ [];
+    received = h.received;
+    all = ap (λ l. l ++ x ∷ []) h.all ∙ append_assoc h.received items (x ∷ []);
+    ordered = sends_more h.base [] h.sent x h.ordered
+        (ap is_open (sym known.1) ∙ is_on)
+        (subst (λ (t : Base × List Message). MayBeSent t.0 (entries_of t.1) x)
+        (λ i. (known.2 i, known.1 i)) may_be);
+    each = each_set (FitsChannel h.writer h.reader h.base (h.sent ++ x ∷ []) h.received) views
+        port w
+        (record {
+          sends = λ _. (known.0, ap (λ l. l ++ x ∷ []) known.1, known.2);
+          receives = mine.receives;
+        })
+        (λ j u other e. record {
+          sends = λ p. absurd (other (((h.each j u e).sends p).0 ∙ sym known.0));
+          receives = (h.each j u e).receives;
+        });
+  },
+  refl,
+)
+  where
+    w : ChannelView
+    w = record v { sent = v.sent ++ x ∷ [] }
+
+    mine : FitsChannel h.writer h.reader h.base h.sent h.received port v
+    mine = h.each port v at
+
+    known : (port ≡ h.writer) × (v.sent ≡ h.sent) × (v.base ≡ h.base)
+    known = mine.sends may
+
+pub receives : (port : ℕ) (v : ChannelView) → v.receives ≡ true
+    → Pops IsRelayed port v (HasReceived v)
+receives port v may x items views h at = (
+  w,
+  record {
+    writer = h.writer;
+    reader = h.reader;
+    base = h.base;
+    sent = h.sent;
+    received = h.received ++ x ∷ [];
+    all = h.all ∙ sym (append_assoc h.received (x ∷ []) items);
+    ordered = h.ordered;
+    each = each_set (FitsChannel h.writer h.reader h.base h.sent (h.received ++ x ∷ [])) views
+        port w
+        (record {
+          sends = mine.sends;
+          receives = λ _. (known.0, ap (λ l. l ++ x ∷ []) known.1, known.2);
+        })
+        (λ j u other e. record {
+          sends = (h.each j u e).sends;
+          receives = λ p. absurd (other (((h.each j u e).receives p).0 ∙ sym known.0));
+        });
+  },
+  (
+    refl,
+    subst (λ (t : Base × List Message). MayBeSent t.0 (entries_of t.1) x)
+        (λ i. (sym known.2 i, sym known.1 i))
+        (may_be_next h.base [] h.received x items (subst (InOrder h.base []) h.all h.ordered)),
+  ),
+)
+  where
+    w : ChannelView
+    w = record v { received = v.received ++ x ∷ [] }
+
+    mine : FitsChannel h.writer h.reader h.base h.sent h.received port v
+    mine = h.each port v at
+
+    known : (port ≡ h.reader) × (v.received ≡ h.received) × (v.base ≡ h.base)
+    known = mine.receives may
+
+-- the first pass, which has both ends, is cut in two, and then knows what was opened
+pub splits : (port : ℕ) (v : ChannelView) (base : Base) → v ≡ both_ends no_base [] []
+    → Forks IsRelayed port v (sender base v.sent) (receiver base v.received)
+splits port v base new items views h at = record {
+  writer = h.writer;
+  reader = length vs;
+  base = base;
+  sent = [];
+  received = [];
+  all = sym (nothing h.received items (sym (sym (ap (λ u. u.sent) new) ∙ mine.1 ∙ h.all)));
+  ordered = tt;
+  each = λ j u e. ⊎_elim
+      (λ was. record {
+        sends = (old j u was).0;
+        receives = λ p. absurd ((old j u was).1 p);
+      })
+      (λ (is : r ≡ u). record {
+        sends = λ p. absurd (off (ap (λ (y : ChannelView). y.sends) is ∙ p));
+        receives = λ p. (
+          at_end vs r u j (λ x. (old j u x).1 p) e,
+          ap (λ (y : ChannelView). y.received) (sym is) ∙ ap (λ (u : ChannelView). u.received) new,
+          ap (λ (y : ChannelView). y.base) (sym is),
+        );
+      })
+      (at_snoc vs r u j e);
+}
+  where
+    l : ChannelView
+    l = sender base v.sent
+
+    r : ChannelView
+    r = receiver base v.received
+
+    vs : List ChannelView
+    vs = set views port l
+
+    fits : FitsChannel h.writer h.reader h.base h.sent h.received port v
+    fits = h.each port v at
+
+    mine : (port ≡ h.writer) × (v.sent ≡ h.sent) × (v.base ≡ h.base)
+    mine = fits.sends (ap (λ (u : ChannelView). u.sends) new)
+
+    reads : port ≡ h.reader
+    reads = (fits.receives (ap (λ (u : ChannelView). u.receives) new)).0
+
+    nothing : (a b : List Message) → a ++ b ≡ [] → b ≡ []
+    nothing [] b e = e
+    nothing (x ∷ a) b e = absurd (cc)
+
+    Old : ℕ → ChannelView → Type 0
+    Old j u =
+        (u.sends ≡ true → (j ≡ h.writer) × (u.sent ≡ []) × (u.base ≡ base))
+        × (u.receives ≢ true)
+
+    old : (j : ℕ) (u : ChannelView) → get_elem? vs j ≡ some u → Old j u
+    old = each_set Old views port l
+        ((λ _. (mine.0, ap (λ (u : ChannelView). u.sent) new, refl)), λ p. off p)
+        (λ j u other e. (
+          (λ p. absurd (other (((h.each j u e).sends p).0 ∙ sym mine.0))),
+          λ p. other (((h.each j u e).receives p).0 ∙ sym reads),
+        ))
+
+pub joins : (port : ℕ) (v : ChannelView) (other : ℕ) (u : ChannelView) → v.sends ≡ true
+    → u.receives ≡ true
+    → Merges IsRelayed port v other u (both_ends v.base v.sent u.received) no_end
+joins port v other u may reads items views h at two at' = record {
+  writer = h.writer;
+  reader = port;
+  base = h.base;
+  sent = h.sent;
+  received = h.received;
+  all = h.all;
+  ordered = h.ordered;
+  each = each_set (FitsChannel h.writer port h.base h.sent h.received) vs other no_end
+      (idle_fits h.writer port h.base h.sent h.received other no_end refl refl)
+      (λ j y apart e. now j y e apart);
+}
+  where
+    both : ChannelView
+    both = both_ends v.base v.sent u.received
+
+    vs : List ChannelView
+    vs = set views port both
+
+    mine : (port ≡ h.writer) × (v.sent ≡ h.sent) × (v.base ≡ h.base)
+    mine = (h.each port v at).sends may
+
+    was : get_elem? views other ≡ some u
+    was = ⊎_elim (λ x. absurd (two x.0)) (λ x. x.1) (at_set views port other both u at')
+
+    theirs : (other ≡ h.reader) × (u.received ≡ h.received) × (u.base ≡ h.base)
+    theirs = (h.each other u was).receives reads
+
+    now : (j : ℕ) (y : ChannelView) → get_elem? vs j ≡ some y → j ≢ other
+        → FitsChannel h.writer port h.base h.sent h.received j y
+    now = each_set
+        (λ j y. j ≢ other → FitsChannel h.writer port h.base h.sent h.received j y) views port both
+        (λ _. record { sends = λ _. mine; receives = λ _. (refl, theirs.1, mine.2) })
+        (λ j y _ e apart. record {
+          sends = (h.each j y e).sends;
+          receives = λ p. absurd (apart (((h.each j y e).receives p).0 ∙ sym theirs.0));
+        })
+
+pub totals : (port : ℕ) (v : ChannelView) → v.sends ≡ true → v.receives ≡ true
+    → Learns IsRelayed port v (IsAll v)
+totals port v a b items views h at =
+    let s = (h.each port v at).sends a in
+    let g = (h.each port v at).receives b in (
+      s.1 ∙ h.all ∙ ap (λ l. l ++ items) (sym g.1),
+      subst (λ (t : Base × List Message). InOrder t.0 [] t.1) (λ i. (sym s.2 i, sym s.1 i))
+          h.ordered,
+    )
+
+-- nothing is always learnt
+pub learns_nothing : (port : ℕ) (v : ChannelView) → Learns IsRelayed port v (λ items. Unit {0})
+learns_nothing port v items views h at = tt
+
+-- once an End was received, all was
+pub all_received : (v : ChannelView) (sent got items : List Message) → v.sent ≡ sent
+    → v.received ≡ got → IsAll v items → is_open got ≡ false → sent ≡ got
+all_received v sent got items s g all closed =
+    sym s
+    ∙ all.0
+    ∙ none_after v.base [] v.received items (subst (InOrder v.base []) all.0 all.1)
+    (ap is_open g ∙ closed)
+    ∙ g

@@ -1,0 +1,5 @@
+mod ChannelSteps
+mod BoardSteps
+mod Tied
+mod Stored
+mod Flushed

@@ -1,0 +1,166 @@
+-- What the device calls of a group make of a committer.
+-- For `store_group`, `make_calls`.
+use Rattle.std.proofs.Common.{◌≡◌, ℕ, ◌+◌, ◌-◌, ◌<◌, ◌≤◌, Bool, true, false, true≢false, List, []}
+use Rattle.std.proofs.Common.{Some, None, Ok, Err, length, refl, sym, ap, subst, ◌∙◌, arith}
+use Rattle.std.specs.Prelude.{Option, IfSome, IfNone}
+use Rattle.cm_group.specs.declared.receipt.Receipt.{Receipt}
+use Rattle.cm_group.specs.Groups.{Handed}
+use Rattle.cm_guards.specs.Stages.{Stage, calls_left, after_call}
+use Rattle.cm_guards.proofs.{one_call_less}
+use Rattle.cm_commit.specs.declared.progress.AdvanceFault.{AdvanceFault}
+use Rattle.cm_commit.specs.declared.progress.AdvanceFault.TheVariants.{Device, Broken}
+use Rattle.cm_commit.specs.Offers.{rows_after_group}
+use Rattle.cm_commit.specs.States.{CommitterState, Takes, with_taken}
+use Rattle.cm_commit.specs.Advances.{Advances, HasRisen, Rests, Works, Finishes, Breaks}
+use Rattle.cm_cache.specs.Storing.{SameCommitted, IsUnderway, IsStored, IsLeft}
+
+some_is : (a b : Handed) → Some a ≡ Some b → a ≡ b
+some_is a b e = cc
+
+module _ {D : Type 0} where
+  -- ---- taken
+
+  pub taken_is_underway : (contents : D → List ℕ) (s : CommitterState D) (group : Handed)
+      (new : CommitterState D) (calls : ℕ) → Takes s group → new ≡ with_taken contents s group
+      → calls_left new.left ≡ calls + 1 → IsUnderway s group new
+  taken_is_underway contents s group new calls takes is left = record {
+    same = record {
+      sizes = ap (λ (t : CommitterState D). t.sizes) is;
+      rows = ap (λ (t : CommitterState D). t.rows) is;
+      number = ap (λ (t : CommitterState D). t.number) is;
+    };
+    sound = ap (λ (t : CommitterState D). t.broken) is ∙ takes.sound;
+    group_is = ap (λ (t : CommitterState D). t.underway) is;
+    some = calls;
+    left = left;
+  }
+
+  pub underway_itself : (old s : CommitterState D) (group : Handed) → IsUnderway old group s
+      → IsUnderway s group s
+  underway_itself old s group u = record {
+    same = record { sizes = refl; rows = refl; number = refl };
+    sound = u.sound;
+    group_is = u.group_is;
+    some = u.some;
+    left = u.left;
+  }
+
+  -- ---- one call
+
+  pub works : (old s new : CommitterState D) (group : Handed) → Works s new
+      → IsUnderway old group s → IsUnderway old group new
+  works old s new group w u = record {
+    same = record {
+      sizes = ap (λ (t : CommitterState D). t.sizes) w.new_is ∙ u.same.sizes;
+      rows = ap (λ (t : CommitterState D). t.rows) w.new_is ∙ u.same.rows;
+      number = ap (λ (t : CommitterState D). t.number) w.new_is ∙ u.same.number;
+    };
+    sound = ap (λ (t : CommitterState D). t.broken) w.new_is ∙ u.sound;
+    group_is = ap (λ (t : CommitterState D). t.underway) w.new_is ∙ u.group_is;
+    some = calls_left (after_call s.left) - 1;
+    left =
+        ap (λ (t : CommitterState D). calls_left t.left) w.new_is
+        ∙ (let less = one_call_less s.left some_left in
+        let more = w.more in
+        omega (arith, less, more));
+  }
+    where
+      none_left : (left : List Stage) → left ≡ [] → 2 ≤ calls_left left → ⊥
+      none_left left e more =
+          let zero_left = ap calls_left e in
+          omega (arith, zero_left, more)
+
+      some_left : s.left ≡ [] → ⊥
+      some_left e = none_left s.left e w.more
+
+  pub finishes : (old s new : CommitterState D) (receipt : Receipt) (group : Handed)
+      → Finishes s receipt new → IsUnderway old group s → IsStored old group receipt.number new
+  finishes old s new receipt group f u = record {
+    sizes = ap (λ (t : CommitterState D). t.sizes) f.new_is ∙ u.same.sizes;
+    rows =
+        ap (λ (t : CommitterState D). t.rows) f.new_is
+        ∙ ap (λ (g : Handed). rows_after_group s.rows g.entries) same
+        ∙ ap (λ rows. rows_after_group rows group.entries) u.same.rows;
+    number = number;
+    sound = ap (λ (t : CommitterState D). t.broken) f.new_is ∙ f.sound;
+    idle = ap (λ (t : CommitterState D). t.underway) f.new_is;
+    is_told = f.told ∙ sym (ap (λ (t : CommitterState D). t.number) f.new_is);
+  }
+    where
+      same : f.group ≡ group
+      same = some_is f.group group (sym f.underway ∙ u.group_is)
+
+      number : new.number ≡ old.number + length group.entries
+      number =
+          ap (λ (t : CommitterState D). t.number) f.new_is
+          ∙ ap (λ (g : Handed). s.number + length g.entries) same
+          ∙ ap (λ n. n + length group.entries) u.same.number
+
+  pub fails : (old s new : CommitterState D) (fault : AdvanceFault) (group : Handed)
+      → Advances s (Err fault) new → IsUnderway old group s → IsLeft old group new
+  fails old s new Device group b u = record {
+    same = record {
+      sizes = ap (λ (t : CommitterState D). t.sizes) b.new_is ∙ u.same.sizes;
+      rows = ap (λ (t : CommitterState D). t.rows) b.new_is ∙ u.same.rows;
+      number = ap (λ (t : CommitterState D). t.number) b.new_is ∙ u.same.number;
+    };
+    broken = ap (λ (t : CommitterState D). t.broken) b.new_is;
+    group_is = ap (λ (t : CommitterState D). t.underway) b.new_is ∙ u.group_is;
+  }
+  fails old s new Broken group b u = absurd (true≢false (sym b.broken ∙ u.sound))
+
+  pub fails_by_device : (old s new : CommitterState D) (fault : AdvanceFault) (group : Handed)
+      (before now : ℕ) → Advances s (Err fault) new → IsUnderway old group s
+      → HasRisen before now (Err fault) → before < now
+  fails_by_device old s new Device group before now b u risen = risen.device tt
+  fails_by_device old s new Broken group before now b u risen =
+      absurd (true≢false (sym b.broken ∙ u.sound))
+
+  -- something is left to do
+  pub not_idle : (old s new : CommitterState D) (group : Handed) → Rests s new
+      → IsUnderway old group s → ⊥
+  not_idle old s new group r u =
+      let none = ap calls_left r.none in
+      let left = u.left in
+      omega (arith, none, left)
+
+  -- ---- behind the offer
+
+  pub stored_from : (old s new : CommitterState D) (group : Handed) (told : ℕ)
+      → SameCommitted old s → IsStored s group told new → IsStored old group told new
+  stored_from old s new group told same is = record {
+    sizes = is.sizes ∙ same.sizes;
+    rows = is.rows ∙ ap (λ rows. rows_after_group rows group.entries) same.rows;
+    number = is.number ∙ ap (λ n. n + length group.entries) same.number;
+    sound = is.sound;
+    idle = is.idle;
+    is_told = is.is_told;
+  }
+
+  pub left_from : (old s new : CommitterState D) (group : Handed) → SameCommitted old s
+      → IsLeft s group new → IsLeft old group new
+  left_from old s new group same is = record {
+    same = record {
+      sizes = is.same.sizes ∙ same.sizes;
+      rows = is.same.rows ∙ same.rows;
+      number = is.same.number ∙ same.number;
+    };
+    broken = is.broken;
+    group_is = is.group_is;
+  }
+
+  pub all_stored_from : (old s new : CommitterState D) (group : Handed) (r : Option Receipt)
+      → IsUnderway old group s
+      → IfSome r (λ t. (g : Handed) → IsUnderway s g s → IsStored s g t.number new)
+      → IfSome r (λ t. IsStored old group t.number new)
+  all_stored_from old s new group None u h = tt
+  all_stored_from old s new group (Some t) u h =
+      stored_from old s new group t.number u.same (h group (underway_itself old s group u))
+
+  pub all_left_from : (old s new : CommitterState D) (group : Handed) (r : Option Receipt)
+      → IsUnderway old group s
+      → IfNone r ((g : Handed) → IsUnderway s g s → IsLeft s g new)
+      → IfNone r (IsLeft old group new)
+  all_left_from old s new group None u h =
+      left_from old s new group u.same (h group (underway_itself old s group u))
+  all_left_from old s new group (Some t) u h = tt

@@ -1,0 +1,19 @@
+use Rattle.std.proofs.Common.{List, ap, subst, sym, ◌∙◌}
+use Rattle.cm_cache.specs.declared.channel.Base.{Base}
+use Rattle.cm_cache.specs.declared.channel.ChannelView.{ChannelView}
+use Rattle.cm_cache.specs.declared.channel.Message.{Message}
+use Rattle.cm_cache.specs.Channel.{entries_of, is_open, MayBeSent}
+use Rattle.cm_cache.proofs.ChannelSteps.{sends, learns_nothing}
+use Rattle.cm_cache.proofs.ends.Outgoing.send_once.Goals as goal
+
+pub send_as-requires-clause-rule : goal.send_as-requires-clause-rule
+send_as-requires-clause-rule g c =
+    let knows = c.self.invariant.2 in
+    let sent = c.self.view_is in
+    let base = ap (λ (v : ChannelView). v.base) knows in (
+      sends _ _ _ _ (ap (λ (v : ChannelView). v.sends) knows)
+          (ap is_open sent ∙ c.requires.still_open)
+          (subst (λ (t : Base × List Message). MayBeSent t.0 (entries_of t.1) c.args.message)
+          (λ i. (sym base i, sym sent i)) c.requires.may),
+      learns_nothing _ _,
+    )

@@ -1,0 +1,14 @@
+use Rattle.std.proofs.Common.{◌≤◌}
+use Rattle.cm_group.specs.Groups.{Handed}
+use Rattle.cm_guards.specs.Stages.{calls_left}
+use Rattle.cm_cache.specs.Storing.{IsUnderway}
+use Rattle.cm_cache.proofs.storing.make_calls.Given as goal
+
+abbrev pub invariant-loop-progress : goal.invariant-loop-progress
+invariant-loop-progress g l =
+    ((group : Handed) → IsUnderway l.initial.committer group l.initial.committer
+    → IsUnderway l.initial.committer group l.committer)
+    × (g.D.Disk.failures l.initial.committer.disk ≤ g.D.Disk.failures l.committer.disk)
+
+abbrev pub decreases-loop-progress : goal.decreases-loop-progress
+decreases-loop-progress g l = calls_left l.committer.left

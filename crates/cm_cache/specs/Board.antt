@@ -1,0 +1,92 @@
+-- The Board: up to which number commands are stored, and whether the device failed.
+use Rattle.std.specs.Prelude.{◌≡◌, ℕ, ◌≤◌, ◌==◌, not, Bool, true, false, List, [], ◌∷◌}
+use mathlib.Core.Option.{some}
+use lib.ListN.{get_elem?}
+use Rattle.atomic_table.specs.Table.{State, Me}
+use Rattle.cm_cache.specs.declared.board_view.Seen.{Seen}
+use Rattle.cm_cache.specs.declared.board_view.BoardView.{BoardView}
+
+-- ---- words
+
+abbrev pub flag_of : Bool → ℕ
+flag_of true = 1
+flag_of false = 0
+
+abbrev pub is_set : ℕ → Bool
+is_set word = not (word == 0)
+
+-- ---- what its users know
+
+abbrev pub poster : ℕ → BoardView
+poster number = record {
+  posts = true;
+  number = number;
+  broken = false;
+  heard_number = 0;
+  heard_broken = false;
+}
+
+abbrev pub reader : ℕ → BoardView
+reader number = record {
+  posts = false;
+  number = number;
+  broken = false;
+  heard_number = 0;
+  heard_broken = false;
+}
+
+-- of the writer, once it has heard what a reader has seen
+abbrev pub hearing : BoardView → BoardView → BoardView
+hearing v w = record v { heard_number = w.number; heard_broken = w.broken }
+
+-- as contracts see it
+abbrev pub seen_by : BoardView → Seen
+seen_by v = record { receipt = record { number = v.number }; broken = v.broken }
+
+-- ---- the rule
+
+-- One user writes, and knows what is on the Board. Nobody has seen or heard of more.
+pub record FitsBoard (seat posted : ℕ) (failed : Bool) (id : ℕ) (v : BoardView) : Type 0 where
+  pub posts : v.posts ≡ true → (id ≡ seat) × (v.number ≡ posted) × (v.broken ≡ failed)
+  pub number : v.number ≤ posted
+  pub broken : v.broken ≡ true → failed ≡ true
+  pub heard_number : v.heard_number ≤ posted
+  pub heard_broken : v.heard_broken ≡ true → failed ≡ true
+
+pub record IsBoard (s : State (Unit {0}) BoardView) : Type 0 where
+  pub seat : ℕ
+  pub posted : ℕ
+  pub failed : Bool
+  pub words : s.words ≡ posted ∷ flag_of failed ∷ []
+  pub each : (id : ℕ) (v : BoardView) → get_elem? s.views id ≡ some v
+      → FitsBoard seat posted failed id v
+
+-- ---- what each step tells: of what was known before, the word that was found or written, and what
+-- is known after
+
+abbrev pub Mine : Type 0
+Mine = Me (Unit {0}) BoardView
+
+abbrev pub HasPostedNumber : Mine → ℕ → Mine → Type 0
+HasPostedNumber me n after = (after.0 ≡ record me.0 { number = n }) × (after.1 ≡ me.1)
+
+abbrev pub HasPostedBroken : Mine → ℕ → Mine → Type 0
+HasPostedBroken me n after = (after.0 ≡ record me.0 { broken = true }) × (after.1 ≡ me.1)
+
+abbrev pub HasEntered : Mine → ℕ → Mine → Type 0
+HasEntered me n after = (after.0 ≡ reader n) × (after.1 ≡ [])
+
+abbrev pub HasSeenNumber : Mine → ℕ → Mine → Type 0
+HasSeenNumber me n after =
+    (me.0.number ≤ n) × (after.0 ≡ record me.0 { number = n }) × (after.1 ≡ me.1)
+
+abbrev pub HasSeenBroken : Mine → ℕ → Mine → Type 0
+HasSeenBroken me n after =
+    (me.0.broken ≡ true → is_set n ≡ true)
+    × (after.0 ≡ record me.0 { broken = is_set n })
+    × (after.1 ≡ me.1)
+
+abbrev pub HasCompared : Mine → ℕ → Mine → Type 0
+HasCompared me n after =
+    (after.0 ≡ me.0) × (after.1 ≡ me.1) × (me.0.heard_number ≤ me.0.number)
+    × (me.0.heard_broken ≡ true → me.0.broken ≡ true)

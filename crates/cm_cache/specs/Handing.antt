@@ -1,0 +1,94 @@
+-- What is accepted is sent at once: how the accepted cache goes with what was sent.
+use Rattle.std.specs.Prelude.{◌≡◌, ℕ, ◌+◌, ◌≤◌, true, List, [], ◌∷◌, ◌++◌, length, Some, Ok, refl}
+use Rattle.std.specs.Coded.{Coded, code_by, coded×, codes}
+use Rattle.cm_layout.specs.declared.row.Row.{Row}
+use Rattle.cm_group.specs.Groups.{Carried, Handed, IsGroup}
+use Rattle.cm_state.specs.Step.{Change}
+use Rattle.cm_state.specs.Entries.{change_of}
+use Rattle.cm_commit.specs.Offers.{filled, rows_after_group}
+use Rattle.cm_front.specs.Front.{FrontState, IsFront, front_code}
+use Rattle.cm_front.specs.Accepting.{Answers, HandsOut}
+use Rattle.cm_machine.specs.Ahead.{IsAhead}
+use Rattle.cm_cache.specs.declared.board_view.Seen.{Seen}
+use Rattle.cm_cache.specs.declared.channel.Base.{Base}
+use Rattle.cm_cache.specs.declared.channel.Message.{Message}
+use Rattle.cm_cache.specs.declared.channel.Message.TheVariants.{Group}
+use Rattle.cm_cache.specs.Channel.{entries_of, is_open}
+
+-- the accepted cache, and all that was sent
+pub record HandingState : Type 0 where
+  pub front : FrontState
+  pub sent : List Message
+
+pub messages_code : Coded (List Message)
+messages_code = Prim.hlevel codes
+
+-- a value of this kind as data
+abbrev pub handing_code : Coded HandingState
+handing_code =
+    code_by (FrontState × List Message) (coded× front_code messages_code)
+    (λ h. (h.front, h.sent))
+    (λ t. record { front = t.0; sent = t.1 })
+    (λ _. refl)
+
+-- the rows and the number after all that was sent
+abbrev pub rows_sent : Base → List Message → List (Row (List ℕ))
+rows_sent base sent = rows_after_group base.rows (entries_of sent)
+
+abbrev pub number_sent : Base → List Message → ℕ
+number_sent base sent = base.number + length (entries_of sent)
+
+-- Nothing that was accepted is held back. What was sent is what the cache has learnt to be stored,
+-- followed by the entries by which it is ahead of that.
+pub record IsTied (base : Base) (h : HandingState) : Type 0 where
+  pub is : IsFront h.front
+  pub sizes : h.front.sizes ≡ base.sizes
+  pub stored : List Carried
+  pub ahead_by : List Carried
+  pub split : entries_of h.sent ≡ stored ++ ahead_by
+  pub ahead : IsAhead (rows_after_group base.rows stored) (base.number + length stored)
+      ahead_by h.front
+  pub learnt : h.front.learnt ≡ base.number + length stored
+  pub all_sent : h.front.unsealed ≡ []
+  pub unended : is_open h.sent ≡ true
+
+-- a cache that was just opened, with nothing to send
+pub record IsFresh (base : Base) (s : FrontState) : Type 0 where
+  pub is : IsFront s
+  pub sizes : s.sizes ≡ base.sizes
+  pub ahead : IsAhead base.rows base.number [] s
+  pub learnt : s.learnt ≡ base.number
+  pub none : s.unsealed ≡ []
+
+-- what a receipt, a failure and a close alone change
+pub record SameMarks (s new : FrontState) : Type 0 where
+  pub learnt : new.learnt ≡ s.learnt
+  pub broken : new.broken ≡ s.broken
+  pub closed : new.closed ≡ s.closed
+
+-- What was seen on the Board is known from then on; a receipt of a number that wasn't handed out is
+-- passed over.
+pub record Notices (s : FrontState) (seen : Seen) (new : FrontState) : Type 0 where
+  pub broken : seen.broken ≡ true → new.broken ≡ true
+  pub learnt : seen.receipt.number ≤ s.sealed → seen.receipt.number ≤ new.learnt
+
+-- A change is accepted with this number and handed out by itself.
+pub record TakesOut (s : FrontState) (change : Change (List ℕ)) (n : ℕ) (group : Handed)
+    (new : FrontState) : Type 0 where
+  pub between : FrontState
+  pub is_between : IsFront between
+  pub answers : Answers s change (Ok n) between
+  pub hands : HandsOut between group new
+  pub is_group : IsGroup group
+  pub is_new : IsFront new
+
+-- One group of one entry is sent: the change, on the rows after all that was sent, with the number
+-- after theirs.
+pub record HandsOver (base : Base) (sent : List Message) (change : Change (List ℕ)) (n : ℕ)
+    (new : List Message) : Type 0 where
+  pub group : Handed
+  pub entry : Carried
+  pub one : group.entries ≡ entry ∷ []
+  pub new_is : new ≡ sent ++ Group group ∷ []
+  pub change_is : change_of (rows_sent base sent) (filled entry) ≡ Some change
+  pub number_is : n ≡ number_sent base sent + 1

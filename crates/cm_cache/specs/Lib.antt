@@ -1,0 +1,6 @@
+pub mod Channel
+pub mod Board
+pub mod Handing
+pub mod Shared
+pub mod Storing
+pub mod Flushing

@@ -1,0 +1,38 @@
+-- What lies under the lock, and the passes through which it is used.
+use Rattle.std.specs.Prelude.{◌≡◌, ℕ, ◌+◌, ◌≤◌, Bool, true, List, Option, Some, refl}
+use Rattle.std.specs.Coded.{Coded, code_by, coded×, coded_ℕ}
+use Rattle.cm_state.specs.Step.{Change}
+use Rattle.cm_front.specs.Front.{FrontState, front_code}
+use Rattle.cm_cache.specs.declared.board_view.Seen.{Seen}
+use Rattle.cm_cache.specs.declared.channel.Message.{Message}
+use Rattle.cm_cache.specs.Handing.{messages_code}
+
+-- how many passes a cache gives out
+abbrev pub most_passes : ℕ
+most_passes = 65536
+
+-- how many commands were accepted through it, what it saw on the Board, whether a call with it was
+-- left unsure, and the last change that was accepted through it, with its number
+pub record PassState : Type 0 where
+  pub share : ℕ
+  pub seen : Seen
+  pub marked : Bool
+  pub last : Option (Change (List ℕ) × ℕ)
+
+-- a command was accepted through it
+abbrev pub counted : PassState → Change (List ℕ) → ℕ → PassState
+counted p change n = record p { share = p.share + 1; last = Some (change, n) }
+
+-- the accepted cache, all that was sent, and how many passes were given out
+pub record SharedState : Type 0 where
+  pub front : FrontState
+  pub sent : List Message
+  pub made : ℕ
+
+-- a value of this kind as data
+abbrev pub shared_code : Coded SharedState
+shared_code =
+    code_by (FrontState × (List Message × ℕ)) (coded× front_code (coded× messages_code coded_ℕ))
+    (λ s. (s.front, (s.sent, s.made)))
+    (λ t. record { front = t.0; sent = t.1.0; made = t.1.1 })
+    (λ _. refl)

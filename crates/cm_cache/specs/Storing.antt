@@ -1,0 +1,38 @@
+-- A group is stored by its device calls, one after another.
+use Rattle.std.specs.Prelude.{◌≡◌, ℕ, ◌+◌, Bool, true, false, length, Some, None}
+use Rattle.cm_group.specs.Groups.{Handed}
+use Rattle.cm_guards.specs.Stages.{calls_left}
+use Rattle.cm_commit.specs.Offers.{rows_after_group}
+use Rattle.cm_commit.specs.States.{CommitterState}
+
+-- the same is committed
+pub record SameCommitted {D : Type 0} (old new : CommitterState D) : Type 0 where
+  pub sizes : new.sizes ≡ old.sizes
+  pub rows : new.rows ≡ old.rows
+  pub number : new.number ≡ old.number
+
+-- the group is under way, and calls for it are left
+pub record IsUnderway {D : Type 0} (old : CommitterState D) (group : Handed)
+    (new : CommitterState D) : Type 0 where
+  pub same : SameCommitted old new
+  pub sound : new.broken ≡ false
+  pub group_is : new.underway ≡ Some group
+  pub some : ℕ
+  pub left : calls_left new.left ≡ some + 1
+
+-- the group is committed, and its last number is told
+pub record IsStored {D : Type 0} (old : CommitterState D) (group : Handed) (told : ℕ)
+    (new : CommitterState D) : Type 0 where
+  pub sizes : new.sizes ≡ old.sizes
+  pub rows : new.rows ≡ rows_after_group old.rows group.entries
+  pub number : new.number ≡ old.number + length group.entries
+  pub sound : new.broken ≡ false
+  pub idle : new.underway ≡ None
+  pub is_told : told ≡ new.number
+
+-- the device failed while the group was under way
+pub record IsLeft {D : Type 0} (old : CommitterState D) (group : Handed)
+    (new : CommitterState D) : Type 0 where
+  pub same : SameCommitted old new
+  pub broken : new.broken ≡ true
+  pub group_is : new.underway ≡ Some group

@@ -1,0 +1,243 @@
+//! The Board, on which the flusher writes how far commands are stored.
+
+ghost use Rattle.std.specs.Prelude.{◌≡◌, ◌≤◌, ◌⊎◌, [], true, false, IfOk};
+ghost use Rattle.cm_cache.specs.Board.{poster as poster_view};
+
+use crate::board_rule::{
+    BoardRule, Compares, Enters, Hears, PostsBroken, PostsNumber, SeesBroken, SeesNumber,
+};
+use crate::board_view::{BoardView, Seen};
+use crate::naming::Naming;
+use atomic_table::{Seat, Table};
+use cm_group::Receipt;
+use std::alloc::{AllocError, Global};
+use std::marker::{Model, PhantomData};
+use std::sync::{Condvar, Mutex, Wait};
+
+/// The word with the number of the newest receipt.
+const NUMBER: usize = 0;
+
+/// The word that says whether the device failed.
+const BROKEN: usize = 1;
+
+/// A new Board, which belongs to no cache yet.
+#[derive(Drop)]
+pub struct NewBoard {
+    number: u64,
+    table: Table<(), BoardView, u64, BoardRule, Global>,
+    seat: Seat<(), BoardView>,
+    ghost has_words: { table.shared.table_id.words ≡ 2 },
+    ghost has_seat: { seat.table_id ≡ table.shared.table_id },
+    ghost is_new: { seat.me ≡ (poster_view number, []) },
+}
+
+impl NewBoard {
+    /// A Board that says that all commands up to this number are stored, and that nothing failed.
+    pub fn new(alloc: Global, number: u64) -> Result<NewBoard, AllocError>
+        ensures { IfOk result (λ b. b.number ≡ number) }
+    {
+        let (table, seat) = Table::of_words(alloc, &[number, 0], &number)?;
+        Ok(NewBoard {
+            number,
+            table,
+            seat,
+        })
+    }
+
+    /// The Board of the cache that K names, and the right to write on it.
+    pub fn named<K: Naming>(self) -> (Board<K>, Poster<K>)
+        requires { self.table.shared.table_id ≡ K.board }
+        ensures { result.1 ≡ record { receipt = record { number = self.number }; broken = false } }
+    {
+        let NewBoard { table, seat, .. } = self;
+        let board = Board {
+            table,
+            waiting: Mutex::new(()),
+            posted: Condvar::new(),
+            of: PhantomData,
+        };
+        let poster = Poster {
+            seat,
+            of: PhantomData,
+        };
+        (board, poster)
+    }
+}
+
+/// Says up to which number commands are stored, and whether the device failed. What it says never
+/// goes back.
+#[derive(Drop)]
+pub struct Board<K: Naming> {
+    table: Table<(), BoardView, u64, BoardRule, Global>,
+    // A reader looks and goes to sleep under this lock, and the writer takes it before it wakes
+    // them, so no reader sleeps through what was just posted.
+    waiting: Mutex<()>,
+    posted: Condvar,
+    of: PhantomData<K>,
+    ghost is_named: { table.shared.table_id ≡ K.board },
+    ghost has_words: { table.shared.table_id.words ≡ 2 },
+}
+
+impl<K: Naming> Board<K> {
+    /// A new reader of the Board.
+    pub fn reader(&self) -> Reader<K>
+        ensures { result.broken ≡ false }
+    {
+        let (_, seat) = self.table.shared.load_new_seat::<Enters>(NUMBER);
+        Reader {
+            seat,
+            of: PhantomData,
+        }
+    }
+
+    /// Wakes all readers that wait.
+    fn wake<R: Wait>(&self, rt: &R) {
+        let _guard = self.waiting.lock(rt);
+        self.posted.notify_all();
+    }
+}
+
+/// The right to write on the Board. Contracts see it as what the Board says.
+#[derive(Drop)]
+pub struct Poster<K: Naming> {
+    seat: Seat<(), BoardView>,
+    of: PhantomData<K>,
+}
+
+impl<K: Naming> Model for Poster<K> {
+    ghost use Rattle.std.specs.Prelude.{◌≡◌, [], true};
+    ghost use Rattle.cm_cache.specs.declared.board_view.Seen.{Seen};
+    ghost use Rattle.cm_cache.specs.Board.{seen_by};
+
+    ghost Value = { Seen };
+
+    ghost view = { λ p. seen_by p.seat.me.0 };
+
+    ghost invariant = { λ p.
+        (p.seat.table_id ≡ K.board) × (p.seat.me.0.posts ≡ true) × (p.seat.me.1 ≡ []) };
+}
+
+impl<K: Naming> Poster<K> {
+    /// Writes that all commands up to the receipt's number are stored, and wakes the readers.
+    pub fn post<R: Wait>(&mut self, rt: &R, board: &Board<K>, receipt: Receipt)
+        requires { self.old.receipt.number ≤ receipt.number }
+        ensures { self.new ≡ record { receipt = receipt; broken = self.old.broken } }
+    {
+        self.write_number(board, receipt.number);
+        board.wake(rt);
+    }
+
+    /// Writes that the device failed, and wakes the readers.
+    pub fn post_broken<R: Wait>(&mut self, rt: &R, board: &Board<K>)
+        ensures { self.new ≡ record { receipt = self.old.receipt; broken = true } }
+    {
+        self.write_broken(board);
+        board.wake(rt);
+    }
+
+    fn write_number(&mut self, board: &Board<K>, number: u64)
+        requires { self.old.receipt.number ≤ number }
+        ensures { self.new ≡ record {
+          receipt = record { number = number };
+          broken = self.old.broken;
+        } }
+    {
+        let shared = &board.table.shared;
+        shared.store::<PostsNumber>(&mut self.seat, NUMBER, number);
+    }
+
+    fn write_broken(&mut self, board: &Board<K>)
+        ensures { self.new ≡ record { receipt = self.old.receipt; broken = true } }
+    {
+        let shared = &board.table.shared;
+        shared.store::<PostsBroken>(&mut self.seat, BROKEN, 1);
+    }
+
+    /// Shows that a reader has seen no more than what was written.
+    pub fn compare(&mut self, board: &Board<K>, reader: Reader<K>)
+        ensures same { self.new ≡ self.old }
+        ensures number { reader.receipt.number ≤ self.old.receipt.number }
+        ensures broken { reader.broken ≡ true → self.old.broken ≡ true }
+    {
+        let Reader { seat, .. } = reader;
+        let shared = &board.table.shared;
+        shared.join_seat::<Hears>(&mut self.seat, seat);
+        shared.load::<Compares>(&mut self.seat, NUMBER);
+    }
+}
+
+/// A reader of the Board. Contracts see it as what it has seen, which the Board says or said: a
+/// read alone changes it.
+#[derive(Drop)]
+pub struct Reader<K: Naming> {
+    seat: Seat<(), BoardView>,
+    of: PhantomData<K>,
+}
+
+impl<K: Naming> Model for Reader<K> {
+    ghost use Rattle.std.specs.Prelude.{◌≡◌, [], false};
+    ghost use Rattle.cm_cache.specs.declared.board_view.Seen.{Seen};
+    ghost use Rattle.cm_cache.specs.Board.{seen_by};
+
+    ghost Value = { Seen };
+
+    ghost view = { λ r. seen_by r.seat.me.0 };
+
+    ghost invariant = { λ r.
+        (r.seat.table_id ≡ K.board) × (r.seat.me.0.posts ≡ false) × (r.seat.me.1 ≡ []) };
+}
+
+impl<K: Naming> Reader<K> {
+    /// Reads the Board. Waits for nobody.
+    pub fn look(&mut self, board: &Board<K>) -> Seen
+        ensures seen { self.new ≡ result }
+        ensures number { self.old.receipt.number ≤ result.receipt.number }
+        ensures broken { self.old.broken ≡ true → result.broken ≡ true }
+    {
+        // The flag comes first: once it is set, the number that is read next is the last one.
+        let broken = self.read_broken(board);
+        let number = self.read_number(board);
+        Seen {
+            receipt: Receipt { number },
+            broken,
+        }
+    }
+
+    fn read_number(&mut self, board: &Board<K>) -> u64
+        ensures seen { self.new ≡ record {
+          receipt = record { number = result };
+          broken = self.old.broken;
+        } }
+        ensures number { self.old.receipt.number ≤ result }
+    {
+        let shared = &board.table.shared;
+        shared.load::<SeesNumber>(&mut self.seat, NUMBER)
+    }
+
+    fn read_broken(&mut self, board: &Board<K>) -> bool
+        ensures seen { self.new ≡ record { receipt = self.old.receipt; broken = result } }
+        ensures broken { self.old.broken ≡ true → result ≡ true }
+    {
+        let shared = &board.table.shared;
+        shared.load::<SeesBroken>(&mut self.seat, BROKEN) != 0
+    }
+
+    /// Waits until the Board says that all commands up to this number are stored, or that the
+    /// device failed. Takes the Board's own lock, and no other.
+    pub fn wait_for<R: Wait>(&mut self, rt: &R, board: &Board<K>, number: u64) -> Seen
+        ensures seen { self.new ≡ result }
+        ensures later { self.old.receipt.number ≤ result.receipt.number }
+        ensures broken { self.old.broken ≡ true → result.broken ≡ true }
+        ensures news { (number ≤ result.receipt.number) ⊎ (result.broken ≡ true) }
+    {
+        let mut guard = board.waiting.lock(rt);
+        for _ in rt.forever() {
+            let seen = self.look(board);
+            if seen.receipt.number >= number || seen.broken {
+                return seen;
+            }
+            guard = board.posted.wait(rt, guard);
+        }
+        unreachable!()
+    }
+}

@@ -1,0 +1,75 @@
+//! The rule of the channel: what was received is a beginning of what was sent, and each group
+//! carries on those sent before it.
+
+use crate::channel::{ChannelView, Message};
+use crate::naming::Naming;
+use crossbeam_channel::protocol::{Join, Lesson, Outcome, Protocol, Split};
+use std::marker::PhantomData;
+
+/// The rule over the messages in the channel and what its two ends know.
+pub struct ChannelRule;
+
+impl Protocol<Message, ChannelView> for ChannelRule {
+    ghost use Rattle.std.specs.Prelude.{[]};
+    ghost use Rattle.cm_cache.specs.Channel.{IsRelayed, both_ends, no_base};
+
+    ghost holds = { IsRelayed };
+
+    ghost first = { both_ends no_base [] [] };
+}
+
+/// A message was sent.
+pub(crate) struct Sent;
+
+impl Outcome<Message, ChannelView> for Sent {
+    ghost use Rattle.cm_cache.specs.Channel.{HasSent};
+
+    ghost then = { HasSent };
+}
+
+impl Lesson<Message, ChannelView> for Sent {
+    ghost fact = { λ v items. Unit {0} };
+}
+
+/// A message was received.
+pub(crate) struct Received;
+
+impl Outcome<Message, ChannelView> for Received {
+    ghost use Rattle.cm_cache.specs.Channel.{HasReceived};
+
+    ghost then = { HasReceived };
+}
+
+impl Lesson<Message, ChannelView> for Received {
+    ghost fact = { λ v items. Unit {0} };
+}
+
+/// What was sent is what was received, followed by what the channel holds.
+pub(crate) struct Total;
+
+impl Lesson<Message, ChannelView> for Total {
+    ghost use Rattle.cm_cache.specs.Channel.{IsAll};
+
+    ghost fact = { IsAll };
+}
+
+/// Cuts a new channel into its two ends, and joins them again.
+pub(crate) struct Roles<K> {
+    of: PhantomData<K>,
+}
+
+impl<K: Naming> Split<ChannelView> for Roles<K> {
+    ghost use Rattle.cm_cache.specs.Channel.{sender, receiver};
+
+    ghost left = { λ v. sender K.base v.sent };
+
+    ghost right = { λ v. receiver K.base v.received };
+}
+
+impl<K: Naming> Join<ChannelView> for Roles<K> {
+    ghost use Rattle.cm_cache.specs.Channel.{both_ends, no_end};
+
+    ghost both = { λ v w. both_ends v.base v.sent w.received };
+
+    ghost spent = { no_end };
+}

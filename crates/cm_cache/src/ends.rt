@@ -1,0 +1,206 @@
+//! The two ends of the channel from the accepted cache to the flusher.
+
+ghost use Rattle.std.specs.Prelude.{◌≡◌, ◌++◌, ◌∷◌, [], List, true, false, OnOk, IfErr, IfSome};
+ghost use Rattle.std.specs.Prelude.{IfNone};
+ghost use Rattle.crossbeam_channel.specs.Claims.{IsSeatAt};
+ghost use Rattle.crossbeam_channel.specs.Ends.{sends_on, receives_on};
+ghost use Rattle.cm_cache.specs.Channel.{both_ends, channel_of, entries_of, is_open, known_to};
+ghost use Rattle.cm_cache.specs.Channel.{no_base, InOrder, MayBeSent};
+
+use crate::channel::{ChannelView, Message};
+use crate::channel_rule::{ChannelRule, Received, Roles, Sent, Total};
+use crate::naming::Naming;
+use crossbeam_channel::{Pass, RuledReceiver, RuledSender, bounded_with};
+use std::alloc::{AllocError, Global};
+use std::marker::{Model, PhantomData};
+use std::sync::Wait;
+
+/// How many messages the channel holds at once.
+const PLACES: usize = 1024;
+
+/// A new channel, which belongs to no cache yet.
+#[derive(Drop)]
+pub struct NewChannel {
+    sender: RuledSender<Message, ChannelView, ChannelRule>,
+    receiver: RuledReceiver<Message, ChannelView, ChannelRule>,
+    pass: Pass<Message, ChannelView>,
+    ghost is_seat: { IsSeatAt (sends_on sender) pass },
+    ghost is_one: { receives_on receiver ≡ sends_on sender },
+    ghost is_new: { known_to pass ≡ both_ends no_base [] [] },
+}
+
+impl NewChannel {
+    /// Takes the memory for all messages that the channel holds at once.
+    pub fn new(alloc: Global) -> Result<NewChannel, AllocError> {
+        let (sender, receiver, pass) = bounded_with(alloc, PLACES)?;
+        Ok(NewChannel {
+            sender,
+            receiver,
+            pass,
+        })
+    }
+
+    /// The two ends of the channel of the cache that K names.
+    pub fn named<K: Naming>(self) -> (Outgoing<K>, Incoming<K>)
+        requires { channel_of (sends_on self.sender) ≡ K.channel }
+        ensures sent { result.0 ≡ [] }
+        ensures received { result.1 ≡ [] }
+    {
+        let NewChannel {
+            sender,
+            receiver,
+            mut pass,
+        } = self;
+        let other = sender.another::<Roles<K>>(&mut pass);
+        let outgoing = Outgoing {
+            sender,
+            pass,
+            of: PhantomData,
+        };
+        let incoming = Incoming {
+            receiver,
+            pass: other,
+            of: PhantomData,
+        };
+        (outgoing, incoming)
+    }
+}
+
+/// The end that sends. Contracts see it as all that was sent, oldest first.
+#[derive(Drop)]
+pub struct Outgoing<K: Naming> {
+    sender: RuledSender<Message, ChannelView, ChannelRule>,
+    pass: Pass<Message, ChannelView>,
+    of: PhantomData<K>,
+}
+
+impl<K: Naming> Model for Outgoing<K> {
+    ghost use Rattle.std.specs.Prelude.{◌≡◌, List};
+    ghost use Rattle.crossbeam_channel.specs.Claims.{IsSeatAt};
+    ghost use Rattle.crossbeam_channel.specs.Ends.{sends_on};
+    ghost use Rattle.cm_cache.specs.declared.channel.Message.{Message};
+    ghost use Rattle.cm_cache.specs.Channel.{known_to, channel_of};
+    ghost use Rattle.cm_cache.specs.Channel.{sender as sender_view};
+
+    ghost Value = { List Message };
+
+    ghost view = { λ o. (known_to o.pass).sent };
+
+    ghost invariant = { λ o.
+        IsSeatAt (sends_on o.sender) o.pass × (channel_of (sends_on o.sender) ≡ K.channel)
+        × (known_to o.pass ≡ sender_view K.base (known_to o.pass).sent) };
+}
+
+/// The end that receives. Contracts see it as all that was received, oldest first.
+#[derive(Drop)]
+pub struct Incoming<K: Naming> {
+    receiver: RuledReceiver<Message, ChannelView, ChannelRule>,
+    pass: Pass<Message, ChannelView>,
+    of: PhantomData<K>,
+}
+
+impl<K: Naming> Model for Incoming<K> {
+    ghost use Rattle.std.specs.Prelude.{◌≡◌, List};
+    ghost use Rattle.crossbeam_channel.specs.Claims.{IsSeatAt};
+    ghost use Rattle.crossbeam_channel.specs.Ends.{receives_on};
+    ghost use Rattle.cm_cache.specs.declared.channel.Message.{Message};
+    ghost use Rattle.cm_cache.specs.Channel.{known_to, channel_of};
+    ghost use Rattle.cm_cache.specs.Channel.{receiver as receiver_view};
+
+    ghost Value = { List Message };
+
+    ghost view = { λ o. (known_to o.pass).received };
+
+    ghost invariant = { λ o.
+        IsSeatAt (receives_on o.receiver) o.pass
+        × (channel_of (receives_on o.receiver) ≡ K.channel)
+        × (known_to o.pass ≡ receiver_view K.base (known_to o.pass).received) };
+}
+
+impl<K: Naming> Outgoing<K> {
+    /// Sends a message: a group that carries on those that were sent, or the End, after which
+    /// nothing is sent. Waits while the channel is full.
+    pub fn send<R: Wait>(&mut self, rt: &R, message: Message)
+        requires still_open { is_open self.old ≡ true }
+        requires may { MayBeSent K.base (entries_of self.old) message }
+        ensures { self.new ≡ self.old ++ message ∷ [] }
+    {
+        let mut message = message;
+        for _ in rt.forever() {
+            match self.send_once(rt, message) {
+                Ok(()) => return,
+                Err(back) => message = back,
+            }
+        }
+        unreachable!()
+    }
+
+    // The message comes back where the channel reports an error: no clause says when it does.
+    fn send_once<R: Wait>(&mut self, rt: &R, message: Message) -> Result<(), Message>
+        requires still_open { is_open self.old ≡ true }
+        requires may { MayBeSent K.base (entries_of self.old) message }
+        ensures ok { OnOk result (self.new ≡ self.old ++ message ∷ []) }
+        ensures err { IfErr result (λ back. (back ≡ message) × (self.new ≡ self.old)) }
+    {
+        match self.sender.send_as::<Sent, R>(rt, &mut self.pass, message) {
+            Ok(()) => Ok(()),
+            Err(error) => Err(error.into_inner()),
+        }
+    }
+
+    /// Shows what both ends know, once they are back in one thread: what was sent is in order, what
+    /// was received is a beginning of it, and if the End was received, all of it was.
+    pub fn settle(self, other: Incoming<K>)
+        ensures ordered { InOrder K.base [] self }
+        ensures beginning { (rest : List Message) × (self ≡ other ++ rest) }
+        ensures whole { is_open other ≡ false → self ≡ other }
+    {
+        let Outgoing {
+            sender,
+            mut pass,
+            ..
+        } = self;
+        let Incoming { pass: other, .. } = other;
+        sender.absorb::<Roles<K>>(&mut pass, other);
+        sender.learn_as::<Total>(&mut pass);
+    }
+}
+
+impl<K: Naming> Incoming<K> {
+    /// Receives the next message, which was sent after those received before: a group carries them
+    /// on. Waits while there is none.
+    pub fn receive<R: Wait>(&mut self, rt: &R) -> Message
+        ensures received { self.new ≡ self.old ++ result ∷ [] }
+        ensures may { MayBeSent K.base (entries_of self.old) result }
+    {
+        for _ in rt.forever() {
+            if let Some(message) = self.receive_once(rt) {
+                return message;
+            }
+        }
+        unreachable!()
+    }
+
+    // `None` where the channel reports an error: no clause says when it does.
+    fn receive_once<R: Wait>(&mut self, rt: &R) -> Option<Message>
+        ensures received { IfSome result (λ m. self.new ≡ self.old ++ m ∷ []) }
+        ensures may { IfSome result (λ m. MayBeSent K.base (entries_of self.old) m) }
+        ensures none { IfNone result (self.new ≡ self.old) }
+    {
+        self.receiver
+            .recv_as::<Received, R>(rt, &mut self.pass)
+            .ok()
+    }
+
+    /// Receives the next message without waiting for one. `None` where it finds none; there may be
+    /// one all the same while another thread is sending.
+    pub fn receive_now<R: Wait>(&mut self, rt: &R) -> Option<Message>
+        ensures received { IfSome result (λ m. self.new ≡ self.old ++ m ∷ []) }
+        ensures may { IfSome result (λ m. MayBeSent K.base (entries_of self.old) m) }
+        ensures none { IfNone result (self.new ≡ self.old) }
+    {
+        self.receiver
+            .try_recv_as::<Received, R>(rt, &mut self.pass)
+            .ok()
+    }
+}

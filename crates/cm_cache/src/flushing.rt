@@ -1,0 +1,319 @@
+//! Storing what is received, group by group.
+
+ghost use Rattle.std.specs.Prelude.{◌≡◌, ◌≤◌, [], true, false, None, IfErr};
+ghost use Rattle.cm_cache.specs.Channel.{is_open};
+ghost use Rattle.cm_cache.specs.Flushing.{IsAt, IsEnded};
+
+use crate::board::{Board, Poster};
+use crate::channel::Message;
+use crate::ends::Incoming;
+use crate::naming::Naming;
+use crate::storing::store_group;
+use cm_commit::Committer;
+use cm_disk::Disk;
+use cm_group::Group;
+use cm_machine::groups_carry_on;
+use std::marker::Model;
+use std::sync::Wait;
+
+/// Stores what it receives, in order, and writes on the Board how far it is.
+///
+/// Contracts see its committer, what was received, what the Board says, and the groups that wait.
+pub struct Flushing<K: Naming, D: Disk> {
+    committer: Committer<D>,
+    incoming: Incoming<K>,
+    poster: Poster<K>,
+    // the group that is stored next, and one that came after it and couldn't join it
+    next: Option<Group>,
+    behind: Option<Group>,
+    over: bool,
+}
+
+impl<K: Naming, D: Disk> Model for Flushing<K, D> {
+    ghost use Rattle.cm_cache.specs.Flushing.{FlushingState, IsFlushing};
+
+    ghost Value = { FlushingState D };
+
+    ghost view = { λ f. record {
+      committer = f.committer;
+      received = f.incoming;
+      posted = f.poster;
+      next = f.next;
+      behind = f.behind;
+      over = f.over;
+    } };
+
+    ghost invariant = { λ f. IsFlushing K.base K.failed D.failures (record {
+      committer = f.committer;
+      received = f.incoming;
+      posted = f.poster;
+      next = f.next;
+      behind = f.behind;
+      over = f.over;
+    }) };
+}
+
+/// What is left once nothing more is stored: the End was received, or the device failed.
+///
+/// Contracts see the committer, what was received, and what the Board says.
+pub struct Ended<K: Naming, D: Disk> {
+    committer: Committer<D>,
+    incoming: Incoming<K>,
+    poster: Poster<K>,
+    over: bool,
+}
+
+impl<K: Naming, D: Disk> Model for Ended<K, D> {
+    ghost use Rattle.cm_cache.specs.Flushing.{EndedState, IsEnded};
+
+    ghost Value = { EndedState D };
+
+    ghost view = { λ e. record {
+      committer = e.committer;
+      received = e.incoming;
+      posted = e.poster;
+      over = e.over;
+    } };
+
+    ghost invariant = { λ e. IsEnded K.base K.failed D.failures (record {
+      committer = e.committer;
+      received = e.incoming;
+      posted = e.poster;
+      over = e.over;
+    }) };
+}
+
+impl<K: Naming, D: Disk> Flushing<K, D> {
+    /// With a committer of what was opened, a channel over which nothing was received, and a Board
+    /// that says so.
+    pub fn new(committer: Committer<D>, incoming: Incoming<K>, poster: Poster<K>) -> Flushing<K, D>
+        requires at { IsAt K.base [] committer }
+        requires sound { committer.broken ≡ false }
+        requires idle { committer.underway ≡ None }
+        requires received { incoming ≡ [] }
+        requires says { poster
+            ≡ record { receipt = record { number = committer.number }; broken = false } }
+        requires later { K.failed ≤ D.failures committer.disk }
+        ensures { (result.committer ≡ committer) × (result.over ≡ false) }
+    {
+        Flushing {
+            committer,
+            incoming,
+            poster,
+            next: None,
+            behind: None,
+            over: false,
+        }
+    }
+
+    /// Takes the next group to be stored. Waits for one, unless the End came.
+    fn fetch<R: Wait>(&mut self, rt: &R)
+        ensures { self.new.committer ≡ self.old.committer }
+    {
+        if self.next.is_some() {
+            return;
+        }
+        if self.behind.is_some() {
+            self.next = self.behind.take();
+            return;
+        }
+        if self.over {
+            return;
+        }
+        match self.incoming.receive(rt) {
+            Message::Group(group) => self.next = Some(group),
+            Message::End => self.over = true,
+        }
+    }
+
+    /// Joins what was received since to the group that is stored next, as far as it goes on and
+    /// has room. Waits for nobody.
+    fn join<R: Wait>(&mut self, rt: &R)
+        ensures { self.new.committer ≡ self.old.committer }
+    {
+        for _ in rt.forever() {
+            if !self.join_one(rt) {
+                return;
+            }
+        }
+    }
+
+    /// The same with one group. `false` where none was joined.
+    fn join_one<R: Wait>(&mut self, rt: &R) -> bool
+        ensures { self.new.committer ≡ self.old.committer }
+    {
+        groups_carry_on();
+        if self.over || self.behind.is_some() {
+            return false;
+        }
+        let Some(mut next) = self.next.take() else {
+            return false;
+        };
+        match self.incoming.receive_now(rt) {
+            None => {
+                self.next = Some(next);
+                false
+            }
+            Some(Message::End) => {
+                self.next = Some(next);
+                self.over = true;
+                false
+            }
+            Some(Message::Group(group)) => match next.add(group) {
+                Ok(()) => {
+                    self.next = Some(next);
+                    true
+                }
+                Err(back) => {
+                    self.next = Some(next);
+                    self.behind = Some(back);
+                    false
+                }
+            },
+        }
+    }
+
+    /// Stores the next group, and writes its receipt on the Board. Where the device fails, that is
+    /// written, and nothing more is stored.
+    fn store<R: Wait>(self, rt: &R, board: &Board<K>) -> Result<Flushing<K, D>, Ended<K, D>>
+        ensures { IfErr result (λ e. e.committer.broken ≡ true) }
+    {
+        groups_carry_on();
+        let Flushing {
+            mut committer,
+            incoming,
+            mut poster,
+            next,
+            behind,
+            over,
+        } = self;
+        let Some(group) = next else {
+            return Ok(Flushing {
+                committer,
+                incoming,
+                poster,
+                next: None,
+                behind,
+                over,
+            });
+        };
+        match store_group(&mut committer, group) {
+            Some(receipt) => {
+                poster.post(rt, board, receipt);
+                Ok(Flushing {
+                    committer,
+                    incoming,
+                    poster,
+                    next: None,
+                    behind,
+                    over,
+                })
+            }
+            None => {
+                poster.post_broken(rt, board);
+                drop(behind);
+                Err(Ended {
+                    committer,
+                    incoming,
+                    poster,
+                    over,
+                })
+            }
+        }
+    }
+
+    /// Whether the End came and all that was received is stored.
+    fn is_done(&self) -> bool
+        ensures { result ≡ true
+            → (self.now.over ≡ true) × (self.now.next ≡ None) × (self.now.behind ≡ None) }
+    {
+        self.over && self.next.is_none() && self.behind.is_none()
+    }
+
+    /// Stores nothing more, once all is stored.
+    fn end(self) -> Ended<K, D>
+        requires over { self.over ≡ true }
+        requires none { (self.next ≡ None) × (self.behind ≡ None) }
+        ensures { result.over ≡ true }
+    {
+        let Flushing {
+            committer,
+            incoming,
+            poster,
+            next,
+            behind,
+            over,
+        } = self;
+        drop(next);
+        drop(behind);
+        Ended {
+            committer,
+            incoming,
+            poster,
+            over,
+        }
+    }
+
+    /// Stores all that is received, until the End is received; after a failure of the device it
+    /// only receives. Waits for what is sent.
+    pub fn run<R: Wait>(self, rt: &R, board: &Board<K>) -> Ended<K, D>
+        ensures { result.over ≡ true }
+    {
+        let mut flushing = self;
+        for _ in rt.forever() {
+            flushing.fetch(rt);
+            if flushing.is_done() {
+                return flushing.end();
+            }
+            flushing.join(rt);
+            match flushing.store(rt, board) {
+                Ok(stored) => flushing = stored,
+                Err(mut ended) => {
+                    ended.drain(rt);
+                    return ended;
+                }
+            }
+        }
+        unreachable!()
+    }
+}
+
+impl<K: Naming, D: Disk> Ended<K, D> {
+    /// Receives and drops, until the End is received.
+    fn drain<R: Wait>(&mut self, rt: &R)
+        requires { self.old.committer.broken ≡ true }
+        ensures { self.new.over ≡ true }
+    {
+        for _ in rt.forever() {
+            if self.is_over() {
+                return;
+            }
+            self.drop_one(rt);
+        }
+        unreachable!()
+    }
+
+    fn is_over(&self) -> bool
+        ensures { result ≡ self.now.over }
+    {
+        self.over
+    }
+
+    fn drop_one<R: Wait>(&mut self, rt: &R)
+        requires broken { self.old.committer.broken ≡ true }
+        requires going { self.old.over ≡ false }
+        ensures { self.new.committer ≡ self.old.committer }
+    {
+        match self.incoming.receive(rt) {
+            Message::Group(group) => drop(group),
+            Message::End => self.over = true,
+        }
+    }
+
+    /// Does nothing: its clauses say what was received and stored.
+    pub fn state(&self)
+        ensures ended { IsEnded K.base K.failed D.failures self.now }
+    {
+        let _over = self.over;
+    }
+}

@@ -1,0 +1,169 @@
+//! The accepted cache, which sends each command that it accepts to the flusher at once.
+
+ghost use Rattle.std.specs.Prelude.{◌≡◌, ◌<◌, ◌≤◌, [], ◌∷◌, ◌++◌, true, false, IfOk, OnErr};
+ghost use Rattle.cm_prepare.specs.Commands.{change_asked};
+ghost use Rattle.cm_front.specs.Front.{IsFront};
+ghost use Rattle.cm_front.specs.Accepting.{with_learnt};
+ghost use Rattle.cm_cache.specs.declared.channel.Message.TheVariants.{End};
+ghost use Rattle.cm_cache.specs.Handing.{rows_sent, number_sent, IsFresh, TakesOut, HandsOver};
+ghost use Rattle.cm_cache.specs.Handing.{SameMarks, Notices};
+
+use crate::board_view::Seen;
+use crate::channel::Message;
+use crate::ends::Outgoing;
+use crate::naming::Naming;
+use cm_front::Front;
+use cm_group::{Group, Receipt};
+use cm_machine::{ahead_stays_ahead, groups_carry_on, handed_groups_are_next};
+use cm_prepare::{Command, Refusal};
+use std::marker::Model;
+use std::sync::Wait;
+
+/// The accepted cache with the end of the channel that sends. Whatever it accepted was sent.
+/// Contracts see both.
+#[derive(Drop)]
+pub struct Handing<K: Naming> {
+    front: Front,
+    outgoing: Outgoing<K>,
+}
+
+impl<K: Naming> Model for Handing<K> {
+    ghost use Rattle.cm_cache.specs.Handing.{HandingState, IsTied, handing_code};
+
+    ghost Value = { HandingState };
+
+    ghost coded = { handing_code };
+
+    ghost view = { λ h. record { front = h.front; sent = h.outgoing } };
+
+    ghost invariant = { λ h. IsTied K.base (record { front = h.front; sent = h.outgoing }) };
+}
+
+impl<K: Naming> Handing<K> {
+    /// A cache that was just opened, with a channel over which nothing was sent.
+    pub fn new(front: Front, outgoing: Outgoing<K>) -> Handing<K>
+        requires front { IsFresh K.base front }
+        requires outgoing { outgoing ≡ [] }
+        ensures { result ≡ record { front = front; sent = [] } }
+    {
+        Handing { front, outgoing }
+    }
+
+    /// The accepted cache. Its rows are those after all that was sent.
+    pub fn front(&self) -> &Front
+        ensures value { result.now ≡ self.now.front }
+        ensures rows { self.now.front.rows ≡ rows_sent K.base self.now.sent }
+        ensures number { self.now.front.number ≡ number_sent K.base self.now.sent }
+        ensures lawful { IsFront self.now.front }
+    {
+        &self.front
+    }
+
+    /// Accepts a command and sends it, or does neither. Waits while the channel is full.
+    pub fn hand_over<R: Wait>(&mut self, rt: &R, command: Command<'_>) -> Result<u64, Refusal>
+        ensures ok { IfOk result
+            (λ n. HandsOver K.base self.old.sent (change_asked command.entry) n self.new.sent) }
+        ensures err { OnErr result (self.new ≡ self.old) }
+        ensures marks { SameMarks self.old.front self.new.front }
+    {
+        ahead_stays_ahead();
+        groups_carry_on();
+        let (number, group) = match take_out(&mut self.front, command) {
+            Ok(taken) => taken,
+            Err(refusal) => return Err(refusal),
+        };
+        self.outgoing.send(rt, Message::Group(group));
+        Ok(number)
+    }
+
+    /// Learns that all commands up to the receipt's number are stored, unless that number wasn't
+    /// sent yet: then nothing is changed.
+    pub fn learn(&mut self, receipt: Receipt)
+        ensures known { receipt.number ≤ self.old.front.sealed → self.new ≡ record {
+          front = with_learnt self.old.front receipt.number;
+          sent = self.old.sent;
+        } }
+        ensures unknown { self.old.front.sealed < receipt.number → self.new ≡ self.old }
+        ensures sent { self.new.sent ≡ self.old.sent }
+        ensures broken { self.new.front.broken ≡ self.old.front.broken }
+    {
+        handed_groups_are_next();
+        ahead_stays_ahead();
+        let _learnt = self.front.learn(receipt);
+        let _front = self.front.geometry();
+    }
+
+    /// The device failed: from now on no command is accepted.
+    pub fn fail(&mut self)
+        ensures { self.new ≡ record {
+          front = record self.old.front { broken = true };
+          sent = self.old.sent;
+        } }
+    {
+        ahead_stays_ahead();
+        self.front.fail();
+        let _front = self.front.geometry();
+    }
+
+    /// Takes note of what was seen on the Board: a failure, and what is stored.
+    pub fn notice(&mut self, seen: Seen)
+        ensures sent { self.new.sent ≡ self.old.sent }
+        ensures noticed { Notices self.old.front seen self.new.front }
+    {
+        self.notice_failure(seen.broken);
+        self.learn(seen.receipt);
+    }
+
+    fn notice_failure(&mut self, broken: bool)
+        ensures failed { broken ≡ true → self.new ≡ record {
+          front = record self.old.front { broken = true };
+          sent = self.old.sent;
+        } }
+        ensures whole { broken ≡ false → self.new ≡ self.old }
+    {
+        if broken {
+            self.fail();
+        }
+    }
+
+    /// From now on no command is accepted.
+    pub fn close(&mut self)
+        ensures { self.new ≡ record {
+          front = record self.old.front { closed = true };
+          sent = self.old.sent;
+        } }
+    {
+        ahead_stays_ahead();
+        self.front.close();
+        let _front = self.front.geometry();
+    }
+
+    /// Sends the End, and gives up the cache. Waits while the channel is full.
+    pub fn finish<R: Wait>(self, rt: &R) -> Outgoing<K>
+        ensures { result ≡ self.sent ++ End ∷ [] }
+    {
+        let Handing { mut outgoing, .. } = self;
+        outgoing.send(rt, Message::End);
+        outgoing
+    }
+}
+
+/// Accepts a command where all others were handed out, and hands it out.
+fn take_out(front: &mut Front, command: Command<'_>) -> Result<(u64, Group), Refusal>
+    requires { front.old.unsealed ≡ [] }
+    ensures ok { IfOk result
+        (λ t. TakesOut front.old (change_asked command.entry) t.0 t.1 front.new) }
+    ensures err { OnErr result (front.new ≡ front.old) }
+{
+    let number = match front.accept(command) {
+        Ok(number) => number,
+        Err(refusal) => return Err(refusal),
+    };
+    let _between = front.geometry();
+    let Some(group) = front.seal() else {
+        unreachable!()
+    };
+    let _first = group.first();
+    let _after = front.geometry();
+    Ok((number, group))
+}

@@ -1,0 +1,29 @@
+//! A cache for many threads: what they accept is stored by one thread of its own.
+#![tactic(auto)]
+
+mod board;
+mod board_rule;
+mod board_view;
+mod channel;
+mod channel_rule;
+mod ends;
+mod flushing;
+mod handing;
+mod last;
+mod naming;
+mod shared;
+mod storing;
+
+pub use board::{Board, NewBoard, Poster, Reader};
+pub use board_rule::BoardRule;
+pub use board_view::{BoardView, Seen};
+pub use channel::{Base, ChannelView, Message};
+pub use channel_rule::ChannelRule;
+pub use ends::{Incoming, NewChannel, Outgoing};
+pub use flushing::{Ended, Flushing};
+pub use handing::Handing;
+// A crate can name a pass in a contract only if the types of its fields are exported.
+#[doc(hidden)]
+pub use last::Last;
+pub use naming::Naming;
+pub use shared::{MOST_PASSES, Pass, Shared};

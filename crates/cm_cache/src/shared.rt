@@ -1,0 +1,228 @@
+//! What lies under the lock of a cache that runs, and the passes through which it is used.
+
+ghost use Rattle.std.specs.Prelude.{◌≡◌, ◌+◌, ◌<◌, ◌≤◌, ◌↔◌, [], true, false, IsOk, IfOk, IfErr};
+ghost use Rattle.std.specs.Prelude.{OnOk, OnErr, None};
+ghost use Rattle.cm_prepare.specs.Commands.{change_asked};
+ghost use Rattle.cm_prepare.specs.declared.refusal.Refusal.TheVariants as refusal;
+ghost use Rattle.cm_cache.specs.Handing.{rows_sent, number_sent, HandsOver, Notices};
+ghost use Rattle.cm_cache.specs.Shared.{counted, most_passes};
+
+use crate::board::{Board, Reader};
+use crate::board_view::Seen;
+use crate::handing::Handing;
+use crate::last::Last;
+use crate::naming::Naming;
+use cm_front::Front;
+use cm_prepare::{Command, Refusal};
+use std::marker::Model;
+use std::sync::Wait;
+use std::sync::ledger::{Blank, Book, Share};
+
+/// How many passes a cache gives out.
+pub const MOST_PASSES: u64 = 65_536;
+
+/// The right to change a cache that runs. It counts the commands that were accepted through it, and
+/// keeps what calls with it saw on the Board.
+///
+/// Contracts see these, and the last change that was accepted through it, with its number.
+#[derive(Drop)]
+pub struct Pass<K: Naming> {
+    share: Share<K>,
+    count: u64,
+    reader: Reader<K>,
+    seen: Seen,
+    marked: bool,
+    last: Last,
+}
+
+impl<K: Naming> Model for Pass<K> {
+    ghost use Rattle.std.specs.Prelude.{◌≡◌, true};
+    ghost use Rattle.cm_cache.specs.Shared.{PassState};
+
+    ghost Value = { PassState };
+
+    ghost view = { λ p.
+        record { share = p.count; seen = p.seen; marked = p.marked; last = p.last.told } };
+
+    ghost invariant = { λ p.
+        (p.share.parts ≡ 1) × (p.share.amount ≡ p.count) × (p.reader ≡ p.seen)
+        × (p.marked ≡ true → p.seen.broken ≡ true) };
+}
+
+impl<K: Naming> Pass<K> {
+    /// How many commands were accepted through it.
+    pub fn share(&self) -> u64
+        ensures { result ≡ self.now.share }
+    {
+        self.count
+    }
+
+    /// What it saw last on the Board.
+    pub fn seen(&self) -> Seen
+        ensures { result ≡ self.now.seen }
+    {
+        self.seen
+    }
+
+    /// Whether a call with it was answered `Unsure`.
+    pub fn marked(&self) -> bool
+        ensures value { result ≡ self.now.marked }
+        ensures broken { result ≡ true → self.now.seen.broken ≡ true }
+    {
+        self.marked
+    }
+
+    /// Reads the Board. Waits for nobody.
+    pub fn look(&mut self, board: &Board<K>) -> Seen
+        ensures seen { self.new ≡ record self.old { seen = result } }
+        ensures number { self.old.seen.receipt.number ≤ result.receipt.number }
+    {
+        self.seen = self.reader.look(board);
+        self.seen
+    }
+
+    /// Waits until the command of this number is stored. `Unsure` where the device failed first:
+    /// then the pass is marked, and whether the command lives on is known once the file is opened
+    /// again.
+    pub fn wait_for<R: Wait>(
+        &mut self,
+        rt: &R,
+        board: &Board<K>,
+        number: u64,
+    ) -> Result<(), Refusal>
+        ensures ok { OnOk result
+            ((number ≤ self.new.seen.receipt.number) × (self.new.marked ≡ self.old.marked)) }
+        ensures err { IfErr result
+            (λ r. (r ≡ refusal.Unsure number) × (self.new.marked ≡ true)) }
+        ensures kept { (self.new.share ≡ self.old.share) × (self.new.last ≡ self.old.last) }
+        ensures later { self.old.seen.receipt.number ≤ self.new.seen.receipt.number }
+    {
+        self.seen = self.reader.wait_for(rt, board, number);
+        if self.seen.receipt.number >= number {
+            return Ok(());
+        }
+        self.marked = true;
+        Err(Refusal::Unsure(number))
+    }
+}
+
+/// What lies under the lock: the accepted cache, which sends what it accepts, and the book of what
+/// was accepted through all passes. Contracts see the cache, all that was sent, and how many passes
+/// were given out.
+#[derive(Drop)]
+pub struct Shared<K: Naming> {
+    handing: Handing<K>,
+    book: Book<K>,
+    rest: Share<K>,
+    made: u64,
+}
+
+impl<K: Naming> Model for Shared<K> {
+    ghost use Rattle.std.specs.Prelude.{◌≡◌, ◌+◌, length};
+    ghost use Rattle.cm_cache.specs.Channel.{entries_of};
+    ghost use Rattle.cm_cache.specs.Shared.{SharedState, shared_code, most_passes};
+
+    ghost Value = { SharedState };
+
+    ghost coded = { shared_code };
+
+    ghost view = { λ s.
+        record { front = s.handing.front; sent = s.handing.sent; made = s.made } };
+
+    ghost invariant = { λ s.
+        (s.book.total ≡ length (entries_of s.handing.sent))
+        × (s.rest.parts + s.made ≡ most_passes) × (s.rest.amount ≡ 0) };
+}
+
+impl<K: Naming> Shared<K> {
+    /// A cache over whose channel nothing was sent, with the new ledger that K names.
+    pub fn new(handing: Handing<K>, blank: Blank) -> Shared<K>
+        requires sent { handing.sent ≡ [] }
+        requires name { blank.name ≡ K.name }
+        requires parts { (blank.parts ≡ K.parts) × (K.parts ≡ most_passes) }
+        ensures { result ≡ record { front = handing.front; sent = []; made = 0 } }
+    {
+        let (book, rest) = blank.open::<K>();
+        Shared {
+            handing,
+            book,
+            rest,
+            made: 0,
+        }
+    }
+
+    /// The accepted cache. Its rows are those after all that was sent.
+    pub fn front(&self) -> &Front
+        ensures value { result.now ≡ self.now.front }
+        ensures rows { self.now.front.rows ≡ rows_sent K.base self.now.sent }
+        ensures number { self.now.front.number ≡ number_sent K.base self.now.sent }
+    {
+        self.handing.front()
+    }
+
+    /// Closes the cache: from now on no command is accepted.
+    pub fn stop(&mut self)
+        ensures { self.new ≡ record self.old { front = record self.old.front { closed = true } } }
+    {
+        self.handing.close();
+    }
+
+    /// A new pass. `NumbersSpent` where 65,536 were given out, and then nothing is changed.
+    pub fn pass(&mut self, board: &Board<K>) -> Result<Pass<K>, Refusal>
+        ensures room { IsOk result ↔ (self.old.made < most_passes) }
+        ensures ok { IfOk result
+            (λ p. (p.share ≡ 0) × (p.marked ≡ false) × (p.last ≡ None)
+            × (self.new ≡ record self.old { made = self.old.made + 1 })) }
+        ensures err { OnErr result (self.new ≡ self.old) }
+    {
+        if self.made >= MOST_PASSES {
+            return Err(Refusal::NumbersSpent);
+        }
+        let share = self.rest.split_off(1, 0);
+        self.made += 1;
+        let mut reader = board.reader();
+        let seen = reader.look(board);
+        Ok(Pass {
+            share,
+            count: 0,
+            reader,
+            seen,
+            marked: false,
+            last: Last::none(),
+        })
+    }
+
+    /// What a changing call does while it holds the lock: it learns what was seen on the Board,
+    /// accepts the command and sends it. A refused command is given up, and only what was seen
+    /// stays. Waits while the channel is full.
+    ///
+    /// The refusals are those of `Front::accept`.
+    pub fn hold<R: Wait>(
+        &mut self,
+        rt: &R,
+        pass: &mut Pass<K>,
+        seen: Seen,
+        command: Command<'_>,
+    ) -> Result<u64, Refusal>
+        ensures accepted { IfOk result
+            (λ n. HandsOver K.base self.old.sent (change_asked command.entry) n self.new.sent) }
+        ensures counted { IfOk result
+            (λ n. pass.new ≡ counted pass.old (change_asked command.entry) n) }
+        ensures refused { OnErr result ((self.new.sent ≡ self.old.sent) × (pass.new ≡ pass.old)) }
+        ensures noticed { Notices self.old.front seen self.new.front }
+        ensures passes { self.new.made ≡ self.old.made }
+    {
+        self.handing.notice(seen);
+        self.book.audit(&mut pass.share);
+        let next = self.handing.front().number() + 1;
+        let last = Last::of(&command, &next);
+        let number = match self.handing.hand_over(rt, command) {
+            Ok(number) => number,
+            Err(refusal) => return Err(refusal),
+        };
+        self.book.add(&mut pass.share, 1);
+        pass.count += 1;
+        pass.last = last;
+        Ok(number)
+    }
+}

@@ -1,0 +1,47 @@
+//! Storing one group by its device calls.
+
+ghost use Rattle.std.specs.Prelude.{◌≡◌, ◌<◌, ◌≤◌, IfSome, IfNone};
+ghost use Rattle.cm_commit.specs.States.{CommitterState, Takes};
+ghost use Rattle.cm_cache.specs.Storing.{IsLeft, IsStored, IsUnderway};
+ghost use Rattle.cm_group.specs.Groups.{Handed};
+
+use cm_commit::{Committer, Progress};
+use cm_disk::Disk;
+use cm_group::{Group, Receipt};
+
+/// Stores a group that may come next. `None` where the device failed: then the committer is broken.
+pub(crate) fn store_group<D: Disk>(committer: &mut Committer<D>, group: Group) -> Option<Receipt>
+    requires { Takes committer.old group }
+    ensures stored { IfSome result (λ r. IsStored committer.old group r.number committer.new) }
+    ensures left { IfNone result (IsLeft committer.old group committer.new) }
+    ensures later { D.failures committer.old.disk ≤ D.failures committer.new.disk }
+    ensures cause { IfNone result (D.failures committer.old.disk < D.failures committer.new.disk) }
+{
+    match committer.offer(group) {
+        Ok(()) => make_calls(committer),
+        Err(_) => unreachable!(),
+    }
+}
+
+/// Makes the device calls of the group that is under way.
+fn make_calls<D: Disk>(committer: &mut Committer<D>) -> Option<Receipt>
+    requires { (group : Handed) × IsUnderway committer.old group committer.old }
+    ensures stored { IfSome result (λ r. (group : Handed)
+        → IsUnderway committer.old group committer.old
+        → IsStored committer.old group r.number committer.new) }
+    ensures left { IfNone result ((group : Handed) → IsUnderway committer.old group committer.old
+        → IsLeft committer.old group committer.new) }
+    ensures later { D.failures committer.old.disk ≤ D.failures committer.new.disk }
+    ensures cause { IfNone result (D.failures committer.old.disk < D.failures committer.new.disk) }
+{
+    loop {
+        match committer.advance() {
+            Ok(progress) => match progress {
+                Progress::Done(receipt) => return Some(receipt),
+                Progress::Working => {}
+                Progress::Idle => unreachable!(),
+            },
+            Err(_) => return None,
+        }
+    }
+}
