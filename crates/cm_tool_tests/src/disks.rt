@@ -9,7 +9,12 @@ use std::test::*;
 
 /// A disk of the usual sizes that holds the empty cache.
 pub fn new_disk(alloc: Global) -> Result<SimDisk, Fail> {
-    let geometry = Geometry::new(8, 64, 4096).ok_or("a geometry")?;
+    new_disk_of(alloc, 4_096)
+}
+
+/// One with so many slots in each half.
+pub fn new_disk_of(alloc: Global, slots: u32) -> Result<SimDisk, Fail> {
+    let geometry = Geometry::new(8, 64, slots).ok_or("a geometry")?;
     let mut disk = SimDisk::new(alloc);
     if format(alloc, &mut disk, geometry).is_err() {
         return Err("a new cache".into());

@@ -1,6 +1,6 @@
 //! Scripts and the replies to them.
 
-use crate::disks::{has_one_loader, new_disk, replies};
+use crate::disks::{has_one_loader, new_disk, new_disk_of, replies};
 use cm_disk::{Disk, FuseDisk, SimDisk};
 use cm_recover::OpenFault;
 use cm_tool::{ApplyFault, Outcome, apply_script};
@@ -236,16 +236,46 @@ fn repeat(alloc: Global, bytes: &[u8], count: usize) -> Result<Vec<u8>, Fail> {
     Ok(all)
 }
 
-/// Whether all of a script is done on a new disk, and these are the last replies.
-fn is_done(alloc: Global, script: &[u8], last: &[u8]) -> Result<bool, Fail> {
-    let (written, outcome, _disk) = replies(alloc, script, new_disk(alloc)?);
-    Ok(outcome == Ok(FINE) && written.as_slice().ends_with(last))
+/// What a script comes to on a new disk of 256 slots in each half, and whether these are the last
+/// replies.
+fn end_of(
+    alloc: Global,
+    script: &[u8],
+    last: &[u8],
+) -> Result<(Result<Outcome, ApplyFault>, bool), Fail> {
+    let (written, outcome, _disk) = replies(alloc, script, new_disk_of(alloc, 256)?);
+    Ok((outcome, written.as_slice().ends_with(last)))
 }
 
+// A half has room for 127 of them.
 #[test]
 fn a_script_of_1200_commands_is_done(rt: HostRuntime) -> Result<(), Fail> {
     let script = repeat(rt.alloc(), b"loader a\nunload a\n", 600)?;
-    assert!(rt; is_done(rt.alloc(), &script, b"ok 1199\nok 1200\n")?);
+    let end = end_of(rt.alloc(), &script, b"ok 1199\nok 1200\n")?;
+    assert_eq!(rt; end, (Ok(FINE), true));
+    Ok(())
+}
+
+fn loader_line(alloc: Global, number: u32) -> Result<String, Fail> {
+    Ok(format!(in alloc; "loader l{number}\n")?)
+}
+
+/// Loaders of so many names, and then the first goes, and comes with another.
+fn loaders(alloc: Global, count: u32) -> Result<Vec<u8>, Fail> {
+    let mut script = Vec::new(alloc);
+    for number in 0..count {
+        script.extend_from_slice(loader_line(alloc, number)?.as_bytes())?;
+    }
+    script.extend_from_slice(b"unload l0\nloader l0\nloader z\n")?;
+    Ok(script)
+}
+
+#[test]
+fn a_journal_is_full_of_what_lives(rt: HostRuntime) -> Result<(), Fail> {
+    let script = loaders(rt.alloc(), 129)?;
+    let last = b"ok 127\nok 128\nrefused 7 journal full\nok 129\nok 130\nrefused 7 journal full\n";
+    let end = end_of(rt.alloc(), &script, last)?;
+    assert_eq!(rt; end, (Ok(REFUSED), true));
     Ok(())
 }
 

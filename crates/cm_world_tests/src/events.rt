@@ -1,31 +1,40 @@
 //! Events one after another, with what is replied to each.
 
 use crate::classes::{CLASS_A, class};
-use cm_disk::Choice;
+use crate::small_files::bytes_of;
+use cm_disk::{Choice, SimDisk};
 use cm_pool::Geometry;
 use cm_prepare::{Command, Prepared, Refusal};
 use cm_world::{Event, Reply, World};
 use std::alloc::Global;
 use std::test::*;
 
-/// An event: its loader is `a`, its class `A`; a crash leaves all bytes that were written.
+/// An event: its loader is `a` where none is named, its class `A`; a crash leaves all bytes that
+/// were written.
 #[derive(Clone, Copy)]
-enum Happens {
+pub enum Happens {
     Loader,
     Define,
     Unload,
+    /// A loader of this name comes.
+    Comes(&'static [u8]),
+    /// It goes.
+    Goes(&'static [u8]),
     Seal,
     Advance,
     Learn,
     Look,
-    Fault,
+    /// The next device call fails; a write stores so many bytes.
+    Fault(usize),
     Reopen,
     Crash,
+    /// A crash after which each byte that it may change is this one.
+    CrashTo(u8),
 }
 
 /// A reply, a class by the words of its record.
 #[derive(Clone, Copy, PartialEq, Eq)]
-enum Told {
+pub enum Told {
     Number(u64),
     Refused(Refusal),
     Group(u64, u64),
@@ -42,21 +51,28 @@ enum Told {
     Opened(u64),
 }
 
+/// How many bytes a half of the journal has. No write that a crash may take back is longer.
+const HALF_BYTES: usize = 16_384;
+
+fn crash(fill: Vec<u8>) -> Event<'static> {
+    Event::Crash(Choice { len: 1 << 20, fill })
+}
+
 fn event(alloc: Global, class: &Prepared, happens: Happens) -> Result<Event<'static>, Fail> {
     Ok(match happens {
         Happens::Loader => Event::Accept(Command::AddLoader(b"a")),
         Happens::Define => Event::Accept(Command::Define(b"a", class.share()?)),
         Happens::Unload => Event::Accept(Command::Unload(b"a")),
+        Happens::Comes(loader) => Event::Accept(Command::AddLoader(loader)),
+        Happens::Goes(loader) => Event::Accept(Command::Unload(loader)),
         Happens::Seal => Event::Seal,
         Happens::Advance => Event::Advance,
         Happens::Learn => Event::Learn,
         Happens::Look => Event::Look(b"a", b"A"),
-        Happens::Fault => Event::Fault(0),
+        Happens::Fault(stores) => Event::Fault(stores),
         Happens::Reopen => Event::Reopen,
-        Happens::Crash => Event::Crash(Choice {
-            len: 1 << 20,
-            fill: Vec::new(alloc),
-        }),
+        Happens::Crash => crash(Vec::new(alloc)),
+        Happens::CrashTo(byte) => crash(Vec::from_elem(alloc, byte, HALF_BYTES)?),
     })
 }
 
@@ -81,7 +97,7 @@ fn summary(reply: &Reply) -> Told {
 }
 
 /// An event, and what is replied to it.
-type Exchange = (Happens, Told);
+pub type Exchange = (Happens, Told);
 
 fn push_events(
     alloc: Global,
@@ -102,14 +118,14 @@ fn events(alloc: Global, list: &[Exchange]) -> Result<Vec<Event<'static>>, Fail>
     Ok(events)
 }
 
-// Runs events over a file of two roots of 1,024 words and of 256 slots in each half.
-fn run(alloc: Global, events: Vec<Event<'static>>) -> Result<Vec<Reply>, Fail> {
+// Runs events over a file of two roots of 1,024 words and of 256 slots in each half: the replies,
+// and the disk behind them.
+fn run(alloc: Global, events: Vec<Event<'static>>) -> Result<(Vec<Reply>, SimDisk), Fail> {
     let geometry = Geometry::new(3, 2, 256).ok_or("within the limits")?;
     let Ok((replies, world)) = World::run(alloc, geometry, events) else {
         return Err("no file is damaged".into());
     };
-    let _disk = world.into_disk();
-    Ok(replies)
+    Ok((replies, world.into_disk()))
 }
 
 // Which reply is the first that is another, or missing.
@@ -127,11 +143,22 @@ fn first_wrong(replies: &[Reply], list: &[Exchange]) -> Option<usize> {
     }
 }
 
-// Which event over a new file is the first that gets another reply.
-fn first_other(alloc: Global, list: &[Exchange]) -> Result<Option<usize>, Fail> {
+/// Which event over a new file is the first that gets another reply.
+pub fn first_other(alloc: Global, list: &[Exchange]) -> Result<Option<usize>, Fail> {
     let events = events(alloc, list)?;
-    let replies = run(alloc, events)?;
+    let (replies, _disk) = run(alloc, events)?;
     Ok(first_wrong(&replies, list))
+}
+
+/// The same, and the bytes of the disk behind the last event.
+pub fn first_other_and_bytes(
+    alloc: Global,
+    list: &[Exchange],
+) -> Result<(Option<usize>, Vec<u8>), Fail> {
+    let events = events(alloc, list)?;
+    let (replies, mut disk) = run(alloc, events)?;
+    let bytes = bytes_of(alloc, &mut disk)?;
+    Ok((first_wrong(&replies, list), bytes))
 }
 
 /// A loader, stored by four device calls; and a class in it, handed out.
@@ -167,7 +194,8 @@ const STOPPED: [(usize, u64, u32); 7] = [
     (6, 2, 16),
 ];
 
-fn push_parts(list: &mut Vec<Exchange>, parts: &[&[Exchange]]) -> Option<()> {
+/// Appends parts, one behind another.
+pub fn push_parts(list: &mut Vec<Exchange>, parts: &[&[Exchange]]) -> Option<()> {
     for part in parts {
         list.extend_from_slice(part).ok()?;
     }
@@ -233,7 +261,7 @@ fn commands_are_stored_call_by_call(rt: HostRuntime) -> Result<(), Fail> {
 const BROKEN: [Exchange; 11] = [
     (Happens::Loader, Told::Number(1)),
     (Happens::Seal, Told::Group(1, 1)),
-    (Happens::Fault, Told::Armed),
+    (Happens::Fault(0), Told::Armed),
     (Happens::Advance, Told::DeviceFailed),
     (Happens::Advance, Told::Broken),
     (Happens::Define, Told::Number(2)),

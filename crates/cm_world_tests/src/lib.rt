@@ -4,6 +4,8 @@
 #[cfg(test)]
 mod calls;
 #[cfg(test)]
+mod checkpoints;
+#[cfg(test)]
 mod classes;
 #[cfg(test)]
 mod commands;
@@ -24,6 +26,10 @@ mod offers;
 #[cfg(test)]
 mod random;
 #[cfg(test)]
+mod small_files;
+#[cfg(test)]
 mod stores;
+#[cfg(test)]
+mod turns;
 #[cfg(test)]
 mod words;

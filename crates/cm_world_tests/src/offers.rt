@@ -127,42 +127,6 @@ fn another_group_comes_back_and_nothing_is_changed(rt: HostRuntime) -> Result<()
     Ok(())
 }
 
-/// Offers groups of two entries until one is refused: how many are stored.
-fn fill(alloc: Global, committer: &mut Committer<SimDisk>) -> Result<u64, Fail> {
-    for stored in 0..100 {
-        let first = 2 * stored + 1;
-        let group = [Loader(first, b'a'), Unload(first)];
-        if offer(alloc, committer, first, &group)? != Ok(4) {
-            return Ok(stored);
-        }
-        let _stored = store(committer);
-    }
-    Ok(100)
-}
-
-/// And what comes of a smaller one then.
-fn fill_and_offer(
-    alloc: Global,
-    committer: &mut Committer<SimDisk>,
-) -> Result<(u64, Answer), Fail> {
-    let stored = fill(alloc, committer)?;
-    Ok((stored, offer(alloc, committer, 171, &[Loader(171, b'a')])?))
-}
-
-fn fill_cache(alloc: Global) -> Result<(u64, Answer), Fail> {
-    let mut committer = new_committer(alloc)?;
-    let told = fill_and_offer(alloc, &mut committer);
-    let _disk = committer.into_disk();
-    told
-}
-
-#[test]
-fn a_half_takes_groups_until_it_is_full(rt: HostRuntime) -> Result<(), Fail> {
-    // 85 groups of three slots each, behind the half's head, fill its 256 slots
-    assert_eq!(rt; fill_cache(rt.alloc())?, (85, REFUSED));
-    Ok(())
-}
-
 /// Lets the device fail behind so many calls of the first group: whether that is told, what comes
 /// of the group then, and how many calls are left.
 fn fail_behind(

@@ -45,7 +45,7 @@ fn accept_all(front: &mut Front, classes: &[Prepared], calls: &[Call]) -> bool {
 
 /// Hands over what was accepted, and stores it: how many device calls that takes, and the number
 /// that is stored.
-fn commit(front: &mut Front, committer: &mut Committer<SimDisk>) -> Option<(u64, u64)> {
+pub fn commit(front: &mut Front, committer: &mut Committer<SimDisk>) -> Option<(u64, u64)> {
     let group = front.seal()?;
     if committer.offer(group).is_err() {
         return None;

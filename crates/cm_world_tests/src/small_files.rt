@@ -1,0 +1,92 @@
+//! Files of 256 slots in each half, by their bytes.
+
+use crate::turns::name;
+use cm_disk::{Disk, SimDisk};
+use cm_layout::{GroupHead, HalfHead, LoaderRow, SUPERBLOCK_BYTES, SlotName, Superblock};
+use cm_pool::Geometry;
+use std::alloc::Global;
+use std::test::Fail;
+
+/// Where half 1 begins.
+pub const HALF_1_AT: usize = 20_480;
+
+/// How long a file without roots is.
+const LONG: usize = 36_864;
+
+/// All bytes of a disk.
+pub fn bytes_of(alloc: Global, disk: &mut SimDisk) -> Result<Vec<u8>, Fail> {
+    let long = disk.len()?;
+    let mut bytes = Vec::from_elem(alloc, 0, long as usize)?;
+    disk.read(0, &mut bytes)?;
+    Ok(bytes)
+}
+
+/// What the head of a half says: its gate's byte, how many rows live, its epoch and its base.
+pub type Head = [u16; 4];
+
+/// The head of a half that begins there.
+pub fn head_at(bytes: &[u8], at: usize) -> Option<Head> {
+    let slot = bytes.get(at..)?;
+    let base = u16::from_le_bytes([*slot.get(16)?, *slot.get(17)?]);
+    let (gate, live, epoch) = (*slot.first()?, *slot.get(4)?, *slot.get(8)?);
+    Some([u16::from(gate), u16::from(live), u16::from(epoch), base])
+}
+
+/// The heads of both halves.
+pub fn heads(bytes: &[u8]) -> Option<[Head; 2]> {
+    Some([
+        head_at(bytes, SUPERBLOCK_BYTES)?,
+        head_at(bytes, HALF_1_AT)?,
+    ])
+}
+
+fn push_loader(bytes: &mut Vec<u8>, number: u64, name: &[u8]) -> Result<(), Fail> {
+    let name = SlotName::new(name).ok_or("a short name")?;
+    let head = GroupHead {
+        count: 1,
+        first: number,
+    };
+    bytes.extend_from_slice(&head.encode())?;
+    bytes.extend_from_slice(&LoaderRow { number, name }.encode())?;
+    Ok(())
+}
+
+// The number of each is one more than its name's place.
+fn push_loaders(bytes: &mut Vec<u8>, count: usize) -> Result<(), Fail> {
+    for at in 0..count {
+        push_loader(bytes, at as u64 + 1, name(at))?;
+    }
+    Ok(())
+}
+
+fn push_half(bytes: &mut Vec<u8>, loaders: usize) -> Result<(), Fail> {
+    let head = HalfHead {
+        version: 1,
+        live: 0,
+        epoch: 1,
+        base: 0,
+    };
+    bytes.extend_from_slice(&head.encode())?;
+    push_loaders(bytes, loaders)?;
+    bytes.resize(LONG, 0)?;
+    Ok(())
+}
+
+/// The bytes of a file in whose half 0 so many loaders stand, each in a group of its own. Half 1
+/// was never used.
+pub fn file_of_loaders(alloc: Global, loaders: usize) -> Result<Vec<u8>, Fail> {
+    let geometry = Geometry::new(3, 2, 256).ok_or("within the limits")?;
+    let mut bytes = Superblock { geometry }.encode(alloc)?;
+    push_half(&mut bytes, loaders)?;
+    Ok(bytes)
+}
+
+/// A disk of these bytes, which are stored.
+pub fn disk_of(alloc: Global, bytes: &[u8]) -> Result<SimDisk, Fail> {
+    let mut disk = SimDisk::new(alloc);
+    if bytes.len() < 100_000 {
+        disk.write_at(0, bytes)?;
+    }
+    disk.sync()?;
+    Ok(disk)
+}

@@ -1,0 +1,176 @@
+//! Groups of commands as values, so that a test is a table of groups with how many device calls
+//! each takes, and of moments at which a crash comes.
+
+use crate::events::{Exchange, Happens, Told};
+use cm_prepare::Refusal;
+
+/// Bytes that names of loaders have: 91 of them, each once.
+const LETTERS: &[u8] = b"!#$%&'()*+-./0123456789:;<=>?@ABCDEFGHIJKLMNOPQRSTUVWXYZ[]^_`\
+    abcdefghijklmnopqrstuvwxyz{|}~";
+
+/// The name of a loader by its turn: of 181 in a row no two have the same.
+pub fn name(turn: usize) -> &'static [u8] {
+    let at = turn % 181;
+    let (from, long) = if at < 91 { (at, 1) } else { (at - 91, 2) };
+    LETTERS.get(from..from + long).unwrap_or(&[])
+}
+
+/// A group: how many of the oldest loaders go, how many come then, and how many device calls it
+/// takes.
+pub type Turn = (usize, usize, usize);
+
+/// How many times a group comes.
+pub type Run = (usize, Turn);
+
+/// How a group is stopped: behind so many device calls; in the next, where it is told how many
+/// bytes that stores; and then.
+pub type Stop = (usize, Option<usize>, Happens);
+
+const FULL: Told = Told::Refused(Refusal::JournalFull);
+
+/// Whose turn it is: how many loaders have come and gone, and the number of the last command.
+#[derive(Clone, Copy)]
+pub struct Course {
+    pub come: usize,
+    pub gone: usize,
+    pub number: u64,
+}
+
+/// Nothing has come yet.
+pub const START: Course = Course {
+    come: 0,
+    gone: 0,
+    number: 0,
+};
+
+impl Course {
+    fn next_number(&mut self) -> Told {
+        self.number = self.number.wrapping_add(1);
+        Told::Number(self.number)
+    }
+
+    // The oldest loader goes.
+    fn go(&mut self) -> Exchange {
+        let gone = self.gone;
+        self.gone = gone.wrapping_add(1);
+        (Happens::Goes(name(gone)), self.next_number())
+    }
+
+    // The next loader comes.
+    fn come(&mut self) -> Exchange {
+        let come = self.come;
+        self.come = come.wrapping_add(1);
+        (Happens::Comes(name(come)), self.next_number())
+    }
+}
+
+fn push_commands(
+    list: &mut Vec<Exchange>,
+    course: &mut Course,
+    goes: usize,
+    comes: usize,
+) -> Option<()> {
+    for _loader in 0..goes {
+        list.push(course.go()).ok()?;
+    }
+    for _loader in 0..comes {
+        list.push(course.come()).ok()?;
+    }
+    Some(())
+}
+
+// Device calls that are no group's last.
+fn push_calls(list: &mut Vec<Exchange>, calls: usize) -> Option<()> {
+    for _call in 0..calls {
+        list.push((Happens::Advance, Told::Working)).ok()?;
+    }
+    Some(())
+}
+
+// The commands of a group, which is handed out.
+fn push_group(
+    list: &mut Vec<Exchange>,
+    course: &mut Course,
+    goes: usize,
+    comes: usize,
+) -> Option<()> {
+    let first = course.number.wrapping_add(1);
+    push_commands(list, course, goes, comes)?;
+    list.push((Happens::Seal, Told::Group(first, course.number)))
+        .ok()
+}
+
+// A group that is handed out and stored, and learnt.
+fn push_turn(list: &mut Vec<Exchange>, course: &mut Course, turn: Turn) -> Option<()> {
+    let (goes, comes, calls) = turn;
+    push_group(list, course, goes, comes)?;
+    push_calls(list, calls.saturating_sub(1))?;
+    list.push((Happens::Advance, Told::Done(course.number)))
+        .ok()?;
+    list.push((Happens::Learn, Told::Learnt(course.number)))
+        .ok()
+}
+
+/// The file is opened again, and has the oldest loader and the newest one, where any lives.
+pub fn push_opening(list: &mut Vec<Exchange>, course: &Course) -> Option<()> {
+    list.push((Happens::Reopen, Told::Opened(course.number)))
+        .ok()?;
+    if course.gone < course.come {
+        let exists = Told::Refused(Refusal::LoaderExists);
+        list.push((Happens::Comes(name(course.gone)), exists)).ok()?;
+        let newest = course.come.saturating_sub(1);
+        list.push((Happens::Comes(name(newest)), exists)).ok()?;
+    }
+    Some(())
+}
+
+// A group so many times; behind each the file is opened again where that is asked for.
+fn push_run(list: &mut Vec<Exchange>, course: &mut Course, run: Run, opens: bool) -> Option<()> {
+    let (times, turn) = run;
+    for _time in 0..times {
+        push_turn(list, course, turn)?;
+        if opens {
+            push_opening(list, course)?;
+        }
+    }
+    Some(())
+}
+
+/// Groups one after another; behind each the file is opened again where that is asked for.
+pub fn push_runs(
+    list: &mut Vec<Exchange>,
+    course: &mut Course,
+    runs: &[Run],
+    opens: bool,
+) -> Option<()> {
+    for run in runs {
+        push_run(list, course, *run, opens)?;
+    }
+    Some(())
+}
+
+// Where a call fails that stores so many bytes.
+fn push_fault(list: &mut Vec<Exchange>, stores: Option<usize>) -> Option<()> {
+    if let Some(stores) = stores {
+        list.push((Happens::Fault(stores), Told::Armed)).ok()?;
+        list.push((Happens::Advance, Told::DeviceFailed)).ok()?;
+    }
+    Some(())
+}
+
+/// A group is handed out, behind which there is no room for one loader more, and stopped: the file
+/// is as if it had never come.
+pub fn push_stop(
+    list: &mut Vec<Exchange>,
+    course: &Course,
+    group: (usize, usize),
+    stop: &Stop,
+) -> Option<()> {
+    let (calls, stores, end) = *stop;
+    let mut asked = *course;
+    push_group(list, &mut asked, group.0, group.1)?;
+    list.push((Happens::Comes(name(asked.come)), FULL)).ok()?;
+    push_calls(list, calls)?;
+    push_fault(list, stores)?;
+    list.push((end, Told::Opened(course.number))).ok()
+}
