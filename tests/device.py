@@ -37,6 +37,9 @@ SCRIPT = [
     b"unload ext",
     runs.define(b"app", b"A", 5000),
 ]
+# So many commands come before it that the journal is written anew in the midst of it, into a half
+# that was used before.
+BEFORE = 248
 EIO = "Input/output error (os error 5)"
 
 
@@ -58,12 +61,12 @@ class Bench:
                **{name: str(value) for name, value in names.items()}}
         return runs.run(self.program, words, lines, env), calls_in(self.log)
 
-    def new_file(self, geometry):
+    def new_file(self, held):
         path = f"{self.folder}/cache"
         if os.path.exists(path):
             os.remove(path)
         with open(path, "wb") as file:
-            file.write(region.Region(geometry).bytes)
+            file.write(held.bytes)
         return path
 
 
@@ -96,9 +99,17 @@ def pieces(call):
     return [("w", at + begin, data[begin:begin + PIECE]) for begin in range(0, len(data), PIECE)]
 
 
-def due_calls(geometry, lines):
-    """The calls and replies of a script on a new file."""
+def begun(geometry, count=0):
+    """A cache behind so many commands, and its file. Nothing lives in it."""
     cache, file = runs.new_cache(geometry), region.Region(geometry)
+    for at in range(count):
+        cache.answer(b"unload x" if at % 2 else b"loader x")
+        file.store(cache.number, cache.entries[-1])
+    return cache, file
+
+
+def due_calls(cache, file, lines):
+    """The calls and replies of a script on this file."""
     calls = [("s", 0, b"")]
     for line in lines:
         before = cache.number
@@ -115,7 +126,8 @@ def due_calls(geometry, lines):
 
 def fail_one(bench, fails, stores, due):
     """The script with a call failing, then what is left of it in another run."""
-    path, cache = bench.new_file(SMALL), runs.new_cache(SMALL)
+    cache, file = begun(SMALL, BEFORE)
+    path = bench.new_file(file)
     name = f"call {fails} fails, {stores} bytes stored"
     ran, calls = bench.run(["apply", path], SCRIPT, FAIL=fails, STORES=stores)
     done = due[:[at for at, call in enumerate(due) if call[0] != "r"][fails - 1]]
@@ -187,13 +199,13 @@ def fates(rng):
 
 def stop_at_each_call(bench, calls):
     rng = random.Random(13)
-    path, states = f"{bench.folder}/stopped", [{}]
-    cache, replies = runs.new_cache(SMALL), 0
+    path, states = f"{bench.folder}/stopped", {BEFORE: {}}
+    cache, replies = begun(SMALL, BEFORE)[0], 0
     for line in SCRIPT:
         cache.answer(line)
-        if len(states) == cache.number:
-            states.append(region.state_of(cache))
-    cache, disk = runs.new_cache(SMALL), Stopped(region.Region(SMALL).bytes)
+        states[cache.number] = region.state_of(cache)
+    cache, file = begun(SMALL, BEFORE)
+    disk = Stopped(file.bytes)
     for at, call in enumerate(calls):
         if call[0] == "r":
             cache.answer(SCRIPT[replies])
@@ -261,13 +273,14 @@ def format_with_faults(bench):
 def main(program, library):
     with tempfile.TemporaryDirectory(dir=os.environ.get("WORK")) as folder:
         bench = Bench(program, library, folder)
-        due = due_calls(SMALL, SCRIPT)
-        ran, calls = bench.run(["apply", bench.new_file(SMALL)], SCRIPT)
+        cache, file = begun(SMALL, BEFORE)
+        ran, calls = bench.run(["apply", bench.new_file(file)], SCRIPT)
+        due = due_calls(cache, file, SCRIPT)
         bench.checks.check("the calls of a script", calls == due and ran[1:] == (1, ""), f"{ran}")
-        usual = oracle.Geometry()
-        ran, long_calls = bench.run(["apply", bench.new_file(usual)], SCRIPT)
+        cache, file = begun(oracle.Geometry())
+        ran, long_calls = bench.run(["apply", bench.new_file(file)], SCRIPT)
         bench.checks.check("the calls on a file of the usual sizes",
-                           long_calls == due_calls(usual, SCRIPT), f"{ran}")
+                           long_calls == due_calls(cache, file, SCRIPT), f"{ran}")
         fail_each(bench, due)
         stop_at_each_call(bench, calls)
         format_with_faults(bench)

@@ -158,15 +158,15 @@ check "a record that fills a root of the usual size, and one of a word more" 1
 rm "$small"
 : >"$work/in"
 run format "$small" --slots=256
-for i in $(seq 127); do echo "loader l$i"; done >"$work/in"
-for i in $(seq 127); do echo "ok $i"; done >"$work/want"
+for i in $(seq 128); do echo "loader l$i"; done >"$work/in"
+for i in $(seq 128); do echo "ok $i"; done >"$work/want"
 run apply "$small"
-check "127 loaders fill the half" 0
-printf 'loader l128\nunload l1\nfind l1 A\nloader l1\n' >"$work/in"
-printf '%s\n' 'refused 7 journal full' 'refused 7 journal full' none \
-    'refused 2 loader exists' >"$work/want"
+check "128 loaders, more than the first half has slots for" 0
+printf 'loader l129\nunload l1\nfind l1 A\nloader l2\nloader l1\nloader l129\n' >"$work/in"
+printf '%s\n' 'refused 7 journal full' 'ok 129' none 'refused 2 loader exists' 'ok 130' \
+    'refused 7 journal full' >"$work/want"
 run apply "$small"
-check "no command follows them" 1
+check "as many may live, and no more" 1
 
 # ---- groups whose gate isn't open
 

@@ -21,8 +21,11 @@ import oracle
 import region
 import runs
 
-GEOMETRIES = [oracle.Geometry(), oracle.Geometry(top=3, roots=3, slots=2048)]
+# The last writes the other half of its journal anew every hundred commands or so.
+GEOMETRIES = [oracle.Geometry(), oracle.Geometry(top=3, roots=3, slots=2048),
+              oracle.Geometry(top=3, roots=3, slots=256)]
 LINES = 400
+KILLS_A_FILE = 7
 
 
 def format_words(path, geometry):
@@ -103,8 +106,8 @@ def main(program, kills, seed):
         delay = longest
         cache = None
         while hits < kills and done < 3 * kills:
-            if cache is None or 2 * cache.number > cache.geometry.slots * 0.9:
-                geometry = GEOMETRIES[done // 7 % 2]
+            if cache is None or done % KILLS_A_FILE == 0:
+                geometry = GEOMETRIES[done // KILLS_A_FILE % len(GEOMETRIES)]
                 cache = runs.new_cache(geometry)
                 os.remove(path)
                 if not checks.check(

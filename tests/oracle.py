@@ -783,14 +783,7 @@ class Cache:
         if not re.fullmatch(rb"[\x21-\x7e]{1,48}", name):
             raise Refused("1 name")
 
-    def check_group(self):
-        """A group of two slots goes behind those of the commands so far, and the half's last slot
-        stays free."""
-        if 1 + 2 * self.number + 1 > self.geometry.slots - 1:
-            raise Refused("7 journal full")
-
     def check_room(self):
-        self.check_group()
         if len(self.loaders) + self.classes() >= self.geometry.slots // 2:
             raise Refused("7 journal full")
 
@@ -819,7 +812,6 @@ class Cache:
 
     def unload(self, name):
         gone = self.named(name)
-        self.check_group()
         for chunk, _ in gone.arena.chain:
             self.pool.give(chunk)
         del self.loaders[name]

@@ -68,15 +68,41 @@ class Region:
 
     def __init__(self, geometry):
         self.geometry = geometry
-        self.slot = 1
+        # The half that counts, its epoch and the slot where it ends; whether the other is open.
+        self.half, self.epoch, self.slot = 0, 1, 1
+        self.is_other_open = False
+        # The entries of what lives, in order.
+        self.rows = []
         numbers = struct.pack("<IIII", 1, geometry.top, geometry.roots, geometry.slots)
         superblock = (MAGIC + numbers).ljust(SUPERBLOCK - 1, b"\0") + bytes([OPEN])
         halves = head_slot(0, 1, 0, gate=OPEN).ljust(2 * SLOT * geometry.slots, b"\0")
         self.bytes = bytearray(superblock + halves)
 
+    def is_due(self):
+        """Whether a group of one command has no room left in the half that counts."""
+        return self.slot + 2 > self.geometry.slots
+
+    def half_at(self, half):
+        return SUPERBLOCK + SLOT * self.geometry.slots * half
+
+    def checkpoint(self, number):
+        """The device calls that write what lives into the other half, behind this last number."""
+        half = self.half_at(1 - self.half)
+        yield (half, b"\0") if self.is_other_open else None
+        yield None
+        slots = [head_slot(len(self.rows), self.epoch + 1, number), *map(entry_slot, self.rows)]
+        yield half + 1, b"".join(slots)[1:] + bytes(SLOT)
+        yield None
+        yield half, bytes([OPEN])
+        yield None
+
     def calls(self, number, entry):
         """The device calls that store a command: each a place and the bytes to write there, or None
         for a sync."""
+        half, slot = self.half, self.slot
+        if self.is_due():
+            yield from self.checkpoint(number - 1)
+            half, slot = 1 - self.half, 1 + len(self.rows)
         size = oracle.UNIT * 8 << self.geometry.top
         roots = SUPERBLOCK + 2 * SLOT * self.geometry.slots
         if entry[0] == "define":
@@ -84,9 +110,9 @@ class Region:
             for missing in range((len(self.bytes) - roots) // size, root + 1):
                 yield roots + missing * size, bytes(size)
             yield roots + root * size + 8 * (at + offset), struct.pack(f"<{len(words)}Q", *words)
-        group = SUPERBLOCK + SLOT * self.slot
+        group = self.half_at(half) + SLOT * slot
         slots = group_slot(1, number) + entry_slot(entry) + bytes(SLOT)
-        room = self.geometry.slots - self.slot
+        room = self.geometry.slots - slot
         yield group + 1, slots[1:SLOT * room]
         yield None
         yield group, bytes([OPEN])
@@ -97,7 +123,14 @@ class Region:
             if call:
                 at, data = call
                 self.bytes[at:at + len(data)] = data
+        if self.is_due():
+            self.half, self.epoch, self.slot = 1 - self.half, self.epoch + 1, 1 + len(self.rows)
+            self.is_other_open = True
         self.slot += 2
+        if entry[0] == "unload":
+            self.rows = [row for row in self.rows if row[1] != entry[1]]
+        else:
+            self.rows.append(entry)
 
 
 def file_of(cache):

@@ -107,12 +107,16 @@ done
 run apply --memory
 check "a hundred classes" 0
 
-for i in $(seq 2050); do echo "loader l$i"; done >"$work/in"
 {
-    for i in $(seq 2047); do echo "ok $i"; done
+    for i in $(seq 2050); do echo "loader l$i"; done
+    printf '%s\n' "define l1 $a" 'unload l2' "define l1 $a" 'loader l2'
+} >"$work/in"
+{
+    for i in $(seq 2048); do echo "ok $i"; done
     for i in 1 2 3; do echo "refused 7 journal full"; done
+    printf '%s\n' 'ok 2049' 'ok 2050 A' 'refused 7 journal full'
 } >"$work/want"
 run apply --memory
-check "a journal at its end" 1
+check "as many loaders and classes as may live" 1
 
 finish

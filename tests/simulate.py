@@ -59,6 +59,23 @@ def judged(data):
 
 # ---- the world
 
+# The device calls of a checkpoint, before those of the group that has no room; where the other half
+# is shut, a sync stands for the first.
+CHECKPOINT = ["other half's gate", "sync", "rows", "sync", "new half's gate", "sync"]
+
+# Whose gate a call writes, and the byte there before and after it.
+GATES = {
+    "other half's gate": ("other half", 0xa5, 0),
+    "new half's gate": ("new half", 0, 0xa5),
+    "gate": ("group", 0, 0xa5),
+}
+
+
+def rows_in(loaders):
+    """How many loaders and classes live."""
+    return len(loaders) + sum(len(classes) for classes in loaders.values())
+
+
 class Group:
     """Commands that are stored together: the number of the last, how many, and the device calls to
     make."""
@@ -86,7 +103,8 @@ class World:
         self.stops = []
         self.length = self.least = self.greatest = self.base
         self.acknowledged = 0
-        self.end = 1
+        # The slot where the half that counts ends, and whether the other half is open.
+        self.end, self.is_other_open = 1, False
         self.open_again(0)
 
     # -- what is in the file
@@ -95,26 +113,39 @@ class World:
         """The file is opened, whose last command is this one."""
         del self.commands[number:]
         del self.states[number + 1:]
-        if number > self.acknowledged:
-            self.end += 1 + self.under_way.count()
-        self.opened_slot, self.opened_number = self.end, number
         self.acknowledged = self.sealed = number
         self.queue = []
         self.under_way = None
         self.calls = []
         self.broken = self.told = False
         self.armed = None
-        # The gate's byte, and whether a crash may leave any byte there.
-        self.gate, self.loose = 0, False
+        self.settle()
+
+    def settle(self):
+        """No gate is being turned."""
+        # Whose gate it would be, its byte, and whether a crash may leave any byte there.
+        self.turned, self.gate, self.loose = None, 0, False
+
+    def turn(self, gate):
+        """The byte of the gate that is turned is settled: the number of the last command in the
+        file then."""
+        turned = self.turned
+        self.settle()
+        if turned == "other half":
+            self.is_other_open = gate == 0xa5
+        elif turned == "new half" and gate == 0xa5:
+            self.end = 1 + rows_in(self.states[self.acknowledged])
+            self.is_other_open = True
+        elif turned == "group" and gate == 0xa5:
+            self.end += 1 + self.under_way.count()
+            return self.under_way.last
+        return self.acknowledged
 
     def number(self):
         return len(self.commands)
 
     def loaders(self):
         return self.states[-1]
-
-    def in_file(self, gate):
-        return self.under_way.last if self.under_way and gate == 0xa5 else self.acknowledged
 
     # -- commands
 
@@ -123,14 +154,12 @@ class World:
             return "refused 10"
         if refusal:
             return f"refused {refusal}"
-        if self.opened_slot + 2 * (self.number() - self.opened_number) + 1 > self.slots - 1:
-            return "refused 7"
         self.commands.append(change[0])
         self.states.append(change[1])
         return f"number {self.number()}"
 
-    def rows(self):
-        return len(self.loaders()) + sum(len(classes) for classes in self.loaders().values())
+    def is_full(self):
+        return rows_in(self.loaders()) >= self.slots // 2
 
     def loader(self, name):
         refusal = None
@@ -138,7 +167,7 @@ class World:
             refusal = 1
         elif name in self.loaders():
             refusal = 2
-        elif self.rows() >= self.slots // 2:
+        elif self.is_full():
             refusal = 7
         return self.accept(("loader", {**self.loaders(), name: {}}), refusal)
 
@@ -164,7 +193,7 @@ class World:
             refusal = 4
         elif words > self.root_words:
             refusal = 5
-        elif self.rows() >= self.slots // 2:
+        elif self.is_full():
             refusal = 7
         else:
             change = ("define",
@@ -193,7 +222,9 @@ class World:
         records = self.commands[group.first - 1:group.last].count("define")
         grows = records > 0 and self.length < self.base + self.root_bytes
         self.under_way = group
-        self.calls = ["root"] * grows + ["record"] * records + ["group", "sync", "gate", "sync"]
+        if self.end + 1 + group.count() > self.slots:
+            self.calls = ["other half's gate" if self.is_other_open else "sync", *CHECKPOINT[1:]]
+        self.calls += ["root"] * grows + ["record"] * records + ["group", "sync", "gate", "sync"]
 
     def advance(self, may_fail=False):
         if self.broken:
@@ -213,7 +244,6 @@ class World:
         if self.calls:
             return "working"
         group, self.under_way = self.under_way, None
-        self.end += 1 + group.count()
         self.acknowledged = group.last
         return f"done {group.last}"
 
@@ -225,15 +255,13 @@ class World:
             stored = self.root_bytes if fails is None else min(fails, self.root_bytes)
             self.length = max(self.length, self.base + stored)
             self.greatest = self.base + self.root_bytes
-        elif call == "gate":
+        elif call in GATES:
+            self.turned, before, after = GATES[call]
             self.loose = True
-            if fails is None or fails > 0:
-                self.gate = 0xa5
+            self.gate = after if fails is None or fails > 0 else before
         elif call == "sync" and fails is None:
             self.least = self.greatest = self.length
-            self.loose = False
-            if not self.calls:
-                self.gate = 0
+            self.turn(self.gate)
 
     def learn(self):
         if self.broken:
@@ -248,16 +276,16 @@ class World:
 
     def reopen(self):
         self.least = self.greatest = self.length
-        self.open_again(self.in_file(self.gate))
+        self.open_again(self.turn(self.gate))
         return f"opened {self.number()}"
 
     def crash(self, length, fill):
-        """Once anything is loose behind the gate's own sync, nothing else is."""
-        self.stops.append("crash, gate loose" if self.loose
+        """Where a gate's byte is loose, nothing else is."""
+        self.stops.append(f"crash, gate of the {self.turned} loose" if self.loose
                           else f"crash before {self.calls[0]}" if self.calls else "crash at rest")
         gate = fill[0] if self.loose and fill else self.gate
         self.length = self.least = self.greatest = max(self.least, min(length, self.greatest))
-        self.open_again(self.in_file(gate))
+        self.open_again(self.turn(gate))
         return f"opened {self.number()}"
 
 
@@ -368,13 +396,13 @@ AT_REST = [(20, 8, 1, 3, 5, 1, 1, 1), (30, 4, 1, 2, 2, 1, 0, 1)]
 
 
 def fill_journal(draw, simulation):
-    """Commands until the journal has no room for another."""
+    """Commands until as many loaders live as may."""
     simulation.add("reopen")
     for count in range(600):
         if simulation.add("loader", b"l%d" % count) == "refused 7":
             break
-        if draw.random() < 0.5 and simulation.add("unload", b"l%d" % count) == "refused 7":
-            break
+        if draw.random() < 0.5:
+            simulation.add("unload", b"l%d" % count)
         if draw.random() < 0.3:
             simulation.add("seal")
         for _ in range(draw.randrange(3)):
@@ -382,7 +410,7 @@ def fill_journal(draw, simulation):
 
 
 def draw_list(seed):
-    """An event list; of every 25, one is long enough that the journal is full."""
+    """An event list; of every 25, one is long enough that as many loaders live as may."""
     draw = random.Random(seed)
     simulation = Simulation()
     mixes = draw.choice(BUSY), draw.choice(AT_REST)
@@ -434,7 +462,7 @@ def check_lists(checks, program):
     # A root is the first call of its group: before it the cache is at rest.
     wanted += ([f"fault in {call}" for call in set(CALLS)]
                + [f"crash before {call}" for call in set(CALLS) - {"root"}])
-    wanted += ["crash, gate loose", "crash at rest"]
+    wanted += ["crash, gate of the group loose", "crash at rest"]
     missed = [f"{kind} ({met.get(kind, 0)})" for kind in wanted if met.get(kind, 0) < 20]
     checks.check(not missed,
                  f"the lists meet each reply and each stop at least 20 times, but not {missed}")
@@ -457,55 +485,96 @@ def beginning():
     return simulation
 
 
-def ends():
+def store(simulation):
+    """All that was accepted is handed out and stored."""
+    simulation.add("seal")
+    while not simulation.add("advance").startswith("done"):
+        pass
+
+
+def fill_half(simulation):
+    """Groups are stored until the half that counts has no room for another."""
+    world = simulation.world
+    while world.end + 2 <= world.slots:
+        for _ in range(min(MOST_IN_GROUP, world.slots - world.end - 1)):
+            simulation.add("unload" if b"x" in world.loaders() else "loader", b"x")
+        store(simulation)
+
+
+def before_checkpoint(is_other_open):
+    """A loader that is stored, and a class that is handed out and has no room in the half that
+    counts."""
+    simulation = Simulation(3, 2, 256)
+    simulation.add("loader", b"app")
+    store(simulation)
+    fill_half(simulation)
+    if is_other_open:
+        simulation.add("loader", b"y")
+        store(simulation)
+        fill_half(simulation)
+    simulation.add("define", b"app", class_a())
+    simulation.add("seal")
+    return simulation
+
+
+def ends(lengths, fills):
     """The ways in which a walk goes on: opened again, or behind a crash."""
     yield ("reopen",)
-    for length in 0, 4096 + 128 * 256 + 100, 4096 + 128 * 256 + 8192, 1 << 40:
-        for fill in b"", b"\xa5", b"\x00", b"\xff", b"\xa5" * 9000:
+    for length in lengths:
+        for fill in fills:
             yield "crash", length, fill
 
 
-def check_walk(checks, program, calls, stored, end):
-    """A define is stopped behind so many device calls, the last of which fails where bytes are
-    given that it stores."""
-    simulation = beginning()
+def check_walk(checks, program, simulation, device_calls, calls, stored, end):
+    """A define is stopped behind so many of its device calls, the last of which fails where bytes
+    are given that it stores."""
+    number = simulation.world.number()
     for call in range(calls):
         if stored is not None and call == calls - 1:
             simulation.add("fault", stored)
         simulation.add("advance")
     simulation.add(*end)
     simulation.add("look", b"app", b"A")
-    what = f"a define stopped behind {calls} calls, {stored} bytes stored of the last, {end[0]}"
+    what = (f"a define of {len(device_calls)} calls stopped behind {calls}, {stored} bytes stored "
+            f"of the last, {end[0]}")
     # As docs/CRASH.md has it: the class is there exactly where its gate is A5 in the file that
     # is opened.
-    last = CALLS[calls - 1] if calls else None
-    gate = 0xa5 if calls >= 5 and not (calls == 5 and stored == 0) else 0
-    if end[0] == "crash" and end[2] and (calls == 5 or calls == 6 and stored is not None):
+    at_gate, at_end = len(device_calls) - 1, len(device_calls)
+    gate = 0xa5 if calls >= at_gate and not (calls == at_gate and stored == 0) else 0
+    if (end[0] == "crash" and end[2]
+            and (calls == at_gate or calls == at_end and stored is not None)):
         gate = end[2][0]
     there = gate == 0xa5
     due = compare(checks, program, simulation, what)
-    wanted = ["opened 2", "class 16"] if there else ["opened 1", "none"]
-    checks.check(
-        due[-2:] == wanted and (last != "sync" or calls < 6 or stored is not None or there),
-        f"{what}: the model")
+    wanted = [f"opened {number}", "class 16"] if there else [f"opened {number - 1}", "none"]
+    checks.check(due[-2:] == wanted and (calls < at_end or stored is not None or there),
+                 f"{what}: the model")
     # What is opened goes on.
     simulation.add("loader", b"next")
-    simulation.add("seal")
-    while not simulation.add("advance").startswith("done"):
-        pass
+    store(simulation)
     simulation.add("crash", 0, b"\x00")
     simulation.add("look", b"app", b"A")
     compare(checks, program, simulation, what + ", and then more")
 
 
 def check_walks(checks, program):
-    for calls in range(7):
-        for end in ends():
-            check_walk(checks, program, calls, None, end)
-    for calls in range(1, 7):
-        for stored in (0, 1, 5) if CALLS[calls - 1] != "sync" else (0,):
-            for end in ends():
-                check_walk(checks, program, calls, stored, end)
+    base = 4096 + 128 * 256
+    walks = list(ends((0, base + 100, base + 8192, 1 << 40),
+                      (b"", b"\xa5", b"\x00", b"\xff", b"\xa5" * 9000)))
+    check_each_stop(checks, program, beginning, CALLS, walks)
+    walks = list(ends((0, 1 << 40), (b"", b"\xa5", b"\x00", b"\xa5" * 9000)))
+    for is_other_open, first in (False, "sync"), (True, CHECKPOINT[0]):
+        check_each_stop(checks, program, lambda: before_checkpoint(is_other_open),
+                        [first, *CHECKPOINT[1:], *CALLS], walks)
+
+
+def check_each_stop(checks, program, begin, device_calls, walks):
+    for end in walks:
+        for calls in range(len(device_calls) + 1):
+            check_walk(checks, program, begin(), device_calls, calls, None, end)
+        for calls, call in enumerate(device_calls, 1):
+            for stored in (0, 1, 5) if call != "sync" else (0,):
+                check_walk(checks, program, begin(), device_calls, calls, stored, end)
 
 
 def check_region(checks, program):
