@@ -1,7 +1,15 @@
 -- What the calls of a disk do to its bytes, and how time goes on over a call.
 -- Source: the project's own model of a disk, docs/CRASH.md.
 use Rattle.std.specs.Prelude.{◌≡◌, ◌<◌, ◌≤◌, ◌⊎◌, ◌+◌, ℕ, max, List, ◌++◌, length, take, drop}
-use Rattle.std.specs.Prelude.{Result, IsErr}
+use Rattle.std.specs.Prelude.{Result, IsErr, IsOk}
+
+-- a call of a disk, with what it is asked for: a read has a place and a number of bytes
+pub data DiskCall : Type 0 where
+  Len : DiskCall
+  Read : ℕ → ℕ → DiskCall
+  Write : ℕ → List ℕ → DiskCall
+  Cut : ℕ → DiskCall
+  Sync : DiskCall
 
 -- the old bytes with the range from `at` on written over; the end may lie past the old end
 abbrev pub overwritten : ℕ → List ℕ → List ℕ → List ℕ
@@ -30,7 +38,8 @@ pub record Elapses (before now : ℕ) (past since : ℕ → List ℕ → Type 0)
       ⊎ during image
   pub keeps : (t : ℕ) (image : List ℕ) → t ≤ before → past t image → since t image
 
--- A fault is told only where the device failed in this call.
+-- A fault is told exactly where the device failed in this call.
 pub record HasCause {T E : Type 0} (before now : ℕ) (result : Result T E) : Type 0 where
   pub later : before ≤ now
   pub fault : IsErr result → before < now
+  pub no_fault : IsOk result → now ≡ before

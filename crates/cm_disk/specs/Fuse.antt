@@ -4,7 +4,8 @@ use Rattle.cm_disk.specs.declared.fuse.FuseDisk.{FuseDisk}
 use Rattle.cm_disk.specs.declared.sim.SimDisk.{SimDisk}
 use Rattle.cm_disk.specs.Disk.{Unsynced}
 use Rattle.cm_disk.specs.Sim.{sim_contents, sim_unsynced, sim_failures, sim_moment, sim_left_since}
-use Rattle.cm_disk.specs.Sim.{IsOneCall}
+use Rattle.cm_disk.specs.Sim.{IsOneCall, Makes}
+use Rattle.cm_disk.specs.Calls.{DiskCall}
 
 -- the disk behind the fuse
 abbrev pub behind : FuseDisk → SimDisk
@@ -43,3 +44,7 @@ pub record IsFuseCall (old new : FuseDisk) (ok : Bool) : Type 0 where
   pub call : IsOneCall (fuse_armed old) (behind old) (behind new) ok
   pub pass : fuse_pass new ≡ fuse_pass old - 1
   pub stays : fuse_stores new ≡ fuse_stores old
+
+-- what this call does to the disk behind the fuse besides
+abbrev pub fuse_made : DiskCall → FuseDisk → FuseDisk → Bool → Type 0
+fuse_made call old new ok = Makes (fuse_armed old) call (behind old) (behind new) ok

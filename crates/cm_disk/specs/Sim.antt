@@ -1,10 +1,10 @@
 -- What a disk in memory shows, and when its calls fail.
-use Rattle.std.specs.Prelude.{◌≡◌, ◌≤◌, ◌⊎◌, ◌+◌, ◌||◌, ℕ, Bool, true, false, List, take, length}
-use Rattle.std.specs.Prelude.{Result, Option, Some, None, is_some, is_err, not, if◌then◌else◌}
-use Rattle.cm_disk.specs.declared.disk.DeviceFault.{DeviceFault}
+use Rattle.std.specs.Prelude.{◌≡◌, ◌≤◌, ◌⊎◌, ◌+◌, ◌-◌, ◌^◌, ◌||◌, ℕ, Bool, true, false, List, take}
+use Rattle.std.specs.Prelude.{length, min, Option, Some, None, is_some, not, if◌then◌else◌}
 use Rattle.cm_disk.specs.declared.sim.SimDisk.{SimDisk}
 use Rattle.cm_disk.specs.Disk.{Unsynced, IsImage, IsSettled, IsWithin, widened, shortened}
-use Rattle.cm_disk.specs.Calls.{overwritten}
+use Rattle.cm_disk.specs.Calls.{overwritten, DiskCall}
+use Rattle.cm_disk.specs.Calls.DiskCall.{Len, Read, Write, Cut, Sync}
 use Rattle.cm_disk.specs.Medium.{medium_unsynced}
 use Rattle.cm_disk.specs.Moments.{LeftAtOne, noted_since, LeftSince}
 
@@ -50,14 +50,6 @@ pub record IsFresh (disk : SimDisk) : Type 0 where
   pub syncs : sim_syncs disk ≡ 0
   pub failures : sim_failures disk ≡ 0
   pub moment : sim_moment disk ≡ 0
-
--- A call fails exactly where it is armed or an allocation fails, and then counts. Only it was
--- armed.
-pub record FailsFor {T : Type 0} (armed : Option ℕ) (old new : SimDisk)
-    (result : Result T DeviceFault) : Type 0 where
-  pub exactly : is_err result ≡ (is_some armed || sim_refused new)
-  pub disarmed : sim_armed new ≡ None
-  pub counted : sim_failures new ≡ sim_failures old + (if is_err result then 1 else 0)
 
 -- what a write stores of its bytes: where it is armed only the first n
 abbrev pub stored_part : Option ℕ → List ℕ → List ℕ
@@ -117,3 +109,36 @@ pub record IsOneCall (armed : Option ℕ) (old new : SimDisk) (ok : Bool) : Type
 -- one call, for which the disk was armed or not
 abbrev pub sim_called : SimDisk → SimDisk → Bool → Type 0
 sim_called old new ok = IsOneCall (sim_armed old) old new ok
+
+-- ---- what this call does besides
+
+-- a length or a read
+pub record IsAsked (old new : SimDisk) : Type 0 where
+  pub no_memory : sim_refused new ≡ false
+  pub syncs_stay : sim_syncs new ≡ sim_syncs old
+
+pub record IsWritten (at : ℕ) (bytes : List ℕ) (armed : Option ℕ) (old new : SimDisk) : Type 0 where
+  pub stores : Stores at bytes armed old new
+  pub syncs_stay : sim_syncs new ≡ sim_syncs old
+
+-- one that fails cuts nothing, but a crash may
+pub record IsShortened (len : ℕ) (old new : SimDisk) (ok : Bool) : Type 0 where
+  pub no_memory : sim_refused new ≡ false
+  pub uncut : ok ≡ false → sim_contents new ≡ sim_contents old
+  pub unsynced_is : sim_unsynced new ≡ shortened len (sim_unsynced old)
+  pub syncs_stay : sim_syncs new ≡ sim_syncs old
+
+pub record IsSynced (old new : SimDisk) (ok : Bool) : Type 0 where
+  pub no_memory : sim_refused new ≡ false
+  pub counted : ok ≡ true → sim_syncs new ≡ min (sim_syncs old + 1) (2 ^ 64 - 1)
+  pub not_counted : ok ≡ false → sim_syncs new ≡ sim_syncs old
+
+abbrev pub Makes : Option ℕ → DiskCall → SimDisk → SimDisk → Bool → Type 0
+Makes armed Len old new ok = IsAsked old new
+Makes armed (Read at n) old new ok = IsAsked old new
+Makes armed (Write at bytes) old new ok = IsWritten at bytes armed old new
+Makes armed (Cut len) old new ok = IsShortened len old new ok
+Makes armed Sync old new ok = IsSynced old new ok
+
+abbrev pub sim_made : DiskCall → SimDisk → SimDisk → Bool → Type 0
+sim_made call old new ok = Makes (sim_armed old) call old new ok

@@ -3,7 +3,8 @@ ghost use Rattle.std.specs.Prelude.{◌≡◌, ◌≤◌, ◌+◌, ◌^◌, List
 ghost use Rattle.std.specs.Prelude.{OnOk, OnErr, is_ok};
 ghost use Rattle.cm_disk.specs.Disk.{Unsynced, IsImage, IsSettled, IsSound, IsWithin, widened};
 ghost use Rattle.cm_disk.specs.Disk.{shortened};
-ghost use Rattle.cm_disk.specs.Calls.{overwritten, IsTorn, IsCut, Elapses, HasCause};
+ghost use Rattle.cm_disk.specs.Calls.{overwritten, IsTorn, IsCut, Elapses, HasCause, DiskCall};
+ghost use Rattle.cm_disk.specs.Calls.DiskCall.{Len, Read, Write, Cut, Sync};
 
 use thiserror::Error;
 
@@ -37,6 +38,9 @@ pub trait Disk {
     /// the other, and is answered `Ok` (true) or not.
     ghost called: { Self → Self → Bool → Type 0 };
 
+    /// What it says besides of this call, as of a write of these bytes to that place.
+    ghost made: { DiskCall → Self → Self → Bool → Type 0 };
+
     /// The number of bytes.
     fn len(&mut self) -> Result<u64, DeviceFault>
         ensures len { IfOk result (λ n. n ≡ length (contents self.old)) }
@@ -46,7 +50,8 @@ pub trait Disk {
             (left_since self.new)
             (IsImage (contents self.old) (unsynced self.old)) }
         ensures cause { HasCause (failures self.old) (failures self.new) result }
-        ensures called { called self.old self.new (is_ok result) };
+        ensures called { called self.old self.new (is_ok result) }
+        ensures made { made Len self.old self.new (is_ok result) };
 
     /// Reads as many bytes as `out` takes, from `at` on. After an `Err` there are any bytes in
     /// `out`.
@@ -60,7 +65,8 @@ pub trait Disk {
             (left_since self.new)
             (IsImage (contents self.old) (unsynced self.old)) }
         ensures cause { HasCause (failures self.old) (failures self.new) result }
-        ensures called { called self.old self.new (is_ok result) };
+        ensures called { called self.old self.new (is_ok result) }
+        ensures made { made (Read at (length out.old)) self.old self.new (is_ok result) };
 
     /// Writes over what is there, and past the end. After an `Err` there are any bytes in the
     /// range, and any length from the old one to the one that the write makes.
@@ -77,7 +83,8 @@ pub trait Disk {
             (left_since self.new)
             (IsImage (contents self.old) (widened at (length bytes.now) (unsynced self.old))) }
         ensures cause { HasCause (failures self.old) (failures self.new) result }
-        ensures called { called self.old self.new (is_ok result) };
+        ensures called { called self.old self.new (is_ok result) }
+        ensures made { made (Write at bytes.now) self.old self.new (is_ok result) };
 
     /// Cuts to a length. After an `Err` the length is any from that one to the old one.
     fn cut(&mut self, len: u64) -> Result<(), DeviceFault>
@@ -89,7 +96,8 @@ pub trait Disk {
             (left_since self.new)
             (IsImage (contents self.old) (shortened len (unsynced self.old))) }
         ensures cause { HasCause (failures self.old) (failures self.new) result }
-        ensures called { called self.old self.new (is_ok result) };
+        ensures called { called self.old self.new (is_ok result) }
+        ensures made { made (Cut len) self.old self.new (is_ok result) };
 
     /// After it, a crash leaves what a read gives. An `Err` changes nothing.
     fn sync(&mut self) -> Result<(), DeviceFault>
@@ -100,7 +108,8 @@ pub trait Disk {
             (left_since self.new)
             (IsImage (contents self.old) (unsynced self.old)) }
         ensures cause { HasCause (failures self.old) (failures self.new) result }
-        ensures called { called self.old self.new (is_ok result) };
+        ensures called { called self.old self.new (is_ok result) }
+        ensures made { made Sync self.old self.new (is_ok result) };
 
     /// The lengths fit together, and no disk passes the limit.
     ghost sound: { (disk : Self) → IsSound (contents disk) (unsynced disk) };

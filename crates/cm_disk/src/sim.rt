@@ -1,14 +1,14 @@
 //! A disk in memory.
-ghost use Rattle.std.specs.Prelude.{◌≡◌, ◌≤◌, ◌⊎◌, [], length, take, drop, min, ◌+◌, ◌-◌, ◌^◌};
-ghost use Rattle.std.specs.Prelude.{true, false, Some, None, IfOk, OnOk, OnErr, is_ok};
-ghost use Rattle.cm_disk.specs.Calls.{Elapses, HasCause, IsTorn, IsCut, overwritten};
+ghost use Rattle.std.specs.Prelude.{◌≡◌, ◌≤◌, ◌+◌, ◌^◌, [], length, true, false, Some, None};
+ghost use Rattle.std.specs.Prelude.{IfOk, OnOk, OnErr};
 ghost use Rattle.std.proofs.Common.{inl};
+ghost use Rattle.cm_disk.specs.Calls.{Elapses, IsTorn, overwritten};
 ghost use Rattle.cm_disk.specs.Chosen.{IsChosen};
-ghost use Rattle.cm_disk.specs.Disk.{IsImage, IsSettled, IsWithin, widened, shortened};
-ghost use Rattle.cm_disk.specs.Moments.{noted_since, LeftAtOne, unsynced_of, none_since_now};
+ghost use Rattle.cm_disk.specs.Disk.{IsImage, IsSettled, IsWithin, widened};
+ghost use Rattle.cm_disk.specs.Moments.{none_since_now};
 ghost use Rattle.cm_disk.specs.Sim.{sim_contents, sim_unsynced, sim_failures, sim_moment};
 ghost use Rattle.cm_disk.specs.Sim.{sim_left_since, sim_calls, sim_syncs, sim_armed, sim_refused};
-ghost use Rattle.cm_disk.specs.Sim.{sim_called, IsFresh, FailsFor, Stores, stored_part};
+ghost use Rattle.cm_disk.specs.Sim.{sim_called, sim_made, IsFresh, stored_part};
 
 use crate::choice::Choice;
 use crate::history::History;
@@ -170,26 +170,15 @@ impl Disk for SimDisk {
 
     ghost called = { sim_called };
 
+    ghost made = { sim_made };
+
     ghost sound = { λ d. d.medium.sound };
 
     ghost counts_now = { λ d t image le now. inl now };
 
     ghost only_now = { λ d image left. none_since_now d.history.moments image left };
 
-    // The trait's clauses again, and when it fails.
-    fn len(&mut self) -> Result<u64, DeviceFault>
-        ensures len { IfOk result (λ n. n ≡ length (sim_contents self.old)) }
-        ensures contents { sim_contents self.new ≡ sim_contents self.old }
-        ensures unsynced { sim_unsynced self.new ≡ sim_unsynced self.old }
-        ensures time { Elapses (sim_moment self.old) (sim_moment self.new)
-            (sim_left_since self.old) (sim_left_since self.new)
-            (IsImage (sim_contents self.old) (sim_unsynced self.old)) }
-        ensures cause { HasCause (sim_failures self.old) (sim_failures self.new) result }
-        ensures called { sim_called self.old self.new (is_ok result) }
-        ensures fails { FailsFor (sim_armed self.old) self.old self.new result }
-        ensures no_memory { sim_refused self.new ≡ false }
-        ensures syncs { sim_syncs self.new ≡ sim_syncs self.old }
-    {
+    fn len(&mut self) -> Result<u64, DeviceFault> {
         if self.begin_call().is_some() {
             self.failures.note(&self.medium);
             return Err(DeviceFault);
@@ -197,22 +186,7 @@ impl Disk for SimDisk {
         Ok(self.medium.bytes.len() as u64)
     }
 
-    // The trait's clauses again, and when it fails.
-    fn read(&mut self, at: u64, out: &mut [u8]) -> Result<(), DeviceFault>
-        requires { at + length out.old ≤ length (sim_contents self.old) }
-        ensures bytes { OnOk result
-            (out.new ≡ take (length out.old) (drop at (sim_contents self.old))) }
-        ensures contents { sim_contents self.new ≡ sim_contents self.old }
-        ensures unsynced { sim_unsynced self.new ≡ sim_unsynced self.old }
-        ensures time { Elapses (sim_moment self.old) (sim_moment self.new)
-            (sim_left_since self.old) (sim_left_since self.new)
-            (IsImage (sim_contents self.old) (sim_unsynced self.old)) }
-        ensures cause { HasCause (sim_failures self.old) (sim_failures self.new) result }
-        ensures called { sim_called self.old self.new (is_ok result) }
-        ensures fails { FailsFor (sim_armed self.old) self.old self.new result }
-        ensures no_memory { sim_refused self.new ≡ false }
-        ensures syncs { sim_syncs self.new ≡ sim_syncs self.old }
-    {
+    fn read(&mut self, at: u64, out: &mut [u8]) -> Result<(), DeviceFault> {
         if self.begin_call().is_some() {
             self.failures.note(&self.medium);
             return Err(DeviceFault);
@@ -222,27 +196,7 @@ impl Disk for SimDisk {
         Ok(())
     }
 
-    // The trait's clauses again, when it fails, and what it stores.
-    fn write_at(&mut self, at: u64, bytes: &[u8]) -> Result<(), DeviceFault>
-        requires starts_within { at ≤ length (sim_contents self.old) }
-        requires within_limit { at + length bytes.now ≤ 2 ^ 40 }
-        ensures written { OnOk result
-            (sim_contents self.new ≡ overwritten at bytes.now (sim_contents self.old)) }
-        ensures torn { OnErr result
-            (IsTorn at (length bytes.now) (sim_contents self.old) (sim_contents self.new)) }
-        ensures unsynced { IsWithin (widened at (length bytes.now) (sim_unsynced self.old))
-            (sim_unsynced self.new) }
-        ensures time { Elapses (sim_moment self.old) (sim_moment self.new)
-            (sim_left_since self.old) (sim_left_since self.new)
-            (IsImage (sim_contents self.old)
-            (widened at (length bytes.now) (sim_unsynced self.old))) }
-        ensures cause { HasCause (sim_failures self.old) (sim_failures self.new) result }
-        ensures called { sim_called self.old self.new (is_ok result) }
-        ensures fails { FailsFor (sim_armed self.old) self.old self.new result }
-        ensures stores { Stores at bytes.now (sim_armed self.old) self.old
-            self.new }
-        ensures syncs { sim_syncs self.new ≡ sim_syncs self.old }
-    {
+    fn write_at(&mut self, at: u64, bytes: &[u8]) -> Result<(), DeviceFault> {
         let armed = self.begin_call();
         let Ok(()) = self.store(at, bytes.len() as u64, part_to_store(bytes, armed)) else {
             self.refused = true;
@@ -256,24 +210,7 @@ impl Disk for SimDisk {
         Ok(())
     }
 
-    // The trait's clauses again, and when it fails: then nothing is cut, but may be after a crash.
-    fn cut(&mut self, len: u64) -> Result<(), DeviceFault>
-        requires { len ≤ length (sim_contents self.old) }
-        ensures cut { OnOk result (sim_contents self.new ≡ take len (sim_contents self.old)) }
-        ensures between { OnErr result (IsCut len (sim_contents self.old) (sim_contents self.new)) }
-        ensures unsynced { IsWithin (shortened len (sim_unsynced self.old))
-            (sim_unsynced self.new) }
-        ensures time { Elapses (sim_moment self.old) (sim_moment self.new)
-            (sim_left_since self.old) (sim_left_since self.new)
-            (IsImage (sim_contents self.old) (shortened len (sim_unsynced self.old))) }
-        ensures cause { HasCause (sim_failures self.old) (sim_failures self.new) result }
-        ensures called { sim_called self.old self.new (is_ok result) }
-        ensures fails { FailsFor (sim_armed self.old) self.old self.new result }
-        ensures no_memory { sim_refused self.new ≡ false }
-        ensures uncut { OnErr result (sim_contents self.new ≡ sim_contents self.old) }
-        ensures shortened { sim_unsynced self.new ≡ shortened len (sim_unsynced self.old) }
-        ensures syncs { sim_syncs self.new ≡ sim_syncs self.old }
-    {
+    fn cut(&mut self, len: u64) -> Result<(), DeviceFault> {
         let armed = self.begin_call();
         self.medium.begin_cut(len);
         self.history.note(&self.medium);
@@ -285,22 +222,7 @@ impl Disk for SimDisk {
         Ok(())
     }
 
-    // The trait's clauses again, when it fails, and that it counts the syncs.
-    fn sync(&mut self) -> Result<(), DeviceFault>
-        ensures settled { OnOk result (IsSettled (sim_contents self.new) (sim_unsynced self.new)) }
-        ensures not_settled { OnErr result (sim_unsynced self.new ≡ sim_unsynced self.old) }
-        ensures contents { sim_contents self.new ≡ sim_contents self.old }
-        ensures time { Elapses (sim_moment self.old) (sim_moment self.new)
-            (sim_left_since self.old) (sim_left_since self.new)
-            (IsImage (sim_contents self.old) (sim_unsynced self.old)) }
-        ensures cause { HasCause (sim_failures self.old) (sim_failures self.new) result }
-        ensures called { sim_called self.old self.new (is_ok result) }
-        ensures fails { FailsFor (sim_armed self.old) self.old self.new result }
-        ensures no_memory { sim_refused self.new ≡ false }
-        ensures counted { OnOk result
-            (sim_syncs self.new ≡ min (sim_syncs self.old + 1) (2 ^ 64 - 1)) }
-        ensures not_counted { OnErr result (sim_syncs self.new ≡ sim_syncs self.old) }
-    {
+    fn sync(&mut self) -> Result<(), DeviceFault> {
         if self.begin_call().is_some() {
             self.failures.note(&self.medium);
             return Err(DeviceFault);

@@ -1,10 +1,16 @@
 //! What reaches the file, and what is read of it.
-ghost use Rattle.std.specs.Prelude.{◌≤◌, ◌+◌, ◌^◌, ℕ, length};
+ghost use Rattle.std.specs.Prelude.{◌≤◌, ◌<◌, ◌+◌, ◌^◌, ℕ, length};
 
 use cm_disk::{DeviceFault, Disk};
-use cm_file_disk::FileDisk;
+use cm_file_disk::{FileDisk, OpenError, OpenedFile};
 use std::fs;
 use std::test::*;
+
+/// The disk of a file with its first bytes, up to so many.
+fn open_up_to(rt: &HostRuntime, path: &str, reach: u64) -> Result<FileDisk, OpenError> {
+    let opened = OpenedFile::open(rt, rt.alloc(), path)?;
+    FileDisk::of_file(opened, reach)
+}
 
 /// Stores eight bytes by two writes, and cuts the last one off.
 fn store_seven(disk: &mut FileDisk) -> Result<(), DeviceFault> {
@@ -46,7 +52,7 @@ fn stored_bytes_are_read_when_it_is_opened_again(rt: HostRuntime) -> Result<(), 
     assert_eq!(rt; disk.len(), Ok(7));
     drop(disk);
     for _ in 0..2 {
-        let mut disk = FileDisk::open(&rt, rt.alloc(), path)?;
+        let mut disk = open_up_to(&rt, path, u64::MAX)?;
         assert!(rt; holds_seven(&mut disk)?);
     }
     fs::remove_file(&rt, path)?;
@@ -104,13 +110,65 @@ fn gives_up_bytes_alone(disk: &mut FileDisk) -> Result<bool, DeviceFault> {
 fn a_write_gives_the_bytes_up_and_leaves_the_length(rt: HostRuntime) -> Result<(), Fail> {
     let path = "cm_file_disk_given_up.tmp";
     fs::write(&rt, path, b"abcdef".as_slice())?;
-    let mut disk = FileDisk::open(&rt, rt.alloc(), path)?;
+    let mut disk = open_up_to(&rt, path, u64::MAX)?;
     assert!(rt; gives_up_bytes_alone(&mut disk)?);
     // It is no failure of the file: what follows still reaches it.
     assert_eq!(rt; disk.len(), Ok(6));
     disk.write_at(6, b"g")?;
     disk.sync()?;
     assert_eq!(rt; fs::read_to_string(&rt, path)?.as_str(), "aXcdefg");
+    fs::remove_file(&rt, path)?;
+    Ok(())
+}
+
+/// Whether the last of so many bytes is read, and none behind them.
+fn is_read_up_to(disk: &mut FileDisk, bytes: &[u8], held: u64) -> Result<bool, DeviceFault>
+    requires within { length bytes.now < 2 ^ 40 }
+{
+    if disk.len()? != bytes.len() as u64 || held == 0 || held >= bytes.len() as u64 {
+        return Ok(false);
+    }
+    let mut byte = [0; 1];
+    disk.read(held - 1, &mut byte)?;
+    let is_held = byte[0] == bytes[held as usize - 1];
+    Ok(is_held && disk.read(held, &mut byte).is_err())
+}
+
+/// Whether the length is known, and one byte more is written behind it; then it is cut off again.
+/// What isn't read is no failure of the file.
+fn grows_by_one(disk: &mut FileDisk) -> Result<bool, DeviceFault> {
+    let len = disk.len()?;
+    if len > 1 << 30 {
+        return Ok(false);
+    }
+    disk.write_at(len, b"x")?;
+    let longer = disk.len()?;
+    if longer != len + 1 {
+        return Ok(false);
+    }
+    disk.cut(len)?;
+    Ok(true)
+}
+
+/// Whether the length is that of these bytes, and the first 4,096 of them were read.
+fn begins_as(opened: &OpenedFile, bytes: &[u8]) -> bool {
+    let beginning = opened.beginning();
+    opened.len() == bytes.len() as u64 && beginning.len() == 4096 && bytes.starts_with(beginning)
+}
+
+#[test]
+fn a_long_file_is_read_as_far_as_asked(rt: HostRuntime) -> Result<(), Fail> {
+    let path = "cm_file_disk_long.tmp";
+    let mut bytes = Vec::from_elem(rt.alloc(), 0u8, 10_000)?;
+    count_up(&mut bytes);
+    fs::write(&rt, path, bytes.as_slice())?;
+    for (reach, held) in [(0, 4096), (4096, 4096), (4097, 4097), (9_999, 9_999)] {
+        let mut disk = open_up_to(&rt, path, reach)?;
+        assert!(rt; is_read_up_to(&mut disk, &bytes, held)?, "up to {reach}");
+        assert!(rt; grows_by_one(&mut disk)?);
+    }
+    let opened = OpenedFile::open(&rt, rt.alloc(), path)?;
+    assert!(rt; begins_as(&opened, &bytes));
     fs::remove_file(&rt, path)?;
     Ok(())
 }

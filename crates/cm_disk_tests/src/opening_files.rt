@@ -1,7 +1,7 @@
 //! What is opened or created, and what isn't.
 
 use cm_disk::Disk;
-use cm_file_disk::{CreateError, FileDisk, OpenError};
+use cm_file_disk::{CreateError, FileDisk, OpenError, OpenedFile};
 use std::io::{self, ErrorKind};
 use std::os::fd::AsRawFd;
 use std::os::unix::fs::symlink;
@@ -10,7 +10,7 @@ use std::{format, fs};
 
 /// What isn't opened: `None` for what is no regular file, else the kind of the system's error.
 fn refuse_open(rt: &HostRuntime, path: &str) -> Result<Option<ErrorKind>, Fail> {
-    match FileDisk::open(rt, rt.alloc(), path) {
+    match OpenedFile::open(rt, rt.alloc(), path) {
         Ok(_) => Err(Fail::new("it is opened")),
         Err(error) => kind_of_refusal(&error),
     }
@@ -53,7 +53,7 @@ fn a_pipe_is_not_opened(rt: HostRuntime) -> Result<(), Fail> {
 fn a_file_past_the_limit_is_not_read(rt: HostRuntime) -> Result<(), Fail> {
     let path = "cm_file_disk_too_long.tmp";
     fs::File::create(&rt, path)?.set_len((1 << 40) + 1)?;
-    let answer = FileDisk::open_read_only(&rt, rt.alloc(), path);
+    let answer = OpenedFile::open_read_only(&rt, rt.alloc(), path);
     assert!(rt; matches!(answer, Err(OpenError::TooLong)));
     fs::remove_file(&rt, path)?;
     Ok(())

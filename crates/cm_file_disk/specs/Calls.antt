@@ -1,16 +1,23 @@
 -- What a call on a file makes of the state of its disk.
-use Rattle.std.specs.Prelude.{◌≡◌, ◌≤◌, ◌+◌, ℕ, List, [], ◌∷◌, length, take}
+use Rattle.std.specs.Prelude.{◌≡◌, ◌≤◌, ◌+◌, ℕ, List, ◌∷◌, length, take}
 use Rattle.cm_disk.specs.Disk.{IsBytes}
 use Rattle.cm_disk.specs.Calls.{overwritten, IsTorn, IsCut}
 use Rattle.cm_disk.specs.Moments.{Moment}
 use Rattle.cm_file_disk.specs.declared.course.Call.{Call}
 use Rattle.cm_file_disk.specs.declared.course.Call.TheVariants.{Opened, Wrote, NotWritten, Cut}
 use Rattle.cm_file_disk.specs.declared.course.Call.TheVariants.{NotCut, Synced, Failed}
-use Rattle.cm_file_disk.specs.State.{State, unsure, stored, opened, lowered}
+use Rattle.cm_file_disk.specs.State.{State, opened_state, stored, opened, lowered}
 
--- The bytes that a call leaves of the old ones. Those of a failed write or cut aren't known.
+-- a file had this length when it was opened, and began with these bytes
+pub record IsOpenedAs (len : ℕ) (beginning contents : List ℕ) : Type 0 where
+  pub begins : take (length beginning) contents ≡ beginning
+  pub length_is : length contents ≡ len
+
+-- The bytes that a call leaves of the old ones. Of a file that is opened the first ones are known;
+-- those of a failed write or cut aren't.
 abbrev pub Leaves : Call → List ℕ → List ℕ → List ℕ → Type 0
-Leaves Opened bytes old left = left ≡ bytes
+Leaves (Opened len) bytes old left =
+    (length bytes ≤ len → IsOpenedAs len bytes left) × (IsBytes bytes → IsBytes left)
 Leaves (Wrote at) bytes old left = left ≡ overwritten at bytes old
 Leaves (NotWritten at) bytes old left =
     IsTorn at (length bytes) old left × (IsBytes old → IsBytes left)
@@ -29,7 +36,7 @@ gone during left old = record {
 
 -- the state after a call that left these bytes
 abbrev pub after : Call → List ℕ → List ℕ → State → State
-after Opened bytes left old = record { now = unsure left; moments = []; failures = 0 }
+after (Opened len) bytes left old = opened_state left
 after (Wrote at) bytes left old = gone (opened at (length bytes) old.now) left old
 after (NotWritten at) bytes left old =
     record (gone (opened at (length bytes) old.now) left old) { failures = old.failures + 1 }

@@ -1,13 +1,16 @@
 -- What a disk over a file shows, and when its calls fail.
-use Rattle.std.specs.Prelude.{◌≡◌, ◌<◌, ◌⊎◌, ◌+◌, ◌^◌, ℕ, Bool, true, false, List, [], length}
-use Rattle.std.specs.Prelude.{Option, is_some, is_err, Result, not, if◌then◌else◌}
+use Rattle.std.specs.Prelude.{◌≡◌, ◌<◌, ◌≤◌, ◌+◌, ◌^◌, ℕ, Bool, true, false, List, [], length}
+use Rattle.std.specs.Prelude.{min, max}
+use Rattle.std.specs.Prelude.{Option, is_some, not, ◌&&◌, take, if◌then◌else◌}
 use Rattle.std.specs.declared.io.Error.{Error}
-use Rattle.cm_disk.specs.declared.disk.DeviceFault.{DeviceFault}
-use Rattle.cm_disk.specs.Disk.{Unsynced, IsImage, IsSettled}
-use Rattle.cm_disk.specs.Moments.{LeftAtOne, noted_since, LeftSince}
+use Rattle.cm_disk.specs.Calls.{DiskCall}
+use Rattle.cm_disk.specs.Calls.DiskCall.{Len, Read, Write, Cut, Sync}
+use Rattle.cm_disk.specs.Disk.{Unsynced, IsSettled}
+use Rattle.cm_disk.specs.Moments.{LeftSince}
 use Rattle.cm_file_disk.specs.declared.disk.FileDisk.{FileDisk}
+use Rattle.cm_file_disk.specs.declared.opening.OpenedFile.{OpenedFile}
 use Rattle.cm_file_disk.specs.State.{State, moment_unsynced}
-use Rattle.cm_file_disk.specs.Image.{image_is_whole, image_cause}
+use Rattle.cm_file_disk.specs.Image.{image_holds, image_cause}
 
 abbrev pub file_state : FileDisk → State
 file_state disk = disk.course.state
@@ -29,9 +32,9 @@ abbrev pub file_left_since : FileDisk → ℕ → List ℕ → Type 0
 file_left_since disk t image =
     LeftSince (file_contents disk) (file_unsynced disk) (file_state disk).moments t image
 
--- its bytes are still those that were read: nothing was written or cut since it was opened
-abbrev pub is_whole : FileDisk → Bool
-is_whole disk = image_is_whole disk.image
+-- its first n bytes are still held, as they were read: nothing was written or cut since
+abbrev pub holds : FileDisk → ℕ → Bool
+holds disk n = image_holds disk.image n
 
 -- why the first write, cut or sync that failed did so
 abbrev pub file_cause : FileDisk → Option Error
@@ -41,17 +44,21 @@ file_cause disk = image_cause disk.image
 abbrev pub is_lost : FileDisk → Bool
 is_lost disk = is_some (file_cause disk)
 
--- It was created just now: it holds no bytes, and that is stored.
+-- It was created just now: it has no bytes, and that is stored.
 pub record IsNew (disk : FileDisk) : Type 0 where
   pub contents : file_contents disk ≡ []
   pub settled : IsSettled [] (file_unsynced disk)
-  pub whole : is_whole disk ≡ true
+  pub held : holds disk 0 ≡ true
   pub failures : file_failures disk ≡ 0
   pub moment : file_moment disk ≡ 0
 
--- It was opened just now: its bytes are held, and none of them is known to be stored.
-pub record IsOpened (disk : FileDisk) : Type 0 where
-  pub whole : is_whole disk ≡ true
+-- It was opened just now, and begins as its file did. Its bytes are held up to `reach`, and no more
+-- but for that beginning; none of them is known to be stored.
+pub record IsOpened (file : OpenedFile) (reach : ℕ) (disk : FileDisk) : Type 0 where
+  pub length_is : length (file_contents disk) ≡ file.len
+  pub begins : take (length file.beginning.items) (file_contents disk) ≡ file.beginning.items
+  pub held : holds disk (min reach file.len) ≡ true
+  pub no_more : (n : ℕ) → holds disk n ≡ true → n ≤ max reach (length file.beginning.items)
   pub none_stored : (i : ℕ) → i < 2 ^ 40 → (file_unsynced disk).is_open i ≡ true
   pub least : (file_unsynced disk).least ≡ 0
   pub greatest : (file_unsynced disk).greatest ≡ 2 ^ 40
@@ -60,20 +67,37 @@ pub record IsOpened (disk : FileDisk) : Type 0 where
 
 -- A call that asks something: it fails exactly where this isn't known any more, and changes
 -- nothing.
-pub record Answers {T : Type 0} (is_known : Bool) (old new : FileDisk)
-    (result : Result T DeviceFault) : Type 0 where
-  pub exactly : is_err result ≡ not is_known
-  pub whole : is_whole new ≡ is_whole old
+pub record Answers (is_known : Bool) (old new : FileDisk) (ok : Bool) : Type 0 where
+  pub exactly : ok ≡ is_known
+  pub held : (n : ℕ) → holds new n ≡ holds old n
   pub cause : file_cause new ≡ file_cause old
 
 -- A call that changes the file or stores it. Once one such call has failed, each fails and changes
 -- nothing, and the first cause stays.
-pub record Changes {T : Type 0} (old new : FileDisk) (result : Result T DeviceFault) : Type 0 where
-  pub fails : is_lost old ≡ true → is_err result ≡ true
+pub record Changes (old new : FileDisk) (ok : Bool) : Type 0 where
+  pub fails : is_lost old ≡ true → ok ≡ false
   pub contents : is_lost old ≡ true → file_contents new ≡ file_contents old
   pub unsynced : is_lost old ≡ true → file_unsynced new ≡ file_unsynced old
   pub cause : is_lost old ≡ true → file_cause new ≡ file_cause old
-  pub lost : is_lost new ≡ is_err result
+  pub lost : is_lost new ≡ not ok
+
+-- A write or a cut: none of the bytes is held any more.
+pub record GivesUp (old new : FileDisk) (ok : Bool) : Type 0 where
+  pub changes : Changes old new ok
+  pub given_up : (n : ℕ) → holds new n ≡ false
+
+-- A sync: they are held on, unless it fails.
+pub record Syncs (old new : FileDisk) (ok : Bool) : Type 0 where
+  pub changes : Changes old new ok
+  pub held : (n : ℕ) → holds new n ≡ (holds old n && ok)
+
+-- what this call does besides
+abbrev pub file_made : DiskCall → FileDisk → FileDisk → Bool → Type 0
+file_made Len old new ok = Answers (not (is_lost old)) old new ok
+file_made (Read at n) old new ok = Answers (holds old (at + n)) old new ok
+file_made (Write at bytes) old new ok = GivesUp old new ok
+file_made (Cut len) old new ok = GivesUp old new ok
+file_made Sync old new ok = Syncs old new ok
 
 -- One call. If it fails, that counts as one failure. Once a write, a cut or a sync has failed, each
 -- call fails, and the first cause stays.

@@ -33,6 +33,10 @@ unsure bytes = record {
   greatest = 2 ^ 40;
 }
 
+-- a file of these bytes was opened
+abbrev pub opened_state : List ℕ → State
+opened_state bytes = record { now = unsure bytes; moments = []; failures = 0 }
+
 -- a write of n bytes was begun
 abbrev pub opened : ℕ → ℕ → Moment → Moment
 opened at n moment = record moment {

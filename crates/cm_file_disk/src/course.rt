@@ -1,15 +1,15 @@
 //! What has become of a file by the calls on it, which only clauses read: it takes no memory.
-ghost use Rattle.std.specs.Prelude.{◌≡◌};
+ghost use Rattle.std.specs.Prelude.{◌≡◌, ◌≤◌, ◌^◌, length};
 ghost use Rattle.std.specs.Borrow.{ftrue};
-ghost use Rattle.cm_file_disk.specs.State.{State, no_bytes};
+ghost use Rattle.cm_file_disk.specs.State.{State, IsSoundState, no_bytes, opened_state};
 
 use std::marker::{Model, PhantomData};
 
 /// A call on a file, and how it went.
 #[derive(Clone, Copy, Debug)]
 pub enum Call {
-    /// It was opened, and held these bytes.
-    Opened,
+    /// It was opened, had that length and began with these bytes.
+    Opened(u64),
     /// They were written from that place on.
     Wrote(u64),
     /// The write failed, so some of them may have been written.
@@ -38,7 +38,7 @@ impl Model for Course {
 unsafe impl Send for Course {}
 
 impl Course {
-    ghost use Rattle.cm_file_disk.specs.Calls.{Follows};
+    ghost use Rattle.cm_file_disk.specs.Calls.{Follows, IsOpenedAs};
 
     /// That of a file of no bytes, all of it stored.
     pub(crate) fn new() -> Course
@@ -47,6 +47,19 @@ impl Course {
         Course {
             marker: PhantomData,
         }
+    }
+
+    /// That of a file that was opened, had this length and began with these bytes.
+    pub(crate) fn of_opened(len: u64, beginning: &[u8]) -> Course
+        requires begins { length beginning.now ≤ len }
+        requires within_limit { len ≤ 2 ^ 40 }
+        ensures contents { IsOpenedAs len beginning.now result.state.now.bytes }
+        ensures unsure { result.state ≡ opened_state result.state.now.bytes }
+        ensures sound { IsSoundState result.state }
+    {
+        let mut course = Course::new();
+        course.note(&Call::Opened(len), beginning);
+        course
     }
 
     /// The call was made, with these bytes.

@@ -1,9 +1,7 @@
 //! A disk over a file.
-ghost use Rattle.std.specs.Prelude.{◌≡◌, ◌≤◌, ◌+◌, ◌^◌, length, take, drop, false, not};
-ghost use Rattle.std.specs.Prelude.{◌&&◌, IfOk, IfSome, OnOk, OnErr, is_none, is_ok, is_err};
+ghost use Rattle.std.specs.Prelude.{◌≡◌, ◌≤◌, ◌+◌, ◌^◌, length, take, drop, IfOk, IfSome, is_none};
+ghost use Rattle.std.specs.Prelude.{is_some};
 ghost use Rattle.std.proofs.Common.{inl};
-ghost use Rattle.cm_disk.specs.Calls.{Elapses, HasCause, IsTorn, IsCut, overwritten};
-ghost use Rattle.cm_disk.specs.Disk.{IsImage, IsSettled, IsWithin, widened, shortened};
 ghost use Rattle.cm_disk.specs.Moments.{none_since_now};
 ghost use Rattle.cm_file_disk.specs.Image.{image_bytes, image_length};
 ghost use Rattle.cm_file_disk.specs.State.{IsSoundState};
@@ -11,10 +9,10 @@ ghost use Rattle.cm_file_disk.specs.State.{IsSoundState};
 use crate::course::{Call, Course};
 use crate::fault::{CreateError, OpenError};
 use crate::image::Image;
-use crate::opening::{create_file, open_file};
+use crate::opening::{OpenedFile, create_file};
 use cm_disk::{DeviceFault, Disk};
 use std::alloc::Global;
-use std::fs::{File, Files, OpenOptions};
+use std::fs::{File, Files};
 use std::io;
 use std::os::unix::fs::FileExt;
 
@@ -24,8 +22,9 @@ const PIECE: usize = 65536;
 
 /// A disk over a regular file that nothing else writes to.
 ///
-/// Its bytes are read once, when it is opened; reads are answered from memory, writes and cuts go
-/// to the file. With the first of these the memory is given back, and from then on each read fails.
+/// Its first bytes are read once, when it is opened, as many as are asked for then; reads of them
+/// are answered from memory, each other read fails. Writes and cuts go to the file. With the first
+/// of these the memory is given back, and from then on each read fails.
 /// After a write, a cut or a sync that failed every call fails, since the system may answer the
 /// next sync though bytes are lost. What the file holds follows the disk's contents as far as the
 /// system keeps its word.
@@ -56,37 +55,27 @@ fn write_pieces(file: &File, at: u64, bytes: &[u8]) -> io::Result<()>
 }
 
 impl FileDisk {
-    ghost use Rattle.cm_file_disk.specs.File.{file_contents, is_lost, file_cause, IsOpened, IsNew};
+    ghost use Rattle.cm_file_disk.specs.File.{file_contents, is_lost, file_cause, holds};
+    ghost use Rattle.cm_file_disk.specs.File.{IsOpened, IsNew};
 
-    /// Opens a regular file that exists, and reads all of it. None of its bytes is known to be
-    /// stored before the first sync.
+    /// The disk of a file that was opened, with its first `reach` bytes, or all where it has fewer.
+    /// None of its bytes is known to be stored before the first sync.
     ///
     /// # Errors
-    /// What is no regular file isn't opened: [`OpenError::NotRegular`]. [`OpenError::TooLong`]
-    /// where it has more bytes than a disk may have, [`OpenError::NoMemory`] where they find no
-    /// room, and [`OpenError::Device`] where the system doesn't find, open or read it. The file
-    /// stays as it was.
-    pub fn open(
-        rt: &impl Files<File = File>,
-        alloc: Global,
-        path: &str,
-    ) -> Result<FileDisk, OpenError>
-        ensures { IfOk result IsOpened }
+    /// [`OpenError::NoMemory`] where the bytes find no room, [`OpenError::Device`] where the system
+    /// doesn't read them. The file stays as it was.
+    #[tactic(auto, using(crate::proofs::Followed::begun))]
+    pub fn of_file(opened: OpenedFile, reach: u64) -> Result<FileDisk, OpenError>
+        ensures { IfOk result (IsOpened opened reach) }
     {
-        let opened = open_file(rt, alloc, path, OpenOptions::new().read(true).write(true))?;
-        Ok(FileDisk::of_file(opened.file, opened.bytes))
-    }
-
-    /// As [`FileDisk::open`], but a write or a cut fails; no right to write to the file is needed.
-    pub fn open_read_only(
-        rt: &impl Files<File = File>,
-        alloc: Global,
-        path: &str,
-    ) -> Result<FileDisk, OpenError>
-        ensures { IfOk result IsOpened }
-    {
-        let opened = open_file(rt, alloc, path, OpenOptions::new().read(true))?;
-        Ok(FileDisk::of_file(opened.file, opened.bytes))
+        let len = opened.len();
+        let read = opened.read_on(reach)?;
+        let course = Course::of_opened(len, &read.beginning);
+        Ok(FileDisk {
+            file: read.file,
+            image: Image::Beginning(read.beginning, len),
+            course,
+        })
     }
 
     /// Creates a file of no bytes where nothing has that name. It and its name in the folder are
@@ -104,24 +93,9 @@ impl FileDisk {
         let file = create_file(rt, path)?;
         Ok(FileDisk {
             file,
-            image: Image::Whole(Vec::new(alloc)),
+            image: Image::Beginning(Vec::new(alloc), 0),
             course: Course::new(),
         })
-    }
-
-    /// A file that was opened, with what was read of it.
-    fn of_file(file: File, bytes: Vec<u8>) -> FileDisk
-        requires { length bytes.items ≤ 2 ^ 40 }
-        ensures opened { IsOpened result }
-        ensures contents { file_contents result ≡ bytes.items }
-    {
-        let mut course = Course::new();
-        course.note(&Call::Opened, &bytes);
-        FileDisk {
-            file,
-            image: Image::Whole(bytes),
-            course,
-        }
     }
 
     /// Why the first write, cut or sync that failed did so. `None`: none has failed.
@@ -140,9 +114,23 @@ impl FileDisk {
         ensures some { IfSome result (λ n. n ≡ length (file_contents self.now)) }
     {
         match &self.image {
-            Image::Whole(bytes) => Some(bytes.len() as u64),
-            Image::Length(len) => Some(*len),
+            Image::Beginning(_, len) | Image::Length(len) => Some(*len),
             Image::Lost(_) => None,
+        }
+    }
+
+    /// So many bytes from that place on, if they are held.
+    #[tactic(auto, using(crate::proofs::Followed::part_of_beginning))]
+    fn held(&self, at: u64, count: usize) -> Option<&[u8]>
+        requires { at + count ≤ length (file_contents self.now) }
+        ensures none { is_some result ≡ holds self.now (at + count) }
+        ensures some { IfSome result
+            (λ b. b.now ≡ take count (drop at (file_contents self.now))) }
+    {
+        let start = at as usize;
+        match &self.image {
+            Image::Beginning(bytes, _) => bytes.get(start..start + count),
+            _ => None,
         }
     }
 
@@ -160,8 +148,7 @@ impl FileDisk {
 
 impl Disk for FileDisk {
     ghost use Rattle.cm_file_disk.specs.File.{file_contents, file_unsynced, file_failures};
-    ghost use Rattle.cm_file_disk.specs.File.{file_moment, file_left_since, is_whole, is_lost};
-    ghost use Rattle.cm_file_disk.specs.File.{IsFileCall, Answers, Changes};
+    ghost use Rattle.cm_file_disk.specs.File.{file_moment, file_left_since, file_made, IsFileCall};
 
     ghost contents = { file_contents };
 
@@ -175,73 +162,31 @@ impl Disk for FileDisk {
 
     ghost called = { IsFileCall };
 
+    ghost made = { file_made };
+
     ghost sound = { λ d. d.sound };
 
     ghost counts_now = { λ d t image le now. inl now };
 
     ghost only_now = { λ d image left. none_since_now d.course.state.moments image left };
 
-    // The trait's clauses again, and when it fails.
-    fn len(&mut self) -> Result<u64, DeviceFault>
-        ensures len { IfOk result (λ n. n ≡ length (file_contents self.old)) }
-        ensures contents { file_contents self.new ≡ file_contents self.old }
-        ensures unsynced { file_unsynced self.new ≡ file_unsynced self.old }
-        ensures time { Elapses (file_moment self.old) (file_moment self.new)
-            (file_left_since self.old) (file_left_since self.new)
-            (IsImage (file_contents self.old) (file_unsynced self.old)) }
-        ensures cause { HasCause (file_failures self.old) (file_failures self.new) result }
-        ensures called { IsFileCall self.old self.new (is_ok result) }
-        ensures answers { Answers (not (is_lost self.old)) self.old self.new result }
-    {
+    fn len(&mut self) -> Result<u64, DeviceFault> {
         match self.known_len() {
             Some(len) => Ok(len),
             None => Err(self.refuse()),
         }
     }
 
-    // The trait's clauses again, and when it fails.
-    fn read(&mut self, at: u64, out: &mut [u8]) -> Result<(), DeviceFault>
-        requires { at + length out.old ≤ length (file_contents self.old) }
-        ensures bytes { OnOk result
-            (out.new ≡ take (length out.old) (drop at (file_contents self.old))) }
-        ensures contents { file_contents self.new ≡ file_contents self.old }
-        ensures unsynced { file_unsynced self.new ≡ file_unsynced self.old }
-        ensures time { Elapses (file_moment self.old) (file_moment self.new)
-            (file_left_since self.old) (file_left_since self.new)
-            (IsImage (file_contents self.old) (file_unsynced self.old)) }
-        ensures cause { HasCause (file_failures self.old) (file_failures self.new) result }
-        ensures called { IsFileCall self.old self.new (is_ok result) }
-        ensures answers { Answers (is_whole self.old && not (is_lost self.old)) self.old self.new
-            result }
-    {
-        let Image::Whole(bytes) = &self.image else {
+    fn read(&mut self, at: u64, out: &mut [u8]) -> Result<(), DeviceFault> {
+        let Some(bytes) = self.held(at, out.len()) else {
             return Err(self.refuse());
         };
-        let start = at as usize;
-        out.copy_from_slice(&bytes[start..start + out.len()]);
+        out.copy_from_slice(bytes);
         Ok(())
     }
 
-    // The trait's clauses again, and when it fails.
     #[tactic(auto, using(crate::proofs::Noted::wrote, crate::proofs::Noted::not_written))]
-    fn write_at(&mut self, at: u64, bytes: &[u8]) -> Result<(), DeviceFault>
-        requires starts_within { at ≤ length (file_contents self.old) }
-        requires within_limit { at + length bytes.now ≤ 2 ^ 40 }
-        ensures written { OnOk result
-            (file_contents self.new ≡ overwritten at bytes.now (file_contents self.old)) }
-        ensures torn { OnErr result
-            (IsTorn at (length bytes.now) (file_contents self.old) (file_contents self.new)) }
-        ensures unsynced { IsWithin (widened at (length bytes.now) (file_unsynced self.old))
-            (file_unsynced self.new) }
-        ensures time { Elapses (file_moment self.old) (file_moment self.new)
-            (file_left_since self.old) (file_left_since self.new)
-            (IsImage (file_contents self.old)
-            (widened at (length bytes.now) (file_unsynced self.old))) }
-        ensures cause { HasCause (file_failures self.old) (file_failures self.new) result }
-        ensures called { IsFileCall self.old self.new (is_ok result) }
-        ensures changes { Changes self.old self.new result }
-        ensures given_up { is_whole self.new ≡ false }
-    {
+    fn write_at(&mut self, at: u64, bytes: &[u8]) -> Result<(), DeviceFault> {
         let Some(len) = self.known_len() else {
             return Err(self.refuse());
         };
@@ -259,22 +204,7 @@ impl Disk for FileDisk {
         }
     }
 
-    // The trait's clauses again, and when it fails.
-    fn cut(&mut self, len: u64) -> Result<(), DeviceFault>
-        requires { len ≤ length (file_contents self.old) }
-        ensures cut { OnOk result (file_contents self.new ≡ take len (file_contents self.old)) }
-        ensures between { OnErr result
-            (IsCut len (file_contents self.old) (file_contents self.new)) }
-        ensures unsynced { IsWithin (shortened len (file_unsynced self.old))
-            (file_unsynced self.new) }
-        ensures time { Elapses (file_moment self.old) (file_moment self.new)
-            (file_left_since self.old) (file_left_since self.new)
-            (IsImage (file_contents self.old) (shortened len (file_unsynced self.old))) }
-        ensures cause { HasCause (file_failures self.old) (file_failures self.new) result }
-        ensures called { IsFileCall self.old self.new (is_ok result) }
-        ensures changes { Changes self.old self.new result }
-        ensures given_up { is_whole self.new ≡ false }
-    {
+    fn cut(&mut self, len: u64) -> Result<(), DeviceFault> {
         if self.known_len().is_none() {
             return Err(self.refuse());
         }
@@ -292,21 +222,8 @@ impl Disk for FileDisk {
         }
     }
 
-    // The trait's clauses again, and when it fails.
     #[tactic(auto, using(crate::proofs::Noted::synced))]
-    fn sync(&mut self) -> Result<(), DeviceFault>
-        ensures settled { OnOk result
-            (IsSettled (file_contents self.new) (file_unsynced self.new)) }
-        ensures not_settled { OnErr result (file_unsynced self.new ≡ file_unsynced self.old) }
-        ensures contents { file_contents self.new ≡ file_contents self.old }
-        ensures time { Elapses (file_moment self.old) (file_moment self.new)
-            (file_left_since self.old) (file_left_since self.new)
-            (IsImage (file_contents self.old) (file_unsynced self.old)) }
-        ensures cause { HasCause (file_failures self.old) (file_failures self.new) result }
-        ensures called { IsFileCall self.old self.new (is_ok result) }
-        ensures changes { Changes self.old self.new result }
-        ensures whole { is_whole self.new ≡ (is_whole self.old && not (is_err result)) }
-    {
+    fn sync(&mut self) -> Result<(), DeviceFault> {
         if self.known_len().is_none() {
             return Err(self.refuse());
         }

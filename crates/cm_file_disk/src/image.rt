@@ -3,8 +3,9 @@ use std::io;
 
 #[derive(Drop)]
 pub enum Image {
-    /// All of them, as they were read: nothing was written or cut since.
-    Whole(Vec<u8>),
+    /// The first of them, as they were read, and the number of all: nothing was written or cut
+    /// since.
+    Beginning(Vec<u8>, u64),
     /// Their number alone.
     Length(u64),
     /// Nothing: a write, a cut or a sync has failed, for this cause.

@@ -9,3 +9,4 @@ mod opening;
 
 pub use disk::FileDisk;
 pub use fault::{CreateError, OpenError};
+pub use opening::OpenedFile;

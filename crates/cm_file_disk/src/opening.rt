@@ -1,5 +1,6 @@
 //! Files of the system, opened or created to be a disk.
-ghost use Rattle.std.specs.Prelude.{◌≡◌, ◌≢◌, ◌≤◌, ◌<◌, ◌^◌, ◌↔◌, Err, IfOk, length};
+ghost use Rattle.std.specs.Prelude.{◌≡◌, ◌≢◌, ◌≤◌, ◌<◌, ◌^◌, ◌↔◌, Err, IfOk, length, take, min};
+ghost use Rattle.std.specs.Prelude.{max};
 ghost use Rattle.std.specs.Fs.{metadata_len, file_type, IsFile};
 ghost use Rattle.std.specs.IoError.{error_kind};
 ghost use Rattle.std.specs.declared.io.ErrorKind.TheVariants.{AlreadyExists};
@@ -20,12 +21,86 @@ const LIMIT: u64 = 1 << 40;
 /// Standard error's descriptor: this one and those below it are the standard streams'.
 const STANDARD_ERROR: i32 = 2;
 
-/// A file that was opened, and the bytes that it holds.
+/// How many bytes are read of a file as it is opened.
+const BEGINNING: u64 = 4096;
+
+/// A regular file that was opened: its length, and the bytes that it begins with.
 #[derive(Drop)]
 pub struct OpenedFile {
-    pub file: File,
-    pub bytes: Vec<u8>,
-    ghost fits: { length bytes.items ≤ 2 ^ 40 },
+    pub(crate) file: File,
+    len: u64,
+    /// The first 4,096 bytes, or all where it has fewer; [`OpenedFile::read_on`] makes them more.
+    pub(crate) beginning: Vec<u8>,
+    ghost is_within_limit: { len ≤ 2 ^ 40 },
+    ghost is_beginning: { length beginning.items ≤ len },
+}
+
+impl OpenedFile {
+    /// Opens a regular file that exists, and reads the first 4,096 bytes of it, or all where it has
+    /// fewer. What is no regular file isn't opened, since to open a pipe may take forever.
+    ///
+    /// # Errors
+    /// What is no regular file isn't opened: [`OpenError::NotRegular`]. [`OpenError::TooLong`]
+    /// where it has more bytes than a disk may have, [`OpenError::NoMemory`] where an allocation
+    /// failed, and [`OpenError::Device`] where the system doesn't find, open or read it. The file
+    /// stays as it was.
+    pub fn open(
+        rt: &impl Files<File = File>,
+        alloc: Global,
+        path: &str,
+    ) -> Result<OpenedFile, OpenError>
+        ensures { IfOk result (λ f. length f.beginning.items ≡ min f.len 4096) }
+    {
+        open_file(rt, alloc, path, OpenOptions::new().read(true).write(true))
+    }
+
+    /// As [`OpenedFile::open`], but a write or a cut of its disk fails; no right to write to the
+    /// file is needed.
+    pub fn open_read_only(
+        rt: &impl Files<File = File>,
+        alloc: Global,
+        path: &str,
+    ) -> Result<OpenedFile, OpenError>
+        ensures { IfOk result (λ f. length f.beginning.items ≡ min f.len 4096) }
+    {
+        open_file(rt, alloc, path, OpenOptions::new().read(true))
+    }
+
+    /// How many bytes the file has.
+    pub fn len(&self) -> u64
+        ensures { result ≡ self.now.len }
+    {
+        self.len
+    }
+
+    /// The bytes that were read of it: the first ones.
+    pub fn beginning(&self) -> &[u8]
+        ensures { result.now ≡ self.now.beginning.items }
+    {
+        &self.beginning
+    }
+
+    /// Reads on, up to so many bytes or the file's end.
+    pub(crate) fn read_on(self, reach: u64) -> Result<OpenedFile, OpenError>
+        ensures len { IfOk result (λ f. f.len ≡ self.len) }
+        ensures begins { IfOk result (λ f.
+            take (length self.beginning.items) f.beginning.items ≡ self.beginning.items) }
+        ensures reached { IfOk result (λ f. length f.beginning.items
+            ≡ max (length self.beginning.items) (min reach self.len)) }
+    {
+        let mut bytes = self.beginning;
+        let known = bytes.len();
+        let wanted = reach.min(self.len) as usize;
+        if known < wanted {
+            bytes.resize(wanted, 0)?;
+            self.file.read_exact_at(&mut bytes[known..], known as u64)?;
+        }
+        Ok(OpenedFile {
+            file: self.file,
+            len: self.len,
+            beginning: bytes,
+        })
+    }
 }
 
 /// The length of what is a regular file, and not too long.
@@ -54,20 +129,25 @@ fn above_standard_streams(file: File) -> io::Result<File> {
     }
 }
 
-/// Opens a regular file and reads all of it. What is no regular file isn't opened, since to open a
-/// pipe may take forever.
-pub(crate) fn open_file(
+/// Opens a regular file, and reads its first bytes.
+fn open_file(
     rt: &impl Files<File = File>,
     alloc: Global,
     path: &str,
     how: &OpenOptions,
-) -> Result<OpenedFile, OpenError> {
+) -> Result<OpenedFile, OpenError>
+    ensures { IfOk result (λ f. length f.beginning.items ≡ min f.len 4096) }
+{
     regular_length(&fs::metadata(rt, path)?)?;
     let file = above_standard_streams(how.open(rt, path)?)?;
     let len = regular_length(&file.metadata()?)?;
-    let mut bytes = Vec::from_elem(alloc, 0u8, len as usize)?;
-    file.read_exact_at(&mut bytes, 0)?;
-    Ok(OpenedFile { file, bytes })
+    let mut beginning = Vec::from_elem(alloc, 0u8, len.min(BEGINNING) as usize)?;
+    file.read_exact_at(&mut beginning, 0)?;
+    Ok(OpenedFile {
+        file,
+        len,
+        beginning,
+    })
 }
 
 /// Creates a file where nothing has that name, and stores it and its name for good.

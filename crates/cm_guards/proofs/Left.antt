@@ -1,11 +1,15 @@
 -- What a crash leaves at the moments inside runs of calls.
 -- For `reads_change_nothing`, `runs_leave_a_claim` and others.
 use Rattle.std.proofs.Common.{◌≡◌, ◌⊎◌, ℕ, List, ⊎_elim, inl, inr, arith, refl, ◌∙◌, subst}
-use Rattle.std.specs.Prelude.{Result, IsErr}
+use Rattle.std.specs.Prelude.{Result, Ok, Err, IsOk, IsErr}
 use Rattle.cm_disk.specs.Disk.{Unsynced, IsImage}
 use Rattle.cm_disk.specs.Calls.{Elapses, HasCause}
 use Rattle.cm_guards.specs.Guards.{EachImage}
 use Rattle.cm_guards.specs.Calls.{LeavesOnly, Reads}
+
+no_err_is_ok : {T E : Type 0} (r : Result T E) → (IsErr r → ⊥) → IsOk r
+no_err_is_ok (Ok x) none = refl
+no_err_is_ok (Err e) none = absurd (none refl)
 
 module _ {D : Type 0} (moment : D → ℕ) (left_since : D → ℕ → List ℕ → Type 0) where
   -- one call
@@ -74,6 +78,7 @@ module _ {D : Type 0} (moment : D → ℕ) (left_since : D → ℕ → List ℕ 
           (IsImage (contents disk) (unsynced disk)) (record { each = λ image is. is });
       later = omega arith;
       cause = λ none. absurd none;
+      no_cause = λ none. refl;
     }
 
     pub one_read : {T E : Type 0} (old new : D) (result : Result T E)
@@ -92,6 +97,7 @@ module _ {D : Type 0} (moment : D → ℕ) (left_since : D → ℕ → List ℕ 
           (record { each = λ image is. is }) (record { each = λ image is. is });
       later = cause.later;
       cause = cause.fault;
+      no_cause = λ none. cause.no_fault (no_err_is_ok result none);
     }
 
     pub reads_on : (a b c : D) (F G : Type 0)
@@ -110,21 +116,24 @@ module _ {D : Type 0} (moment : D → ℕ) (left_since : D → ℕ → List ℕ 
       cause = λ faulted.
           ⊎_elim (λ f. let rose = first.cause f in omega (arith, rose, second.later))
           (λ g. let rose = second.cause g in omega (arith, rose, first.later)) faulted;
+      no_cause = λ none.
+          second.no_cause (λ g. none (inr g)) ∙ first.no_cause (λ f. none (inl f));
     }
 
-    -- less is said of its faults
-    pub reads_less : (a b : D) (F G : Type 0) → (G → F)
+    -- its faults are told in other words
+    pub reads_as : (a b : D) (F G : Type 0) → (G → F) → (F → G)
         → Reads contents unsynced failures moment left_since a b F
         → Reads contents unsynced failures moment left_since a b G
-    reads_less a b F G less reads = record {
+    reads_as a b F G less more reads = record {
       contents_stay = reads.contents_stay;
       unsynced_stay = reads.unsynced_stay;
       images = reads.images;
       later = reads.later;
       cause = λ faulted. reads.cause (less faulted);
+      no_cause = λ none. reads.no_cause (λ f. none (more f));
     }
 
-    -- a read behind a run of reads
+    -- a read behind a run of reads that met no fault
     pub read_after : {T E : Type 0} (first old new : D) (F : Type 0) (result : Result T E)
         → ((disk : D) (image : List ℕ) → left_since disk (moment disk) image
         → IsImage (contents disk) (unsynced disk) image)
@@ -132,10 +141,11 @@ module _ {D : Type 0} (moment : D → ℕ) (left_since : D → ℕ → List ℕ 
         → contents new ≡ contents old → unsynced new ≡ unsynced old
         → Elapses (moment old) (moment new) (left_since old) (left_since new)
         (IsImage (contents old) (unsynced old))
-        → HasCause (failures old) (failures new) result
+        → HasCause (failures old) (failures new) result → (F → ⊥)
         → Reads contents unsynced failures moment left_since first new (IsErr result)
-    read_after first old new F result only_now run same kept time cause =
-        reads_less first new (F ⊎ IsErr result) (IsErr result) (λ faulted. inr faulted)
+    read_after first old new F result only_now run same kept time cause none =
+        reads_as first new (F ⊎ IsErr result) (IsErr result) (λ faulted. inr faulted)
+        (λ faulted. ⊎_elim (λ f. absurd (none f)) (λ here. here) faulted)
         (reads_on first old new F (IsErr result) run
         (one_read old new result only_now same kept time cause))
 
@@ -147,10 +157,10 @@ module _ {D : Type 0} (moment : D → ℕ) (left_since : D → ℕ → List ℕ 
         → contents new ≡ contents old → unsynced new ≡ unsynced old
         → Elapses (moment old) (moment new) (left_since old) (left_since new)
         (IsImage (contents old) (unsynced old))
-        → HasCause (failures old) (failures new) result
+        → HasCause (failures old) (failures new) result → (F → ⊥) → (IsErr result → ⊥)
         → Reads contents unsynced failures moment left_since first new ⊥
-    read_more first old new F result only_now run same kept time cause =
-        reads_less first new (IsErr result) ⊥ (λ none. absurd none)
-        (read_after first old new F result only_now run same kept time cause)
+    read_more first old new F result only_now run same kept time cause none done =
+        reads_as first new (IsErr result) ⊥ (λ fault. absurd fault) done
+        (read_after first old new F result only_now run same kept time cause none)
 
 pub ruleset reading = (no_read, one_read, read_after, read_more)

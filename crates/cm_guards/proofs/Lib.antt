@@ -12,7 +12,7 @@ pub use Gated.{settled_images, turned, gate_written}
 pub use Planned.{overwritten_size, kept_by_plan}
 -- What a crash leaves at the moments inside runs of calls.
 pub use Left.{one_call, leaves_none, leaves_on, leaves_more, no_read, one_read, reads_on}
-pub use Left.{reads_less}
+pub use Left.{reads_as}
 pub use Left.{reading}
 -- What one device call leaves at each moment, and what the disk holds after it: a line for each
 -- step of a writer over any disk.

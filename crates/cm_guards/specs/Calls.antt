@@ -14,7 +14,7 @@ pub record LeavesOnly {D : Type 0} (moment : D → ℕ) (left_since : D → ℕ 
       → left_since old t image ⊎ P image
 
 -- A run of calls that only read: nothing changes, at each moment a crash leaves what it might have
--- left before them, and a fault is told only where the device failed in them.
+-- left before them, and a fault is told exactly where the device failed in them.
 pub record Reads {D : Type 0} (contents : D → List ℕ) (unsynced : D → Unsynced)
     (failures moment : D → ℕ) (left_since : D → ℕ → List ℕ → Type 0) (old new : D)
     (Faulted : Type 0) : Type 0 where
@@ -23,3 +23,4 @@ pub record Reads {D : Type 0} (contents : D → List ℕ) (unsynced : D → Unsy
   pub images : LeavesOnly moment left_since old new (IsImage (contents old) (unsynced old))
   pub later : failures old ≤ failures new
   pub cause : Faulted → failures old < failures new
+  pub no_cause : (Faulted → ⊥) → failures new ≡ failures old
