@@ -2,7 +2,7 @@
 -- For `Committer::advance`, `Committer::images`, `Committer::offer` and others.
 use Rattle.std.proofs.Common.{◌≡◌, ℕ, zero, suc, ◌+◌, ◌-◌, ◌*◌, ◌^◌, ◌<◌, ◌≤◌, ◌⊎◌, inl, inr, Bool}
 use Rattle.std.proofs.Common.{true, false}
-use Rattle.std.proofs.Common.{cond, List, [], ◌∷◌, length, None, refl, sym, ap, subst, ◌∙◌, arith}
+use Rattle.std.proofs.Common.{cond, List, [], ◌∷◌, length, None, refl, sym, ap, subst, arith}
 use Rattle.std.specs.Prelude.{◌&&◌, ◌||◌, nat_le, nat_lt, max}
 use Rattle.std.proofs.Math.Nat.{mul-le-mul, div-mul-le_self, le-div_iff_mul-le}
 use Rattle.std.proofs.lemmas.Nat.{pow_pos}
@@ -16,23 +16,24 @@ use Rattle.cm_pool.specs.Lists.{Among}
 use Rattle.cm_layout.specs.declared.class_row.ClassRow.{ClassRow}
 use Rattle.cm_layout.specs.declared.row.Row.{Row}
 use Rattle.cm_layout.specs.declared.row.Row.TheVariants.{Loader, Class}
+use Rattle.cm_layout.specs.declared.entry.Entry.{Entry}
 use Rattle.cm_layout.specs.declared.entry.Entry.TheVariants as entry
 use Rattle.cm_layout.specs.Offsets.{half_size, half_at, roots_at, root_at, root_size, record_at}
 use Rattle.cm_layout.specs.Rows.{classes_in, bare, rows_after, used_words}
 use Rattle.cm_layout.specs.Rules.{broken_rule, is_unused, is_last_chunk}
-use Rattle.cm_layout.specs.Frames.{BareEntry}
+use Rattle.cm_layout.specs.Frames.{bare_entry}
 use Rattle.cm_layout.specs.Framing.{Framing, IsRight, guards, needs, used_size, other_half}
 use Rattle.cm_layout.specs.Framing.{older_size, record_ranges}
 use Rattle.cm_layout.proofs.{length-blank, classes-bare}
 use Rattle.cm_layout.specs.Zeros.{blank}
 use Rattle.cm_guards.specs.Guards.{IsApart}
-use Rattle.cm_guards.specs.Plans.{CanWrite}
+use Rattle.cm_guards.specs.Plans.{Write, CanWrite}
 use Rattle.cm_group.specs.Groups.{Carried, entries_in}
 use Rattle.cm_commit.specs.Committed.{Committed}
 use Rattle.cm_commit.specs.Guarding.{is_in, guard_of}
-use Rattle.cm_commit.specs.Offers.{filled, own_record, HasRecords, MayJoin, MayJoinAll}
+use Rattle.cm_commit.specs.Offers.{filled, HasOwn, MayJoin, MayJoinAll}
 use Rattle.cm_commit.specs.Offers.{writes_apart}
-use Rattle.cm_commit.specs.GroupPlans.{record_write, record_writes, roots_of_entry}
+use Rattle.cm_commit.specs.GroupPlans.{writes_of, all_writes, record_writes, roots_of_entry}
 use Rattle.cm_commit.specs.GroupPlans.{roots_of_entries}
 use Rattle.cm_commit.specs.GroupPlans.{root_writes, whole_roots}
 use Rattle.cm_commit.proofs.Ranges.{among-from, among-to, half_ends, half_begins, halves_apart}
@@ -41,7 +42,7 @@ use Rattle.cm_commit.proofs.Places.{ends_in_root}
 use Rattle.cm_commit.proofs.Guards.{rows_stacked, rows_inside, older_ends, end_size}
 use Rattle.cm_commit.proofs.Writing.{size_after, can-append, size_after-grows}
 use Rattle.cm_commit.proofs.Rights.{rule-filled, are_kept}
-use Rattle.cm_commit.proofs.Records.{class_inside, roots-mono}
+use Rattle.cm_commit.proofs.Records.{class_inside, roots-mono, writes-append}
 
 pub not_true : (t : Bool) → (t ≡ true → ⊥) → t ≡ false
 not_true true isnt = absurd (isnt refl)
@@ -214,24 +215,21 @@ record-apart c r n right is free count = record {
 
 can-record : (c : Committed) (n : ℕ) (rows : List (Row (List ℕ))) (k : Carried) (len : ℕ)
     → IsRight c.sizes c.framing c.rows c.number → MayJoin c.sizes c.rows rows n k
-    → root_at c.sizes (roots_of_entry k.entry) ≤ len
-    → CanWrite (guard_of c) (record_write k.entry k.records c.sizes) len
+    → root_at c.sizes (roots_of_entry (bare_entry k.entry)) ≤ len
+    → CanWrite (guard_of c) (record_writes c.sizes (writes_of k.entry k.moved)) len
 can-record c n rows k len right joins long =
-    by_entry k.entry k.records (rule-filled c.sizes rows (n + 1) k joins.follows.keeps)
-    joins.records
+    by_entry k.entry k.moved (rule-filled c.sizes rows (n + 1) k joins.follows.keeps)
+    joins.records.0
     joins.apart long
   where
-    by_entry : (e : BareEntry) (records : List (List ℕ))
-        → broken_rule c.sizes (bare rows) (n + 1) e ≡ None → HasRecords e records
-        → writes_apart c.rows e ≡ true → root_at c.sizes (roots_of_entry e) ≤ len
-        → CanWrite (guard_of c) (record_write e records c.sizes) len
-    by_entry (entry.Live (Loader r)) records keeps has apart roots = tt
-    by_entry (entry.Live (Class r p)) records keeps has apart roots =
-        let words = own_record records in
-        let count : length words ≡ r.place.words =
-        ap (λ (l : List (List ℕ)). length (own_record l)) has.1 ∙ has.2 in
+    by_entry : (e : Entry (List ℕ)) (moved : List (List ℕ))
+        → broken_rule c.sizes (bare rows) (n + 1) (bare_entry e) ≡ None → HasOwn e
+        → writes_apart c.rows e ≡ true → root_at c.sizes (roots_of_entry (bare_entry e)) ≤ len
+        → CanWrite (guard_of c) (record_writes c.sizes (writes_of e moved)) len
+    by_entry (entry.Live (Loader r)) moved keeps has apart roots = tt
+    by_entry (entry.Live (Class r words)) moved keeps has apart roots =
         let bytes : length (word_bytes words) ≡ 8 * r.place.words =
-        omega (arith, length-word_bytes words, count) in
+        omega (arith, length-word_bytes words, has) in
         let is = (class_inside c.sizes rows n r keeps).0 in
         let ends = ends_in_root c.sizes r.place is in
         let last = roots-mono c.sizes (r.place.chunk.root + 1) c.sizes.roots
@@ -245,25 +243,28 @@ can-record c n rows k len right joins long =
           },
           tt,
         )
-    by_entry (entry.Unload e) records keeps has apart roots = tt
-    by_entry (entry.Move e) records keeps has apart roots = tt
+    by_entry (entry.Unload e) moved keeps has apart roots = tt
+    by_entry (entry.Move e) moved keeps has apart roots = tt
 
 pub can-records : (c : Committed) (n : ℕ) (rows : List (Row (List ℕ))) (carried : List Carried)
     (len : ℕ) → IsRight c.sizes c.framing c.rows c.number → MayJoinAll c.sizes c.rows rows n carried
     → root_at c.sizes (roots_of_entries (entries_in carried)) ≤ len
-    → CanWrite (guard_of c) (record_writes c.sizes carried) len
+    → CanWrite (guard_of c) (record_writes c.sizes (all_writes carried)) len
 can-records c n rows [] len right joins long = tt
 can-records c n rows (k ∷ carried) len right joins long =
     let es = entries_in carried in
-    let all = max (roots_of_entry k.entry) (roots_of_entries es) in
-    let here = roots-mono c.sizes (roots_of_entry k.entry) all (omega arith) in
+    let own = roots_of_entry (bare_entry k.entry) in
+    let all = max own (roots_of_entries es) in
+    let here = roots-mono c.sizes own all (omega arith) in
     let there = roots-mono c.sizes (roots_of_entries es) all (omega arith) in
-    let writes = record_write k.entry k.records c.sizes in
-    can-append (guard_of c) writes (record_writes c.sizes carried) len
+    let writes = record_writes c.sizes (writes_of k.entry k.moved) in
+    subst (λ (l : List Write). CanWrite (guard_of c) l len)
+    (sym (writes-append c.sizes (writes_of k.entry k.moved) (all_writes carried)))
+    (can-append (guard_of c) writes (record_writes c.sizes (all_writes carried)) len
     (can-record c n rows k len right joins.0 (omega (arith, here, long)))
     (can-records c (n + 1) (rows_after rows (filled k)) carried (size_after writes len) right
     joins.1
-    (omega (arith, there, long, size_after-grows writes len)))
+    (omega (arith, there, long, size_after-grows writes len))))
 
 -- ---- roots
 
@@ -347,19 +348,18 @@ roots-size sizes from (suc n) len starts =
 
 -- no more roots than the region can have
 one-few : (c : Committed) (n : ℕ) (rows : List (Row (List ℕ))) (k : Carried)
-    → MayJoin c.sizes c.rows rows n k → roots_of_entry k.entry ≤ c.sizes.roots
+    → MayJoin c.sizes c.rows rows n k → roots_of_entry (bare_entry k.entry) ≤ c.sizes.roots
 one-few c n rows k joins =
-    by_entry k.entry k.records (rule-filled c.sizes rows (n + 1) k joins.follows.keeps)
-    joins.records
+    by_entry k.entry (rule-filled c.sizes rows (n + 1) k joins.follows.keeps) joins.records.0
   where
-    by_entry : (e : BareEntry) (records : List (List ℕ))
-        → broken_rule c.sizes (bare rows) (n + 1) e ≡ None → HasRecords e records
-        → roots_of_entry e ≤ c.sizes.roots
-    by_entry (entry.Live (Loader r)) records keeps has = omega arith
-    by_entry (entry.Live (Class r p)) records keeps has =
+    by_entry : (e : Entry (List ℕ))
+        → broken_rule c.sizes (bare rows) (n + 1) (bare_entry e) ≡ None → HasOwn e
+        → roots_of_entry (bare_entry e) ≤ c.sizes.roots
+    by_entry (entry.Live (Loader r)) keeps has = omega arith
+    by_entry (entry.Live (Class r words)) keeps has =
         let is = (class_inside c.sizes rows n r keeps).0 in omega (arith, is.root)
-    by_entry (entry.Unload e) records keeps has = omega arith
-    by_entry (entry.Move e) records keeps has = absurd has
+    by_entry (entry.Unload e) keeps has = omega arith
+    by_entry (entry.Move e) keeps has = absurd has
 
 pub roots-few : (c : Committed) (n : ℕ) (rows : List (Row (List ℕ))) (carried : List Carried)
     → MayJoinAll c.sizes c.rows rows n carried

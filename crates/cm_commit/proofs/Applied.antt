@@ -10,7 +10,7 @@ use Rattle.cm_pool.specs.Geometry.{Sizes}
 use Rattle.cm_layout.specs.declared.entry_rule.EntryRule.{EntryRule}
 use Rattle.cm_layout.specs.Rows.{rows_after, rows_after_all}
 use Rattle.cm_layout.specs.Rules.{broken_rule}
-use Rattle.cm_layout.specs.Frames.{BareRow, BareEntry}
+use Rattle.cm_layout.specs.Frames.{BareRow, BareEntry, bare_entry}
 use Rattle.cm_rows.specs.Rows.{LiveRows, is_above}
 use Rattle.cm_rows.proofs.{above_entry}
 use Rattle.cm_group.specs.Groups.{Carried, entries_in}
@@ -46,22 +46,24 @@ next_is carried count c lt is =
 pub one_more : (old : LiveRows (Unit {0})) (first : ℕ) (carried : List Carried)
     (book : LiveRows (Unit {0})) (number count : ℕ) (c : Carried) → 1 ≤ first
     → AreApplied old first carried book number count → count < length carried
-    → c ≡ get_or carried count c → None ≡ broken_rule book.sizes book.rows number c.entry
-    → AreApplied old first carried (record book { rows = rows_after book.rows c.entry })
-    (number + 1) (count + 1)
+    → c ≡ get_or carried count c
+    → None ≡ broken_rule book.sizes book.rows number (bare_entry c.entry)
+    → AreApplied old first carried
+    (record book { rows = rows_after book.rows (bare_entry c.entry) }) (number + 1) (count + 1)
 one_more old first carried book number count c some are lt is keeps =
     let split = next_is carried count c lt is in
     let rest = entries_in (drop (count + 1) carried) in
     record {
       sizes = are.sizes;
       number_is = omega (arith, are.number_is);
-      above = above_next book.sizes number book.rows c.entry (omega (arith, some, are.number_is))
-          keeps
+      above = above_next book.sizes number book.rows (bare_entry c.entry)
+          (omega (arith, some, are.number_is)) keeps
           are.above;
       kept = are.kept
           ∙ (ap (λ (l : List Carried). keep_rules book.sizes book.rows number (entries_in l)) split
           ∙ ap (λ (o : Option EntryRule). is_none o
-          && keep_rules book.sizes (rows_after book.rows c.entry) (number + 1) rest) (sym keeps));
+          && keep_rules book.sizes (rows_after book.rows (bare_entry c.entry)) (number + 1) rest)
+          (sym keeps));
       rows = are.rows
           ∙ ap (λ (l : List Carried). rows_after_all book.rows (entries_in l)) split;
     }
@@ -70,19 +72,21 @@ one_more old first carried book number count c some are lt is keeps =
 pub one_breaks : (old : LiveRows (Unit {0})) (first : ℕ) (carried : List Carried)
     (book : LiveRows (Unit {0})) (number count : ℕ) (c : Carried) (rule : Option EntryRule)
     → AreApplied old first carried book number count → count < length carried
-    → c ≡ get_or carried count c → rule ≡ broken_rule book.sizes book.rows number c.entry
+    → c ≡ get_or carried count c
+    → rule ≡ broken_rule book.sizes book.rows number (bare_entry c.entry)
     → is_some rule ≡ true → false ≡ keep_rules old.sizes old.rows first (entries_in carried)
 one_breaks old first carried book number count c rule are lt is broken some =
     let split = next_is carried count c lt is in
     let rest = entries_in (drop (count + 1) carried) in
     by_rule rule some
     ∙ ap (λ (o : Option EntryRule). is_none o
-    && keep_rules book.sizes (rows_after book.rows c.entry) (number + 1) rest) broken
+    && keep_rules book.sizes (rows_after book.rows (bare_entry c.entry)) (number + 1) rest) broken
     ∙ sym (are.kept
     ∙ ap (λ (l : List Carried). keep_rules book.sizes book.rows number (entries_in l)) split)
   where
     by_rule : (o : Option EntryRule) → is_some o ≡ true
-        → false ≡ (is_none o && keep_rules book.sizes (rows_after book.rows c.entry) (number + 1)
+        → false ≡ (is_none o
+        && keep_rules book.sizes (rows_after book.rows (bare_entry c.entry)) (number + 1)
         (entries_in (drop (count + 1) carried)))
     by_rule None none = absurd (cc)
     by_rule (Some r) yes_it_is = refl

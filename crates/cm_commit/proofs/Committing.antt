@@ -1,31 +1,35 @@
 -- What a group that is taken makes of what a committer keeps.
 -- For `Committer::advance`, `may_join` and others.
-use Rattle.std.proofs.Common.{◌≡◌, ℕ, ◌+◌, ◌*◌, ◌^◌, ◌≤◌, inl, inr, Bool, true, false, cond, List}
-use Rattle.std.proofs.Common.{[], ◌∷◌, ◌++◌, length, None, is_none, refl, sym, ap, subst, arith}
-use Rattle.std.specs.Prelude.{nat_lt, not}
+use Rattle.std.proofs.Common.{◌≡◌, ℕ, ◌+◌, ◌^◌, ◌≤◌, inl, inr, Bool, true, false, cond, List}
+use Rattle.std.proofs.Common.{[], ◌∷◌, ◌++◌, length, None, is_none, refl, ap, subst, arith}
+use Rattle.std.specs.Prelude.{nat_lt, not, ◌==◌}
 use Rattle.std.specs.List.{AllByRecursion, list_all}
 use Rattle.std.proofs.lemmas.Bool.{eq-eqb, lt-ltb, and_from}
 use Rattle.cm_pool.specs.Geometry.{Sizes}
+use Rattle.cm_pool.specs.declared.place.Place.{Place}
 use Rattle.cm_pool.specs.Lists.{Among}
 use Rattle.cm_layout.specs.declared.row.Row.{Row}
 use Rattle.cm_layout.specs.declared.row.Row.TheVariants.{Loader, Class}
+use Rattle.cm_layout.specs.declared.entry.Entry.{Entry}
 use Rattle.cm_layout.specs.declared.entry.Entry.TheVariants as entry
 use Rattle.cm_layout.specs.Offsets.{root_size}
 use Rattle.cm_layout.specs.Rows.{bare, numbers_in, rows_after, without_loader, is_of}
 use Rattle.cm_layout.specs.Rules.{broken_rule}
-use Rattle.cm_layout.specs.Frames.{BareRow, BareEntry, LiveRowsKeep}
+use Rattle.cm_layout.specs.Frames.{BareRow, LiveRowsKeep, bare_entry}
 use Rattle.cm_layout.proofs.{entry-apart, entry-live, live-append, own_loaders}
 use Rattle.cm_rows.specs.Rows.{is_above}
 use Rattle.cm_state.specs.State.{words_show}
 use Rattle.cm_state.specs.Entries.{AreCacheRows}
 use Rattle.cm_state.proofs.{entries_step}
 use Rattle.cm_group.specs.Groups.{Carried, Handed, IsGroup, CarriesRight, IsRightRecord, entries_in}
+use Rattle.cm_group.specs.Groups.{records_of}
 use Rattle.cm_commit.specs.Committed.{Committed, journal_of}
-use Rattle.cm_commit.specs.Offers.{filled, own_record, HasRecords, MayJoinAll, IsNext}
+use Rattle.cm_commit.specs.Offers.{filled, HasOwn, HasRecords, has_own, MayJoinAll, IsNext}
 use Rattle.cm_commit.specs.Offers.{carries_own, rows_after_group}
 use Rattle.cm_commit.specs.Guarding.{IsCommitted}
 use Rattle.cm_commit.specs.Keeping.{keep_rules}
 use Rattle.cm_commit.specs.Keeps.{AreRight}
+use Rattle.cm_commit.specs.GroupPlans.{writes_of, all_writes}
 use Rattle.cm_commit.specs.Steps.{AreSmall, FitsJournal}
 use Rattle.cm_commit.proofs.Apart.{roots-few}
 use Rattle.cm_commit.proofs.Records.{class_inside}
@@ -34,15 +38,16 @@ use Rattle.cm_commit.proofs.Slots.{entries_count}
 
 -- ---- the records that entries carry
 
-own_one : (e : BareEntry) (records : List (List ℕ)) → HasRecords e records
-    → carries_own (record { entry = e; records = records }) ≡ true
-own_one (entry.Live (Loader r)) records has = eq-eqb (length records) 0 (ap length has)
-own_one (entry.Live (Class r p)) records has =
-    subst (λ (l : List (List ℕ)). carries_own
-    (record { entry = entry.Live (Class r p); records = l })
-    ≡ true) (sym has.1) (eq-eqb (length has.0) r.place.words has.2)
-own_one (entry.Unload e) records has = eq-eqb (length records) 0 (ap length has)
-own_one (entry.Move e) records has = absurd has
+own_entry : (e : Entry (List ℕ)) → HasOwn e → has_own e ≡ true
+own_entry (entry.Live (Loader r)) has = refl
+own_entry (entry.Live (Class r words)) has = eq-eqb (length words) r.place.words has
+own_entry (entry.Unload e) has = refl
+own_entry (entry.Move e) has = absurd has
+
+own_one : (c : Carried) → HasRecords c.entry c.moved → carries_own c ≡ true
+own_one c has =
+    and_from (length c.moved == 0) (has_own c.entry)
+    (eq-eqb (length c.moved) 0 (ap length has.1)) (own_entry c.entry has.0)
 
 pub own_all : (sizes : Sizes) (committed rows : List (Row (List ℕ))) (n : ℕ)
     (carried : List Carried) → MayJoinAll sizes committed rows n carried
@@ -50,37 +55,38 @@ pub own_all : (sizes : Sizes) (committed rows : List (Row (List ℕ))) (n : ℕ)
 own_all sizes committed rows n [] joins = refl
 own_all sizes committed rows n (c ∷ carried) joins =
     and_from (carries_own c) (list_all carries_own carried)
-    (own_one c.entry c.records joins.0.records)
+    (own_one c joins.0.records)
     (own_all sizes committed (rows_after rows (filled c)) (n + 1) carried joins.1)
 
-small_one : (sizes : Sizes) (rows : List (Row (List ℕ))) (n : ℕ) (e : BareEntry)
-    (records : List (List ℕ)) → broken_rule sizes (bare rows) (n + 1) e ≡ None
-    → HasRecords e records → 8 * length (own_record records) ≤ root_size sizes
-small_one sizes rows n (entry.Live (Loader r)) records keeps has =
-    omega (arith, ap (λ (l : List (List ℕ)). length (own_record l)) has)
-small_one sizes rows n (entry.Live (Class r p)) records keeps has =
+small-append : (size : ℕ) (xs ys : List (Place × List ℕ)) → AreSmall size xs → AreSmall size ys
+    → AreSmall size (xs ++ ys)
+small-append size [] ys hx hy = hy
+small-append size (x ∷ xs) ys hx hy = (hx.0, small-append size xs ys hx.1 hy)
+
+small_one : (sizes : Sizes) (rows : List (Row (List ℕ))) (n : ℕ) (e : Entry (List ℕ))
+    (moved : List (List ℕ)) → broken_rule sizes (bare rows) (n + 1) (bare_entry e) ≡ None
+    → HasOwn e → AreSmall (root_size sizes) (writes_of e moved)
+small_one sizes rows n (entry.Live (Loader r)) moved keeps has = tt
+small_one sizes rows n (entry.Live (Class r words)) moved keeps has =
     let is = (class_inside sizes rows n r keeps).0 in
-    let own = ap (λ (l : List (List ℕ)). length (own_record l)) has.1 in
-    omega (arith, own, has.2, is.words, is.chunk)
-small_one sizes rows n (entry.Unload e) records keeps has =
-    omega (arith, ap (λ (l : List (List ℕ)). length (own_record l)) has)
-small_one sizes rows n (entry.Move e) records keeps has = absurd has
+    (omega (arith, has, is.words, is.chunk), tt)
+small_one sizes rows n (entry.Unload e) moved keeps has = tt
+small_one sizes rows n (entry.Move e) moved keeps has = tt
 
 pub small_all : (sizes : Sizes) (committed rows : List (Row (List ℕ))) (n : ℕ)
     (carried : List Carried) → MayJoinAll sizes committed rows n carried
-    → AreSmall (root_size sizes) carried
+    → AreSmall (root_size sizes) (all_writes carried)
 small_all sizes committed rows n [] joins = tt
-small_all sizes committed rows n (c ∷ carried) joins = (
-  small_one sizes rows n c.entry c.records
-      (rule-filled sizes rows (n + 1) c joins.0.follows.keeps) joins.0.records,
-  small_all sizes committed (rows_after rows (filled c)) (n + 1) carried joins.1,
-)
+small_all sizes committed rows n (c ∷ carried) joins =
+    small-append (root_size sizes) (writes_of c.entry c.moved) (all_writes carried)
+    (small_one sizes rows n c.entry c.moved (rule-filled sizes rows (n + 1) c joins.0.follows.keeps)
+    joins.0.records.0)
+    (small_all sizes committed (rows_after rows (filled c)) (n + 1) carried joins.1)
 
 pub fits_journal : (c : Committed) (group : Handed) → IsCommitted c → IsGroup group → IsNext c group
     → FitsJournal (journal_of c) group
 fits_journal c group right is next = record {
   lawful = right.lawful;
-  own = own_all c.sizes c.rows c.rows c.number group.entries next.entries;
   small = small_all c.sizes c.rows c.rows c.number group.entries next.entries;
   roots = roots-few c c.number c.rows group.entries next.entries;
   number = omega (arith, is.some, next.ends);
@@ -96,8 +102,9 @@ pub rules_kept : (sizes : Sizes) (committed rows : List (Row (List ℕ))) (n : �
     → keep_rules sizes (bare rows) (n + 1) (entries_in carried) ≡ true
 rules_kept sizes committed rows n [] joins = refl
 rules_kept sizes committed rows n (c ∷ carried) joins =
-    and_from (is_none (broken_rule sizes (bare rows) (n + 1) c.entry))
-    (keep_rules sizes (rows_after (bare rows) c.entry) (n + 1 + 1) (entries_in carried))
+    and_from (is_none (broken_rule sizes (bare rows) (n + 1) (bare_entry c.entry)))
+    (keep_rules sizes (rows_after (bare rows) (bare_entry c.entry)) (n + 1 + 1)
+    (entries_in carried))
     (ap is_none (rule-filled sizes rows (n + 1) c joins.0.follows.keeps))
     (subst (λ (l : List BareRow). keep_rules sizes l (n + 1 + 1) (entries_in carried) ≡ true)
     (after-filled rows c)
@@ -149,17 +156,15 @@ right-without u (row ∷ rows) right =
     by_test true rest = (right.0, rest)
     by_test false rest = rest
 
-right-one : (rows : List (Row (List ℕ))) (e : BareEntry) (records : List (List ℕ)) → AreRight rows
-    → AllByRecursion IsRightRecord records → HasRecords e records
-    → AreRight (rows_after rows (filled (record { entry = e; records = records })))
-right-one rows (entry.Live (Loader r)) records right all has =
+right-one : (rows : List (Row (List ℕ))) (e : Entry (List ℕ)) (moved : List (List ℕ))
+    → AreRight rows → AllByRecursion IsRightRecord (records_of e moved) → HasOwn e
+    → AreRight (rows_after rows e)
+right-one rows (entry.Live (Loader r)) moved right all has =
     right-append rows (Loader r ∷ []) right (tt, tt)
-right-one rows (entry.Live (Class r p)) records right all has =
-    let own = (subst (AllByRecursion IsRightRecord) has.1 all).0 in
-    right-append rows (Class r (own_record records) ∷ []) right
-    (subst (λ (l : List (List ℕ)). IsRightRecord (own_record l)) (sym has.1) own, tt)
-right-one rows (entry.Unload e) records right all has = right-without e.loader rows right
-right-one rows (entry.Move e) records right all has = absurd has
+right-one rows (entry.Live (Class r words)) moved right all has =
+    right-append rows (Class r words ∷ []) right (all.0, tt)
+right-one rows (entry.Unload e) moved right all has = right-without e.loader rows right
+right-one rows (entry.Move e) moved right all has = absurd has
 
 pub right_rows_after : (sizes : Sizes) (committed rows : List (Row (List ℕ))) (n : ℕ)
     (carried : List Carried) → AreRight rows → AllByRecursion CarriesRight carried
@@ -167,4 +172,4 @@ pub right_rows_after : (sizes : Sizes) (committed rows : List (Row (List ℕ))) 
 right_rows_after sizes committed rows n [] right all joins = right
 right_rows_after sizes committed rows n (c ∷ carried) right all joins =
     right_rows_after sizes committed (rows_after rows (filled c)) (n + 1) carried
-    (right-one rows c.entry c.records right all.0 joins.0.records) all.1 joins.1
+    (right-one rows c.entry c.moved right all.0 joins.0.records.0) all.1 joins.1

@@ -2,8 +2,9 @@
 -- For `calls_at`, `plans_have_steps`.
 use Rattle.std.proofs.Common.{◌≡◌, ℕ, zero, suc, ◌+◌, ◌-◌, Bool, true, false, cond, List, [], ◌∷◌}
 use Rattle.std.proofs.Common.{◌++◌, length, drop, arith, refl}
-use Rattle.std.proofs.lemmas.List.{length-append}
+use Rattle.std.proofs.lemmas.List.{length-append, length-map}
 use Rattle.cm_pool.specs.Geometry.{Sizes}
+use Rattle.cm_pool.specs.declared.place.Place.{Place}
 use Rattle.cm_layout.specs.declared.half.Half.{Half}
 use Rattle.cm_layout.specs.Rows.{bare}
 use Rattle.cm_layout.specs.Frames.{BareRow}
@@ -17,44 +18,53 @@ use Rattle.cm_commit.specs.declared.step.CheckpointStep.TheVariants as checkpoin
 use Rattle.cm_commit.specs.Committed.{journal_of}
 use Rattle.cm_commit.specs.Checkpoints.{is_due, renewed_journal, checkpoint_of, shut_stages}
 use Rattle.cm_commit.specs.Steps.{stages_at, half_gate, renewed_half, shut_sync, checkpoint_left}
-use Rattle.cm_commit.specs.GroupPlans.{root_writes, record_writes, whole_roots, slots_write}
-use Rattle.cm_commit.specs.GroupPlans.{roots_of_entries, plan_at, plan_of}
+use Rattle.cm_commit.specs.GroupPlans.{root_writes, all_writes, record_writes, place_write}
+use Rattle.cm_commit.specs.GroupPlans.{whole_roots, slots_write, roots_of_entries}
+use Rattle.cm_commit.specs.GroupPlans.{plan_at, plan_of}
 use Rattle.cm_commit.specs.Laws.{PlansHaveSteps}
 
 root-count : (sizes : Sizes) (from n : ℕ) → length (root_writes sizes from n) ≡ n
 root-count sizes from zero = omega arith
 root-count sizes from (suc n) = omega (arith, root-count sizes (from + 1) n)
 
+writes-count : (sizes : Sizes) (writes : List (Place × List ℕ))
+    → length (record_writes sizes writes) ≡ length writes
+writes-count sizes writes =
+    length-map writes (λ (w : Place × List ℕ). place_write sizes w.0 w.1)
+
 -- how many calls of a group are left while it is written
 pub calls_write : (j : Journal) (group : Handed) (roots from : ℕ)
     → calls_left (stages_at j group (step.Write roots from))
     ≡ roots_of_entries (entries_in group.entries) - roots
-    + length (record_writes j.geometry (drop from group.entries)) + 4
+    + length (drop from (all_writes group.entries)) + 4
 calls_write j group roots from =
     let more = roots_of_entries (entries_in group.entries) - roots in
     let zeros = root_writes j.geometry roots more in
-    let records = record_writes j.geometry (drop from group.entries) in
+    let unwritten = drop from (all_writes group.entries) in
+    let records = record_writes j.geometry unwritten in
     let slots = slots_write j.geometry j.half j.end j.number (entries_in group.entries) ∷ [] in
     omega (
       arith,
       length-append (zeros ++ records) slots,
       length-append zeros records,
+      writes-count j.geometry unwritten,
       root-count j.geometry roots more,
     )
 
 -- and before its first call
 group_counts : (sizes : Sizes) (half : Half) (slot n roots : ℕ) (carried : List Carried)
     → calls_left (plan_at sizes half slot n roots carried)
-    ≡ 4 + (roots_of_entries (entries_in carried) - roots) + length (record_writes sizes carried)
+    ≡ 4 + (roots_of_entries (entries_in carried) - roots) + length (all_writes carried)
 group_counts sizes half slot n roots carried =
     let more = roots_of_entries (entries_in carried) - roots in
     let zeros = root_writes sizes roots more in
-    let records = record_writes sizes carried in
+    let records = record_writes sizes (all_writes carried) in
     let slots = slots_write sizes half slot n (entries_in carried) ∷ [] in
     omega (
       arith,
       length-append (zeros ++ records) slots,
       length-append zeros records,
+      writes-count sizes (all_writes carried),
       root-count sizes roots more,
     )
 
@@ -70,7 +80,7 @@ checkpoint_counts j rows = by_test j.other_open
 pub plan_counts : (j : Journal) (rows : List BareRow) (roots : ℕ) (carried : List Carried)
     → calls_left (plan_of j rows roots carried)
     ≡ 4 + (roots_of_entries (entries_in carried) - roots)
-    + length (record_writes j.geometry carried) + cond (is_due j carried) 6 0
+    + length (all_writes carried) + cond (is_due j carried) 6 0
 plan_counts j rows roots carried = by_test (is_due j carried)
   where
     by_test : (t : Bool)
@@ -79,7 +89,7 @@ plan_counts j rows roots carried = by_test (is_due j carried)
         (cond t (renewed_journal j rows) j).half (cond t (renewed_journal j rows) j).end
         (cond t (renewed_journal j rows) j).number roots carried)
         ≡ 4 + (roots_of_entries (entries_in carried) - roots)
-        + length (record_writes j.geometry carried) + cond t 6 0
+        + length (all_writes carried) + cond t 6 0
     by_test true =
         let r = renewed_journal j rows in
         let all = calls_left-append (checkpoint_of j rows)

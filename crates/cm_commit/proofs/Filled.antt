@@ -2,7 +2,6 @@
 -- For `fill_all`.
 use Rattle.std.proofs.Common.{◌≡◌, ℕ, ◌+◌, ◌-◌, ◌<◌, ◌≤◌, true, cond, List, length, drop}
 use Rattle.std.proofs.Common.{get_or, Option, Some, None, is_none, refl, sym, ap, subst, ◌∙◌, arith}
-use Rattle.std.specs.List.{list_all}
 use Rattle.std.proofs.lemmas.Bool.{and_parts}
 use Rattle.cm_layout.specs.declared.row.Row.{Row}
 use Rattle.cm_layout.specs.declared.row.Row.TheVariants.{Loader, Class}
@@ -16,10 +15,9 @@ use Rattle.cm_layout.proofs.{after-bare, rule-bare}
 use Rattle.cm_rows.specs.Rows.{LiveRows, is_above}
 use Rattle.cm_rows.proofs.{above_entry}
 use Rattle.cm_group.specs.Groups.{Carried, entries_in}
-use Rattle.cm_commit.specs.Offers.{filled, carries_own, rows_after_group}
+use Rattle.cm_commit.specs.Offers.{filled, rows_after_group}
 use Rattle.cm_commit.specs.Keeping.{keep_rules}
 use Rattle.cm_commit.proofs.Applied.{next_is, all_behind}
-use Rattle.cm_commit.proofs.Rights.{bare-filled}
 use Rattle.cm_commit.proofs.With.{after-with}
 
 pub record AreFilled {P : Type 0} (f : P → List ℕ) (old : LiveRows P) (first : ℕ)
@@ -27,14 +25,13 @@ pub record AreFilled {P : Type 0} (f : P → List ℕ) (old : LiveRows P) (first
   pub sizes : new.sizes ≡ old.sizes
   pub number_is : number ≡ first + count
   pub above : is_above number new.rows ≡ true
-  pub own : list_all carries_own (drop count carried) ≡ true
   pub kept : keep_rules new.sizes (bare new.rows) number (entries_in (drop count carried)) ≡ true
   pub rows : rows_after_group (rows_with f new.rows) (drop count carried)
       ≡ rows_after_group (rows_with f old.rows) carried
 
 bare-kept : {P : Type 0} (f : P → List ℕ) (e : Entry P) (c : Carried) → entry_with f e ≡ filled c
-    → bare_entry e ≡ c.entry
-bare-kept {P} f e c same = by_entry e ∙ (ap bare_entry same ∙ bare-filled c)
+    → bare_entry e ≡ bare_entry c.entry
+bare-kept {P} f e c same = by_entry e ∙ ap bare_entry same
   where
     by_entry : (d : Entry P) → bare_entry d ≡ bare_entry (entry_with f d)
     by_entry (entry.Live (Loader r)) = refl
@@ -51,15 +48,6 @@ applied_is : {P : Type 0} (o : Option EntryRule) (new applied old : LiveRows P) 
 applied_is None new applied old e left = left
 applied_is (Some x) new applied old e left = absurd (cc)
 
-pub own_here : {P : Type 0} (f : P → List ℕ) (old : LiveRows P) (first : ℕ)
-    (carried : List Carried) (new : LiveRows P) (number count : ℕ) (c : Carried)
-    → AreFilled f old first carried new number count → count < length carried
-    → c ≡ get_or carried count c → carries_own c ≡ true
-own_here f old first carried new number count c are lt is =
-    (and_parts (carries_own c) (list_all carries_own (drop (count + 1) carried))
-    (subst (λ (l : List Carried). list_all carries_own l ≡ true)
-    (next_is carried count c lt is) are.own)).0
-
 pub one_filled : {P : Type 0} (f : P → List ℕ) (old : LiveRows P) (first : ℕ)
     (carried : List Carried) (book : LiveRows P) (number count : ℕ) (c : Carried) (e : Entry P)
     (result : Option EntryRule) (new : LiveRows P) → 1 ≤ first
@@ -72,17 +60,16 @@ one_filled {P} f old first carried book number count c e result new some are lt 
     broken left =
     let rest = drop (count + 1) carried in
     let split = next_is carried count c lt is in
-    let own = and_parts (carries_own c) (list_all carries_own rest)
-    (subst (λ (l : List Carried). list_all carries_own l ≡ true) split are.own) in
-    let kept = and_parts (is_none (broken_rule book.sizes (bare book.rows) number c.entry))
-    (keep_rules book.sizes (rows_after (bare book.rows) c.entry) (number + 1) (entries_in rest))
+    let own = bare_entry c.entry in
+    let kept = and_parts (is_none (broken_rule book.sizes (bare book.rows) number own))
+    (keep_rules book.sizes (rows_after (bare book.rows) own) (number + 1) (entries_in rest))
     (subst (λ (l : List Carried). keep_rules book.sizes (bare book.rows) number (entries_in l)
     ≡ true) split are.kept) in
     let plain = bare-kept f e c same in
     let keeps : broken_rule book.sizes book.rows number e ≡ None =
     sym (rule-bare book.sizes book.rows number e)
     ∙ (ap (broken_rule book.sizes (bare book.rows) number) plain
-    ∙ none_from (broken_rule book.sizes (bare book.rows) number c.entry) kept.0) in
+    ∙ none_from (broken_rule book.sizes (bare book.rows) number (bare_entry c.entry)) kept.0) in
     let applied : new ≡ record book { rows = rows_after book.rows e } =
     applied_is result new (record book { rows = rows_after book.rows e }) book (broken ∙ keeps)
     left in
@@ -95,7 +82,6 @@ one_filled {P} f old first carried book number count c e result new some are lt 
           (above_entry book.sizes (number - 1) book.rows e
           (subst (λ (m : ℕ). None ≡ broken_rule book.sizes book.rows m e) (sym back) (sym keeps))
           (subst (λ (m : ℕ). is_above m book.rows ≡ true) (sym back) are.above));
-      own = own.1;
       kept = subst (λ (l : List BareRow). keep_rules book.sizes l (number + 1) (entries_in rest)
           ≡ true)
           (sym (after-bare book.rows e ∙ ap (rows_after (bare book.rows)) plain)) kept.1;

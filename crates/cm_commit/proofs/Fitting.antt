@@ -12,15 +12,16 @@ use Rattle.cm_layout.specs.declared.class_row.ClassRow.{ClassRow}
 use Rattle.cm_layout.specs.declared.entry_rule.EntryRule.TheVariants.{OnRows}
 use Rattle.cm_layout.specs.declared.row.Row.{Row}
 use Rattle.cm_layout.specs.declared.row.Row.TheVariants.{Loader, Class}
+use Rattle.cm_layout.specs.declared.entry.Entry.{Entry}
 use Rattle.cm_layout.specs.declared.entry.Entry.TheVariants as entry
-use Rattle.cm_layout.specs.Names.{is_loader_name, is_visible, name_limit}
+use Rattle.cm_layout.specs.Names.{is_loader_name, is_visible, name_limit, name_room}
 use Rattle.cm_layout.specs.Slots.{FitsEntry, FitsClass}
 use Rattle.cm_layout.specs.Rows.{name_of, number_of, numbers_in}
 use Rattle.cm_layout.specs.Rules.{broken_rule, broken_of, is_live, has_room, class_fits}
 use Rattle.cm_layout.specs.Rules.{is_new_loader}
-use Rattle.cm_layout.specs.Frames.{BareRow, BareEntry, LiveRowsKeep}
+use Rattle.cm_layout.specs.Frames.{BareRow, LiveRowsKeep, bare_entry}
 use Rattle.cm_layout.proofs.{own_loaders, class_keeps}
-use Rattle.cm_commit.specs.Offers.{HasRecords, carries_own}
+use Rattle.cm_commit.specs.Offers.{HasOwn, HasRecords, has_own, carries_own}
 use Rattle.cm_commit.proofs.Places.{IsInside, inside}
 
 -- ---- the records that they carry
@@ -30,15 +31,17 @@ none_there [] own = refl
 none_there (words ∷ records) own =
     absurd (omega (arith, eqb-true (length (words ∷ records)) 0 own))
 
-pub has_one : (e : BareEntry) (records : List (List ℕ))
-    → carries_own (record { entry = e; records = records }) ≡ true → HasRecords e records
-has_one (entry.Live (Loader r)) records own = none_there records own
-has_one (entry.Live (Class r p)) [] own = absurd (cc)
-has_one (entry.Live (Class r p)) (words ∷ []) own =
-    (words, refl, eqb-true (length words) r.place.words own)
-has_one (entry.Live (Class r p)) (words ∷ more ∷ records) own = absurd (cc)
-has_one (entry.Unload e) records own = none_there records own
-has_one (entry.Move e) records own = absurd (cc)
+own_there : (e : Entry (List ℕ)) → has_own e ≡ true → HasOwn e
+own_there (entry.Live (Loader r)) own = tt
+own_there (entry.Live (Class r words)) own = eqb-true (length words) r.place.words own
+own_there (entry.Unload e) own = tt
+own_there (entry.Move e) own = absurd (cc)
+
+pub has_one : (e : Entry (List ℕ)) (moved : List (List ℕ))
+    → carries_own (record { entry = e; moved = moved }) ≡ true → HasRecords e moved
+has_one e moved carries =
+    let both = and_parts (length moved == 0) (has_own e) carries in
+    (own_there e both.1, none_there moved both.0)
 
 -- ---- what slots have room for
 
@@ -69,7 +72,7 @@ pub live_past : (sizes : Sizes) (n : ℕ) (rows : List BareRow) (u : ℕ)
     → LiveRowsKeep sizes n [] rows → is_live u rows ≡ true → u ≤ n
 live_past sizes n rows u keep live = (own_loaders sizes n rows keep).past u (among_live u rows live)
 
-short_name : (x : List ℕ) → is_loader_name x ≡ true → length x ≤ name_limit
+short_name : (x : List ℕ) → is_loader_name x ≡ true → length x ≤ name_room
 short_name x named =
     let some = nat_le 1 (length x) in
     let short = nat_le (length x) name_limit in
@@ -93,10 +96,10 @@ fits_class sizes r g loader is =
       offset = omega (arith, is.words, is.chunk, top);
     }
 
-pub fits_one : (sizes : Sizes) (n : ℕ) (rows : List BareRow) (e : BareEntry)
-    (records : List (List ℕ)) → IsGeometry sizes → n < 2 ^ 63 → LiveRowsKeep sizes n [] rows
-    → broken_rule sizes rows (n + 1) e ≡ None → HasRecords e records → FitsEntry e
-fits_one sizes n rows (entry.Live (Loader r)) records g small keep keeps has =
+pub fits_one : (sizes : Sizes) (n : ℕ) (rows : List BareRow) (e : Entry (List ℕ))
+    → IsGeometry sizes → n < 2 ^ 63 → LiveRowsKeep sizes n [] rows
+    → broken_rule sizes rows (n + 1) (bare_entry e) ≡ None → HasOwn e → FitsEntry (bare_entry e)
+fits_one sizes n rows (entry.Live (Loader r)) g small keep keeps has =
     let new = is_new_loader sizes rows r in
     let parts = and_parts (r.number == n + 1) new (rule_rows ((r.number == n + 1) && new) keeps) in
     let named = is_loader_name r.name in
@@ -107,14 +110,14 @@ fits_one sizes n rows (entry.Live (Loader r)) records g small keep keeps has =
       number = omega (arith, eqb-true r.number (n + 1) parts.0, small);
       name = short_name r.name name.0;
     }
-fits_one sizes n rows (entry.Live (Class r p)) records g small keep keeps has =
+fits_one sizes n rows (entry.Live (Class r words)) g small keep keeps has =
     let live = is_live r.loader rows in
-    let room = has_room sizes rows (Class r p) in
+    let room = has_room sizes rows (Class r (tt {0})) in
     let rules = rule_both (live && room) (class_fits sizes rows r) keeps in
     let past = live_past sizes n rows r.loader keep (and_parts live room rules.0).0 in
     let k = class_keeps sizes rows r keeps in
     fits_class sizes r g (omega (arith, past, small)) (inside sizes r.place k.chunk k.within)
-fits_one sizes n rows (entry.Unload e) records g small keep keeps has =
+fits_one sizes n rows (entry.Unload e) g small keep keeps has =
     let past = live_past sizes n rows e.loader keep (rule_rows (is_live e.loader rows) keeps) in
     record { loader = omega (arith, past, small) }
-fits_one sizes n rows (entry.Move e) records g small keep keeps has = absurd has
+fits_one sizes n rows (entry.Move e) g small keep keeps has = absurd has

@@ -13,22 +13,23 @@ use Rattle.cm_record.specs.Names.{class_name_in}
 use Rattle.cm_layout.specs.declared.class_row.ClassRow.{ClassRow}
 use Rattle.cm_layout.specs.declared.row.Row.{Row}
 use Rattle.cm_layout.specs.declared.row.Row.TheVariants.{Loader, Class}
+use Rattle.cm_layout.specs.declared.entry.Entry.{Entry}
 use Rattle.cm_layout.specs.declared.entry.Entry.TheVariants as entry
 use Rattle.cm_layout.specs.Slots.{FitsEntry}
 use Rattle.cm_layout.specs.Rows.{bare, rows_after}
 use Rattle.cm_layout.specs.Rules.{broken_rule, is_live, has_room, class_fits, is_new_loader}
-use Rattle.cm_layout.specs.Frames.{BareRow, BareEntry, AreApart}
+use Rattle.cm_layout.specs.Frames.{BareRow, AreApart, bare_entry}
 use Rattle.cm_layout.proofs.{own_loaders, name-bare, classes-bare, rule-bare}
 use Rattle.cm_state.specs.State.{words_show, class_among}
 use Rattle.cm_state.specs.Entries.{IsNewClass, AreCacheRows}
 use Rattle.cm_group.specs.Groups.{Carried, entries_in}
-use Rattle.cm_commit.specs.Offers.{filled, own_record, HasRecords, carries_own, writes_apart}
+use Rattle.cm_commit.specs.Offers.{filled, HasRecords, carries_own, writes_apart}
 use Rattle.cm_commit.specs.Offers.{MayJoin, MayJoinAll}
 use Rattle.cm_commit.specs.Keeping.{keep_rules}
 use Rattle.cm_commit.specs.Joining.{makes_class, is_new_name, is_new, are_new, are_apart}
 use Rattle.cm_commit.specs.Joining.{may_join}
 use Rattle.cm_commit.proofs.Committing.{own_all, rules_kept}
-use Rattle.cm_commit.proofs.Rights.{AreKept, kept-after, bare-filled, after-filled, rule-filled}
+use Rattle.cm_commit.proofs.Rights.{AreKept, kept-after, after-filled, rule-filled}
 use Rattle.cm_commit.proofs.Fitting.{has_one, rule_rows, rule_both, live_past, fits_one}
 use Rattle.cm_commit.proofs.ClassNames.{is_there, there-loader, there-class, there-without}
 use Rattle.cm_commit.proofs.ClassNames.{none-there, live-loader, live-class, live-without, any-more}
@@ -105,13 +106,13 @@ no_class committed before c u name none =
     ∙ sym (with_true (is_new_name committed before u name)))
 
 pub tells_next : (sizes : Sizes) (n : ℕ) (committed : List (Row (List ℕ))) (before : List Carried)
-    (rows : List (Row (List ℕ))) (e : BareEntry) (records : List (List ℕ)) → AreKept sizes n rows
-    → broken_rule sizes (bare rows) (n + 1) e ≡ None → HasRecords e records
+    (rows : List (Row (List ℕ))) (e : Entry (List ℕ)) (moved : List (List ℕ)) → AreKept sizes n rows
+    → broken_rule sizes (bare rows) (n + 1) (bare_entry e) ≡ None → HasRecords e moved
     → TellsNames committed before rows n
-    → TellsNames committed (before ++ record { entry = e; records = records } ∷ [])
-    (rows_after rows (filled (record { entry = e; records = records }))) (n + 1)
-tells_next sizes n committed before rows (entry.Live (Loader r)) records kept keeps has tells =
-    let c : Carried = record { entry = entry.Live (Loader r); records = records } in
+    → TellsNames committed (before ++ record { entry = e; moved = moved } ∷ [])
+    (rows_after rows (filled (record { entry = e; moved = moved }))) (n + 1)
+tells_next sizes n committed before rows (entry.Live (Loader r)) moved kept keeps has tells =
+    let c : Carried = record { entry = entry.Live (Loader r); moved = moved } in
     let number = (and_parts (r.number == n + 1) (is_new_loader sizes (bare rows) r)
     (rule_rows ((r.number == n + 1) && is_new_loader sizes (bare rows) r) keeps)).0 in
     record {
@@ -130,12 +131,13 @@ tells_next sizes n committed before rows (entry.Live (Loader r)) records kept ke
         let lt : n < u = omega (arith, eqb-true r.number (n + 1) number, eqb-true r.number u e) in
         none_later sizes n rows u name kept lt ∙ sym (tells.later u name lt)
     by_number u name number live false e = tells.live u name (live-loader u rows r live e)
-tells_next sizes n committed before rows (entry.Live (Class r p)) records kept keeps has tells =
-    let c : Carried = record { entry = entry.Live (Class r p); records = records } in
-    let words = own_record records in
-    let rules = rule_both (is_live r.loader (bare rows) && has_room sizes (bare rows) (Class r p))
+tells_next sizes n committed before rows (entry.Live (Class r words)) moved kept keeps has tells =
+    let c : Carried = record { entry = entry.Live (Class r words); moved = moved } in
+    let rules = rule_both
+    (is_live r.loader (bare rows) && has_room sizes (bare rows) (Class r (tt {0})))
     (class_fits sizes (bare rows) r) keeps in
-    let alive = (and_parts (is_live r.loader (bare rows)) (has_room sizes (bare rows) (Class r p))
+    let alive = (and_parts (is_live r.loader (bare rows))
+    (has_room sizes (bare rows) (Class r (tt {0})))
     rules.0).0 in
     let past = live_past sizes n (bare rows) r.loader kept.live alive in
     record {
@@ -150,8 +152,8 @@ tells_next sizes n committed before rows (entry.Live (Class r p)) records kept k
           (below_differs r.loader u (omega (arith, past, lt))))
           ∙ tells.later u name (omega (arith, lt));
     }
-tells_next sizes n committed before rows (entry.Unload e) records kept keeps has tells =
-    let c : Carried = record { entry = entry.Unload e; records = records } in
+tells_next sizes n committed before rows (entry.Unload e) moved kept keeps has tells =
+    let c : Carried = record { entry = entry.Unload e; moved = moved } in
     record {
       live = λ u name live.
           let is = live-without u e.loader rows live in
@@ -160,70 +162,80 @@ tells_next sizes n committed before rows (entry.Unload e) records kept keeps has
       later = λ u name lt.
           no_class committed before c u name refl ∙ tells.later u name (omega (arith, lt));
     }
-tells_next sizes n committed before rows (entry.Move e) records kept keeps has tells = absurd has
+tells_next sizes n committed before rows (entry.Move e) moved kept keeps has tells = absurd has.0
 
 -- ---- one entry
 
-fits_filled : (e : BareEntry) (records : List (List ℕ)) → FitsEntry e
-    → FitsEntry (filled (record { entry = e; records = records }))
-fits_filled (entry.Live (Loader r)) records fits = fits
-fits_filled (entry.Live (Class r p)) records fits = fits
-fits_filled (entry.Unload e) records fits = fits
-fits_filled (entry.Move e) records fits = fits
+fits_filled : (e : Entry (List ℕ)) → FitsEntry (bare_entry e) → FitsEntry e
+fits_filled (entry.Live (Loader r)) fits = fits
+fits_filled (entry.Live (Class r words)) fits = fits
+fits_filled (entry.Unload e) fits = fits
+fits_filled (entry.Move e) fits = fits
+
+apart-bare : {P Q : Type 0} (committed : List (Row P)) (e : Entry Q)
+    → writes_apart committed (bare_entry e) ≡ writes_apart committed e
+apart-bare committed (entry.Live (Loader r)) = refl
+apart-bare committed (entry.Live (Class r p)) = refl
+apart-bare committed (entry.Unload e) = refl
+apart-bare committed (entry.Move e) = refl
 
 class_is_new : (sizes : Sizes) (n : ℕ) (committed : List (Row (List ℕ))) (before : List Carried)
-    (rows : List (Row (List ℕ))) (e : BareEntry) (records : List (List ℕ))
-    → broken_rule sizes (bare rows) (n + 1) e ≡ None → HasRecords e records
-    → TellsNames committed before rows n → is_new committed before e records ≡ true
-    → IsNewClass words_show rows (filled (record { entry = e; records = records }))
-class_is_new sizes n committed before rows (entry.Live (Loader r)) records keeps has tells new = tt
-class_is_new sizes n committed before rows (entry.Live (Class r p)) records keeps has tells new =
-    let name = class_name_in (own_record records) in
-    let rules = rule_both (is_live r.loader (bare rows) && has_room sizes (bare rows) (Class r p))
+    (rows : List (Row (List ℕ))) (e : Entry (List ℕ)) (moved : List (List ℕ))
+    → broken_rule sizes (bare rows) (n + 1) (bare_entry e) ≡ None → HasRecords e moved
+    → TellsNames committed before rows n → is_new committed before e ≡ true
+    → IsNewClass words_show rows (filled (record { entry = e; moved = moved }))
+class_is_new sizes n committed before rows (entry.Live (Loader r)) moved keeps has tells new = tt
+class_is_new sizes n committed before rows (entry.Live (Class r words)) moved keeps has tells new =
+    let name = class_name_in words in
+    let rules = rule_both
+    (is_live r.loader (bare rows) && has_room sizes (bare rows) (Class r (tt {0})))
     (class_fits sizes (bare rows) r) keeps in
-    let alive = (and_parts (is_live r.loader (bare rows)) (has_room sizes (bare rows) (Class r p))
+    let alive = (and_parts (is_live r.loader (bare rows))
+    (has_room sizes (bare rows) (Class r (tt {0})))
     rules.0).0 in (
       none_is (class_among words_show r.loader name rows)
           (tells.live r.loader name (sym (live_bare r.loader rows) ∙ alive) ∙ new),
-      ap (λ (l : List (List ℕ)). length (own_record l)) has.1 ∙ has.2,
+      has.0,
     )
-class_is_new sizes n committed before rows (entry.Unload e) records keeps has tells new = tt
-class_is_new sizes n committed before rows (entry.Move e) records keeps has tells new = absurd has
+class_is_new sizes n committed before rows (entry.Unload e) moved keeps has tells new = tt
+class_is_new sizes n committed before rows (entry.Move e) moved keeps has tells new = absurd has.0
 
 new_class_is : (sizes : Sizes) (n : ℕ) (committed : List (Row (List ℕ))) (before : List Carried)
-    (rows : List (Row (List ℕ))) (e : BareEntry) (records : List (List ℕ))
-    → broken_rule sizes (bare rows) (n + 1) e ≡ None → TellsNames committed before rows n
-    → IsNewClass words_show rows (filled (record { entry = e; records = records }))
-    → is_new committed before e records ≡ true
-new_class_is sizes n committed before rows (entry.Live (Loader r)) records keeps tells new = refl
-new_class_is sizes n committed before rows (entry.Live (Class r p)) records keeps tells new =
-    let name = class_name_in (own_record records) in
-    let rules = rule_both (is_live r.loader (bare rows) && has_room sizes (bare rows) (Class r p))
+    (rows : List (Row (List ℕ))) (e : Entry (List ℕ)) (moved : List (List ℕ))
+    → broken_rule sizes (bare rows) (n + 1) (bare_entry e) ≡ None
+    → TellsNames committed before rows n
+    → IsNewClass words_show rows (filled (record { entry = e; moved = moved }))
+    → is_new committed before e ≡ true
+new_class_is sizes n committed before rows (entry.Live (Loader r)) moved keeps tells new = refl
+new_class_is sizes n committed before rows (entry.Live (Class r words)) moved keeps tells new =
+    let name = class_name_in words in
+    let rules = rule_both
+    (is_live r.loader (bare rows) && has_room sizes (bare rows) (Class r (tt {0})))
     (class_fits sizes (bare rows) r) keeps in
-    let alive = (and_parts (is_live r.loader (bare rows)) (has_room sizes (bare rows) (Class r p))
+    let alive = (and_parts (is_live r.loader (bare rows))
+    (has_room sizes (bare rows) (Class r (tt {0})))
     rules.0).0 in
     sym (tells.live r.loader name (sym (live_bare r.loader rows) ∙ alive)) ∙ ap is_none new.0
-new_class_is sizes n committed before rows (entry.Unload e) records keeps tells new = refl
-new_class_is sizes n committed before rows (entry.Move e) records keeps tells new = refl
+new_class_is sizes n committed before rows (entry.Unload e) moved keeps tells new = refl
+new_class_is sizes n committed before rows (entry.Move e) moved keeps tells new = refl
 
 joins_one : (sizes : Sizes) (n : ℕ) (committed : List (Row (List ℕ))) (before : List Carried)
     (rows : List (Row (List ℕ))) (c : Carried) → IsGeometry sizes → n < 2 ^ 63
     → AreKept sizes n rows → TellsNames committed before rows n
-    → broken_rule sizes (bare rows) (n + 1) c.entry ≡ None → carries_own c ≡ true
-    → writes_apart committed c.entry ≡ true → is_new committed before c.entry c.records ≡ true
+    → broken_rule sizes (bare rows) (n + 1) (bare_entry c.entry) ≡ None → carries_own c ≡ true
+    → writes_apart committed (bare_entry c.entry) ≡ true → is_new committed before c.entry ≡ true
     → MayJoin sizes committed rows n c
 joins_one sizes n committed before rows c g small kept tells keeps own apart new =
-    let has = has_one c.entry c.records own in
+    let has = has_one c.entry c.moved own in
     record {
       follows = record {
-        fits = fits_filled c.entry c.records
-            (fits_one sizes n (bare rows) c.entry c.records g small kept.live keeps has);
-        keeps = sym (rule-bare sizes rows (n + 1) (filled c))
-            ∙ (ap (broken_rule sizes (bare rows) (n + 1)) (bare-filled c) ∙ keeps);
-        new = class_is_new sizes n committed before rows c.entry c.records keeps has tells new;
+        fits = fits_filled c.entry
+            (fits_one sizes n (bare rows) c.entry g small kept.live keeps has.0);
+        keeps = sym (rule-bare sizes rows (n + 1) c.entry) ∙ keeps;
+        new = class_is_new sizes n committed before rows c.entry c.moved keeps has tells new;
       };
       records = has;
-      apart = apart;
+      apart = sym (apart-bare committed c.entry) ∙ apart;
     }
 
 -- ---- all of them
@@ -236,12 +248,14 @@ pub joins_all : (sizes : Sizes) (n : ℕ) (committed : List (Row (List ℕ))) (b
     → are_new committed before carried ≡ true → MayJoinAll sizes committed rows n carried
 joins_all sizes n committed before rows [] g le kept tells keep own apart new = tt
 joins_all sizes n committed before rows (c ∷ carried) g le kept tells keep own apart new =
-    let rule = broken_rule sizes (bare rows) (n + 1) c.entry in
+    let rule = broken_rule sizes (bare rows) (n + 1) (bare_entry c.entry) in
     let keeps = and_parts (is_none rule)
-    (keep_rules sizes (rows_after (bare rows) c.entry) (n + 1 + 1) (entries_in carried)) keep in
+    (keep_rules sizes (rows_after (bare rows) (bare_entry c.entry)) (n + 1 + 1)
+    (entries_in carried)) keep in
     let owns = and_parts (carries_own c) (list_all carries_own carried) own in
-    let aparts = and_parts (writes_apart committed c.entry) (are_apart committed carried) apart in
-    let news = and_parts (is_new committed before c.entry c.records)
+    let aparts = and_parts (writes_apart committed (bare_entry c.entry))
+    (are_apart committed carried) apart in
+    let news = and_parts (is_new committed before c.entry)
     (are_new committed (before ++ c ∷ []) carried) new in
     let none = none_is rule keeps.0 in
     let joins = joins_one sizes n committed before rows c g (omega (arith, le)) kept tells none
@@ -250,7 +264,7 @@ joins_all sizes n committed before rows (c ∷ carried) g le kept tells keep own
       joins_all sizes (n + 1) committed (before ++ c ∷ []) (rows_after rows (filled c)) carried g
           (omega (arith, le))
           (kept-after sizes committed rows n c kept joins)
-          (tells_next sizes n committed before rows c.entry c.records kept none joins.records tells)
+          (tells_next sizes n committed before rows c.entry c.moved kept none joins.records tells)
           (subst (λ (l : List BareRow). keep_rules sizes l (n + 1 + 1) (entries_in carried) ≡ true)
           (sym (after-filled rows c)) keeps.1)
           owns.1
@@ -263,7 +277,8 @@ pub all_apart : (sizes : Sizes) (committed rows : List (Row (List ℕ))) (n : �
     → are_apart committed carried ≡ true
 all_apart sizes committed rows n [] joins = refl
 all_apart sizes committed rows n (c ∷ carried) joins =
-    and_from (writes_apart committed c.entry) (are_apart committed carried) joins.0.apart
+    and_from (writes_apart committed (bare_entry c.entry)) (are_apart committed carried)
+    (apart-bare committed c.entry ∙ joins.0.apart)
     (all_apart sizes committed (rows_after rows (filled c)) (n + 1) carried joins.1)
 
 pub all_new : (sizes : Sizes) (n : ℕ) (committed : List (Row (List ℕ))) (before : List Carried)
@@ -273,12 +288,12 @@ pub all_new : (sizes : Sizes) (n : ℕ) (committed : List (Row (List ℕ))) (bef
 all_new sizes n committed before rows [] kept tells joins = refl
 all_new sizes n committed before rows (c ∷ carried) kept tells joins =
     let none = rule-filled sizes rows (n + 1) c joins.0.follows.keeps in
-    and_from (is_new committed before c.entry c.records)
+    and_from (is_new committed before c.entry)
     (are_new committed (before ++ c ∷ []) carried)
-    (new_class_is sizes n committed before rows c.entry c.records none tells joins.0.follows.new)
+    (new_class_is sizes n committed before rows c.entry c.moved none tells joins.0.follows.new)
     (all_new sizes (n + 1) committed (before ++ c ∷ []) (rows_after rows (filled c)) carried
     (kept-after sizes committed rows n c kept joins.0)
-    (tells_next sizes n committed before rows c.entry c.records kept none joins.0.records tells)
+    (tells_next sizes n committed before rows c.entry c.moved kept none joins.0.records tells)
     joins.1)
 
 -- ---- as one test

@@ -1,99 +1,62 @@
--- The next of the records that a group writes.
--- For `next_record`, `records_from`, `write_next`.
-use Rattle.std.proofs.Common.{◌≡◌, ℕ, zero, suc, ◌+◌, ◌*◌, ◌<◌, ◌≤◌, List, [], ◌∷◌, ◌++◌, length}
-use Rattle.std.proofs.Common.{drop, get_or, Some, None, refl, sym, ap, subst, ◌∙◌, arith}
-use Rattle.std.proofs.lemmas.List.{length-append}
-use Rattle.cm_pool.specs.Geometry.{Sizes}
+-- The records that a group writes, one after another.
+-- For `all_writes`, `nth_write`, `write_next`.
+use Rattle.std.proofs.Common.{◌≡◌, ℕ, zero, suc, ◌+◌, ◌-◌, ◌*◌, ◌<◌, ◌≤◌, List, [], ◌∷◌, ◌++◌}
+use Rattle.std.proofs.Common.{length, drop, get_or, Some, None, refl, ap, ◌∙◌, arith}
+use Rattle.std.specs.List.{slice_get}
 use Rattle.cm_pool.specs.declared.place.Place.{Place}
-use Rattle.cm_layout.specs.declared.row.Row.TheVariants.{Loader, Class}
-use Rattle.cm_layout.specs.declared.entry.Entry.TheVariants as entry
-use Rattle.cm_layout.specs.Frames.{BareEntry}
-use Rattle.cm_guards.specs.Plans.{Write}
 use Rattle.cm_group.specs.Groups.{Carried}
-use Rattle.cm_commit.specs.Offers.{own_record}
-use Rattle.cm_commit.specs.GroupPlans.{own_place, place_write, record_write, record_writes}
-use Rattle.cm_commit.specs.Steps.{AreSmall, WritesFirst}
+use Rattle.cm_commit.specs.GroupPlans.{writes_of, all_writes}
+use Rattle.cm_commit.specs.Steps.{AreSmall}
 use Rattle.cm_commit.proofs.Applied.{next_is}
 
-one_write : (e : BareEntry) (records : List (List ℕ)) (sizes : Sizes) (place : Place)
-    → own_place e ≡ Some place
-    → record_write e records sizes ≡ place_write sizes place (own_record records) ∷ []
-one_write (entry.Live (Loader r)) records sizes place e = absurd (cc)
-one_write (entry.Live (Class r p)) records sizes place e =
-    let same : r.place ≡ place = cc in
-    ap (λ (q : Place). place_write sizes q (own_record records) ∷ []) same
-one_write (entry.Unload d) records sizes place e = absurd (cc)
-one_write (entry.Move d) records sizes place e = absurd (cc)
+-- ---- one of a list
 
-no_write : (e : BareEntry) (records : List (List ℕ)) (sizes : Sizes) → own_place e ≡ None
-    → record_write e records sizes ≡ []
-no_write (entry.Live (Loader r)) records sizes e = refl
-no_write (entry.Live (Class r p)) records sizes e = absurd (cc)
-no_write (entry.Unload d) records sizes e = refl
-no_write (entry.Move d) records sizes e = refl
+module _ {X : Type 0} where
+  pub get-past : (xs : List X) (n : ℕ) → slice_get xs n ≡ None → length xs ≤ n
+  get-past [] n none = omega arith
+  get-past (x ∷ xs) zero none = absurd (cc)
+  get-past (x ∷ xs) (suc n) none = let rest = get-past xs n none in omega (arith, rest)
 
-pub first_here : (carried : List Carried) (at : ℕ) (c : Carried) (place : Place) (words : List ℕ)
-    → at < length carried → c ≡ get_or carried at c → own_place c.entry ≡ Some place
-    → words ≡ own_record c.records
-    → WritesFirst (drop at carried) (drop (at + 1) carried) place words
-first_here carried at c place words lt is writes own =
-    let behind = drop (at + 1) carried in
-    let split = next_is carried at c lt is in
-    record {
-      first = λ sizes.
-          ap (record_writes sizes) split
-          ∙ ap (λ (l : List Write). l ++ record_writes sizes behind)
-          (one_write c.entry c.records sizes place writes
-          ∙ ap (λ (w : List ℕ). place_write sizes place w ∷ []) (sym own));
-      small = λ size all.
-          subst (λ (w : List ℕ). 8 * length w ≤ size) (sym own)
-          (subst (AreSmall size) split all).0;
-    }
+  pub get-first : (xs ys : List X) (n : ℕ) (x : X) → slice_get xs n ≡ Some x
+      → slice_get (xs ++ ys) n ≡ Some x
+  get-first [] ys n x is = absurd (cc)
+  get-first (w ∷ xs) ys zero x is = is
+  get-first (w ∷ xs) ys (suc n) x is = get-first xs ys n x is
 
-pub first_from : (carried before behind : List Carried) (place : Place) (words : List ℕ)
-    → ((sizes : Sizes) → record_writes sizes before ≡ record_writes sizes carried)
-    → ((size : ℕ) → AreSmall size before → AreSmall size carried)
-    → WritesFirst carried behind place words → WritesFirst before behind place words
-first_from carried before behind place words skipped small here = record {
-  first = λ sizes. skipped sizes ∙ here.first sizes;
-  small = λ size all. here.small size (small size all);
-}
+  pub get-behind : (xs ys : List X) (n : ℕ) → slice_get xs n ≡ None
+      → slice_get (xs ++ ys) n ≡ slice_get ys (n - length xs)
+  get-behind [] ys n none = ap (slice_get ys) (omega arith)
+  get-behind (w ∷ xs) ys zero none = absurd (cc)
+  get-behind (w ∷ xs) ys (suc n) none =
+      get-behind xs ys n none ∙ ap (slice_get ys) (omega arith)
 
--- an entry without a record is skipped
-pub skipped_here : (carried : List Carried) (at : ℕ) (c : Carried) → at < length carried
-    → c ≡ get_or carried at c → own_place c.entry ≡ None → (sizes : Sizes)
-    → record_writes sizes (drop at carried) ≡ record_writes sizes (drop (at + 1) carried)
-skipped_here carried at c lt is none sizes =
-    ap (record_writes sizes) (next_is carried at c lt is)
-    ∙ ap (λ (l : List Write). l ++ record_writes sizes (drop (at + 1) carried))
-    (no_write c.entry c.records sizes none)
+  pub drop-at : (xs : List X) (n : ℕ) (x : X) → slice_get xs n ≡ Some x
+      → drop n xs ≡ x ∷ drop (n + 1) xs
+  drop-at [] n x is = absurd (cc)
+  drop-at (w ∷ xs) zero x is = let same : w ≡ x = cc in ap (λ (v : X). v ∷ xs) same
+  drop-at (w ∷ xs) (suc n) x is =
+      let later : suc (n + 1) ≡ suc n + 1 = omega arith in
+      drop-at xs n x is ∙ ap (λ (k : ℕ). x ∷ drop k (w ∷ xs)) later
 
-pub small_here : (carried : List Carried) (at : ℕ) (c : Carried) (size : ℕ) → at < length carried
-    → c ≡ get_or carried at c → AreSmall size (drop at carried)
-    → AreSmall size (drop (at + 1) carried)
-small_here carried at c size lt is all = (subst (AreSmall size) (next_is carried at c lt is) all).1
+  pub drop-past : (xs : List X) (n : ℕ) → slice_get xs n ≡ None → drop n xs ≡ []
+  drop-past [] zero none = refl
+  drop-past [] (suc n) none = refl
+  drop-past (w ∷ xs) zero none = absurd (cc)
+  drop-past (w ∷ xs) (suc n) none = drop-past xs n none
 
-pub small_drop : (size k : ℕ) (carried : List Carried) → AreSmall size carried
-    → AreSmall size (drop k carried)
-small_drop size zero carried all = all
-small_drop size (suc k) [] all = tt
-small_drop size (suc k) (c ∷ carried) all = small_drop size k carried all.1
+-- ---- what is left of all of them
 
--- each entry has one at most
-one_few : (e : BareEntry) (records : List (List ℕ)) (sizes : Sizes)
-    → length (record_write e records sizes) ≤ 1
-one_few (entry.Live (Loader r)) records sizes = omega arith
-one_few (entry.Live (Class r p)) records sizes = omega arith
-one_few (entry.Unload d) records sizes = omega arith
-one_few (entry.Move d) records sizes = omega arith
+pub next_writes : (carried : List Carried) (at : ℕ) (c : Carried) → at < length carried
+    → c ≡ get_or carried at c
+    → all_writes (drop at carried)
+    ≡ writes_of c.entry c.moved ++ all_writes (drop (at + 1) carried)
+next_writes carried at c lt is = ap all_writes (next_is carried at c lt is)
 
-pub few_writes : (sizes : Sizes) (carried : List Carried)
-    → length (record_writes sizes carried) ≤ length carried
-few_writes sizes [] = omega arith
-few_writes sizes (c ∷ carried) =
-    omega (
-      arith,
-      one_few c.entry c.records sizes,
-      few_writes sizes carried,
-      length-append (record_write c.entry c.records sizes) (record_writes sizes carried),
-    )
+pub small_at : (size : ℕ) (writes : List (Place × List ℕ)) (n : ℕ) (place : Place)
+    (words : List ℕ) → AreSmall size writes → slice_get writes n ≡ Some (place, words)
+    → 8 * length words ≤ size
+small_at size [] n place words all is = absurd (cc)
+small_at size (w ∷ writes) zero place words all is =
+    let same : w.1 ≡ words = cc in omega (arith, ap length same, all.0)
+small_at size (w ∷ writes) (suc n) place words all is =
+    small_at size writes n place words all.1 is

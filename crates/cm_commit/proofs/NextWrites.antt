@@ -1,8 +1,9 @@
 -- The next write of a group, and what is left behind it.
 -- For `write_next`, `write_slots`.
 use Rattle.std.proofs.Common.{◌≡◌, ℕ, zero, suc, ◌+◌, ◌-◌, ◌<◌, ◌≤◌, List, [], ◌∷◌, ◌++◌}
-use Rattle.std.proofs.Common.{sym, ap, subst, ◌∙◌, arith}
+use Rattle.std.proofs.Common.{drop, Some, None, refl, sym, ap, subst, ◌∙◌, arith}
 use Rattle.std.specs.Prelude.{Result, Ok, Err}
+use Rattle.std.specs.List.{slice_get}
 use Rattle.std.proofs.lemmas.Bool.{false≢true}
 use Rattle.cm_disk.specs.Disk.{Unsynced}
 use Rattle.cm_pool.specs.Geometry.{Sizes}
@@ -14,7 +15,7 @@ use Rattle.cm_guards.specs.Stages.{Stage, Store, after_call}
 use Rattle.cm_commit.specs.GroupPlans.{root_write, root_writes, place_write, record_writes}
 use Rattle.cm_commit.specs.GroupPlans.{slots_write, writes_left, roots_of_entries}
 use Rattle.cm_guards.specs.Stages.{WritesOnce, CallsOnce, TakesCall, TakesWrite}
-use Rattle.cm_commit.specs.Steps.{WritesNone, WritesFirst}
+use Rattle.cm_commit.proofs.NextRecords.{drop-at, drop-past}
 
 module _ (sizes : Sizes) (half : Half) (slot n : ℕ) (carried : List Carried) (roots : ℕ) where
   abbrev needed : ℕ
@@ -23,7 +24,7 @@ module _ (sizes : Sizes) (half : Half) (slot n : ℕ) (carried : List Carried) (
   abbrev slots : Write
   slots = slots_write sizes half slot n (entries_in carried)
 
-  pub next_root : (unwritten : List Carried) → roots < needed
+  pub next_root : (unwritten : List (Place × List ℕ)) → roots < needed
       → writes_left sizes half slot n carried roots unwritten
       ≡ root_write sizes roots ∷ writes_left sizes half slot n carried (roots + 1) unwritten
   next_root unwritten lt =
@@ -35,21 +36,27 @@ module _ (sizes : Sizes) (half : Half) (slot n : ℕ) (carried : List Carried) (
       let none : needed - roots ≡ zero = omega (arith, le) in
       ap (root_writes sizes roots) none
 
-  pub next_place : (unwritten behind : List Carried) (place : Place) (words : List ℕ)
-      → needed ≤ roots → WritesFirst unwritten behind place words
-      → writes_left sizes half slot n carried roots unwritten
-      ≡ place_write sizes place words ∷ writes_left sizes half slot n carried roots behind
-  next_place unwritten behind place words le first =
-      ap (λ (l : List Write). l ++ record_writes sizes unwritten ++ slots ∷ []) (no_root le)
-      ∙ (ap (λ (l : List Write). l ++ slots ∷ []) (first.first sizes)
+  pub next_place : (writes : List (Place × List ℕ)) (from : ℕ) (place : Place) (words : List ℕ)
+      → needed ≤ roots → slice_get writes from ≡ Some (place, words)
+      → writes_left sizes half slot n carried roots (drop from writes)
+      ≡ place_write sizes place words
+      ∷ writes_left sizes half slot n carried roots (drop (from + 1) writes)
+  next_place writes from place words le is =
+      ap (λ (l : List Write). l ++ record_writes sizes (drop from writes) ++ slots ∷ [])
+      (no_root le)
+      ∙ (ap (λ (l : List (Place × List ℕ)). record_writes sizes l ++ slots ∷ [])
+      (drop-at writes from (place, words) is)
       ∙ ap (λ (l : List Write). place_write sizes place words
-      ∷ (l ++ record_writes sizes behind ++ slots ∷ [])) (sym (no_root le)))
+      ∷ (l ++ record_writes sizes (drop (from + 1) writes) ++ slots ∷ [])) (sym (no_root le)))
 
-  pub next_slots : (unwritten : List Carried) → needed ≤ roots → WritesNone unwritten
-      → writes_left sizes half slot n carried roots unwritten ≡ slots ∷ []
-  next_slots unwritten le none =
-      ap (λ (l : List Write). l ++ record_writes sizes unwritten ++ slots ∷ []) (no_root le)
-      ∙ ap (λ (l : List Write). l ++ slots ∷ []) (none.none sizes)
+  pub next_slots : (writes : List (Place × List ℕ)) (from : ℕ) → needed ≤ roots
+      → slice_get writes from ≡ None
+      → writes_left sizes half slot n carried roots (drop from writes) ≡ slots ∷ []
+  next_slots writes from le none =
+      ap (λ (l : List Write). l ++ record_writes sizes (drop from writes) ++ slots ∷ [])
+      (no_root le)
+      ∙ ap (λ (l : List (Place × List ℕ)). record_writes sizes l ++ slots ∷ [])
+      (drop-past writes from none)
 
 -- ---- stages that begin with these writes
 
@@ -84,7 +91,11 @@ module _ {D E : Type 0} (contents : D → List ℕ) (unsynced : D → Unsynced) 
     torn = tt;
     opens = wrote.opens;
     time = wrote.time;
-    cause = record { later = wrote.cause.later; fault = λ none. absurd (false≢true none) };
+    cause = record {
+      later = wrote.cause.later;
+      fault = λ none. absurd (false≢true none);
+      no_fault = λ ok. wrote.cause.no_fault refl;
+    };
   }
 
   pub wrote_err : {S T : Type 0} (w : Write) (e : E)
@@ -97,7 +108,11 @@ module _ {D E : Type 0} (contents : D → List ℕ) (unsynced : D → Unsynced) 
     torn = wrote.torn;
     opens = wrote.opens;
     time = wrote.time;
-    cause = record { later = wrote.cause.later; fault = wrote.cause.fault };
+    cause = record {
+      later = wrote.cause.later;
+      fault = wrote.cause.fault;
+      no_fault = λ none. absurd (false≢true none);
+    };
   }
 
   -- the write, its place and bytes written otherwise

@@ -14,7 +14,7 @@ use Rattle.cm_rows.specs.Rows.{LiveRows}
 use Rattle.cm_group.specs.Groups.{Carried, Handed, IsGroup, entries_in}
 use Rattle.cm_commit.specs.Committed.{Committed, journal_of}
 use Rattle.cm_commit.specs.Checkpoints.{ready_for, is_due, is_due_at, checkpoint_of, target_of}
-use Rattle.cm_commit.specs.GroupPlans.{plan_of, plan_at, whole_roots, roots_to_add, record_writes}
+use Rattle.cm_commit.specs.GroupPlans.{plan_of, plan_at, whole_roots, roots_to_add, all_writes}
 use Rattle.cm_commit.specs.GroupPlans.{roots_of_entries}
 use Rattle.cm_commit.specs.Guarding.{Shows, Holds}
 use Rattle.cm_commit.specs.Keeps.{IsCommitter, IsIdle, IsBusy, IsAt, StandsBroken, roots_then}
@@ -172,10 +172,10 @@ module _ {D : Type 0} (contents : D → List ℕ) (unsynced : D → Unsynced) (s
 
     pub steps : calls_left plan
         ≡ 4 + roots_to_add s.sizes (length now) (entries_in group.entries)
-        + length (record_writes s.sizes group.entries)
+        + length (all_writes group.entries)
         + cond (is_due_at s.sizes s.end group.entries) 6 0
     steps =
         plan_counts (journal_at s) (bare s.rows) roots group.entries
         ∙ ap (λ (k : ℕ). 4 + (roots_of_entries
-        (entries_in group.entries) - k) + length (record_writes s.sizes group.entries)
+        (entries_in group.entries) - k) + length (all_writes group.entries)
         + cond (is_due_at s.sizes s.end group.entries) 6 0) idle.roots_are

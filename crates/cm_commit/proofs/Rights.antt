@@ -7,6 +7,7 @@ use Rattle.std.proofs.lemmas.List.{length-append}
 use Rattle.cm_pool.specs.Geometry.{Sizes}
 use Rattle.cm_layout.specs.declared.row.Row.{Row}
 use Rattle.cm_layout.specs.declared.row.Row.TheVariants.{Loader, Class}
+use Rattle.cm_layout.specs.declared.entry.Entry.{Entry}
 use Rattle.cm_layout.specs.declared.entry.Entry.TheVariants as entry
 use Rattle.cm_layout.specs.Slots.{FitsEntry}
 use Rattle.cm_layout.specs.Rows.{rows_after, rows_after_all, classes_in, bare}
@@ -25,35 +26,23 @@ use Rattle.cm_commit.proofs.Guards.{rows_live}
 
 -- ---- entries without their records
 
-pub bare-filled : (c : Carried) → bare_entry (filled c) ≡ c.entry
-bare-filled c = by_entry c.entry c.records
+pub fits-filled : (c : Carried) → FitsEntry (filled c) → FitsEntry (bare_entry c.entry)
+fits-filled c = by_entry c.entry
   where
-    by_entry : (e : BareEntry) (records : List (List ℕ))
-        → bare_entry (filled (record { entry = e; records = records })) ≡ e
-    by_entry (entry.Live (Loader r)) records = refl
-    by_entry (entry.Live (Class r p)) records = refl
-    by_entry (entry.Unload e) records = refl
-    by_entry (entry.Move e) records = refl
-
-fits-filled : (c : Carried) → FitsEntry (filled c) → FitsEntry c.entry
-fits-filled c = by_entry c.entry c.records
-  where
-    by_entry : (e : BareEntry) (records : List (List ℕ))
-        → FitsEntry (filled (record { entry = e; records = records })) → FitsEntry e
-    by_entry (entry.Live (Loader r)) records fits = fits
-    by_entry (entry.Live (Class r p)) records fits = fits
-    by_entry (entry.Unload e) records fits = fits
-    by_entry (entry.Move e) records fits = fits
+    by_entry : (e : Entry (List ℕ)) → FitsEntry e → FitsEntry (bare_entry e)
+    by_entry (entry.Live (Loader r)) fits = fits
+    by_entry (entry.Live (Class r words)) fits = fits
+    by_entry (entry.Unload e) fits = fits
+    by_entry (entry.Move e) fits = fits
 
 pub after-filled : (rows : List (Row (List ℕ))) (c : Carried)
-    → bare (rows_after rows (filled c)) ≡ rows_after (bare rows) c.entry
-after-filled rows c = after-bare rows (filled c) ∙ ap (rows_after (bare rows)) (bare-filled c)
+    → bare (rows_after rows (filled c)) ≡ rows_after (bare rows) (bare_entry c.entry)
+after-filled rows c = after-bare rows c.entry
 
 pub rule-filled : (sizes : Sizes) (rows : List (Row (List ℕ))) (n : ℕ) (c : Carried)
-    → broken_rule sizes rows n (filled c) ≡ None → broken_rule sizes (bare rows) n c.entry ≡ None
-rule-filled sizes rows n c h =
-    ap (broken_rule sizes (bare rows) n) (sym (bare-filled c))
-    ∙ (rule-bare sizes rows n (filled c) ∙ h)
+    → broken_rule sizes rows n (filled c) ≡ None
+    → broken_rule sizes (bare rows) n (bare_entry c.entry) ≡ None
+rule-filled sizes rows n c h = rule-bare sizes rows n c.entry ∙ h
 
 pub all-bare : (rows : List (Row (List ℕ))) (carried : List Carried)
     → bare (rows_after_group rows carried) ≡ rows_after_all (bare rows) (entries_in carried)
@@ -89,9 +78,9 @@ kept-after sizes committed rows n c k joins =
     let same = sym (after-filled rows c) in
     record {
       live = subst (λ (l : List BareRow). LiveRowsKeep sizes (n + 1) [] l) same
-          (entry-live sizes (bare rows) n c.entry k.apart k.live fits keeps);
+          (entry-live sizes (bare rows) n (bare_entry c.entry) k.apart k.live fits keeps);
       apart = subst (λ (l : List BareRow). AreApart (classes_in l)) same
-          (entry-apart sizes (bare rows) (n + 1) c.entry k.apart keeps);
+          (entry-apart sizes (bare rows) (n + 1) (bare_entry c.entry) k.apart keeps);
     }
 
 pub kept-all : (sizes : Sizes) (committed rows : List (Row (List ℕ))) (n : ℕ)

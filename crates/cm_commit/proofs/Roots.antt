@@ -10,19 +10,21 @@ use Rattle.cm_words.proofs.{length-word_bytes}
 use Rattle.cm_pool.specs.Geometry.{Sizes}
 use Rattle.cm_layout.specs.declared.row.Row.{Row}
 use Rattle.cm_layout.specs.declared.row.Row.TheVariants.{Loader, Class}
+use Rattle.cm_layout.specs.declared.entry.Entry.{Entry}
 use Rattle.cm_layout.specs.declared.entry.Entry.TheVariants as entry
 use Rattle.cm_layout.specs.Offsets.{roots_at, root_at, root_size}
 use Rattle.cm_layout.specs.Rows.{bare, rows_after}
 use Rattle.cm_layout.specs.Rules.{broken_rule}
-use Rattle.cm_layout.specs.Frames.{BareEntry}
+use Rattle.cm_layout.specs.Frames.{bare_entry}
 use Rattle.cm_layout.proofs.{length-blank}
 use Rattle.cm_layout.specs.Zeros.{blank}
-use Rattle.cm_guards.specs.Plans.{written, CanWrite}
+use Rattle.cm_guards.specs.Plans.{Write, written, CanWrite}
 use Rattle.cm_group.specs.Groups.{Carried, Handed, entries_in}
 use Rattle.cm_commit.specs.Committed.{Committed, end_slot}
 use Rattle.cm_commit.specs.Guarding.{IsCommitted, guard_of}
-use Rattle.cm_commit.specs.Offers.{filled, own_record, HasRecords, MayJoinAll, IsNext}
-use Rattle.cm_commit.specs.GroupPlans.{root_writes, record_write, record_writes, slots_write}
+use Rattle.cm_commit.specs.Offers.{filled, HasOwn, MayJoinAll, IsNext}
+use Rattle.cm_commit.specs.GroupPlans.{root_writes, writes_of, all_writes, record_writes}
+use Rattle.cm_commit.specs.GroupPlans.{slots_write}
 use Rattle.cm_commit.specs.GroupPlans.{group_writes, whole_roots, roots_to_add, roots_of_entry}
 use Rattle.cm_commit.specs.GroupPlans.{roots_of_entries}
 use Rattle.cm_commit.specs.Keeps.{roots_then}
@@ -30,7 +32,7 @@ use Rattle.cm_commit.proofs.Ranges.{half_ends}
 use Rattle.cm_commit.proofs.Places.{ends_in_root}
 use Rattle.cm_commit.proofs.Writing.{size_after, size_after-append, written-size}
 use Rattle.cm_commit.proofs.Rights.{rule-filled}
-use Rattle.cm_commit.proofs.Records.{class_inside, roots-mono}
+use Rattle.cm_commit.proofs.Records.{class_inside, roots-mono, writes-append}
 use Rattle.cm_commit.proofs.Apart.{whole-ends}
 use Rattle.cm_commit.proofs.Turning.{slots-end}
 
@@ -52,38 +54,40 @@ roots-grow sizes from (suc n) len starts =
     omega (arith, rest, same, behind, size)
 
 -- with records in its whole roots
-record-stays : (sizes : Sizes) (rows : List (Row (List ℕ))) (n : ℕ) (e : BareEntry)
-    (records : List (List ℕ)) (len : ℕ) → broken_rule sizes (bare rows) (n + 1) e ≡ None
-    → HasRecords e records → root_at sizes (roots_of_entry e) ≤ len
-    → size_after (record_write e records sizes) len ≡ len
-record-stays sizes rows n (entry.Live (Loader r)) records len keeps has long = refl
-record-stays sizes rows n (entry.Live (Class r p)) records len keeps has long =
-    let words = own_record records in
-    let count : length words ≡ r.place.words =
-    ap (λ (l : List (List ℕ)). length (own_record l)) has.1 ∙ has.2 in
+record-stays : (sizes : Sizes) (rows : List (Row (List ℕ))) (n : ℕ) (e : Entry (List ℕ))
+    (moved : List (List ℕ)) (len : ℕ)
+    → broken_rule sizes (bare rows) (n + 1) (bare_entry e) ≡ None → HasOwn e
+    → root_at sizes (roots_of_entry (bare_entry e)) ≤ len
+    → size_after (record_writes sizes (writes_of e moved)) len ≡ len
+record-stays sizes rows n (entry.Live (Loader r)) moved len keeps has long = refl
+record-stays sizes rows n (entry.Live (Class r words)) moved len keeps has long =
     let bytes = length-word_bytes words in
     let ends = ends_in_root sizes r.place (class_inside sizes rows n r keeps).0 in
-    omega (arith, bytes, count, ends, long)
-record-stays sizes rows n (entry.Unload e) records len keeps has long = refl
-record-stays sizes rows n (entry.Move e) records len keeps has long = refl
+    omega (arith, bytes, has, ends, long)
+record-stays sizes rows n (entry.Unload e) moved len keeps has long = refl
+record-stays sizes rows n (entry.Move e) moved len keeps has long = refl
 
 records-stay : (sizes : Sizes) (committed rows : List (Row (List ℕ))) (n : ℕ)
     (carried : List Carried) (len : ℕ) → MayJoinAll sizes committed rows n carried
     → root_at sizes (roots_of_entries (entries_in carried)) ≤ len
-    → size_after (record_writes sizes carried) len ≡ len
+    → size_after (record_writes sizes (all_writes carried)) len ≡ len
 records-stay sizes committed rows n [] len joins long = refl
 records-stay sizes committed rows n (c ∷ carried) len joins long =
     let es = entries_in carried in
-    let all = max (roots_of_entry c.entry) (roots_of_entries es) in
-    let here = roots-mono sizes (roots_of_entry c.entry) all (omega arith) in
+    let own = roots_of_entry (bare_entry c.entry) in
+    let all = max own (roots_of_entries es) in
+    let here = roots-mono sizes own all (omega arith) in
     let there = roots-mono sizes (roots_of_entries es) all (omega arith) in
-    size_after-append (record_write c.entry c.records sizes) (record_writes sizes carried) len
-    ∙ (ap (size_after (record_writes sizes carried))
-    (record-stays sizes rows n c.entry c.records len
-    (rule-filled sizes rows (n + 1) c joins.0.follows.keeps) joins.0.records
+    let writes = writes_of c.entry c.moved in
+    let behind = record_writes sizes (all_writes carried) in
+    ap (λ (l : List Write). size_after l len) (writes-append sizes writes (all_writes carried))
+    ∙ (size_after-append (record_writes sizes writes) behind len
+    ∙ (ap (size_after behind)
+    (record-stays sizes rows n c.entry c.moved len
+    (rule-filled sizes rows (n + 1) c joins.0.follows.keeps) joins.0.records.0
     (omega (arith, here, long)))
     ∙ records-stay sizes committed (rows_after rows (filled c)) (n + 1) carried len joins.1
-    (omega (arith, there, long)))
+    (omega (arith, there, long))))
 
 -- with a group
 group-size : (c : Committed) (group : Handed) (len : ℕ) → IsCommitted c → IsNext c group
@@ -96,7 +100,7 @@ group-size c group len right next long =
     let from = whole_roots c.sizes len in
     let added = roots_to_add c.sizes len es in
     let roots = root_writes c.sizes from added in
-    let records = record_writes c.sizes group.entries in
+    let records = record_writes c.sizes (all_writes group.entries) in
     let slots = slots_write c.sizes c.framing.counting (end_slot c.framing) c.number es in
     let grown = roots-grow c.sizes from added len (whole-ends c.sizes len long) in
     let enough = roots-mono c.sizes (roots_of_entries es) (from + added) (omega arith) in

@@ -1,6 +1,6 @@
 -- What a committer asks of its books tells what is asked of a group.
--- For `are_new`, `have_one_name`, `is_absent`, `may_join`.
-use Rattle.std.proofs.Common.{◌≡◌, ℕ, zero, suc, ◌+◌, Bool, true, false, cond, List, [], ◌∷◌, take}
+-- For `have_one_name`, `is_absent`, `may_join`.
+use Rattle.std.proofs.Common.{◌≡◌, ℕ, ◌+◌, Bool, true, false, cond, List, [], ◌∷◌}
 use Rattle.std.proofs.Common.{Bor, Option, Some, None, refl, sym, ap, ◌∙◌, is_none, is_some, not}
 use Rattle.std.specs.Prelude.{◌&&◌, ◌==◌, ◌↔◌, nat_le, IsTrue}
 use Rattle.std.specs.Str.{bytes_eq}
@@ -21,7 +21,7 @@ use Rattle.cm_layout.specs.declared.entry.Entry.TheVariants as entry
 use Rattle.cm_layout.specs.Rows.{bare, rows_with, rows_after, classes_in, used_words}
 use Rattle.cm_layout.specs.Rules.{broken_rule, is_chunk, is_unused, is_last_chunk, is_live}
 use Rattle.cm_layout.specs.Rules.{has_room, has_place, class_fits, move_fits}
-use Rattle.cm_layout.specs.Frames.{BareRow, BareEntry}
+use Rattle.cm_layout.specs.Frames.{BareRow, BareEntry, bare_entry}
 use Rattle.cm_layout.proofs.{classes-bare}
 use Rattle.cm_index.specs.Index.{class_of}
 use Rattle.cm_rows.specs.Rows.{LiveRows}
@@ -32,17 +32,6 @@ use Rattle.cm_commit.specs.Offers.{carries_own, writes_apart}
 use Rattle.cm_commit.specs.Joining.{is_inside, are_inside, are_apart, are_new, may_join}
 use Rattle.cm_commit.proofs.Fitting.{rule_both}
 use Rattle.cm_commit.proofs.With.{bare-with}
-
--- ---- the entries before one
-
-pub those_before : (p : Carried → Bool) (all : List Carried) (i : ℕ) → list_all p all ≡ true
-    → list_all p (take i all) ≡ true
-those_before p [] zero pass = refl
-those_before p [] (suc i) pass = refl
-those_before p (d ∷ all) zero pass = refl
-those_before p (d ∷ all) (suc i) pass =
-    let both = and_parts (p d) (list_all p all) pass in
-    and_from (p d) (list_all p (take i all)) both.0 (those_before p all i both.1)
 
 -- ---- chunks that entries write into
 
@@ -79,12 +68,12 @@ pub inside_all : (sizes : Sizes) (rows : List BareRow) (n : ℕ) (carried : List
     → keep_rules sizes rows n (entries_in carried) ≡ true → are_inside sizes carried ≡ true
 inside_all sizes rows n [] keep = refl
 inside_all sizes rows n (c ∷ carried) keep =
-    let rule = broken_rule sizes rows n c.entry in
+    let rule = broken_rule sizes rows n (bare_entry c.entry) in
     let keeps = and_parts (is_none rule)
-    (keep_rules sizes (rows_after rows c.entry) (n + 1) (entries_in carried)) keep in
-    and_from (is_inside sizes c.entry) (are_inside sizes carried)
-    (inside_one sizes rows n c.entry (none_is rule keeps.0))
-    (inside_all sizes (rows_after rows c.entry) (n + 1) carried keeps.1)
+    (keep_rules sizes (rows_after rows (bare_entry c.entry)) (n + 1) (entries_in carried)) keep in
+    and_from (is_inside sizes (bare_entry c.entry)) (are_inside sizes carried)
+    (inside_one sizes rows n (bare_entry c.entry) (none_is rule keeps.0))
+    (inside_all sizes (rows_after rows (bare_entry c.entry)) (n + 1) carried keeps.1)
 
 -- ---- rows with something else kept of each class
 
@@ -103,7 +92,8 @@ apart-with f rows (entry.Move e) = rw (classes-with f rows) refl
 pub apart-all : {P Q : Type 0} (f : P → Q) (rows : List (Row P)) (carried : List Carried)
     → are_apart (rows_with f rows) carried ≡ are_apart rows carried
 apart-all f rows [] = refl
-apart-all f rows (c ∷ carried) = λ i. apart-with f rows c.entry i && apart-all f rows carried i
+apart-all f rows (c ∷ carried) =
+    λ i. apart-with f rows (bare_entry c.entry) i && apart-all f rows carried i
 
 -- the class of a name
 pub none-with : {P : Type 0} (f : P → List ℕ) (u : ℕ) (name : List ℕ) (rows : List (Row P))

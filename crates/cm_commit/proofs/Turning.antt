@@ -29,7 +29,8 @@ use Rattle.cm_group.specs.Groups.{Handed, IsGroup, entries_in}
 use Rattle.cm_commit.specs.Committed.{Committed, end_slot, with_group}
 use Rattle.cm_commit.specs.Guarding.{guard_of, Shows, IsCommitted}
 use Rattle.cm_commit.specs.Offers.{IsNext, rows_after_group, committed_after}
-use Rattle.cm_commit.specs.GroupPlans.{group_writes, root_writes, record_writes, slots_write}
+use Rattle.cm_commit.specs.GroupPlans.{group_writes, root_writes, all_writes, record_writes}
+use Rattle.cm_commit.specs.GroupPlans.{slots_write}
 use Rattle.cm_commit.specs.GroupPlans.{gate_at}
 use Rattle.cm_commit.specs.GroupPlans.{whole_roots, roots_to_add, roots_of_entries}
 use Rattle.cm_commit.specs.GroupPlans.{slots_behind_gate}
@@ -133,7 +134,7 @@ module _ (c : Committed) (group : Handed) (right : IsCommitted c) (next : IsNext
     roots = root_writes c.sizes (whole_roots c.sizes len) added
 
     abbrev records : List Write
-    records = record_writes c.sizes group.entries
+    records = record_writes c.sizes (all_writes group.entries)
 
     long : needs c.sizes c.rows ≤ len
     long = shows.long

@@ -1,7 +1,7 @@
 -- Rows with something else kept of each class.
 -- For `Committer::advance`, `Committer::new`, `add_rows`, `may_join`, `renewed` and others.
-use Rattle.std.proofs.Common.{◌≡◌, ℕ, Bool, true, false, cond, List, [], ◌∷◌, ◌++◌, length, refl}
-use Rattle.std.proofs.Common.{ap, arith}
+use Rattle.std.proofs.Common.{◌≡◌, ℕ, Bool, true, false, cond, List, [], ◌∷◌, ◌++◌, refl}
+use Rattle.std.proofs.Common.{ap, ◌∙◌}
 use Rattle.std.specs.List.{flat_map}
 use Rattle.std.specs.Prelude.{◌==◌, not}
 use Rattle.std.proofs.lemmas.List.{map-append}
@@ -15,6 +15,7 @@ use Rattle.cm_layout.specs.Rows.{bare, rows_with, row_with, rows_after, entry_wi
 use Rattle.cm_layout.specs.Rows.{without_loader, slots_of_rows}
 use Rattle.cm_layout.specs.Slots.{row_slot, loader_slot, class_slot}
 use Rattle.cm_layout.specs.Frames.{BareRow}
+use Rattle.cm_layout.proofs.{slots-bare, slots_of-with}
 
 pub bare-with : {P Q : Type 0} (f : P → Q) (rows : List (Row P))
     → bare (rows_with f rows) ≡ bare rows
@@ -83,8 +84,7 @@ slots-with f (Loader r ∷ rows) =
 slots-with f (Class r p ∷ rows) =
     ap (λ (l : List ℕ). class_slot r ++ l) (slots-with f rows)
 
--- each takes a slot
+-- nor does it take one
 pub counted-with : {P Q : Type 0} (f : P → Q) (rows : List (Row P))
-    → slots_of_rows (bare (rows_with f rows)) ≡ length rows
-counted-with f [] = refl
-counted-with f (row ∷ rows) = omega (arith, counted-with f rows)
+    → slots_of_rows (bare (rows_with f rows)) ≡ slots_of_rows rows
+counted-with f rows = slots-bare (rows_with f rows) ∙ slots_of-with f rows

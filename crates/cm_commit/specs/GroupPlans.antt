@@ -1,14 +1,14 @@
 -- The device calls that store a group, in their order: zeros for each root by which the file grows,
 -- the records, the slots behind the gate with a shut slot behind them, a sync, the gate, a sync.
-use Rattle.std.specs.Prelude.{ℕ, zero, suc, ◌+◌, ◌-◌, ◌/◌, max, List, [], ◌∷◌, ◌++◌}
+use Rattle.std.specs.Prelude.{ℕ, zero, suc, ◌+◌, ◌-◌, ◌/◌, max, List, [], ◌∷◌, ◌++◌, map}
 use Rattle.std.specs.Prelude.{nat_lt, if◌then◌else◌}
 use Rattle.std.specs.List.{flat_map}
 use Rattle.cm_record_layout.specs.Packing.{word_bytes}
-use Rattle.std.specs.Prelude.{Option, Some, None}
 use Rattle.cm_pool.specs.Geometry.{Sizes}
 use Rattle.cm_pool.specs.declared.place.Place.{Place}
 use Rattle.cm_layout.specs.declared.half.Half.{Half}
 use Rattle.cm_layout.specs.declared.row.Row.TheVariants.{Loader, Class}
+use Rattle.cm_layout.specs.declared.entry.Entry.{Entry}
 use Rattle.cm_layout.specs.declared.entry.Entry.TheVariants as entry
 use Rattle.cm_layout.specs.Offsets.{slot_size, slot_at, roots_at, root_at, root_size, record_at}
 use Rattle.cm_layout.specs.Slots.{open_gate, group_head_rest, entry_slot}
@@ -21,7 +21,6 @@ use Rattle.cm_guards.specs.Stages.{Stage, Store, Turn}
 use Rattle.cm_commit.specs.declared.journal.Journal.{Journal}
 use Rattle.cm_commit.specs.Committed.{Committed, end_slot}
 use Rattle.cm_commit.specs.Checkpoints.{checkpoint_of, is_due, target_of}
-use Rattle.cm_commit.specs.Offers.{own_record}
 
 -- ---- roots
 
@@ -30,7 +29,7 @@ abbrev pub whole_roots : Sizes → ℕ → ℕ
 whole_roots sizes len = (len - roots_at sizes) / root_size sizes
 
 -- how many roots the records of a group need: one more than the greatest
-abbrev pub roots_of_entry : BareEntry → ℕ
+abbrev pub roots_of_entry : {P : Type 0} → Entry P → ℕ
 roots_of_entry (entry.Live (Loader r)) = 0
 roots_of_entry (entry.Live (Class r p)) = r.place.chunk.root + 1
 roots_of_entry (entry.Unload e) = 0
@@ -53,29 +52,23 @@ root_writes sizes from (suc n) = root_write sizes from ∷ root_writes sizes (fr
 
 -- ---- records
 
--- where an entry has a record of its own
-abbrev pub own_place : BareEntry → Option Place
-own_place (entry.Live (Loader r)) = None
-own_place (entry.Live (Class r p)) = Some r.place
-own_place (entry.Unload e) = None
-own_place (entry.Move e) = None
+-- what an entry writes: each record with its place; a move none, as none is taken yet
+abbrev pub writes_of : Entry (List ℕ) → List (List ℕ) → List (Place × List ℕ)
+writes_of (entry.Live (Loader r)) moved = []
+writes_of (entry.Live (Class r words)) moved = (r.place, words) ∷ []
+writes_of (entry.Unload e) moved = []
+writes_of (entry.Move e) moved = []
+
+-- in the order of the entries
+abbrev pub all_writes : List Carried → List (Place × List ℕ)
+all_writes carried = flat_map (λ c. writes_of c.entry c.moved) carried
 
 abbrev pub place_write : Sizes → Place → List ℕ → Write
 place_write sizes place words =
     record { at = record_at sizes place; bytes = word_bytes words }
 
--- each record in its place, in the order of the entries; a move has none, as none is taken yet
-abbrev pub record_write : BareEntry → List (List ℕ) → Sizes → List Write
-record_write (entry.Live (Loader r)) records sizes = []
-record_write (entry.Live (Class r p)) records sizes =
-    record { at = record_at sizes r.place; bytes = word_bytes (own_record records) } ∷ []
-record_write (entry.Unload e) records sizes = []
-record_write (entry.Move e) records sizes = []
-
-abbrev pub record_writes : Sizes → List Carried → List Write
-record_writes sizes [] = []
-record_writes sizes (c ∷ carried) =
-    record_write c.entry c.records sizes ++ record_writes sizes carried
+abbrev pub record_writes : Sizes → List (Place × List ℕ) → List Write
+record_writes sizes writes = map (λ w. place_write sizes w.0 w.1) writes
 
 -- ---- slots
 
@@ -98,9 +91,9 @@ slots_write sizes half slot n entries = record {
 -- ---- the plan
 
 -- The writes of a group's that are left, where the group begins at this slot behind the n-th
--- command: the file has so many whole roots by now, and the records of the last entries aren't
--- written yet.
-abbrev pub writes_left : Sizes → Half → ℕ → ℕ → List Carried → ℕ → List Carried → List Write
+-- command: the file has so many whole roots by now, and the last of the records aren't written yet.
+abbrev pub writes_left : Sizes → Half → ℕ → ℕ → List Carried → ℕ → List (Place × List ℕ)
+    → List Write
 writes_left sizes half slot n carried roots unwritten =
     root_writes sizes roots (roots_of_entries (entries_in carried) - roots)
     ++ record_writes sizes unwritten
@@ -109,7 +102,7 @@ writes_left sizes half slot n carried roots unwritten =
 -- all of them, and then the gate
 abbrev pub plan_at : Sizes → Half → ℕ → ℕ → ℕ → List Carried → List Stage
 plan_at sizes half slot n roots carried =
-    Store (writes_left sizes half slot n carried roots carried)
+    Store (writes_left sizes half slot n carried roots (all_writes carried))
     ∷ Turn (slot_at sizes half slot) open_gate ∷ []
 
 -- where the gate of a group stands
@@ -120,7 +113,7 @@ gate_at c = slot_at c.sizes c.framing.counting (end_slot c.framing)
 abbrev pub group_writes : Committed → ℕ → List Carried → List Write
 group_writes c len carried =
     writes_left c.sizes c.framing.counting (end_slot c.framing) c.number carried
-    (whole_roots c.sizes len) carried
+    (whole_roots c.sizes len) (all_writes carried)
 
 abbrev pub group_plan : Committed → ℕ → List Carried → List Stage
 group_plan c len carried =

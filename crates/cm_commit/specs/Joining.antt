@@ -4,49 +4,48 @@ use Rattle.std.specs.Prelude.{ℕ, ◌+◌, Bool, true, false, ◌&&◌, ◌==�
 use Rattle.std.specs.Prelude.{List, [], ◌∷◌, ◌++◌}
 use Rattle.std.specs.Str.{bytes_eq}
 use Rattle.std.specs.List.{list_all, list_any}
+use Rattle.std.specs.Option.{option_map_or}
 use Rattle.cm_pool.specs.Geometry.{Sizes}
 use Rattle.cm_record.specs.Names.{class_name_in}
 use Rattle.cm_layout.specs.declared.row.Row.{Row}
 use Rattle.cm_layout.specs.declared.row.Row.TheVariants.{Loader, Class}
+use Rattle.cm_layout.specs.declared.class_row.ClassRow.{ClassRow}
+use Rattle.cm_layout.specs.declared.entry.Entry.{Entry}
 use Rattle.cm_layout.specs.declared.entry.Entry.TheVariants as entry
 use Rattle.cm_layout.specs.Rows.{bare}
 use Rattle.cm_layout.specs.Rules.{is_chunk}
-use Rattle.cm_layout.specs.Frames.{BareEntry}
+use Rattle.cm_layout.specs.Frames.{BareEntry, bare_entry}
 use Rattle.cm_state.specs.State.{words_show, class_among}
-use Rattle.cm_group.specs.Groups.{Carried, entries_in}
+use Rattle.cm_group.specs.Groups.{Carried, entries_in, class_made}
 use Rattle.cm_commit.specs.Keeping.{keep_rules}
-use Rattle.cm_commit.specs.Offers.{own_record, carries_own, writes_apart}
+use Rattle.cm_commit.specs.Offers.{carries_own, writes_apart}
 
 -- ---- names of classes
 
--- the entry makes a class of this name in the loader of this number
-abbrev pub makes : ℕ → List ℕ → BareEntry → List (List ℕ) → Bool
-makes u name (entry.Live (Loader r)) records = false
-makes u name (entry.Live (Class r p)) records =
-    (r.loader == u) && bytes_eq (class_name_in (own_record records)) name
-makes u name (entry.Unload e) records = false
-makes u name (entry.Move e) records = false
+-- the class is of this name, in the loader of this number
+abbrev pub is_named : ℕ → List ℕ → ClassRow × List ℕ → Bool
+is_named u name class =
+    (class.0.loader == u) && bytes_eq (class_name_in class.1) name
 
+-- the entry makes one
 abbrev pub makes_class : ℕ → List ℕ → Carried → Bool
-makes_class u name c = makes u name c.entry c.records
+makes_class u name c = option_map_or (is_named u name) (class_made c.entry) false
 
 -- the loader of this number has no class of this name, neither committed nor by the entries before
 abbrev pub is_new_name : List (Row (List ℕ)) → List Carried → ℕ → List ℕ → Bool
 is_new_name committed before u name =
     is_none (class_among words_show u name committed) && not (list_any (makes_class u name) before)
 
-abbrev pub is_new : List (Row (List ℕ)) → List Carried → BareEntry → List (List ℕ) → Bool
-is_new committed before (entry.Live (Loader r)) records = true
-is_new committed before (entry.Live (Class r p)) records =
-    is_new_name committed before r.loader (class_name_in (own_record records))
-is_new committed before (entry.Unload e) records = true
-is_new committed before (entry.Move e) records = true
+abbrev pub is_new : List (Row (List ℕ)) → List Carried → Entry (List ℕ) → Bool
+is_new committed before e =
+    option_map_or (λ d. is_new_name committed before d.0.loader (class_name_in d.1)) (class_made e)
+    true
 
 -- so does each of the entries behind those before
 abbrev pub are_new : List (Row (List ℕ)) → List Carried → List Carried → Bool
 are_new committed before [] = true
 are_new committed before (c ∷ carried) =
-    is_new committed before c.entry c.records && are_new committed (before ++ c ∷ []) carried
+    is_new committed before c.entry && are_new committed (before ++ c ∷ []) carried
 
 -- ---- places of records
 
@@ -58,10 +57,11 @@ is_inside sizes (entry.Unload e) = true
 is_inside sizes (entry.Move e) = is_chunk sizes e.to
 
 abbrev pub are_inside : Sizes → List Carried → Bool
-are_inside sizes carried = list_all (λ c. is_inside sizes c.entry) carried
+are_inside sizes carried = list_all (λ c. is_inside sizes (bare_entry c.entry)) carried
 
 abbrev pub are_apart : {P : Type 0} → List (Row P) → List Carried → Bool
-are_apart committed carried = list_all (λ c. writes_apart committed c.entry) carried
+are_apart committed carried =
+    list_all (λ c. writes_apart committed (bare_entry c.entry)) carried
 
 -- ---- all of it
 

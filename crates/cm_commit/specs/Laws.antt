@@ -13,13 +13,13 @@ use Rattle.cm_guards.specs.Guards.{Guards, IsBounded}
 use Rattle.cm_guards.specs.Gates.{Turns}
 use Rattle.cm_guards.specs.Plans.{Write, CanWrite, written}
 use Rattle.cm_guards.specs.Stages.{Stage, IsReady, calls_left, gone_through}
-use Rattle.cm_group.specs.Groups.{Carried, Handed, IsGroup, entries_in}
+use Rattle.cm_group.specs.Groups.{Carried, Handed, IsGroup, entries_in, records_of}
 use Rattle.cm_commit.specs.Committed.{Committed, journal_of}
 use Rattle.cm_commit.specs.Checkpoints.{renewed, renewed_framing, ready_for, is_due, half_write}
 use Rattle.cm_commit.specs.Checkpoints.{checkpoint_plan}
-use Rattle.cm_commit.specs.Offers.{IsNext, MayCome, committed_after, own_record}
+use Rattle.cm_commit.specs.Offers.{IsNext, MayCome, committed_after}
 use Rattle.cm_commit.specs.GroupPlans.{group_writes, gate_at, roots_to_add, plan_of, whole_roots}
-use Rattle.cm_commit.specs.GroupPlans.{record_writes}
+use Rattle.cm_commit.specs.GroupPlans.{all_writes}
 use Rattle.cm_commit.specs.Guarding.{IsCommitted, Shows, Holds, shut_other, guard_of}
 use Rattle.cm_commit.specs.Keeps.{roots_then}
 
@@ -29,7 +29,7 @@ abbrev pub PlansHaveSteps : Type 0
 PlansHaveSteps =
     (c : Committed) (len : ℕ) (carried : List Carried)
     → calls_left (plan_of (journal_of c) (bare c.rows) (whole_roots c.sizes len) carried)
-    ≡ 4 + roots_to_add c.sizes len (entries_in carried) + length (record_writes c.sizes carried)
+    ≡ 4 + roots_to_add c.sizes len (entries_in carried) + length (all_writes carried)
     + (if is_due (journal_of c) carried then 6 else 0)
 
 -- What is committed rests on what is guarded, which lies within the bytes that it needs.
@@ -44,9 +44,9 @@ CommittedIsGuarded = (c : Committed) → IsCommitted c → IsGuarded c
 abbrev pub AreTold : List ℕ → Type 0
 AreTold words = packed_into (length words) (word_bytes words) ≡ words
 
--- the bytes of the record that an entry carries do
+-- the bytes of each record that an entry writes do
 abbrev pub TellsWords : Carried → Type 0
-TellsWords c = AreTold (own_record c.records)
+TellsWords c = AllByRecursion AreTold (records_of c.entry c.moved)
 
 -- A group's writes touch nothing that is guarded. Once they are made, the byte of its gate turns
 -- what is committed into what is committed after it: while another byte stands there, nothing has

@@ -6,9 +6,8 @@ use Rattle.cm_layout.specs.declared.row.Row.{Row}
 use Rattle.cm_layout.specs.declared.row.Row.TheVariants.{Loader, Class}
 use Rattle.cm_layout.specs.declared.entry.Entry.{Entry}
 use Rattle.cm_layout.specs.declared.entry.Entry.TheVariants as entry
-use Rattle.cm_layout.specs.Rows.{used_words, rows_after, rows_after_all, entry_with}
+use Rattle.cm_layout.specs.Rows.{used_words, rows_after, rows_after_all}
 use Rattle.cm_layout.specs.Rules.{is_unused, is_last_chunk}
-use Rattle.cm_layout.specs.Frames.{BareEntry}
 use Rattle.cm_group.specs.Groups.{Carried, Handed, entries_in, slots_taken}
 use Rattle.cm_state.specs.State.{words_show}
 use Rattle.cm_state.specs.Entries.{MayFollow}
@@ -16,40 +15,33 @@ use Rattle.cm_commit.specs.Committed.{Committed, end_slot, with_group}
 
 -- ---- an entry of a group
 
--- the words of the record that a class carries
-abbrev pub own_record : List (List ℕ) → List ℕ
-own_record [] = []
-own_record (words ∷ records) = words
-
 -- the entry, a class with its record
 abbrev pub filled : Carried → Entry (List ℕ)
-filled c = entry_with (λ p. own_record c.records) c.entry
+filled c = c.entry
 
--- It carries the records that it needs: a class its own, of as many words as its row says, a loader
--- and an unload none. No move is taken yet.
-abbrev pub HasRecords : BareEntry → List (List ℕ) → Type 0
-HasRecords (entry.Live (Loader r)) records = records ≡ []
-HasRecords (entry.Live (Class r p)) records =
-    (words : List ℕ) × (records ≡ words ∷ []) × (length words ≡ r.place.words)
-HasRecords (entry.Unload e) records = records ≡ []
-HasRecords (entry.Move e) records = ⊥
+-- A class's record has as many words as its row says. No move is taken yet.
+abbrev pub HasOwn : Entry (List ℕ) → Type 0
+HasOwn (entry.Live (Loader r)) = Unit {0}
+HasOwn (entry.Live (Class r words)) = length words ≡ r.place.words
+HasOwn (entry.Unload e) = Unit {0}
+HasOwn (entry.Move e) = ⊥
 
--- the same as a test
-abbrev pub is_own : List (List ℕ) → ℕ → Bool
-is_own [] n = false
-is_own (words ∷ []) n = length words == n
-is_own (words ∷ more ∷ records) n = false
+-- it carries that, and no records that move
+abbrev pub HasRecords : Entry (List ℕ) → List (List ℕ) → Type 0
+HasRecords e moved = HasOwn e × (moved ≡ [])
+
+-- the same as tests
+abbrev pub has_own : Entry (List ℕ) → Bool
+has_own (entry.Live (Loader r)) = true
+has_own (entry.Live (Class r words)) = length words == r.place.words
+has_own (entry.Unload e) = true
+has_own (entry.Move e) = false
 
 abbrev pub carries_own : Carried → Bool
-carries_own c = elim c.entry [
-  | entry.Live (Loader r) ↦ length c.records == 0
-  | entry.Live (Class r p) ↦ is_own c.records r.place.words
-  | entry.Unload e ↦ length c.records == 0
-  | entry.Move e ↦ false
-]
+carries_own c = (length c.moved == 0) && has_own c.entry
 
 -- It writes into no chunk that committed rows use, but behind the records on its loader's last one.
-abbrev pub writes_apart : {P : Type 0} → List (Row P) → BareEntry → Bool
+abbrev pub writes_apart : {P Q : Type 0} → List (Row P) → Entry Q → Bool
 writes_apart committed (entry.Live (Loader r)) = true
 writes_apart committed (entry.Live (Class r p)) =
     is_unused r.place.chunk committed
@@ -63,7 +55,7 @@ writes_apart committed (entry.Move e) = is_unused e.to committed
 pub record MayJoin (sizes : Sizes) (committed rows : List (Row (List ℕ))) (n : ℕ)
     (c : Carried) : Type 0 where
   pub follows : MayFollow words_show sizes n rows (filled c)
-  pub records : HasRecords c.entry c.records
+  pub records : HasRecords c.entry c.moved
   pub apart : writes_apart committed c.entry ≡ true
 
 -- one after another, the first with the number behind n

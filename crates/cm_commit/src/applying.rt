@@ -2,31 +2,17 @@
 
 ghost use Rattle.std.specs.Prelude.{◌≡◌, ◌+◌, ◌^◌, ◌≤◌, IsTrue, length, true};
 ghost use Rattle.std.specs.Arc.{arc_value};
-ghost use Rattle.std.specs.List.{list_all};
-ghost use Rattle.cm_layout.specs.Rows.{rows_after_all, rows_with, entry_with, bare};
-ghost use Rattle.cm_commit.specs.Offers.{carries_own, filled, rows_after_group};
+ghost use Rattle.cm_layout.specs.Rows.{rows_after_all, rows_with, bare};
+ghost use Rattle.cm_commit.specs.Offers.{rows_after_group};
 ghost use Rattle.cm_rows.specs.Rows.{is_above};
 ghost use Rattle.cm_group.specs.Groups.{entries_in};
 ghost use Rattle.cm_commit.specs.Keeping.{keep_rules};
 
 use cm_group::CarriedEntry;
-use cm_layout::{Entry, Row};
 use cm_record::Record;
 use cm_rows::Book;
 use std::alloc::Global;
 use std::sync::Arc;
-
-// The entry once more.
-fn copy_entry(entry: &Entry<()>) -> Entry<()>
-    ensures { result ≡ entry.now }
-{
-    match entry {
-        Entry::Live(Row::Loader(row)) => Entry::Live(Row::Loader(*row)),
-        Entry::Live(Row::Class(row, ())) => Entry::Live(Row::Class(*row, ())),
-        Entry::Unload(entry) => Entry::Unload(*entry),
-        Entry::Move(entry) => Entry::Move(*entry),
-    }
-}
 
 /// Applies entries, the first of which has this number, and tells whether all keep the rules. Where
 /// one breaks a rule, those before it are applied.
@@ -42,7 +28,7 @@ pub(crate) fn apply_all(book: &mut Book<()>, first: u64, entries: &[CarriedEntry
 {
     let mut number = first;
     for carried in entries {
-        if book.apply(number, copy_entry(carried.entry())).is_some() {
+        if book.apply(number, carried.bare()).is_some() {
             return false;
         }
         number += 1;
@@ -50,27 +36,12 @@ pub(crate) fn apply_all(book: &mut Book<()>, first: u64, entries: &[CarriedEntry
     true
 }
 
-// The entry, a class with the record that it carries.
-fn fill(carried: CarriedEntry) -> Entry<Arc<Record, Global>>
-    requires { carries_own carried ≡ true }
-    ensures { entry_with arc_value result ≡ filled carried }
-{
-    let (entry, mut records) = carried.into_parts();
-    match entry {
-        Entry::Live(Row::Loader(row)) => Entry::Live(Row::Loader(row)),
-        Entry::Live(Row::Class(row, ())) => Entry::Live(Row::Class(row, records.pop().unwrap())),
-        Entry::Unload(entry) => Entry::Unload(entry),
-        Entry::Move(entry) => Entry::Move(entry),
-    }
-}
-
-/// Applies entries that keep the rules, the first of which has this number, each class with the
-/// record that it carries.
+/// Applies entries that keep the rules, the first of which has this number, each class with its
+/// record.
 pub(crate) fn fill_all(book: &mut Book<Arc<Record, Global>>, first: u64, entries: Vec<CarriedEntry>)
     requires above { IsTrue (is_above first book.old.rows) }
     requires from { 1 ≤ first }
     requires numbers { first + length entries.items ≤ 2 ^ 63 + 1 }
-    requires own { list_all carries_own entries.items ≡ true }
     requires kept { keep_rules book.old.sizes (bare book.old.rows) first (entries_in entries.items)
         ≡ true }
     ensures rows { rows_with arc_value book.new.rows
@@ -79,7 +50,7 @@ pub(crate) fn fill_all(book: &mut Book<Arc<Record, Global>>, first: u64, entries
 {
     let mut number = first;
     for carried in entries {
-        let _kept = book.apply(number, fill(carried)); // breaks none
+        let _kept = book.apply(number, carried.into_entry()); // breaks none
         number += 1;
     }
 }

@@ -14,7 +14,7 @@ ghost use Rattle.cm_commit.specs.GroupPlans.{slots_behind_gate, shut_slot};
 
 use crate::journal::Journal;
 use cm_group::CarriedEntry;
-use cm_layout::{GroupHead, HalfHead, Row, SLOT_BYTES};
+use cm_layout::{GroupHead, HalfHead, SLOT_BYTES};
 use cm_record::Record;
 use cm_rows::Book;
 use std::alloc::Global;
@@ -50,7 +50,7 @@ fn add_entries(buffer: &mut Vec<u8>, entries: &[CarriedEntry])
     ensures room { vec_capacity buffer.old ≤ vec_capacity buffer.new }
 {
     for carried in entries {
-        buffer.extend_from_slice(&carried.entry().encode()).unwrap();
+        buffer.extend_from_slice(&carried.bare().encode()).unwrap();
     }
 }
 
@@ -64,16 +64,6 @@ fn put_half_head(buffer: &mut Vec<u8>, head: &HalfHead)
     buffer.extend_from_slice(&head.encode()[1..]).unwrap();
 }
 
-/// The slot of a live row.
-fn row_bytes<P>(row: &Row<P>) -> [u8; SLOT_BYTES]
-    ensures { result ≡ row_slot row.now }
-{
-    match row {
-        Row::Loader(row) => row.encode(),
-        Row::Class(row, _) => row.encode(),
-    }
-}
-
 /// Puts the slots of live rows behind what is there.
 fn add_rows(buffer: &mut Vec<u8>, rows: &Book<Arc<Record, Global>>)
     requires { length buffer.old.items
@@ -85,7 +75,7 @@ fn add_rows(buffer: &mut Vec<u8>, rows: &Book<Arc<Record, Global>>)
 {
     let mut left = rows.walk();
     while let Some(row) = left.next() {
-        buffer.extend_from_slice(&row_bytes(row)).unwrap();
+        buffer.extend_from_slice(&row.encode()).unwrap();
     }
 }
 

@@ -12,7 +12,7 @@ ghost use Rattle.cm_guards.specs.Stages.{gate_write};
 ghost use Rattle.cm_commit.specs.Steps.{FitsJournal, next_gate, stages_at};
 
 use crate::bytes::{put_record, put_slots, put_zeros};
-use crate::entries::{next_record, roots_needed};
+use crate::entries::{nth_write, roots_needed};
 use crate::journal::Journal;
 use crate::step::CommitStep;
 use cm_disk::{DeviceFault, Disk};
@@ -109,12 +109,12 @@ fn write_next<D: Disk>(
             from,
         });
     }
-    match next_record(group.entries(), from) {
-        Some((at, place, class)) => {
+    match nth_write(group.entries(), from) {
+        Some((place, class)) => {
             write_record(disk, buffer, journal.geometry, place, class)?;
             Ok(CommitStep::Write {
                 roots,
-                from: at + 1,
+                from: from + 1,
             })
         }
         None => {

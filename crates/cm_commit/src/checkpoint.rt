@@ -14,7 +14,7 @@ ghost use Rattle.cm_commit.specs.Steps.{FitsHalf, checkpoint_left, checkpoint_re
 ghost use Rattle.cm_commit.specs.Steps.{half_gate as gate_of, renewed_write};
 
 use crate::bytes::put_half;
-use crate::journal::{Journal, other_half, renewed_head};
+use crate::journal::{Journal, renewed_head};
 use crate::step::CheckpointStep;
 use cm_disk::{DeviceFault, Disk};
 use cm_layout::{OPEN_GATE, half_at};
@@ -30,7 +30,7 @@ const SHUT_GATE: u8 = 0;
 fn half_gate(journal: &Journal) -> u64
     ensures { result ≡ gate_of journal.now }
 {
-    half_at(journal.geometry, other_half(journal.half))
+    half_at(journal.geometry, journal.half.other())
 }
 
 /// Writes a byte to the gate of the half that doesn't count.

@@ -4,19 +4,17 @@ ghost use Rattle.std.specs.Prelude.{◌≡◌, ◌≤◌, ◌<◌, ◌+◌, ◌^
 ghost use Rattle.std.specs.Prelude.{OnErr, Some, None, [], true, false, vec_capacity, length};
 ghost use Rattle.std.specs.Prelude.{if◌then◌else◌};
 ghost use Rattle.std.specs.Arc.{arc_value};
-ghost use Rattle.std.specs.List.{list_all};
 ghost use Rattle.cm_guards.specs.Guards.{EachImage};
 ghost use Rattle.cm_guards.specs.Calls.{LeavesOnly};
 ghost use Rattle.cm_rows.specs.Rows.{is_above};
 ghost use Rattle.cm_group.specs.Groups.{entries_in, slots_taken};
 ghost use Rattle.cm_guards.specs.Stages.{calls_left};
 ghost use Rattle.cm_commit.specs.Checkpoints.{is_due_at};
-ghost use Rattle.cm_commit.specs.Offers.{carries_own, rows_after_group};
-ghost use Rattle.cm_commit.specs.GroupPlans.{roots_of_entries, roots_to_add, record_writes};
+ghost use Rattle.cm_commit.specs.Offers.{rows_after_group};
+ghost use Rattle.cm_commit.specs.GroupPlans.{roots_of_entries, roots_to_add, all_writes};
 ghost use Rattle.cm_commit.specs.Keeping.{keep_rules};
 ghost use Rattle.cm_commit.specs.States.{MayLeave, Takes, with_taken};
 ghost use Rattle.cm_commit.specs.Advances.{Advances, CallsDevice, HasRisen};
-ghost use Rattle.cm_layout.specs.Offsets.{half_size};
 ghost use Rattle.cm_layout.specs.Rows.{bare, rows_with};
 ghost use Rattle.cm_commit.specs.Keeps.{IsHeld, most_written, roots_then};
 
@@ -30,7 +28,7 @@ use crate::progress::{AdvanceFault, Progress};
 use crate::step::{CommitStep, PlanStep};
 use cm_disk::{Disk, SimDisk};
 use cm_group::{Group, Receipt};
-use cm_layout::{SLOT_BYTES, root_bytes};
+use cm_layout::{half_bytes, root_bytes};
 use cm_pool::Geometry;
 use cm_record::Record;
 use cm_rows::Book;
@@ -45,6 +43,7 @@ use std::sync::Arc;
 ///
 /// Contracts see a committer as its disk, what is committed, the group that is under way, and the
 /// stages of it that are left.
+#[derive(Drop)]
 pub struct Committer<D: Disk> {
     disk: D,
     journal: Journal,
@@ -109,13 +108,6 @@ pub struct NotMade<D> {
     pub disk: D,
 }
 
-/// How many bytes a half of the journal has.
-fn half_bytes(geometry: Geometry) -> u64
-    ensures { result ≡ half_size geometry }
-{
-    SLOT_BYTES as u64 * u64::from(geometry.slots())
-}
-
 /// The rows again with nothing kept, and room for the bytes of one write.
 fn take_memory(
     alloc: Global,
@@ -144,7 +136,6 @@ fn finish(
 ) -> Receipt
     requires first { group.first ≡ target.number + 1 }
     requires above { IsTrue (is_above (target.number + 1) rows.old.rows) }
-    requires own { list_all carries_own group.entries ≡ true }
     requires kept { keep_rules rows.old.sizes (bare rows.old.rows) (target.number + 1)
         (entries_in group.entries) ≡ true }
     requires needed { roots_of_entries (entries_in group.entries) < 2 ^ 32 }
@@ -229,7 +220,7 @@ impl<D: Disk> Committer<D> {
         ensures steps { OnOk result (calls_left self.new.left
             ≡ 4 + roots_to_add self.old.sizes (length (D.contents self.old.disk))
             (entries_in group.entries)
-            + length (record_writes self.old.sizes group.entries)
+            + length (all_writes group.entries)
             + (if is_due_at self.old.sizes self.old.end group.entries then 6 else 0)) }
         ensures handed_back { IfErr result (λ e. e.group ≡ group) }
         ensures same { OnErr result (self.new ≡ self.old) }

@@ -1,26 +1,20 @@
 //! What the entries of a group write.
 
-ghost use Rattle.std.specs.Prelude.{◌≡◌, ◌<◌, ◌≤◌, ◌+◌, ◌^◌, true, MatchOption, drop, length, ℕ};
-ghost use Rattle.cm_pool.specs.Geometry.{Sizes};
+ghost use Rattle.std.specs.Prelude.{◌≡◌, ◌<◌, ◌≤◌, ◌+◌, ◌^◌, Some, None, IfSome, MatchOption};
+ghost use Rattle.std.specs.Prelude.{length, ℕ};
+ghost use Rattle.std.specs.List.{slice_get};
 ghost use Rattle.cm_commit.specs.declared.journal.Journal.{Journal};
 ghost use Rattle.cm_guards.specs.Stages.{calls_left};
-ghost use Rattle.cm_commit.specs.GroupPlans.{record_writes};
+ghost use Rattle.cm_commit.specs.GroupPlans.{writes_of, all_writes};
+ghost use Rattle.cm_commit.specs.GroupPlans.{roots_of_entry, roots_of_entries};
 ghost use Rattle.cm_commit.specs.Steps.{stages_at};
-ghost use Rattle.std.specs.Arc.{arc_value};
-ghost use Rattle.std.specs.List.{list_all};
 ghost use Rattle.cm_group.specs.Groups.{entries_in};
-ghost use Rattle.cm_commit.specs.Offers.{carries_own as carries, own_record as own};
-ghost use Rattle.cm_commit.specs.GroupPlans.{own_place as place_of, roots_of_entry};
-ghost use Rattle.cm_commit.specs.GroupPlans.{roots_of_entries};
-ghost use Rattle.cm_commit.specs.Steps.{WritesNone, WritesFirst};
 
 use crate::step::CommitStep;
 use cm_group::CarriedEntry;
 use cm_layout::{Entry, Row};
 use cm_pool::Place;
 use cm_record::Record;
-use std::alloc::Global;
-use std::sync::Arc;
 
 /// How many roots the records of an entry need: one more than the root of its record.
 fn roots_of(entry: &Entry<()>) -> u32
@@ -41,69 +35,59 @@ pub(crate) fn roots_needed(entries: &[CarriedEntry]) -> u32
 {
     let mut needed = 0;
     for carried in entries {
-        needed = needed.max(roots_of(carried.entry()));
+        needed = needed.max(roots_of(&carried.bare()));
     }
     needed
 }
 
-/// The place of the record that an entry writes, if it writes one.
-fn own_place(entry: &Entry<()>) -> Option<Place>
-    ensures { result ≡ place_of entry.now }
+/// The record of this number among those that an entry writes, with its place.
+fn write_of(carried: &CarriedEntry, number: usize) -> Option<(Place, &Record)>
+    ensures { MatchOption result
+        (slice_get (writes_of carried.now.entry carried.now.moved) number ≡ None)
+        (λ w. slice_get (writes_of carried.now.entry carried.now.moved) number
+        ≡ Some (w.0, w.1.now)) }
 {
-    match entry {
-        Entry::Live(Row::Class(row, ())) => Some(row.place),
-        Entry::Live(Row::Loader(_)) | Entry::Unload(_) | Entry::Move(_) => None,
+    match carried.class_made() {
+        Some((row, class)) if number == 0 => Some((row.place, class)),
+        _ => None,
     }
 }
 
-/// The record that a class carries, as it is shared.
-pub(crate) fn own_class(carried: &CarriedEntry) -> &Arc<Record, Global>
-    requires { 1 ≤ length carried.now.records }
-    ensures { arc_value result.now ≡ own carried.now.records }
+/// How many records an entry writes.
+fn writes_in(carried: &CarriedEntry) -> usize
+    ensures value { result ≡ length (writes_of carried.now.entry carried.now.moved) }
+    ensures few { result ≤ 1 }
 {
-    &carried.records()[0]
+    match carried.class_made() {
+        Some(_) => 1,
+        None => 0,
+    }
 }
 
-/// The record that a class carries.
-pub(crate) fn own_record(carried: &CarriedEntry) -> &Record
-    requires { 1 ≤ length carried.now.records }
-    ensures { result.now ≡ own carried.now.records }
+/// The record of this number among those that entries write, with its place.
+pub(crate) fn nth_write(entries: &[CarriedEntry], number: usize) -> Option<(Place, &Record)>
+    ensures found { MatchOption result (slice_get (all_writes entries.now) number ≡ None)
+        (λ w. slice_get (all_writes entries.now) number ≡ Some (w.0, w.1.now)) }
+    ensures within { IfSome result (λ w. number < length entries.now) }
 {
-    own_class(carried)
-}
-
-/// The next entry from this one on that writes a record, with the record's place.
-pub(crate) fn next_record<'a>(
-    entries: &'a [CarriedEntry],
-    from: usize,
-) -> Option<(usize, Place, &'a Record)>
-    requires { list_all carries entries.now ≡ true }
-    ensures found { MatchOption result (WritesNone (drop from entries.now))
-        (λ found. WritesFirst (drop from entries.now) (drop (found.0 + 1) entries.now) found.1
-        found.2.now) }
-    ensures within { MatchOption result (Unit {0}) (λ found. found.0 < length entries.now) }
-{
-    for at in from..entries.len() {
-        let carried = &entries[at];
-        if let Some(place) = own_place(carried.entry()) {
-            return Some((at, place, own_record(carried)));
+    let mut left = number;
+    for carried in entries {
+        if let Some(write) = write_of(carried, left) {
+            return Some(write);
         }
+        left -= writes_in(carried);
     }
     None
 }
 
-/// How many entries from this one on write a record.
-fn records_from(entries: &[CarriedEntry], from: usize) -> u64
-    ensures counted { (sizes : Sizes)
-        → result ≡ length (record_writes sizes (drop from entries.now)) }
+/// How many records entries write.
+fn all_writes(entries: &[CarriedEntry]) -> usize
+    ensures value { result ≡ length (all_writes entries.now) }
     ensures few { result ≤ length entries.now }
 {
     let mut count = 0;
-    for at in from..entries.len() {
-        match own_place(entries[at].entry()) {
-            Some(_) => count += 1,
-            None => {}
-        }
+    for carried in entries {
+        count += writes_in(carried);
     }
     count
 }
@@ -119,7 +103,7 @@ pub(crate) fn group_calls(now: CommitStep, entries: &[CarriedEntry]) -> u64
     match now {
         CommitStep::Write { roots, from } => {
             let zeros = roots_needed(entries).saturating_sub(roots);
-            u64::from(zeros) + records_from(entries, from) + 4
+            u64::from(zeros) + all_writes(entries).saturating_sub(from) as u64 + 4
         }
         CommitStep::Sync => 3,
         CommitStep::Gate => 2,

@@ -12,13 +12,12 @@ ghost use Rattle.cm_layout.specs.Rules.{is_last_chunk};
 ghost use Rattle.cm_state.specs.State.{words_show, class_among};
 ghost use Rattle.cm_state.specs.Entries.{AreCacheRows};
 ghost use Rattle.cm_group.specs.Groups.{IsGroup, entries_in, slots_taken};
-ghost use Rattle.cm_commit.specs.Offers.{carries_own, is_own, writes_apart, MayCome};
+ghost use Rattle.cm_commit.specs.Offers.{has_own, carries_own, writes_apart, MayCome};
 ghost use Rattle.cm_commit.specs.Joining.{makes_class, is_new, are_new, is_inside, are_inside};
 ghost use Rattle.cm_commit.specs.Joining.{are_apart, may_join};
-ghost use Rattle.cm_commit.specs.Laws.{TellsWords};
+ghost use Rattle.cm_commit.specs.Laws.{AreTold, TellsWords};
 
 use crate::applying::apply_all;
-use crate::entries::{own_class, own_record};
 use crate::journal::Journal;
 use cm_group::{CarriedEntry, Group};
 use cm_layout::{ClassRow, Entry, Row};
@@ -27,29 +26,35 @@ use cm_rows::Book;
 use std::alloc::Global;
 use std::sync::Arc;
 
-/// Whether an entry carries one record, of so many words.
-fn carries_record(carried: &CarriedEntry, words: u32) -> bool
-    ensures own { result ≡ is_own carried.now.records words }
-    ensures told { IsTrue result → TellsWords carried.now }
+/// Whether a record has so many words.
+fn has_words(class: &Record, words: u32) -> bool
+    ensures own { result ≡ (length class.now == words) }
+    ensures told { AreTold class.now }
 {
-    if carried.records().len() != 1 {
-        return false;
-    }
-    let class = own_record(carried);
     class.bytes_tell_words(); // the proof has use for it
     class.words() == words
 }
 
-/// Whether an entry carries the records that it needs. No move is taken yet.
+/// Whether a class's record has as many words as its row says. No move is taken yet.
+fn has_own(carried: &CarriedEntry) -> bool
+    ensures own { result ≡ has_own carried.now.entry }
+    ensures told { IsTrue result → TellsWords carried.now }
+{
+    match carried.class_made() {
+        Some((row, class)) => has_words(class, row.place.words),
+        None => match carried.bare() {
+            Entry::Live(_) | Entry::Unload(_) => true,
+            Entry::Move(_) => false,
+        },
+    }
+}
+
+/// Whether an entry carries the records that it needs.
 fn carries_own(carried: &CarriedEntry) -> bool
     ensures own { result ≡ carries_own carried.now }
     ensures told { IsTrue result → TellsWords carried.now }
 {
-    match carried.entry() {
-        Entry::Live(Row::Class(row, ())) => carries_record(carried, row.place.words),
-        Entry::Live(Row::Loader(_)) | Entry::Unload(_) => carried.records().is_empty(),
-        Entry::Move(_) => false,
-    }
+    carried.moved().is_empty() && has_own(carried)
 }
 
 /// Whether each entry carries the records that it needs.
@@ -99,7 +104,7 @@ fn all_write_apart(rows: &mut Book<Arc<Record, Global>>, entries: &[CarriedEntry
     ensures same { rows.new ≡ rows.old }
 {
     for carried in entries {
-        if !writes_apart(rows, carried.entry()) {
+        if !writes_apart(rows, &carried.bare()) {
             return false;
         }
     }
@@ -117,20 +122,16 @@ fn have_one_name(one: &Record, other: &Record) -> bool
 
 /// Whether an entry makes a class in this loader that has the name of this one.
 fn makes_class(loader: u64, class: &Record, carried: &CarriedEntry) -> bool
-    requires own { carries_own carried.now ≡ true }
     ensures { result ≡ makes_class loader (class_name_in class.now) carried.now }
 {
-    match carried.entry() {
-        Entry::Live(Row::Class(row, ())) => {
-            row.loader == loader && have_one_name(own_record(carried), class)
-        }
-        Entry::Live(Row::Loader(_)) | Entry::Unload(_) | Entry::Move(_) => false,
+    match carried.class_made() {
+        Some((row, made)) => row.loader == loader && have_one_name(made, class),
+        None => false,
     }
 }
 
 /// Whether one of the entries makes a class in this loader that has the name of this one.
 fn is_made(loader: u64, class: &Record, entries: &[CarriedEntry]) -> bool
-    requires own { list_all carries_own entries.now ≡ true }
     ensures { result ≡ list_any (makes_class loader (class_name_in class.now)) entries.now }
 {
     for carried in entries {
@@ -152,24 +153,20 @@ fn is_absent(rows: &Book<Arc<Record, Global>>, loader: u64, class: &Arc<Record, 
 /// Whether the class that an entry makes, if it makes one, is new in its loader, by what is
 /// committed and by the entries before it.
 fn is_new(rows: &Book<Arc<Record, Global>>, before: &[CarriedEntry], carried: &CarriedEntry) -> bool
-    requires before { list_all carries_own before.now ≡ true }
-    requires own { carries_own carried.now ≡ true }
-    ensures { result ≡ is_new (rows_with arc_value rows.now.rows) before.now carried.now.entry
-        carried.now.records }
+    ensures { result
+        ≡ is_new (rows_with arc_value rows.now.rows) before.now carried.now.entry }
 {
-    match carried.entry() {
-        Entry::Live(Row::Class(row, ())) => {
-            let class = own_class(carried);
+    match carried.class_made() {
+        Some((row, class)) => {
             is_absent(rows, row.loader, class) && !is_made(row.loader, class, before)
         }
-        Entry::Live(Row::Loader(_)) | Entry::Unload(_) | Entry::Move(_) => true,
+        None => true,
     }
 }
 
 /// Whether each class that entries make is new in its loader. A group has few entries, so each is
 /// held against those before it.
 fn are_new(rows: &Book<Arc<Record, Global>>, entries: &[CarriedEntry]) -> bool
-    requires own { list_all carries_own entries.now ≡ true }
     ensures { result ≡ are_new (rows_with arc_value rows.now.rows) [] entries.now }
 {
     for (at, carried) in entries.iter().enumerate() {

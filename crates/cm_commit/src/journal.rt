@@ -2,22 +2,18 @@
 
 ghost use Rattle.std.specs.Prelude.{◌≡◌, ◌≤◌, ◌<◌, ◌+◌, ◌^◌};
 ghost use Rattle.std.specs.Arc.{arc_value};
-ghost use Rattle.cm_layout.specs.Framing.{other_half as other_of};
 ghost use Rattle.cm_layout.specs.Rows.{bare, rows_with, slots_of_rows};
 ghost use Rattle.cm_commit.specs.Checkpoints.{is_due as is_due_for, next_head, renewed_journal};
 ghost use Rattle.cm_commit.specs.Checkpoints.{target_of as target};
 ghost use Rattle.cm_commit.specs.Steps.{FitsHalf};
 
 use cm_group::Group;
-use cm_layout::{Half, HalfHead};
+use cm_layout::{ENTRY_VERSION, Half, HalfHead};
 use cm_pool::Geometry;
 use cm_record::Record;
 use cm_rows::Book;
 use std::alloc::Global;
 use std::sync::Arc;
-
-/// The version of entries in the halves that are written here.
-const ENTRY_VERSION: u16 = 1;
 
 /// Where the journal goes on: the half that counts ends at this slot, behind the command of this
 /// number.
@@ -36,16 +32,6 @@ pub struct Journal {
     pub number: u64,
 }
 
-/// The half that isn't this one.
-pub(crate) fn other_half(half: Half) -> Half
-    ensures { result ≡ other_of half }
-{
-    match half {
-        Half::Zero => Half::One,
-        Half::One => Half::Zero,
-    }
-}
-
 /// Whether the half that counts has no room for a group, so that a checkpoint comes first.
 pub(crate) fn is_due(journal: &Journal, group: &Group) -> bool
     ensures { result ≡ is_due_for journal.now group.now.entries }
@@ -61,7 +47,7 @@ pub(crate) fn renewed_head(journal: &Journal, rows: &Book<Arc<Record, Global>>) 
 {
     HalfHead {
         version: ENTRY_VERSION,
-        live: rows.len() as u32,
+        live: rows.slots() as u32,
         epoch: journal.epoch + 1,
         base: journal.number,
     }
@@ -75,7 +61,7 @@ fn renewed(journal: &Journal, rows: &Book<Arc<Record, Global>>) -> Journal
     let head = renewed_head(journal, rows);
     Journal {
         geometry: journal.geometry,
-        half: other_half(journal.half),
+        half: journal.half.other(),
         end: 1 + head.live,
         epoch: head.epoch,
         other_open: true,

@@ -2,7 +2,7 @@
 -- For `Front::add_loader`, `Front::define`, `Front::unload`.
 use Rattle.std.proofs.Common.{◌≡◌, ℕ, suc, ◌+◌, Bool, true, false, cond, List, [], ◌∷◌}
 use Rattle.std.proofs.Common.{length, Option, Some, None, refl, sym, ap, subst, ◌∙◌, arith, eqb}
-use Rattle.std.specs.Prelude.{not, nat_le, nat_lt, is_some, Result, Ok, Err, ◌&&◌}
+use Rattle.std.specs.Prelude.{not, nat_lt, is_some, Result, Ok, Err, ◌&&◌}
 use Rattle.std.specs.Option.{option_and_then}
 use Rattle.std.specs.Str.{bytes_eq}
 use Rattle.std.specs.FinMap as map
@@ -11,7 +11,7 @@ use Rattle.cm_layout.specs.declared.row.Row.{Row}
 use Rattle.cm_layout.specs.declared.row.Row.TheVariants.{Loader, Class}
 use Rattle.cm_layout.specs.Names.{is_loader_name}
 use Rattle.cm_layout.specs.Rows.{number_of, slots_of_rows}
-use Rattle.cm_layout.specs.Rules.{row_limit}
+use Rattle.cm_layout.specs.Rules.{is_too_much}
 use Rattle.cm_record.specs.Names.{class_name_in}
 use Rattle.cm_index.specs.Index.{class_of}
 use Rattle.cm_state.specs.State.{Loaders, words_show, state_of, class_among, class_in, size}
@@ -58,10 +58,6 @@ made_as_step true false false false next n = refl
 
 -- ---- the rows tell the state
 
-slots_are_rows : {A : Type 0} (rows : List (Row A)) → slots_of_rows rows ≡ length rows
-slots_are_rows [] = refl
-slots_are_rows (row ∷ rows) = let rest = slots_are_rows rows in omega (arith, rest)
-
 pub one_class : (u : ℕ) (name : List ℕ) (rows : List (Row (List ℕ)))
     → class_of class_name_in u name rows ≡ class_among words_show u name rows
 one_class u name [] = refl
@@ -71,8 +67,8 @@ one_class u name (Class r words ∷ rows) =
     (one_class u name rows)
 
 size_is : SizesAgree (List ℕ) → (s : FrontState) → IsFront s
-    → size (state_of words_show s.rows) ≡ length s.rows
-size_is sizes s f = sizes words_show s.sizes s.number s.rows f.rows ∙ slots_are_rows s.rows
+    → size (state_of words_show s.rows) ≡ slots_of_rows s.rows
+size_is sizes s f = sizes words_show s.sizes s.number s.rows f.rows
 
 -- a running cache's first refusal is that of the step
 running : (s : FrontState) (change : Change (List ℕ)) → s.closed ≡ false → s.broken ≡ false
@@ -92,13 +88,13 @@ pub loader_refused : LoadersAreFound (List ℕ) → SizesAgree (List ℕ) → (s
 loader_refused loaders sizes s x f closed broken =
     running s (AddLoader x) closed broken
     ∙ (ap (λ (b : Bool). first (loader_step (is_loader_name x) (eqb s.number last_number) b
-    (nat_le (row_limit s.sizes) (size m)) (step.with_loader m x)))
+    (is_too_much s.sizes (size m) 1) (step.with_loader m x)))
     (loaders words_show s.rows x)
     ∙ (ap (λ (k : ℕ). first (loader_step (is_loader_name x) (eqb s.number last_number)
-    (is_some (number_of x s.rows)) (nat_le (row_limit s.sizes) k) (step.with_loader m x)))
+    (is_some (number_of x s.rows)) (is_too_much s.sizes k 1) (step.with_loader m x)))
     (size_is sizes s f)
     ∙ made_as_step (is_loader_name x) (eqb s.number last_number) (is_some (number_of x s.rows))
-    (nat_le (row_limit s.sizes) (length s.rows)) (step.with_loader m x) (suc s.number)))
+    (is_too_much s.sizes (slots_of_rows s.rows) 1) (step.with_loader m x) (suc s.number)))
   where
     m : Loaders (List ℕ)
     m = state_of words_show s.rows
@@ -150,14 +146,14 @@ pub class_refused : LoadersAreFound (List ℕ) → ClassesAreFound (List ℕ) �
 class_refused loaders classes sizes s x words f closed broken =
     running s (Define x words) closed broken
     ∙ (ap (λ (b : Bool). first (class_step named spent b
-    (is_some (class_in m x (class_name_in words))) long (nat_le (row_limit s.sizes) (size m)) next))
+    (is_some (class_in m x (class_name_in words))) long (is_too_much s.sizes (size m) 1) next))
     (loaders words_show s.rows x)
     ∙ (ap (λ (o : Option (List ℕ)). first (class_step named spent (is_some o_x) (is_some o) long
-    (nat_le (row_limit s.sizes) (size m)) next))
+    (is_too_much s.sizes (size m) 1) next))
     (classes words_show s.rows x (class_name_in words))
     ∙ (ap (λ (k : ℕ). first (class_step named spent (is_some o_x)
     (is_some (option_and_then among o_x))
-    long (nat_le (row_limit s.sizes) k) next)) (size_is sizes s f)
+    long (is_too_much s.sizes k 1) next)) (size_is sizes s f)
     ∙ (class_as_step named spent o_x among long full next
     ∙ ap (λ (g : ℕ → Option (List ℕ)). refused (elim (asked named spent o_x)
     [ Err r ↦ Err r | Ok u ↦ free (is_some (g u)) long full u ])) same))))
@@ -181,7 +177,7 @@ class_refused loaders classes sizes s x words f closed broken =
     long = nat_lt (chunk_size s.sizes.top) (length words)
 
     full : Bool
-    full = nat_le (row_limit s.sizes) (length s.rows)
+    full = is_too_much s.sizes (slots_of_rows s.rows) 1
 
     next : Loaders (List ℕ)
     next = step.with_class words_show m x words
@@ -245,7 +241,7 @@ pub record IsMade (s : FrontState) (x : List ℕ) (n : ℕ) : Type 0 where
   pub named : is_loader_name x ≡ true
   pub left : eqb s.number last_number ≡ false
   pub absent : number_of x s.rows ≡ None
-  pub room : nat_le (row_limit s.sizes) (length s.rows) ≡ false
+  pub room : is_too_much s.sizes (slots_of_rows s.rows) 1 ≡ false
   pub number : n ≡ s.number + 1
 
 none_of : (o : Option ℕ) → is_some o ≡ false → o ≡ None
@@ -263,7 +259,7 @@ is_made true false false false n k e = (refl, refl, refl, refl, ok_same n k e)
 pub was_made : (s : FrontState) (x : List ℕ) (n : ℕ) → loader_made s x ≡ Ok n → IsMade s x n
 was_made s x n e =
     let h = is_made (is_loader_name x) (eqb s.number last_number) (is_some (number_of x s.rows))
-    (nat_le (row_limit s.sizes) (length s.rows)) (suc s.number) n e in
+    (is_too_much s.sizes (slots_of_rows s.rows) 1) (suc s.number) n e in
     let next : suc s.number ≡ n = h.4 in
     record {
       named = h.0;
@@ -277,7 +273,7 @@ pub record IsFree (s : FrontState) (x : List ℕ) (words : List ℕ) (u : ℕ) :
   pub asked : IsAsked s x u
   pub new : class_among words_show u (class_name_in words) s.rows ≡ None
   pub fits : nat_lt (chunk_size s.sizes.top) (length words) ≡ false
-  pub room : nat_le (row_limit s.sizes) (length s.rows) ≡ false
+  pub room : is_too_much s.sizes (slots_of_rows s.rows) 1 ≡ false
 
 none_kept : (o : Option (List ℕ)) → is_some o ≡ false → o ≡ None
 none_kept None e = refl
@@ -301,7 +297,7 @@ was_free s x words u e = by_answer (loader_asked s x) refl e
     by_answer (Ok v) a h =
         let taken = is_some (class_of class_name_in v (class_name_in words) s.rows) in
         let p = is_free taken (nat_lt (chunk_size s.sizes.top) (length words))
-        (nat_le (row_limit s.sizes) (length s.rows)) v u h in
+        (is_too_much s.sizes (slots_of_rows s.rows) 1) v u h in
         let same : v ≡ u = p.3 in
         record {
           asked = subst (λ k. IsAsked s x k) same (was_asked s x v a);

@@ -1,32 +1,31 @@
 -- The chain that rows make of a loader.
 -- For `Front::restore`, `arenas_are_of_rows`, `chains_go_with_rows` and others.
-use Rattle.std.proofs.Common.{◌≡◌, ℕ, ◌+◌, ◌^◌, ◌<◌, ◌≤◌, ◌⊎◌, Bool, true, false, cond, List, []}
+use Rattle.std.proofs.Common.{◌≡◌, ℕ, ◌+◌, ◌≤◌, ◌⊎◌, Bool, true, false, cond, List, []}
 use Rattle.std.proofs.Common.{◌∷◌, ◌++◌, map, Option, Some, None, inl, inr, refl, sym, ap}
 use Rattle.std.proofs.Common.{subst, ◌∙◌, arith, eqb}
-use Rattle.std.specs.Prelude.{◌&&◌, ◌||◌, not, filter, sum, nat_le, nat_lt, max, min}
+use Rattle.std.specs.Prelude.{◌&&◌, not, filter, sum, nat_le}
 use Rattle.std.specs.List.{list_any}
 use Rattle.std.specs.Option.{option_map, option_map_or}
-use Rattle.std.proofs.lemmas.Bool.{eqb-true, eq-eqb, lt-ltb, ltb-true, leb-true, and_parts}
+use Rattle.std.proofs.lemmas.Bool.{eq-eqb, leb-true, and_parts}
 use Rattle.std.proofs.lemmas.Bool.{or_cases}
 use Rattle.std.proofs.lemmas.List.{map-append}
 use Rattle.std.proofs.lemmas.List.Sums.{sum_by-append}
 use Rattle.std.proofs.lemmas.List.Elements.{filter-append}
-use Rattle.std.proofs.lemmas.Nat.{pow_pos}
 use Rattle.cm_pool.specs.declared.chunk.Chunk.{Chunk}
 use Rattle.cm_pool.specs.declared.place.Place.{Place}
-use Rattle.cm_pool.specs.Chunks.{chunk_size, same_chunk, Meets, Covers}
+use Rattle.cm_pool.specs.Chunks.{chunk_size, same_chunk, Meets}
 use Rattle.cm_pool.specs.Geometry.{Sizes}
 use Rattle.cm_pool.specs.Lists.{Among}
 use Rattle.cm_pool.proofs.{same_chunk-true, same_chunk-itself, meets-itself, same_chunk-false}
 use Rattle.cm_arena.specs.Chains.{Filled, last_of}
 use Rattle.cm_arena.specs.Placing.{with_place}
 use Rattle.cm_layout.specs.declared.class_row.ClassRow.{ClassRow}
-use Rattle.cm_layout.specs.declared.row.Row.TheVariants.{Loader, Class}
+use Rattle.cm_layout.specs.declared.row.Row.TheVariants.{Class}
 use Rattle.cm_layout.specs.Rows.{classes_in, last_chunk, used_words}
 use Rattle.cm_layout.specs.Rules.{is_live, is_chunk, meets, is_unused, is_last_chunk, has_place}
 use Rattle.cm_layout.specs.Rules.{class_fits, broken_of, has_room}
 use Rattle.cm_layout.specs.Frames.{BareRow, AreApart}
-use Rattle.cm_layout.proofs.{meets-true, meets-from, last_chunk-among, is_unused-apart}
+use Rattle.cm_layout.proofs.{last_chunk-among, is_unused-apart}
 use Rattle.cm_layout.proofs.{classes_in-append}
 use Rattle.cm_front.specs.Chains.{chain_from, chain_of, top_of}
 

@@ -6,7 +6,7 @@ use Rattle.std.proofs.Common.{subst, ◌∙◌, arith, eqb, IsSome}
 use Rattle.std.specs.Prelude.{◌&&◌, ◌↔◌, unwrap_or, nat_le, nat_lt, is_some}
 use Rattle.std.specs.List.{AllByRecursion}
 use Rattle.std.specs.FinMap as fin
-use Rattle.std.proofs.lemmas.Bool.{eqb-true, eq-eqb, ltb-true, leb-true, le-leb, leb-false}
+use Rattle.std.proofs.lemmas.Bool.{eqb-true, eq-eqb, ltb-true, leb-true, le-leb}
 use Rattle.std.proofs.lemmas.Bool.{ltb-false, and_parts}
 use Rattle.cm_pool.specs.FreeSpace.{IsFreeSpace}
 use Rattle.cm_pool.specs.Lists.{Among}
@@ -15,10 +15,10 @@ use Rattle.cm_layout.specs.declared.row.Row.{Row}
 use Rattle.cm_layout.specs.declared.row.Row.TheVariants.{Loader, Class}
 use Rattle.cm_layout.specs.declared.entry.Entry.{Entry}
 use Rattle.cm_layout.specs.declared.entry.Entry.TheVariants as entry
-use Rattle.cm_layout.specs.Names.{is_loader_name, name_limit}
+use Rattle.cm_layout.specs.Names.{is_loader_name, name_limit, name_room}
 use Rattle.cm_layout.specs.Rows.{name_of, numbers_in, rows_after, bare}
 use Rattle.cm_layout.specs.Rows.{slots_of_rows}
-use Rattle.cm_layout.specs.Rules.{is_live, row_limit}
+use Rattle.cm_layout.specs.Rules.{is_live, row_limit, is_too_much}
 use Rattle.cm_layout.specs.Laws.{LoadersAreOwn}
 use Rattle.cm_layout.specs.Loaders.{HasOwnLoaders}
 use Rattle.cm_layout.proofs.{numbers-bare}
@@ -107,25 +107,17 @@ right_more (Class l words ∷ rows) row a r = (a.0, right_more rows row a.1 r)
 
 -- ---- a loader
 
-loader_fits : (x : List ℕ) → is_loader_name x ≡ true → length x ≤ name_limit
+loader_fits : (x : List ℕ) → is_loader_name x ≡ true → length x ≤ name_room
 loader_fits x named =
     let some = nat_le 1 (length x) in
     let short = nat_le (length x) name_limit in
     leb-true (length x) name_limit (and_parts some short (and_parts (some && short) _ named).0).1
 
-pub room_left : (s : FrontState) → nat_le (row_limit s.sizes) (length s.rows) ≡ false
+pub room_left : (s : FrontState) → is_too_much s.sizes (slots_of_rows s.rows) 1 ≡ false
     → nat_le (slots_of_rows s.rows + 1) (row_limit s.sizes) ≡ true
 room_left s e =
     le-leb (slots_of_rows s.rows + 1) (row_limit s.sizes)
-    (subst (λ k. k + 1 ≤ row_limit s.sizes) (sym (slots_are s.rows)) (below e))
-  where
-    slots_are : {A : Type 0} (rows : List (Row A)) → slots_of_rows rows ≡ length rows
-    slots_are [] = refl
-    slots_are (row ∷ rows) = let rest = slots_are rows in omega (arith, rest)
-
-    below : nat_le (row_limit s.sizes) (length s.rows) ≡ false
-        → length s.rows + 1 ≤ row_limit s.sizes
-    below e = let less = leb-false (row_limit s.sizes) (length s.rows) e in omega (arith, less)
+    (ltb-false (row_limit s.sizes) (slots_of_rows s.rows + 1) e)
 
 loader_row : FrontState → List ℕ → LoaderRow
 loader_row s x = record { number = s.number + 1; name = x }

@@ -18,13 +18,9 @@ use Rattle.cm_front.specs.Front.{FrontState, first_refusal}
 
 -- ---- accepting
 
--- an entry with the words of the record that it writes
+-- an entry with the record that it writes: none but a class's own, as no move is accepted yet
 abbrev pub carried : Entry (List ℕ) → Carried
-carried (entry.Live (Loader r)) = record { entry = entry.Live (Loader r); records = [] }
-carried (entry.Live (Class r words)) =
-    record { entry = entry.Live (Class r tt); records = words ∷ [] }
-carried (entry.Unload e) = record { entry = entry.Unload e; records = [] }
-carried (entry.Move e) = record { entry = entry.Move e; records = [] }
+carried e = record { entry = e; moved = [] }
 
 -- a group that begins with this number
 abbrev pub begun_by : ℕ → Carried → Handed

@@ -1,10 +1,10 @@
 -- The causes against a command as they are looked for: by names in the rows.
-use Rattle.std.specs.Prelude.{ℕ, suc, ◌==◌, Bool, not, nat_lt, nat_le, if◌then◌else◌, List}
+use Rattle.std.specs.Prelude.{ℕ, suc, ◌==◌, Bool, not, nat_lt, if◌then◌else◌, List}
 use Rattle.std.specs.Prelude.{length, Some, None, is_some, Result, Ok, Err}
 use Rattle.cm_pool.specs.Chunks.{chunk_size}
 use Rattle.cm_layout.specs.Names.{is_loader_name}
-use Rattle.cm_layout.specs.Rows.{number_of}
-use Rattle.cm_layout.specs.Rules.{row_limit}
+use Rattle.cm_layout.specs.Rows.{number_of, slots_of_rows}
+use Rattle.cm_layout.specs.Rules.{is_too_much}
 use Rattle.cm_record.specs.Names.{class_name_in}
 use Rattle.cm_index.specs.Index.{class_of}
 use Rattle.cm_state.specs.Step.{last_number}
@@ -21,9 +21,9 @@ loader_asked s x =
     else if s.number == last_number then Err refusal.NumbersSpent
     else elim (number_of x s.rows) [ Some u ↦ Ok u | None ↦ Err refusal.NoLoader ]
 
--- as many loaders and classes live as may
-abbrev pub journal_full : FrontState → Bool
-journal_full s = nat_le (row_limit s.sizes) (length s.rows)
+-- no slots are left beside the loaders and classes that live for what needs so many
+abbrev pub journal_full : FrontState → ℕ → Bool
+journal_full s need = is_too_much s.sizes (slots_of_rows s.rows) need
 
 -- the number that the new loader gets
 abbrev pub loader_made : FrontState → List ℕ → Result ℕ Refusal
@@ -31,7 +31,7 @@ loader_made s x =
     if not (is_loader_name x) then Err refusal.BadName
     else if s.number == last_number then Err refusal.NumbersSpent
     else if is_some (number_of x s.rows) then Err refusal.LoaderExists
-    else if journal_full s then Err refusal.JournalFull
+    else if journal_full s 1 then Err refusal.JournalFull
     else Ok (suc s.number)
 
 -- the number of the loader in which the class can be defined
@@ -39,7 +39,7 @@ abbrev pub class_free : FrontState → ℕ → List ℕ → Result ℕ Refusal
 class_free s u words =
     if is_some (class_of class_name_in u (class_name_in words) s.rows) then Err refusal.ClassExists
     else if nat_lt (chunk_size s.sizes.top) (length words) then Err refusal.RecordTooLong
-    else if journal_full s then Err refusal.JournalFull
+    else if journal_full s 1 then Err refusal.JournalFull
     else Ok u
 
 abbrev pub class_asked : FrontState → List ℕ → List ℕ → Result ℕ Refusal

@@ -14,11 +14,11 @@ use crate::front::Front;
 use crate::laws::places_keep_rules;
 use crate::unsealed::Unsealed;
 use cm_arena::PlaceRefusal;
-use cm_group::{CarriedEntry, RecordRoom};
+use cm_group::CarriedEntry;
 use cm_layout::{ClassRow, Entry, LoaderRow, Row, SlotName, Unload, loaders_are_own};
 use cm_prepare::{Command, Prepared, Refusal};
 use cm_state::{entries_are_steps, rows_tell_state};
-use std::alloc::{AllocError, Global};
+use std::alloc::AllocError;
 
 impl Front {
     /// Accepts a command and gives it the next number. It joins the newest group that isn't handed
@@ -75,7 +75,7 @@ impl Front {
         places_keep_rules();
         let loader = self.check_class(name, &class)?;
         let words = class.words();
-        let Ok((room, shared)) = room_for(self.alloc, &mut self.unsealed, &class) else {
+        let Ok(shared) = room_for(&mut self.unsealed, &class) else {
             return Err(if self.space.is_full(loader, words) {
                 Refusal::RegionFull
             } else {
@@ -90,7 +90,7 @@ impl Front {
         let number = self.number + 1;
         let row = ClassRow { loader, place };
         let _rule = self.book.apply(number, Entry::Live(Row::Class(row, class))); // it breaks none
-        let entry = CarriedEntry::class_in(room, row, shared.into_record());
+        let entry = CarriedEntry::class(self.alloc, row, shared.into_record());
         self.unsealed.join(number, entry);
         self.number = number;
         Ok(number)
@@ -117,19 +117,14 @@ impl Front {
     }
 }
 
-// The room that a class takes in its group, and its record once more.
-fn room_for(
-    alloc: Global,
-    unsealed: &mut Unsealed,
-    class: &Prepared,
-) -> Result<(RecordRoom, Prepared), AllocError>
+// The room that a class takes in its group, and the class once more.
+fn room_for(unsealed: &mut Unsealed, class: &Prepared) -> Result<Prepared, AllocError>
     ensures groups { unsealed.new.groups ≡ unsealed.old.groups }
     ensures ready { OnOk result (unsealed.new.is_ready ≡ true) }
-    ensures shared { IfOk result (λ p. p.1 ≡ class.now) }
+    ensures shared { IfOk result (λ p. p ≡ class.now) }
 {
     unsealed.make_ready()?;
-    let room = RecordRoom::new(alloc)?;
-    Ok((room, class.share()?))
+    Ok(class.share()?)
 }
 
 fn loader_row(number: u64, name: &[u8]) -> LoaderRow

@@ -4,18 +4,16 @@ ghost use Rattle.std.specs.Prelude.{◌≡◌};
 ghost use Rattle.cm_front.specs.Refusing.{loader_asked, journal_full, loader_made, class_asked};
 
 use crate::front::Front;
-use cm_layout::is_loader_name;
+use cm_layout::{LAST_NUMBER, is_loader_name};
 use cm_prepare::{Prepared, Refusal};
 
-/// The last number that a command may have.
-const LAST_NUMBER: u64 = 1 << 63;
-
 impl Front {
-    /// Whether as many loaders and classes live as may.
-    fn is_journal_full(&self) -> bool
-        ensures { result ≡ journal_full self.now }
+    /// Whether too few slots are left beside the loaders and classes that live for what needs so
+    /// many.
+    fn is_journal_full(&self, need: usize) -> bool
+        ensures { result ≡ journal_full self.now need }
     {
-        self.book.len() >= self.space.geometry().slots() as usize / 2
+        self.book.is_full(need)
     }
 
     /// The number of the live loader that a command names.
@@ -44,7 +42,7 @@ impl Front {
         if self.book.loader(name).is_some() {
             return Err(Refusal::LoaderExists);
         }
-        if self.is_journal_full() {
+        if self.is_journal_full(1) {
             return Err(Refusal::JournalFull);
         }
         Ok(self.number + 1)
@@ -61,7 +59,7 @@ impl Front {
         if class.words() > 128 << self.space.geometry().top() {
             return Err(Refusal::RecordTooLong);
         }
-        if self.is_journal_full() {
+        if self.is_journal_full(1) {
             return Err(Refusal::JournalFull);
         }
         Ok(loader)

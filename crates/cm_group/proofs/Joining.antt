@@ -5,7 +5,7 @@ use Rattle.std.specs.List.{AllByRecursion}
 use Rattle.std.proofs.lemmas.List.{length-append}
 use Rattle.cm_layout.specs.declared.entry.Entry.TheVariants as entry
 use Rattle.cm_layout.specs.Rows.{slots_of}
-use Rattle.cm_layout.specs.Frames.{BareEntry}
+use Rattle.cm_layout.specs.Frames.{BareEntry, bare_entry}
 use Rattle.cm_group.specs.Groups.{Carried, CarriesRight, Handed, KeepsGroup, GoesOn}
 use Rattle.cm_group.specs.Groups.{slots_taken}
 
@@ -22,7 +22,7 @@ taken-append (x ∷ xs) ys = omega (arith, taken-append xs ys)
 -- no more entries than slots
 pub enough : (xs : List Carried) → length xs ≤ slots_taken xs
 enough [] = omega arith
-enough (x ∷ xs) = omega (arith, enough xs, one_slot x.entry)
+enough (x ∷ xs) = omega (arith, enough xs, one_slot (bare_entry x.entry))
 
 right-append : (xs ys : List Carried) → AllByRecursion CarriesRight xs
     → AllByRecursion CarriesRight ys → AllByRecursion CarriesRight (xs ++ ys)
@@ -31,7 +31,7 @@ right-append (x ∷ xs) ys hx hy = (hx.0, right-append xs ys hx.1 hy)
 
 pub with_entry : (capacity slots more room : ℕ) (group : Handed) (c : Carried)
     (grown : List Carried)
-    → KeepsGroup capacity slots group → more ≡ slots_of c.entry → CarriesRight c
+    → KeepsGroup capacity slots group → more ≡ slots_of (bare_entry c.entry) → CarriesRight c
     → slots + more ≤ 64 → group.first + length group.entries ≤ 2 ^ 63 → capacity ≤ room
     → grown ≡ group.entries ++ c ∷ []
     → KeepsGroup room (slots + more)
@@ -39,7 +39,7 @@ pub with_entry : (capacity slots more room : ℕ) (group : Handed) (c : Carried)
 with_entry capacity slots more room group c grown k m right fits numbers wide e =
     let taken = taken-append group.entries (c ∷ []) in
     let count = length-append group.entries (c ∷ []) in
-    let one = one_slot c.entry in
+    let one = one_slot (bare_entry c.entry) in
     rw e (record {
       is = record {
         some = omega (arith, count);

@@ -1,19 +1,24 @@
 -- Groups: what is handed from the accepted cache to its disk at once. The entries have numbers one
 -- behind another; each goes with the records that it writes.
-use Rattle.std.specs.Prelude.{◌≡◌, ℕ, ◌+◌, ◌^◌, ◌<◌, ◌≤◌, ◌-◌, max, List, ◌++◌, length, map}
+use Rattle.std.specs.Prelude.{◌≡◌, ℕ, ◌+◌, ◌^◌, ◌<◌, ◌≤◌, ◌-◌, max, List, [], ◌∷◌, ◌++◌, length}
+use Rattle.std.specs.Prelude.{map, Option, Some, None}
 use Rattle.std.specs.List.{AllByRecursion}
 use Rattle.cm_class.specs.declared.class_file.ClassFile.{ClassFile}
 use Rattle.cm_rules.specs.Keeps.{KeepsRules}
 use Rattle.cm_record.specs.Layout.{lay}
 use Rattle.cm_layout.specs.Rows.{slots_of_entries}
 pub use Rattle.cm_layout.specs.Rows.{group_limit}
-use Rattle.cm_layout.specs.Frames.{BareEntry}
+use Rattle.cm_layout.specs.declared.class_row.ClassRow.{ClassRow}
+use Rattle.cm_layout.specs.declared.row.Row.TheVariants.{Loader, Class}
+use Rattle.cm_layout.specs.declared.entry.Entry.{Entry}
+use Rattle.cm_layout.specs.declared.entry.Entry.TheVariants as entry
+use Rattle.cm_layout.specs.Frames.{BareEntry, bare_entry}
 
--- an entry, and the words of each record that it writes: a class's own for its row, those on the
--- old chunk for a move, none for any other
+-- an entry, a class with the words of its record; and beside a move those of the records on its old
+-- chunk, in order
 pub record Carried : Type 0 where
-  pub entry : BareEntry
-  pub records : List (List ℕ)
+  pub entry : Entry (List ℕ)
+  pub moved : List (List ℕ)
 
 -- the number of the first entry, the learnt number of the cache that hands it out, and the entries
 pub record Handed : Type 0 where
@@ -21,8 +26,23 @@ pub record Handed : Type 0 where
   pub learnt : ℕ
   pub entries : List Carried
 
+-- the entries as the journal has them
 abbrev pub entries_in : List Carried → List BareEntry
-entries_in carried = map (λ c. c.entry) carried
+entries_in carried = map (λ c. bare_entry c.entry) carried
+
+-- the class that an entry makes, with what is kept of it
+abbrev pub class_made : {P : Type 0} → Entry P → Option (ClassRow × P)
+class_made (entry.Live (Loader r)) = None
+class_made (entry.Live (Class r p)) = Some (r, p)
+class_made (entry.Unload e) = None
+class_made (entry.Move e) = None
+
+-- the records that an entry writes: a class's own, those that move, none for any other
+abbrev pub records_of : Entry (List ℕ) → List (List ℕ) → List (List ℕ)
+records_of (entry.Live (Loader r)) moved = []
+records_of (entry.Live (Class r words)) moved = words ∷ []
+records_of (entry.Unload e) moved = []
+records_of (entry.Move e) moved = moved
 
 -- the slots that the entries take
 abbrev pub slots_taken : List Carried → ℕ
@@ -37,7 +57,7 @@ abbrev pub IsRightRecord : List ℕ → Type 0
 IsRightRecord words = (c : ClassFile) × KeepsRules c × (words ≡ lay c)
 
 abbrev pub CarriesRight : Carried → Type 0
-CarriesRight c = AllByRecursion IsRightRecord c.records
+CarriesRight c = AllByRecursion IsRightRecord (records_of c.entry c.moved)
 
 -- what is true of each group
 pub record IsGroup (group : Handed) : Type 0 where

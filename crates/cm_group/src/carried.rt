@@ -1,139 +1,132 @@
 //! An entry with the records that it writes.
 
-ghost use Rattle.std.specs.Prelude.{◌≡◌, [], ◌∷◌, map, IfOk};
+ghost use Rattle.std.specs.Prelude.{◌≡◌, [], map, Some, None, MatchOption};
 ghost use Rattle.std.specs.Arc.{arc_value};
 ghost use Rattle.std.specs.List.{AllByRecursion};
-ghost use Rattle.cm_group.specs.Groups.{Carried, CarriesRight, IsRightRecord};
-ghost use Rattle.cm_layout.specs.Rows.{slots_of};
+ghost use Rattle.cm_group.specs.Groups.{Carried, CarriesRight, IsRightRecord, class_made};
+ghost use Rattle.cm_layout.specs.Frames.{bare_entry};
+ghost use Rattle.cm_layout.specs.Rows.{slots_of, entry_with};
 ghost use Rattle.cm_layout.specs.declared.entry.Entry.TheVariants as variant;
 ghost use Rattle.cm_layout.specs.declared.row.Row.TheVariants.{Loader, Class};
 
-use crate::room::RecordRoom;
 use cm_layout::{ClassRow, Entry, LoaderRow, Move, Row, Unload};
 use cm_record::Record;
-use std::alloc::{AllocError, Global};
+use std::alloc::Global;
 use std::marker::Model;
 use std::sync::Arc;
 
 /// An entry with the records that it writes, each of a class that keeps the class rules: a class's
-/// own for its row, those on the old chunk for a move, none for any other. Records are shared,
-/// never copied.
+/// own, those on the old chunk for a move, none for any other. Records are shared, never copied.
 #[derive(Drop)]
 pub struct CarriedEntry {
-    entry: Entry<()>,
-    records: Vec<Arc<Record, Global>>,
+    entry: Entry<Arc<Record, Global>>,
+    /// Beside a move the records that move; else none.
+    moved: Vec<Arc<Record, Global>>,
 }
 
 impl Model for CarriedEntry {
     ghost use Rattle.std.specs.Prelude.{map};
     ghost use Rattle.std.specs.Arc.{arc_value};
+    ghost use Rattle.cm_layout.specs.Rows.{entry_with};
     ghost use Rattle.cm_group.specs.Groups.{Carried, CarriesRight};
 
     ghost Value = { Carried };
 
-    ghost view = { λ c. record { entry = c.entry; records = map arc_value c.records.items } };
+    ghost view = { λ c. record {
+      entry = entry_with arc_value c.entry;
+      moved = map arc_value c.moved.items;
+    } };
 
-    ghost invariant = { λ c.
-        CarriesRight (record { entry = c.entry; records = map arc_value c.records.items }) };
+    ghost invariant = { λ c. CarriesRight (record {
+      entry = entry_with arc_value c.entry;
+      moved = map arc_value c.moved.items;
+    }) };
 }
 
 impl CarriedEntry {
     /// A loader's row, which writes no record.
     pub fn loader(alloc: Global, row: LoaderRow) -> CarriedEntry
-        ensures { result ≡ record { entry = variant.Live (Loader row); records = [] } }
+        ensures { result ≡ record { entry = variant.Live (Loader row); moved = [] } }
     {
         CarriedEntry {
             entry: Entry::Live(Row::Loader(row)),
-            records: Vec::new(alloc),
-        }
-    }
-
-    /// A class's row, which writes its record. It is put into room that was taken before, so no
-    /// memory is taken here.
-    pub fn class_in(room: RecordRoom, row: ClassRow, class: Arc<Record, Global>) -> CarriedEntry
-        requires right { IsRightRecord (arc_value class) }
-        ensures { result ≡ record {
-          entry = variant.Live (Class row tt);
-          records = arc_value class ∷ [];
-        } }
-    {
-        let mut records = room.into_records();
-        records.push(class).unwrap();
-        CarriedEntry {
-            entry: Entry::Live(Row::Class(row, ())),
-            records,
+            moved: Vec::new(alloc),
         }
     }
 
     /// A class's row, which writes its record.
-    pub fn class(
-        alloc: Global,
-        row: ClassRow,
-        class: Arc<Record, Global>,
-    ) -> Result<CarriedEntry, AllocError>
+    pub fn class(alloc: Global, row: ClassRow, class: Arc<Record, Global>) -> CarriedEntry
         requires right { IsRightRecord (arc_value class) }
-        ensures { IfOk result (λ c. c ≡ record {
-          entry = variant.Live (Class row tt);
-          records = arc_value class ∷ [];
-        }) }
+        ensures { result
+            ≡ record { entry = variant.Live (Class row (arc_value class)); moved = [] } }
     {
-        let room = RecordRoom::new(alloc)?;
-        Ok(CarriedEntry::class_in(room, row, class))
+        CarriedEntry {
+            entry: Entry::Live(Row::Class(row, class)),
+            moved: Vec::new(alloc),
+        }
     }
 
     /// That a loader is unloaded, which writes no record.
     pub fn unload(alloc: Global, entry: Unload) -> CarriedEntry
-        ensures { result ≡ record { entry = variant.Unload entry; records = [] } }
+        ensures { result ≡ record { entry = variant.Unload entry; moved = [] } }
     {
         CarriedEntry {
             entry: Entry::Unload(entry),
-            records: Vec::new(alloc),
+            moved: Vec::new(alloc),
         }
     }
 
     /// That a loader's last chunk moves, with the records that lie on it.
-    pub fn relocation(entry: Move, records: Vec<Arc<Record, Global>>) -> CarriedEntry
-        requires right { AllByRecursion IsRightRecord (map arc_value records.items) }
-        ensures { result ≡ record {
-          entry = variant.Move entry;
-          records = map arc_value records.items;
-        } }
+    pub fn relocation(entry: Move, moved: Vec<Arc<Record, Global>>) -> CarriedEntry
+        requires right { AllByRecursion IsRightRecord (map arc_value moved.items) }
+        ensures { result
+            ≡ record { entry = variant.Move entry; moved = map arc_value moved.items } }
     {
         CarriedEntry {
             entry: Entry::Move(entry),
-            records,
+            moved,
         }
     }
 
-    /// The entry.
-    pub fn entry(&self) -> &Entry<()>
-        ensures { result.now ≡ self.now.entry }
+    /// The entry as the journal has it, with nothing kept of a class.
+    pub fn bare(&self) -> Entry<()>
+        ensures { result ≡ bare_entry self.now.entry }
     {
-        &self.entry
+        self.entry.bare()
+    }
+
+    /// The class that it makes, with its record, if it makes one.
+    pub fn class_made(&self) -> Option<(&ClassRow, &Arc<Record, Global>)>
+        ensures class { MatchOption result (class_made self.now.entry ≡ None)
+            (λ d. class_made self.now.entry ≡ Some (d.0.now, arc_value d.1.now)) }
+        ensures right { CarriesRight self.now }
+    {
+        match &self.entry {
+            Entry::Live(Row::Class(row, class)) => Some((row, class)),
+            Entry::Live(Row::Loader(_)) | Entry::Unload(_) | Entry::Move(_) => None,
+        }
+    }
+
+    /// The records that move with it, in order: none but beside a move.
+    pub fn moved(&self) -> &[Arc<Record, Global>]
+        ensures { map arc_value result.now ≡ self.now.moved }
+    {
+        &self.moved
     }
 
     /// How many slots it takes in its group.
     pub(crate) fn slots(&self) -> usize
-        ensures value { result ≡ slots_of self.now.entry }
+        ensures value { result ≡ slots_of (bare_entry self.now.entry) }
         ensures right { CarriesRight self.now }
     {
-        self.entry.slots()
+        self.entry.bare().slots()
     }
 
-    /// The entry, and the records that it writes.
-    pub fn into_parts(self) -> (Entry<()>, Vec<Arc<Record, Global>>)
-        ensures entry { result.0 ≡ self.entry }
-        ensures records { map arc_value result.1.items ≡ self.records }
+    /// The entry, a class with its record.
+    pub fn into_entry(self) -> Entry<Arc<Record, Global>>
+        ensures { entry_with arc_value result ≡ self.entry }
     {
-        let CarriedEntry { entry, records } = self;
-        (entry, records)
-    }
-
-    /// The records that it writes, in order.
-    pub fn records(&self) -> &[Arc<Record, Global>]
-        ensures records { map arc_value result.now ≡ self.now.records }
-        ensures right { AllByRecursion IsRightRecord self.now.records }
-    {
-        &self.records
+        let CarriedEntry { entry, .. } = self;
+        entry
     }
 }

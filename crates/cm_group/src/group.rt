@@ -7,11 +7,9 @@ ghost use Rattle.cm_group.specs.Groups.{next_number};
 
 use crate::carried::CarriedEntry;
 use crate::room::GroupRoom;
+use cm_layout::GROUP_SLOTS;
 use std::alloc::{AllocError, Global};
 use std::marker::Model;
-
-/// How many slots a group's entries may take.
-pub const GROUP_SLOTS: usize = 64;
 
 /// Entries of one to 64 slots with numbers one behind another, each with the records that it
 /// writes: what the accepted cache hands to its disk at once. It has room for 64 entries from the

@@ -7,6 +7,6 @@ mod receipt;
 mod room;
 
 pub use carried::CarriedEntry;
-pub use group::{GROUP_SLOTS, Group};
+pub use group::Group;
 pub use receipt::Receipt;
-pub use room::{GroupRoom, RecordRoom};
+pub use room::GroupRoom;

@@ -1,15 +1,13 @@
 -- Chunks of rows that keep the rules share no word, but for the records of one loader on one chunk.
 -- For `live_rows_go_on` and others.
-use Rattle.std.proofs.Common.{◌≡◌, ℕ, ◌+◌, ◌^◌, ◌<◌, ◌⊎◌, Bool, true, false, cond, List, [], ◌∷◌}
-use Rattle.std.proofs.Common.{◌++◌, length, map, Option, Some, None, inl, inr, refl, sym, ap, subst}
-use Rattle.std.proofs.Common.{◌∙◌, arith, append_assoc, append-nil, eqb}
-use Rattle.std.specs.Prelude.{not, ◌&&◌, ◌||◌, nat_le}
-use Rattle.std.specs.List.{list_any, flat_map}
-use Rattle.std.specs.Option.{option_map_or}
-use Rattle.std.proofs.lemmas.Bool.{eqb-true, lt-ltb, eq-eqb, and_parts, or_cases}
-use Rattle.std.proofs.lemmas.Nat.{pow_pos}
+use Rattle.std.proofs.Common.{◌≡◌, ℕ, ◌+◌, ◌⊎◌, Bool, true, false, cond, List, [], ◌∷◌}
+use Rattle.std.proofs.Common.{◌++◌, length, map, Some, None, inl, inr, refl, sym, ap, subst}
+use Rattle.std.proofs.Common.{◌∙◌, append_assoc, append-nil, eqb}
+use Rattle.std.specs.Prelude.{not, ◌&&◌, nat_le}
+use Rattle.std.specs.List.{flat_map}
+use Rattle.std.proofs.lemmas.Bool.{and_parts, or_cases}
 use Rattle.cm_pool.specs.declared.chunk.Chunk.{Chunk}
-use Rattle.cm_pool.specs.Chunks.{chunk_size, same_chunk, Meets, Covers}
+use Rattle.cm_pool.specs.Chunks.{chunk_size, same_chunk, Meets}
 use Rattle.cm_pool.specs.Geometry.{Sizes}
 use Rattle.cm_pool.specs.Lists.{Among}
 use Rattle.cm_pool.proofs.{same_chunk-true, meets-turned, meets-itself, among-push}
@@ -18,16 +16,16 @@ use Rattle.cm_layout.specs.declared.row.Row.TheVariants.{Loader, Class}
 use Rattle.cm_layout.specs.declared.entry.Entry.TheVariants as entry
 use Rattle.cm_layout.specs.declared.entry_rule.EntryRule.{EntryRule}
 use Rattle.cm_layout.specs.declared.entry_rule.EntryRule.TheVariants.{OnChunks}
-use Rattle.cm_layout.specs.Rows.{classes_in, used_words, last_chunk, without_loader, moved}
+use Rattle.cm_layout.specs.Rows.{classes_in, used_words, without_loader, moved}
 use Rattle.cm_layout.specs.Rows.{rows_after, rows_after_all}
-use Rattle.cm_layout.specs.Rules.{is_chunk, meets, is_unused, is_last_chunk, has_place, class_fits}
+use Rattle.cm_layout.specs.Rules.{is_chunk, is_unused, is_last_chunk, has_place, class_fits}
 use Rattle.cm_layout.specs.Rules.{move_fits, broken_of, broken_rule, broken_live_rule, is_live}
 use Rattle.cm_layout.specs.Rules.{has_room}
 use Rattle.cm_layout.specs.Frames.{BareRow, BareEntry, AreApart, LiveRowsKeep, EntriesKeep}
 use Rattle.cm_layout.specs.Frames.{GroupsKeep}
 use Rattle.cm_layout.specs.Laws.{RowsAreApart}
-use Rattle.cm_layout.proofs.ClassPlaces.{meets-true, classes_in-append, is_unused-apart}
-use Rattle.cm_layout.proofs.ClassPlaces.{last_chunk-among, is_last_chunk-among}
+use Rattle.cm_layout.proofs.ClassPlaces.{classes_in-append, is_unused-apart}
+use Rattle.cm_layout.proofs.ClassPlaces.{is_last_chunk-among}
 
 -- ---- chunks
 

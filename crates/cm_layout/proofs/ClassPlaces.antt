@@ -1,6 +1,6 @@
 -- Where classes lie: what the tests on chunks, on last chunks and on words in use say.
 -- For `live_rows_go_on`, `loaders_are_own`, `rows_stay_live` and others.
-use Rattle.std.proofs.Common.{◌≡◌, ℕ, ◌+◌, ◌<◌, ◌≤◌, ◌⊎◌, Bool, true, false, cond, List, [], ◌∷◌}
+use Rattle.std.proofs.Common.{◌≡◌, ℕ, ◌+◌, ◌≤◌, Bool, true, false, cond, List, [], ◌∷◌}
 use Rattle.std.proofs.Common.{◌++◌, map, Option, Some, None, inl, inr, refl, sym, ap, subst, ◌∙◌}
 use Rattle.std.proofs.Common.{arith, eqb}
 use Rattle.std.specs.Prelude.{not, ◌&&◌, ◌||◌, filter, sum, nat_lt, max, min}

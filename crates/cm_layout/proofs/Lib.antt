@@ -27,6 +27,8 @@ pub use Matched.{matches_frame}
 -- Rows with nothing kept of a class have the same loaders, numbers, chunks and rules.
 pub use BareRows.{bare-with, number-bare, name-bare, numbers-bare, classes-bare, slots-bare}
 pub use BareRows.{differ-bare, more-bare, after-bare, rule-bare}
+-- How many slots rows take: one each, whatever is kept of their classes.
+pub use BareRows.{slots-length, slots_of-with}
 -- Where classes lie: what the tests on chunks, on last chunks and on words in use say.
-pub use ClassPlaces.{meets-true, meets-from, classes_in-append, used-append, is_unused-apart}
+pub use ClassPlaces.{meets-true, classes_in-append, used-append, is_unused-apart}
 pub use ClassPlaces.{apart-unused, last_chunk-among, is_last_chunk-among, begins_behind}

@@ -38,7 +38,6 @@ use Rattle.cm_layout.proofs.Apart.{live_rows-apart, rows_after_all-append}
 use Rattle.cm_layout.proofs.ClassPlaces.{meets-true, classes_in-append, is_last_chunk-among}
 use Rattle.cm_layout.proofs.ClassPlaces.{used-append, begins_behind}
 use Rattle.cm_layout.specs.declared.row.Row.{Row}
-use Rattle.std.proofs.lemmas.List.Sums.{sum_by-append}
 use Rattle.std.proofs.lemmas.List.{map-append, length-append}
 
 -- ---- tests

@@ -2,9 +2,13 @@
 use Rattle.std.specs.Prelude.{ℕ, Bool, ◌&&◌, nat_le, List, length}
 use Rattle.std.specs.List.{list_all}
 
--- the most bytes that a loader's name has, which a slot has room for
+-- the most bytes that a loader's name has
 abbrev pub name_limit : ℕ
 name_limit = 48
+
+-- how many bytes of a name a slot has room for
+abbrev pub name_room : ℕ
+name_room = 48
 
 -- a byte from 21 to 7E, in hexadecimal: a visible character of ASCII
 abbrev pub is_visible : ℕ → Bool

@@ -30,6 +30,10 @@ row_limit sizes = sizes.slots / 2
 abbrev pub has_room : {P : Type 0} → Sizes → List (Row P) → Row P → Bool
 has_room sizes rows row = nat_le (slots_of_rows rows + slots_of_row row) (row_limit sizes)
 
+-- beside rows that take so many slots there is no room for what needs so many more
+abbrev pub is_too_much : Sizes → ℕ → ℕ → Bool
+is_too_much sizes taken need = nat_lt (row_limit sizes) (taken + need)
+
 abbrev pub is_live : {P : Type 0} → ℕ → List (Row P) → Bool
 is_live u rows = is_some (name_of u rows)
 

@@ -14,7 +14,7 @@ use Rattle.cm_layout.specs.declared.row.Row.{Row}
 use Rattle.cm_layout.specs.declared.row.Row.TheVariants.{Loader, Class}
 use Rattle.cm_layout.specs.declared.entry.Entry.{Entry}
 use Rattle.cm_layout.specs.declared.entry.Entry.TheVariants as entry
-use Rattle.cm_layout.specs.Names.{name_limit}
+use Rattle.cm_layout.specs.Names.{name_room}
 use Rattle.cm_layout.specs.Zeros.{zeros}
 
 -- the gate byte of a head that is open
@@ -46,7 +46,7 @@ group_head_slot h = open_gate ∷ group_head_rest h
 abbrev pub loader_slot : LoaderRow → List ℕ
 loader_slot r =
     (0 ∷ 17 ∷ length r.name ∷ zeros 5) ++ to_le_bytes w64 r.number
-    ++ (r.name ++ zeros (name_limit - length r.name))
+    ++ (r.name ++ zeros (name_room - length r.name))
 
 -- a chunk: root, order and place
 abbrev pub chunk_bytes : Chunk → List ℕ
@@ -81,7 +81,7 @@ entry_slot (entry.Live r) = row_slot r
 entry_slot (entry.Unload e) = unload_slot e
 entry_slot (entry.Move e) = move_slot e
 
--- ---- what has an encoding: each number fits its field, and a name its 48 bytes
+-- ---- what has an encoding: each number fits its field, and a name its slot
 
 pub record FitsHalfHead (h : HalfHead) : Type 0 where
   pub version : h.version < 2 ^ 16
@@ -100,7 +100,7 @@ pub record FitsChunk (c : Chunk) : Type 0 where
 
 pub record FitsLoader (r : LoaderRow) : Type 0 where
   pub number : r.number < 2 ^ 64
-  pub name : length r.name ≤ name_limit
+  pub name : length r.name ≤ name_room
 
 pub record FitsClass (r : ClassRow) : Type 0 where
   pub words : r.place.words < 2 ^ 32

@@ -9,6 +9,9 @@ use crate::row::Row;
 use crate::slot::SLOT_BYTES;
 use crate::unload::Unload;
 
+/// How many slots a group's entries may take.
+pub const GROUP_SLOTS: usize = 64;
+
 /// What one command leaves in the journal.
 #[derive(Debug, Drop)]
 pub enum Entry<P> {
@@ -21,6 +24,18 @@ pub enum Entry<P> {
 impl<P> Entry<P> {
     ghost use Rattle.cm_layout.specs.Slots.{entry_slot};
     ghost use Rattle.cm_layout.specs.Rows.{slots_of};
+    ghost use Rattle.cm_layout.specs.Frames.{bare_entry};
+
+    /// The entry with nothing kept of a class.
+    pub fn bare(&self) -> Entry<()>
+        ensures { result ≡ bare_entry self.now }
+    {
+        match self {
+            Entry::Live(row) => Entry::Live(row.bare()),
+            Entry::Unload(entry) => Entry::Unload(*entry),
+            Entry::Move(entry) => Entry::Move(*entry),
+        }
+    }
 
     /// How many slots it takes in its group.
     pub fn slots(&self) -> usize
@@ -36,8 +51,7 @@ impl<P> Entry<P> {
         ensures { result ≡ entry_slot self.now }
     {
         match self {
-            Entry::Live(Row::Loader(row)) => row.encode(),
-            Entry::Live(Row::Class(row, _)) => row.encode(),
+            Entry::Live(row) => row.encode(),
             Entry::Unload(entry) => entry.encode(),
             Entry::Move(entry) => entry.encode(),
         }

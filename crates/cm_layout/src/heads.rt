@@ -20,6 +20,12 @@ const COUNT_AT: usize = 2;
 
 const FIRST_AT: usize = 8;
 
+/// The one version of entries that there is.
+pub const ENTRY_VERSION: u16 = 1;
+
+/// The last number that a command may have.
+pub const LAST_NUMBER: u64 = 1 << 63;
+
 /// The head of a half of the journal, its slot 0.
 #[derive(Clone, Copy, Debug, PartialEq, Eq)]
 pub struct HalfHead {

@@ -19,17 +19,19 @@ mod superblock;
 mod unload;
 
 pub use class_row::ClassRow;
-pub use entry::Entry;
+pub use entry::{Entry, GROUP_SLOTS};
 pub use entry_rule::EntryRule;
 pub use half::Half;
-pub use heads::{GroupHead, HalfHead};
+pub use heads::{ENTRY_VERSION, GroupHead, HalfHead, LAST_NUMBER};
 pub use laws::{
     agreement_frames, contents_determine_rows, frames_are_matched, live_rows_go_on,
     loaders_are_own, rows_are_apart, rows_stay_live, slot_determines_entry, slot_determines_head,
 };
 pub use loader_row::LoaderRow;
-pub use name::{NAME_BYTES, SlotName, is_loader_name};
-pub use offsets::{half_at, record_at, root_at, root_bytes, roots_at, slot_at};
+pub use name::{NAME_LIMIT, NAME_ROOM, SlotName, is_loader_name};
+pub use offsets::{
+    half_at, half_bytes, record_at, root_at, root_bytes, roots_at, row_limit, slot_at,
+};
 pub use relocation::Move;
 pub use row::Row;
 pub use slot::{OPEN_GATE, SLOT_BYTES, SUPERBLOCK_BYTES};

@@ -3,7 +3,7 @@
 ghost use Rattle.std.specs.Prelude.{◌≡◌, ◌≤◌, length, IfSome, Some};
 
 use crate::kind;
-use crate::name::{NAME_BYTES, SlotName};
+use crate::name::{NAME_ROOM, SlotName};
 use crate::slot::{KIND_AT, SLOT_BYTES, is_same_slot};
 use byteorder::{ByteOrder, LittleEndian};
 
@@ -56,7 +56,7 @@ impl LoaderRow {
         ensures { (row : _) → FitsLoader row → slot.now ≡ loader_slot row → result ≡ Some row }
     {
         let len = usize::from(slot[LENGTH_AT]);
-        if len > NAME_BYTES {
+        if len > NAME_ROOM {
             return None;
         }
         Some(LoaderRow {

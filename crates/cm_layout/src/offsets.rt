@@ -4,13 +4,14 @@ ghost use Rattle.std.specs.Prelude.{◌≡◌};
 ghost use Rattle.cm_layout.specs.Offsets.{half_at as half_at_of, slot_at as slot_at_of};
 ghost use Rattle.cm_layout.specs.Offsets.{half_size, roots_at as roots_at_of, root_size};
 ghost use Rattle.cm_layout.specs.Offsets.{root_at as root_at_of, record_at as record_at_of};
+ghost use Rattle.cm_layout.specs.Rules.{row_limit as row_limit_of};
 
 use crate::half::Half;
 use crate::slot::{SLOT_BYTES, SUPERBLOCK_BYTES};
 use cm_pool::{Geometry, Place};
 
 /// How many bytes a half of the journal has.
-fn half_bytes(geometry: Geometry) -> u64
+pub fn half_bytes(geometry: Geometry) -> u64
     ensures { result ≡ half_size geometry }
 {
     SLOT_BYTES as u64 * u64::from(geometry.slots())
@@ -31,6 +32,13 @@ pub fn slot_at(geometry: Geometry, half: Half, slot: u32) -> u64
     ensures { result ≡ slot_at_of geometry half slot }
 {
     half_at(geometry, half) + SLOT_BYTES as u64 * u64::from(slot)
+}
+
+/// How many slots live rows may take: half of a half's.
+pub fn row_limit(geometry: Geometry) -> usize
+    ensures { result ≡ row_limit_of geometry }
+{
+    geometry.slots() as usize / 2
 }
 
 /// Where the roots begin, in bytes.

@@ -1,7 +1,10 @@
 //! Rows: what lives in a cache, each with what is kept of it.
 
+ghost use Rattle.std.specs.Prelude.{◌≡◌};
+
 use crate::class_row::ClassRow;
 use crate::loader_row::LoaderRow;
+use crate::slot::SLOT_BYTES;
 
 /// What lives: a loader, or a class with what is kept of it (nothing, its record's words, its
 /// class).
@@ -9,4 +12,29 @@ use crate::loader_row::LoaderRow;
 pub enum Row<P> {
     Loader(LoaderRow),
     Class(ClassRow, P),
+}
+
+impl<P> Row<P> {
+    ghost use Rattle.cm_layout.specs.Slots.{row_slot};
+    ghost use Rattle.cm_layout.specs.Frames.{bare_row};
+
+    /// The row with nothing kept of a class.
+    pub fn bare(&self) -> Row<()>
+        ensures { result ≡ bare_row self.now }
+    {
+        match self {
+            Row::Loader(row) => Row::Loader(*row),
+            Row::Class(row, _) => Row::Class(*row, ()),
+        }
+    }
+
+    /// The slot of this row. What is kept of a class beside its place has no part in it.
+    pub fn encode(&self) -> [u8; SLOT_BYTES]
+        ensures { result ≡ row_slot self.now }
+    {
+        match self {
+            Row::Loader(row) => row.encode(),
+            Row::Class(row, _) => row.encode(),
+        }
+    }
 }

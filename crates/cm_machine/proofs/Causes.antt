@@ -1,9 +1,9 @@
 -- The cause against a change is the same by classes and by the words of their records.
 -- For `commands_follow_the_machine`.
-use Rattle.std.proofs.Common.{◌≡◌, ℕ, ◌+◌, Bool, true, false, cond, List, [], ◌∷◌, length}
+use Rattle.std.proofs.Common.{◌≡◌, ℕ, Bool, true, false, cond, List, [], ◌∷◌, length}
 use Rattle.std.proofs.Common.{Option, Some, None, Result, Ok, Err, refl, sym, ap}
 use Rattle.std.proofs.Common.{◌∙◌, is_some, eqb}
-use Rattle.std.specs.Prelude.{not, nat_lt, nat_le}
+use Rattle.std.specs.Prelude.{not, nat_lt}
 use Rattle.std.specs.Option.{option_map, option_and_then}
 use Rattle.std.specs.FinMap.{get}
 use Rattle.cm_class.specs.declared.class_file.ClassFile.{ClassFile}
@@ -13,9 +13,9 @@ use Rattle.cm_pool.specs.Geometry.{Sizes}
 use Rattle.cm_record.specs.Layout.{lay}
 use Rattle.cm_record.specs.Names.{class_name_in}
 use Rattle.cm_layout.specs.Names.{is_loader_name}
-use Rattle.cm_layout.specs.declared.row.Row.TheVariants.{Loader, Class}
-use Rattle.cm_layout.specs.Rows.{number_of, rows_with, slots_of_rows}
-use Rattle.cm_layout.specs.Rules.{row_limit}
+use Rattle.cm_layout.specs.Rows.{number_of, rows_with}
+use Rattle.cm_layout.specs.Rules.{is_too_much}
+use Rattle.cm_layout.proofs.{slots_of-with}
 use Rattle.cm_state.specs.State.{class_shows, words_show, class_in, class_among, state_of}
 use Rattle.cm_state.specs.Step.{Change, AddLoader, Define, Unload, Tighten, Cause, step, is_full}
 use Rattle.cm_state.specs.Step.{BadName, NumbersSpent, LoaderExists, NoLoader, ClassExists}
@@ -116,18 +116,13 @@ same_class known rows x name right =
     by_number None = refl
     by_number (Some u) = among_words known.tell u name rows right
 
-slots_words : (rows : ClassRows) → slots_of_rows (rows_with lay rows) ≡ slots_of_rows rows
-slots_words [] = refl
-slots_words (Loader r ∷ rows) = ap (λ (n : ℕ). 1 + n) (slots_words rows)
-slots_words (Class r c ∷ rows) = ap (λ (n : ℕ). 1 + n) (slots_words rows)
-
 same_full : Known → (sizes : Sizes) (n : ℕ) (rows : ClassRows) → Both sizes n rows
-    → is_full sizes (state_of words_show (rows_with lay rows))
-    ≡ is_full sizes (state_of class_shows rows)
+    → is_full sizes (state_of words_show (rows_with lay rows)) 1
+    ≡ is_full sizes (state_of class_shows rows) 1
 same_full known sizes n rows both =
-    ap (nat_le (row_limit sizes))
+    ap (λ k. is_too_much sizes k 1)
     (known.word_sizes words_show sizes n (rows_with lay rows) both.words
-    ∙ (slots_words rows ∙ sym (known.sizes class_shows sizes n rows both.cache)))
+    ∙ (slots_of-with lay rows ∙ sym (known.sizes class_shows sizes n rows both.cache)))
 
 -- ---- one cause
 
@@ -138,16 +133,16 @@ pub same_cause : Known → (sizes : Sizes) (n : ℕ) (rows : ClassRows) (asked :
 same_cause known sizes n rows (AddLoader x) change both asks =
     add_cause _ (is_loader_name x) (eqb n last_number)
     (is_some (get (state_of words_show (rows_with lay rows)) x))
-    (is_full sizes (state_of words_show (rows_with lay rows)))
+    (is_full sizes (state_of words_show (rows_with lay rows)) 1)
     ∙ (ap (λ t. first_of ((not (is_loader_name x), BadName) ∷ (eqb n last_number, NumbersSpent)
     ∷ (t, LoaderExists)
-    ∷ (is_full sizes (state_of words_show (rows_with lay rows)), JournalFull) ∷ []))
+    ∷ (is_full sizes (state_of words_show (rows_with lay rows)) 1, JournalFull) ∷ []))
     (same_loader known rows x)
     ∙ (ap (λ t. first_of ((not (is_loader_name x), BadName) ∷ (eqb n last_number, NumbersSpent)
     ∷ (is_some (get (state_of class_shows rows) x), LoaderExists) ∷ (t, JournalFull) ∷ []))
     (same_full known sizes n rows both)
     ∙ (sym (add_cause _ (is_loader_name x) (eqb n last_number)
-    (is_some (get (state_of class_shows rows) x)) (is_full sizes (state_of class_shows rows)))
+    (is_some (get (state_of class_shows rows) x)) (is_full sizes (state_of class_shows rows) 1))
     ∙ ap (λ c. cause_in (step class_shows sizes (state_of class_shows rows) n c)) (sym asks))))
 same_cause known sizes n rows (Define x words) change both (c, right, laid, is) =
     ap (λ w. cause_in (step words_show sizes (state_of words_show (rows_with lay rows)) n (Define x
@@ -157,19 +152,19 @@ same_cause known sizes n rows (Define x words) change both (c, right, laid, is) 
     (is_some (get (state_of words_show (rows_with lay rows)) x))
     (is_some (class_in (state_of words_show (rows_with lay rows)) x (class_name_in (lay c))))
     (nat_lt (chunk_size sizes.top) (length (lay c)))
-    (is_full sizes (state_of words_show (rows_with lay rows)))
+    (is_full sizes (state_of words_show (rows_with lay rows)) 1)
     ∙ (ap (λ t. tests t
     (is_some (class_in (state_of words_show (rows_with lay rows)) x (class_name_in (lay c))))
-    (is_full sizes (state_of words_show (rows_with lay rows)))) (same_loader known rows x)
+    (is_full sizes (state_of words_show (rows_with lay rows)) 1)) (same_loader known rows x)
     ∙ (ap (λ t. tests (is_some (get (state_of class_shows rows) x)) t
-    (is_full sizes (state_of words_show (rows_with lay rows)))) same_has
+    (is_full sizes (state_of words_show (rows_with lay rows)) 1)) same_has
     ∙ (ap (λ t. tests (is_some (get (state_of class_shows rows) x))
     (is_some (class_in (state_of class_shows rows) x (class_name_of c))) t)
     (same_full known sizes n rows both)
     ∙ (sym (define_cause _ (is_loader_name x) (eqb n last_number)
     (is_some (get (state_of class_shows rows) x))
     (is_some (class_in (state_of class_shows rows) x (class_name_of c)))
-    (nat_lt (chunk_size sizes.top) (length (lay c))) (is_full sizes (state_of class_shows rows)))
+    (nat_lt (chunk_size sizes.top) (length (lay c))) (is_full sizes (state_of class_shows rows) 1))
     ∙ ap (λ d. cause_in (step class_shows sizes (state_of class_shows rows) n d)) (sym is))))))
   where
     tests : Bool → Bool → Bool → Option Cause

@@ -12,5 +12,5 @@ mod Fronts
 -- Rows with classes, and the same rows with the words of their records.
 pub use Classes.{bare_words}
 -- The rows after two runs of entries, and an entry that was accepted.
-pub use Following.{rows_after_two}
+pub use Following.{rows_after_two, follow_two}
 pub use Accepted.{filled_again}

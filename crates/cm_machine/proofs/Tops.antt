@@ -20,18 +20,19 @@ use Rattle.cm_pool.specs.Lists.{Among}
 use Rattle.cm_pool.proofs.{same_chunk-true, same_chunk-itself, meets-itself}
 use Rattle.cm_layout.specs.declared.class_row.ClassRow.{ClassRow}
 use Rattle.cm_layout.specs.declared.row.Row.TheVariants.{Loader, Class}
+use Rattle.cm_layout.specs.declared.entry.Entry.{Entry}
 use Rattle.cm_layout.specs.declared.entry.Entry.TheVariants as entry
 use Rattle.cm_layout.specs.Rows.{classes_in, last_chunk, used_words, rows_after, without_loader}
 use Rattle.cm_layout.specs.Rules.{is_unused, is_last_chunk, has_place, class_fits, is_chunk}
 use Rattle.cm_layout.specs.Rules.{broken_of}
 use Rattle.cm_layout.specs.Rules.{is_live, has_room}
-use Rattle.cm_layout.specs.Frames.{AreApart, BareEntry}
+use Rattle.cm_layout.specs.Frames.{AreApart}
 use Rattle.cm_layout.proofs.{begins_behind, classes_in-append}
 use Rattle.cm_group.specs.Groups.{Carried}
 use Rattle.cm_state.specs.State.{words_show}
 use Rattle.cm_state.specs.Entries.{AreCacheRows, MayFollow}
 use Rattle.cm_state.specs.Laws.{EntriesAreSteps}
-use Rattle.cm_commit.specs.Offers.{filled, own_record, HasRecords, writes_apart, rows_after_group}
+use Rattle.cm_commit.specs.Offers.{filled, HasOwn, writes_apart, rows_after_group}
 use Rattle.cm_front.proofs.{classes_left}
 use Rattle.cm_machine.specs.Ahead.{AllFollow, AtEach, AllApart}
 use Rattle.cm_machine.proofs.Following.{WordRows}
@@ -356,25 +357,21 @@ rule_place sizes rows r h =
     && nat_le (r.place.offset + r.place.words) (chunk_size r.place.chunk.order)) (has_place rows r)
     h).1
 
-abbrev entry_of : BareEntry → List (List ℕ) → Carried
-entry_of e records = record { entry = e; records = records }
-
-grown_entry : (sizes : Sizes) (n : ℕ) (old now : WordRows) (e : BareEntry) (records : List (List ℕ))
-    → IsGrown old now → AreCacheRows words_show sizes n now
-    → MayFollow words_show sizes n now (filled (entry_of e records)) → HasRecords e records
-    → writes_apart old e ≡ true → IsGrown old (rows_after now (filled (entry_of e records)))
-grown_entry sizes n old now (entry.Live (Loader r)) records g are may has apart =
+grown_entry : (sizes : Sizes) (n : ℕ) (old now : WordRows) (e : Entry (List ℕ)) → IsGrown old now
+    → AreCacheRows words_show sizes n now → MayFollow words_show sizes n now e → HasOwn e
+    → writes_apart old e ≡ true → IsGrown old (rows_after now e)
+grown_entry sizes n old now (entry.Live (Loader r)) g are may has apart =
     by_classes old now (now ++ Loader r ∷ [])
     (classes_in-append now (Loader r ∷ []) ∙ append-nil (classes_in now)) g
-grown_entry sizes n old now (entry.Live (Class r p)) records g are may has apart =
-    grown_class old now r (own_record records) g
+grown_entry sizes n old now (entry.Live (Class r words)) g are may has apart =
+    grown_class old now r words g
     (rule_place sizes now r
-    (kept (is_live r.loader now && has_room sizes now (Class r (own_record records)))
+    (kept (is_live r.loader now && has_room sizes now (Class r words))
     (class_fits sizes now r) may.keeps))
     (may_go old r apart)
-grown_entry sizes n old now (entry.Unload e) records g are may has apart =
+grown_entry sizes n old now (entry.Unload e) g are may has apart =
     grown_unload old now e.loader g are.apart
-grown_entry sizes n old now (entry.Move e) records g are may has apart = absurd has
+grown_entry sizes n old now (entry.Move e) g are may has apart = absurd has
 
 -- from rows on, after entries that are apart from the old ones
 pub grown_all : EntriesAreSteps (List ℕ) → (sizes : Sizes) (n : ℕ) (old now : WordRows)
@@ -385,7 +382,7 @@ pub grown_all : EntriesAreSteps (List ℕ) → (sizes : Sizes) (n : ℕ) (old no
 grown_all steps sizes n old now [] g are follow apart to = g
 grown_all steps sizes n old now (c ∷ a) g are follow apart to =
     grown_all steps sizes (n + 1) old (rows_after now (filled c)) a
-    (grown_entry sizes n old now c.entry c.records g are follow.0 follow.1 apart.0)
+    (grown_entry sizes n old now c.entry g are follow.0 follow.1.0 apart.0)
     (steps words_show sizes n now (filled c) are follow.0 (omega (arith, to))).rows_are follow.2
     apart.1 (omega (arith, to))
 

@@ -22,10 +22,11 @@ IsBad bytes (Trailing at) = IsTrailing bytes at
 IsBad bytes (Malformed at) = IsMalformed bytes at
 IsBad bytes (Rule broken) = IsBroken bytes broken
 
--- what may keep a class from having a record
+-- What may keep a class from having a record: exactly where that would be too long it is this, and
+-- never that an allocation failed.
 abbrev pub IsUnbuilt : ClassFile → Refusal → Type 0
 IsUnbuilt class refusal.RecordTooLong = limit < length (lay class)
-IsUnbuilt class refusal.NoMemory = Unit {0}
+IsUnbuilt class refusal.NoMemory = ¬ (limit < length (lay class))
 IsUnbuilt class _ = ⊥
 
 -- that an allocation failed is told only of bytes that spell a class

@@ -1,4 +1,4 @@
--- Rows: their classes and loaders after each change, and how many slots they take.
+-- Rows: their classes and loaders after each change.
 -- For `Book::relocate`.
 use Rattle.std.proofs.Common.{◌≡◌, ℕ, ◌≤◌, Bool, true, false, cond, eqb, List, [], ◌∷◌, ◌++◌, map}
 use Rattle.std.proofs.Common.{length, Some, is_some, inl, inr, refl, sym, ap, arith}
@@ -11,16 +11,12 @@ use Rattle.cm_layout.specs.declared.class_row.ClassRow.{ClassRow}
 use Rattle.cm_layout.specs.declared.loader_row.LoaderRow.{LoaderRow}
 use Rattle.cm_layout.specs.declared.row.Row.{Row}
 use Rattle.cm_layout.specs.declared.row.Row.TheVariants.{Loader, Class}
-use Rattle.cm_layout.specs.Rows.{classes_in, numbers_in, name_of, slots_of_rows, is_of}
+use Rattle.cm_layout.specs.Rows.{classes_in, numbers_in, name_of, is_of}
 use Rattle.cm_layout.specs.Rows.{without_loader, moved, bare}
 use Rattle.cm_layout.specs.Rules.{is_live}
 use Rattle.cm_rows.proofs.Classes.{moved_class}
 
 module _ {P : Type 0} where
-  pub slots-length : (rows : List (Row P)) → slots_of_rows rows ≡ length rows
-  slots-length [] = refl
-  slots-length (row ∷ rows) = omega (arith, slots-length rows)
-
   pub classes-push_class : (rows : List (Row P)) (r : ClassRow) (k : P)
       → classes_in (rows ++ Class r k ∷ []) ≡ classes_in rows ++ r ∷ []
   classes-push_class [] r k = refl

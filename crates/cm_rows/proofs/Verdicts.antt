@@ -1,6 +1,7 @@
 -- What the tests of the rules say of a book's rows.
 -- For `Book::add_loader`, `Book::define`, `Book::is_live` and others.
-use Rattle.std.proofs.Common.{◌≡◌, ℕ, ◌+◌, ◌%◌, ◌<◌, ◌≤◌, ◌↔◌, Bool, true, false, cond, eqb, List}
+use Rattle.std.proofs.Common.{◌≡◌, ℕ, ◌+◌, ◌-◌, ◌%◌, ◌<◌, ◌≤◌, ◌↔◌, Bool, true, false, cond}
+use Rattle.std.proofs.Common.{eqb, List}
 use Rattle.std.proofs.Common.{[], ◌∷◌, length, get_or, Option, Some, None, inl, inr, refl, sym, ◌∙◌}
 use Rattle.std.proofs.Common.{ap, subst, arith}
 use Rattle.std.specs.Prelude.{not, ◌==◌, ◌^◌, ◌&&◌, ◌||◌, nat_le, nat_lt, max, min, is_none}
@@ -22,9 +23,10 @@ use Rattle.cm_layout.specs.declared.row.Row.{Row}
 use Rattle.cm_layout.specs.declared.row.Row.TheVariants.{Loader}
 use Rattle.cm_layout.specs.Names.{is_loader_name}
 use Rattle.cm_layout.specs.Rows.{classes_in, numbers_in, chunks_in, number_of, used_words}
-use Rattle.cm_layout.specs.Rows.{last_chunk}
+use Rattle.cm_layout.specs.Rows.{last_chunk, slots_of_rows}
 use Rattle.cm_layout.specs.Rules.{is_chunk, meets, is_unused, is_last_chunk, has_place, move_fits}
-use Rattle.cm_layout.specs.Rules.{has_room, row_limit, broken_of, is_live, is_new_loader}
+use Rattle.cm_layout.specs.Rules.{has_room, is_too_much, row_limit, broken_of, is_live}
+use Rattle.cm_layout.specs.Rules.{is_new_loader}
 use Rattle.cm_layout.specs.declared.entry_rule.EntryRule.TheVariants.{OnRows, OnChunks}
 use Rattle.cm_layout.proofs.{meets-true}
 use Rattle.cm_rows.specs.declared.live_loader.LastChunk.{LastChunk}
@@ -37,7 +39,8 @@ use Rattle.cm_rows.specs.Placing.{is_inside}
 use Rattle.cm_rows.proofs.Classes.{first-among}
 use Rattle.cm_rows.proofs.Loaders.{at-among, absent-among, last_in-at, last_in-absent}
 use Rattle.cm_rows.proofs.Holding.{free-is}
-use Rattle.cm_rows.proofs.RowFacts.{slots-length, live-among, among-live}
+use Rattle.cm_layout.proofs.{slots-length}
+use Rattle.cm_rows.proofs.RowFacts.{live-among, among-live}
 
 -- ---- tests
 
@@ -97,6 +100,20 @@ module _ {P : Type 0} where
 -- ---- room
 
 module _ {P : Type 0} where
+  pub full-is : (sizes : Sizes) (rows : List (Row P)) (limit count need : ℕ)
+      → limit ≡ row_limit sizes → count ≡ length rows → length rows ≤ row_limit sizes
+      → nat_lt (limit - count) need ≡ is_too_much sizes (slots_of_rows rows) need
+  full-is sizes rows limit count need is counted few =
+      let e = slots-length rows in grind (arith, nat_tests)
+
+  pub room-left : (sizes : Sizes) (rows : List (Row P)) (r : LoaderRow)
+      → is_too_much sizes (slots_of_rows rows) 1 ≡ false → has_room sizes rows (Loader r) ≡ true
+  room-left sizes rows r left = grind (arith, nat_tests)
+
+  pub no_room-left : (sizes : Sizes) (rows : List (Row P)) (r : LoaderRow)
+      → is_too_much sizes (slots_of_rows rows) 1 ≡ true → has_room sizes rows (Loader r) ≡ false
+  no_room-left sizes rows r full = grind (arith, nat_tests)
+
   pub room-is : (sizes : Sizes) (rows : List (Row P)) (row : Row P)
       → length rows < row_limit sizes → has_room sizes rows row ≡ true
   room-is sizes rows row lt = let e = slots-length rows in grind (arith, nat_tests)

@@ -6,14 +6,14 @@ ghost use Rattle.std.specs.Prelude.{if◌then◌else◌, length};
 use crate::links::{link, make_room, move_rows, push_place, relink, unload_rows};
 use crate::live_loader::{LastChunk, copy_loaders, find, set_last};
 use crate::loader_places::LoaderPlaces;
-use crate::place_rules::{has_room, is_free, row_limit};
+use crate::place_rules::{has_room, is_free};
 use crate::placing::place_class;
 use crate::row_places::RowPlaces;
 use crate::rows::{copy_rows, give_all, take_all};
 use crate::walk::Walk;
 use crate::whole_pool::whole_pool;
 use cm_index::{Kept, class_in, class_like, index_rows, is_new_loader_name, loader_of, push_row};
-use cm_layout::{ClassRow, Entry, EntryRule, LoaderRow, Move, Row};
+use cm_layout::{ClassRow, Entry, EntryRule, LoaderRow, Move, Row, row_limit};
 use cm_pool::{Chunk, Geometry, Pool};
 use std::alloc::{AllocError, Global};
 use std::marker::Model;
@@ -62,10 +62,10 @@ impl<P: Kept> Model for Book<P> {
 impl<P: Kept> Book<P> {
     ghost use Rattle.cm_layout.specs.declared.entry_rule.EntryRule.TheVariants.{OnRows, OnChunks};
     ghost use Rattle.cm_layout.specs.declared.row.Row.TheVariants.{Loader, Class};
-    ghost use Rattle.cm_layout.specs.Rows.{rows_after, without_loader, moved};
+    ghost use Rattle.cm_layout.specs.Rows.{rows_after, without_loader, moved, slots_of_rows};
     ghost use Rattle.cm_layout.specs.Rows.{number_of as number_of_name};
     ghost use Rattle.cm_layout.specs.Rules.{broken_rule, broken_live_rule, is_new_loader, is_live};
-    ghost use Rattle.cm_layout.specs.Rules.{move_fits, is_chunk, is_unused};
+    ghost use Rattle.cm_layout.specs.Rules.{move_fits, is_chunk, is_unused, is_too_much};
     ghost use Rattle.cm_rows.specs.Rows.{is_above, last_of, class_of};
     ghost use Rattle.std.specs.Option.{option_copied};
 
@@ -207,11 +207,25 @@ impl<P: Kept> Book<P> {
         self.count
     }
 
-    /// Whether a loader can be added: its name is new, and there is room for a row more.
+    /// How many slots the rows take as live rows.
+    pub fn slots(&self) -> usize
+        ensures { result ≡ slots_of_rows self.now.rows }
+    {
+        self.count
+    }
+
+    /// Whether too few slots for live rows are left beside these rows for what needs so many.
+    pub fn is_full(&self, need: usize) -> bool
+        ensures { result ≡ is_too_much self.now.sizes (slots_of_rows self.now.rows) need }
+    {
+        row_limit(self.geometry) - self.count < need
+    }
+
+    /// Whether a loader can be added: its name is new, and there is room for its row.
     fn is_new_loader(&self, row: &LoaderRow) -> bool
         ensures { result ≡ is_new_loader self.now.sizes self.now.rows row.now }
     {
-        self.count < row_limit(self.geometry)
+        !self.is_full(1)
             && is_new_loader_name(&self.rows.index, &self.rows.slots, row.name.as_bytes())
     }
 

@@ -15,11 +15,10 @@ ghost use Rattle.cm_layout.specs.Rules.{row_limit as row_limit_of};
 
 use crate::live_loader::{LiveLoader, find};
 use crate::loader_places::LoaderPlaces;
-use crate::place_rules::row_limit;
 use crate::row_places::RowPlaces;
 use crate::rows::{move_row, own_chunk};
 use cm_index::{BookSlot, Kept, sweep_index};
-use cm_layout::Row;
+use cm_layout::{Row, row_limit};
 use cm_pool::{Chunk, Geometry, Pool};
 
 /// Links the place that comes next to the last one of its row's loader, and is the last one then.

@@ -3,19 +3,12 @@
 ghost use Rattle.std.specs.Prelude.{◌≡◌, ◌+◌, ◌&&◌, ◌↔◌, IsTrue, Some, MatchBool, nat_le};
 ghost use Rattle.cm_pool.specs.Chunks.{chunk_size, same_chunk};
 ghost use Rattle.cm_pool.specs.FreeSpace.{IsFreeChunk};
-ghost use Rattle.cm_layout.specs.Rules.{is_chunk, row_limit as row_limit_of};
+ghost use Rattle.cm_layout.specs.Rules.{is_chunk};
 ghost use Rattle.cm_rows.specs.Held.{TakesPlace, HasNoPlace};
 
 use crate::live_loader::LastChunk;
 use cm_layout::Move;
 use cm_pool::{Chunk, Geometry, Place, Pool, giving_back_restores, held_chunks_come_and_go};
-
-/// How many rows can live: half of a half's slots.
-pub fn row_limit(geometry: Geometry) -> usize
-    ensures { result ≡ row_limit_of geometry }
-{
-    geometry.slots() as usize / 2
-}
 
 /// Whether a region of these sizes can have the chunk.
 pub fn is_chunk(geometry: Geometry, chunk: &Chunk) -> bool

@@ -5,9 +5,9 @@ ghost use Rattle.cm_rows.specs.Loaders.{Rises, items};
 ghost use Rattle.cm_rows.specs.Placing.{IsPlaced, Breaks};
 
 use crate::live_loader::{LiveLoader, find};
-use crate::place_rules::{is_inside, row_limit, take_place};
+use crate::place_rules::{is_inside, take_place};
 use cm_index::BookSlot;
-use cm_layout::{ClassRow, EntryRule};
+use cm_layout::{ClassRow, EntryRule, row_limit};
 use cm_pool::{Geometry, Pool};
 
 /// Takes the place of a class's record, where its row may come behind so many rows with these

@@ -4,22 +4,12 @@ ghost use Rattle.std.specs.Prelude.{◌≡◌, ◌<◌, ◌≤◌, ◌&&◌, [],
 ghost use Rattle.std.specs.Prelude.{length, map, true};
 ghost use Rattle.std.specs.List.{AllByRecursion};
 ghost use Rattle.cm_index.specs.Living.{living};
-ghost use Rattle.cm_layout.specs.Rows.{moved_row, row_with, bare};
+ghost use Rattle.cm_layout.specs.Rows.{moved_row, bare};
 ghost use Rattle.cm_rows.specs.Held.{Holds, CanBeHeld, chunks_of, own_chunk, living_chunk};
 
 use cm_index::BookSlot;
 use cm_layout::Row;
 use cm_pool::{Chunk, Pool};
-
-// The row once more, with nothing kept of a class.
-fn bare_row<Q>(row: &Row<Q>) -> Row<()>
-    ensures { result ≡ row_with (λ q. tt) row.now }
-{
-    match row {
-        Row::Loader(row) => Row::Loader(*row),
-        Row::Class(row, _) => Row::Class(*row, ()),
-    }
-}
 
 /// Puts the living rows of others in the place of the rows, where there is room for them, with
 /// nothing kept of a class.
@@ -33,7 +23,7 @@ pub fn copy_rows<Q>(slots: &mut Vec<BookSlot<Row<()>>>, others: &[BookSlot<Row<Q
     slots.clear();
     for slot in others {
         if slot.live {
-            push_living(slots, bare_row(&slot.item));
+            push_living(slots, slot.item.bare());
         }
     }
 }

@@ -54,6 +54,9 @@ fn has_what_is_left(book: &Book<()>) -> bool {
         && book.is_live(2)
         && !book.is_live(1)
         && book.len() == 4
+        && book.slots() == 4
+        && !book.is_full(124)
+        && book.is_full(125)
 }
 
 fn judge_each(rt: &impl Abort, book: &mut Book<()>) -> Result<(), Fail> {

@@ -34,7 +34,7 @@ use Rattle.cm_layout.proofs.{class_keeps, bare-with, name-bare, classes-bare, di
 use Rattle.cm_layout.proofs.{classes_in-append, is_unused-apart, is_last_chunk-among}
 use Rattle.cm_state.specs.State.{CacheState}
 use Rattle.cm_state.specs.Stands.{Arenas, Stands, arenas_among, chunks_of}
-use Rattle.cm_state.specs.Laws.{ArenasAreApart, EachRecordIsInItsArena, IsInItsArena}
+use Rattle.cm_state.specs.Laws.{ArenasAreApart, EachRecordIsInItsArena}
 use Rattle.cm_state.proofs.Maps.{got-insert}
 use Rattle.cm_state.proofs.Differ.{name_found, number_found, some_name}
 

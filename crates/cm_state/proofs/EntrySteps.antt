@@ -62,13 +62,6 @@ none_is : {X : Type 0} (o : Option X) → is_none o ≡ true → o ≡ None
 none_is None h = refl
 none_is (Some x) h = absurd (cc)
 
-not_le : (a b : ℕ) → b < a → nat_le a b ≡ false
-not_le a b lt = by_test (nat_le a b) refl
-  where
-    by_test : (t : Bool) → nat_le a b ≡ t → t ≡ false
-    by_test true e = absurd (omega (arith, leb-true a b e, lt))
-    by_test false e = refl
-
 not_lt : (a b : ℕ) → b ≤ a → nat_lt a b ≡ false
 not_lt a b le = by_test (nat_lt a b) refl
   where
@@ -87,7 +80,7 @@ not_last n small = by_test (eqb n last_number) refl
 
 step_loader : {A : Type 0} (shows : Shows A) (sizes : Sizes) (m : Loaders A) (n : ℕ) (x : List ℕ)
     → is_loader_name x ≡ true → eqb n last_number ≡ false → is_some (get m x) ≡ false
-    → is_full sizes m ≡ false
+    → is_full sizes m 1 ≡ false
     → step shows sizes m n (AddLoader x) ≡ Ok (with_loader m x)
 step_loader shows sizes m n x name more new room = rw name (rw more (rw new (rw room refl)))
 
@@ -95,7 +88,7 @@ step_class : {A : Type 0} (shows : Shows A) (sizes : Sizes) (m : Loaders A) (n :
     (c : A) → is_loader_name x ≡ true → eqb n last_number ≡ false → is_some (get m x) ≡ true
     → is_some (class_in m x (shows.name c)) ≡ false
     → nat_lt (chunk_size sizes.top) (shows.words c) ≡ false
-    → is_full sizes m ≡ false
+    → is_full sizes m 1 ≡ false
     → step shows sizes m n (Define x c) ≡ Ok (with_class shows m x c)
 step_class shows sizes m n x c name more there new short room =
     rw name (rw more (rw there (rw new (rw short (rw room refl)))))
@@ -384,8 +377,8 @@ mover_lives {A} sizes n rows own e h =
     subst (λ (u : ℕ). is_live u rows ≡ true) one.2 (own.owned one.0 one.1)
 
 room_left : {A : Type 0} (sizes : Sizes) (m : Loaders A) (k : ℕ) → size m ≡ k
-    → k + 1 ≤ row_limit sizes → is_full sizes m ≡ false
-room_left sizes m k is few = not_le (row_limit sizes) (size m) (omega (arith, is, few))
+    → k + 1 ≤ row_limit sizes → is_full sizes m 1 ≡ false
+room_left sizes m k is few = not_lt (row_limit sizes) (size m + 1) (omega (arith, is, few))
 
 next_rows : {A : Type 0} → EntriesStayLive → (shows : Shows A) (sizes : Sizes) (n : ℕ)
     (rows : List (Row A)) (e : Entry A) → AreCacheRows shows sizes n rows

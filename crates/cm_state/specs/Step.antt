@@ -1,13 +1,13 @@
 -- One step of the cache: what a change makes of its state, or the first cause against it. Only what
 -- the cache holds is spoken of, no chunks, journal or offsets; and of a class only what it shows,
 -- so that one definition serves classes and records.
-use Rattle.std.specs.Prelude.{ℕ, ◌^◌, ◌==◌, Bool, not, nat_lt, nat_le, if◌then◌else◌, List, is_some}
+use Rattle.std.specs.Prelude.{ℕ, ◌^◌, ◌==◌, Bool, not, nat_lt, if◌then◌else◌, List, is_some}
 use Rattle.std.specs.Prelude.{unwrap_or, Result, Ok, Err}
 use Rattle.std.specs.FinMap as map
 use Rattle.cm_pool.specs.Geometry.{Sizes}
 use Rattle.cm_pool.specs.Chunks.{chunk_size}
 use Rattle.cm_layout.specs.Names.{is_loader_name}
-use Rattle.cm_layout.specs.Rules.{row_limit}
+use Rattle.cm_layout.specs.Rules.{is_too_much}
 use Rattle.cm_state.specs.State.{Loaders, Shows, class_in, size}
 
 -- a change that is asked for, of the loader of a name
@@ -31,9 +31,9 @@ pub data Cause : Type 0 where
 abbrev pub last_number : ℕ
 last_number = 2 ^ 63
 
--- half of a half's slots are for what lives
-abbrev pub is_full : {A : Type 0} → Sizes → Loaders A → Bool
-is_full sizes m = nat_le (row_limit sizes) (size m)
+-- half of a half's slots are for what lives: none is left for what needs so many
+abbrev pub is_full : {A : Type 0} → Sizes → Loaders A → ℕ → Bool
+is_full sizes m need = is_too_much sizes (size m) need
 
 -- a loader without classes more
 abbrev pub with_loader : {A : Type 0} → Loaders A → List ℕ → Loaders A
@@ -51,7 +51,7 @@ step shows sizes m n (AddLoader x) =
     if not (is_loader_name x) then Err BadName
     else if n == last_number then Err NumbersSpent
     else if is_some (map.get m x) then Err LoaderExists
-    else if is_full sizes m then Err JournalFull
+    else if is_full sizes m 1 then Err JournalFull
     else Ok (with_loader m x)
 step shows sizes m n (Define x c) =
     if not (is_loader_name x) then Err BadName
@@ -59,7 +59,7 @@ step shows sizes m n (Define x c) =
     else if not (is_some (map.get m x)) then Err NoLoader
     else if is_some (class_in m x (shows.name c)) then Err ClassExists
     else if nat_lt (chunk_size sizes.top) (shows.words c) then Err RecordTooLong
-    else if is_full sizes m then Err JournalFull
+    else if is_full sizes m 1 then Err JournalFull
     else Ok (with_class shows m x c)
 step shows sizes m n (Unload x) =
     if not (is_loader_name x) then Err BadName

@@ -15,7 +15,7 @@ use Rattle.cm_layout.specs.declared.unload.Unload.{Unload}
 use Rattle.cm_layout.specs.declared.relocation.Move.{Move}
 use Rattle.cm_layout.specs.declared.row.Row.TheVariants.{Loader, Class}
 use Rattle.cm_layout.specs.declared.entry.Entry.TheVariants as entry
-use Rattle.cm_layout.specs.Names.{name_limit}
+use Rattle.cm_layout.specs.Names.{name_room}
 use Rattle.cm_layout.specs.Slots.{open_gate, half_head_slot, group_head_slot, loader_slot}
 use Rattle.cm_layout.specs.Slots.{class_slot, unload_slot, move_slot}
 use Rattle.cm_layout.specs.Superblock.{superblock_bytes}
@@ -69,7 +69,7 @@ loader_at slot = record { number = eight_at 8 slot; name = take (name_size slot)
 
 unfoldable pub loader_in : List ℕ → Option LoaderRow
 loader_in slot =
-    if nat_le (name_size slot) name_limit
+    if nat_le (name_size slot) name_room
     then if_spelled (loader_slot (loader_at slot)) slot (loader_at slot) else None
 
 abbrev pub chunk_at : ℕ → List ℕ → Chunk

@@ -10,7 +10,7 @@ ghost use Rattle.cm_verdict.specs.Walk.{first_slot as first_slot_of};
 
 use crate::decode::half_head_in;
 use crate::fault::{Damage, FileFault};
-use cm_layout::{Half, HalfHead, OPEN_GATE, SLOT_BYTES};
+use cm_layout::{ENTRY_VERSION, Half, HalfHead, LAST_NUMBER, OPEN_GATE, SLOT_BYTES, row_limit};
 use cm_pool::Geometry;
 
 /// The half that counts, with its head.
@@ -24,9 +24,9 @@ pub struct Counting {
 fn is_good_head(geometry: Geometry, head: &HalfHead) -> bool
     ensures { result ≡ is_good_head_of geometry head.now }
 {
-    head.version == 1
-        && head.live <= geometry.slots() / 2
-        && head.base <= 1 << 63
+    head.version == ENTRY_VERSION
+        && head.live as usize <= row_limit(geometry)
+        && head.base <= LAST_NUMBER
         && head.epoch >= 1
         && head.epoch <= head.base + 1
 }

@@ -18,7 +18,9 @@ use crate::counting::Counting;
 use crate::decode::{entry_in, group_head_in, row_in};
 use crate::defined_at::DefinedAt;
 use crate::fault::{Damage, FileFault};
-use cm_layout::{Entry, EntryRule, GroupHead, Half, OPEN_GATE, Row, SLOT_BYTES};
+use cm_layout::{
+    Entry, EntryRule, GROUP_SLOTS, GroupHead, Half, LAST_NUMBER, OPEN_GATE, Row, SLOT_BYTES,
+};
 use cm_pool::Geometry;
 use cm_rows::Book;
 
@@ -156,10 +158,10 @@ impl HalfWalk {
     {
         let count = u32::from(head.count);
         count >= 1
-            && count <= 64
+            && count as usize <= GROUP_SLOTS
             && self.slot + count <= self.geometry.slots() - 1
             && head.first == self.number + 1
-            && self.number + u64::from(head.count) <= 1 << 63
+            && self.number + u64::from(head.count) <= LAST_NUMBER
     }
 
     // A gate: the head of a group, or the half's end.

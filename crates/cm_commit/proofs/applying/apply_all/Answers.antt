@@ -1,7 +1,7 @@
 use Rattle.std.proofs.Common.{◌≡◌, ◌+◌, false, None, is_some, sym, ap, subst, ◌∙◌, arith}
 use Rattle.cm_layout.specs.Rows.{rows_after}
 use Rattle.cm_layout.specs.Rules.{broken_rule}
-use Rattle.cm_layout.specs.Frames.{BareEntry}
+use Rattle.cm_layout.specs.Frames.{BareEntry, bare_entry}
 use Rattle.cm_rows.specs.Rows.{LiveRows}
 use Rattle.cm_commit.specs.Keeping.{AreApplied}
 use Rattle.cm_commit.proofs.Applied.{none_yet, one_more, one_breaks, all_kept, all_rows}
@@ -20,7 +20,7 @@ returns-then-is_some-clause-kept c =
     one_breaks c.args.book.now c.args.first c.args.entries.now c.loop-carried.book
     c.loop-carried.number c.loop-carried.carried-index c.carried-item.result c.apply.result
     c.loop-carried.invariant c.loop-carried-test.true c.carried-item.is
-    (rw (sym (c.copy_entry.ensures ∙ c.entry.ensures)) c.apply.ensures.broken)
+    (rw (sym c.bare.ensures) c.apply.ensures.broken)
     (sym c.is_some.ensures ∙ c.if-is_some.true)
 
 pub overflow_add-number : goal.overflow_add-number
@@ -52,12 +52,13 @@ loop-carried-preserved c =
     let old = c.args.book.now in
     let book = c.loop-carried.book in
     let e = c.carried-item.result in
-    let copied : c.copy_entry.result ≡ e.entry = c.copy_entry.ensures ∙ c.entry.ensures in
+    let copied : c.bare.result ≡ bare_entry e.entry = c.bare.ensures in
     let none : is_some c.apply.result ≡ false = sym c.is_some.ensures ∙ c.if-is_some.false in
     let left = left_of c.apply.result c.apply.new.self
-    (record book { rows = rows_after book.rows c.copy_entry.result }) book none c.apply.ensures.left
+    (record book { rows = rows_after book.rows c.bare.result }) book none c.apply.ensures.left
     in
-    let keeps : None ≡ broken_rule book.sizes book.rows c.loop-carried.number e.entry =
+    let keeps : None ≡ broken_rule book.sizes book.rows c.loop-carried.number
+    (bare_entry e.entry) =
     sym (none_of c.apply.result none)
     ∙ (c.apply.ensures.broken
     ∙ ap (broken_rule book.sizes book.rows c.loop-carried.number) copied) in

@@ -11,7 +11,6 @@ loop-carried-init c = record {
   sizes = refl;
   number_is = omega arith;
   above = c.requires.above;
-  own = c.requires.own;
   kept = c.requires.kept;
   rows = refl;
 }
@@ -33,6 +32,6 @@ loop-carried-preserved c =
     subst (λ (k : ℕ). AreFilled arc_value c.args.book.now c.args.first c.args.entries.items
     c.apply-kept.new.self (c.loop-carried.number + 1) k) one_more
     (one_filled arc_value c.args.book.now c.args.first c.args.entries.items c.loop-carried.book
-    c.loop-carried.number (length yielded) c.in-Some.carried c.fill.result c.apply-kept.result
-    c.apply-kept.new.self c.requires.from c.loop-carried.invariant t.0 t.1 c.fill.ensures
+    c.loop-carried.number (length yielded) c.in-Some.carried c.into_entry.result c.apply-kept.result
+    c.apply-kept.new.self c.requires.from c.loop-carried.invariant t.0 t.1 c.into_entry.ensures
     c.apply-kept.ensures.broken c.apply-kept.ensures.left)

@@ -1,6 +1,7 @@
 use Rattle.std.proofs.Common.{◌≡◌, ◌+◌, ◌++◌, List, length, drop, ap, ◌∙◌, arith}
 use Rattle.std.specs.List.{flat_map}
 use Rattle.std.proofs.lemmas.List.{length-append}
+use Rattle.cm_layout.specs.Frames.{bare_entry}
 use Rattle.cm_layout.specs.Slots.{entry_slot}
 use Rattle.cm_group.specs.Groups.{Carried, entries_in}
 use Rattle.cm_commit.proofs.Applied.{next_is}
@@ -14,11 +15,11 @@ unwrap-requires c =
     let items = c.loop-carried.buffer.items in
     let left = flat_map entry_slot (entries_in (drop i es)) in
     let rest = flat_map entry_slot (entries_in (drop (i + 1) es)) in
-    let slot = entry_slot item.entry in
+    let slot = entry_slot (bare_entry item.entry) in
     let split : left ≡ slot ++ rest =
     ap (λ (l : List Carried). flat_map entry_slot (entries_in l))
     (next_is es i item (omega arith) c.carried-item.is) in
-    let encoded : c.encode.result ≡ slot = c.encode.ensures ∙ ap entry_slot c.entry.ensures in
+    let encoded : c.encode.result ≡ slot = c.encode.ensures ∙ ap entry_slot c.bare.ensures in
     c.extend_from_slice.ensures.succeeds (omega (
       arith,
       ap length split,

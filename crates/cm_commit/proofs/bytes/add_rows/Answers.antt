@@ -26,7 +26,7 @@ unwrap-requires c =
     c.extend_from_slice.ensures.succeeds (omega (
       arith,
       ap length left,
-      ap length c.row_bytes.ensures,
+      ap length c.encode.ensures,
       ap length c.loop-row.invariant.bytes,
       c.loop-row.invariant.room,
       length-append items (flat_map row_slot c.loop-row.left),

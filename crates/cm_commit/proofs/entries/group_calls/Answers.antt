@@ -1,8 +1,9 @@
-use Rattle.std.proofs.Common.{◌≡◌, ◌+◌, sym, ap, ◌∙◌, arith}
+use Rattle.std.proofs.Common.{◌≡◌, ◌+◌, sym, ap, ◌∙◌, arith, length-drop}
 use Rattle.cm_group.specs.Groups.{Handed}
 use Rattle.cm_commit.specs.declared.step.CommitStep.{CommitStep}
 use Rattle.cm_commit.specs.declared.step.CommitStep.TheVariants as step
 use Rattle.cm_guards.specs.Stages.{calls_left}
+use Rattle.cm_commit.specs.GroupPlans.{all_writes}
 use Rattle.cm_commit.specs.Steps.{stages_at}
 use Rattle.cm_commit.proofs.Counting.{calls_write}
 use Rattle.cm_commit.proofs.entries.group_calls.Goals as goal
@@ -14,8 +15,9 @@ returns-in-Write-clause-few c =
       c.requires,
       c.from.ensures,
       c.saturating_sub-zeros.ensures,
+      c.saturating_sub.ensures,
       c.roots_needed.ensures,
-      c.records_from.ensures.few,
+      c.all_writes.ensures.few,
     )
 
 pub returns-in-Write-clause-calls : goal.returns-in-Write-clause-calls
@@ -25,14 +27,17 @@ returns-in-Write-clause-calls c = λ j first learnt.
       learnt = learnt;
       entries = c.args.entries.now;
     } in
-    let counted : c.from.result + c.records_from.result + 4
+    let writes = all_writes c.args.entries.now in
+    let counted : c.from.result + c.saturating_sub.result + 4
     ≡ calls_left (stages_at j group (step.Write c.in-Write.roots c.in-Write.from)) =
     omega (
       arith,
       calls_write j group c.in-Write.roots c.in-Write.from,
+      length-drop c.in-Write.from writes,
       c.from.ensures,
       c.saturating_sub-zeros.ensures,
+      c.saturating_sub.ensures,
       c.roots_needed.ensures,
-      c.records_from.ensures.counted j.geometry,
+      c.all_writes.ensures.value,
     ) in
     counted ∙ ap (λ (s : CommitStep). calls_left (stages_at j group s)) (sym c.in-Write.is)

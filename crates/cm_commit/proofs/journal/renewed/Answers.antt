@@ -12,7 +12,7 @@ pub returns : goal.returns
 returns c =
     let head = c.renewed_head-head.ensures in
     λ i. record c.args.journal.now {
-      half = c.other_half.ensures i;
+      half = c.other.ensures i;
       end = 1 + (head i).live;
       epoch = (head i).epoch;
       other_open = true;

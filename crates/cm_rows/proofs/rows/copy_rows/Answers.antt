@@ -59,12 +59,12 @@ loop-slot-preserved g c =
       | then-slot w ↦
           let next : living (take (i + 1) others) ≡ living (take i others) ++ s.item ∷ [] =
           taken ∙ one-more (living (take i others)) s.live s.item w.if-slot.true in
-          let row = w.bare_row.result in
+          let row = w.bare.result in
           let new : BookSlot (Row (Unit {0})) = record { item = row; live = true } in
           rw (w.slots-is, w.push_living.ensures.slots, next) (record {
             rows = living-push c.loop-slot.slots.items new refl ∙ ap (λ l. l ++ row ∷ []) h.rows
                 ∙ ap (λ (r : Row (Unit {0})). bare (living (take i others)) ++ r ∷ [])
-                w.bare_row.ensures ∙ sym
+                w.bare.ensures ∙ sym
                 (map-append (row_with (λ q. tt)) (living (take i others)) (s.item ∷ []));
             live = each-join (λ (s : BookSlot (Row (Unit {0}))). s.live
                 ≡ true) c.loop-slot.slots.items

@@ -252,18 +252,6 @@ finish-receipt-requires-clause-above g c =
     (rw number
     (next_above s.journal.geometry s.journal.number (bare rows) c.self.invariant.cache.live))
 
-pub finish-receipt-requires-clause-own : goal.finish-receipt-requires-clause-own
-finish-receipt-requires-clause-own g c =
-    let s = c.self.inside in
-    let rows = rows_with arc_value s.rows.rows in
-    let v = seen s.disk s.journal rows s.roots s.group s.step s.is_broken in
-    let underway : s.group ≡ Some c.unwrap-group.result =
-    (cc (c.take.ensures.value, c.unwrap-group.ensures)) in
-    let f = fits g.D.Disk.contents g.D.Disk.unsynced v s.rows.sizes s.next s.roots
-    (vec_capacity s.buffer) c.self.invariant
-    c.unwrap-group.result underway in
-    f.own
-
 pub finish-receipt-requires-clause-kept : goal.finish-receipt-requires-clause-kept
 finish-receipt-requires-clause-kept g c =
     let s = c.self.inside in

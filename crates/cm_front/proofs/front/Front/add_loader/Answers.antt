@@ -125,7 +125,7 @@ went c =
     (c.join.ensures
     ∙ ap (λ d. joined_by n c.make_ready.new.self.groups d)
     (c.loader-entry.ensures
-    ∙ ap (λ (r : LoaderRow). record { entry = entry.Live (Loader r); records = [] })
+    ∙ ap (λ (r : LoaderRow). record { entry = entry.Live (Loader r); moved = [] })
     c.loader_row.ensures))
 
 pub invariant_of-self-2 : goal.invariant_of-self-2

@@ -1,4 +1,4 @@
-use Rattle.std.proofs.Common.{◌≡◌, ℕ, ◌+◌, ◌<◌, ◌≤◌, cond, [], ◌∷◌, refl, sym, ap, subst, ◌∙◌, List}
+use Rattle.std.proofs.Common.{◌≡◌, ℕ, ◌+◌, ◌<◌, ◌≤◌, cond, [], refl, sym, ap, subst, ◌∙◌, List}
 use Rattle.std.proofs.Common.{arith}
 use Rattle.std.specs.Prelude.{Result, Ok, Err, IsTrue, ◌↔◌}
 use Rattle.cm_arena.specs.Placing.{IsFull, Places}
@@ -206,10 +206,10 @@ went c =
     c.room_for.ensures.groups
     (c.join.ensures
     ∙ ap (λ d. joined_by (i.number + 1) c.room_for.new.unsealed.groups d)
-    (c.class_in-entry.ensures
+    (c.class-entry.ensures
     ∙ ap (λ (r : List ℕ). record {
-      entry = entry.Live (Class (record { loader = u; place = place }) (tt {0}));
-      records = r ∷ [];
+      entry = entry.Live (Class (record { loader = u; place = place }) r);
+      moved = [];
     }) (c.into_record.ensures.record ∙ c.in-Ok.ensures.shared)))
 
 pub invariant_of-self-2 : goal.invariant_of-self-2
