@@ -12,7 +12,7 @@ use Rattle.cm_layout.specs.Loaders.{HasOwnLoaders}
 use Rattle.cm_layout.specs.Rules.{is_live}
 use Rattle.cm_layout.specs.Frames.{AreApart, LiveRowsKeep}
 use Rattle.cm_layout.specs.Laws.{LoadersAreOwn}
-use Rattle.cm_layout.proofs.{name-bare, classes-bare, differ-bare}
+use Rattle.cm_layout.proofs.{name-bare, classes-bare, differ-bare, slots-length}
 use Rattle.cm_pool.specs.Lists.{Among}
 use Rattle.cm_rows.specs.Rows.{LiveRows}
 use Rattle.cm_state.specs.State.{class_shows}
@@ -47,10 +47,6 @@ bare-with : {P Q : Type 0} (f : P → Q) (rows : List (Row P))
 bare-with f [] = refl
 bare-with f (Loader r ∷ rows) = ap (λ l. Loader r ∷ l) (bare-with f rows)
 bare-with f (Class r p ∷ rows) = ap (λ l. Class r (tt {0}) ∷ l) (bare-with f rows)
-
-slots_counted : {P : Type 0} (rows : List (Row P)) → slots_of_rows rows ≡ length rows
-slots_counted [] = refl
-slots_counted (row ∷ rows) = let rest = slots_counted rows in omega (arith, rest)
 
 -- ---- the file
 
@@ -96,7 +92,7 @@ module _ (live : FoundIsLive) (framed : FoundIsFramed) (stands : VerdictStands)
           (differ-bare s.rows loaders.differ));
       classes =
           let size = sizes class_shows s.found.sizes s.found.number s.rows cache in
-          let slots = slots_counted s.rows in
+          let slots = slots-length s.rows in
           let each = each_counts s.rows in
           omega (arith, size, slots, each, counted.loaders, counted.classes);
       chunks = counted.chunks

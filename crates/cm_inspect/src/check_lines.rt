@@ -23,6 +23,7 @@ use std::io::Write;
 ///
 /// It is an `Err` where the writer fails (`Output`), or an allocation failed for the line
 /// (`NoMemory`).
+#[tactic(auto, using(crate::proofs::Rose::reads_rose))]
 pub fn check_to<W: Write, D: Disk>(
     alloc: Global,
     writer: &mut W,
@@ -31,7 +32,7 @@ pub fn check_to<W: Write, D: Disk>(
     ensures told { ChecksTo (D.contents disk) (D.failures disk < D.failures (disk_left result))
         (W.contents writer.old) (W.contents writer.new) (status_in result) }
     ensures reads { Reads D.contents D.unsynced D.failures D.moment D.left_since disk
-        (disk_left result) ⊥ }
+        (disk_left result) (D.failures disk < D.failures (disk_left result)) }
 {
     let answer = check(alloc, &mut disk);
     let status = tell_answer(alloc, writer, answer);

@@ -26,6 +26,7 @@ use std::io::Write;
 ///
 /// It is an `Err` where the writer fails (`Output`), or an allocation failed for the lines
 /// (`NoMemory`).
+#[tactic(auto, using(crate::proofs::Rose::syncs_rose))]
 pub fn list_to<W: Write, D: Disk>(
     alloc: Global,
     writer: &mut W,
@@ -36,7 +37,7 @@ pub fn list_to<W: Write, D: Disk>(
     ensures stored { status_in result ≡ Ok Status.Done
         → IsSettled (D.contents (disk_left result)) (D.unsynced (disk_left result)) }
     ensures run { SyncsAndReads D.contents D.unsynced D.failures D.moment D.left_since disk
-        (disk_left result) ⊥ }
+        (disk_left result) (D.failures disk < D.failures (disk_left result)) }
 {
     match open(alloc, disk) {
         Ok((front, committer)) => {

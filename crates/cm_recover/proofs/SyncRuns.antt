@@ -2,7 +2,7 @@
 -- For `read_synced`.
 use Rattle.std.proofs.Common.{◌≡◌, ℕ, Bool, true, false, List, length, get_or, refl}
 use Rattle.std.proofs.Common.{sym, ap, subst, ◌∙◌, arith}
-use Rattle.std.specs.Prelude.{Result, Ok, Err, IsErr, OnOk}
+use Rattle.std.specs.Prelude.{Result, Ok, Err, IsOk, IsErr, OnOk}
 use Rattle.cm_disk.specs.Disk.{Unsynced, IsImage, IsSettled, IsSound, IsWithin}
 use Rattle.cm_disk.specs.Calls.{Elapses, HasCause}
 use Rattle.cm_guards.specs.Calls.{LeavesOnly, Reads}
@@ -79,24 +79,25 @@ module _ {D : Type 0} (moment : D → ℕ) (left_since : D → ℕ → List ℕ 
   -- a sync that failed
   pub not_synced : {T E : Type 0} (old new : D) (result : Result T E) (e : E) (F : Type 0) → OnlyNow
       → contents new ≡ contents old → unsynced new ≡ unsynced old → Lasts old new
-      → HasCause (failures old) (failures new) result → result ≡ Err e
+      → HasCause (failures old) (failures new) result → result ≡ Err e → F
       → SyncsAndReads contents unsynced failures moment left_since old new F
-  not_synced old new result e F only_now same kept time cause failed = record {
+  not_synced old new result e F only_now same kept time cause failed told = record {
     contents_stay = same;
     no_more = within_same (unsynced old) (unsynced new) kept;
     images = during old new only_now time;
     later = cause.later;
     cause = λ f. cause.fault (subst IsErr (sym failed) refl);
+    no_cause = λ none. absurd (none told);
   }
 
   -- a sync that is done, and reads
   pub synced : {T E : Type 0} (old mid new : D) (result : Result T E) (F : Type 0) → OnlyNow
       → IsSound (contents old) (unsynced old) → contents mid ≡ contents old
       → IsSettled (contents mid) (unsynced mid) → Lasts old mid
-      → HasCause (failures old) (failures mid) result
+      → HasCause (failures old) (failures mid) result → IsOk result
       → Reads contents unsynced failures moment left_since mid new F
       → SyncsAndReads contents unsynced failures moment left_since old new F
-  synced old mid new result F only_now sound same settled time cause reads =
+  synced old mid new result F only_now sound same settled time cause done reads =
       let within = settled_within (contents old) (contents mid) (unsynced old) (unsynced mid) sound
       same settled in
       record {
@@ -110,16 +111,5 @@ module _ {D : Type 0} (moment : D → ℕ) (left_since : D → ℕ → List ℕ 
             image same within is) reads.images);
         later = omega (arith, cause.later, reads.later);
         cause = λ f. let rose = reads.cause f in omega (arith, rose, cause.later);
+        no_cause = λ none. reads.no_cause none ∙ cause.no_fault done;
       }
-
-  -- less is said of its faults
-  pub syncs_less : (old new : D) (F G : Type 0) → (G → F)
-      → SyncsAndReads contents unsynced failures moment left_since old new F
-      → SyncsAndReads contents unsynced failures moment left_since old new G
-  syncs_less old new F G less run = record {
-    contents_stay = run.contents_stay;
-    no_more = run.no_more;
-    images = run.images;
-    later = run.later;
-    cause = λ g. run.cause (less g);
-  }

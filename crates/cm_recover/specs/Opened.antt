@@ -82,7 +82,7 @@ pub record Opens {D : Type 0} (contents : List ℕ) (front : FrontState)
 -- ---- the device
 
 -- A run of calls that sync and read: the contents stay, no more is unsynced after it, at each
--- moment a crash leaves what it might have left before it, and a fault is told only where the
+-- moment a crash leaves what it might have left before it, and a fault is told exactly where the
 -- device failed in it.
 pub record SyncsAndReads {D : Type 0} (contents : D → List ℕ) (unsynced : D → Unsynced)
     (failures moment : D → ℕ) (left_since : D → ℕ → List ℕ → Type 0) (old new : D)
@@ -92,6 +92,7 @@ pub record SyncsAndReads {D : Type 0} (contents : D → List ℕ) (unsynced : D 
   pub images : LeavesOnly moment left_since old new (IsImage (contents old) (unsynced old))
   pub later : failures old ≤ failures new
   pub cause : Faulted → failures old < failures new
+  pub no_cause : (Faulted → ⊥) → failures new ≡ failures old
 
 -- the disk after it was opened, or handed back
 abbrev pub disk_after : {D : Type 0} → Result (FrontState × CommitterState D) (NotOpened D) → D

@@ -33,7 +33,8 @@ pub fn format<D: Disk>(alloc: Global, disk: &mut D, geometry: Geometry) -> Resul
     ensures only_empty { 0 < length (D.contents disk.old)
         → (result ≡ Err fault.NotEmpty) ⊎ (result ≡ Err fault.Device) }
     ensures overwrites_nothing { 0 < length (D.contents disk.old)
-        → Reads D.contents D.unsynced D.failures D.moment D.left_since disk.old disk.new ⊥ }
+        → Reads D.contents D.unsynced D.failures D.moment D.left_since disk.old disk.new
+        (result ≡ Err fault.Device) }
     ensures no_memory { result ≡ Err fault.NoMemory
         → Reads D.contents D.unsynced D.failures D.moment D.left_since disk.old disk.new ⊥ }
     ensures moments { FormatsThrough D.contents D.unsynced D.moment D.left_since D.called geometry

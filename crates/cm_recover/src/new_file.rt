@@ -10,7 +10,7 @@ ghost use Rattle.cm_recover.specs.NewFile.{new_bytes, shut_bytes, IsNoneOrEmpty}
 ghost use Rattle.cm_recover.specs.Making.{IsNewFile, IsUnfinished, CallsAtMost};
 
 use cm_disk::{DeviceFault, Disk};
-use cm_layout::{HalfHead, OPEN_GATE, SUPERBLOCK_BYTES, Superblock, roots_at};
+use cm_layout::{ENTRY_VERSION, HalfHead, OPEN_GATE, SUPERBLOCK_BYTES, Superblock, roots_at};
 use cm_pool::Geometry;
 use std::alloc::{AllocError, Global};
 
@@ -23,7 +23,7 @@ fn encode(alloc: Global, geometry: Geometry) -> Result<Vec<u8>, AllocError>
     ensures { IfOk result (λ bytes. bytes.items ≡ new_bytes geometry) }
 {
     let head = HalfHead {
-        version: 1,
+        version: ENTRY_VERSION,
         live: 0,
         epoch: 1,
         base: 0,

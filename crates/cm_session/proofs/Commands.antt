@@ -19,6 +19,7 @@ use Rattle.cm_machine.specs.Laws.{AcceptedIsMade, RefusedIsRefused, IsAccepted, 
 use Rattle.cm_machine.specs.Laws.{Finds, Behind}
 use Rattle.cm_session.specs.Session.{of_underway, commands_of, IsSession}
 use Rattle.cm_session.specs.Moves.{Accepting, IsAsked}
+use Rattle.cm_session.proofs.Learnt.{learnt_accepted}
 
 -- the class that a command defines
 pub is_asked : (x words : List ℕ) → IsRightRecord words → length words ≤ limit
@@ -87,6 +88,8 @@ module _ {D : Type 0} (made : AcceptedIsMade) (refused : RefusedIsRefused) (ahea
             busy = i.busy;
             ahead = ahead committer.rows committer.number out front new asked n i.is
                 is_new i.ahead answer;
+            from_learnt = learnt_accepted committer.rows committer.number out front i.from_learnt
+                ahead new asked n i.is is_new (ap (λ (s : FrontState). s.learnt) same) answer;
             follows = m.follows;
             acknowledged_is =
                 ap (λ (j : Machine). j.acknowledged) m.accepts.next_is ∙ i.acknowledged_is;

@@ -4,6 +4,7 @@ use Rattle.std.proofs.Common.{◌≡◌, ℕ, ◌+◌, ◌-◌, ◌≤◌, ◌<�
 use Rattle.std.proofs.Common.{Result, Ok, Err, map, refl, sym, ap, subst, ◌∙◌, arith, append_assoc}
 use Rattle.std.proofs.lemmas.List.{length-append, length-map}
 use Rattle.cm_pool.specs.Geometry.{Sizes}
+use Rattle.cm_layout.specs.Frames.{bare_entry}
 use Rattle.cm_group.specs.Groups.{Carried, Handed, IsGroup, group_limit, entries_in}
 use Rattle.std.specs.Prelude.{◌||◌, IsOk, OnOk}
 use Rattle.cm_commit.specs.Offers.{filled}
@@ -17,9 +18,11 @@ use Rattle.cm_machine.specs.Following.{Follows}
 use Rattle.cm_machine.specs.Laws.{CommandsAreCounted, FollowsFront}
 use Rattle.cm_state.specs.State.{class_shows, state_of}
 use Rattle.cm_machine.specs.Machine.{Base, Machine, Holds, Seals, accepted_to}
-use Rattle.cm_session.specs.Session.{of_underway, commands_of, GoBehind, IsSession}
+use Rattle.cm_session.specs.Session.{of_underway, commands_of, GoBehind, IsAheadOfLearnt}
+use Rattle.cm_session.specs.Session.{IsSession}
 use Rattle.cm_session.specs.Moves.{Leads, Learns}
 use Rattle.cm_verdict.proofs.{slots_many}
+use Rattle.cm_session.proofs.Learnt.{all_learnt, learnt_handed}
 use Rattle.cm_session.proofs.Queued.{commands_more, behind_more}
 
 -- ---- another machine with the same commands
@@ -142,7 +145,7 @@ module _ {D : Type 0} (counted : CommandsAreCounted) (handed : HandedIsAhead) (k
   many =
       let few = is.few in
       let slots = slots_many (entries_in group.entries) in
-      let long = length-map group.entries (λ (c : Carried). c.entry) in
+      let long = length-map group.entries (λ (c : Carried). bare_entry c.entry) in
       omega (arith, few, slots, long)
 
   all_known : last ≤ accepted_to k
@@ -185,6 +188,10 @@ module _ {D : Type 0} (counted : CommandsAreCounted) (handed : HandedIsAhead) (k
       busy = i.busy;
       ahead = subst (λ l. IsAhead committer.rows committer.number l new)
           (sym out_are) ahead_then;
+      from_learnt = subst (λ l. IsAheadOfLearnt committer.rows committer.number l new)
+          (sym out_are)
+          (learnt_handed committer.rows committer.number out front i.from_learnt handed new group
+          i.is h);
       follows = subst (λ l. FollowsFront next committer.rows committer.number l new) (sym out_are)
           follows_then;
       acknowledged_is = i.acknowledged_is;
@@ -254,6 +261,9 @@ module _ {D : Type 0} (frees : LearntIsAhead) (fails : FailedIsAhead) (k : Machi
       busy = i.busy;
       ahead = subst (λ s. IsAhead committer.rows committer.number all_out s)
           (sym after) (noted broken told);
+      from_learnt = all_learnt committer.rows committer.number all_out new all_known
+          (subst (λ s. IsAhead committer.rows committer.number all_out s)
+          (sym after) (noted broken told));
       follows = subst (λ s. FollowsFront next committer.rows committer.number all_out s)
           (sym after) (same_commands front.sizes k next refl refl i.follows);
       acknowledged_is = i.acknowledged_is;
@@ -265,5 +275,10 @@ module _ {D : Type 0} (frees : LearntIsAhead) (fails : FailedIsAhead) (k : Machi
     };
   }
     where
+      all_known : new.learnt ≡ committer.number
+      all_known =
+          ap (λ (s : FrontState). s.learnt) after
+          ∙ (let least = i.ahead.learnt in omega (arith, least))
+
       next : Machine
       next = record k { noticed = k.noticed || k.failed }

@@ -1,5 +1,6 @@
 -- What crates above may cite of these proofs is what `pub use` passes on; all else is private.
 mod Queued
+mod Learnt
 mod Commands
 mod Handing
 mod Shown

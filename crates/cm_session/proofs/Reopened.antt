@@ -32,11 +32,12 @@ use Rattle.cm_machine.specs.Machine.{machine_from}
 use Rattle.cm_machine.specs.Following.{AreRight, AreClasses, Follows}
 use Rattle.cm_machine.specs.Laws.{OpenedFollows, IsAfter, FollowsFront}
 use Rattle.cm_commit.specs.Offers.{filled}
-use Rattle.cm_machine.specs.Ahead.{pending}
+use Rattle.cm_machine.specs.Ahead.{IsAhead, pending}
 use Rattle.cm_machine.proofs.{bare_words}
 use Rattle.cm_session.specs.Images.{StandsFor, StandsForSome}
 use Rattle.cm_session.specs.Session.{IsSession, commands_of}
 use Rattle.cm_session.specs.Moves.{Leads, Reopening, IsOutside}
+use Rattle.cm_session.proofs.Learnt.{all_learnt}
 
 -- each class is right, where its record isn't longer than any may be
 are_right : (classes : List (Row ClassFile)) → EachKeepsRules classes
@@ -150,8 +151,9 @@ module _ {D : Type 0} (one : StandForOne) (live : FoundIsLive) (framed : FoundIs
           running = ap (λ (f : FrontState). f.closed) front_is;
           groups = tt;
           busy = refl;
-          ahead = ahead (record { sizes = s.found.sizes; rows = rows }) number front is file.cache
-              o.front_is;
+          ahead = is_ahead;
+          from_learnt = all_learnt rows number [] front
+              (ap (λ (f : FrontState). f.learnt) front_is) is_ahead;
           follows = follows;
           acknowledged_is = refl;
           sealed_is = sym (ap (λ (f : FrontState). f.sealed) front_is);
@@ -162,6 +164,11 @@ module _ {D : Type 0} (one : StandForOne) (live : FoundIsLive) (framed : FoundIs
         });
   }
     where
+      is_ahead : IsAhead rows number [] front
+      is_ahead =
+          ahead (record { sizes = s.found.sizes; rows = rows }) number front is file.cache
+          o.front_is
+
       follows : FollowsFront next rows number [] front
       follows =
           subst (λ z. Follows z next rows number (map filled (pending [] front)))

@@ -23,8 +23,9 @@ use Rattle.cm_machine.specs.Following.{Follows}
 use Rattle.cm_machine.specs.Laws.{CommittedFollows, FollowsFront}
 use Rattle.cm_machine.specs.Machine.{Machine}
 use Rattle.cm_session.specs.Session.{of_underway, commands_of, GoBehind, NoneGoesOn, IsBusyWith}
-use Rattle.cm_session.specs.Session.{IsSession}
+use Rattle.cm_session.specs.Session.{IsAheadOfLearnt, IsSession}
 use Rattle.cm_session.specs.Moves.{Leads, Advancing, is_device, MayTake}
+use Rattle.cm_session.proofs.Learnt.{learnt_committed}
 use Rattle.cm_session.proofs.Handing.{same_commands}
 
 -- ---- what is taken
@@ -112,6 +113,7 @@ module _ {D : Type 0} (k : Machine) (front : FrontState) (old new : CommitterSta
       groups = i.groups;
       busy = still_busy old.underway old.left i.busy w.more;
       ahead = i.ahead;
+      from_learnt = i.from_learnt;
       follows = i.follows;
       acknowledged_is = i.acknowledged_is;
       sealed_is = i.sealed_is;
@@ -153,6 +155,10 @@ module _ {D : Type 0} (k : Machine) (front : FrontState) (old new : CommitterSta
       groups = behind.2;
       busy = refl;
       ahead = next_ahead old.rows old.number group (commands_of queue) front i.is ahead;
+      from_learnt = learnt_committed old.rows old.number
+          (commands_of (of_underway old.underway ++ queue)) front i.from_learnt group.entries
+          (commands_of queue)
+          (ap (λ (u : Option Handed). commands_of (of_underway u ++ queue)) f.underway);
       follows = same_commands front.sizes k next refl refl follows;
       acknowledged_is = f.told;
       sealed_is = i.sealed_is;
@@ -211,6 +217,7 @@ module _ {D : Type 0} (k : Machine) (front : FrontState) (old new : CommitterSta
       groups = i.groups;
       busy = i.busy;
       ahead = i.ahead;
+      from_learnt = i.from_learnt;
       follows = same_commands front.sizes k next refl refl i.follows;
       acknowledged_is = i.acknowledged_is;
       sealed_is = i.sealed_is;
@@ -325,6 +332,8 @@ module _ {D : Type 0} (next : HandedMayBeNext) (k : Machine) (front : FrontState
     groups = behind;
     busy = some;
     ahead = ahead;
+    from_learnt =
+        subst (λ l. IsAheadOfLearnt committer.rows committer.number l front) out i.from_learnt;
     follows = subst (λ l. FollowsFront k committer.rows committer.number l front) out i.follows;
     acknowledged_is = i.acknowledged_is;
     sealed_is = i.sealed_is;

@@ -1,5 +1,5 @@
 -- What each call of a session is for the machine.
-use Rattle.std.specs.Prelude.{◌≡◌, ℕ, ◌<◌, ◌⊎◌, ◌||◌, Bool, true, false, List}
+use Rattle.std.specs.Prelude.{◌≡◌, ℕ, ◌<◌, ◌⊎◌, ◌||◌, Bool, true, false, List, [], ◌∷◌, ◌++◌}
 use Rattle.std.specs.Prelude.{Option, Some, None, Result, Ok, Err}
 use Rattle.cm_class.specs.declared.class_file.ClassFile.{ClassFile}
 use Rattle.cm_pool.specs.Geometry.{Sizes}
@@ -8,6 +8,8 @@ use Rattle.cm_state.specs.Step.{Change}
 use Rattle.cm_state.specs.Stands.{Arenas, Stands}
 use Rattle.cm_prepare.specs.declared.refusal.Refusal.{Refusal}
 use Rattle.cm_prepare.specs.declared.refusal.Refusal.TheVariants as refusal
+use Rattle.cm_front.specs.Front.{FrontState}
+use Rattle.cm_front.specs.Accepting.{HandsOut}
 use Rattle.cm_commit.specs.declared.progress.Progress.{Progress}
 use Rattle.cm_commit.specs.declared.progress.Progress.TheVariants.{Idle, Working, Done}
 use Rattle.cm_commit.specs.declared.progress.AdvanceFault.{AdvanceFault}
@@ -67,6 +69,15 @@ abbrev pub Sealing : {E : Type 0} → Machine → Result (Option Sealed) E → M
 Sealing k (Ok None) next = (k.sealed ≡ accepted_to k) × (next ≡ k)
 Sealing k (Ok (Some group)) next = Seals k group.first group.last next
 Sealing k (Err e) next = (k.sealed < accepted_to k) × (next ≡ k)
+
+-- A group that is handed out comes behind those that wait, with what was learnt by now; else none
+-- does.
+abbrev pub Queues : {E : Type 0} → FrontState → List Handed → Result (Option Sealed) E → FrontState
+    → List Handed → Type 0
+Queues front queue (Ok None) new now = (new ≡ front) × (now ≡ queue)
+Queues front queue (Ok (Some sealed)) new now =
+    (group : Handed) × HandsOut front group new × (now ≡ queue ++ group ∷ [])
+Queues front queue (Err e) new now = (new ≡ front) × (now ≡ queue)
 
 -- ---- advancing
 

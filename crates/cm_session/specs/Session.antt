@@ -3,9 +3,11 @@
 use Rattle.std.specs.Prelude.{◌≡◌, ℕ, ◌+◌, ◌≤◌, Bool, false, List, [], ◌∷◌, ◌++◌, length}
 use Rattle.std.specs.Prelude.{Option, Some, None}
 use Rattle.std.specs.List.{flat_map}
+use Rattle.cm_layout.specs.declared.row.Row.{Row}
 use Rattle.cm_group.specs.Groups.{Carried, Handed, IsGroup, GoesOn}
 use Rattle.cm_front.specs.Front.{FrontState, IsFront}
 use Rattle.cm_guards.specs.Stages.{Stage, calls_left}
+use Rattle.cm_commit.specs.Offers.{rows_after_group}
 use Rattle.cm_commit.specs.States.{CommitterState}
 use Rattle.cm_machine.specs.Ahead.{IsAhead}
 use Rattle.cm_machine.specs.Machine.{Machine}
@@ -37,6 +39,17 @@ abbrev pub IsBusyWith : Option Handed → List Stage → Type 0
 IsBusyWith None left = left ≡ []
 IsBusyWith (Some group) left = 1 ≤ calls_left left
 
+-- Rows are committed with this number. What was stored since the accepted cache last learnt so
+-- leads to them from the rows that it learnt of; and at each number from the learnt one on, no word
+-- is free that rows use.
+pub record IsAheadOfLearnt (rows : List (Row (List ℕ))) (number : ℕ) (out : List Carried)
+    (front : FrontState) : Type 0 where
+  pub known : List (Row (List ℕ))
+  pub since : List Carried
+  pub number_is : front.learnt + length since ≡ number
+  pub rows_are : rows_after_group known since ≡ rows
+  pub ahead : IsAhead known front.learnt (since ++ out) front
+
 -- ---- the session
 
 -- The parts of a session, which go with what the machine is at: the groups under way and queued
@@ -49,6 +62,8 @@ pub record IsSession {D : Type 0} (k : Machine) (front : FrontState) (committer 
   pub groups : GoBehind committer.number (of_underway committer.underway ++ queue)
   pub busy : IsBusyWith committer.underway committer.left
   pub ahead : IsAhead committer.rows committer.number
+      (commands_of (of_underway committer.underway ++ queue)) front
+  pub from_learnt : IsAheadOfLearnt committer.rows committer.number
       (commands_of (of_underway committer.underway ++ queue)) front
   pub follows : FollowsFront k committer.rows committer.number
       (commands_of (of_underway committer.underway ++ queue)) front

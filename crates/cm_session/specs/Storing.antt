@@ -8,6 +8,7 @@ use Rattle.cm_commit.specs.declared.progress.Progress.{Progress}
 use Rattle.cm_commit.specs.declared.progress.Progress.TheVariants.{Working}
 use Rattle.cm_commit.specs.declared.progress.AdvanceFault.{AdvanceFault}
 use Rattle.cm_machine.specs.Machine.{Machine, Asks, accepted_to}
+use Rattle.cm_session.specs.declared.session.Session.{Session}
 use Rattle.cm_session.specs.declared.storing.NotStored.{NotStored}
 use Rattle.cm_session.specs.declared.storing.NotStored.TheVariants.{Refused, NoMemory, Unsure}
 use Rattle.cm_session.specs.Images.{StandsForSome}
@@ -64,6 +65,14 @@ IsUnsure (Err (Unsure number)) = Unit {0}
 pub record FailsOnly (before now : ℕ) (result : Result ℕ NotStored) : Type 0 where
   pub later : before ≤ now
   pub unsure : IsUnsure result → before < now
+
+-- Once a command was handed out, the accepted cache learns what is stored; of another it learns
+-- nothing.
+abbrev pub TellsFront : {D : Type 0} → Session D → Result ℕ NotStored → Session D → Type 0
+TellsFront old (Ok number) new = new.front.learnt ≡ new.committer.number
+TellsFront old (Err (Refused r)) new = new.front ≡ old.front
+TellsFront old (Err (NoMemory number)) new = new.front.learnt ≡ old.front.learnt
+TellsFront old (Err (Unsure number)) new = new.front.learnt ≡ new.committer.number
 
 -- no device call is made
 abbrev pub MakesNoCall : Result ℕ NotStored → Type 0

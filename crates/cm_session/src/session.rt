@@ -11,8 +11,8 @@ ghost use Rattle.cm_commit.specs.Advances.{CallsDevice, HasRisen};
 ghost use Rattle.cm_machine.specs.Machine.{Machine};
 ghost use Rattle.cm_machine.specs.Laws.{Finds};
 ghost use Rattle.cm_session.specs.Images.{StandsForSome};
-ghost use Rattle.cm_session.specs.Moves.{GoesWith, Leads, Accepting, Sealing, Advancing, Learns};
-ghost use Rattle.cm_session.specs.Moves.{IsAsked, IsNoCall, is_device, MayTake, Steps};
+ghost use Rattle.cm_session.specs.Moves.{GoesWith, Leads, Accepting, Sealing, Queues, Advancing};
+ghost use Rattle.cm_session.specs.Moves.{Learns, IsAsked, IsNoCall, is_device, MayTake, Steps};
 
 use crate::joining::join_queued;
 use cm_commit::{AdvanceFault, Committer, Progress};
@@ -102,12 +102,14 @@ impl<D: Disk> Session<D> {
         number
     }
 
-    /// Hands out the oldest group of accepted commands; it waits until the committer takes it.
-    /// `None` where all commands were handed out. `Err` where an allocation failed: then they still
-    /// wait. The disk isn't touched.
+    /// Hands out the oldest group of accepted commands, with what was learnt by now; it waits until
+    /// the committer takes it. `None` where all commands were handed out. `Err` where an allocation
+    /// failed: then they still wait. The disk isn't touched.
     pub fn seal(&mut self) -> Result<Option<Sealed>, AllocError>
         ensures machine { (k : Machine) → GoesWith k self.old
             → Leads (Sealing k result) (λ next. GoesWith next self.new) }
+        ensures queued { Queues self.old.front self.old.queue.items result self.new.front
+            self.new.queue.items }
         ensures disk { self.new.committer ≡ self.old.committer }
     {
         committed_rows_are_the_machines();
@@ -190,11 +192,14 @@ impl<D: Disk> Session<D> {
         }
     }
 
-    /// Learns which commands are stored, and tells the number of the last; and whether the device
-    /// failed: then no command is accepted any more.
+    /// Lets the accepted cache learn which commands are stored, so that the chunks that wait for
+    /// them are free, and tells the number of the last; and whether the device failed: then no
+    /// command is accepted any more.
     pub fn learn(&mut self) -> u64
         ensures machine { (k : Machine) → GoesWith k self.old
             → Leads (Learns k result) (λ next. GoesWith next self.new) }
+        ensures told { (k : Machine) → GoesWith k self.old
+            → self.new.front.learnt ≡ self.new.committer.number }
         ensures disk { self.new.committer ≡ self.old.committer }
     {
         ahead_stays_ahead();

@@ -9,6 +9,7 @@ ghost use Rattle.cm_machine.specs.Machine.{Machine};
 ghost use Rattle.cm_session.specs.Images.{StandsForSome};
 ghost use Rattle.cm_session.specs.Moves.{GoesWith, Leads, Advancing};
 ghost use Rattle.cm_session.specs.Storing.{IsWorking, IsAtRest, Storing, FailsOnly, MakesNoCall};
+ghost use Rattle.cm_session.specs.Storing.{TellsFront};
 
 use crate::session::Session;
 use cm_commit::{AdvanceFault, Progress};
@@ -69,6 +70,8 @@ impl<D: Disk> Session<D> {
         ensures cause { (k : Machine) → GoesWith k self.old → IsAtRest k
             → FailsOnly (D.failures self.old.committer.disk) (D.failures self.new.committer.disk)
             result }
+        ensures told { (k : Machine) → GoesWith k self.old → IsAtRest k
+            → TellsFront self.old result self.new }
         ensures refused { (refusal : Refusal) → result ≡ Err (NotStored.Refused refusal)
             → IsReason self.old.front (change_asked command.entry) refusal }
         ensures no_call { MakesNoCall result → self.new.committer ≡ self.old.committer }

@@ -3,7 +3,6 @@
 use crate::fronts::{add_loader, define, unload, words};
 use cm_front::Front;
 use cm_group::{Group, Receipt};
-use cm_layout::{Entry, Row};
 use cm_prepare::{Prepared, Refusal};
 
 /// A call. Loaders and classes have names of one letter; a class that is defined stands at a place
@@ -44,12 +43,8 @@ fn answer_number(answer: Result<u64, Refusal>) -> Answer {
 }
 
 fn order_of(group: &Group) -> Option<Answer> {
-    match group.entries().last()?.entry() {
-        Entry::Live(Row::Class(row, ())) => {
-            Some(Answer::Order(row.place.chunk.order, row.place.words))
-        }
-        _ => None,
-    }
+    let (row, _) = group.entries().last()?.class_made()?;
+    Some(Answer::Order(row.place.chunk.order, row.place.words))
 }
 
 fn define_at(front: &mut Front, loader: u8, classes: &[Prepared], at: usize) -> Answer {

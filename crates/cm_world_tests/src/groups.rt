@@ -31,7 +31,7 @@ fn chunk(root: u32, at: u32) -> Chunk {
 fn class_entry(alloc: Global, loader: u64, name: u8, place: Place) -> Result<CarriedEntry, Fail> {
     let class = class(alloc, name, 0)?;
     let row = ClassRow { loader, place };
-    Ok(CarriedEntry::class(alloc, row, class.into_record())?)
+    Ok(CarriedEntry::class(alloc, row, class.into_record()))
 }
 
 fn loader_entry(alloc: Global, number: u64, name: u8) -> Result<CarriedEntry, Fail> {

@@ -7,7 +7,6 @@ use crate::fronts::{add_loader, define, empty, unload, words};
 use crate::words::{Chain, ROOTS, Region, TOP};
 use cm_front::Front;
 use cm_group::{CarriedEntry, Group, Receipt};
-use cm_layout::{Entry, Row};
 use cm_pool::Place;
 use cm_prepare::{Prepared, Refusal};
 use std::alloc::{AllocError, Global};
@@ -121,9 +120,9 @@ impl Model {
 
 // Where an entry's record lies, if it has one.
 fn place_of(entry: &CarriedEntry) -> Option<Place> {
-    match entry.entry() {
-        Entry::Live(Row::Class(row, ())) => Some(row.place),
-        _ => None,
+    match entry.class_made() {
+        Some((row, _)) => Some(row.place),
+        None => None,
     }
 }
 

@@ -1,4 +1,5 @@
-use Rattle.std.proofs.Common.{ℕ, List, subst}
+use Rattle.std.proofs.Common.{ℕ, List, subst, ap, rules}
+use Rattle.std.specs.Prelude.{is_ok}
 use Rattle.cm_verdict.specs.Verdict.{verdict}
 use Rattle.cm_recover.specs.Standing.{Answers, IsStanding}
 use Rattle.cm_recover.proofs.SyncRuns.{not_synced, synced, always_ok, settled_after}
@@ -10,7 +11,7 @@ returns-in_err-sync-clause-run g c =
     not_synced disk.moment disk.left_since disk.contents disk.unsynced disk.failures c.args.disk.now
     c.sync.new.self c.sync.result c.in_err-sync.field-0.0 _ g.met.D.Disk.only_now
     c.sync.ensures.contents c.in_err-sync.ensures.not_settled c.sync.ensures.time
-    c.sync.ensures.cause (c.in_err-sync.was {u = tt})
+    c.sync.ensures.cause (c.in_err-sync.was {u = tt}) (search rules)
 
 pub returns-clause-standing : goal.returns-clause-standing
 returns-clause-standing g c =
@@ -32,4 +33,5 @@ returns-clause-run g c =
     synced disk.moment disk.left_since disk.contents disk.unsynced disk.failures c.args.disk.now
     c.sync.new.self c.read_standing.new.disk c.sync.result _ g.met.D.Disk.only_now
     (g.met.D.Disk.sound c.args.disk.now) c.sync.ensures.contents c.in_ok-sync.ensures.settled
-    c.sync.ensures.time c.sync.ensures.cause c.read_standing.ensures.reads
+    c.sync.ensures.time c.sync.ensures.cause (ap is_ok c.in_ok-sync.was)
+    c.read_standing.ensures.reads

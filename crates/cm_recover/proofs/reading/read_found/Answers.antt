@@ -1,8 +1,9 @@
-use Rattle.std.proofs.Common.{◌∙◌}
+use Rattle.std.proofs.Common.{◌∙◌, refl}
 use Rattle.cm_layout.specs.declared.half.Half.TheVariants.{Zero, One}
 use Rattle.cm_recover.proofs.Halves.{sizes_told, half_inside, half_read, half_long, answered}
 use Rattle.cm_recover.proofs.Halves.{other_told}
-use Rattle.cm_recover.proofs.Readings.{then_reads, no_more}
+use Rattle.cm_recover.specs.declared.fault.OpenFault.TheVariants as open_fault
+use Rattle.cm_recover.proofs.Readings.{then_reads, no_more, ok_no_fault}
 use Rattle.cm_recover.proofs.reading.read_found.Goals as goal
 
 pub returns-in_err-geometry-clause-found : goal.returns-in_err-geometry-clause-found
@@ -67,10 +68,13 @@ returns-clause-reads g c =
     let disk = g.D.Disk in
     no_more disk.moment disk.left_since disk.contents disk.unsynced disk.failures c.args.disk.now
     c.read_part-2.new.disk _ _ c.walk_halves.ensures.in_memory
+    (ok_no_fault _ _ open_fault.Device refl)
     (then_reads disk.moment disk.left_since disk.contents disk.unsynced disk.failures
     c.args.disk.now c.read_part.new.disk c.read_part-2.new.disk _ _
+    (ok_no_fault _ _ open_fault.Device refl)
     (then_reads disk.moment disk.left_since disk.contents disk.unsynced disk.failures
     c.args.disk.now c.read_sizes.new.disk c.read_part.new.disk _ _
+    (ok_no_fault _ _ open_fault.Device refl)
     c.in_ok-geometry.ensures.reads c.in_ok-zero.ensures.reads)
     c.in_ok-one.ensures.reads)
 

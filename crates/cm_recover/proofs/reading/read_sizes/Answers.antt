@@ -4,7 +4,7 @@ use Rattle.cm_verdict.specs.Found.{sizes_found}
 use Rattle.cm_verdict.proofs.{part_long}
 use Rattle.cm_recover.specs.declared.fault.OpenFault.TheVariants as open_fault
 use Rattle.cm_recover.proofs.Halves.{short_file}
-use Rattle.cm_recover.proofs.Readings.{then_reads, no_more, ok_no_fault}
+use Rattle.cm_recover.proofs.Readings.{then_reads, no_more, ok_no_fault, ok_no_err}
 use Rattle.cm_recover.proofs.reading.read_sizes.Goals as goal
 
 pub returns-then-long-clause-sizes : goal.returns-then-long-clause-sizes
@@ -38,5 +38,7 @@ returns-clause-reads g c =
     c.len.ensures.unsynced c.len.ensures.time c.len.ensures.cause in
     no_more disk.moment disk.left_since disk.contents disk.unsynced disk.failures c.args.disk.now
     c.read_part.new.disk _ _ (ok_no_fault _ _ open_fault.Device refl)
+    (ok_no_fault _ _ open_fault.Device refl)
     (then_reads disk.moment disk.left_since disk.contents disk.unsynced disk.failures
-    c.args.disk.now c.len.new.self c.read_part.new.disk _ _ len c.in_ok-block.ensures.reads)
+    c.args.disk.now c.len.new.self c.read_part.new.disk _ _
+    (ok_no_err c.len.result _ c.in_ok-long.was) len c.in_ok-block.ensures.reads)

@@ -11,7 +11,7 @@ use Rattle.cm_recover.proofs.Verdicts.{fault_told, no_found, no_classes}
 use Rattle.cm_recover.proofs.Assembled.{assembled, same_classes}
 use Rattle.cm_guards.proofs.{one_read}
 use Rattle.cm_recover.specs.declared.fault.OpenFault.TheVariants as open_fault
-use Rattle.cm_recover.proofs.Readings.{then_reads, no_more, ok_no_fault}
+use Rattle.cm_recover.proofs.Readings.{then_reads, no_more, ok_no_fault, ok_no_err}
 use Rattle.cm_recover.proofs.standing.read_standing.Goals as goal
 
 pub returns-in_err-found-clause-standing : goal.returns-in_err-found-clause-standing
@@ -81,8 +81,12 @@ returns-clause-reads g c =
     c.len.ensures.unsynced c.len.ensures.time c.len.ensures.cause in
     no_more disk.moment disk.left_since disk.contents disk.unsynced disk.failures c.args.disk.now
     c.take_all-2.new.disk _ _ (ok_no_fault _ _ open_fault.Device refl)
+    (ok_no_fault _ _ open_fault.Device refl)
     (then_reads disk.moment disk.left_since disk.contents disk.unsynced disk.failures
     c.args.disk.now c.len.new.self c.take_all-2.new.disk _ _
+    (ok_no_err c.len.result _ c.in_ok-long.was)
     (then_reads disk.moment disk.left_since disk.contents disk.unsynced disk.failures
-    c.args.disk.now c.read_found.new.disk c.len.new.self _ _ c.in_ok-found.ensures.reads len)
+    c.args.disk.now c.read_found.new.disk c.len.new.self _ _
+    (ok_no_fault _ _ open_fault.Device refl)
+    c.in_ok-found.ensures.reads len)
     c.in_ok-rows.ensures.reads)

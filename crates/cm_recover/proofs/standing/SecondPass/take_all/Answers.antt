@@ -1,11 +1,12 @@
-use Rattle.std.proofs.Common.{ℕ, List, [], ◌∷◌, subst}
+use Rattle.std.proofs.Common.{ℕ, List, [], ◌∷◌, subst, refl}
 use Rattle.cm_guards.proofs.{no_read}
 use Rattle.cm_layout.specs.declared.row.Row.{Row}
 use Rattle.cm_verdict.specs.declared.defined_at.DefinedAt.{DefinedAt}
 use Rattle.cm_verdict.specs.Verdict.{classes_found}
 use Rattle.cm_recover.specs.Opening.{IsFaultIn}
 use Rattle.cm_recover.specs.Standing.{Tells, AreRecorded, row_found}
-use Rattle.cm_recover.proofs.Readings.{then_reads, no_more}
+use Rattle.cm_recover.specs.declared.fault.OpenFault.TheVariants as open_fault
+use Rattle.cm_recover.proofs.Readings.{then_reads, no_more, ok_no_fault, passed_on}
 use Rattle.cm_recover.proofs.Verdicts.{fault_told}
 use Rattle.cm_recover.proofs.Passing.{IsPassing, passing_begins, passing_on, passing_fails}
 use Rattle.cm_recover.proofs.Passing.{passing_ends}
@@ -39,13 +40,26 @@ loop-row-preserved g c =
     record {
       reads = no_more disk.moment disk.left_since disk.contents disk.unsynced disk.failures
           c.args.disk.now c.take_row.new.disk _ _ (λ (x : ⊥). x)
+          (ok_no_fault _ _ open_fault.Device refl)
           (then_reads disk.moment disk.left_since disk.contents disk.unsynced disk.failures
-          c.args.disk.now l.disk c.take_row.new.disk _ _ l.invariant.reads t.reads);
+          c.args.disk.now l.disk c.take_row.new.disk _ _ (λ (x : ⊥). x) l.invariant.reads
+          t.reads);
       passing = passing_on sizes contents number all rest row l.rows p c.take_row.new.rows
           (subst (λ (now : List ℕ). Tells (λ (u : Unit {0}). AreRecorded sizes c.take_row.new.rows)
           (row_found sizes now p.taken row) tt) l.invariant.reads.contents_stay
           (t.taken p.taken p.recorded));
     }
+
+pub returns-in_err-take_row-clause-reads : goal.returns-in_err-take_row-clause-reads
+returns-in_err-take_row-clause-reads g c =
+    let disk = g.D.Disk in
+    let l = c.loop-row in
+    then_reads disk.moment disk.left_since disk.contents disk.unsynced disk.failures
+    c.args.disk.now l.disk c.take_row.new.disk _ _ (λ (x : ⊥). x) l.invariant.reads
+    (passed_on disk.moment disk.left_since disk.contents disk.unsynced disk.failures
+    l.disk c.take_row.new.disk _ c.from_residual-in_err-take_row.result
+    c.in_err-take_row.field-0.0 open_fault.Device refl
+    c.from_residual-in_err-take_row.ensures.1 c.in_err-take_row.ensures.reads)
 
 pub returns-in_err-take_row-clause-classes : goal.returns-in_err-take_row-clause-classes
 returns-in_err-take_row-clause-classes g c =

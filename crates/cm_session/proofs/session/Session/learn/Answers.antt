@@ -1,5 +1,6 @@
 use Rattle.std.proofs.Common.{ℕ, sym, subst, ◌∙◌, ap, arith}
 use Rattle.std.specs.Prelude.{◌||◌}
+use Rattle.cm_front.specs.Front.{FrontState}
 use Rattle.cm_front.specs.Accepting.{with_learnt}
 use Rattle.cm_session.specs.declared.session.Session.{Session}
 use Rattle.cm_session.specs.Moves.{Leads, Learns}
@@ -31,3 +32,19 @@ returns-clause-machine g c =
     (λ j. i.noticed_is j || (i.failed_is ∙ sym i.failed_told) j)
     (learnt
     ∙ (λ j. with_learnt (ap (λ (z : Session _). z.front) same j) (number j))))
+
+pub returns-clause-told : goal.returns-clause-told
+returns-clause-told g c =
+    let same = c.notice.ensures in
+    let number = c.number-number.ensures in
+    λ k i.
+    let handed = i.ahead.sealed in
+    let least = i.ahead.learnt in
+    let sealed = ap (λ (z : Session _). z.front.sealed) same in
+    let before = ap (λ (z : Session _). z.front.learnt) same in
+    let here = ap (λ (z : Session _). z.committer.number) same in
+    let known = on_ok c.learn-known.result
+    (c.learn-known.ensures.known.1 (omega (arith, sealed, number, handed, here)))
+    c.learn-known.ensures.ok in
+    let then = ap (λ (f : FrontState). f.learnt) known in
+    omega (arith, then, before, number, here, least)

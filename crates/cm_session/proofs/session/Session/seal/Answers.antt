@@ -45,3 +45,14 @@ returns-clause-machine g c =
     (λ j. c.first-first.ensures.value j + (c.count.ensures j - 1))
     (c.push_back_reserved.ensures.items
     ∙ ap (λ (q : List Handed). q ++ group ∷ []) c.reserve.ensures.items)
+
+pub returns-in_default-clause-queued : goal.returns-in_default-clause-queued
+returns-in_default-clause-queued g c = (refl, c.reserve.ensures.items)
+
+pub returns-clause-queued : goal.returns-clause-queued
+returns-clause-queued g c = (
+  c.in-Some.group,
+  c.in-Some.ensures,
+  c.push_back_reserved.ensures.items
+      ∙ ap (λ (q : List Handed). q ++ c.in-Some.group ∷ []) c.reserve.ensures.items,
+)

@@ -101,3 +101,25 @@ returns-in-Err-progress-clause-cause g c =
     (fails sizes k a.change number accepted rest answers
     (failures c.seal.new.self.committer.disk) now c.in-Err-progress.field-0
     (c.in-Err-progress.ensures.machine h with_it) c.in-Err-progress.ensures.cause))
+
+pub returns-in-Ok-progress-clause-told : goal.returns-in-Ok-progress-clause-told
+returns-in-Ok-progress-clause-told g c =
+    let sizes = c.args.self.now.committer.sizes in
+    λ k goes rest.
+    let a = c.in-Ok.ensures.machine k goes in
+    let h = handed sizes k a.change c.in-Ok.number a.leads.next rest a.leads.does in
+    let with_it = sealed sizes k a.change c.in-Ok.number a.leads.next rest a.leads.does
+    c.seal.result c.if-is_err.ensures.value (c.seal.ensures.machine a.leads.next a.leads.goes) in
+    let stored = c.in-Ok-progress.ensures.machine h with_it in
+    c.learn.ensures.told stored.next stored.goes
+
+pub returns-in-Err-progress-clause-told : goal.returns-in-Err-progress-clause-told
+returns-in-Err-progress-clause-told g c =
+    let sizes = c.args.self.now.committer.sizes in
+    λ k goes rest.
+    let a = c.in-Ok.ensures.machine k goes in
+    let h = handed sizes k a.change c.in-Ok.number a.leads.next rest a.leads.does in
+    let with_it = sealed sizes k a.change c.in-Ok.number a.leads.next rest a.leads.does
+    c.seal.result c.if-is_err.ensures.value (c.seal.ensures.machine a.leads.next a.leads.goes) in
+    let lost = c.in-Err-progress.ensures.machine h with_it in
+    c.learn.ensures.told lost.next lost.goes
