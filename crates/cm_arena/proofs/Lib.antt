@@ -1,3 +1,4 @@
 mod Fetching
 mod ChainFacts
 mod Places
+mod Tightened

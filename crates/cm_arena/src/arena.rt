@@ -1,11 +1,13 @@
 // An arena.
 ghost use Rattle.std.specs.Prelude.{List, ◌≡◌, ◌<◌, ◌≤◌, ◌↔◌, [], ◌∷◌, ◌++◌, length, vec_len};
 ghost use Rattle.std.specs.Prelude.{vec_capacity, IsTrue, IfOk, IfSome, IfNone, OnSome, OnErr};
-ghost use Rattle.std.specs.Prelude.{IsErrOf, MatchResult, if◌then◌else◌};
+ghost use Rattle.std.specs.Prelude.{IsErrOf, MatchResult, if◌then◌else◌, Some};
+ghost use Rattle.std.specs.Option.{option_map};
 ghost use Rattle.cm_pool.specs.Chunks.{chunk_size};
-ghost use Rattle.cm_arena.specs.Chains.{used_of, chain_of, IsArena};
+ghost use Rattle.cm_arena.specs.Chains.{used_of, last_of, chain_of, IsArena};
 ghost use Rattle.cm_arena.specs.Placing.{IsOnTop, HasRoom, next_offset as next_offset_of};
 
+use crate::better::take_better;
 use crate::fetch::{fetch, has_free, order_for};
 use crate::refusal::PlaceRefusal;
 use cm_pool::{Chunk, Place, Pool};
@@ -20,6 +22,14 @@ use std::marker::Model;
 pub struct Arena {
     chunks: Vec<Chunk>,
     used: Vec<u32>,
+}
+
+/// Where an arena's used words moved: from its last chunk, which isn't the arena's any more, to
+/// another, which is the last one now.
+#[derive(Clone, Copy, Debug, PartialEq, Eq)]
+pub struct Moved {
+    pub from: Chunk,
+    pub to: Chunk,
 }
 
 impl Model for Arena {
@@ -42,6 +52,7 @@ impl Arena {
     ghost use Rattle.cm_pool.specs.declared.chunk.Chunk.{Chunk};
     ghost use Rattle.cm_pool.specs.Lists.{Among};
     ghost use Rattle.cm_pool.specs.Held.{AreHeld, NoneIsLost};
+    ghost use Rattle.cm_arena.specs.Tightening.{HoldsLast, IsTight, Tightens, with_last};
 
     /// An arena with no chunk.
     pub fn new(alloc: Global) -> Arena
@@ -160,6 +171,61 @@ impl Arena {
         }
         append(&mut self.chunks, &mut self.used, place.chunk, place.words);
         Ok(true)
+    }
+
+    /// Puts another chunk in the place of the last one, whose used words are then used at the
+    /// other's front, and gives the last one. Takes no memory.
+    pub fn swap_last(&mut self, chunk: Chunk) -> Chunk
+        requires { HoldsLast self.old chunk }
+        ensures last { option_map (λ f. f.chunk) (last_of self.old) ≡ Some result }
+        ensures swapped { self.new ≡ with_last self.old chunk }
+    {
+        let last = self.chunks.len() - 1;
+        let from = self.chunks[last];
+        self.chunks[last] = chunk;
+        from
+    }
+
+    /// Moves the used words of the last chunk to the first free chunk of the least order that holds
+    /// them, at the same offsets, where that chunk is smaller or lies before the last one. `None`,
+    /// and nothing is changed, where there is no last chunk, no such free chunk, or neither of the
+    /// two holds of it. No root is added. The chunk left is the caller's. Takes no memory.
+    pub fn tighten(&mut self, pool: &mut Pool) -> Option<Moved>
+        ensures some { IfSome result
+            (λ m. Tightens self.old pool.old m.from m.to self.new pool.new) }
+        ensures none { IfNone result (IsTight self.old pool.old
+            × ((self.new ≡ self.old) × (pool.new ≡ pool.old))) }
+        // What the arena has, what it left, and what others have of the pool is each one's alone,
+        // and no word of the pool is lost.
+        ensures alone { IfSome result (λ m. (others : List Chunk)
+            → AreHeld pool.old (chunks_of self.old ++ others)
+            → AreHeld pool.new (chunks_of self.new ++ m.from ∷ others)) }
+        ensures none_lost { IfSome result (λ m. (others : List Chunk)
+            → NoneIsLost pool.old (chunks_of self.old ++ others)
+            → NoneIsLost pool.new (chunks_of self.new ++ m.from ∷ others)) }
+    {
+        let last = self.chunks.len().checked_sub(1)?;
+        let need = order_for(self.used[last]);
+        let to = take_better(pool, need, &self.chunks[last])?;
+        let from = self.swap_last(to);
+        Some(Moved { from, to })
+    }
+
+    /// Whether [`tighten`](Arena::tighten) gives nothing. Takes no memory, and leaves the pool as
+    /// it was.
+    pub fn is_tight(&self, pool: &mut Pool) -> bool
+        ensures tight { IsTrue result ↔ IsTight self.now pool.old }
+        ensures left { pool.new ≡ pool.old }
+    {
+        let Some(last) = self.chunks.len().checked_sub(1) else {
+            return true;
+        };
+        let need = order_for(self.used[last]);
+        let Some(found) = take_better(pool, need, &self.chunks[last]) else {
+            return true;
+        };
+        pool.give(found);
+        false
     }
 
     /// Gives the arena up: its chunks, in order.

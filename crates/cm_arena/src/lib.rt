@@ -2,8 +2,9 @@
 #![tactic(auto)]
 
 mod arena;
+mod better;
 mod fetch;
 mod refusal;
 
-pub use arena::Arena;
+pub use arena::{Arena, Moved};
 pub use refusal::PlaceRefusal;

@@ -91,6 +91,38 @@ left s k chain n had last h =
       rises = pairs-push (λ (v w : Waits). v.number ≤ w.number) s.waiting w h.rises last;
     }
 
+-- an arena and the pool changed, and a chunk that was left waits behind the others
+pub tightened : (s : SpaceState) (k : ℕ) (chain next : List Filled) (p : FreeSpace) (from : Chunk)
+    (n : ℕ) → map.get s.arenas k ≡ Some chain
+    → AllByRecursion (λ (w : Waits). w.number ≤ n) s.waiting → IsSpace s
+    → ((rest : List Chunk) → AreHeld s.pool (chunks_of chain ++ rest)
+    → AreHeld p (chunks_of next ++ from ∷ rest))
+    → ((rest : List Chunk) → NoneIsLost s.pool (chunks_of chain ++ rest)
+    → NoneIsLost p (chunks_of next ++ from ∷ rest))
+    → IsSpace (record (with_arena s k next) {
+      pool = p;
+      waiting = s.waiting ++ record { number = n; chunks = from ∷ [] } ∷ [];
+    })
+tightened s k chain next p from n had last h held kept =
+    let mine = chunks_of next in
+    let theirs = of_others s.arenas k in
+    let ws = waiting_chunks s.waiting in
+    let w : Waits = record { number = n; chunks = from ∷ [] } in
+    let out = had-out s.arenas k chain ws had in
+    let behind : waiting_chunks (s.waiting ++ w ∷ []) ≡ ws ++ from ∷ [] =
+    chunks-append s.waiting (w ∷ []) in
+    let moved = alike-then _ _ _ (alike-behind mine _ _
+    (alike-then _ _ _ (alike-trade (from ∷ []) theirs ws)
+    (alike-behind theirs _ _
+    (alike-then _ _ _ (alike-same _ _ (ap (λ cs. from ∷ cs) (sym (append-nil ws))))
+    (alike-then _ _ _ (alike-trade (from ∷ []) ws []) (alike-same _ _ (sym behind)))))))
+    (insert-back s.arenas k next (waiting_chunks (s.waiting ++ w ∷ []))) in
+    record {
+      held = moved.held p [] (held (beside s k) (out.held s.pool [] h.held));
+      none_lost = moved.kept p [] (kept (beside s k) (out.kept s.pool [] h.none_lost));
+      rises = pairs-push (λ (v w : Waits). v.number ≤ w.number) s.waiting w h.rises last;
+    }
+
 -- what is due is free
 pub learned : (s : SpaceState) (n : ℕ) → IsSpace s → IsSpace (learnt s n)
 learned s n h =

@@ -1,4 +1,5 @@
 pub mod Space
 pub mod Ownership
 pub mod Adopting
+pub mod Tightening
 pub mod Laws

@@ -6,8 +6,8 @@ ghost use Rattle.std.specs.FinMap as map;
 ghost use Rattle.cm_pool.specs.Chunks.{chunk_size};
 
 use crate::adopt::adopt_place;
-use crate::waiting::{Waiting, free_due};
-use cm_arena::{Arena, PlaceRefusal};
+use crate::waiting::{Waiting, free_due, reserve_left, wait_behind};
+use cm_arena::{Arena, Moved, PlaceRefusal};
 use cm_pool::{Chunk, Geometry, Place, Pool};
 use std::alloc::{AllocError, Global};
 use std::collections::{BTreeMap, VecDeque};
@@ -49,6 +49,8 @@ impl Space {
     ghost use Rattle.cm_space.specs.Space.{without_arena, learnt};
     ghost use Rattle.cm_space.specs.Ownership.{IsSpace, Owns};
     ghost use Rattle.cm_space.specs.Adopting.{adopted, IsAdoptable, IsOnTheWay};
+    ghost use Rattle.cm_arena.specs.Tightening.{IsTight};
+    ghost use Rattle.cm_space.specs.Tightening.{Answers};
 
     /// A space with no roots and no loaders.
     pub fn new(alloc: Global, geometry: Geometry) -> Result<Space, AllocError>
@@ -198,6 +200,43 @@ impl Space {
             })
             .unwrap();
         Ok(())
+    }
+
+    /// Whether [`tighten`](Space::tighten) gives nothing for a loader. Takes no memory, and leaves
+    /// the space as it was.
+    pub fn is_tight(&mut self, loader: u64) -> bool
+        requires { IsKnown self.old loader }
+        ensures tight { IsTrue result ↔ IsTight (arena_of self.old loader) self.old.pool }
+        ensures left { self.new ≡ self.old }
+    {
+        let arena = self.arenas.get(&loader).unwrap();
+        arena.is_tight(&mut self.pool)
+    }
+
+    /// Moves the used words of a loader's last chunk, as [`Arena::tighten`] does. The chunk left,
+    /// and no other, waits for the number from then on, behind those that wait already. `None`, and
+    /// nothing is changed, where the words have nowhere to move. An `Err` changes nothing, and
+    /// comes only where they have.
+    pub fn tighten(&mut self, loader: u64, number: u64) -> Result<Option<Moved>, AllocError>
+        requires known { IsKnown self.old loader }
+        requires last { AllByRecursion (λ (w : Waits). w.number ≤ number) self.old.waiting }
+        ensures ok { IfOk result (Answers self.old loader number self.new) }
+        ensures err { OnErr result ((self.new ≡ self.old)
+            × ¬ IsTight (arena_of self.old loader) self.old.pool) }
+    {
+        let Some(left) = reserve_left(self.alloc, &mut self.waiting) else {
+            return if self.is_tight(loader) {
+                Ok(None)
+            } else {
+                Err(AllocError)
+            };
+        };
+        let chain = self.arenas.get_mut(&loader).unwrap();
+        let Some(moved) = chain.tighten(&mut self.pool) else {
+            return Ok(None);
+        };
+        wait_behind(&mut self.waiting, left, moved.from, number);
+        Ok(Some(moved))
     }
 
     /// Makes the chunks free that wait for at most this number. The others wait on.

@@ -1,11 +1,14 @@
 // Chunks that wait for a number.
-ghost use Rattle.std.specs.Prelude.{◌≡◌, ◌≤◌, IfSome, IfNone};
+ghost use Rattle.std.specs.Prelude.{◌≡◌, ◌≤◌, ◌<◌, [], ◌∷◌, ◌++◌, IfSome, IfNone};
+ghost use Rattle.std.specs.Prelude.{vec_len, vec_capacity};
+ghost use Rattle.std.specs.VecDeque.{deque_len, deque_capacity};
 ghost use Rattle.cm_pool.specs.Held.{AreHeld};
 ghost use Rattle.cm_pool.specs.Lists.{Pairwise};
 ghost use Rattle.cm_space.specs.Space.{Waits, waits_in, waiting_chunks, with_chunks, due};
 ghost use Rattle.cm_space.specs.Space.{not_due, IsOldestDue, IsLater};
 
 use cm_pool::{Chunk, Pool};
+use std::alloc::Global;
 use std::collections::VecDeque;
 
 /// The chunks that a command left, and its number.
@@ -13,6 +16,34 @@ use std::collections::VecDeque;
 pub struct Waiting {
     pub number: u64,
     pub chunks: Vec<Chunk>,
+}
+
+/// Room for one chunk, and for it to wait behind what waits already. `None` where an allocation
+/// failed.
+pub fn reserve_left(alloc: Global, waiting: &mut VecDeque<Waiting>) -> Option<Vec<Chunk>>
+    ensures items { waiting.new.items ≡ waiting.old.items }
+    ensures empty { IfSome result (λ left. left.items ≡ []) }
+    ensures room { IfSome result (λ left. vec_len left < vec_capacity left) }
+    ensures behind { IfSome result (λ left. deque_len waiting.new < deque_capacity waiting.new) }
+{
+    let left = Vec::with_capacity(alloc, 1).ok()?;
+    waiting.reserve(1).ok()?;
+    Some(left)
+}
+
+/// Lets a chunk wait for a number, behind what waits already, in a list that has room for it.
+pub fn wait_behind(waiting: &mut VecDeque<Waiting>, mut left: Vec<Chunk>, chunk: Chunk, number: u64)
+    requires empty { left.items ≡ [] }
+    requires room { vec_len left < vec_capacity left }
+    requires behind { deque_len waiting.old < deque_capacity waiting.old }
+    ensures { waits_in waiting.new.items ≡ waits_in waiting.old.items
+        ++ record { number = number; chunks = chunk ∷ [] } ∷ [] }
+{
+    left.push(chunk).unwrap();
+    waiting.push_back_reserved(Waiting {
+        number,
+        chunks: left,
+    });
 }
 
 /// Makes the chunks free that wait for at most this number.

@@ -2,7 +2,7 @@
 ghost use Rattle.std.specs.Prelude.{◌≤◌};
 
 use crate::samples::{Parts, chunk, empty_pool};
-use cm_arena::{Arena, PlaceRefusal};
+use cm_arena::{Arena, Moved, PlaceRefusal};
 use cm_pool::{Chunk, Place, Pool};
 use std::alloc::AllocError;
 use std::test::Fail;
@@ -173,4 +173,34 @@ fn adopts_the_next_place(rt: HostRuntime) {
     let mut arena = Arena::new(rt.alloc());
     assert_eq!(rt; adopt_each(&mut arena), Ok(None));
     assert!(rt; uses(&arena, &ADOPTED));
+}
+
+// The last chunk's words move to the first free chunk that they need, and then nowhere.
+fn moves_down_once(arena: &mut Arena, pool: &mut Pool) -> bool {
+    let moved = Moved {
+        from: chunk((0, 1, 256)),
+        to: chunk((0, 0, 128)),
+    };
+    !arena.is_tight(pool)
+        && arena.tighten(pool) == Some(moved)
+        && arena.is_tight(pool)
+        && arena.tighten(pool).is_none()
+}
+
+const MOVED_DOWN: [Used; 3] = [
+    ((0, 0, 0), Some(16)),
+    ((0, 0, 128), Some(113)),
+    ((0, 1, 256), None),
+];
+
+#[test]
+fn a_tail_moves_down(rt: HostRuntime) -> Result<(), Fail> {
+    let mut pool = empty_pool(rt.alloc(), 3, 1)?;
+    let mut arena = Arena::new(rt.alloc());
+    assert!(rt; arena.is_tight(&mut pool));
+    let _front = place(&mut arena, 16, &mut pool);
+    let _tail = place(&mut arena, 113, &mut pool);
+    assert!(rt; moves_down_once(&mut arena, &mut pool));
+    assert!(rt; uses(&arena, &MOVED_DOWN));
+    Ok(())
 }

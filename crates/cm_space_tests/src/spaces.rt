@@ -5,7 +5,7 @@ ghost use Rattle.std.specs.List.{AllByRecursion};
 ghost use Rattle.cm_space.specs.Space.{Waits};
 
 use crate::samples::{Parts, chunk};
-use cm_arena::PlaceRefusal;
+use cm_arena::{Moved, PlaceRefusal};
 use cm_pool::{Chunk, Geometry, Place};
 use cm_space::Space;
 use std::alloc::Global;
@@ -150,6 +150,49 @@ fn leave_and_learn(rt: &impl Abort, space: &mut Space) -> Result<(), Fail>
 fn a_left_chunk_waits_for_its_number(rt: HostRuntime) -> Result<(), Fail> {
     let mut space = empty(rt.alloc(), 3, 1)?;
     leave_and_learn(&rt, &mut space)
+}
+
+// Asks again where an allocation failed.
+fn tighten(space: &mut Space, loader: u64, number: u64) -> Result<Option<Moved>, Fail>
+    requires { space.old.waiting ≡ [] }
+{
+    if !space.is_known(loader) {
+        return Err("not known".into());
+    }
+    match space.tighten(loader, number) {
+        Ok(moved) => Ok(moved),
+        Err(_) => Ok(space.tighten(loader, number)?),
+    }
+}
+
+// Loader 1's second chunk, half of it used, moves into a smaller one, and then nowhere.
+fn moves_down_once(space: &mut Space) -> Result<bool, Fail>
+    requires { space.old.waiting ≡ [] }
+{
+    add_loader(space, 1)?;
+    let _front = place(space, 1, 16)?;
+    let _tail = place(space, 1, 113)?;
+    let moved = Moved {
+        from: chunk((0, 1, 256)),
+        to: chunk((0, 0, 128)),
+    };
+    let is_moved = tighten(space, 1, 4)? == Some(moved);
+    Ok(is_moved && space.is_known(1) && space.is_tight(1))
+}
+
+// Whether words of a new loader find a place in the chunk that was left, behind what is learnt.
+fn has_left_chunk(space: &mut Space, loader: u64, learnt: u64) -> Result<bool, Fail> {
+    space.learn(learnt);
+    add_loader(space, loader)?;
+    Ok(place(space, loader, 200)? == Ok(place_of(((0, 1, 256), 0, 200))))
+}
+
+#[test]
+fn a_chunk_that_was_moved_from_waits(rt: HostRuntime) -> Result<(), Fail> {
+    let mut space = empty(rt.alloc(), 3, 1)?;
+    assert!(rt; moves_down_once(&mut space)?);
+    assert!(rt; !has_left_chunk(&mut space, 5, 3)? && has_left_chunk(&mut space, 6, 4)?);
+    Ok(())
 }
 
 #[test]
