@@ -24,7 +24,7 @@ use Rattle.cm_cache.proofs.Tied.{entries-append}
 
 -- ---- the End
 
-entries_with_end : (l : List Message) → entries_of (l ++ End ∷ []) ≡ entries_of l
+pub entries_with_end : (l : List Message) → entries_of (l ++ End ∷ []) ≡ entries_of l
 entries_with_end [] = refl
 entries_with_end (Group g ∷ l) = ap (λ r. g.entries ++ r) (entries_with_end l)
 entries_with_end (End ∷ l) = entries_with_end l

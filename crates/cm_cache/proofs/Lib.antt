@@ -3,3 +3,6 @@ mod BoardSteps
 mod Tied
 mod Stored
 mod Flushed
+mod Leaving
+mod Counted
+mod Found

@@ -17,23 +17,21 @@ is_set word = not (word == 0)
 
 -- ---- what its users know
 
-abbrev pub poster : ℕ → BoardView
-poster number = record {
-  posts = true;
+-- one that has found this number, and heard of nobody
+abbrev pub user : Bool → ℕ → BoardView
+user posts number = record {
+  posts = posts;
   number = number;
   broken = false;
   heard_number = 0;
   heard_broken = false;
 }
 
+abbrev pub poster : ℕ → BoardView
+poster number = user true number
+
 abbrev pub reader : ℕ → BoardView
-reader number = record {
-  posts = false;
-  number = number;
-  broken = false;
-  heard_number = 0;
-  heard_broken = false;
-}
+reader number = user false number
 
 -- of the writer, once it has heard what a reader has seen
 abbrev pub hearing : BoardView → BoardView → BoardView

@@ -39,6 +39,18 @@ pub record FlushingState (D : Type 0) : Type 0 where
   pub behind : Option Handed
   pub over : Bool
 
+-- how the code keeps it
+abbrev pub flushing_of : {D : Type 0} → CommitterState D → List Message → Seen → Option Handed
+    → Option Handed → Bool → FlushingState D
+flushing_of committer received posted next behind over = record {
+  committer = committer;
+  received = received;
+  posted = posted;
+  next = next;
+  behind = behind;
+  over = over;
+}
+
 -- What was received is what is committed, then the group that is stored next, then the one after
 -- it. The Board says what is committed.
 pub record IsFlushing {D : Type 0} (base : Base) (failed : ℕ) (failures : D → ℕ)
@@ -61,6 +73,11 @@ pub record EndedState (D : Type 0) : Type 0 where
   pub received : List Message
   pub posted : Seen
   pub over : Bool
+
+-- how the code keeps it
+abbrev pub ended_of : {D : Type 0} → CommitterState D → List Message → Seen → Bool → EndedState D
+ended_of committer received posted over =
+    record { committer = committer; received = received; posted = posted; over = over }
 
 -- the group under way, if there is one, is the oldest that isn't committed
 abbrev pub IsOldest : Option Handed → List Carried → Type 0

@@ -4,3 +4,5 @@ pub mod Handing
 pub mod Shared
 pub mod Storing
 pub mod Flushing
+pub mod Closing
+pub mod Starting

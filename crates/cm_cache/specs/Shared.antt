@@ -1,6 +1,10 @@
 -- What lies under the lock, and the passes through which it is used.
 use Rattle.std.specs.Prelude.{◌≡◌, ℕ, ◌+◌, ◌≤◌, Bool, true, List, Option, Some, refl}
+use Rattle.std.specs.Prelude.{Result, IfOk, IfErr}
 use Rattle.std.specs.Coded.{Coded, code_by, coded×, coded_ℕ}
+use Rattle.cm_prepare.specs.declared.refusal.Refusal.{Refusal}
+use Rattle.cm_prepare.specs.declared.refusal.Refusal.TheVariants as refusal
+use Rattle.cm_prepare.specs.Refusals.{refusal_number}
 use Rattle.cm_state.specs.Step.{Change}
 use Rattle.cm_front.specs.Front.{FrontState, front_code}
 use Rattle.cm_cache.specs.declared.board_view.Seen.{Seen}
@@ -22,6 +26,20 @@ pub record PassState : Type 0 where
 -- a command was accepted through it
 abbrev pub counted : PassState → Change (List ℕ) → ℕ → PassState
 counted p change n = record p { share = p.share + 1; last = Some (change, n) }
+
+-- What a changing call tells, from its pass before to its pass after it. `Ok`: the command was
+-- accepted with this number through the pass, which has seen a receipt of at least that number.
+-- `Unsure`: it was accepted all the same, and the pass is marked. Any other refusal: through the
+-- pass nothing was accepted.
+pub record Tells (old : PassState) (change : Change (List ℕ)) (result : Result ℕ Refusal)
+    (new : PassState) : Type 0 where
+  pub stored : IfOk result (λ n. (n ≤ new.seen.receipt.number)
+      × (new ≡ record (counted old change n) { seen = new.seen }))
+  pub unsure : IfErr result (λ r. (n : ℕ) → r ≡ refusal.Unsure n
+      → new ≡ record (counted old change n) { seen = new.seen; marked = true })
+  pub refused : IfErr result (λ r. ¬ (refusal_number r ≡ 13)
+      → new ≡ record old { seen = new.seen })
+  pub later : old.seen.receipt.number ≤ new.seen.receipt.number
 
 -- the accepted cache, all that was sent, and how many passes were given out
 pub record SharedState : Type 0 where

@@ -23,7 +23,7 @@ const BROKEN: usize = 1;
 /// A new Board, which belongs to no cache yet.
 #[derive(Drop)]
 pub struct NewBoard {
-    number: u64,
+    pub(crate) number: u64,
     table: Table<(), BoardView, u64, BoardRule, Global>,
     seat: Seat<(), BoardView>,
     ghost has_words: { table.shared.table_id.words ≡ 2 },

@@ -1,12 +1,14 @@
 //! Storing what is received, group by group.
 
-ghost use Rattle.std.specs.Prelude.{◌≡◌, ◌≤◌, [], true, false, None, IfErr};
-ghost use Rattle.cm_cache.specs.Channel.{is_open};
+ghost use Rattle.std.specs.Prelude.{◌≡◌, ◌-◌, ◌≤◌, [], true, false, None, IfErr, length};
+ghost use Rattle.cm_cache.specs.Channel.{entries_of};
+ghost use Rattle.cm_cache.specs.Handing.{number_sent};
 ghost use Rattle.cm_cache.specs.Flushing.{IsAt, IsEnded};
+ghost use Rattle.cm_cache.specs.Closing.{LeavesBeginning};
 
 use crate::board::{Board, Poster};
 use crate::channel::Message;
-use crate::ends::Incoming;
+use crate::ends::{Incoming, Outgoing};
 use crate::naming::Naming;
 use crate::storing::store_group;
 use cm_commit::Committer;
@@ -19,6 +21,7 @@ use std::sync::Wait;
 /// Stores what it receives, in order, and writes on the Board how far it is.
 ///
 /// Contracts see its committer, what was received, what the Board says, and the groups that wait.
+#[derive(Drop)]
 pub struct Flushing<K: Naming, D: Disk> {
     committer: Committer<D>,
     incoming: Incoming<K>,
@@ -30,32 +33,20 @@ pub struct Flushing<K: Naming, D: Disk> {
 }
 
 impl<K: Naming, D: Disk> Model for Flushing<K, D> {
-    ghost use Rattle.cm_cache.specs.Flushing.{FlushingState, IsFlushing};
+    ghost use Rattle.cm_cache.specs.Flushing.{FlushingState, IsFlushing, flushing_of};
 
     ghost Value = { FlushingState D };
 
-    ghost view = { λ f. record {
-      committer = f.committer;
-      received = f.incoming;
-      posted = f.poster;
-      next = f.next;
-      behind = f.behind;
-      over = f.over;
-    } };
+    ghost view = { λ f. flushing_of f.committer f.incoming f.poster f.next f.behind f.over };
 
-    ghost invariant = { λ f. IsFlushing K.base K.failed D.failures (record {
-      committer = f.committer;
-      received = f.incoming;
-      posted = f.poster;
-      next = f.next;
-      behind = f.behind;
-      over = f.over;
-    }) };
+    ghost invariant = { λ f. IsFlushing K.base K.failed D.failures
+        (flushing_of f.committer f.incoming f.poster f.next f.behind f.over) };
 }
 
 /// What is left once nothing more is stored: the End was received, or the device failed.
 ///
 /// Contracts see the committer, what was received, and what the Board says.
+#[derive(Drop)]
 pub struct Ended<K: Naming, D: Disk> {
     committer: Committer<D>,
     incoming: Incoming<K>,
@@ -64,23 +55,14 @@ pub struct Ended<K: Naming, D: Disk> {
 }
 
 impl<K: Naming, D: Disk> Model for Ended<K, D> {
-    ghost use Rattle.cm_cache.specs.Flushing.{EndedState, IsEnded};
+    ghost use Rattle.cm_cache.specs.Flushing.{EndedState, IsEnded, ended_of};
 
     ghost Value = { EndedState D };
 
-    ghost view = { λ e. record {
-      committer = e.committer;
-      received = e.incoming;
-      posted = e.poster;
-      over = e.over;
-    } };
+    ghost view = { λ e. ended_of e.committer e.incoming e.poster e.over };
 
-    ghost invariant = { λ e. IsEnded K.base K.failed D.failures (record {
-      committer = e.committer;
-      received = e.incoming;
-      posted = e.poster;
-      over = e.over;
-    }) };
+    ghost invariant = { λ e. IsEnded K.base K.failed D.failures
+        (ended_of e.committer e.incoming e.poster e.over) };
 }
 
 impl<K: Naming, D: Disk> Flushing<K, D> {
@@ -308,6 +290,30 @@ impl<K: Naming, D: Disk> Ended<K, D> {
             Message::Group(group) => drop(group),
             Message::End => self.over = true,
         }
+    }
+
+    /// Gives the disk back, once both ends of the channel are in one thread: with the number of the
+    /// last command that is committed, and the poster of the Board.
+    pub(crate) fn leave(self, outgoing: Outgoing<K>) -> (u64, Poster<K>, D)
+        requires over { self.over ≡ true }
+        ensures least { K.base.number ≤ result.0 }
+        ensures most { result.0 ≤ number_sent K.base outgoing }
+        ensures images { LeavesBeginning K.base (length (entries_of outgoing))
+            (result.0 - K.base.number) (D.contents result.2) (D.unsynced result.2) }
+        ensures says { result.1.receipt.number ≡ result.0 }
+        ensures whole { D.failures result.2 ≡ K.failed
+            → (result.0 ≡ number_sent K.base outgoing) × (result.1.broken ≡ false) }
+    {
+        let Ended {
+            committer,
+            incoming,
+            poster,
+            ..
+        } = self;
+        outgoing.settle(incoming);
+        committer.images();
+        let number = committer.number();
+        (number, poster, committer.into_disk())
     }
 
     /// Does nothing: its clauses say what was received and stored.

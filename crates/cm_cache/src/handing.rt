@@ -1,9 +1,9 @@
 //! The accepted cache, which sends each command that it accepts to the flusher at once.
 
-ghost use Rattle.std.specs.Prelude.{◌≡◌, ◌<◌, ◌≤◌, [], ◌∷◌, ◌++◌, true, false, IfOk, OnErr};
+ghost use Rattle.std.specs.Prelude.{◌≡◌, ◌<◌, ◌≤◌, [], ◌∷◌, ◌++◌, true, false, IfOk, IfErr, OnErr};
 ghost use Rattle.cm_prepare.specs.Commands.{change_asked};
 ghost use Rattle.cm_front.specs.Front.{IsFront};
-ghost use Rattle.cm_front.specs.Accepting.{with_learnt};
+ghost use Rattle.cm_front.specs.Accepting.{with_learnt, IsReason};
 ghost use Rattle.cm_cache.specs.declared.channel.Message.TheVariants.{End};
 ghost use Rattle.cm_cache.specs.Handing.{rows_sent, number_sent, IsFresh, TakesOut, HandsOver};
 ghost use Rattle.cm_cache.specs.Handing.{SameMarks, Notices};
@@ -64,6 +64,7 @@ impl<K: Naming> Handing<K> {
         ensures ok { IfOk result
             (λ n. HandsOver K.base self.old.sent (change_asked command.entry) n self.new.sent) }
         ensures err { OnErr result (self.new ≡ self.old) }
+        ensures reason { IfErr result (IsReason self.old.front (change_asked command.entry)) }
         ensures marks { SameMarks self.old.front self.new.front }
     {
         ahead_stays_ahead();
@@ -154,6 +155,7 @@ fn take_out(front: &mut Front, command: Command<'_>) -> Result<(u64, Group), Ref
     ensures ok { IfOk result
         (λ t. TakesOut front.old (change_asked command.entry) t.0 t.1 front.new) }
     ensures err { OnErr result (front.new ≡ front.old) }
+    ensures reason { IfErr result (IsReason front.old (change_asked command.entry)) }
 {
     let number = match front.accept(command) {
         Ok(number) => number,

@@ -4,26 +4,34 @@
 mod board;
 mod board_rule;
 mod board_view;
+mod cache;
 mod channel;
 mod channel_rule;
 mod ends;
+mod flusher;
 mod flushing;
 mod handing;
 mod last;
 mod naming;
+mod new_cache;
 mod shared;
 mod storing;
+mod tally;
 
 pub use board::{Board, NewBoard, Poster, Reader};
 pub use board_rule::BoardRule;
 pub use board_view::{BoardView, Seen};
+pub use cache::{Cache, Closed};
 pub use channel::{Base, ChannelView, Message};
 pub use channel_rule::ChannelRule;
 pub use ends::{Incoming, NewChannel, Outgoing};
+pub use flusher::{Flusher, Over};
 pub use flushing::{Ended, Flushing};
 pub use handing::Handing;
 // A crate can name a pass in a contract only if the types of its fields are exported.
 #[doc(hidden)]
 pub use last::Last;
 pub use naming::Naming;
+pub use new_cache::NewCache;
 pub use shared::{MOST_PASSES, Pass, Shared};
+pub use tally::Tally;

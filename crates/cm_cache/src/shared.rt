@@ -1,22 +1,32 @@
 //! What lies under the lock of a cache that runs, and the passes through which it is used.
 
 ghost use Rattle.std.specs.Prelude.{◌≡◌, ◌+◌, ◌<◌, ◌≤◌, ◌↔◌, [], true, false, IsOk, IfOk, IfErr};
-ghost use Rattle.std.specs.Prelude.{OnOk, OnErr, None};
+ghost use Rattle.std.specs.Prelude.{OnOk, OnErr, IfSome, None, length};
+ghost use Rattle.std.specs.Option.{option_map};
+ghost use Rattle.std.specs.Arc.{arc_value};
+ghost use Rattle.cm_group.specs.Groups.{IsRightRecord};
+ghost use Rattle.cm_state.specs.State.{words_show, state_of, class_in};
 ghost use Rattle.cm_prepare.specs.Commands.{change_asked};
+ghost use Rattle.cm_front.specs.Accepting.{IsReason};
 ghost use Rattle.cm_prepare.specs.declared.refusal.Refusal.TheVariants as refusal;
+ghost use Rattle.cm_cache.specs.Channel.{entries_of};
 ghost use Rattle.cm_cache.specs.Handing.{rows_sent, number_sent, HandsOver, Notices};
 ghost use Rattle.cm_cache.specs.Shared.{counted, most_passes};
 
 use crate::board::{Board, Reader};
 use crate::board_view::Seen;
+use crate::ends::Outgoing;
 use crate::handing::Handing;
 use crate::last::Last;
 use crate::naming::Naming;
+use crate::tally::Tally;
 use cm_front::Front;
 use cm_prepare::{Command, Refusal};
+use cm_record::Record;
+use std::alloc::{AllocError, Global};
 use std::marker::Model;
-use std::sync::Wait;
 use std::sync::ledger::{Blank, Book, Share};
+use std::sync::{Arc, Wait};
 
 /// How many passes a cache gives out.
 pub const MOST_PASSES: u64 = 65_536;
@@ -104,6 +114,22 @@ impl<K: Naming> Pass<K> {
         self.marked = true;
         Err(Refusal::Unsure(number))
     }
+
+    // Gives it up: its share of the book, how many commands that is, and its reader of the Board.
+    pub(crate) fn into_parts(self) -> (Share<K>, u64, Reader<K>)
+        ensures share { (result.0.parts ≡ 1) × (result.0.amount ≡ self.share) }
+        ensures count { result.1 ≡ self.share }
+        ensures reader { result.2 ≡ self.seen }
+        ensures marked { self.marked ≡ true → self.seen.broken ≡ true }
+    {
+        let Pass {
+            share,
+            count,
+            reader,
+            ..
+        } = self;
+        (share, count, reader)
+    }
 }
 
 /// What lies under the lock: the accepted cache, which sends what it accepts, and the book of what
@@ -160,6 +186,24 @@ impl<K: Naming> Shared<K> {
         self.handing.front()
     }
 
+    /// The record of the class of a name in the loader of a name, as accepted, whether or not it is
+    /// stored.
+    pub fn find(
+        &self,
+        loader: &[u8],
+        class: &[u8],
+    ) -> Result<Option<Arc<Record, Global>>, AllocError>
+        ensures found { IfOk result (λ found. option_map arc_value found
+            ≡ class_in (state_of words_show (rows_sent K.base self.now.sent)) loader.now
+            class.now) }
+        ensures right { IfOk result (λ found. IfSome found (λ r. IsRightRecord (arc_value r))) }
+    {
+        match self.front().find(loader, class) {
+            Some(record) => Ok(Some(record.clone()?)),
+            None => Ok(None),
+        }
+    }
+
     /// Closes the cache: from now on no command is accepted.
     pub fn stop(&mut self)
         ensures { self.new ≡ record self.old { front = record self.old.front { closed = true } } }
@@ -174,6 +218,7 @@ impl<K: Naming> Shared<K> {
             (λ p. (p.share ≡ 0) × (p.marked ≡ false) × (p.last ≡ None)
             × (self.new ≡ record self.old { made = self.old.made + 1 })) }
         ensures err { OnErr result (self.new ≡ self.old) }
+        ensures refusal { IfErr result (λ r. r ≡ refusal.NumbersSpent) }
     {
         if self.made >= MOST_PASSES {
             return Err(Refusal::NumbersSpent);
@@ -209,6 +254,7 @@ impl<K: Naming> Shared<K> {
         ensures counted { IfOk result
             (λ n. pass.new ≡ counted pass.old (change_asked command.entry) n) }
         ensures refused { OnErr result ((self.new.sent ≡ self.old.sent) × (pass.new ≡ pass.old)) }
+        ensures reason { IfErr result (IsReason self.new.front (change_asked command.entry)) }
         ensures noticed { Notices self.old.front seen self.new.front }
         ensures passes { self.new.made ≡ self.old.made }
     {
@@ -224,5 +270,24 @@ impl<K: Naming> Shared<K> {
         pass.count += 1;
         pass.last = last;
         Ok(number)
+    }
+
+    /// Sends the End, and gives up the cache. What stays is the channel's end, and the tally, for
+    /// the passes to come back. Waits while the channel is full.
+    pub(crate) fn finish<R: Wait>(self, rt: &R, opened: u64) -> (Outgoing<K>, Tally<K>)
+        requires opened { opened ≡ K.base.number }
+        ensures handed { result.1.handed ≡ length (entries_of result.0) }
+        ensures missing { result.1.missing ≡ self.made }
+        ensures none { result.1.of_passes ≡ 0 }
+    {
+        let handed = self.front().number() - opened;
+        let Shared {
+            handing,
+            book,
+            rest,
+            made,
+        } = self;
+        let outgoing = handing.finish(rt);
+        (outgoing, Tally::new(book, rest, handed, made))
     }
 }

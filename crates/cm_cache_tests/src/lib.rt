@@ -2,4 +2,14 @@
 #![tactic(auto)]
 
 #[cfg(test)]
+mod adding;
+#[cfg(test)]
+mod calling;
+#[cfg(test)]
+mod held_disk;
+#[cfg(test)]
+mod holding;
+#[cfg(test)]
+mod running;
+#[cfg(test)]
 mod two_threads;

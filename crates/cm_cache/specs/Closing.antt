@@ -1,0 +1,53 @@
+-- What a cache that ran leaves: what was handed over, how much of it is stored, and what the passes
+-- counted.
+use Rattle.std.specs.Prelude.{◌≡◌, ℕ, ◌+◌, ◌≤◌, true, List, length, take}
+use Rattle.std.specs.List.{All, sum_by}
+use Rattle.cm_disk.specs.Disk.{Unsynced}
+use Rattle.cm_group.specs.Groups.{Carried}
+use Rattle.cm_guards.specs.Guards.{EachImage}
+use Rattle.cm_commit.specs.Offers.{rows_after_group}
+use Rattle.cm_commit.specs.States.{ShowsCache}
+use Rattle.cm_machine.specs.Ahead.{AllFollow}
+use Rattle.cm_cache.specs.declared.board_view.Seen.{Seen}
+use Rattle.cm_cache.specs.declared.channel.Base.{Base}
+use Rattle.cm_cache.specs.Shared.{PassState}
+
+-- ---- counting
+
+-- how many commands were handed over, how many passes aren't back, and how many commands were
+-- accepted through those that are
+pub record TallyState : Type 0 where
+  pub handed : ℕ
+  pub missing : ℕ
+  pub of_passes : ℕ
+
+-- These passes came back: none has seen more on the Board than what was posted, and none is marked
+-- unless a failure was.
+pub record AreTaken (old : TallyState) (posted : Seen) (passes : List PassState)
+    (new : TallyState) (now : Seen) : Type 0 where
+  pub handed : new.handed ≡ old.handed
+  pub missing : new.missing + length passes ≡ old.missing
+  pub of_passes : new.of_passes ≡ old.of_passes + sum_by (λ (p : PassState). p.share) passes
+  pub posted_is : now ≡ posted
+  pub seen : All (λ (p : PassState). p.seen.receipt.number ≤ posted.receipt.number) passes
+  pub marked : All (λ (p : PassState). p.marked ≡ true → posted.broken ≡ true) passes
+
+-- ---- images
+
+-- The image holds what was opened with a beginning of these entries, at least so many.
+pub record ShowsBeginning (base : Base) (all : List Carried) (least : ℕ)
+    (image : List ℕ) : Type 0 where
+  pub stored : ℕ
+  pub from : least ≤ stored
+  pub to : stored ≤ length all
+  pub shows : ShowsCache base.sizes (rows_after_group base.rows (take stored all))
+      (base.number + stored) image
+
+-- So many commands were handed over, each of which may follow those before it. Whatever a crash
+-- leaves holds a beginning of them, and at least as many as are committed.
+pub record LeavesBeginning (base : Base) (handed committed : ℕ) (contents : List ℕ)
+    (unsynced : Unsynced) : Type 0 where
+  pub all : List Carried
+  pub count : length all ≡ handed
+  pub follow : AllFollow base.sizes base.rows base.number all
+  pub images : EachImage contents unsynced (ShowsBeginning base all committed)

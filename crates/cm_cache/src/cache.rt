@@ -1,0 +1,219 @@
+//! A cache that many threads use at once.
+
+ghost use Rattle.std.specs.Prelude.{◌≡◌, ◌+◌, ◌≤◌, false, None, IfOk, IfErr, IfSome};
+ghost use Rattle.std.specs.List.{All, sum_by};
+ghost use Rattle.std.specs.Arc.{arc_value};
+ghost use Rattle.cm_record.specs.Names.{class_name_in};
+ghost use Rattle.cm_group.specs.Groups.{IsRightRecord};
+ghost use Rattle.cm_state.specs.Step.{AddLoader, Define, Unload};
+ghost use Rattle.cm_prepare.specs.Commands.{change_asked};
+ghost use Rattle.cm_prepare.specs.declared.refusal.Refusal.TheVariants as refusal;
+ghost use Rattle.cm_cache.specs.Shared.{PassState, Tells, most_passes};
+ghost use Rattle.cm_cache.specs.Starting.{Belongs, MayStart};
+ghost use Rattle.cm_cache.specs.Closing.{LeavesBeginning};
+
+use crate::board::Board;
+use crate::flusher::Flusher;
+use crate::flushing::Flushing;
+use crate::handing::Handing;
+use crate::naming::Naming;
+use crate::new_cache::NewCache;
+use crate::shared::{Pass, Shared};
+use cm_commit::Committer;
+use cm_disk::Disk;
+use cm_front::Front;
+use cm_prepare::{Command, Prepared, Refusal};
+use cm_record::Record;
+use cm_state::rows_tell_state;
+use std::alloc::{AllocError, Global};
+use std::sync::{Arc, Mutex, Wait};
+use std::thread::Threads;
+
+/// A cache that runs, whose commands another thread stores, its [`Flusher`]. Many threads use it at
+/// once.
+#[derive(Drop)]
+pub struct Cache<K: Naming> {
+    shared: Mutex<Shared<K>>,
+    board: Arc<Board<K>>,
+    opened: u64,
+    ghost opened_is: { opened ≡ K.base.number },
+}
+
+/// What a cache that ran leaves.
+#[derive(Debug)]
+pub struct Closed<D> {
+    /// How many commands were accepted and handed over to the flusher.
+    pub handed: u64,
+    /// How many of these are committed, the oldest ones.
+    pub committed: u64,
+    /// How many were accepted through the passes that came back.
+    pub of_passes: u64,
+    /// How many passes didn't come back.
+    pub missing: u64,
+    /// The disk, as it is now.
+    pub disk: D,
+}
+
+impl<K: Naming> Cache<K> {
+    /// Starts a cache that was just opened: its flusher, in a thread of its own, takes the
+    /// committer. An `Err` drops both; the file can be opened again.
+    pub fn start<R, D>(
+        rt: &R,
+        alloc: Global,
+        new: NewCache,
+        front: Front,
+        committer: Committer<D>,
+    ) -> Result<(Cache<K>, Flusher<K, D>), AllocError>
+    where
+        R: Threads + Wait + Copy + Send + 'static,
+        K: Send + Sync + 'static,
+        D: Disk + Drop + Send + 'static,
+        requires new { Belongs K.base K.channel K.board K.name K.parts new }
+        requires opened { MayStart K.base K.failed D.failures front committer }
+    {
+        let NewCache {
+            channel,
+            board,
+            ledger,
+        } = new;
+        let opened = board.number;
+        let (outgoing, incoming) = channel.named::<K>();
+        let (board, poster) = board.named::<K>();
+        let shared = Shared::new(Handing::new(front, outgoing), ledger);
+        let flushing = Flushing::new(committer, incoming, poster);
+        let board = Arc::new(alloc, board)?;
+        let theirs = Arc::try_clone(&board)?;
+        let flusher = Flusher::spawn(rt, flushing, theirs)?;
+        let cache = Cache {
+            shared: Mutex::new(shared),
+            board,
+            opened,
+        };
+        Ok((cache, flusher))
+    }
+
+    /// A new pass, through which a thread changes the cache. `NumbersSpent` where 65,536 were given
+    /// out. Waits for the lock.
+    pub fn pass<R: Wait>(&self, rt: &R) -> Result<Pass<K>, Refusal>
+        ensures ok { IfOk result
+            (λ p. (p.share ≡ 0) × (p.marked ≡ false) × (p.last ≡ None)) }
+        ensures err { IfErr result (λ r. r ≡ refusal.NumbersSpent) }
+    {
+        self.shared.lock(rt).pass(&self.board)
+    }
+
+    /// Makes a loader of this name, without classes.
+    ///
+    /// Each changing call waits for the lock, and then, without it, until its command is stored; it
+    /// answers the command's number. `Unsure` where the device failed first: the command may be
+    /// there once the file is opened again. Any other refusal is of [`Front::accept`].
+    pub fn add_loader<R: Wait>(
+        &self,
+        rt: &R,
+        pass: &mut Pass<K>,
+        name: &[u8],
+    ) -> Result<u64, Refusal>
+        ensures { Tells pass.old (AddLoader name.now) result pass.new }
+    {
+        self.change(rt, pass, Command::AddLoader(name))
+    }
+
+    /// Defines a class, which was prepared before, in the loader of this name.
+    pub fn define<R: Wait>(
+        &self,
+        rt: &R,
+        pass: &mut Pass<K>,
+        loader: &[u8],
+        class: Prepared,
+    ) -> Result<u64, Refusal>
+        ensures { Tells pass.old (Define loader.now class) result pass.new }
+    {
+        self.change(rt, pass, Command::Define(loader, class))
+    }
+
+    /// Unloads the loader of this name, with all its classes.
+    pub fn unload<R: Wait>(&self, rt: &R, pass: &mut Pass<K>, name: &[u8]) -> Result<u64, Refusal>
+        ensures { Tells pass.old (Unload name.now) result pass.new }
+    {
+        self.change(rt, pass, Command::Unload(name))
+    }
+
+    fn change<R: Wait>(
+        &self,
+        rt: &R,
+        pass: &mut Pass<K>,
+        command: Command<'_>,
+    ) -> Result<u64, Refusal>
+        ensures { Tells pass.old (change_asked command.entry) result pass.new }
+    {
+        let seen = pass.look(&self.board);
+        let held = self.shared.lock(rt).hold(rt, pass, seen, command);
+        match held {
+            Ok(number) => match pass.wait_for(rt, &self.board, number) {
+                Ok(()) => Ok(number),
+                Err(unsure) => Err(unsure),
+            },
+            Err(refusal) => Err(refusal),
+        }
+    }
+
+    /// The record of the class of a name in the loader of a name, as accepted, whether or not it is
+    /// stored; also once the cache is stopped, or the device failed. `Err` where an allocation
+    /// failed. Waits for the lock alone.
+    pub fn find<R: Wait>(
+        &self,
+        rt: &R,
+        loader: &[u8],
+        class: &[u8],
+    ) -> Result<Option<Arc<Record, Global>>, AllocError>
+        ensures right { IfOk result (λ found. IfSome found (λ r. IsRightRecord (arc_value r))) }
+        ensures named { IfOk result
+            (λ found. IfSome found (λ r. class_name_in (arc_value r) ≡ class.now)) }
+    {
+        rows_tell_state();
+        self.shared.lock(rt).find(loader, class)
+    }
+
+    /// From now on each changing call is refused with `Closed`. Waits for the lock.
+    pub fn stop<R: Wait>(&self, rt: &R) {
+        self.shared.lock(rt).stop();
+    }
+
+    /// Stores all that was handed over, unless the device fails; ends the flusher, and gives the
+    /// disk back. Takes the passes back, and counts what was accepted through them. Waits for the
+    /// flusher.
+    pub fn close<R, D>(self, rt: &R, flusher: Flusher<K, D>, passes: Vec<Pass<K>>) -> Closed<D>
+    where
+        R: Threads + Wait,
+        K: Send + Sync + 'static,
+        D: Disk + Drop + Send + 'static,
+        requires parts { K.parts ≡ most_passes }
+        ensures order { result.committed ≤ result.handed }
+        ensures shares { result.of_passes ≡ sum_by (λ (p : PassState). p.share) passes.items }
+        ensures passes { result.missing ≡ 0 → result.of_passes ≡ result.handed }
+        ensures receipts { All (λ (p : PassState).
+            p.seen.receipt.number ≤ K.base.number + result.committed) passes.items }
+        ensures images { LeavesBeginning K.base result.handed result.committed
+            (D.contents result.disk) (D.unsynced result.disk) }
+        ensures whole { D.failures result.disk ≡ K.failed
+            → (result.committed ≡ result.handed)
+            × All (λ (p : PassState). p.marked ≡ false) passes.items }
+    {
+        let Cache {
+            shared,
+            board,
+            opened,
+        } = self;
+        let (outgoing, mut tally) = shared.into_inner().finish(rt, opened);
+        let (number, mut poster, disk) = flusher.join(rt).leave(outgoing);
+        tally.take_all(&mut poster, &board, passes);
+        let (handed, missing, of_passes) = tally.count();
+        Closed {
+            handed,
+            committed: number - opened,
+            of_passes,
+            missing,
+            disk,
+        }
+    }
+}

@@ -1,0 +1,36 @@
+//! What the threads of a cache share, made before the cache is started.
+
+ghost use Rattle.std.specs.Prelude.{◌≡◌, IfOk};
+ghost use Rattle.cm_cache.specs.Shared.{most_passes};
+
+use crate::board::NewBoard;
+use crate::ends::NewChannel;
+use crate::shared::MOST_PASSES;
+use std::alloc::{AllocError, Global};
+use std::sync::ledger::Blank;
+
+/// A new channel, a new Board and a new ledger, which belong to no cache yet. A caller names these
+/// three for the cache that is started with them.
+#[derive(Drop)]
+pub struct NewCache {
+    /// From the accepted cache to the flusher.
+    pub channel: NewChannel,
+    /// On which the flusher writes how far commands are stored.
+    pub board: NewBoard,
+    /// In which the accepted commands are counted.
+    pub ledger: Blank,
+    ghost is_whole: { ledger.parts ≡ most_passes },
+}
+
+impl NewCache {
+    /// For a cache of which all commands up to this number are stored.
+    pub fn new(alloc: Global, number: u64) -> Result<NewCache, AllocError>
+        ensures { IfOk result (λ c. c.board.number ≡ number) }
+    {
+        Ok(NewCache {
+            channel: NewChannel::new(alloc)?,
+            board: NewBoard::new(alloc, number)?,
+            ledger: Blank::new(MOST_PASSES),
+        })
+    }
+}
