@@ -4,7 +4,7 @@
 #
 #     bench/files.sh [RUNS] [FOLDER]
 #
-# cm_bench_file defines ordinary classes (those of bench/run.sh) in a new file in FOLDER (the
+# cm_bench put defines ordinary classes (those of bench/run.sh) in a new file in FOLDER (the
 # crate's out/), one a commit and 64 a commit. The same records, as they stand in that file, are
 # then stored by SQLite (write-ahead log, synchronous=FULL), by LMDB, by the bare device calls that
 # the same commits make (bench/stores.c), and by two other choices of these calls, on the same file
@@ -31,7 +31,7 @@ fetch() {
     { apt-get update -qq && apt-get install -y -qq "${packages[@]}"; } >&2 || true
 }
 
-. "$top/bench/lib.sh"
+. "$top/bin/build.sh"
 
 # has HEADER: whether the C compiler finds it
 has() {
@@ -61,10 +61,9 @@ else
     echo "missing: liblmdb-dev: no row of LMDB"
 fi
 gcc -O2 -o "$work/stores" "$top/bench/stores.c" "${flags[@]}"
-build cm_bench_file
 build cm_bench
-bench=$top/crates/cm_bench_file/out/cm_bench_file
-folder=$(mktemp -d -p "${2:-$top/crates/cm_bench_file/out}")
+bench=$top/crates/cm_bench/out/cm_bench
+folder=$(mktemp -d -p "${2:-$top/crates/cm_bench/out}")
 
 "$top/bench/bench_classes.py" --only-52 "${jars[@]}" >"$work/classes"
 "$bench" put "$folder/first" --group 64 "${sizes[@]}" <"$work/classes"
@@ -108,7 +107,7 @@ for count in 10000 20000 30000; do
     "$top/bench/many_classes.py" "$count" <"$work/classes" >"$work/many"
     "$bench" put "$folder/many" --group 64 --top 12 --roots 256 --slots 65536 <"$work/many"
     {
-        "$top/crates/cm_bench/out/cm_bench" --passes "$runs" <"$work/many"
+        "$bench" classes --passes "$runs" <"$work/many"
         for ((run = 0; run < runs; run++)); do "$bench" read "$folder/many" --times; done
     } | awk '
         $1 == "read_class" || $1 == "Record::read" { alone += $9 }

@@ -8,7 +8,7 @@
 # jars of Debian packages) and over hostile ones (bench/bench_classes.py says what they are), and
 # lets mature libraries (ASM, Javassist, BCEL) read the same ordinary files whole. Each row has the
 # best of PASSES passes (20; of hostile files 3). "ratio" is the time for each byte of class file,
-# compared with the same step on ordinary files. Then cm_bench_front makes its calls, the best of
+# compared with the same step on ordinary files. Then cm_bench front makes its calls, the best of
 # PASSES passes, and bench/files.sh stores classes in files, beside SQLite and LMDB.
 set -eu
 top=$(cd "$(dirname "${BASH_SOURCE[0]}")/.." && pwd)
@@ -33,11 +33,12 @@ fetch() {
     apt-get install -y -qq "${packages[@]}" >&2
 }
 
-. "$top/bench/lib.sh"
+. "$top/bin/build.sh"
+bench=$top/crates/cm_bench/out/cm_bench
 
 # Rows of cm_bench, with the stream's name in front.
 measure() {
-    timeout 600 "$top/crates/cm_bench/out/cm_bench" --passes "$2" <"$work/$1.bin" | sed "s/^/$1 /"
+    timeout 600 "$bench" classes --passes "$2" <"$work/$1.bin" | sed "s/^/$1 /"
 }
 
 read_by_libraries() {
@@ -52,7 +53,6 @@ read_by_libraries() {
 
 fetch
 build cm_bench
-build cm_bench_front
 "$top/bench/bench_classes.py" --only-52 "${jars[@]}" >"$work/ordinary.bin"
 for kind in "${hostile[@]}"; do
     "$top/bench/bench_classes.py" --hostile "$kind" >"$work/$kind.bin"
@@ -81,6 +81,6 @@ done
                 printf "%-24s time of read_class+build for each byte, to that of %s: %.2f\n",
                     "", name, each / library[name]
     }'
-"$top/crates/cm_bench_front/out/cm_bench_front" --times "$passes"
+"$bench" front --passes "$passes"
 echo "load of the machine at the end: $(cut -d' ' -f1 /proc/loadavg) on $(nproc) cores"
 "$top/bench/files.sh"

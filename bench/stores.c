@@ -1,4 +1,4 @@
-/* Stores records one commit after another, for comparison with `cm_bench_file put`:
+/* Stores records one commit after another, for comparison with `cm_bench put`:
  *
  *     stores sqlite|lmdb|bare|joined|holes FILE GROUP < RECORDS
  *

@@ -1,27 +1,123 @@
 //! The command line.
 
 use anyhow::Result;
-use clap::{Arg, ArgAction, Command, value_parser};
-use std::alloc::Global;
+use clap::{Arg, ArgAction, ArgMatches, Command, value_parser};
+use cm_pool::Geometry;
+use std::alloc::{AllocError, Global};
 use std::env;
 use std::rt::Env;
+use thiserror::Error;
+
+/// The words ask for nothing that is known.
+#[derive(Clone, Copy, Debug, PartialEq, Eq, Error)]
+#[error("the words are not known")]
+struct UnknownWords;
+
+/// How classes are put into a file.
+#[derive(Clone, Copy, Debug)]
+pub struct Putting {
+    pub geometry: Geometry,
+    /// How many classes a commit takes.
+    pub group: u32,
+}
+
+/// What is done with a file.
+#[derive(Clone, Copy, Debug)]
+pub enum Task {
+    /// It is made, and the classes on standard input are defined in it.
+    Put(Putting),
+    /// It is opened, and each of its classes is looked up.
+    Read,
+}
+
+/// A task on the file of a path, and whether its times are printed.
+#[derive(Debug, Drop)]
+pub struct Job {
+    pub path: String,
+    pub task: Task,
+    pub is_timed: bool,
+}
 
 /// What the command line asks for.
-#[derive(Clone, Copy, Debug, PartialEq, Eq)]
+#[derive(Debug, Drop)]
 pub enum Request {
-    /// To run the steps, each in so many timed passes; with none, once and for its counts alone.
-    Run(Option<u32>),
-    /// To print what the records say of methods.
+    /// To run the steps on class files, each in so many timed passes; with none, once and for its
+    /// counts alone.
+    Classes(Option<u32>),
+    /// To print what the records of class files say of methods.
     Methods,
+    /// To make calls on accepted caches, in so many timed passes; with none, once and for their
+    /// counts alone.
+    Front(Option<u32>),
+    /// To do a task on a file.
+    File(Job),
     /// Nothing more: the help or a usage text was printed. The status to end with.
     Printed(u8),
+}
+
+/// An option that takes a whole number, with the usual one and its bounds.
+fn number<'a>(
+    alloc: Global,
+    name: &'a str,
+    usual: &'a str,
+    bounds: (u32, u32),
+    help: &'a str,
+) -> Arg<'a> {
+    let (least, most) = bounds;
+    Arg::new(alloc, name)
+        .long(name)
+        .value_name("N")
+        .help(help)
+        .action(ArgAction::Set)
+        .default_value(usual)
+        .value_parser(value_parser!(u32).range(i64::from(least)..=i64::from(most)))
+}
+
+fn file<'a>(alloc: Global, help: &'a str) -> Arg<'a> {
+    Arg::new(alloc, "FILE")
+        .value_name("FILE")
+        .help(help)
+        .action(ArgAction::Set)
+        .required(true)
+}
+
+fn times<'a>(alloc: Global) -> Arg<'a> {
+    Arg::new(alloc, "times")
+        .long("times")
+        .help("Print how long it took, too")
+        .action(ArgAction::SetTrue)
+}
+
+fn group<'a>(alloc: Global) -> Arg<'a> {
+    number(
+        alloc,
+        "group",
+        "1",
+        (1, 64),
+        "How many classes a commit takes",
+    )
+}
+
+fn top<'a>(alloc: Global) -> Arg<'a> {
+    let help = "The order of a root: it has 128 * 2^N words";
+    number(alloc, "top", "8", (3, 12), help)
+}
+
+fn roots<'a>(alloc: Global) -> Arg<'a> {
+    let help = "How many roots the cache may have";
+    number(alloc, "roots", "64", (1, 256), help)
+}
+
+fn slots<'a>(alloc: Global) -> Arg<'a> {
+    let help = "How many slots each half of the journal has";
+    number(alloc, "slots", "4096", (256, 65_536), help)
 }
 
 fn passes<'a>(alloc: Global) -> Arg<'a> {
     Arg::new(alloc, "passes")
         .long("passes")
         .value_name("N")
-        .help("Run each step N times, and print the best time too")
+        .help("Run it all N times, and print the best times too")
         .action(ArgAction::Set)
         .value_parser(value_parser!(u32).range(1..))
 }
@@ -33,14 +129,100 @@ fn methods<'a>(alloc: Global) -> Arg<'a> {
         .action(ArgAction::SetTrue)
 }
 
-fn whole_command<'a>(alloc: Global) -> Result<Command<'a>> {
-    let command = Command::new(alloc, "cm_bench")
-        .about(
-            "Reads class files from standard input, each behind its length (4 bytes, big-endian)",
-        )
+fn classes_command<'a>(alloc: Global) -> Result<Command<'a>> {
+    let command = Command::new(alloc, "classes")
+        .about("Reads, judges and records the classes on standard input")
         .arg(passes(alloc))?
         .arg(methods(alloc))?;
     Ok(command)
+}
+
+fn front_command<'a>(alloc: Global) -> Result<Command<'a>> {
+    let command = Command::new(alloc, "front")
+        .about("Fills caches and makes calls of each kind on them")
+        .arg(passes(alloc))?;
+    Ok(command)
+}
+
+fn put_command<'a>(alloc: Global) -> Result<Command<'a>> {
+    let command = Command::new(alloc, "put")
+        .about("Defines the classes on standard input in a new file")
+        .arg(file(alloc, "The file to make"))?
+        .arg(times(alloc))?
+        .arg(group(alloc))?
+        .arg(top(alloc))?
+        .arg(roots(alloc))?
+        .arg(slots(alloc))?;
+    Ok(command)
+}
+
+fn read_command<'a>(alloc: Global) -> Result<Command<'a>> {
+    let command = Command::new(alloc, "read")
+        .about("Opens a file, and looks up each of its classes")
+        .arg(file(alloc, "The file to open"))?
+        .arg(times(alloc))?;
+    Ok(command)
+}
+
+fn whole_command<'a>(alloc: Global) -> Result<Command<'a>> {
+    let command = Command::new(alloc, "cm_bench")
+        .about("What the parts of a cache cost; classes come each behind its length (4 bytes)")
+        .subcommand_required(true)
+        .subcommand(classes_command(alloc)?)?
+        .subcommand(front_command(alloc)?)?
+        .subcommand(put_command(alloc)?)?
+        .subcommand(read_command(alloc)?)?;
+    Ok(command)
+}
+
+fn geometry_of(given: &ArgMatches<'_>) -> Option<Geometry> {
+    Geometry::new(
+        given.get_one("top")?,
+        given.get_one("roots")?,
+        given.get_one("slots")?,
+    )
+}
+
+fn putting_of(given: &ArgMatches<'_>) -> Option<Putting> {
+    Some(Putting {
+        geometry: geometry_of(given)?,
+        group: given.get_one("group")?,
+    })
+}
+
+fn task_of(name: &str, given: &ArgMatches<'_>) -> Option<Task> {
+    if name == "read" {
+        return Some(Task::Read);
+    }
+    Some(Task::Put(putting_of(given)?))
+}
+
+/// The job on a file that is asked for; none of words that aren't known.
+fn job_of(alloc: Global, name: &str, given: &ArgMatches<'_>) -> Result<Option<Job>, AllocError> {
+    let Some(task) = task_of(name, given) else {
+        return Ok(None);
+    };
+    let Some(file) = given.get_str("FILE") else {
+        return Ok(None);
+    };
+    Ok(Some(Job {
+        path: String::from_str(alloc, file)?,
+        task,
+        is_timed: given.get_flag("times"),
+    }))
+}
+
+/// What is asked for by a verb's words.
+fn request_of(alloc: Global, name: &str, given: &ArgMatches<'_>) -> Result<Request> {
+    match name {
+        "classes" if given.get_flag("methods") => Ok(Request::Methods),
+        "classes" => Ok(Request::Classes(given.get_one::<u32>("passes"))),
+        "front" => Ok(Request::Front(given.get_one::<u32>("passes"))),
+        _ => match job_of(alloc, name, given)? {
+            Some(job) => Ok(Request::File(job)),
+            None => Err(UnknownWords.into()),
+        },
+    }
 }
 
 /// Reads the command line; prints the help, or what is wrong with it.
@@ -48,8 +230,10 @@ pub fn read_words(rt: &(impl Env + Print + Eprint + AllocGlobal)) -> Result<Requ
     let alloc = rt.alloc();
     let words: Vec<String> = env::args(rt)?.collect(alloc)?;
     match whole_command(alloc)?.try_get_matches_from(words.as_slice()) {
-        Ok(matches) if matches.get_flag("methods") => Ok(Request::Methods),
-        Ok(matches) => Ok(Request::Run(matches.get_one::<u32>("passes"))),
+        Ok(matches) => match matches.subcommand() {
+            Some((name, given)) => request_of(alloc, name, given),
+            None => Err(UnknownWords.into()),
+        },
         Err(error) => {
             error.print(rt)?;
             Ok(Request::Printed(if error.exit_code() == 0 { 0 } else { 2 }))

@@ -1,0 +1,61 @@
+//! Class files: reading, judging and recording them, looking into records, and the pools that
+//! blocks for records are taken of.
+
+mod lookups;
+mod methods;
+mod pools;
+mod report;
+mod samples;
+mod step;
+
+use crate::classes::lookups::{Lookup, subjects};
+use crate::classes::methods::print_methods;
+use crate::classes::pools::Crowd;
+use crate::classes::report::{report, report_lookup, report_pools};
+use crate::classes::samples::Samples;
+use crate::classes::step::Step;
+use crate::input::read_input;
+use anyhow::Result;
+use cm_stream::classes_in;
+use std::rt::Clock;
+
+/// The steps, in the order in which they are run.
+const STEPS: [Step; 4] = [
+    Step::ReadShape,
+    Step::ReadClass,
+    Step::ReadAndBuild,
+    Step::ReadRecord,
+];
+
+/// Prints the methods of the classes on standard input.
+pub fn list_methods(rt: &(impl Input + Print + AllocGlobal)) -> Result<()> {
+    let bytes = read_input(rt)?;
+    print_methods(rt, &classes_in(rt.alloc(), &bytes)?)
+}
+
+/// Takes blocks of crowded pools. Only where times are asked for: counts say nothing here, and the
+/// pools are large.
+fn bench_pools(rt: &(impl Clock + Print + AllocGlobal), passes: Option<u32>) -> Result<()> {
+    for crowd in Crowd::ALL {
+        report_pools(rt, crowd, passes)?;
+    }
+    Ok(())
+}
+
+/// Runs each step over the classes on standard input.
+pub fn bench(rt: &(impl Clock + Input + Print + AllocGlobal), passes: Option<u32>) -> Result<()> {
+    let alloc = rt.alloc();
+    let bytes = read_input(rt)?;
+    let samples = Samples::new(alloc, classes_in(alloc, &bytes)?)?;
+    for step in STEPS {
+        report(rt, step, &samples, passes)?;
+    }
+    let subjects = subjects(alloc, &samples.recorded)?;
+    for lookup in Lookup::ALL {
+        report_lookup(rt, lookup, &subjects, passes)?;
+    }
+    if passes.is_some() {
+        bench_pools(rt, passes)?;
+    }
+    Ok(())
+}

@@ -1,0 +1,168 @@
+//! What it costs to take a block of a crowded pool and to give it back, by rows of bits and by a
+//! sorted list.
+ghost use Rattle.std.specs.Prelude.{◌≡◌};
+
+use crate::classes::lookups::Tally;
+use cm_pool::{Chunk, Geometry, Pool};
+use cm_pool_list::ListPool;
+use std::alloc::{AllocError, Global};
+
+/// How a pool keeps its free words.
+#[derive(Clone, Copy)]
+pub enum Body {
+    Bits,
+    List,
+}
+
+impl Body {
+    pub const ALL: [Body; 2] = [Body::Bits, Body::List];
+
+    /// Its name in the output.
+    pub fn name(self) -> &'static str {
+        match self {
+            Body::Bits => "by bits",
+            Body::List => "by a list",
+        }
+    }
+}
+
+/// What a pool of 256 roots of order 12 is like, and which block is taken.
+#[derive(Clone, Copy)]
+pub enum Crowd {
+    /// All roots but the last are full, and a block of order 0 is taken.
+    FullRoots,
+    /// Every other block of order 0 of the first eight roots is used, and one of order 1 is taken.
+    SingleBlocks,
+}
+
+impl Crowd {
+    pub const ALL: [Crowd; 2] = [Crowd::FullRoots, Crowd::SingleBlocks];
+
+    /// Its name in the output.
+    pub fn name(self) -> &'static str {
+        match self {
+            Crowd::FullRoots => "alloc(0) behind 255 full roots",
+            Crowd::SingleBlocks => "alloc(1) behind 16384 free blocks of order 0",
+        }
+    }
+
+    fn order(self) -> u32 {
+        match self {
+            Crowd::FullRoots => 0,
+            Crowd::SingleBlocks => 1,
+        }
+    }
+
+    /// The chunks that are used.
+    fn used_chunks(self, alloc: Global) -> Result<Vec<Chunk>, AllocError> {
+        match self {
+            Crowd::FullRoots => full_roots(alloc),
+            Crowd::SingleBlocks => single_blocks(alloc),
+        }
+    }
+}
+
+/// The chunks of all roots but the last.
+fn full_roots(alloc: Global) -> Result<Vec<Chunk>, AllocError> {
+    let mut used = Vec::new(alloc);
+    for root in 0..255 {
+        let at = 0;
+        used.push(Chunk {
+            root,
+            order: 12,
+            at,
+        })?;
+    }
+    Ok(used)
+}
+
+/// Every other block of order 0 of a root, the last first.
+fn push_single_blocks(used: &mut Vec<Chunk>, root: u32) -> Result<(), AllocError> {
+    for pair in (0..2048).rev() {
+        let at = 256 * pair;
+        used.push(Chunk { root, order: 0, at })?;
+    }
+    Ok(())
+}
+
+/// Every other block of order 0 of the first eight roots, the last first.
+fn single_blocks(alloc: Global) -> Result<Vec<Chunk>, AllocError> {
+    let mut used = Vec::new(alloc);
+    for root in (0..8).rev() {
+        push_single_blocks(&mut used, root)?;
+    }
+    Ok(used)
+}
+
+/// How often a block is taken and given back.
+const CALLS: u32 = 1_000;
+
+/// The largest pool, in both bodies.
+#[derive(Drop)]
+pub struct Pools {
+    bits: Pool,
+    list: ListPool,
+    order: u32,
+}
+
+/// Takes a block and gives it back: whether there was one.
+fn take_and_give(pool: &mut Pool, order: u32) -> bool
+    ensures { pool.new ≡ pool.old }
+{
+    if order > pool.geometry().top() {
+        return false;
+    }
+    let Some(chunk) = pool.alloc(order) else {
+        return false;
+    };
+    pool.give(chunk);
+    true
+}
+
+/// The same, by a sorted list.
+fn take_and_give_listed(pool: &mut ListPool, order: u32) -> bool
+    ensures { pool.new ≡ pool.old }
+{
+    if order > pool.geometry().top() {
+        return false;
+    }
+    let Some(chunk) = pool.alloc(order) else {
+        return false;
+    };
+    pool.give(chunk);
+    true
+}
+
+impl Pools {
+    /// Both bodies in the same crowd. `None` where these sizes were no geometry.
+    pub fn new(alloc: Global, crowd: Crowd) -> Result<Option<Pools>, AllocError> {
+        let Some(geometry) = Geometry::new(12, 256, 256) else {
+            return Ok(None);
+        };
+        let mut bits = Pool::new(alloc, geometry)?;
+        let mut list = ListPool::new(alloc, geometry)?;
+        for _ in 0..256 {
+            let _both = (bits.add_root()?, list.add_root()?); // there is room
+        }
+        for chunk in &crowd.used_chunks(alloc)? {
+            let _both = (bits.take(chunk), list.take(chunk)); // it is free
+        }
+        Ok(Some(Pools {
+            bits,
+            list,
+            order: crowd.order(),
+        }))
+    }
+
+    /// Takes a block and gives it back, again and again.
+    pub fn run(&mut self, body: Body) -> Tally {
+        let mut tally = Tally { calls: 0, found: 0 };
+        for _ in 0..CALLS {
+            tally.add(match body {
+                Body::Bits => take_and_give(&mut self.bits, self.order),
+                Body::List => take_and_give_listed(&mut self.list, self.order),
+            });
+        }
+        tally
+    }
+}

@@ -1,0 +1,86 @@
+//! A disk that counts what it is asked for.
+
+ghost use Rattle.std.specs.Prelude.{◌≡◌};
+
+use cm_disk::{DeviceFault, Disk};
+
+/// What a disk was asked for.
+#[derive(Clone, Copy, Debug, PartialEq, Eq)]
+pub struct Counts {
+    pub writes: u64,
+    pub bytes: u64,
+    pub syncs: u64,
+}
+
+/// A disk, and what it was asked for.
+#[derive(Drop)]
+pub struct CountedDisk<D: Disk> {
+    disk: D,
+    counts: Counts,
+}
+
+impl<D: Disk> CountedDisk<D> {
+    /// The same disk, asked for nothing yet.
+    pub fn new(disk: D) -> CountedDisk<D>
+        ensures { result.disk ≡ disk }
+    {
+        CountedDisk {
+            disk,
+            counts: Counts {
+                writes: 0,
+                bytes: 0,
+                syncs: 0,
+            },
+        }
+    }
+
+    /// What it was asked for by now.
+    pub fn counts(&self) -> Counts {
+        self.counts
+    }
+}
+
+impl<D: Disk> Disk for CountedDisk<D> {
+    ghost contents = { λ d. D.contents d.disk };
+
+    ghost unsynced = { λ d. D.unsynced d.disk };
+
+    ghost failures = { λ d. D.failures d.disk };
+
+    ghost moment = { λ d. D.moment d.disk };
+
+    ghost left_since = { λ d. D.left_since d.disk };
+
+    ghost called = { λ old new ok. D.called old.disk new.disk ok };
+
+    ghost made = { λ call old new ok. D.made call old.disk new.disk ok };
+
+    ghost sound = { λ d. D.sound d.disk };
+
+    ghost counts_now = { λ d. D.counts_now d.disk };
+
+    ghost only_now = { λ d. D.only_now d.disk };
+
+    fn len(&mut self) -> Result<u64, DeviceFault> {
+        self.disk.len()
+    }
+
+    fn read(&mut self, at: u64, out: &mut [u8]) -> Result<(), DeviceFault> {
+        self.disk.read(at, out)
+    }
+
+    fn write_at(&mut self, at: u64, bytes: &[u8]) -> Result<(), DeviceFault> {
+        self.counts.writes = self.counts.writes.saturating_add(1);
+        self.counts.bytes = self.counts.bytes.saturating_add(bytes.len() as u64);
+        self.disk.write_at(at, bytes)
+    }
+
+    fn cut(&mut self, len: u64) -> Result<(), DeviceFault> {
+        self.disk.cut(len)
+    }
+
+    fn sync(&mut self) -> Result<(), DeviceFault> {
+        self.counts.syncs = self.counts.syncs.saturating_add(1);
+        self.disk.sync()
+    }
+}
