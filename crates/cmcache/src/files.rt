@@ -2,10 +2,10 @@
 
 use crate::scripts::run_script;
 use crate::status::say;
-use cm_file_disk::{CreateError, FileDisk, OpenError};
+use cm_file_disk::{CreateError, FileDisk, OpenError, OpenedFile};
 use cm_inspect::Status;
 use cm_pool::Geometry;
-use cm_recover::{FormatFault, format};
+use cm_recover::{FormatFault, bytes_read, format};
 use std::fs::{self, File, Files};
 use std::io;
 
@@ -46,12 +46,20 @@ fn give_up(rt: &(impl Eprint + Files<File = File>), path: &str, disk: FileDisk) 
     }
 }
 
+/// The disk of a cache's file, with as much of it in memory as is read: what lies behind the last
+/// root that its sizes allow isn't, however long it is.
+pub fn disk_of(opened: Result<OpenedFile, OpenError>) -> Result<FileDisk, OpenError> {
+    let file = opened?;
+    let reach = bytes_read(file.beginning());
+    FileDisk::of_file(file, reach)
+}
+
 /// Runs the script on standard input on the cache in a file, and gives the status.
 pub fn apply_file(
     rt: &(impl Input + Print + Eprint + Files<File = File> + AllocGlobal),
     path: &str,
 ) -> Status {
-    match FileDisk::open(rt, rt.alloc(), path) {
+    match disk_of(OpenedFile::open(rt, rt.alloc(), path)) {
         Ok(disk) => {
             let (status, disk) = run_script(rt, disk);
             tell_failure(rt, path, &disk);

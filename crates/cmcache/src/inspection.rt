@@ -1,8 +1,8 @@
 //! What a cache's file holds, without a change of it.
 
-use crate::files::{say_not_opened, tell_failure};
+use crate::files::{disk_of, say_not_opened, tell_failure};
 use crate::status::fail;
-use cm_file_disk::FileDisk;
+use cm_file_disk::{FileDisk, OpenedFile};
 use cm_inspect::{NotInspected, Status, check_to, list_to};
 use std::fs::{File, Files};
 use std::io;
@@ -12,7 +12,7 @@ pub fn check_file(
     rt: &(impl Print + Eprint + Files<File = File> + AllocGlobal),
     path: &str,
 ) -> Status {
-    match FileDisk::open_read_only(rt, rt.alloc(), path) {
+    match disk_of(OpenedFile::open_read_only(rt, rt.alloc(), path)) {
         Ok(disk) => {
             let told = check_to(rt.alloc(), &mut io::writer(rt), disk);
             status_of_told(rt, path, told)
@@ -27,7 +27,7 @@ pub fn list_file(
     rt: &(impl Print + Eprint + Files<File = File> + AllocGlobal),
     path: &str,
 ) -> Status {
-    match FileDisk::open_read_only(rt, rt.alloc(), path) {
+    match disk_of(OpenedFile::open_read_only(rt, rt.alloc(), path)) {
         Ok(disk) => {
             let told = list_to(rt.alloc(), &mut io::writer(rt), disk);
             status_of_told(rt, path, told)
