@@ -185,24 +185,9 @@ def planted():
                    f"{PROOFS}:{number}: the edit {name} in the audit {of}")
 
 
-def costs_rows():
-    """The table of what each crate takes has a row for each, with its number of edits in the
-    gate."""
-    path = TOP / "docs/CONTRIBUTING.md"
-    rows = {spans(row[0])[0]: row for _, line in lines_of(path)
-            if len(row := cells(line)) == 5 and spans(row[0])}
-    for crate in CRATES:
-        yield crate in rows, f"{path}: a row for {crate}"
-        count = str(len(edits(f"crates/{crate}/must-fail")) or "-")
-        if crate in rows:
-            yield rows[crate][3] == count, f"{path}: {crate} has {count} edits"
-    for crate in rows:
-        yield crate in CRATES, f"{path}: the crate {crate}"
-
-
 def main():
     passed = failed = 0
-    for look in (links, map_rows, paths, contracts, planted, costs_rows):
+    for look in (links, map_rows, paths, contracts, planted):
         looked = list(look())
         if not looked:
             failed += 1

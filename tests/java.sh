@@ -74,7 +74,7 @@ told_methods() {
 # The records of these classes tell the same.
 bench=$(built cm_bench)
 for name in "${names[@]}"; do told_methods "$work/classes/$name.class"; done >"$work/want"
-bench/bench_classes.py "$work/classes" | "$bench" --methods >"$work/got"
+bench/bench_classes.py "$work/classes" | "$bench" classes --methods >"$work/got"
 status=$?
 check "the code of $(wc -l <"$work/want") compiled methods" 0
 

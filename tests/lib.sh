@@ -5,6 +5,7 @@ work=$(mktemp -d)
 trap 'rm -rf "$work"' EXIT
 passed=0
 failed=0
+. "$top/bin/build.sh"
 
 # check NAME STATUS: the program's last run ended with the status, and wrote what stands
 # in $work/want.
@@ -58,23 +59,14 @@ run() {
 # executable: the path of the built program itself, which is built where it is missing.
 executable() {
     [ -n "${CMCACHE:-}" ] && { echo "$CMCACHE"; return; }
-    "$program" --help >"$work/log" 2>&1 || cat "$work/log" >&2
-    echo "$top/crates/cmcache/out/cmcache"
+    built cmcache
 }
 
 # built CRATE: the path of a crate's executable, which is built where it is missing or older than
 # what it is made of.
 built() {
-    local made=$top/crates/$1/out/$1
-    if [ ! -x "$made" ] || [ -n "$(find "$top/crates" -path '*/out' -prune \
-        -o -type f -newer "$made" -print -quit)" ]; then
-        if (cd "$top/crates/$1" && rt run -- --help </dev/null) >"$work/log" 2>&1; then
-            touch "$made"
-        else
-            cat "$work/log" >&2
-        fi
-    fi
-    echo "$made"
+    build "$1"
+    echo "$top/crates/$1/out/$1"
 }
 
 finish() {

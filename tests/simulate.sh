@@ -8,8 +8,7 @@ set -u
 cd "$(dirname "$0")/.." || exit 1
 . tests/lib.sh
 
-bin/cm_simulate --help >"$work/log" 2>&1 || cat "$work/log" # builds it where it is missing
-built=$top/crates/cm_simulate/out/cm_simulate
+simulate=$(built cm_simulate)
 library=$work/allocations.so
 if ! cc -O2 -Wall -Werror -shared -fPIC -o "$library" tests/allocations.c; then
     echo "0 passed, 1 failed"
@@ -18,7 +17,7 @@ fi
 
 # checks ARGS..: those of tests/simulate.py, which tells in its last line how many passed.
 checks() {
-    tests/simulate.py "$built" "$@" >"$work/log" 2>&1
+    tests/simulate.py "$simulate" "$@" >"$work/log" 2>&1
     local last
     last=$(tail -n 1 "$work/log")
     if [[ $last =~ ^([0-9]+)\ passed,\ ([0-9]+)\ failed$ ]]; then
@@ -32,6 +31,6 @@ checks() {
 }
 
 checks
-checks "$library" 404
+checks "$library" 403
 
 finish
