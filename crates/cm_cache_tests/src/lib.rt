@@ -5,8 +5,8 @@
 mod adding;
 #[cfg(test)]
 mod calling;
-#[cfg(test)]
-mod held_disk;
+// Its definition stands in specs/, which are read with no test too.
+pub mod held_disk;
 #[cfg(test)]
 mod holding;
 #[cfg(test)]
