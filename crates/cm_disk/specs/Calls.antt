@@ -1,7 +1,8 @@
 -- What the calls of a disk do to its bytes, and how time goes on over a call.
 -- Source: the project's own model of a disk, docs/CRASH.md.
 use Rattle.std.specs.Prelude.{◌≡◌, ◌<◌, ◌≤◌, ◌⊎◌, ◌+◌, ℕ, max, List, ◌++◌, length, take, drop}
-use Rattle.std.specs.Prelude.{Result, IsErr, IsOk}
+use Rattle.std.specs.Prelude.{Result, IsErr, IsOk, OnOk, OnErr}
+use Rattle.cm_disk.specs.Disk.{View, IsImage, IsSettled, IsWithin, widened, shortened}
 
 -- a call of a disk, with what it is asked for: a read has a place and a number of bytes
 pub data DiskCall : Type 0 where
@@ -43,3 +44,47 @@ pub record HasCause {T E : Type 0} (before now : ℕ) (result : Result T E) : Ty
   pub later : before ≤ now
   pub fault : IsErr result → before < now
   pub no_fault : IsOk result → now ≡ before
+
+-- ---- one call of a disk, whatever kind it is
+
+-- time goes on over a call, during which a crash may leave these images
+abbrev pub Passes : {D : Type 0} → View D → D → D → (List ℕ → Type 0) → Type 0
+Passes view old new during =
+    Elapses (view.moment old) (view.moment new) (view.left_since old) (view.left_since new) during
+
+-- a length or a read
+pub record LooksOnce {D T E : Type 0} (view : View D) (old new : D)
+    (result : Result T E) : Type 0 where
+  pub same : view.contents new ≡ view.contents old
+  pub kept : view.unsynced new ≡ view.unsynced old
+  pub time : Passes view old new (IsImage (view.contents old) (view.unsynced old))
+  pub cause : HasCause (view.failures old) (view.failures new) result
+
+-- a write of these bytes to that place
+pub record WritesOnce {D T E : Type 0} (view : View D) (at : ℕ) (bytes : List ℕ) (old new : D)
+    (result : Result T E) : Type 0 where
+  pub written : OnOk result (view.contents new ≡ overwritten at bytes (view.contents old))
+  pub torn : OnErr result (IsTorn at (length bytes) (view.contents old) (view.contents new))
+  pub opens : IsWithin (widened at (length bytes) (view.unsynced old)) (view.unsynced new)
+  pub time : Passes view old new
+      (IsImage (view.contents old) (widened at (length bytes) (view.unsynced old)))
+  pub cause : HasCause (view.failures old) (view.failures new) result
+
+-- a cut to that length
+pub record CutsOnce {D T E : Type 0} (view : View D) (len : ℕ) (old new : D)
+    (result : Result T E) : Type 0 where
+  pub cut : OnOk result (view.contents new ≡ take len (view.contents old))
+  pub between : OnErr result (IsCut len (view.contents old) (view.contents new))
+  pub shortens : IsWithin (shortened len (view.unsynced old)) (view.unsynced new)
+  pub time : Passes view old new
+      (IsImage (view.contents old) (shortened len (view.unsynced old)))
+  pub cause : HasCause (view.failures old) (view.failures new) result
+
+-- a sync
+pub record SyncsOnce {D T E : Type 0} (view : View D) (old new : D)
+    (result : Result T E) : Type 0 where
+  pub settled : OnOk result (IsSettled (view.contents new) (view.unsynced new))
+  pub not_settled : OnErr result (view.unsynced new ≡ view.unsynced old)
+  pub same : view.contents new ≡ view.contents old
+  pub time : Passes view old new (IsImage (view.contents old) (view.unsynced old))
+  pub cause : HasCause (view.failures old) (view.failures new) result

@@ -22,6 +22,22 @@ pub record IsImage (contents : List ℕ) (unsynced : Unsynced) (image : List ℕ
   pub same : (i : ℕ) → i < unsynced.least → unsynced.is_open i ≡ false
       → get_or image i 0 ≡ get_or contents i 0
 
+-- What a disk shows: the bytes that a read gives, what of them is not surely stored, how often it
+-- has failed, the moment as a number that doesn't fall, and what a crash at some moment from that
+-- one on may have left, during a call or between two.
+pub record View (D : Type 0) : Type 1 where
+  pub contents : D → List ℕ
+  pub unsynced : D → Unsynced
+  pub failures : D → ℕ
+  pub moment : D → ℕ
+  pub left_since : D → ℕ → List ℕ → Type 0
+
+-- Since this moment there is no other.
+abbrev pub OnlyNow : {D : Type 0} → View D → Type 0
+OnlyNow {D} view =
+    (disk : D) (image : List ℕ) → view.left_since disk (view.moment disk) image
+    → IsImage (view.contents disk) (view.unsynced disk) image
+
 -- Everything is stored: nothing is open, and there is one length.
 pub record IsSettled (contents : List ℕ) (unsynced : Unsynced) : Type 0 where
   pub none_open : (i : ℕ) → unsynced.is_open i ≡ false

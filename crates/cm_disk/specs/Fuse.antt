@@ -2,7 +2,7 @@
 use Rattle.std.specs.Prelude.{◌≡◌, ◌-◌, ℕ, Bool, List, Option, Some, None, nat_eq, if◌then◌else◌}
 use Rattle.cm_disk.specs.declared.fuse.FuseDisk.{FuseDisk}
 use Rattle.cm_disk.specs.declared.sim.SimDisk.{SimDisk}
-use Rattle.cm_disk.specs.Disk.{Unsynced}
+use Rattle.cm_disk.specs.Disk.{View, Unsynced}
 use Rattle.cm_disk.specs.Sim.{sim_contents, sim_unsynced, sim_failures, sim_moment, sim_left_since}
 use Rattle.cm_disk.specs.Sim.{IsOneCall, Makes}
 use Rattle.cm_disk.specs.Calls.{DiskCall}
@@ -25,6 +25,15 @@ fuse_moment fuse = sim_moment (behind fuse)
 
 abbrev pub fuse_left_since : FuseDisk → ℕ → List ℕ → Type 0
 fuse_left_since fuse = sim_left_since (behind fuse)
+
+abbrev pub fuse_view : View FuseDisk
+fuse_view = record {
+  contents = fuse_contents;
+  unsynced = fuse_unsynced;
+  failures = fuse_failures;
+  moment = fuse_moment;
+  left_since = fuse_left_since;
+}
 
 -- the calls that are still let through
 abbrev pub fuse_pass : FuseDisk → ℕ

@@ -2,11 +2,11 @@
 use Rattle.std.specs.Prelude.{◌≡◌, ◌≤◌, ◌⊎◌, ◌+◌, ◌-◌, ◌^◌, ◌||◌, ℕ, Bool, true, false, List, take}
 use Rattle.std.specs.Prelude.{length, min, Option, Some, None, is_some, not, if◌then◌else◌}
 use Rattle.cm_disk.specs.declared.sim.SimDisk.{SimDisk}
-use Rattle.cm_disk.specs.Disk.{Unsynced, IsImage, IsSettled, IsWithin, widened, shortened}
+use Rattle.cm_disk.specs.Disk.{View, Unsynced, IsSettled, IsWithin, widened, shortened}
 use Rattle.cm_disk.specs.Calls.{overwritten, DiskCall}
 use Rattle.cm_disk.specs.Calls.DiskCall.{Len, Read, Write, Cut, Sync}
 use Rattle.cm_disk.specs.Medium.{medium_unsynced}
-use Rattle.cm_disk.specs.Moments.{LeftAtOne, noted_since, LeftSince}
+use Rattle.cm_disk.specs.Moments.{LeftSince}
 
 abbrev pub sim_contents : SimDisk → List ℕ
 sim_contents disk = disk.medium.bytes.items
@@ -24,6 +24,15 @@ sim_moment disk = length disk.history.moments
 abbrev pub sim_left_since : SimDisk → ℕ → List ℕ → Type 0
 sim_left_since disk t image =
     LeftSince (sim_contents disk) (sim_unsynced disk) disk.history.moments t image
+
+abbrev pub sim_view : View SimDisk
+sim_view = record {
+  contents = sim_contents;
+  unsynced = sim_unsynced;
+  failures = sim_failures;
+  moment = sim_moment;
+  left_since = sim_left_since;
+}
 
 -- the calls that it has had, whatever they were answered
 abbrev pub sim_calls : SimDisk → ℕ

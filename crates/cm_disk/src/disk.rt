@@ -1,9 +1,8 @@
 //! The trait of all disks, with the whole disk model in each of its calls.
 ghost use Rattle.std.specs.Prelude.{◌≡◌, ◌≤◌, ◌+◌, ◌^◌, List, ℕ, Bool, length, take, drop, IfOk};
-ghost use Rattle.std.specs.Prelude.{OnOk, OnErr, is_ok};
-ghost use Rattle.cm_disk.specs.Disk.{Unsynced, IsImage, IsSettled, IsSound, IsWithin, widened};
-ghost use Rattle.cm_disk.specs.Disk.{shortened};
-ghost use Rattle.cm_disk.specs.Calls.{overwritten, IsTorn, IsCut, Elapses, HasCause, DiskCall};
+ghost use Rattle.std.specs.Prelude.{OnOk, is_ok};
+ghost use Rattle.cm_disk.specs.Disk.{View, OnlyNow, IsImage, IsSound};
+ghost use Rattle.cm_disk.specs.Calls.{LooksOnce, WritesOnce, CutsOnce, SyncsOnce, DiskCall};
 ghost use Rattle.cm_disk.specs.Calls.DiskCall.{Len, Read, Write, Cut, Sync};
 
 use thiserror::Error;
@@ -19,20 +18,8 @@ pub struct DeviceFault;
 /// lengths that the disk had since. A write is one range; places and lengths count bytes, and none
 /// passes 2^40.
 pub trait Disk {
-    /// The bytes that a read gives now.
-    ghost contents: { Self → List ℕ };
-
-    /// What of them is not surely stored.
-    ghost unsynced: { Self → Unsynced };
-
-    /// How often the device has failed.
-    ghost failures: { Self → ℕ };
-
-    /// The moment, as a number that doesn't fall.
-    ghost moment: { Self → ℕ };
-
-    /// What a crash at some moment from that one on may have left, during a call or between two.
-    ghost left_since: { Self → ℕ → List ℕ → Type 0 };
+    /// What it shows of its bytes, its failures and its moments.
+    ghost view: { View Self };
 
     /// What a kind of disk says of each of its calls besides: one call leads from the one disk to
     /// the other, and is answered `Ok` (true) or not.
@@ -43,82 +30,50 @@ pub trait Disk {
 
     /// The number of bytes.
     fn len(&mut self) -> Result<u64, DeviceFault>
-        ensures len { IfOk result (λ n. n ≡ length (contents self.old)) }
-        ensures contents { contents self.new ≡ contents self.old }
-        ensures unsynced { unsynced self.new ≡ unsynced self.old }
-        ensures time { Elapses (moment self.old) (moment self.new) (left_since self.old)
-            (left_since self.new)
-            (IsImage (contents self.old) (unsynced self.old)) }
-        ensures cause { HasCause (failures self.old) (failures self.new) result }
+        ensures len { IfOk result (λ n. n ≡ length (view.contents self.old)) }
+        ensures looks { LooksOnce view self.old self.new result }
         ensures called { called self.old self.new (is_ok result) }
         ensures made { made Len self.old self.new (is_ok result) };
 
     /// Reads as many bytes as `out` takes, from `at` on. After an `Err` there are any bytes in
     /// `out`.
     fn read(&mut self, at: u64, out: &mut [u8]) -> Result<(), DeviceFault>
-        requires { at + length out.old ≤ length (contents self.old) }
+        requires { at + length out.old ≤ length (view.contents self.old) }
         ensures bytes { OnOk result
-            (out.new ≡ take (length out.old) (drop at (contents self.old))) }
-        ensures contents { contents self.new ≡ contents self.old }
-        ensures unsynced { unsynced self.new ≡ unsynced self.old }
-        ensures time { Elapses (moment self.old) (moment self.new) (left_since self.old)
-            (left_since self.new)
-            (IsImage (contents self.old) (unsynced self.old)) }
-        ensures cause { HasCause (failures self.old) (failures self.new) result }
+            (out.new ≡ take (length out.old) (drop at (view.contents self.old))) }
+        ensures looks { LooksOnce view self.old self.new result }
         ensures called { called self.old self.new (is_ok result) }
         ensures made { made (Read at (length out.old)) self.old self.new (is_ok result) };
 
     /// Writes over what is there, and past the end. After an `Err` there are any bytes in the
     /// range, and any length from the old one to the one that the write makes.
     fn write_at(&mut self, at: u64, bytes: &[u8]) -> Result<(), DeviceFault>
-        requires starts_within { at ≤ length (contents self.old) }
+        requires starts_within { at ≤ length (view.contents self.old) }
         requires within_limit { at + length bytes.now ≤ 2 ^ 40 }
-        ensures written { OnOk result
-            (contents self.new ≡ overwritten at bytes.now (contents self.old)) }
-        ensures torn { OnErr result
-            (IsTorn at (length bytes.now) (contents self.old) (contents self.new)) }
-        ensures unsynced { IsWithin (widened at (length bytes.now) (unsynced self.old))
-            (unsynced self.new) }
-        ensures time { Elapses (moment self.old) (moment self.new) (left_since self.old)
-            (left_since self.new)
-            (IsImage (contents self.old) (widened at (length bytes.now) (unsynced self.old))) }
-        ensures cause { HasCause (failures self.old) (failures self.new) result }
+        ensures writes { WritesOnce view at bytes.now self.old self.new result }
         ensures called { called self.old self.new (is_ok result) }
         ensures made { made (Write at bytes.now) self.old self.new (is_ok result) };
 
     /// Cuts to a length. After an `Err` the length is any from that one to the old one.
     fn cut(&mut self, len: u64) -> Result<(), DeviceFault>
-        requires { len ≤ length (contents self.old) }
-        ensures cut { OnOk result (contents self.new ≡ take len (contents self.old)) }
-        ensures between { OnErr result (IsCut len (contents self.old) (contents self.new)) }
-        ensures unsynced { IsWithin (shortened len (unsynced self.old)) (unsynced self.new) }
-        ensures time { Elapses (moment self.old) (moment self.new) (left_since self.old)
-            (left_since self.new)
-            (IsImage (contents self.old) (shortened len (unsynced self.old))) }
-        ensures cause { HasCause (failures self.old) (failures self.new) result }
+        requires { len ≤ length (view.contents self.old) }
+        ensures cuts { CutsOnce view len self.old self.new result }
         ensures called { called self.old self.new (is_ok result) }
         ensures made { made (Cut len) self.old self.new (is_ok result) };
 
     /// After it, a crash leaves what a read gives. An `Err` changes nothing.
     fn sync(&mut self) -> Result<(), DeviceFault>
-        ensures settled { OnOk result (IsSettled (contents self.new) (unsynced self.new)) }
-        ensures not_settled { OnErr result (unsynced self.new ≡ unsynced self.old) }
-        ensures contents { contents self.new ≡ contents self.old }
-        ensures time { Elapses (moment self.old) (moment self.new) (left_since self.old)
-            (left_since self.new)
-            (IsImage (contents self.old) (unsynced self.old)) }
-        ensures cause { HasCause (failures self.old) (failures self.new) result }
+        ensures syncs { SyncsOnce view self.old self.new result }
         ensures called { called self.old self.new (is_ok result) }
         ensures made { made Sync self.old self.new (is_ok result) };
 
     /// The lengths fit together, and no disk passes the limit.
-    ghost sound: { (disk : Self) → IsSound (contents disk) (unsynced disk) };
+    ghost sound: { (disk : Self) → IsSound (view.contents disk) (view.unsynced disk) };
 
     /// This moment is one of those since an earlier one.
-    ghost counts_now: { (disk : Self) (t : ℕ) (image : List ℕ) → t ≤ moment disk
-        → IsImage (contents disk) (unsynced disk) image → left_since disk t image };
+    ghost counts_now: { (disk : Self) (t : ℕ) (image : List ℕ) → t ≤ view.moment disk
+        → IsImage (view.contents disk) (view.unsynced disk) image → view.left_since disk t image };
 
     /// Since this moment there is no other.
-    ghost only_now: { (disk : Self) (image : List ℕ) → left_since disk (moment disk) image
-        → IsImage (contents disk) (unsynced disk) image };
+    ghost only_now: { OnlyNow view };
 }

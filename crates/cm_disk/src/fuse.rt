@@ -1,7 +1,8 @@
 //! A disk in memory that fails from some call on.
 ghost use Rattle.std.specs.Prelude.{◌≡◌, ◌-◌};
 ghost use Rattle.std.proofs.Common.{inl};
-ghost use Rattle.cm_disk.specs.Fuse.{behind, fuse_contents, fuse_unsynced, fuse_failures};
+ghost use Rattle.cm_disk.specs.Fuse.{fuse_view, behind, fuse_contents, fuse_unsynced};
+ghost use Rattle.cm_disk.specs.Fuse.{fuse_failures};
 ghost use Rattle.cm_disk.specs.Fuse.{fuse_moment, fuse_left_since, fuse_pass, fuse_stores};
 ghost use Rattle.cm_disk.specs.Fuse.{fuse_armed, fuse_made, IsFuseCall};
 ghost use Rattle.cm_disk.specs.Moments.{none_since_now};
@@ -53,15 +54,7 @@ impl FuseDisk {
 }
 
 impl Disk for FuseDisk {
-    ghost contents = { fuse_contents };
-
-    ghost unsynced = { fuse_unsynced };
-
-    ghost failures = { fuse_failures };
-
-    ghost moment = { fuse_moment };
-
-    ghost left_since = { fuse_left_since };
+    ghost view = { fuse_view };
 
     ghost called = { IsFuseCall };
 

@@ -6,7 +6,7 @@ ghost use Rattle.cm_disk.specs.Calls.{Elapses, IsTorn, overwritten};
 ghost use Rattle.cm_disk.specs.Chosen.{IsChosen};
 ghost use Rattle.cm_disk.specs.Disk.{IsImage, IsSettled, IsWithin, widened};
 ghost use Rattle.cm_disk.specs.Moments.{none_since_now};
-ghost use Rattle.cm_disk.specs.Sim.{sim_contents, sim_unsynced, sim_failures, sim_moment};
+ghost use Rattle.cm_disk.specs.Sim.{sim_view, sim_contents, sim_unsynced, sim_failures, sim_moment};
 ghost use Rattle.cm_disk.specs.Sim.{sim_left_since, sim_calls, sim_syncs, sim_armed, sim_refused};
 ghost use Rattle.cm_disk.specs.Sim.{sim_called, sim_made, IsFresh, stored_part};
 
@@ -158,15 +158,7 @@ impl SimDisk {
 }
 
 impl Disk for SimDisk {
-    ghost contents = { sim_contents };
-
-    ghost unsynced = { sim_unsynced };
-
-    ghost failures = { sim_failures };
-
-    ghost moment = { sim_moment };
-
-    ghost left_since = { sim_left_since };
+    ghost view = { sim_view };
 
     ghost called = { sim_called };
 

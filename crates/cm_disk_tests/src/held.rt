@@ -10,7 +10,8 @@ pub const LETTERS: [u8; 6] = *b"abcdef";
 
 /// Writes six letters to the start. Of the disk only the trait is known.
 pub fn fill<D: Disk>(disk: &mut D) -> Result<(), DeviceFault>
-    ensures { OnOk result (D.contents disk.new ≡ overwritten 0 LETTERS (D.contents disk.old)) }
+    ensures { OnOk result (D.view.contents disk.new ≡ overwritten 0 LETTERS
+        (D.view.contents disk.old)) }
 {
     disk.write_at(0, &LETTERS)
 }

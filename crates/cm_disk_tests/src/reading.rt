@@ -14,13 +14,13 @@ pub fn read_both<D: Disk>(
     then: u64,
     second: &mut [u8],
 ) -> Result<(), DeviceFault>
-    requires first_within { at + length first.old ≤ length (D.contents disk.old) }
-    requires second_within { then + length second.old ≤ length (D.contents disk.old) }
+    requires first_within { at + length first.old ≤ length (D.view.contents disk.old) }
+    requires second_within { then + length second.old ≤ length (D.view.contents disk.old) }
     ensures first { OnOk result
-        (first.new ≡ take (length first.old) (drop at (D.contents disk.old))) }
+        (first.new ≡ take (length first.old) (drop at (D.view.contents disk.old))) }
     ensures second { OnOk result
-        (second.new ≡ take (length second.old) (drop then (D.contents disk.old))) }
-    ensures reads { Reads D.contents D.unsynced D.failures D.moment D.left_since disk.old disk.new
+        (second.new ≡ take (length second.old) (drop then (D.view.contents disk.old))) }
+    ensures reads { Reads D.view disk.old disk.new
         (IsErr result) }
 {
     disk.read(at, first)?;
@@ -31,8 +31,8 @@ pub fn read_both<D: Disk>(
 /// alone.
 #[tactic(auto, using(cm_guards::proofs::reading))]
 pub fn count_open<D: Disk>(disk: &mut D, slots: u32) -> Result<u32, DeviceFault>
-    requires { 64 * slots ≤ length (D.contents disk.old) }
-    ensures reads { Reads D.contents D.unsynced D.failures D.moment D.left_since disk.old disk.new
+    requires { 64 * slots ≤ length (D.view.contents disk.old) }
+    ensures reads { Reads D.view disk.old disk.new
         (IsErr result) }
 {
     let mut open: u32 = 0;

@@ -11,14 +11,14 @@ use cm_disk::{DeviceFault, Disk};
 /// Cuts to a length that the claim doesn't need more than.
 #[tactic(auto, using(cm_guards::proofs::cutting))]
 pub fn cut_behind<D: Disk, P: Guarded>(disk: &mut D, len: u64) -> Result<(), DeviceFault>
-    requires within { len ≤ length (D.contents disk.old) }
+    requires within { len ≤ length (D.view.contents disk.old) }
     requires guards { Guards P.guard P.holds }
     requires behind { P.guard.needs ≤ len }
-    requires stays { Stays P.guard P.holds (D.contents disk.old) (D.unsynced disk.old) }
-    ensures cut { OnOk result (D.contents disk.new ≡ take len (D.contents disk.old)) }
-    ensures stays { Stays P.guard P.holds (D.contents disk.new) (D.unsynced disk.new) }
-    ensures any_moment { LeavesOnly D.moment D.left_since disk.old disk.new P.holds }
-    ensures cause { HasCause (D.failures disk.old) (D.failures disk.new) result }
+    requires stays { Stays P.guard P.holds (D.view.contents disk.old) (D.view.unsynced disk.old) }
+    ensures cut { OnOk result (D.view.contents disk.new ≡ take len (D.view.contents disk.old)) }
+    ensures stays { Stays P.guard P.holds (D.view.contents disk.new) (D.view.unsynced disk.new) }
+    ensures any_moment { LeavesOnly D.view disk.old disk.new P.holds }
+    ensures cause { HasCause (D.view.failures disk.old) (D.view.failures disk.new) result }
 {
     disk.cut(len)
 }
@@ -26,14 +26,14 @@ pub fn cut_behind<D: Disk, P: Guarded>(disk: &mut D, len: u64) -> Result<(), Dev
 /// Cuts, and stores the length.
 #[tactic(auto, using(cm_guards::proofs::syncing))]
 pub fn trim<D: Disk, P: Guarded>(disk: &mut D, len: u64) -> Result<(), DeviceFault>
-    requires within { len ≤ length (D.contents disk.old) }
+    requires within { len ≤ length (D.view.contents disk.old) }
     requires guards { Guards P.guard P.holds }
     requires behind { P.guard.needs ≤ len }
-    requires stays { Stays P.guard P.holds (D.contents disk.old) (D.unsynced disk.old) }
-    ensures cut { OnOk result (D.contents disk.new ≡ take len (D.contents disk.old)) }
-    ensures stays { Stays P.guard P.holds (D.contents disk.new) (D.unsynced disk.new) }
-    ensures any_moment { LeavesOnly D.moment D.left_since disk.old disk.new P.holds }
-    ensures cause { HasCause (D.failures disk.old) (D.failures disk.new) result }
+    requires stays { Stays P.guard P.holds (D.view.contents disk.old) (D.view.unsynced disk.old) }
+    ensures cut { OnOk result (D.view.contents disk.new ≡ take len (D.view.contents disk.old)) }
+    ensures stays { Stays P.guard P.holds (D.view.contents disk.new) (D.view.unsynced disk.new) }
+    ensures any_moment { LeavesOnly D.view disk.old disk.new P.holds }
+    ensures cause { HasCause (D.view.failures disk.old) (D.view.failures disk.new) result }
 {
     cut_behind::<D, P>(disk, len)?;
     disk.sync()

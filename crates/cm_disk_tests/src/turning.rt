@@ -25,16 +25,16 @@ pub fn write_apart<D: Disk, P: Guarded>(
     at: u64,
     bytes: &[u8],
 ) -> Result<(), DeviceFault>
-    requires starts_within { at ≤ length (D.contents disk.old) }
+    requires starts_within { at ≤ length (D.view.contents disk.old) }
     requires within_limit { at + length bytes.now ≤ 2 ^ 40 }
     requires guards { Guards P.guard P.holds }
     requires apart { IsApart P.guard at (length bytes.now) }
-    requires stays { Stays P.guard P.holds (D.contents disk.old) (D.unsynced disk.old) }
+    requires stays { Stays P.guard P.holds (D.view.contents disk.old) (D.view.unsynced disk.old) }
     ensures written { OnOk result
-        (D.contents disk.new ≡ overwritten at bytes.now (D.contents disk.old)) }
-    ensures stays { Stays P.guard P.holds (D.contents disk.new) (D.unsynced disk.new) }
-    ensures any_moment { LeavesOnly D.moment D.left_since disk.old disk.new P.holds }
-    ensures cause { HasCause (D.failures disk.old) (D.failures disk.new) result }
+        (D.view.contents disk.new ≡ overwritten at bytes.now (D.view.contents disk.old)) }
+    ensures stays { Stays P.guard P.holds (D.view.contents disk.new) (D.view.unsynced disk.new) }
+    ensures any_moment { LeavesOnly D.view disk.old disk.new P.holds }
+    ensures cause { HasCause (D.view.failures disk.old) (D.view.failures disk.new) result }
 {
     disk.write_at(at, bytes)
 }
@@ -46,17 +46,18 @@ pub fn store_apart<D: Disk, P: Guarded>(
     at: u64,
     bytes: &[u8],
 ) -> Result<(), DeviceFault>
-    requires starts_within { at ≤ length (D.contents disk.old) }
+    requires starts_within { at ≤ length (D.view.contents disk.old) }
     requires within_limit { at + length bytes.now ≤ 2 ^ 40 }
     requires guards { Guards P.guard P.holds }
     requires apart { IsApart P.guard at (length bytes.now) }
-    requires stays { Stays P.guard P.holds (D.contents disk.old) (D.unsynced disk.old) }
+    requires stays { Stays P.guard P.holds (D.view.contents disk.old) (D.view.unsynced disk.old) }
     ensures written { OnOk result
-        (D.contents disk.new ≡ overwritten at bytes.now (D.contents disk.old)) }
-    ensures settled { OnOk result (IsSettled (D.contents disk.new) (D.unsynced disk.new)) }
-    ensures stays { Stays P.guard P.holds (D.contents disk.new) (D.unsynced disk.new) }
-    ensures any_moment { LeavesOnly D.moment D.left_since disk.old disk.new P.holds }
-    ensures cause { HasCause (D.failures disk.old) (D.failures disk.new) result }
+        (D.view.contents disk.new ≡ overwritten at bytes.now (D.view.contents disk.old)) }
+    ensures settled { OnOk result
+        (IsSettled (D.view.contents disk.new) (D.view.unsynced disk.new)) }
+    ensures stays { Stays P.guard P.holds (D.view.contents disk.new) (D.view.unsynced disk.new) }
+    ensures any_moment { LeavesOnly D.view disk.old disk.new P.holds }
+    ensures cause { HasCause (D.view.failures disk.old) (D.view.failures disk.new) result }
 {
     write_apart::<D, P>(disk, at, bytes)?;
     disk.sync()
@@ -66,15 +67,15 @@ pub fn store_apart<D: Disk, P: Guarded>(
 #[tactic(auto, using(cm_guards::proofs::gating))]
 pub fn write_gate<D: Disk, P: Claim, Q: Claim>(disk: &mut D, gate: u64) -> Result<(), DeviceFault>
     requires within_limit { gate + 1 ≤ 2 ^ 40 }
-    requires settled { IsSettled (D.contents disk.old) (D.unsynced disk.old) }
-    requires holds { P.holds (D.contents disk.old) }
-    requires turns { Turns P.holds Q.holds gate OPEN (D.contents disk.old) }
-    ensures turned { OnOk result (Q.holds (D.contents disk.new)) }
-    ensures images { EachImage (D.contents disk.new) (D.unsynced disk.new)
+    requires settled { IsSettled (D.view.contents disk.old) (D.view.unsynced disk.old) }
+    requires holds { P.holds (D.view.contents disk.old) }
+    requires turns { Turns P.holds Q.holds gate OPEN (D.view.contents disk.old) }
+    ensures turned { OnOk result (Q.holds (D.view.contents disk.new)) }
+    ensures images { EachImage (D.view.contents disk.new) (D.view.unsynced disk.new)
         (OneOf P.holds Q.holds) }
-    ensures any_moment { LeavesOnly D.moment D.left_since disk.old disk.new
+    ensures any_moment { LeavesOnly D.view disk.old disk.new
         (OneOf P.holds Q.holds) }
-    ensures cause { HasCause (D.failures disk.old) (D.failures disk.new) result }
+    ensures cause { HasCause (D.view.failures disk.old) (D.view.failures disk.new) result }
 {
     disk.write_at(gate, &[OPEN])
 }
@@ -83,15 +84,16 @@ pub fn write_gate<D: Disk, P: Claim, Q: Claim>(disk: &mut D, gate: u64) -> Resul
 #[tactic(auto, using(cm_guards::proofs::settling))]
 pub fn turn_gate<D: Disk, P: Claim, Q: Claim>(disk: &mut D, gate: u64) -> Result<(), DeviceFault>
     requires within_limit { gate + 1 ≤ 2 ^ 40 }
-    requires settled { IsSettled (D.contents disk.old) (D.unsynced disk.old) }
-    requires holds { P.holds (D.contents disk.old) }
-    requires turns { Turns P.holds Q.holds gate OPEN (D.contents disk.old) }
-    ensures done { OnOk result (EachImage (D.contents disk.new) (D.unsynced disk.new) Q.holds) }
+    requires settled { IsSettled (D.view.contents disk.old) (D.view.unsynced disk.old) }
+    requires holds { P.holds (D.view.contents disk.old) }
+    requires turns { Turns P.holds Q.holds gate OPEN (D.view.contents disk.old) }
+    ensures done { OnOk result (EachImage (D.view.contents disk.new) (D.view.unsynced disk.new)
+        Q.holds) }
     ensures failed { OnErr result
-        (EachImage (D.contents disk.new) (D.unsynced disk.new) (OneOf P.holds Q.holds)) }
-    ensures any_moment { LeavesOnly D.moment D.left_since disk.old disk.new
+        (EachImage (D.view.contents disk.new) (D.view.unsynced disk.new) (OneOf P.holds Q.holds)) }
+    ensures any_moment { LeavesOnly D.view disk.old disk.new
         (OneOf P.holds Q.holds) }
-    ensures cause { HasCause (D.failures disk.old) (D.failures disk.new) result }
+    ensures cause { HasCause (D.view.failures disk.old) (D.view.failures disk.new) result }
 {
     write_gate::<D, P, Q>(disk, gate)?;
     disk.sync()
@@ -105,18 +107,19 @@ pub fn turn<D: Disk, P: Guarded, Q: Claim>(
     bytes: &[u8],
     gate: u64,
 ) -> Result<(), DeviceFault>
-    requires starts_within { at ≤ length (D.contents disk.old) }
+    requires starts_within { at ≤ length (D.view.contents disk.old) }
     requires within_limit { at + length bytes.now ≤ 2 ^ 40 }
     requires gate_within_limit { gate + 1 ≤ 2 ^ 40 }
     requires guards { Guards P.guard P.holds }
     requires apart { IsApart P.guard at (length bytes.now) }
-    requires stays { Stays P.guard P.holds (D.contents disk.old) (D.unsynced disk.old) }
+    requires stays { Stays P.guard P.holds (D.view.contents disk.old) (D.view.unsynced disk.old) }
     requires turns { Turns P.holds Q.holds gate OPEN
-        (overwritten at bytes.now (D.contents disk.old)) }
-    ensures done { OnOk result (EachImage (D.contents disk.new) (D.unsynced disk.new) Q.holds) }
-    ensures any_moment { LeavesOnly D.moment D.left_since disk.old disk.new
+        (overwritten at bytes.now (D.view.contents disk.old)) }
+    ensures done { OnOk result (EachImage (D.view.contents disk.new) (D.view.unsynced disk.new)
+        Q.holds) }
+    ensures any_moment { LeavesOnly D.view disk.old disk.new
         (OneOf P.holds Q.holds) }
-    ensures cause { HasCause (D.failures disk.old) (D.failures disk.new) result }
+    ensures cause { HasCause (D.view.failures disk.old) (D.view.failures disk.new) result }
 {
     store_apart::<D, P>(disk, at, bytes)?;
     turn_gate::<D, P, Q>(disk, gate)

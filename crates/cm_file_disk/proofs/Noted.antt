@@ -21,14 +21,19 @@ Passes most old new =
     (LeftSince old.now.bytes (moment_unsynced old.now) old.moments)
     (LeftSince new.now.bytes (moment_unsynced new.now) new.moments) (IsImage old.now.bytes most)
 
+-- no more is open than the write's range besides
+opened_within : (at n : ℕ) (now : Moment)
+    → IsWithin (widened at n (moment_unsynced now)) (moment_unsynced (opened at n now))
+opened_within at n now =
+    narrow now.ranges (opened at n now).ranges now.least now.least now.greatest
+    (opened at n now).greatest at n refl refl refl
+
 passes_write : (at n failures : ℕ) (old : State) (left : List ℕ) → IsTorn at n old.now.bytes left
     → Passes (widened at n (moment_unsynced old.now)) old
     (record (gone (opened at n old.now) left old) { failures = failures })
 passes_write at n failures old left torn =
     let m : Moment = opened at n old.now in
-    let within : IsWithin (widened at n (moment_unsynced old.now)) (moment_unsynced m) =
-    narrow old.now.ranges m.ranges old.now.least m.least old.now.greatest m.greatest at n refl refl
-    refl in
+    let within = opened_within at n old.now in
     elapses_write at n old.now.bytes left (moment_unsynced old.now) (moment_unsynced m) old.moments
     (m ∷ old.moments) m refl refl
     (wider old.now.ranges m.ranges old.now.least m.least old.now.greatest m.greatest at n refl refl
@@ -91,6 +96,21 @@ not_written at bytes old new follows =
     carried (Passes (widened at (length bytes) (moment_unsynced old.now)) old) (NotWritten at) bytes
     old new follows
     (λ left torn. passes_write at (length bytes) (old.failures + 1) old left torn.0)
+
+pub wrote_within : (at : ℕ) (bytes : List ℕ) (old new : State) → Follows (Wrote at) bytes old new
+    → IsWithin (widened at (length bytes) (moment_unsynced old.now)) (moment_unsynced new.now)
+wrote_within at bytes old new follows =
+    carried (λ (s : State). IsWithin (widened at (length bytes) (moment_unsynced old.now))
+    (moment_unsynced s.now)) (Wrote at) bytes old new follows
+    (λ left e. opened_within at (length bytes) old.now)
+
+pub not_written_within : (at : ℕ) (bytes : List ℕ) (old new : State)
+    → Follows (NotWritten at) bytes old new
+    → IsWithin (widened at (length bytes) (moment_unsynced old.now)) (moment_unsynced new.now)
+not_written_within at bytes old new follows =
+    carried (λ (s : State). IsWithin (widened at (length bytes) (moment_unsynced old.now))
+    (moment_unsynced s.now)) (NotWritten at) bytes old new follows
+    (λ left torn. opened_within at (length bytes) old.now)
 
 pub was_cut : (len : ℕ) (old new : State) → len ≤ length old.now.bytes
     → Follows (Cut len) [] old new → Passes (shortened len (moment_unsynced old.now)) old new

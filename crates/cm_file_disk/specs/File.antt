@@ -5,7 +5,7 @@ use Rattle.std.specs.Prelude.{Option, is_some, not, ◌&&◌, take, if◌then◌
 use Rattle.std.specs.declared.io.Error.{Error}
 use Rattle.cm_disk.specs.Calls.{DiskCall}
 use Rattle.cm_disk.specs.Calls.DiskCall.{Len, Read, Write, Cut, Sync}
-use Rattle.cm_disk.specs.Disk.{Unsynced, IsSettled}
+use Rattle.cm_disk.specs.Disk.{View, Unsynced, IsSettled}
 use Rattle.cm_disk.specs.Moments.{LeftSince}
 use Rattle.cm_file_disk.specs.declared.disk.FileDisk.{FileDisk}
 use Rattle.cm_file_disk.specs.declared.opening.OpenedFile.{OpenedFile}
@@ -31,6 +31,15 @@ file_moment disk = length (file_state disk).moments
 abbrev pub file_left_since : FileDisk → ℕ → List ℕ → Type 0
 file_left_since disk t image =
     LeftSince (file_contents disk) (file_unsynced disk) (file_state disk).moments t image
+
+abbrev pub file_view : View FileDisk
+file_view = record {
+  contents = file_contents;
+  unsynced = file_unsynced;
+  failures = file_failures;
+  moment = file_moment;
+  left_since = file_left_since;
+}
 
 -- its first n bytes are still held, as they were read: nothing was written or cut since
 abbrev pub holds : FileDisk → ℕ → Bool

@@ -123,7 +123,7 @@ impl FileDisk {
     #[tactic(auto, using(crate::proofs::Followed::part_of_beginning))]
     fn held(&self, at: u64, count: usize) -> Option<&[u8]>
         requires { at + count ≤ length (file_contents self.now) }
-        ensures none { is_some result ≡ holds self.now (at + count) }
+        ensures known { is_some result ≡ holds self.now (at + count) }
         ensures some { IfSome result
             (λ b. b.now ≡ take count (drop at (file_contents self.now))) }
     {
@@ -147,18 +147,9 @@ impl FileDisk {
 }
 
 impl Disk for FileDisk {
-    ghost use Rattle.cm_file_disk.specs.File.{file_contents, file_unsynced, file_failures};
-    ghost use Rattle.cm_file_disk.specs.File.{file_moment, file_left_since, file_made, IsFileCall};
+    ghost use Rattle.cm_file_disk.specs.File.{file_view, file_made, IsFileCall};
 
-    ghost contents = { file_contents };
-
-    ghost unsynced = { file_unsynced };
-
-    ghost failures = { file_failures };
-
-    ghost moment = { file_moment };
-
-    ghost left_since = { file_left_since };
+    ghost view = { file_view };
 
     ghost called = { IsFileCall };
 
@@ -185,7 +176,6 @@ impl Disk for FileDisk {
         Ok(())
     }
 
-    #[tactic(auto, using(crate::proofs::Noted::wrote, crate::proofs::Noted::not_written))]
     fn write_at(&mut self, at: u64, bytes: &[u8]) -> Result<(), DeviceFault> {
         let Some(len) = self.known_len() else {
             return Err(self.refuse());

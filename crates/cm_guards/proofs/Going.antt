@@ -3,7 +3,7 @@
 use Rattle.std.proofs.Common.{◌≡◌, ◌≤◌, ◌+◌, ℕ, List, [], ◌∷◌, ◌++◌, length, take, inl, inr, refl}
 use Rattle.std.proofs.Common.{sym, subst, ◌∙◌, arith, ⊎_elim}
 use Rattle.std.specs.Prelude.{Result, Ok, Err, OnOk, OnErr}
-use Rattle.cm_disk.specs.Disk.{Unsynced, IsImage, IsSettled, IsSound}
+use Rattle.cm_disk.specs.Disk.{View, OnlyNow, Unsynced, IsSettled, IsSound}
 use Rattle.cm_disk.specs.Calls.{overwritten, HasCause}
 use Rattle.cm_guards.specs.Guards.{Guard, Agrees, Guards, Keeps, EachImage}
 use Rattle.cm_guards.specs.Gates.{OneOf}
@@ -143,17 +143,14 @@ either_turned P Q [] contents one = one
 either_turned P Q (stage ∷ stages) contents one =
     ⊎_elim (λ p. p) (λ p. p) one.which
 
-module _ {D T E : Type 0} (contents : D → List ℕ) (unsynced : D → Unsynced)
-    (failures moment : D → ℕ)
-    (left_since : D → ℕ → List ℕ → Type 0)
-    (only_now : (disk : D) (image : List ℕ) → left_since disk (moment disk) image
-    → IsImage (contents disk) (unsynced disk) image) (P Q : List ℕ → Type 0) (long : ℕ)
+module _ {D T E : Type 0} (view : View D)
+    (only_now : OnlyNow view) (P Q : List ℕ → Type 0) (long : ℕ)
     (old new : D) (r : Result T E) where
   abbrev Calls : List Stage → Type 0
-  Calls left = CallsOnce contents unsynced failures moment left_since left old new r
+  Calls left = CallsOnce view left old new r
 
   abbrev Stand : List Stage → D → Type 0
-  Stand left disk = StagesStand P Q long left (contents disk) (unsynced disk)
+  Stand left disk = StagesStand P Q long left (view.contents disk) (view.unsynced disk)
 
   -- ---- a write apart from what is guarded
 
@@ -163,41 +160,41 @@ module _ {D T E : Type 0} (contents : D → List ℕ) (unsynced : D → Unsynced
     g = at.guard
 
     abbrev Same : List ℕ → Type 0
-    Same = Agrees g (contents old)
+    Same = Agrees g (view.contents old)
 
-    stays : Stays g Same (contents new) (unsynced new)
+    stays : Stays g Same (view.contents new) (view.unsynced new)
     stays =
-        stays_written r g Same w.at w.bytes (contents old) (contents new) (unsynced old)
-        (unsynced new) (agreement_guards g (contents old)) at.keeps at.can.0.apart
-        (agrees_itself g (contents old) at.keeps.long) at.can.0.starts_within call.written
-        call.torn call.opens
+        stays_written view r g Same w.at w.bytes old new call
+        (agreement_guards g (view.contents old)) at.keeps at.can.0.apart
+        (agrees_itself g (view.contents old) at.keeps.long) at.can.0.starts_within
 
     wrote : OnOk r (Stand (Store ws ∷ stages) new)
     wrote =
         let kept = stays in
-        on_ok r (contents new ≡ overwritten w.at w.bytes (contents old))
+        on_ok r (view.contents new ≡ overwritten w.at w.bytes (view.contents old))
         (Stand (Store ws ∷ stages) new) (λ done. record {
           guard = g;
           keeps = kept.keeps;
           each = λ other agrees.
-              at.each other (agrees_on g (contents old) (contents new) other kept.holds agrees);
-          can = plan_goes_on g w ws (contents old) (contents new) at.can done;
+              at.each other (agrees_on g (view.contents old) (view.contents new) other kept.holds
+              agrees);
+          can = plan_goes_on g w ws (view.contents old) (view.contents new) at.can done;
           behind = subst (IsReady P Q long stages)
-              (written_goes_on w ws (contents old) (contents new) done) at.behind;
+              (written_goes_on w ws (view.contents old) (view.contents new) done) at.behind;
         }) call.written
 
-    write_failed : EachImage (contents new) (unsynced new) P
+    write_failed : EachImage (view.contents new) (view.unsynced new) P
     write_failed =
-        let images = stays_images g Same (contents new) (unsynced new)
-        (agreement_guards g (contents old)) stays in
+        let images = stays_images g Same (view.contents new) (view.unsynced new)
+        (agreement_guards g (view.contents old)) stays in
         record { each = λ image is. at.each image (images.each image is) }
 
-    write_moments : LeavesOnly moment left_since old new P
+    write_moments : LeavesOnly view old new P
     write_moments =
-        leaves_more moment left_since old new Same P at.each
-        (write_leaves contents unsynced moment left_since only_now old new g Same w.at
-        (length w.bytes) (agreement_guards g (contents old)) at.keeps at.can.0.apart
-        (agrees_itself g (contents old) at.keeps.long) call.time)
+        leaves_more view old new Same P at.each
+        (write_leaves view only_now old new g Same w.at
+        (length w.bytes) (agreement_guards g (view.contents old)) at.keeps at.can.0.apart
+        (agrees_itself g (view.contents old) at.keeps.long) call.time)
 
   -- ---- the sync behind the writes
 
@@ -205,28 +202,27 @@ module _ {D T E : Type 0} (contents : D → List ℕ) (unsynced : D → Unsynced
       (call : Calls (Store [] ∷ stages)) where
     stored : OnOk r (Stand stages new)
     stored =
-        on_ok r (IsSettled (contents new) (unsynced new)) (Stand stages new) (λ settled.
-        ready_stands P Q long stages (contents new) (unsynced new) settled
+        on_ok r (IsSettled (view.contents new) (view.unsynced new)) (Stand stages new) (λ settled.
+        ready_stands P Q long stages (view.contents new) (view.unsynced new) settled
         (subst (IsReady P Q long stages) (sym call.same) at.behind)) call.settled
 
-    images_before : EachImage (contents old) (unsynced old) P
+    images_before : EachImage (view.contents old) (view.unsynced old) P
     images_before = record {
-      each = (stages_leave P Q long (Store [] ∷ stages) (contents old) (unsynced old)
+      each = (stages_leave P Q long (Store [] ∷ stages) (view.contents old) (view.unsynced old)
           (λ none. absurd (cc)) at).each;
     }
 
-    holds_before : P (contents old)
+    holds_before : P (view.contents old)
     holds_before =
-        at.each (contents old) (agrees_itself at.guard (contents old) at.keeps.long)
+        at.each (view.contents old) (agrees_itself at.guard (view.contents old) at.keeps.long)
 
-    sync_failed : EachImage (contents new) (unsynced new) P
+    sync_failed : EachImage (view.contents new) (view.unsynced new) P
     sync_failed =
-        images_synced r P (contents old) (contents new) (unsynced old) (unsynced new) holds_before
-        images_before call.same call.settled call.not_settled
+        images_synced view r P old new call holds_before images_before
 
-    sync_moments : LeavesOnly moment left_since old new P
+    sync_moments : LeavesOnly view old new P
     sync_moments =
-        sync_leaves contents unsynced moment left_since only_now old new P images_before call.time
+        sync_leaves view only_now old new P images_before call.time
 
   -- ---- a gate's byte
 
@@ -235,26 +231,25 @@ module _ {D T E : Type 0} (contents : D → List ℕ) (unsynced : D → Unsynced
     abbrev Next : List ℕ → Type 0
     Next = claim_behind stages P Q
 
-    gate_stays : EachImage (contents new) (unsynced new) (turned stages P Q)
+    gate_stays : EachImage (view.contents new) (view.unsynced new) (turned stages P Q)
     gate_stays =
-        let images = gate_images r P Next gate byte (contents old) (contents new) (unsynced old)
-        (unsynced new) at.ready.turns at.settled call.written call.torn call.opens in
+        let images = gate_images view r P Next gate byte old new call at.ready.turns at.settled in
         record { each = λ image is. either_turned P Q stages image (images.each image is) }
 
     opened : OnOk r (Stand (Settle ∷ stages) new)
     opened =
         let images = gate_stays in
-        on_ok r (contents new ≡ overwritten gate (byte ∷ []) (contents old))
+        on_ok r (view.contents new ≡ overwritten gate (byte ∷ []) (view.contents old))
         (Stand (Settle ∷ stages) new) (λ done. record {
           images = images;
           behind = subst (IsReady P Q long stages) (sym done) at.ready.behind;
         }) call.written
 
-    gate_moments : LeavesOnly moment left_since old new (turned stages P Q)
+    gate_moments : LeavesOnly view old new (turned stages P Q)
     gate_moments =
-        leaves_more moment left_since old new (OneOf P Next) (turned stages P Q)
+        leaves_more view old new (OneOf P Next) (turned stages P Q)
         (λ image one. either_turned P Q stages image one)
-        (gate_leaves contents unsynced moment left_since only_now old new P Next gate byte
+        (gate_leaves view only_now old new P Next gate byte
         at.ready.turns at.settled at.ready.holds call.time)
 
   -- ---- the sync behind it
@@ -263,19 +258,18 @@ module _ {D T E : Type 0} (contents : D → List ℕ) (unsynced : D → Unsynced
       (call : Calls (Settle ∷ stages)) where
     settled_behind : OnOk r (Stand stages new)
     settled_behind =
-        on_ok r (IsSettled (contents new) (unsynced new)) (Stand stages new) (λ settled.
-        ready_stands P Q long stages (contents new) (unsynced new) settled
+        on_ok r (IsSettled (view.contents new) (view.unsynced new)) (Stand stages new) (λ settled.
+        ready_stands P Q long stages (view.contents new) (view.unsynced new) settled
         (subst (IsReady P Q long stages) (sym call.same) at.behind)) call.settled
 
-    settle_failed : EachImage (contents new) (unsynced new) (turned stages P Q)
+    settle_failed : EachImage (view.contents new) (view.unsynced new) (turned stages P Q)
     settle_failed =
-        images_synced r (turned stages P Q) (contents old) (contents new) (unsynced old)
-        (unsynced new) (ready_turned P Q long stages (contents old) at.behind) at.images call.same
-        call.settled call.not_settled
+        images_synced view r (turned stages P Q) old new call
+        (ready_turned P Q long stages (view.contents old) at.behind) at.images
 
-    settle_moments : LeavesOnly moment left_since old new (turned stages P Q)
+    settle_moments : LeavesOnly view old new (turned stages P Q)
     settle_moments =
-        sync_leaves contents unsynced moment left_since only_now old new (turned stages P Q)
+        sync_leaves view only_now old new (turned stages P Q)
         at.images call.time
 
   -- ---- a cut behind what is guarded
@@ -286,50 +280,51 @@ module _ {D T E : Type 0} (contents : D → List ℕ) (unsynced : D → Unsynced
     b = at.ready.guard
 
     abbrev Alike : List ℕ → Type 0
-    Alike = Agrees b (contents old)
+    Alike = Agrees b (view.contents old)
 
-    abbrev rests : Rests b P (contents old)
+    abbrev rests : Rests b P (view.contents old)
     rests = at.ready.rests
 
-    keeps_before : Keeps b (contents old) (unsynced old)
+    keeps_before : Keeps b (view.contents old) (view.unsynced old)
     keeps_before =
-        keeps_settled b (contents old) (unsynced old) rests.ends rests.long at.settled
+        keeps_settled b (view.contents old) (view.unsynced old) rests.ends rests.long at.settled
 
-    cut_stays : Stays b Alike (contents new) (unsynced new)
+    cut_stays : Stays b Alike (view.contents new) (view.unsynced new)
     cut_stays =
-        stays_cut r b Alike len (contents old) (contents new) (unsynced old) (unsynced new)
-        (agreement_guards b (contents old))
+        stays_cut view r b Alike len old new call
+        (agreement_guards b (view.contents old))
         (record {
           keeps = keeps_before;
-          holds = agrees_itself b (contents old) rests.long;
+          holds = agrees_itself b (view.contents old) rests.long;
         })
-        at.ready.enough at.ready.within call.cut call.between call.shortens
+        at.ready.enough at.ready.within
 
     cut_done : OnOk r (Stand (Store [] ∷ stages) new)
     cut_done =
         let kept = cut_stays in
-        on_ok r (contents new ≡ take len (contents old)) (Stand (Store [] ∷ stages) new)
+        on_ok r (view.contents new ≡ take len (view.contents old)) (Stand (Store [] ∷ stages) new)
         (λ done. record {
           guard = b;
           keeps = kept.keeps;
           each = λ other agrees.
-              rests.each other (agrees_on b (contents old) (contents new) other kept.holds agrees);
+              rests.each other (agrees_on b (view.contents old) (view.contents new) other kept.holds
+              agrees);
           can = tt;
           behind = subst (IsReady P Q long stages) (sym done) at.ready.behind;
         }) call.cut
 
-    cut_failed : EachImage (contents new) (unsynced new) P
+    cut_failed : EachImage (view.contents new) (view.unsynced new) P
     cut_failed =
-        let images = stays_images b Alike (contents new) (unsynced new)
-        (agreement_guards b (contents old)) cut_stays in
+        let images = stays_images b Alike (view.contents new) (view.unsynced new)
+        (agreement_guards b (view.contents old)) cut_stays in
         record { each = λ image is. rests.each image (images.each image is) }
 
-    cut_moments : LeavesOnly moment left_since old new P
+    cut_moments : LeavesOnly view old new P
     cut_moments =
-        leaves_more moment left_since old new Alike P rests.each
-        (cut_leaves contents unsynced moment left_since only_now old new b Alike len
-        (agreement_guards b (contents old)) keeps_before at.ready.enough
-        (agrees_itself b (contents old) rests.long) call.time)
+        leaves_more view old new Alike P rests.each
+        (cut_leaves view only_now old new b Alike len
+        (agreement_guards b (view.contents old)) keeps_before at.ready.enough
+        (agrees_itself b (view.contents old) rests.long) call.time)
 
   -- ---- any of them
 
@@ -343,26 +338,28 @@ module _ {D T E : Type 0} (contents : D → List ℕ) (unsynced : D → Unsynced
   call_done (Cut len ∷ stages) at call = cut_done len stages at call
 
   pub call_failed : (left : List Stage) → Stand left old → Calls left
-      → OnErr r (EachImage (contents new) (unsynced new) (leaves left P Q))
+      → OnErr r (EachImage (view.contents new) (view.unsynced new) (leaves left P Q))
   call_failed [] at call = absurd call
   call_failed (Store [] ∷ stages) at call =
-      on_err r (EachImage (contents new) (unsynced new) (leaves (Store [] ∷ stages) P Q))
+      on_err r (EachImage (view.contents new) (view.unsynced new) (leaves (Store [] ∷ stages) P Q))
       (record { each = (sync_failed stages at call).each })
   call_failed (Store (w ∷ ws) ∷ stages) at call =
-      on_err r (EachImage (contents new) (unsynced new) (leaves (Store (w ∷ ws) ∷ stages) P Q))
+      on_err r (EachImage (view.contents new) (view.unsynced new)
+      (leaves (Store (w ∷ ws) ∷ stages) P Q))
       (record { each = (write_failed w ws stages at call).each })
   call_failed (Turn gate byte ∷ stages) at call =
-      on_err r (EachImage (contents new) (unsynced new) (leaves (Turn gate byte ∷ stages) P Q))
+      on_err r (EachImage (view.contents new) (view.unsynced new)
+      (leaves (Turn gate byte ∷ stages) P Q))
       (record { each = (gate_stays gate byte stages at call).each })
   call_failed (Settle ∷ stages) at call =
-      on_err r (EachImage (contents new) (unsynced new) (leaves (Settle ∷ stages) P Q))
+      on_err r (EachImage (view.contents new) (view.unsynced new) (leaves (Settle ∷ stages) P Q))
       (record { each = (settle_failed stages at call).each })
   call_failed (Cut len ∷ stages) at call =
-      on_err r (EachImage (contents new) (unsynced new) (leaves (Cut len ∷ stages) P Q))
+      on_err r (EachImage (view.contents new) (view.unsynced new) (leaves (Cut len ∷ stages) P Q))
       (record { each = (cut_failed len stages at call).each })
 
   pub call_moments : (left : List Stage) → Stand left old → Calls left
-      → LeavesOnly moment left_since old new (leaves left P Q)
+      → LeavesOnly view old new (leaves left P Q)
   call_moments [] at call = absurd call
   call_moments (Store [] ∷ stages) at call = sync_moments stages at call
   call_moments (Store (w ∷ ws) ∷ stages) at call = write_moments w ws stages at call
@@ -371,21 +368,20 @@ module _ {D T E : Type 0} (contents : D → List ℕ) (unsynced : D → Unsynced
   call_moments (Cut len ∷ stages) at call = cut_moments len stages at call
 
 -- a fault is told only where the device failed
-pub call_cause : {D T E : Type 0} (contents : D → List ℕ) (unsynced : D → Unsynced)
-    (failures moment : D → ℕ) (left_since : D → ℕ → List ℕ → Type 0) (left : List Stage)
+pub call_cause : {D T E : Type 0} (view : View D) (left : List Stage)
     (old new : D) (r : Result T E)
-    → CallsOnce contents unsynced failures moment left_since left old new r
-    → HasCause (failures old) (failures new) r
-call_cause contents unsynced failures moment left_since [] old new r call = absurd call
-call_cause contents unsynced failures moment left_since (Store [] ∷ stages) old new r call =
+    → CallsOnce view left old new r
+    → HasCause (view.failures old) (view.failures new) r
+call_cause view [] old new r call = absurd call
+call_cause view (Store [] ∷ stages) old new r call =
     call.cause
-call_cause contents unsynced failures moment left_since (Store (w ∷ ws) ∷ stages) old new r call =
+call_cause view (Store (w ∷ ws) ∷ stages) old new r call =
     call.cause
-call_cause contents unsynced failures moment left_since (Turn gate byte ∷ stages) old new r call =
+call_cause view (Turn gate byte ∷ stages) old new r call =
     call.cause
-call_cause contents unsynced failures moment left_since (Settle ∷ stages) old new r call =
+call_cause view (Settle ∷ stages) old new r call =
     call.cause
-call_cause contents unsynced failures moment left_since (Cut len ∷ stages) old new r call =
+call_cause view (Cut len ∷ stages) old new r call =
     call.cause
 
 -- ---- plans one behind another

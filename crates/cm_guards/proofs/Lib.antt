@@ -7,7 +7,7 @@ mod Held
 mod Steps
 mod Going
 -- One byte is written where all is stored: each image has some byte there, and nothing else new.
-pub use Gated.{settled_images, turned, gate_written}
+pub use Gated.{settled_images, turned, gate_written, contents_are_image}
 -- Writes that are left: what one of them leaves of the plan, and what all of them leave.
 pub use Planned.{overwritten_size, kept_by_plan}
 -- What a crash leaves at the moments inside runs of calls.
@@ -16,7 +16,8 @@ pub use Left.{reads_as}
 pub use Left.{reading}
 -- What one device call leaves at each moment, and what the disk holds after it: a line for each
 -- step of a writer over any disk.
-pub use Steps.{gate_leaves, gate_images, run_then_sync, writing, cutting, syncing, gating}
+pub use Steps.{gate_leaves, gate_images, images_synced, run_then_sync, writing, cutting, syncing}
+pub use Steps.{gating}
 pub use Steps.{settling}
 pub use Steps.{turning}
 -- Stages: what stands between two calls, what one call makes of it, and what a crash leaves.

@@ -2,9 +2,9 @@
 use Rattle.std.specs.Prelude.{◌≡◌, ◌≤◌, ◌⊎◌, ℕ, List, [], ◌∷◌, length, Result, IsErr, OnOk}
 use Rattle.std.specs.Prelude.{OnErr}
 use Rattle.cm_disk.specs.declared.disk.DeviceFault.{DeviceFault}
-use Rattle.cm_disk.specs.Disk.{Unsynced, IsImage, IsSettled, IsSound, IsWithin, widened}
+use Rattle.cm_disk.specs.Disk.{View, Unsynced, IsImage, IsSettled, IsSound, IsWithin, widened}
 use Rattle.cm_disk.specs.Disk.{shortened}
-use Rattle.cm_disk.specs.Calls.{overwritten, IsTorn, IsCut, Elapses, HasCause}
+use Rattle.cm_disk.specs.Calls.{overwritten, IsTorn, IsCut, Passes, LooksOnce}
 use Rattle.cm_guards.specs.Guards.{Guard, Guards, IsBounded, Keeps, EachImage, IsApart}
 use Rattle.cm_guards.specs.Plans.{Write, written, CanWrite}
 use Rattle.cm_guards.specs.Gates.{OneOf, Turns}
@@ -129,55 +129,47 @@ StagesLeave P Q =
 
 -- one call: done, the stages behind it stand; failed, a crash leaves what it left before; and so at
 -- each moment of the call
-pub record CallGoesOn {D : Type 0} (contents : D → List ℕ) (unsynced : D → Unsynced)
-    (moment : D → ℕ) (left_since : D → ℕ → List ℕ → Type 0) (P Q : List ℕ → Type 0) (long : ℕ)
+pub record CallGoesOn {D : Type 0} (view : View D) (P Q : List ℕ → Type 0) (long : ℕ)
     (left : List Stage) (old new : D) (result : Result (Unit {0}) DeviceFault) : Type 0 where
-  pub done : OnOk result (StagesStand P Q long (after_call left) (contents new) (unsynced new))
-  pub failed : OnErr result (EachImage (contents new) (unsynced new) (leaves left P Q))
-  pub moments : LeavesOnly moment left_since old new (leaves left P Q)
+  pub done : OnOk result (StagesStand P Q long (after_call left) (view.contents new)
+      (view.unsynced new))
+  pub failed : OnErr result (EachImage (view.contents new) (view.unsynced new) (leaves left P Q))
+  pub moments : LeavesOnly view old new (leaves left P Q)
 
-abbrev pub CallsGoOn : (D : Type 0) → (D → List ℕ) → (D → Unsynced) → (D → ℕ) → (D → ℕ)
-    → (D → ℕ → List ℕ → Type 0) → (List ℕ → Type 0) → (List ℕ → Type 0) → Type 0
-CallsGoOn D contents unsynced failures moment left_since P Q =
+abbrev pub CallsGoOn : {D : Type 0} → View D → (List ℕ → Type 0) → (List ℕ → Type 0) → Type 0
+CallsGoOn {D} view P Q =
     (long : ℕ) (left : List Stage) (old new : D) (result : Result (Unit {0}) DeviceFault)
-    → StagesStand P Q long left (contents old) (unsynced old)
-    → CallsOnce contents unsynced failures moment left_since left old new result
-    → CallGoesOn contents unsynced moment left_since P Q long left old new result
+    → StagesStand P Q long left (view.contents old) (view.unsynced old)
+    → CallsOnce view left old new result
+    → CallGoesOn view P Q long left old new result
 
 -- ---- runs of calls, where the moment and what a crash may have left since one are a disk's
 
-abbrev pub RunsJoin : (D : Type 0) → (D → ℕ) → (D → ℕ → List ℕ → Type 0) → (List ℕ → Type 0)
+abbrev pub RunsJoin : {D : Type 0} → View D → (List ℕ → Type 0)
     → Type 0
-RunsJoin D moment left_since P =
-    (a b c : D) → LeavesOnly moment left_since a b P → LeavesOnly moment left_since b c P
-    → LeavesOnly moment left_since a c P
+RunsJoin {D} view P =
+    (a b c : D) → LeavesOnly view a b P → LeavesOnly view b c P
+    → LeavesOnly view a c P
 
 -- a call leaves what each image at its beginning has, and each while it runs
-abbrev pub CallsLeave : (D : Type 0) → (D → List ℕ) → (D → Unsynced) → (D → ℕ)
-    → (D → ℕ → List ℕ → Type 0) → (List ℕ → Type 0) → Type 0
-CallsLeave D contents unsynced moment left_since P =
+abbrev pub CallsLeave : {D : Type 0} → View D → (List ℕ → Type 0) → Type 0
+CallsLeave {D} view P =
     (old new : D) (during : Unsynced)
-    → Elapses (moment old) (moment new) (left_since old) (left_since new)
-    (IsImage (contents old) during)
-    → EachImage (contents old) (unsynced old) P → EachImage (contents old) during P
-    → LeavesOnly moment left_since old new P
+    → Passes view old new
+    (IsImage (view.contents old) during)
+    → EachImage (view.contents old) (view.unsynced old) P → EachImage (view.contents old) during P
+    → LeavesOnly view old new P
 
 -- two runs of reads are one, which faults where one of them does
-abbrev pub ReadsJoin : (D : Type 0) → (D → List ℕ) → (D → Unsynced) → (D → ℕ) → (D → ℕ)
-    → (D → ℕ → List ℕ → Type 0) → Type 0
-ReadsJoin D contents unsynced failures moment left_since =
+abbrev pub ReadsJoin : {D : Type 0} → View D → Type 0
+ReadsJoin {D} view =
     (a b c : D) (r s : Result (Unit {0}) DeviceFault)
-    → Reads contents unsynced failures moment left_since a b (IsErr r)
-    → Reads contents unsynced failures moment left_since b c (IsErr s)
-    → Reads contents unsynced failures moment left_since a c (IsErr r ⊎ IsErr s)
+    → Reads view a b (IsErr r)
+    → Reads view b c (IsErr s)
+    → Reads view a c (IsErr r ⊎ IsErr s)
 
 -- one read is a run
-abbrev pub ReadIsRun : (D : Type 0) → (D → List ℕ) → (D → Unsynced) → (D → ℕ) → (D → ℕ)
-    → (D → ℕ → List ℕ → Type 0) → Type 0
-ReadIsRun D contents unsynced failures moment left_since =
-    (old new : D) (r : Result (Unit {0}) DeviceFault) → contents new ≡ contents old
-    → unsynced new ≡ unsynced old
-    → Elapses (moment old) (moment new) (left_since old) (left_since new)
-    (IsImage (contents old) (unsynced old))
-    → HasCause (failures old) (failures new) r
-    → Reads contents unsynced failures moment left_since old new (IsErr r)
+abbrev pub ReadIsRun : {D : Type 0} → View D → Type 0
+ReadIsRun {D} view =
+    (old new : D) (r : Result (Unit {0}) DeviceFault) → LooksOnce view old new r
+    → Reads view old new (IsErr r)

@@ -3,9 +3,9 @@
 -- another, Q. The last gate turns P into Q; each gate before it leaves P, whatever byte stands
 -- there.
 use Rattle.std.specs.Prelude.{◌≡◌, ℕ, ◌+◌, ◌^◌, ◌≤◌, List, [], ◌∷◌, length, take}
-use Rattle.std.specs.Prelude.{Result, OnOk, OnErr}
-use Rattle.cm_disk.specs.Disk.{Unsynced, IsImage, IsSettled, IsWithin, widened, shortened}
-use Rattle.cm_disk.specs.Calls.{overwritten, IsTorn, IsCut, Elapses, HasCause}
+use Rattle.std.specs.Prelude.{Result}
+use Rattle.cm_disk.specs.Disk.{View, Unsynced, IsSettled}
+use Rattle.cm_disk.specs.Calls.{overwritten, WritesOnce, CutsOnce, SyncsOnce}
 use Rattle.cm_guards.specs.Guards.{Guard, Agrees, IsBounded, Keeps, EachImage}
 use Rattle.cm_guards.specs.Gates.{OneOf, Turns}
 use Rattle.cm_guards.specs.Plans.{Write, written, CanWrite}
@@ -49,58 +49,28 @@ gone_through (Cut len ∷ stages) contents = gone_through stages (take len conte
 
 -- ---- one device call
 
--- one write was made, done or failed
-pub record WritesOnce {D T E : Type 0} (contents : D → List ℕ) (unsynced : D → Unsynced)
-    (failures moment : D → ℕ) (left_since : D → ℕ → List ℕ → Type 0) (write : Write) (old new : D)
-    (result : Result T E) : Type 0 where
-  pub written : OnOk result (contents new ≡ overwritten write.at write.bytes (contents old))
-  pub torn : OnErr result (IsTorn write.at (length write.bytes) (contents old) (contents new))
-  pub opens : IsWithin (widened write.at (length write.bytes) (unsynced old)) (unsynced new)
-  pub time : Elapses (moment old) (moment new) (left_since old) (left_since new)
-      (IsImage (contents old) (widened write.at (length write.bytes) (unsynced old)))
-  pub cause : HasCause (failures old) (failures new) result
-
--- one sync
-pub record SyncsOnce {D T E : Type 0} (contents : D → List ℕ) (unsynced : D → Unsynced)
-    (failures moment : D → ℕ) (left_since : D → ℕ → List ℕ → Type 0) (old new : D)
-    (result : Result T E) : Type 0 where
-  pub settled : OnOk result (IsSettled (contents new) (unsynced new))
-  pub not_settled : OnErr result (unsynced new ≡ unsynced old)
-  pub same : contents new ≡ contents old
-  pub time : Elapses (moment old) (moment new) (left_since old) (left_since new)
-      (IsImage (contents old) (unsynced old))
-  pub cause : HasCause (failures old) (failures new) result
-
--- one cut
-pub record CutsOnce {D T E : Type 0} (contents : D → List ℕ) (unsynced : D → Unsynced)
-    (failures moment : D → ℕ) (left_since : D → ℕ → List ℕ → Type 0) (len : ℕ) (old new : D)
-    (result : Result T E) : Type 0 where
-  pub cut : OnOk result (contents new ≡ take len (contents old))
-  pub between : OnErr result (IsCut len (contents old) (contents new))
-  pub shortens : IsWithin (shortened len (unsynced old)) (unsynced new)
-  pub time : Elapses (moment old) (moment new) (left_since old) (left_since new)
-      (IsImage (contents old) (shortened len (unsynced old)))
-  pub cause : HasCause (failures old) (failures new) result
-
 -- the byte of a gate, as a write
 abbrev pub gate_write : ℕ → ℕ → Write
 gate_write gate byte = record { at = gate; bytes = byte ∷ [] }
 
+-- a write of a plan was made, done or failed
+abbrev pub MakesWrite : {D T E : Type 0} → View D → Write → D → D → Result T E → Type 0
+MakesWrite view write old new result = WritesOnce view write.at write.bytes old new result
+
 -- the next call of these stages was made
-abbrev pub CallsOnce : {D T E : Type 0} → (D → List ℕ) → (D → Unsynced) → (D → ℕ) → (D → ℕ)
-    → (D → ℕ → List ℕ → Type 0) → List Stage → D → D → Result T E → Type 0
-CallsOnce contents unsynced failures moment left_since [] old new result = ⊥
-CallsOnce contents unsynced failures moment left_since (Store [] ∷ stages) old new result =
-    SyncsOnce contents unsynced failures moment left_since old new result
-CallsOnce contents unsynced failures moment left_since (Store (write ∷ writes) ∷ stages) old new
+abbrev pub CallsOnce : {D T E : Type 0} → View D → List Stage → D → D → Result T E → Type 0
+CallsOnce view [] old new result = ⊥
+CallsOnce view (Store [] ∷ stages) old new result =
+    SyncsOnce view old new result
+CallsOnce view (Store (write ∷ writes) ∷ stages) old new
     result =
-    WritesOnce contents unsynced failures moment left_since write old new result
-CallsOnce contents unsynced failures moment left_since (Turn gate byte ∷ stages) old new result =
-    WritesOnce contents unsynced failures moment left_since (gate_write gate byte) old new result
-CallsOnce contents unsynced failures moment left_since (Settle ∷ stages) old new result =
-    SyncsOnce contents unsynced failures moment left_since old new result
-CallsOnce contents unsynced failures moment left_since (Cut len ∷ stages) old new result =
-    CutsOnce contents unsynced failures moment left_since len old new result
+    MakesWrite view write old new result
+CallsOnce view (Turn gate byte ∷ stages) old new result =
+    MakesWrite view (gate_write gate byte) old new result
+CallsOnce view (Settle ∷ stages) old new result =
+    SyncsOnce view old new result
+CallsOnce view (Cut len ∷ stages) old new result =
+    CutsOnce view len old new result
 
 -- a disk of that length takes the write
 pub record TakesWrite (write : Write) (len : ℕ) : Type 0 where

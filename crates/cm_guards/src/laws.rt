@@ -57,19 +57,19 @@ pub fn stages_are_gone_through<D: Disk, P: Claim, Q: Claim>()
     ensures ready { ReadyStagesStand P.holds Q.holds }
     ensures takes { StagesTakeCalls P.holds Q.holds }
     ensures images { StagesLeave P.holds Q.holds }
-    ensures call { CallsGoOn D D.contents D.unsynced D.failures D.moment D.left_since P.holds
+    ensures call { CallsGoOn D.view P.holds
         Q.holds }
 {}
 
 /// What a crash may leave at any moment of a call, or of two runs of calls one after the other.
 pub fn runs_leave_a_claim<D: Disk, P: Claim>()
-    ensures join { RunsJoin D D.moment D.left_since P.holds }
-    ensures call { CallsLeave D D.contents D.unsynced D.moment D.left_since P.holds }
+    ensures join { RunsJoin D.view P.holds }
+    ensures call { CallsLeave D.view P.holds }
 {}
 
 /// A run of calls that only read changes nothing, and leaves at each moment what a crash might have
 /// left before it: a read is such a run, and two of them are.
 pub fn reads_change_nothing<D: Disk>()
-    ensures one { ReadIsRun D D.contents D.unsynced D.failures D.moment D.left_since }
-    ensures join { ReadsJoin D D.contents D.unsynced D.failures D.moment D.left_since }
+    ensures one { ReadIsRun D.view }
+    ensures join { ReadsJoin D.view }
 {}

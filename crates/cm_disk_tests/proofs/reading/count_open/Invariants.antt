@@ -5,6 +5,5 @@ use Rattle.cm_disk_tests.proofs.reading.count_open.Given as goal
 abbrev pub invariant-loop-slot : goal.invariant-loop-slot
 invariant-loop-slot g l = record {
   few : l.open ≤ l.slot;
-  reads : Reads g.D.Disk.contents g.D.Disk.unsynced g.D.Disk.failures g.D.Disk.moment
-      g.D.Disk.left_since l.fn.disk l.disk ⊥;
+  reads : Reads g.D.Disk.view l.fn.disk l.disk ⊥;
 }

@@ -15,13 +15,13 @@ pub returns-clause-call : goal.returns-clause-call
 returns-clause-call g c =
     let d = g.D.Disk in
     λ long left old new result stands call. record {
-      done = call_done d.contents d.unsynced d.failures d.moment d.left_since
-          g.met.D.Disk.only_now g.P.Claim.holds g.Q.Claim.holds long old new result left stands
+      done = call_done d.view g.met.D.Disk.only_now g.P.Claim.holds g.Q.Claim.holds long old new
+          result left stands
           call;
-      failed = call_failed d.contents d.unsynced d.failures d.moment d.left_since
-          g.met.D.Disk.only_now g.P.Claim.holds g.Q.Claim.holds long old new result left stands
+      failed = call_failed d.view g.met.D.Disk.only_now g.P.Claim.holds g.Q.Claim.holds long old new
+          result left stands
           call;
-      moments = call_moments d.contents d.unsynced d.failures d.moment d.left_since
-          g.met.D.Disk.only_now g.P.Claim.holds g.Q.Claim.holds long old new result left stands
+      moments = call_moments d.view g.met.D.Disk.only_now g.P.Claim.holds g.Q.Claim.holds long old
+          new result left stands
           call;
     }
