@@ -9,6 +9,7 @@ mod Agreement
 mod Matched
 mod BareRows
 mod ClassPlaces
+mod KeptOn
 -- Chunks of rows that keep the rules share no word, but for the records of one loader on one chunk.
 pub use Apart.{entry-apart, rows_after_all-append}
 -- Contents frame at most one thing: the sizes, the rows with their words, and the number.
@@ -17,6 +18,7 @@ pub use OneReading.{slot_count}
 pub use Superblocks.{length-blank}
 -- Rows after entries that keep the rules are live rows that keep theirs: what a checkpoint writes.
 pub use StayLive.{class_keeps, live-append, numbers-moved, number-moved, entry-live, live_rows_stay}
+pub use StayLive.{last-without}
 -- Live rows that keep the rules: their loaders differ, have numbers of the past, and own each
 -- class.
 pub use OwnLoaders.{own_loaders}
@@ -32,3 +34,6 @@ pub use BareRows.{slots-length, slots_of-with}
 -- Where classes lie: what the tests on chunks, on last chunks and on words in use say.
 pub use ClassPlaces.{meets-true, classes_in-append, used-append, is_unused-apart}
 pub use ClassPlaces.{apart-unused, last_chunk-among, is_last_chunk-among, begins_behind}
+-- What is kept of the classes on one chunk, after each change of the rows.
+pub use KeptOn.{kept-append, kept-with, kept-without, kept-elsewhere, kept-onto, none-kept}
+pub use KeptOn.{unused-none, none-used, begins-at, moves-stand}

@@ -313,7 +313,7 @@ not_eqb a b differ = by_test (eqb a b) refl
     by_test true e = absurd (differ (eqb-true a b e))
     by_test false e = refl
 
-last-without : (v u : ℕ) (rows : List BareRow) → (v ≡ u → ⊥)
+pub last-without : (v u : ℕ) (rows : List BareRow) → (v ≡ u → ⊥)
     → last_chunk v (classes_in (without_loader u rows)) ≡ last_chunk v (classes_in rows)
 last-without v u [] other = refl
 last-without v u (Loader r ∷ rows) other = by_test (eqb r.number u) (last-without v u rows other)
@@ -489,7 +489,7 @@ stay-without sizes base u pre (row ∷ rows) apart k =
 -- ---- a move
 
 -- the chunk that takes a chunk's place
-there : Chunk → Chunk → Chunk → Chunk
+pub there : Chunk → Chunk → Chunk → Chunk
 there from to c = cond (same_chunk c from) to c
 
 class_there : (from to : Chunk) (r : ClassRow)
@@ -552,7 +552,7 @@ number-moved x from to (Class r p ∷ rows) =
     by_test true rest = rest
     by_test false rest = rest
 
-name-moved : (u : ℕ) (from to : Chunk) (rows : List BareRow)
+pub name-moved : (u : ℕ) (from to : Chunk) (rows : List BareRow)
     → name_of u (moved from to rows) ≡ name_of u rows
 name-moved u from to [] = refl
 name-moved u from to (Loader r ∷ rows) =
@@ -782,7 +782,7 @@ unfolding there
 last_there from to None h = absurd (cc)
 last_there from to (Some l) h = rw h (same_chunk-itself to)
 
-last_chunk-moved : (v : ℕ) (from to : Chunk) (rows : List BareRow)
+pub last_chunk-moved : (v : ℕ) (from to : Chunk) (rows : List BareRow)
     → last_chunk v (classes_in (moved from to rows))
     ≡ option_map (there from to) (last_chunk v (classes_in rows))
 last_chunk-moved v from to rows =

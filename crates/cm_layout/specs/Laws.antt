@@ -1,13 +1,16 @@
 -- What holds of the definitions themselves.
 use Rattle.std.specs.Prelude.{◌≡◌, ℕ, ◌+◌, ◌≤◌, List, [], ◌∷◌, ◌++◌, length, None}
+use Rattle.std.specs.List.{AllByRecursion}
+use Rattle.cm_pool.specs.declared.chunk.Chunk.{Chunk}
+use Rattle.cm_pool.specs.declared.place.Place.{Place}
 use Rattle.cm_pool.specs.Geometry.{Sizes}
 use Rattle.cm_layout.specs.declared.row.Row.{Row}
 use Rattle.cm_layout.specs.Slots.{FitsRow, FitsEntry}
-use Rattle.cm_layout.specs.Rows.{classes_in, rows_after}
+use Rattle.cm_layout.specs.Rows.{classes_in, rows_after, bare, moved, kept_on, move_writes}
 use Rattle.cm_layout.specs.Rules.{broken_rule, broken_live_rule}
 use Rattle.cm_layout.specs.Loaders.{HasOwnLoaders}
 use Rattle.cm_layout.specs.Frames.{BareRow, BareEntry, OpenHalf, IsGoodHalf, AreApart, LiveRowsKeep}
-use Rattle.cm_layout.specs.Frames.{rows_of, number_at_end, Frames}
+use Rattle.cm_layout.specs.Frames.{rows_of, number_at_end, HoldsRecord, HoldsRow, Frames}
 use Rattle.cm_layout.specs.Framing.{Framing, IsRight, Matches, Agree, guards, needs}
 
 -- After rows and entries that keep the rules, chunks that differ share no word, and none has two
@@ -41,6 +44,20 @@ abbrev pub LoadersAreOwn : Type 0
 LoadersAreOwn =
     (sizes : Sizes) (n : ℕ) (rows : List BareRow) → LiveRowsKeep sizes n [] rows
     → HasOwnLoaders n rows
+
+-- a record stands in this place, in a whole root
+abbrev pub StandsAt : Sizes → List ℕ → Place → List ℕ → Type 0
+StandsAt sizes roots place words =
+    HoldsRecord sizes roots (record { loader = 0; place = place }) words
+
+-- Where the records of rows stand, and those on one chunk stand on another too, one behind another
+-- from its begin, the records of the rows after that move stand: each keeps its offset.
+abbrev pub MovesStand : Type 0
+MovesStand =
+    (sizes : Sizes) (n : ℕ) (rows : List (Row (List ℕ))) (from to : Chunk) (roots : List ℕ)
+    → LiveRowsKeep sizes n [] (bare rows) → AllByRecursion (HoldsRow sizes roots) rows
+    → AllByRecursion (λ w. StandsAt sizes roots w.0 w.1) (move_writes to 0 (kept_on from rows))
+    → AllByRecursion (HoldsRow sizes roots) (moved from to rows)
 
 -- Contents frame at most one thing: sizes, rows with their words, and number.
 abbrev pub FramesAreOne : Type 0

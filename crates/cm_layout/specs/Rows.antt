@@ -2,9 +2,10 @@
 -- with what is kept of it (nothing, its record's words, its class); and what an entry makes of
 -- them.
 use Rattle.std.specs.Prelude.{ℕ, ◌+◌, Bool, not, ◌==◌, if◌then◌else◌, List, [], ◌∷◌, ◌++◌, sum, map}
-use Rattle.std.specs.Prelude.{filter, Option, Some, None}
+use Rattle.std.specs.Prelude.{filter, length, Option, Some, None}
 use Rattle.std.specs.Str.{bytes_eq}
 use Rattle.cm_pool.specs.declared.chunk.Chunk.{Chunk}
+use Rattle.cm_pool.specs.declared.place.Place.{Place}
 use Rattle.cm_pool.specs.Chunks.{same_chunk}
 use Rattle.cm_layout.specs.declared.class_row.ClassRow.{ClassRow}
 use Rattle.cm_layout.specs.declared.row.Row.{Row}
@@ -67,6 +68,13 @@ abbrev pub used_words : {P : Type 0} → Chunk → List (Row P) → ℕ
 used_words c rows =
     sum (map (λ r. r.place.words) (filter (λ r. same_chunk r.place.chunk c) (classes_in rows)))
 
+-- what is kept of the classes on a chunk, in order
+abbrev pub kept_on : {P : Type 0} → Chunk → List (Row P) → List P
+kept_on c [] = []
+kept_on c (Loader r ∷ rows) = kept_on c rows
+kept_on c (Class r p ∷ rows) =
+    if same_chunk r.place.chunk c then p ∷ kept_on c rows else kept_on c rows
+
 -- the chunk of a loader's last class
 abbrev pub last_chunk : ℕ → List ClassRow → Option Chunk
 last_chunk u [] = None
@@ -93,6 +101,13 @@ moved_row from to (Class r p) =
 
 abbrev pub moved : {P : Type 0} → Chunk → Chunk → List (Row P) → List (Row P)
 moved from to rows = map (moved_row from to) rows
+
+-- what a move writes on the new chunk: each record behind the one before it, from this offset on
+abbrev pub move_writes : Chunk → ℕ → List (List ℕ) → List (Place × List ℕ)
+move_writes to offset [] = []
+move_writes to offset (words ∷ records) =
+    (record { chunk = to; offset = offset; words = length words }, words)
+    ∷ move_writes to (offset + length words) records
 
 abbrev pub rows_after : {P : Type 0} → List (Row P) → Entry P → List (Row P)
 rows_after rows (Live row) = rows ++ row ∷ []

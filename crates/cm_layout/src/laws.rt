@@ -5,7 +5,7 @@ ghost use Rattle.cm_layout.specs.declared.entry.Entry.{Entry};
 ghost use Rattle.cm_layout.specs.declared.heads.HalfHead.{HalfHead};
 ghost use Rattle.cm_layout.specs.declared.heads.GroupHead.{GroupHead};
 ghost use Rattle.cm_layout.specs.Laws.{FramesAreOne, RowsAreApart, RowsStayLive};
-ghost use Rattle.cm_layout.specs.Laws.{EntriesStayLive, RowsGrow, LoadersAreOwn};
+ghost use Rattle.cm_layout.specs.Laws.{EntriesStayLive, RowsGrow, LoadersAreOwn, MovesStand};
 ghost use Rattle.cm_layout.specs.Laws.{FramesAreMatched, MatchesFrame, AgreementMatches};
 ghost use Rattle.cm_layout.specs.Slots.{entry_slot, FitsEntry, half_head_slot, FitsHalfHead};
 ghost use Rattle.cm_layout.specs.Slots.{group_head_slot, FitsGroupHead};
@@ -46,6 +46,12 @@ pub fn live_rows_go_on()
 /// and each class is one of theirs.
 pub fn loaders_are_own()
     ensures { LoadersAreOwn }
+{}
+
+/// Where a move has written the records on a loader's last chunk, one behind another from the begin
+/// of the new one, the records of the rows after it stand: each keeps its offset.
+pub fn moves_stand()
+    ensures { MovesStand }
 {}
 
 /// A file's contents tell what they frame: its sizes, its rows with the words of their records, and

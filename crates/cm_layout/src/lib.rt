@@ -25,7 +25,8 @@ pub use half::Half;
 pub use heads::{ENTRY_VERSION, GroupHead, HalfHead, LAST_NUMBER};
 pub use laws::{
     agreement_frames, contents_determine_rows, frames_are_matched, live_rows_go_on,
-    loaders_are_own, rows_are_apart, rows_stay_live, slot_determines_entry, slot_determines_head,
+    loaders_are_own, moves_stand, rows_are_apart, rows_stay_live, slot_determines_entry,
+    slot_determines_head,
 };
 pub use loader_row::LoaderRow;
 pub use name::{NAME_LIMIT, NAME_ROOM, SlotName, is_loader_name};

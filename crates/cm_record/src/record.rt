@@ -123,6 +123,13 @@ impl Record {
         Ok(record_of(words))
     }
 
+    /// Whether another record has the same words, so is that of the same class.
+    pub fn has_same_words(&self, other: &Record) -> bool
+        ensures { IsTrue result ↔ (self.now ≡ other.now) }
+    {
+        self.as_slice() == other.as_slice()
+    }
+
     /// How many words it has.
     pub fn words(&self) -> u32
         ensures words { result ≡ length self.now }

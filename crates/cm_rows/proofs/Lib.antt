@@ -4,6 +4,7 @@ mod Loaders
 mod KeptPlaces
 mod Linking
 mod Moving
+mod Backward
 mod Holding
 mod RowFacts
 mod Changes

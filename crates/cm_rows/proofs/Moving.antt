@@ -24,7 +24,7 @@ use Rattle.cm_rows.proofs.Linking.{stands-last, of-is, get-take, take-few, take-
 
 -- ---- lists
 
-take-short : {X : Type 0} (xs : List X) (i k : ℕ) → i ≤ k → take i (take k xs) ≡ take i xs
+pub take-short : {X : Type 0} (xs : List X) (i k : ℕ) → i ≤ k → take i (take k xs) ≡ take i xs
 take-short xs zero k le = refl
 take-short [] (suc i) zero le = refl
 take-short [] (suc i) (suc k) le = refl
@@ -111,7 +111,7 @@ module _ {P : Type 0} where
           }) live) (behind is)
 
   -- behind its last place a loader has none
-  none-after : (u : ℕ) (slots : List (BookSlot (Row P))) (i : ℕ) → last_place u slots ≡ Some i
+  pub none-after : (u : ℕ) (slots : List (BookSlot (Row P))) (i : ℕ) → last_place u slots ≡ Some i
       → last_place u (drop (suc i) slots) ≡ None
   none-after u [] i h = absurd (cc)
   none-after u (s ∷ slots) i h =

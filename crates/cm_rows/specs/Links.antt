@@ -1,14 +1,16 @@
 -- How the places of a loader's rows lead to one another: each to the one before it.
 use Rattle.std.specs.Prelude.{◌≡◌, ◌<◌, ◌≤◌, ◌+◌, ◌*◌, ◌&&◌, ℕ, suc, Bool, true, false, Option}
-use Rattle.std.specs.Prelude.{Some, None, List, [], ◌∷◌, map, take, drop, length, get_or}
+use Rattle.std.specs.Prelude.{Some, None, List, [], ◌∷◌, ◌++◌, map, take, drop, length, get_or}
 use Rattle.std.specs.Prelude.{if◌then◌else◌, vec_capacity}
 use Rattle.std.specs.List.{slice_get, AllByRecursion}
 use Rattle.cm_pool.specs.declared.chunk.Chunk.{Chunk}
+use Rattle.cm_pool.specs.Chunks.{same_chunk}
 use Rattle.cm_pool.specs.Geometry.{Sizes}
 use Rattle.cm_pool.specs.Lists.{Among}
 use Rattle.cm_layout.specs.declared.row.Row.{Row}
 use Rattle.cm_layout.specs.declared.row.Row.TheVariants.{Loader, Class}
-use Rattle.cm_layout.specs.Rows.{is_of, moved_row}
+use Rattle.cm_layout.specs.declared.class_row.ClassRow.{ClassRow}
+use Rattle.cm_layout.specs.Rows.{is_of, moved_row, classes_in, used_words, kept_on}
 use Rattle.cm_layout.specs.Rules.{row_limit}
 use Rattle.cm_index.specs.declared.slot.BookSlot.{BookSlot}
 use Rattle.cm_index.specs.Living.{living}
@@ -63,10 +65,47 @@ pub record ComesNext {X : Type 0} (slots : List (BookSlot X)) (from place : ℕ)
   pub is : (d : BookSlot X) → living (drop from slots)
       ≡ (get_or slots place d).item ∷ living (drop (place + 1) slots)
 
+-- a row is that of a class on a chunk
+abbrev pub is_on : {P : Type 0} → Chunk → Row P → Bool
+is_on c (Loader r) = false
+is_on c (Class r p) = same_chunk r.place.chunk c
+
+-- each living row on the chunk is one of the loader's
+abbrev pub AreOwnOn : {P : Type 0} → ℕ → Chunk → List (BookSlot (Row P)) → Type 0
+AreOwnOn u c slots =
+    (r : ClassRow) → Among r (classes_in (living slots)) → r.place.chunk ≡ c → r.loader ≡ u
+
 -- how many places a walk still goes over at most
 abbrev pub places_left : Option ℕ → ℕ
 places_left None = 0
 places_left (Some i) = suc i
+
+-- the living rows up to a place, or none
+abbrev pub rows_to : {P : Type 0} → Option ℕ → List (BookSlot (Row P)) → List (Row P)
+rows_to place slots = living (take (places_left place) slots)
+
+-- Back from a place, the next living row on the chunk stands here.
+pub record ComesBack {P : Type 0} (c : Chunk) (slots : List (BookSlot (Row P)))
+    (from : Option ℕ) (place : ℕ) : Type 0 where
+  pub row : ClassRow
+  pub kept : P
+  pub is : slice_get slots place ≡ Some (record { item = Class row kept; live = true })
+  pub on : row.place.chunk ≡ c
+  pub rows : kept_on c (rows_to from slots) ≡ kept_on c (living (take place slots)) ++ kept ∷ []
+  pub words : used_words c (rows_to from slots)
+      ≡ used_words c (living (take place slots)) + row.place.words
+
+-- A walk back over a loader's rows comes to this place next, and so many words of the chunk are in
+-- use up to there.
+pub record GoesBack {P : Type 0} (slots : List (BookSlot (Row P))) (before : List (Option ℕ))
+    (c : Chunk) (next : Option ℕ) (used : ℕ) : Type 0 where
+  pub loader : ℕ
+  pub behind : ℕ
+  pub next_is : next ≡ last_place loader (take behind slots)
+  pub linked : AreLinked slots before
+  pub own : AreOwnOn loader c slots
+  pub some : (r : ClassRow) → Among r (classes_in (living slots)) → 1 ≤ r.place.words
+  pub used_is : used ≡ used_words c (rows_to next slots)
 
 -- the links of the places, with room for twice the rows that can live
 pub record HasLinks {P : Type 0} (sizes : Sizes) (rows : RowPlaces P)

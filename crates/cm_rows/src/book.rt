@@ -3,6 +3,7 @@
 ghost use Rattle.std.specs.Prelude.{◌≡◌, ◌&&◌, IsTrue, IfOk, [], ◌∷◌, ◌++◌, Some, None, is_none};
 ghost use Rattle.std.specs.Prelude.{if◌then◌else◌, length};
 
+use crate::last_kept::LastKept;
 use crate::links::{link, make_room, move_rows, push_place, relink, unload_rows};
 use crate::live_loader::{LastChunk, copy_loaders, find, set_last};
 use crate::loader_places::LoaderPlaces;
@@ -66,7 +67,7 @@ impl<P: Kept> Book<P> {
     ghost use Rattle.cm_layout.specs.Rows.{number_of as number_of_name};
     ghost use Rattle.cm_layout.specs.Rules.{broken_rule, broken_live_rule, is_new_loader, is_live};
     ghost use Rattle.cm_layout.specs.Rules.{move_fits, is_chunk, is_unused, is_too_much};
-    ghost use Rattle.cm_rows.specs.Rows.{is_above, last_of, class_of};
+    ghost use Rattle.cm_rows.specs.Rows.{is_above, last_of, class_of, kept_on_last};
     ghost use Rattle.std.specs.Option.{option_copied};
 
     /// A book with no rows. All memory that it will ever need is taken here.
@@ -172,6 +173,21 @@ impl<P: Kept> Book<P> {
     {
         let at = find(&self.loaders.slots, number)?;
         self.loaders.slots[at].item.last
+    }
+
+    /// What is kept of the classes on the chunk of a loader's last class, if the loader has a
+    /// class.
+    pub fn last_kept(&self, number: u64) -> Option<LastKept<'_, P>>
+        ensures { result ≡ kept_on_last number self.now.rows }
+    {
+        let at = find(&self.loaders.slots, number)?;
+        let last = self.loaders.slots[at].item.last?;
+        Some(LastKept::from_newest(
+            &self.rows.slots,
+            &self.rows.before,
+            self.loaders.newest[at],
+            last,
+        ))
     }
 
     /// Whether a chunk can be had: the region has it, and no row's record lies on a word of it.

@@ -2,6 +2,7 @@
 #![tactic(auto)]
 
 mod book;
+mod last_kept;
 mod links;
 mod live_loader;
 mod loader_places;
@@ -14,5 +15,6 @@ mod whole_pool;
 
 pub use book::Book;
 pub use cm_index::Kept;
+pub use last_kept::LastKept;
 pub use live_loader::LastChunk;
 pub use walk::Walk;
