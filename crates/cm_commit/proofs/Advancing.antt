@@ -5,11 +5,12 @@ use Rattle.std.proofs.Common.{◌∷◌, ◌++◌, length}
 use Rattle.std.proofs.Common.{Option, Some, None, refl, sym, ap, subst, ◌∙◌, arith}
 use Rattle.std.specs.Prelude.{Result, Ok, Err, OnOk, OnErr, IfOk, nat_lt}
 use Rattle.std.specs.List.{list_all}
-use Rattle.cm_disk.specs.Disk.{Unsynced, IsImage, IsSound}
+use Rattle.cm_disk.specs.Disk.{OnlyNow, View, Unsynced, IsImage, IsSettled, IsSound}
 use Rattle.cm_pool.specs.Geometry.{Sizes}
 use Rattle.cm_layout.specs.declared.row.Row.{Row}
 use Rattle.cm_layout.specs.Rows.{bare, rows_with, numbers_in}
 use Rattle.cm_layout.specs.Frames.{BareRow}
+use Rattle.cm_layout.specs.Offsets.{root_at}
 use Rattle.cm_layout.proofs.{numbers-bare}
 use Rattle.cm_guards.specs.Guards.{EachImage}
 use Rattle.cm_guards.specs.Calls.{LeavesOnly}
@@ -22,23 +23,30 @@ use Rattle.cm_group.specs.Groups.{Handed, entries_in, slots_taken}
 use Rattle.cm_state.specs.State.{words_show}
 use Rattle.cm_state.specs.Entries.{AreCacheRows}
 use Rattle.cm_commit.specs.declared.journal.Journal.{Journal}
+use Rattle.cm_commit.specs.declared.step.TrimStep.{TrimStep}
+use Rattle.cm_commit.specs.declared.step.TrimStep.TheVariants as trim
 use Rattle.cm_commit.specs.declared.step.PlanStep.{PlanStep}
 use Rattle.cm_commit.specs.declared.step.PlanStep.TheVariants as plan
 use Rattle.cm_commit.specs.declared.step.CommitStep.TheVariants as step
 use Rattle.cm_commit.specs.Committed.{Committed, journal_of, with_group}
 use Rattle.cm_commit.specs.Checkpoints.{ready_for, target_of}
 use Rattle.cm_commit.specs.Offers.{rows_after_group, committed_after}
-use Rattle.cm_commit.specs.GroupPlans.{whole_roots, roots_of_entries}
+use Rattle.cm_commit.specs.GroupPlans.{whole_roots, roots_of_entries, all_writes}
 use Rattle.cm_commit.specs.Guarding.{Shows, Holds, IsCommitted}
-use Rattle.cm_commit.specs.States.{CommitterState, MayLeave, ShowsCommitted, ShowsWith, journal_at}
+use Rattle.cm_commit.specs.States.{Work, Storing, Trimming, NoGroup, CommitterState, MayLeave}
+use Rattle.cm_commit.specs.States.{ShowsCommitted, ShowsWith, journal_at}
 use Rattle.cm_commit.specs.Steps.{FitsJournal, FitsHalf, plan_left, stages_left, checkpoint_left}
+use Rattle.cm_commit.specs.Steps.{work_of, is_trim, trim_left}
+use Rattle.cm_commit.specs.Trims.{roots_of_rows}
 use Rattle.cm_commit.specs.Advances.{with_committed}
-use Rattle.cm_commit.specs.Keeps.{IsCommitter, IsIdle, IsBusy, IsAt, StandsBroken, roots_then}
+use Rattle.cm_commit.specs.Keeps.{IsCommitter, IsIdle, IsBusy, IsTrimming, IsAt, StandsBroken}
+use Rattle.cm_commit.specs.Keeps.{roots_then}
 use Rattle.cm_commit.specs.Keeps.{AreRight, rows_then}
 use Rattle.cm_commit.proofs.Committing.{fits_journal, cache_after, right_rows_after}
 use Rattle.cm_commit.proofs.Journals.{half_fits, target_is, end_after}
 use Rattle.cm_commit.proofs.Shown.{shows_cache}
 use Rattle.cm_commit.proofs.Through.{shows_holds, ready_right, ready_next, after_right}
+use Rattle.cm_commit.proofs.Trims.{few_used, whole_used}
 use Rattle.cm_commit.proofs.With.{bare-with}
 
 of_ok : {T E : Type 0} (r : Result T E) (A : Type 0) (x : T) → r ≡ Ok x → OnOk r A → A
@@ -49,9 +57,9 @@ of_err : {T E : Type 0} (r : Result T E) (A : Type 0) (f : E) → r ≡ Err f �
 of_err (Ok y) A f e a = absurd (cc)
 of_err (Err g) A f e a = a
 
-module _ {D : Type 0} (contents : D → List ℕ) (unsynced : D → Unsynced) (s : CommitterState D)
+module _ {D : Type 0} (view : View D) (s : CommitterState D)
     (sizes : Sizes) (next : LiveRows (Unit {0})) (roots room : ℕ)
-    (i : IsCommitter contents unsynced s sizes next roots room) where
+    (i : IsCommitter view s sizes next roots room) where
   abbrev before : Committed
   before = record { sizes = s.sizes; rows = s.rows; number = s.number; framing = i.framing }
 
@@ -66,15 +74,20 @@ module _ {D : Type 0} (contents : D → List ℕ) (unsynced : D → Unsynced) (s
       subst (λ (j : Journal). FitsHalf j (bare s.rows)) (sym i.journal_is)
       (half_fits before i.right)
 
+  -- the roots that rows use are few
+  pub used_few : roots_of_rows s.rows < 2 ^ 32
+  used_few = few_used before i.right
+
   -- ---- nothing is under way
 
   pub idle_images : s.underway ≡ None → s.left ≡ []
-      → EachImage (contents s.disk) (unsynced s.disk) (MayLeave s)
+      → EachImage (view.contents s.disk) (view.unsynced s.disk) (MayLeave s)
   idle_images none empty =
-      let at : IsIdle before roots s.broken (contents s.disk) (unsynced s.disk) =
-      subst (λ (o : Option Handed). IsAt before roots o s.left s.broken (contents s.disk)
-      (unsynced s.disk)) none i.at in
-      let images = settled_images (Shows before) (contents s.disk) (unsynced s.disk) at.settled
+      let at : IsIdle before roots s.broken (view.contents s.disk) (view.unsynced s.disk) =
+      subst (λ (o : Option Work). IsAt before roots o s.left s.broken (view.contents s.disk)
+      (view.unsynced s.disk)) none i.at in
+      let images = settled_images (Shows before) (view.contents s.disk) (view.unsynced s.disk)
+      at.settled
       at.shows in
       record {
         each = λ image is.
@@ -83,13 +96,202 @@ module _ {D : Type 0} (contents : D → List ℕ) (unsynced : D → Unsynced) (s
             (shows_before image (shows_holds before image i.right (images.each image is)));
       }
 
+  -- ---- stages are left, which lead to what is committed then
+
+  module _ (then : Committed) (long : ℕ) (some : s.left ≡ [] → ⊥)
+      (shows_then : (image : List ℕ) → Shows then image → ShowsWith s s.underway image) where
+    so : (image : List ℕ) → leaves s.left (Holds before) (Shows then) image → MayLeave s image
+    so image l =
+        leaves_so s.left (Holds before) (Shows then) (ShowsCommitted s) (ShowsWith s s.underway)
+        shows_before shows_then image l
+
+    abbrev Stand : Bool → Type 0
+    Stand t = StandsBroken t before then long s.left (view.contents s.disk) (view.unsynced s.disk)
+
+    pub stage_images : Stand s.broken → EachImage (view.contents s.disk) (view.unsynced s.disk)
+        (MayLeave s)
+    stage_images at = by_test s.broken at
+      where
+        by_test : (t : Bool) → Stand t → EachImage (view.contents s.disk) (view.unsynced s.disk)
+            (MayLeave s)
+        by_test false stands =
+            let images = stages_leave (Holds before) (Shows then) long s.left (view.contents s.disk)
+            (view.unsynced s.disk) some stands in
+            record { each = λ image is. so image (images.each image is) }
+        by_test true stands = record { each = λ image is. so image (stands.each image is) }
+
+    module _ (at : Stand s.broken) (sound : s.broken ≡ false) where
+      stands : StagesStand (Holds before) (Shows then) long s.left (view.contents s.disk)
+          (view.unsynced s.disk)
+      stands = subst Stand sound at
+
+      -- the next call can be made
+      pub stage_takes : IsSound (view.contents s.disk) (view.unsynced s.disk)
+          → TakesCall s.left (length (view.contents s.disk))
+      stage_takes is =
+          takes_call (Holds before) (Shows then) long s.left (view.contents s.disk)
+          (view.unsynced s.disk) is
+          some stands
+
+      module _ {T E : Type 0} (only_now : OnlyNow view) (new : D) (r : Result T E)
+          (call : CallsOnce view s.left s.disk new r) where
+        -- what a crash leaves meanwhile
+        pub stage_moments : LeavesOnly view s.disk new (MayLeave s)
+        stage_moments =
+            leaves_more view s.disk new (leaves s.left (Holds before) (Shows then))
+            (MayLeave s) so
+            (moments_of view only_now (Holds before)
+            (Shows then) long s.disk new r s.left stands call)
+
+        pub stage_done : (x : T) → r ≡ Ok x
+            → StagesStand (Holds before) (Shows then) long (after_call s.left) (view.contents new)
+            (view.unsynced new)
+        stage_done x e =
+            of_ok r (StagesStand (Holds before) (Shows then) long (after_call s.left)
+            (view.contents new) (view.unsynced new)) x e
+            (call_done view only_now (Holds before)
+            (Shows then) long s.disk new r s.left stands call)
+
+        pub stage_failed : (f : E) → r ≡ Err f
+            → EachImage (view.contents new) (view.unsynced new)
+            (leaves s.left (Holds before) (Shows then))
+        stage_failed f e =
+            of_err r (EachImage (view.contents new) (view.unsynced new)
+            (leaves s.left (Holds before) (Shows then))) f e
+            (call_failed view only_now (Holds before)
+            (Shows then) long s.disk new r s.left stands call)
+
+  -- ---- a trim is under way
+
+  module _ (trimming : s.underway ≡ Some Trimming) where
+    pub trim_at : IsTrimming before roots s.left s.broken (view.contents s.disk)
+        (view.unsynced s.disk)
+    trim_at =
+        subst (λ (o : Option Work). IsAt before roots o s.left s.broken (view.contents s.disk)
+        (view.unsynced s.disk)) trimming i.at
+
+    abbrev left_long : ℕ
+    left_long = root_at s.sizes roots
+
+    shows_still : (image : List ℕ) → Shows before image → ShowsWith s s.underway image
+    shows_still image shows =
+        subst (λ (o : Option Work). ShowsWith s o image) (sym trimming)
+        (shows_before image (shows_holds before image i.right shows))
+
+    pub trim_images : EachImage (view.contents s.disk) (view.unsynced s.disk) (MayLeave s)
+    trim_images = stage_images before left_long trim_at.some shows_still trim_at.stands
+
+    module _ (sound : s.broken ≡ false) where
+      pub trim_takes : IsSound (view.contents s.disk) (view.unsynced s.disk)
+          → TakesCall s.left (length (view.contents s.disk))
+      trim_takes =
+          stage_takes before left_long trim_at.some shows_still trim_at.stands sound
+
+      module _ {T E : Type 0} (only_now : OnlyNow view) (new : D) (r : Result T E)
+          (call : CallsOnce view s.left s.disk new r) where
+        pub trim_moments : LeavesOnly view s.disk new (MayLeave s)
+        trim_moments =
+            stage_moments before left_long trim_at.some shows_still trim_at.stands sound only_now
+            new r call
+
+        -- it failed
+        pub trim_is_broken : (f : E) → r ≡ Err f
+            → IsCommitter view (record s { disk = new; broken = true }) sizes next
+            roots room
+        trim_is_broken f e = record {
+          framing = i.framing;
+          journal_is = i.journal_is;
+          right = i.right;
+          cache = i.cache;
+          records = i.records;
+          number_is = i.number_is;
+          sizes_are = i.sizes_are;
+          next_is = i.next_is;
+          room_is = i.room_is;
+          at = subst (λ (o : Option Work). IsAt before roots o s.left true (view.contents new)
+              (view.unsynced new)) (sym trimming) (record {
+                some = trim_at.some;
+                roots_are = trim_at.roots_are;
+                stands = stage_failed before left_long trim_at.some shows_still trim_at.stands
+                    sound only_now new r call f e;
+              });
+        }
+
+        -- the sync is left
+        pub trim_is_working : (x : T) → r ≡ Ok x → (left : List Stage) → left ≡ after_call s.left
+            → (left ≡ [] → ⊥)
+            → IsCommitter view (record s { disk = new; left = left }) sizes next roots
+            room
+        trim_is_working x e left left_is some = record {
+          framing = i.framing;
+          journal_is = i.journal_is;
+          right = i.right;
+          cache = i.cache;
+          records = i.records;
+          number_is = i.number_is;
+          sizes_are = i.sizes_are;
+          next_is = i.next_is;
+          room_is = i.room_is;
+          at = subst (λ (t : Bool). IsAt before roots s.underway left t (view.contents new)
+              (view.unsynced new)) (sym sound)
+              (subst (λ (o : Option Work). IsAt before roots o left false (view.contents new)
+              (view.unsynced new)) (sym trimming) (record {
+                some = some;
+                roots_are = trim_at.roots_are;
+                stands = subst (λ (l : List Stage). StagesStand (Holds before) (Shows before)
+                    left_long l (view.contents new) (view.unsynced new)) (sym left_is)
+                    (stage_done before left_long trim_at.some shows_still trim_at.stands sound
+                    only_now new r call x e);
+              }));
+        }
+
+        -- none is left
+        module _ (x : T) (ok : r ≡ Ok x) (last : after_call s.left ≡ []) where
+          trim_stored : StagesStand (Holds before) (Shows before) left_long [] (view.contents new)
+              (view.unsynced new)
+          trim_stored =
+              subst (λ (l : List Stage). StagesStand (Holds before) (Shows before) left_long l
+              (view.contents new) (view.unsynced new)) last
+              (stage_done before left_long trim_at.some shows_still trim_at.stands sound only_now
+              new r call x ok)
+
+          pub trim_ends : (length (view.contents new) ≡ root_at s.sizes roots)
+              × IsSettled (view.contents new) (view.unsynced new)
+          trim_ends = (trim_stored.ready.size, trim_stored.settled)
+
+          pub is_trimmed : IsCommitter view
+              (record s { disk = new; underway = None; left = [] }) sizes next roots room
+          is_trimmed = record {
+            framing = i.framing;
+            journal_is = i.journal_is;
+            right = i.right;
+            cache = i.cache;
+            records = i.records;
+            number_is = i.number_is;
+            sizes_are = i.sizes_are;
+            next_is = i.next_is
+                ∙ ap (λ (o : Option Work). record {
+                  sizes = s.sizes;
+                  rows = bare (rows_then s.rows o);
+                }) trimming;
+            room_is = i.room_is;
+            at = record {
+              sound = sound;
+              settled = trim_stored.settled;
+              shows = trim_stored.ready.holds;
+              roots_are = sym (whole_used s.sizes roots)
+                  ∙ ap (whole_roots s.sizes) (sym trim_stored.ready.size);
+            };
+          }
+
   -- ---- a group is under way
 
-  module _ (group : Handed) (underway : s.underway ≡ Some group) where
-    pub busy : IsBusy before roots group s.left s.broken (contents s.disk) (unsynced s.disk)
+  module _ (group : Handed) (underway : s.underway ≡ Some (Storing group)) where
+    pub busy : IsBusy before roots group s.left s.broken (view.contents s.disk)
+        (view.unsynced s.disk)
     busy =
-        subst (λ (o : Option Handed). IsAt before roots o s.left s.broken (contents s.disk)
-        (unsynced s.disk)) underway i.at
+        subst (λ (o : Option Work). IsAt before roots o s.left s.broken (view.contents s.disk)
+        (view.unsynced s.disk)) underway i.at
 
     -- what is committed, in halves that have room for it
     abbrev ready : Committed
@@ -109,13 +311,18 @@ module _ {D : Type 0} (contents : D → List ℕ) (unsynced : D → Unsynced) (s
     fits =
         subst (λ (j : Journal). FitsJournal j group) (sym target_ready)
         (fits_journal ready group (ready_right before group i.right busy.is busy.next) busy.is
-        (ready_next before group i.right busy.is busy.next))
+        busy.counted (ready_next before group i.right busy.is busy.next))
 
     pub few_roots : roots_of_entries (entries_in group.entries) < 2 ^ 32
     few_roots =
         let f = fits_journal ready group (ready_right before group i.right busy.is busy.next)
-        busy.is (ready_next before group i.right busy.is busy.next) in
+        busy.is busy.counted (ready_next before group i.right busy.is busy.next) in
         omega (arith, f.roots, f.lawful.roots_to)
+
+    pub few_writes : length (all_writes group.entries) < 2 ^ 32
+    few_writes =
+        (fits_journal ready group (ready_right before group i.right busy.is busy.next) busy.is
+        busy.counted (ready_next before group i.right busy.is busy.next)).few
 
     right-next : IsCommitted after
     right-next = after_right before group i.right busy.is busy.next
@@ -132,63 +339,35 @@ module _ {D : Type 0} (contents : D → List ℕ) (unsynced : D → Unsynced) (s
 
     shows_after : (image : List ℕ) → Shows after image → ShowsWith s s.underway image
     shows_after image shows =
-        subst (λ (o : Option Handed). ShowsWith s o image) (sym underway)
+        subst (λ (o : Option Work). ShowsWith s o image) (sym underway)
         (shows_cache after image right-next records-next cache-next.differ shows)
 
-    so : (image : List ℕ) → leaves s.left (Holds before) (Shows after) image → MayLeave s image
-    so image l =
-        leaves_so s.left (Holds before) (Shows after) (ShowsCommitted s) (ShowsWith s s.underway)
-        shows_before shows_after image l
-
-    abbrev Stand : Bool → Type 0
-    Stand t = StandsBroken t before after busy.long s.left (contents s.disk) (unsynced s.disk)
-
-    pub busy_images : EachImage (contents s.disk) (unsynced s.disk) (MayLeave s)
-    busy_images = by_test s.broken busy.stands
-      where
-        by_test : (t : Bool) → Stand t → EachImage (contents s.disk) (unsynced s.disk) (MayLeave s)
-        by_test false stands =
-            let images = stages_leave (Holds before) (Shows after) busy.long s.left
-            (contents s.disk) (unsynced s.disk) busy.some stands in
-            record { each = λ image is. so image (images.each image is) }
-        by_test true stands = record { each = λ image is. so image (stands.each image is) }
+    pub busy_images : EachImage (view.contents s.disk) (view.unsynced s.disk) (MayLeave s)
+    busy_images = stage_images after busy.long busy.some shows_after busy.stands
 
     module _ (sound : s.broken ≡ false) where
-      stands : StagesStand (Holds before) (Shows after) busy.long s.left (contents s.disk)
-          (unsynced s.disk)
-      stands = subst Stand sound busy.stands
-
       -- the next call can be made
-      pub takes : IsSound (contents s.disk) (unsynced s.disk)
-          → TakesCall s.left (length (contents s.disk))
-      takes is =
-          takes_call (Holds before) (Shows after) busy.long s.left (contents s.disk)
-          (unsynced s.disk) is busy.some stands
+      pub takes : IsSound (view.contents s.disk) (view.unsynced s.disk)
+          → TakesCall s.left (length (view.contents s.disk))
+      takes = stage_takes after busy.long busy.some shows_after busy.stands sound
 
-      module _ {T E : Type 0} (failures moment : D → ℕ) (left_since : D → ℕ → List ℕ → Type 0)
-          (only_now : (disk : D) (image : List ℕ) → left_since disk (moment disk) image
-          → IsImage (contents disk) (unsynced disk) image) (new : D) (r : Result T E)
-          (call : CallsOnce contents unsynced failures moment left_since s.left s.disk new r) where
+      module _ {T E : Type 0} (only_now : OnlyNow view) (new : D) (r : Result T E)
+          (call : CallsOnce view s.left s.disk new r) where
         -- what a crash leaves meanwhile
-        pub call_moments : LeavesOnly moment left_since s.disk new (MayLeave s)
+        pub call_moments : LeavesOnly view s.disk new (MayLeave s)
         call_moments =
-            leaves_more moment left_since s.disk new (leaves s.left (Holds before) (Shows after))
-            (MayLeave s) so
-            (moments_of contents unsynced failures moment left_since only_now (Holds before)
-            (Shows after) busy.long s.disk new r s.left stands call)
+            stage_moments after busy.long busy.some shows_after busy.stands sound only_now new r
+            call
 
         done : (x : T) → r ≡ Ok x
             → StagesStand (Holds before) (Shows after) busy.long (after_call s.left)
-            (contents new) (unsynced new)
-        done x e =
-            of_ok r (StagesStand (Holds before) (Shows after) busy.long (after_call s.left)
-            (contents new) (unsynced new)) x e
-            (call_done contents unsynced failures moment left_since only_now (Holds before)
-            (Shows after) busy.long s.disk new r s.left stands call)
+            (view.contents new) (view.unsynced new)
+        done =
+            stage_done after busy.long busy.some shows_after busy.stands sound only_now new r call
 
         -- it failed
         pub is_broken : (f : E) → r ≡ Err f → (more : ℕ) → room ≤ more
-            → IsCommitter contents unsynced (record s { disk = new; broken = true }) sizes next
+            → IsCommitter view (record s { disk = new; broken = true }) sizes next
             roots more
         is_broken f e more le = record {
           framing = i.framing;
@@ -200,24 +379,23 @@ module _ {D : Type 0} (contents : D → List ℕ) (unsynced : D → Unsynced) (s
           sizes_are = i.sizes_are;
           next_is = i.next_is;
           room_is = omega (arith, i.room_is, le);
-          at = subst (λ (o : Option Handed). IsAt before roots o s.left true (contents new)
-              (unsynced new)) (sym underway) (record {
+          at = subst (λ (o : Option Work). IsAt before roots o s.left true (view.contents new)
+              (view.unsynced new)) (sym underway) (record {
                 is = busy.is;
                 next = busy.next;
+                counted = busy.counted;
                 some = busy.some;
                 long = busy.long;
                 roots_are = busy.roots_are;
-                stands = of_err r (EachImage (contents new) (unsynced new)
-                    (leaves s.left (Holds before) (Shows after))) f e
-                    (call_failed contents unsynced failures moment left_since only_now
-                    (Holds before) (Shows after) busy.long s.disk new r s.left stands call);
+                stands = stage_failed after busy.long busy.some shows_after busy.stands sound
+                    only_now new r call f e;
               });
         }
 
         -- others are left
         pub is_working : (x : T) → r ≡ Ok x → (left : List Stage) → left ≡ after_call s.left
             → (left ≡ [] → ⊥) → (more : ℕ) → room ≤ more
-            → IsCommitter contents unsynced (record s { disk = new; left = left }) sizes next roots
+            → IsCommitter view (record s { disk = new; left = left }) sizes next roots
             more
         is_working x e left left_is some more le = record {
           framing = i.framing;
@@ -229,17 +407,18 @@ module _ {D : Type 0} (contents : D → List ℕ) (unsynced : D → Unsynced) (s
           sizes_are = i.sizes_are;
           next_is = i.next_is;
           room_is = omega (arith, i.room_is, le);
-          at = subst (λ (t : Bool). IsAt before roots s.underway left t (contents new)
-              (unsynced new)) (sym sound)
-              (subst (λ (o : Option Handed). IsAt before roots o left false (contents new)
-              (unsynced new)) (sym underway) (record {
+          at = subst (λ (t : Bool). IsAt before roots s.underway left t (view.contents new)
+              (view.unsynced new)) (sym sound)
+              (subst (λ (o : Option Work). IsAt before roots o left false (view.contents new)
+              (view.unsynced new)) (sym underway) (record {
                 is = busy.is;
                 next = busy.next;
+                counted = busy.counted;
                 some = some;
                 long = busy.long;
                 roots_are = busy.roots_are;
                 stands = subst (λ (l : List Stage). StagesStand (Holds before) (Shows after)
-                    busy.long l (contents new) (unsynced new)) (sym left_is) (done x e);
+                    busy.long l (view.contents new) (view.unsynced new)) (sym left_is) (done x e);
               }));
         }
 
@@ -260,11 +439,11 @@ module _ {D : Type 0} (contents : D → List ℕ) (unsynced : D → Unsynced) (s
         }
 
         finished_ready : (x : T) → r ≡ Ok x → after_call s.left ≡ [] → (more : ℕ) → room ≤ more
-            → IsCommitter contents unsynced (done_at (journal_of ready)) sizes next
+            → IsCommitter view (done_at (journal_of ready)) sizes next
             (roots_then roots group) more
         finished_ready x e last more le =
             let stored = subst (λ (l : List Stage). StagesStand (Holds before) (Shows after)
-            busy.long l (contents new) (unsynced new)) last (done x e) in
+            busy.long l (view.contents new) (view.unsynced new)) last (done x e) in
             record {
               framing = with_group ready.framing (entries_in group.entries);
               journal_is = λ k. record (journal_of after) {
@@ -276,7 +455,7 @@ module _ {D : Type 0} (contents : D → List ℕ) (unsynced : D → Unsynced) (s
               number_is = busy.next.ends;
               sizes_are = i.sizes_are;
               next_is = i.next_is
-                  ∙ ap (λ (o : Option Handed). record {
+                  ∙ ap (λ (o : Option Work). record {
                     sizes = s.sizes;
                     rows = bare (rows_then s.rows o);
                   }) underway;
@@ -293,22 +472,23 @@ module _ {D : Type 0} (contents : D → List ℕ) (unsynced : D → Unsynced) (s
         pub is_finished : (to : Journal)
             → to ≡ target_of (journal_at s) (bare s.rows) group.entries → (x : T) → r ≡ Ok x
             → after_call s.left ≡ [] → (more : ℕ) → room ≤ more
-            → IsCommitter contents unsynced (done_at to) sizes next (roots_then roots group) more
+            → IsCommitter view (done_at to) sizes next (roots_then roots group) more
         is_finished to to_is x e last more le =
-            subst (λ (j : Journal). IsCommitter contents unsynced (done_at j) sizes next
+            subst (λ (j : Journal). IsCommitter view (done_at j) sizes next
             (roots_then roots group) more) (sym (to_is ∙ target_ready))
             (finished_ready x e last more le)
 
   -- ---- either way
 
   pub images : (s.underway ≡ None → s.left ≡ [])
-      → EachImage (contents s.disk) (unsynced s.disk) (MayLeave s)
-  images empty = by_group s.underway refl
+      → EachImage (view.contents s.disk) (view.unsynced s.disk) (MayLeave s)
+  images empty = by_work s.underway refl
     where
-      by_group : (o : Option Handed) → s.underway ≡ o
-          → EachImage (contents s.disk) (unsynced s.disk) (MayLeave s)
-      by_group None e = idle_images e (empty e)
-      by_group (Some group) e = busy_images group e
+      by_work : (o : Option Work) → s.underway ≡ o
+          → EachImage (view.contents s.disk) (view.unsynced s.disk) (MayLeave s)
+      by_work None e = idle_images e (empty e)
+      by_work (Some Trimming) e = trim_images e
+      by_work (Some (Storing group)) e = busy_images group e
 
 pub steps_are : (broken : Bool) (left : List Stage) (n : ℕ) → broken ≡ false → n ≡ calls_left left
     → n ≡ cond broken 0 (calls_left left)
@@ -358,7 +538,7 @@ seen disk j rows roots group now broken = record {
   end = j.end;
   epoch = j.epoch;
   other_open = j.other_open;
-  underway = group;
+  underway = work_of group now;
   left = stages_left j (bare rows) roots group now;
   broken = broken;
 }
@@ -374,14 +554,16 @@ some_behind (first ∷ front) stage stages e = absurd (cc)
 
 -- while calls are left, stages are
 pub some_stages : (j : Journal) (rows : List BareRow) (roots : ℕ) (group : Handed) (now : PlanStep)
-    → (now ≡ plan.Group step.Done → ⊥) → plan_left j rows roots group now ≡ [] → ⊥
-some_stages j rows roots group (plan.Checkpoint at) isnt e =
+    → (now ≡ plan.Group step.Done → ⊥) → is_trim now ≡ false
+    → plan_left j rows roots group now ≡ [] → ⊥
+some_stages j rows roots group (plan.Checkpoint at) isnt own e =
     some_behind (checkpoint_left j rows at) _ _ e
-some_stages j rows roots group (plan.Group (step.Write r from)) isnt e = absurd (cc)
-some_stages j rows roots group (plan.Group step.Sync) isnt e = absurd (cc)
-some_stages j rows roots group (plan.Group step.Gate) isnt e = absurd (cc)
-some_stages j rows roots group (plan.Group step.LastSync) isnt e = absurd (cc)
-some_stages j rows roots group (plan.Group step.Done) isnt e = isnt refl
+some_stages j rows roots group (plan.Group (step.Write r from)) isnt own e = absurd (cc)
+some_stages j rows roots group (plan.Group step.Sync) isnt own e = absurd (cc)
+some_stages j rows roots group (plan.Group step.Gate) isnt own e = absurd (cc)
+some_stages j rows roots group (plan.Group step.LastSync) isnt own e = absurd (cc)
+some_stages j rows roots group (plan.Group step.Done) isnt own e = isnt refl
+some_stages j rows roots group (plan.Trim at) isnt own e = absurd (cc)
 
 pub no_stages : (j : Journal) (rows : List BareRow) (roots : ℕ) (group : Handed) (now : PlanStep)
     → now ≡ plan.Group step.Done → plan_left j rows roots group now ≡ []
@@ -392,3 +574,50 @@ pub above_own : {P : Type 0} (f : P → List ℕ) (rows : List (Row P)) (n : ℕ
 above_own f rows n h =
     ap (list_all (λ u. nat_lt u n))
     (sym (ap numbers_in (bare-with f rows) ∙ numbers-bare rows)) ∙ h
+
+-- ---- what is under way, by the group and the next step
+
+pub group_works : (o : Option Handed) (group : Handed) (now : PlanStep) → o ≡ Some group
+    → work_of o now ≡ Some (Storing group)
+group_works o group now e = ap (λ (x : Option Handed). work_of x now) e
+
+-- whichever step of the group is next
+pub same_work : (o : Option Handed) (group : Handed) (a b : PlanStep) → o ≡ Some group
+    → work_of o a ≡ work_of o b
+same_work o group a b e = group_works o group a e ∙ sym (group_works o group b e)
+
+-- where nothing is, no stage is left
+pub nothing_left : (j : Journal) (rows : List BareRow) (roots : ℕ) (o : Option Handed)
+    (now : PlanStep) → work_of o now ≡ None → stages_left j rows roots o now ≡ []
+nothing_left j rows roots None (plan.Checkpoint at) e = refl
+nothing_left j rows roots None (plan.Group s) e = refl
+nothing_left j rows roots None (plan.Trim at) e = absurd (cc)
+nothing_left j rows roots (Some group) now e = absurd (cc)
+
+-- ---- where no group is
+
+pub no_group : (o : Option Handed) (now : PlanStep) → NoGroup (work_of o now) → o ≡ None
+no_group None now h = refl
+no_group (Some group) now h = absurd h
+
+pub trim_works : (o : Option Handed) (at : TrimStep) → o ≡ None
+    → work_of o (plan.Trim at) ≡ Some Trimming
+trim_works o at none = ap (λ (x : Option Handed). work_of x (plan.Trim at)) none
+
+pub trim_stages : (j : Journal) (rows : List BareRow) (roots : ℕ) (o : Option Handed)
+    (at : TrimStep) → o ≡ None
+    → stages_left j rows roots o (plan.Trim at) ≡ trim_left j.geometry roots at
+trim_stages j rows roots o at none =
+    ap (λ (x : Option Handed). stages_left j rows roots x (plan.Trim at)) none
+
+-- and no trim
+pub nothing_works : (o : Option Handed) (now : PlanStep) → NoGroup (work_of o now)
+    → ((at : TrimStep) → now ≡ plan.Trim at → ⊥) → work_of o now ≡ None
+nothing_works None (plan.Checkpoint at) h isnt = refl
+nothing_works None (plan.Group s) h isnt = refl
+nothing_works None (plan.Trim at) h isnt = absurd (isnt at refl)
+nothing_works (Some group) now h isnt = absurd h
+
+pub some_trim : (sizes : Sizes) (roots : ℕ) (at : TrimStep) → trim_left sizes roots at ≡ [] → ⊥
+some_trim sizes roots trim.Cut e = absurd (cc)
+some_trim sizes roots trim.Sync e = absurd (cc)

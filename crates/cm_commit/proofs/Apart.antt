@@ -2,7 +2,7 @@
 -- For `Committer::advance`, `Committer::images`, `Committer::offer` and others.
 use Rattle.std.proofs.Common.{◌≡◌, ℕ, zero, suc, ◌+◌, ◌-◌, ◌*◌, ◌^◌, ◌<◌, ◌≤◌, ◌⊎◌, inl, inr, Bool}
 use Rattle.std.proofs.Common.{true, false}
-use Rattle.std.proofs.Common.{cond, List, [], ◌∷◌, length, None, refl, sym, ap, subst, arith}
+use Rattle.std.proofs.Common.{cond, List, [], ◌∷◌, length, None, refl, sym, ap, subst, ◌∙◌, arith}
 use Rattle.std.specs.Prelude.{◌&&◌, ◌||◌, nat_le, nat_lt, max}
 use Rattle.std.proofs.Math.Nat.{mul-le-mul, div-mul-le_self, le-div_iff_mul-le}
 use Rattle.std.proofs.lemmas.Nat.{pow_pos}
@@ -12,6 +12,8 @@ use Rattle.cm_words.proofs.{length-word_bytes}
 use Rattle.cm_record_layout.specs.Packing.{word_bytes}
 use Rattle.cm_disk.specs.Disk.{is_among}
 use Rattle.cm_pool.specs.Geometry.{Sizes, IsGeometry}
+use Rattle.cm_pool.specs.declared.chunk.Chunk.{Chunk}
+use Rattle.cm_pool.specs.Chunks.{chunk_size}
 use Rattle.cm_pool.specs.Lists.{Among}
 use Rattle.cm_layout.specs.declared.class_row.ClassRow.{ClassRow}
 use Rattle.cm_layout.specs.declared.row.Row.{Row}
@@ -19,22 +21,22 @@ use Rattle.cm_layout.specs.declared.row.Row.TheVariants.{Loader, Class}
 use Rattle.cm_layout.specs.declared.entry.Entry.{Entry}
 use Rattle.cm_layout.specs.declared.entry.Entry.TheVariants as entry
 use Rattle.cm_layout.specs.Offsets.{half_size, half_at, roots_at, root_at, root_size, record_at}
-use Rattle.cm_layout.specs.Rows.{classes_in, bare, rows_after, used_words}
-use Rattle.cm_layout.specs.Rules.{broken_rule, is_unused, is_last_chunk}
+use Rattle.cm_layout.specs.Rows.{classes_in, bare, rows_after, used_words, move_writes}
+use Rattle.cm_layout.specs.Rules.{broken_rule, is_chunk, is_unused, is_last_chunk}
 use Rattle.cm_layout.specs.Frames.{bare_entry}
 use Rattle.cm_layout.specs.Framing.{Framing, IsRight, guards, needs, used_size, other_half}
 use Rattle.cm_layout.specs.Framing.{older_size, record_ranges}
 use Rattle.cm_layout.proofs.{length-blank, classes-bare}
 use Rattle.cm_layout.specs.Zeros.{blank}
 use Rattle.cm_guards.specs.Guards.{IsApart}
-use Rattle.cm_guards.specs.Plans.{Write, CanWrite}
+use Rattle.cm_guards.specs.Plans.{Write, Fits, CanWrite}
 use Rattle.cm_group.specs.Groups.{Carried, entries_in}
 use Rattle.cm_commit.specs.Committed.{Committed}
 use Rattle.cm_commit.specs.Guarding.{is_in, guard_of}
-use Rattle.cm_commit.specs.Offers.{filled, HasOwn, MayJoin, MayJoinAll}
+use Rattle.cm_commit.specs.Offers.{filled, HasOwn, HasRecords, MayJoin, MayJoinAll}
 use Rattle.cm_commit.specs.Offers.{writes_apart}
 use Rattle.cm_commit.specs.GroupPlans.{writes_of, all_writes, record_writes, roots_of_entry}
-use Rattle.cm_commit.specs.GroupPlans.{roots_of_entries}
+use Rattle.cm_commit.specs.GroupPlans.{roots_of_entries, place_write}
 use Rattle.cm_commit.specs.GroupPlans.{root_writes, whole_roots}
 use Rattle.cm_commit.proofs.Ranges.{among-from, among-to, half_ends, half_begins, halves_apart}
 use Rattle.cm_commit.proofs.Places.{IsInside, IsFree, share_word, free_apart}
@@ -42,6 +44,9 @@ use Rattle.cm_commit.proofs.Places.{ends_in_root}
 use Rattle.cm_commit.proofs.Guards.{rows_stacked, rows_inside, older_ends, end_size}
 use Rattle.cm_commit.proofs.Writing.{size_after, can-append, size_after-grows}
 use Rattle.cm_commit.proofs.Rights.{rule-filled, are_kept}
+use Rattle.cm_commit.specs.Keeps.{AreCounted}
+use Rattle.cm_commit.proofs.Counted.{words_in, kept-words, counted-after}
+use Rattle.cm_commit.proofs.MovedRecords.{move-keeps, put_at, row_at, put-inside}
 use Rattle.cm_commit.proofs.Records.{class_inside, roots-mono, writes-append}
 
 pub not_true : (t : Bool) → (t ≡ true → ⊥) → t ≡ false
@@ -213,45 +218,73 @@ record-apart c r n right is free count = record {
       ]);
 }
 
+can-place : (c : Committed) (r : ClassRow) (words : List ℕ) (len : ℕ)
+    → IsRight c.sizes c.framing c.rows c.number → IsInside c.sizes r.place
+    → IsFree (bare c.rows) r → length words ≡ r.place.words
+    → root_at c.sizes (r.place.chunk.root + 1) ≤ len
+    → Fits (guard_of c) (place_write c.sizes r.place words) len
+can-place c r words len right is free has roots =
+    let bytes : length (word_bytes words) ≡ 8 * r.place.words =
+    omega (arith, length-word_bytes words, has) in
+    let ends = ends_in_root c.sizes r.place is in
+    let last = roots-mono c.sizes (r.place.chunk.root + 1) c.sizes.roots (omega (arith, is.root)) in
+    let limit = roots_limit c.sizes right.lawful in
+    record {
+      starts_within = omega (arith, ends, roots);
+      within_limit = omega (arith, ends, last, limit, bytes);
+      apart = record-apart c r (length (word_bytes words)) right is free bytes;
+    }
+
+-- those of a move, behind this offset of a chunk that no committed row uses
+can-move : (c : Committed) (to : Chunk) (offset : ℕ) (records : List (List ℕ)) (len : ℕ)
+    → IsRight c.sizes c.framing c.rows c.number → is_chunk c.sizes to ≡ true
+    → is_unused to (bare c.rows) ≡ true → offset + words_in records ≤ chunk_size to.order
+    → root_at c.sizes (to.root + 1) ≤ len
+    → CanWrite (guard_of c) (record_writes c.sizes (move_writes to offset records)) len
+can-move c to offset [] len right lawful free fits roots = tt
+can-move c to offset (words ∷ records) len right lawful free fits roots =
+    let is = put-inside c.sizes to offset words lawful (omega (arith, fits)) in (
+      can-place c (row_at to offset words) words len right is (inl free) refl roots,
+      can-move c to (offset + length words) records
+          (max len (record_at c.sizes (put_at to offset words) + length (word_bytes words))) right
+          lawful free (omega (arith, fits)) (omega (arith, roots)),
+    )
+
 can-record : (c : Committed) (n : ℕ) (rows : List (Row (List ℕ))) (k : Carried) (len : ℕ)
-    → IsRight c.sizes c.framing c.rows c.number → MayJoin c.sizes c.rows rows n k
+    → IsRight c.sizes c.framing c.rows c.number → AreCounted rows
+    → MayJoin c.sizes c.rows rows n k
     → root_at c.sizes (roots_of_entry (bare_entry k.entry)) ≤ len
     → CanWrite (guard_of c) (record_writes c.sizes (writes_of k.entry k.moved)) len
-can-record c n rows k len right joins long =
+can-record c n rows k len right counted joins long =
     by_entry k.entry k.moved (rule-filled c.sizes rows (n + 1) k joins.follows.keeps)
-    joins.records.0
+    joins.records
     joins.apart long
   where
     by_entry : (e : Entry (List ℕ)) (moved : List (List ℕ))
-        → broken_rule c.sizes (bare rows) (n + 1) (bare_entry e) ≡ None → HasOwn e
+        → broken_rule c.sizes (bare rows) (n + 1) (bare_entry e) ≡ None → HasRecords rows e moved
         → writes_apart c.rows e ≡ true → root_at c.sizes (roots_of_entry (bare_entry e)) ≤ len
         → CanWrite (guard_of c) (record_writes c.sizes (writes_of e moved)) len
     by_entry (entry.Live (Loader r)) moved keeps has apart roots = tt
-    by_entry (entry.Live (Class r words)) moved keeps has apart roots =
-        let bytes : length (word_bytes words) ≡ 8 * r.place.words =
-        omega (arith, length-word_bytes words, has) in
-        let is = (class_inside c.sizes rows n r keeps).0 in
-        let ends = ends_in_root c.sizes r.place is in
-        let last = roots-mono c.sizes (r.place.chunk.root + 1) c.sizes.roots
-        (omega (arith, is.root)) in
-        let limit = roots_limit c.sizes right.lawful in (
-          record {
-            starts_within = omega (arith, ends, roots);
-            within_limit = omega (arith, ends, last, limit, bytes);
-            apart = record-apart c r (length (word_bytes words)) right is
-                (committed_free c r apart) bytes;
-          },
-          tt,
-        )
+    by_entry (entry.Live (Class r words)) moved keeps has apart roots = (
+      can-place c r words len right (class_inside c.sizes rows n r keeps).0
+          (committed_free c r apart) has.0 roots,
+      tt,
+    )
     by_entry (entry.Unload e) moved keeps has apart roots = tt
-    by_entry (entry.Move e) moved keeps has apart roots = tt
+    by_entry (entry.Move e) moved keeps has apart roots =
+        let k = move-keeps c.sizes rows (n + 1) e keeps in
+        let words : words_in moved ≡ used_words e.from rows =
+        ap words_in has.1 ∙ kept-words e.from rows counted in
+        can-move c e.to 0 moved len right k.chunk (rw (classes-bare c.rows) apart)
+        (omega (arith, words, k.enough)) roots
 
 pub can-records : (c : Committed) (n : ℕ) (rows : List (Row (List ℕ))) (carried : List Carried)
-    (len : ℕ) → IsRight c.sizes c.framing c.rows c.number → MayJoinAll c.sizes c.rows rows n carried
+    (len : ℕ) → IsRight c.sizes c.framing c.rows c.number → AreCounted rows
+    → MayJoinAll c.sizes c.rows rows n carried
     → root_at c.sizes (roots_of_entries (entries_in carried)) ≤ len
     → CanWrite (guard_of c) (record_writes c.sizes (all_writes carried)) len
-can-records c n rows [] len right joins long = tt
-can-records c n rows (k ∷ carried) len right joins long =
+can-records c n rows [] len right counted joins long = tt
+can-records c n rows (k ∷ carried) len right counted joins long =
     let es = entries_in carried in
     let own = roots_of_entry (bare_entry k.entry) in
     let all = max own (roots_of_entries es) in
@@ -261,9 +294,9 @@ can-records c n rows (k ∷ carried) len right joins long =
     subst (λ (l : List Write). CanWrite (guard_of c) l len)
     (sym (writes-append c.sizes (writes_of k.entry k.moved) (all_writes carried)))
     (can-append (guard_of c) writes (record_writes c.sizes (all_writes carried)) len
-    (can-record c n rows k len right joins.0 (omega (arith, here, long)))
+    (can-record c n rows k len right counted joins.0 (omega (arith, here, long)))
     (can-records c (n + 1) (rows_after rows (filled k)) carried (size_after writes len) right
-    joins.1
+    (counted-after rows k.entry counted joins.0.records.0) joins.1
     (omega (arith, there, long, size_after-grows writes len))))
 
 -- ---- roots
@@ -359,7 +392,9 @@ one-few c n rows k joins =
     by_entry (entry.Live (Class r words)) keeps has =
         let is = (class_inside c.sizes rows n r keeps).0 in omega (arith, is.root)
     by_entry (entry.Unload e) keeps has = omega arith
-    by_entry (entry.Move e) keeps has = absurd has
+    by_entry (entry.Move e) keeps has =
+        let chunk = (move-keeps c.sizes rows (n + 1) e keeps).chunk in
+        let is = put-inside c.sizes e.to 0 [] chunk (omega arith) in omega (arith, is.root)
 
 pub roots-few : (c : Committed) (n : ℕ) (rows : List (Row (List ℕ))) (carried : List Carried)
     → MayJoinAll c.sizes c.rows rows n carried

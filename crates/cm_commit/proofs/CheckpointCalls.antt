@@ -2,9 +2,10 @@
 -- For `calls_at`, `make_call`, `make_checkpoint_call`, `shut`.
 use Rattle.std.proofs.Common.{◌≡◌, ℕ, Bool, true, false, List, ◌∷◌, ◌++◌, refl}
 use Rattle.std.specs.Prelude.{Result}
-use Rattle.cm_disk.specs.Disk.{Unsynced}
+use Rattle.cm_disk.specs.Disk.{View}
+use Rattle.cm_disk.specs.Calls.{SyncsOnce}
 use Rattle.cm_guards.specs.Stages.{Stage, CallsOnce, TakesCall, TakesWrite}
-use Rattle.cm_guards.specs.Stages.{WritesOnce, SyncsOnce, gate_write, after_call}
+use Rattle.cm_guards.specs.Stages.{MakesWrite, gate_write, after_call}
 use Rattle.cm_commit.specs.Checkpoints.{shut_stages, shut_gate}
 use Rattle.cm_commit.specs.Steps.{shut_sync}
 
@@ -24,26 +25,25 @@ pub sync_behind : (t : Bool) (more : List Stage) → more ≡ after_call (shut_s
 sync_behind true more = refl
 sync_behind false more = refl
 
-module _ {D T E : Type 0} (contents : D → List ℕ) (unsynced : D → Unsynced)
-    (failures moment : D → ℕ) (left_since : D → ℕ → List ℕ → Type 0) (old new : D)
+module _ {D T E : Type 0} (view : View D) (old new : D)
     (r : Result T E) where
   pub shut_written : (t : Bool) (gate : ℕ) (more : List Stage) → t ≡ true
-      → WritesOnce contents unsynced failures moment left_since (gate_write gate shut_gate) old new
+      → MakesWrite view (gate_write gate shut_gate) old new
       r
-      → CallsOnce contents unsynced failures moment left_since (shut_stages t gate ++ more) old new
+      → CallsOnce view (shut_stages t gate ++ more) old new
       r
   shut_written true gate more e call = call
   shut_written false gate more e call = absurd (cc)
 
   pub shut_synced : (t : Bool) (gate : ℕ) (more : List Stage) → t ≡ false
-      → SyncsOnce contents unsynced failures moment left_since old new r
-      → CallsOnce contents unsynced failures moment left_since (shut_stages t gate ++ more) old new
+      → SyncsOnce view old new r
+      → CallsOnce view (shut_stages t gate ++ more) old new
       r
   shut_synced true gate more e call = absurd (cc)
   shut_synced false gate more e call = call
 
   pub synced_after : (t : Bool) (more : List Stage)
-      → SyncsOnce contents unsynced failures moment left_since old new r
-      → CallsOnce contents unsynced failures moment left_since (shut_sync t ∷ more) old new r
+      → SyncsOnce view old new r
+      → CallsOnce view (shut_sync t ∷ more) old new r
   synced_after true more call = call
   synced_after false more call = call

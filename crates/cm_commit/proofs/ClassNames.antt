@@ -7,13 +7,15 @@ use Rattle.std.specs.Prelude.{◌&&◌, ◌||◌, ◌==◌}
 use Rattle.std.specs.Str.{bytes_eq}
 use Rattle.std.specs.List.{list_any}
 use Rattle.std.proofs.lemmas.Bool.{eqb-true, eq-eqb}
+use Rattle.cm_pool.specs.declared.chunk.Chunk.{Chunk}
+use Rattle.cm_pool.specs.Chunks.{same_chunk}
 use Rattle.cm_pool.specs.Lists.{Among}
 use Rattle.cm_record.specs.Names.{class_name_in}
 use Rattle.cm_layout.specs.declared.class_row.ClassRow.{ClassRow}
 use Rattle.cm_layout.specs.declared.loader_row.LoaderRow.{LoaderRow}
 use Rattle.cm_layout.specs.declared.row.Row.{Row}
 use Rattle.cm_layout.specs.declared.row.Row.TheVariants.{Loader, Class}
-use Rattle.cm_layout.specs.Rows.{name_of, without_loader, classes_in}
+use Rattle.cm_layout.specs.Rows.{name_of, without_loader, moved, classes_in}
 use Rattle.cm_layout.specs.Rules.{is_live}
 use Rattle.cm_state.specs.State.{words_show, class_among}
 use Rattle.cm_group.specs.Groups.{Carried}
@@ -200,4 +202,46 @@ any-more u name (b ∷ before) c = by_test (makes_class u name b) (any-more u na
         → (t || list_any (makes_class u name) (before ++ c ∷ []))
         ≡ (t || list_any (makes_class u name) before || makes_class u name c)
     by_test true rest = refl
+    by_test false rest = rest
+
+-- ---- after a move
+
+pub there-moved : (u : ℕ) (from to : Chunk) (name : List ℕ) (rows : List (Row (List ℕ)))
+    → is_there u name (moved from to rows) ≡ is_there u name rows
+there-moved u from to name [] = refl
+there-moved u from to name (Loader s ∷ rows) = there-moved u from to name rows
+there-moved u from to name (Class s w ∷ rows) =
+    by_test (same_chunk s.place.chunk from) (there-moved u from to name rows)
+  where
+    kept : (t : Bool) → is_there u name (moved from to rows) ≡ is_there u name rows
+        → is_none (cond t (Some w) (class_among words_show u name (moved from to rows)))
+        ≡ is_none (cond t (Some w) (class_among words_show u name rows))
+    kept true rest = refl
+    kept false rest = rest
+
+    by_test : (t : Bool) → is_there u name (moved from to rows) ≡ is_there u name rows
+        → is_there u name (cond t (Class (record s { place = record s.place { chunk = to } }) w)
+        (Class s w) ∷ moved from to rows)
+        ≡ is_there u name (Class s w ∷ rows)
+    by_test true rest = kept ((s.loader == u) && bytes_eq (class_name_in w) name) rest
+    by_test false rest = kept ((s.loader == u) && bytes_eq (class_name_in w) name) rest
+
+pub live-moved : (u : ℕ) (from to : Chunk) (rows : List (Row (List ℕ)))
+    → is_live u (moved from to rows) ≡ is_live u rows
+live-moved u from to [] = refl
+live-moved u from to (Loader s ∷ rows) =
+    by_test (eqb s.number u) (live-moved u from to rows)
+  where
+    by_test : (t : Bool) → is_live u (moved from to rows) ≡ is_live u rows
+        → is_some (cond t (Some s.name) (name_of u (moved from to rows)))
+        ≡ is_some (cond t (Some s.name) (name_of u rows))
+    by_test true rest = refl
+    by_test false rest = rest
+live-moved u from to (Class s w ∷ rows) =
+    by_test (same_chunk s.place.chunk from) (live-moved u from to rows)
+  where
+    by_test : (t : Bool) → is_live u (moved from to rows) ≡ is_live u rows
+        → is_live u (cond t (Class (record s { place = record s.place { chunk = to } }) w)
+        (Class s w) ∷ moved from to rows) ≡ is_live u rows
+    by_test true rest = rest
     by_test false rest = rest

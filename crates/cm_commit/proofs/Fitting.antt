@@ -1,12 +1,13 @@
 -- What entries have that keep the rules.
 -- For `are_new`, `have_one_name`, `is_absent` and others.
 use Rattle.std.proofs.Common.{◌≡◌, ℕ, ◌+◌, ◌^◌, ◌<◌, ◌≤◌, Bool, true, false, cond, List, []}
-use Rattle.std.proofs.Common.{◌∷◌, length, Some, None, inl, inr, refl, sym, arith, eqb}
+use Rattle.std.proofs.Common.{◌∷◌, length, Some, None, inl, inr, refl, sym, subst, arith, eqb}
 use Rattle.std.specs.Prelude.{◌&&◌, ◌==◌, nat_le, is_some, is_none}
 use Rattle.std.specs.List.{list_all}
 use Rattle.std.proofs.lemmas.Bool.{eqb-true, leb-true, and_parts}
 use Rattle.std.proofs.Math.Pow.{pow_mono}
 use Rattle.cm_pool.specs.Geometry.{Sizes, IsGeometry}
+use Rattle.cm_pool.specs.declared.place.Place.{Place}
 use Rattle.cm_pool.specs.Lists.{Among}
 use Rattle.cm_layout.specs.declared.class_row.ClassRow.{ClassRow}
 use Rattle.cm_layout.specs.declared.entry_rule.EntryRule.TheVariants.{OnRows}
@@ -15,33 +16,39 @@ use Rattle.cm_layout.specs.declared.row.Row.TheVariants.{Loader, Class}
 use Rattle.cm_layout.specs.declared.entry.Entry.{Entry}
 use Rattle.cm_layout.specs.declared.entry.Entry.TheVariants as entry
 use Rattle.cm_layout.specs.Names.{is_loader_name, is_visible, name_limit, name_room}
-use Rattle.cm_layout.specs.Slots.{FitsEntry, FitsClass}
-use Rattle.cm_layout.specs.Rows.{name_of, number_of, numbers_in}
+use Rattle.cm_layout.specs.declared.relocation.Move.{Move}
+use Rattle.cm_layout.specs.Slots.{FitsEntry, FitsClass, FitsMove, FitsChunk}
+use Rattle.cm_layout.specs.Rows.{name_of, number_of, numbers_in, kept_on}
 use Rattle.cm_layout.specs.Rules.{broken_rule, broken_of, is_live, has_room, class_fits}
 use Rattle.cm_layout.specs.Rules.{is_new_loader}
 use Rattle.cm_layout.specs.Frames.{BareRow, LiveRowsKeep, bare_entry}
-use Rattle.cm_layout.proofs.{own_loaders, class_keeps}
-use Rattle.cm_commit.specs.Offers.{HasOwn, HasRecords, has_own, carries_own}
-use Rattle.cm_commit.proofs.Places.{IsInside, inside}
+use Rattle.cm_layout.proofs.{own_loaders, class_keeps, is_last_chunk-among}
+use Rattle.cm_commit.specs.Offers.{HasOwn, HasRecords, has_own}
+use Rattle.cm_commit.proofs.MovedRecords.{MoveKeeps, keeps-move, put_at, put-inside}
+use Rattle.cm_commit.proofs.Places.{IsInside, inside, are_stacked}
 
 -- ---- the records that they carry
+
+-- a move carries those on the chunk that it leaves
+abbrev pub MovesRight : List (Row (List ℕ)) → Entry (List ℕ) → List (List ℕ) → Type 0
+MovesRight rows (entry.Live row) moved = Unit {0}
+MovesRight rows (entry.Unload e) moved = Unit {0}
+MovesRight rows (entry.Move e) moved = moved ≡ kept_on e.from rows
 
 none_there : (records : List (List ℕ)) → (length records == 0) ≡ true → records ≡ []
 none_there [] own = refl
 none_there (words ∷ records) own =
     absurd (omega (arith, eqb-true (length (words ∷ records)) 0 own))
 
-own_there : (e : Entry (List ℕ)) → has_own e ≡ true → HasOwn e
-own_there (entry.Live (Loader r)) own = tt
-own_there (entry.Live (Class r words)) own = eqb-true (length words) r.place.words own
-own_there (entry.Unload e) own = tt
-own_there (entry.Move e) own = absurd (cc)
-
-pub has_one : (e : Entry (List ℕ)) (moved : List (List ℕ))
-    → carries_own (record { entry = e; moved = moved }) ≡ true → HasRecords e moved
-has_one e moved carries =
-    let both = and_parts (length moved == 0) (has_own e) carries in
-    (own_there e both.1, none_there moved both.0)
+-- but for the records that move
+pub has_one : (rows : List (Row (List ℕ))) (e : Entry (List ℕ)) (moved : List (List ℕ))
+    → has_own e moved ≡ true → MovesRight rows e moved → HasRecords rows e moved
+has_one rows (entry.Live (Loader r)) moved own moves = (tt, none_there moved own)
+has_one rows (entry.Live (Class r words)) moved own moves =
+    let both = and_parts (length moved == 0) (length words == r.place.words) own in
+    (eqb-true (length words) r.place.words both.1, none_there moved both.0)
+has_one rows (entry.Unload e) moved own moves = (tt, none_there moved own)
+has_one rows (entry.Move e) moved own moves = (tt, moves)
 
 -- ---- what slots have room for
 
@@ -79,21 +86,41 @@ short_name x named =
     leb-true (length x) name_limit
     (and_parts some short (and_parts (some && short) (list_all is_visible x) named).0).1
 
-fits_class : (sizes : Sizes) (r : ClassRow) → IsGeometry sizes → r.loader < 2 ^ 64
-    → IsInside sizes r.place → FitsClass r
-fits_class sizes r g loader is =
+fits_chunk : (sizes : Sizes) (place : Place) → IsGeometry sizes → IsInside sizes place
+    → FitsChunk place.chunk
+fits_chunk sizes place g is =
     let top : 2 ^ sizes.top ≤ 2 ^ 12 = pow_mono g.top_to in
     let top_to = g.top_to in
     let roots_to = g.roots_to in
     record {
+      root = omega (arith, is.root, roots_to);
+      order = omega (arith, is.order, top_to);
+      at = omega (arith, is.chunk, top);
+    }
+
+fits_class : (sizes : Sizes) (r : ClassRow) → IsGeometry sizes → r.loader < 2 ^ 64
+    → IsInside sizes r.place → FitsClass r
+fits_class sizes r g loader is =
+    let top : 2 ^ sizes.top ≤ 2 ^ 12 = pow_mono g.top_to in
+    record {
       words = omega (arith, is.words, is.chunk, top);
       loader = loader;
-      chunk = record {
-        root = omega (arith, is.root, roots_to);
-        order = omega (arith, is.order, top_to);
-        at = omega (arith, is.chunk, top);
-      };
+      chunk = fits_chunk sizes r.place g is;
       offset = omega (arith, is.words, is.chunk, top);
+    }
+
+fits_move : (sizes : Sizes) (n : ℕ) (rows : List BareRow) (e : Move) → IsGeometry sizes
+    → n < 2 ^ 63 → LiveRowsKeep sizes n [] rows → MoveKeeps sizes rows e → FitsMove e
+fits_move sizes n rows e g small keep k =
+    let s = is_last_chunk-among e.loader e.from rows k.last in
+    let own = (own_loaders sizes n rows keep).owned s.0 s.1 in
+    let past = live_past sizes n rows s.0.loader keep own in
+    record {
+      loader = omega (arith, past, small, s.2);
+      from = subst FitsChunk s.3
+          (fits_chunk sizes s.0.place g ((are_stacked sizes n rows keep).each s.0 s.1));
+      to = fits_chunk sizes (put_at e.to 0 []) g
+          (put-inside sizes e.to 0 [] k.chunk (omega arith));
     }
 
 pub fits_one : (sizes : Sizes) (n : ℕ) (rows : List BareRow) (e : Entry (List ℕ))
@@ -120,4 +147,5 @@ fits_one sizes n rows (entry.Live (Class r words)) g small keep keeps has =
 fits_one sizes n rows (entry.Unload e) g small keep keeps has =
     let past = live_past sizes n rows e.loader keep (rule_rows (is_live e.loader rows) keeps) in
     record { loader = omega (arith, past, small) }
-fits_one sizes n rows (entry.Move e) g small keep keeps has = absurd has
+fits_one sizes n rows (entry.Move e) g small keep keeps has =
+    fits_move sizes n rows e g small keep (keeps-move sizes rows e keeps)

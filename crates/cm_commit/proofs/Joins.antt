@@ -27,11 +27,14 @@ use Rattle.cm_commit.specs.Offers.{filled, HasRecords, carries_own, writes_apart
 use Rattle.cm_commit.specs.Offers.{MayJoin, MayJoinAll}
 use Rattle.cm_commit.specs.Keeping.{keep_rules}
 use Rattle.cm_commit.specs.Joining.{makes_class, is_new_name, is_new, are_new, are_apart}
-use Rattle.cm_commit.specs.Joining.{may_join}
+use Rattle.cm_commit.specs.Joining.{may_join, MovesThem, AllMoveThem}
 use Rattle.cm_commit.proofs.Committing.{own_all, rules_kept}
 use Rattle.cm_commit.proofs.Rights.{AreKept, kept-after, after-filled, rule-filled}
 use Rattle.cm_commit.proofs.Fitting.{has_one, rule_rows, rule_both, live_past, fits_one}
+use Rattle.cm_commit.proofs.MovedOn.{TellsRecords, records_first, records_next, moves-right}
+use Rattle.cm_commit.proofs.MovedOn.{moves-them}
 use Rattle.cm_commit.proofs.ClassNames.{is_there, there-loader, there-class, there-without}
+use Rattle.cm_commit.proofs.ClassNames.{there-moved, live-moved}
 use Rattle.cm_commit.proofs.ClassNames.{none-there, live-loader, live-class, live-without, any-more}
 
 -- ---- tests
@@ -107,7 +110,7 @@ no_class committed before c u name none =
 
 pub tells_next : (sizes : Sizes) (n : ℕ) (committed : List (Row (List ℕ))) (before : List Carried)
     (rows : List (Row (List ℕ))) (e : Entry (List ℕ)) (moved : List (List ℕ)) → AreKept sizes n rows
-    → broken_rule sizes (bare rows) (n + 1) (bare_entry e) ≡ None → HasRecords e moved
+    → broken_rule sizes (bare rows) (n + 1) (bare_entry e) ≡ None → HasRecords rows e moved
     → TellsNames committed before rows n
     → TellsNames committed (before ++ record { entry = e; moved = moved } ∷ [])
     (rows_after rows (filled (record { entry = e; moved = moved }))) (n + 1)
@@ -162,7 +165,16 @@ tells_next sizes n committed before rows (entry.Unload e) moved kept keeps has t
       later = λ u name lt.
           no_class committed before c u name refl ∙ tells.later u name (omega (arith, lt));
     }
-tells_next sizes n committed before rows (entry.Move e) moved kept keeps has tells = absurd has.0
+tells_next sizes n committed before rows (entry.Move e) records kept keeps has tells =
+    let c : Carried = record { entry = entry.Move e; moved = records } in
+    record {
+      live = λ u name live.
+          there-moved u e.from e.to name rows
+          ∙ (tells.live u name (sym (live-moved u e.from e.to rows) ∙ live)
+          ∙ sym (no_class committed before c u name refl));
+      later = λ u name lt.
+          no_class committed before c u name refl ∙ tells.later u name (omega (arith, lt));
+    }
 
 -- ---- one entry
 
@@ -181,7 +193,7 @@ apart-bare committed (entry.Move e) = refl
 
 class_is_new : (sizes : Sizes) (n : ℕ) (committed : List (Row (List ℕ))) (before : List Carried)
     (rows : List (Row (List ℕ))) (e : Entry (List ℕ)) (moved : List (List ℕ))
-    → broken_rule sizes (bare rows) (n + 1) (bare_entry e) ≡ None → HasRecords e moved
+    → broken_rule sizes (bare rows) (n + 1) (bare_entry e) ≡ None → HasRecords rows e moved
     → TellsNames committed before rows n → is_new committed before e ≡ true
     → IsNewClass words_show rows (filled (record { entry = e; moved = moved }))
 class_is_new sizes n committed before rows (entry.Live (Loader r)) moved keeps has tells new = tt
@@ -198,7 +210,7 @@ class_is_new sizes n committed before rows (entry.Live (Class r words)) moved ke
       has.0,
     )
 class_is_new sizes n committed before rows (entry.Unload e) moved keeps has tells new = tt
-class_is_new sizes n committed before rows (entry.Move e) moved keeps has tells new = absurd has.0
+class_is_new sizes n committed before rows (entry.Move e) moved keeps has tells new = tt
 
 new_class_is : (sizes : Sizes) (n : ℕ) (committed : List (Row (List ℕ))) (before : List Carried)
     (rows : List (Row (List ℕ))) (e : Entry (List ℕ)) (moved : List (List ℕ))
@@ -221,12 +233,14 @@ new_class_is sizes n committed before rows (entry.Move e) moved keeps tells new 
 
 joins_one : (sizes : Sizes) (n : ℕ) (committed : List (Row (List ℕ))) (before : List Carried)
     (rows : List (Row (List ℕ))) (c : Carried) → IsGeometry sizes → n < 2 ^ 63
-    → AreKept sizes n rows → TellsNames committed before rows n
+    → AreKept sizes n rows → TellsNames committed before rows n → TellsRecords committed before rows
     → broken_rule sizes (bare rows) (n + 1) (bare_entry c.entry) ≡ None → carries_own c ≡ true
-    → writes_apart committed (bare_entry c.entry) ≡ true → is_new committed before c.entry ≡ true
+    → MovesThem committed before c.entry c.moved → writes_apart committed (bare_entry c.entry) ≡
+    true → is_new committed before c.entry ≡ true
     → MayJoin sizes committed rows n c
-joins_one sizes n committed before rows c g small kept tells keeps own apart new =
-    let has = has_one c.entry c.moved own in
+joins_one sizes n committed before rows c g small kept tells told keeps own moves apart new =
+    let has = has_one rows c.entry c.moved own
+    (moves-right sizes n committed before rows c.entry c.moved keeps told moves) in
     record {
       follows = record {
         fits = fits_filled c.entry
@@ -243,11 +257,13 @@ joins_one sizes n committed before rows c g small kept tells keeps own apart new
 pub joins_all : (sizes : Sizes) (n : ℕ) (committed : List (Row (List ℕ))) (before : List Carried)
     (rows : List (Row (List ℕ))) (carried : List Carried) → IsGeometry sizes
     → n + length carried ≤ 2 ^ 63 → AreKept sizes n rows → TellsNames committed before rows n
+    → TellsRecords committed before rows → AllMoveThem committed before carried
     → keep_rules sizes (bare rows) (n + 1) (entries_in carried) ≡ true
     → list_all carries_own carried ≡ true → are_apart committed carried ≡ true
     → are_new committed before carried ≡ true → MayJoinAll sizes committed rows n carried
-joins_all sizes n committed before rows [] g le kept tells keep own apart new = tt
-joins_all sizes n committed before rows (c ∷ carried) g le kept tells keep own apart new =
+joins_all sizes n committed before rows [] g le kept tells told moves keep own apart new = tt
+joins_all sizes n committed before rows (c ∷ carried) g le kept tells told moves keep own apart
+    new =
     let rule = broken_rule sizes (bare rows) (n + 1) (bare_entry c.entry) in
     let keeps = and_parts (is_none rule)
     (keep_rules sizes (rows_after (bare rows) (bare_entry c.entry)) (n + 1 + 1)
@@ -258,13 +274,15 @@ joins_all sizes n committed before rows (c ∷ carried) g le kept tells keep own
     let news = and_parts (is_new committed before c.entry)
     (are_new committed (before ++ c ∷ []) carried) new in
     let none = none_is rule keeps.0 in
-    let joins = joins_one sizes n committed before rows c g (omega (arith, le)) kept tells none
-    owns.0 aparts.0 news.0 in (
+    let joins = joins_one sizes n committed before rows c g (omega (arith, le)) kept tells told none
+    owns.0 moves.0 aparts.0 news.0 in (
       joins,
       joins_all sizes (n + 1) committed (before ++ c ∷ []) (rows_after rows (filled c)) carried g
           (omega (arith, le))
           (kept-after sizes committed rows n c kept joins)
           (tells_next sizes n committed before rows c.entry c.moved kept none joins.records tells)
+          (records_next sizes n committed before rows c.entry c.moved kept none joins.records told)
+          moves.1
           (subst (λ (l : List BareRow). keep_rules sizes l (n + 1 + 1) (entries_in carried) ≡ true)
           (sym (after-filled rows c)) keeps.1)
           owns.1
@@ -307,8 +325,9 @@ cache_kept sizes n rows cache = record {
 
 pub joins_where : (sizes : Sizes) (n : ℕ) (rows : List (Row (List ℕ))) (carried : List Carried)
     → IsGeometry sizes → n + length carried ≤ 2 ^ 63 → AreCacheRows words_show sizes n rows
-    → may_join sizes rows n carried ≡ true → MayJoinAll sizes rows rows n carried
-joins_where sizes n rows carried g le cache may =
+    → may_join sizes rows n carried ≡ true → AllMoveThem rows [] carried
+    → MayJoinAll sizes rows rows n carried
+joins_where sizes n rows carried g le cache may moves =
     let kept = cache_kept sizes n rows cache in
     let own = list_all carries_own carried in
     let keep = keep_rules sizes (bare rows) (n + 1) (entries_in carried) in
@@ -317,8 +336,8 @@ joins_where sizes n rows carried g le cache may =
     let one = and_parts own (keep && (apart && new)) may in
     let two = and_parts keep (apart && new) one.1 in
     let three = and_parts apart new two.1 in
-    joins_all sizes n rows [] rows carried g le kept (tells_first sizes n rows kept) two.0 one.0
-    three.0 three.1
+    joins_all sizes n rows [] rows carried g le kept (tells_first sizes n rows kept)
+    (records_first rows) moves two.0 one.0 three.0 three.1
 
 pub may_where : (sizes : Sizes) (n : ℕ) (rows : List (Row (List ℕ))) (carried : List Carried)
     → AreCacheRows words_show sizes n rows → MayJoinAll sizes rows rows n carried
@@ -333,3 +352,24 @@ may_where sizes n rows carried cache joins =
     (and_from keep (apart && new) (rules_kept sizes rows rows n carried joins)
     (and_from apart new (all_apart sizes rows rows n carried joins)
     (all_new sizes n rows [] rows carried kept (tells_first sizes n rows kept) joins)))
+
+all_move : (sizes : Sizes) (n : ℕ) (committed : List (Row (List ℕ))) (before : List Carried)
+    (rows : List (Row (List ℕ))) (carried : List Carried) → AreKept sizes n rows
+    → TellsRecords committed before rows → MayJoinAll sizes committed rows n carried
+    → AllMoveThem committed before carried
+all_move sizes n committed before rows [] kept told joins = tt
+all_move sizes n committed before rows (c ∷ carried) kept told joins =
+    let none = rule-filled sizes rows (n + 1) c joins.0.follows.keeps in (
+      moves-them sizes n committed before rows c.entry c.moved none told joins.0.records,
+      all_move sizes (n + 1) committed (before ++ c ∷ []) (rows_after rows (filled c)) carried
+          (kept-after sizes committed rows n c kept joins.0)
+          (records_next sizes n committed before rows c.entry c.moved kept none joins.0.records
+          told)
+          joins.1,
+    )
+
+pub moves_where : (sizes : Sizes) (n : ℕ) (rows : List (Row (List ℕ))) (carried : List Carried)
+    → AreCacheRows words_show sizes n rows → MayJoinAll sizes rows rows n carried
+    → AllMoveThem rows [] carried
+moves_where sizes n rows carried cache joins =
+    all_move sizes n rows [] rows carried (cache_kept sizes n rows cache) (records_first rows) joins

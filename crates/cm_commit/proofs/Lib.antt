@@ -9,6 +9,9 @@ mod Held
 mod Rights
 mod Gate
 mod Records
+mod Counted
+mod MovedRecords
+mod EntryRecords
 mod Apart
 mod Turning
 mod NewHalves
@@ -30,6 +33,9 @@ mod Filled
 mod Fitting
 mod ClassNames
 mod Roots
+mod Trims
+mod MovedOn
+mod MovedWalk
 mod Joins
 mod Testing
 mod Coming
@@ -38,3 +44,8 @@ mod Offering
 pub use Slots.{end_is}
 -- Where records lie that keep the rules: inside their chunks, one behind another.
 pub use Places.{inside, ends_in_root}
+-- How many whole roots a file has that ends where a root does.
+pub use Trims.{whole_used}
+-- A move that keeps the rules, and which chunk was a loader's last before it.
+pub use MovedRecords.{MoveKeeps, keeps-move}
+pub use MovedOn.{Stayed, last-before, turned}

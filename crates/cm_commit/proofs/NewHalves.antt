@@ -64,11 +64,15 @@ live-few sizes base pre (row ∷ rows) few k =
     let rest = live-few sizes base (pre ++ row ∷ []) rows (omega (arith, push, room)) k.2 in
     omega (arith, push, rest)
 
+pub live_few : (sizes : Sizes) (base : ℕ) (rows : List BareRow) → LiveRowsKeep sizes base [] rows
+    → slots_of_rows rows ≤ row_limit sizes
+live_few sizes base rows k =
+    let few = live-few sizes base [] rows (omega arith) k in omega (arith, few)
+
 pub rows_few : (c : Committed) → IsCommitted c → slots_of_rows (bare c.rows) ≤ row_limit c.sizes
 rows_few c right =
-    let few = live-few c.sizes c.number [] (bare c.rows) (omega arith)
-    (rows_live c.sizes c.framing c.rows c.number right) in
-    omega (arith, few)
+    live_few c.sizes c.number (bare c.rows)
+    (rows_live c.sizes c.framing c.rows c.number right)
 
 -- ---- the number of the last command
 

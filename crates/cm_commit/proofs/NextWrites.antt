@@ -5,7 +5,7 @@ use Rattle.std.proofs.Common.{drop, Some, None, refl, sym, ap, subst, ◌∙◌,
 use Rattle.std.specs.Prelude.{Result, Ok, Err}
 use Rattle.std.specs.List.{slice_get}
 use Rattle.std.proofs.lemmas.Bool.{false≢true}
-use Rattle.cm_disk.specs.Disk.{Unsynced}
+use Rattle.cm_disk.specs.Disk.{View}
 use Rattle.cm_pool.specs.Geometry.{Sizes}
 use Rattle.cm_pool.specs.declared.place.Place.{Place}
 use Rattle.cm_layout.specs.declared.half.Half.{Half}
@@ -14,7 +14,7 @@ use Rattle.cm_group.specs.Groups.{Carried, entries_in}
 use Rattle.cm_guards.specs.Stages.{Stage, Store, after_call}
 use Rattle.cm_commit.specs.GroupPlans.{root_write, root_writes, place_write, record_writes}
 use Rattle.cm_commit.specs.GroupPlans.{slots_write, writes_left, roots_of_entries}
-use Rattle.cm_guards.specs.Stages.{WritesOnce, CallsOnce, TakesCall, TakesWrite}
+use Rattle.cm_guards.specs.Stages.{MakesWrite, CallsOnce, TakesCall, TakesWrite}
 use Rattle.cm_commit.proofs.NextRecords.{drop-at, drop-past}
 
 module _ (sizes : Sizes) (half : Half) (slot n : ℕ) (carried : List Carried) (roots : ℕ) where
@@ -70,21 +70,20 @@ pub left_behind : (writes ws : List Write) (w : Write) (behind : List Stage) →
 left_behind writes ws w behind e =
     ap (λ (l : List Write). after_call (Store l ∷ behind)) (sym e)
 
-module _ {D E : Type 0} (contents : D → List ℕ) (unsynced : D → Unsynced) (failures moment : D → ℕ)
-    (left_since : D → ℕ → List ℕ → Type 0) (old new : D) where
+module _ {D E : Type 0} (view : View D) (old new : D) where
   pub calls_first : {T : Type 0} (writes ws : List Write) (w : Write) (behind : List Stage)
       (r : Result T E) → writes ≡ w ∷ ws
-      → WritesOnce contents unsynced failures moment left_since w old new r
-      → CallsOnce contents unsynced failures moment left_since (Store writes ∷ behind) old new r
+      → MakesWrite view w old new r
+      → CallsOnce view (Store writes ∷ behind) old new r
   calls_first writes ws w behind r e wrote =
-      subst (λ (l : List Write). CallsOnce contents unsynced failures moment left_since
+      subst (λ (l : List Write). CallsOnce view
       (Store l ∷ behind) old new r) (sym e) wrote
 
   -- the same call, with another value told
   pub wrote_ok : {S T : Type 0} (w : Write) (x : S) (y : T)
-      → WritesOnce {D = D} {T = S} {E = E} contents unsynced failures moment left_since w old new
+      → MakesWrite {D = D} {T = S} {E = E} view w old new
       (Ok x)
-      → WritesOnce {D = D} {T = T} {E = E} contents unsynced failures moment left_since w old new
+      → MakesWrite {D = D} {T = T} {E = E} view w old new
       (Ok y)
   wrote_ok w x y wrote = record {
     written = wrote.written;
@@ -99,9 +98,9 @@ module _ {D E : Type 0} (contents : D → List ℕ) (unsynced : D → Unsynced) 
   }
 
   pub wrote_err : {S T : Type 0} (w : Write) (e : E)
-      → WritesOnce {D = D} {T = S} {E = E} contents unsynced failures moment left_since w old new
+      → MakesWrite {D = D} {T = S} {E = E} view w old new
       (Err e)
-      → WritesOnce {D = D} {T = T} {E = E} contents unsynced failures moment left_since w old new
+      → MakesWrite {D = D} {T = T} {E = E} view w old new
       (Err e)
   wrote_err w e wrote = record {
     written = tt;
@@ -117,9 +116,9 @@ module _ {D E : Type 0} (contents : D → List ℕ) (unsynced : D → Unsynced) 
 
   -- the write, its place and bytes written otherwise
   pub wrote_as : {T : Type 0} (w v : Write) (r : Result T E) → v.at ≡ w.at → v.bytes ≡ w.bytes
-      → WritesOnce contents unsynced failures moment left_since v old new r
-      → WritesOnce contents unsynced failures moment left_since w old new r
+      → MakesWrite view v old new r
+      → MakesWrite view w old new r
   wrote_as w v r at_is bytes_are wrote =
       let same : v ≡ w = (λ i. record { at = at_is i; bytes = bytes_are i }) in
-      subst (λ (u : Write). WritesOnce contents unsynced failures moment left_since u old new r)
+      subst (λ (u : Write). MakesWrite view u old new r)
       same wrote

@@ -4,11 +4,12 @@ use Rattle.std.proofs.Common.{◌≡◌, ℕ, ◌+◌, ◌-◌, Bool, true, fals
 use Rattle.std.proofs.Common.{length}
 use Rattle.std.proofs.Common.{Some, None, refl, sym, ap, subst, ◌∙◌, Option, is_some}
 use Rattle.std.specs.List.{AllByRecursion}
-use Rattle.cm_disk.specs.Disk.{Unsynced}
+use Rattle.cm_disk.specs.Disk.{View, Unsynced}
 use Rattle.cm_pool.specs.Geometry.{Sizes}
 use Rattle.cm_layout.specs.declared.row.Row.{Row}
+use Rattle.cm_layout.specs.Offsets.{root_at}
 use Rattle.cm_layout.specs.Rows.{bare, rows_with, rows_after_all}
-use Rattle.cm_guards.specs.Stages.{Stage, StagesStand, calls_left, gone_through}
+use Rattle.cm_guards.specs.Stages.{Stage, StagesStand, IsReady, calls_left, gone_through}
 use Rattle.cm_guards.proofs.{ready_stands}
 use Rattle.cm_rows.specs.Rows.{LiveRows}
 use Rattle.cm_group.specs.Groups.{Carried, Handed, IsGroup, entries_in}
@@ -21,22 +22,26 @@ use Rattle.cm_commit.specs.Keeps.{IsCommitter, IsIdle, IsBusy, IsAt, StandsBroke
 use Rattle.cm_commit.specs.Keeps.{rows_then}
 use Rattle.cm_commit.specs.Laws.{TellsWords}
 use Rattle.cm_commit.specs.Offers.{rows_after_group, committed_after}
-use Rattle.cm_commit.specs.States.{CommitterState, Takes, with_taken, journal_at}
+use Rattle.cm_commit.specs.States.{Work, Storing, Trimming, CommitterState, Takes, with_taken}
+use Rattle.cm_commit.specs.States.{journal_at}
+use Rattle.cm_commit.specs.Trims.{roots_of_rows, trim_plan}
 use Rattle.cm_commit.proofs.Advancing.{some_behind}
+use Rattle.cm_commit.proofs.Counted.{counted-held}
 use Rattle.cm_commit.proofs.Counting.{plan_counts}
 use Rattle.cm_commit.proofs.Rights.{all-bare}
 use Rattle.cm_commit.proofs.Through.{groups_go_through}
+use Rattle.cm_commit.proofs.Trims.{trims_stand}
 use Rattle.cm_commit.proofs.With.{bare-with}
 
 -- ---- the books
 
-pub none_under_way : (o : Option Handed) → is_some o ≡ false → o ≡ None
+pub none_under_way : (o : Option Work) → is_some o ≡ false → o ≡ None
 none_under_way None e = refl
-none_under_way (Some group) e = absurd (cc)
+none_under_way (Some work) e = absurd (cc)
 
 -- before a group the next rows are those that are committed
 pub next_before : {P : Type 0} (f : P → List ℕ) (sizes held : Sizes) (rows : List (Row P))
-    (o : Option Handed) (next : LiveRows (Unit {0})) → held ≡ sizes → o ≡ None
+    (o : Option Work) (next : LiveRows (Unit {0})) → held ≡ sizes → o ≡ None
     → next ≡ record { sizes = sizes; rows = bare (rows_then (rows_with f rows) o) }
     → next ≡ record { sizes = held; rows = bare rows }
 next_before f sizes held rows o next same none is =
@@ -68,11 +73,58 @@ next_after f sizes held rows carried old new t same taken is then =
     })) in
     after ∙ (λ k. record { sizes = sizes; rows = sym (all-bare (rows_with f rows) carried) k })
 
--- ---- the committer
+-- ---- the committer, with a trim
 
-module _ {D : Type 0} (contents : D → List ℕ) (unsynced : D → Unsynced) (s : CommitterState D)
+module _ {D : Type 0} (view : View D) (s : CommitterState D)
     (sizes : Sizes) (next : LiveRows (Unit {0})) (roots room : ℕ)
-    (i : IsCommitter contents unsynced s sizes next roots room) (group : Handed) where
+    (i : IsCommitter view s sizes next roots room) where
+  pub trim_taken : s.broken ≡ false → s.underway ≡ None → (used : ℕ) → used ≡ roots_of_rows s.rows
+      → IsCommitter view
+      (record s { underway = Some Trimming; left = trim_plan s.sizes used }) sizes next used room
+  trim_taken sound none used used_is = record {
+    framing = i.framing;
+    journal_is = i.journal_is;
+    right = i.right;
+    cache = i.cache;
+    records = i.records;
+    number_is = i.number_is;
+    sizes_are = i.sizes_are;
+    next_is = i.next_is
+        ∙ ap (λ (o : Option Work). record {
+          sizes = s.sizes;
+          rows = bare (rows_then s.rows o);
+        }) none;
+    room_is = i.room_is;
+    at = record {
+      some = λ e. absurd (cc);
+      roots_are = used_is;
+      stands = subst (λ (b : Bool). StandsBroken b c c (root_at s.sizes used)
+          (trim_plan s.sizes used) now (view.unsynced s.disk)) (sym sound)
+          (ready_stands (Holds c) (Shows c) (root_at s.sizes used) (trim_plan s.sizes used) now
+          (view.unsynced s.disk) idle.settled
+          (subst (λ (n : ℕ). IsReady (Holds c) (Shows c) (root_at s.sizes n)
+          (trim_plan s.sizes n) now) (sym used_is)
+          (trims_stand c now i.right idle.shows).ready));
+    };
+  }
+    where
+      c : Committed
+      c = record { sizes = s.sizes; rows = s.rows; number = s.number; framing = i.framing }
+
+      now : List ℕ
+      now = view.contents s.disk
+
+      idle : IsIdle c roots s.broken now (view.unsynced s.disk)
+      idle =
+          subst (λ (o : Option Work). IsAt c roots o s.left s.broken now (view.unsynced s.disk))
+          none
+          i.at
+
+-- ---- with a group
+
+module _ {D : Type 0} (view : View D) (s : CommitterState D)
+    (sizes : Sizes) (next : LiveRows (Unit {0})) (roots room : ℕ)
+    (i : IsCommitter view s sizes next roots room) (group : Handed) where
   abbrev before : Committed
   before = record { sizes = s.sizes; rows = s.rows; number = s.number; framing = i.framing }
 
@@ -81,16 +133,16 @@ module _ {D : Type 0} (contents : D → List ℕ) (unsynced : D → Unsynced) (s
   plan = plan_of (journal_at s) (bare s.rows) roots group.entries
 
   abbrev pub with_group_underway : CommitterState D
-  with_group_underway = record s { underway = Some group; left = plan }
+  with_group_underway = record s { underway = Some (Storing group); left = plan }
 
   module _ (takes : Takes s group) (is : IsGroup group)
       (tells : AllByRecursion TellsWords group.entries) where
     abbrev now : List ℕ
-    now = contents s.disk
+    now = view.contents s.disk
 
-    idle : IsIdle before roots s.broken now (unsynced s.disk)
+    idle : IsIdle before roots s.broken now (view.unsynced s.disk)
     idle =
-        subst (λ (o : Option Handed). IsAt before roots o s.left s.broken now (unsynced s.disk))
+        subst (λ (o : Option Work). IsAt before roots o s.left s.broken now (view.unsynced s.disk))
         takes.idle i.at
 
     same_plan : plan_of (journal_of before) (bare s.rows) (whole_roots s.sizes (length now))
@@ -105,12 +157,13 @@ module _ {D : Type 0} (contents : D → List ℕ) (unsynced : D → Unsynced) (s
     abbrev behind : List ℕ
     behind = gone_through plan now
 
-    stands : StagesStand (Holds before) (Shows after) (length behind) plan now (unsynced s.disk)
+    stands : StagesStand (Holds before) (Shows after) (length behind) plan now
+        (view.unsynced s.disk)
     stands =
         let through = groups_go_through before group now i.right is takes.next tells idle.shows in
         subst (λ (l : List Stage). StagesStand (Holds before) (Shows after)
-        (length (gone_through l now)) l now (unsynced s.disk)) same_plan
-        (ready_stands (Holds before) (Shows after) _ _ now (unsynced s.disk) idle.settled
+        (length (gone_through l now)) l now (view.unsynced s.disk)) same_plan
+        (ready_stands (Holds before) (Shows after) _ _ now (view.unsynced s.disk) idle.settled
         through.ready)
 
     some_plan : plan ≡ [] → ⊥
@@ -133,15 +186,16 @@ module _ {D : Type 0} (contents : D → List ℕ) (unsynced : D → Unsynced) (s
         ∙ through.roots
         ∙ ap (λ (l : List Stage). whole_roots s.sizes (length (gone_through l now))) same_plan
 
-    busy : IsBusy before roots group plan s.broken now (unsynced s.disk)
+    busy : IsBusy before roots group plan s.broken now (view.unsynced s.disk)
     busy = record {
       is = is;
       next = takes.next;
+      counted = counted-held s.sizes now s.rows idle.shows.records;
       some = some_plan;
       long = length behind;
       roots_are = roots_so;
       stands = subst (λ (b : Bool). StandsBroken b before after (length behind) plan now
-          (unsynced s.disk)) (sym takes.sound) stands;
+          (view.unsynced s.disk)) (sym takes.sound) stands;
     }
 
     pub taken : (new : LiveRows (Unit {0}))
@@ -149,7 +203,7 @@ module _ {D : Type 0} (contents : D → List ℕ) (unsynced : D → Unsynced) (s
           sizes = s.sizes;
           rows = bare (rows_after_group s.rows group.entries);
         }
-        → IsCommitter contents unsynced with_group_underway sizes new roots room
+        → IsCommitter view with_group_underway sizes new roots room
     taken new new_is = record {
       framing = i.framing;
       journal_is = i.journal_is;
@@ -163,10 +217,10 @@ module _ {D : Type 0} (contents : D → List ℕ) (unsynced : D → Unsynced) (s
       at = busy;
     }
 
-    pub as_taken : with_group_underway ≡ with_taken contents s group
+    pub as_taken : with_group_underway ≡ with_taken view s group
     as_taken =
         ap (λ (k : ℕ). record s {
-          underway = Some group;
+          underway = Some (Storing group);
           left = plan_of (journal_at s) (bare s.rows) k group.entries;
         }) idle.roots_are
 

@@ -77,7 +77,7 @@ inside_all sizes rows n (c ∷ carried) keep =
 
 -- ---- rows with something else kept of each class
 
-classes-with : {P Q : Type 0} (f : P → Q) (rows : List (Row P))
+pub classes-with : {P Q : Type 0} (f : P → Q) (rows : List (Row P))
     → classes_in (rows_with f rows) ≡ classes_in rows
 classes-with f rows =
     sym (classes-bare (rows_with f rows)) ∙ (ap classes_in (bare-with f rows) ∙ classes-bare rows)

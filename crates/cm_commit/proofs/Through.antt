@@ -25,6 +25,7 @@ use Rattle.cm_commit.specs.Keeps.{roots_then}
 use Rattle.cm_commit.specs.Laws.{TellsWords, GroupsGoThrough}
 use Rattle.cm_commit.proofs.Guards.{guarded, needs_roots}
 use Rattle.cm_commit.proofs.Rights.{right_after}
+use Rattle.cm_commit.proofs.Counted.{counted-held}
 use Rattle.cm_commit.proofs.Roots.{roots-written}
 use Rattle.cm_commit.proofs.Turning.{groups_turn}
 use Rattle.cm_commit.proofs.NewHalves.{full_halves_renew, right_renewed}
@@ -92,7 +93,8 @@ module _ (c : Committed) (group : Handed) (contents : List ℕ) (right : IsCommi
       let inside = t.turns.inside in
       let size = overwritten_size (gate_at c) (open_gate ∷ []) base (omega (arith, inside)) in
       let same : length opened ≡ length base = omega (arith, size, inside) in
-      roots-written c group contents right next
+      roots-written c group contents right
+      (counted-held c.sizes contents c.rows shows.records) next
       (omega (arith, needs_roots c.sizes c.rows, shows.long)) t.can
       ∙ ap (whole_roots c.sizes) (sym same)
 

@@ -48,7 +48,9 @@ use Rattle.cm_commit.proofs.Rights.{are_kept, kept-all, size-more, entries_keep}
 use Rattle.cm_commit.proofs.Rights.{right_after}
 use Rattle.cm_group.proofs.{enough}
 use Rattle.cm_commit.specs.Laws.{TellsWords, IsTurned, GroupsTurn}
-use Rattle.cm_commit.proofs.Records.{records-stand, roots-mono}
+use Rattle.cm_commit.proofs.Counted.{counted-held}
+use Rattle.cm_commit.proofs.EntryRecords.{records-stand}
+use Rattle.cm_commit.proofs.Records.{roots-mono}
 use Rattle.cm_commit.proofs.Apart.{guarded_where, can-records, can-roots, roots-size, whole-ends}
 use Rattle.cm_commit.proofs.Apart.{roots_limit, not_true, roots-few}
 use Rattle.cm_commit.proofs.Gate.{IsGate, IsReady, stays_shut, turns_open}
@@ -159,8 +161,8 @@ module _ (c : Committed) (group : Handed) (right : IsCommitted c) (next : IsNext
     can-second : CanWrite (guard_of c) (roots ++ records) len
     can-second =
         can-append (guard_of c) roots records len can-first
-        (can-records c c.number c.rows group.entries (size_after roots len) right next.entries
-        grown)
+        (can-records c c.number c.rows group.entries (size_after roots len) right
+        (counted-held c.sizes contents c.rows shows.records) next.entries grown)
 
     can-slots : Fits (guard_of c) slots (size_after (roots ++ records) len)
     can-slots =

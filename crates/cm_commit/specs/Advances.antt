@@ -1,18 +1,22 @@
 -- What one step of a committer does.
 use Rattle.std.specs.Prelude.{◌≡◌, ℕ, ◌+◌, ◌≤◌, ◌<◌, Bool, true, false, [], length, Some, None}
-use Rattle.std.specs.Prelude.{Result, Ok, Err}
+use Rattle.std.specs.Prelude.{Result, Ok, Err, List}
+use Rattle.cm_disk.specs.Disk.{Unsynced, IsSettled}
+use Rattle.cm_pool.specs.Geometry.{Sizes}
+use Rattle.cm_layout.specs.Offsets.{root_at}
 use Rattle.cm_layout.specs.Rows.{bare}
 use Rattle.cm_group.specs.declared.receipt.Receipt.{Receipt}
 use Rattle.cm_group.specs.Groups.{Handed, slots_taken}
 use Rattle.cm_commit.specs.declared.progress.Progress.{Progress}
-use Rattle.cm_commit.specs.declared.progress.Progress.TheVariants.{Idle, Working, Done}
+use Rattle.cm_commit.specs.declared.progress.Progress.TheVariants.{Idle, Working, Done, Trimmed}
 use Rattle.cm_commit.specs.declared.progress.AdvanceFault.{AdvanceFault}
 use Rattle.cm_commit.specs.declared.progress.AdvanceFault.TheVariants.{Device, Broken}
 use Rattle.cm_guards.specs.Stages.{calls_left, after_call}
 use Rattle.cm_commit.specs.declared.journal.Journal.{Journal}
 use Rattle.cm_commit.specs.Offers.{rows_after_group}
 use Rattle.cm_commit.specs.Checkpoints.{target_of}
-use Rattle.cm_commit.specs.States.{CommitterState, journal_at}
+use Rattle.cm_commit.specs.States.{Storing, Trimming, CommitterState, journal_at}
+use Rattle.cm_commit.specs.Trims.{roots_of_rows}
 
 -- nothing is left: no call, no change
 pub record Rests {D : Type 0} (old new : CommitterState D) : Type 0 where
@@ -47,10 +51,19 @@ pub record Finishes {D : Type 0} (old : CommitterState D) (receipt : Receipt)
   pub sound : old.broken ≡ false
   pub last : calls_left old.left ≡ 1
   pub group : Handed
-  pub underway : old.underway ≡ Some group
+  pub underway : old.underway ≡ Some (Storing group)
   pub told : receipt.number ≡ old.number + length group.entries
   pub new_is : new ≡ with_committed old
       (target_of (journal_at old) (bare old.rows) group.entries) group new.disk
+
+-- the last call of a trim is made, and the roots are told that rows use
+pub record Trims {D : Type 0} (old : CommitterState D) (roots : ℕ)
+    (new : CommitterState D) : Type 0 where
+  pub sound : old.broken ≡ false
+  pub last : calls_left old.left ≡ 1
+  pub underway : old.underway ≡ Some Trimming
+  pub told : roots ≡ roots_of_rows old.rows
+  pub new_is : new ≡ record old { disk = new.disk; underway = None; left = [] }
 
 -- the call failed
 pub record Breaks {D : Type 0} (old new : CommitterState D) : Type 0 where
@@ -68,6 +81,7 @@ abbrev pub Advances : {D : Type 0} → CommitterState D → Result Progress Adva
 Advances old (Ok Idle) new = Rests old new
 Advances old (Ok Working) new = Works old new
 Advances old (Ok (Done receipt)) new = Finishes old receipt new
+Advances old (Ok (Trimmed roots)) new = Trims old roots new
 Advances old (Err Device) new = Breaks old new
 Advances old (Err Broken) new = StaysBroken old new
 
@@ -78,8 +92,18 @@ abbrev pub CallsDevice : {D : Type 0} → (D → D → Bool → Type 0) → D �
 CallsDevice called old (Ok Idle) new = new ≡ old
 CallsDevice called old (Ok Working) new = called old new true
 CallsDevice called old (Ok (Done receipt)) new = called old new true
+CallsDevice called old (Ok (Trimmed roots)) new = called old new true
 CallsDevice called old (Err Device) new = called old new false
 CallsDevice called old (Err Broken) new = new ≡ old
+
+-- after a trim the file ends where the last root does that rows use, and all of it is stored
+abbrev pub EndsBehind : Sizes → List ℕ → Unsynced → Result Progress AdvanceFault → Type 0
+EndsBehind sizes contents unsynced (Ok Idle) = Unit {0}
+EndsBehind sizes contents unsynced (Ok Working) = Unit {0}
+EndsBehind sizes contents unsynced (Ok (Done receipt)) = Unit {0}
+EndsBehind sizes contents unsynced (Ok (Trimmed roots)) =
+    (length contents ≡ root_at sizes roots) × IsSettled contents unsynced
+EndsBehind sizes contents unsynced (Err fault) = Unit {0}
 
 -- The count of failures doesn't fall, and a device fault is told only where it rose.
 abbrev pub IsDevice : Result Progress AdvanceFault → Type 0

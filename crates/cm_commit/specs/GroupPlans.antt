@@ -12,7 +12,7 @@ use Rattle.cm_layout.specs.declared.entry.Entry.{Entry}
 use Rattle.cm_layout.specs.declared.entry.Entry.TheVariants as entry
 use Rattle.cm_layout.specs.Offsets.{slot_size, slot_at, roots_at, root_at, root_size, record_at}
 use Rattle.cm_layout.specs.Slots.{open_gate, group_head_rest, entry_slot}
-use Rattle.cm_layout.specs.Rows.{slots_of_entries}
+use Rattle.cm_layout.specs.Rows.{slots_of_entries, move_writes}
 use Rattle.cm_layout.specs.Frames.{BareRow, BareEntry}
 use Rattle.cm_layout.specs.Zeros.{blank}
 use Rattle.cm_guards.specs.Plans.{Write}
@@ -52,12 +52,12 @@ root_writes sizes from (suc n) = root_write sizes from ∷ root_writes sizes (fr
 
 -- ---- records
 
--- what an entry writes: each record with its place; a move none, as none is taken yet
+-- what an entry writes: each record with its place
 abbrev pub writes_of : Entry (List ℕ) → List (List ℕ) → List (Place × List ℕ)
 writes_of (entry.Live (Loader r)) moved = []
 writes_of (entry.Live (Class r words)) moved = (r.place, words) ∷ []
 writes_of (entry.Unload e) moved = []
-writes_of (entry.Move e) moved = []
+writes_of (entry.Move e) moved = move_writes e.to 0 moved
 
 -- in the order of the entries
 abbrev pub all_writes : List Carried → List (Place × List ℕ)

@@ -1,10 +1,12 @@
 -- Whether entries may join what is committed, as tests. The classes that they make are new in their
 -- loaders, told by what is committed and by the entries before them; and they write where they may.
 use Rattle.std.specs.Prelude.{ℕ, ◌+◌, Bool, true, false, ◌&&◌, ◌==◌, not, is_none}
-use Rattle.std.specs.Prelude.{List, [], ◌∷◌, ◌++◌}
+use Rattle.std.specs.Prelude.{◌≡◌, List, [], ◌∷◌, ◌++◌, if◌then◌else◌}
 use Rattle.std.specs.Str.{bytes_eq}
 use Rattle.std.specs.List.{list_all, list_any}
 use Rattle.std.specs.Option.{option_map_or}
+use Rattle.cm_pool.specs.declared.chunk.Chunk.{Chunk}
+use Rattle.cm_pool.specs.Chunks.{same_chunk}
 use Rattle.cm_pool.specs.Geometry.{Sizes}
 use Rattle.cm_record.specs.Names.{class_name_in}
 use Rattle.cm_layout.specs.declared.row.Row.{Row}
@@ -12,8 +14,8 @@ use Rattle.cm_layout.specs.declared.row.Row.TheVariants.{Loader, Class}
 use Rattle.cm_layout.specs.declared.class_row.ClassRow.{ClassRow}
 use Rattle.cm_layout.specs.declared.entry.Entry.{Entry}
 use Rattle.cm_layout.specs.declared.entry.Entry.TheVariants as entry
-use Rattle.cm_layout.specs.Rows.{bare}
-use Rattle.cm_layout.specs.Rules.{is_chunk}
+use Rattle.cm_layout.specs.Rows.{bare, kept_on}
+use Rattle.cm_layout.specs.Rules.{is_chunk, is_last_chunk}
 use Rattle.cm_layout.specs.Frames.{BareEntry, bare_entry}
 use Rattle.cm_state.specs.State.{words_show, class_among}
 use Rattle.cm_group.specs.Groups.{Carried, entries_in, class_made}
@@ -63,9 +65,51 @@ abbrev pub are_apart : {P : Type 0} → List (Row P) → List Carried → Bool
 are_apart committed carried =
     list_all (λ c. writes_apart committed (bare_entry c.entry)) carried
 
+-- ---- records that move
+
+-- The records on a chunk once an entry is applied, where these were there before: a class that lies
+-- at the chunk's begin is the first there, and a move onto it brings all its own.
+abbrev pub records_then : Chunk → List (List ℕ) → Entry (List ℕ) → List (List ℕ)
+    → List (List ℕ)
+records_then c records (entry.Live (Loader r)) moved = records
+records_then c records (entry.Live (Class r words)) moved =
+    if same_chunk r.place.chunk c
+    then (if r.place.offset == 0 then words ∷ [] else records ++ words ∷ [])
+    else records
+records_then c records (entry.Unload e) moved = records
+records_then c records (entry.Move e) moved = if same_chunk e.to c then moved else records
+
+abbrev pub records_after : Chunk → List (List ℕ) → List Carried → List (List ℕ)
+records_after c records [] = records
+records_after c records (k ∷ carried) =
+    records_after c (records_then c records k.entry k.moved) carried
+
+-- those on a loader's last chunk, by what is committed
+abbrev pub committed_on : {P : Type 0} → ℕ → Chunk → List (Row P) → List P
+committed_on u c committed = if is_last_chunk u c committed then kept_on c committed else []
+
+-- and by the entries before
+abbrev pub records_on : List (Row (List ℕ)) → List Carried → ℕ → Chunk → List (List ℕ)
+records_on committed before u c = records_after c (committed_on u c committed) before
+
+-- a move carries these
+abbrev pub MovesThem : List (Row (List ℕ)) → List Carried → Entry (List ℕ) → List (List ℕ)
+    → Type 0
+MovesThem committed before (entry.Live row) moved = Unit {0}
+MovesThem committed before (entry.Unload e) moved = Unit {0}
+MovesThem committed before (entry.Move e) moved =
+    moved ≡ records_on committed before e.loader e.from
+
+-- so does each of the entries behind those before
+abbrev pub AllMoveThem : List (Row (List ℕ)) → List Carried → List Carried → Type 0
+AllMoveThem committed before [] = Unit {0}
+AllMoveThem committed before (c ∷ carried) =
+    MovesThem committed before c.entry c.moved × AllMoveThem committed (before ++ c ∷ []) carried
+
 -- ---- all of it
 
--- they carry the records that they need, keep the rules, write apart, and their classes are new
+-- they carry the records that they need (those that move left out), keep the rules, write apart,
+-- and their classes are new
 abbrev pub may_join : Sizes → List (Row (List ℕ)) → ℕ → List Carried → Bool
 may_join sizes committed n carried =
     list_all carries_own carried

@@ -2,11 +2,11 @@
 use Rattle.std.specs.Prelude.{◌≡◌, ℕ, ◌^◌, ◌≤◌, max, Bool, true, false, List, [], length}
 use Rattle.std.specs.Prelude.{Option, Some, None}
 use Rattle.std.specs.List.{AllByRecursion}
-use Rattle.cm_disk.specs.Disk.{Unsynced, IsSettled}
+use Rattle.cm_disk.specs.Disk.{View, Unsynced, IsSettled}
 use Rattle.cm_pool.specs.Geometry.{Sizes}
 use Rattle.cm_layout.specs.declared.row.Row.{Row}
 use Rattle.cm_layout.specs.declared.row.Row.TheVariants.{Loader, Class}
-use Rattle.cm_layout.specs.Offsets.{half_size, root_size}
+use Rattle.cm_layout.specs.Offsets.{half_size, root_at, root_size}
 use Rattle.cm_layout.specs.Rows.{bare}
 use Rattle.cm_layout.specs.Framing.{Framing, IsRight, Matches}
 use Rattle.cm_guards.specs.Guards.{EachImage}
@@ -21,7 +21,8 @@ use Rattle.cm_commit.specs.Checkpoints.{ready_for}
 use Rattle.cm_commit.specs.Offers.{MayCome, rows_after_group, committed_after}
 use Rattle.cm_commit.specs.GroupPlans.{whole_roots, roots_of_entries}
 use Rattle.cm_commit.specs.Guarding.{Shows, Holds}
-use Rattle.cm_commit.specs.States.{CommitterState, journal_at}
+use Rattle.cm_commit.specs.States.{Work, Storing, Trimming, CommitterState, journal_at}
+use Rattle.cm_commit.specs.Trims.{roots_of_rows}
 
 -- each record is that of a class that keeps the class rules
 abbrev pub HasRightRecord : Row (List ℕ) → Type 0
@@ -30,6 +31,14 @@ HasRightRecord (Class r words) = IsRightRecord words
 
 abbrev pub AreRight : List (Row (List ℕ)) → Type 0
 AreRight rows = AllByRecursion HasRightRecord rows
+
+-- a class's record has as many words as its row says
+abbrev pub HasItsWords : Row (List ℕ) → Type 0
+HasItsWords (Loader r) = Unit {0}
+HasItsWords (Class r words) = length words ≡ r.place.words
+
+abbrev pub AreCounted : List (Row (List ℕ)) → Type 0
+AreCounted rows = AllByRecursion HasItsWords rows
 
 -- Contents hold the cache of these rows, and the journal goes on there: they match a framing whose
 -- halves are as the journal says, they have so many whole roots, and all of it is stored.
@@ -52,10 +61,11 @@ pub record IsHeld (contents : List ℕ) (unsynced : Unsynced) (journal : Journal
 
 -- ---- the committer's own
 
--- the rows after the group that is under way, with nothing kept
-abbrev pub rows_then : List (Row (List ℕ)) → Option Handed → List (Row (List ℕ))
+-- the rows after what is under way, with nothing kept
+abbrev pub rows_then : List (Row (List ℕ)) → Option Work → List (Row (List ℕ))
 rows_then rows None = rows
-rows_then rows (Some group) = rows_after_group rows group.entries
+rows_then rows (Some Trimming) = rows
+rows_then rows (Some (Storing group)) = rows_after_group rows group.entries
 
 -- how many whole roots the file has once the group is written
 abbrev pub roots_then : ℕ → Handed → ℕ
@@ -81,22 +91,32 @@ pub record IsBusy (c : Committed) (roots : ℕ) (group : Handed) (left : List St
     (contents : List ℕ) (unsynced : Unsynced) : Type 0 where
   pub is : IsGroup group
   pub next : MayCome c.sizes c.rows c.number group
+  pub counted : AreCounted c.rows
   pub some : (left ≡ []) → ⊥
   pub long : ℕ
   pub roots_are : roots_then roots group ≡ whole_roots c.sizes long
   pub stands : StandsBroken broken c (committed_after (ready_for c group.entries) group) long left
       contents unsynced
 
-abbrev pub IsAt : Committed → ℕ → Option Handed → List Stage → Bool → List ℕ → Unsynced → Type 0
+-- a trim is under way, which leaves the roots that rows use
+pub record IsTrimming (c : Committed) (roots : ℕ) (left : List Stage) (broken : Bool)
+    (contents : List ℕ) (unsynced : Unsynced) : Type 0 where
+  pub some : (left ≡ []) → ⊥
+  pub roots_are : roots ≡ roots_of_rows c.rows
+  pub stands : StandsBroken broken c c (root_at c.sizes roots) left contents unsynced
+
+abbrev pub IsAt : Committed → ℕ → Option Work → List Stage → Bool → List ℕ → Unsynced → Type 0
 IsAt c roots None left broken contents unsynced = IsIdle c roots broken contents unsynced
-IsAt c roots (Some group) left broken contents unsynced =
+IsAt c roots (Some Trimming) left broken contents unsynced =
+    IsTrimming c roots left broken contents unsynced
+IsAt c roots (Some (Storing group)) left broken contents unsynced =
     IsBusy c roots group left broken contents unsynced
 
 -- how many bytes a root has, or a half, whichever are more
 abbrev pub most_written : Sizes → ℕ
 most_written sizes = max (root_size sizes) (half_size sizes)
 
-pub record IsCommitter {D : Type 0} (contents : D → List ℕ) (unsynced : D → Unsynced)
+pub record IsCommitter {D : Type 0} (view : View D)
     (s : CommitterState D) (sizes : Sizes) (next : LiveRows (Unit {0}))
     (roots room : ℕ) : Type 0 where
   pub framing : Framing
@@ -114,4 +134,4 @@ pub record IsCommitter {D : Type 0} (contents : D → List ℕ) (unsynced : D �
   pub next_is : next ≡ record { sizes = s.sizes; rows = bare (rows_then s.rows s.underway) }
   pub room_is : most_written s.sizes ≤ room
   pub at : IsAt (record { sizes = s.sizes; rows = s.rows; number = s.number; framing = framing })
-      roots s.underway s.left s.broken (contents s.disk) (unsynced s.disk)
+      roots s.underway s.left s.broken (view.contents s.disk) (view.unsynced s.disk)

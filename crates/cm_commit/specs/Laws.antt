@@ -4,11 +4,11 @@ use Rattle.std.specs.Prelude.{if◌then◌else◌, ◌==◌, is_some}
 use Rattle.std.specs.List.{AllByRecursion}
 use Rattle.cm_record_layout.specs.Packing.{packed_into, word_bytes}
 use Rattle.cm_disk.specs.Disk.{is_among}
-use Rattle.cm_layout.specs.Offsets.{half_size, half_at}
+use Rattle.cm_layout.specs.Offsets.{half_size, half_at, root_at}
 use Rattle.cm_layout.specs.Slots.{open_gate}
 use Rattle.cm_layout.specs.Rows.{bare}
 use Rattle.cm_layout.specs.Frames.{IsGoodHead}
-use Rattle.cm_layout.specs.Framing.{part, other_half}
+use Rattle.cm_layout.specs.Framing.{part, other_half, needs}
 use Rattle.cm_guards.specs.Guards.{Guards, IsBounded}
 use Rattle.cm_guards.specs.Gates.{Turns}
 use Rattle.cm_guards.specs.Plans.{Write, CanWrite, written}
@@ -22,6 +22,7 @@ use Rattle.cm_commit.specs.GroupPlans.{group_writes, gate_at, roots_to_add, plan
 use Rattle.cm_commit.specs.GroupPlans.{all_writes}
 use Rattle.cm_commit.specs.Guarding.{IsCommitted, Shows, Holds, shut_other, guard_of}
 use Rattle.cm_commit.specs.Keeps.{roots_then}
+use Rattle.cm_commit.specs.Trims.{roots_of_rows, trim_plan}
 
 -- A group takes four device calls, one more for each root by which the file grows, one more for
 -- each record, and six more for a checkpoint where the half that counts has no room for it.
@@ -149,3 +150,17 @@ GroupsGoThrough =
     → Shows c contents
     → GoesThrough c group contents
     (plan_of (journal_of c) (bare c.rows) (whole_roots c.sizes (length contents)) group.entries)
+
+-- ---- a trim
+
+-- What rows need ends with the last root that they use. A cut there leaves what is committed at
+-- each moment, and the file has so many roots then.
+pub record IsTrimmed (c : Committed) (contents : List ℕ) : Type 0 where
+  pub needed : needs c.sizes c.rows ≡ root_at c.sizes (roots_of_rows c.rows)
+  pub ready : IsReady (Holds c) (Shows c) (root_at c.sizes (roots_of_rows c.rows))
+      (trim_plan c.sizes (roots_of_rows c.rows)) contents
+  pub roots : whole_roots c.sizes (root_at c.sizes (roots_of_rows c.rows)) ≡ roots_of_rows c.rows
+
+abbrev pub TrimsStand : Type 0
+TrimsStand =
+    (c : Committed) (contents : List ℕ) → IsCommitted c → Shows c contents → IsTrimmed c contents

@@ -2,6 +2,7 @@ pub mod Committed
 pub mod Checkpoints
 pub mod Offers
 pub mod GroupPlans
+pub mod Trims
 pub mod States
 pub mod Steps
 pub mod Guarding
@@ -10,3 +11,4 @@ pub mod Laws
 pub mod Keeping
 pub mod Advances
 pub mod Joining
+pub mod Moving

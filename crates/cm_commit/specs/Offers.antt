@@ -1,12 +1,12 @@
 -- Which groups a committer takes, and what is committed after one.
-use Rattle.std.specs.Prelude.{◌≡◌, ℕ, ◌+◌, ◌^◌, ◌≤◌, ◌<◌, Bool, true, false, ◌==◌, ◌&&◌, ◌||◌}
+use Rattle.std.specs.Prelude.{◌≡◌, ℕ, ◌+◌, ◌^◌, ◌≤◌, ◌<◌, Bool, true, ◌==◌, ◌&&◌, ◌||◌}
 use Rattle.std.specs.Prelude.{nat_le, List, [], ◌∷◌, length, map}
 use Rattle.cm_pool.specs.Geometry.{Sizes}
 use Rattle.cm_layout.specs.declared.row.Row.{Row}
 use Rattle.cm_layout.specs.declared.row.Row.TheVariants.{Loader, Class}
 use Rattle.cm_layout.specs.declared.entry.Entry.{Entry}
 use Rattle.cm_layout.specs.declared.entry.Entry.TheVariants as entry
-use Rattle.cm_layout.specs.Rows.{used_words, rows_after, rows_after_all}
+use Rattle.cm_layout.specs.Rows.{used_words, rows_after, rows_after_all, kept_on}
 use Rattle.cm_layout.specs.Rules.{is_unused, is_last_chunk}
 use Rattle.cm_group.specs.Groups.{Carried, Handed, entries_in, slots_taken}
 use Rattle.cm_state.specs.State.{words_show}
@@ -19,26 +19,33 @@ use Rattle.cm_commit.specs.Committed.{Committed, end_slot, with_group}
 abbrev pub filled : Carried → Entry (List ℕ)
 filled c = c.entry
 
--- A class's record has as many words as its row says. No move is taken yet.
+-- A class's record has as many words as its row says.
 abbrev pub HasOwn : Entry (List ℕ) → Type 0
 HasOwn (entry.Live (Loader r)) = Unit {0}
 HasOwn (entry.Live (Class r words)) = length words ≡ r.place.words
 HasOwn (entry.Unload e) = Unit {0}
-HasOwn (entry.Move e) = ⊥
+HasOwn (entry.Move e) = Unit {0}
 
--- it carries that, and no records that move
-abbrev pub HasRecords : Entry (List ℕ) → List (List ℕ) → Type 0
-HasRecords e moved = HasOwn e × (moved ≡ [])
+-- the records that move with an entry, where these rows live before it: those on the old chunk
+abbrev pub moved_with : List (Row (List ℕ)) → Entry (List ℕ) → List (List ℕ)
+moved_with rows (entry.Live row) = []
+moved_with rows (entry.Unload e) = []
+moved_with rows (entry.Move e) = kept_on e.from rows
 
--- the same as tests
-abbrev pub has_own : Entry (List ℕ) → Bool
-has_own (entry.Live (Loader r)) = true
-has_own (entry.Live (Class r words)) = length words == r.place.words
-has_own (entry.Unload e) = true
-has_own (entry.Move e) = false
+-- it carries the records that it needs, and no others
+abbrev pub HasRecords : List (Row (List ℕ)) → Entry (List ℕ) → List (List ℕ) → Type 0
+HasRecords rows e moved = HasOwn e × (moved ≡ moved_with rows e)
+
+-- the same as a test, but for the records that move, which other entries tell
+abbrev pub has_own : Entry (List ℕ) → List (List ℕ) → Bool
+has_own (entry.Live (Loader r)) moved = length moved == 0
+has_own (entry.Live (Class r words)) moved =
+    (length moved == 0) && (length words == r.place.words)
+has_own (entry.Unload e) moved = length moved == 0
+has_own (entry.Move e) moved = true
 
 abbrev pub carries_own : Carried → Bool
-carries_own c = (length c.moved == 0) && has_own c.entry
+carries_own c = has_own c.entry c.moved
 
 -- It writes into no chunk that committed rows use, but behind the records on its loader's last one.
 abbrev pub writes_apart : {P Q : Type 0} → List (Row P) → Entry Q → Bool
@@ -55,7 +62,7 @@ writes_apart committed (entry.Move e) = is_unused e.to committed
 pub record MayJoin (sizes : Sizes) (committed rows : List (Row (List ℕ))) (n : ℕ)
     (c : Carried) : Type 0 where
   pub follows : MayFollow words_show sizes n rows (filled c)
-  pub records : HasRecords c.entry c.moved
+  pub records : HasRecords rows c.entry c.moved
   pub apart : writes_apart committed c.entry ≡ true
 
 -- one after another, the first with the number behind n

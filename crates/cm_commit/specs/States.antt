@@ -1,5 +1,7 @@
 -- What a committer is seen as, and what a crash may leave of it.
-use Rattle.std.specs.Prelude.{◌≡◌, ℕ, ◌+◌, Bool, false, List, Option, Some, None, length}
+use Rattle.std.specs.Prelude.{◌≡◌, ℕ, ◌+◌, Bool, true, false, List, Option, Some, None, length}
+use Rattle.std.specs.Prelude.{nat_lt, min, Result, Ok, Err}
+use Rattle.cm_disk.specs.Disk.{View}
 use Rattle.cm_record.specs.Layout.{lay}
 use Rattle.cm_pool.specs.Geometry.{Sizes}
 use Rattle.cm_layout.specs.declared.half.Half.{Half}
@@ -12,12 +14,17 @@ use Rattle.cm_guards.specs.Stages.{Stage, leaves}
 use Rattle.cm_commit.specs.declared.journal.Journal.{Journal}
 use Rattle.cm_commit.specs.Offers.{MayCome, rows_after_group}
 use Rattle.cm_commit.specs.GroupPlans.{plan_of, whole_roots}
+use Rattle.cm_commit.specs.Trims.{roots_of_rows, trim_plan}
+
+-- what is under way: a group is stored, or the file is cut behind the roots that rows use
+pub data Work : Type 0 where
+  Storing : Handed → Work
+  Trimming : Work
 
 -- A committer: its disk; the region's sizes; the rows that are committed, each class with the words
 -- of its record; the number of the last command; the half of the journal that counts, the slot
--- where it ends and its epoch, and whether the gate of the other half is open; the group that is
--- under way, and the stages that are still to be gone through for it. It is broken once the device
--- failed.
+-- where it ends and its epoch, and whether the gate of the other half is open; what is under way,
+-- and the stages that are still to be gone through for it. It is broken once the device failed.
 pub record CommitterState (D : Type 0) : Type 0 where
   pub disk : D
   pub sizes : Sizes
@@ -27,7 +34,7 @@ pub record CommitterState (D : Type 0) : Type 0 where
   pub end : ℕ
   pub epoch : ℕ
   pub other_open : Bool
-  pub underway : Option Handed
+  pub underway : Option Work
   pub left : List Stage
   pub broken : Bool
 
@@ -42,6 +49,17 @@ journal_at s = record {
   number = s.number;
 }
 
+-- no group is
+abbrev pub NoGroup : Option Work → Type 0
+NoGroup None = Unit {0}
+NoGroup (Some Trimming) = Unit {0}
+NoGroup (Some (Storing group)) = ⊥
+
+-- neither broken nor busy
+pub record IsFree {D : Type 0} (s : CommitterState D) : Type 0 where
+  pub sound : s.broken ≡ false
+  pub idle : s.underway ≡ None
+
 -- a committer that is neither broken nor busy takes a group that may come next
 pub record Takes {D : Type 0} (s : CommitterState D) (group : Handed) : Type 0 where
   pub sound : s.broken ≡ false
@@ -49,12 +67,33 @@ pub record Takes {D : Type 0} (s : CommitterState D) (group : Handed) : Type 0 w
   pub next : MayCome s.sizes s.rows s.number group
 
 -- and goes through the stages of its plan from then on
-abbrev pub with_taken : {D : Type 0} → (D → List ℕ) → CommitterState D → Handed → CommitterState D
-with_taken contents s group = record s {
-  underway = Some group;
-  left = plan_of (journal_at s) (bare s.rows) (whole_roots s.sizes (length (contents s.disk)))
+abbrev pub with_taken : {D : Type 0} → View D → CommitterState D → Handed → CommitterState D
+with_taken view s group = record s {
+  underway = Some (Storing group);
+  left = plan_of (journal_at s) (bare s.rows) (whole_roots s.sizes (length (view.contents s.disk)))
       group.entries;
 }
+
+-- the file holds whole roots behind the last one that rows use, of those that it may have
+abbrev pub has_spare_roots : {D : Type 0} → View D → CommitterState D → Bool
+has_spare_roots view s =
+    nat_lt (roots_of_rows s.rows)
+    (min (whole_roots s.sizes (length (view.contents s.disk))) s.sizes.roots)
+
+-- these are cut off from then on
+abbrev pub with_trim : {D : Type 0} → CommitterState D → CommitterState D
+with_trim s =
+    record s { underway = Some Trimming; left = trim_plan s.sizes (roots_of_rows s.rows) }
+
+-- It is refused exactly to a committer that is broken or busy, and begins exactly where there are
+-- roots to spare.
+abbrev pub BeginsTrim : {D E : Type 0} → View D → CommitterState D → Result Bool E
+    → CommitterState D → Type 0
+BeginsTrim view old (Ok true) new =
+    IsFree old × (has_spare_roots view old ≡ true) × (new ≡ with_trim old)
+BeginsTrim view old (Ok false) new =
+    IsFree old × (has_spare_roots view old ≡ false) × (new ≡ old)
+BeginsTrim view old (Err e) new = (IsFree old → ⊥) × (new ≡ old)
 
 -- ---- what contents stand for
 
@@ -71,9 +110,10 @@ abbrev pub ShowsCommitted : {D : Type 0} → CommitterState D → List ℕ → T
 ShowsCommitted s contents = ShowsCache s.sizes s.rows s.number contents
 
 -- with the group that is under way, if there is one
-abbrev pub ShowsWith : {D : Type 0} → CommitterState D → Option Handed → List ℕ → Type 0
+abbrev pub ShowsWith : {D : Type 0} → CommitterState D → Option Work → List ℕ → Type 0
 ShowsWith s None contents = ShowsCommitted s contents
-ShowsWith s (Some group) contents =
+ShowsWith s (Some Trimming) contents = ShowsCommitted s contents
+ShowsWith s (Some (Storing group)) contents =
     ShowsCache s.sizes (rows_after_group s.rows group.entries) (s.number + length group.entries)
     contents
 

@@ -1,9 +1,9 @@
 -- The steps that a committer takes through a checkpoint and a group's plan.
-use Rattle.std.specs.Prelude.{◌≡◌, ℕ, ◌+◌, ◌*◌, ◌^◌, ◌<◌, ◌≤◌, Bool, true, false, List, []}
+use Rattle.std.specs.Prelude.{◌≡◌, ℕ, ◌+◌, ◌-◌, ◌*◌, ◌^◌, ◌<◌, ◌≤◌, Bool, true, false, List, []}
 use Rattle.std.specs.Prelude.{◌∷◌, ◌++◌, drop, Option}
 use Rattle.std.specs.Prelude.{Some, None, length}
 use Rattle.std.specs.List.{flat_map, AllByRecursion}
-use Rattle.cm_pool.specs.Geometry.{IsGeometry}
+use Rattle.cm_pool.specs.Geometry.{Sizes, IsGeometry}
 use Rattle.cm_pool.specs.declared.place.Place.{Place}
 use Rattle.cm_layout.specs.Offsets.{slot_at, half_at, root_size}
 use Rattle.cm_layout.specs.Slots.{open_gate, row_slot, entry_slot}
@@ -17,6 +17,8 @@ use Rattle.cm_commit.specs.declared.step.CommitStep.{CommitStep}
 use Rattle.cm_commit.specs.declared.step.CommitStep.TheVariants as step
 use Rattle.cm_commit.specs.declared.step.CheckpointStep.{CheckpointStep}
 use Rattle.cm_commit.specs.declared.step.CheckpointStep.TheVariants as checkpoint
+use Rattle.cm_commit.specs.declared.step.TrimStep.{TrimStep}
+use Rattle.cm_commit.specs.declared.step.TrimStep.TheVariants as trim
 use Rattle.cm_commit.specs.declared.step.PlanStep.{PlanStep}
 use Rattle.cm_commit.specs.declared.step.PlanStep.TheVariants as plan
 use Rattle.cm_guards.specs.Plans.{Write}
@@ -24,6 +26,8 @@ use Rattle.cm_guards.specs.Stages.{Stage, Store, Turn, Settle}
 use Rattle.cm_commit.specs.Checkpoints.{next_head, half_write, half_stages, checkpoint_of}
 use Rattle.cm_commit.specs.Checkpoints.{target_of}
 use Rattle.cm_commit.specs.GroupPlans.{writes_left, all_writes, roots_of_entries}
+use Rattle.cm_commit.specs.States.{Work, Storing, Trimming}
+use Rattle.cm_commit.specs.Trims.{trim_plan}
 
 -- the gate of the next group
 abbrev pub next_gate : Journal → ℕ
@@ -78,10 +82,43 @@ plan_left j rows roots group (plan.Checkpoint at) =
     checkpoint_left j rows at
     ++ stages_at (target_of j rows group.entries) group (step.Write roots 0)
 plan_left j rows roots group (plan.Group s) = stages_at (target_of j rows group.entries) group s
+plan_left j rows roots group (plan.Trim at) = []
+
+-- those of a trim that leaves so many roots
+abbrev pub trim_left : Sizes → ℕ → TrimStep → List Stage
+trim_left sizes roots trim.Cut = trim_plan sizes roots
+trim_left sizes roots trim.Sync = Store [] ∷ []
+
+-- and none at the end
+abbrev pub trim_rest : Sizes → ℕ → Option TrimStep → List Stage
+trim_rest sizes roots None = []
+trim_rest sizes roots (Some at) = trim_left sizes roots at
+
+-- where no group is under way, a trim may be
+abbrev pub ungrouped_left : Sizes → ℕ → PlanStep → List Stage
+ungrouped_left sizes roots (plan.Checkpoint at) = []
+ungrouped_left sizes roots (plan.Group s) = []
+ungrouped_left sizes roots (plan.Trim at) = trim_left sizes roots at
 
 abbrev pub stages_left : Journal → List BareRow → ℕ → Option Handed → PlanStep → List Stage
-stages_left j rows roots None s = []
+stages_left j rows roots None s = ungrouped_left j.geometry roots s
 stages_left j rows roots (Some group) s = plan_left j rows roots group s
+
+-- what is under way, by the group and the next step
+abbrev pub ungrouped_work : PlanStep → Option Work
+ungrouped_work (plan.Checkpoint at) = None
+ungrouped_work (plan.Group s) = None
+ungrouped_work (plan.Trim at) = Some Trimming
+
+abbrev pub work_of : Option Handed → PlanStep → Option Work
+work_of None s = ungrouped_work s
+work_of (Some group) s = Some (Storing group)
+
+-- the step isn't one of a trim
+abbrev pub is_trim : PlanStep → Bool
+is_trim (plan.Checkpoint at) = false
+is_trim (plan.Group s) = false
+is_trim (plan.Trim at) = true
 
 -- ---- what the writes of a checkpoint need
 
@@ -99,10 +136,17 @@ pub record FitsHalf (j : Journal) (rows : List BareRow) : Type 0 where
 abbrev pub AreSmall : ℕ → List (Place × List ℕ) → Type 0
 AreSmall size writes = AllByRecursion (λ w. 8 * length w.1 ≤ size) writes
 
--- the writes of a group fit the region, and a root has room for the bytes of each
+-- each lies at an offset of 32 bits
+abbrev pub HaveOffsets : List (Place × List ℕ) → Type 0
+HaveOffsets writes = AllByRecursion (λ w. w.0.offset < 2 ^ 32 - 1) writes
+
+-- the writes of a group fit the region, no more than can be counted, and a root has room for the
+-- bytes of each
 pub record FitsJournal (j : Journal) (group : Handed) : Type 0 where
   pub lawful : IsGeometry j.geometry
   pub small : AreSmall (root_size j.geometry) (all_writes group.entries)
+  pub few : length (all_writes group.entries) < 2 ^ 32
+  pub offsets : HaveOffsets (all_writes group.entries)
   pub roots : roots_of_entries (entries_in group.entries) ≤ j.geometry.roots
   pub number : j.number < 2 ^ 63
   pub room : j.end + slots_taken group.entries < j.geometry.slots

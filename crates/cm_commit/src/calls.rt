@@ -7,7 +7,7 @@ ghost use Rattle.cm_group.specs.Groups.{entries_in, group_limit};
 ghost use Rattle.cm_commit.specs.declared.step.CommitStep.TheVariants as step;
 ghost use Rattle.cm_guards.specs.Stages.{after_call};
 ghost use Rattle.cm_commit.specs.GroupPlans.{root_write, place_write, slots_write};
-ghost use Rattle.cm_guards.specs.Stages.{WritesOnce, CallsOnce, TakesWrite, TakesCall};
+ghost use Rattle.cm_guards.specs.Stages.{MakesWrite, CallsOnce, TakesWrite, TakesCall};
 ghost use Rattle.cm_guards.specs.Stages.{gate_write};
 ghost use Rattle.cm_commit.specs.Steps.{FitsJournal, next_gate, stages_at};
 
@@ -29,8 +29,8 @@ fn write_root<D: Disk>(
     root: u32,
 ) -> Result<(), DeviceFault>
     requires room { root_size geometry ≤ vec_capacity buffer.old }
-    requires fits { TakesWrite (root_write geometry root) (length (D.contents disk.old)) }
-    ensures written { WritesOnce D.contents D.unsynced D.failures D.moment D.left_since
+    requires fits { TakesWrite (root_write geometry root) (length (D.view.contents disk.old)) }
+    ensures written { MakesWrite D.view
         (root_write geometry root) disk.old disk.new result }
     ensures answered { D.called disk.old disk.new (is_ok result) }
     ensures room { vec_capacity buffer.old ≤ vec_capacity buffer.new }
@@ -49,8 +49,8 @@ fn write_record<D: Disk>(
 ) -> Result<(), DeviceFault>
     requires room { 8 * length class.now ≤ vec_capacity buffer.old }
     requires fits { TakesWrite (place_write geometry place class.now)
-        (length (D.contents disk.old)) }
-    ensures written { WritesOnce D.contents D.unsynced D.failures D.moment D.left_since
+        (length (D.view.contents disk.old)) }
+    ensures written { MakesWrite D.view
         (place_write geometry place class.now) disk.old disk.new result }
     ensures answered { D.called disk.old disk.new (is_ok result) }
     ensures room { vec_capacity buffer.old ≤ vec_capacity buffer.new }
@@ -69,8 +69,8 @@ fn write_slots<D: Disk>(
     requires room { root_size journal.geometry ≤ vec_capacity buffer.old }
     requires group { FitsJournal journal group.now }
     requires fits { TakesWrite (slots_write journal.geometry journal.half journal.end
-        journal.number (entries_in group.now.entries)) (length (D.contents disk.old)) }
-    ensures written { WritesOnce D.contents D.unsynced D.failures D.moment D.left_since
+        journal.number (entries_in group.now.entries)) (length (D.view.contents disk.old)) }
+    ensures written { MakesWrite D.view
         (slots_write journal.geometry journal.half journal.end journal.number
         (entries_in group.now.entries)) disk.old disk.new result }
     ensures answered { D.called disk.old disk.new (is_ok result) }
@@ -94,8 +94,8 @@ fn write_next<D: Disk>(
     requires room { root_size journal.geometry ≤ vec_capacity buffer.old }
     requires group { FitsJournal journal group.now }
     requires fits { TakesCall (stages_at journal group.now (step.Write roots from))
-        (length (D.contents disk.old)) }
-    ensures called { CallsOnce D.contents D.unsynced D.failures D.moment D.left_since
+        (length (D.view.contents disk.old)) }
+    ensures called { CallsOnce D.view
         (stages_at journal group.now (step.Write roots from)) disk.old disk.new result }
     ensures answered { D.called disk.old disk.new (is_ok result) }
     ensures next { IfOk result (λ s. stages_at journal group.now s
@@ -127,8 +127,8 @@ fn write_next<D: Disk>(
 /// Writes the byte of a group's gate.
 fn write_gate<D: Disk>(disk: &mut D, journal: Journal) -> Result<(), DeviceFault>
     requires fits { TakesWrite (gate_write (next_gate journal) open_gate)
-        (length (D.contents disk.old)) }
-    ensures written { WritesOnce D.contents D.unsynced D.failures D.moment D.left_since
+        (length (D.view.contents disk.old)) }
+    ensures written { MakesWrite D.view
         (gate_write (next_gate journal) open_gate) disk.old disk.new result }
     ensures answered { D.called disk.old disk.new (is_ok result) }
 {
@@ -147,8 +147,9 @@ pub(crate) fn make_group_call<D: Disk>(
 ) -> Result<CommitStep, DeviceFault>
     requires room { root_size journal.geometry ≤ vec_capacity buffer.old }
     requires group { FitsJournal journal group.now }
-    requires fits { TakesCall (stages_at journal group.now now) (length (D.contents disk.old)) }
-    ensures called { CallsOnce D.contents D.unsynced D.failures D.moment D.left_since
+    requires fits { TakesCall (stages_at journal group.now now)
+        (length (D.view.contents disk.old)) }
+    ensures called { CallsOnce D.view
         (stages_at journal group.now now) disk.old disk.new result }
     ensures answered { D.called disk.old disk.new (is_ok result) }
     ensures next { IfOk result (λ s. stages_at journal group.now s

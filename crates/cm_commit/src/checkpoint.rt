@@ -5,7 +5,7 @@ ghost use Rattle.std.specs.Arc.{arc_value};
 ghost use Rattle.cm_layout.specs.Offsets.{half_size};
 ghost use Rattle.cm_layout.specs.Rows.{bare, rows_with};
 ghost use Rattle.cm_layout.specs.Slots.{open_gate};
-ghost use Rattle.cm_guards.specs.Stages.{WritesOnce, CallsOnce, TakesWrite, TakesCall, after_call};
+ghost use Rattle.cm_guards.specs.Stages.{MakesWrite, CallsOnce, TakesWrite, TakesCall, after_call};
 ghost use Rattle.cm_guards.specs.Stages.{gate_write, calls_left};
 ghost use Rattle.cm_layout.specs.declared.row.Row.{Row};
 ghost use Rattle.cm_commit.specs.declared.journal.Journal.{Journal};
@@ -36,8 +36,8 @@ fn half_gate(journal: &Journal) -> u64
 /// Writes a byte to the gate of the half that doesn't count.
 fn write_gate<D: Disk>(disk: &mut D, journal: &Journal, byte: u8) -> Result<(), DeviceFault>
     requires fits { TakesWrite (gate_write (gate_of journal.now) byte)
-        (length (D.contents disk.old)) }
-    ensures written { WritesOnce D.contents D.unsynced D.failures D.moment D.left_since
+        (length (D.view.contents disk.old)) }
+    ensures written { MakesWrite D.view
         (gate_write (gate_of journal.now) byte) disk.old disk.new result }
     ensures answered { D.called disk.old disk.new (is_ok result) }
 {
@@ -48,9 +48,9 @@ fn write_gate<D: Disk>(disk: &mut D, journal: &Journal, byte: u8) -> Result<(), 
 /// over, since a crash could leave it open: a sync comes in place of that.
 fn shut<D: Disk>(disk: &mut D, journal: &Journal) -> Result<(), DeviceFault>
     requires fits { (rows : List (Row (Unit {0}))) → TakesCall
-        (checkpoint_left journal.now rows checkpoint.Shut) (length (D.contents disk.old)) }
-    ensures called { (rows : List (Row (Unit {0}))) → CallsOnce D.contents D.unsynced D.failures
-        D.moment D.left_since (checkpoint_left journal.now rows checkpoint.Shut) disk.old disk.new
+        (checkpoint_left journal.now rows checkpoint.Shut) (length (D.view.contents disk.old)) }
+    ensures called { (rows : List (Row (Unit {0}))) → CallsOnce D.view
+        (checkpoint_left journal.now rows checkpoint.Shut) disk.old disk.new
         result }
     ensures answered { D.called disk.old disk.new (is_ok result) }
 {
@@ -72,8 +72,8 @@ fn write_half<D: Disk>(
     requires half { FitsHalf journal.now (bare (rows_with arc_value rows.now.rows)) }
     requires fits { TakesWrite
         (renewed_write journal.now (bare (rows_with arc_value rows.now.rows)))
-        (length (D.contents disk.old)) }
-    ensures written { WritesOnce D.contents D.unsynced D.failures D.moment D.left_since
+        (length (D.view.contents disk.old)) }
+    ensures written { MakesWrite D.view
         (renewed_write journal.now (bare (rows_with arc_value rows.now.rows))) disk.old disk.new
         result }
     ensures answered { D.called disk.old disk.new (is_ok result) }
@@ -96,8 +96,8 @@ pub(crate) fn make_checkpoint_call<D: Disk>(
     requires room { half_size journal.now.geometry ≤ vec_capacity buffer.old }
     requires half { FitsHalf journal.now (bare (rows_with arc_value rows.now.rows)) }
     requires fits { TakesCall (checkpoint_left journal.now
-        (bare (rows_with arc_value rows.now.rows)) now) (length (D.contents disk.old)) }
-    ensures called { CallsOnce D.contents D.unsynced D.failures D.moment D.left_since
+        (bare (rows_with arc_value rows.now.rows)) now) (length (D.view.contents disk.old)) }
+    ensures called { CallsOnce D.view
         (checkpoint_left journal.now (bare (rows_with arc_value rows.now.rows)) now) disk.old
         disk.new result }
     ensures answered { D.called disk.old disk.new (is_ok result) }

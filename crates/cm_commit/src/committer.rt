@@ -2,7 +2,7 @@
 
 ghost use Rattle.std.specs.Prelude.{◌≡◌, ◌≤◌, ◌<◌, ◌+◌, ◌^◌, ◌↔◌, IfOk, IfErr, IsTrue, IsOk, OnOk};
 ghost use Rattle.std.specs.Prelude.{OnErr, Some, None, [], true, false, vec_capacity, length};
-ghost use Rattle.std.specs.Prelude.{if◌then◌else◌};
+ghost use Rattle.std.specs.Prelude.{if◌then◌else◌, is_some};
 ghost use Rattle.std.specs.Arc.{arc_value};
 ghost use Rattle.cm_guards.specs.Guards.{EachImage};
 ghost use Rattle.cm_guards.specs.Calls.{LeavesOnly};
@@ -13,8 +13,10 @@ ghost use Rattle.cm_commit.specs.Checkpoints.{is_due_at};
 ghost use Rattle.cm_commit.specs.Offers.{rows_after_group};
 ghost use Rattle.cm_commit.specs.GroupPlans.{roots_of_entries, roots_to_add, all_writes};
 ghost use Rattle.cm_commit.specs.Keeping.{keep_rules};
-ghost use Rattle.cm_commit.specs.States.{MayLeave, Takes, with_taken};
-ghost use Rattle.cm_commit.specs.Advances.{Advances, CallsDevice, HasRisen};
+ghost use Rattle.cm_commit.specs.States.{MayLeave, Takes, with_taken, NoGroup};
+ghost use Rattle.cm_commit.specs.States.{BeginsTrim};
+ghost use Rattle.cm_commit.specs.Advances.{Advances, CallsDevice, EndsBehind, HasRisen};
+ghost use Rattle.cm_commit.specs.Trims.{roots_of_rows};
 ghost use Rattle.cm_layout.specs.Rows.{bare, rows_with};
 ghost use Rattle.cm_commit.specs.Keeps.{IsHeld, most_written, roots_then};
 
@@ -24,8 +26,9 @@ use crate::joining::take_group;
 use crate::journal::{Journal, target_of};
 use crate::mismatch::Mismatch;
 use crate::plan::{calls_at, first_step, is_done, make_call};
-use crate::progress::{AdvanceFault, Progress};
-use crate::step::{CommitStep, PlanStep};
+use crate::progress::{AdvanceFault, NotIdle, Progress};
+use crate::step::{CommitStep, PlanStep, TrimStep};
+use crate::trim::{is_trim, make_trim_call, trim_calls, used_roots};
 use cm_disk::{Disk, SimDisk};
 use cm_group::{Group, Receipt};
 use cm_layout::{half_bytes, root_bytes};
@@ -41,8 +44,8 @@ use std::sync::Arc;
 /// then stored by one device call after another. All memory that it will ever need is taken when it
 /// is made.
 ///
-/// Contracts see a committer as its disk, what is committed, the group that is under way, and the
-/// stages of it that are left.
+/// Contracts see a committer as its disk, what is committed, what is under way, and the stages of
+/// it that are left.
 #[derive(Drop)]
 pub struct Committer<D: Disk> {
     disk: D,
@@ -51,8 +54,10 @@ pub struct Committer<D: Disk> {
     rows: Book<Arc<Record, Global>>,
     /// The same rows, with nothing kept; while a group is under way, those after it.
     next: Book<()>,
-    /// How many whole roots the file had when the last group was done.
+    /// How many whole roots the file had when the last group was done; while it is trimmed, how
+    /// many are left of them.
     roots: u32,
+    /// The group that is under way.
     group: Option<Group>,
     step: PlanStep,
     is_broken: bool,
@@ -65,7 +70,7 @@ impl<D: Disk> Model for Committer<D> {
     ghost use Rattle.std.specs.Arc.{arc_value};
     ghost use Rattle.cm_layout.specs.Rows.{bare, rows_with};
     ghost use Rattle.cm_commit.specs.States.{CommitterState};
-    ghost use Rattle.cm_commit.specs.Steps.{stages_left};
+    ghost use Rattle.cm_commit.specs.Steps.{stages_left, work_of};
     ghost use Rattle.cm_commit.specs.Keeps.{IsCommitter};
 
     ghost Value = { CommitterState D };
@@ -79,12 +84,12 @@ impl<D: Disk> Model for Committer<D> {
       end = c.journal.end;
       epoch = c.journal.epoch;
       other_open = c.journal.other_open;
-      underway = c.group;
+      underway = work_of c.group c.step;
       left = stages_left c.journal (bare (rows_with arc_value c.rows.rows)) c.roots c.group c.step;
       broken = c.is_broken;
     } };
 
-    ghost invariant = { λ c. IsCommitter D.contents D.unsynced
+    ghost invariant = { λ c. IsCommitter D.view
         (record {
           disk = c.disk;
           sizes = c.journal.geometry;
@@ -94,7 +99,7 @@ impl<D: Disk> Model for Committer<D> {
           end = c.journal.end;
           epoch = c.journal.epoch;
           other_open = c.journal.other_open;
-          underway = c.group;
+          underway = work_of c.group c.step;
           left = stages_left c.journal (bare (rows_with arc_value c.rows.rows)) c.roots c.group
               c.step;
           broken = c.is_broken;
@@ -172,7 +177,7 @@ impl<D: Disk> Committer<D> {
         roots: u32,
     ) -> Result<Committer<D>, NotMade<D>>
         requires sizes { rows.sizes ≡ journal.geometry }
-        requires held { IsHeld (D.contents disk) (D.unsynced disk) journal
+        requires held { IsHeld (D.view.contents disk) (D.view.unsynced disk) journal
             (rows_with arc_value rows.rows) roots }
         ensures made { IfOk result (λ c. c ≡ record {
           disk = disk;
@@ -205,20 +210,28 @@ impl<D: Disk> Committer<D> {
         })
     }
 
+    /// Whether anything is under way.
+    fn is_busy(&self) -> bool
+        ensures { result ≡ is_some self.now.underway }
+    {
+        self.group.is_some() || is_trim(self.step)
+    }
+
     /// Takes a group, which is stored from then on by [`Committer::advance`]. No device call is
     /// made, and no memory is taken.
     ///
     /// The group is handed back, and nothing is changed, exactly where the committer is broken or
     /// busy, where the group doesn't begin one past the committer's number, and where an entry may
     /// not join: it breaks a rule, writes into a chunk that committed rows use (but behind the
-    /// records on its loader's last one), makes a class that its loader has by then, carries other
-    /// records than it needs, or is a move. Where the half of the journal that counts has no room
-    /// for it, a checkpoint comes first, which takes six device calls.
+    /// records on its loader's last one), makes a class that its loader has by then, or carries
+    /// other records than it needs: a class's own, and those on the old chunk for a move. Where the
+    /// half of the journal that counts has no room for it, a checkpoint comes first, which takes
+    /// six device calls.
     pub fn offer(&mut self, group: Group) -> Result<(), Mismatch>
         ensures takes { IsOk result ↔ Takes self.old group }
-        ensures taken { OnOk result (self.new ≡ with_taken D.contents self.old group) }
+        ensures taken { OnOk result (self.new ≡ with_taken D.view self.old group) }
         ensures steps { OnOk result (calls_left self.new.left
-            ≡ 4 + roots_to_add self.old.sizes (length (D.contents self.old.disk))
+            ≡ 4 + roots_to_add self.old.sizes (length (D.view.contents self.old.disk))
             (entries_in group.entries)
             + length (all_writes group.entries)
             + (if is_due_at self.old.sizes self.old.end group.entries then 6 else 0)) }
@@ -228,7 +241,7 @@ impl<D: Disk> Committer<D> {
         if self.is_broken {
             return Err(Mismatch { group });
         }
-        if self.group.is_some() {
+        if self.is_busy() {
             return Err(Mismatch { group });
         }
         if !take_group(&self.journal, &mut self.rows, &mut self.next, &group) {
@@ -237,6 +250,32 @@ impl<D: Disk> Committer<D> {
         self.step = first_step(&self.journal, self.roots, &group);
         self.group = Some(group);
         Ok(())
+    }
+
+    /// Begins to cut the file behind the last root that committed rows use, where it holds whole
+    /// roots behind that, of those that it may have: two calls of [`Committer::advance`] are due
+    /// then. It is `false` where there is nothing to cut, and refused exactly where the committer
+    /// is broken or busy. No device call is made, and no memory is taken.
+    pub fn trim(&mut self) -> Result<bool, NotIdle>
+        ensures { BeginsTrim D.view self.old result self.new }
+    {
+        if self.is_broken || self.is_busy() {
+            return Err(NotIdle);
+        }
+        let used = self.roots();
+        if used >= self.roots.min(self.journal.geometry.roots()) {
+            return Ok(false);
+        }
+        self.roots = used;
+        self.step = PlanStep::Trim(TrimStep::Cut);
+        Ok(true)
+    }
+
+    /// How many roots committed rows use: one more than the greatest. A trim leaves these.
+    pub fn roots(&self) -> u32
+        ensures { result ≡ roots_of_rows self.now.rows }
+    {
+        used_roots(&self.rows)
     }
 
     /// Makes the next device call of the group that is under way, exactly one where any is left:
@@ -249,18 +288,24 @@ impl<D: Disk> Committer<D> {
     /// A checkpoint writes the other half of the journal anew, with the live rows: a write of 0 to
     /// its gate, where that is open, or else a sync; a sync; the write of the half behind its gate;
     /// a sync; the write of its gate's byte; a sync. It leaves what is committed as it is.
+    ///
+    /// A trim takes a cut of the file and a sync, and leaves what is committed as it is. The second
+    /// of them returns how many roots the file has then.
     pub fn advance(&mut self) -> Result<Progress, AdvanceFault>
         ensures moved { Advances self.old result self.new }
-        ensures any_moment { LeavesOnly D.moment D.left_since self.old.disk self.new.disk
+        ensures any_moment { LeavesOnly D.view self.old.disk self.new.disk
             (MayLeave self.old) }
-        ensures cause { HasRisen (D.failures self.old.disk) (D.failures self.new.disk) result }
+        ensures cause { HasRisen (D.view.failures self.old.disk) (D.view.failures self.new.disk)
+            result }
         ensures call { CallsDevice D.called self.old.disk result self.new.disk }
+        ensures trimmed { EndsBehind self.new.sizes (D.view.contents self.new.disk)
+            (D.view.unsynced self.new.disk) result }
     {
         if self.is_broken {
             return Err(AdvanceFault::Broken);
         }
         let Some(group) = &self.group else {
-            return Ok(Progress::Idle);
+            return self.advance_trim();
         };
         let called = make_call(
             &mut self.disk,
@@ -291,10 +336,39 @@ impl<D: Disk> Committer<D> {
         Ok(Progress::Done(receipt))
     }
 
+    /// Makes the next device call of a trim, where one is under way.
+    fn advance_trim(&mut self) -> Result<Progress, AdvanceFault>
+        requires sound { self.old.broken ≡ false }
+        requires ungrouped { NoGroup self.old.underway }
+        ensures moved { Advances self.old result self.new }
+        ensures any_moment { LeavesOnly D.view self.old.disk self.new.disk
+            (MayLeave self.old) }
+        ensures cause { HasRisen (D.view.failures self.old.disk) (D.view.failures self.new.disk)
+            result }
+        ensures call { CallsDevice D.called self.old.disk result self.new.disk }
+        ensures trimmed { EndsBehind self.new.sizes (D.view.contents self.new.disk)
+            (D.view.unsynced self.new.disk) result }
+    {
+        let PlanStep::Trim(at) = self.step else {
+            return Ok(Progress::Idle);
+        };
+        let called = make_trim_call(&mut self.disk, self.journal.geometry, self.roots, at);
+        let Ok(next) = called else {
+            self.is_broken = true;
+            return Err(AdvanceFault::Device);
+        };
+        if let Some(at) = next {
+            self.step = PlanStep::Trim(at);
+            return Ok(Progress::Working);
+        }
+        self.step = PlanStep::Group(CommitStep::Done);
+        Ok(Progress::Trimmed(self.roots))
+    }
+
     /// Does nothing: its clause says what a crash leaves now. That is the cache that is committed,
     /// or, once the gate's byte may be written, that or the one with the group that is under way.
     pub fn images(&self)
-        ensures { EachImage (D.contents self.now.disk) (D.unsynced self.now.disk)
+        ensures { EachImage (D.view.contents self.now.disk) (D.view.unsynced self.now.disk)
             (MayLeave self.now) }
     {
         let _broken = self.is_broken; // so the proof knows what the committer keeps
@@ -308,7 +382,7 @@ impl<D: Disk> Committer<D> {
             return 0;
         }
         let Some(group) = &self.group else {
-            return 0;
+            return trim_calls(self.step);
         };
         calls_at(self.step, self.roots, group.entries())
     }

@@ -1,13 +1,13 @@
 //! What the entries of a group write.
 
-ghost use Rattle.std.specs.Prelude.{◌≡◌, ◌<◌, ◌≤◌, ◌+◌, ◌^◌, Some, None, IfSome, MatchOption};
+ghost use Rattle.std.specs.Prelude.{◌≡◌, ◌<◌, ◌≤◌, ◌+◌, ◌^◌, Some, None, MatchOption};
 ghost use Rattle.std.specs.Prelude.{length, ℕ};
 ghost use Rattle.std.specs.List.{slice_get};
 ghost use Rattle.cm_commit.specs.declared.journal.Journal.{Journal};
 ghost use Rattle.cm_guards.specs.Stages.{calls_left};
 ghost use Rattle.cm_commit.specs.GroupPlans.{writes_of, all_writes};
 ghost use Rattle.cm_commit.specs.GroupPlans.{roots_of_entry, roots_of_entries};
-ghost use Rattle.cm_commit.specs.Steps.{stages_at};
+ghost use Rattle.cm_commit.specs.Steps.{stages_at, HaveOffsets};
 ghost use Rattle.cm_group.specs.Groups.{entries_in};
 
 use crate::step::CommitStep;
@@ -42,33 +42,48 @@ pub(crate) fn roots_needed(entries: &[CarriedEntry]) -> u32
 
 /// The record of this number among those that an entry writes, with its place.
 fn write_of(carried: &CarriedEntry, number: usize) -> Option<(Place, &Record)>
+    requires { HaveOffsets (writes_of carried.now.entry carried.now.moved) }
     ensures { MatchOption result
         (slice_get (writes_of carried.now.entry carried.now.moved) number ≡ None)
         (λ w. slice_get (writes_of carried.now.entry carried.now.moved) number
         ≡ Some (w.0, w.1.now)) }
 {
-    match carried.class_made() {
-        Some((row, class)) if number == 0 => Some((row.place, class)),
-        _ => None,
+    if let Some((row, class)) = carried.class_made() {
+        return if number == 0 {
+            Some((row.place, class))
+        } else {
+            None
+        };
     }
+    let Entry::Move(entry) = carried.bare() else {
+        return None;
+    };
+    let (offset, class) = carried.moved_at(number)?;
+    let place = Place {
+        chunk: entry.to,
+        offset,
+        words: class.words(),
+    };
+    Some((place, class))
 }
 
 /// How many records an entry writes.
 fn writes_in(carried: &CarriedEntry) -> usize
-    ensures value { result ≡ length (writes_of carried.now.entry carried.now.moved) }
-    ensures few { result ≤ 1 }
+    ensures { result ≡ length (writes_of carried.now.entry carried.now.moved) }
 {
-    match carried.class_made() {
-        Some(_) => 1,
-        None => 0,
+    match carried.bare() {
+        Entry::Live(Row::Class(_, ())) => 1,
+        Entry::Move(_) => carried.moved().len(),
+        Entry::Live(Row::Loader(_)) | Entry::Unload(_) => 0,
     }
 }
 
-/// The record of this number among those that entries write, with its place.
+/// The record of this number among those that entries write, with its place. A group has few
+/// entries, and none of them is gone through.
 pub(crate) fn nth_write(entries: &[CarriedEntry], number: usize) -> Option<(Place, &Record)>
+    requires { HaveOffsets (all_writes entries.now) }
     ensures found { MatchOption result (slice_get (all_writes entries.now) number ≡ None)
         (λ w. slice_get (all_writes entries.now) number ≡ Some (w.0, w.1.now)) }
-    ensures within { IfSome result (λ w. number < length entries.now) }
 {
     let mut left = number;
     for carried in entries {
@@ -82,8 +97,8 @@ pub(crate) fn nth_write(entries: &[CarriedEntry], number: usize) -> Option<(Plac
 
 /// How many records entries write.
 fn all_writes(entries: &[CarriedEntry]) -> usize
-    ensures value { result ≡ length (all_writes entries.now) }
-    ensures few { result ≤ length entries.now }
+    requires { length (all_writes entries.now) < 2 ^ 32 }
+    ensures { result ≡ length (all_writes entries.now) }
 {
     let mut count = 0;
     for carried in entries {
@@ -95,10 +110,11 @@ fn all_writes(entries: &[CarriedEntry]) -> usize
 /// How many device calls of a group with these entries are left at a step, those of a checkpoint
 /// left out.
 pub(crate) fn group_calls(now: CommitStep, entries: &[CarriedEntry]) -> u64
-    requires { roots_of_entries (entries_in entries.now) < 2 ^ 32 }
+    requires roots { roots_of_entries (entries_in entries.now) < 2 ^ 32 }
+    requires few { length (all_writes entries.now) < 2 ^ 32 }
     ensures calls { (j : Journal) (first learnt : ℕ) → result ≡ calls_left (stages_at j
         (record { first = first; learnt = learnt; entries = entries.now }) now) }
-    ensures few { result ≤ 2 ^ 32 + length entries.now + 4 }
+    ensures few { result ≤ 2 ^ 33 + 4 }
 {
     match now {
         CommitStep::Write { roots, from } => {

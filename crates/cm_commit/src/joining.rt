@@ -1,7 +1,7 @@
 //! Whether the entries of a group may join what is committed.
 
 ghost use Rattle.std.specs.Prelude.{◌≡◌, ◌≤◌, ◌+◌, ◌^◌, ◌&&◌, ◌==◌, ◌↔◌, IsTrue, true, nat_le};
-ghost use Rattle.std.specs.Prelude.{nat_lt, length, is_none, [], if◌then◌else◌};
+ghost use Rattle.std.specs.Prelude.{nat_lt, length, is_none, [], map, if◌then◌else◌};
 ghost use Rattle.std.specs.Arc.{arc_value};
 ghost use Rattle.std.specs.List.{list_all, list_any, AllByRecursion};
 ghost use Rattle.std.specs.Str.{bytes_eq};
@@ -12,13 +12,14 @@ ghost use Rattle.cm_layout.specs.Rules.{is_last_chunk};
 ghost use Rattle.cm_state.specs.State.{words_show, class_among};
 ghost use Rattle.cm_state.specs.Entries.{AreCacheRows};
 ghost use Rattle.cm_group.specs.Groups.{IsGroup, entries_in, slots_taken};
-ghost use Rattle.cm_commit.specs.Offers.{has_own, carries_own, writes_apart, MayCome};
+ghost use Rattle.cm_commit.specs.Offers.{carries_own, writes_apart, MayCome};
 ghost use Rattle.cm_commit.specs.Joining.{makes_class, is_new, are_new, is_inside, are_inside};
 ghost use Rattle.cm_commit.specs.Joining.{are_apart, may_join};
 ghost use Rattle.cm_commit.specs.Laws.{AreTold, TellsWords};
 
 use crate::applying::apply_all;
 use crate::journal::Journal;
+use crate::moving::all_move_them;
 use cm_group::{CarriedEntry, Group};
 use cm_layout::{ClassRow, Entry, Row};
 use cm_record::{Record, words_tell_name};
@@ -35,26 +36,31 @@ fn has_words(class: &Record, words: u32) -> bool
     class.words() == words
 }
 
-/// Whether a class's record has as many words as its row says. No move is taken yet.
-fn has_own(carried: &CarriedEntry) -> bool
-    ensures own { result ≡ has_own carried.now.entry }
-    ensures told { IsTrue result → TellsWords carried.now }
+/// Does nothing when it runs: the bytes of each record's words tell these again.
+fn tell_words(records: &[Arc<Record, Global>])
+    ensures { AllByRecursion AreTold (map arc_value records.now) }
 {
-    match carried.class_made() {
-        Some((row, class)) => has_words(class, row.place.words),
-        None => match carried.bare() {
-            Entry::Live(_) | Entry::Unload(_) => true,
-            Entry::Move(_) => false,
-        },
+    for record in records {
+        record.bytes_tell_words();
     }
 }
 
-/// Whether an entry carries the records that it needs.
+/// Whether an entry carries the records that it needs: a class's own, which has as many words as
+/// its row says, and beside a move any, which [`moves_them`] looks at.
 fn carries_own(carried: &CarriedEntry) -> bool
     ensures own { result ≡ carries_own carried.now }
     ensures told { IsTrue result → TellsWords carried.now }
 {
-    carried.moved().is_empty() && has_own(carried)
+    if let Some((row, class)) = carried.class_made() {
+        return carried.moved().is_empty() && has_words(class, row.place.words);
+    }
+    match carried.bare() {
+        Entry::Live(_) | Entry::Unload(_) => carried.moved().is_empty(),
+        Entry::Move(_) => {
+            tell_words(carried.moved());
+            true
+        }
+    }
 }
 
 /// Whether each entry carries the records that it needs.
@@ -241,7 +247,8 @@ pub(crate) fn take_group(
     if !goes_on(number, group) {
         return false;
     }
-    let joins = may_join(rows, next, number, group.entries());
+    let entries = group.entries();
+    let joins = may_join(rows, next, number, entries) && all_move_them(rows, entries);
     if !joins {
         next.copy_from(rows);
     }

@@ -3,6 +3,7 @@
 ghost use Rattle.cm_commit.specs.Laws.{PlansHaveSteps, CommittedIsGuarded, GroupsTurn};
 ghost use Rattle.cm_commit.specs.Laws.{ShutHalvesMayChange, OtherHalvesShut, OthersAreTold};
 ghost use Rattle.cm_commit.specs.Laws.{WrittenHalvesOpen, CheckpointsRenew, GroupsGoThrough};
+ghost use Rattle.cm_commit.specs.Laws.{TrimsStand};
 
 /// A group takes four device calls, one more for each root by which the file grows, one more for
 /// each record that it writes, and six more for a checkpoint where the half that counts has no room
@@ -60,4 +61,10 @@ pub fn checkpoints_renew()
 /// what is committed stands at each moment.
 pub fn groups_go_through()
     ensures { GroupsGoThrough }
+{}
+
+/// The file may be cut behind the last root that rows use: at each moment of the cut and of the
+/// sync behind it what is committed stands, and at their end the file has those roots and no more.
+pub fn trims_stand()
+    ensures { TrimsStand }
 {}

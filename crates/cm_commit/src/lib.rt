@@ -11,15 +11,17 @@ mod joining;
 mod journal;
 mod laws;
 mod mismatch;
+mod moving;
 mod plan;
 mod progress;
 mod step;
+mod trim;
 
 pub use committer::{Committer, NotMade};
 pub use journal::Journal;
 pub use laws::{
     checkpoints_renew, committed_is_guarded, groups_go_through, groups_turn, other_halves_shut,
-    others_are_told, plans_have_steps, shut_halves_may_change, written_halves_open,
+    others_are_told, plans_have_steps, shut_halves_may_change, trims_stand, written_halves_open,
 };
 pub use mismatch::Mismatch;
-pub use progress::{AdvanceFault, Progress};
+pub use progress::{AdvanceFault, NotIdle, Progress};

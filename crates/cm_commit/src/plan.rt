@@ -1,19 +1,19 @@
 //! The device calls that a group takes, those of a checkpoint before it among them.
 
 ghost use Rattle.std.specs.Prelude.{◌≡◌, ◌≤◌, ◌<◌, ◌^◌, ◌↔◌, IfOk, IsTrue, is_ok, length};
-ghost use Rattle.std.specs.Prelude.{vec_capacity, ℕ, List};
+ghost use Rattle.std.specs.Prelude.{vec_capacity, ℕ, List, false};
 ghost use Rattle.std.specs.Arc.{arc_value};
 ghost use Rattle.cm_layout.specs.declared.row.Row.{Row};
 ghost use Rattle.cm_layout.specs.Rows.{bare, rows_with};
 ghost use Rattle.cm_guards.specs.Stages.{CallsOnce, TakesCall, after_call, calls_left};
-ghost use Rattle.cm_group.specs.Groups.{entries_in, group_limit};
+ghost use Rattle.cm_group.specs.Groups.{entries_in};
 ghost use Rattle.cm_commit.specs.declared.journal.Journal.{Journal};
 ghost use Rattle.cm_commit.specs.declared.step.CommitStep.TheVariants as step;
 ghost use Rattle.cm_commit.specs.declared.step.PlanStep.TheVariants as plan;
 ghost use Rattle.cm_commit.specs.Checkpoints.{target_of as target};
-ghost use Rattle.cm_commit.specs.GroupPlans.{plan_of, roots_of_entries};
+ghost use Rattle.cm_commit.specs.GroupPlans.{plan_of, roots_of_entries, all_writes};
 ghost use Rattle.cm_commit.specs.Keeps.{most_written};
-ghost use Rattle.cm_commit.specs.Steps.{FitsHalf, FitsJournal, plan_left};
+ghost use Rattle.cm_commit.specs.Steps.{FitsHalf, FitsJournal, plan_left, is_trim};
 
 use crate::calls::make_group_call;
 use crate::checkpoint::{checkpoint_calls, make_checkpoint_call};
@@ -66,8 +66,8 @@ pub(crate) fn make_call<D: Disk>(
     requires group { FitsJournal (target journal.now (bare (rows_with arc_value rows.now.rows))
         group.now.entries) group.now }
     requires fits { TakesCall (plan_left journal.now (bare (rows_with arc_value rows.now.rows))
-        roots group.now now) (length (D.contents disk.old)) }
-    ensures called { CallsOnce D.contents D.unsynced D.failures D.moment D.left_since
+        roots group.now now) (length (D.view.contents disk.old)) }
+    ensures called { CallsOnce D.view
         (plan_left journal.now (bare (rows_with arc_value rows.now.rows)) roots group.now now)
         disk.old disk.new result }
     ensures answered { D.called disk.old disk.new (is_ok result) }
@@ -75,6 +75,7 @@ pub(crate) fn make_call<D: Disk>(
         (bare (rows_with arc_value rows.now.rows)) roots group.now s
         ≡ after_call (plan_left journal.now (bare (rows_with arc_value rows.now.rows)) roots
         group.now now)) }
+    ensures of_group { IfOk result (λ s. is_trim s ≡ false) }
     ensures room { vec_capacity buffer.old ≤ vec_capacity buffer.new }
 {
     match now {
@@ -87,6 +88,7 @@ pub(crate) fn make_call<D: Disk>(
             let next = make_group_call(disk, buffer, target, group, at)?;
             Ok(PlanStep::Group(next))
         }
+        PlanStep::Trim(_) => Ok(now),
     }
 }
 
@@ -96,7 +98,7 @@ pub(crate) fn is_done(now: PlanStep) -> bool
 {
     match now {
         PlanStep::Group(CommitStep::Done) => true,
-        PlanStep::Group(_) | PlanStep::Checkpoint(_) => false,
+        PlanStep::Group(_) | PlanStep::Checkpoint(_) | PlanStep::Trim(_) => false,
     }
 }
 
@@ -104,7 +106,7 @@ pub(crate) fn is_done(now: PlanStep) -> bool
 /// many whole roots before it.
 pub(crate) fn calls_at(now: PlanStep, roots: u32, entries: &[CarriedEntry]) -> u64
     requires roots { roots_of_entries (entries_in entries.now) < 2 ^ 32 }
-    requires few { length entries.now ≤ group_limit }
+    requires few { length (all_writes entries.now) < 2 ^ 32 }
     ensures { (j : Journal) (rows : List (Row (Unit {0}))) (first learnt : ℕ)
         → result ≡ calls_left (plan_left j rows roots
         (record { first = first; learnt = learnt; entries = entries.now }) now) }
@@ -115,5 +117,6 @@ pub(crate) fn calls_at(now: PlanStep, roots: u32, entries: &[CarriedEntry]) -> u
             checkpoint_calls(at) + group
         }
         PlanStep::Group(at) => group_calls(at, entries),
+        PlanStep::Trim(_) => 0,
     }
 }

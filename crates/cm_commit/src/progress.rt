@@ -12,7 +12,16 @@ pub enum Progress {
     Working,
     /// The last device call of a group was made: it is stored.
     Done(Receipt),
+    /// The last device call of a trim was made: the file has so many roots, which are those that
+    /// committed rows use.
+    Trimmed(u32),
 }
+
+/// A committer that isn't trimmed, since it is broken, or something is under way. Nothing is
+/// changed.
+#[derive(Clone, Copy, Debug, PartialEq, Eq, Error)]
+#[error("the committer is broken or busy")]
+pub struct NotIdle;
 
 /// Why a committer isn't advanced.
 #[derive(Clone, Copy, Debug, PartialEq, Eq, Error)]

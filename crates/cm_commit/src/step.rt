@@ -1,4 +1,4 @@
-//! How far a checkpoint is written, and a group stored.
+//! How far a checkpoint is written, a group stored, and a file trimmed.
 
 /// What the next device call of a group is.
 #[derive(Clone, Copy, Debug, PartialEq, Eq)]
@@ -33,6 +33,15 @@ pub(crate) enum CheckpointStep {
     SyncOpened,
 }
 
+/// What the next device call of a trim is.
+#[derive(Clone, Copy, Debug, PartialEq, Eq)]
+pub(crate) enum TrimStep {
+    /// The cut of the file behind the roots that rows use.
+    Cut,
+    /// The sync behind it.
+    Sync,
+}
+
 /// What the next device call is.
 #[derive(Clone, Copy, Debug, PartialEq, Eq)]
 pub(crate) enum PlanStep {
@@ -40,4 +49,6 @@ pub(crate) enum PlanStep {
     Checkpoint(CheckpointStep),
     /// One of the group.
     Group(CommitStep),
+    /// One of a trim; then no group is under way.
+    Trim(TrimStep),
 }

@@ -1,6 +1,7 @@
 -- Groups: what is handed from the accepted cache to its disk at once. The entries have numbers one
 -- behind another; each goes with the records that it writes.
-use Rattle.std.specs.Prelude.{◌≡◌, ℕ, ◌+◌, ◌^◌, ◌<◌, ◌≤◌, ◌-◌, max, List, [], ◌∷◌, ◌++◌, length}
+use Rattle.std.specs.Prelude.{◌≡◌, ℕ, ◌+◌, ◌^◌, ◌<◌, ◌≤◌, ◌-◌, min, max, List, [], ◌∷◌, ◌++◌}
+use Rattle.std.specs.Prelude.{length}
 use Rattle.std.specs.Prelude.{map, Option, Some, None}
 use Rattle.std.specs.List.{AllByRecursion}
 use Rattle.cm_class.specs.declared.class_file.ClassFile.{ClassFile}
@@ -43,6 +44,12 @@ records_of (entry.Live (Loader r)) moved = []
 records_of (entry.Live (Class r words)) moved = words ∷ []
 records_of (entry.Unload e) moved = []
 records_of (entry.Move e) moved = moved
+
+-- where records lie that lie one behind another, each at an offset of 32 bits
+abbrev pub offsets_from : ℕ → List (List ℕ) → List ℕ
+offsets_from at [] = []
+offsets_from at (words ∷ records) =
+    at ∷ offsets_from (min (at + length words) (2 ^ 32 - 1)) records
 
 -- the slots that the entries take
 abbrev pub slots_taken : List Carried → ℕ

@@ -1,9 +1,10 @@
 //! An entry with the records that it writes.
 
-ghost use Rattle.std.specs.Prelude.{◌≡◌, [], map, Some, None, MatchOption};
+ghost use Rattle.std.specs.Prelude.{◌≡◌, [], map, Some, None, MatchOption, IfOk};
 ghost use Rattle.std.specs.Arc.{arc_value};
-ghost use Rattle.std.specs.List.{AllByRecursion};
+ghost use Rattle.std.specs.List.{AllByRecursion, slice_get};
 ghost use Rattle.cm_group.specs.Groups.{Carried, CarriesRight, IsRightRecord, class_made};
+ghost use Rattle.cm_group.specs.Groups.{offsets_from};
 ghost use Rattle.cm_layout.specs.Frames.{bare_entry};
 ghost use Rattle.cm_layout.specs.Rows.{slots_of, entry_with};
 ghost use Rattle.cm_layout.specs.declared.entry.Entry.TheVariants as variant;
@@ -11,7 +12,7 @@ ghost use Rattle.cm_layout.specs.declared.row.Row.TheVariants.{Loader, Class};
 
 use cm_layout::{ClassRow, Entry, LoaderRow, Move, Row, Unload};
 use cm_record::Record;
-use std::alloc::Global;
+use std::alloc::{AllocError, Global};
 use std::marker::Model;
 use std::sync::Arc;
 
@@ -22,13 +23,15 @@ pub struct CarriedEntry {
     entry: Entry<Arc<Record, Global>>,
     /// Beside a move the records that move; else none.
     moved: Vec<Arc<Record, Global>>,
+    /// Where each of them lies on its chunk, behind those before it.
+    offsets: Vec<u32>,
 }
 
 impl Model for CarriedEntry {
-    ghost use Rattle.std.specs.Prelude.{map};
+    ghost use Rattle.std.specs.Prelude.{◌≡◌, map};
     ghost use Rattle.std.specs.Arc.{arc_value};
     ghost use Rattle.cm_layout.specs.Rows.{entry_with};
-    ghost use Rattle.cm_group.specs.Groups.{Carried, CarriesRight};
+    ghost use Rattle.cm_group.specs.Groups.{Carried, CarriesRight, offsets_from};
 
     ghost Value = { Carried };
 
@@ -40,7 +43,21 @@ impl Model for CarriedEntry {
     ghost invariant = { λ c. CarriesRight (record {
       entry = entry_with arc_value c.entry;
       moved = map arc_value c.moved.items;
-    }) };
+    }) × (c.offsets.items ≡ offsets_from 0 (map arc_value c.moved.items)) };
+}
+
+/// Where each of some records lies that lie one behind another.
+fn offsets_of(alloc: Global, records: &[Arc<Record, Global>]) -> Result<Vec<u32>, AllocError>
+    ensures { IfOk result (λ offsets. offsets.items
+        ≡ offsets_from 0 (map arc_value records.now)) }
+{
+    let mut offsets = Vec::with_capacity(alloc, records.len())?;
+    let mut next: u32 = 0;
+    for class in records {
+        offsets.push(next)?;
+        next = next.saturating_add(class.words());
+    }
+    Ok(offsets)
 }
 
 impl CarriedEntry {
@@ -51,6 +68,7 @@ impl CarriedEntry {
         CarriedEntry {
             entry: Entry::Live(Row::Loader(row)),
             moved: Vec::new(alloc),
+            offsets: Vec::new(alloc),
         }
     }
 
@@ -63,6 +81,7 @@ impl CarriedEntry {
         CarriedEntry {
             entry: Entry::Live(Row::Class(row, class)),
             moved: Vec::new(alloc),
+            offsets: Vec::new(alloc),
         }
     }
 
@@ -73,19 +92,26 @@ impl CarriedEntry {
         CarriedEntry {
             entry: Entry::Unload(entry),
             moved: Vec::new(alloc),
+            offsets: Vec::new(alloc),
         }
     }
 
-    /// That a loader's last chunk moves, with the records that lie on it.
-    pub fn relocation(entry: Move, moved: Vec<Arc<Record, Global>>) -> CarriedEntry
+    /// That a loader's last chunk moves, with the records that lie on it, in order.
+    pub fn relocation(
+        alloc: Global,
+        entry: Move,
+        moved: Vec<Arc<Record, Global>>,
+    ) -> Result<CarriedEntry, AllocError>
         requires right { AllByRecursion IsRightRecord (map arc_value moved.items) }
-        ensures { result
-            ≡ record { entry = variant.Move entry; moved = map arc_value moved.items } }
+        ensures { IfOk result (λ c. c
+            ≡ record { entry = variant.Move entry; moved = map arc_value moved.items }) }
     {
-        CarriedEntry {
+        let offsets = offsets_of(alloc, &moved)?;
+        Ok(CarriedEntry {
             entry: Entry::Move(entry),
             moved,
-        }
+            offsets,
+        })
     }
 
     /// The entry as the journal has it, with nothing kept of a class.
@@ -112,6 +138,17 @@ impl CarriedEntry {
         ensures { map arc_value result.now ≡ self.now.moved }
     {
         &self.moved
+    }
+
+    /// The record of this number among those that move with it, and where that lies on its chunk.
+    pub fn moved_at(&self, number: usize) -> Option<(u32, &Arc<Record, Global>)>
+        ensures record { MatchOption result (slice_get self.now.moved number ≡ None)
+            (λ m. slice_get self.now.moved number ≡ Some (arc_value m.1.now)) }
+        ensures offset { MatchOption result (slice_get self.now.moved number ≡ None)
+            (λ m. slice_get (offsets_from 0 self.now.moved) number ≡ Some m.0) }
+    {
+        let class = self.moved.get(number)?;
+        Some((self.offsets[number], class))
     }
 
     /// How many slots it takes in its group.

@@ -29,7 +29,7 @@ use Rattle.cm_space.specs.Laws.{OwnedIsUsed, OwnedOrWaiting}
 use Rattle.cm_state.specs.State.{words_show}
 use Rattle.cm_state.specs.Entries.{MayFollow}
 use Rattle.cm_state.specs.Laws.{EntriesAreSteps}
-use Rattle.cm_commit.specs.Offers.{filled, HasOwn, HasRecords, writes_apart, rows_after_group}
+use Rattle.cm_commit.specs.Offers.{filled, HasRecords, writes_apart, rows_after_group}
 use Rattle.cm_front.specs.Chains.{chain_of}
 use Rattle.cm_front.specs.Laws.{ChainsEndAtTop, ChainsHaveChunks}
 use Rattle.cm_front.specs.Front.{FrontState, IsFront}
@@ -50,12 +50,13 @@ pub filled_again : (e : Entry (List ℕ)) → filled (carried e) ≡ e
 filled_again e = refl
 
 -- a move isn't accepted
-has_own : (s : FrontState) (e : Entry (List ℕ)) (new : SpaceState)
-    → MayFollow words_show s.sizes s.number s.rows e → SpaceAfter s e new → HasOwn e
-has_own s (entry.Live (Loader r)) new may after = tt
-has_own s (entry.Live (Class r words)) new may after = may.new.1
-has_own s (entry.Unload e) new may after = tt
-has_own s (entry.Move e) new may after = after
+has_records : (s : FrontState) (rows : WordRows) (e : Entry (List ℕ)) (new : SpaceState)
+    → MayFollow words_show s.sizes s.number s.rows e → SpaceAfter s e new
+    → HasRecords rows (carried e).entry (carried e).moved
+has_records s rows (entry.Live (Loader r)) new may after = (tt, refl)
+has_records s rows (entry.Live (Class r words)) new may after = (may.new.1, refl)
+has_records s rows (entry.Unload e) new may after = (tt, refl)
+has_records s rows (entry.Move e) new may after = absurd after
 
 joined_last : (n : ℕ) (groups : List Handed) (c : Carried)
     → flat_map (λ (g : Handed). g.entries) (joined_by n groups c)
@@ -265,14 +266,14 @@ accepted_ahead known rows number out s e space f g a may after = record {
 
     last_follows : MayFollow words_show s.sizes (number + length (pending out s))
         (rows_after_group rows (pending out s)) (filled (carried e))
-        × HasRecords (carried e).entry (carried e).moved
+        × HasRecords (rows_after_group rows (pending out s)) (carried e).entry (carried e).moved
     last_follows = (
       subst (λ n. MayFollow words_show s.sizes n (rows_after_group rows (pending out s))
           (filled (carried e))) (sym a.numbers)
           (subst (λ l. MayFollow words_show s.sizes s.number l (filled (carried e))) (sym
           a.rows_are)
           (subst (λ d. MayFollow words_show s.sizes s.number s.rows d) (sym (filled_again e)) may)),
-      (has_own s e space may after, refl),
+      has_records s (rows_after_group rows (pending out s)) e space may after,
     )
 
 pub accepted_is_ahead : Known → AcceptedIsAhead

@@ -22,17 +22,20 @@ use Rattle.cm_layout.specs.declared.class_row.ClassRow.{ClassRow}
 use Rattle.cm_layout.specs.declared.row.Row.TheVariants.{Loader, Class}
 use Rattle.cm_layout.specs.declared.entry.Entry.{Entry}
 use Rattle.cm_layout.specs.declared.entry.Entry.TheVariants as entry
+use Rattle.cm_layout.specs.declared.relocation.Move.{Move}
 use Rattle.cm_layout.specs.Rows.{classes_in, last_chunk, used_words, rows_after, without_loader}
+use Rattle.cm_layout.specs.Rows.{moved}
 use Rattle.cm_layout.specs.Rules.{is_unused, is_last_chunk, has_place, class_fits, is_chunk}
 use Rattle.cm_layout.specs.Rules.{broken_of}
 use Rattle.cm_layout.specs.Rules.{is_live, has_room}
 use Rattle.cm_layout.specs.Frames.{AreApart}
-use Rattle.cm_layout.proofs.{begins_behind, classes_in-append}
+use Rattle.cm_layout.proofs.{begins_behind, classes_in-append, used-append, unused-none}
 use Rattle.cm_group.specs.Groups.{Carried}
 use Rattle.cm_state.specs.State.{words_show}
 use Rattle.cm_state.specs.Entries.{AreCacheRows, MayFollow}
 use Rattle.cm_state.specs.Laws.{EntriesAreSteps}
-use Rattle.cm_commit.specs.Offers.{filled, HasOwn, writes_apart, rows_after_group}
+use Rattle.cm_commit.specs.Offers.{filled, writes_apart, rows_after_group}
+use Rattle.cm_commit.proofs.{MoveKeeps, Stayed, last-before, keeps-move, turned}
 use Rattle.cm_front.proofs.{classes_left}
 use Rattle.cm_machine.specs.Ahead.{AllFollow, AtEach, AllApart}
 use Rattle.cm_machine.proofs.Following.{WordRows}
@@ -343,6 +346,62 @@ grown_unload old now u g apart = record {
           | inr last ↦ let to = last.1 in inr (last.0, omega (arith, to, stay))
         ]
 
+-- ---- a move
+
+used_moved : (c from to : Chunk) (now : WordRows) → same_chunk from c ≡ false
+    → same_chunk to c ≡ false → used_words c (moved from to now) ≡ used_words c now
+used_moved c from to [] f t = refl
+used_moved c from to (Loader r ∷ now) f t = used_moved c from to now f t
+used_moved c from to (Class r words ∷ now) f t =
+    by_test (same_chunk r.place.chunk from) refl (used_moved c from to now f t)
+  where
+    by_test : (s : Bool) → same_chunk r.place.chunk from ≡ s
+        → used_words c (moved from to now) ≡ used_words c now
+        → used_words c
+        (cond s (Class (record r { place = record r.place { chunk = to } }) words) (Class r words)
+        ∷ moved from to now)
+        ≡ used_words c (Class r words ∷ now)
+    by_test true e rest =
+        let there : ClassRow = record r { place = record r.place { chunk = to } } in
+        let here : same_chunk r.place.chunk c ≡ false =
+        subst (λ (d : Chunk). same_chunk d c ≡ false)
+        (sym (same_chunk-true r.place.chunk from e)) f in
+        let new : used_words c (Class there words ∷ []) ≡ 0 = rw t refl in
+        let old : used_words c (Class r words ∷ []) ≡ 0 = rw here refl in
+        omega (
+          arith,
+          used-append c (Class there words ∷ []) (moved from to now),
+          used-append c (Class r words ∷ []) now,
+          new,
+          old,
+          rest,
+        )
+    by_test false e rest =
+        omega (
+          arith,
+          used-append c (Class r words ∷ []) (moved from to now),
+          used-append c (Class r words ∷ []) now,
+          rest,
+        )
+
+grown_move : (old now : WordRows) (e : Move) → IsGrown old now → is_unused e.to now ≡ true
+    → is_unused e.to old ≡ true → IsGrown old (moved e.from e.to now)
+grown_move old now e g free apart = record {
+  each = λ u c h. elim (last-before u c e.from e.to now h) [
+    | inl to ↦ inl (subst (λ (d : Chunk). is_unused d old ≡ true) to apart)
+    | inr stayed ↦ elim (g.each u c stayed.last) [
+      | inl unused ↦ inl unused
+      | inr last ↦
+          let found = last_among u c (classes_in now) stayed.last in
+          let other : same_chunk e.to c ≡ false =
+          turned c e.to (subst (λ (d : Chunk). same_chunk d e.to ≡ false) found.3
+          (unused-none e.to now free found.0 found.1)) in
+          let most = last.1 in
+          inr (last.0, omega (arith, most, used_moved c e.from e.to now stayed.other other))
+    ]
+  ];
+}
+
 -- ---- one entry after another
 
 kept : (a b : Bool) → broken_of a b ≡ None → b ≡ true
@@ -358,20 +417,22 @@ rule_place sizes rows r h =
     h).1
 
 grown_entry : (sizes : Sizes) (n : ℕ) (old now : WordRows) (e : Entry (List ℕ)) → IsGrown old now
-    → AreCacheRows words_show sizes n now → MayFollow words_show sizes n now e → HasOwn e
+    → AreCacheRows words_show sizes n now → MayFollow words_show sizes n now e
     → writes_apart old e ≡ true → IsGrown old (rows_after now e)
-grown_entry sizes n old now (entry.Live (Loader r)) g are may has apart =
+grown_entry sizes n old now (entry.Live (Loader r)) g are may apart =
     by_classes old now (now ++ Loader r ∷ [])
     (classes_in-append now (Loader r ∷ []) ∙ append-nil (classes_in now)) g
-grown_entry sizes n old now (entry.Live (Class r words)) g are may has apart =
+grown_entry sizes n old now (entry.Live (Class r words)) g are may apart =
     grown_class old now r words g
     (rule_place sizes now r
     (kept (is_live r.loader now && has_room sizes now (Class r words))
     (class_fits sizes now r) may.keeps))
     (may_go old r apart)
-grown_entry sizes n old now (entry.Unload e) g are may has apart =
+grown_entry sizes n old now (entry.Unload e) g are may apart =
     grown_unload old now e.loader g are.apart
-grown_entry sizes n old now (entry.Move e) g are may has apart = absurd has
+grown_entry sizes n old now (entry.Move e) g are may apart =
+    let kept : MoveKeeps sizes now e = keeps-move sizes now e may.keeps in
+    grown_move old now e g kept.unused apart
 
 -- from rows on, after entries that are apart from the old ones
 pub grown_all : EntriesAreSteps (List ℕ) → (sizes : Sizes) (n : ℕ) (old now : WordRows)
@@ -382,7 +443,7 @@ pub grown_all : EntriesAreSteps (List ℕ) → (sizes : Sizes) (n : ℕ) (old no
 grown_all steps sizes n old now [] g are follow apart to = g
 grown_all steps sizes n old now (c ∷ a) g are follow apart to =
     grown_all steps sizes (n + 1) old (rows_after now (filled c)) a
-    (grown_entry sizes n old now c.entry g are follow.0 follow.1.0 apart.0)
+    (grown_entry sizes n old now c.entry g are follow.0 apart.0)
     (steps words_show sizes n now (filled c) are follow.0 (omega (arith, to))).rows_are follow.2
     apart.1 (omega (arith, to))
 

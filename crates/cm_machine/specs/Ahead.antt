@@ -24,7 +24,7 @@ use Rattle.cm_front.specs.Front.{FrontState}
 abbrev pub AllFollow : Sizes → List (Row (List ℕ)) → ℕ → List Carried → Type 0
 AllFollow sizes rows n [] = Unit {0}
 AllFollow sizes rows n (c ∷ carried) =
-    MayFollow words_show sizes n rows (filled c) × HasRecords c.entry c.moved
+    MayFollow words_show sizes n rows (filled c) × HasRecords rows c.entry c.moved
     × AllFollow sizes (rows_after rows (filled c)) (n + 1) carried
 
 -- a fact of the rows at each number: before the entries, between them, and behind the last

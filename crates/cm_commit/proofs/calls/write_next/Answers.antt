@@ -42,15 +42,13 @@ returns-then-roots-roots_needed-clause-called g c =
       c.roots_needed.ensures,
       ap (λ (l : List Carried). roots_of_entries (entries_in l)) c.entries.ensures,
     ) in
-    calls_first g.D.Disk.contents g.D.Disk.unsynced g.D.Disk.failures g.D.Disk.moment
-    g.D.Disk.left_since c.args.disk.now c.write_root.new.disk
+    calls_first g.D.Disk.view c.args.disk.now c.write_root.new.disk
     (writes_left j.geometry j.half j.end j.number all roots unwritten)
     (writes_left j.geometry j.half j.end j.number all (roots + 1) unwritten)
     (root_write j.geometry roots) (Turn (next_gate j) open_gate ∷ [])
     (Ok (step.Write (roots + 1) c.args.from))
     (next_root j.geometry j.half j.end j.number all roots unwritten lt)
-    (wrote_ok g.D.Disk.contents g.D.Disk.unsynced g.D.Disk.failures g.D.Disk.moment
-    g.D.Disk.left_since c.args.disk.now c.write_root.new.disk (root_write j.geometry roots)
+    (wrote_ok g.D.Disk.view c.args.disk.now c.write_root.new.disk (root_write j.geometry roots)
     c.in_ok-write_root.field-0 (step.Write (roots + 1) c.args.from)
     c.in_ok-write_root.ensures.written)
 
@@ -104,16 +102,14 @@ returns-in_ok-write_record-in-Some-clause-called g c =
     c.if-roots-roots_needed.false c.roots_needed.ensures c.entries.ensures in
     let first = same_found c.entries-2.result.now all from
     (Some (c.in-Some.place, c.in-Some.class.now)) c.entries-2.ensures c.in-Some.ensures.found in
-    calls_first g.D.Disk.contents g.D.Disk.unsynced g.D.Disk.failures g.D.Disk.moment
-    g.D.Disk.left_since c.args.disk.now c.write_record.new.disk
+    calls_first g.D.Disk.view c.args.disk.now c.write_record.new.disk
     (writes_left j.geometry j.half j.end j.number all c.args.roots (drop from (all_writes all)))
     (writes_left j.geometry j.half j.end j.number all c.args.roots
     (drop (from + 1) (all_writes all)))
     write (Turn (next_gate j) open_gate ∷ []) (Ok (step.Write c.args.roots (from + 1)))
     (next_place j.geometry j.half j.end j.number all c.args.roots (all_writes all) from
     c.in-Some.place c.in-Some.class.now le first)
-    (wrote_ok g.D.Disk.contents g.D.Disk.unsynced g.D.Disk.failures g.D.Disk.moment
-    g.D.Disk.left_since c.args.disk.now c.write_record.new.disk write
+    (wrote_ok g.D.Disk.view c.args.disk.now c.write_record.new.disk write
     c.in_ok-write_record-in-Some.field-0 (step.Write c.args.roots (from + 1))
     c.in_ok-write_record-in-Some.ensures.written)
 
@@ -128,13 +124,11 @@ returns-in_ok-write_slots-in-None-clause-called g c =
     c.if-roots-roots_needed.false c.roots_needed.ensures c.entries.ensures in
     let none = same_found c.entries-2.result.now all from None c.entries-2.ensures
     c.in-None.ensures.found in
-    calls_first g.D.Disk.contents g.D.Disk.unsynced g.D.Disk.failures g.D.Disk.moment
-    g.D.Disk.left_since c.args.disk.now c.write_slots.new.disk
+    calls_first g.D.Disk.view c.args.disk.now c.write_slots.new.disk
     (writes_left j.geometry j.half j.end j.number all c.args.roots (drop from (all_writes all))) []
     write (Turn (next_gate j) open_gate ∷ []) (Ok step.Sync)
     (next_slots j.geometry j.half j.end j.number all c.args.roots (all_writes all) from le none)
-    (wrote_ok g.D.Disk.contents g.D.Disk.unsynced g.D.Disk.failures g.D.Disk.moment
-    g.D.Disk.left_since c.args.disk.now c.write_slots.new.disk write
+    (wrote_ok g.D.Disk.view c.args.disk.now c.write_slots.new.disk write
     c.in_ok-write_slots-in-None.field-0 step.Sync
     c.in_ok-write_slots-in-None.ensures.written)
 
@@ -152,7 +146,7 @@ write_record-requires-clause-fits g c =
     (writes_left j.geometry j.half j.end j.number all c.args.roots
     (drop (from + 1) (all_writes all)))
     (place_write j.geometry c.in-Some.place c.in-Some.class.now) (Turn (next_gate j) open_gate ∷ [])
-    (length (g.D.Disk.contents c.args.disk.now))
+    (length (g.D.Disk.view.contents c.args.disk.now))
     (next_place j.geometry j.half j.end j.number all c.args.roots (all_writes all) from
     c.in-Some.place c.in-Some.class.now le first) c.requires.fits
 
@@ -187,16 +181,14 @@ returns-in_err-write_record-in-Some-clause-called g c =
     (Some (c.in-Some.place, c.in-Some.class.now)) c.entries-2.ensures c.in-Some.ensures.found in
     let p = err_from_is_err_and c.from_residual-in_err-write_record-in-Some.result
     c.from_residual-in_err-write_record-in-Some.ensures.1 in
-    rw (p.1, p.2) (calls_first g.D.Disk.contents g.D.Disk.unsynced g.D.Disk.failures g.D.Disk.moment
-    g.D.Disk.left_since c.args.disk.now c.write_record.new.disk
+    rw (p.1, p.2) (calls_first g.D.Disk.view c.args.disk.now c.write_record.new.disk
     (writes_left j.geometry j.half j.end j.number all c.args.roots (drop from (all_writes all)))
     (writes_left j.geometry j.half j.end j.number all c.args.roots
     (drop (from + 1) (all_writes all)))
     write (Turn (next_gate j) open_gate ∷ []) (Err c.in_err-write_record-in-Some.field-0.0)
     (next_place j.geometry j.half j.end j.number all c.args.roots (all_writes all) from
     c.in-Some.place c.in-Some.class.now le first)
-    (wrote_err g.D.Disk.contents g.D.Disk.unsynced g.D.Disk.failures g.D.Disk.moment
-    g.D.Disk.left_since c.args.disk.now c.write_record.new.disk write
+    (wrote_err g.D.Disk.view c.args.disk.now c.write_record.new.disk write
     c.in_err-write_record-in-Some.field-0.0 c.in_err-write_record-in-Some.ensures.written))
 
 pub returns-in_err-write_slots-in-None-clause-called :
@@ -212,13 +204,11 @@ returns-in_err-write_slots-in-None-clause-called g c =
     c.in-None.ensures.found in
     let p = err_from_is_err_and c.from_residual-in_err-write_slots-in-None.result
     c.from_residual-in_err-write_slots-in-None.ensures.1 in
-    rw (p.1, p.2) (calls_first g.D.Disk.contents g.D.Disk.unsynced g.D.Disk.failures g.D.Disk.moment
-    g.D.Disk.left_since c.args.disk.now c.write_slots.new.disk
+    rw (p.1, p.2) (calls_first g.D.Disk.view c.args.disk.now c.write_slots.new.disk
     (writes_left j.geometry j.half j.end j.number all c.args.roots (drop from (all_writes all))) []
     write (Turn (next_gate j) open_gate ∷ []) (Err c.in_err-write_slots-in-None.field-0.0)
     (next_slots j.geometry j.half j.end j.number all c.args.roots (all_writes all) from le none)
-    (wrote_err g.D.Disk.contents g.D.Disk.unsynced g.D.Disk.failures g.D.Disk.moment
-    g.D.Disk.left_since c.args.disk.now c.write_slots.new.disk write
+    (wrote_err g.D.Disk.view c.args.disk.now c.write_slots.new.disk write
     c.in_err-write_slots-in-None.field-0.0 c.in_err-write_slots-in-None.ensures.written))
 
 pub write_slots-requires-clause-fits : goal.write_slots-requires-clause-fits
@@ -234,7 +224,7 @@ write_slots-requires-clause-fits g c =
     (writes_left j.geometry j.half j.end j.number all c.args.roots (drop from (all_writes all))) []
     (slots_write j.geometry j.half j.end j.number (entries_in all))
     (Turn (next_gate j) open_gate ∷ [])
-    (length (g.D.Disk.contents c.args.disk.now))
+    (length (g.D.Disk.view.contents c.args.disk.now))
     (next_slots j.geometry j.half j.end j.number all c.args.roots (all_writes all) from le none)
     c.requires.fits
 

@@ -15,8 +15,7 @@ pub returns-clause-written : goal.returns-clause-written
 returns-clause-written g c =
     let j = c.args.journal in
     let es = entries_in c.args.group.now.entries in
-    wrote_as g.D.Disk.contents g.D.Disk.unsynced g.D.Disk.failures g.D.Disk.moment
-    g.D.Disk.left_since c.args.disk.now c.write_at.new.self
+    wrote_as g.D.Disk.view c.args.disk.now c.write_at.new.self
     (slots_write j.geometry j.half j.end j.number es)
     (record { at = c.slot_at-at.result + 1; bytes = c.deref.result.now }) c.write_at.result
     (ap (λ (k : ℕ). k + 1) c.slot_at-at.ensures)
@@ -26,10 +25,4 @@ returns-clause-written g c =
     ++ shut_slot j.geometry (j.end + c.slots-count.result + 1))
     ∙ ap (λ (k : ℕ). slots_behind_gate j.number es ++ shut_slot j.geometry (j.end + k + 1))
     c.slots-count.ensures.value)))
-    (record {
-      written = c.write_at.ensures.written;
-      torn = c.write_at.ensures.torn;
-      opens = c.write_at.ensures.unsynced;
-      time = c.write_at.ensures.time;
-      cause = c.write_at.ensures.cause;
-    })
+    c.write_at.ensures.writes

@@ -10,17 +10,10 @@ pub returns-clause-written : goal.returns-clause-written
 returns-clause-written g c =
     let j = c.args.journal.now in
     let rows = bare (rows_with arc_value c.args.rows.now.rows) in
-    wrote_as g.D.Disk.contents g.D.Disk.unsynced g.D.Disk.failures g.D.Disk.moment
-    g.D.Disk.left_since c.args.disk.now c.write_at.new.self (renewed_write j rows)
+    wrote_as g.D.Disk.view c.args.disk.now c.write_at.new.self (renewed_write j rows)
     (record { at = c.half_gate.result + 1; bytes = c.deref.result.now }) c.write_at.result
     (ap (λ k. k + 1) c.half_gate.ensures)
     (c.deref.ensures.value
     ∙ (c.put_half.ensures.bytes
     ∙ ap (λ h. half_behind_gate h rows) c.renewed_head-head.ensures))
-    (record {
-      written = c.write_at.ensures.written;
-      torn = c.write_at.ensures.torn;
-      opens = c.write_at.ensures.unsynced;
-      time = c.write_at.ensures.time;
-      cause = c.write_at.ensures.cause;
-    })
+    c.write_at.ensures.writes

@@ -12,12 +12,13 @@ pub returns-in-Write-clause-few : goal.returns-in-Write-clause-few
 returns-in-Write-clause-few c =
     omega (
       arith,
-      c.requires,
+      c.requires.roots,
+      c.requires.few,
       c.from.ensures,
       c.saturating_sub-zeros.ensures,
       c.saturating_sub.ensures,
       c.roots_needed.ensures,
-      c.all_writes.ensures.few,
+      c.all_writes.ensures,
     )
 
 pub returns-in-Write-clause-calls : goal.returns-in-Write-clause-calls
@@ -38,6 +39,6 @@ returns-in-Write-clause-calls c = λ j first learnt.
       c.saturating_sub-zeros.ensures,
       c.saturating_sub.ensures,
       c.roots_needed.ensures,
-      c.all_writes.ensures.value,
+      c.all_writes.ensures,
     ) in
     counted ∙ ap (λ (s : CommitStep). calls_left (stages_at j group s)) (sym c.in-Write.is)

@@ -1,10 +1,7 @@
-use Rattle.std.proofs.Common.{ap}
-use Rattle.std.specs.Prelude.{vec_capacity, Option}
+use Rattle.std.specs.Prelude.{vec_capacity}
 use Rattle.std.specs.Arc.{arc_value}
 use Rattle.cm_layout.specs.Rows.{bare, rows_with}
-use Rattle.cm_group.specs.Groups.{Handed}
-use Rattle.cm_commit.specs.Steps.{stages_left}
-use Rattle.cm_commit.proofs.Advancing.{images, seen}
+use Rattle.cm_commit.proofs.Advancing.{images, seen, nothing_left}
 use Rattle.cm_commit.proofs.committer.Committer.images.Goals as goal
 
 pub returns : goal.returns
@@ -12,7 +9,7 @@ returns g c =
     let s = c.self.inside in
     let rows = rows_with arc_value s.rows.rows in
     rw (← c.self.view_is)
-    (images g.D.Disk.contents g.D.Disk.unsynced
+    (images g.D.Disk.view
     (seen s.disk s.journal rows s.roots s.group s.step s.is_broken) s.rows.sizes s.next s.roots
     (vec_capacity s.buffer) c.self.invariant
-    (λ e. ap (λ (o : Option Handed). stages_left s.journal (bare rows) s.roots o s.step) e))
+    (nothing_left s.journal (bare rows) s.roots s.group s.step))

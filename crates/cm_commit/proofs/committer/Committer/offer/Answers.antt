@@ -1,8 +1,9 @@
-use Rattle.std.proofs.Common.{sym, ◌∙◌}
+use Rattle.std.proofs.Common.{sym, ap, ◌∙◌, is_some}
 use Rattle.std.specs.Prelude.{vec_capacity}
 use Rattle.std.specs.Arc.{arc_value}
 use Rattle.cm_layout.specs.Rows.{bare, rows_with}
-use Rattle.cm_commit.specs.States.{Takes}
+use Rattle.cm_commit.specs.States.{CommitterState, Takes}
+use Rattle.cm_commit.specs.Steps.{work_of}
 use Rattle.cm_commit.proofs.Advancing.{seen}
 use Rattle.cm_commit.proofs.Offering.{none_under_way, next_before, next_after, taken, as_taken}
 use Rattle.cm_commit.proofs.Offering.{steps}
@@ -12,8 +13,11 @@ pub take_group-requires-clause-next_is : goal.take_group-requires-clause-next_is
 take_group-requires-clause-next_is g c =
     let s = c.self.inside in
     let i = c.self.invariant in
-    next_before arc_value s.journal.geometry s.rows.sizes s.rows.rows s.group s.next i.sizes_are
-    (none_under_way s.group (sym c.is_some.ensures ∙ c.if-is_some.false)) i.next_is
+    next_before arc_value s.journal.geometry s.rows.sizes s.rows.rows (work_of s.group s.step)
+    s.next i.sizes_are
+    (none_under_way (work_of s.group s.step)
+    (ap (λ (z : CommitterState _). is_some z.underway) c.self.view_is
+    ∙ (sym c.is_busy.ensures ∙ c.if-is_busy.false))) i.next_is
 
 pub invariant_of-self-2 : goal.invariant_of-self-2
 invariant_of-self-2 g c =
@@ -21,17 +25,19 @@ invariant_of-self-2 g c =
     let rows = rows_with arc_value s.rows.rows in
     let v = seen s.disk s.journal rows s.roots s.group s.step s.is_broken in
     let i = c.self.invariant in
-    let none = none_under_way s.group (sym c.is_some.ensures ∙ c.if-is_some.false) in
+    let none = none_under_way (work_of s.group s.step)
+    (ap (λ (z : CommitterState _). is_some z.underway) c.self.view_is
+    ∙ (sym c.is_busy.ensures ∙ c.if-is_busy.false)) in
     let takes : Takes v c.args.group = record {
       sound = c.if-self.false;
       idle = none;
       next = c.take_group.ensures.comes.0 c.if-not-take_group.false;
     } in
     let told = c.take_group.ensures.told c.if-not-take_group.false in
-    let before = next_before arc_value s.journal.geometry s.rows.sizes s.rows.rows s.group s.next
-    i.sizes_are none i.next_is in
+    let before = next_before arc_value s.journal.geometry s.rows.sizes s.rows.rows
+    (work_of s.group s.step) s.next i.sizes_are none i.next_is in
     rw (c.take_group.ensures.same, c.first_step-self-inside.ensures (bare rows))
-    (taken g.D.Disk.contents g.D.Disk.unsynced v s.rows.sizes s.next s.roots
+    (taken g.D.Disk.view v s.rows.sizes s.next s.roots
     (vec_capacity s.buffer) i c.args.group takes c.take_group.ensures.group told
     c.take_group.new.next
     (next_after arc_value s.journal.geometry s.rows.sizes s.rows.rows c.args.group.entries s.next
@@ -44,7 +50,9 @@ returns-clause-taken g c =
     let rows = rows_with arc_value s.rows.rows in
     let v = seen s.disk s.journal rows s.roots s.group s.step s.is_broken in
     let i = c.self.invariant in
-    let none = none_under_way s.group (sym c.is_some.ensures ∙ c.if-is_some.false) in
+    let none = none_under_way (work_of s.group s.step)
+    (ap (λ (z : CommitterState _). is_some z.underway) c.self.view_is
+    ∙ (sym c.is_busy.ensures ∙ c.if-is_busy.false)) in
     let takes : Takes v c.args.group = record {
       sound = c.if-self.false;
       idle = none;
@@ -52,7 +60,7 @@ returns-clause-taken g c =
     } in
     let told = c.take_group.ensures.told c.if-not-take_group.false in
     rw (← c.self.view_is, c.take_group.ensures.same, c.first_step-self-inside.ensures (bare rows))
-    (as_taken g.D.Disk.contents g.D.Disk.unsynced v s.rows.sizes s.next s.roots
+    (as_taken g.D.Disk.view v s.rows.sizes s.next s.roots
     (vec_capacity s.buffer) i c.args.group takes c.take_group.ensures.group told)
 
 pub returns-clause-steps : goal.returns-clause-steps
@@ -61,7 +69,9 @@ returns-clause-steps g c =
     let rows = rows_with arc_value s.rows.rows in
     let v = seen s.disk s.journal rows s.roots s.group s.step s.is_broken in
     let i = c.self.invariant in
-    let none = none_under_way s.group (sym c.is_some.ensures ∙ c.if-is_some.false) in
+    let none = none_under_way (work_of s.group s.step)
+    (ap (λ (z : CommitterState _). is_some z.underway) c.self.view_is
+    ∙ (sym c.is_busy.ensures ∙ c.if-is_busy.false)) in
     let takes : Takes v c.args.group = record {
       sound = c.if-self.false;
       idle = none;
@@ -69,5 +79,5 @@ returns-clause-steps g c =
     } in
     let told = c.take_group.ensures.told c.if-not-take_group.false in
     rw (← c.self.view_is, c.take_group.ensures.same, c.first_step-self-inside.ensures (bare rows))
-    (steps g.D.Disk.contents g.D.Disk.unsynced v s.rows.sizes s.next s.roots
+    (steps g.D.Disk.view v s.rows.sizes s.next s.roots
     (vec_capacity s.buffer) i c.args.group takes c.take_group.ensures.group told)

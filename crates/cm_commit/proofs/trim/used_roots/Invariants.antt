@@ -1,0 +1,11 @@
+use Rattle.std.proofs.Common.{◌≡◌, length}
+use Rattle.std.specs.Prelude.{max}
+use Rattle.cm_commit.specs.Trims.{roots_of_rows}
+use Rattle.cm_commit.proofs.trim.used_roots.Given as goal
+
+-- those that the rows use by now, and those that are left, are all
+abbrev pub invariant-loop-row : goal.invariant-loop-row
+invariant-loop-row l = max l.used (roots_of_rows l.left) ≡ roots_of_rows l.rows.rows
+
+abbrev pub decreases-loop-row : goal.decreases-loop-row
+decreases-loop-row l = length l.left
