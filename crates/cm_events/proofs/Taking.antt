@@ -27,6 +27,7 @@ event_asked : (asked : Option Asked) (e : Event) → IsEvent asked e → is_some
 event_asked asked (event.Accept c) h = command_asked asked c h
 event_asked asked event.Seal h = ap is_some h
 event_asked asked event.Advance h = ap is_some h
+event_asked asked event.Trim h = ap is_some h
 event_asked asked event.Learn h = ap is_some h
 event_asked asked (event.Look loader class) h = ap is_some h
 event_asked asked (event.Fault stores) h = ap is_some h

@@ -20,6 +20,7 @@ pub data Asked : Type 0 where
   AsksUnload : List ℕ → Asked
   AsksSeal : Asked
   AsksAdvance : Asked
+  AsksTrim : Asked
   AsksLearn : Asked
   AsksLook : List ℕ → List ℕ → Asked
   AsksFault : ℕ → Asked
@@ -47,6 +48,7 @@ abbrev pub asked_alone : List ℕ → Option Asked
 asked_alone verb =
     if bytes_eq verb (codes "seal") then Some AsksSeal
     else if bytes_eq verb (codes "advance") then Some AsksAdvance
+    else if bytes_eq verb (codes "trim") then Some AsksTrim
     else if bytes_eq verb (codes "learn") then Some AsksLearn
     else if bytes_eq verb (codes "reopen") then Some AsksReopen
     else None
@@ -89,6 +91,7 @@ seen (line.Define loader digits) = define_of loader.now digits.now
 seen (line.Unload name) = Some (AsksUnload name.now)
 seen line.Seal = Some AsksSeal
 seen line.Advance = Some AsksAdvance
+seen line.Trim = Some AsksTrim
 seen line.Learn = Some AsksLearn
 seen (line.Look loader class) = Some (AsksLook loader.now class.now)
 seen (line.Fault stores) = Some (AsksFault stores)

@@ -19,7 +19,7 @@ use Rattle.cm_events.specs.declared.simulation.Simulation.{Simulation}
 use Rattle.cm_events.specs.declared.fault.SimulationFault.{SimulationFault}
 use Rattle.cm_events.specs.declared.fault.SimulationFault.TheVariants as fault
 use Rattle.cm_events.specs.Asked.{Asked, AsksLoader, AsksDefine, AsksUnload, AsksSeal, AsksAdvance}
-use Rattle.cm_events.specs.Asked.{AsksLearn, AsksLook, AsksFault, AsksReopen, AsksCrash}
+use Rattle.cm_events.specs.Asked.{AsksTrim, AsksLearn, AsksLook, AsksFault, AsksReopen, AsksCrash}
 use Rattle.cm_events.specs.Asked.{event_of_line, geometry_of_line}
 
 -- ---- one line
@@ -43,6 +43,7 @@ abbrev pub IsEvent : Option Asked → Event → Type 0
 IsEvent asked (event.Accept command) = IsCommand asked command
 IsEvent asked event.Seal = asked ≡ Some AsksSeal
 IsEvent asked event.Advance = asked ≡ Some AsksAdvance
+IsEvent asked event.Trim = asked ≡ Some AsksTrim
 IsEvent asked event.Learn = asked ≡ Some AsksLearn
 IsEvent asked (event.Look loader class) = asked ≡ Some (AsksLook loader.now class.now)
 IsEvent asked (event.Fault stores) = asked ≡ Some (AsksFault stores)

@@ -23,6 +23,8 @@ pub(crate) enum EventLine<'a> {
     Seal,
     /// `advance`
     Advance,
+    /// `trim`
+    Trim,
     /// `learn`
     Learn,
     /// `look NAME CLASS`
@@ -82,6 +84,8 @@ fn parse_lone_verb<'a>(verb: &[u8]) -> Option<EventLine<'a>>
         Some(EventLine::Seal)
     } else if verb == b"advance".as_slice() {
         Some(EventLine::Advance)
+    } else if verb == b"trim".as_slice() {
+        Some(EventLine::Trim)
     } else if verb == b"learn".as_slice() {
         Some(EventLine::Learn)
     } else if verb == b"reopen".as_slice() {

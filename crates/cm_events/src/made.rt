@@ -51,6 +51,7 @@ fn make_of<'a>(alloc: Global, line: EventLine<'a>) -> Result<Made<'a>, EventFaul
         EventLine::Unload(name) => Ok(Made::Runs(Event::Accept(Command::Unload(name)))),
         EventLine::Seal => Ok(Made::Runs(Event::Seal)),
         EventLine::Advance => Ok(Made::Runs(Event::Advance)),
+        EventLine::Trim => Ok(Made::Runs(Event::Trim)),
         EventLine::Learn => Ok(Made::Runs(Event::Learn)),
         EventLine::Look(loader, class) => Ok(Made::Runs(Event::Look(loader, class))),
         EventLine::Fault(stores) => Ok(Made::Runs(Event::Fault(stores as usize))),

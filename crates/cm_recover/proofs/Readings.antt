@@ -2,7 +2,7 @@
 -- For `SecondPass::take_all`, `read_found`, `read_standing`.
 use Rattle.std.proofs.Common.{◌≡◌, ℕ, List, Ok, Err, inr, ◌⊎◌, ⊎_elim}
 use Rattle.std.specs.Prelude.{Result, IsErr, IsErrAnd}
-use Rattle.cm_disk.specs.Disk.{Unsynced}
+use Rattle.cm_disk.specs.Disk.{View, Unsynced}
 use Rattle.cm_guards.specs.Calls.{Reads}
 use Rattle.cm_guards.proofs.{reads_on, reads_as}
 use Rattle.cm_recover.specs.declared.fault.OpenFault.{OpenFault}
@@ -16,31 +16,30 @@ ok_no_fault r x f ok err = absurd (cc)
 pub ok_no_err : {A E : Type 0} (r : Result A E) (x : A) → r ≡ Ok x → IsErr r → ⊥
 ok_no_err r x ok err = absurd (cc)
 
-module _ {D : Type 0} (moment : D → ℕ) (left_since : D → ℕ → List ℕ → Type 0)
-    (contents : D → List ℕ) (unsynced : D → Unsynced) (failures : D → ℕ) where
+module _ {D : Type 0} (view : View D) where
   pub then_reads : (a b c : D) (F G : Type 0) → (F → ⊥)
-      → Reads contents unsynced failures moment left_since a b F
-      → Reads contents unsynced failures moment left_since b c G
-      → Reads contents unsynced failures moment left_since a c G
+      → Reads view a b F
+      → Reads view b c G
+      → Reads view a c G
   then_reads a b c F G none first second =
-      reads_as moment left_since contents unsynced failures a c (F ⊎ G) G (λ g. inr g)
+      reads_as view a c (F ⊎ G) G (λ g. inr g)
       (λ faulted. ⊎_elim (λ f. absurd (none f)) (λ g. g) faulted)
-      (reads_on moment left_since contents unsynced failures a b c F G first second)
+      (reads_on view a b c F G first second)
 
   -- where it can't fail any more
   pub no_more : (a b : D) (F G : Type 0) → (G → ⊥) → (F → ⊥)
-      → Reads contents unsynced failures moment left_since a b F
-      → Reads contents unsynced failures moment left_since a b G
+      → Reads view a b F
+      → Reads view a b G
   no_more a b F G never none run =
-      reads_as moment left_since contents unsynced failures a b F G (λ g. absurd (never g))
+      reads_as view a b F G (λ g. absurd (never g))
       (λ f. absurd (none f)) run
 
   -- a fault that is passed on
   pub passed_on : {A B : Type 0} (a b : D) (r : Result A OpenFault) (s : Result B OpenFault)
       (e f : OpenFault) → r ≡ Err e → IsErrAnd s (λ g. g ≡ e)
-      → Reads contents unsynced failures moment left_since a b (r ≡ Err f)
-      → Reads contents unsynced failures moment left_since a b (s ≡ Err f)
+      → Reads view a b (r ≡ Err f)
+      → Reads view a b (s ≡ Err f)
   passed_on a b r (Ok value) e f was none reads = absurd none
   passed_on a b r (Err g) e f was same reads =
-      reads_as moment left_since contents unsynced failures a b (r ≡ Err f) (Err g ≡ Err f)
+      reads_as view a b (r ≡ Err f) (Err g ≡ Err f)
       (λ told. cc) (λ told. cc) reads

@@ -2,9 +2,9 @@
 -- For `read_synced`.
 use Rattle.std.proofs.Common.{◌≡◌, ℕ, Bool, true, false, List, length, get_or, refl}
 use Rattle.std.proofs.Common.{sym, ap, subst, ◌∙◌, arith}
-use Rattle.std.specs.Prelude.{Result, Ok, Err, IsOk, IsErr, OnOk}
-use Rattle.cm_disk.specs.Disk.{Unsynced, IsImage, IsSettled, IsSound, IsWithin}
-use Rattle.cm_disk.specs.Calls.{Elapses, HasCause}
+use Rattle.std.specs.Prelude.{Result, Ok, Err, IsOk, IsErr, OnOk, OnErr}
+use Rattle.cm_disk.specs.Disk.{OnlyNow, View, Unsynced, IsImage, IsSettled, IsSound, IsWithin}
+use Rattle.cm_disk.specs.Calls.{Passes, SyncsOnce}
 use Rattle.cm_guards.specs.Calls.{LeavesOnly, Reads}
 use Rattle.cm_guards.proofs.{one_call, leaves_on, leaves_more}
 use Rattle.cm_recover.specs.Opened.{SyncsAndReads}
@@ -58,58 +58,49 @@ settled_after mid now a b settled same kept =
     subst (λ (l : List ℕ). IsSettled l b) (sym same)
     (subst (λ (u : Unsynced). IsSettled mid u) (sym kept) settled)
 
-module _ {D : Type 0} (moment : D → ℕ) (left_since : D → ℕ → List ℕ → Type 0)
-    (contents : D → List ℕ) (unsynced : D → Unsynced) (failures : D → ℕ) where
-  abbrev OnlyNow : Type 0
-  OnlyNow = (disk : D) (image : List ℕ) → left_since disk (moment disk) image
-      → IsImage (contents disk) (unsynced disk) image
+if_failed : {T E : Type 0} (r : Result T E) (e : E) (P : Type 0) → r ≡ Err e → OnErr r P → P
+if_failed (Ok x) e P failed p = absurd (cc)
+if_failed (Err f) e P failed p = p
 
-  abbrev Lasts : D → D → Type 0
-  Lasts old new =
-      Elapses (moment old) (moment new) (left_since old) (left_since new)
-      (IsImage (contents old) (unsynced old))
-
-  during : (old new : D) → OnlyNow → Lasts old new
-      → LeavesOnly moment left_since old new (IsImage (contents old) (unsynced old))
-  during old new only_now time =
-      one_call moment left_since contents unsynced only_now old new (unsynced old)
-      (IsImage (contents old) (unsynced old)) time (record { each = λ image is. is })
+module _ {D : Type 0} (view : View D) (only_now : OnlyNow view) (old mid : D) where
+  during : Passes view old mid (IsImage (view.contents old) (view.unsynced old))
+      → LeavesOnly view old mid (IsImage (view.contents old) (view.unsynced old))
+  during time =
+      one_call view only_now old mid (view.unsynced old)
+      (IsImage (view.contents old) (view.unsynced old)) time (record { each = λ image is. is })
       (record { each = λ image is. is })
 
   -- a sync that failed
-  pub not_synced : {T E : Type 0} (old new : D) (result : Result T E) (e : E) (F : Type 0) → OnlyNow
-      → contents new ≡ contents old → unsynced new ≡ unsynced old → Lasts old new
-      → HasCause (failures old) (failures new) result → result ≡ Err e → F
-      → SyncsAndReads contents unsynced failures moment left_since old new F
-  not_synced old new result e F only_now same kept time cause failed told = record {
-    contents_stay = same;
-    no_more = within_same (unsynced old) (unsynced new) kept;
-    images = during old new only_now time;
-    later = cause.later;
-    cause = λ f. cause.fault (subst IsErr (sym failed) refl);
+  pub not_synced : {T E : Type 0} (result : Result T E) (e : E) (F : Type 0)
+      → SyncsOnce view old mid result → result ≡ Err e → F → SyncsAndReads view old mid F
+  not_synced result e F sync failed told = record {
+    contents_stay = sync.same;
+    no_more = within_same (view.unsynced old) (view.unsynced mid)
+        (if_failed result e _ failed sync.not_settled);
+    images = during sync.time;
+    later = sync.cause.later;
+    cause = λ f. sync.cause.fault (subst IsErr (sym failed) refl);
     no_cause = λ none. absurd (none told);
   }
 
   -- a sync that is done, and reads
-  pub synced : {T E : Type 0} (old mid new : D) (result : Result T E) (F : Type 0) → OnlyNow
-      → IsSound (contents old) (unsynced old) → contents mid ≡ contents old
-      → IsSettled (contents mid) (unsynced mid) → Lasts old mid
-      → HasCause (failures old) (failures mid) result → IsOk result
-      → Reads contents unsynced failures moment left_since mid new F
-      → SyncsAndReads contents unsynced failures moment left_since old new F
-  synced old mid new result F only_now sound same settled time cause done reads =
-      let within = settled_within (contents old) (contents mid) (unsynced old) (unsynced mid) sound
-      same settled in
+  pub synced : {T E : Type 0} (new : D) (result : Result T E) (F : Type 0)
+      → IsSound (view.contents old) (view.unsynced old) → SyncsOnce view old mid result
+      → IsOk result → IsSettled (view.contents mid) (view.unsynced mid) → Reads view mid new F
+      → SyncsAndReads view old new F
+  synced new result F sound sync done settled reads =
+      let within = settled_within (view.contents old) (view.contents mid) (view.unsynced old)
+      (view.unsynced mid) sound sync.same settled in
       record {
-        contents_stay = reads.contents_stay ∙ same;
-        no_more = subst (IsWithin (unsynced old)) (sym reads.unsynced_stay) within;
-        images = leaves_on moment left_since old mid new (IsImage (contents old) (unsynced old))
-            (during old mid only_now time)
-            (leaves_more moment left_since mid new (IsImage (contents mid) (unsynced mid))
-            (IsImage (contents old) (unsynced old))
-            (λ image is. image_within (contents old) (contents mid) (unsynced old) (unsynced mid)
-            image same within is) reads.images);
-        later = omega (arith, cause.later, reads.later);
-        cause = λ f. let rose = reads.cause f in omega (arith, rose, cause.later);
-        no_cause = λ none. reads.no_cause none ∙ cause.no_fault done;
+        contents_stay = reads.contents_stay ∙ sync.same;
+        no_more = subst (IsWithin (view.unsynced old)) (sym reads.unsynced_stay) within;
+        images = leaves_on view old mid new (IsImage (view.contents old) (view.unsynced old))
+            (during sync.time)
+            (leaves_more view mid new (IsImage (view.contents mid) (view.unsynced mid))
+            (IsImage (view.contents old) (view.unsynced old))
+            (λ image is. image_within (view.contents old) (view.contents mid) (view.unsynced old)
+            (view.unsynced mid) image sync.same within is) reads.images);
+        later = omega (arith, sync.cause.later, reads.later);
+        cause = λ f. let rose = reads.cause f in omega (arith, rose, sync.cause.later);
+        no_cause = λ none. reads.no_cause none ∙ sync.cause.no_fault done;
       }

@@ -4,8 +4,8 @@ use Rattle.std.proofs.Common.{◌≡◌, ◌≤◌, ℕ, zero, suc, Bool, List, 
 use Rattle.std.specs.Prelude.{max, Result, Ok, Err, IsErr, is_ok}
 use Rattle.cm_pool.specs.Geometry.{Sizes}
 use Rattle.cm_layout.specs.Offsets.{roots_at}
-use Rattle.cm_disk.specs.Disk.{Unsynced, IsImage, IsSettled, IsWithin, widened}
-use Rattle.cm_disk.specs.Calls.{Elapses}
+use Rattle.cm_disk.specs.Disk.{OnlyNow, View, Unsynced, IsImage, IsSettled, IsWithin, widened}
+use Rattle.cm_disk.specs.Calls.{Passes, Elapses}
 use Rattle.cm_guards.specs.Guards.{EachImage}
 use Rattle.cm_guards.specs.Calls.{LeavesOnly}
 use Rattle.cm_guards.proofs.{one_call, leaves_on, run_then_sync}
@@ -47,67 +47,66 @@ module _ {D : Type 0} (called : D → D → Bool → Type 0) where
 
 -- ---- moments
 
-module _ {D : Type 0} (contents : D → List ℕ) (unsynced : D → Unsynced) (moment : D → ℕ)
-    (left_since : D → ℕ → List ℕ → Type 0)
-    (only_now : (disk : D) (image : List ℕ) → left_since disk (moment disk) image
-    → IsImage (contents disk) (unsynced disk) image) (sizes : Sizes) where
+module _ {D : Type 0} (view : View D)
+    (only_now : OnlyNow view) (sizes : Sizes) where
   -- the disk's length is asked for
   pub unfinished_asked : (old new : D)
-      → Elapses (moment old) (moment new) (left_since old) (left_since new)
-      (IsImage (contents old) (unsynced old))
-      → LeavesOnly moment left_since old new (IsUnfinished sizes (unsynced old))
+      → Passes view old new
+      (IsImage (view.contents old) (view.unsynced old))
+      → LeavesOnly view old new (IsUnfinished sizes (view.unsynced old))
   unfinished_asked old new time =
-      let here = unfinished sizes (unsynced old) (unsynced old) (contents old) (omega arith) in
-      one_call moment left_since contents unsynced only_now old new (unsynced old)
-      (IsUnfinished sizes (unsynced old)) time here here
+      let here = unfinished sizes (view.unsynced old) (view.unsynced old) (view.contents old)
+      (omega arith) in
+      one_call view only_now old new (view.unsynced old)
+      (IsUnfinished sizes (view.unsynced old)) time here here
 
   -- the whole file is written
   pub unfinished_written : (old new : D) (n : ℕ) → n ≡ roots_at sizes
-      → Elapses (moment old) (moment new) (left_since old) (left_since new)
-      (IsImage (contents old) (widened 0 n (unsynced old)))
-      → LeavesOnly moment left_since old new (IsUnfinished sizes (unsynced old))
+      → Passes view old new
+      (IsImage (view.contents old) (widened 0 n (view.unsynced old)))
+      → LeavesOnly view old new (IsUnfinished sizes (view.unsynced old))
   unfinished_written old new n long time =
-      one_call moment left_since contents unsynced only_now old new (widened 0 n (unsynced old))
-      (IsUnfinished sizes (unsynced old)) time
-      (unfinished sizes (unsynced old) (unsynced old) (contents old) (omega arith))
-      (unfinished sizes (unsynced old) (widened 0 n (unsynced old)) (contents old)
+      one_call view only_now old new (widened 0 n (view.unsynced old))
+      (IsUnfinished sizes (view.unsynced old)) time
+      (unfinished sizes (view.unsynced old) (view.unsynced old) (view.contents old) (omega arith))
+      (unfinished sizes (view.unsynced old) (widened 0 n (view.unsynced old)) (view.contents old)
       (omega (arith, long)))
 
   -- and then synced
   pub unfinished_synced : (first old new : D) (n : ℕ) → n ≡ roots_at sizes
-      → IsWithin (widened 0 n (unsynced first)) (unsynced old)
-      → Elapses (moment first) (moment old) (left_since first) (left_since old)
-      (IsImage (contents first) (widened 0 n (unsynced first)))
-      → Elapses (moment old) (moment new) (left_since old) (left_since new)
-      (IsImage (contents old) (unsynced old))
-      → LeavesOnly moment left_since first new (IsUnfinished sizes (unsynced first))
+      → IsWithin (widened 0 n (view.unsynced first)) (view.unsynced old)
+      → Passes view first old
+      (IsImage (view.contents first) (widened 0 n (view.unsynced first)))
+      → Passes view old new
+      (IsImage (view.contents old) (view.unsynced old))
+      → LeavesOnly view first new (IsUnfinished sizes (view.unsynced first))
   unfinished_synced first old new n long within writing syncing =
-      run_then_sync contents unsynced moment left_since only_now first old new
-      (IsUnfinished sizes (unsynced first)) (unfinished_written first old n long writing)
-      (unfinished sizes (unsynced first) (unsynced old) (contents old)
+      run_then_sync view only_now first old new
+      (IsUnfinished sizes (view.unsynced first)) (unfinished_written first old n long writing)
+      (unfinished sizes (view.unsynced first) (view.unsynced old) (view.contents old)
       (omega (arith, long, within.greatest)))
       syncing
 
   -- its length is asked for, and then it is stored
   pub unfinished_on : (first old new : D) (file_sizes : Sizes) → file_sizes ≡ sizes
-      → unsynced old ≡ unsynced first
-      → Elapses (moment first) (moment old) (left_since first) (left_since old)
-      (IsImage (contents first) (unsynced first))
-      → LeavesOnly moment left_since old new (IsUnfinished file_sizes (unsynced old))
-      → LeavesOnly moment left_since first new (IsUnfinished sizes (unsynced first))
+      → view.unsynced old ≡ view.unsynced first
+      → Passes view first old
+      (IsImage (view.contents first) (view.unsynced first))
+      → LeavesOnly view old new (IsUnfinished file_sizes (view.unsynced old))
+      → LeavesOnly view first new (IsUnfinished sizes (view.unsynced first))
   unfinished_on first old new file_sizes same kept time run =
-      leaves_on moment left_since first old new (IsUnfinished sizes (unsynced first))
+      leaves_on view first old new (IsUnfinished sizes (view.unsynced first))
       (unfinished_asked first old time)
-      (subst (λ u. LeavesOnly moment left_since old new (IsUnfinished sizes u)) kept
-      (subst (λ s. LeavesOnly moment left_since old new (IsUnfinished s (unsynced old))) same run))
+      (subst (λ u. LeavesOnly view old new (IsUnfinished sizes u)) kept
+      (subst (λ s. LeavesOnly view old new (IsUnfinished s (view.unsynced old))) same run))
 
   module _ (called : D → D → Bool → Type 0) where
     -- a fault before anything was written
     pub ends_asked : {A T E F : Type 0} (asked : Result A F) (result : Result T E) (old new : D)
         → IsErr result → called old new (is_ok asked)
-        → Elapses (moment old) (moment new) (left_since old) (left_since new)
-        (IsImage (contents old) (unsynced old))
-        → FormatsThrough contents unsynced moment left_since called sizes old new result
+        → Passes view old new
+        (IsImage (view.contents old) (view.unsynced old))
+        → FormatsThrough view called sizes old new result
     ends_asked asked result old new faulted call time =
         record {
           course = inl (record {
@@ -120,11 +119,11 @@ module _ {D : Type 0} (contents : D → List ℕ) (unsynced : D → Unsynced) (m
     -- a fault before it was stored
     pub ends_unstored : {T E : Type 0} (result : Result T E) (first old new : D)
         (file_sizes : Sizes) → IsErr result → CallsAtMost called 3 first new
-        → file_sizes ≡ sizes → unsynced old ≡ unsynced first
-        → Elapses (moment first) (moment old) (left_since first) (left_since old)
-        (IsImage (contents first) (unsynced first))
-        → LeavesOnly moment left_since old new (IsUnfinished file_sizes (unsynced old))
-        → FormatsThrough contents unsynced moment left_since called sizes first new result
+        → file_sizes ≡ sizes → view.unsynced old ≡ view.unsynced first
+        → Passes view first old
+        (IsImage (view.contents first) (view.unsynced first))
+        → LeavesOnly view old new (IsUnfinished file_sizes (view.unsynced old))
+        → FormatsThrough view called sizes first new result
     ends_unstored result first old new file_sizes faulted calls same kept time run =
         record {
           course = inl (record {
@@ -137,25 +136,26 @@ module _ {D : Type 0} (contents : D → List ℕ) (unsynced : D → Unsynced) (m
     -- it was stored shut, and then opened
     pub passes_shut : {T E : Type 0} (result : Result T E) (first old between new : D)
         (file_sizes : Sizes) → CallsAtMost called 3 first between
-        → CallsAtMost called 2 between new → file_sizes ≡ sizes → unsynced old ≡ unsynced first
-        → Elapses (moment first) (moment old) (left_since first) (left_since old)
-        (IsImage (contents first) (unsynced first))
-        → LeavesOnly moment left_since old between (IsUnfinished file_sizes (unsynced old))
-        → contents between ≡ shut_bytes file_sizes
-        → IsSettled (contents between) (unsynced between)
-        → LeavesOnly moment left_since between new (IsNoneOrEmpty file_sizes)
-        → FormatsThrough contents unsynced moment left_since called sizes first new result
+        → CallsAtMost called 2 between new → file_sizes ≡ sizes → view.unsynced old ≡ view.unsynced
+        first
+        → Passes view first old
+        (IsImage (view.contents first) (view.unsynced first))
+        → LeavesOnly view old between (IsUnfinished file_sizes (view.unsynced old))
+        → view.contents between ≡ shut_bytes file_sizes
+        → IsSettled (view.contents between) (view.unsynced between)
+        → LeavesOnly view between new (IsNoneOrEmpty file_sizes)
+        → FormatsThrough view called sizes first new result
     passes_shut result first old between new file_sizes three two same kept time run shut stored
         later =
         record {
           course = inr (record {
             between = between;
-            shut = subst (λ s. contents between ≡ shut_bytes s) same shut;
+            shut = subst (λ s. view.contents between ≡ shut_bytes s) same shut;
             stored = stored;
             first_calls = three;
             before = unfinished_on first old between file_sizes same kept time run;
             last_calls = two;
-            after = subst (λ s. LeavesOnly moment left_since between new (IsNoneOrEmpty s)) same
+            after = subst (λ s. LeavesOnly view between new (IsNoneOrEmpty s)) same
                 later;
           });
         }

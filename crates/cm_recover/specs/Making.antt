@@ -4,7 +4,7 @@ use Rattle.std.specs.Prelude.{List, length, get_or, Result, Err, IsErr}
 use Rattle.cm_pool.specs.Geometry.{Sizes, IsGeometry}
 use Rattle.cm_layout.specs.Offsets.{roots_at}
 use Rattle.cm_layout.specs.Slots.{open_gate}
-use Rattle.cm_disk.specs.Disk.{Unsynced, IsBytes, IsSettled}
+use Rattle.cm_disk.specs.Disk.{View, Unsynced, IsBytes, IsSettled}
 use Rattle.cm_guards.specs.Calls.{LeavesOnly}
 use Rattle.cm_recover.specs.declared.fault.FormatFault.{FormatFault}
 use Rattle.cm_recover.specs.declared.fault.FormatFault.TheVariants as fault
@@ -42,29 +42,27 @@ CallsAtMost {D = D} called (suc n) old new =
 
 -- A fault came before all but the gate was stored. The first three calls are the length, a write
 -- and a sync.
-pub record EndsUnfinished {T E D : Type 0} (unsynced : D → Unsynced) (moment : D → ℕ)
-    (left_since : D → ℕ → List ℕ → Type 0) (called : D → D → Bool → Type 0) (sizes : Sizes)
+pub record EndsUnfinished {T E D : Type 0} (view : View D) (called : D → D → Bool → Type 0)
+    (sizes : Sizes)
     (old new : D) (result : Result T E) : Type 0 where
   pub faulted : IsErr result
   pub calls : CallsAtMost called 3 old new
-  pub images : LeavesOnly moment left_since old new (IsUnfinished sizes (unsynced old))
+  pub images : LeavesOnly view old new (IsUnfinished sizes (view.unsynced old))
 
 -- By the first sync all but the gate was stored. Until then the file was unfinished, and from
 -- there on each image is no cache or the empty one. The last two calls are a write and a sync.
-pub record PassesShut {D : Type 0} (contents : D → List ℕ) (unsynced : D → Unsynced)
-    (moment : D → ℕ) (left_since : D → ℕ → List ℕ → Type 0) (called : D → D → Bool → Type 0)
+pub record PassesShut {D : Type 0} (view : View D) (called : D → D → Bool → Type 0)
     (sizes : Sizes) (old new : D) : Type 0 where
   pub between : D
-  pub shut : contents between ≡ shut_bytes sizes
-  pub stored : IsSettled (contents between) (unsynced between)
+  pub shut : view.contents between ≡ shut_bytes sizes
+  pub stored : IsSettled (view.contents between) (view.unsynced between)
   pub first_calls : CallsAtMost called 3 old between
-  pub before : LeavesOnly moment left_since old between (IsUnfinished sizes (unsynced old))
+  pub before : LeavesOnly view old between (IsUnfinished sizes (view.unsynced old))
   pub last_calls : CallsAtMost called 2 between new
-  pub after : LeavesOnly moment left_since between new (IsNoneOrEmpty sizes)
+  pub after : LeavesOnly view between new (IsNoneOrEmpty sizes)
 
 -- what is so of the moments of a call that makes a file of these sizes, and answers this
-pub record FormatsThrough {T E D : Type 0} (contents : D → List ℕ) (unsynced : D → Unsynced)
-    (moment : D → ℕ) (left_since : D → ℕ → List ℕ → Type 0) (called : D → D → Bool → Type 0)
+pub record FormatsThrough {T E D : Type 0} (view : View D) (called : D → D → Bool → Type 0)
     (sizes : Sizes) (old new : D) (result : Result T E) : Type 0 where
-  pub course : EndsUnfinished unsynced moment left_since called sizes old new result
-      ⊎ PassesShut contents unsynced moment left_since called sizes old new
+  pub course : EndsUnfinished view called sizes old new result
+      ⊎ PassesShut view called sizes old new

@@ -10,7 +10,7 @@ use Rattle.cm_layout.specs.declared.row.Row.{Row}
 use Rattle.cm_layout.specs.declared.row.Row.TheVariants.{Loader, Class}
 use Rattle.cm_layout.specs.Rows.{rows_with}
 use Rattle.cm_layout.specs.Framing.{Framing, IsRight, Matches}
-use Rattle.cm_disk.specs.Disk.{Unsynced, IsImage, IsWithin}
+use Rattle.cm_disk.specs.Disk.{View, Unsynced, IsImage, IsWithin}
 use Rattle.cm_guards.specs.Calls.{LeavesOnly}
 use Rattle.cm_state.specs.Stands.{Stands, Arenas}
 use Rattle.cm_state.specs.State.{words_show}
@@ -84,15 +84,14 @@ pub record Opens {D : Type 0} (contents : List ℕ) (front : FrontState)
 -- A run of calls that sync and read: the contents stay, no more is unsynced after it, at each
 -- moment a crash leaves what it might have left before it, and a fault is told exactly where the
 -- device failed in it.
-pub record SyncsAndReads {D : Type 0} (contents : D → List ℕ) (unsynced : D → Unsynced)
-    (failures moment : D → ℕ) (left_since : D → ℕ → List ℕ → Type 0) (old new : D)
+pub record SyncsAndReads {D : Type 0} (view : View D) (old new : D)
     (Faulted : Type 0) : Type 0 where
-  pub contents_stay : contents new ≡ contents old
-  pub no_more : IsWithin (unsynced old) (unsynced new)
-  pub images : LeavesOnly moment left_since old new (IsImage (contents old) (unsynced old))
-  pub later : failures old ≤ failures new
-  pub cause : Faulted → failures old < failures new
-  pub no_cause : (Faulted → ⊥) → failures new ≡ failures old
+  pub contents_stay : view.contents new ≡ view.contents old
+  pub no_more : IsWithin (view.unsynced old) (view.unsynced new)
+  pub images : LeavesOnly view old new (IsImage (view.contents old) (view.unsynced old))
+  pub later : view.failures old ≤ view.failures new
+  pub cause : Faulted → view.failures old < view.failures new
+  pub no_cause : (Faulted → ⊥) → view.failures new ≡ view.failures old
 
 -- the disk after it was opened, or handed back
 abbrev pub disk_after : {D : Type 0} → Result (FrontState × CommitterState D) (NotOpened D) → D

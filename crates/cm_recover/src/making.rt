@@ -26,20 +26,20 @@ use std::alloc::Global;
 /// nothing was written. `Device` where the device failed, by that sync or behind it.
 pub fn format<D: Disk>(alloc: Global, disk: &mut D, geometry: Geometry) -> Result<(), FormatFault>
     ensures empty { OnOk result
-        (EachImage (D.contents disk.new) (D.unsynced disk.new) (IsEmptyCache geometry)) }
-    ensures bytes { OnOk result (D.contents disk.new ≡ new_bytes geometry) }
-    ensures stored { OnOk result (IsSettled (D.contents disk.new) (D.unsynced disk.new)) }
-    ensures not_empty { result ≡ Err fault.NotEmpty → 0 < length (D.contents disk.old) }
-    ensures only_empty { 0 < length (D.contents disk.old)
+        (EachImage (D.view.contents disk.new) (D.view.unsynced disk.new) (IsEmptyCache geometry)) }
+    ensures bytes { OnOk result (D.view.contents disk.new ≡ new_bytes geometry) }
+    ensures stored { OnOk result (IsSettled (D.view.contents disk.new) (D.view.unsynced disk.new)) }
+    ensures not_empty { result ≡ Err fault.NotEmpty → 0 < length (D.view.contents disk.old) }
+    ensures only_empty { 0 < length (D.view.contents disk.old)
         → (result ≡ Err fault.NotEmpty) ⊎ (result ≡ Err fault.Device) }
-    ensures overwrites_nothing { 0 < length (D.contents disk.old)
-        → Reads D.contents D.unsynced D.failures D.moment D.left_since disk.old disk.new
+    ensures overwrites_nothing { 0 < length (D.view.contents disk.old)
+        → Reads D.view disk.old disk.new
         (result ≡ Err fault.Device) }
     ensures no_memory { result ≡ Err fault.NoMemory
-        → Reads D.contents D.unsynced D.failures D.moment D.left_since disk.old disk.new ⊥ }
-    ensures moments { FormatsThrough D.contents D.unsynced D.moment D.left_since D.called geometry
+        → Reads D.view disk.old disk.new ⊥ }
+    ensures moments { FormatsThrough D.view D.called geometry
         disk.old disk.new result }
-    ensures cause { HasFormatCause (D.failures disk.old) (D.failures disk.new) result }
+    ensures cause { HasFormatCause (D.view.failures disk.old) (D.view.failures disk.new) result }
 {
     if disk.len()? != 0 {
         return Err(FormatFault::NotEmpty);

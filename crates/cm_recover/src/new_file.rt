@@ -55,13 +55,14 @@ impl NewFile {
     /// Stores it on an empty disk, shut: it is unfinished at each moment until then.
     pub(crate) fn store<D: Disk>(&self, disk: &mut D) -> Result<(), DeviceFault>
         requires new { IsNewFile self.now.geometry self.now }
-        requires empty { length (D.contents disk.old) ≡ 0 }
-        ensures written { OnOk result (D.contents disk.new ≡ shut_bytes self.now.geometry) }
-        ensures settled { OnOk result (IsSettled (D.contents disk.new) (D.unsynced disk.new)) }
-        ensures any_moment { LeavesOnly D.moment D.left_since disk.old disk.new
-            (IsUnfinished self.now.geometry (D.unsynced disk.old)) }
+        requires empty { length (D.view.contents disk.old) ≡ 0 }
+        ensures written { OnOk result (D.view.contents disk.new ≡ shut_bytes self.now.geometry) }
+        ensures settled { OnOk result (IsSettled (D.view.contents disk.new)
+            (D.view.unsynced disk.new)) }
+        ensures any_moment { LeavesOnly D.view disk.old disk.new
+            (IsUnfinished self.now.geometry (D.view.unsynced disk.old)) }
         ensures calls { CallsAtMost D.called 2 disk.old disk.new }
-        ensures cause { HasCause (D.failures disk.old) (D.failures disk.new) result }
+        ensures cause { HasCause (D.view.failures disk.old) (D.view.failures disk.new) result }
     {
         disk.write_at(0, &self.bytes)?;
         disk.sync()
@@ -71,15 +72,15 @@ impl NewFile {
     #[tactic(auto, using(cm_guards::proofs::gating))]
     fn write_gate<D: Disk>(&self, disk: &mut D) -> Result<(), DeviceFault>
         requires lawful { IsGeometry self.now.geometry }
-        requires shut { D.contents disk.old ≡ shut_bytes self.now.geometry }
-        requires settled { IsSettled (D.contents disk.old) (D.unsynced disk.old) }
-        ensures written { OnOk result (D.contents disk.new ≡ new_bytes self.now.geometry) }
-        ensures images { EachImage (D.contents disk.new) (D.unsynced disk.new)
+        requires shut { D.view.contents disk.old ≡ shut_bytes self.now.geometry }
+        requires settled { IsSettled (D.view.contents disk.old) (D.view.unsynced disk.old) }
+        ensures written { OnOk result (D.view.contents disk.new ≡ new_bytes self.now.geometry) }
+        ensures images { EachImage (D.view.contents disk.new) (D.view.unsynced disk.new)
             (IsNoneOrEmpty self.now.geometry) }
-        ensures any_moment { LeavesOnly D.moment D.left_since disk.old disk.new
+        ensures any_moment { LeavesOnly D.view disk.old disk.new
             (IsNoneOrEmpty self.now.geometry) }
         ensures called { D.called disk.old disk.new (is_ok result) }
-        ensures cause { HasCause (D.failures disk.old) (D.failures disk.new) result }
+        ensures cause { HasCause (D.view.failures disk.old) (D.view.failures disk.new) result }
     {
         disk.write_at(GATE_AT as u64, &[OPEN_GATE])
     }
@@ -89,16 +90,17 @@ impl NewFile {
     #[tactic(auto, using(cm_guards::proofs::settling))]
     pub(crate) fn open<D: Disk>(&self, disk: &mut D) -> Result<(), DeviceFault>
         requires lawful { IsGeometry self.now.geometry }
-        requires shut { D.contents disk.old ≡ shut_bytes self.now.geometry }
-        requires settled { IsSettled (D.contents disk.old) (D.unsynced disk.old) }
-        ensures written { OnOk result (D.contents disk.new ≡ new_bytes self.now.geometry) }
-        ensures stored { OnOk result (IsSettled (D.contents disk.new) (D.unsynced disk.new)) }
-        ensures images { EachImage (D.contents disk.new) (D.unsynced disk.new)
+        requires shut { D.view.contents disk.old ≡ shut_bytes self.now.geometry }
+        requires settled { IsSettled (D.view.contents disk.old) (D.view.unsynced disk.old) }
+        ensures written { OnOk result (D.view.contents disk.new ≡ new_bytes self.now.geometry) }
+        ensures stored { OnOk result (IsSettled (D.view.contents disk.new)
+            (D.view.unsynced disk.new)) }
+        ensures images { EachImage (D.view.contents disk.new) (D.view.unsynced disk.new)
             (IsNoneOrEmpty self.now.geometry) }
-        ensures any_moment { LeavesOnly D.moment D.left_since disk.old disk.new
+        ensures any_moment { LeavesOnly D.view disk.old disk.new
             (IsNoneOrEmpty self.now.geometry) }
         ensures calls { CallsAtMost D.called 2 disk.old disk.new }
-        ensures cause { HasCause (D.failures disk.old) (D.failures disk.new) result }
+        ensures cause { HasCause (D.view.failures disk.old) (D.view.failures disk.new) result }
     {
         self.write_gate(disk)?;
         disk.sync()

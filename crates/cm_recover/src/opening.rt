@@ -27,10 +27,10 @@ pub struct NotOpened<D> {
 
 // Has all stored that the disk holds, and reads what it stands for.
 fn read_synced<D: Disk>(alloc: Global, disk: &mut D) -> Result<StandingFile, OpenFault>
-    ensures standing { Answers (IsStanding (D.contents disk.old)) result
-        (verdict (D.contents disk.old)) }
-    ensures stored { OnOk result (IsSettled (D.contents disk.new) (D.unsynced disk.new)) }
-    ensures run { SyncsAndReads D.contents D.unsynced D.failures D.moment D.left_since disk.old
+    ensures standing { Answers (IsStanding (D.view.contents disk.old)) result
+        (verdict (D.view.contents disk.old)) }
+    ensures stored { OnOk result (IsSettled (D.view.contents disk.new) (D.view.unsynced disk.new)) }
+    ensures run { SyncsAndReads D.view disk.old
         disk.new (result ≡ Err open_fault.Device) }
 {
     disk.sync()?;
@@ -46,11 +46,11 @@ fn read_synced<D: Disk>(alloc: Global, disk: &mut D) -> Result<StandingFile, Ope
 /// the device failed; `NoMemory` where an allocation failed. The disk is handed back then, as it
 /// was, and each image that a crash may leave is one that it might have left before the call.
 pub fn open<D: Disk>(alloc: Global, mut disk: D) -> Result<(Front, Committer<D>), NotOpened<D>>
-    ensures opened { IfOk result (λ p. Opens (D.contents disk) p.0 p.1) }
+    ensures opened { IfOk result (λ p. Opens (D.view.contents disk) p.0 p.1) }
     ensures stored { IfOk result
-        (λ p. IsSettled (D.contents p.1.disk) (D.unsynced p.1.disk)) }
-    ensures fault { IfErr result (λ e. IsFaultIn e.fault (verdict (D.contents disk))) }
-    ensures run { SyncsAndReads D.contents D.unsynced D.failures D.moment D.left_since disk
+        (λ p. IsSettled (D.view.contents p.1.disk) (D.view.unsynced p.1.disk)) }
+    ensures fault { IfErr result (λ e. IsFaultIn e.fault (verdict (D.view.contents disk))) }
+    ensures run { SyncsAndReads D.view disk
         (disk_after result) (MeetsDevice result) }
 {
     found_is_live();

@@ -37,10 +37,10 @@ fn read_part<D: Disk>(
     at: u64,
     count: usize,
 ) -> Result<Vec<u8>, OpenFault>
-    requires { at + count ≤ length (D.contents disk.old) }
-    ensures bytes { IfOk result (λ bytes. bytes.items ≡ part at count (D.contents disk.old)) }
+    requires { at + count ≤ length (D.view.contents disk.old) }
+    ensures bytes { IfOk result (λ bytes. bytes.items ≡ part at count (D.view.contents disk.old)) }
     ensures faults { IfErr result (λ e. (e ≡ open_fault.Device) ⊎ (e ≡ open_fault.NoMemory)) }
-    ensures reads { Reads D.contents D.unsynced D.failures D.moment D.left_since disk.old disk.new
+    ensures reads { Reads D.view disk.old disk.new
         (result ≡ Err open_fault.Device) }
 {
     let mut bytes = Vec::from_elem(alloc, 0, count)?;
@@ -52,8 +52,9 @@ fn read_part<D: Disk>(
 #[tactic(auto, using(cm_guards::proofs::reading))]
 fn read_sizes<D: Disk>(alloc: Global, disk: &mut D) -> Result<Geometry, OpenFault>
     ensures sizes { IsAnswer (λ g. g) result
-        (sizes_found_in (length (D.contents disk.old)) (take 4096 (D.contents disk.old))) }
-    ensures reads { Reads D.contents D.unsynced D.failures D.moment D.left_since disk.old disk.new
+        (sizes_found_in (length (D.view.contents disk.old))
+        (take 4096 (D.view.contents disk.old))) }
+    ensures reads { Reads D.view disk.old disk.new
         (result ≡ Err open_fault.Device) }
 {
     let long = disk.len()?;
@@ -127,10 +128,10 @@ fn walk_halves(
 /// `NotACache` and `Damaged` are the first that the contents have. `Device` where the device
 /// failed, `NoMemory` where an allocation did: they say nothing of the contents.
 pub fn read_found<D: Disk>(alloc: Global, disk: &mut D) -> Result<FoundFile, OpenFault>
-    ensures found { IsAnswer found_of result (found_in (D.contents disk.old)) }
+    ensures found { IsAnswer found_of result (found_in (D.view.contents disk.old)) }
     ensures other { IfOk result (λ f. f.other_open
-        ≡ other_is_open f.geometry f.counts.half (D.contents disk.old)) }
-    ensures reads { Reads D.contents D.unsynced D.failures D.moment D.left_since disk.old disk.new
+        ≡ other_is_open f.geometry f.counts.half (D.view.contents disk.old)) }
+    ensures reads { Reads D.view disk.old disk.new
         (result ≡ Err open_fault.Device) }
 {
     let geometry = read_sizes(alloc, disk)?;

@@ -46,12 +46,13 @@ impl RecordWords {
         at: u64,
         count: usize,
     ) -> Result<(), OpenFault>
-        requires within { at + 8 * count ≤ length (D.contents disk.old) }
+        requires within { at + 8 * count ≤ length (D.view.contents disk.old) }
         requires few { 8 * count ≤ 2 ^ 40 }
         ensures words { OnOk result
-            (self.new.words.items ≡ packed_into count (part at (8 * count) (D.contents disk.old))) }
+            (self.new.words.items ≡ packed_into count
+            (part at (8 * count) (D.view.contents disk.old))) }
         ensures faults { IfErr result (λ e. (e ≡ open_fault.Device) ⊎ (e ≡ open_fault.NoMemory)) }
-        ensures reads { Reads D.contents D.unsynced D.failures D.moment D.left_since disk.old
+        ensures reads { Reads D.view disk.old
             disk.new (result ≡ Err open_fault.Device) }
     {
         self.bytes.resize(8 * count, 0)?;

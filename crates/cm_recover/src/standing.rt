@@ -87,10 +87,10 @@ impl SecondPass {
         slot: u32,
     ) -> Result<Prepared, OpenFault>
         requires place { IsPlace self.now.geometry place }
-        requires long { self.now.long ≡ length (D.contents disk.old) }
+        requires long { self.now.long ≡ length (D.view.contents disk.old) }
         ensures class { Answers IsRecorded result (at_slot slot
-            (class_in_place self.now.geometry (D.contents disk.old) place)) }
-        ensures reads { Reads D.contents D.unsynced D.failures D.moment D.left_since disk.old
+            (class_in_place self.now.geometry (D.view.contents disk.old) place)) }
+        ensures reads { Reads D.view disk.old
             disk.new (result ≡ Err open_fault.Device) }
     {
         if root_at(self.geometry, place.chunk.root + 1) > self.long {
@@ -120,13 +120,13 @@ impl SecondPass {
         slot: u32,
     ) -> Result<(), OpenFault>
         requires follows { MayFollow self.now.geometry self.now.number rows.old (Class row tt) }
-        requires long { self.now.long ≡ length (D.contents disk.old) }
+        requires long { self.now.long ≡ length (D.view.contents disk.old) }
         ensures taken { (before : List (RowOf ClassFile))
             → AreRecorded self.now.geometry rows.old before
             → Answers (λ u. AreRecorded self.now.geometry rows.new) result
-            (row_found self.now.geometry (D.contents disk.old) before
+            (row_found self.now.geometry (D.view.contents disk.old) before
             (Class row (record { slot = slot }))) }
-        ensures reads { Reads D.contents D.unsynced D.failures D.moment D.left_since disk.old
+        ensures reads { Reads D.view disk.old
             disk.new (result ≡ Err open_fault.Device) }
     {
         let _lawful = self.geometry.top(); // so the proof knows its sizes are within the limits
@@ -150,12 +150,12 @@ impl SecondPass {
         row: &Row<DefinedAt>,
     ) -> Result<(), OpenFault>
         requires follows { MayFollow self.now.geometry self.now.number rows.old (bare_of row.now) }
-        requires long { self.now.long ≡ length (D.contents disk.old) }
+        requires long { self.now.long ≡ length (D.view.contents disk.old) }
         ensures taken { (before : List (RowOf ClassFile))
             → AreRecorded self.now.geometry rows.old before
             → Answers (λ u. AreRecorded self.now.geometry rows.new) result
-            (row_found self.now.geometry (D.contents disk.old) before row.now) }
-        ensures reads { Reads D.contents D.unsynced D.failures D.moment D.left_since disk.old
+            (row_found self.now.geometry (D.view.contents disk.old) before row.now) }
+        ensures reads { Reads D.view disk.old
             disk.new (result ≡ Err open_fault.Device) }
     {
         match row {
@@ -174,10 +174,10 @@ impl SecondPass {
         found: &Book<DefinedAt>,
     ) -> Result<SharedRows, OpenFault>
         requires live { LiveRowsKeep self.now.geometry self.now.number [] (bare found.now.rows) }
-        requires long { self.now.long ≡ length (D.contents disk.old) }
+        requires long { self.now.long ≡ length (D.view.contents disk.old) }
         ensures classes { Answers (AreRecorded self.now.geometry) result
-            (classes_found self.now.geometry (D.contents disk.old) [] found.now.rows) }
-        ensures reads { Reads D.contents D.unsynced D.failures D.moment D.left_since disk.old
+            (classes_found self.now.geometry (D.view.contents disk.old) [] found.now.rows) }
+        ensures reads { Reads D.view disk.old
             disk.new (result ≡ Err open_fault.Device) }
     {
         let mut words = RecordWords::new(self.alloc);
@@ -196,9 +196,9 @@ impl SecondPass {
 /// `NotACache` and `Damaged` are the first that the contents have. `Device` where the device
 /// failed, `NoMemory` where an allocation did: they say nothing of the contents.
 pub fn read_standing<D: Disk>(alloc: Global, disk: &mut D) -> Result<StandingFile, OpenFault>
-    ensures standing { Answers (IsStanding (D.contents disk.old)) result
-        (verdict (D.contents disk.old)) }
-    ensures reads { Reads D.contents D.unsynced D.failures D.moment D.left_since disk.old disk.new
+    ensures standing { Answers (IsStanding (D.view.contents disk.old)) result
+        (verdict (D.view.contents disk.old)) }
+    ensures reads { Reads D.view disk.old disk.new
         (result ≡ Err open_fault.Device) }
 {
     found_is_live();

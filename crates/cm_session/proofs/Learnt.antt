@@ -1,7 +1,7 @@
 -- What the accepted cache has learnt to be stored, and what was stored since.
 -- For `Session::accept`, `Session::advance`, `Session::learn`, `Session::offer_next`,
 -- `Session::seal`.
-use Rattle.std.proofs.Common.{◌≡◌, ℕ, ◌+◌, Bool, List, [], ◌++◌, length, refl, sym, ap, subst, ◌∙◌}
+use Rattle.std.proofs.Common.{◌≡◌, ℕ, ◌+◌, List, [], ◌++◌, length, refl, sym, ap, subst, ◌∙◌}
 use Rattle.std.proofs.Common.{arith, append_assoc, Ok}
 use Rattle.std.proofs.lemmas.List.{length-append}
 use Rattle.cm_layout.specs.declared.row.Row.{Row}
@@ -11,7 +11,7 @@ use Rattle.cm_commit.specs.Offers.{rows_after_group}
 use Rattle.cm_front.specs.Front.{FrontState, IsFront}
 use Rattle.cm_front.specs.Accepting.{Answers, HandsOut}
 use Rattle.cm_machine.specs.Ahead.{IsAhead}
-use Rattle.cm_machine.specs.Handover.{AcceptedIsAhead, HandedIsAhead, FailedIsAhead}
+use Rattle.cm_machine.specs.Handover.{AcceptedIsAhead, HandedIsAhead}
 use Rattle.cm_machine.proofs.{rows_after_two}
 use Rattle.cm_session.specs.Session.{IsAheadOfLearnt}
 

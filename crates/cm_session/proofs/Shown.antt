@@ -4,6 +4,7 @@ use Rattle.std.proofs.Common.{◌≡◌, ℕ, ◌+◌, ◌≤◌, List, [], ◌�
 use Rattle.std.proofs.Common.{Bool, Option, Some, None, sym, ap, subst, ◌∙◌, arith, append_assoc}
 use Rattle.std.specs.Prelude.{◌⊎◌}
 use Rattle.std.proofs.lemmas.List.{length-append}
+use Rattle.cm_disk.specs.Disk.{View}
 use Rattle.cm_class.specs.declared.class_file.ClassFile.{ClassFile}
 use Rattle.cm_pool.specs.Geometry.{Sizes}
 use Rattle.cm_layout.specs.declared.row.Row.{Row}
@@ -16,7 +17,8 @@ use Rattle.cm_state.specs.State.{class_shows, state_of}
 use Rattle.cm_state.specs.Stands.{EachKeepsRules, arenas_among}
 use Rattle.cm_commit.specs.Offers.{filled, rows_after_group}
 use Rattle.cm_guards.specs.Stages.{Stage, Store, Turn, Settle, Cut, turned, leaves}
-use Rattle.cm_commit.specs.States.{CommitterState, ShowsCache, ShowsWith, MayLeave}
+use Rattle.cm_commit.specs.States.{Work, Storing, Trimming, CommitterState, ShowsCache, ShowsWith}
+use Rattle.cm_commit.specs.States.{MayLeave}
 use Rattle.cm_front.specs.Front.{FrontState}
 use Rattle.cm_machine.specs.Ahead.{pending}
 use Rattle.cm_machine.specs.Machine.{Machine, accepted_to}
@@ -137,11 +139,12 @@ module _ {D : Type 0} (committed : CommittedFollows) (counted : CommandsAreCount
           (commands_of (of_underway committer.underway ++ queue)) (commands_of front.unsealed) in
           omega (arith, numbers, last, here, to, long, more, out))
 
-  with_underway : (u : Option Handed) → Waits (commands_of (of_underway u ++ queue))
+  with_underway : (u : Option Work) → Waits (commands_of (of_underway u ++ queue))
       → committer.number + length (commands_of (of_underway u ++ queue)) ≡ front.sealed
       → (image : List ℕ) → ShowsWith committer u image → StandsForSome sizes k image
   with_underway None f to image s = now (commands_of queue) f to image s
-  with_underway (Some group) f to image s = then group queue f to image s
+  with_underway (Some Trimming) f to image s = now (commands_of queue) f to image s
+  with_underway (Some (Storing group)) f to image s = then group queue f to image s
 
   waits : Waits (commands_of (of_underway committer.underway ++ queue))
   waits =
@@ -160,10 +163,10 @@ module _ {D : Type 0} (committed : CommittedFollows) (counted : CommandsAreCount
 
 -- ---- at each moment
 
-pub leaves_so : {D : Type 0} (moment : D → ℕ) (left_since : D → ℕ → List ℕ → Type 0) (old new : D)
+pub leaves_so : {D : Type 0} (view : View D) (old new : D)
     (P Q : List ℕ → Type 0) → ((image : List ℕ) → P image → Q image)
-    → LeavesOnly moment left_since old new P → LeavesOnly moment left_since old new Q
-leaves_so moment left_since old new P Q f l = record {
+    → LeavesOnly view old new P → LeavesOnly view old new Q
+leaves_so view old new P Q f l = record {
   later = l.later;
   each = λ image left. f image (l.each image left);
   before = λ t image le left.

@@ -5,16 +5,19 @@ use Rattle.std.proofs.Common.{length, map, Option, Some, None, Result, Ok, Err, 
 use Rattle.std.proofs.Common.{subst, ◌∙◌, arith, append_assoc, inl, inr}
 use Rattle.std.specs.Prelude.{◌||◌, ◌↔◌, IsOk, OnOk, OnErr}
 use Rattle.std.proofs.lemmas.List.{length-append}
+use Rattle.cm_disk.specs.Disk.{View}
 use Rattle.cm_group.specs.declared.receipt.Receipt.{Receipt}
 use Rattle.cm_group.specs.Groups.{Handed}
-use Rattle.cm_commit.specs.declared.progress.Progress.TheVariants.{Idle, Working, Done}
+use Rattle.cm_commit.specs.declared.progress.Progress.TheVariants.{Idle, Working, Done, Trimmed}
 use Rattle.cm_commit.specs.declared.progress.AdvanceFault.TheVariants.{Device, Broken}
 use Rattle.cm_guards.specs.Stages.{Stage, calls_left, after_call}
 use Rattle.cm_commit.specs.Offers.{filled, rows_after_group, MayCome}
-use Rattle.cm_commit.specs.States.{CommitterState, Takes, with_taken}
+use Rattle.cm_commit.specs.States.{Work, Storing, CommitterState, Takes, with_taken}
+use Rattle.cm_commit.specs.States.{with_trim, BeginsTrim}
 use Rattle.cm_commit.specs.declared.progress.Progress.{Progress}
 use Rattle.cm_commit.specs.declared.progress.AdvanceFault.{AdvanceFault}
-use Rattle.cm_commit.specs.Advances.{Rests, Works, Finishes, Breaks, StaysBroken, Advances}
+use Rattle.cm_commit.specs.Advances.{Rests, Works, Finishes, Trims, Breaks, StaysBroken}
+use Rattle.cm_commit.specs.Advances.{Advances}
 use Rattle.cm_guards.proofs.{one_call_less}
 use Rattle.cm_front.specs.Front.{FrontState}
 use Rattle.cm_machine.specs.Ahead.{IsAhead, pending}
@@ -37,13 +40,13 @@ no_calls true calls n same sound none = absurd (cc)
 no_calls false calls n same sound none = omega (arith, same, none)
 
 -- no step is left of this committer, to which a group is offered
-pub may_take : {D : Type 0} {E : Type 0} (contents : D → List ℕ) (waiting : List Handed)
+pub may_take : {D : Type 0} {E : Type 0} (view : View D) (waiting : List Handed)
     (old new : CommitterState D) (group : Handed) (calls : ℕ)
     → calls ≡ cond old.broken 0 (calls_left old.left) → calls ≡ 0 → NoneGoesOn group waiting
     → (result : Result (Unit {0}) E) → (IsOk result ↔ Takes old group)
-    → OnOk result (new ≡ with_taken contents old group) → OnErr result (new ≡ old)
-    → MayTake contents waiting old new
-may_take contents waiting old new group calls counted none all (Ok x) takes taken same =
+    → OnOk result (new ≡ with_taken view old group) → OnErr result (new ≡ old)
+    → MayTake view waiting old new
+may_take view waiting old new group calls counted none all (Ok x) takes taken same =
     let may = takes.0 refl in
     inr (
       may.idle,
@@ -51,23 +54,23 @@ may_take contents waiting old new group calls counted none all (Ok x) takes take
       group,
       (taken, all),
     )
-may_take contents waiting old new group calls counted none all (Err e) takes taken same = inl same
+may_take view waiting old new group calls counted none all (Err e) takes taken same = inl same
 
 -- ---- what is under way
 
-none_under : (u : Option Handed) (left : List Stage) → IsBusyWith u left → left ≡ [] → u ≡ None
+none_under : (u : Option Work) (left : List Stage) → IsBusyWith u left → left ≡ [] → u ≡ None
 none_under None left busy none = refl
-none_under (Some group) left busy none =
+none_under (Some work) left busy none =
     absurd (let calls = ap calls_left none in omega (arith, busy, calls))
 
 some_left : (left : List Stage) → 1 ≤ calls_left left → left ≡ [] → ⊥
 some_left left some none = let calls = ap calls_left none in omega (arith, some, calls)
 
-still_busy : (u : Option Handed) (left : List Stage) → IsBusyWith u left → 2 ≤ calls_left left
+still_busy : (u : Option Work) (left : List Stage) → IsBusyWith u left → 2 ≤ calls_left left
     → IsBusyWith u (after_call left)
 still_busy None left busy more =
     absurd (some_left left (omega (arith, more)) busy)
-still_busy (Some group) left busy more =
+still_busy (Some work) left busy more =
     let less = one_call_less left (some_left left busy) in omega (arith, less, more)
 
 module _ {D : Type 0} (k : Machine) (front : FrontState) (old new : CommitterState D)
@@ -88,7 +91,7 @@ module _ {D : Type 0} (k : Machine) (front : FrontState) (old new : CommitterSta
 
       out : commands_of (of_underway old.underway ++ queue) ≡ []
       out =
-          ap (λ (u : Option Handed). commands_of (of_underway u ++ queue)) none
+          ap (λ (u : Option Work). commands_of (of_underway u ++ queue)) none
           ∙ ap (λ (l : List Handed). commands_of l) (empty none)
 
       all : k.acknowledged ≡ k.sealed
@@ -158,7 +161,7 @@ module _ {D : Type 0} (k : Machine) (front : FrontState) (old new : CommitterSta
       from_learnt = learnt_committed old.rows old.number
           (commands_of (of_underway old.underway ++ queue)) front i.from_learnt group.entries
           (commands_of queue)
-          (ap (λ (u : Option Handed). commands_of (of_underway u ++ queue)) f.underway);
+          (ap (λ (u : Option Work). commands_of (of_underway u ++ queue)) f.underway);
       follows = same_commands front.sizes k next refl refl follows;
       acknowledged_is = f.told;
       sealed_is = i.sealed_is;
@@ -202,6 +205,59 @@ module _ {D : Type 0} (k : Machine) (front : FrontState) (old new : CommitterSta
           let last = i.is.numbers in
           let long = ap length split in
           omega (arith, numbers, last, long))
+
+  -- ---- the last call of a trim is made
+
+  -- without the trim
+  pub trims : (roots : ℕ) → Trims old roots new
+      → Leads (Advancing k (Ok (Trimmed roots))) (λ j. IsSession j front new queue sealed failed)
+  trims roots t = record {
+    next = k;
+    does = (i.failed_is ∙ t.sound, refl);
+    goes = subst (λ c. IsSession k front c queue sealed failed) (sym t.new_is) (record {
+      is = i.is;
+      sizes = i.sizes;
+      running = i.running;
+      groups = subst (λ u. GoBehind old.number (of_underway u ++ queue)) t.underway i.groups;
+      busy = refl;
+      ahead = subst (λ u. IsAhead old.rows old.number (commands_of (of_underway u ++ queue)) front)
+          t.underway i.ahead;
+      from_learnt = subst (λ u. IsAheadOfLearnt old.rows old.number
+          (commands_of (of_underway u ++ queue)) front) t.underway i.from_learnt;
+      follows = subst (λ u. FollowsFront k old.rows old.number
+          (commands_of (of_underway u ++ queue)) front) t.underway i.follows;
+      acknowledged_is = i.acknowledged_is;
+      sealed_is = i.sealed_is;
+      sealed_told = i.sealed_told;
+      failed_is = i.failed_is;
+      failed_told = i.failed_told;
+      noticed_is = i.noticed_is;
+    });
+  }
+
+  -- with one more
+  pub begins_trim : old.underway ≡ None → new ≡ with_trim old
+      → IsSession k front new queue sealed failed
+  begins_trim none is =
+      subst (λ c. IsSession k front c queue sealed failed) (sym is) (record {
+        is = i.is;
+        sizes = i.sizes;
+        running = i.running;
+        groups = subst (λ u. GoBehind old.number (of_underway u ++ queue)) none i.groups;
+        busy = omega arith;
+        ahead = subst (λ u. IsAhead old.rows old.number (commands_of (of_underway u ++ queue))
+            front) none i.ahead;
+        from_learnt = subst (λ u. IsAheadOfLearnt old.rows old.number
+            (commands_of (of_underway u ++ queue)) front) none i.from_learnt;
+        follows = subst (λ u. FollowsFront k old.rows old.number
+            (commands_of (of_underway u ++ queue)) front) none i.follows;
+        acknowledged_is = i.acknowledged_is;
+        sealed_is = i.sealed_is;
+        sealed_told = i.sealed_told;
+        failed_is = i.failed_is;
+        failed_told = i.failed_told;
+        noticed_is = i.noticed_is;
+      })
 
   -- ---- a call fails
 
@@ -268,6 +324,10 @@ advanced next_ahead committed k front old new queue sealed failed i empty (Ok (D
     (λ j. IsSession j front new queue sealed b))
     (sym (or_false failed))
     (finishes k front old new queue sealed failed i next_ahead committed receipt f)
+advanced next_ahead committed k front old new queue sealed failed i empty (Ok (Trimmed roots)) t =
+    subst (λ b. Leads (Advancing k (Ok (Trimmed roots)))
+    (λ j. IsSession j front new queue sealed b))
+    (sym (or_false failed)) (trims k front old new queue sealed failed i roots t)
 advanced next_ahead committed k front old new queue sealed failed i empty (Err Device) b =
     subst (λ t. Leads (Advancing k (Err Device)) (λ j. IsSession j front new queue sealed t))
     (sym (or_true failed)) (breaks k front old new queue sealed failed i b)
@@ -282,10 +342,10 @@ not_none x None some none = absurd (cc)
 not_none x (Some y) some none = absurd (cc)
 
 -- no call is left, so none is under way
-pub none_busy : (u : Option Handed) (left : List Stage) → IsBusyWith u left → calls_left left ≡ 0
+pub none_busy : (u : Option Work) (left : List Stage) → IsBusyWith u left → calls_left left ≡ 0
     → u ≡ None
 none_busy None left busy none = refl
-none_busy (Some group) left busy none = absurd (omega (arith, busy, none))
+none_busy (Some work) left busy none = absurd (omega (arith, busy, none))
 
 module _ {D : Type 0} (next : HandedMayBeNext) (k : Machine) (front : FrontState)
     (committer : CommitterState D) (queue rest : List Handed) (sealed : ℕ) (failed : Bool)
@@ -299,7 +359,7 @@ module _ {D : Type 0} (next : HandedMayBeNext) (k : Machine) (front : FrontState
       (subst (λ u. GoBehind committer.number (of_underway u ++ queue)) none i.groups)
 
   out : commands_of (of_underway committer.underway ++ queue) ≡ commands_of (group ∷ rest)
-  out = ap (λ (u : Option Handed). commands_of (of_underway u ++ queue)) none ∙ sym same
+  out = ap (λ (u : Option Work). commands_of (of_underway u ++ queue)) none ∙ sym same
 
   ahead : IsAhead committer.rows committer.number (commands_of (group ∷ rest)) front
   ahead =
@@ -323,8 +383,8 @@ module _ {D : Type 0} (next : HandedMayBeNext) (k : Machine) (front : FrontState
   }
 
   pub takes : (left : List Stage) → 1 ≤ calls_left left
-      → IsSession k front (record committer { underway = Some group; left = left }) rest sealed
-      failed
+      → IsSession k front (record committer { underway = Some (Storing group); left = left }) rest
+      sealed failed
   takes left some = record {
     is = i.is;
     sizes = i.sizes;
@@ -342,3 +402,37 @@ module _ {D : Type 0} (next : HandedMayBeNext) (k : Machine) (front : FrontState
     failed_told = i.failed_told;
     noticed_is = i.noticed_is;
   }
+
+-- ---- a trim is asked for
+
+-- nothing changes on the disk
+pub trim_disk : {D E : Type 0} (view : View D) (old new : CommitterState D)
+    (result : Result Bool E) → BeginsTrim view old result new → new.disk ≡ old.disk
+trim_disk view old new (Ok true) b = ap (λ (c : CommitterState _). c.disk) b.2
+trim_disk view old new (Ok false) b = ap (λ (c : CommitterState _). c.disk) b.2
+trim_disk view old new (Err e) b = ap (λ (c : CommitterState _). c.disk) b.1
+
+pub trim_sizes : {D E : Type 0} (view : View D) (old new : CommitterState D)
+    (result : Result Bool E) → BeginsTrim view old result new → new.sizes ≡ old.sizes
+trim_sizes view old new (Ok true) b = ap (λ (c : CommitterState _). c.sizes) b.2
+trim_sizes view old new (Ok false) b = ap (λ (c : CommitterState _). c.sizes) b.2
+trim_sizes view old new (Err e) b = ap (λ (c : CommitterState _). c.sizes) b.1
+
+-- it is granted to a committer that isn't broken
+pub trim_sound : {D E : Type 0} (view : View D) (old new : CommitterState D)
+    (result : Result Bool E) → BeginsTrim view old result new → IsOk result
+    → old.broken ≡ false
+trim_sound view old new (Ok true) b is = b.0.sound
+trim_sound view old new (Ok false) b is = b.0.sound
+trim_sound view old new (Err e) b is = absurd (cc)
+
+pub trim_begins : {D E : Type 0} (view : View D) (k : Machine) (front : FrontState)
+    (old new : CommitterState D) (queue : List Handed) (sealed : ℕ) (failed : Bool)
+    → IsSession k front old queue sealed failed → (result : Result Bool E)
+    → BeginsTrim view old result new → IsSession k front new queue sealed failed
+trim_begins view k front old new queue sealed failed i (Ok true) b =
+    begins_trim k front old new queue sealed failed i b.0.idle b.2
+trim_begins view k front old new queue sealed failed i (Ok false) b =
+    subst (λ c. IsSession k front c queue sealed failed) (sym b.2) i
+trim_begins view k front old new queue sealed failed i (Err e) b =
+    subst (λ c. IsSession k front c queue sealed failed) (sym b.1) i

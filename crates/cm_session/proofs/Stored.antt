@@ -6,12 +6,13 @@ use Rattle.std.proofs.Common.{◌∙◌, arith}
 use Rattle.std.specs.Prelude.{◌||◌}
 use Rattle.std.specs.Result.{is_err}
 use Rattle.std.proofs.lemmas.List.{length-append}
+use Rattle.cm_disk.specs.Disk.{View}
 use Rattle.cm_class.specs.declared.class_file.ClassFile.{ClassFile}
 use Rattle.cm_pool.specs.Geometry.{Sizes}
 use Rattle.cm_state.specs.Step.{Change}
 use Rattle.cm_group.specs.Groups.{Handed}
 use Rattle.cm_commit.specs.declared.progress.Progress.{Progress}
-use Rattle.cm_commit.specs.declared.progress.Progress.TheVariants.{Idle, Working, Done}
+use Rattle.cm_commit.specs.declared.progress.Progress.TheVariants.{Idle, Working, Done, Trimmed}
 use Rattle.cm_commit.specs.declared.progress.AdvanceFault.{AdvanceFault}
 use Rattle.cm_commit.specs.declared.progress.AdvanceFault.TheVariants.{Device, Broken}
 use Rattle.cm_guards.specs.Stages.{Stage, calls_left}
@@ -25,7 +26,8 @@ use Rattle.cm_session.specs.Images.{StandsForSome}
 use Rattle.cm_session.specs.declared.storing.NotStored.TheVariants.{Refused, NoMemory, Unsure}
 use Rattle.cm_session.specs.Moves.{Leads, Accepting, Answers, Sealing, Advancing, Learns, MayTake}
 use Rattle.cm_session.specs.Moves.{Steps}
-use Rattle.cm_session.specs.Storing.{IsWorking, IsAtRest, Hands, Storing, FailsOnly}
+use Rattle.cm_session.specs.Storing.{IsWorking, IsTrimmed, NoTrim, IsAtRest, Hands, Storing}
+use Rattle.cm_session.specs.Storing.{FailsOnly}
 
 -- ---- how many calls may follow
 
@@ -34,6 +36,7 @@ abbrev pub weight : Result Progress AdvanceFault → List Stage → ℕ
 weight (Ok Idle) left = calls_left left
 weight (Ok Working) left = 1 + calls_left left
 weight (Ok (Done receipt)) left = calls_left left
+weight (Ok (Trimmed roots)) left = calls_left left
 weight (Err Device) left = calls_left left
 weight (Err Broken) left = calls_left left
 
@@ -41,26 +44,27 @@ not_empty : (left : List Stage) → 1 ≤ calls_left left → left ≡ [] → �
 not_empty left some none = let calls = ap calls_left none in omega (arith, some, calls)
 
 -- while calls are made, some are left
-pub some_left : {D : Type 0} (contents : D → List ℕ) (waiting : List Handed)
+pub some_left : {D : Type 0} (view : View D) (waiting : List Handed)
     (old new : CommitterState D) (result : Result Progress AdvanceFault)
-    → Steps contents waiting old result new → IsWorking result → 1 ≤ calls_left new.left
-some_left contents waiting old new (Ok Idle) s working = absurd (cc)
-some_left contents waiting old new (Ok Working) s working =
+    → Steps view waiting old result new → IsWorking result → 1 ≤ calls_left new.left
+some_left view waiting old new (Ok Idle) s working = absurd (cc)
+some_left view waiting old new (Ok Working) s working =
     let left = s.begun.left in
     let more = s.moved.more in
     let less = one_call_less left (not_empty left (omega (arith, more))) in
     let same = ap (λ (c : CommitterState _). calls_left c.left) s.moved.new_is in
     omega (arith, more, less, same)
-some_left contents waiting old new (Ok (Done receipt)) s working = absurd (cc)
-some_left contents waiting old new (Err Device) s working = absurd (cc)
-some_left contents waiting old new (Err Broken) s working = absurd (cc)
+some_left view waiting old new (Ok (Done receipt)) s working = absurd (cc)
+some_left view waiting old new (Ok (Trimmed roots)) s working = absurd (cc)
+some_left view waiting old new (Err Device) s working = absurd (cc)
+some_left view waiting old new (Err Broken) s working = absurd (cc)
 
 -- a committer with calls left takes no group
-same_begun : {D : Type 0} (contents : D → List ℕ) (waiting : List Handed)
+same_begun : {D : Type 0} (view : View D) (waiting : List Handed)
     (old begun : CommitterState D) → 1 ≤ calls_left old.left
-    → MayTake contents waiting old begun → begun ≡ old
-same_begun contents waiting old begun some (inl same) = same
-same_begun contents waiting old begun some (inr taken) =
+    → MayTake view waiting old begun → begun ≡ old
+same_begun view waiting old begun some (inl same) = same
+same_begun view waiting old begun some (inr taken) =
     let none = taken.1 in absurd (omega (arith, some, none))
 
 fewer_of : {D : Type 0} (old new : CommitterState D) (result : Result Progress AdvanceFault)
@@ -75,6 +79,9 @@ fewer_of old new (Ok Working) some w =
 fewer_of old new (Ok (Done receipt)) some f =
     let same = ap (λ (c : CommitterState _). calls_left c.left) f.new_is in
     omega (arith, some, same)
+fewer_of old new (Ok (Trimmed roots)) some t =
+    let same = ap (λ (c : CommitterState _). calls_left c.left) t.new_is in
+    omega (arith, some, same)
 fewer_of old new (Err Device) some b =
     let same = ap (λ (c : CommitterState _). calls_left c.left) b.new_is in omega (arith, same)
 fewer_of old new (Err Broken) some s =
@@ -85,22 +92,75 @@ weight_working : (result : Result Progress AdvanceFault) (left : List Stage) →
 weight_working (Ok Idle) left working = absurd (cc)
 weight_working (Ok Working) left working = refl
 weight_working (Ok (Done receipt)) left working = absurd (cc)
+weight_working (Ok (Trimmed roots)) left working = absurd (cc)
 weight_working (Err Device) left working = absurd (cc)
 weight_working (Err Broken) left working = absurd (cc)
 
 -- one call less
-pub fewer : {D : Type 0} (contents : D → List ℕ) (waiting : List Handed)
+pub fewer : {D : Type 0} (view : View D) (waiting : List Handed)
     (old new : CommitterState D) (before result : Result Progress AdvanceFault) → IsWorking before
-    → 1 ≤ calls_left old.left → Steps contents waiting old result new
+    → 1 ≤ calls_left old.left → Steps view waiting old result new
     → weight result new.left < weight before old.left
-fewer contents waiting old new before result working some s =
-    let same = same_begun contents waiting old s.begun some s.takes in
+fewer view waiting old new before result working some s =
+    let same = same_begun view waiting old s.begun some s.takes in
     let less =
     fewer_of old new result some
     (subst (λ (c : CommitterState _). Advances c result new) same s.moved)
     in
     let here = weight_working before old.left working in
     omega (arith, less, here)
+
+-- ---- trims
+
+-- no trim begins by itself
+pub no_trim : {D : Type 0} (view : View D) (waiting : List Handed)
+    (old new : CommitterState D) (result : Result Progress AdvanceFault) → NoTrim old.underway
+    → Steps view waiting old result new → NoTrim new.underway × (IsTrimmed result → ⊥)
+no_trim {D} view waiting old new result none s = moved result begun_so s.moved
+  where
+    begun_of : (begun : CommitterState D) → MayTake view waiting old begun
+        → NoTrim begun.underway
+    begun_of begun (inl same) =
+        subst (λ (c : CommitterState D). NoTrim c.underway) (sym same) none
+    begun_of begun (inr taken) =
+        subst (λ (c : CommitterState D). NoTrim c.underway) (sym taken.3.0) tt
+
+    begun_so : NoTrim s.begun.underway
+    begun_so = begun_of s.begun s.takes
+
+    moved : (r : Result Progress AdvanceFault) → NoTrim s.begun.underway
+        → Advances s.begun r new → NoTrim new.underway × (IsTrimmed r → ⊥)
+    moved (Ok Idle) so m =
+        (subst (λ (c : CommitterState D). NoTrim c.underway) (sym m.stays) so, λ is. is)
+    moved (Ok Working) so m =
+        (subst (λ (c : CommitterState D). NoTrim c.underway) (sym m.new_is) so, λ is. is)
+    moved (Ok (Done receipt)) so m =
+        (subst (λ (c : CommitterState D). NoTrim c.underway) (sym m.new_is) tt, λ is. is)
+    moved (Ok (Trimmed roots)) so m = absurd (subst NoTrim m.underway so)
+    moved (Err Device) so m =
+        (subst (λ (c : CommitterState D). NoTrim c.underway) (sym m.new_is) so, λ is. is)
+    moved (Err Broken) so m =
+        (subst (λ (c : CommitterState D). NoTrim c.underway) (sym m.stays) so, λ is. is)
+
+-- one that is done isn't under way
+pub trim_done : {D : Type 0} (view : View D) (waiting : List Handed)
+    (old new : CommitterState D) (result : Result Progress AdvanceFault)
+    → Steps view waiting old result new → IsTrimmed result → NoTrim new.underway
+trim_done view waiting old new (Ok Idle) s is = absurd is
+trim_done view waiting old new (Ok Working) s is = absurd is
+trim_done view waiting old new (Ok (Done receipt)) s is = absurd is
+trim_done view waiting old new (Ok (Trimmed roots)) s is =
+    subst (λ (c : CommitterState _). NoTrim c.underway) (sym s.moved.new_is) tt
+trim_done view waiting old new (Err fault) s is = absurd is
+
+-- and leaves the machine as it was
+pub past_trim : {Goes : Machine → Type 0} (k : Machine) (result : Result Progress AdvanceFault)
+    → IsTrimmed result → Leads (Advancing k result) Goes → Goes k
+past_trim k (Ok Idle) is leads = absurd is
+past_trim k (Ok Working) is leads = absurd is
+past_trim k (Ok (Done receipt)) is leads = absurd is
+past_trim {Goes = Goes} k (Ok (Trimmed roots)) is leads = subst Goes leads.does.1 leads.goes
+past_trim k (Err fault) is leads = absurd is
 
 -- ---- while calls are made the machine stays
 
@@ -109,6 +169,7 @@ pub goes_on : {Goes : Machine → Type 0} (k : Machine) (result : Result Progres
 goes_on k (Ok Idle) working leads = absurd (cc)
 goes_on {Goes = Goes} k (Ok Working) working leads = subst Goes leads.does.1 leads.goes
 goes_on k (Ok (Done receipt)) working leads = absurd (cc)
+goes_on k (Ok (Trimmed roots)) working leads = absurd (cc)
 goes_on k (Err Device) working leads = absurd (cc)
 goes_on k (Err Broken) working leads = absurd (cc)
 
@@ -189,13 +250,14 @@ module _ (sizes : Sizes) (k : Machine) (change : Change ClassFile) (number : ℕ
   stored = record handed { acknowledged = number }
 
   pub is_stored : (p : Progress) (next : Machine) → (IsWorking (Ok p) → ⊥)
-      → Advancing handed (Ok p) next → next ≡ stored
-  is_stored Idle next ends d =
+      → (IsTrimmed (Ok p) → ⊥) → Advancing handed (Ok p) next → next ≡ stored
+  is_stored Idle next ends past d =
       let before = stored_before in
       let all = d.1 in
       absurd (omega (arith, before, all))
-  is_stored Working next ends d = absurd (ends refl)
-  is_stored (Done receipt) next ends d =
+  is_stored Working next ends past d = absurd (ends refl)
+  is_stored (Trimmed roots) next ends past d = absurd (past tt)
+  is_stored (Done receipt) next ends past d =
       let before = stored_before in
       let more = d.1.more in
       let known = d.1.known in
@@ -253,11 +315,13 @@ module _ (sizes : Sizes) (k : Machine) (change : Change ClassFile) (number : ℕ
 
   pub stores : {Moved Goes : Machine → Type 0} (asked : Change (List ℕ)) → Asks asked change
       → (Moments : (List ℕ → Type 0) → Type 0) → Moments (StandsForSome sizes handed)
-      → (p : Progress) → (IsWorking (Ok p) → ⊥) → Leads (Advancing handed (Ok p)) Moved → (n : ℕ)
+      → (p : Progress) → (IsWorking (Ok p) → ⊥) → (IsTrimmed (Ok p) → ⊥)
+      → Leads (Advancing handed (Ok p)) Moved → (n : ℕ)
       → ((j : Machine) → Moved j → Leads (Learns j n) Goes)
       → Storing sizes k asked Moments (Ok number) Goes
-  stores {Moved = Moved} {Goes = Goes} asked asks Moments moments p ends moved n learns =
-      let l = learns stored (subst Moved (is_stored p moved.next ends moved.does) moved.goes) in
+  stores {Moved = Moved} {Goes = Goes} asked asks Moments moments p ends past moved n learns =
+      let l = learns stored
+      (subst Moved (is_stored p moved.next ends past moved.does) moved.goes) in
       let same = learnt n l.next l.does in
       record {
         change = change;

@@ -3,7 +3,7 @@ use Rattle.std.specs.Prelude.{◌≡◌, ℕ, ◌<◌, ◌⊎◌, ◌||◌, Bool
 use Rattle.std.specs.Prelude.{Option, Some, None, Result, Ok, Err}
 use Rattle.cm_class.specs.declared.class_file.ClassFile.{ClassFile}
 use Rattle.cm_pool.specs.Geometry.{Sizes}
-use Rattle.cm_disk.specs.Disk.{Unsynced, IsSettled}
+use Rattle.cm_disk.specs.Disk.{View, Unsynced, IsSettled}
 use Rattle.cm_state.specs.Step.{Change}
 use Rattle.cm_state.specs.Stands.{Arenas, Stands}
 use Rattle.cm_prepare.specs.declared.refusal.Refusal.{Refusal}
@@ -11,7 +11,7 @@ use Rattle.cm_prepare.specs.declared.refusal.Refusal.TheVariants as refusal
 use Rattle.cm_front.specs.Front.{FrontState}
 use Rattle.cm_front.specs.Accepting.{HandsOut}
 use Rattle.cm_commit.specs.declared.progress.Progress.{Progress}
-use Rattle.cm_commit.specs.declared.progress.Progress.TheVariants.{Idle, Working, Done}
+use Rattle.cm_commit.specs.declared.progress.Progress.TheVariants.{Idle, Working, Done, Trimmed}
 use Rattle.cm_commit.specs.declared.progress.AdvanceFault.{AdvanceFault}
 use Rattle.cm_commit.specs.declared.progress.AdvanceFault.TheVariants.{Device, Broken}
 use Rattle.cm_group.specs.Groups.{Handed}
@@ -82,11 +82,13 @@ Queues front queue (Err e) new now = (new ≡ front) × (now ≡ queue)
 -- ---- advancing
 
 -- Nothing is left to do, only where all that was handed out is acknowledged; or one device call is
--- made, the last of which acknowledges a group's commands; once one failed, none is made any more.
+-- made: the last of a group's acknowledges its commands, those of a trim leave all as it is; once
+-- one failed, none is made any more.
 abbrev pub Advancing : Machine → Result Progress AdvanceFault → Machine → Type 0
 Advancing k (Ok Idle) next = (k.failed ≡ false) × (k.acknowledged ≡ k.sealed) × (next ≡ k)
 Advancing k (Ok Working) next = (k.failed ≡ false) × (next ≡ k)
 Advancing k (Ok (Done receipt)) next = (k.failed ≡ false) × Acknowledges k receipt.number next
+Advancing k (Ok (Trimmed roots)) next = (k.failed ≡ false) × (next ≡ k)
 Advancing k (Err Device) next = (k.failed ≡ false) × (next ≡ record k { failed = true })
 Advancing k (Err Broken) next = (k.failed ≡ true) × (next ≡ k)
 
@@ -95,25 +97,26 @@ abbrev pub IsNoCall : Result Progress AdvanceFault → Type 0
 IsNoCall (Ok Idle) = Unit {0}
 IsNoCall (Ok Working) = ⊥
 IsNoCall (Ok (Done receipt)) = ⊥
+IsNoCall (Ok (Trimmed roots)) = ⊥
 IsNoCall (Err Device) = ⊥
 IsNoCall (Err Broken) = Unit {0}
 
--- The committer is as it was, or it had no group under way, no call was left, and it took one: with
--- all groups behind it that one group holds, so the oldest that still waits goes beyond it.
-abbrev pub MayTake : {D : Type 0} → (D → List ℕ) → List Handed → CommitterState D
+-- The committer is as it was, or it had nothing under way, no call was left, and it took a group:
+-- with all groups behind it that one group holds, so the oldest that still waits goes beyond it.
+abbrev pub MayTake : {D : Type 0} → View D → List Handed → CommitterState D
     → CommitterState D → Type 0
-MayTake contents waiting old begun =
+MayTake view waiting old begun =
     (begun ≡ old)
     ⊎ ((old.underway ≡ None) × (calls_left old.left ≡ 0) × (group : Handed)
-    × ((begun ≡ with_taken contents old group) × NoneGoesOn group waiting))
+    × ((begun ≡ with_taken view old group) × NoneGoesOn group waiting))
 
 -- The committer may first take a group, and then makes one step: exactly one device call where some
 -- is left.
-pub record Steps {D : Type 0} (contents : D → List ℕ) (waiting : List Handed)
+pub record Steps {D : Type 0} (view : View D) (waiting : List Handed)
     (old : CommitterState D) (result : Result Progress AdvanceFault) (new : CommitterState D)
     : Type 0 where
   pub begun : CommitterState D
-  pub takes : MayTake contents waiting old begun
+  pub takes : MayTake view waiting old begun
   pub moved : Advances begun result new
 
 -- the device failed in this call
@@ -146,12 +149,12 @@ IsOutside open_fault.Device = Unit {0}
 IsOutside open_fault.NoMemory = Unit {0}
 
 -- the session of these contents, all of which are stored
-pub record Opened {D : Type 0} (contents : D → List ℕ) (unsynced : D → Unsynced) (sizes : Sizes)
+pub record Opened {D : Type 0} (view : View D) (sizes : Sizes)
     (bytes : List ℕ) (k : Machine) (s : Session D) : Type 0 where
   pub leads : Leads (Reopening sizes k bytes) (λ next. GoesWith next s)
   pub sizes_are : s.committer.sizes ≡ sizes
-  pub contents_are : contents s.committer.disk ≡ bytes
-  pub settled : IsSettled (contents s.committer.disk) (unsynced s.committer.disk)
+  pub contents_are : view.contents s.committer.disk ≡ bytes
+  pub settled : IsSettled (view.contents s.committer.disk) (view.unsynced s.committer.disk)
 
 -- The contents stand for a cache, and the session goes with the machine that begins with it.
 pub record Begins {D : Type 0} (bytes : List ℕ) (s : Session D) : Type 0 where

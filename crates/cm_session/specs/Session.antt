@@ -8,16 +8,18 @@ use Rattle.cm_group.specs.Groups.{Carried, Handed, IsGroup, GoesOn}
 use Rattle.cm_front.specs.Front.{FrontState, IsFront}
 use Rattle.cm_guards.specs.Stages.{Stage, calls_left}
 use Rattle.cm_commit.specs.Offers.{rows_after_group}
-use Rattle.cm_commit.specs.States.{CommitterState}
+use Rattle.cm_commit.specs.States.{Work, Storing, Trimming, CommitterState}
 use Rattle.cm_machine.specs.Ahead.{IsAhead}
 use Rattle.cm_machine.specs.Machine.{Machine}
 use Rattle.cm_machine.specs.Laws.{FollowsFront}
 
 -- ---- groups on their way
 
-abbrev pub of_underway : Option Handed → List Handed
+-- the one that is stored, if one is
+abbrev pub of_underway : Option Work → List Handed
 of_underway None = []
-of_underway (Some group) = group ∷ []
+of_underway (Some Trimming) = []
+of_underway (Some (Storing group)) = group ∷ []
 
 -- the commands of groups, oldest first
 abbrev pub commands_of : List Handed → List Carried
@@ -34,10 +36,10 @@ abbrev pub NoneGoesOn : Handed → List Handed → Type 0
 NoneGoesOn group [] = Unit {0}
 NoneGoesOn group (next ∷ queue) = ¬ GoesOn group next
 
--- calls are left exactly while a group is under way
-abbrev pub IsBusyWith : Option Handed → List Stage → Type 0
+-- calls are left exactly while something is under way
+abbrev pub IsBusyWith : Option Work → List Stage → Type 0
 IsBusyWith None left = left ≡ []
-IsBusyWith (Some group) left = 1 ≤ calls_left left
+IsBusyWith (Some work) left = 1 ≤ calls_left left
 
 -- Rows are committed with this number. What was stored since the accepted cache last learnt so
 -- leads to them from the rows that it learnt of; and at each number from the learnt one on, no word

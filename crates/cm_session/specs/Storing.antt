@@ -1,12 +1,15 @@
 -- What it is to store a command, for the machine: it is accepted, handed out and acknowledged
 -- before the next one.
-use Rattle.std.specs.Prelude.{◌≡◌, ◌≤◌, ◌<◌, ℕ, true, false, List, Result, Ok, Err}
+use Rattle.std.specs.Prelude.{◌≡◌, ◌≤◌, ◌<◌, ℕ, true, false, List, Option, Some, None, Result, Ok}
+use Rattle.std.specs.Prelude.{Err}
 use Rattle.cm_class.specs.declared.class_file.ClassFile.{ClassFile}
 use Rattle.cm_pool.specs.Geometry.{Sizes}
 use Rattle.cm_state.specs.Step.{Change}
 use Rattle.cm_commit.specs.declared.progress.Progress.{Progress}
-use Rattle.cm_commit.specs.declared.progress.Progress.TheVariants.{Working}
+use Rattle.cm_commit.specs.declared.progress.Progress.TheVariants.{Idle, Working, Done}
+use Rattle.cm_commit.specs.declared.progress.Progress.TheVariants.{Trimmed}
 use Rattle.cm_commit.specs.declared.progress.AdvanceFault.{AdvanceFault}
+use Rattle.cm_commit.specs.States.{Work, Storing as Stored, Trimming}
 use Rattle.cm_machine.specs.Machine.{Machine, Asks, accepted_to}
 use Rattle.cm_session.specs.declared.session.Session.{Session}
 use Rattle.cm_session.specs.declared.storing.NotStored.{NotStored}
@@ -16,6 +19,19 @@ use Rattle.cm_session.specs.Moves.{Leads, Answers}
 
 abbrev pub IsWorking : Result Progress AdvanceFault → Type 0
 IsWorking result = result ≡ Ok Working
+
+abbrev pub IsTrimmed : Result Progress AdvanceFault → Type 0
+IsTrimmed (Ok Idle) = ⊥
+IsTrimmed (Ok Working) = ⊥
+IsTrimmed (Ok (Done receipt)) = ⊥
+IsTrimmed (Ok (Trimmed roots)) = Unit {0}
+IsTrimmed (Err fault) = ⊥
+
+-- the file isn't cut
+abbrev pub NoTrim : Option Work → Type 0
+NoTrim None = Unit {0}
+NoTrim (Some Trimming) = ⊥
+NoTrim (Some (Stored group)) = Unit {0}
 
 -- Everything that was accepted is acknowledged, unless the device failed, which was noticed.
 pub record IsAtRest (k : Machine) : Type 0 where

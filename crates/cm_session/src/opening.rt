@@ -26,13 +26,13 @@ use std::collections::VecDeque;
 /// machine the file stands for some of the commands of: it goes on from these, and the file isn't
 /// opened only where the device or an allocation failed.
 pub fn open<D: Disk>(alloc: Global, disk: D) -> Result<Session<D>, NotOpened<D>>
-    ensures opened { (sizes : Sizes) (k : Machine) → StandsForSome sizes k (D.contents disk)
-        → IfOk result (Opened D.contents D.unsynced sizes (D.contents disk) k) }
-    ensures begins { IfOk result (Begins (D.contents disk)) }
-    ensures stands { (sizes : Sizes) (k : Machine) → StandsForSome sizes k (D.contents disk)
+    ensures opened { (sizes : Sizes) (k : Machine) → StandsForSome sizes k (D.view.contents disk)
+        → IfOk result (Opened D.view sizes (D.view.contents disk) k) }
+    ensures begins { IfOk result (Begins (D.view.contents disk)) }
+    ensures stands { (sizes : Sizes) (k : Machine) → StandsForSome sizes k (D.view.contents disk)
         → IfErr result (λ e. IsOutside e.fault) }
-    ensures fault { IfErr result (λ e. IsFaultIn e.fault (verdict (D.contents disk))) }
-    ensures run { SyncsAndReads D.contents D.unsynced D.failures D.moment D.left_since disk
+    ensures fault { IfErr result (λ e. IsFaultIn e.fault (verdict (D.view.contents disk))) }
+    ensures run { SyncsAndReads D.view disk
         (disk_of result) (MeetsDevice result) }
 {
     opened_is_ahead();

@@ -1,13 +1,14 @@
 //! An accepted cache over its disk.
 
-ghost use Rattle.std.specs.Prelude.{◌≡◌, ◌||◌, None, Some, [], Err, false};
+ghost use Rattle.std.specs.Prelude.{◌≡◌, ◌||◌, None, Some, [], Err, false, IsOk};
 ghost use Rattle.std.specs.Option.{option_map};
 ghost use Rattle.std.specs.Arc.{arc_value};
 ghost use Rattle.cm_guards.specs.Guards.{EachImage};
 ghost use Rattle.cm_guards.specs.Calls.{LeavesOnly};
 ghost use Rattle.cm_prepare.specs.Commands.{change_asked};
 ghost use Rattle.cm_front.specs.Accepting.{Answers as AnswersAsFront};
-ghost use Rattle.cm_commit.specs.Advances.{CallsDevice, HasRisen};
+ghost use Rattle.cm_commit.specs.Advances.{CallsDevice, EndsBehind, HasRisen};
+ghost use Rattle.cm_commit.specs.States.{BeginsTrim};
 ghost use Rattle.cm_machine.specs.Machine.{Machine};
 ghost use Rattle.cm_machine.specs.Laws.{Finds};
 ghost use Rattle.cm_session.specs.Images.{StandsForSome};
@@ -15,7 +16,7 @@ ghost use Rattle.cm_session.specs.Moves.{GoesWith, Leads, Accepting, Sealing, Qu
 ghost use Rattle.cm_session.specs.Moves.{Learns, IsAsked, IsNoCall, is_device, MayTake, Steps};
 
 use crate::joining::join_queued;
-use cm_commit::{AdvanceFault, Committer, Progress};
+use cm_commit::{AdvanceFault, Committer, NotIdle, Progress};
 use cm_disk::{Disk, SimDisk};
 use cm_front::Front;
 use cm_group::{Group, Receipt};
@@ -131,7 +132,7 @@ impl<D: Disk> Session<D> {
         Ok(Some(Sealed { first, last }))
     }
 
-    /// Where no group is under way, lets the committer take the oldest that waits, with those
+    /// Where nothing is under way, lets the committer take the oldest group that waits, with those
     /// behind it as far as one group holds them.
     fn offer_next(&mut self)
         ensures machine { (k : Machine) → GoesWith k self.old → GoesWith k self.new }
@@ -139,7 +140,7 @@ impl<D: Disk> Session<D> {
             → self.new.committer.underway ≡ None → self.new.queue.items ≡ [] }
         ensures disk { self.new.committer.disk ≡ self.old.committer.disk }
         ensures sizes { self.new.committer.sizes ≡ self.old.committer.sizes }
-        ensures takes { MayTake D.contents self.new.queue.items self.old.committer
+        ensures takes { MayTake D.view self.new.queue.items self.old.committer
             self.new.committer }
     {
         handed_groups_are_next();
@@ -156,22 +157,25 @@ impl<D: Disk> Session<D> {
         let _taken = self.committer.offer(group); // it is what comes next, so it is taken
     }
 
-    /// Makes the next device call: where no group is under way, the committer first takes the
-    /// oldest that waits. As [`Committer::advance`].
+    /// Makes the next device call: where nothing is under way, the committer first takes the oldest
+    /// group that waits. As [`Committer::advance`].
     pub fn advance(&mut self) -> Result<Progress, AdvanceFault>
         ensures machine { (k : Machine) → GoesWith k self.old
             → Leads (Advancing k result) (λ next. GoesWith next self.new) }
         ensures any_moment { (k : Machine) → GoesWith k self.old
-            → LeavesOnly D.moment D.left_since self.old.committer.disk self.new.committer.disk
+            → LeavesOnly D.view self.old.committer.disk self.new.committer.disk
             (StandsForSome self.old.committer.sizes k) }
-        ensures cause { HasRisen (D.failures self.old.committer.disk)
-            (D.failures self.new.committer.disk) result }
+        ensures cause { HasRisen (D.view.failures self.old.committer.disk)
+            (D.view.failures self.new.committer.disk) result }
         ensures call { CallsDevice D.called self.old.committer.disk result
             self.new.committer.disk }
         ensures no_call { IsNoCall result → self.new.committer.disk ≡ self.old.committer.disk }
         ensures sizes { self.new.committer.sizes ≡ self.old.committer.sizes }
-        ensures steps { Steps D.contents self.new.queue.items self.old.committer result
+        ensures steps { Steps D.view self.new.queue.items self.old.committer result
             self.new.committer }
+        ensures trimmed { EndsBehind self.new.committer.sizes
+            (D.view.contents self.new.committer.disk) (D.view.unsynced self.new.committer.disk)
+            result }
     {
         committed_rows_are_the_machines();
         handed_groups_are_next();
@@ -179,6 +183,19 @@ impl<D: Disk> Session<D> {
         let progress = self.committer.advance();
         self.has_failed = has_failed(self.has_failed, &progress);
         progress
+    }
+
+    /// Begins to cut the file behind the last root that committed rows use, by the next two device
+    /// calls. As [`Committer::trim`].
+    pub fn trim(&mut self) -> Result<bool, NotIdle>
+        ensures machine { (k : Machine) → GoesWith k self.old → GoesWith k self.new }
+        ensures sound { (k : Machine) → GoesWith k self.old → IsOk result → k.failed ≡ false }
+        ensures as_committer { BeginsTrim D.view self.old.committer result
+            self.new.committer }
+        ensures disk { self.new.committer.disk ≡ self.old.committer.disk }
+        ensures sizes { self.new.committer.sizes ≡ self.old.committer.sizes }
+    {
+        self.committer.trim()
     }
 
     /// Once the device failed, no command is accepted any more.
@@ -225,7 +242,8 @@ impl<D: Disk> Session<D> {
     /// acknowledged, and none that wasn't handed out.
     pub fn images(&self)
         ensures { (k : Machine) → GoesWith k self.now
-            → EachImage (D.contents self.now.committer.disk) (D.unsynced self.now.committer.disk)
+            → EachImage (D.view.contents self.now.committer.disk)
+            (D.view.unsynced self.now.committer.disk)
             (StandsForSome self.now.committer.sizes k) }
     {
         committed_rows_are_the_machines();

@@ -9,7 +9,7 @@ ghost use Rattle.cm_machine.specs.Machine.{Machine};
 ghost use Rattle.cm_session.specs.Images.{StandsForSome};
 ghost use Rattle.cm_session.specs.Moves.{GoesWith, Leads, Advancing};
 ghost use Rattle.cm_session.specs.Storing.{IsWorking, IsAtRest, Storing, FailsOnly, MakesNoCall};
-ghost use Rattle.cm_session.specs.Storing.{TellsFront};
+ghost use Rattle.cm_session.specs.Storing.{TellsFront, IsTrimmed, NoTrim};
 
 use crate::session::Session;
 use cm_commit::{AdvanceFault, Progress};
@@ -36,22 +36,52 @@ fn is_working(progress: &Result<Progress, AdvanceFault>) -> bool
     matches!(progress, Ok(Progress::Working))
 }
 
+fn is_trimmed(progress: &Result<Progress, AdvanceFault>) -> bool
+    ensures is { result ≡ true → IsTrimmed progress.now }
+    ensures whenever { IsTrimmed progress.now → result ≡ true }
+{
+    matches!(progress, Ok(Progress::Trimmed(_)))
+}
+
 impl<D: Disk> Session<D> {
+    /// Makes device calls until a group is stored, a trim is done, the device fails, or nothing is
+    /// left to do.
+    fn advance_work(&mut self) -> Result<Progress, AdvanceFault>
+        ensures machine { (k : Machine) → GoesWith k self.old
+            → Leads (Advancing k result) (λ next. GoesWith next self.new) }
+        ensures ends { IsWorking result → ⊥ }
+        ensures any_moment { (k : Machine) → GoesWith k self.old
+            → LeavesOnly D.view self.old.committer.disk self.new.committer.disk
+            (StandsForSome self.old.committer.sizes k) }
+        ensures cause { HasRisen (D.view.failures self.old.committer.disk)
+            (D.view.failures self.new.committer.disk) result }
+        ensures sizes { self.new.committer.sizes ≡ self.old.committer.sizes }
+        ensures stays { NoTrim self.old.committer.underway → IsTrimmed result → ⊥ }
+        ensures trimmed { IsTrimmed result → NoTrim self.new.committer.underway }
+    {
+        let mut progress = self.advance();
+        while is_working(&progress) {
+            progress = self.advance();
+        }
+        progress
+    }
+
     /// Makes device calls until a group is stored, the device fails, or nothing is left to do.
     fn advance_group(&mut self) -> Result<Progress, AdvanceFault>
         ensures machine { (k : Machine) → GoesWith k self.old
             → Leads (Advancing k result) (λ next. GoesWith next self.new) }
         ensures ends { IsWorking result → ⊥ }
+        ensures past_trims { IsTrimmed result → ⊥ }
         ensures any_moment { (k : Machine) → GoesWith k self.old
-            → LeavesOnly D.moment D.left_since self.old.committer.disk self.new.committer.disk
+            → LeavesOnly D.view self.old.committer.disk self.new.committer.disk
             (StandsForSome self.old.committer.sizes k) }
-        ensures cause { HasRisen (D.failures self.old.committer.disk)
-            (D.failures self.new.committer.disk) result }
+        ensures cause { HasRisen (D.view.failures self.old.committer.disk)
+            (D.view.failures self.new.committer.disk) result }
         ensures sizes { self.new.committer.sizes ≡ self.old.committer.sizes }
     {
-        let mut progress = self.advance();
-        while is_working(&progress) {
-            progress = self.advance();
+        let progress = self.advance_work();
+        if is_trimmed(&progress) {
+            return self.advance_work();
         }
         progress
     }
@@ -65,10 +95,11 @@ impl<D: Disk> Session<D> {
     pub fn store(&mut self, command: Command<'_>) -> Result<u64, NotStored>
         ensures machine { (k : Machine) → GoesWith k self.old → IsAtRest k
             → Storing self.old.committer.sizes k (change_asked command.entry)
-            (LeavesOnly D.moment D.left_since self.old.committer.disk self.new.committer.disk)
+            (LeavesOnly D.view self.old.committer.disk self.new.committer.disk)
             result (λ next. GoesWith next self.new) }
         ensures cause { (k : Machine) → GoesWith k self.old → IsAtRest k
-            → FailsOnly (D.failures self.old.committer.disk) (D.failures self.new.committer.disk)
+            → FailsOnly (D.view.failures self.old.committer.disk)
+            (D.view.failures self.new.committer.disk)
             result }
         ensures told { (k : Machine) → GoesWith k self.old → IsAtRest k
             → TellsFront self.old result self.new }

@@ -4,14 +4,14 @@ use Rattle.std.proofs.Common.{◌≡◌, ℕ, List, Option, inl, refl, sym, subs
 use Rattle.cm_disk.specs.declared.sim.SimDisk.{SimDisk}
 use Rattle.cm_disk.specs.Disk.{IsImage}
 use Rattle.cm_disk.specs.Moments.{none_since_now}
-use Rattle.cm_disk.specs.Sim.{sim_contents, sim_unsynced, sim_moment, sim_left_since}
+use Rattle.cm_disk.specs.Sim.{sim_view, sim_contents, sim_unsynced}
 use Rattle.cm_guards.specs.Calls.{LeavesOnly}
 use Rattle.cm_guards.specs.Guards.{EachImage}
 
 -- whatever is armed
 pub unmoved : (disk : SimDisk) (armed : Option ℕ) (P : List ℕ → Type 0)
     → EachImage (sim_contents disk) (sim_unsynced disk) P
-    → LeavesOnly sim_moment sim_left_since disk (record disk { armed = armed }) P
+    → LeavesOnly sim_view disk (record disk { armed = armed }) P
 unmoved disk armed P images = record {
   later = omega arith;
   each = λ image left.
@@ -21,9 +21,9 @@ unmoved disk armed P images = record {
 
 pub still : (old new : SimDisk) (P : List ℕ → Type 0) → new ≡ old
     → EachImage (sim_contents old) (sim_unsynced old) P
-    → LeavesOnly sim_moment sim_left_since old new P
+    → LeavesOnly sim_view old new P
 still old new P same images =
-    subst (λ d. LeavesOnly sim_moment sim_left_since old d P) (sym same)
+    subst (λ d. LeavesOnly sim_view old d P) (sym same)
     (unmoved old old.armed P images)
 
 -- what a disk holds is one of its images

@@ -3,7 +3,7 @@
 use Rattle.std.proofs.Common.{◌≡◌, ap, subst}
 use Rattle.cm_pool.specs.Geometry.{Sizes}
 use Rattle.cm_disk.specs.declared.sim.SimDisk.{SimDisk}
-use Rattle.cm_disk.specs.Sim.{sim_contents, sim_unsynced, sim_moment, sim_left_since}
+use Rattle.cm_disk.specs.Sim.{sim_view, sim_contents, sim_unsynced}
 use Rattle.cm_guards.specs.Calls.{LeavesOnly}
 use Rattle.cm_guards.specs.Guards.{EachImage}
 use Rattle.cm_commit.specs.States.{CommitterState}
@@ -30,7 +30,7 @@ module _ (k : Machine) (e : Event) (r : Reply) (old new : World)
       → BeginsWith e old.session.committer.disk old.session.committer.disk
       → Does old.session.committer.sizes e r old.session.committer.disk (state old k)
       (state new next)
-      → LeavesOnly sim_moment sim_left_since old.session.committer.disk new.session.committer.disk
+      → LeavesOnly sim_view old.session.committer.disk new.session.committer.disk
       (StandsForSome old.session.committer.sizes k)
       → GoesWith next new.session → Moves k e r old new
   moved next begins does moments goes = record {

@@ -7,7 +7,7 @@ use Rattle.std.specs.FinMap as map
 use Rattle.cm_pool.specs.Geometry.{Sizes}
 use Rattle.cm_disk.specs.declared.sim.SimDisk.{SimDisk}
 use Rattle.cm_disk.specs.Disk.{Unsynced, IsImage, IsBytes, IsSettled}
-use Rattle.cm_disk.specs.Sim.{sim_contents, sim_unsynced, sim_moment, sim_left_since, IsFresh}
+use Rattle.cm_disk.specs.Sim.{sim_view, sim_contents, sim_unsynced, IsFresh}
 use Rattle.cm_recover.specs.NewFile.{new_bytes, IsEmptyCache}
 use Rattle.cm_machine.specs.Machine.{Machine, empty_machine, commands_to}
 use Rattle.cm_session.specs.Images.{StandsForSome}
@@ -39,7 +39,7 @@ opened_moves k e r old new begun begins does images m = record {
     begun = begun;
     begins = begins;
     does = does m.next m.opens;
-    moments = leaves_so sim_moment sim_left_since begun new.session.committer.disk
+    moments = leaves_so sim_view begun new.session.committer.disk
         (IsImage (sim_contents begun) (sim_unsynced begun))
         (StandsForSome old.session.committer.sizes k) images m.moments;
     images = m.images;

@@ -18,7 +18,8 @@ use Rattle.cm_world.specs.declared.event.Event.{Event}
 use Rattle.cm_world.specs.declared.event.Event.TheVariants as event
 use Rattle.cm_world.specs.declared.reply.Reply.{Reply}
 use Rattle.cm_world.specs.declared.reply.Reply.TheVariants as reply
-use Rattle.cm_world.specs.Steps.{State, Does, command_reply, seal_reply, advance_reply, FindsSame}
+use Rattle.cm_world.specs.Steps.{State, Does, command_reply, seal_reply, advance_reply, trim_reply}
+use Rattle.cm_world.specs.Steps.{FindsSame}
 use Rattle.cm_world.specs.Laws.{keeps_open, calls_told}
 
 -- ---- replies that tell of none
@@ -32,6 +33,11 @@ seal_told (Ok None) = refl
 seal_told (Ok (Some group)) = refl
 seal_told (Err e) = refl
 
+trim_told : {E : Type 0} (x : Result Bool E) → calls_told (trim_reply x) ≡ 0
+trim_told (Ok true) = refl
+trim_told (Ok false) = refl
+trim_told (Err e) = refl
+
 look_told : (words : Option (List ℕ)) (r : Reply) → FindsSame words r → calls_told r ≡ 0
 look_told words (reply.Accepted n) p = refl
 look_told words (reply.Refused x) p = refl
@@ -41,6 +47,10 @@ look_told words reply.NoMemory p = refl
 look_told words reply.Idle p = refl
 look_told words reply.Working p = absurd p
 look_told words (reply.Done n) p = absurd p
+look_told words (reply.Trimmed n) p = absurd p
+look_told words reply.TrimDue p = refl
+look_told words reply.NothingToTrim p = refl
+look_told words reply.NotIdle p = refl
 look_told words reply.DeviceFailed p = absurd p
 look_told words reply.Broken p = refl
 look_told words (reply.Learnt n) p = refl
@@ -61,6 +71,7 @@ steps_told : (old new : SimDisk) (x : Result Progress AdvanceFault)
 steps_told old new (Ok progress.Idle) same = none_made reply.Idle old new (ap sim_calls same) refl
 steps_told old new (Ok progress.Working) call = call.once
 steps_told old new (Ok (progress.Done receipt)) call = call.once
+steps_told old new (Ok (progress.Trimmed roots)) call = call.once
 steps_told old new (Err fault.Device) call = call.once
 steps_told old new (Err fault.Broken) same =
     none_made reply.Broken old new (ap sim_calls same) refl
@@ -77,6 +88,8 @@ strikes old new (Ok progress.Working) call armed one =
     absurd (passed (is_some (sim_armed old)) (sim_refused new) armed call.exactly)
 strikes old new (Ok (progress.Done receipt)) call armed one =
     absurd (passed (is_some (sim_armed old)) (sim_refused new) armed call.exactly)
+strikes old new (Ok (progress.Trimmed roots)) call armed one =
+    absurd (passed (is_some (sim_armed old)) (sim_refused new) armed call.exactly)
 strikes old new (Err fault.Device) call armed one = refl
 strikes old new (Err fault.Broken) call armed one = absurd (omega (arith, one))
 
@@ -90,6 +103,7 @@ pub has_cause : (old new : SimDisk) (x : Result Progress AdvanceFault)
 has_cause old new (Ok progress.Idle) call is = cc
 has_cause old new (Ok progress.Working) call is = cc
 has_cause old new (Ok (progress.Done receipt)) call is = cc
+has_cause old new (Ok (progress.Trimmed roots)) call is = cc
 has_cause old new (Err fault.Device) call is =
     failed (is_some (sim_armed old) || sim_refused new) call.exactly
 has_cause old new (Err fault.Broken) call is = cc
@@ -107,6 +121,9 @@ told sizes event.Seal r begun before after keeps d =
     (ap calls_told d.reply_is ∙ seal_told d.result)
 told sizes event.Advance r begun before after keeps d =
     rw d.reply_is (steps_told before.disk after.disk d.result d.call)
+told sizes event.Trim r begun before after keeps d =
+    none_made r before.disk after.disk (ap (λ (s : State). sim_calls s.disk) d.stays)
+    (ap calls_told d.reply_is ∙ trim_told d.result)
 told sizes event.Learn r begun before after keeps d =
     none_made r before.disk after.disk (ap sim_calls d.disk_stays) (ap calls_told d.reply_is)
 told sizes (event.Look loader class) r begun before after keeps d =

@@ -17,6 +17,7 @@ keeps_open other = true
 abbrev pub calls_told : Reply → ℕ
 calls_told reply.Working = 1
 calls_told (reply.Done number) = 1
+calls_told (reply.Trimmed roots) = 1
 calls_told reply.DeviceFailed = 1
 calls_told other = 0
 

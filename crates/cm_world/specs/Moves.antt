@@ -3,7 +3,7 @@ use Rattle.std.specs.Prelude.{◌≡◌}
 use Rattle.cm_pool.specs.Geometry.{Sizes}
 use Rattle.cm_disk.specs.declared.sim.SimDisk.{SimDisk}
 use Rattle.cm_disk.specs.Disk.{IsImage}
-use Rattle.cm_disk.specs.Sim.{sim_contents, sim_unsynced, sim_moment, sim_left_since}
+use Rattle.cm_disk.specs.Sim.{sim_view, sim_contents, sim_unsynced}
 use Rattle.cm_guards.specs.Calls.{LeavesOnly}
 use Rattle.cm_guards.specs.Guards.{EachImage}
 use Rattle.cm_machine.specs.Machine.{Machine}
@@ -37,7 +37,7 @@ pub record MovesTo (sizes : Sizes) (k : Machine) (r : Reply) (opened : SimDisk) 
     (new : World) : Type 0 where
   pub next : Machine
   pub opens : OpenedAgain sizes r opened before (state new next)
-  pub moments : LeavesOnly sim_moment sim_left_since opened new.session.committer.disk
+  pub moments : LeavesOnly sim_view opened new.session.committer.disk
       (IsImage (sim_contents opened) (sim_unsynced opened))
   pub images : EachImage (sim_contents new.session.committer.disk)
       (sim_unsynced new.session.committer.disk) (StandsForSome sizes next)

@@ -1,6 +1,7 @@
 -- What one event does to a world: what is replied, what the machine makes of it, and what a crash
 -- at any moment of it leaves.
-use Rattle.std.specs.Prelude.{◌≡◌, ℕ, List, Option, Some, None, Result, Ok, Err}
+use Rattle.std.specs.Prelude.{◌≡◌, ℕ, Bool, true, false, List, Option, Some, None, Result, Ok}
+use Rattle.std.specs.Prelude.{Err, IsOk}
 use Rattle.std.specs.declared.alloc.AllocError.{AllocError}
 use Rattle.std.specs.Arc.{arc_value}
 use Rattle.std.specs.Option.{option_map}
@@ -9,7 +10,7 @@ use Rattle.cm_pool.specs.Geometry.{Sizes}
 use Rattle.cm_disk.specs.declared.sim.SimDisk.{SimDisk}
 use Rattle.cm_disk.specs.Chosen.{IsChosen}
 use Rattle.cm_disk.specs.Disk.{IsSettled}
-use Rattle.cm_disk.specs.Sim.{sim_contents, sim_unsynced, sim_failures, sim_moment, sim_left_since}
+use Rattle.cm_disk.specs.Sim.{sim_view, sim_contents, sim_unsynced, sim_failures}
 use Rattle.cm_disk.specs.Sim.{sim_armed, sim_called, IsFresh}
 use Rattle.cm_guards.specs.Calls.{LeavesOnly}
 use Rattle.cm_guards.specs.Guards.{EachImage}
@@ -20,7 +21,8 @@ use Rattle.cm_commit.specs.declared.progress.Progress.{Progress}
 use Rattle.cm_commit.specs.declared.progress.Progress.TheVariants as progress
 use Rattle.cm_commit.specs.declared.progress.AdvanceFault.{AdvanceFault}
 use Rattle.cm_commit.specs.declared.progress.AdvanceFault.TheVariants as fault
-use Rattle.cm_commit.specs.Advances.{CallsDevice, HasRisen}
+use Rattle.cm_commit.specs.declared.progress.NotIdle.{NotIdle}
+use Rattle.cm_commit.specs.Advances.{CallsDevice, EndsBehind, HasRisen}
 use Rattle.cm_machine.specs.Machine.{Machine, Asks}
 use Rattle.cm_machine.specs.Laws.{Finds}
 use Rattle.cm_session.specs.declared.session.Sealed.{Sealed}
@@ -51,8 +53,14 @@ abbrev pub advance_reply : Result Progress AdvanceFault → Reply
 advance_reply (Ok progress.Idle) = reply.Idle
 advance_reply (Ok progress.Working) = reply.Working
 advance_reply (Ok (progress.Done receipt)) = reply.Done receipt.number
+advance_reply (Ok (progress.Trimmed roots)) = reply.Trimmed roots
 advance_reply (Err fault.Device) = reply.DeviceFailed
 advance_reply (Err fault.Broken) = reply.Broken
+
+abbrev pub trim_reply : {E : Type 0} → Result Bool E → Reply
+trim_reply (Ok true) = reply.TrimDue
+trim_reply (Ok false) = reply.NothingToTrim
+trim_reply (Err e) = reply.NotIdle
 
 -- ---- events
 
@@ -75,13 +83,21 @@ pub record HandedOut (r : Reply) (before after : State) : Type 0 where
 -- The machine's step. It makes no device call where nothing is left or the device failed before,
 -- else exactly one. That fails exactly where a fault was armed for it or an allocation failed in
 -- it, and nothing is armed any more then.
-pub record Advanced (r : Reply) (before after : State) : Type 0 where
+pub record Advanced (sizes : Sizes) (r : Reply) (before after : State) : Type 0 where
   pub result : Result Progress AdvanceFault
   pub reply_is : r ≡ advance_reply result
   pub advances : Advancing before.machine result after.machine
   pub call : CallsDevice sim_called before.disk result after.disk
   pub no_call : IsNoCall result → after.disk ≡ before.disk
   pub cause : HasRisen (sim_failures before.disk) (sim_failures after.disk) result
+  pub trimmed : EndsBehind sizes (sim_contents after.disk) (sim_unsynced after.disk) result
+
+-- Whether the file is to be cut is told; it isn't once the device failed.
+pub record TrimAsked (r : Reply) (before after : State) : Type 0 where
+  pub result : Result Bool NotIdle
+  pub reply_is : r ≡ trim_reply result
+  pub sound : IsOk result → before.machine.failed ≡ false
+  pub stays : after ≡ before
 
 pub record Learnt (r : Reply) (before after : State) : Type 0 where
   pub number : ℕ
@@ -132,7 +148,8 @@ abbrev pub Does : Sizes → Event → Reply → SimDisk → State → State → 
 Does sizes (event.Accept command) r begun before after =
     Commanded sizes (change_asked command) r before after
 Does sizes event.Seal r begun before after = HandedOut r before after
-Does sizes event.Advance r begun before after = Advanced r before after
+Does sizes event.Advance r begun before after = Advanced sizes r before after
+Does sizes event.Trim r begun before after = TrimAsked r before after
 Does sizes event.Learn r begun before after = Learnt r before after
 Does sizes (event.Look loader class) r begun before after =
     Looked sizes loader.now class.now r before after
@@ -147,7 +164,7 @@ pub record IsStep (sizes : Sizes) (e : Event) (r : Reply) (before after : State)
   pub begun : SimDisk
   pub begins : BeginsWith e before.disk begun
   pub does : Does sizes e r begun before after
-  pub moments : LeavesOnly sim_moment sim_left_since begun after.disk
+  pub moments : LeavesOnly sim_view begun after.disk
       (StandsForSome sizes before.machine)
   pub images : EachImage (sim_contents after.disk) (sim_unsynced after.disk)
       (StandsForSome sizes after.machine)

@@ -10,9 +10,11 @@ pub enum Event<'a> {
     Accept(Command<'a>),
     /// The oldest accepted commands are handed out as a group, which waits for the committer.
     Seal,
-    /// The committer makes its next device call. Where no group is under way, it first takes the
-    /// oldest that waits, with those behind it as far as one group holds them.
+    /// The committer makes its next device call. Where nothing is under way, it first takes the
+    /// oldest group that waits, with those behind it as far as one group holds them.
     Advance,
+    /// The committer is to cut the file behind the last root that committed rows use.
+    Trim,
     /// The accepted cache learns what is acknowledged, and whether the device failed.
     Learn,
     /// The class of a name is looked up in the loader of a name, in this order.

@@ -3,9 +3,10 @@
 ghost use Rattle.std.specs.Prelude.{◌≡◌};
 ghost use Rattle.std.specs.Arc.{arc_value};
 ghost use Rattle.std.specs.Option.{option_map};
-ghost use Rattle.cm_world.specs.Steps.{command_reply, seal_reply, advance_reply, FindsSame};
+ghost use Rattle.cm_world.specs.Steps.{command_reply, seal_reply, advance_reply, trim_reply};
+ghost use Rattle.cm_world.specs.Steps.{FindsSame};
 
-use cm_commit::{AdvanceFault, Progress};
+use cm_commit::{AdvanceFault, NotIdle, Progress};
 use cm_prepare::Refusal;
 use cm_record::Record;
 use cm_session::Sealed;
@@ -30,6 +31,14 @@ pub enum Reply {
     Working,
     /// The last device call of a group was made: all commands up to this number are stored.
     Done(u64),
+    /// The last device call of a trim was made: the file has so many roots.
+    Trimmed(u32),
+    /// The file will be cut, by the next two device calls.
+    TrimDue,
+    /// The file holds no root behind the last that committed rows use.
+    NothingToTrim,
+    /// Something is under way, or the device failed earlier: nothing was done.
+    NotIdle,
     /// The device failed in this call.
     DeviceFailed,
     /// The device failed earlier: no call was made.
@@ -73,8 +82,20 @@ pub(crate) fn advance_reply(answer: Result<Progress, AdvanceFault>) -> Reply
         Ok(Progress::Idle) => Reply::Idle,
         Ok(Progress::Working) => Reply::Working,
         Ok(Progress::Done(receipt)) => Reply::Done(receipt.number),
+        Ok(Progress::Trimmed(roots)) => Reply::Trimmed(roots),
         Err(AdvanceFault::Device) => Reply::DeviceFailed,
         Err(AdvanceFault::Broken) => Reply::Broken,
+    }
+}
+
+/// The reply where the file is to be cut.
+pub(crate) fn trim_reply(answer: Result<bool, NotIdle>) -> Reply
+    ensures { result ≡ trim_reply answer }
+{
+    match answer {
+        Ok(true) => Reply::TrimDue,
+        Ok(false) => Reply::NothingToTrim,
+        Err(_) => Reply::NotIdle,
     }
 }
 

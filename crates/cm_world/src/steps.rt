@@ -6,7 +6,7 @@ ghost use Rattle.cm_session.specs.Moves.{GoesWith};
 ghost use Rattle.cm_world.specs.Moves.{Moves};
 ghost use Rattle.cm_world.specs.declared.event.Event.TheVariants as event;
 
-use crate::reply::{Reply, advance_reply, command_reply, look_reply, seal_reply};
+use crate::reply::{Reply, advance_reply, command_reply, look_reply, seal_reply, trim_reply};
 use crate::world::World;
 use cm_prepare::Command;
 
@@ -41,6 +41,17 @@ impl World {
         let answer = self.session.advance();
         self.session.images();
         advance_reply(answer)
+    }
+
+    /// The file is to be cut.
+    pub(crate) fn trim(&mut self) -> Reply
+        ensures { (k : Machine) → GoesWith k self.old.session
+            → Moves k event.Trim result self.old self.new }
+    {
+        self.session.images();
+        let answer = self.session.trim();
+        self.session.images();
+        trim_reply(answer)
     }
 
     /// The accepted cache learns what is acknowledged.

@@ -37,6 +37,7 @@ impl World {
             Event::Accept(command) => self.accept(command),
             Event::Seal => self.seal(),
             Event::Advance => self.advance(),
+            Event::Trim => self.trim(),
             Event::Learn => self.learn(),
             Event::Look(loader, class) => self.look(loader, class),
             Event::Fault(stores) => self.arm(stores),

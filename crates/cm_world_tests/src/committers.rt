@@ -66,7 +66,7 @@ pub fn store(committer: &mut Committer<SimDisk>) -> Option<u64> {
         match committer.advance() {
             Ok(Progress::Working) => {}
             Ok(Progress::Done(receipt)) => return Some(receipt.number),
-            Ok(Progress::Idle) | Err(_) => return None,
+            Ok(Progress::Idle | Progress::Trimmed(_)) | Err(_) => return None,
         }
     }
     None

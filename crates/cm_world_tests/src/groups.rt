@@ -39,13 +39,13 @@ fn loader_entry(alloc: Global, number: u64, name: u8) -> Result<CarriedEntry, Fa
     Ok(CarriedEntry::loader(alloc, LoaderRow { number, name }))
 }
 
-fn move_entry(alloc: Global, loader: u64, at: u32) -> CarriedEntry {
+fn move_entry(alloc: Global, loader: u64, at: u32) -> Result<CarriedEntry, Fail> {
     let entry = Move {
         loader,
         from: chunk(0, at),
         to: chunk(0, at.saturating_add(128)),
     };
-    CarriedEntry::relocation(entry, Vec::new(alloc))
+    Ok(CarriedEntry::relocation(alloc, entry, Vec::new(alloc))?)
 }
 
 fn entry_of(alloc: Global, sample: Sample) -> Result<CarriedEntry, Fail> {
@@ -78,7 +78,7 @@ fn entry_of(alloc: Global, sample: Sample) -> Result<CarriedEntry, Fail> {
             )
         }
         Sample::Unload(loader) => Ok(CarriedEntry::unload(alloc, Unload { loader })),
-        Sample::Move(loader, at) => Ok(move_entry(alloc, loader, at)),
+        Sample::Move(loader, at) => move_entry(alloc, loader, at),
     }
 }
 

@@ -30,6 +30,8 @@ mod small_files;
 #[cfg(test)]
 mod stores;
 #[cfg(test)]
+mod trims;
+#[cfg(test)]
 mod turns;
 #[cfg(test)]
 mod words;

@@ -16,14 +16,14 @@ use Rattle.cm_recover.proofs.standing.read_standing.Goals as goal
 
 pub returns-in_err-found-clause-standing : goal.returns-in_err-found-clause-standing
 returns-in_err-found-clause-standing g c =
-    let contents = g.D.Disk.contents c.args.disk.now in
+    let contents = g.D.Disk.view.contents c.args.disk.now in
     let e = c.in_err-found.field-0.0 in
     fault_told (IsStanding contents) c.from_residual.result e (verdict contents)
     c.from_residual.ensures.1 (no_found contents e c.in_err-found.ensures.found)
 
 pub take_all-requires-clause-live : goal.take_all-requires-clause-live
 take_all-requires-clause-live g c =
-    let contents = g.D.Disk.contents c.args.disk.now in
+    let contents = g.D.Disk.view.contents c.args.disk.now in
     let f = found_of c.in_ok-found.found in
     let live = c.found_is_live.ensures contents f c.in_ok-found.ensures.found in
     subst (λ (n : ℕ). LiveRowsKeep f.sizes n [] (bare c.into_book.result.rows))
@@ -33,25 +33,25 @@ take_all-requires-clause-live g c =
 
 pub returns-in_err-rows-clause-standing : goal.returns-in_err-rows-clause-standing
 returns-in_err-rows-clause-standing g c =
-    let contents = g.D.Disk.contents c.args.disk.now in
+    let contents = g.D.Disk.view.contents c.args.disk.now in
     let f = found_of c.in_ok-found.found in
     let e = c.in_err-rows.field-0.0 in
-    let now = c.len.ensures.contents ∙ c.in_ok-found.ensures.reads.contents_stay in
+    let now = c.len.ensures.looks.same ∙ c.in_ok-found.ensures.reads.contents_stay in
     fault_told (IsStanding contents) c.from_residual-in_err-rows.result e (verdict contents)
     c.from_residual-in_err-rows.ensures.1
     (no_classes contents f c.in_ok-found.ensures.found e
-    (subst (IsFaultIn e) (same_classes f.sizes (g.D.Disk.contents c.len.new.self) contents
+    (subst (IsFaultIn e) (same_classes f.sizes (g.D.Disk.view.contents c.len.new.self) contents
     c.into_book.result.rows f.rows now c.into_book.ensures) c.in_err-rows.ensures.classes))
 
 pub returns-clause-standing : goal.returns-clause-standing
 returns-clause-standing g c =
-    let contents = g.D.Disk.contents c.args.disk.now in
+    let contents = g.D.Disk.view.contents c.args.disk.now in
     let f = found_of c.in_ok-found.found in
     let rows = c.in_ok-rows.rows in
-    let now = c.len.ensures.contents ∙ c.in_ok-found.ensures.reads.contents_stay in
+    let now = c.len.ensures.looks.same ∙ c.in_ok-found.ensures.reads.contents_stay in
     assembled contents _ f rows c.in_ok-found.ensures.found
     (subst (λ r. Tells (AreRecorded f.sizes) r rows)
-    (same_classes f.sizes (g.D.Disk.contents c.len.new.self) contents c.into_book.result.rows
+    (same_classes f.sizes (g.D.Disk.view.contents c.len.new.self) contents c.into_book.result.rows
     f.rows now c.into_book.ensures) c.in_ok-rows.ensures.classes)
     (record {
       geometry = refl;
@@ -76,16 +76,15 @@ pub returns-clause-reads : goal.returns-clause-reads
 returns-clause-reads g c =
     let disk = g.D.Disk in
     let len =
-    one_read disk.moment disk.left_since disk.contents disk.unsynced disk.failures
-    c.read_found.new.disk c.len.new.self c.len.result g.met.D.Disk.only_now c.len.ensures.contents
-    c.len.ensures.unsynced c.len.ensures.time c.len.ensures.cause in
-    no_more disk.moment disk.left_since disk.contents disk.unsynced disk.failures c.args.disk.now
+    one_read disk.view
+    c.read_found.new.disk c.len.new.self c.len.result g.met.D.Disk.only_now c.len.ensures.looks in
+    no_more disk.view c.args.disk.now
     c.take_all-2.new.disk _ _ (ok_no_fault _ _ open_fault.Device refl)
     (ok_no_fault _ _ open_fault.Device refl)
-    (then_reads disk.moment disk.left_since disk.contents disk.unsynced disk.failures
+    (then_reads disk.view
     c.args.disk.now c.len.new.self c.take_all-2.new.disk _ _
     (ok_no_err c.len.result _ c.in_ok-long.was)
-    (then_reads disk.moment disk.left_since disk.contents disk.unsynced disk.failures
+    (then_reads disk.view
     c.args.disk.now c.read_found.new.disk c.len.new.self _ _
     (ok_no_fault _ _ open_fault.Device refl)
     c.in_ok-found.ensures.reads len)

@@ -12,14 +12,14 @@ use Rattle.cm_session.proofs.opening.open.Goals as goal
 pub returns-in-Err-clause-stands : goal.returns-in-Err-clause-stands
 returns-in-Err-clause-stands g c =
     λ sizes k some.
-    is_outside c.verdict_is_exact.ensures.ok sizes k (g.D.Disk.contents c.args.disk) some _
+    is_outside c.verdict_is_exact.ensures.ok sizes k (g.D.Disk.view.contents c.args.disk) some _
     c.in-Err.ensures.fault
 
 pub returns-clause-opened : goal.returns-clause-opened
 returns-clause-opened g c =
     let front = c.in-Ok.opened.0 in
     let committer = c.in-Ok.opened.1 in
-    let bytes = g.D.Disk.contents c.args.disk in
+    let bytes = g.D.Disk.view.contents c.args.disk in
     let opens = c.in-Ok.ensures.opened in
     λ sizes k some.
     let live = c.found_is_live.ensures in
@@ -44,7 +44,7 @@ returns-clause-opened g c =
 
 pub returns-clause-begins : goal.returns-clause-begins
 returns-clause-begins g c =
-    let bytes = g.D.Disk.contents c.args.disk in
+    let bytes = g.D.Disk.view.contents c.args.disk in
     let opens = c.in-Ok.ensures.opened in
     let s = opens.standing in
     let sizes = s.found.sizes in

@@ -1,7 +1,7 @@
 use Rattle.std.proofs.Common.{◌≡◌, sym, ap, subst, ◌∙◌}
 use Rattle.cm_disk.specs.declared.sim.SimDisk.{SimDisk}
 use Rattle.cm_disk.specs.Disk.{IsImage, IsSettled}
-use Rattle.cm_disk.specs.Sim.{sim_contents, sim_unsynced, sim_armed, sim_moment, sim_left_since}
+use Rattle.cm_disk.specs.Sim.{sim_view, sim_contents, sim_unsynced, sim_armed}
 use Rattle.cm_guards.specs.Calls.{LeavesOnly}
 use Rattle.cm_commit.specs.States.{CommitterState}
 use Rattle.cm_machine.specs.Machine.{Machine}
@@ -34,7 +34,7 @@ returns-in-Ok-clause-opened c =
             IsSettled (sim_contents z.disk) (sim_unsynced z.disk)) same o.settled;
         disarmed = ap (λ (z : CommitterState SimDisk). sim_armed z.disk) c.disarm.ensures.disk;
       };
-      moments = subst (λ (z : CommitterState SimDisk). LeavesOnly sim_moment sim_left_since disk
+      moments = subst (λ (z : CommitterState SimDisk). LeavesOnly sim_view disk
           z.disk (IsImage (sim_contents disk) (sim_unsynced disk))) same
           (let before = c.in-Ok.ensures.run.images in
           record { later = before.later; each = before.each; before = before.before });

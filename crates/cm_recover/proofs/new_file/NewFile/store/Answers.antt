@@ -19,12 +19,12 @@ pub returns-in_err-write_at-clause-any_moment : goal.returns-in_err-write_at-cla
 returns-in_err-write_at-clause-any_moment g c =
     let disk = g.D.Disk in
     let new = c.requires.new in
-    unfinished_written disk.contents disk.unsynced disk.moment disk.left_since
+    unfinished_written disk.view
     g.met.D.Disk.only_now c.args.self.now.geometry c.args.disk.now c.write_at.new.self
     (length c.deref.result.now)
     (ap length c.deref.ensures.value ∙ (ap length new.bytes
     ∙ length-shut c.args.self.now.geometry new.lawful))
-    c.write_at.ensures.time
+    c.write_at.ensures.writes.time
 
 pub returns-in_err-write_at-clause-calls : goal.returns-in_err-write_at-clause-calls
 returns-in_err-write_at-clause-calls g c =
@@ -35,12 +35,12 @@ pub returns-clause-any_moment : goal.returns-clause-any_moment
 returns-clause-any_moment g c =
     let disk = g.D.Disk in
     let new = c.requires.new in
-    unfinished_synced disk.contents disk.unsynced disk.moment disk.left_since
+    unfinished_synced disk.view
     g.met.D.Disk.only_now c.args.self.now.geometry c.args.disk.now c.write_at.new.self
     c.sync.new.self (length c.deref.result.now)
     (ap length c.deref.ensures.value ∙ (ap length new.bytes
     ∙ length-shut c.args.self.now.geometry new.lawful))
-    c.write_at.ensures.unsynced c.write_at.ensures.time c.sync.ensures.time
+    c.write_at.ensures.writes.opens c.write_at.ensures.writes.time c.sync.ensures.syncs.time
 
 pub returns-clause-calls : goal.returns-clause-calls
 returns-clause-calls g c =

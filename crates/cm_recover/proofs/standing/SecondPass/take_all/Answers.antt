@@ -16,9 +16,9 @@ pub loop-row-init : goal.loop-row-init
 loop-row-init g c =
     let disk = g.D.Disk in
     record {
-      reads = no_read disk.moment disk.left_since disk.contents disk.unsynced disk.failures
+      reads = no_read disk.view
           c.args.disk.now g.met.D.Disk.only_now;
-      passing = passing_begins c.args.self.now.geometry (disk.contents c.args.disk.now)
+      passing = passing_begins c.args.self.now.geometry (disk.view.contents c.args.disk.now)
           c.args.self.now.number c.args.found.now.rows c.walk-left.result c.in_ok-rows.rows
           c.in_ok-rows.ensures c.walk-left.ensures c.requires.live;
     }
@@ -28,7 +28,7 @@ loop-row-preserved g c =
     let disk = g.D.Disk in
     let l = c.loop-row in
     let sizes = c.args.self.now.geometry in
-    let contents = disk.contents c.args.disk.now in
+    let contents = disk.view.contents c.args.disk.now in
     let number = c.args.self.now.number in
     let all = c.args.found.now.rows in
     let rest = c.next.new.self in
@@ -38,10 +38,10 @@ loop-row-preserved g c =
     c.in-Some.ensures l.invariant.passing in
     let t = c.in_ok-take_row.ensures in
     record {
-      reads = no_more disk.moment disk.left_since disk.contents disk.unsynced disk.failures
+      reads = no_more disk.view
           c.args.disk.now c.take_row.new.disk _ _ (λ (x : ⊥). x)
           (ok_no_fault _ _ open_fault.Device refl)
-          (then_reads disk.moment disk.left_since disk.contents disk.unsynced disk.failures
+          (then_reads disk.view
           c.args.disk.now l.disk c.take_row.new.disk _ _ (λ (x : ⊥). x) l.invariant.reads
           t.reads);
       passing = passing_on sizes contents number all rest row l.rows p c.take_row.new.rows
@@ -54,9 +54,9 @@ pub returns-in_err-take_row-clause-reads : goal.returns-in_err-take_row-clause-r
 returns-in_err-take_row-clause-reads g c =
     let disk = g.D.Disk in
     let l = c.loop-row in
-    then_reads disk.moment disk.left_since disk.contents disk.unsynced disk.failures
+    then_reads disk.view
     c.args.disk.now l.disk c.take_row.new.disk _ _ (λ (x : ⊥). x) l.invariant.reads
-    (passed_on disk.moment disk.left_since disk.contents disk.unsynced disk.failures
+    (passed_on disk.view
     l.disk c.take_row.new.disk _ c.from_residual-in_err-take_row.result
     c.in_err-take_row.field-0.0 open_fault.Device refl
     c.from_residual-in_err-take_row.ensures.1 c.in_err-take_row.ensures.reads)
@@ -66,7 +66,7 @@ returns-in_err-take_row-clause-classes g c =
     let disk = g.D.Disk in
     let l = c.loop-row in
     let sizes = c.args.self.now.geometry in
-    let contents = disk.contents c.args.disk.now in
+    let contents = disk.view.contents c.args.disk.now in
     let number = c.args.self.now.number in
     let all = c.args.found.now.rows in
     let rest = c.next.new.self in
@@ -83,6 +83,6 @@ returns-in_err-take_row-clause-classes g c =
 
 pub returns-clause-classes : goal.returns-clause-classes
 returns-clause-classes g c =
-    passing_ends c.args.self.now.geometry (g.D.Disk.contents c.args.disk.now)
+    passing_ends c.args.self.now.geometry (g.D.Disk.view.contents c.args.disk.now)
     c.args.self.now.number c.args.found.now.rows c.loop-row.left c.loop-row.rows
     (c.in_default.ensures {u = tt}) c.loop-row.invariant.passing

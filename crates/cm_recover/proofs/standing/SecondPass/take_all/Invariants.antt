@@ -6,9 +6,8 @@ use Rattle.cm_recover.proofs.standing.SecondPass.take_all.Given as goal
 -- what is still to be taken comes to what all of it does
 abbrev pub invariant-loop-row : goal.invariant-loop-row
 invariant-loop-row g l = record {
-  reads : Reads g.D.Disk.contents g.D.Disk.unsynced g.D.Disk.failures g.D.Disk.moment
-      g.D.Disk.left_since l.fn.disk l.disk ⊥;
-  passing : IsPassing l.self.geometry (g.D.Disk.contents l.fn.disk) l.self.number l.found.rows
+  reads : Reads g.D.Disk.view l.fn.disk l.disk ⊥;
+  passing : IsPassing l.self.geometry (g.D.Disk.view.contents l.fn.disk) l.self.number l.found.rows
       l.left l.rows;
 }
 

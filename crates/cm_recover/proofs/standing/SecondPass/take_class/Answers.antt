@@ -14,7 +14,7 @@ class_at-requires-clause-place g c =
 pub returns-in_err-class-clause-taken : goal.returns-in_err-class-clause-taken
 returns-in_err-class-clause-taken g c = λ before are.
     let sizes = c.args.self.now.geometry in
-    let contents = g.D.Disk.contents c.args.disk.now in
+    let contents = g.D.Disk.view.contents c.args.disk.now in
     let e = c.in_err-class.field-0.0 in
     fault_told (λ (u : Unit {0}). AreRecorded sizes c.args.rows.now) c.from_residual.result e
     (row_found sizes contents before (Class c.args.row (record { slot = c.args.slot })))
@@ -23,7 +23,8 @@ returns-in_err-class-clause-taken g c = λ before are.
 
 pub returns-then-has_class-clause-taken : goal.returns-then-has_class-clause-taken
 returns-then-has_class-clause-taken g c = λ before are.
-    told_twice c.args.self.now.geometry (g.D.Disk.contents c.args.disk.now) c.args.rows.now before
+    told_twice c.args.self.now.geometry (g.D.Disk.view.contents c.args.disk.now) c.args.rows.now
+    before
     are c.args.row c.args.slot c.in_ok-class.class c.in_ok-class.ensures.class c.has_class.result
     c.has_class.ensures c.if-has_class.true
 
@@ -34,6 +35,7 @@ push_class-requires g c =
 
 pub returns-clause-taken : goal.returns-clause-taken
 returns-clause-taken g c = λ before are.
-    took_class c.args.self.now.geometry (g.D.Disk.contents c.args.disk.now) c.args.rows.now before
+    took_class c.args.self.now.geometry (g.D.Disk.view.contents c.args.disk.now) c.args.rows.now
+    before
     are c.args.row c.args.slot c.in_ok-class.class c.in_ok-class.ensures.class c.has_class.result
     c.push_class.new.self c.has_class.ensures c.if-has_class.false c.in_ok-push_class.ensures

@@ -16,5 +16,5 @@ push_loader-requires g c =
 pub returns-in-Loader-clause-taken : goal.returns-in-Loader-clause-taken
 returns-in-Loader-clause-taken g c = λ before are.
     rw c.in-Loader.is
-    (took_loader c.args.self.now.geometry (g.D.Disk.contents c.args.disk.now) c.args.rows.now
+    (took_loader c.args.self.now.geometry (g.D.Disk.view.contents c.args.disk.now) c.args.rows.now
     c.push_loader.new.self before c.in-Loader.row are c.push_loader.ensures)

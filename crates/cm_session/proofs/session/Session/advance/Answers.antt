@@ -27,11 +27,11 @@ returns-clause-any_moment g c =
     let s = c.offer_next.new.self in
     let disk = g.D.Disk in
     let laws = c.committed_rows_are_the_machines.ensures in
-    λ k i. subst (λ d. LeavesOnly disk.moment disk.left_since d c.advance-progress.new.self.disk
+    λ k i. subst (λ d. LeavesOnly disk.view d c.advance-progress.new.self.disk
     (StandsForSome c.args.self.now.committer.sizes k)) c.offer_next.ensures.disk
-    (subst (λ (z : Sizes). LeavesOnly disk.moment disk.left_since s.committer.disk
+    (subst (λ (z : Sizes). LeavesOnly disk.view s.committer.disk
     c.advance-progress.new.self.disk (StandsForSome z k)) c.offer_next.ensures.sizes
-    (leaves_so disk.moment disk.left_since s.committer.disk c.advance-progress.new.self.disk
+    (leaves_so disk.view s.committer.disk c.advance-progress.new.self.disk
     (MayLeave s.committer) (StandsForSome s.committer.sizes k)
     (stands_for_some laws.committed laws.counted laws.rows k s.front s.committer s.queue.items
     s.sealed s.has_failed (c.offer_next.ensures.machine k i))

@@ -1,31 +1,38 @@
-use Rattle.std.proofs.Common.{subst, ◌∙◌}
+use Rattle.std.proofs.Common.{subst}
 use Rattle.cm_pool.specs.Geometry.{Sizes}
 use Rattle.cm_guards.specs.Calls.{LeavesOnly}
 use Rattle.cm_guards.proofs.{leaves_on}
 use Rattle.cm_session.specs.Images.{StandsForSome}
-use Rattle.cm_session.proofs.Stored.{some_left, goes_on, risen}
+use Rattle.cm_session.proofs.Stored.{past_trim, risen}
 use Rattle.cm_session.proofs.session.Session.advance_group.Goals as goal
 
-pub loop-progress-preserved : goal.loop-progress-preserved
-loop-progress-preserved g c =
+pub returns-then-is_trimmed-clause-machine : goal.returns-then-is_trimmed-clause-machine
+returns-then-is_trimmed-clause-machine g c =
+    let first = c.advance_work-progress in
+    λ k goes. c.advance_work.ensures.machine k
+    (past_trim k first.result (c.is_trimmed.ensures.is c.if-is_trimmed.true)
+    (first.ensures.machine k goes))
+
+pub returns-then-is_trimmed-clause-any_moment : goal.returns-then-is_trimmed-clause-any_moment
+returns-then-is_trimmed-clause-any_moment g c =
     let disk = g.D.Disk in
     let old = c.args.self.now.committer in
-    let now = c.loop-progress.self.committer in
-    let call = c.advance-progress-in-loop-progress in
-    let new = call.new.self.committer in
-    let kept = c.loop-progress.invariant in
-    let does = call.ensures in
-    let working = c.is_working.ensures.is c.loop-progress-test.true in (
-      λ k goes. does.machine k
-          (goes_on k c.loop-progress.progress working (kept.0 k goes)),
-      λ again. some_left disk.contents call.new.self.queue.items now new call.result does.steps
-          again,
-      λ k goes. leaves_on disk.moment disk.left_since old.disk now.disk new.disk
-          (StandsForSome old.sizes k) (kept.2 k goes)
-          (subst (λ (z : Sizes). LeavesOnly disk.moment disk.left_since now.disk new.disk
-          (StandsForSome z k)) kept.4
-          (does.any_moment k (goes_on k c.loop-progress.progress working (kept.0 k goes)))),
-      risen (disk.failures old.disk) (disk.failures now.disk) (disk.failures new.disk)
-          c.loop-progress.progress call.result kept.3 does.cause,
-      does.sizes ∙ kept.4,
-    )
+    let first = c.advance_work-progress in
+    let now = first.new.self.committer in
+    let new = c.advance_work.new.self.committer in
+    λ k goes. leaves_on disk.view old.disk now.disk new.disk
+    (StandsForSome old.sizes k) (first.ensures.any_moment k goes)
+    (subst (λ (z : Sizes). LeavesOnly disk.view now.disk new.disk
+    (StandsForSome z k)) first.ensures.sizes
+    (c.advance_work.ensures.any_moment k
+    (past_trim k first.result (c.is_trimmed.ensures.is c.if-is_trimmed.true)
+    (first.ensures.machine k goes))))
+
+pub returns-then-is_trimmed-clause-cause : goal.returns-then-is_trimmed-clause-cause
+returns-then-is_trimmed-clause-cause g c =
+    let disk = g.D.Disk in
+    let first = c.advance_work-progress in
+    risen (disk.view.failures c.args.self.now.committer.disk)
+    (disk.view.failures first.new.self.committer.disk)
+    (disk.view.failures c.advance_work.new.self.committer.disk) first.result c.advance_work.result
+    first.ensures.cause c.advance_work.ensures.cause

@@ -1,6 +1,6 @@
 use Rattle.std.proofs.Common.{ℕ, ◌∷◌, ap, subst, sym, ◌∙◌, arith}
 use Rattle.cm_guards.specs.Stages.{calls_left}
-use Rattle.cm_commit.specs.States.{CommitterState, with_taken}
+use Rattle.cm_commit.specs.States.{Storing, CommitterState, with_taken}
 use Rattle.cm_session.specs.Session.{commands_of, GoBehind, IsSession}
 use Rattle.cm_session.proofs.Handing.{on_ok}
 use Rattle.cm_session.proofs.Stepping.{takes, is_taken, no_calls, none_busy, not_none, may_take}
@@ -31,7 +31,7 @@ returns-clause-machine g c =
     let calls = ap (λ (z : CommitterState _). calls_left z.left) taken in
     subst (λ (z : CommitterState _). IsSession k s.front z rest s.sealed s.has_failed) (sym taken)
     (takes law k s.front s.committer s.queue.items rest s.sealed s.has_failed group i none same
-    joined (with_taken g.D.Disk.contents s.committer group).left (omega (arith, steps, calls)))
+    joined (with_taken g.D.Disk.view s.committer group).left (omega (arith, steps, calls)))
 
 pub returns-clause-taken : goal.returns-clause-taken
 returns-clause-taken g c =
@@ -53,13 +53,13 @@ returns-clause-taken g c =
     none same joined sound in
     let taken = on_ok c.offer-taken.result (c.offer-taken.ensures.takes.1 may)
     c.offer-taken.ensures.taken in
-    absurd (not_none group c.offer-taken.new.self.underway
+    absurd (not_none (Storing group) c.offer-taken.new.self.underway
     (ap (λ (z : CommitterState _). z.underway) taken) none_now)
 
 pub returns-clause-takes : goal.returns-clause-takes
 returns-clause-takes g c =
     let zero = c.if-steps_left-gt0.false in
-    may_take g.D.Disk.contents c.join_queued-group.new.queue.items c.args.self.now.committer
+    may_take g.D.Disk.view c.join_queued-group.new.queue.items c.args.self.now.committer
     c.offer-taken.new.self c.join_queued-group.result c.steps_left.result c.steps_left.ensures
     (omega (arith, zero)) c.join_queued-group.ensures.all c.offer-taken.result
     c.offer-taken.ensures.takes c.offer-taken.ensures.taken

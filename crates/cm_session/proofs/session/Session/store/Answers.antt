@@ -14,7 +14,7 @@ returns-in-Err-clause-machine g c =
     let s = c.args.self.now in
     λ k goes rest.
     refuses s.committer.sizes k (change_asked c.args.command)
-    (LeavesOnly g.D.Disk.moment g.D.Disk.left_since s.committer.disk
+    (LeavesOnly g.D.Disk.view s.committer.disk
     c.accept.new.self.committer.disk)
     c.in-Err.refusal rest (c.in-Err.ensures.machine k goes)
 
@@ -23,7 +23,7 @@ returns-then-is_err-clause-machine g c =
     let s = c.args.self.now in
     λ k goes rest.
     unsealed s.committer.sizes k (change_asked c.args.command)
-    (LeavesOnly g.D.Disk.moment g.D.Disk.left_since s.committer.disk c.seal.new.self.committer.disk)
+    (LeavesOnly g.D.Disk.view s.committer.disk c.seal.new.self.committer.disk)
     c.in-Ok.number c.seal.result c.if-is_err.ensures.value (c.in-Ok.ensures.machine k goes)
     c.seal.ensures.machine
 
@@ -42,16 +42,17 @@ returns-in-Ok-progress-clause-machine g c =
     let with_it = sealed sizes k a.change number accepted rest answers c.seal.result
     c.if-is_err.ensures.value (c.seal.ensures.machine accepted a.leads.goes) in
     let same = c.seal.ensures.disk ∙ c.accept.ensures.disk in
-    let moments : LeavesOnly disk.moment disk.left_since s.committer.disk left
+    let moments : LeavesOnly disk.view s.committer.disk left
     (StandsForSome sizes h) =
-    subst (λ (d : CommitterState _). LeavesOnly disk.moment disk.left_since s.committer.disk d.disk
+    subst (λ (d : CommitterState _). LeavesOnly disk.view s.committer.disk d.disk
     (StandsForSome sizes h)) (sym c.learn.ensures.disk)
-    (subst (λ (b : CommitterState _). LeavesOnly disk.moment disk.left_since b.disk
+    (subst (λ (b : CommitterState _). LeavesOnly disk.view b.disk
     c.advance_group-progress.new.self.committer.disk (StandsForSome b.sizes h)) same
     (c.advance_group-progress.ensures.any_moment h with_it)) in
     stores sizes k a.change number accepted rest answers (change_asked c.args.command) a.asks
-    (LeavesOnly disk.moment disk.left_since s.committer.disk left) moments c.in-Ok-progress.field-0
-    c.in-Ok-progress.ensures.ends (c.in-Ok-progress.ensures.machine h with_it) c.learn.result
+    (LeavesOnly disk.view s.committer.disk left) moments c.in-Ok-progress.field-0
+    c.in-Ok-progress.ensures.ends c.in-Ok-progress.ensures.past_trims
+    (c.in-Ok-progress.ensures.machine h with_it) c.learn.result
     c.learn.ensures.machine
 
 pub returns-in-Err-progress-clause-machine : goal.returns-in-Err-progress-clause-machine
@@ -69,21 +70,21 @@ returns-in-Err-progress-clause-machine g c =
     let with_it = sealed sizes k a.change number accepted rest answers c.seal.result
     c.if-is_err.ensures.value (c.seal.ensures.machine accepted a.leads.goes) in
     let same = c.seal.ensures.disk ∙ c.accept.ensures.disk in
-    let moments : LeavesOnly disk.moment disk.left_since s.committer.disk left
+    let moments : LeavesOnly disk.view s.committer.disk left
     (StandsForSome sizes h) =
-    subst (λ (d : CommitterState _). LeavesOnly disk.moment disk.left_since s.committer.disk d.disk
+    subst (λ (d : CommitterState _). LeavesOnly disk.view s.committer.disk d.disk
     (StandsForSome sizes h)) (sym c.learn.ensures.disk)
-    (subst (λ (b : CommitterState _). LeavesOnly disk.moment disk.left_since b.disk
+    (subst (λ (b : CommitterState _). LeavesOnly disk.view b.disk
     c.advance_group-progress.new.self.committer.disk (StandsForSome b.sizes h)) same
     (c.advance_group-progress.ensures.any_moment h with_it)) in
     loses sizes k a.change number accepted rest answers (change_asked c.args.command) a.asks
-    (LeavesOnly disk.moment disk.left_since s.committer.disk left) moments c.in-Err-progress.field-0
+    (LeavesOnly disk.view s.committer.disk left) moments c.in-Err-progress.field-0
     (c.in-Err-progress.ensures.machine h with_it) c.learn.result c.learn.ensures.machine
 
 pub returns-in-Err-progress-clause-cause : goal.returns-in-Err-progress-clause-cause
 returns-in-Err-progress-clause-cause g c =
     let s = c.args.self.now in
-    let failures = g.D.Disk.failures in
+    let failures = g.D.Disk.view.failures in
     let sizes = s.committer.sizes in
     λ k goes rest.
     let a = c.in-Ok.ensures.machine k goes in

@@ -1,4 +1,7 @@
-use Rattle.std.proofs.Common.{refl}
+use Rattle.std.proofs.Common.{refl, subst}
+use Rattle.cm_pool.specs.Geometry.{Sizes}
+use Rattle.cm_disk.specs.Sim.{sim_contents, sim_unsynced}
+use Rattle.cm_commit.specs.Advances.{EndsBehind}
 use Rattle.cm_world.specs.declared.world.World.{World}
 use Rattle.cm_world.specs.declared.event.Event.TheVariants as event
 use Rattle.cm_world.proofs.Moved.{moved}
@@ -20,5 +23,8 @@ returns c =
       call = does.call;
       no_call = does.no_call;
       cause = does.cause;
+      trimmed = subst (λ (z : Sizes). EndsBehind z (sim_contents new.session.committer.disk)
+          (sim_unsynced new.session.committer.disk) c.advance-answer.result) does.sizes
+          does.trimmed;
     })
     (does.any_moment k i) m.goes

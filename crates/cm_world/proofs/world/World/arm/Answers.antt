@@ -1,6 +1,6 @@
 use Rattle.std.proofs.Common.{refl, ap, sym, subst, Some}
 use Rattle.cm_disk.specs.declared.sim.SimDisk.{SimDisk}
-use Rattle.cm_disk.specs.Sim.{sim_moment, sim_left_since}
+use Rattle.cm_disk.specs.Sim.{sim_view}
 use Rattle.cm_guards.specs.Calls.{LeavesOnly}
 use Rattle.cm_commit.specs.States.{CommitterState}
 use Rattle.cm_session.specs.Images.{StandsForSome}
@@ -20,7 +20,7 @@ returns c =
     λ k i. moved k (event.Fault c.args.stores) reply.Armed old new
     (ap (λ (z : CommitterState SimDisk). z.sizes) same) c.images-2.ensures k refl
     (record { reply_is = refl; machine_stays = refl; disk_is = disk })
-    (subst (λ (d : SimDisk). LeavesOnly sim_moment sim_left_since old.session.committer.disk d
+    (subst (λ (d : SimDisk). LeavesOnly sim_view old.session.committer.disk d
     (StandsForSome old.session.committer.sizes k)) (sym disk)
     (unmoved old.session.committer.disk (Some c.args.stores)
     (StandsForSome old.session.committer.sizes k) (c.images.ensures k i)))

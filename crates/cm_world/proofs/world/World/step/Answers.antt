@@ -4,8 +4,8 @@ use Rattle.cm_world.specs.Moves.{Moves}
 use Rattle.cm_world.specs.declared.event.Event.{Event}
 use Rattle.cm_world.proofs.Chains.{same_moves}
 use Rattle.cm_world.proofs.world.World.step.Goals as goal
-use Rattle.cm_world.proofs.world.World.step.Goals.{in-Accept, in-Seal, in-Advance, in-Learn}
-use Rattle.cm_world.proofs.world.World.step.Goals.{in-Look, in-Fault}
+use Rattle.cm_world.proofs.world.World.step.Goals.{in-Accept, in-Seal, in-Advance, in-Trim}
+use Rattle.cm_world.proofs.world.World.step.Goals.{in-Learn, in-Look, in-Fault}
 
 pub returns-in-Reopen-clause-moved : goal.returns-in-Reopen-clause-moved
 returns-in-Reopen-clause-moved c =
@@ -29,6 +29,9 @@ returns-clause-moved c =
       | in-Advance w ↦
           same_moves k c.args.self _ _ _ _ _ _ w.in-Advance.is w.reply-is w.self-is
           (w.advance-reply.ensures k i)
+      | in-Trim w ↦
+          same_moves k c.args.self _ _ _ _ _ _ w.in-Trim.is w.reply-is w.self-is
+          (w.trim-reply.ensures k i)
       | in-Learn w ↦
           same_moves k c.args.self _ _ _ _ _ _ w.in-Learn.is w.reply-is w.self-is
           (w.learn-reply.ensures k i)

@@ -5,9 +5,9 @@ use Rattle.cm_commit.specs.Advances.{HasRisen}
 use Rattle.cm_machine.specs.Machine.{Machine}
 use Rattle.cm_session.specs.Images.{StandsForSome}
 use Rattle.cm_session.specs.Moves.{GoesWith, Leads, Advancing}
-use Rattle.cm_session.specs.Storing.{IsWorking}
+use Rattle.cm_session.specs.Storing.{IsWorking, IsTrimmed, NoTrim}
 use Rattle.cm_session.proofs.Stored.{weight}
-use Rattle.cm_session.proofs.session.Session.advance_group.Given as goal
+use Rattle.cm_session.proofs.session.Session.advance_work.Given as goal
 
 abbrev pub invariant-loop-progress : goal.invariant-loop-progress
 invariant-loop-progress g l =
@@ -15,11 +15,14 @@ invariant-loop-progress g l =
     → Leads (Advancing k l.progress) (λ next. GoesWith next l.self))
     × (IsWorking l.progress → 1 ≤ calls_left l.self.committer.left)
     × ((k : Machine) → GoesWith k l.fn.self
-    → LeavesOnly g.D.Disk.moment g.D.Disk.left_since l.fn.self.committer.disk l.self.committer.disk
+    → LeavesOnly g.D.Disk.view l.fn.self.committer.disk l.self.committer.disk
     (StandsForSome l.fn.self.committer.sizes k))
-    × HasRisen (g.D.Disk.failures l.fn.self.committer.disk)
-    (g.D.Disk.failures l.self.committer.disk) l.progress
+    × HasRisen (g.D.Disk.view.failures l.fn.self.committer.disk)
+    (g.D.Disk.view.failures l.self.committer.disk) l.progress
     × (l.self.committer.sizes ≡ l.fn.self.committer.sizes)
+    × (NoTrim l.fn.self.committer.underway
+    → NoTrim l.self.committer.underway × (IsTrimmed l.progress → ⊥))
+    × (IsTrimmed l.progress → NoTrim l.self.committer.underway)
 
 abbrev pub decreases-loop-progress : goal.decreases-loop-progress
 decreases-loop-progress g l = weight l.progress l.self.committer.left
