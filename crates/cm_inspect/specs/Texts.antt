@@ -42,6 +42,11 @@ loader_lines loader = loader_line loader.0 ++ flat_map listed_line loader.1
 abbrev pub list_lines : List (List ℕ × List ListedClass) → List ℕ
 list_lines loaders = flat_map loader_lines loaders
 
+-- ---- of a file that is trimmed
+
+abbrev pub roots_line : ℕ → List ℕ
+roots_line roots = codes "roots " ++ decimal roots ++ 10 ∷ []
+
 -- ---- of a file that isn't opened
 
 abbrev pub fault_line : OpenFault → List ℕ

@@ -29,10 +29,11 @@ pub fn check_to<W: Write, D: Disk>(
     writer: &mut W,
     mut disk: D,
 ) -> Result<(Status, D), NotInspected<D>>
-    ensures told { ChecksTo (D.contents disk) (D.failures disk < D.failures (disk_left result))
+    ensures told { ChecksTo (D.view.contents disk) (D.view.failures disk < D.view.failures
+        (disk_left result))
         (W.contents writer.old) (W.contents writer.new) (status_in result) }
-    ensures reads { Reads D.contents D.unsynced D.failures D.moment D.left_since disk
-        (disk_left result) (D.failures disk < D.failures (disk_left result)) }
+    ensures reads { Reads D.view disk
+        (disk_left result) (D.view.failures disk < D.view.failures (disk_left result)) }
 {
     let answer = check(alloc, &mut disk);
     let status = tell_answer(alloc, writer, answer);

@@ -21,9 +21,9 @@ use std::alloc::Global;
 /// `NotACache` and `Damaged` exactly where the verdict on the file's bytes says so, as when the
 /// file is opened; `Device` where the device failed; `NoMemory` where an allocation failed.
 pub fn check<D: Disk>(alloc: Global, disk: &mut D) -> Result<Report, OpenFault>
-    ensures verdict { Answers (Reports (D.contents disk.old)) result
-        (verdict (D.contents disk.old)) }
-    ensures reads { Reads D.contents D.unsynced D.failures D.moment D.left_since disk.old disk.new
+    ensures verdict { Answers (Reports (D.view.contents disk.old)) result
+        (verdict (D.view.contents disk.old)) }
+    ensures reads { Reads D.view disk.old disk.new
         (result ≡ Err open_fault.Device) }
 {
     found_is_live();

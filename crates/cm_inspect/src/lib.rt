@@ -1,4 +1,4 @@
-//! What a cache or its file holds, found without a change of it, and told as lines to a writer.
+//! What a cache or its file holds, told as lines to a writer; and files that are cut behind that.
 #![tactic(auto)]
 
 mod check_lines;
@@ -12,6 +12,8 @@ mod report;
 mod status;
 mod telling;
 mod texts;
+mod trim_lines;
+mod trimming;
 
 pub use check_lines::check_to;
 pub use checking::check;
@@ -22,3 +24,4 @@ pub use listing::{ListedClass, ListedLoader, list, list_accepted};
 pub use report::Report;
 pub use status::Status;
 pub use telling::tell_fault;
+pub use trim_lines::trim_to;

@@ -32,12 +32,13 @@ pub fn list_to<W: Write, D: Disk>(
     writer: &mut W,
     disk: D,
 ) -> Result<(Status, D), NotInspected<D>>
-    ensures told { ListsTo (D.contents disk) (D.failures disk < D.failures (disk_left result))
+    ensures told { ListsTo (D.view.contents disk) (D.view.failures disk < D.view.failures
+        (disk_left result))
         (W.contents writer.old) (W.contents writer.new) (status_in result) }
     ensures stored { status_in result ≡ Ok Status.Done
-        → IsSettled (D.contents (disk_left result)) (D.unsynced (disk_left result)) }
-    ensures run { SyncsAndReads D.contents D.unsynced D.failures D.moment D.left_since disk
-        (disk_left result) (D.failures disk < D.failures (disk_left result)) }
+        → IsSettled (D.view.contents (disk_left result)) (D.view.unsynced (disk_left result)) }
+    ensures run { SyncsAndReads D.view disk
+        (disk_left result) (D.view.failures disk < D.view.failures (disk_left result)) }
 {
     match open(alloc, disk) {
         Ok((front, committer)) => {

@@ -6,6 +6,7 @@ ghost use Rattle.std.specs.List.{flat_map};
 ghost use Rattle.cm_recover.specs.declared.fault.OpenFault.TheVariants as open_fault;
 ghost use Rattle.cm_inspect.specs.Listing.{shown};
 ghost use Rattle.cm_inspect.specs.Texts.{report_line, listed_line, list_lines, fault_line};
+ghost use Rattle.cm_inspect.specs.Texts.{roots_line};
 
 use crate::{ListedClass, ListedLoader, Report};
 use cm_lines::escape_into;
@@ -25,6 +26,16 @@ pub(crate) fn line_of_report(alloc: Global, report: Report) -> Result<Vec<u8>, A
     push_number(alloc, &mut line, report.chunks as u64)?;
     line.extend_from_slice(b" number ")?;
     push_number(alloc, &mut line, report.number)?;
+    line.push(b'\n')?;
+    Ok(line)
+}
+
+/// `roots N`.
+pub(crate) fn line_of_roots(alloc: Global, roots: u32) -> Result<Vec<u8>, AllocError>
+    ensures { IfOk result (λ line. line.items ≡ roots_line roots) }
+{
+    let mut line = Vec::from_slice(alloc, b"roots ")?;
+    push_number(alloc, &mut line, u64::from(roots))?;
     line.push(b'\n')?;
     Ok(line)
 }

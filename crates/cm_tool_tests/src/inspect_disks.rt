@@ -2,7 +2,7 @@
 
 use crate::disks::replies;
 use cm_disk::{DeviceFault, Disk, SimDisk};
-use cm_inspect::{NotInspected, Status, check_to, list_to};
+use cm_inspect::{NotInspected, Status, check_to, list_to, trim_to};
 use cm_pool::Geometry;
 use cm_recover::format;
 use std::alloc::Global;
@@ -86,6 +86,7 @@ pub fn shortened_cache(alloc: Global, len: u64) -> Result<SimDisk, Fail> {
 pub enum Verb {
     Check,
     List,
+    Trim,
 }
 
 pub fn tell<W: Write, D: Disk>(
@@ -97,6 +98,7 @@ pub fn tell<W: Write, D: Disk>(
     match verb {
         Verb::Check => check_to(alloc, writer, disk),
         Verb::List => list_to(alloc, writer, disk),
+        Verb::Trim => trim_to(alloc, writer, disk),
     }
 }
 

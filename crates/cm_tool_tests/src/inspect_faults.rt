@@ -34,7 +34,7 @@ const CHANGES: [(u64, u8, &[u8]); 8] = [
 fn damaged_files_are_refused(rt: HostRuntime) -> Result<(), Fail> {
     let alloc = rt.alloc();
     for (at, byte, line) in &CHANGES {
-        for verb in [Verb::Check, Verb::List] {
+        for verb in [Verb::Check, Verb::List, Verb::Trim] {
             let is_refused = is_refused(alloc, verb, changed_cache(alloc, *at, *byte)?, line)?;
             assert!(rt; is_refused, "{byte} at {at}");
         }
@@ -54,7 +54,7 @@ const BEGINNINGS: [(u64, &[u8]); 4] = [
 fn short_files_are_refused(rt: HostRuntime) -> Result<(), Fail> {
     let alloc = rt.alloc();
     for (len, line) in &BEGINNINGS {
-        for verb in [Verb::Check, Verb::List] {
+        for verb in [Verb::Check, Verb::List, Verb::Trim] {
             let is_refused = is_refused(alloc, verb, shortened_cache(alloc, *len)?, line)?;
             assert!(rt; is_refused, "{len} bytes");
         }

@@ -21,3 +21,5 @@ mod scripts;
 mod streams;
 #[cfg(test)]
 mod telling;
+#[cfg(test)]
+mod trimming;

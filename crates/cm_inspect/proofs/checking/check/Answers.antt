@@ -6,7 +6,7 @@ use Rattle.cm_inspect.proofs.checking.check.Goals as goal
 
 pub returns-clause-verdict : goal.returns-clause-verdict
 returns-clause-verdict g c =
-    let contents = g.D.Disk.contents c.args.disk.now in
+    let contents = g.D.Disk.view.contents c.args.disk.now in
     let t = c.in_ok-file.ensures.standing in
     record {
       told = t.told;
@@ -19,6 +19,6 @@ returns-clause-verdict g c =
 
 pub returns-in_err-file-clause-verdict : goal.returns-in_err-file-clause-verdict
 returns-in_err-file-clause-verdict g c =
-    let contents = g.D.Disk.contents c.args.disk.now in
+    let contents = g.D.Disk.view.contents c.args.disk.now in
     fault_told (Reports contents) c.from_residual.result c.in_err-file.field-0.0
     (verdict contents) c.from_residual.ensures.1 c.in_err-file.ensures.standing

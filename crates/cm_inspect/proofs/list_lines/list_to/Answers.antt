@@ -1,9 +1,8 @@
-use Rattle.std.proofs.Common.{◌≡◌, ◌<◌, ◌∙◌, ℕ, List, Option, Result, Ok, Err, refl, sym, ap, subst}
+use Rattle.std.proofs.Common.{◌≡◌, ◌<◌, ◌∙◌, ℕ, List, Result, Ok, Err, refl, sym, ap, subst}
 use Rattle.cm_record.specs.Layout.{lay}
 use Rattle.cm_layout.specs.declared.row.Row.{Row}
 use Rattle.cm_layout.specs.Rows.{rows_with}
 use Rattle.cm_front.specs.Front.{FrontState}
-use Rattle.cm_recover.specs.declared.fault.OpenFault.{OpenFault}
 use Rattle.cm_recover.specs.declared.fault.OpenFault.TheVariants as open_fault
 use Rattle.cm_inspect.specs.Listing.{listing}
 use Rattle.cm_inspect.specs.declared.fault.InspectFault.{InspectFault}
@@ -11,6 +10,7 @@ use Rattle.cm_inspect.specs.declared.status.Status.{Status}
 use Rattle.cm_inspect.specs.declared.status.Status.TheVariants.{Done}
 use Rattle.cm_inspect.specs.Texts.{list_lines, fault_line}
 use Rattle.cm_inspect.specs.Inspecting.{Writes, fault_status}
+use Rattle.cm_inspect.proofs.Statuses.{never_done}
 use Rattle.cm_inspect.proofs.list_lines.list_to.Goals as goal
 
 pub returns-in-Ok-clause-told : goal.returns-in-Ok-clause-told
@@ -41,7 +41,7 @@ pub returns-in-Err-clause-told : goal.returns-in-Err-clause-told
 returns-in-Err-clause-told g c =
     let held = g.W.Write.contents c.args.writer.now in
     let holds = g.W.Write.contents c.tell_fault-status.new.writer in
-    let failures = g.D.Disk.failures in
+    let failures = g.D.Disk.view.failures in
     let fault = c.in-Err.field-0.fault in
     record {
       answer = Err fault;
@@ -54,18 +54,6 @@ returns-in-Err-clause-told g c =
           Writes held holds (fault_line fault) (fault_status fault) r)
           (sym c.with_disk-in-Err.ensures.status) c.tell_fault-status.ensures;
     }
-
-not_done : (f : OpenFault) → fault_status f ≡ Done → ⊥
-not_done open_fault.NotACache e = cc
-not_done (open_fault.Damaged what slot) e = cc
-not_done open_fault.Device e = cc
-not_done open_fault.NoMemory e = cc
-
-never_done : (held holds : Option (List ℕ)) (lines : List ℕ) (f : OpenFault)
-    (r : Result Status InspectFault) → Writes held holds lines (fault_status f) r → r ≡ Ok Done → ⊥
-never_done held holds lines f (Ok given) written e =
-    let done : given ≡ Done = cc in not_done f (sym written.0 ∙ done)
-never_done held holds lines f (Err x) written e = cc
 
 pub returns-in-Err-clause-stored : goal.returns-in-Err-clause-stored
 returns-in-Err-clause-stored g c =
