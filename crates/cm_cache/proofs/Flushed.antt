@@ -9,7 +9,7 @@ use Rattle.cm_pool.specs.Geometry.{Sizes}
 use Rattle.cm_layout.specs.declared.row.Row.{Row}
 use Rattle.cm_group.specs.Groups.{Carried, Handed, GoesOn, joined}
 use Rattle.cm_commit.specs.Offers.{MayCome, rows_after_group}
-use Rattle.cm_commit.specs.States.{CommitterState, Takes}
+use Rattle.cm_commit.specs.States.{Work, Storing, Trimming, CommitterState, Takes}
 use Rattle.cm_machine.specs.Carrying.{CarriesOn, JoinedCarriesOn, CarriedMayCome}
 use Rattle.cm_machine.proofs.{rows_after_two}
 use Rattle.cm_cache.specs.declared.board_view.Seen.{Seen}
@@ -300,10 +300,11 @@ module _ {D : Type 0} (base : Base) (failed : ℕ) (failures : D → ℕ) where
 
   -- ---- dropping
 
-  oldest_of_more : (o : Option Handed) (rest more : List Carried) → IsOldest o rest
+  oldest_of_more : (o : Option Work) (rest more : List Carried) → IsOldest o rest
       → IsOldest o (rest ++ more)
   oldest_of_more None rest more h = tt
-  oldest_of_more (Some g) rest more h =
+  oldest_of_more (Some Trimming) rest more h = tt
+  oldest_of_more (Some (Storing g)) rest more h =
       (h.0 ++ more, ap (λ l. l ++ more) h.1 ∙ append_assoc g.entries h.0 more)
 
   pub dropped : (e : EndedState D) (group : Handed) (received : List Message)

@@ -13,6 +13,7 @@ use Rattle.cm_group.specs.Groups.{Carried, Handed}
 use Rattle.cm_guards.specs.Guards.{EachImage}
 use Rattle.cm_guards.specs.Stages.{Stage, Store, Turn, Settle, Cut, turned, leaves}
 use Rattle.cm_commit.specs.Offers.{rows_after_group}
+use Rattle.cm_commit.specs.States.{Work, Storing, Trimming}
 use Rattle.cm_commit.specs.States.{CommitterState, ShowsCache, ShowsCommitted, ShowsWith, MayLeave}
 use Rattle.cm_machine.specs.Ahead.{AllFollow}
 use Rattle.cm_machine.proofs.{rows_after_two, follow_two}
@@ -117,10 +118,11 @@ module _ {D : Type 0} (base : Base) (done : List Carried) (s : CommitterState D)
           let count = length-append done group.entries in
           omega (arith, number, count)
 
-  with_underway : (u : Option Handed) (rest : List Carried) → IsOldest u rest
+  with_underway : (u : Option Work) (rest : List Carried) → IsOldest u rest
       → (image : List ℕ) → ShowsWith s u image → ShowsBeginning base (done ++ rest) least image
   with_underway None rest oldest image shows = committed rest image shows
-  with_underway (Some group) rest oldest image shows =
+  with_underway (Some Trimming) rest oldest image shows = committed rest image shows
+  with_underway (Some (Storing group)) rest oldest image shows =
       subst (λ l. ShowsBeginning base (done ++ l) least image) (sym oldest.1)
       (with_group group oldest.0 image shows)
 

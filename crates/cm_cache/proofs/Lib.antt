@@ -6,3 +6,4 @@ mod Flushed
 mod Leaving
 mod Counted
 mod Found
+mod Opened

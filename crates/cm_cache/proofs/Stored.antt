@@ -3,6 +3,7 @@
 use Rattle.std.proofs.Common.{◌≡◌, ℕ, ◌+◌, ◌-◌, ◌<◌, ◌≤◌, Bool, true, false, true≢false, List, []}
 use Rattle.std.proofs.Common.{Some, None, Ok, Err, length, refl, sym, ap, subst, ◌∙◌, arith}
 use Rattle.std.specs.Prelude.{Option, IfSome, IfNone}
+use Rattle.cm_disk.specs.Disk.{View}
 use Rattle.cm_group.specs.declared.receipt.Receipt.{Receipt}
 use Rattle.cm_group.specs.Groups.{Handed}
 use Rattle.cm_guards.specs.Stages.{Stage, calls_left, after_call}
@@ -10,20 +11,20 @@ use Rattle.cm_guards.proofs.{one_call_less}
 use Rattle.cm_commit.specs.declared.progress.AdvanceFault.{AdvanceFault}
 use Rattle.cm_commit.specs.declared.progress.AdvanceFault.TheVariants.{Device, Broken}
 use Rattle.cm_commit.specs.Offers.{rows_after_group}
-use Rattle.cm_commit.specs.States.{CommitterState, Takes, with_taken}
-use Rattle.cm_commit.specs.Advances.{Advances, HasRisen, Rests, Works, Finishes, Breaks}
+use Rattle.cm_commit.specs.States.{Storing, Trimming, CommitterState, Takes, with_taken}
+use Rattle.cm_commit.specs.Advances.{Trims, Advances, HasRisen, Rests, Works, Finishes, Breaks}
 use Rattle.cm_cache.specs.Storing.{SameCommitted, IsUnderway, IsStored, IsLeft}
 
-some_is : (a b : Handed) → Some a ≡ Some b → a ≡ b
+some_is : (a b : Handed) → Some (Storing a) ≡ Some (Storing b) → a ≡ b
 some_is a b e = cc
 
 module _ {D : Type 0} where
   -- ---- taken
 
-  pub taken_is_underway : (contents : D → List ℕ) (s : CommitterState D) (group : Handed)
-      (new : CommitterState D) (calls : ℕ) → Takes s group → new ≡ with_taken contents s group
+  pub taken_is_underway : (view : View D) (s : CommitterState D) (group : Handed)
+      (new : CommitterState D) (calls : ℕ) → Takes s group → new ≡ with_taken view s group
       → calls_left new.left ≡ calls + 1 → IsUnderway s group new
-  taken_is_underway contents s group new calls takes is left = record {
+  taken_is_underway view s group new calls takes is left = record {
     same = record {
       sizes = ap (λ (t : CommitterState D). t.sizes) is;
       rows = ap (λ (t : CommitterState D). t.rows) is;
@@ -123,6 +124,14 @@ module _ {D : Type 0} where
       let none = ap calls_left r.none in
       let left = u.left in
       omega (arith, none, left)
+
+  -- it is a group
+  pub no_trim : (old s new : CommitterState D) (group : Handed) (roots : ℕ) → Trims s roots new
+      → IsUnderway old group s → ⊥
+  no_trim old s new group roots t u = differ (sym t.underway ∙ u.group_is)
+    where
+      differ : Some Trimming ≡ Some (Storing group) → ⊥
+      differ e = cc
 
   -- ---- behind the offer
 

@@ -3,7 +3,7 @@ use Rattle.std.specs.Prelude.{◌≡◌, ℕ, ◌+◌, ◌<◌, ◌≤◌, Bool,
 use Rattle.std.specs.Prelude.{Option, Some, None}
 use Rattle.cm_group.specs.Groups.{Carried, Handed}
 use Rattle.cm_commit.specs.Offers.{rows_after_group}
-use Rattle.cm_commit.specs.States.{CommitterState}
+use Rattle.cm_commit.specs.States.{Work, Storing, Trimming, CommitterState}
 use Rattle.cm_machine.specs.Carrying.{CarriesOn}
 use Rattle.cm_cache.specs.declared.board_view.Seen.{Seen}
 use Rattle.cm_cache.specs.declared.channel.Base.{Base}
@@ -80,9 +80,10 @@ ended_of committer received posted over =
     record { committer = committer; received = received; posted = posted; over = over }
 
 -- the group under way, if there is one, is the oldest that isn't committed
-abbrev pub IsOldest : Option Handed → List Carried → Type 0
+abbrev pub IsOldest : Option Work → List Carried → Type 0
 IsOldest None rest = Unit {0}
-IsOldest (Some group) rest = (more : List Carried) × (rest ≡ group.entries ++ more)
+IsOldest (Some Trimming) rest = Unit {0}
+IsOldest (Some (Storing group)) rest = (more : List Carried) × (rest ≡ group.entries ++ more)
 
 -- What was received is what is committed, which the Board says, and a rest. There is a rest only
 -- where the device failed, and the Board says that too.

@@ -3,7 +3,7 @@ use Rattle.std.specs.Prelude.{◌≡◌, ℕ, ◌+◌, Bool, true, false, length
 use Rattle.cm_group.specs.Groups.{Handed}
 use Rattle.cm_guards.specs.Stages.{calls_left}
 use Rattle.cm_commit.specs.Offers.{rows_after_group}
-use Rattle.cm_commit.specs.States.{CommitterState}
+use Rattle.cm_commit.specs.States.{Storing, CommitterState}
 
 -- the same is committed
 pub record SameCommitted {D : Type 0} (old new : CommitterState D) : Type 0 where
@@ -16,7 +16,7 @@ pub record IsUnderway {D : Type 0} (old : CommitterState D) (group : Handed)
     (new : CommitterState D) : Type 0 where
   pub same : SameCommitted old new
   pub sound : new.broken ≡ false
-  pub group_is : new.underway ≡ Some group
+  pub group_is : new.underway ≡ Some (Storing group)
   pub some : ℕ
   pub left : calls_left new.left ≡ some + 1
 
@@ -35,4 +35,4 @@ pub record IsLeft {D : Type 0} (old : CommitterState D) (group : Handed)
     (new : CommitterState D) : Type 0 where
   pub same : SameCommitted old new
   pub broken : new.broken ≡ true
-  pub group_is : new.underway ≡ Some group
+  pub group_is : new.underway ≡ Some (Storing group)

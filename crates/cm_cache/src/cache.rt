@@ -69,7 +69,7 @@ impl<K: Naming> Cache<K> {
         K: Send + Sync + 'static,
         D: Disk + Drop + Send + 'static,
         requires new { Belongs K.base K.channel K.board K.name K.parts new }
-        requires opened { MayStart K.base K.failed D.failures front committer }
+        requires opened { MayStart K.base K.failed D.view.failures front committer }
     {
         let NewCache {
             channel,
@@ -194,8 +194,8 @@ impl<K: Naming> Cache<K> {
         ensures receipts { All (λ (p : PassState).
             p.seen.receipt.number ≤ K.base.number + result.committed) passes.items }
         ensures images { LeavesBeginning K.base result.handed result.committed
-            (D.contents result.disk) (D.unsynced result.disk) }
-        ensures whole { D.failures result.disk ≡ K.failed
+            (D.view.contents result.disk) (D.view.unsynced result.disk) }
+        ensures whole { D.view.failures result.disk ≡ K.failed
             → (result.committed ≡ result.handed)
             × All (λ (p : PassState). p.marked ≡ false) passes.items }
     {

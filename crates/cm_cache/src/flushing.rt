@@ -39,7 +39,7 @@ impl<K: Naming, D: Disk> Model for Flushing<K, D> {
 
     ghost view = { λ f. flushing_of f.committer f.incoming f.poster f.next f.behind f.over };
 
-    ghost invariant = { λ f. IsFlushing K.base K.failed D.failures
+    ghost invariant = { λ f. IsFlushing K.base K.failed D.view.failures
         (flushing_of f.committer f.incoming f.poster f.next f.behind f.over) };
 }
 
@@ -61,7 +61,7 @@ impl<K: Naming, D: Disk> Model for Ended<K, D> {
 
     ghost view = { λ e. ended_of e.committer e.incoming e.poster e.over };
 
-    ghost invariant = { λ e. IsEnded K.base K.failed D.failures
+    ghost invariant = { λ e. IsEnded K.base K.failed D.view.failures
         (ended_of e.committer e.incoming e.poster e.over) };
 }
 
@@ -75,7 +75,7 @@ impl<K: Naming, D: Disk> Flushing<K, D> {
         requires received { incoming ≡ [] }
         requires says { poster
             ≡ record { receipt = record { number = committer.number }; broken = false } }
-        requires later { K.failed ≤ D.failures committer.disk }
+        requires later { K.failed ≤ D.view.failures committer.disk }
         ensures { (result.committer ≡ committer) × (result.over ≡ false) }
     {
         Flushing {
@@ -299,9 +299,9 @@ impl<K: Naming, D: Disk> Ended<K, D> {
         ensures least { K.base.number ≤ result.0 }
         ensures most { result.0 ≤ number_sent K.base outgoing }
         ensures images { LeavesBeginning K.base (length (entries_of outgoing))
-            (result.0 - K.base.number) (D.contents result.2) (D.unsynced result.2) }
+            (result.0 - K.base.number) (D.view.contents result.2) (D.view.unsynced result.2) }
         ensures says { result.1.receipt.number ≡ result.0 }
-        ensures whole { D.failures result.2 ≡ K.failed
+        ensures whole { D.view.failures result.2 ≡ K.failed
             → (result.0 ≡ number_sent K.base outgoing) × (result.1.broken ≡ false) }
     {
         let Ended {
@@ -318,7 +318,7 @@ impl<K: Naming, D: Disk> Ended<K, D> {
 
     /// Does nothing: its clauses say what was received and stored.
     pub fn state(&self)
-        ensures ended { IsEnded K.base K.failed D.failures self.now }
+        ensures ended { IsEnded K.base K.failed D.view.failures self.now }
     {
         let _over = self.over;
     }

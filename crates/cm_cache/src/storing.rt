@@ -14,8 +14,9 @@ pub(crate) fn store_group<D: Disk>(committer: &mut Committer<D>, group: Group) -
     requires { Takes committer.old group }
     ensures stored { IfSome result (λ r. IsStored committer.old group r.number committer.new) }
     ensures left { IfNone result (IsLeft committer.old group committer.new) }
-    ensures later { D.failures committer.old.disk ≤ D.failures committer.new.disk }
-    ensures cause { IfNone result (D.failures committer.old.disk < D.failures committer.new.disk) }
+    ensures later { D.view.failures committer.old.disk ≤ D.view.failures committer.new.disk }
+    ensures cause { IfNone result (D.view.failures committer.old.disk < D.view.failures
+        committer.new.disk) }
 {
     match committer.offer(group) {
         Ok(()) => make_calls(committer),
@@ -31,14 +32,16 @@ fn make_calls<D: Disk>(committer: &mut Committer<D>) -> Option<Receipt>
         → IsStored committer.old group r.number committer.new) }
     ensures left { IfNone result ((group : Handed) → IsUnderway committer.old group committer.old
         → IsLeft committer.old group committer.new) }
-    ensures later { D.failures committer.old.disk ≤ D.failures committer.new.disk }
-    ensures cause { IfNone result (D.failures committer.old.disk < D.failures committer.new.disk) }
+    ensures later { D.view.failures committer.old.disk ≤ D.view.failures committer.new.disk }
+    ensures cause { IfNone result (D.view.failures committer.old.disk < D.view.failures
+        committer.new.disk) }
 {
     loop {
         match committer.advance() {
             Ok(progress) => match progress {
                 Progress::Done(receipt) => return Some(receipt),
                 Progress::Working => {}
+                Progress::Trimmed(_) => unreachable!(),
                 Progress::Idle => unreachable!(),
             },
             Err(_) => return None,

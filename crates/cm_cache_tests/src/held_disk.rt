@@ -102,19 +102,9 @@ impl HeldDisk {
 impl Disk for HeldDisk {
     ghost use Rattle.std.proofs.Common.{inl};
     ghost use Rattle.cm_disk.specs.Moments.{none_since_now};
-    ghost use Rattle.cm_disk.specs.Sim.{sim_contents, sim_unsynced, sim_moment};
-    ghost use Rattle.cm_disk.specs.Sim.{sim_left_since};
-    ghost use Rattle.cm_cache_tests.specs.Held.{held_failures};
+    ghost use Rattle.cm_cache_tests.specs.Held.{held_view};
 
-    ghost contents = { λ d. sim_contents d.disk };
-
-    ghost unsynced = { λ d. sim_unsynced d.disk };
-
-    ghost failures = { held_failures };
-
-    ghost moment = { λ d. sim_moment d.disk };
-
-    ghost left_since = { λ d. sim_left_since d.disk };
+    ghost view = { held_view };
 
     ghost called = { λ _ _ _. Unit {0} };
 

@@ -58,7 +58,7 @@ pub fn formatted(alloc: Global) -> Result<SimDisk, Fail> {
 /// What a disk holds, ready to be used by several threads.
 pub fn opened<D: Disk + Drop>(alloc: Global, disk: D) -> Result<(Front, Committer<D>), Fail>
     ensures { IfOk result
-        (λ p. MayStart (base_of p.1) (D.failures p.1.disk) D.failures p.0 p.1) }
+        (λ p. MayStart (base_of p.1) (D.view.failures p.1.disk) D.view.failures p.0 p.1) }
 {
     opened_is_ahead();
     found_is_live();

@@ -12,6 +12,8 @@ pub const CHECK: &str = "check";
 
 pub const LIST: &str = "list";
 
+pub const TRIM: &str = "trim";
+
 pub const APPLY: &str = "apply";
 
 pub const FILE: &str = "FILE";
@@ -26,6 +28,8 @@ pub const TOP: &str = "top";
 pub const ROOTS: &str = "roots";
 
 pub const SLOTS: &str = "slots";
+
+pub const WORKERS: &str = "workers";
 
 fn file<'a>(alloc: Global, help: &'a str) -> Arg<'a> {
     Arg::new(alloc, FILE)
@@ -89,13 +93,21 @@ fn apply_command<'a>(alloc: Global) -> Result<Command<'a>, AllocError> {
         .long(MEMORY)
         .help("Run the script on a fresh cache in memory")
         .action(ArgAction::SetTrue);
+    let workers = number(
+        alloc,
+        WORKERS,
+        "1",
+        "How many threads prepare the classes of the script",
+    )
+    .value_parser(value_parser!(u32).range(1..=16));
     Command::new(alloc, APPLY)
         .about(
             "Run a script from standard input: lines `loader NAME`, `unload NAME`, \
              `define NAME HEX`, `find NAME CLASS`",
         )
         .arg(file)?
-        .arg(memory)
+        .arg(memory)?
+        .arg(workers)
 }
 
 /// All commands. The words that it reads begin behind the program's name.
@@ -108,5 +120,10 @@ pub(crate) fn whole_command<'a>(alloc: Global) -> Result<Command<'a>, AllocError
         .subcommand(format_command(alloc)?)?
         .subcommand(file_command(alloc, CHECK, "Look for damage in a cache")?)?
         .subcommand(file_command(alloc, LIST, "List the loaders and classes of a cache")?)?
+        .subcommand(file_command(
+            alloc,
+            TRIM,
+            "Cut a cache's file behind the last root that is in use",
+        )?)?
         .subcommand(apply_command(alloc)?)
 }

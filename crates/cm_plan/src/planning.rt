@@ -1,21 +1,25 @@
 //! From the words of a command line to a plan.
-ghost use Rattle.std.specs.Prelude.{◌≡◌, ◌≢◌, ◌<◌, ◌⊎◌, IfOk, IfSome, Some, Contains};
+ghost use Rattle.std.specs.Prelude.{◌≡◌, ◌≢◌, ◌<◌, ◌≤◌, ◌⊎◌, IfOk, IfSome, Some, Contains};
 ghost use Rattle.std.specs.Prelude.{codes};
 ghost use Rattle.clap.specs.Words.{first_value, found_of, kind_of};
 ghost use Rattle.clap.specs.declared.error.kind.ErrorKind.TheVariants.{DisplayHelp, DisplayVersion};
 ghost use Rattle.clap.specs.declared.error.kind.ErrorKind.TheVariants.{OutOfMemory};
 ghost use Rattle.clap.specs.declared.error.kind.ErrorKind.TheVariants.{ValueValidation};
-ghost use Rattle.cm_plan.specs.Plan.{IsOfWords, fault_status};
+ghost use Rattle.cm_plan.specs.Plan.{IsOfWords, fault_status, most_workers};
 ghost use Rattle.cm_plan.specs.declared.fault.UsageFault.TheVariants.{NoMemory};
 
 use crate::command::{
-    APPLY, CHECK, FILE, FORMAT, LIST, MEMORY, MEMORY_WORD, ROOTS, SLOTS, TOP, whole_command,
+    APPLY, CHECK, FILE, FORMAT, LIST, MEMORY, MEMORY_WORD, ROOTS, SLOTS, TOP, TRIM, WORKERS,
+    whole_command,
 };
 use crate::{Plan, UsageFault};
 use clap::ArgMatches;
 use clap::error::{Error, ErrorKind};
 use cm_pool::Geometry;
 use std::alloc::{AllocError, Global};
+
+/// How many threads may prepare the classes of a script.
+const MOST_WORKERS: u32 = 16;
 
 /// Reads the words of a command line, which begin behind the program's name.
 ///
@@ -80,11 +84,12 @@ fn plan_of<'a>(matches: &ArgMatches<'a>, words: &'a [&'a str]) -> Option<Plan<'a
         FORMAT => Some(Plan::Format(path_of(given, rest)?, geometry_of(given)?)),
         CHECK => Some(Plan::Check(path_of(given, rest)?)),
         LIST => Some(Plan::List(path_of(given, rest)?)),
+        TRIM => Some(Plan::Trim(path_of(given, rest)?)),
         APPLY if given.get_flag(MEMORY) => {
             find(rest, MEMORY_WORD)?;
-            Some(Plan::Apply(None))
+            Some(Plan::Apply(None, workers_of(given)?))
         }
-        APPLY => Some(Plan::Apply(Some(path_of(given, rest)?))),
+        APPLY => Some(Plan::Apply(Some(path_of(given, rest)?), workers_of(given)?)),
         _ => None,
     }
 }
@@ -103,6 +108,17 @@ fn find<'a>(words: &'a [&'a str], text: &str) -> Option<&'a str>
     ensures text { IfSome result (λ word. word.now ≡ text.now) }
 {
     words.iter().copied().find(|word| *word == text)
+}
+
+fn workers_of(given: &ArgMatches<'_>) -> Option<u32>
+    ensures least { IfSome result (λ n. 0 < n) }
+    ensures most { IfSome result (λ n. n ≤ most_workers) }
+{
+    let workers = given.get_one(WORKERS)?;
+    if workers == 0 || workers > MOST_WORKERS {
+        return None;
+    }
+    Some(workers)
 }
 
 fn geometry_of(given: &ArgMatches<'_>) -> Option<Geometry> {

@@ -11,6 +11,9 @@ pub enum Plan<'a> {
     Check(&'a str),
     /// To list what a file holds.
     List(&'a str),
-    /// To run a script on a file, or on a fresh cache in memory where there is none.
-    Apply(Option<&'a str>),
+    /// To cut a file behind the last root that is in use.
+    Trim(&'a str),
+    /// To run a script on a file, or on a fresh cache in memory where there is none, with so many
+    /// threads that prepare its classes.
+    Apply(Option<&'a str>, u32),
 }

@@ -5,6 +5,7 @@ use Rattle.std.proofs.Common.{Result, Ok, Err, IfOk, OnOk, inl, inr, refl, sym, 
 use Rattle.hex.specs.Hex.{decode_of}
 use Rattle.hex.specs.declared.error.FromHexError.{FromHexError}
 use Rattle.hex.specs.declared.error.FromHexError.TheVariants.{OutOfMemory}
+use Rattle.cm_disk.specs.Disk.{View}
 use Rattle.cm_class.specs.declared.class_file.ClassFile.{ClassFile}
 use Rattle.cm_class.specs.Spelling.{HasSpelling}
 use Rattle.cm_pool.specs.Geometry.{Sizes}
@@ -264,27 +265,27 @@ module _ (sizes : Sizes) (question : Option Asked) (told : ℕ → ReplyText) (k
       }))
   store_replies (Err (Unsure n)) result s fails same says = was_lost n result s fails says
 
-module _ {D : Type 0} (moment : D → ℕ) (left_since : D → ℕ → List ℕ → Type 0) where
+module _ {D : Type 0} (view : View D) where
   pub command_replies : {E : Type 0} (question : Option Asked) (told : ℕ → ReplyText) (k : Machine)
       (asked : Change (List ℕ)) (before now : ℕ) (old new : Session D)
       (stored : Result ℕ NotStored) (result : Result Reply E)
       → IsReady k → Fits old.committer.sizes question told asked
       → Storing old.committer.sizes k asked
-      (LeavesOnly moment left_since old.committer.disk new.committer.disk) stored
+      (LeavesOnly view old.committer.disk new.committer.disk) stored
       (λ next. GoesWith next new)
       → FailsOnly before now stored → (MakesNoCall stored → now ≡ before)
       → (MakesNoCall stored → new.committer ≡ old.committer) → Tells told stored result
       → LedTo (Replies old.committer.sizes question result (served k before)) now
-      (MayGoOn moment left_since k old new)
+      (MayGoOn view k old new)
   command_replies question told k asked before now old new stored result ready fits s
       fails same none
       says =
       record {
         next = s.leads.next;
         does = store_replies old.committer.sizes question told k asked
-            (LeavesOnly moment left_since old.committer.disk new.committer.disk) before now ready
+            (LeavesOnly view old.committer.disk new.committer.disk) before now ready
             fits s.change s.asks s.leads.next stored result s.leads.does fails same says;
-        goes = stored_goes_on moment left_since k s.leads.next old new s.change ready s.leads.goes
+        goes = stored_goes_on view k s.leads.next old new s.change ready s.leads.goes
             stored s.leads.does none;
       }
 

@@ -4,7 +4,7 @@ use Rattle.std.proofs.Common.{◌≡◌, ◌≤◌, ◌⊎◌, ℕ, Bool, true, 
 use Rattle.std.proofs.Common.{sym, ◌∙◌, ap, subst, arith}
 use Rattle.cm_class.specs.declared.class_file.ClassFile.{ClassFile}
 use Rattle.cm_pool.specs.Geometry.{Sizes}
-use Rattle.cm_disk.specs.Disk.{Unsynced, IsImage}
+use Rattle.cm_disk.specs.Disk.{OnlyNow, View, Unsynced, IsImage}
 use Rattle.cm_guards.specs.Guards.{EachImage}
 use Rattle.cm_guards.specs.Calls.{LeavesOnly}
 use Rattle.cm_guards.proofs.{leaves_none, leaves_more}
@@ -49,9 +49,9 @@ between_some sizes k next image less s = record {
   stands = s.stands;
 }
 
-module _ {D : Type 0} (moment : D → ℕ) (left_since : D → ℕ → List ℕ → Type 0) where
+module _ {D : Type 0} (view : View D) where
   -- nothing was done
-  pub still : (k : Machine) (s : Session D) → GoesWith k s → MayGoOn moment left_since k s s k
+  pub still : (k : Machine) (s : Session D) → GoesWith k s → MayGoOn view k s s k
   still k s goes = record { goes = goes; no_less = omega arith; moments = inl refl }
 
   -- a command was stored, or not
@@ -61,7 +61,7 @@ module _ {D : Type 0} (moment : D → ℕ) (left_since : D → ℕ → List ℕ 
     sizes = old.committer.sizes
 
     abbrev Leaves : (List ℕ → Type 0) → Type 0
-    Leaves = LeavesOnly moment left_since old.committer.disk new.committer.disk
+    Leaves = LeavesOnly view old.committer.disk new.committer.disk
 
     -- what was handed out acknowledges nothing yet
     handed_ack : (number : ℕ) (handed : Machine) → Hands sizes k change Leaves number handed
@@ -75,14 +75,14 @@ module _ {D : Type 0} (moment : D → ℕ) (left_since : D → ℕ → List ℕ 
         → Leaves (StandsBetween sizes k next)
     handed_leaves number handed h more =
         let same = handed_ack number handed h in
-        leaves_more moment left_since old.committer.disk new.committer.disk
+        leaves_more view old.committer.disk new.committer.disk
         (StandsForSome sizes handed) (StandsBetween sizes k next)
         (λ image s. more image (between_some sizes k handed image (omega (arith, same)) s))
         h.moments
 
     pub stored_goes_on : (stored : Result ℕ NotStored) → Stores sizes k change Leaves stored next
         → (MakesNoCall stored → new.committer ≡ old.committer)
-        → MayGoOn moment left_since k old new next
+        → MayGoOn view k old new next
     stored_goes_on (Ok number) s none =
         let number_is = s.1.answers.1.number_is in
         let before = ready.rest.stored ready.works in
@@ -119,29 +119,27 @@ module _ {D : Type 0} (moment : D → ℕ) (left_since : D → ℕ → List ℕ 
         }
 
   -- with what a crash leaves now, each moment on the way is told
-  pub moments_of : (contents : D → List ℕ) (unsynced : D → Unsynced)
-      → ((disk : D) (image : List ℕ) → left_since disk (moment disk) image
-      → IsImage (contents disk) (unsynced disk) image)
+  pub moments_of : OnlyNow view
       → (k next : Machine) (old new : Session D)
-      → EachImage (contents new.committer.disk) (unsynced new.committer.disk)
+      → EachImage (view.contents new.committer.disk) (view.unsynced new.committer.disk)
       (StandsForSome old.committer.sizes next)
-      → MayGoOn moment left_since k old new next
-      → LeavesOnly moment left_since old.committer.disk new.committer.disk
+      → MayGoOn view k old new next
+      → LeavesOnly view old.committer.disk new.committer.disk
       (StandsBetween old.committer.sizes k next)
-  moments_of contents unsynced only_now k next old new images g = by g.moments
+  moments_of only_now k next old new images g = by g.moments
     where
       sizes : Sizes
       sizes = old.committer.sizes
 
       by : ((new.committer.disk ≡ old.committer.disk)
-          ⊎ LeavesOnly moment left_since old.committer.disk new.committer.disk
+          ⊎ LeavesOnly view old.committer.disk new.committer.disk
           (StandsBetween sizes k next))
-          → LeavesOnly moment left_since old.committer.disk new.committer.disk
+          → LeavesOnly view old.committer.disk new.committer.disk
           (StandsBetween sizes k next)
       by (inl same) =
-          subst (λ (d : D). LeavesOnly moment left_since d new.committer.disk
+          subst (λ (d : D). LeavesOnly view d new.committer.disk
           (StandsBetween sizes k next)) same
-          (leaves_none moment left_since contents unsynced only_now new.committer.disk
+          (leaves_none view only_now new.committer.disk
           (StandsBetween sizes k next)
           (record {
             each = λ image is. between_some sizes k next image g.no_less
@@ -150,14 +148,12 @@ module _ {D : Type 0} (moment : D → ℕ) (left_since : D → ℕ → List ℕ 
       by (inr leaves) = leaves
 
   -- between two lines
-  pub rests : (contents : D → List ℕ) (unsynced : D → Unsynced)
-      → ((disk : D) (image : List ℕ) → left_since disk (moment disk) image
-      → IsImage (contents disk) (unsynced disk) image)
+  pub rests : OnlyNow view
       → (k : Machine) (s : Session D)
-      → EachImage (contents s.committer.disk) (unsynced s.committer.disk)
+      → EachImage (view.contents s.committer.disk) (view.unsynced s.committer.disk)
       (StandsForSome s.committer.sizes k)
       → GoesWith k s
-      → LeavesOnly moment left_since s.committer.disk s.committer.disk
+      → LeavesOnly view s.committer.disk s.committer.disk
       (StandsBetween s.committer.sizes k k)
-  rests contents unsynced only_now k s images goes =
-      moments_of contents unsynced only_now k k s s images (still k s goes)
+  rests only_now k s images goes =
+      moments_of only_now k k s s images (still k s goes)

@@ -9,6 +9,7 @@ use Rattle.std.proofs.lemmas.List.Folds.{list_any-append}
 use Rattle.std.proofs.lemmas.Grind.{flat_map-append}
 use Rattle.std.proofs.KnownBytes.{Appends-nil, Appends-trans, Appends-kept, Keeps-refl}
 use Rattle.std.specs.Io.KnownBytes.{Appends}
+use Rattle.cm_disk.specs.Disk.{View}
 use Rattle.cm_pool.specs.Geometry.{Sizes}
 use Rattle.cm_guards.specs.Calls.{LeavesOnly}
 use Rattle.cm_machine.specs.Machine.{Base, Machine, machine_from}
@@ -348,12 +349,12 @@ pub record Went {D : Type 0} (Leaves : D → D → (List ℕ → Type 0) → Typ
   pub goes : Next next
   pub moments : Leaves d e (StandsBetween sizes j next)
 
-pub went : {D : Type 0} {Does : Served → Type 0} (moment : D → ℕ)
-    (left_since : D → ℕ → List ℕ → Type 0) (now : ℕ) (k : Machine) (old new : Session D)
-    → LedTo Does now (GoesOn moment left_since k old new)
-    → LedTo Does now (Went (LeavesOnly moment left_since) old.committer.sizes old.committer.disk
+pub went : {D : Type 0} {Does : Served → Type 0} (view : View D) (now : ℕ) (k : Machine)
+    (old new : Session D)
+    → LedTo Does now (GoesOn view k old new)
+    → LedTo Does now (Went (LeavesOnly view) old.committer.sizes old.committer.disk
     new.committer.disk (λ next. GoesWith next new) k)
-went moment left_since now k old new led = record {
+went view now k old new led = record {
   next = led.next;
   does = led.does;
   goes = record { goes = led.goes.goes; moments = led.goes.moments };

@@ -1,7 +1,7 @@
 -- What the functions of a script do to the session that they run on.
 use Rattle.std.specs.Prelude.{◌≡◌, ◌≤◌, ◌⊎◌, ℕ, false, List, Option, Result, Ok, Err, IfOk}
 use Rattle.cm_pool.specs.Geometry.{Sizes}
-use Rattle.cm_disk.specs.Disk.{Unsynced}
+use Rattle.cm_disk.specs.Disk.{View, Unsynced}
 use Rattle.cm_guards.specs.Guards.{EachImage}
 use Rattle.cm_guards.specs.Calls.{LeavesOnly}
 use Rattle.cm_machine.specs.Machine.{Machine}
@@ -30,19 +30,19 @@ pub record LedTo (Does : Served → Type 0) (failures : ℕ) (Goes : Machine →
 
 -- The session goes with the machine, and at each moment on the way a crash left what stands for all
 -- that was acknowledged before, and for nothing that wasn't handed out by now.
-pub record GoesOn {D : Type 0} (moment : D → ℕ) (left_since : D → ℕ → List ℕ → Type 0)
+pub record GoesOn {D : Type 0} (view : View D)
     (k : Machine) (old new : Session D) (next : Machine) : Type 0 where
   pub goes : GoesWith next new
-  pub moments : LeavesOnly moment left_since old.committer.disk new.committer.disk
+  pub moments : LeavesOnly view old.committer.disk new.committer.disk
       (StandsBetween old.committer.sizes k next)
 
 -- the same, where it may be that the disk wasn't touched
-pub record MayGoOn {D : Type 0} (moment : D → ℕ) (left_since : D → ℕ → List ℕ → Type 0)
+pub record MayGoOn {D : Type 0} (view : View D)
     (k : Machine) (old new : Session D) (next : Machine) : Type 0 where
   pub goes : GoesWith next new
   pub no_less : k.acknowledged ≤ next.acknowledged
   pub moments : (new.committer.disk ≡ old.committer.disk)
-      ⊎ LeavesOnly moment left_since old.committer.disk new.committer.disk
+      ⊎ LeavesOnly view old.committer.disk new.committer.disk
       (StandsBetween old.committer.sizes k next)
 
 -- ---- replies
@@ -82,9 +82,12 @@ pub record Medium : Type 0 where
   pub unsynced : Unsynced
   pub failures : ℕ
 
-abbrev pub medium : List ℕ → Unsynced → ℕ → Medium
-medium bytes unsynced failures =
-    record { bytes = bytes; unsynced = unsynced; failures = failures }
+abbrev pub medium : {D : Type 0} → View D → D → Medium
+medium view disk = record {
+  bytes = view.contents disk;
+  unsynced = view.unsynced disk;
+  failures = view.failures disk;
+}
 
 -- Whatever a crash leaves of the disk stands for all that was acknowledged, and nothing that
 -- wasn't handed out.

@@ -32,9 +32,9 @@ pub fn answer<D: Disk>(
 ) -> Result<Reply, AllocError>
     ensures machine { (k : Machine) → GoesWith k session.old → IsReady k
         → LedTo (Replies session.old.committer.sizes (option_map seen question.entry) result
-        (served k (D.failures session.old.committer.disk)))
-        (D.failures session.new.committer.disk)
-        (MayGoOn D.moment D.left_since k session.old session.new) }
+        (served k (D.view.failures session.old.committer.disk)))
+        (D.view.failures session.new.committer.disk)
+        (MayGoOn D.view k session.old session.new) }
     ensures sizes { session.new.committer.sizes ≡ session.old.committer.sizes }
 {
     match question {
@@ -50,9 +50,9 @@ fn answer_question<D: Disk>(
 ) -> Result<Reply, AllocError>
     ensures machine { (k : Machine) → GoesWith k session.old → IsReady k
         → LedTo (Replies session.old.committer.sizes (Some (seen question.entry)) result
-        (served k (D.failures session.old.committer.disk)))
-        (D.failures session.new.committer.disk)
-        (MayGoOn D.moment D.left_since k session.old session.new) }
+        (served k (D.view.failures session.old.committer.disk)))
+        (D.view.failures session.new.committer.disk)
+        (MayGoOn D.view k session.old session.new) }
     ensures sizes { session.new.committer.sizes ≡ session.old.committer.sizes }
 {
     match question {
@@ -70,9 +70,9 @@ fn add_loader<D: Disk>(
 ) -> Result<Reply, AllocError>
     ensures machine { (k : Machine) → GoesWith k session.old → IsReady k
         → LedTo (Replies session.old.committer.sizes (Some (AsksLoader name.now)) result
-        (served k (D.failures session.old.committer.disk)))
-        (D.failures session.new.committer.disk)
-        (MayGoOn D.moment D.left_since k session.old session.new) }
+        (served k (D.view.failures session.old.committer.disk)))
+        (D.view.failures session.new.committer.disk)
+        (MayGoOn D.view k session.old session.new) }
     ensures sizes { session.new.committer.sizes ≡ session.old.committer.sizes }
 {
     let stored = session.store(Command::AddLoader(name));
@@ -86,9 +86,9 @@ fn unload<D: Disk>(
 ) -> Result<Reply, AllocError>
     ensures machine { (k : Machine) → GoesWith k session.old → IsReady k
         → LedTo (Replies session.old.committer.sizes (Some (AsksUnload name.now)) result
-        (served k (D.failures session.old.committer.disk)))
-        (D.failures session.new.committer.disk)
-        (MayGoOn D.moment D.left_since k session.old session.new) }
+        (served k (D.view.failures session.old.committer.disk)))
+        (D.view.failures session.new.committer.disk)
+        (MayGoOn D.view k session.old session.new) }
     ensures sizes { session.new.committer.sizes ≡ session.old.committer.sizes }
 {
     let stored = session.store(Command::Unload(name));
@@ -124,9 +124,9 @@ fn define<D: Disk>(
     ensures machine { (k : Machine) → GoesWith k session.old → IsReady k
         → LedTo (Replies session.old.committer.sizes
         (Some (AsksDefine loader.now digits.now)) result
-        (served k (D.failures session.old.committer.disk)))
-        (D.failures session.new.committer.disk)
-        (MayGoOn D.moment D.left_since k session.old session.new) }
+        (served k (D.view.failures session.old.committer.disk)))
+        (D.view.failures session.new.committer.disk)
+        (MayGoOn D.view k session.old session.new) }
     ensures sizes { session.new.committer.sizes ≡ session.old.committer.sizes }
 {
     match hex::decode(alloc, digits) {
@@ -157,9 +157,9 @@ fn define_bytes<D: Disk>(
     ensures machine { (digits : List ℕ) → decode_of digits ≡ Ok bytes.now
         → (k : Machine) → GoesWith k session.old → IsReady k
         → LedTo (Replies session.old.committer.sizes (Some (AsksDefine loader.now digits)) result
-        (served k (D.failures session.old.committer.disk)))
-        (D.failures session.new.committer.disk)
-        (MayGoOn D.moment D.left_since k session.old session.new) }
+        (served k (D.view.failures session.old.committer.disk)))
+        (D.view.failures session.new.committer.disk)
+        (MayGoOn D.view k session.old session.new) }
     ensures sizes { session.new.committer.sizes ≡ session.old.committer.sizes }
 {
     match prepare(alloc, bytes) {
@@ -178,9 +178,9 @@ fn define_class<D: Disk>(
         → IsRight bytes c → class ≡ lay c
         → (k : Machine) → GoesWith k session.old → IsReady k
         → LedTo (Replies session.old.committer.sizes (Some (AsksDefine loader.now digits)) result
-        (served k (D.failures session.old.committer.disk)))
-        (D.failures session.new.committer.disk)
-        (MayGoOn D.moment D.left_since k session.old session.new) }
+        (served k (D.view.failures session.old.committer.disk)))
+        (D.view.failures session.new.committer.disk)
+        (MayGoOn D.view k session.old session.new) }
     ensures sizes { session.new.committer.sizes ≡ session.old.committer.sizes }
 {
     layout_determines_class();
@@ -215,9 +215,9 @@ fn find<D: Disk>(
 ) -> Result<Reply, AllocError>
     ensures { (k : Machine) → GoesWith k session.now → IsReady k
         → LedTo (Replies session.now.committer.sizes (Some (AsksFind loader.now class.now)) result
-        (served k (D.failures session.now.committer.disk)))
-        (D.failures session.now.committer.disk)
-        (MayGoOn D.moment D.left_since k session.now session.now) }
+        (served k (D.view.failures session.now.committer.disk)))
+        (D.view.failures session.now.committer.disk)
+        (MayGoOn D.view k session.now session.now) }
 {
     let name = match unescape(alloc, class) {
         Ok(name) => name,

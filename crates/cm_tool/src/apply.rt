@@ -40,16 +40,16 @@ pub fn apply_script<R: BufRead, W: Write, D: Disk>(
     disk: D,
 ) -> (Result<Outcome, ApplyFault>, D)
     ensures ok { IfOk result.0 (λ outcome.
-        RunsFromOpened (LeavesOnly D.moment D.left_since) disk result.1
-        (medium (D.contents disk) (D.unsynced disk) (D.failures disk))
-        (medium (D.contents result.1) (D.unsynced result.1) (D.failures result.1))
-        (λ sizes old new. IsAnswered (LeavesOnly D.moment D.left_since) sizes
+        RunsFromOpened (LeavesOnly D.view) disk result.1
+        (medium D.view disk)
+        (medium D.view result.1)
+        (λ sizes old new. IsAnswered (LeavesOnly D.view) sizes
         (io (R.remaining reader.old) (W.contents writer.old) (W.contents writer.new))
         outcome old new)) }
-    ensures err { IfErr result.0 (IsStopped (LeavesOnly D.moment D.left_since) disk result.1
+    ensures err { IfErr result.0 (IsStopped (LeavesOnly D.view) disk result.1
         (io (R.remaining reader.old) (W.contents writer.old) (W.contents writer.new))
-        (medium (D.contents disk) (D.unsynced disk) (D.failures disk))
-        (medium (D.contents result.1) (D.unsynced result.1) (D.failures result.1))) }
+        (medium D.view disk)
+        (medium D.view result.1)) }
 {
     match cm_session::open(alloc, disk) {
         Ok(session) => match run_to_end(alloc, reader, writer, session) {

@@ -83,11 +83,11 @@ pub fn run_script<R: BufRead, W: Write, D: Disk>(
     session: &mut Session<D>,
 ) -> Result<Outcome, ToolFault>
     ensures machine { (k : Machine) → GoesWith k session.old → IsReady k
-        → LedTo (λ next. IsRun (LeavesOnly D.moment D.left_since) session.old.committer.sizes
+        → LedTo (λ next. IsRun (LeavesOnly D.view) session.old.committer.sizes
         (io (R.remaining reader.old) (W.contents writer.old) (W.contents writer.new)) result
-        (pause (served k (D.failures session.old.committer.disk)) session.old.committer.disk)
+        (pause (served k (D.view.failures session.old.committer.disk)) session.old.committer.disk)
         (pause next session.new.committer.disk))
-        (D.failures session.new.committer.disk) (λ next. GoesWith next session.new) }
+        (D.view.failures session.new.committer.disk) (λ next. GoesWith next session.new) }
     ensures sizes { session.new.committer.sizes ≡ session.old.committer.sizes }
 {
     let mut line = LineBuffer::new(alloc);
@@ -122,12 +122,12 @@ pub fn run_to_end<R: BufRead, W: Write, D: Disk>(
 ) -> (Result<Outcome, ToolFault>, D)
     ensures { (k : Machine) → GoesWith k session → IsReady k
         → (new : Served)
-        × IsRun (LeavesOnly D.moment D.left_since) session.committer.sizes
+        × IsRun (LeavesOnly D.view) session.committer.sizes
         (io (R.remaining reader.old) (W.contents writer.old) (W.contents writer.new)) result.0
-        (pause (served k (D.failures session.committer.disk)) session.committer.disk)
+        (pause (served k (D.view.failures session.committer.disk)) session.committer.disk)
         (pause new result.1)
         × LeavesDisk session.committer.sizes
-        (medium (D.contents result.1) (D.unsynced result.1) (D.failures result.1)) new }
+        (medium D.view result.1) new }
 {
     let mut session = session;
     let result = run_script(alloc, reader, writer, &mut session);
@@ -146,10 +146,10 @@ fn run_line<R: BufRead, W: Write, D: Disk>(
     ensures machine { (k : Machine) → GoesWith k session.old → IsReady k
         → LedTo (λ next. Turns session.old.committer.sizes (R.remaining reader.new)
         (io (R.remaining reader.old) (W.contents writer.old) (W.contents writer.new)) result
-        (pause (served k (D.failures session.old.committer.disk)) session.old.committer.disk)
+        (pause (served k (D.view.failures session.old.committer.disk)) session.old.committer.disk)
         (pause next session.new.committer.disk))
-        (D.failures session.new.committer.disk)
-        (GoesOn D.moment D.left_since k session.old session.new) }
+        (D.view.failures session.new.committer.disk)
+        (GoesOn D.view k session.old session.new) }
     ensures sizes { session.new.committer.sizes ≡ session.old.committer.sizes }
 {
     let turned = take_line(alloc, reader, writer, session, line);
@@ -168,10 +168,10 @@ fn take_line<R: BufRead, W: Write, D: Disk>(
     ensures machine { (k : Machine) → GoesWith k session.old → IsReady k
         → LedTo (λ next. Turns session.old.committer.sizes (R.remaining reader.new)
         (io (R.remaining reader.old) (W.contents writer.old) (W.contents writer.new)) result
-        (pause (served k (D.failures session.old.committer.disk)) session.old.committer.disk)
+        (pause (served k (D.view.failures session.old.committer.disk)) session.old.committer.disk)
         (pause next session.new.committer.disk))
-        (D.failures session.new.committer.disk)
-        (MayGoOn D.moment D.left_since k session.old session.new) }
+        (D.view.failures session.new.committer.disk)
+        (MayGoOn D.view k session.old session.new) }
     ensures sizes { session.new.committer.sizes ≡ session.old.committer.sizes }
 {
     match read_line(reader, line) {

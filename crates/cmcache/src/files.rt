@@ -8,6 +8,8 @@ use cm_pool::Geometry;
 use cm_recover::{FormatFault, bytes_read, format};
 use std::fs::{self, File, Files};
 use std::io;
+use std::sync::Wait;
+use std::thread::Threads;
 
 /// Makes an empty cache in a new file, and gives the status.
 pub fn format_file(
@@ -54,15 +56,19 @@ pub fn disk_of(opened: Result<OpenedFile, OpenError>) -> Result<FileDisk, OpenEr
     FileDisk::of_file(file, reach)
 }
 
-/// Runs the script on standard input on the cache in a file, and gives the status.
-pub fn apply_file(
-    rt: &(impl Input + Print + Eprint + Files<File = File> + AllocGlobal),
-    path: &str,
-) -> Status {
+/// Runs the script on standard input on the cache in a file, with so many workers, and gives the
+/// status.
+pub fn apply_file<R>(rt: &R, path: &str, workers: usize) -> Status
+where
+    R: Input + Print + Eprint + Files<File = File> + AllocGlobal,
+    R: Threads + Wait + Copy + Send + Sync + 'static,
+{
     match disk_of(OpenedFile::open(rt, rt.alloc(), path)) {
         Ok(disk) => {
-            let (status, disk) = run_script(rt, disk);
-            tell_failure(rt, path, &disk);
+            let (status, disk) = run_script(rt, disk, workers);
+            if let Some(disk) = disk {
+                tell_failure(rt, path, &disk);
+            }
             status
         }
         Err(error) => say_not_opened(rt, path, error),

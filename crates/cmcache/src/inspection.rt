@@ -1,9 +1,9 @@
-//! What a cache's file holds, without a change of it.
+//! What a cache's file holds, and files that are cut behind that.
 
 use crate::files::{disk_of, say_not_opened, tell_failure};
 use crate::status::fail;
 use cm_file_disk::{FileDisk, OpenedFile};
-use cm_inspect::{NotInspected, Status, check_to, list_to};
+use cm_inspect::{NotInspected, Status, check_to, list_to, trim_to};
 use std::fs::{File, Files};
 use std::io;
 
@@ -30,6 +30,20 @@ pub fn list_file(
     match disk_of(OpenedFile::open_read_only(rt, rt.alloc(), path)) {
         Ok(disk) => {
             let told = list_to(rt.alloc(), &mut io::writer(rt), disk);
+            status_of_told(rt, path, told)
+        }
+        Err(error) => say_not_opened(rt, path, error),
+    }
+}
+
+/// Cuts the file of a cache behind the last root that is in use, and gives the status.
+pub fn trim_file(
+    rt: &(impl Print + Eprint + Files<File = File> + AllocGlobal),
+    path: &str,
+) -> Status {
+    match disk_of(OpenedFile::open(rt, rt.alloc(), path)) {
+        Ok(disk) => {
+            let told = trim_to(rt.alloc(), &mut io::writer(rt), disk);
             status_of_told(rt, path, told)
         }
         Err(error) => say_not_opened(rt, path, error),

@@ -9,7 +9,7 @@ mod status;
 mod words;
 
 use crate::files::{apply_file, format_file};
-use crate::inspection::{check_file, list_file};
+use crate::inspection::{check_file, list_file, trim_file};
 use crate::memory::apply_in_memory;
 use crate::words::{read_words, tell_fault};
 use cm_inspect::Status;
@@ -18,13 +18,19 @@ use std::alloc::{AllocError, Global};
 use std::fs::{File, Files};
 use std::process::ExitCode;
 use std::rt::Env;
+use std::sync::Wait;
+use std::thread::Threads;
 
 fn main(rt: HostRuntime) -> ExitCode {
     ExitCode::from(run(&rt))
 }
 
 /// Does what the command line asks for, and gives the number of the status.
-fn run(rt: &(impl Env + Input + Print + Eprint + Files<File = File> + AllocGlobal)) -> u8 {
+fn run<R>(rt: &R) -> u8
+where
+    R: Env + Input + Print + Eprint + Files<File = File> + AllocGlobal,
+    R: Threads + Wait + Copy + Send + Sync + 'static,
+{
     let words = match read_words(rt) {
         Ok(words) => words,
         Err(fault) => return tell_fault(rt, &fault),
@@ -47,15 +53,17 @@ fn texts_of(alloc: Global, words: &[String]) -> Result<Vec<&str>, AllocError> {
         .collect(alloc)
 }
 
-fn carry_out(
-    rt: &(impl Input + Print + Eprint + Files<File = File> + AllocGlobal),
-    plan: &Plan<'_>,
-) -> Status {
+fn carry_out<R>(rt: &R, plan: &Plan<'_>) -> Status
+where
+    R: Input + Print + Eprint + Files<File = File> + AllocGlobal,
+    R: Threads + Wait + Copy + Send + Sync + 'static,
+{
     match plan {
         Plan::Format(path, geometry) => format_file(rt, path, *geometry),
         Plan::Check(path) => check_file(rt, path),
         Plan::List(path) => list_file(rt, path),
-        Plan::Apply(Some(path)) => apply_file(rt, path),
-        Plan::Apply(None) => apply_in_memory(rt),
+        Plan::Trim(path) => trim_file(rt, path),
+        Plan::Apply(Some(path), workers) => apply_file(rt, path, *workers as usize),
+        Plan::Apply(None, workers) => apply_in_memory(rt, *workers as usize),
     }
 }

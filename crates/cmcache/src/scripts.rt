@@ -3,24 +3,43 @@
 use crate::status::{OUT_OF_MEMORY, fail, say_fault, status_of};
 use cm_disk::Disk;
 use cm_inspect::Status;
-use cm_tool::{ApplyFault, Outcome, apply_script};
+use cm_tool::{ApplyFault, Outcome, apply_script, apply_threads};
 use std::io::{self, BufReader, BufWriter};
+use std::sync::Wait;
+use std::thread::Threads;
 
-/// Runs the script on standard input on a disk's cache, with its replies on standard output, and
-/// gives the status and the disk.
-pub fn run_script<D: Disk>(
-    rt: &(impl Input + Print + Eprint + AllocGlobal),
-    disk: D,
-) -> (Status, D) {
+/// How much of a script is read at once: by one thread, and ahead for several.
+const READ_AT_ONCE: usize = 8_192;
+
+const READ_AHEAD: usize = 262_144;
+
+/// Runs the script on standard input on a disk's cache, with its replies on standard output and so
+/// many workers, and gives the status and the disk. There is no disk where the threads can't be
+/// had.
+pub fn run_script<R, D>(rt: &R, disk: D, workers: usize) -> (Status, Option<D>)
+where
+    R: Input + Print + Eprint + AllocGlobal + Threads + Wait + Copy + Send + Sync + 'static,
+    D: Disk + Drop + Send + 'static,
+{
     let alloc = rt.alloc();
-    let Ok(mut reader) = BufReader::new(alloc, rt.reader()) else {
-        return (fail(rt, OUT_OF_MEMORY), disk);
+    let capacity = if workers > 1 {
+        READ_AHEAD
+    } else {
+        READ_AT_ONCE
+    };
+    let Ok(mut reader) = BufReader::with_capacity(alloc, capacity, rt.reader()) else {
+        return (fail(rt, OUT_OF_MEMORY), Some(disk));
     };
     let Ok(mut writer) = BufWriter::new(alloc, io::writer(rt)) else {
-        return (fail(rt, OUT_OF_MEMORY), disk);
+        return (fail(rt, OUT_OF_MEMORY), Some(disk));
     };
-    let (run, disk) = apply_script(alloc, &mut reader, &mut writer, disk);
-    (status_of_run(rt, run), disk)
+    if workers > 1 {
+        let (run, disk) = apply_threads(rt, alloc, &mut reader, &mut writer, disk, workers);
+        (status_of_run(rt, run), disk)
+    } else {
+        let (run, disk) = apply_script(alloc, &mut reader, &mut writer, disk);
+        (status_of_run(rt, run), Some(disk))
+    }
 }
 
 /// Says why a script wasn't run to its end, and gives the status.

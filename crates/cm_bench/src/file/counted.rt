@@ -41,15 +41,13 @@ impl<D: Disk> CountedDisk<D> {
 }
 
 impl<D: Disk> Disk for CountedDisk<D> {
-    ghost contents = { λ d. D.contents d.disk };
-
-    ghost unsynced = { λ d. D.unsynced d.disk };
-
-    ghost failures = { λ d. D.failures d.disk };
-
-    ghost moment = { λ d. D.moment d.disk };
-
-    ghost left_since = { λ d. D.left_since d.disk };
+    ghost view = { record {
+      contents = λ d. D.view.contents d.disk;
+      unsynced = λ d. D.view.unsynced d.disk;
+      failures = λ d. D.view.failures d.disk;
+      moment = λ d. D.view.moment d.disk;
+      left_since = λ d. D.view.left_since d.disk;
+    } };
 
     ghost called = { λ old new ok. D.called old.disk new.disk ok };
 

@@ -1,6 +1,7 @@
 use Rattle.std.proofs.Common.{◌≤◌, Ok, arith, subst}
 use Rattle.cm_commit.specs.Advances.{Advances}
 use Rattle.cm_cache.proofs.Stored.{works, finishes, fails, fails_by_device, not_idle}
+use Rattle.cm_cache.proofs.Stored.{no_trim}
 use Rattle.cm_cache.proofs.storing.make_calls.Goals as goal
 
 pub returns-in-Done-clause-stored : goal.returns-in-Done-clause-stored
@@ -25,6 +26,13 @@ loop-progress-preserved g c = (
 
 pub unreachable-requires : goal.unreachable-requires
 unreachable-requires g c =
+    no_trim _ _ _ c.requires.0 _
+    (subst (λ p. Advances c.loop-progress.committer (Ok p) c.advance.new.self) c.in-Trimmed.is
+    c.in-Ok.ensures.moved)
+    (c.loop-progress.invariant.0 c.requires.0 c.requires.1)
+
+pub unreachable-requires-in-Idle : goal.unreachable-requires-in-Idle
+unreachable-requires-in-Idle g c =
     not_idle _ _ _ c.requires.0
     (subst (λ p. Advances c.loop-progress.committer (Ok p) c.advance.new.self) c.in-Idle.is
     c.in-Ok.ensures.moved)

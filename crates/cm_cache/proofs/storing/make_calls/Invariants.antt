@@ -8,7 +8,7 @@ abbrev pub invariant-loop-progress : goal.invariant-loop-progress
 invariant-loop-progress g l =
     ((group : Handed) → IsUnderway l.initial.committer group l.initial.committer
     → IsUnderway l.initial.committer group l.committer)
-    × (g.D.Disk.failures l.initial.committer.disk ≤ g.D.Disk.failures l.committer.disk)
+    × (g.D.Disk.view.failures l.initial.committer.disk ≤ g.D.Disk.view.failures l.committer.disk)
 
 abbrev pub decreases-loop-progress : goal.decreases-loop-progress
 decreases-loop-progress g l = calls_left l.committer.left

@@ -8,7 +8,7 @@ pub make_calls-requires : goal.make_calls-requires
 make_calls-requires g c = (
   c.args.group,
   underway_itself c.args.committer.now _ _
-      (taken_is_underway g.D.Disk.contents _ _ _ (calls_left c.offer.new.self.left - 1) c.requires
+      (taken_is_underway g.D.Disk.view _ _ _ (calls_left c.offer.new.self.left - 1) c.requires
       c.in-Ok.ensures.taken
       (let steps = c.in-Ok.ensures.steps in omega (arith, steps))),
 )
@@ -16,7 +16,7 @@ make_calls-requires g c = (
 pub returns-clause-stored : goal.returns-clause-stored
 returns-clause-stored g c =
     all_stored_from _ _ _ _ c.make_calls.result
-    (taken_is_underway g.D.Disk.contents _ _ _ (calls_left c.offer.new.self.left - 1) c.requires
+    (taken_is_underway g.D.Disk.view _ _ _ (calls_left c.offer.new.self.left - 1) c.requires
     c.in-Ok.ensures.taken
     (let steps = c.in-Ok.ensures.steps in omega (arith, steps)))
     c.make_calls.ensures.stored
@@ -24,7 +24,7 @@ returns-clause-stored g c =
 pub returns-clause-left : goal.returns-clause-left
 returns-clause-left g c =
     all_left_from _ _ _ _ c.make_calls.result
-    (taken_is_underway g.D.Disk.contents _ _ _ (calls_left c.offer.new.self.left - 1) c.requires
+    (taken_is_underway g.D.Disk.view _ _ _ (calls_left c.offer.new.self.left - 1) c.requires
     c.in-Ok.ensures.taken
     (let steps = c.in-Ok.ensures.steps in omega (arith, steps)))
     c.make_calls.ensures.left

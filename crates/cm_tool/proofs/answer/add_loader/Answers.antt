@@ -13,10 +13,11 @@ returns-clause-machine g c =
     let call = c.store-stored in
     let disk = g.D.Disk in
     λ k goes ready.
-    command_replies disk.moment disk.left_since (Some (AsksLoader name)) number_reply k
+    command_replies disk.view (Some (AsksLoader name)) number_reply k
     (AddLoader name)
-    (disk.failures s.committer.disk) (disk.failures call.new.self.committer.disk) s call.new.self
+    (disk.view.failures s.committer.disk) (disk.view.failures call.new.self.committer.disk) s
+    call.new.self
     call.result c.tell_number.result ready (loader_fits s.committer.sizes name)
     (call.ensures.machine k goes ready.rest) (call.ensures.cause k goes ready.rest)
-    (λ none. ap (λ (x : CommitterState _). disk.failures x.disk) (call.ensures.no_call none))
+    (λ none. ap (λ (x : CommitterState _). disk.view.failures x.disk) (call.ensures.no_call none))
     call.ensures.no_call c.tell_number.ensures

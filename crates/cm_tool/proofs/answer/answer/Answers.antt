@@ -11,18 +11,18 @@ use Rattle.cm_tool.proofs.answer.answer.Goals as goal
 pub returns-in-Some-clause-machine : goal.returns-in-Some-clause-machine
 returns-in-Some-clause-machine g c =
     let s = c.args.session.now in
-    let failures = g.D.Disk.failures in
+    let failures = g.D.Disk.view.failures in
     let new = c.answer_question.new.session in
     λ k goes ready.
     subst (λ q. LedTo (Replies s.committer.sizes (option_map seen q) c.answer_question.result
     (served k (failures s.committer.disk))) (failures new.committer.disk)
-    (MayGoOn g.D.Disk.moment g.D.Disk.left_since k s new)) (sym c.in-Some.is)
+    (MayGoOn g.D.Disk.view k s new)) (sym c.in-Some.is)
     (c.answer_question.ensures.machine k goes ready)
 
 pub returns-in-None-clause-machine : goal.returns-in-None-clause-machine
 returns-in-None-clause-machine g c =
     let s = c.args.session.now in
-    let f = g.D.Disk.failures s.committer.disk in
+    let f = g.D.Disk.view.failures s.committer.disk in
     let sizes = s.committer.sizes in
     λ k goes ready.
     stays k f
@@ -30,4 +30,4 @@ returns-in-None-clause-machine g c =
     c.bad_line.ensures
     (subst (λ q. AnswersAsked sizes (option_map seen q) (served k f) bad_line_reply (served k f))
     (sym c.in-None.is) (refl, refl)))
-    (still g.D.Disk.moment g.D.Disk.left_since k s goes)
+    (still g.D.Disk.view k s goes)

@@ -17,13 +17,13 @@ returns-then-is_memory-clause-machine g c =
     let s = c.args.session.now in
     let disk = g.D.Disk in
     λ k goes ready.
-    stays k (disk.failures s.committer.disk) (inl refl)
-    (still disk.moment disk.left_since k s goes)
+    stays k (disk.view.failures s.committer.disk) (inl refl)
+    (still disk.view k s goes)
 
 pub returns-else-is_memory-clause-machine : goal.returns-else-is_memory-clause-machine
 returns-else-is_memory-clause-machine g c =
     let s = c.args.session.now in
-    let f = g.D.Disk.failures s.committer.disk in
+    let f = g.D.Disk.view.failures s.committer.disk in
     let sizes = s.committer.sizes in
     let loader = c.args.loader.now in
     let digits = c.args.digits.now in
@@ -34,4 +34,4 @@ returns-else-is_memory-clause-machine g c =
     (answers_bad_digits sizes loader digits c.in-Err.fault (served k f)
     (not_memory digits c.in-Err.fault c.is_memory.result c.is_memory.ensures.whenever
     c.if-is_memory.false c.in-Err.ensures.err)))
-    (still g.D.Disk.moment g.D.Disk.left_since k s goes)
+    (still g.D.Disk.view k s goes)

@@ -14,7 +14,7 @@ returns-in-Ok-clause-machine g c =
 pub returns-in-Err-clause-machine : goal.returns-in-Err-clause-machine
 returns-in-Err-clause-machine g c =
     let s = c.args.session.now in
-    let f = g.D.Disk.failures s.committer.disk in
+    let f = g.D.Disk.view.failures s.committer.disk in
     let sizes = s.committer.sizes in
     let loader = c.args.loader.now in
     let refusal = c.in-Err.refusal in
@@ -24,4 +24,4 @@ returns-in-Err-clause-machine g c =
     c.refused.result ready c.refused.ensures
     (answers_fault sizes loader digits c.args.bytes.now refusal (served k f) decoded
     c.in-Err.ensures.refused))
-    (still g.D.Disk.moment g.D.Disk.left_since k s goes)
+    (still g.D.Disk.view k s goes)

@@ -17,15 +17,15 @@ returns-clause-machine g c =
     let name = c.deref.result.now in
     λ digits bytes class decoded right laid k goes ready.
     let name_is = c.deref.ensures.value ∙ c.in-Ok.ensures in
-    command_replies disk.moment disk.left_since (Some (AsksDefine loader digits))
-    (λ n. defined_reply n name) k (Define loader words) (disk.failures s.committer.disk)
-    (disk.failures call.new.self.committer.disk) s call.new.self call.result
+    command_replies disk.view (Some (AsksDefine loader digits))
+    (λ n. defined_reply n name) k (Define loader words) (disk.view.failures s.committer.disk)
+    (disk.view.failures call.new.self.committer.disk) s call.new.self call.result
     c.tell_class.result ready
     (define_fits c.layout_determines_class.ensures s.committer.sizes loader digits bytes words name
     class decoded right laid
     (λ short. name_is ∙ class_named bytes words class c.words_tell_name.ensures right laid short))
     (call.ensures.machine k goes ready.rest) (call.ensures.cause k goes ready.rest)
-    (λ none. ap (λ (x : CommitterState _). disk.failures x.disk) (call.ensures.no_call none))
+    (λ none. ap (λ (x : CommitterState _). disk.view.failures x.disk) (call.ensures.no_call none))
     call.ensures.no_call c.tell_class.ensures
 
 pub returns-in-Err-clause-machine : goal.returns-in-Err-clause-machine
@@ -33,5 +33,5 @@ returns-in-Err-clause-machine g c =
     let s = c.args.session.now in
     let disk = g.D.Disk in
     λ digits bytes class decoded right laid k goes ready.
-    stays k (disk.failures s.committer.disk) (inl refl)
-    (still disk.moment disk.left_since k s goes)
+    stays k (disk.view.failures s.committer.disk) (inl refl)
+    (still disk.view k s goes)

@@ -17,7 +17,7 @@ pub returns-in-Err-BadEscape : goal.returns-in-Err-BadEscape
 returns-in-Err-BadEscape g c =
     let s = c.args.session.now in
     let sizes = s.committer.sizes in
-    let f = g.D.Disk.failures s.committer.disk in
+    let f = g.D.Disk.view.failures s.committer.disk in
     let loader = c.args.loader.now in
     let word = c.args.class.now in
     λ k goes ready.
@@ -26,21 +26,21 @@ returns-in-Err-BadEscape g c =
     c.bad_line.ensures
     (answers_bad_name sizes loader word (served k f)
     (c.in-Err-BadEscape.ensures.bad (ap Err c.in-Err-BadEscape.field-0-is))))
-    (still g.D.Disk.moment g.D.Disk.left_since k s goes)
+    (still g.D.Disk.view k s goes)
 
 pub returns-in-Err-NoMemory : goal.returns-in-Err-NoMemory
 returns-in-Err-NoMemory g c =
     let s = c.args.session.now in
     let disk = g.D.Disk in
     λ k goes ready.
-    stays k (disk.failures s.committer.disk) (inl refl)
-    (still disk.moment disk.left_since k s goes)
+    stays k (disk.view.failures s.committer.disk) (inl refl)
+    (still disk.view k s goes)
 
 pub returns-in-Some : goal.returns-in-Some
 returns-in-Some g c =
     let s = c.args.session.now in
     let sizes = s.committer.sizes in
-    let f = g.D.Disk.failures s.committer.disk in
+    let f = g.D.Disk.view.failures s.committer.disk in
     let loader = c.args.loader.now in
     let word = c.args.class.now in
     let words = c.deref-in-Some-2.result.now in
@@ -55,13 +55,13 @@ returns-in-Some g c =
     stays k f
     (replies_found sizes loader word c.in-Ok.name.items words k f c.class.result ready
     c.in-Ok.ensures.name finds says c.class.ensures.laid)
-    (still g.D.Disk.moment g.D.Disk.left_since k s goes)
+    (still g.D.Disk.view k s goes)
 
 pub returns : goal.returns
 returns g c =
     let s = c.args.session.now in
     let sizes = s.committer.sizes in
-    let f = g.D.Disk.failures s.committer.disk in
+    let f = g.D.Disk.view.failures s.committer.disk in
     let loader = c.args.loader.now in
     let word = c.args.class.now in
     λ k goes ready.
@@ -71,4 +71,4 @@ returns g c =
     (replies_same sizes (Some (AsksFind loader word)) k f none_reply c.none.result ready
     c.none.ensures
     (finds_none sizes loader word c.in-Ok.name.items k f c.in-Ok.ensures.name finds))
-    (still g.D.Disk.moment g.D.Disk.left_since k s goes)
+    (still g.D.Disk.view k s goes)

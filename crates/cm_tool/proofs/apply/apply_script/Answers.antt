@@ -11,7 +11,7 @@ pub returns-in-Ok-default-clause-ok : goal.returns-in-Ok-default-clause-ok
 returns-in-Ok-default-clause-ok g c =
     let s = c.in-Ok.session in
     let begins = c.in-Ok.ensures.begins in
-    let opened = g.D.Disk.failures s.committer.disk in
+    let opened = g.D.Disk.view.failures s.committer.disk in
     let run = c.run_to_end.ensures (machine_from begins.base) begins.goes
     (ready_from begins.base) in
     record {
@@ -24,7 +24,7 @@ returns-in-Ok-default-clause-ok g c =
       failures = opened;
       later = c.in-Ok.ensures.run.later;
       new = run.0;
-      came = subst (λ r. IsRun (LeavesOnly g.D.Disk.moment g.D.Disk.left_since) s.committer.sizes
+      came = subst (λ r. IsRun (LeavesOnly g.D.Disk.view) s.committer.sizes
           (io (g.R.Read.remaining c.args.reader.now) (g.W.Write.contents c.args.writer.now)
           (g.W.Write.contents c.run_to_end.new.writer)) r
           (pause (served (machine_from begins.base) opened) s.committer.disk)
@@ -36,7 +36,7 @@ pub returns-in-Err-default-clause-err : goal.returns-in-Err-default-clause-err
 returns-in-Err-default-clause-err g c =
     let s = c.in-Ok.session in
     let begins = c.in-Ok.ensures.begins in
-    let opened = g.D.Disk.failures s.committer.disk in
+    let opened = g.D.Disk.view.failures s.committer.disk in
     let run = c.run_to_end.ensures (machine_from begins.base) begins.goes
     (ready_from begins.base) in
     record {
@@ -49,7 +49,7 @@ returns-in-Err-default-clause-err g c =
       failures = opened;
       later = c.in-Ok.ensures.run.later;
       new = run.0;
-      came = subst (λ r. IsRun (LeavesOnly g.D.Disk.moment g.D.Disk.left_since) s.committer.sizes
+      came = subst (λ r. IsRun (LeavesOnly g.D.Disk.view) s.committer.sizes
           (io (g.R.Read.remaining c.args.reader.now) (g.W.Write.contents c.args.writer.now)
           (g.W.Write.contents c.run_to_end.new.writer)) r
           (pause (served (machine_from begins.base) opened) s.committer.disk)

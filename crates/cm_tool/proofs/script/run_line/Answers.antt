@@ -13,15 +13,15 @@ returns-clause-machine g c =
     let new = call.new.session in
     λ k goes ready.
     let led = call.ensures.machine k goes ready in
-    let images = subst (λ (z : Sizes). EachImage (disk.contents new.committer.disk)
-    (disk.unsynced new.committer.disk) (StandsForSome z led.next)) call.ensures.sizes
+    let images = subst (λ (z : Sizes). EachImage (disk.view.contents new.committer.disk)
+    (disk.view.unsynced new.committer.disk) (StandsForSome z led.next)) call.ensures.sizes
     (c.images.ensures led.next led.goes.goes) in
     record {
       next = led.next;
       does = led.does;
       goes = record {
         goes = led.goes.goes;
-        moments = moments_of disk.moment disk.left_since disk.contents disk.unsynced
+        moments = moments_of disk.view
             g.met.D.Disk.only_now k led.next old new images led.goes;
       };
     }

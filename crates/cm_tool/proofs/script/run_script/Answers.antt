@@ -17,9 +17,9 @@ lines-init g c =
     let s = c.args.session.now in (
       refl,
       λ k goes ready.
-          lines_start (LeavesOnly g.D.Disk.moment g.D.Disk.left_since) s.committer.sizes
+          lines_start (LeavesOnly g.D.Disk.view) s.committer.sizes
           (g.R.Read.remaining c.args.reader.now) (g.W.Write.contents c.args.writer.now) k
-          (g.D.Disk.failures s.committer.disk) s.committer.disk _
+          (g.D.Disk.view.failures s.committer.disk) s.committer.disk _
           (λ next. GoesWith next s) refl refl
           ready goes,
     )
@@ -31,8 +31,8 @@ returns-then-outcome-clause-machine g c =
     let new = c.run_line.new.session in
     let sizes = s.committer.sizes in
     let disk = g.D.Disk in
-    let leaves = LeavesOnly disk.moment disk.left_since in
-    let failures = disk.failures in
+    let leaves = LeavesOnly disk.view in
+    let failures = disk.view.failures in
     let f = failures old.committer.disk in
     let now = failures new.committer.disk in
     let a = g.R.Read.remaining c.args.reader.now in
@@ -52,10 +52,10 @@ returns-then-outcome-clause-machine g c =
     (pause t new.committer.disk)) now
     (Went leaves z old.committer.disk new.committer.disk (λ next. GoesWith next new) j))
     c.lines.invariant.0
-    (λ j goes ready. went disk.moment disk.left_since now j old new
+    (λ j goes ready. went disk.view now j old new
     (subst (λ o. LedTo (λ t. Turns old.committer.sizes d (io b x m) (Ok o)
     (pause (served j f) old.committer.disk) (pause t new.committer.disk)) now
-    (GoesOn disk.moment disk.left_since j old new)) c.in-Ok-Some.field-0-is
+    (GoesOn disk.view j old new)) c.in-Ok-Some.field-0-is
     (c.in-Ok-Some.ensures.machine j goes ready))) in
     λ k goes ready.
     lines_lost leaves sizes a b d h x m
@@ -77,8 +77,8 @@ returns-in-Ok-None-clause-machine g c =
     let new = c.run_line.new.session in
     let sizes = s.committer.sizes in
     let disk = g.D.Disk in
-    let leaves = LeavesOnly disk.moment disk.left_since in
-    let failures = disk.failures in
+    let leaves = LeavesOnly disk.view in
+    let failures = disk.view.failures in
     let f = failures old.committer.disk in
     let now = failures new.committer.disk in
     let a = g.R.Read.remaining c.args.reader.now in
@@ -96,10 +96,10 @@ returns-in-Ok-None-clause-machine g c =
     (pause t new.committer.disk)) now
     (Went leaves z old.committer.disk new.committer.disk (λ next. GoesWith next new) j))
     c.lines.invariant.0
-    (λ j goes ready. went disk.moment disk.left_since now j old new
+    (λ j goes ready. went disk.view now j old new
     (subst (λ o. LedTo (λ t. Turns old.committer.sizes d (io b x m) (Ok o)
     (pause (served j f) old.committer.disk) (pause t new.committer.disk)) now
-    (GoesOn disk.moment disk.left_since j old new)) c.in-Ok-None.field-0-is
+    (GoesOn disk.view j old new)) c.in-Ok-None.field-0-is
     (c.in-Ok-None.ensures.machine j goes ready))) in
     λ k goes ready.
     lines_end leaves sizes a b d h x m
@@ -115,8 +115,8 @@ returns-in-Err-clause-machine g c =
     let new = c.run_line.new.session in
     let sizes = s.committer.sizes in
     let disk = g.D.Disk in
-    let leaves = LeavesOnly disk.moment disk.left_since in
-    let failures = disk.failures in
+    let leaves = LeavesOnly disk.view in
+    let failures = disk.view.failures in
     let f = failures old.committer.disk in
     let now = failures new.committer.disk in
     let a = g.R.Read.remaining c.args.reader.now in
@@ -136,8 +136,7 @@ returns-in-Err-clause-machine g c =
     (Went leaves z old.committer.disk new.committer.disk (λ next. GoesWith next new) j))
     c.lines.invariant.0
     (λ j goes ready. went {Does = λ t. Turns old.committer.sizes d (io b x m) (Err c.in-Err.fault)
-    (pause (served j f) old.committer.disk) (pause t new.committer.disk)} disk.moment
-    disk.left_since now
+    (pause (served j f) old.committer.disk) (pause t new.committer.disk)} disk.view now
     j old new (c.in-Err.ensures.machine j goes ready)) in
     λ k goes ready.
     lines_broken leaves sizes a b d h x m
@@ -153,8 +152,8 @@ lines-preserved g c =
     let new = c.run_line.new.session in
     let sizes = s.committer.sizes in
     let disk = g.D.Disk in
-    let leaves = LeavesOnly disk.moment disk.left_since in
-    let failures = disk.failures in
+    let leaves = LeavesOnly disk.view in
+    let failures = disk.view.failures in
     let f = failures old.committer.disk in
     let now = failures new.committer.disk in
     let a = g.R.Read.remaining c.args.reader.now in
@@ -174,10 +173,10 @@ lines-preserved g c =
     (pause t new.committer.disk)) now
     (Went leaves z old.committer.disk new.committer.disk (λ next. GoesWith next new) j))
     c.lines.invariant.0
-    (λ j goes ready. went disk.moment disk.left_since now j old new
+    (λ j goes ready. went disk.view now j old new
     (subst (λ o. LedTo (λ t. Turns old.committer.sizes d (io b x m) (Ok o)
     (pause (served j f) old.committer.disk) (pause t new.committer.disk)) now
-    (GoesOn disk.moment disk.left_since j old new)) c.in-Ok-Some.field-0-is
+    (GoesOn disk.view j old new)) c.in-Ok-Some.field-0-is
     (c.in-Ok-Some.ensures.machine j goes ready))) in (
       c.run_line.ensures.sizes ∙ c.lines.invariant.0,
       λ k goes ready.
@@ -200,16 +199,16 @@ returns-clause-machine g c =
     let old = c.lines.session in
     let disk = g.D.Disk in
     let still : (j : Machine) → GoesWith j old
-    → LeavesOnly disk.moment disk.left_since old.committer.disk old.committer.disk
+    → LeavesOnly disk.view old.committer.disk old.committer.disk
     (StandsBetween s.committer.sizes j j) =
-    λ j goes. subst (λ (z : Sizes). LeavesOnly disk.moment disk.left_since old.committer.disk
+    λ j goes. subst (λ (z : Sizes). LeavesOnly disk.view old.committer.disk
     old.committer.disk (StandsBetween z j j)) c.lines.invariant.0
-    (rests disk.moment disk.left_since disk.contents disk.unsynced g.met.D.Disk.only_now j old
+    (rests disk.view g.met.D.Disk.only_now j old
     (c.images.ensures j goes) goes) in
     λ k goes ready.
-    lines_given_up (LeavesOnly disk.moment disk.left_since) s.committer.sizes
+    lines_given_up (LeavesOnly disk.view) s.committer.sizes
     (g.R.Read.remaining c.args.reader.now) (g.R.Read.remaining c.lines.reader)
     (g.W.Write.contents c.args.writer.now) (g.W.Write.contents c.lines.writer)
-    (pause (served k (disk.failures s.committer.disk)) s.committer.disk) c.lines.outcome
-    (disk.failures old.committer.disk) old.committer.disk (λ next. GoesWith next old) still
+    (pause (served k (disk.view.failures s.committer.disk)) s.committer.disk) c.lines.outcome
+    (disk.view.failures old.committer.disk) old.committer.disk (λ next. GoesWith next old) still
     (c.lines.invariant.1 k goes ready)

@@ -11,10 +11,11 @@ abbrev pub invariant-lines : goal.invariant-lines
 invariant-lines g l =
     (l.session.committer.sizes ≡ l.fn.session.committer.sizes)
     × ((k : Machine) → GoesWith k l.fn.session → IsReady k
-    → LedTo (λ s. SoFar (LeavesOnly g.D.Disk.moment g.D.Disk.left_since)
+    → LedTo (λ s. SoFar (LeavesOnly g.D.Disk.view)
     l.fn.session.committer.sizes
     (g.R.Read.remaining l.fn.reader) (g.R.Read.remaining l.reader) (g.W.Write.contents l.fn.writer)
     (g.W.Write.contents l.writer) l.outcome
-    (pause (served k (g.D.Disk.failures l.fn.session.committer.disk)) l.fn.session.committer.disk)
+    (pause (served k (g.D.Disk.view.failures l.fn.session.committer.disk))
+    l.fn.session.committer.disk)
     (pause s l.session.committer.disk))
-    (g.D.Disk.failures l.session.committer.disk) (λ next. GoesWith next l.session))
+    (g.D.Disk.view.failures l.session.committer.disk) (λ next. GoesWith next l.session))

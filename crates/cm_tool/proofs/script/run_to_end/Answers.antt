@@ -13,21 +13,21 @@ returns g c =
     let new = c.run_script-result.new.session in
     λ k goes ready.
     let led = c.run_script-result.ensures.machine k goes ready in
-    let images = subst (λ d. EachImage (disk.contents d) (disk.unsynced d)
+    let images = subst (λ d. EachImage (disk.view.contents d) (disk.view.unsynced d)
     (StandsForSome new.committer.sizes led.next)) (sym c.into_disk.ensures)
     (c.images.ensures led.next led.goes) in (
-      served led.next (disk.failures new.committer.disk),
-      subst (λ d. IsRun (LeavesOnly disk.moment disk.left_since) c.args.session.committer.sizes
+      served led.next (disk.view.failures new.committer.disk),
+      subst (λ d. IsRun (LeavesOnly disk.view) c.args.session.committer.sizes
           (io (g.R.Read.remaining c.args.reader.now) (g.W.Write.contents c.args.writer.now)
           (g.W.Write.contents c.run_script-result.new.writer)) c.run_script-result.result
-          (pause (served k (disk.failures c.args.session.committer.disk))
+          (pause (served k (disk.view.failures c.args.session.committer.disk))
           c.args.session.committer.disk)
-          (pause (served led.next (disk.failures new.committer.disk)) d))
+          (pause (served led.next (disk.view.failures new.committer.disk)) d))
           (sym c.into_disk.ensures) led.does,
       record {
-        failures_are = ap disk.failures (sym c.into_disk.ensures);
-        images = subst (λ z. EachImage (disk.contents c.into_disk.result)
-            (disk.unsynced c.into_disk.result) (StandsForSome z led.next))
+        failures_are = ap disk.view.failures (sym c.into_disk.ensures);
+        images = subst (λ z. EachImage (disk.view.contents c.into_disk.result)
+            (disk.view.unsynced c.into_disk.result) (StandsForSome z led.next))
             c.run_script-result.ensures.sizes images;
       },
     )

@@ -21,16 +21,16 @@ returns-in-Ok-false-clause-machine g c =
     let s = c.args.session.now in
     let disk = g.D.Disk in
     λ k goes ready.
-    let f = disk.failures s.committer.disk in
+    let f = disk.view.failures s.committer.disk in
     stays {Does = λ t. HasEnded (io a h h) (pause (served k f) s.committer.disk)
     (pause t s.committer.disk)} k f (record { none = read; same = refl; nothing = Keeps-refl h })
-    (still disk.moment disk.left_since k s goes)
+    (still disk.view k s goes)
 
 pub returns-in-Err-clause-machine : goal.returns-in-Err-clause-machine
 returns-in-Err-clause-machine g c =
     let s = c.args.session.now in
     let disk = s.committer.disk in
-    let f = g.D.Disk.failures disk in
+    let f = g.D.Disk.view.failures disk in
     let a = g.R.Read.remaining c.args.reader.now in
     let h = g.W.Write.contents c.args.writer.now in
     λ k goes ready.
@@ -40,13 +40,13 @@ returns-in-Err-clause-machine g c =
     (subst (λ e. Breaks s.committer.sizes e (io a h h) (served k f) (served k f))
     (sym c.from.ensures)
     (unread s.committer.sizes a h (served k f) c.in-Err.fault c.in-Err.ensures.fault))
-    (still g.D.Disk.moment g.D.Disk.left_since k s goes)
+    (still g.D.Disk.view k s goes)
 
 pub returns-in-Err-answer-clause-machine : goal.returns-in-Err-answer-clause-machine
 returns-in-Err-answer-clause-machine g c =
     let s = c.args.session.now in
     let new = c.answer.new.session in
-    let failures = g.D.Disk.failures in
+    let failures = g.D.Disk.view.failures in
     let a = g.R.Read.remaining c.args.reader.now in
     let b = g.R.Read.remaining c.read_line.new.reader in
     let h = g.W.Write.contents c.args.writer.now in
@@ -55,7 +55,7 @@ returns-in-Err-answer-clause-machine g c =
     λ k goes ready.
     line_unmade s.committer.sizes a b h (served k (failures s.committer.disk))
     (failures new.committer.disk) s.committer.disk new.committer.disk
-    (MayGoOn g.D.Disk.moment g.D.Disk.left_since k s new) buffer c.question-question.result read
+    (MayGoOn g.D.Disk.view k s new) buffer c.question-question.result read
     c.question-question.ensures c.in-Err-answer.field-0
     (c.in-Err-answer.ensures.machine k goes ready)
 
@@ -63,7 +63,7 @@ pub returns-in-Ok-write_line-clause-machine : goal.returns-in-Ok-write_line-clau
 returns-in-Ok-write_line-clause-machine g c =
     let s = c.args.session.now in
     let new = c.answer.new.session in
-    let failures = g.D.Disk.failures in
+    let failures = g.D.Disk.view.failures in
     let a = g.R.Read.remaining c.args.reader.now in
     let b = g.R.Read.remaining c.read_line.new.reader in
     let h = g.W.Write.contents c.args.writer.now in
@@ -73,7 +73,7 @@ returns-in-Ok-write_line-clause-machine g c =
     λ k goes ready.
     line_answered s.committer.sizes a b h (served k (failures s.committer.disk))
     (failures new.committer.disk) s.committer.disk new.committer.disk
-    (MayGoOn g.D.Disk.moment g.D.Disk.left_since k s new) buffer c.question-question.result read
+    (MayGoOn g.D.Disk.view k s new) buffer c.question-question.result read
     c.question-question.ensures AllocError m c.in-Ok.reply (c.in-Ok.ensures.machine k goes ready)
     (subst (Appends h m) c.deref.ensures.value c.in-Ok-write_line.ensures.ok)
 
@@ -81,7 +81,7 @@ pub returns-clause-machine : goal.returns-clause-machine
 returns-clause-machine g c =
     let s = c.args.session.now in
     let new = c.answer.new.session in
-    let failures = g.D.Disk.failures in
+    let failures = g.D.Disk.view.failures in
     let a = g.R.Read.remaining c.args.reader.now in
     let b = g.R.Read.remaining c.read_line.new.reader in
     let h = g.W.Write.contents c.args.writer.now in
@@ -92,10 +92,10 @@ returns-clause-machine g c =
     λ k goes ready.
     subst (λ e. LedTo (λ next. Turns s.committer.sizes b (io a h m) (Err e)
     (pause (served k (failures s.committer.disk)) s.committer.disk) (pause next new.committer.disk))
-    (failures new.committer.disk) (MayGoOn g.D.Disk.moment g.D.Disk.left_since k s new))
+    (failures new.committer.disk) (MayGoOn g.D.Disk.view k s new))
     (sym output)
     (line_unwritten s.committer.sizes a b h (served k (failures s.committer.disk))
     (failures new.committer.disk) s.committer.disk new.committer.disk
-    (MayGoOn g.D.Disk.moment g.D.Disk.left_since k s new) buffer c.question-question.result read
+    (MayGoOn g.D.Disk.view k s new) buffer c.question-question.result read
     c.question-question.ensures AllocError m c.in-Ok.reply (c.in-Ok.ensures.machine k goes ready)
     (subst (WritesPart h m) c.deref.ensures.value c.in-Err-write_line.ensures.err))

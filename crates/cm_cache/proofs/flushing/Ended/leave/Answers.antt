@@ -12,10 +12,10 @@ returns-clause-images g c =
     (i.ended (ap (λ (e : EndedState _). e.over) c.self.view_is ∙ c.requires.over)) in
     subst
     (λ n. LeavesBeginning g.K.Naming.base (length (entries_of c.args.outgoing))
-    (n - g.K.Naming.base.number) (g.D.Disk.contents c.into_disk.result)
-    (g.D.Disk.unsynced c.into_disk.result)) (sym c.number-number.ensures)
+    (n - g.K.Naming.base.number) (g.D.Disk.view.contents c.into_disk.result)
+    (g.D.Disk.view.unsynced c.into_disk.result)) (sym c.number-number.ensures)
     (subst
     (λ d. LeavesBeginning g.K.Naming.base (length (entries_of c.args.outgoing))
-    (c.self.inside.committer.number - g.K.Naming.base.number) (g.D.Disk.contents d)
-    (g.D.Disk.unsynced d)) (sym c.into_disk.ensures)
+    (c.self.inside.committer.number - g.K.Naming.base.number) (g.D.Disk.view.contents d)
+    (g.D.Disk.view.unsynced d)) (sym c.into_disk.ensures)
     (leaves_beginning _ _ _ _ i _ all _ _ c.settle.ensures.ordered c.images.ensures))

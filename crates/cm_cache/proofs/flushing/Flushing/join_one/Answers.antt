@@ -25,7 +25,7 @@ invariant_of-self-in-Ok g c =
 pub invariant_of-self-in-Err : goal.invariant_of-self-in-Err
 invariant_of-self-in-Err g c =
     subst
-    (λ (x : Handed × Handed). IsFlushing g.K.Naming.base g.K.Naming.failed g.D.Disk.failures
+    (λ (x : Handed × Handed). IsFlushing g.K.Naming.base g.K.Naming.failed g.D.Disk.view.failures
     (record {
       committer = c.self.inside.committer;
       received = c.receive_now.new.self;

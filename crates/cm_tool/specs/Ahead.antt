@@ -1,0 +1,38 @@
+-- Lines that are read ahead, each with the class that it defines.
+use Rattle.std.specs.Prelude.{◌≡◌, ◌⊎◌, ℕ, List, Option, Some, Result, Ok, Err, IfSome}
+use Rattle.hex.specs.Hex.{decode_of}
+use Rattle.hex.specs.declared.error.FromHexError.{FromHexError}
+use Rattle.cm_class.specs.declared.class_file.ClassFile.{ClassFile}
+use Rattle.cm_record.specs.Layout.{lay}
+use Rattle.cm_record.specs.Names.{class_name_in}
+use Rattle.cm_rules.specs.Answer.{IsRight}
+use Rattle.cm_prepare.specs.declared.refusal.Refusal.TheVariants as refusal
+use Rattle.cm_prepare.specs.Prepare.{IsUnprepared}
+use Rattle.cm_lines.specs.Lines.{AsksDefine, asked_by}
+use Rattle.cm_lines.specs.Streams.{Holds}
+use Rattle.cm_tool.specs.declared.ahead.LineClass.{LineClass}
+use Rattle.cm_tool.specs.declared.ahead.LineClass.TheVariants.{Ready, Refused, NoMemory}
+use Rattle.cm_tool.specs.declared.ahead.Known.{Known}
+
+-- these are the words of the record of the class that the bytes are, which keeps the rules
+pub record AreWordsOf (bytes words : List ℕ) : Type 0 where
+  pub class : ClassFile
+  pub right : IsRight bytes class
+  pub laid : words ≡ lay class
+
+-- of the bytes that digits stand for, if they are digits
+abbrev pub IsClassOf : Result (List ℕ) FromHexError → LineClass → Type 0
+IsClassOf decoded NoMemory = Unit {0}
+IsClassOf decoded (Ready words name) =
+    (bytes : List ℕ) × (decoded ≡ Ok bytes) × AreWordsOf bytes words
+    × (name.items ≡ class_name_in words)
+IsClassOf decoded (Refused r) =
+    ((bytes : List ℕ) × (decoded ≡ Ok bytes) × IsUnprepared bytes r)
+    ⊎ ((e : FromHexError) × (decoded ≡ Err e) × (r ≡ refusal.BadLine))
+
+-- the class is that of the line's digits
+abbrev pub IsItsClass : Known → Type 0
+IsItsClass known =
+    (text loader digits : List ℕ) → Holds text known.line
+    → asked_by text ≡ Some (AsksDefine loader digits)
+    → IfSome known.class (IsClassOf (decode_of digits))

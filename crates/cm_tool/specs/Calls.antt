@@ -1,0 +1,65 @@
+-- The replies of a cache that runs to lines, whose commands are accepted through one pass.
+use Rattle.std.specs.Prelude.{◌≡◌, ◌⊎◌, ℕ, List, length, Option, Some, None, Result, Ok, Err}
+use Rattle.hex.specs.Hex.{decode_of}
+use Rattle.hex.specs.declared.error.FromHexError.{FromHexError}
+use Rattle.cm_class.specs.declared.class_file.ClassFile.{ClassFile}
+use Rattle.cm_record.specs.Layout.{IsRecordOf}
+use Rattle.cm_record.specs.Names.{class_name_in}
+use Rattle.cm_state.specs.Step.{Change, AddLoader, Define, Unload}
+use Rattle.cm_prepare.specs.declared.refusal.Refusal.{Refusal}
+use Rattle.cm_prepare.specs.Prepare.{IsUnprepared}
+use Rattle.cm_cache.specs.Shared.{PassState, Tells}
+use Rattle.cm_lines.specs.Escapes.{unescaped}
+use Rattle.cm_lines.specs.Lines.{Asked, AsksLoader, AsksUnload, AsksDefine, AsksFind}
+use Rattle.cm_tool.specs.Texts.{ReplyText, number_reply, defined_reply, none_reply, class_reply}
+use Rattle.cm_tool.specs.Texts.{refusal_reply, bad_line_reply}
+use Rattle.cm_tool.specs.Ahead.{AreWordsOf}
+
+-- the reply to a command's answer
+abbrev pub reply_to : (ℕ → ReplyText) → Result ℕ Refusal → ReplyText
+reply_to told (Ok number) = told number
+reply_to told (Err r) = refusal_reply r
+
+-- the change was asked of the cache, and the reply is what that answered
+pub record RepliesTo (change : Change (List ℕ)) (told : ℕ → ReplyText) (old : PassState)
+    (given : ReplyText) (new : PassState) : Type 0 where
+  pub answer : Result ℕ Refusal
+  pub tells : Tells old change answer new
+  pub reply : given ≡ reply_to told answer
+
+-- nothing was asked of it
+pub record IsUnasked (why : ReplyText) (old : PassState) (given : ReplyText) (new : PassState)
+    : Type 0 where
+  pub reply : given ≡ why
+  pub same : new ≡ old
+
+-- of the bytes that the digits stand for
+abbrev pub RepliesToDefine : List ℕ → Result (List ℕ) FromHexError → PassState → ReplyText
+    → PassState → Type 0
+RepliesToDefine loader (Err e) old given new = IsUnasked bad_line_reply old given new
+RepliesToDefine loader (Ok bytes) old given new =
+    ((r : Refusal) × IsUnprepared bytes r × IsUnasked (refusal_reply r) old given new)
+    ⊎ ((words : List ℕ) × AreWordsOf bytes words
+    × RepliesTo (Define loader words) (λ n. defined_reply n (class_name_in words)) old given new)
+
+-- a class of that name which was found, or that none was
+abbrev pub TellsFound : List ℕ → ReplyText → Type 0
+TellsFound name given =
+    (given ≡ none_reply)
+    ⊎ ((c : ClassFile) × (words : List ℕ) × IsRecordOf c words × (class_name_in words ≡ name)
+    × (given ≡ class_reply name c (length words)))
+
+abbrev pub RepliesToFind : Option (List ℕ) → PassState → ReplyText → PassState → Type 0
+RepliesToFind None old given new = IsUnasked bad_line_reply old given new
+RepliesToFind (Some name) old given new = TellsFound name given × (new ≡ old)
+
+abbrev pub RepliesToAsked : Option Asked → PassState → ReplyText → PassState → Type 0
+RepliesToAsked None old given new = IsUnasked bad_line_reply old given new
+RepliesToAsked (Some (AsksLoader name)) old given new =
+    RepliesTo (AddLoader name) number_reply old given new
+RepliesToAsked (Some (AsksUnload name)) old given new =
+    RepliesTo (Unload name) number_reply old given new
+RepliesToAsked (Some (AsksDefine loader digits)) old given new =
+    RepliesToDefine loader (decode_of digits) old given new
+RepliesToAsked (Some (AsksFind loader name)) old given new =
+    RepliesToFind (unescaped name) old given new
