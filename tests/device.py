@@ -270,6 +270,42 @@ def format_with_faults(bench):
                        f"{ran}")
 
 
+# ---- trimming a file
+
+# The second root is in use until the last line.
+LEFT_ROOT = [b"loader app", runs.define(b"app", b"A", 0), b"loader ext",
+             runs.define(b"ext", b"A", 8000), b"unload ext"]
+
+
+def trim_with_faults(bench):
+    cache, file = begun(SMALL)
+    for line in LEFT_ROOT:
+        cache.answer(line)
+        file.store(cache.number, cache.entries[-1])
+    end = len(file.bytes) - 8192
+    due = [("s", 0, b""), ("c", end, b""), ("s", 0, b""), ("r", 0, b"roots 1\n")]
+    path = bench.new_file(file)
+    ran, calls = bench.run(["trim", path])
+    bench.checks.check("trim: its calls", ran == ([b"roots 1"], 0, "") and calls == due,
+                       f"{ran} {calls}")
+    bench.checks.check("trim: the file", os.path.getsize(path) == end)
+    ran, calls = bench.run(["trim", path])
+    bench.checks.check("a second trim cuts nothing",
+                       ran == ([b"roots 1"], 0, "") and device_calls(calls) == due[:1], f"{calls}")
+    for fails in range(1, 4):
+        path = bench.new_file(file)
+        name = f"trim, call {fails} fails"
+        ran, calls = bench.run(["trim", path], FAIL=fails, STORES=0)
+        bench.checks.check(f"{name}: what it says",
+                           ran == ([b"device"], 3, f"cmcache: {path}: {EIO}\n"), f"{ran}")
+        bench.checks.check(f"{name}: no call follows", len(device_calls(calls)) == fails)
+        runs.settle(bench.checks, f"{name}: the file", path, cache, None)
+        ran = runs.run(bench.program, ["trim", path])
+        bench.checks.check(f"{name}: the next one", ran == ([b"roots 1"], 0, ""), f"{ran}")
+        runs.settle(bench.checks, f"{name}: the file after it", path, cache, None)
+        bench.checks.check(f"{name}: its size after it", os.path.getsize(path) == end)
+
+
 def main(program, library):
     with tempfile.TemporaryDirectory(dir=os.environ.get("WORK")) as folder:
         bench = Bench(program, library, folder)
@@ -284,6 +320,7 @@ def main(program, library):
         fail_each(bench, due)
         stop_at_each_call(bench, calls)
         format_with_faults(bench)
+        trim_with_faults(bench)
         return bench.checks.finish()
 
 

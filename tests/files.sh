@@ -109,6 +109,37 @@ grep -q 'words 20$' "$work/got"
 check_last "the class of the loader that was made again: 20 words"
 check_file "looking up changes nothing" "$cache"
 
+# ---- a file gives roots back
+
+trimmed=$work/trimmed
+: >"$work/in"
+run format "$trimmed"
+printf 'loader a\ndefine a %s\n' "$a" >"$work/in"
+run apply "$trimmed"
+check_size "a first class" "$trimmed" 790528
+run trim "$trimmed"
+check_says "a root that is in use stays" 0 "roots 1"
+check_size "a root that is in use" "$trimmed" 790528
+printf 'unload a\n' >"$work/in"
+run apply "$trimmed"
+check_size "a loader that is gone leaves its root" "$trimmed" 790528
+run trim "$trimmed"
+check_says "a root that is not in use goes" 0 "roots 0"
+check_size "a file without roots" "$trimmed" 528384
+run check "$trimmed"
+check_says "a trimmed file" 0 "ok loaders 0 classes 0 chunks 0 number 3"
+printf 'loader b\ndefine b %s\n' "$a" >"$work/in"
+run apply "$trimmed"
+check_size "a class behind a trim" "$trimmed" 790528
+run check "$trimmed"
+check_says "a class behind a trim" 0 "ok loaders 1 classes 1 chunks 1 number 5"
+: >"$work/in"
+printf 'no cache' >"$work/none"
+run trim "$work/none"
+check_says "no cache to trim" 1 "not a cache"
+run trim "$work/missing"
+check_says "no file to trim" 3 device "$work/missing"
+
 # ---- sizes
 
 small=$work/small

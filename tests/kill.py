@@ -2,12 +2,13 @@
 """Kills the program at random moments while it runs scripts on a file, and looks at what the file
 holds then.
 
-    tests/kill.py PROGRAM KILLS SEED
+    tests/kill.py PROGRAM KILLS SEED [WORD..]
 
 Each reply that came before the kill has to be the right one; the file, read by region.py, checked,
 listed and looked up by the program, has to hold all commands that were acknowledged and, of the
-others, at most the one that was being run. The next run goes on with the file as it is. Some kills
-hit `format`: its file is no cache then, or the empty one, or there is none.
+others, at most the one that was being run. A kill of `trim` comes behind each, and leaves the same.
+The next run goes on with the file as it is. Some kills hit `format`: its file is no cache then, or
+the empty one, or there is none. The words are further ones of `apply`.
 """
 import os
 import random
@@ -61,10 +62,11 @@ def killed(words, lines, delay):
     return out.split(b"\n")[:-1], status == -9
 
 
-def kill_apply(checks, program, path, cache, rng, longest):
-    """Whether the run was killed, and how many commands were acknowledged."""
+def kill_apply(checks, program, words, cache, rng, longest):
+    """Whether the run was killed, and whether all that it left is right."""
+    path = words[1]
     lines = [runs.some_line(rng) for _ in range(LINES)]
-    replies, was_hit = killed([program, "apply", path], lines, rng.uniform(0, longest))
+    replies, was_hit = killed([program, *words], lines, rng.uniform(0, longest))
     cache.reopened()
     wanted = [cache.answer(line) for line in lines[:len(replies)]]
     name = f"kill behind {cache.number} commands and {len(replies)} replies"
@@ -74,6 +76,22 @@ def kill_apply(checks, program, path, cache, rng, longest):
     good = good and runs.tell(checks, f"{name}: the file", program, path)
     good = runs.look_up(checks, f"{name}: the classes", program, path, cache) and good
     return was_hit, good
+
+
+def kill_trim(checks, program, path, cache, rng, longest):
+    """A trim that is killed, and one that isn't, leave the same cache; behind that one the file
+    ends with the last root that is in use."""
+    killed([program, "trim", path], [], rng.uniform(0, longest))
+    name = f"trim killed behind {cache.number} commands"
+    good = runs.settle(checks, f"{name}: the file", path, cache, None)
+    told = runs.run(program, ["trim", path])
+    file = region.read(path)
+    used = file.roots_used()
+    good = checks.check(f"{name}, and then not: what it says",
+                        told == ([b"roots %d" % used], 0, ""), f"{told}") and good
+    good = runs.settle(checks, f"{name}, and then not: the file", path, cache, None) and good
+    return checks.check(f"{name}, and then not: its roots", file.roots == used,
+                        f"{file.roots} roots, {used} in use") and good
 
 
 def kill_format(checks, program, path, rng, longest):
@@ -91,7 +109,7 @@ def time_of(run):
     return time.monotonic() - begin
 
 
-def main(program, kills, seed):
+def main(program, kills, seed, further):
     rng, checks = random.Random(seed), runs.Checks()
     with tempfile.TemporaryDirectory(dir=os.environ.get("WORK")) as folder:
         path, other = f"{folder}/cache", f"{folder}/other"
@@ -99,7 +117,8 @@ def main(program, kills, seed):
         # of it.
         runs.run(program, ["format", path])
         lines = [runs.some_line(rng) for _ in range(LINES)]
-        longest = 1.1 * time_of(lambda: runs.run(program, ["apply", path], lines))
+        words = ["apply", path, *further]
+        longest = 1.1 * time_of(lambda: runs.run(program, words, lines))
         making = 1.1 * time_of(lambda: runs.run(program, ["format", other]))
         os.remove(other)
         hits = done = 0
@@ -114,9 +133,10 @@ def main(program, kills, seed):
                         "format",
                         runs.run(program, format_words(path, geometry)) == ([b"ok"], 0, "")):
                     break
-            was_hit, good = kill_apply(checks, program, path, cache, rng, delay)
+            was_hit, good = kill_apply(checks, program, words, cache, rng, delay)
             hits += was_hit
             done += 1
+            good = good and kill_trim(checks, program, path, cache, rng, making)
             # A run that ended by itself was shorter than thought.
             delay = min(longest, 1.05 * delay) if was_hit else 0.8 * delay
             if not good:
@@ -130,4 +150,4 @@ def main(program, kills, seed):
 
 
 if __name__ == "__main__":
-    sys.exit(main(sys.argv[1], int(sys.argv[2]), int(sys.argv[3])))
+    sys.exit(main(sys.argv[1], int(sys.argv[2]), int(sys.argv[3]), sys.argv[4:]))

@@ -90,13 +90,13 @@ sweep_program() {
     WORK=$work tests/refused_memory.py "$built" "$library" "${@:2}" <"$1"
     check_last "the program with a refused allocation: ${*:2}"
 }
-beside sweep_program "$work/script" 324 apply --memory
-beside sweep_program "$work/script" 324 apply FILE
-beside sweep_program "$work/script" 83 format FILE
+beside sweep_program "$work/script" 336 apply --memory
+beside sweep_program "$work/script" 336 apply FILE
+beside sweep_program "$work/script" 91 format FILE
 # Opening a file alone, and looking at it.
-beside sweep_program /dev/null 319 apply FILE
-beside sweep_program /dev/null 244 check FILE
-beside sweep_program /dev/null 357 list FILE
+beside sweep_program /dev/null 331 apply FILE
+beside sweep_program /dev/null 252 check FILE
+beside sweep_program /dev/null 365 list FILE
 tell_sweeps
 
 # asks NAME HEX: reading, judging and recording this class asks for no more than 8,192 bytes at

@@ -354,6 +354,10 @@ class File:
                 yield b"class %s words %d root %d at %d" % (oracle.escaped(row.name), row.words,
                                                             row.chunk[0], place)
 
+    def roots_used(self):
+        """One more than the greatest root in which a class lies."""
+        return max((row.chunk[0] + 1 for row in self.rows if row.chunk), default=0)
+
     def state(self):
         """Each loader's classes, by their records' words."""
         return {loader.name: {row.name: row.read.record() for row in self.classes(loader.loader)}

@@ -63,6 +63,9 @@ def judged(data):
 # is shut, a sync stands for the first.
 CHECKPOINT = ["other half's gate", "sync", "rows", "sync", "new half's gate", "sync"]
 
+# Those of a trim.
+TRIM = ["cut", "sync"]
+
 # Whose gate a call writes, and the byte there before and after it.
 GATES = {
     "other half's gate": ("other half", 0xa5, 0),
@@ -243,6 +246,9 @@ class World:
             return "device"
         if self.calls:
             return "working"
+        if self.under_way is None:
+            # What is left of the file has no root.
+            return "trimmed 0"
         group, self.under_way = self.under_way, None
         self.acknowledged = group.last
         return f"done {group.last}"
@@ -259,9 +265,22 @@ class World:
             self.turned, before, after = GATES[call]
             self.loose = True
             self.gate = after if fails is None or fails > 0 else before
+        elif call == "cut":
+            self.least = self.base
+            if fails is None:
+                self.length = self.base
         elif call == "sync" and fails is None:
             self.least = self.greatest = self.length
             self.turn(self.gate)
+
+    def trim(self):
+        if self.broken or self.calls:
+            return "not idle"
+        classes = any(self.states[self.acknowledged].values())
+        if classes or self.length < self.base + self.root_bytes:
+            return "nothing"
+        self.calls = list(TRIM)
+        return "due"
 
     def learn(self):
         if self.broken:
@@ -367,7 +386,7 @@ def draw_command(draw, add, world):
 
 def draw_event(draw, simulation, busy, at_rest):
     add, world = simulation.add, simulation.world
-    kind = draw.choices(range(8), busy if world.calls or world.queue else at_rest)[0]
+    kind = draw.choices(range(9), busy if world.calls or world.queue else at_rest)[0]
     if kind == 0:
         draw_command(draw, add, world)
     elif kind == 1:
@@ -382,6 +401,8 @@ def draw_event(draw, simulation, busy, at_rest):
         add("fault", draw.choice([0, 1, 7, 64, 1000, 1 << 40]))
     elif kind == 6:
         add("reopen")
+    elif kind == 7:
+        add("trim")
     else:
         length = draw.choice([0, 1 << 40, world.base, world.base + draw.randrange(world.root_bytes),
                               world.base + world.root_bytes])
@@ -389,10 +410,10 @@ def draw_event(draw, simulation, busy, at_rest):
             draw.choice(FILLS) if draw.random() < 0.7 else draw.randbytes(draw.randrange(1, 200)))
 
 
-# How often there are commands, seals, advances, learns, look-ups, faults, openings and crashes,
-# where a group waits or is under way, and where none is.
-BUSY = [(4, 2, 30, 2, 2, 4, 1, 3), (2, 1, 40, 1, 1, 1, 1, 4), (8, 4, 20, 1, 1, 6, 2, 2)]
-AT_REST = [(20, 8, 1, 3, 5, 1, 1, 1), (30, 4, 1, 2, 2, 1, 0, 1)]
+# How often there are commands, seals, advances, learns, look-ups, faults, openings, trims and
+# crashes, where calls are left or a group waits, and where there is neither.
+BUSY = [(4, 2, 30, 2, 2, 4, 1, 2, 3), (2, 1, 40, 1, 1, 1, 1, 2, 4), (8, 4, 20, 1, 1, 6, 2, 1, 2)]
+AT_REST = [(20, 8, 1, 3, 5, 1, 1, 6, 1), (30, 4, 1, 2, 2, 1, 0, 8, 1)]
 
 
 def fill_journal(draw, simulation):
@@ -458,10 +479,10 @@ def check_lists(checks, program):
             met[kind] = met.get(kind, 0) + 1
     wanted = [f"refused {n}" for n in (1, 2, 3, 4, 5, 7, 10, 14)]
     wanted += ["number", "group", "none", "idle", "working", "done", "device", "broken", "learnt",
-               "class", "armed", "opened"]
+               "class", "armed", "opened", "due", "nothing", "not", "trimmed"]
     # A root is the first call of its group: before it the cache is at rest.
-    wanted += ([f"fault in {call}" for call in set(CALLS)]
-               + [f"crash before {call}" for call in set(CALLS) - {"root"}])
+    wanted += ([f"fault in {call}" for call in {*CALLS, *TRIM}]
+               + [f"crash before {call}" for call in {*CALLS, *TRIM} - {"root"}])
     wanted += ["crash, gate of the group loose", "crash at rest"]
     missed = [f"{kind} ({met.get(kind, 0)})" for kind in wanted if met.get(kind, 0) < 20]
     checks.check(not missed,
@@ -577,6 +598,47 @@ def check_each_stop(checks, program, begin, device_calls, walks):
                 check_walk(checks, program, begin(), device_calls, calls, stored, end)
 
 
+def before_trim():
+    """A class that was stored and is unloaded: the file has a root that no row uses."""
+    simulation = Simulation(3, 2, 256)
+    simulation.add("loader", b"app")
+    simulation.add("define", b"app", class_a())
+    store(simulation)
+    simulation.add("unload", b"app")
+    store(simulation)
+    simulation.add("learn")
+    simulation.add("trim")
+    return simulation
+
+
+def check_trims(checks, program):
+    """A trim stopped behind each of its calls leaves what is stored; it can be made again, and
+    classes be stored behind it."""
+    base = 4096 + 128 * 256
+    walks = list(ends((0, base, base + 100, base + 8191, 1 << 40), (b"", b"\xa5", b"\xa5" * 9000)))
+    for end in walks:
+        for calls, fails in (0, False), (1, False), (2, False), (1, True), (2, True):
+            simulation = before_trim()
+            checks.check(simulation.due == "due", "a trim is due")
+            for call in range(calls):
+                if fails and call == calls - 1:
+                    simulation.add("fault", 0)
+                simulation.add("advance")
+            simulation.add(*end)
+            what = f"a trim stopped behind {calls} calls, the last failed: {fails}, {end[0]}"
+            checks.check(simulation.due == "opened 3", f"{what}: the model")
+            simulation.add("trim")
+            while simulation.add("advance") == "working":
+                pass
+            for event in (("loader", b"next"), ("define", b"next", class_a())):
+                simulation.add(*event)
+            store(simulation)
+            simulation.add("crash", 0, b"")
+            simulation.add("look", b"next", b"A")
+            checks.check(simulation.due == "class 16", f"{what}: the model goes on")
+            compare(checks, program, simulation, what)
+
+
 def check_region(checks, program):
     """A left chunk waits for the receipt of what left it. Worked out by hand: one root, and classes
     as long as it."""
@@ -607,7 +669,7 @@ def check_forms(checks, program):
             b"look a A B", b"fault", b"fault -1", b"fault +1"]
     bad += [b"fault 1x", b"fault 18446744073709551616", b"fault 0x1", b"reopen 1", b"crash",
             b"crash 0", b"crash 0 ", b"crash - 00", b"crash 0 0"]
-    bad += [b"crash 0 00 00", b"crash 0 --", b"tighten a", b"trim", b"geometry 3 1 256",
+    bad += [b"crash 0 00 00", b"crash 0 --", b"tighten a", b"trim 0", b"geometry 3 1 256",
             b"advance\r", b"learn\t", b"\xff"]
     for line in bad:
         for before in 0, 3:
@@ -731,7 +793,7 @@ def main(words):
         met = check_lists(checks, words[0])
         print(f"{LISTS} event lists:",
               ", ".join(f"{kind} {count}" for kind, count in sorted(met.items())))
-        for check in check_walks, check_region, check_forms, check_disk:
+        for check in check_walks, check_trims, check_region, check_forms, check_disk:
             check(checks, words[0])
     print(f"{checks.passed} passed, {checks.failed} failed")
     return 1 if checks.failed else 0

@@ -68,7 +68,12 @@ for number in 8.0 eight "" " 8" 4294967304 18446744073709551624; do
     wrong_words "--roots <N>" format new --roots "$number"
 done
 wrong_words "--slots <N>" format new --slots 4294967552
-for words in "format new --top -8" --version "check -a" "list new --top 8"; do
+for number in 0 17 2.0 two "" " 2" 4294967297; do
+    wrong_words "--workers" apply --memory --workers "$number"
+done
+wrong_words "--workers" apply --memory --workers
+for words in "format new --top -8" "apply --memory --workers -1" --version "check -a" \
+    "list new --top 8"; do
     # shellcheck disable=SC2086
     wrong_words "Usage: cmcache" $words
 done
