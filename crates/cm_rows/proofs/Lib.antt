@@ -4,6 +4,7 @@ mod Loaders
 mod KeptPlaces
 mod Linking
 mod Moving
+mod Stopping
 mod Backward
 mod Holding
 mod RowFacts
@@ -17,3 +18,6 @@ mod ClassPlaces
 mod Above
 -- Numbers of commands are above those of all loaders that live.
 pub use Above.{above_row, above_entry}
+-- The classes of rows after a move: those on the old chunk lie on the new one.
+pub use Classes.{moved_class}
+pub use RowFacts.{classes-moved}

@@ -70,6 +70,11 @@ abbrev pub is_on : {P : Type 0} → Chunk → Row P → Bool
 is_on c (Loader r) = false
 is_on c (Class r p) = same_chunk r.place.chunk c
 
+-- how many words a row has on a chunk
+abbrev pub words_on : {P : Type 0} → Chunk → Row P → ℕ
+words_on c (Loader r) = 0
+words_on c (Class r p) = if same_chunk r.place.chunk c then r.place.words else 0
+
 -- each living row on the chunk is one of the loader's
 abbrev pub AreOwnOn : {P : Type 0} → ℕ → Chunk → List (BookSlot (Row P)) → Type 0
 AreOwnOn u c slots =

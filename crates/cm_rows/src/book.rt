@@ -339,12 +339,16 @@ impl<P: Kept> Book<P> {
         }
         self.pool.give(entry.from);
         let newest = self.loaders.newest[at];
+        let left = LastChunk {
+            chunk: entry.from,
+            used: last.used,
+        };
         move_rows(
             &mut self.rows.slots,
             &self.rows.before,
             entry.loader,
             newest,
-            entry.from,
+            left,
             entry.to,
         );
         let moved = LastChunk {

@@ -8,10 +8,7 @@ use crate::live_loader::LastChunk;
 use cm_index::BookSlot;
 use cm_layout::Row;
 use cm_pool::Chunk;
-use cm_record::Record;
-use std::alloc::{AllocError, Global};
 use std::marker::Model;
-use std::sync::Arc;
 
 /// What is kept of the classes on a loader's last chunk, from the newest back. Contracts see the
 /// list of what is left, in the order of the rows.
@@ -72,24 +69,6 @@ impl<'a, P> LastKept<'a, P> {
         self.next = self.before[at];
         self.left.used -= row.place.words;
         Some(kept)
-    }
-}
-
-impl<'a> LastKept<'a, Arc<Record, Global>> {
-    ghost use Rattle.std.specs.Prelude.{map, IfOk};
-    ghost use Rattle.std.specs.Arc.{arc_value};
-
-    /// The records that are left, in the order of the rows, each shared once more.
-    pub fn share(self, alloc: Global) -> Result<Vec<Arc<Record, Global>>, AllocError>
-        ensures { IfOk result (λ shared. map arc_value shared.items ≡ map arc_value self.entry) }
-    {
-        let mut kept = self;
-        let mut shared = Vec::new(alloc);
-        while let Some(record) = kept.next() {
-            shared.push(record.clone()?)?;
-        }
-        shared.reverse();
-        Ok(shared)
     }
 }
 

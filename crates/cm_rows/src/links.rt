@@ -9,11 +9,11 @@ ghost use Rattle.cm_index.specs.Living.{living, swept, unloaded, moved_slot};
 ghost use Rattle.cm_rows.specs.Book.{AreIndexed};
 ghost use Rattle.cm_rows.specs.Held.{Holds, chunks_of};
 ghost use Rattle.cm_rows.specs.Links.{loader_in, last_place, last_places, AreLinked, HasLinks};
-ghost use Rattle.cm_rows.specs.Links.{AreOwned, OthersStay, ended};
+ghost use Rattle.cm_rows.specs.Links.{AreOwned, GoesBack, OthersStay, ended};
 ghost use Rattle.cm_rows.specs.Loaders.{Rises, numbers_of, items, HasLoaders};
 ghost use Rattle.cm_layout.specs.Rules.{row_limit as row_limit_of};
 
-use crate::live_loader::{LiveLoader, find};
+use crate::live_loader::{LastChunk, LiveLoader, find};
 use crate::loader_places::LoaderPlaces;
 use crate::row_places::RowPlaces;
 use crate::rows::{move_row, own_chunk};
@@ -80,26 +80,30 @@ fn end_row<P>(slots: &mut Vec<BookSlot<Row<P>>>, at: usize, pool: &mut Pool)
     }
 }
 
-/// Lets the records of a loader that lie on one chunk lie on another. Goes over the loader's rows,
-/// from its last one on.
+/// Lets the records on a loader's last chunk lie on another. Goes over the loader's rows from its
+/// last one on, and only as far as records lie on the chunk.
 pub fn move_rows<P>(
     slots: &mut Vec<BookSlot<Row<P>>>,
     before: &[Option<u32>],
     loader: u64,
     newest: Option<u32>,
-    from: Chunk,
+    last: LastChunk,
     to: Chunk,
 )
-    requires linked { AreLinked slots.old.items before.now }
     requires newest { newest ≡ last_place loader slots.old.items }
-    requires others { OthersStay loader from to slots.old.items }
-    ensures slots { slots.new.items ≡ map (moved_slot from to) slots.old.items }
+    requires goes { GoesBack slots.old.items before.now last.chunk newest last.used }
+    requires others { OthersStay loader last.chunk to slots.old.items }
+    ensures slots { slots.new.items ≡ map (moved_slot last.chunk to) slots.old.items }
     ensures capacity { vec_capacity slots.new ≡ vec_capacity slots.old }
 {
     let mut next = newest;
+    let mut left = last.used;
     while let Some(place) = next {
+        if left == 0 {
+            return;
+        }
         let at = place as usize;
-        move_row(&mut slots[at].item, &from, to);
+        left -= move_row(&mut slots[at].item, &last.chunk, to);
         next = before[at];
     }
 }

@@ -6,6 +6,7 @@ ghost use Rattle.std.specs.List.{AllByRecursion};
 ghost use Rattle.cm_index.specs.Living.{living};
 ghost use Rattle.cm_layout.specs.Rows.{moved_row, bare};
 ghost use Rattle.cm_rows.specs.Held.{Holds, CanBeHeld, chunks_of, own_chunk, living_chunk};
+ghost use Rattle.cm_rows.specs.Links.{words_on};
 
 use cm_index::BookSlot;
 use cm_layout::Row;
@@ -88,13 +89,17 @@ pub fn own_chunk<P>(row: &Row<P>) -> Option<Chunk>
     }
 }
 
-/// Lets the record of a row lie on another chunk, if it lies on this one.
-pub fn move_row<P>(row: &mut Row<P>, from: &Chunk, to: Chunk)
-    ensures { row.new ≡ moved_row from.now to row.old }
+/// Lets the record of a row lie on another chunk, if it lies on this one. Says how many words it
+/// has there, or 0.
+pub fn move_row<P>(row: &mut Row<P>, from: &Chunk, to: Chunk) -> u32
+    ensures row { row.new ≡ moved_row from.now to row.old }
+    ensures words { result ≡ words_on from.now row.old }
 {
     if let Row::Class(class, _) = row {
         if class.place.chunk == *from {
             class.place.chunk = to;
+            return class.place.words;
         }
     }
+    0
 }

@@ -1,6 +1,7 @@
 use Rattle.std.proofs.Common.{◌≡◌, ◌≤◌, List, Option, Some, false, length, set, vec_capacity}
 use Rattle.std.proofs.Common.{refl, sym, ap, subst, ◌∙◌, arith}
 use Rattle.std.proofs.lemmas.List.{length-map}
+use Rattle.cm_pool.specs.declared.chunk.Chunk.{Chunk}
 use Rattle.cm_layout.specs.declared.row.Row.{Row}
 use Rattle.cm_layout.specs.Rows.{classes_in, moved}
 use Rattle.cm_layout.specs.Rules.{move_fits}
@@ -13,6 +14,8 @@ use Rattle.cm_rows.specs.declared.live_loader.LastChunk.{LastChunk}
 use Rattle.cm_rows.specs.declared.live_loader.LiveLoader.{LiveLoader}
 use Rattle.cm_rows.specs.declared.loader_places.LoaderPlaces.{LoaderPlaces}
 use Rattle.cm_rows.specs.declared.row_places.RowPlaces.{RowPlaces}
+use Rattle.cm_rows.specs.Links.{GoesBack}
+use Rattle.cm_rows.proofs.Backward.{newest-goes}
 use Rattle.cm_rows.proofs.Books.{relocated}
 use Rattle.cm_rows.proofs.Changes.{last_of-is, use-chunk}
 use Rattle.cm_rows.proofs.KeptPlaces.{stands, at-living, same-kept}
@@ -93,6 +96,28 @@ move_rows-requires-clause-newest g c =
     let found = rw c.deref.ensures.value at c.in-Some.ensures.found in
     c.index-newest.ensures ∙ last-at-place a.geometry a.rows a.loaders c.args.entry.now.loader
     c.in-Some.at c.index-newest.result.now c.self.invariant.2 found.at
+
+pub move_rows-requires-clause-goes : goal.move_rows-requires-clause-goes
+move_rows-requires-clause-goes g c =
+    let a = c.self.inside in
+    let e = c.args.entry.now in
+    let l = c.in-Some-last.last in
+    let slots = a.rows.slots.items in
+    let rows = living slots in
+    let found = rw c.deref.ensures.value at c.in-Some.ensures.found in
+    let loaders = a.loaders.slots.items in
+    let at = stands loaders e.loader c.in-Some.at found in
+    let last = last-at rows (living loaders) e.loader at.place c.index.result.now.item
+    c.self.invariant.0.loaders (at-living loaders e.loader c.in-Some.at found at)
+    (same-kept loaders c.in-Some.at at c.index.result.now c.index.ensures)
+    ∙ c.in-Some-last.is in
+    let newest = c.index-newest.ensures ∙ last-at-place a.geometry a.rows a.loaders e.loader
+    c.in-Some.at c.index-newest.result.now c.self.invariant.2 found.at in
+    rw c.deref-2.ensures.value
+    (subst (λ (k : Chunk). GoesBack slots a.rows.before.items k c.index-newest.result.now l.used)
+    (room-from a.geometry l e (sym c.has_room.ensures ∙ c.if-not-has_room.false))
+    (newest-goes slots a.rows.before.items e.loader l c.index-newest.result.now
+    c.self.invariant.2.linked c.self.invariant.0.live.founded newest last).0)
 
 pub move_rows-requires-clause-others : goal.move_rows-requires-clause-others
 move_rows-requires-clause-others g c =
