@@ -7,9 +7,10 @@ use Rattle.std.specs.List.{AllByRecursion}
 use Rattle.cm_class.specs.declared.class_file.ClassFile.{ClassFile}
 use Rattle.cm_rules.specs.Keeps.{KeepsRules}
 use Rattle.cm_record.specs.Layout.{lay}
-use Rattle.cm_layout.specs.Rows.{slots_of_entries}
+use Rattle.cm_layout.specs.Rows.{slots_of_entries, kept_on}
 pub use Rattle.cm_layout.specs.Rows.{group_limit}
 use Rattle.cm_layout.specs.declared.class_row.ClassRow.{ClassRow}
+use Rattle.cm_layout.specs.declared.row.Row.{Row}
 use Rattle.cm_layout.specs.declared.row.Row.TheVariants.{Loader, Class}
 use Rattle.cm_layout.specs.declared.entry.Entry.{Entry}
 use Rattle.cm_layout.specs.declared.entry.Entry.TheVariants as entry
@@ -44,6 +45,12 @@ records_of (entry.Live (Loader r)) moved = []
 records_of (entry.Live (Class r words)) moved = words ∷ []
 records_of (entry.Unload e) moved = []
 records_of (entry.Move e) moved = moved
+
+-- the records that move with an entry, where these rows live before it: those on the old chunk
+abbrev pub moved_with : List (Row (List ℕ)) → Entry (List ℕ) → List (List ℕ)
+moved_with rows (entry.Live row) = []
+moved_with rows (entry.Unload e) = []
+moved_with rows (entry.Move e) = kept_on e.from rows
 
 -- where records lie that lie one behind another, each at an offset of 32 bits
 abbrev pub offsets_from : ℕ → List (List ℕ) → List ℕ

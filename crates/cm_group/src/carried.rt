@@ -1,6 +1,6 @@
 //! An entry with the records that it writes.
 
-ghost use Rattle.std.specs.Prelude.{◌≡◌, [], map, Some, None, MatchOption, IfOk};
+ghost use Rattle.std.specs.Prelude.{◌≡◌, [], map, Some, None, MatchOption};
 ghost use Rattle.std.specs.Arc.{arc_value};
 ghost use Rattle.std.specs.List.{AllByRecursion, slice_get};
 ghost use Rattle.cm_group.specs.Groups.{Carried, CarriesRight, IsRightRecord, class_made};
@@ -10,9 +10,10 @@ ghost use Rattle.cm_layout.specs.Rows.{slots_of, entry_with};
 ghost use Rattle.cm_layout.specs.declared.entry.Entry.TheVariants as variant;
 ghost use Rattle.cm_layout.specs.declared.row.Row.TheVariants.{Loader, Class};
 
+use crate::moved::MovedRecords;
 use cm_layout::{ClassRow, Entry, LoaderRow, Move, Row, Unload};
 use cm_record::Record;
-use std::alloc::{AllocError, Global};
+use std::alloc::Global;
 use std::marker::Model;
 use std::sync::Arc;
 
@@ -22,42 +23,20 @@ use std::sync::Arc;
 pub struct CarriedEntry {
     entry: Entry<Arc<Record, Global>>,
     /// Beside a move the records that move; else none.
-    moved: Vec<Arc<Record, Global>>,
-    /// Where each of them lies on its chunk, behind those before it.
-    offsets: Vec<u32>,
+    moved: MovedRecords,
 }
 
 impl Model for CarriedEntry {
-    ghost use Rattle.std.specs.Prelude.{◌≡◌, map};
     ghost use Rattle.std.specs.Arc.{arc_value};
     ghost use Rattle.cm_layout.specs.Rows.{entry_with};
-    ghost use Rattle.cm_group.specs.Groups.{Carried, CarriesRight, offsets_from};
+    ghost use Rattle.cm_group.specs.Groups.{Carried, CarriesRight};
 
     ghost Value = { Carried };
 
-    ghost view = { λ c. record {
-      entry = entry_with arc_value c.entry;
-      moved = map arc_value c.moved.items;
-    } };
+    ghost view = { λ c. record { entry = entry_with arc_value c.entry; moved = c.moved } };
 
-    ghost invariant = { λ c. CarriesRight (record {
-      entry = entry_with arc_value c.entry;
-      moved = map arc_value c.moved.items;
-    }) × (c.offsets.items ≡ offsets_from 0 (map arc_value c.moved.items)) };
-}
-
-/// Where each of some records lies that lie one behind another.
-fn offsets_of(alloc: Global, records: &[Arc<Record, Global>]) -> Result<Vec<u32>, AllocError>
-    ensures { IfOk result (λ offsets. offsets.items
-        ≡ offsets_from 0 (map arc_value records.now)) }
-{
-    let mut offsets = Vec::with_capacity(alloc, records.len())?;
-    let mut next: u32 = 0;
-    for class in records {
-        offsets.push(next)?;
-        next = next.saturating_add(class.words());
-    }
-    Ok(offsets)
+    ghost invariant = { λ c.
+        CarriesRight (record { entry = entry_with arc_value c.entry; moved = c.moved }) };
 }
 
 impl CarriedEntry {
@@ -67,8 +46,7 @@ impl CarriedEntry {
     {
         CarriedEntry {
             entry: Entry::Live(Row::Loader(row)),
-            moved: Vec::new(alloc),
-            offsets: Vec::new(alloc),
+            moved: MovedRecords::none(alloc),
         }
     }
 
@@ -80,8 +58,7 @@ impl CarriedEntry {
     {
         CarriedEntry {
             entry: Entry::Live(Row::Class(row, class)),
-            moved: Vec::new(alloc),
-            offsets: Vec::new(alloc),
+            moved: MovedRecords::none(alloc),
         }
     }
 
@@ -91,27 +68,20 @@ impl CarriedEntry {
     {
         CarriedEntry {
             entry: Entry::Unload(entry),
-            moved: Vec::new(alloc),
-            offsets: Vec::new(alloc),
+            moved: MovedRecords::none(alloc),
         }
     }
 
-    /// That a loader's last chunk moves, with the records that lie on it, in order.
-    pub fn relocation(
-        alloc: Global,
-        entry: Move,
-        moved: Vec<Arc<Record, Global>>,
-    ) -> Result<CarriedEntry, AllocError>
-        requires right { AllByRecursion IsRightRecord (map arc_value moved.items) }
-        ensures { IfOk result (λ c. c
-            ≡ record { entry = variant.Move entry; moved = map arc_value moved.items }) }
+    /// That a loader's last chunk moves, with the records that lie on it, in order. Takes no
+    /// memory.
+    pub fn relocation(entry: Move, moved: MovedRecords) -> CarriedEntry
+        requires right { AllByRecursion IsRightRecord moved }
+        ensures { result ≡ record { entry = variant.Move entry; moved = moved } }
     {
-        let offsets = offsets_of(alloc, &moved)?;
-        Ok(CarriedEntry {
+        CarriedEntry {
             entry: Entry::Move(entry),
             moved,
-            offsets,
-        })
+        }
     }
 
     /// The entry as the journal has it, with nothing kept of a class.
@@ -137,7 +107,7 @@ impl CarriedEntry {
     pub fn moved(&self) -> &[Arc<Record, Global>]
         ensures { map arc_value result.now ≡ self.now.moved }
     {
-        &self.moved
+        self.moved.records()
     }
 
     /// The record of this number among those that move with it, and where that lies on its chunk.
@@ -147,8 +117,7 @@ impl CarriedEntry {
         ensures offset { MatchOption result (slice_get self.now.moved number ≡ None)
             (λ m. slice_get (offsets_from 0 self.now.moved) number ≡ Some m.0) }
     {
-        let class = self.moved.get(number)?;
-        Some((self.offsets[number], class))
+        self.moved.at(number)
     }
 
     /// How many slots it takes in its group.

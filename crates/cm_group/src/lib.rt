@@ -3,10 +3,12 @@
 
 mod carried;
 mod group;
+mod moved;
 mod receipt;
 mod room;
 
 pub use carried::CarriedEntry;
 pub use group::Group;
+pub use moved::MovedRecords;
 pub use receipt::Receipt;
 pub use room::GroupRoom;

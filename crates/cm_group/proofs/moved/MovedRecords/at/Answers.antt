@@ -8,8 +8,8 @@ use Rattle.std.proofs.lemmas.Bool.{ltb-true}
 use Rattle.std.proofs.lemmas.List.{length-map}
 use Rattle.std.proofs.lemmas.Option.{slice_get-get_or, slice_get-map}
 use Rattle.cm_group.specs.Groups.{offsets_from}
-use Rattle.cm_group.proofs.carried.CarriedEntry.moved_at.Goals as goal
-use Rattle.cm_group.proofs.carried.CarriedEntry.moved_at.Goals.{In_ok-class}
+use Rattle.cm_group.proofs.moved.MovedRecords.at.Goals as goal
+use Rattle.cm_group.proofs.moved.MovedRecords.at.Goals.{In_ok-class}
 
 -- each record has an offset
 as-many : (at : ℕ) (records : List (List ℕ)) → length (offsets_from at records) ≡ length records
@@ -17,7 +17,7 @@ as-many at [] = refl
 as-many at (words ∷ records) =
     omega (arith, as-many (min (at + length words) (2 ^ 32 - 1)) records)
 
-within : (c : In_ok-class) → c.args.number < length c.self.inside.moved.items
+within : (c : In_ok-class) → c.args.number < length c.self.inside.records.items
 within c =
     let lt = ltb-true c.args.number (length c.deref.result.now) (sym c.in_ok-class.ensures.lookup.0)
     in
@@ -28,15 +28,15 @@ index-requires c =
     omega (
       arith,
       within c,
-      ap length c.self.invariant.1,
-      as-many 0 (map arc_value c.self.inside.moved.items),
-      length-map c.self.inside.moved.items arc_value,
+      ap length c.self.invariant,
+      as-many 0 (map arc_value c.self.inside.records.items),
+      length-map c.self.inside.records.items arc_value,
       c.self.inside.offsets.ok.0,
     )
 
 pub returns-clause-record : goal.returns-clause-record
 returns-clause-record c =
-    let moved = c.self.inside.moved.items in
+    let moved = c.self.inside.records.items in
     let class = c.in_ok-class.class.now in
     let there : slice_get moved c.args.number ≡ Some class =
     sym (ap (λ l. slice_get l c.args.number) c.deref.ensures.value)
@@ -51,13 +51,13 @@ returns-clause-offset c =
     let offsets = c.self.inside.offsets.items in
     let few = within (goal.at.returns-clause-offset c).In_ok-class in
     rw (← c.self.view_is)
-    (sym (ap (λ (l : List ℕ). slice_get l c.args.number) c.self.invariant.1)
+    (sym (ap (λ (l : List ℕ). slice_get l c.args.number) c.self.invariant)
     ∙ slice_get-get_or offsets c.args.number c.index.result.now
     (omega (
       arith,
       few,
-      ap length c.self.invariant.1,
-      as-many 0 (map arc_value c.self.inside.moved.items),
-      length-map c.self.inside.moved.items arc_value,
+      ap length c.self.invariant,
+      as-many 0 (map arc_value c.self.inside.records.items),
+      length-map c.self.inside.records.items arc_value,
     ))
     ∙ sym (ap Some c.index.ensures))

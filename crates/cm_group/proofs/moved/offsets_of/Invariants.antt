@@ -1,7 +1,7 @@
 use Rattle.std.proofs.Common.{◌≡◌, ◌++◌, map, drop}
 use Rattle.std.specs.Arc.{arc_value}
 use Rattle.cm_group.specs.Groups.{offsets_from}
-use Rattle.cm_group.proofs.carried.offsets_of.Given as goal
+use Rattle.cm_group.proofs.moved.offsets_of.Given as goal
 
 abbrev pub invariant-loop-class : goal.invariant-loop-class
 invariant-loop-class l =
