@@ -48,4 +48,4 @@ pub use Places.{inside, ends_in_root}
 pub use Trims.{whole_used}
 -- A move that keeps the rules, and which chunk was a loader's last before it.
 pub use MovedRecords.{MoveKeeps, keeps-move}
-pub use MovedOn.{Stayed, last-before, turned}
+pub use MovedOn.{last-before, turned}

@@ -6,9 +6,9 @@ use Rattle.cm_layout.specs.declared.row.Row.{Row}
 use Rattle.cm_layout.specs.declared.row.Row.TheVariants.{Loader, Class}
 use Rattle.cm_layout.specs.declared.entry.Entry.{Entry}
 use Rattle.cm_layout.specs.declared.entry.Entry.TheVariants as entry
-use Rattle.cm_layout.specs.Rows.{used_words, rows_after, rows_after_all, kept_on}
+use Rattle.cm_layout.specs.Rows.{used_words, rows_after, rows_after_all}
 use Rattle.cm_layout.specs.Rules.{is_unused, is_last_chunk}
-use Rattle.cm_group.specs.Groups.{Carried, Handed, entries_in, slots_taken}
+use Rattle.cm_group.specs.Groups.{Carried, Handed, entries_in, slots_taken, moved_with}
 use Rattle.cm_state.specs.State.{words_show}
 use Rattle.cm_state.specs.Entries.{MayFollow}
 use Rattle.cm_commit.specs.Committed.{Committed, end_slot, with_group}
@@ -25,12 +25,6 @@ HasOwn (entry.Live (Loader r)) = Unit {0}
 HasOwn (entry.Live (Class r words)) = length words ≡ r.place.words
 HasOwn (entry.Unload e) = Unit {0}
 HasOwn (entry.Move e) = Unit {0}
-
--- the records that move with an entry, where these rows live before it: those on the old chunk
-abbrev pub moved_with : List (Row (List ℕ)) → Entry (List ℕ) → List (List ℕ)
-moved_with rows (entry.Live row) = []
-moved_with rows (entry.Unload e) = []
-moved_with rows (entry.Move e) = kept_on e.from rows
 
 -- it carries the records that it needs, and no others
 abbrev pub HasRecords : List (Row (List ℕ)) → Entry (List ℕ) → List (List ℕ) → Type 0
