@@ -7,8 +7,10 @@ use Rattle.std.specs.Prelude.{is_none, Result, Ok, Err, IsTrue, ◌↔◌}
 use Rattle.std.specs.List.{AllByRecursion}
 use Rattle.std.specs.Option.{option_map}
 use Rattle.cm_arena.specs.Placing.{IsFull, Places}
+use Rattle.cm_arena.specs.Tightening.{IsTight}
 use Rattle.cm_arena.specs.declared.refusal.PlaceRefusal.{PlaceRefusal}
 use Rattle.cm_arena.specs.declared.refusal.PlaceRefusal.TheVariants as of_place
+use Rattle.cm_pool.specs.declared.chunk.Chunk.{Chunk}
 use Rattle.cm_pool.specs.Chunks.{chunk_size}
 use Rattle.cm_pool.specs.Geometry.{Sizes}
 use Rattle.cm_record.specs.Layout.{lay}
@@ -26,15 +28,15 @@ use Rattle.cm_pool.specs.FreeSpace.{IsFreeSpace}
 use Rattle.cm_space.specs.Space.{SpaceState, Waits as WaitingChunks, IsKnown, arena_of, with_arena}
 use Rattle.cm_pool.specs.declared.place.Place.{Place}
 use Rattle.cm_space.specs.Ownership.{IsSpace}
-use Rattle.cm_state.specs.Step.{Change, Define, Unload}
+use Rattle.cm_state.specs.Step.{Change, Define, Unload, Tighten}
 use Rattle.cm_state.specs.Entries.{change_of}
 use Rattle.cm_state.specs.Laws.{EntriesAreSteps}
 use Rattle.cm_prepare.specs.declared.refusal.Refusal.{Refusal}
 use Rattle.cm_prepare.specs.declared.refusal.Refusal.TheVariants as refusal
 use Rattle.cm_front.specs.Unsealed.{Waits, GoUpTo, Follow}
 use Rattle.cm_front.specs.Front.{FrontState, IsFront, IsDueLater, front_of, first_refusal}
-use Rattle.cm_front.specs.Accepting.{Answers, Accepts, IsFullFor, accepted, carried}
-use Rattle.cm_front.specs.Accepting.{joined_by, SpaceAfter}
+use Rattle.cm_front.specs.Accepting.{Answers, Accepts, HasNoChunk, accepted, carried}
+use Rattle.cm_front.specs.Accepting.{joined_by, SpaceAfter, refusal_of_chunk}
 use Rattle.cm_front.specs.Refusing.{class_asked, refusal_of_place}
 use Rattle.cm_front.specs.Laws.{PlacesKeepRules}
 use Rattle.cm_front.proofs.GoingsClass.{name_is, number_lives, keeps_class}
@@ -65,7 +67,7 @@ same_groups book space old new number sealed learnt broken closed e = λ i. reco
 pub went_on : (book next : LiveRows (List ℕ)) (space left : SpaceState) (old new : Waits)
     (number n sealed learnt : ℕ) (broken closed : Bool) (e : Entry (List ℕ))
     → next ≡ record { sizes = book.sizes; rows = rows_after book.rows e }
-    → new.groups ≡ joined_by (number + 1) old.groups (carried e) → n ≡ number + 1
+    → new.groups ≡ joined_by (number + 1) old.groups (carried book.rows e) → n ≡ number + 1
     → front_of next left new n sealed learnt broken closed
     ≡ accepted (front_of book space old number sealed learnt broken closed) e left
 went_on book next space left old new number n sealed learnt broken closed e rows groups is =
@@ -109,19 +111,19 @@ told s change a r first is = (refl, inl (first ∙ ap refused is))
 
 pub no_memory : (s new : FrontState) (change : Change (List ℕ)) (a : Result ℕ Refusal) (n : ℕ)
     → first_refusal s change ≡ refused a → ◌≡◌ {A = Result ℕ Refusal} a (Ok n) → new ≡ s
-    → (IsFullFor s change → ⊥) → Answers s change (Err refusal.NoMemory) new
+    → (HasNoChunk s change → ⊥) → Answers s change (Err refusal.NoMemory) new
 no_memory s new change a n first is same room =
     (same, inr (first ∙ ap refused is, inr (refl, room)))
 
-pub region_full : (s new : FrontState) (change : Change (List ℕ)) (a : Result ℕ Refusal) (n : ℕ)
+pub no_chunk : (s new : FrontState) (change : Change (List ℕ)) (a : Result ℕ Refusal) (n : ℕ)
     → first_refusal s change ≡ refused a → ◌≡◌ {A = Result ℕ Refusal} a (Ok n) → new ≡ s
-    → IsFullFor s change → Answers s change (Err refusal.RegionFull) new
-region_full s new change a n first is same full =
-    (same, inr (first ∙ ap refused is, inl (refl, full)))
+    → HasNoChunk s change → Answers s change (Err (refusal_of_chunk change)) new
+no_chunk s new change a n first is same none =
+    (same, inr (first ∙ ap refused is, inl (refl, none)))
 
 pub given : (s new : FrontState) (change : Change (List ℕ)) (a : Result ℕ Refusal) (k n : ℕ)
     → first_refusal s change ≡ refused a → ◌≡◌ {A = Result ℕ Refusal} a (Ok k)
-    → (IsFullFor s change → ⊥) → Accepts s change n new → Answers s change (Ok n) new
+    → (HasNoChunk s change → ⊥) → Accepts s change n new → Answers s change (Ok n) new
 given s new change a k n first is room accepts = (first ∙ ap refused is, room, accepts)
 
 pub accepts : (s new : FrontState) (change : Change (List ℕ)) (n : ℕ) (e : Entry (List ℕ))
@@ -155,7 +157,7 @@ pub went_all : EntriesAreSteps (List ℕ) → (book next : LiveRows (List ℕ)) 
     → SpaceAfter (front_of book space old number sealed learnt broken closed) e left
     → change_of book.rows e ≡ Some change → o ≡ broken_rule book.sizes book.rows n e
     → next ≡ cond (is_none o) (record { sizes = book.sizes; rows = rows_after book.rows e }) book
-    → mid.groups ≡ old.groups → new.groups ≡ joined_by n mid.groups (carried e)
+    → mid.groups ≡ old.groups → new.groups ≡ joined_by n mid.groups (carried book.rows e)
     → Went (front_of book space old number sealed learnt broken closed) change n
     (front_of next left new n sealed learnt broken closed)
 went_all steps book next space left old mid new number n sealed learnt broken closed e change o
@@ -163,9 +165,9 @@ went_all steps book next space left old mid new number n sealed learnt broken cl
     let s : FrontState = front_of book space old number sealed learnt broken closed in
     let none : o ≡ None =
     rule ∙ ap (λ k. broken_rule book.sizes book.rows k e) is ∙ keeps.may.keeps in
-    let joined : new.groups ≡ joined_by (number + 1) old.groups (carried e) =
-    groups ∙ (ap (λ k. joined_by k mid.groups (carried e)) is
-    ∙ ap (λ l. joined_by (number + 1) l (carried e)) same) in
+    let joined : new.groups ≡ joined_by (number + 1) old.groups (carried book.rows e) =
+    groups ∙ (ap (λ k. joined_by k mid.groups (carried book.rows e)) is
+    ∙ ap (λ l. joined_by (number + 1) l (carried book.rows e)) same) in
     let whole = went_on book next space left old new number n sealed learnt broken closed e
     (applied o next (record { sizes = book.sizes; rows = rows_after book.rows e }) book none rows)
     joined is in
@@ -210,6 +212,12 @@ pub unload_asked : LoadersAreOwn → (s : FrontState) (x : List ℕ) (u : ℕ) �
     → change_of s.rows (entry.Unload (record { loader = u })) ≡ Some (Unload x)
 unload_asked own s x u f asked = ap (option_map Unload) (name_is own s x u f asked.found)
 
+pub tighten_asked : LoadersAreOwn → (s : FrontState) (x : List ℕ) (u : ℕ) (from to : Chunk)
+    → IsFront s → IsAsked s x u
+    → change_of s.rows (entry.Move (record { loader = u; from = from; to = to }))
+    ≡ Some (Tighten x)
+tighten_asked own s x u from to f asked = ap (option_map Tighten) (name_is own s x u f asked.found)
+
 pub class_given : LoadersAreOwn → (s : FrontState) (x words : List ℕ) (u : ℕ) (place : Place)
     → IsFront s → IsAsked s x u
     → change_of s.rows (entry.Live (Class (record { loader = u; place = place }) words))
@@ -252,10 +260,16 @@ same_number u v e = cc
 
 pub not_full_for : (s : FrontState) (x words : List ℕ) (u : ℕ) → number_of x s.rows ≡ Some u
     → (IsFull (arena_of s.space u) s.space.pool (length words) → ⊥)
-    → IsFullFor s (Define x words) → ⊥
+    → HasNoChunk s (Define x words) → ⊥
 not_full_for s x words u found room full =
     let same : full.0 ≡ u = same_number full.0 u (sym full.1 ∙ found) in
     room (subst (λ v. IsFull (arena_of s.space v) s.space.pool (length words)) same full.2)
+
+pub not_tight_for : (s : FrontState) (x : List ℕ) (u : ℕ) → number_of x s.rows ≡ Some u
+    → (IsTight (arena_of s.space u) s.space.pool → ⊥) → HasNoChunk s (Tighten x) → ⊥
+not_tight_for s x u found room tight =
+    let same : tight.0 ≡ u = same_number tight.0 u (sym tight.1 ∙ found) in
+    room (subst (λ v. IsTight (arena_of s.space v) s.space.pool) same tight.2)
 
 -- no memory was left, and the region is full or not
 pub full_answer : (s new : FrontState) (x words : List ℕ) (u k : ℕ)
@@ -265,7 +279,7 @@ pub full_answer : (s new : FrontState) (x words : List ℕ) (u k : ℕ)
     → (IsTrue b ↔ IsFull (arena_of s.space u) s.space.pool k)
     → Answers s (Define x words) (Err (cond b refusal.RegionFull refusal.NoMemory)) new
 full_answer s new x words u k first is same amount found true tells =
-    region_full s new (Define x words) (class_asked s x words) u first is same
+    no_chunk s new (Define x words) (class_asked s x words) u first is same
     (u, found, subst (λ n. IsFull (arena_of s.space u) s.space.pool n) amount (tells.0 refl))
 full_answer s new x words u k first is same amount found false tells =
     no_memory s new (Define x words) (class_asked s x words) u first is same
@@ -293,7 +307,7 @@ place_answer s new x words u k first is same amount f free of_place.RecordTooLon
         let c = subst (λ (z : Sizes). chunk_size z.top < k) f.space.geometry a in
         absurd (omega (arith, b, c, amount))
 place_answer s new x words u k first is same amount f free of_place.RegionFull long full is_full =
-    region_full s new (Define x words) (class_asked s x words) u first is same (
+    no_chunk s new (Define x words) (class_asked s x words) u first is same (
       u,
       free.asked.found,
       subst (λ n. IsFull (arena_of s.space u) s.space.pool n) amount (full refl),

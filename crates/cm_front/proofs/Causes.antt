@@ -16,7 +16,7 @@ use Rattle.cm_record.specs.Names.{class_name_in}
 use Rattle.cm_index.specs.Index.{class_of}
 use Rattle.cm_state.specs.State.{Loaders, words_show, state_of, class_among, class_in, size}
 use Rattle.cm_state.specs.Step as step
-use Rattle.cm_state.specs.Step.{Cause, Change, AddLoader, Define, Unload, last_number}
+use Rattle.cm_state.specs.Step.{Cause, Change, AddLoader, Define, Unload, Tighten, last_number}
 use Rattle.cm_state.specs.Laws.{LoadersAreFound, ClassesAreFound, SizesAgree}
 use Rattle.cm_prepare.specs.declared.refusal.Refusal.{Refusal}
 use Rattle.cm_prepare.specs.declared.refusal.Refusal.TheVariants as refusal
@@ -210,6 +210,15 @@ unload_refused loaders s x closed broken =
   where
     m : Loaders (List ℕ)
     m = state_of words_show s.rows
+
+pub tighten_refused : LoadersAreFound (List ℕ) → (s : FrontState) (x : List ℕ) → s.closed ≡ false
+    → s.broken ≡ false → first_refusal s (Tighten x) ≡ refused (loader_asked s x)
+tighten_refused loaders s x closed broken =
+    running s (Tighten x) closed broken
+    ∙ (ap (λ (b : Bool). first (unload_step (is_loader_name x) (eqb s.number last_number) b
+    (state_of words_show s.rows))) (loaders words_show s.rows x)
+    ∙ unload_as_step (is_loader_name x) (eqb s.number last_number) (number_of x s.rows)
+    (state_of words_show s.rows))
 
 -- ---- what an answer says
 

@@ -88,7 +88,7 @@ goes_on steps s e space f below k =
       waiting = k.waiting;
       learnt = f.learnt;
       numbers = omega (arith, below);
-      groups = follow_joined s.unsealed (s.sealed + 1) (s.number + 1) (carried e) f.groups;
+      groups = follow_joined s.unsealed (s.sealed + 1) (s.number + 1) (carried s.rows e) f.groups;
     }
 
 -- what waits for a number waits for it also when there is one more

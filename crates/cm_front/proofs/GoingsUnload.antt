@@ -33,8 +33,9 @@ left_by s u =
           ++ record { number = s.number + 1; chunks = chunks_of (arena_of s.space u) } ∷ [];
     }
 
-due_more : (learnt n : ℕ) (ws : List Waits) (w : Waits) → AllByRecursion (IsDueLater learnt n) ws
-    → IsDueLater learnt n w → AllByRecursion (IsDueLater learnt n) (ws ++ w ∷ [])
+pub due_more : (learnt n : ℕ) (ws : List Waits) (w : Waits)
+    → AllByRecursion (IsDueLater learnt n) ws → IsDueLater learnt n w
+    → AllByRecursion (IsDueLater learnt n) (ws ++ w ∷ [])
 due_more learnt n [] w h d = (d, tt)
 due_more learnt n (v ∷ ws) w h d = (h.0, due_more learnt n ws w h.1 d)
 

@@ -9,12 +9,13 @@ mod Spaces
 mod Goings
 mod GoingsClass
 mod GoingsUnload
+mod GoingsMove
 mod Answering
 mod Learning
 mod Adopting
 mod Taking
 -- A place that a space finds, whose arenas are those of the rows, is one that the entry rules
 -- allow.
-pub use Places.{used-with-root, fetched_free, some-top}
+pub use Places.{used-with-root, fetched_free, free-apart, some-top}
 -- What one row more, or one loader less, makes of what rows say.
 pub use RowFacts.{classes_left}

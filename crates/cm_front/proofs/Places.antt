@@ -30,7 +30,7 @@ use Rattle.cm_front.specs.Laws.{PlacesKeepRules}
 use Rattle.cm_front.proofs.Chains.{chain_grows}
 use Rattle.cm_front.proofs.Tops.{chains_end_at_top, chains_have_chunks}
 
-and_true : (a b : Bool) → a ≡ true → b ≡ true → (a && b) ≡ true
+pub and_true : (a b : Bool) → a ≡ true → b ≡ true → (a && b) ≡ true
 and_true a b p q = rw p q
 
 or_left : (a b : Bool) → a ≡ true → (a || b) ≡ true
@@ -41,7 +41,7 @@ or_right true b p = refl
 or_right false b p = p
 
 -- the test for a chunk that a region can have
-is_chunk_of : (sizes : Sizes) (c : Chunk) → IsBlock sizes.top sizes.roots c
+pub is_chunk_of : (sizes : Sizes) (c : Chunk) → IsBlock sizes.top sizes.roots c
     → is_chunk sizes c ≡ true
 is_chunk_of sizes c b =
     let order = nat_le c.order sizes.top in
@@ -73,7 +73,7 @@ fits_of sizes rows r block some within place =
 filled : Chunk → ℕ → Filled
 filled c used = record { chunk = c; used = used }
 
-last-among : (chain : List Filled) (f : Filled) → last_of chain ≡ Some f
+pub last-among : (chain : List Filled) (f : Filled) → last_of chain ≡ Some f
     → Among f.chunk (chunks_of chain)
 last-among [] f e = absurd (cc)
 last-among (g ∷ []) f e =
@@ -113,7 +113,7 @@ new-placed (f ∷ g ∷ rest) place words other count =
 
 -- ---- chunks that are free, and chunks that are used
 
-free-apart : (p : FreeSpace) (c d : Chunk) → IsFreeChunk p c → IsUsedChunk p d → ¬ Meets c d
+pub free-apart : (p : FreeSpace) (c d : Chunk) → IsFreeChunk p c → IsUsedChunk p d → ¬ Meets c d
 free-apart p c d free used m =
     let in_c = m.2 in
     let in_d = m.3 in
@@ -131,7 +131,7 @@ pub record IsFetchedFree (p : FreeSpace) (c : Chunk) : Type 0 where
   pub block : IsBlock p.geometry.top p.geometry.roots c
   pub apart : (d : Chunk) → IsUsedChunk p d → ¬ Meets c d
 
-free-fetched : (p : FreeSpace) (c : Chunk) → IsFreeSpace p → IsFreeChunk p c → IsFetchedFree p c
+pub free-fetched : (p : FreeSpace) (c : Chunk) → IsFreeSpace p → IsFreeChunk p c → IsFetchedFree p c
 free-fetched p c lawful free = record {
   block = record {
     within_top = free.block.within_top;

@@ -3,12 +3,15 @@ use Rattle.std.specs.Prelude.{◌≡◌, ℕ, ◌+◌, ◌-◌, ◌⊎◌, max, 
 use Rattle.std.specs.Prelude.{◌++◌, length, Option, Some, None, Result, Ok, Err}
 use Rattle.cm_arena.specs.Chains.{chunks_of}
 use Rattle.cm_arena.specs.Placing.{Places, IsFull}
+use Rattle.cm_arena.specs.Tightening.{IsTight}
+use Rattle.cm_layout.specs.declared.row.Row.{Row}
 use Rattle.cm_layout.specs.declared.row.Row.TheVariants.{Loader, Class}
 use Rattle.cm_layout.specs.declared.entry.Entry.{Entry}
 use Rattle.cm_layout.specs.declared.entry.Entry.TheVariants as entry
 use Rattle.cm_layout.specs.Rows.{number_of, rows_after, group_limit}
-use Rattle.cm_group.specs.Groups.{Carried, Handed, next_number, slots_taken}
+use Rattle.cm_group.specs.Groups.{Carried, Handed, next_number, slots_taken, moved_with}
 use Rattle.cm_space.specs.Space.{SpaceState, arena_of, with_arena, without_arena, learnt}
+use Rattle.cm_space.specs.Tightening.{Moves}
 use Rattle.cm_state.specs.State.{words_show}
 use Rattle.cm_state.specs.Step.{Change, AddLoader, Define, Unload, Tighten}
 use Rattle.cm_state.specs.Entries.{MayFollow, change_of}
@@ -18,9 +21,9 @@ use Rattle.cm_front.specs.Front.{FrontState, first_refusal}
 
 -- ---- accepting
 
--- an entry with the record that it writes: none but a class's own, as no move is accepted yet
-abbrev pub carried : Entry (List ℕ) → Carried
-carried e = record { entry = e; moved = [] }
+-- an entry with the records that it writes, where these rows live before it
+abbrev pub carried : List (Row (List ℕ)) → Entry (List ℕ) → Carried
+carried rows e = record { entry = e; moved = moved_with rows e }
 
 -- a group that begins with this number
 abbrev pub begun_by : ℕ → Carried → Handed
@@ -38,7 +41,7 @@ joined_by n (group ∷ []) c =
 joined_by n (group ∷ next ∷ groups) c = group ∷ joined_by n (next ∷ groups) c
 
 -- what an entry does to the space: a loader gets an arena, a class a place, and the chunks that an
--- unloaded loader leaves wait for the entry's number
+-- unloaded loader or a move leaves wait for the entry's number
 abbrev pub SpaceAfter : FrontState → Entry (List ℕ) → SpaceState → Type 0
 SpaceAfter s (entry.Live (Loader r)) new = new ≡ with_arena s.space r.number []
 SpaceAfter s (entry.Live (Class r words)) new =
@@ -50,7 +53,8 @@ SpaceAfter s (entry.Unload e) new =
       waiting = s.space.waiting
           ++ record { number = s.number + 1; chunks = chunks_of (arena_of s.space e.loader) } ∷ [];
     }
-SpaceAfter s (entry.Move e) new = ⊥
+SpaceAfter s (entry.Move e) new =
+    Moves s.space e.loader (s.number + 1) (record { from = e.from; to = e.to }) new
 
 -- the cache with one entry more
 abbrev pub accepted : FrontState → Entry (List ℕ) → SpaceState → FrontState
@@ -58,7 +62,7 @@ accepted s e space =
     record s {
       rows = rows_after s.rows e;
       number = s.number + 1;
-      unsealed = joined_by (s.number + 1) s.unsealed (carried e);
+      unsealed = joined_by (s.number + 1) s.unsealed (carried s.rows e);
       space = space;
     }
 
@@ -72,27 +76,36 @@ pub record Accepts (s : FrontState) (change : Change (List ℕ)) (n : ℕ)
   pub space : SpaceAfter s entry new.space
   pub after : new ≡ accepted s entry new.space
 
--- no room in the region is left for the class
-abbrev pub IsFullFor : FrontState → Change (List ℕ) → Type 0
-IsFullFor s (AddLoader x) = ⊥
-IsFullFor s (Define x words) =
+-- The region has no chunk for the change: none for the class, or none to which the records on the
+-- loader's last one may move.
+abbrev pub HasNoChunk : FrontState → Change (List ℕ) → Type 0
+HasNoChunk s (AddLoader x) = ⊥
+HasNoChunk s (Define x words) =
     (u : ℕ) × (number_of x s.rows ≡ Some u)
     × IsFull (arena_of s.space u) s.space.pool (length words)
-IsFullFor s (Unload x) = ⊥
-IsFullFor s (Tighten x) = ⊥
+HasNoChunk s (Unload x) = ⊥
+HasNoChunk s (Tighten x) =
+    (u : ℕ) × (number_of x s.rows ≡ Some u) × IsTight (arena_of s.space u) s.space.pool
 
--- The refusal is the first that applies; that the region is full, or that an allocation failed, is
--- told only where none of the others applies, and the latter only where the region isn't full.
+-- the refusal then
+abbrev pub refusal_of_chunk : Change (List ℕ) → Refusal
+refusal_of_chunk (AddLoader x) = refusal.RegionFull
+refusal_of_chunk (Define x words) = refusal.RegionFull
+refusal_of_chunk (Unload x) = refusal.RegionFull
+refusal_of_chunk (Tighten x) = refusal.NoMove
+
+-- The refusal is the first that applies; that there is no chunk, or that an allocation failed, is
+-- told only where none of the others applies, and the latter only where there is a chunk.
 abbrev pub IsReason : FrontState → Change (List ℕ) → Refusal → Type 0
 IsReason s change r =
     (first_refusal s change ≡ Some r)
     ⊎ ((first_refusal s change ≡ None)
-    × (((r ≡ refusal.RegionFull) × IsFullFor s change)
-    ⊎ ((r ≡ refusal.NoMemory) × ¬ IsFullFor s change)))
+    × (((r ≡ refusal_of_chunk change) × HasNoChunk s change)
+    ⊎ ((r ≡ refusal.NoMemory) × ¬ HasNoChunk s change)))
 
 abbrev pub Answers : FrontState → Change (List ℕ) → Result ℕ Refusal → FrontState → Type 0
 Answers s change (Ok n) new =
-    (first_refusal s change ≡ None) × (¬ IsFullFor s change) × Accepts s change n new
+    (first_refusal s change ≡ None) × (¬ HasNoChunk s change) × Accepts s change n new
 Answers s change (Err r) new = (new ≡ s) × IsReason s change r
 
 -- ---- handing out and learning

@@ -1,34 +1,41 @@
 //! Accepting commands.
 
-ghost use Rattle.std.specs.Prelude.{◌≡◌, false, true};
+ghost use Rattle.std.specs.Prelude.{◌≡◌, false, true, map, Some};
 ghost use Rattle.std.specs.Prelude.{IfOk, OnOk};
+ghost use Rattle.std.specs.Arc.{arc_value};
+ghost use Rattle.cm_pool.specs.declared.chunk.Chunk.{Chunk};
+ghost use Rattle.cm_layout.specs.Rows.{classes_in, kept_on, last_chunk};
 ghost use Rattle.cm_layout.specs.Names.{is_loader_name};
 ghost use Rattle.cm_layout.specs.declared.entry.Entry.TheVariants as variant;
 ghost use Rattle.cm_layout.specs.declared.row.Row.TheVariants.{Loader, Class};
 ghost use Rattle.cm_prepare.specs.Commands.{change_asked};
-ghost use Rattle.cm_state.specs.Step.{AddLoader, Define, Unload as UnloadOf};
+ghost use Rattle.cm_state.specs.Step.{AddLoader, Define, Unload as UnloadOf, Tighten};
 ghost use Rattle.cm_front.specs.Accepting.{Answers};
 ghost use Rattle.cm_front.specs.Refusing.{refusal_of_place};
 
 use crate::front::Front;
 use crate::laws::places_keep_rules;
 use crate::unsealed::Unsealed;
-use cm_arena::PlaceRefusal;
-use cm_group::CarriedEntry;
-use cm_layout::{ClassRow, Entry, LoaderRow, Row, SlotName, Unload, loaders_are_own};
+use cm_arena::{Moved, PlaceRefusal};
+use cm_group::{CarriedEntry, MovedRecords};
+use cm_layout::{ClassRow, Entry, LoaderRow, Move, Row, SlotName, Unload, loaders_are_own};
 use cm_prepare::{Command, Prepared, Refusal};
+use cm_record::Record;
+use cm_rows::{Book, LastKept};
+use cm_space::{chunks_are_apart, held_chunks_are_used};
 use cm_state::{entries_are_steps, rows_tell_state};
-use std::alloc::AllocError;
+use std::alloc::{AllocError, Global};
+use std::sync::Arc;
 
 impl Front {
     /// Accepts a command and gives it the next number. It joins the newest group that isn't handed
     /// out, while that has slots for it.
     ///
     /// The refusals are looked for in this order: `Closed`, `Broken`, `BadName`, `NumbersSpent`,
-    /// `LoaderExists` or `NoLoader`, `ClassExists`, `RecordTooLong`, `JournalFull`, `RegionFull`;
-    /// `NoMemory` is told only where none of these applies. `JournalFull` says that as many loaders
-    /// and classes live as may, half as many as a half of the journal has slots, so no unload meets
-    /// it. A refused command takes no number and leaves all as it was.
+    /// `LoaderExists` or `NoLoader`, `ClassExists`, `RecordTooLong`, `JournalFull`, `RegionFull` or
+    /// `NoMove`; `NoMemory` is returned only where none of these applies. `JournalFull` says that
+    /// as many loaders and classes live as may, half as many as a half of the journal has slots, so
+    /// no unload meets it. A refused command takes no number and leaves all as it was.
     pub fn accept(&mut self, command: Command<'_>) -> Result<u64, Refusal>
         ensures { Answers self.old (change_asked command.entry) result self.new }
     {
@@ -42,7 +49,18 @@ impl Front {
             Command::AddLoader(name) => self.add_loader(name),
             Command::Define(name, class) => self.define(name, class),
             Command::Unload(name) => self.unload(name),
+            Command::Tighten(name) => self.move_down(name),
         }
+    }
+
+    /// Moves the records on a loader's last chunk, as [`accept`](Front::accept) of a
+    /// [`Command::Tighten`] does: at the same offsets to the least block that holds them, where
+    /// that is smaller or lies before. The loaders and classes stay as they are, and no root is
+    /// added. The chunk that is left waits for the command's number.
+    pub fn tighten(&mut self, name: &[u8]) -> Result<u64, Refusal>
+        ensures { Answers self.old (Tighten name.now) result self.new }
+    {
+        self.accept(Command::Tighten(name))
     }
 
     fn add_loader(&mut self, name: &[u8]) -> Result<u64, Refusal>
@@ -114,6 +132,76 @@ impl Front {
         self.unsealed.join(number, entry);
         self.number = number;
         Ok(number)
+    }
+
+    fn move_down(&mut self, name: &[u8]) -> Result<u64, Refusal>
+        requires running { self.old.closed ≡ false }
+        requires whole { self.old.broken ≡ false }
+        ensures { Answers self.old (Tighten name.now) result self.new }
+    {
+        rows_tell_state();
+        loaders_are_own();
+        entries_are_steps();
+        held_chunks_are_used();
+        chunks_are_apart();
+        let loader = self.loader_asked(name)?;
+        if self.space.is_tight(loader) {
+            return Err(Refusal::NoMove);
+        }
+        self.unsealed.make_ready()?;
+        let records = records_on_last(self.alloc, &self.book, loader)?;
+        let number = self.number + 1;
+        let Some(moved) = self.space.tighten(loader, number)? else {
+            return Err(Refusal::NoMove);
+        };
+        let _is_space = self.space.geometry(); // so the proof knows that it is one
+        let entry = move_entry(loader, moved);
+        let _rule = self.book.apply(number, Entry::Move(entry)); // it breaks none
+        self.unsealed
+            .join(number, CarriedEntry::relocation(entry, records));
+        self.number = number;
+        Ok(number)
+    }
+}
+
+// The records on a loader's last chunk, in order; none where it has no class.
+fn records_on_last(
+    alloc: Global,
+    book: &Book<Prepared>,
+    loader: u64,
+) -> Result<MovedRecords, AllocError>
+    ensures { IfOk result (λ moved. (c : Chunk)
+        → last_chunk loader (classes_in book.now.rows) ≡ Some c → moved ≡ kept_on c book.now.rows) }
+{
+    let Some(kept) = book.last_kept(loader) else {
+        return Ok(MovedRecords::none(alloc));
+    };
+    MovedRecords::new(alloc, share_all(alloc, kept)?)
+}
+
+// The records of what is kept, in the order of the rows, each shared once more.
+fn share_all(
+    alloc: Global,
+    kept: LastKept<'_, Prepared>,
+) -> Result<Vec<Arc<Record, Global>>, AllocError>
+    ensures { IfOk result (λ shared. map arc_value shared.items ≡ kept.entry) }
+{
+    let mut left = kept;
+    let mut shared = Vec::new(alloc);
+    while let Some(class) = left.next() {
+        shared.push(class.record().clone()?)?;
+    }
+    shared.reverse();
+    Ok(shared)
+}
+
+fn move_entry(loader: u64, moved: Moved) -> Move
+    ensures { result ≡ record { loader = loader; from = moved.from; to = moved.to } }
+{
+    Move {
+        loader,
+        from: moved.from,
+        to: moved.to,
     }
 }
 

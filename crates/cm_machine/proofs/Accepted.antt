@@ -10,14 +10,15 @@ use Rattle.std.specs.Option.{option_map_or}
 use Rattle.std.proofs.lemmas.List.{length-append}
 use Rattle.cm_pool.specs.declared.chunk.Chunk.{Chunk}
 use Rattle.cm_pool.specs.Chunks.{same_chunk}
-use Rattle.cm_pool.specs.FreeSpace.{FreeSpace, IsUsedChunk}
+use Rattle.cm_pool.specs.FreeSpace.{FreeSpace, IsUsedChunk, without}
 use Rattle.cm_pool.specs.Lists.{Among}
 use Rattle.cm_pool.specs.SpaceLaws.{TakenIsHeld, RootsKeepHeld}
-use Rattle.cm_arena.specs.Chains.{Filled, last_of}
+use Rattle.cm_arena.specs.Chains.{Filled, chunks_of, last_of}
 use Rattle.cm_arena.specs.Placing.{Fetches, order_wanted}
 use Rattle.cm_layout.specs.declared.class_row.ClassRow.{ClassRow}
 use Rattle.cm_layout.specs.declared.row.Row.TheVariants.{Loader, Class}
 use Rattle.cm_layout.specs.declared.entry.Entry.{Entry}
+use Rattle.cm_layout.specs.declared.relocation.Move.{Move}
 use Rattle.cm_layout.specs.declared.entry.Entry.TheVariants as entry
 use Rattle.cm_layout.specs.Rows.{rows_after, bare, classes_in, last_chunk, used_words}
 use Rattle.cm_layout.specs.Rules.{is_last_chunk, is_unused}
@@ -34,7 +35,7 @@ use Rattle.cm_front.specs.Chains.{chain_of}
 use Rattle.cm_front.specs.Laws.{ChainsEndAtTop, ChainsHaveChunks}
 use Rattle.cm_front.specs.Front.{FrontState, IsFront}
 use Rattle.cm_front.specs.Accepting.{Accepts, SpaceAfter, accepted, carried, joined_by}
-use Rattle.cm_front.proofs.{some-top, fetched_free}
+use Rattle.cm_front.proofs.{some-top, fetched_free, free-apart}
 use Rattle.cm_machine.specs.Ahead.{AllFollow, AtEach, AllApart, AreUsed, UseNoneDue}
 use Rattle.cm_machine.specs.Ahead.{pending, IsAhead}
 use Rattle.cm_machine.specs.Handover.{AcceptedIsAhead}
@@ -42,21 +43,20 @@ use Rattle.cm_machine.proofs.Following.{WordRows, rows_after_two, follow_two, at
 use Rattle.cm_machine.proofs.Following.{at_each_also}
 use Rattle.cm_machine.proofs.Following.{apart_one_more}
 use Rattle.cm_machine.proofs.Tops.{GoesOnTop, tops_apart, or_left, used_in}
-use Rattle.cm_machine.proofs.Used.{front_uses, front_due, used_fetched}
+use Rattle.cm_machine.proofs.Used.{front_uses, front_due, used_fetched, used_without}
 
 -- ---- the entry that waits
 
-pub filled_again : (e : Entry (List ℕ)) → filled (carried e) ≡ e
-filled_again e = refl
+pub filled_again : (rows : WordRows) (e : Entry (List ℕ)) → filled (carried rows e) ≡ e
+filled_again rows e = refl
 
--- a move isn't accepted
-has_records : (s : FrontState) (rows : WordRows) (e : Entry (List ℕ)) (new : SpaceState)
-    → MayFollow words_show s.sizes s.number s.rows e → SpaceAfter s e new
-    → HasRecords rows (carried e).entry (carried e).moved
-has_records s rows (entry.Live (Loader r)) new may after = (tt, refl)
-has_records s rows (entry.Live (Class r words)) new may after = (may.new.1, refl)
-has_records s rows (entry.Unload e) new may after = (tt, refl)
-has_records s rows (entry.Move e) new may after = absurd after
+has_records : (s : FrontState) (e : Entry (List ℕ))
+    → MayFollow words_show s.sizes s.number s.rows e
+    → HasRecords s.rows (carried s.rows e).entry (carried s.rows e).moved
+has_records s (entry.Live (Loader r)) may = (tt, refl)
+has_records s (entry.Live (Class r words)) may = (may.new.1, refl)
+has_records s (entry.Unload e) may = (tt, refl)
+has_records s (entry.Move e) may = (tt, refl)
 
 joined_last : (n : ℕ) (groups : List Handed) (c : Carried)
     → flat_map (λ (g : Handed). g.entries) (joined_by n groups c)
@@ -78,10 +78,12 @@ joined_last n (g ∷ h ∷ groups) c =
     ∙ sym (append_assoc g.entries (flat_map (λ (k : Handed). k.entries) (h ∷ groups)) (c ∷ []))
 
 pub pending_accepted : (out : List Carried) (s : FrontState) (e : Entry (List ℕ))
-    (space : SpaceState) → pending out (accepted s e space) ≡ pending out s ++ carried e ∷ []
+    (space : SpaceState)
+    → pending out (accepted s e space) ≡ pending out s ++ carried s.rows e ∷ []
 pending_accepted out s e space =
-    ap (λ l. out ++ l) (joined_last (s.number + 1) s.unsealed (carried e))
-    ∙ sym (append_assoc out (flat_map (λ (g : Handed). g.entries) s.unsealed) (carried e ∷ []))
+    ap (λ l. out ++ l) (joined_last (s.number + 1) s.unsealed (carried s.rows e))
+    ∙ sym (append_assoc out (flat_map (λ (g : Handed). g.entries) s.unsealed)
+    (carried s.rows e ∷ []))
 
 -- ---- where a class goes
 
@@ -123,6 +125,11 @@ fetched_each roots s r words new wanted need f fetches at used =
 
 -- ---- what an entry's space keeps
 
+-- the pool that a move leaves
+left_pool : (s : FrontState) (e : Move) (new : SpaceState) → SpaceAfter s (entry.Move e) new
+    → new.pool ≡ without s.space.pool e.to
+left_pool s e new after = ap (λ (t : SpaceState). t.pool) after.after ∙ after.tightens.left_is
+
 -- words that weren't free aren't free after it
 used_kept : TakenIsHeld → RootsKeepHeld → (s : FrontState) (e : Entry (List ℕ)) (new : SpaceState)
     → SpaceAfter s e new → (d : Chunk) → IsUsedChunk s.space.pool d → IsUsedChunk new.pool d
@@ -138,7 +145,9 @@ used_kept held roots s (entry.Live (Class r words)) new after d used =
     ]
 used_kept held roots s (entry.Unload e) new after d used =
     subst (λ (t : SpaceState). IsUsedChunk t.pool d) (sym after) used
-used_kept held roots s (entry.Move e) new after d used = absurd after
+used_kept held roots s (entry.Move e) new after d used =
+    subst (λ p. IsUsedChunk p d) (sym (left_pool s e new after))
+    (used_without held s.space.pool e.to d after.tightens.may.first.free used)
 
 among_last : (ws : List Waits) (v w : Waits) → Among w (ws ++ v ∷ []) → Among w ws ⊎ (w ≡ v)
 among_last [] v w (inl e) = inr e
@@ -146,6 +155,18 @@ among_last [] v w (inr none) = absurd none
 among_last (x ∷ ws) v w (inl e) = inl (inl e)
 among_last (x ∷ ws) v w (inr rest) =
     elim (among_last ws v w rest) [ inl old ↦ inl (inr old) | inr e ↦ inr e ]
+
+-- what is left with the next number waits for none that earlier rows have
+one_later : (number : ℕ) (waiting : List Waits) (chunks : List Chunk) (k : ℕ) (at : WordRows)
+    → k ≤ number → UseNoneDue waiting k at
+    → UseNoneDue (waiting ++ record { number = number + 1; chunks = chunks } ∷ []) k at
+one_later number waiting chunks k at to none w c among small in_w r in_rows =
+    elim (among_last waiting _ w among) [
+      | inl old ↦ none w c old small in_w r in_rows
+      | inr is ↦
+          let later : w.number ≡ number + 1 = ap (λ (v : Waits). v.number) is in
+          absurd (omega (arith, later, small, to))
+    ]
 
 -- what waits, waits for no number that earlier rows have, but for what waited before
 due_kept : (s : FrontState) (e : Entry (List ℕ)) (new : SpaceState) → SpaceAfter s e new → (k : ℕ)
@@ -157,13 +178,10 @@ due_kept s (entry.Live (Class r words)) new after k at to none =
     none
 due_kept s (entry.Unload e) new after k at to none =
     subst (λ (t : SpaceState). UseNoneDue t.waiting k at) (sym after)
-    (λ w c among small in_w r in_rows. elim (among_last s.space.waiting _ w among) [
-      | inl old ↦ none w c old small in_w r in_rows
-      | inr is ↦
-          let number : w.number ≡ s.number + 1 = ap (λ (v : Waits). v.number) is in
-          absurd (omega (arith, number, small, to))
-    ])
-due_kept s (entry.Move e) new after k at to none = absurd after
+    (one_later s.number s.space.waiting (chunks_of (arena_of s.space e.loader)) k at to none)
+due_kept s (entry.Move e) new after k at to none =
+    subst (λ (t : SpaceState). UseNoneDue t.waiting k at) (sym after.after)
+    (one_later s.number s.space.waiting (e.from ∷ []) k at to none)
 
 -- ---- apart from all rows before
 
@@ -185,7 +203,7 @@ pub record Known : Type 0 where
 entry_apart : Known → (rows : WordRows) (number : ℕ) (out : List Carried) (s : FrontState)
     (e : Entry (List ℕ)) (new : SpaceState) → IsFront s → IsAhead rows number out s
     → SpaceAfter s e new
-    → AtEach (λ k at. writes_apart at (carried e).entry ≡ true) number rows (pending out s)
+    → AtEach (λ k at. writes_apart at (carried s.rows e).entry ≡ true) number rows (pending out s)
 entry_apart known rows number out s (entry.Live (Loader r)) new f a after =
     at_all (λ n at. AreUsed s.space.pool at) (λ k at. true ≡ true) number rows (pending out s)
     (λ k at h. refl) a.used
@@ -206,7 +224,12 @@ entry_apart known rows number out s (entry.Live (Class r words)) new f a after =
 entry_apart known rows number out s (entry.Unload e) new f a after =
     at_all (λ n at. AreUsed s.space.pool at) (λ k at. true ≡ true) number rows (pending out s)
     (λ k at h. refl) a.used
-entry_apart known rows number out s (entry.Move e) new f a after = absurd after
+entry_apart known rows number out s (entry.Move e) new f a after =
+    at_all (λ n at. AreUsed s.space.pool at) (λ k at. is_unused e.to at ≡ true) number rows
+    (pending out s)
+    (λ k at h. apart-unused e.to (classes_in at) (λ d m.
+    free-apart s.space.pool e.to d.place.chunk after.tightens.may.first.free (h d m)))
+    a.used
 
 -- ---- one command more
 
@@ -219,25 +242,25 @@ accepted_ahead known rows number out s e space f g a may after = record {
   numbers =
       let is = a.numbers in
       let long = ap length longer in
-      let more = length-append before (carried e ∷ []) in
+      let more = length-append before (carried s.rows e ∷ []) in
       omega (arith, is, long, more);
   sealed = a.sealed;
   learnt = a.learnt;
   rows_are = ap (rows_after_group rows) longer ∙ last_rows;
   follow = subst (λ l. AllFollow s.sizes rows number l) (sym longer)
-      (follow_two s.sizes rows number before (carried e ∷ []) a.follow
+      (follow_two s.sizes rows number before (carried s.rows e ∷ []) a.follow
       (last_follows.0, last_follows.1, tt));
   apart = subst (λ l. AllApart rows l) (sym longer)
-      (apart_one_more number rows before (carried e) a.apart
+      (apart_one_more number rows before (carried s.rows e) a.apart
       (entry_apart known rows number out s e space f a after));
   used = subst (λ l. AtEach (λ n at. AreUsed space.pool at) number rows l) (sym longer)
-      (at_one_more (λ n at. AreUsed space.pool at) number rows before (carried e)
+      (at_one_more (λ n at. AreUsed space.pool at) number rows before (carried s.rows e)
       (at_all (λ n at. AreUsed s.space.pool at) (λ n at. AreUsed space.pool at) number rows before
       (λ k at h r m. used_kept known.held known.roots s e space after r.place.chunk (h r m)) a.used)
       (subst (λ l. AreUsed space.pool l) (sym next_rows) (front_uses known.chunks known.owned _
       g)));
   due = subst (λ l. AtEach (UseNoneDue space.waiting) number rows l) (sym longer)
-      (at_one_more (UseNoneDue space.waiting) number rows before (carried e)
+      (at_one_more (UseNoneDue space.waiting) number rows before (carried s.rows e)
       (at_each_also (UseNoneDue s.space.waiting) (UseNoneDue space.waiting) number rows before
       (λ k at from to h. due_kept s e space after k at (let is = a.numbers in omega (
         arith,
@@ -252,28 +275,31 @@ accepted_ahead known rows number out s e space f g a may after = record {
     before : List Carried
     before = pending out s
 
-    longer : pending out (accepted s e space) ≡ pending out s ++ carried e ∷ []
+    longer : pending out (accepted s e space) ≡ pending out s ++ carried s.rows e ∷ []
     longer = pending_accepted out s e space
 
-    next_rows : rows_after (rows_after_group rows (pending out s)) (filled (carried e))
+    next_rows : rows_after (rows_after_group rows (pending out s)) (filled (carried s.rows e))
         ≡ rows_after s.rows e
     next_rows =
-        ap (λ l. rows_after l (filled (carried e))) a.rows_are
-        ∙ ap (rows_after s.rows) (filled_again e)
+        ap (λ l. rows_after l (filled (carried s.rows e))) a.rows_are
+        ∙ ap (rows_after s.rows) (filled_again s.rows e)
 
-    last_rows : rows_after_group rows (pending out s ++ carried e ∷ []) ≡ rows_after s.rows e
-    last_rows = rows_after_two rows (pending out s) (carried e ∷ []) ∙ next_rows
+    last_rows : rows_after_group rows (pending out s ++ carried s.rows e ∷ []) ≡ rows_after s.rows e
+    last_rows = rows_after_two rows (pending out s) (carried s.rows e ∷ []) ∙ next_rows
 
     last_follows : MayFollow words_show s.sizes (number + length (pending out s))
-        (rows_after_group rows (pending out s)) (filled (carried e))
-        × HasRecords (rows_after_group rows (pending out s)) (carried e).entry (carried e).moved
+        (rows_after_group rows (pending out s)) (filled (carried s.rows e))
+        × HasRecords (rows_after_group rows (pending out s)) (carried s.rows e).entry
+        (carried s.rows e).moved
     last_follows = (
       subst (λ n. MayFollow words_show s.sizes n (rows_after_group rows (pending out s))
-          (filled (carried e))) (sym a.numbers)
-          (subst (λ l. MayFollow words_show s.sizes s.number l (filled (carried e))) (sym
+          (filled (carried s.rows e))) (sym a.numbers)
+          (subst (λ l. MayFollow words_show s.sizes s.number l (filled (carried s.rows e))) (sym
           a.rows_are)
-          (subst (λ d. MayFollow words_show s.sizes s.number s.rows d) (sym (filled_again e)) may)),
-      has_records s (rows_after_group rows (pending out s)) e space may after,
+          (subst (λ d. MayFollow words_show s.sizes s.number s.rows d)
+          (sym (filled_again s.rows e)) may)),
+      subst (λ l. HasRecords l (carried s.rows e).entry (carried s.rows e).moved) (sym a.rows_are)
+          (has_records s e may),
     )
 
 pub accepted_is_ahead : Known → AcceptedIsAhead

@@ -27,7 +27,8 @@ use Rattle.cm_state.specs.Entries.{AreCacheRows, MayFollow, change_of}
 use Rattle.cm_state.specs.Laws.{EntriesAreSteps, ChangesGoOn}
 use Rattle.cm_commit.specs.Offers.{filled}
 use Rattle.cm_front.specs.Front.{FrontState, IsFront, first_refusal}
-use Rattle.cm_front.specs.Accepting.{Accepts, IsFullFor, SpaceAfter, accepted, carried}
+use Rattle.cm_front.specs.Accepting.{Accepts, HasNoChunk, SpaceAfter, accepted, carried}
+use Rattle.cm_front.specs.Accepting.{refusal_of_chunk}
 use Rattle.cm_machine.specs.Ahead.{IsAhead, pending}
 use Rattle.cm_machine.proofs.Accepted.{filled_again, pending_accepted}
 use Rattle.cm_machine.specs.Machine.{Base, Machine, Holds, Asks, WantsRoom, commands_to}
@@ -117,7 +118,24 @@ entry_of s rows (entry.Unload u) space asked change are is after asks =
               (sym (name_words u.loader rows) ∙ (ap (name_of u.loader) are ∙ e))
               ∙ ap Some (sym (subst (λ a. Asks a change) same asks));
         }
-entry_of s rows (entry.Move m) space asked change are is after asks = absurd after
+entry_of s rows (entry.Move m) space asked change are is after asks =
+    by_name (name_of m.loader s.rows) refl is
+  where
+    by_name : (o : Option (List ℕ)) → name_of m.loader s.rows ≡ o
+        → ◌≡◌ {A = Option (Change (List ℕ))} (option_map Tighten o) (Some asked)
+        → IsEntryOf rows (entry.Move m) change
+    by_name None e h = absurd (cc)
+    by_name (Some x) e h =
+        let same : asked ≡ Tighten x = sym (some_is _ _ h) in
+        record {
+          with_class = entry.Move m;
+          words = refl;
+          right = tt;
+          makes =
+              ap (option_map Tighten)
+              (sym (name_words m.loader rows) ∙ (ap (name_of m.loader) are ∙ e))
+              ∙ ap Some (sym (subst (λ a. Asks a change) same asks));
+        }
 
 module _ (known : Known) (steps : EntriesAreSteps ClassFile) (on : ChangesGoOn) (k : Machine)
     (rows : List (Row (List ℕ))) (number : ℕ) (out : List Carried) (s new : FrontState)
@@ -201,8 +219,8 @@ module _ (known : Known) (steps : EntriesAreSteps ClassFile) (on : ChangesGoOn) 
   more : map filled (pending out (accepted s made.entry new.space)) ≡ waits ++ made.entry ∷ []
   more =
       ap (map filled) (pending_accepted out s made.entry new.space)
-      ∙ (map-append filled (pending out s) (carried made.entry ∷ [])
-      ∙ ap (λ d. waits ++ d ∷ []) (filled_again made.entry))
+      ∙ (map-append filled (pending out s) (carried s.rows made.entry ∷ [])
+      ∙ ap (λ d. waits ++ d ∷ []) (filled_again s.rows made.entry))
 
   goes_on : Follows s.sizes next rows number (waits ++ made.entry ∷ [])
   goes_on = record {
@@ -271,15 +289,23 @@ none_is (Ok m) h = (m, refl)
 -- why a command is refused against which no cause stands
 wants_room : (s : FrontState) (asked : Change (List ℕ)) (change : Change ClassFile) (r : Refusal)
     → Asks asked change
-    → ((r ≡ refusal.RegionFull) × IsFullFor s asked) ⊎ ((r ≡ refusal.NoMemory) × ¬ IsFullFor s
-    asked)
+    → ((r ≡ refusal_of_chunk asked) × HasNoChunk s asked)
+    ⊎ ((r ≡ refusal.NoMemory) × ¬ HasNoChunk s asked)
     → WantsRoom change r
-wants_room s (AddLoader x) change r asks (inl full) = absurd full.1
-wants_room s (Define x words) change r asks (inl full) =
-    subst (λ c. WantsRoom c r) (sym asks.3) (inl (full.0, tt))
-wants_room s (Unload x) change r asks (inl full) = absurd full.1
-wants_room s (Tighten x) change r asks (inl full) = absurd full.1
-wants_room s asked change r asks (inr memory) = inr memory.0
+wants_room s (AddLoader x) change r asks (inl none) = absurd none.1
+wants_room s (AddLoader x) change r asks (inr memory) =
+    subst (λ c. WantsRoom c r) (sym asks) memory.0
+wants_room s (Define x words) change r asks (inl none) =
+    subst (λ c. WantsRoom c r) (sym asks.3) (inl none.0)
+wants_room s (Define x words) change r asks (inr memory) =
+    subst (λ c. WantsRoom c r) (sym asks.3) (inr memory.0)
+wants_room s (Unload x) change r asks (inl none) = absurd none.1
+wants_room s (Unload x) change r asks (inr memory) =
+    subst (λ c. WantsRoom c r) (sym asks) memory.0
+wants_room s (Tighten x) change r asks (inl none) =
+    subst (λ c. WantsRoom c r) (sym asks) (inl none.0)
+wants_room s (Tighten x) change r asks (inr memory) =
+    subst (λ c. WantsRoom c r) (sym asks) (inr memory.0)
 
 module _ (known : Known) (sizes : Sizes) (n : ℕ) (classes : ClassRows) (s : FrontState)
     (asked : Change (List ℕ)) (change : Change ClassFile) (r : Refusal)
@@ -294,8 +320,8 @@ module _ (known : Known) (sizes : Sizes) (n : ℕ) (classes : ClassRows) (s : Fr
       ⊎ ((◌≡◌ {A = Option Refusal} (cond closed (Some refusal.Closed) (cond broken (Some
       refusal.Broken)
       (elim answer [ Err cause ↦ Some (refusal_of cause) | Ok m ↦ None ]))) None)
-      × (((r ≡ refusal.RegionFull) × IsFullFor s asked)
-      ⊎ ((r ≡ refusal.NoMemory) × ¬ IsFullFor s asked))))
+      × (((r ≡ refusal_of_chunk asked) × HasNoChunk s asked)
+      ⊎ ((r ≡ refusal.NoMemory) × ¬ HasNoChunk s asked))))
 
   abbrev Reason : Type 0
   Reason = IsMachineReason (step class_shows sizes (state_of class_shows classes) n change) change r

@@ -35,7 +35,7 @@ use Rattle.cm_state.specs.State.{words_show}
 use Rattle.cm_state.specs.Entries.{AreCacheRows, MayFollow}
 use Rattle.cm_state.specs.Laws.{EntriesAreSteps}
 use Rattle.cm_commit.specs.Offers.{filled, writes_apart, rows_after_group}
-use Rattle.cm_commit.proofs.{MoveKeeps, Stayed, last-before, keeps-move, turned}
+use Rattle.cm_commit.proofs.{MoveKeeps, last-before, keeps-move, turned}
 use Rattle.cm_front.proofs.{classes_left}
 use Rattle.cm_machine.specs.Ahead.{AllFollow, AtEach, AllApart}
 use Rattle.cm_machine.proofs.Following.{WordRows}

@@ -85,13 +85,13 @@ pub record Accepts (sizes : Sizes) (k : Machine) (change : Change ClassFile) (nu
   pub number_is : number ≡ accepted_to k + 1
   pub next_is : next ≡ record k { commands = k.commands ++ change ∷ [] }
 
--- a command may be refused for want of room against which no cause stands: in the region, in memory
+-- a command may be refused for want of room against which no cause stands: a class has no chunk in
+-- the region, a loader's last chunk has no better one, there is no memory
 abbrev pub WantsRoom : Change ClassFile → Refusal → Type 0
-WantsRoom change r = ((r ≡ refusal.RegionFull) × IsClass change) ⊎ (r ≡ refusal.NoMemory)
-  where
-    IsClass : Change ClassFile → Type 0
-    IsClass (Define x c) = Unit {0}
-    IsClass other = ⊥
+WantsRoom (AddLoader x) r = r ≡ refusal.NoMemory
+WantsRoom (Define x c) r = (r ≡ refusal.RegionFull) ⊎ (r ≡ refusal.NoMemory)
+WantsRoom (Unload x) r = r ≡ refusal.NoMemory
+WantsRoom (Tighten x) r = (r ≡ refusal.NoMove) ⊎ (r ≡ refusal.NoMemory)
 
 abbrev pub IsReason : Result CacheState Cause → Change ClassFile → Refusal → Type 0
 IsReason (Err cause) change r = r ≡ refusal_of cause

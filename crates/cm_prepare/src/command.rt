@@ -11,4 +11,7 @@ pub enum Command<'a> {
     Define(&'a [u8], Prepared),
     /// A loader goes, with all its classes.
     Unload(&'a [u8]),
+    /// The records on a loader's last chunk move to a smaller chunk, or to one that lies before it.
+    /// The loaders and classes stay as they are.
+    Tighten(&'a [u8]),
 }

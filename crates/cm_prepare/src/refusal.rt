@@ -33,7 +33,8 @@ pub enum Refusal {
     /// The journal has no room for what would live then.
     #[error("journal full")]
     JournalFull,
-    /// The loader's last chunk can't be moved to a better one. No command answers it yet.
+    /// The records on the loader's last chunk have no smaller chunk to move to, and none that lies
+    /// before it.
     #[error("no move")]
     NoMove,
     /// An allocation failed.

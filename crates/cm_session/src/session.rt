@@ -63,6 +63,7 @@ fn look_at(command: &Command<'_>)
             let _words = class.record().words();
         }
         Command::Unload(_) => {}
+        Command::Tighten(_) => {}
     }
 }
 
