@@ -10,8 +10,8 @@ use Rattle.std.proofs.lemmas.Bool.{lt-ltb, ltb-true, and_parts}
 use Rattle.std.proofs.lemmas.List.Elements.{All-nil, All-cons, All-from_recursion}
 use Rattle.std.proofs.lemmas.List.Splits.{join_with_byte-slice_split}
 use Rattle.std.proofs.lemmas.Slice.Eq.{bytes_eq-Decides}
-use Rattle.cm_lines.specs.Lines.{Asked, AsksLoader, AsksUnload, AsksDefine, AsksFind, pieces}
-use Rattle.cm_lines.specs.Lines.{without_empty_rest, lines_of, is_word, question_in}
+use Rattle.cm_lines.specs.Lines.{Asked, AsksLoader, AsksUnload, AsksTighten, AsksDefine, AsksFind}
+use Rattle.cm_lines.specs.Lines.{pieces, without_empty_rest, lines_of, is_word, question_in}
 use Rattle.cm_lines.specs.Lines.{question_of_words}
 use Rattle.cm_lines.specs.Laws.{put_together, LinesMakeScript, IsWord, AreWords, spelled}
 use Rattle.cm_lines.specs.Laws.{OneSpelling}
@@ -118,6 +118,17 @@ of_unload verb name line question joined clean h =
     subst (λ q. (line ≡ spelled q) × AreWords q) h.1
     (sym joined ∙ ap (λ v. v ++ 32 ∷ name) is, word name t.1 clean)
 
+of_tighten : (verb name line : List ℕ) (question : Asked) → verb ++ 32 ∷ name ≡ line
+    → All (λ b. b ≢ 32) name
+    → ((bytes_eq verb (codes "tighten") && is_word name) ≡ true) × (AsksTighten name ≡ question)
+    → IsSpelled line question
+unfolding IsSpelled
+of_tighten verb name line question joined clean h =
+    let t = and_parts (bytes_eq verb (codes "tighten")) (is_word name) h.0 in
+    let is = (bytes_eq-Decides verb (codes "tighten")).0 t.0 in
+    subst (λ q. (line ≡ spelled q) × AreWords q) h.1
+    (sym joined ∙ ap (λ v. v ++ 32 ∷ name) is, word name t.1 clean)
+
 of_define : (verb loader digits line : List ℕ) (question : Asked)
     → verb ++ (32 ∷ (loader ++ (32 ∷ digits))) ≡ line → All (λ b. b ≢ 32) loader
     → All (λ b. b ≢ 32) digits
@@ -148,9 +159,14 @@ of_find verb loader name line question joined clean clean' h =
       (word loader w.0 clean, word name w.1 clean'),
     )
 
+abbrev tightens : List ℕ → List ℕ → Option Asked
+tightens verb name =
+    cond (bytes_eq verb (codes "tighten") && is_word name) (Some (AsksTighten name)) None
+
 abbrev unloads : List ℕ → List ℕ → Option Asked
 unloads verb name =
-    cond (bytes_eq verb (codes "unload") && is_word name) (Some (AsksUnload name)) None
+    cond (bytes_eq verb (codes "unload") && is_word name) (Some (AsksUnload name))
+    (tightens verb name)
 
 abbrev finds : List ℕ → List ℕ → List ℕ → Option Asked
 finds verb loader name =
@@ -166,10 +182,18 @@ of_pieces (verb ∷ name ∷ []) line question joined clean e =
     first (chosen (bytes_eq verb (codes "loader") && is_word name) (AsksLoader name) question
     (unloads verb name) e)
   where
+    last : (((bytes_eq verb (codes "tighten") && is_word name) ≡ true)
+        × (AsksTighten name ≡ question)) ⊎ (None ≡ Some question) → IsSpelled line question
+    last (inl h) = of_tighten verb name line question joined clean.1.0 h
+    last (inr f) = absurd (cc)
+
     then : (((bytes_eq verb (codes "unload") && is_word name) ≡ true)
-        × (AsksUnload name ≡ question)) ⊎ (None ≡ Some question) → IsSpelled line question
+        × (AsksUnload name ≡ question)) ⊎ (tightens verb name ≡ Some question)
+        → IsSpelled line question
     then (inl h) = of_unload verb name line question joined clean.1.0 h
-    then (inr f) = absurd (cc)
+    then (inr f) =
+        last (chosen (bytes_eq verb (codes "tighten") && is_word name) (AsksTighten name) question
+        None f)
 
     first : (((bytes_eq verb (codes "loader") && is_word name) ≡ true)
         × (AsksLoader name ≡ question)) ⊎ (unloads verb name ≡ Some question)
@@ -177,7 +201,7 @@ of_pieces (verb ∷ name ∷ []) line question joined clean e =
     first (inl h) = of_loader verb name line question joined clean.1.0 h
     first (inr f) =
         then (chosen (bytes_eq verb (codes "unload") && is_word name) (AsksUnload name) question
-        None f)
+        (tightens verb name) f)
 of_pieces (verb ∷ name ∷ last ∷ []) line question joined clean e =
     first (chosen (bytes_eq verb (codes "define") && (is_word name && is_word last))
     (AsksDefine name last) question (finds verb name last) e)
@@ -206,6 +230,9 @@ asks (AsksLoader name) words =
 asks (AsksUnload name) words =
     ap (λ l. question_of_words (codes "unload" ∷ l)) (pieces_none 32 name words.1) ∙ ap
     (λ t. cond t (Some (AsksUnload name)) None) (is_some_word name words)
+asks (AsksTighten name) words =
+    ap (λ l. question_of_words (codes "tighten" ∷ l)) (pieces_none 32 name words.1) ∙ ap
+    (λ t. cond t (Some (AsksTighten name)) None) (is_some_word name words)
 asks (AsksDefine loader digits) words =
     ap (λ l. question_of_words (codes "define" ∷ l))
     (pieces_cut 32 (loader ++ 32 ∷ digits) loader digits refl words.0.1 ∙ ap (λ l. loader ∷ l)

@@ -2,8 +2,8 @@
 use Rattle.std.proofs.Common.{◌≡◌, [], ◌∷◌, ◌++◌, Some, None, refl}
 use Rattle.std.specs.Prelude.{codes}
 use Rattle.cm_lines.specs.Escapes.{escaped, unescaped}
-use Rattle.cm_lines.specs.Lines.{question_in, lines_of, AsksLoader, AsksUnload, AsksDefine}
-use Rattle.cm_lines.specs.Lines.{AsksFind}
+use Rattle.cm_lines.specs.Lines.{question_in, lines_of, AsksLoader, AsksUnload, AsksTighten}
+use Rattle.cm_lines.specs.Lines.{AsksDefine, AsksFind}
 
 -- ---- lines
 
@@ -12,6 +12,9 @@ asks_loader = refl
 
 asks_unload : question_in (codes "unload app") ≡ Some (AsksUnload (codes "app"))
 asks_unload = refl
+
+asks_tighten : question_in (codes "tighten app") ≡ Some (AsksTighten (codes "app"))
+asks_tighten = refl
 
 asks_define : question_in (codes "define app cafebabe")
     ≡ Some (AsksDefine (codes "app") (codes "cafebabe"))
@@ -34,6 +37,12 @@ unload_alone = refl
 
 unload_of_two : question_in (codes "unload a b") ≡ None
 unload_of_two = refl
+
+tighten_alone : question_in (codes "tighten") ≡ None
+tighten_alone = refl
+
+tighten_of_two : question_in (codes "tighten a b") ≡ None
+tighten_of_two = refl
 
 no_name : question_in (codes "loader ") ≡ None
 no_name = refl

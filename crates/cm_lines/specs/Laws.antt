@@ -3,8 +3,8 @@ use Rattle.std.specs.Prelude.{◌≡◌, ◌≢◌, ◌<◌, ◌⊎◌, ◌↔�
 use Rattle.std.specs.Prelude.{Some}
 use Rattle.std.specs.List.{All, flat_map}
 use Rattle.cm_lines.specs.Escapes.{escaped, unescaped, with_upper_digits}
-use Rattle.cm_lines.specs.Lines.{Asked, AsksLoader, AsksUnload, AsksDefine, AsksFind, question_in}
-use Rattle.cm_lines.specs.Lines.{lines_of}
+use Rattle.cm_lines.specs.Lines.{Asked, AsksLoader, AsksUnload, AsksTighten, AsksDefine, AsksFind}
+use Rattle.cm_lines.specs.Lines.{question_in, lines_of}
 
 -- ---- lines
 
@@ -27,12 +27,14 @@ IsWord text = (0 < length text) × All (λ b. b ≢ 32) text
 abbrev pub AreWords : Asked → Type 0
 AreWords (AsksLoader name) = IsWord name
 AreWords (AsksUnload name) = IsWord name
+AreWords (AsksTighten name) = IsWord name
 AreWords (AsksDefine loader digits) = IsWord loader × IsWord digits
 AreWords (AsksFind loader name) = IsWord loader × IsWord name
 
 abbrev pub spelled : Asked → List ℕ
 spelled (AsksLoader name) = codes "loader " ++ name
 spelled (AsksUnload name) = codes "unload " ++ name
+spelled (AsksTighten name) = codes "tighten " ++ name
 spelled (AsksDefine loader digits) = codes "define " ++ (loader ++ 32 ∷ digits)
 spelled (AsksFind loader name) = codes "find " ++ (loader ++ 32 ∷ name)
 

@@ -31,6 +31,7 @@ line_limit = 16777216
 pub data Asked : Type 0 where
   AsksLoader : List ℕ → Asked
   AsksUnload : List ℕ → Asked
+  AsksTighten : List ℕ → Asked
   AsksDefine : List ℕ → List ℕ → Asked
   AsksFind : List ℕ → List ℕ → Asked
 
@@ -44,6 +45,7 @@ question_of_words (verb ∷ []) = None
 question_of_words (verb ∷ name ∷ []) =
     if bytes_eq verb (codes "loader") && is_word name then Some (AsksLoader name)
     else if bytes_eq verb (codes "unload") && is_word name then Some (AsksUnload name)
+    else if bytes_eq verb (codes "tighten") && is_word name then Some (AsksTighten name)
     else None
 question_of_words (verb ∷ name ∷ last ∷ []) =
     if bytes_eq verb (codes "define") && (is_word name && is_word last)
@@ -65,5 +67,6 @@ asked_by line = if nat_lt line_limit (length line) then None else question_in li
 abbrev pub seen : Line → Asked
 seen (line.Loader name) = AsksLoader name.now
 seen (line.Unload name) = AsksUnload name.now
+seen (line.Tighten name) = AsksTighten name.now
 seen (line.Define loader digits) = AsksDefine loader.now digits.now
 seen (line.Find loader class) = AsksFind loader.now class.now

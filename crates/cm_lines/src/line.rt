@@ -13,6 +13,8 @@ pub enum Line<'a> {
     Loader(&'a [u8]),
     /// `unload NAME`
     Unload(&'a [u8]),
+    /// `tighten NAME`
+    Tighten(&'a [u8]),
     /// `define NAME HEX`
     Define(&'a [u8], &'a [u8]),
     /// `find NAME CLASS`
@@ -43,6 +45,8 @@ fn of_one_name<'a>(verb: &[u8], name: &'a [u8]) -> Option<Line<'a>>
         Some(Line::Loader(name))
     } else if verb == b"unload".as_slice() {
         Some(Line::Unload(name))
+    } else if verb == b"tighten".as_slice() {
+        Some(Line::Tighten(name))
     } else {
         None
     }
