@@ -22,6 +22,7 @@ command_asked : (asked : Option Asked) (c : Command) → IsCommand asked c → i
 command_asked asked (command.AddLoader name) h = ap is_some h
 command_asked asked (command.Define loader class) h = ap is_some h.asked_is
 command_asked asked (command.Unload name) h = ap is_some h
+command_asked asked (command.Tighten name) h = ap is_some h
 
 event_asked : (asked : Option Asked) (e : Event) → IsEvent asked e → is_some asked ≡ true
 event_asked asked (event.Accept c) h = command_asked asked c h

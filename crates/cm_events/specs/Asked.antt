@@ -18,6 +18,7 @@ pub data Asked : Type 0 where
   -- in a loader, a class of these bytes
   AsksDefine : List ℕ → List ℕ → Asked
   AsksUnload : List ℕ → Asked
+  AsksTighten : List ℕ → Asked
   AsksSeal : Asked
   AsksAdvance : Asked
   AsksTrim : Asked
@@ -57,6 +58,7 @@ abbrev pub asked_of_one : List ℕ → List ℕ → Option Asked
 asked_of_one verb word =
     if bytes_eq verb (codes "loader") && is_word word then Some (AsksLoader word)
     else if bytes_eq verb (codes "unload") && is_word word then Some (AsksUnload word)
+    else if bytes_eq verb (codes "tighten") && is_word word then Some (AsksTighten word)
     else if bytes_eq verb (codes "fault") then option_map AsksFault (number_in word)
     else None
 
@@ -89,6 +91,7 @@ abbrev pub seen : EventLine → Option Asked
 seen (line.Loader name) = Some (AsksLoader name.now)
 seen (line.Define loader digits) = define_of loader.now digits.now
 seen (line.Unload name) = Some (AsksUnload name.now)
+seen (line.Tighten name) = Some (AsksTighten name.now)
 seen line.Seal = Some AsksSeal
 seen line.Advance = Some AsksAdvance
 seen line.Trim = Some AsksTrim

@@ -18,9 +18,9 @@ use Rattle.cm_events.specs.declared.simulation.Turn.TheVariants as turn
 use Rattle.cm_events.specs.declared.simulation.Simulation.{Simulation}
 use Rattle.cm_events.specs.declared.fault.SimulationFault.{SimulationFault}
 use Rattle.cm_events.specs.declared.fault.SimulationFault.TheVariants as fault
-use Rattle.cm_events.specs.Asked.{Asked, AsksLoader, AsksDefine, AsksUnload, AsksSeal, AsksAdvance}
-use Rattle.cm_events.specs.Asked.{AsksTrim, AsksLearn, AsksLook, AsksFault, AsksReopen, AsksCrash}
-use Rattle.cm_events.specs.Asked.{event_of_line, geometry_of_line}
+use Rattle.cm_events.specs.Asked.{Asked, AsksLoader, AsksDefine, AsksUnload, AsksTighten, AsksSeal}
+use Rattle.cm_events.specs.Asked.{AsksAdvance, AsksTrim, AsksLearn, AsksLook, AsksFault}
+use Rattle.cm_events.specs.Asked.{AsksReopen, AsksCrash, event_of_line, geometry_of_line}
 
 -- ---- one line
 
@@ -37,6 +37,7 @@ abbrev pub IsCommand : Option Asked → Command → Type 0
 IsCommand asked (command.AddLoader name) = asked ≡ Some (AsksLoader name.now)
 IsCommand asked (command.Define loader class) = IsDefinition asked loader.now class
 IsCommand asked (command.Unload name) = asked ≡ Some (AsksUnload name.now)
+IsCommand asked (command.Tighten name) = asked ≡ Some (AsksTighten name.now)
 
 -- the event is what is asked for
 abbrev pub IsEvent : Option Asked → Event → Type 0

@@ -19,6 +19,8 @@ pub(crate) enum EventLine<'a> {
     Define(&'a [u8], &'a [u8]),
     /// `unload NAME`
     Unload(&'a [u8]),
+    /// `tighten NAME`
+    Tighten(&'a [u8]),
     /// `seal`
     Seal,
     /// `advance`
@@ -102,6 +104,8 @@ fn with_one<'a>(verb: &[u8], word: &'a [u8]) -> Option<EventLine<'a>>
         Some(EventLine::Loader(word))
     } else if verb == b"unload".as_slice() && !word.is_empty() {
         Some(EventLine::Unload(word))
+    } else if verb == b"tighten".as_slice() && !word.is_empty() {
+        Some(EventLine::Tighten(word))
     } else if verb == b"fault".as_slice() {
         fault(word)
     } else {

@@ -49,6 +49,7 @@ fn make_of<'a>(alloc: Global, line: EventLine<'a>) -> Result<Made<'a>, EventFaul
         EventLine::Loader(name) => Ok(Made::Runs(Event::Accept(Command::AddLoader(name)))),
         EventLine::Define(loader, digits) => define(alloc, loader, digits),
         EventLine::Unload(name) => Ok(Made::Runs(Event::Accept(Command::Unload(name)))),
+        EventLine::Tighten(name) => Ok(Made::Runs(Event::Accept(Command::Tighten(name)))),
         EventLine::Seal => Ok(Made::Runs(Event::Seal)),
         EventLine::Advance => Ok(Made::Runs(Event::Advance)),
         EventLine::Trim => Ok(Made::Runs(Event::Trim)),
