@@ -88,10 +88,10 @@ fresh_is_tied base s f = record {
 -- what was accepted is all that waits
 one_waits : (s between : FrontState) (change : Change (List ℕ)) (n : ℕ) → s.unsealed ≡ []
     → (a : Accepts s change n between)
-    → between.unsealed ≡ begun_by (s.number + 1) (carried a.entry) ∷ []
+    → between.unsealed ≡ begun_by (s.number + 1) (carried s.rows a.entry) ∷ []
 one_waits s between change n none a =
     ap (λ (f : FrontState). f.unsealed) a.after
-    ∙ ap (λ l. joined_by (s.number + 1) l (carried a.entry)) none
+    ∙ ap (λ l. joined_by (s.number + 1) l (carried s.rows a.entry)) none
 
 pub some_waits : (s between : FrontState) (change : Change (List ℕ)) (n : ℕ) → s.unsealed ≡ []
     → Accepts s change n between → between.unsealed ≡ [] → ⊥
@@ -104,7 +104,7 @@ module _ (base : Base) (h : HandingState) (change : Change (List ℕ)) (n : ℕ)
   accepts : Accepts h.front change n o.between
   accepts = o.answers.2
 
-  oldest_is : o.hands.oldest ≡ begun_by (h.front.number + 1) (carried accepts.entry)
+  oldest_is : o.hands.oldest ≡ begun_by (h.front.number + 1) (carried h.front.rows accepts.entry)
   oldest_is =
       let one = one_waits h.front o.between change n t.all_sent accepts in
       let is = o.hands.is_oldest in
@@ -116,7 +116,7 @@ module _ (base : Base) (h : HandingState) (change : Change (List ℕ)) (n : ℕ)
       let is = o.hands.is_oldest in
       cc
 
-  entries_are : group.entries ≡ carried accepts.entry ∷ []
+  entries_are : group.entries ≡ carried h.front.rows accepts.entry ∷ []
   entries_are =
       ap (λ (g : Handed). g.entries) o.hands.group_is
       ∙ ap (λ (g : Handed). g.entries) oldest_is
@@ -176,11 +176,11 @@ module _ (base : Base) (h : HandingState) (change : Change (List ℕ)) (n : ℕ)
   pub hands_over : HandsOver base h.sent change n (h.sent ++ Group group ∷ [])
   hands_over = record {
     group = group;
-    entry = carried accepts.entry;
+    entry = carried h.front.rows accepts.entry;
     one = entries_are;
     new_is = refl;
     change_is =
-        ap (change_of (rows_sent base h.sent)) (filled_again accepts.entry)
+        ap (change_of (rows_sent base h.sent)) (filled_again h.front.rows accepts.entry)
         ∙ ap (λ rows. change_of rows accepts.entry) (sym (rows_tied base h t))
         ∙ accepts.change_is;
     number_is = accepts.number ∙ ap (λ k. k + 1) (number_tied base h t);

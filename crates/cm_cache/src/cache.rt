@@ -5,7 +5,7 @@ ghost use Rattle.std.specs.List.{All, sum_by};
 ghost use Rattle.std.specs.Arc.{arc_value};
 ghost use Rattle.cm_record.specs.Names.{class_name_in};
 ghost use Rattle.cm_group.specs.Groups.{IsRightRecord};
-ghost use Rattle.cm_state.specs.Step.{AddLoader, Define, Unload};
+ghost use Rattle.cm_state.specs.Step.{AddLoader, Define, Unload, Tighten};
 ghost use Rattle.cm_prepare.specs.Commands.{change_asked};
 ghost use Rattle.cm_prepare.specs.declared.refusal.Refusal.TheVariants as refusal;
 ghost use Rattle.cm_cache.specs.Shared.{PassState, Tells, most_passes};
@@ -136,6 +136,14 @@ impl<K: Naming> Cache<K> {
         ensures { Tells pass.old (Unload name.now) result pass.new }
     {
         self.change(rt, pass, Command::Unload(name))
+    }
+
+    /// Moves the records on the last chunk of the loader of this name to a smaller chunk, or to one
+    /// that lies before it; what is found stays. `NoMove` where there is no such chunk.
+    pub fn tighten<R: Wait>(&self, rt: &R, pass: &mut Pass<K>, name: &[u8]) -> Result<u64, Refusal>
+        ensures { Tells pass.old (Tighten name.now) result pass.new }
+    {
+        self.change(rt, pass, Command::Tighten(name))
     }
 
     fn change<R: Wait>(
