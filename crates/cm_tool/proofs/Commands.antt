@@ -13,7 +13,7 @@ use Rattle.cm_guards.specs.Calls.{LeavesOnly}
 use Rattle.cm_record.specs.Layout.{lay, limit, IsRecord, IsRecordOf}
 use Rattle.cm_record.specs.Names.{class_name_of, class_name_in}
 use Rattle.cm_rules.specs.Answer.{IsRight}
-use Rattle.cm_state.specs.Step.{Change, AddLoader, Define, Unload}
+use Rattle.cm_state.specs.Step.{Change, AddLoader, Define, Unload, Tighten}
 use Rattle.cm_prepare.specs.declared.refusal.Refusal.{Refusal}
 use Rattle.cm_prepare.specs.declared.refusal.Refusal.TheVariants as refusal
 use Rattle.cm_prepare.specs.Prepare.{IsUnprepared}
@@ -25,7 +25,7 @@ use Rattle.cm_session.specs.declared.storing.NotStored.TheVariants.{Refused, NoM
 use Rattle.cm_session.specs.Moves.{GoesWith}
 use Rattle.cm_session.specs.Storing.{Storing, Stores, FailsOnly, MakesNoCall}
 use Rattle.cm_lines.specs.Escapes.{unescaped}
-use Rattle.cm_lines.specs.Lines.{Asked, AsksLoader, AsksUnload, AsksDefine, AsksFind}
+use Rattle.cm_lines.specs.Lines.{Asked, AsksLoader, AsksUnload, AsksTighten, AsksDefine, AsksFind}
 use Rattle.cm_tool.specs.declared.reply.Reply.{Reply}
 use Rattle.cm_tool.specs.Texts.{ReplyText, number_reply, defined_reply, none_reply, class_reply}
 use Rattle.cm_tool.specs.Texts.{refusal_reply, unsure_reply, bad_line_reply}
@@ -73,6 +73,14 @@ loader_fits sizes name = record {
 pub unload_fits : (sizes : Sizes) (name : List ℕ)
     → Fits sizes (Some (AsksUnload name)) number_reply (Unload name)
 unload_fits sizes name = record {
+  answers = λ change asks old given new h.
+      subst (λ (d : Change ClassFile). AnswersCommand sizes d number_reply old given new) asks h;
+  change_of = λ change asks. asks;
+}
+
+pub tighten_fits : (sizes : Sizes) (name : List ℕ)
+    → Fits sizes (Some (AsksTighten name)) number_reply (Tighten name)
+tighten_fits sizes name = record {
   answers = λ change asks old given new h.
       subst (λ (d : Change ClassFile). AnswersCommand sizes d number_reply old given new) asks h;
   change_of = λ change asks. asks;

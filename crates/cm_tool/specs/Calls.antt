@@ -5,12 +5,12 @@ use Rattle.hex.specs.declared.error.FromHexError.{FromHexError}
 use Rattle.cm_class.specs.declared.class_file.ClassFile.{ClassFile}
 use Rattle.cm_record.specs.Layout.{IsRecordOf}
 use Rattle.cm_record.specs.Names.{class_name_in}
-use Rattle.cm_state.specs.Step.{Change, AddLoader, Define, Unload}
+use Rattle.cm_state.specs.Step.{Change, AddLoader, Define, Unload, Tighten}
 use Rattle.cm_prepare.specs.declared.refusal.Refusal.{Refusal}
 use Rattle.cm_prepare.specs.Prepare.{IsUnprepared}
 use Rattle.cm_cache.specs.Shared.{PassState, Tells}
 use Rattle.cm_lines.specs.Escapes.{unescaped}
-use Rattle.cm_lines.specs.Lines.{Asked, AsksLoader, AsksUnload, AsksDefine, AsksFind}
+use Rattle.cm_lines.specs.Lines.{Asked, AsksLoader, AsksUnload, AsksTighten, AsksDefine, AsksFind}
 use Rattle.cm_tool.specs.Texts.{ReplyText, number_reply, defined_reply, none_reply, class_reply}
 use Rattle.cm_tool.specs.Texts.{refusal_reply, bad_line_reply}
 use Rattle.cm_tool.specs.Ahead.{AreWordsOf}
@@ -59,6 +59,8 @@ RepliesToAsked (Some (AsksLoader name)) old given new =
     RepliesTo (AddLoader name) number_reply old given new
 RepliesToAsked (Some (AsksUnload name)) old given new =
     RepliesTo (Unload name) number_reply old given new
+RepliesToAsked (Some (AsksTighten name)) old given new =
+    RepliesTo (Tighten name) number_reply old given new
 RepliesToAsked (Some (AsksDefine loader digits)) old given new =
     RepliesToDefine loader (decode_of digits) old given new
 RepliesToAsked (Some (AsksFind loader name)) old given new =

@@ -9,7 +9,8 @@ ghost use Rattle.cm_record.specs.Layout.{lay};
 ghost use Rattle.cm_rules.specs.Answer.{IsRight};
 ghost use Rattle.cm_machine.specs.Machine.{Machine};
 ghost use Rattle.cm_session.specs.Moves.{GoesWith};
-ghost use Rattle.cm_lines.specs.Lines.{seen, AsksLoader, AsksUnload, AsksDefine, AsksFind};
+ghost use Rattle.cm_lines.specs.Lines.{seen, AsksLoader, AsksUnload, AsksTighten, AsksDefine};
+ghost use Rattle.cm_lines.specs.Lines.{AsksFind};
 ghost use Rattle.cm_tool.specs.Texts.{number_reply, defined_reply};
 ghost use Rattle.cm_tool.specs.Answers.{served};
 ghost use Rattle.cm_tool.specs.Serving.{IsReady, LedTo, MayGoOn, Replies, Tells, TellsNotStored};
@@ -58,6 +59,7 @@ fn answer_question<D: Disk>(
     match question {
         Line::Loader(name) => add_loader(alloc, session, name),
         Line::Unload(name) => unload(alloc, session, name),
+        Line::Tighten(name) => tighten(alloc, session, name),
         Line::Define(loader, digits) => define(alloc, session, loader, digits),
         Line::Find(loader, class) => find(alloc, session, loader, class),
     }
@@ -92,6 +94,22 @@ fn unload<D: Disk>(
     ensures sizes { session.new.committer.sizes ≡ session.old.committer.sizes }
 {
     let stored = session.store(Command::Unload(name));
+    tell_number(alloc, stored)
+}
+
+fn tighten<D: Disk>(
+    alloc: Global,
+    session: &mut Session<D>,
+    name: &[u8],
+) -> Result<Reply, AllocError>
+    ensures machine { (k : Machine) → GoesWith k session.old → IsReady k
+        → LedTo (Replies session.old.committer.sizes (Some (AsksTighten name.now)) result
+        (served k (D.view.failures session.old.committer.disk)))
+        (D.view.failures session.new.committer.disk)
+        (MayGoOn D.view k session.old session.new) }
+    ensures sizes { session.new.committer.sizes ≡ session.old.committer.sizes }
+{
+    let stored = session.store(Command::Tighten(name));
     tell_number(alloc, stored)
 }
 

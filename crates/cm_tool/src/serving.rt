@@ -118,6 +118,7 @@ fn answer<K: Naming, T: Wait>(
     match line.question() {
         Some(Line::Loader(name)) => tell_number(alloc, cache.add_loader(rt, pass, name)),
         Some(Line::Unload(name)) => tell_number(alloc, cache.unload(rt, pass, name)),
+        Some(Line::Tighten(name)) => tell_number(alloc, cache.tighten(rt, pass, name)),
         Some(Line::Define(loader, digits)) => {
             define(
                 rt,

@@ -24,6 +24,16 @@ returns-in-Unload-clause-machine g c =
     (MayGoOn g.D.Disk.view k s c.unload.new.session))
     (sym (ap seen c.in-Unload.is)) (c.unload.ensures.machine k goes ready)
 
+pub returns-in-Tighten-clause-machine : goal.returns-in-Tighten-clause-machine
+returns-in-Tighten-clause-machine g c =
+    let s = c.args.session.now in
+    let failures = g.D.Disk.view.failures in
+    λ k goes ready.
+    subst (λ q. LedTo (Replies s.committer.sizes (Some q) c.tighten.result
+    (served k (failures s.committer.disk))) (failures c.tighten.new.session.committer.disk)
+    (MayGoOn g.D.Disk.view k s c.tighten.new.session))
+    (sym (ap seen c.in-Tighten.is)) (c.tighten.ensures.machine k goes ready)
+
 pub returns-in-Define-clause-machine : goal.returns-in-Define-clause-machine
 returns-in-Define-clause-machine g c =
     let s = c.args.session.now in

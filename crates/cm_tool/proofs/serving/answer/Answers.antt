@@ -1,6 +1,7 @@
 use Rattle.std.proofs.Common.{◌∙◌, Some, None, ap, sym}
-use Rattle.cm_state.specs.Step.{AddLoader, Unload}
-use Rattle.cm_lines.specs.Lines.{asked_by, AsksLoader, AsksUnload, AsksDefine, AsksFind}
+use Rattle.cm_state.specs.Step.{AddLoader, Unload, Tighten}
+use Rattle.cm_lines.specs.Lines.{asked_by, AsksLoader, AsksUnload, AsksTighten, AsksDefine}
+use Rattle.cm_lines.specs.Lines.{AsksFind}
 use Rattle.cm_tool.specs.Texts.{number_reply, bad_line_reply}
 use Rattle.cm_tool.proofs.Calls.{told, unasked, asks, asks_nothing, of_line}
 use Rattle.cm_tool.proofs.serving.answer.Goals as goal
@@ -26,6 +27,18 @@ returns-in-Some-Unload g c = λ text holds.
     (at.is ∙ ap Some at.field-0-is))
     (told (Unload name) number_reply c.args.pass.now c.unload.new.pass c.unload.result reply.result
     c.unload.ensures reply.ensures)
+
+pub returns-in-Some-Tighten : goal.returns-in-Some-Tighten
+returns-in-Some-Tighten g c = λ text holds.
+    let at = c.in-Some-Tighten in
+    let name = at.name.now in
+    let reply = c.tell_number-in-Some-Tighten in
+    of_line (asked_by text) (Some (AsksTighten name)) c.args.pass.now c.tighten.new.pass
+    reply.result
+    (asks c.question.result _ (asked_by text) (c.question.ensures text holds)
+    (at.is ∙ ap Some at.field-0-is))
+    (told (Tighten name) number_reply c.args.pass.now c.tighten.new.pass c.tighten.result
+    reply.result c.tighten.ensures reply.ensures)
 
 pub returns-in-Some-Define : goal.returns-in-Some-Define
 returns-in-Some-Define g c = λ text holds.
