@@ -1,8 +1,10 @@
 //! Calls of an accepted cache as values, so that a test is a table of calls and answers.
 
-use crate::fronts::{add_loader, define, unload, words};
+use crate::fronts::{add_loader, define, tighten, unload, words};
 use cm_front::Front;
 use cm_group::{Group, Receipt};
+use cm_layout::Entry;
+use cm_pool::Chunk;
 use cm_prepare::{Prepared, Refusal};
 
 /// A call. Loaders and classes have names of one letter; a class that is defined stands at a place
@@ -12,9 +14,11 @@ pub enum Call {
     AddLoader(u8),
     Define(u8, usize),
     Unload(u8),
+    Tighten(u8),
     Find(u8, u8),
     Seal,
     SealPlace,
+    SealMove,
     Learn(u64),
     Fail,
     Close,
@@ -31,6 +35,8 @@ pub enum Answer {
     Group(u64, usize, u64),
     /// The order of the chunk that the group's last entry names, and how many words it takes.
     Order(u32, u32),
+    /// The chunks from which and to which the group's last entry moves so many records.
+    Moved(Chunk, Chunk, usize),
     Done,
     Nothing,
 }
@@ -80,15 +86,26 @@ fn seal_place(front: &mut Front) -> Option<Answer> {
     order_of(&group)
 }
 
+fn seal_move(front: &mut Front) -> Option<Answer> {
+    let group = front.seal()?;
+    let last = group.entries().last()?;
+    match last.bare() {
+        Entry::Move(moves) => Some(Answer::Moved(moves.from, moves.to, last.moved().len())),
+        Entry::Live(_) | Entry::Unload(_) => None,
+    }
+}
+
 /// Makes the call.
 pub fn make(front: &mut Front, classes: &[Prepared], call: Call) -> Answer {
     match call {
         Call::AddLoader(loader) => answer_number(add_loader(front, &[loader])),
         Call::Define(loader, at) => define_at(front, loader, classes, at),
         Call::Unload(loader) => answer_number(unload(front, &[loader])),
+        Call::Tighten(loader) => answer_number(tighten(front, &[loader])),
         Call::Find(loader, class) => find(front, loader, class),
         Call::Seal => seal(front),
         Call::SealPlace => seal_place(front).unwrap_or(Answer::Nothing),
+        Call::SealMove => seal_move(front).unwrap_or(Answer::Nothing),
         Call::Learn(number) => learn(front, number),
         Call::Fail => {
             front.fail();

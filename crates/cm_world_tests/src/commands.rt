@@ -3,6 +3,7 @@
 use crate::calls::{Answer, Call, make};
 use crate::fronts::{add_loader, class, empty};
 use cm_front::Front;
+use cm_pool::Chunk;
 use cm_prepare::{Prepared, Refusal};
 use std::alloc::Global;
 use std::test::Fail;
@@ -91,6 +92,47 @@ fn a_left_chunk_waits_for_its_receipt(rt: HostRuntime) -> Result<(), Fail> {
     Ok(())
 }
 
+const FIRST: Chunk = Chunk {
+    root: 0,
+    order: 1,
+    at: 256,
+};
+
+const TIGHT: Chunk = Chunk {
+    root: 0,
+    order: 0,
+    at: 128,
+};
+
+/// The second class fills one block of 128 words, of the two in its loader's second chunk. The one
+/// root has eight, of which `b` has the upper half.
+const MOVED: [(Call, Answer); 17] = [
+    (Call::AddLoader(b'a'), Answer::Number(1)),
+    (Call::Tighten(b'a'), Answer::Refused(Refusal::NoMove)),
+    (Call::Define(b'a', 0), Answer::Number(2)),
+    (Call::Define(b'a', 1), Answer::Number(3)),
+    (Call::SealPlace, Answer::Order(1, 128)),
+    (Call::Tighten(b'a'), Answer::Number(4)),
+    (Call::Tighten(b'a'), Answer::Refused(Refusal::NoMove)),
+    (Call::Find(b'a', b'B'), Answer::Words(128)),
+    (Call::SealMove, Answer::Moved(FIRST, TIGHT, 1)),
+    (Call::AddLoader(b'b'), Answer::Number(5)),
+    (Call::Define(b'b', 2), Answer::Number(6)),
+    (Call::Define(b'b', 0), Answer::Refused(Refusal::RegionFull)),
+    (Call::Learn(3), Answer::Done),
+    (Call::Define(b'b', 0), Answer::Refused(Refusal::RegionFull)),
+    (Call::Learn(4), Answer::Done),
+    (Call::Define(b'b', 0), Answer::Number(7)),
+    (Call::SealPlace, Answer::Order(1, 20)),
+];
+
+#[test]
+fn a_chunk_that_a_move_leaves_waits_for_its_receipt(rt: HostRuntime) -> Result<(), Fail> {
+    let samples = [(b'A', 0), (b'B', 864), (b'C', 8 * (512 - 20))];
+    assert_eq!(rt; first_other(rt.alloc(), 1, &samples, &MOVED)?, None);
+    Ok(())
+}
+
 /// How many bytes an attribute has, how many words the record takes, and the order of its chunk.
 const CHUNKS: [(u32, u32, u32); 3] = [(864, 128, 0), (865, 129, 1), (8_032, 1_024, 3)];
 
@@ -160,22 +202,28 @@ fn what_is_defined_is_found(rt: HostRuntime) -> Result<(), Fail> {
     Ok(())
 }
 
-const REFUSALS: [(Call, Answer); 14] = [
+const REFUSALS: [(Call, Answer); 20] = [
     (Call::AddLoader(b' '), Answer::Refused(Refusal::BadName)),
+    (Call::Tighten(b' '), Answer::Refused(Refusal::BadName)),
+    (Call::Tighten(b'a'), Answer::Refused(Refusal::NoLoader)),
     (Call::Define(0x7F, 1), Answer::Refused(Refusal::BadName)),
     (Call::Define(b'a', 1), Answer::Refused(Refusal::NoLoader)),
     (Call::Unload(b'a'), Answer::Refused(Refusal::NoLoader)),
     (Call::AddLoader(b'a'), Answer::Number(1)),
+    (Call::Tighten(b'a'), Answer::Refused(Refusal::NoMove)),
     (
         Call::AddLoader(b'a'),
         Answer::Refused(Refusal::LoaderExists),
     ),
     (Call::Define(b'a', 0), Answer::Number(2)),
     (Call::Define(b'a', 1), Answer::Refused(Refusal::ClassExists)),
+    (Call::Tighten(b'a'), Answer::Refused(Refusal::NoMove)),
     (Call::Fail, Answer::Done),
     (Call::AddLoader(b' '), Answer::Refused(Refusal::Broken)),
+    (Call::Tighten(b' '), Answer::Refused(Refusal::Broken)),
     (Call::Close, Answer::Done),
     (Call::Unload(b'a'), Answer::Refused(Refusal::Closed)),
+    (Call::Tighten(b' '), Answer::Refused(Refusal::Closed)),
     (Call::Seal, Answer::Group(1, 2, 0)),
     (Call::Seal, Answer::Nothing),
 ];

@@ -1,6 +1,7 @@
 //! Events one after another, with what is replied to each.
 
 use crate::classes::{CLASS_A, class};
+use crate::fronts;
 use crate::small_files::bytes_of;
 use cm_disk::{Choice, SimDisk};
 use cm_pool::Geometry;
@@ -9,13 +10,15 @@ use cm_world::{Event, Reply, World};
 use std::alloc::Global;
 use std::test::*;
 
-/// An event: its loader is `a` where none is named, its class `A`; a crash leaves all bytes that
-/// were written.
+/// An event: its loader is `a` where none is named, its class `A`, or `B` of 128 words; a crash
+/// leaves all bytes that were written.
 #[derive(Clone, Copy)]
 pub enum Happens {
     Loader,
     Define,
+    DefineB,
     Unload,
+    Tighten,
     /// A loader of this name comes.
     Comes(&'static [u8]),
     /// It goes.
@@ -25,6 +28,7 @@ pub enum Happens {
     Trim,
     Learn,
     Look,
+    LookB,
     /// The next device call fails; a write stores so many bytes.
     Fault(usize),
     Reopen,
@@ -63,11 +67,26 @@ fn crash(fill: Vec<u8>) -> Event<'static> {
     Event::Crash(Choice { len: 1 << 20, fill })
 }
 
-fn event(alloc: Global, class: &Prepared, happens: Happens) -> Result<Event<'static>, Fail> {
+/// The classes that are defined.
+#[derive(Drop)]
+struct Classes {
+    a: Prepared,
+    b: Prepared,
+}
+
+fn make_classes(alloc: Global) -> Result<Classes, Fail> {
+    let a = class(alloc, CLASS_A)?;
+    let b = fronts::class(alloc, b'B', 864)?;
+    Ok(Classes { a, b })
+}
+
+fn event(alloc: Global, classes: &Classes, happens: Happens) -> Result<Event<'static>, Fail> {
     Ok(match happens {
         Happens::Loader => Event::Accept(Command::AddLoader(b"a")),
-        Happens::Define => Event::Accept(Command::Define(b"a", class.share()?)),
+        Happens::Define => Event::Accept(Command::Define(b"a", classes.a.share()?)),
+        Happens::DefineB => Event::Accept(Command::Define(b"a", classes.b.share()?)),
         Happens::Unload => Event::Accept(Command::Unload(b"a")),
+        Happens::Tighten => Event::Accept(Command::Tighten(b"a")),
         Happens::Comes(loader) => Event::Accept(Command::AddLoader(loader)),
         Happens::Goes(loader) => Event::Accept(Command::Unload(loader)),
         Happens::Seal => Event::Seal,
@@ -75,6 +94,7 @@ fn event(alloc: Global, class: &Prepared, happens: Happens) -> Result<Event<'sta
         Happens::Trim => Event::Trim,
         Happens::Learn => Event::Learn,
         Happens::Look => Event::Look(b"a", b"A"),
+        Happens::LookB => Event::Look(b"a", b"B"),
         Happens::Fault(stores) => Event::Fault(stores),
         Happens::Reopen => Event::Reopen,
         Happens::Crash => crash(Vec::new(alloc)),
@@ -111,20 +131,20 @@ pub type Exchange = (Happens, Told);
 
 fn push_events(
     alloc: Global,
-    class: &Prepared,
+    classes: &Classes,
     list: &[Exchange],
     events: &mut Vec<Event<'static>>,
 ) -> Result<(), Fail> {
     for (happens, _) in list {
-        events.push(event(alloc, class, *happens)?)?;
+        events.push(event(alloc, classes, *happens)?)?;
     }
     Ok(())
 }
 
 fn events(alloc: Global, list: &[Exchange]) -> Result<Vec<Event<'static>>, Fail> {
-    let class = class(alloc, CLASS_A)?;
+    let classes = make_classes(alloc)?;
     let mut events: Vec<Event<'static>> = Vec::new(alloc);
-    push_events(alloc, &class, list, &mut events)?;
+    push_events(alloc, &classes, list, &mut events)?;
     Ok(events)
 }
 

@@ -52,6 +52,13 @@ pub fn unload(front: &mut Front, name: &[u8]) -> Result<u64, Refusal> {
     }
 }
 
+pub fn tighten(front: &mut Front, name: &[u8]) -> Result<u64, Refusal> {
+    match front.accept(Command::Tighten(name)) {
+        Err(Refusal::NoMemory) => front.accept(Command::Tighten(name)),
+        answer => answer,
+    }
+}
+
 fn share(class: &Prepared) -> Result<Prepared, AllocError> {
     match class.share() {
         Ok(shared) => Ok(shared),

@@ -1,7 +1,7 @@
 //! Groups that are made by hand, of entries that are values, so that a test is a table of groups.
 
 use crate::fronts::class;
-use cm_group::{CarriedEntry, Group};
+use cm_group::{CarriedEntry, Group, MovedRecords};
 use cm_layout::{ClassRow, LoaderRow, Move, SlotName, Unload};
 use cm_pool::{Chunk, Place};
 use std::alloc::Global;
@@ -45,7 +45,7 @@ fn move_entry(alloc: Global, loader: u64, at: u32) -> Result<CarriedEntry, Fail>
         from: chunk(0, at),
         to: chunk(0, at.saturating_add(128)),
     };
-    Ok(CarriedEntry::relocation(alloc, entry, Vec::new(alloc))?)
+    Ok(CarriedEntry::relocation(entry, MovedRecords::none(alloc)))
 }
 
 fn entry_of(alloc: Global, sample: Sample) -> Result<CarriedEntry, Fail> {

@@ -22,6 +22,8 @@ mod list_calls;
 #[cfg(test)]
 mod lists;
 #[cfg(test)]
+mod moves;
+#[cfg(test)]
 mod offers;
 #[cfg(test)]
 mod random;

@@ -2,7 +2,7 @@
 //! caches after them.
 
 use crate::classes::class_of_parts;
-use crate::fronts::{add_loader, define, empty_of, unload};
+use crate::fronts::{add_loader, define, empty_of, tighten, unload};
 use cm_front::Front;
 use cm_pool::Geometry;
 use cm_prepare::Prepared;
@@ -15,6 +15,7 @@ pub enum Call {
     Loader(&'static [u8]),
     Define(&'static [u8], &'static [u8]),
     Unload(&'static [u8]),
+    Tighten(&'static [u8]),
 }
 
 /// A class whose record has 16 words where its name has up to eight bytes: what stands before the
@@ -36,6 +37,7 @@ fn accept(alloc: Global, front: &mut Front, call: Call) -> Result<bool, Fail> {
         Call::Loader(loader) => add_loader(front, loader),
         Call::Define(loader, name) => define(front, loader, &class(alloc, name)?),
         Call::Unload(loader) => unload(front, loader),
+        Call::Tighten(loader) => tighten(front, loader),
     };
     Ok(answer.is_ok())
 }

@@ -1,7 +1,7 @@
 //! What is listed of accepted caches.
 
 use crate::classes::push_parts;
-use crate::list_calls::Call::{Define, Loader, Unload};
+use crate::list_calls::Call::{Define, Loader, Tighten, Unload};
 use crate::list_calls::{Call, accept_all, small_front};
 use cm_front::Front;
 use cm_inspect::{ListedClass, ListedLoader, list_accepted};
@@ -11,7 +11,7 @@ use std::test::*;
 /// Commands, and what is listed then, as text: each loader's name in a line, and behind it each
 /// class with how many words its record has, its root, its chunk's first word there, and its
 /// offset.
-const CASES: [(&[Call], &[u8]); 8] = [
+const CASES: [(&[Call], &[u8]); 9] = [
     (&[], b""),
     (&[Loader(b"a")], b"a\n"),
     // the same class in two loaders, each with a chunk of its own
@@ -83,6 +83,24 @@ const CASES: [(&[Call], &[u8]); 8] = [
             Define(b"a", b"B"),
         ],
         b"a\n B 16 0 128 0\n",
+    ),
+    // eight classes fill a chunk; the ninth, in one of 256 words, moves to one of 128
+    (
+        &[
+            Loader(b"a"),
+            Define(b"a", b"A"),
+            Define(b"a", b"B"),
+            Define(b"a", b"C"),
+            Define(b"a", b"D"),
+            Define(b"a", b"E"),
+            Define(b"a", b"F"),
+            Define(b"a", b"G"),
+            Define(b"a", b"H"),
+            Define(b"a", b"I"),
+            Tighten(b"a"),
+        ],
+        b"a\n A 16 0 0 0\n B 16 0 0 16\n C 16 0 0 32\n D 16 0 0 48\n E 16 0 0 64\n F 16 0 0 80\n\
+          \x20G 16 0 0 96\n H 16 0 0 112\n I 16 0 128 0\n",
     ),
 ];
 

@@ -3,11 +3,11 @@
 ghost use Rattle.std.specs.Prelude.{◌<◌, ◌≤◌, length};
 
 use crate::commands::classes;
-use crate::fronts::{add_loader, define, empty, unload, words};
-use crate::words::{Chain, ROOTS, Region, TOP};
+use crate::fronts::{add_loader, define, empty, tighten, unload, words};
+use crate::words::{Chain, ROOTS, Region, TOP, Written};
 use cm_front::Front;
 use cm_group::{CarriedEntry, Group, Receipt};
-use cm_pool::Place;
+use cm_layout::{Entry, Row};
 use cm_prepare::{Prepared, Refusal};
 use std::alloc::{AllocError, Global};
 use std::collections::VecDeque;
@@ -41,9 +41,8 @@ struct Model {
     has: [[bool; CLASSES]; LOADERS],
     chains: [Chain; LOADERS],
     region: Region,
-    /// The place of the record of each command that isn't handed out; none where it defines no
-    /// class.
-    places: VecDeque<Option<Place>>,
+    /// What each command writes that isn't handed out.
+    writes: VecDeque<Written>,
     number: u64,
     sealed: u64,
 }
@@ -55,15 +54,15 @@ impl Model {
             has: [[false; CLASSES]; LOADERS],
             chains: [Chain::EMPTY; LOADERS],
             region: Region::new(),
-            places: VecDeque::new(alloc),
+            writes: VecDeque::new(alloc),
             number: 0,
             sealed: 0,
         }
     }
 
-    // The next number, whose command has a record at this place.
-    fn accept(&mut self, place: Option<Place>) -> Result<u64, Refusal> {
-        self.places.push_back(place).map_err(AllocError::from)?;
+    // The next number, whose command writes this.
+    fn accept(&mut self, written: Written) -> Result<u64, Refusal> {
+        self.writes.push_back(written).map_err(AllocError::from)?;
         self.number = self.number.wrapping_add(1);
         Ok(self.number)
     }
@@ -74,7 +73,7 @@ impl Model {
         if self.lives[loader].is_some() {
             return Err(Refusal::LoaderExists);
         }
-        let number = self.accept(None)?;
+        let number = self.accept(Written::Nothing)?;
         self.lives[loader] = Some(number);
         self.has[loader] = [false; CLASSES];
         self.chains[loader] = Chain::EMPTY;
@@ -92,17 +91,27 @@ impl Model {
         let chain = &mut self.chains[loader];
         let place = self.region.place(number, chain, WORDS[class])?;
         self.has[loader][class] = true;
-        self.accept(Some(place))
+        self.accept(Written::Class(place))
     }
 
     fn unload(&mut self, loader: usize) -> Result<u64, Refusal>
         requires { loader < 6 }
     {
         let left = self.lives[loader].ok_or(Refusal::NoLoader)?;
-        let number = self.accept(None)?;
+        let number = self.accept(Written::Nothing)?;
         self.lives[loader] = None;
         self.region.leave(left, number);
         Ok(number)
+    }
+
+    fn tighten(&mut self, loader: usize) -> Result<u64, Refusal>
+        requires { loader < 6 }
+    {
+        let owner = self.lives[loader].ok_or(Refusal::NoLoader)?;
+        let number = self.number.wrapping_add(1);
+        let chain = &mut self.chains[loader];
+        let written = self.region.tighten(owner, chain, number)?;
+        self.accept(written)
     }
 
     // How many words the record has that is to be found.
@@ -118,25 +127,26 @@ impl Model {
     }
 }
 
-// Where an entry's record lies, if it has one.
-fn place_of(entry: &CarriedEntry) -> Option<Place> {
-    match entry.class_made() {
-        Some((row, _)) => Some(row.place),
-        None => None,
+// What an entry writes.
+fn written_by(entry: &CarriedEntry) -> Written {
+    match entry.bare() {
+        Entry::Live(Row::Class(row, _)) => Written::Class(row.place),
+        Entry::Move(moves) => Written::Moved(moves.from, moves.to, entry.moved().len()),
+        Entry::Live(Row::Loader(_)) | Entry::Unload(_) => Written::Nothing,
     }
 }
 
 // Whether the records of a group lie where the model has them.
 fn lie_there(group: &Group, model: &mut Model) -> bool {
     for entry in group.entries() {
-        if model.places.pop_front() != Some(place_of(entry)) {
+        if model.writes.pop_front() != Some(written_by(entry)) {
             return false;
         }
     }
     true
 }
 
-// Whether a group begins behind the last one, and has the model's places.
+// Whether a group begins behind the last one, and writes what the model has.
 fn is_next(group: &Group, model: &mut Model) -> bool {
     let is_behind = group.first() == model.sealed.wrapping_add(1);
     model.sealed = model.sealed.wrapping_add(group.count() as u64);
@@ -170,6 +180,7 @@ fn agrees(front: &mut Front, model: &mut Model, classes: &[Prepared], choice: u3
         3 | 4 => unload(front, &name) == model.unload(loader),
         5 => seals(front, model),
         6 => learns(front, model, choice / 4_096),
+        7 | 8 => tighten(front, &name) == model.tighten(loader),
         _ => define(front, &name, &classes[class]) == model.define(loader, class),
     };
     is_same && words(front, &name, &[class as u8 + 0x41]) == model.words(loader, class)
@@ -191,23 +202,26 @@ fn first_other(front: &mut Front, model: &mut Model, classes: &[Prepared]) -> Op
     None
 }
 
-// Which call the model answers otherwise, and whether there were commands and full regions enough.
+// Which call the model answers otherwise, and whether there were commands, full regions and moves
+// enough.
 fn agree(
     front: &mut Front,
     model: &mut Model,
     classes: &[Prepared],
-) -> Option<(Option<u32>, [bool; 2])> {
+) -> Option<(Option<u32>, [bool; 3])> {
     if classes.len() < 8 {
         return None;
     }
     let other = first_other(front, model, classes);
-    Some((other, [model.number > 3_000, model.region.full > 300]))
+    let region = &model.region;
+    let are_enough = [model.number > 3_000, region.full > 200, region.moved > 100];
+    Some((other, are_enough))
 }
 
 fn agree_on_empty(
     alloc: Global,
     classes: &[Prepared],
-) -> Result<Option<(Option<u32>, [bool; 2])>, Fail> {
+) -> Result<Option<(Option<u32>, [bool; 3])>, Fail> {
     let mut front = empty(alloc, TOP, ROOTS)?;
     Ok(agree(&mut front, &mut Model::new(alloc), classes))
 }
@@ -216,6 +230,6 @@ fn agree_on_empty(
 fn random_commands_agree_with_a_plain_model(rt: HostRuntime) -> Result<(), Fail> {
     let classes = classes(rt.alloc(), &SAMPLES)?;
     let agreement = agree_on_empty(rt.alloc(), &classes)?;
-    assert_eq!(rt; agreement, Some((None, [true; 2])));
+    assert_eq!(rt; agreement, Some((None, [true; 3])));
     Ok(())
 }

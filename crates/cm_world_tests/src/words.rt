@@ -26,17 +26,29 @@ enum Words {
     Waiting(u64),
 }
 
-/// A loader's last chunk with its used words, and how many chunks it has.
+/// A loader's last chunk with its used words, how many records lie on it, and how many chunks the
+/// loader has.
 #[derive(Clone, Copy)]
 pub struct Chain {
     chunks: u32,
     last: Option<(Chunk, u32)>,
+    records: usize,
+}
+
+/// What a command writes: no record, a class's, or so many that move from the first chunk to the
+/// second.
+#[derive(Clone, Copy, PartialEq, Eq)]
+pub enum Written {
+    Nothing,
+    Class(Place),
+    Moved(Chunk, Chunk, usize),
 }
 
 impl Chain {
     pub const EMPTY: Chain = Chain {
         chunks: 0,
         last: None,
+        records: 0,
     };
 
     // The place on the top of the last chunk, where that has room.
@@ -55,7 +67,9 @@ impl Chain {
     fn put(&mut self, place: Place) {
         if place.offset == 0 {
             self.chunks = self.chunks.wrapping_add(1);
+            self.records = 0;
         }
+        self.records = self.records.wrapping_add(1);
         self.last = Some((place.chunk, place.offset.wrapping_add(place.words)));
     }
 }
@@ -66,6 +80,8 @@ pub struct Region {
     blocks: [Words; BLOCKS],
     /// For how many records there was no place.
     pub full: u32,
+    /// How often a loader's last chunk was moved.
+    pub moved: u32,
 }
 
 // The least order whose chunks hold so many words.
@@ -77,6 +93,11 @@ fn order_for(words: u32) -> u32 {
         }
     }
     order
+}
+
+// Whether a chunk is smaller than another, or lies before it.
+fn is_better(new: Chunk, old: Chunk) -> bool {
+    new.order < old.order || new.root < old.root || new.root == old.root && new.at < old.at
 }
 
 fn chunk_at(block: usize, order: u32) -> Chunk
@@ -96,6 +117,7 @@ impl Region {
         Region {
             blocks: [Words::Absent; BLOCKS],
             full: 0,
+            moved: 0,
         }
     }
 
@@ -127,12 +149,18 @@ impl Region {
 
     // A loader gets the first free chunk of an order, if there is one.
     fn take(&mut self, loader: u64, order: u32) -> Option<Chunk> {
-        let first = self.first_free(order)?;
-        let size = 1 << order.min(TOP);
+        let chunk = chunk_at(self.first_free(order)?, order);
+        self.mark(chunk, Words::Owned(loader));
+        Some(chunk)
+    }
+
+    // The words of a chunk become this.
+    fn mark(&mut self, chunk: Chunk, becomes: Words) {
+        let first = chunk.root as usize * ROOT_BLOCKS + chunk.at as usize / 128;
+        let size = 1 << chunk.order.min(TOP);
         for words in self.blocks.get_mut(first..first + size).unwrap_or(&mut []) {
-            *words = Words::Owned(loader);
+            *words = becomes;
         }
-        Some(chunk_at(first, order))
     }
 
     // A chunk of the order wanted, or else of the one needed, or else out of a new root.
@@ -167,6 +195,30 @@ impl Region {
         };
         chain.put(place);
         Ok(place)
+    }
+
+    /// The records on a loader's last chunk move to the first free chunk of the least order that
+    /// holds them, if that is better. The chunk that they leave waits for the number.
+    pub fn tighten(
+        &mut self,
+        loader: u64,
+        chain: &mut Chain,
+        number: u64,
+    ) -> Result<Written, Refusal> {
+        let (old, used) = chain.last.ok_or(Refusal::NoMove)?;
+        let order = order_for(used);
+        let Some(block) = self.first_free(order) else {
+            return Err(Refusal::NoMove);
+        };
+        let new = chunk_at(block, order);
+        if !is_better(new, old) {
+            return Err(Refusal::NoMove);
+        }
+        self.mark(old, Words::Waiting(number));
+        self.mark(new, Words::Owned(loader));
+        chain.last = Some((new, used));
+        self.moved = self.moved.wrapping_add(1);
+        Ok(Written::Moved(old, new, chain.records))
     }
 
     /// The words of a loader wait for a number.
