@@ -1,7 +1,7 @@
 //! What is reported of files that hold a cache.
 
 use crate::disks::{bytes_of, disk_of};
-use crate::stored_calls::Call::{Define, Loader, Unload};
+use crate::stored_calls::Call::{Define, Loader, Tighten, Unload};
 use crate::stored_calls::{Call, disk_after, new_disk};
 use cm_disk::{Disk, FuseDisk, SimDisk};
 use cm_inspect::{Report, check};
@@ -33,7 +33,7 @@ const TWO: [Call; 4] = [
 
 /// Commands, and how many loaders, classes and chunks there are after them, with the number of the
 /// last.
-const CASES: [(&[Call], [usize; 3], u64); 9] = [
+const CASES: [(&[Call], [usize; 3], u64); 10] = [
     (&[], [0, 0, 0], 0),
     (&[Loader(b'a')], [1, 0, 0], 1),
     (&TWO, [2, 2, 2], 4),
@@ -99,6 +99,24 @@ const CASES: [(&[Call], [usize; 3], u64); 9] = [
         ],
         [1, 9, 2],
         10,
+    ),
+    // the ninth moves to a smaller chunk
+    (
+        &[
+            Loader(b'a'),
+            Define(b'a', b'A'),
+            Define(b'a', b'B'),
+            Define(b'a', b'C'),
+            Define(b'a', b'D'),
+            Define(b'a', b'E'),
+            Define(b'a', b'F'),
+            Define(b'a', b'G'),
+            Define(b'a', b'H'),
+            Define(b'a', b'I'),
+            Tighten(b'a'),
+        ],
+        [1, 9, 2],
+        11,
     ),
 ];
 

@@ -16,6 +16,7 @@ pub enum Call {
     Loader(u8),
     Define(u8, u8),
     Unload(u8),
+    Tighten(u8),
 }
 
 fn store(alloc: Global, session: &mut Session<SimDisk>, call: Call) -> Result<bool, Fail> {
@@ -25,6 +26,7 @@ fn store(alloc: Global, session: &mut Session<SimDisk>, call: Call) -> Result<bo
             session.store(Command::Define(&[loader], class_of_name(alloc, name)?))
         }
         Call::Unload(loader) => session.store(Command::Unload(&[loader])),
+        Call::Tighten(loader) => session.store(Command::Tighten(&[loader])),
     };
     Ok(answer.is_ok())
 }

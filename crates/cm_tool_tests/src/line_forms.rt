@@ -2,10 +2,12 @@ use cm_lines::{Line, NameFault, escape_into, parse, unescape};
 use std::alloc::Global;
 use std::test::*;
 
-const FORMS: [(&[u8], Line<'_>); 5] = [
+const FORMS: [(&[u8], Line<'_>); 7] = [
     (b"loader app", Line::Loader(b"app")),
     (b"unload app", Line::Unload(b"app")),
     (b"unload unload", Line::Unload(b"unload")),
+    (b"tighten app", Line::Tighten(b"app")),
+    (b"tighten unload", Line::Tighten(b"unload")),
     (b"define app cafebabe", Line::Define(b"app", b"cafebabe")),
     (b"find a% %c3%a9", Line::Find(b"a%", b"%c3%a9")),
 ];
@@ -18,7 +20,7 @@ fn lines_of_known_forms_are_parsed(rt: HostRuntime) -> Result<(), Fail> {
     Ok(())
 }
 
-const OTHERS: [&[u8]; 16] = [
+const OTHERS: [&[u8]; 20] = [
     b"",
     b" ",
     b"unload",
@@ -29,6 +31,10 @@ const OTHERS: [&[u8]; 16] = [
     b"unload a b",
     b"Unload app",
     b"unloads app",
+    b"tighten",
+    b"tighten ",
+    b"tighten a b",
+    b"tight app",
     b"loader",
     b"define app",
     b"define app 00 00",

@@ -41,7 +41,7 @@ fn expand(alloc: Global, script: &[u8]) -> Result<Vec<u8>, Fail> {
 }
 
 /// Scripts, and the replies to each.
-const CASES: [(&[u8], &[u8]); 10] = [
+const CASES: [(&[u8], &[u8]); 11] = [
     (b"", b""),
     (b"loader app", b"ok 1\n"),
     (
@@ -62,6 +62,11 @@ const CASES: [(&[u8], &[u8]); 10] = [
     (
         b"loader a\nloader a\nloader \x7f\nunload b\n",
         b"ok 1\nrefused 2 loader exists\nrefused 1 name\nrefused 3 no loader\n",
+    ),
+    (
+        b"tighten a\nloader a\ntighten a\ndefine a @\ntighten a\ntighten \x7f\ntighten\n",
+        b"refused 3 no loader\nok 1\nrefused 8 no move\nok 2 A\nrefused 8 no move\n\
+            refused 1 name\nrefused 15 line\n",
     ),
     (
         b"loader a\ndefine a @\nunload a\nfind a A\nloader a\nfind a A\nfind a %41\n",

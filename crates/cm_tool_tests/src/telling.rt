@@ -9,7 +9,7 @@ use std::test::*;
 /// A script, the line that a check tells of the cache after it, and the lines of its list.
 type Case<'a> = (&'a [u8], &'a [u8], &'a [u8]);
 
-const CASES: [Case<'_>; 5] = [
+const CASES: [Case<'_>; 6] = [
     (b"", b"ok loaders 0 classes 0 chunks 0 number 0\n", b""),
     (
         b"loader app\n",
@@ -40,6 +40,23 @@ const CASES: [Case<'_>; 5] = [
         b"loader a\ndefine a <0141>\nloader a%\nunload a\nloader ~\ndefine ~ <0141>\n",
         b"ok loaders 2 classes 1 chunks 1 number 6\n",
         b"loader a%\nloader ~\nclass A words 16 root 0 at 0\n",
+    ),
+    // eight classes fill a chunk; the ninth, in one of 256 words, moves to one of 128
+    (
+        b"loader a\ndefine a <0141>\ndefine a <0142>\ndefine a <0143>\ndefine a <0144>\n\
+            define a <0145>\ndefine a <0146>\ndefine a <0147>\ndefine a <0148>\n\
+            define a <0149>\ntighten a\n",
+        b"ok loaders 1 classes 9 chunks 2 number 11\n",
+        b"loader a\n\
+            class A words 16 root 0 at 0\n\
+            class B words 16 root 0 at 16\n\
+            class C words 16 root 0 at 32\n\
+            class D words 16 root 0 at 48\n\
+            class E words 16 root 0 at 64\n\
+            class F words 16 root 0 at 80\n\
+            class G words 16 root 0 at 96\n\
+            class H words 16 root 0 at 112\n\
+            class I words 16 root 0 at 128\n",
     ),
 ];
 
