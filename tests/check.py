@@ -18,6 +18,7 @@ import sys
 
 import oracle
 import region
+import runs
 
 A = (
     "cafebabe0000003400050700020100014107000401"
@@ -28,6 +29,8 @@ SCRIPTS = [
     "loader a\n",
     f"loader a\nloader b\ndefine a {A}\ndefine b {A}\n",
     f"loader a\ndefine a {A}\ndefine a {B}\nunload a\nloader a\ndefine a {A}\n",
+    # The second class moves to a smaller chunk.
+    f"loader a\ndefine a {A}\ndefine a {runs.padded(b'B', 864).hex()}\ntighten a\n",
 ]
 
 
@@ -103,7 +106,7 @@ WHOLE = b"ok loaders 2 classes 3 chunks 2 number 9\n"
 
 def changes():
     """Places and the bytes that are to stand there: in the superblock, in both halves' heads with
-    the slots behind them, and in records. Of the zeros in the superblock each has one other
+    the slots after them, and in records. Of the zeros in the superblock each has one other
     value."""
     data = whole_file()
     zeros = range(32, region.SUPERBLOCK - 8)

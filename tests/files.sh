@@ -18,7 +18,7 @@ padded() {
     [ "$2" = 0 ] || printf '00%.0s' $(seq "$2")
 }
 
-# expect: the replies to the lines of $work/in behind those of $work/before, on one file.
+# expect: the replies to the lines of $work/in after those of $work/before, on one file.
 expect() {
     touch "$work/before"
     cat "$work/before" "$work/in" >"$work/all"
@@ -130,15 +130,70 @@ run check "$trimmed"
 check_says "a trimmed file" 0 "ok loaders 0 classes 0 chunks 0 number 3"
 printf 'loader b\ndefine b %s\n' "$a" >"$work/in"
 run apply "$trimmed"
-check_size "a class behind a trim" "$trimmed" 790528
+check_size "a class after a trim" "$trimmed" 790528
 run check "$trimmed"
-check_says "a class behind a trim" 0 "ok loaders 1 classes 1 chunks 1 number 5"
+check_says "a class after a trim" 0 "ok loaders 1 classes 1 chunks 1 number 5"
 : >"$work/in"
 printf 'no cache' >"$work/none"
 run trim "$work/none"
 check_says "no cache to trim" 1 "not a cache"
 run trim "$work/missing"
 check_says "no file to trim" 3 device "$work/missing"
+
+# ---- a loader's last chunk moves
+
+tight=$work/tight
+: >"$work/in"
+run format "$tight"
+printf 'loader a\ndefine a %s\ndefine a %s\n' "$(padded A 0)" "$(padded B 864)" >"$work/in"
+cp "$work/in" "$work/moves"
+run apply "$tight"
+printf '%s\n' 'ok 1' 'ok 2 A' 'ok 3 B' >"$work/want"
+check "two classes of a loader" 0
+run list "$tight"
+printf '%s\n' 'loader a' 'class A words 20 root 0 at 0' 'class B words 128 root 0 at 256' \
+    >"$work/want"
+check "the second lies in a chunk of 256 words" 0
+printf 'tighten a\ntighten a\ntighten b\ntighten\ntighten \xff\n' >"$work/in"
+cat "$work/in" >>"$work/moves"
+run apply "$tight"
+printf '%s\n' 'ok 4' 'refused 8 no move' 'refused 3 no loader' 'refused 15 line' \
+    'refused 1 name' >"$work/want"
+check "its record moves" 1
+python3 tests/region.py after <"$work/moves" | cmp -s - "$tight"
+check_last "the bytes after a move"
+run list "$tight"
+printf '%s\n' 'loader a' 'class A words 20 root 0 at 0' 'class B words 128 root 0 at 128' \
+    >"$work/want"
+check "it lies in a chunk of 128 words" 0
+run check "$tight"
+check_says "a file with a move" 0 "ok loaders 1 classes 2 chunks 2 number 4"
+
+# A class in the second root moves into the first, where a loader left one; then a trim gives the
+# second back.
+rm "$tight"
+: >"$work/in"
+run format "$tight" --top 3 --roots 4 --slots 256
+{
+    printf 'loader a\ndefine a %s\n' "$(padded A 8032)"
+    printf 'loader b\ndefine b %s\n' "$(padded B 0)"
+    printf '%s\n' 'tighten b' 'unload a' 'tighten b' 'find b B'
+} >"$work/in"
+printf '%s\n' 'ok 1' 'ok 2 A' 'ok 3' 'ok 4 B' 'refused 8 no move' 'ok 5' 'ok 6' \
+    'class B flags 0021 super java/lang/Object words 20' >"$work/want"
+run apply "$tight"
+check "a class moves into another root" 1
+check_size "two roots" "$tight" 53248
+run trim "$tight"
+check_says "the second root goes" 0 "roots 1"
+check_size "one root" "$tight" 45056
+printf 'find b B\n' >"$work/in"
+printf 'class B flags 0021 super java/lang/Object words 20\n' >"$work/want"
+run apply "$tight"
+check "the class is found" 0
+printf 'loader b\nclass B words 20 root 0 at 0\n' >"$work/want"
+run list "$tight"
+check "the class lies in the first root" 0
 
 # ---- sizes
 
@@ -205,7 +260,7 @@ cp examples/first.txt "$work/in"
 for gate in A4 00 FF A5; do
     rm -f "$small"
     python3 tests/region.py after <"$work/in" >"$small"
-    printf "\x$gate" | dd of="$small" bs=1 seek=$((4096 + 64 * 3)) conv=notrunc status=none
+    printf '%b' "\x$gate" | dd of="$small" bs=1 seek=$((4096 + 64 * 3)) conv=notrunc status=none
     printf 'find app A\nloader app\n' >"$work/in2"
     if [ $gate = A5 ]; then
         printf '%s\n' 'class A flags 0021 super java/lang/Object words 16' \
@@ -224,7 +279,7 @@ done
 damaged() { # NAME WORDS STATUS OFFSET BYTES..: a good file with bytes changed
     printf 'loader a\ndefine a %s\ndefine a %s\n' "$a" "$(padded B 0)" |
         python3 tests/region.py after >"$work/damaged"
-    [ -n "$4" ] && printf "$5" | dd of="$work/damaged" bs=1 seek="$4" conv=notrunc status=none
+    [ -n "$4" ] && printf '%b' "$5" | dd of="$work/damaged" bs=1 seek="$4" conv=notrunc status=none
     cp "$work/damaged" "$work/kept"
     run apply "$work/damaged"
     check_says "$1" "$3" "$2"
@@ -398,7 +453,7 @@ for words in --help help "format --help" "apply --help" "check --help" "list --h
     check_streams "help: $words" some none
 done
 run apply --help
-grep -q 'unload NAME' "$work/got"
+grep -q 'unload NAME' "$work/got" && grep -q 'tighten NAME' "$work/got"
 check_last "the help tells of each line"
 
 # ---- a file in the narrow form, where each class has a root of its own

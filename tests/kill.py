@@ -6,7 +6,7 @@ holds then.
 
 Each reply that came before the kill has to be the right one; the file, read by region.py, checked,
 listed and looked up by the program, has to hold all commands that were acknowledged and, of the
-others, at most the one that was being run. A kill of `trim` comes behind each, and leaves the same.
+others, at most the one that was being run. A kill of `trim` comes after each, and leaves the same.
 The next run goes on with the file as it is. Some kills hit `format`: its file is no cache then, or
 the empty one, or there is none. The words are further ones of `apply`.
 """
@@ -69,7 +69,7 @@ def kill_apply(checks, program, words, cache, rng, longest):
     replies, was_hit = killed([program, *words], lines, rng.uniform(0, longest))
     cache.reopened()
     wanted = [cache.answer(line) for line in lines[:len(replies)]]
-    name = f"kill behind {cache.number} commands and {len(replies)} replies"
+    name = f"kill after {cache.number} commands and {len(replies)} replies"
     good = checks.check(f"{name}: the replies", replies == wanted)
     under_way = lines[len(replies)] if len(replies) < len(lines) else None
     good = runs.settle(checks, f"{name}: the file", path, cache, under_way) and good
@@ -79,10 +79,10 @@ def kill_apply(checks, program, words, cache, rng, longest):
 
 
 def kill_trim(checks, program, path, cache, rng, longest):
-    """A trim that is killed, and one that isn't, leave the same cache; behind that one the file
+    """A trim that is killed, and one that isn't, leave the same cache; after that one the file
     ends with the last root that is in use."""
     killed([program, "trim", path], [], rng.uniform(0, longest))
-    name = f"trim killed behind {cache.number} commands"
+    name = f"trim killed after {cache.number} commands"
     good = runs.settle(checks, f"{name}: the file", path, cache, None)
     told = runs.run(program, ["trim", path])
     file = region.read(path)

@@ -688,16 +688,21 @@ class Pool:
         self.free.append((1 << self.units) - 1)
         return True
 
-    def alloc(self, order):
+    def first_free(self, order):
         """The first free block of an order, by root and then place; None where there is none."""
         size = 1 << order
         block = (1 << size) - 1
         for root, free in enumerate(self.free):
             for at in range(0, self.units, size):
                 if free >> at & block == block:
-                    self.free[root] &= ~(block << at)
                     return root, order, at * UNIT
         return None
+
+    def alloc(self, order):
+        chunk = self.first_free(order)
+        if chunk:
+            self.take(chunk)
+        return chunk
 
     def take(self, chunk):
         root, order, at = chunk
@@ -734,6 +739,20 @@ class Arena:
             chunk = pool.alloc(wanted)
         self.chain.append([chunk, words])
         return chunk, 0
+
+
+    def tighten(self, pool):
+        """The last chunk, whose words go, and the one that they go to: the first free one of the
+        least order that holds them, if it is smaller or lies before."""
+        if not self.chain:
+            raise Refused("8 no move")
+        old, used = self.chain[-1]
+        new = pool.first_free(next(order for order in range(64) if UNIT << order >= used))
+        if not new or not (new[1] < old[1] or (new[0], new[2]) < (old[0], old[2])):
+            raise Refused("8 no move")
+        pool.take(new)
+        self.chain[-1][0] = new
+        return old, new
 
 
 class Geometry:
@@ -817,6 +836,19 @@ class Cache:
         del self.loaders[name]
         return b"ok %d" % self.done("unload", gone.number)
 
+    def tighten(self, name):
+        """The journal says from where and to where, and the move carries each record that lay
+        there, with its offset."""
+        loader = self.named(name)
+        old, new = loader.arena.tighten(self.pool)
+        moved = [live for live in loader.classes.values() if live.chunk == old]
+        for live in moved:
+            live.chunk = new
+        # What is left waits for this command's number, which is stored before the next line.
+        self.pool.give(old)
+        records = [(live.offset, live.words) for live in moved]
+        return b"ok %d" % self.done("move", loader.number, old, new, records)
+
     def define(self, name, data):
         found, fault = read_shape(data)
         fault = fault or first_fault(found)
@@ -853,6 +885,8 @@ class Cache:
             return self.loader(words[1])
         if words[0] == b"unload" and len(words) == 2:
             return self.unload(words[1])
+        if words[0] == b"tighten" and len(words) == 2:
+            return self.tighten(words[1])
         if words[0] == b"define" and len(words) == 3:
             return self.define(words[1], class_bytes(words[2]))
         if words[0] == b"find" and len(words) == 3:

@@ -60,7 +60,21 @@ def entry_slot(entry):
     if kind == "define":
         loader, (root, order, at), offset, words = what
         return spelled(DEFINE, "2xIQIIII", len(words), loader, root, order, at, offset)
+    if kind == "move":
+        loader, old, new, _ = what
+        return spelled(MOVE, "6xQIIIIII", loader, *old, *new)
     return spelled(UNLOAD, "6xQ", what[0])
+
+
+def records_of(entry):
+    """What an entry writes: each record with its chunk and its offset there."""
+    if entry[0] == "define":
+        _, _, chunk, offset, words = entry
+        return [(chunk, offset, words)]
+    if entry[0] == "move":
+        _, _, _, new, records = entry
+        return [(new, offset, words) for offset, words in records]
+    return []
 
 
 class Region:
@@ -105,10 +119,11 @@ class Region:
             half, slot = 1 - self.half, 1 + len(self.rows)
         size = oracle.UNIT * 8 << self.geometry.top
         roots = SUPERBLOCK + 2 * SLOT * self.geometry.slots
-        if entry[0] == "define":
-            _, _, (root, _, at), offset, words = entry
+        records = records_of(entry)
+        for (root, _, _), _, _ in records[:1]:
             for missing in range((len(self.bytes) - roots) // size, root + 1):
                 yield roots + missing * size, bytes(size)
+        for (root, _, at), offset, words in records:
             yield roots + root * size + 8 * (at + offset), struct.pack(f"<{len(words)}Q", *words)
         group = self.half_at(half) + SLOT * slot
         slots = group_slot(1, number) + entry_slot(entry) + bytes(SLOT)
@@ -129,6 +144,10 @@ class Region:
         self.slot += 2
         if entry[0] == "unload":
             self.rows = [row for row in self.rows if row[1] != entry[1]]
+        elif entry[0] == "move":
+            _, loader, old, new, _ = entry
+            self.rows = [(*row[:2], new, *row[3:]) if row[:3] == ("define", loader, old) else row
+                         for row in self.rows]
         else:
             self.rows.append(entry)
 

@@ -91,6 +91,22 @@ printf '%s\n' 'refused 3 no loader' 'ok 1' 'ok 2 A' 'ok 3' none 'refused 3 no lo
 run apply --memory
 check "loaders that are unloaded" 1
 
+# padded X M: class A with another name of one letter, and an attribute of M zeros.
+padded() {
+    printf 'cafebabe000000340006070002010001%02x' "'$1"
+    printf '0700040100106a6176612f6c616e672f4f626a65637401000158'
+    printf '002100010003000000000000000100''05%08x' "$2"
+    [ "$2" = 0 ] || printf '00%.0s' $(seq "$2")
+}
+
+printf 'loader a\ndefine a %s\ndefine a %s\ntighten a\ntighten a\nfind a A\nfind a B\n' \
+    "$(padded A 0)" "$(padded B 864)" >"$work/in"
+printf '%s\n' 'ok 1' 'ok 2 A' 'ok 3 B' 'ok 4' 'refused 8 no move' \
+    'class A flags 0021 super java/lang/Object words 20' \
+    'class B flags 0021 super java/lang/Object words 128' >"$work/want"
+run apply --memory
+check "a loader's last chunk moves" 1
+
 # A hundred classes in two loaders: a root holds many.
 number=2
 printf 'loader a\nloader b\n' >"$work/in"

@@ -216,7 +216,7 @@ FIELDS_TWICE = [
 NAME_A = b"the front of a name that is a long one, a, and the back of a name that is a long one"
 NAME_B = b"the front of a name that is a long one, b, and the back of a name that is a long one"
 
-# Five names with each base type, and others behind them.
+# Five names with each base type, and others after them.
 MANY = [
     text(b"a"), text(b"b"), text(b"c"), text(b"d"), text(b"e"), text(b"B"), text(b"C"), text(b"D"),
     text(b"F"), text(b"I"), text(b"J"), text(b"S"), text(b"Z"), text(b"a"), text(NAME_A),

@@ -31,8 +31,10 @@ def some_line(rng):
         return b"loader " + loader
     if chance < 0.80:
         return define(loader, name, rng.choice([0, 8, 100, 900, 3000, 8000]))
-    if chance < 0.92:
+    if chance < 0.88:
         return b"unload " + loader
+    if chance < 0.95:
+        return b"tighten " + loader
     return b"find %s %s" % (loader, name)
 
 
@@ -64,13 +66,14 @@ class Checks:
 
 
 def run(program, words, lines=(), env=None, limit=None):
-    """Runs the program to its end: its lines of output, its status and what it tells on standard
-    error. A limit is one on the size of files, whose signal is ignored."""
+    """Runs the program on lines, or on bytes as they are, to its end: its lines of output, its
+    status and what it tells on standard error. A limit is one on the size of files, whose signal is
+    ignored."""
     words = [program, *words]
     if limit is not None:
         words = ["bash", "-c", f"trap '' XFSZ; ulimit -f {limit}; exec \"$@\"", "bash", *words]
-    ran = subprocess.run(words, input=b"".join(line + b"\n" for line in lines),
-                         stdout=subprocess.PIPE, stderr=subprocess.PIPE,
+    data = lines if isinstance(lines, bytes) else b"".join(line + b"\n" for line in lines)
+    ran = subprocess.run(words, input=data, stdout=subprocess.PIPE, stderr=subprocess.PIPE,
                          env={**os.environ, **(env or {})}, check=False)
     return ran.stdout.split(b"\n")[:-1], ran.returncode, ran.stderr.decode(errors="replace")
 

@@ -7,11 +7,13 @@ stopped at each device call.
     tests/simulate.py PROGRAM LIBRARY N  a simulation once for each of its allocations, with that
                                          one refused; N are met
 
-The model holds loaders and classes as dictionaries, what is handed out and what is acknowledged,
-and what the device call under way may leave of the file. It is written from the project's
+The model holds loaders and classes as dictionaries, with the chunk in which each class lies, what
+is handed out and what is acknowledged, which chunks wait, and what the device call under way may
+leave of the file. It is written from the project's
 description and shares no code with the program; the class files are judged by tests/oracle.py. Its
 random numbers have fixed seeds.
 """
+import functools
 import os
 import random
 import re
@@ -22,8 +24,10 @@ import tempfile
 
 sys.path.insert(0, os.path.dirname(os.path.abspath(__file__)))
 import oracle
+import region
 
 LISTS = 1500
+UNIT = 128  # words of the least chunk
 MOST_IN_GROUP = 64
 MOST_ALLOCATIONS = 2000
 
@@ -79,6 +83,25 @@ def rows_in(loaders):
     return len(loaders) + sum(len(classes) for classes in loaders.values())
 
 
+def order_for(words):
+    """The least order whose chunks hold so many words."""
+    return next(order for order in range(64) if UNIT << order >= words)
+
+
+def chain_of(classes):
+    """A loader's chunks in their order, each with its used words."""
+    used = {}
+    for words, chunk in classes.values():
+        used[chunk] = used.get(chunk, 0) + words
+    return list(used.items())
+
+
+def roots_in(loaders):
+    """One more than the greatest root in which a class lies."""
+    return max((chunk[0] + 1 for classes in loaders.values() for _, chunk in classes.values()),
+               default=0)
+
+
 class Group:
     """Commands that are stored together: the number of the last, how many, and the device calls to
     make."""
@@ -92,17 +115,20 @@ class Group:
 
 
 class World:
-    """All classes fit into the first root: no region is full, and a file grows by one root at
-    most."""
+    """A chunk is a root, an order and the first of its words."""
 
     def __init__(self, top, roots, slots):
-        self.root_words = 128 << top
-        self.root_bytes = 1024 << top
+        self.top = top
+        self.limit = roots
+        self.root_words = UNIT << top
+        self.root_bytes = 8 * UNIT << top
         self.base = 4096 + 128 * slots
         self.slots = slots
+        # Of each command, how many records it writes, and the roots that the file needs for them.
         self.commands = []
+        # After each command, the loaders' classes, each with its words and its chunk.
         self.states = [{}]
-        # Where crashes came and calls failed, for the test's own count.
+        # Where crashes came, calls failed and records moved, for the test's own count.
         self.stops = []
         self.length = self.least = self.greatest = self.base
         self.acknowledged = 0
@@ -122,6 +148,10 @@ class World:
         self.calls = []
         self.broken = self.told = False
         self.armed = None
+        # The roots of which the accepted cache knows, and the chunks that wait, each with the
+        # number of the command that left it.
+        self.present = roots_in(self.loaders())
+        self.waiting = []
         self.settle()
 
     def settle(self):
@@ -150,15 +180,55 @@ class World:
     def loaders(self):
         return self.states[-1]
 
+    def file_roots(self):
+        return (self.length - self.base) // self.root_bytes
+
+    # -- chunks
+
+    def first_free(self, order):
+        """The first free chunk of an order in the roots that are present."""
+        taken = [chunk for classes in self.loaders().values() for chunk, _ in chain_of(classes)]
+        taken += [chunk for _, chunk in self.waiting]
+        size = UNIT << order
+        for root in range(self.present):
+            for at in range(0, self.root_words, size):
+                if all(root != other or at + size <= begin or begin + (UNIT << large) <= at
+                       for other, large, begin in taken):
+                    return root, order, at
+        return None
+
+    def place(self, classes, words):
+        """The chunk for a class of so many words in the loader with these classes."""
+        chain, need = chain_of(classes), order_for(words)
+        if chain and chain[-1][1] + words <= UNIT << chain[-1][0][1]:
+            return chain[-1][0]
+        wanted = max(need, min(len(chain), 4, self.top))
+        chunk = self.first_free(wanted) or self.first_free(need)
+        return chunk or ((self.present, wanted, 0) if self.present < self.limit else None)
+
+    def better(self, classes):
+        """The loader's last chunk, and the one to which its words may move."""
+        chain = chain_of(classes)
+        if not chain:
+            return None
+        old, used = chain[-1]
+        new = self.first_free(order_for(used))
+        if not new or not (new[1] < old[1] or (new[0], new[2]) < (old[0], old[2])):
+            return None
+        return old, new
+
     # -- commands
 
-    def accept(self, change, refusal):
+    def accept(self, loaders, refusal, records=(), left=()):
+        """Of a command that writes records into these chunks, and leaves chunks."""
         if self.told:
             return "refused 10"
         if refusal:
             return f"refused {refusal}"
-        self.commands.append(change[0])
-        self.states.append(change[1])
+        self.commands.append((len(records), max((chunk[0] + 1 for chunk in records), default=0)))
+        self.states.append(loaders)
+        self.present = max(self.present, roots_in(loaders))
+        self.waiting += [(self.number(), chunk) for chunk in left]
         return f"number {self.number()}"
 
     def is_full(self):
@@ -172,40 +242,57 @@ class World:
             refusal = 2
         elif self.is_full():
             refusal = 7
-        return self.accept(("loader", {**self.loaders(), name: {}}), refusal)
+        return self.accept({**self.loaders(), name: {}}, refusal)
+
+    def named(self, name):
+        """Why there is no loader of that name."""
+        if not re.fullmatch(rb"[\x21-\x7e]{1,48}", name):
+            return 1
+        return None if name in self.loaders() else 3
 
     def unload(self, name):
-        refusal = None
-        if not re.fullmatch(rb"[\x21-\x7e]{1,48}", name):
-            refusal = 1
-        elif name not in self.loaders():
-            refusal = 3
-        return self.accept(("unload", {n: c for n, c in self.loaders().items() if n != name}),
-                           refusal)
+        left = [chunk for chunk, _ in chain_of(self.loaders().get(name, {}))]
+        return self.accept({n: c for n, c in self.loaders().items() if n != name},
+                           self.named(name), left=left)
+
+    def tighten(self, name):
+        refusal = self.named(name)
+        classes = self.loaders().get(name, {})
+        move = self.better(classes)
+        if refusal or not move:
+            return self.accept(None, refusal or 8)
+        old, new = move
+        moved = {n: (words, new if chunk == old else chunk)
+                 for n, (words, chunk) in classes.items()}
+        records = [chunk for _, chunk in moved.values() if chunk == new]
+        reply = self.accept({**self.loaders(), name: moved}, None, records, [old])
+        if reply != "refused 10":
+            self.stops.append("moved")
+        return reply
 
     def define(self, name, data):
         class_name, words = judged(data)
         if class_name is None:
             return f"refused {words}"
-        refusal, change = None, None
-        if not re.fullmatch(rb"[\x21-\x7e]{1,48}", name):
-            refusal = 1
-        elif name not in self.loaders():
-            refusal = 3
-        elif class_name in self.loaders()[name]:
+        refusal = self.named(name)
+        classes = self.loaders().get(name, {})
+        if not refusal and class_name in classes:
             refusal = 4
-        elif words > self.root_words:
+        elif not refusal and words > self.root_words:
             refusal = 5
-        elif self.is_full():
+        elif not refusal and self.is_full():
             refusal = 7
-        else:
-            change = ("define",
-                      {**self.loaders(), name: {**self.loaders()[name], class_name: words}})
-        return self.accept(change, refusal)
+        if refusal:
+            return self.accept(None, refusal)
+        chunk = self.place(classes, words)
+        if not chunk:
+            return self.accept(None, 6)
+        return self.accept({**self.loaders(), name: {**classes, class_name: (words, chunk)}}, None,
+                           [chunk])
 
     def look(self, name, class_name):
-        words = self.loaders().get(name, {}).get(class_name)
-        return "none" if words is None else f"class {words}"
+        found = self.loaders().get(name, {}).get(class_name)
+        return f"class {found[0]}" if found else "none"
 
     # -- groups
 
@@ -222,8 +309,9 @@ class World:
         group = self.queue.pop(0)
         while self.queue and group.count() + self.queue[0].count() <= MOST_IN_GROUP:
             group.last = self.queue.pop(0).last
-        records = self.commands[group.first - 1:group.last].count("define")
-        grows = records > 0 and self.length < self.base + self.root_bytes
+        written = self.commands[group.first - 1:group.last]
+        records = sum(count for count, _ in written)
+        grows = max(0, max(roots for _, roots in written) - self.file_roots())
         self.under_way = group
         if self.end + 1 + group.count() > self.slots:
             self.calls = ["other half's gate" if self.is_other_open else "sync", *CHECKPOINT[1:]]
@@ -247,8 +335,7 @@ class World:
         if self.calls:
             return "working"
         if self.under_way is None:
-            # What is left of the file has no root.
-            return "trimmed 0"
+            return f"trimmed {self.file_roots()}"
         group, self.under_way = self.under_way, None
         self.acknowledged = group.last
         return f"done {group.last}"
@@ -259,25 +346,29 @@ class World:
             self.stops.append(f"fault in {call}")
         if call == "root":
             stored = self.root_bytes if fails is None else min(fails, self.root_bytes)
-            self.length = max(self.length, self.base + stored)
-            self.greatest = self.base + self.root_bytes
+            at = self.base + self.file_roots() * self.root_bytes
+            self.length = max(self.length, at + stored)
+            self.greatest = max(self.greatest, at + self.root_bytes)
         elif call in GATES:
             self.turned, before, after = GATES[call]
             self.loose = True
             self.gate = after if fails is None or fails > 0 else before
         elif call == "cut":
-            self.least = self.base
+            self.least = self.used_end()
             if fails is None:
-                self.length = self.base
+                self.length = self.least
         elif call == "sync" and fails is None:
             self.least = self.greatest = self.length
             self.turn(self.gate)
 
+    def used_end(self):
+        """Where the last root ends that the stored classes use."""
+        return self.base + roots_in(self.states[self.acknowledged]) * self.root_bytes
+
     def trim(self):
         if self.broken or self.calls:
             return "not idle"
-        classes = any(self.states[self.acknowledged].values())
-        if classes or self.length < self.base + self.root_bytes:
+        if self.length < self.used_end() + self.root_bytes:
             return "nothing"
         self.calls = list(TRIM)
         return "due"
@@ -285,6 +376,7 @@ class World:
     def learn(self):
         if self.broken:
             self.told = True
+        self.waiting = [wait for wait in self.waiting if wait[0] > self.acknowledged]
         return f"learnt {self.acknowledged}"
 
     # -- the end of a world, and the next
@@ -356,7 +448,9 @@ class Checks:
 
 NAMES = [b"a", b"b", b"c", b"app", b"~!%"]
 CLASSES = ([(class_a(n), n) for n in (b"A", b"B", b"C")]
-           + [(class_p(b"A", 0), b"A"), (class_p(b"D", 33), b"D"), (class_p(b"E", 8), b"E")])
+           + [(class_p(b"A", 0), b"A"), (class_p(b"D", 33), b"D"), (class_p(b"E", 8), b"E")]
+           + [(class_p(b"F", 864), b"F"), (class_p(b"G", 900), b"G"), (class_p(b"H", 5000), b"H")]
+           + [(class_p(b"I", 24000), b"I")])
 BAD = [class_a() + b"\x00", class_a()[:-1], b"\xca", class_a()[:-2] + b"\x00\x01",
        class_a().replace(b"\x00\x21", b"\x02\x21")]
 TOO_LONG = class_p(b"L", 8 * (4097 - 20))
@@ -371,15 +465,23 @@ def draw_name(draw, world):
             else draw.choice([b"x" * 48, b"x" * 49, b"\x7f", b"\xc3\xa9"]))
 
 
+def draw_tail(draw, world):
+    """A loader's name: mostly one of several chunks."""
+    long = sorted(n for n, classes in world.loaders().items() if len(chain_of(classes)) > 1)
+    return draw.choice(long) if long and draw.random() < 0.8 else draw_name(draw, world)
+
+
 def draw_command(draw, add, world):
     kind = draw.random()
     name = (draw_name(draw, world) if kind >= 0.35
             else draw.choice(NAMES + [b"x" * 48, b"x" * 49, b"\xff"]))
     if kind < 0.35:
         add("loader", name)
-    elif kind < 0.85:
+    elif kind < 0.78:
         add("define", name, draw.choice(BAD) if draw.random() < 0.05
             else TOO_LONG if draw.random() < 0.01 else draw.choice(CLASSES)[0])
+    elif kind < 0.92:
+        add("tighten", draw_tail(draw, world))
     else:
         add("unload", name)
 
@@ -404,8 +506,8 @@ def draw_event(draw, simulation, busy, at_rest):
     elif kind == 7:
         add("trim")
     else:
-        length = draw.choice([0, 1 << 40, world.base, world.base + draw.randrange(world.root_bytes),
-                              world.base + world.root_bytes])
+        length = draw.choice([0, 1 << 40, world.base, world.base + world.root_bytes,
+                              world.base + draw.randrange(world.limit * world.root_bytes)])
         add("crash", length,
             draw.choice(FILLS) if draw.random() < 0.7 else draw.randbytes(draw.randrange(1, 200)))
 
@@ -413,7 +515,8 @@ def draw_event(draw, simulation, busy, at_rest):
 # How often there are commands, seals, advances, learns, look-ups, faults, openings, trims and
 # crashes, where calls are left or a group waits, and where there is neither.
 BUSY = [(4, 2, 30, 2, 2, 4, 1, 2, 3), (2, 1, 40, 1, 1, 1, 1, 2, 4), (8, 4, 20, 1, 1, 6, 2, 1, 2)]
-AT_REST = [(20, 8, 1, 3, 5, 1, 1, 6, 1), (30, 4, 1, 2, 2, 1, 0, 8, 1)]
+BUSY += [(20, 3, 25, 4, 1, 1, 1, 1, 1)]
+AT_REST = [(20, 8, 1, 3, 5, 1, 1, 6, 1), (30, 4, 1, 2, 2, 1, 0, 8, 1), (60, 4, 1, 4, 2, 1, 1, 2, 1)]
 
 
 def fill_journal(draw, simulation):
@@ -433,17 +536,10 @@ def fill_journal(draw, simulation):
 def draw_list(seed):
     """An event list; of every 25, one is long enough that as many loaders live as may."""
     draw = random.Random(seed)
-    simulation = Simulation()
+    simulation = Simulation(roots=draw.choice([1, 2, 4]))
     mixes = draw.choice(BUSY), draw.choice(AT_REST)
-    defines = 0
     for _ in range(draw.randrange(5, 90)):
-        before = len(simulation.lines)
         draw_event(draw, simulation, *mixes)
-        defines += (simulation.lines[before].startswith(b"define")
-                    and simulation.due.startswith("number"))
-        if defines == 24:
-            # More might not fit into one root.
-            break
     if seed % 25 == 0:
         fill_journal(draw, simulation)
     for name in NAMES:
@@ -477,9 +573,9 @@ def check_lists(checks, program):
                    for reply in due]
         for kind in replies + simulation.world.stops:
             met[kind] = met.get(kind, 0) + 1
-    wanted = [f"refused {n}" for n in (1, 2, 3, 4, 5, 7, 10, 14)]
+    wanted = [f"refused {n}" for n in (1, 2, 3, 4, 5, 6, 7, 8, 10, 14)]
     wanted += ["number", "group", "none", "idle", "working", "done", "device", "broken", "learnt",
-               "class", "armed", "opened", "due", "nothing", "not", "trimmed"]
+               "class", "armed", "opened", "due", "nothing", "not", "trimmed", "moved"]
     # A root is the first call of its group: before it the cache is at rest.
     wanted += ([f"fault in {call}" for call in {*CALLS, *TRIM}]
                + [f"crash before {call}" for call in {*CALLS, *TRIM} - {"root"}])
@@ -522,17 +618,23 @@ def fill_half(simulation):
         store(simulation)
 
 
+def fill_halves(simulation, is_other_open):
+    """The half that counts has no room for another group; the other is open where it was used
+    before."""
+    fill_half(simulation)
+    if is_other_open:
+        simulation.add("loader", b"y")
+        store(simulation)
+        fill_half(simulation)
+
+
 def before_checkpoint(is_other_open):
     """A loader that is stored, and a class that is handed out and has no room in the half that
     counts."""
     simulation = Simulation(3, 2, 256)
     simulation.add("loader", b"app")
     store(simulation)
-    fill_half(simulation)
-    if is_other_open:
-        simulation.add("loader", b"y")
-        store(simulation)
-        fill_half(simulation)
+    fill_halves(simulation, is_other_open)
     simulation.add("define", b"app", class_a())
     simulation.add("seal")
     return simulation
@@ -546,26 +648,31 @@ def ends(lengths, fills):
             yield "crash", length, fill
 
 
-def check_walk(checks, program, simulation, device_calls, calls, stored, end):
-    """A define is stopped behind so many of its device calls, the last of which fails where bytes
-    are given that it stores."""
-    number = simulation.world.number()
+def stop(simulation, device_calls, calls, stored, end):
+    """The group is stopped behind so many of its device calls, the last of which fails where bytes
+    are given that it stores; whether it is there then."""
     for call in range(calls):
         if stored is not None and call == calls - 1:
             simulation.add("fault", stored)
         simulation.add("advance")
     simulation.add(*end)
-    simulation.add("look", b"app", b"A")
-    what = (f"a define of {len(device_calls)} calls stopped behind {calls}, {stored} bytes stored "
-            f"of the last, {end[0]}")
-    # As docs/CRASH.md has it: the class is there exactly where its gate is A5 in the file that
-    # is opened.
+    # As docs/CRASH.md has it: the group is there exactly where its gate is A5 in the file that is
+    # opened.
     at_gate, at_end = len(device_calls) - 1, len(device_calls)
     gate = 0xa5 if calls >= at_gate and not (calls == at_gate and stored == 0) else 0
     if (end[0] == "crash" and end[2]
             and (calls == at_gate or calls == at_end and stored is not None)):
         gate = end[2][0]
-    there = gate == 0xa5
+    return gate == 0xa5
+
+
+def check_walk(checks, program, simulation, device_calls, calls, stored, end):
+    """A define is stopped."""
+    number, at_end = simulation.world.number(), len(device_calls)
+    there = stop(simulation, device_calls, calls, stored, end)
+    simulation.add("look", b"app", b"A")
+    what = (f"a define of {at_end} calls stopped behind {calls}, {stored} bytes stored of the "
+            f"last, {end[0]}")
     due = compare(checks, program, simulation, what)
     wanted = [f"opened {number}", "class 16"] if there else [f"opened {number - 1}", "none"]
     checks.check(due[-2:] == wanted and (calls < at_end or stored is not None or there),
@@ -582,20 +689,111 @@ def check_walks(checks, program):
     base = 4096 + 128 * 256
     walks = list(ends((0, base + 100, base + 8192, 1 << 40),
                       (b"", b"\xa5", b"\x00", b"\xff", b"\xa5" * 9000)))
-    check_each_stop(checks, program, beginning, CALLS, walks)
+    check_each_stop(checks, program, check_walk, beginning, CALLS, walks)
     walks = list(ends((0, 1 << 40), (b"", b"\xa5", b"\x00", b"\xa5" * 9000)))
     for is_other_open, first in (False, "sync"), (True, CHECKPOINT[0]):
-        check_each_stop(checks, program, lambda: before_checkpoint(is_other_open),
+        check_each_stop(checks, program, check_walk, lambda: before_checkpoint(is_other_open),
                         [first, *CHECKPOINT[1:], *CALLS], walks)
 
 
-def check_each_stop(checks, program, begin, device_calls, walks):
+def check_each_stop(checks, program, check, begin, device_calls, walks):
     for end in walks:
         for calls in range(len(device_calls) + 1):
-            check_walk(checks, program, begin(), device_calls, calls, None, end)
+            check(checks, program, begin(), device_calls, calls, None, end)
         for calls, call in enumerate(device_calls, 1):
             for stored in (0, 1, 5) if call != "sync" else (0,):
-                check_walk(checks, program, begin(), device_calls, calls, stored, end)
+                check(checks, program, begin(), device_calls, calls, stored, end)
+
+
+# ---- moves
+
+# Of a loader's classes the last one, or the last two, lie in a chunk of order 1 at word 256; their
+# words are so few that they fit into one of order 0, of which the first free one is at 128.
+ONE_MOVES = [class_p(b"A", 0), class_p(b"B", 864)]
+TWO_MOVE = [class_p(b"A", 864), class_p(b"B", 0), class_p(b"C", 0)]
+MOVE = ["record", "group", "sync", "gate", "sync"]
+
+
+def before_move(classes):
+    """A loader with these classes that is stored."""
+    simulation = Simulation(3, 2, 256)
+    simulation.add("loader", b"app")
+    for data in classes:
+        simulation.add("define", b"app", data)
+    store(simulation)
+    simulation.add("learn")
+    return simulation
+
+
+def handed_out(simulation):
+    """The loader's last chunk is to move."""
+    simulation.add("tighten", b"app")
+    simulation.add("seal")
+    return simulation
+
+
+def after_halves(classes, is_other_open):
+    """The same, with no room in the half that counts."""
+    simulation = before_move(classes)
+    fill_halves(simulation, is_other_open)
+    return handed_out(simulation)
+
+
+def check_found(checks, program, simulation, what, replies, found):
+    """The model's last replies are these, and then each class is found with its words."""
+    for name, _ in found:
+        simulation.add("look", b"app", name)
+    due = compare(checks, program, simulation, what)
+    wanted = replies + [f"class {words}" for _, words in found]
+    checks.check(due[-len(wanted):] == wanted, f"{what}: the model")
+
+
+def check_move(checks, program, simulation, device_calls, calls, stored, end, goes_on=False):
+    """A move is stopped: each class is found with its words, whether or not it moved. The records
+    can move then where it isn't there; or, where that is said, only where it is there."""
+    number = simulation.world.number()
+    found = [(name, words) for name, (words, _) in simulation.world.loaders()[b"app"].items()]
+    there = stop(simulation, device_calls, calls, stored, end)
+    what = (f"a move of {len(device_calls)} calls stopped behind {calls}, {stored} bytes stored of "
+            f"the last, {end[0]}")
+    check_found(checks, program, simulation, what, [f"opened {number - 1 + there}"], found)
+    again = simulation.add("tighten", b"app")
+    wanted = f"number {number + there}" if goes_on == there else "refused 8"
+    checks.check(again == wanted, f"{what}: another move: {again}")
+    simulation.add("loader", b"next")
+    store(simulation)
+    simulation.add("crash", 0, b"\x00")
+    check_found(checks, program, simulation, what + ", at the end", [], found)
+
+
+def check_moves(checks, program):
+    walks = list(ends((0, 1 << 40), (b"", b"\xa5", b"\x00", b"\xa5" * 9000)))
+    for classes, records in (ONE_MOVES, 1), (TWO_MOVE, 2):
+        calls = ["record"] * records + MOVE[1:]
+        check_each_stop(checks, program, check_move, lambda: handed_out(before_move(classes)),
+                        calls, walks)
+        for is_other_open, first in (False, "sync"), (True, CHECKPOINT[0]):
+            check_each_stop(checks, program, check_move,
+                            lambda: after_halves(classes, is_other_open),
+                            [first, *CHECKPOINT[1:], *calls], walks)
+
+
+def check_move_waits(checks, program):
+    """The chunk that a move leaves waits for its receipt. Worked out by hand: a root of eight
+    blocks, of which a's classes take 0, and 2 and 3, then 1; and b's first takes the upper half."""
+    lines = [b"geometry 3 1 256", b"loader a"]
+    lines += [b"define a " + data.hex().encode() for data in ONE_MOVES]
+    lines += [b"tighten a", b"loader b", b"define b " + class_p(b"A", 3936).hex().encode()]
+    full = b"define b " + class_p(b"B", 0).hex().encode()
+    lines += [full, b"seal"] + [b"advance"] * 9 + [full, b"learn", full]
+    lines += [b"tighten b", b"tighten a", b"look a A", b"look a B", b"look b A", b"look b B"]
+    # A root, four records, the group, a sync, the gate, a sync.
+    wanted = [f"number {number}" for number in range(1, 7)]
+    wanted += ["refused 6", "group 1 6"] + ["working"] * 8
+    wanted += ["done 6", "refused 6", "learnt 6", "number 7", "refused 8", "refused 8"]
+    wanted += ["class 20", "class 128", "class 512", "class 20"]
+    got, status, _ = run(program, b"\n".join(lines))
+    checks.check(got == wanted and status == 0, f"a chunk that a move leaves: {got}")
 
 
 def before_trim():
@@ -609,6 +807,39 @@ def before_trim():
     simulation.add("learn")
     simulation.add("trim")
     return simulation
+
+
+def before_growth():
+    """The first root is full, and a trim cut off the second, which the accepted cache still has.
+    The last chunk of `app` has two blocks, of which it needs one."""
+    simulation = before_move(ONE_MOVES)
+    for event in (("loader", b"c"), ("define", b"c", class_p(b"A", 864)),
+                  ("define", b"c", class_p(b"B", 3936)), ("loader", b"b"),
+                  ("define", b"b", class_p(b"A", 0))):
+        simulation.add(*event)
+    store(simulation)
+    simulation.add("unload", b"b")
+    store(simulation)
+    for event in ("learn",), ("trim",), ("advance",), ("advance",):
+        simulation.add(*event)
+    return simulation
+
+
+def check_move_grows(checks, program):
+    """A move into a root that was cut off writes it anew."""
+    checks.check(before_growth().due == "trimmed 1", "a trim cuts off the second root")
+    walks = list(ends((0, 1 << 40), (b"", b"\xa5", b"\xa5" * 9000)))
+    # The chunk that it left lies before the one in the second root, which no opening knows without
+    # the move.
+    check_each_stop(checks, program, functools.partial(check_move, goes_on=True),
+                    lambda: handed_out(before_growth()), ["root", *MOVE], walks)
+    with tempfile.TemporaryDirectory() as folder:
+        path = os.path.join(folder, "disk")
+        simulation = handed_out(before_growth())
+        store(simulation)
+        run(program, simulation.text(), "--disk", path)
+        checks.check(b"class B words 128 root 1 at 0" in region.read(path).listed(),
+                     "class B lies in the second root")
 
 
 def check_trims(checks, program):
@@ -669,8 +900,8 @@ def check_forms(checks, program):
             b"look a A B", b"fault", b"fault -1", b"fault +1"]
     bad += [b"fault 1x", b"fault 18446744073709551616", b"fault 0x1", b"reopen 1", b"crash",
             b"crash 0", b"crash 0 ", b"crash - 00", b"crash 0 0"]
-    bad += [b"crash 0 00 00", b"crash 0 --", b"tighten a", b"trim 0", b"geometry 3 1 256",
-            b"advance\r", b"learn\t", b"\xff"]
+    bad += [b"crash 0 00 00", b"crash 0 --", b"tighten", b"tighten a b", b"trim 0"]
+    bad += [b"geometry 3 1 256", b"advance\r", b"learn\t", b"\xff"]
     for line in bad:
         for before in 0, 3:
             text = first + b"seal\n" * before + line + b"\nlearn\nnone of it\n"
@@ -725,6 +956,7 @@ def check_disk(checks, program):
             + b"\nseal\nadvance\nfault 0\n", "--disk", path)
         with open(path, "rb") as held:
             checks.check(held.read() == file + bytes(8192), "the file behind one loader and a root")
+        check_places(checks, program, path)
         _, status, errors = run(program, lines, "--disk", os.path.join(folder, "no", "disk"))
         checks.check(status == 3 and errors, f"a path in no folder: status {status}")
     _, status, errors = run(program, lines, "--disc", "x")
@@ -732,6 +964,18 @@ def check_disk(checks, program):
     got, status, errors = run(program, lines, "--help")
     checks.check(status == 0 and any("--disk" in line for line in got) and not errors,
                  f"help: status {status}")
+
+
+def check_places(checks, program, path):
+    """Where the classes of a loader lie before its last chunk moves, and behind that."""
+    simulation = before_move(ONE_MOVES)
+    for at in 256, 128:
+        run(program, simulation.text(), "--disk", path)
+        lines = [b"loader app", b"class A words 20 root 0 at 0",
+                 b"class B words 128 root 0 at %d" % at]
+        checks.check(list(region.read(path).listed()) == lines, f"class B lies at {at}")
+        if at == 256:
+            store(handed_out(simulation))
 
 
 # ---- refused allocations
@@ -758,7 +1002,7 @@ def is_true(simulation, replies):
     for (name, words), reply in zip(simulation.events, replies):
         if left and name == "advance" and reply == "device":
             due, left = world.advance(may_fail=True), 0
-        elif (left and name in ("loader", "define", "unload", "seal", "look")
+        elif (left and name in ("loader", "define", "unload", "tighten", "seal", "look")
                 and reply == "refused 9"):
             due, left = reply, 0
         else:
@@ -793,7 +1037,8 @@ def main(words):
         met = check_lists(checks, words[0])
         print(f"{LISTS} event lists:",
               ", ".join(f"{kind} {count}" for kind, count in sorted(met.items())))
-        for check in check_walks, check_trims, check_region, check_forms, check_disk:
+        for check in (check_walks, check_moves, check_move_waits, check_move_grows, check_trims,
+                      check_region, check_forms, check_disk):
             check(checks, words[0])
     print(f"{checks.passed} passed, {checks.failed} failed")
     return 1 if checks.failed else 0
