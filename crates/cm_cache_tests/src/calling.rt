@@ -22,6 +22,7 @@ enum Call {
     AddLoader(u8),
     Define(u8),
     Unload(u8),
+    Tighten(u8),
     Find(u8),
     Stop,
 }
@@ -64,6 +65,7 @@ fn make_call<K: Naming, R: Wait>(
         Call::AddLoader(name) => answer_to(cache.add_loader(rt, pass, &[name])),
         Call::Define(loader) => answer_to(define(rt, alloc, cache, pass, loader)),
         Call::Unload(name) => answer_to(cache.unload(rt, pass, &[name])),
+        Call::Tighten(name) => answer_to(cache.tighten(rt, pass, &[name])),
         Call::Find(name) => match cache.find(rt, &[name], b"A") {
             Ok(Some(_)) => Answer::Found,
             Ok(None) => Answer::Nothing,
@@ -123,6 +125,7 @@ const STOPPED: &[Call] = &[
     Call::Stop,
     Call::AddLoader(b'b'),
     Call::Unload(b'a'),
+    Call::Tighten(b'a'),
     Call::Find(b'a'),
     Call::Find(b'b'),
 ];
@@ -150,8 +153,55 @@ fn a_stopped_cache_refuses_changes_and_finds(rt: HostRuntime) -> Result<(), Fail
             Answer::Done,
             Answer::Refused(Refusal::Closed),
             Answer::Refused(Refusal::Closed),
+            Answer::Refused(Refusal::Closed),
             Answer::Found,
             Answer::Nothing,
+        ]
+        .as_slice()
+    );
+    Ok(())
+}
+
+/// What loader `a` leaves lies before the chunk of `b`.
+const MOVED: &[Call] = &[
+    Call::AddLoader(b'a'),
+    Call::AddLoader(b'b'),
+    Call::Define(b'a'),
+    Call::Define(b'b'),
+    Call::Tighten(b'b'),
+    Call::Unload(b'a'),
+    Call::Tighten(b'b'),
+    Call::Find(b'b'),
+    Call::Tighten(b'b'),
+];
+
+#[test]
+fn a_move_is_stored_and_changes_nothing_that_is_found(rt: HostRuntime) -> Result<(), Fail> {
+    let alloc = rt.alloc();
+    let (front, committer) = opened(alloc, formatted(alloc)?)?;
+    let new = NewCache::new(alloc, committer.number())?;
+    let (counts, answers) = run::<Brand, HostRuntime>(&rt, alloc, new, front, committer, MOVED)?;
+    assert_eq!(rt;
+        counts,
+        Counts {
+            handed: 6,
+            committed: 6,
+            of_passes: 6,
+            missing: 0
+        }
+    );
+    assert_eq!(rt;
+        answers.as_slice(),
+        [
+            Answer::Number(1),
+            Answer::Number(2),
+            Answer::Number(3),
+            Answer::Number(4),
+            Answer::Refused(Refusal::NoMove),
+            Answer::Number(5),
+            Answer::Number(6),
+            Answer::Found,
+            Answer::Refused(Refusal::NoMove),
         ]
         .as_slice()
     );
