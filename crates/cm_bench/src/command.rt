@@ -38,6 +38,27 @@ pub struct Job {
     pub is_timed: bool,
 }
 
+/// How threads change a cache for a while.
+#[derive(Debug, Drop)]
+pub struct Soaking {
+    pub path: String,
+    pub threads: u32,
+    pub seconds: u32,
+}
+
+/// How threads define classes in a new file.
+#[derive(Debug, Drop)]
+pub struct Threading {
+    pub path: String,
+    pub geometry: Geometry,
+    pub threads: u32,
+    /// How many threads look up meanwhile.
+    pub finders: u32,
+    /// Whether the classes are prepared before the time that is measured.
+    pub is_prepared: bool,
+    pub is_timed: bool,
+}
+
 /// What the command line asks for.
 #[derive(Debug, Drop)]
 pub enum Request {
@@ -51,6 +72,10 @@ pub enum Request {
     Front(Option<u32>),
     /// To do a task on a file.
     File(Job),
+    /// To have threads change the cache in a file for a while.
+    Soak(Soaking),
+    /// To have threads define classes in a new file.
+    Threads(Threading),
     /// Nothing more: the help or a usage text was printed. The status to end with.
     Printed(u8),
 }
@@ -164,6 +189,46 @@ fn read_command<'a>(alloc: Global) -> Result<Command<'a>> {
     Ok(command)
 }
 
+fn threads<'a>(alloc: Global, usual: &'a str) -> Arg<'a> {
+    number(alloc, "threads", usual, (1, 64), "How many threads")
+}
+
+fn soak_command<'a>(alloc: Global) -> Result<Command<'a>> {
+    let help = "For how many seconds";
+    let command = Command::new(alloc, "soak")
+        .about("Has threads define, find and unload the classes on standard input in a file")
+        .arg(file(alloc, "The file to open"))?
+        .arg(threads(alloc, "16"))?
+        .arg(number(alloc, "seconds", "1", (1, 86_400), help))?;
+    Ok(command)
+}
+
+fn finders<'a>(alloc: Global) -> Arg<'a> {
+    let help = "How many threads look up meanwhile";
+    number(alloc, "finders", "0", (0, 64), help)
+}
+
+fn unprepared<'a>(alloc: Global) -> Arg<'a> {
+    Arg::new(alloc, "unprepared")
+        .long("unprepared")
+        .help("Prepare each class right before it is defined")
+        .action(ArgAction::SetTrue)
+}
+
+fn threads_command<'a>(alloc: Global) -> Result<Command<'a>> {
+    let command = Command::new(alloc, "threads")
+        .about("Has threads define the classes on standard input in a new file, one at a time")
+        .arg(file(alloc, "The file to make"))?
+        .arg(threads(alloc, "1"))?
+        .arg(finders(alloc))?
+        .arg(unprepared(alloc))?
+        .arg(times(alloc))?
+        .arg(top(alloc))?
+        .arg(roots(alloc))?
+        .arg(slots(alloc))?;
+    Ok(command)
+}
+
 fn whole_command<'a>(alloc: Global) -> Result<Command<'a>> {
     let command = Command::new(alloc, "cm_bench")
         .about("What the parts of a cache cost; classes come each behind its length (4 bytes)")
@@ -171,7 +236,9 @@ fn whole_command<'a>(alloc: Global) -> Result<Command<'a>> {
         .subcommand(classes_command(alloc)?)?
         .subcommand(front_command(alloc)?)?
         .subcommand(put_command(alloc)?)?
-        .subcommand(read_command(alloc)?)?;
+        .subcommand(read_command(alloc)?)?
+        .subcommand(soak_command(alloc)?)?
+        .subcommand(threads_command(alloc)?)?;
     Ok(command)
 }
 
@@ -212,12 +279,38 @@ fn job_of(alloc: Global, name: &str, given: &ArgMatches<'_>) -> Result<Option<Jo
     }))
 }
 
+fn path_of(alloc: Global, given: &ArgMatches<'_>) -> Result<String> {
+    let file = given.get_str("FILE").ok_or(UnknownWords)?;
+    Ok(String::from_str(alloc, file)?)
+}
+
+fn soaking_of(alloc: Global, given: &ArgMatches<'_>) -> Result<Soaking> {
+    Ok(Soaking {
+        path: path_of(alloc, given)?,
+        threads: given.get_one("threads").ok_or(UnknownWords)?,
+        seconds: given.get_one("seconds").ok_or(UnknownWords)?,
+    })
+}
+
+fn threading_of(alloc: Global, given: &ArgMatches<'_>) -> Result<Threading> {
+    Ok(Threading {
+        path: path_of(alloc, given)?,
+        geometry: geometry_of(given).ok_or(UnknownWords)?,
+        threads: given.get_one("threads").ok_or(UnknownWords)?,
+        finders: given.get_one("finders").ok_or(UnknownWords)?,
+        is_prepared: !given.get_flag("unprepared"),
+        is_timed: given.get_flag("times"),
+    })
+}
+
 /// What is asked for by a verb's words.
 fn request_of(alloc: Global, name: &str, given: &ArgMatches<'_>) -> Result<Request> {
     match name {
         "classes" if given.get_flag("methods") => Ok(Request::Methods),
         "classes" => Ok(Request::Classes(given.get_one::<u32>("passes"))),
         "front" => Ok(Request::Front(given.get_one::<u32>("passes"))),
+        "soak" => Ok(Request::Soak(soaking_of(alloc, given)?)),
+        "threads" => Ok(Request::Threads(threading_of(alloc, given)?)),
         _ => match job_of(alloc, name, given)? {
             Some(job) => Ok(Request::File(job)),
             None => Err(UnknownWords.into()),

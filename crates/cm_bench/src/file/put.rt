@@ -63,7 +63,7 @@ fn add_loader<D: Disk>(session: &mut Session<D>) -> Result<()> {
 }
 
 /// Makes a file of these sizes.
-fn make_file(
+pub fn make_file(
     rt: &(impl Files<File = File> + AllocGlobal),
     path: &str,
     geometry: Geometry,

@@ -1,0 +1,162 @@
+//! Changes and look-ups by chance, for a while.
+
+use crate::threads::scene::{Sample, Scene};
+use cm_cache::{Cache, Naming, Pass};
+use cm_prepare::{Refusal, prepare};
+use rand_core::Rng;
+use rand_pcg::Pcg32;
+use std::alloc::Global;
+use std::rt::Clock;
+use std::sync::Wait;
+use std::time::{Duration, Instant};
+
+/// How many loaders a thread has of its own.
+pub const LOADERS: u32 = 2;
+
+/// How many calls a thread makes at most.
+const MOST_CALLS: u32 = 10_000_000;
+
+/// Until when a thread goes on, and which it is.
+#[derive(Clone, Copy, Debug)]
+pub struct Mix {
+    pub thread: u32,
+    pub start: Instant,
+    pub limit: Duration,
+}
+
+/// What a call asks for, of which loader and which class.
+#[derive(Clone, Copy, Debug)]
+pub enum Asked {
+    Loader(usize),
+    Unload(usize),
+    Define(usize, usize),
+    Find(usize, usize),
+}
+
+/// What was answered.
+#[derive(Clone, Copy, Debug)]
+pub enum Answer {
+    Number(u64),
+    /// Refused, with the number of the refusal.
+    Refused(u8),
+    /// A class was found, whose record has so many words.
+    Words(u32),
+    Nothing,
+}
+
+/// A call, and what was answered.
+#[derive(Clone, Copy, Debug)]
+pub struct Step {
+    pub asked: Asked,
+    pub answer: Answer,
+}
+
+/// A number below a count, by chance.
+fn below(rng: &mut Pcg32, count: usize) -> usize {
+    (rng.next_u32() as usize).checked_rem(count).unwrap_or(0)
+}
+
+/// What to ask for next: mostly classes.
+fn next_asked(rng: &mut Pcg32, thread: u32, classes: usize) -> Asked {
+    let own = below(rng, LOADERS as usize);
+    let loader = (thread as usize)
+        .wrapping_mul(LOADERS as usize)
+        .wrapping_add(own);
+    let class = below(rng, classes);
+    match below(rng, 16) {
+        0 => Asked::Unload(loader),
+        1 | 2 => Asked::Loader(loader),
+        3..=10 => Asked::Define(loader, class),
+        _ => Asked::Find(loader, class),
+    }
+}
+
+fn answer_of(answer: Result<u64, Refusal>) -> Answer {
+    match answer {
+        Ok(number) => Answer::Number(number),
+        Err(refusal) => Answer::Refused(refusal.number()),
+    }
+}
+
+/// Prepares a class, as a loader does that has its bytes, and defines it.
+fn define<K: Naming, R: Wait>(
+    rt: &R,
+    alloc: Global,
+    cache: &Cache<K>,
+    pass: &mut Pass<K>,
+    loader: &[u8],
+    sample: &Sample<'_>,
+) -> Result<u64, Refusal> {
+    let class = prepare(alloc, sample.bytes)?;
+    cache.define(rt, pass, loader, class)
+}
+
+fn find<K: Naming, R: Wait>(
+    rt: &R,
+    cache: &Cache<K>,
+    loader: &[u8],
+    sample: &Sample<'_>,
+) -> Answer {
+    match cache.find(rt, loader, &sample.name) {
+        Ok(Some(record)) => Answer::Words(record.words()),
+        Ok(None) => Answer::Nothing,
+        Err(_) => Answer::Refused(Refusal::NoMemory.number()),
+    }
+}
+
+/// Makes a call. A class that there isn't is found nowhere.
+fn call<K: Naming, R: Wait>(
+    rt: &R,
+    alloc: Global,
+    cache: &Cache<K>,
+    pass: &mut Pass<K>,
+    scene: &Scene<'_>,
+    asked: Asked,
+) -> Answer {
+    match asked {
+        Asked::Loader(loader) => answer_of(cache.add_loader(rt, pass, scene.loader(loader))),
+        Asked::Unload(loader) => answer_of(cache.unload(rt, pass, scene.loader(loader))),
+        Asked::Define(loader, class) => match scene.samples.get(class) {
+            Some(sample) => {
+                answer_of(define(rt, alloc, cache, pass, scene.loader(loader), sample))
+            }
+            None => Answer::Nothing,
+        },
+        Asked::Find(loader, class) => match scene.samples.get(class) {
+            Some(sample) => find(rt, cache, scene.loader(loader), sample),
+            None => Answer::Nothing,
+        },
+    }
+}
+
+/// Whether a thread's time is over, or can't be told.
+fn is_over(rt: &impl Clock, mix: Mix) -> bool {
+    match mix.start.elapsed(rt) {
+        Ok(elapsed) => elapsed >= mix.limit,
+        Err(_) => true,
+    }
+}
+
+/// Makes calls until the time is over. A call that isn't kept, since memory ran out, is the last.
+pub fn mix_calls<K: Naming, R: Clock + Wait>(
+    rt: &R,
+    alloc: Global,
+    cache: &Cache<K>,
+    pass: &mut Pass<K>,
+    scene: &Scene<'_>,
+    mix: Mix,
+) -> Vec<Step> {
+    let mut steps = Vec::new(alloc);
+    let mut rng = Pcg32::new(42, u64::from(mix.thread));
+    for _ in 0..MOST_CALLS {
+        if is_over(rt, mix) {
+            return steps;
+        }
+        let asked = next_asked(&mut rng, mix.thread, scene.samples.len());
+        let answer = call(rt, alloc, cache, pass, scene, asked);
+        if steps.push(Step { asked, answer }).is_err() {
+            return steps;
+        }
+    }
+    steps
+}

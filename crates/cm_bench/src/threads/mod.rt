@@ -1,0 +1,96 @@
+//! Caches in files that several threads use at once.
+
+mod defining;
+mod mixing;
+mod report;
+mod running;
+mod scene;
+
+use crate::command::{Soaking, Threading};
+use crate::file::{CountedDisk, make_file, open_file};
+use crate::input::read_input;
+use crate::threads::defining::Turn;
+use crate::threads::mixing::{LOADERS, Mix};
+use crate::threads::report::{print_steps, print_sums};
+use crate::threads::running::{Duty, run_duties};
+use crate::threads::scene::Scene;
+use anyhow::Result;
+use std::alloc::{AllocError, Global};
+use std::fs::{File, Files};
+use std::rt::Clock;
+use std::sync::Wait;
+use std::thread::Threads;
+use std::time::{Duration, Instant};
+
+/// Calls by chance for each of so many threads, from now on.
+fn mixes(rt: &(impl Clock + AllocGlobal), soaking: &Soaking) -> Result<Vec<Duty>> {
+    let start = Instant::now(rt)?;
+    let limit = Duration::from_secs(u64::from(soaking.seconds));
+    let mut duties = Vec::new(rt.alloc());
+    for thread in 0..soaking.threads {
+        duties.push(Duty::Mix(Mix {
+            thread,
+            start,
+            limit,
+        }))?;
+    }
+    Ok(duties)
+}
+
+/// Has threads change the cache in a file and look up in it for a while, and prints each call with
+/// what it was answered.
+pub fn soak<R>(rt: &R, soaking: &Soaking) -> Result<()>
+where
+    R: Clock + Files<File = File> + Input + Print + AllocGlobal,
+    R: Threads + Wait + Copy + Send + Sync + 'static,
+{
+    let bytes = read_input(rt)?;
+    let loaders = soaking.threads.saturating_mul(LOADERS);
+    let scene = Scene::new(rt.alloc(), &bytes, loaders, 0)?;
+    let disk = open_file(rt, &soaking.path)?;
+    let duties = mixes(rt, soaking)?;
+    let ran = run_duties(rt, rt.alloc(), disk, &scene, &duties)?;
+    print_steps(rt, &scene, &ran.works, ran.totals)
+}
+
+/// The duties of those that define, and of those that look up.
+fn turns(alloc: Global, threading: &Threading) -> Result<Vec<Duty>, AllocError> {
+    let mut duties = Vec::new(alloc);
+    for thread in 0..threading.threads {
+        duties.push(Duty::Define(turn(threading, thread)))?;
+    }
+    for thread in 0..threading.finders {
+        duties.push(Duty::LookUp(turn(threading, thread)))?;
+    }
+    Ok(duties)
+}
+
+fn turn(threading: &Threading, thread: u32) -> Turn {
+    Turn {
+        thread,
+        threads: threading.threads,
+        is_prepared: threading.is_prepared,
+    }
+}
+
+/// Has threads define classes one at a time in a new file, each in a loader of its own, while
+/// others look them up.
+pub fn bench<R>(rt: &R, threading: &Threading) -> Result<()>
+where
+    R: Clock + Files<File = File> + Input + Print + AllocGlobal,
+    R: Threads + Wait + Copy + Send + Sync + 'static,
+{
+    let alloc = rt.alloc();
+    let bytes = read_input(rt)?;
+    let scene = Scene::new(alloc, &bytes, threading.threads, threading.threads)?;
+    make_file(rt, &threading.path, threading.geometry)?;
+    let disk = CountedDisk::new(open_file(rt, &threading.path)?);
+    let duties = turns(alloc, threading)?;
+    let ran = run_duties(rt, alloc, disk, &scene, &duties)?;
+    let time = if threading.is_timed {
+        Some(ran.time)
+    } else {
+        None
+    };
+    print_sums(rt, &ran.works, ran.totals, ran.disk.counts(), time)
+}
