@@ -36,6 +36,14 @@ SCRIPT = [
     b"find app B",
     b"unload ext",
     runs.define(b"app", b"A", 5000),
+    b"loader ext",
+    runs.define(b"ext", b"A", 864),
+    runs.define(b"ext", b"D", 0),
+    runs.define(b"ext", b"E", 0),
+    # Two records move; then there is no better chunk.
+    b"tighten ext",
+    b"tighten ext",
+    b"find ext E",
 ]
 # So many commands come before it that the journal is written anew in the midst of it, into a half
 # that was used before.

@@ -1,5 +1,5 @@
 #!/usr/bin/env bash
-# Files that are far longer than their caches: what lies behind the last root that the sizes allow
+# Files that are far longer than their caches: what lies after the last root that the sizes allow
 # is ignored and isn't read, so a file's length doesn't decide how much memory is taken. Each file
 # is sparse, of 64 GiB, and the program has 256 MiB for all of its memory.
 set -u
@@ -55,7 +55,10 @@ check_last "looking at the long file leaves its length"
 # ---- the same script on both
 
 printf 'find a A\nloader b\ndefine b %s\nfind b B\nunload a\nfind a A\n' "$b" >"$work/in"
+printf 'tighten b\nfind b B\n' >>"$work/in"
 same "apply" apply
+[ "$(sed -n 7p "$work/got")" = "ok 9" ]
+check_last "a class moves on the long file"
 [ "$(stat -c %s "$work/long")" = "$length" ]
 check_last "a script leaves the length of the long file"
 head -c "$(stat -c %s "$work/short")" "$work/long" | cmp -s - "$work/short"

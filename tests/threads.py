@@ -1,8 +1,12 @@
 #!/usr/bin/env python3
-"""Runs scripts with 1, 2 and 16 workers, and compares what they write with each other, with the
-oracle, and in the files.
+"""Runs scripts by chance with one worker and with several, some of them on a device that fails.
 
-    tests/threads.py PROGRAM SCRIPTS SEED
+    tests/threads.py PROGRAM CALLS_LIBRARY SCRIPTS SEED
+
+A command is stored before the next is accepted, so the device calls of a script are the same with
+any number of workers: those that region.py makes of the commands that oracle.py accepts. So are the
+replies, the status and the bytes of the file, where one of these calls fails too. What such a run
+leaves holds all that was acknowledged, and another run goes on with it.
 """
 import os
 import random
@@ -10,11 +14,13 @@ import subprocess
 import sys
 import tempfile
 
+import device
 import oracle
 import runs
 
 WORKERS = ["1", "2", "16"]
-A = runs.define(b"%s", b"A", 0).split(b" ")[2]  # class A with an attribute
+# Class A with an attribute.
+A = runs.define(b"%s", b"A", 0).split(b" ")[2]
 PLAIN = bytes.fromhex(
     "cafebabe0000003400050700020100014107000401"
     "00106a6176612f6c616e672f4f626a6563740021000100030000000000000000").hex().encode()
@@ -24,35 +30,116 @@ ROWS = {
               b"define a " + PLAIN],
     "row 14": [b"loader a", b"define a " + PLAIN, b"unload a", b"loader a", b"define a " + A,
                b"find a A"],
+    "row 17": [b"loader a", runs.define(b"a", b"A", 0), runs.define(b"a", b"B", 864),
+               b"tighten a", b"tighten a"],
 }
 GEOMETRY = oracle.Geometry(top=3, roots=3, slots=256)
+MOST_LINES = 100
+# Of so many scripts one is run on a device that fails.
+FAILING = 4
+# Lines that are refused whatever the cache holds.
+BAD_LINES = [b"", b"find app", b"loader " + b"x" * 49, b"define app 0", b"define app cafebabe",
+             b"define app " + PLAIN + b"00", b"find app %41", b"unload  app"]
 
 
-def contents(path):
-    with open(path, "rb") as file:
-        return file.read()
+def some_line(rng):
+    """A line by chance, now and then one that no cache takes."""
+    return rng.choice(BAD_LINES) if rng.random() < 0.06 else runs.some_line(rng)
 
 
-def run_on_file(program, path, lines, workers):
-    """The replies, the status and the errors of a run on a new file, and the file's bytes."""
-    sizes = ["--top", str(GEOMETRY.top), "--roots", str(GEOMETRY.roots),
-             "--slots", str(GEOMETRY.slots)]
-    runs.run(program, ["format", path, *sizes])
-    told = runs.run(program, ["apply", path, "--workers", workers], lines)
-    bytes_left = contents(path)
-    os.remove(path)
-    return told, bytes_left
+class Script:
+    """Lines, and what a run of them on a new file has to come to."""
+
+    def __init__(self, lines):
+        self.lines = lines
+        cache, file = device.begun(GEOMETRY)
+        self.new = bytes(file.bytes)
+        self.calls = device.due_calls(cache, file, lines)
+        self.replies = replies_among(self.calls)
+        self.status = int(any(reply.startswith(b"refused") for reply in self.replies))
+        self.errors = ""
+        self.left = bytes(file.bytes)
+        self.env = {}
 
 
-def compare(checks, name, program, path, lines):
-    """Runs a script with each number of workers, in files and in memory."""
-    replies, status = runs.answers(runs.new_cache(GEOMETRY), lines)
-    first = None
-    for workers in WORKERS:
-        told, bytes_left = run_on_file(program, path, lines, workers)
-        first = first or bytes_left
-        checks.check(f"{name}, {workers} workers", told == (replies, status, ""), f"{told!s:.200}")
-        checks.check(f"{name}, {workers} workers: the file", bytes_left == first)
+def replies_among(calls):
+    return [data[:-1] for letter, _, data in calls if letter == "r"]
+
+
+class Broken:
+    """A script, and what a run has to come to in which a device call fails, counted from 1, of
+    which some bytes are stored."""
+
+    def __init__(self, script, path, library, fails, stores):
+        at = [at for at, call in enumerate(script.calls) if call[0] != "r"][fails - 1]
+        done = script.calls[:at]
+        self.lines = script.lines
+        self.new = script.new
+        self.replies = replies_among(done)
+        # Behind the last number that was acknowledged; the first call only opens the file.
+        number = 1 + sum(reply.startswith(b"ok ") for reply in self.replies)
+        self.replies.append(b"unsure %d" % number if fails > 1 else b"device")
+        self.status = 3
+        self.errors = f"cmcache: {path}: {device.EIO}\n"
+        _, place, data = script.calls[at]
+        self.left = written(script.new, done, place, data[:stores])
+        self.env = {"LD_PRELOAD": library, "FAIL": str(fails), "STORES": str(stores)}
+
+
+def written(new, calls, place, beginning):
+    """A file's bytes after these calls, and the beginning of one more."""
+    left = bytearray(new)
+    for _, at, data in [call for call in calls if call[0] == "w"] + [("w", place, beginning)]:
+        left.extend(bytes(max(0, at + len(data) - len(left))) if data else b"")
+        left[at:at + len(data)] = data
+    return bytes(left)
+
+
+class Bench:
+    """The program, the library that makes its calls fail, and a file."""
+
+    def __init__(self, program, library, path):
+        self.program = program
+        self.library = library
+        self.path = path
+        self.checks = runs.Checks()
+
+    def run(self, name, due, workers):
+        """A run on a new file, compared with what it has to come to."""
+        with open(self.path, "wb") as file:
+            file.write(due.new)
+        told = runs.run(self.program, ["apply", self.path, "--workers", workers], due.lines,
+                        due.env)
+        with open(self.path, "rb") as file:
+            left = file.read()
+        name = f"{name}, {workers} workers"
+        self.checks.check(name, told == (due.replies, due.status, due.errors), f"{told!s:.200}")
+        self.checks.check(f"{name}: the file", left == due.left)
+
+    def run_all(self, name, due):
+        for workers in WORKERS:
+            self.run(name, due, workers)
+
+    def fail_one(self, rng, name, script):
+        """A script on a device that fails at one of its calls, and the rest of it behind that."""
+        calls = device.device_calls(script.calls)
+        fails = rng.randrange(1, len(calls) + 1)
+        length = len(calls[fails - 1][2])
+        stores = rng.choice([0, length // 2, length])
+        name = f"{name}, call {fails} fails, {stores} bytes stored"
+        due = Broken(script, self.path, self.library, fails, stores)
+        self.run_all(name, due)
+        cache = runs.new_cache(GEOMETRY)
+        count = len(due.replies) - 1
+        for line in due.lines[:count]:
+            cache.answer(line)
+        line = due.lines[count] if fails > 1 else None
+        runs.settle(self.checks, f"{name}: what is left", self.path, cache, line)
+        rest = due.lines[count:]
+        wanted = runs.answers(cache.reopened(), rest)
+        told = runs.run(self.program, ["apply", self.path, "--workers", "2"], rest)
+        self.checks.check(f"{name}: the rest", told == (*wanted, ""), f"{told!s:.200}")
+        runs.settle(self.checks, f"{name}: the file behind it", self.path, cache, None)
 
 
 def is_answered_at_once(program):
@@ -70,18 +157,22 @@ def is_answered_at_once(program):
     return process.wait() == 0 and replies == [reply + b"\n" for reply in wanted]
 
 
-def main(program, scripts, seed):
-    rng, checks = random.Random(seed), runs.Checks()
+def main(program, library, scripts, seed):
+    rng = random.Random(seed)
     with tempfile.TemporaryDirectory(dir=os.environ.get("WORK")) as folder:
-        path = f"{folder}/cache"
+        bench = Bench(program, library, f"{folder}/cache")
         for name, lines in ROWS.items():
-            compare(checks, name, program, path, lines)
+            bench.run_all(name, Script(lines))
         for number in range(scripts):
-            lines = [runs.some_line(rng) for _ in range(rng.randrange(150))]
-            compare(checks, f"seed {seed}, script {number}", program, path, lines)
-    checks.check("a line is answered before the next is there", is_answered_at_once(program))
-    return checks.finish()
+            script = Script([some_line(rng) for _ in range(rng.randrange(MOST_LINES))])
+            name = f"seed {seed}, script {number}"
+            if number % FAILING:
+                bench.run_all(name, script)
+            else:
+                bench.fail_one(rng, name, script)
+    bench.checks.check("a line is answered before the next is there", is_answered_at_once(program))
+    return bench.checks.finish()
 
 
 if __name__ == "__main__":
-    sys.exit(main(sys.argv[1], int(sys.argv[2]), int(sys.argv[3])))
+    sys.exit(main(sys.argv[1], sys.argv[2], int(sys.argv[3]), int(sys.argv[4])))

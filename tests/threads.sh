@@ -1,21 +1,38 @@
 #!/usr/bin/env bash
-# `apply` with workers writes what it writes with one, on the output and in the file, and answers
-# each line before the next is there; a run with workers that is killed keeps what it acknowledged.
-# SCRIPTS=N runs so many scripts by chance instead of 40, KILLS=N kills so many runs instead of 50,
-# SEED=N takes other scripts and moments. Needs Python 3.
+# `apply` with workers writes what it writes with one, on the output and in the file, also where a
+# device call fails, and answers each line before the next is there; a run with workers that is
+# killed keeps what it acknowledged; and threads that define, find and unload in one file at once
+# are answered as one thread would be, and leave there what they were answered.
+# SCRIPTS=N runs so many scripts by chance instead of 1,000, KILLS=N kills so many runs instead of
+# 50, SOAK=N has the threads go on for so many seconds instead of one, SEED=N takes other scripts
+# and moments. Needs a C compiler and Python 3.
 set -u
 cd "$(dirname "$0")/.." || exit 1
 . tests/lib.sh
 
-WORK=$work python3 tests/threads.py "$(executable)" "${SCRIPTS:-40}" "${SEED:-$RANDOM}" \
+library=$work/calls.so
+if ! cc -O2 -Wall -Werror -shared -fPIC -o "$library" tests/calls.c; then
+    echo "0 passed, 1 failed"
+    exit 1
+fi
+seed=${SEED:-$RANDOM}
+
+# No machine stops under these scripts, so they needn't wait for a disk.
+quick=$work
+[ -w /dev/shm ] && quick=$(mktemp -d -p /dev/shm)
+trap 'rm -rf "$work" "$quick"' EXIT
+WORK=$quick python3 tests/threads.py "$(executable)" "$library" "${SCRIPTS:-1000}" "$seed" \
     >"$work/told"
 check_last "scripts with workers"
 cat "$work/told"
 
 # A run with workers is killed at random moments.
-WORK=$work python3 tests/kill.py "$(executable)" "${KILLS:-50}" "${SEED:-$RANDOM}" --workers 4 \
-    >"$work/told"
+WORK=$work python3 tests/kill.py "$(executable)" "${KILLS:-50}" "$seed" --workers 4 >"$work/told"
 check_last "runs with workers that are killed"
+cat "$work/told"
+
+WORK=$work python3 tests/soak.py "$(executable)" "$(built cm_bench)" 16 "${SOAK:-1}" >"$work/told"
+check_last "sixteen threads on one file"
 cat "$work/told"
 
 finish

@@ -1,0 +1,121 @@
+#!/usr/bin/env python3
+"""Has threads define, find and unload classes in one file at once, and looks at what they were
+answered and at what the file holds then.
+
+    tests/soak.py PROGRAM BENCH THREADS SECONDS
+
+Each thread has loaders of its own, so oracle.py answers its calls apart from those of the others;
+but for the numbers, which have to be 1 to that of the last, each once, and to rise in each thread.
+The file, read by region.py, checked and listed by the program, has to hold what all threads have
+in the end. It is so small that its journal is written anew again and again.
+"""
+import os
+import subprocess
+import sys
+import tempfile
+
+import oracle
+import region
+import runs
+
+# There is always room for all classes of all loaders.
+GEOMETRY = oracle.Geometry(top=3, roots=256, slots=512)
+CLASSES = [runs.padded(name, zeros) for name in runs.CLASSES for zeros in (0, 100, 3000)]
+HEX = [data.hex().encode() for data in CLASSES]
+NAMES = [name for name in runs.CLASSES for _ in range(3)]
+
+
+def line_of(asked):
+    """A call as a line of a script: a class is told by its place in the list."""
+    verb, loader, *rest = asked.split(b" ")
+    if verb == b"define":
+        return b"define %s %s" % (loader, HEX[int(rest[0])])
+    if verb == b"find":
+        return b"find %s %s" % (loader, NAMES[int(rest[0])])
+    return asked
+
+
+def kind_of(reply):
+    """A reply of oracle.py as the threads tell it, and without its number."""
+    words = reply.split(b" ")
+    if words[0] == b"class":
+        return b"words " + words[-1]
+    return b" ".join(words[:2]) if words[0] == b"refused" else words[0]
+
+
+class Told:
+    """What one thread told."""
+
+    def __init__(self, lines):
+        self.calls = [line.split(b": ") for line in lines]
+        self.numbers = [int(answer[3:]) for _, answer in self.calls if answer.startswith(b"ok ")]
+        self.loaders = {asked.split(b" ")[1] for asked, _ in self.calls}
+
+    def wrong(self, cache):
+        """The first call that wasn't answered as this cache answers it; it is left as the thread
+        has left its loaders."""
+        for asked, answer in self.calls:
+            kind = b"ok" if answer.startswith(b"ok ") else answer
+            due = kind_of(cache.answer(line_of(asked)))
+            if kind != due:
+                return f"{asked}: {answer}, wanted {due}"
+        return None
+
+
+def check_threads(checks, threads):
+    """What all of them left, by loader."""
+    state = {}
+    for at, told in enumerate(threads):
+        cache = runs.new_cache(GEOMETRY)
+        wrong = told.wrong(cache)
+        checks.check(f"thread {at}: its answers", wrong is None, f"{wrong}")
+        checks.check(f"thread {at}: its numbers rise", told.numbers == sorted(told.numbers))
+        checks.check(f"thread {at}: its loaders are its own",
+                     told.loaders == {b"t%d" % (2 * at), b"t%d" % (2 * at + 1)}, f"{told.loaders}")
+        state.update(region.state_of(cache))
+    return state
+
+
+def parse(out):
+    """What each thread told, and the last line."""
+    *body, last = out.split(b"\n")[:-1]
+    threads = []
+    for line in body:
+        if line == b"thread":
+            threads.append([])
+        else:
+            threads[-1].append(line)
+    return [Told(lines) for lines in threads], last
+
+
+def soak(checks, program, bench, path, count, seconds):
+    words = ["--top", str(GEOMETRY.top), "--roots", str(GEOMETRY.roots),
+             "--slots", str(GEOMETRY.slots)]
+    checks.check("format", runs.run(program, ["format", path, *words]) == ([b"ok"], 0, ""))
+    stream = b"".join(len(data).to_bytes(4, "big") + data for data in CLASSES)
+    ran = subprocess.run([bench, "soak", path, "--threads", str(count), "--seconds", str(seconds)],
+                         input=stream, stdout=subprocess.PIPE, stderr=subprocess.PIPE, check=False)
+    checks.check("the soak ends", (ran.returncode, ran.stderr) == (0, b""), f"{ran!s:.200}")
+    threads, last = parse(ran.stdout)
+    checks.check("all threads told", len(threads) == count)
+    state = check_threads(checks, threads)
+    numbers = sorted(number for told in threads for number in told.numbers)
+    most = len(numbers)
+    checks.check("each number is answered once", numbers == [*range(1, most + 1)])
+    checks.check("what was counted", last == b"handed %d committed %d of_passes %d missing 0"
+                 % (most, most, most), f"{last}")
+    checks.check("the file", runs.state_in(path) == (state, most))
+    runs.tell(checks, "the file", program, path)
+    calls = sum(len(told.calls) for told in threads)
+    print(f"{count} threads made {calls} calls in {seconds} s; {most} were stored")
+
+
+def main(program, bench, count, seconds):
+    checks = runs.Checks()
+    with tempfile.TemporaryDirectory(dir=os.environ.get("WORK")) as folder:
+        soak(checks, program, bench, f"{folder}/cache", count, seconds)
+    return checks.finish()
+
+
+if __name__ == "__main__":
+    sys.exit(main(sys.argv[1], sys.argv[2], int(sys.argv[3]), int(sys.argv[4])))
