@@ -46,10 +46,11 @@ __attribute__((constructor)) static void begin(void)
 
 static int is_refused(size_t size)
 {
-    counts->calls += 1;
+    /* Threads allocate at once. */
+    uint64_t call = __atomic_add_fetch(&counts->calls, 1, __ATOMIC_SEQ_CST);
     if (size > counts->largest)
         counts->largest = size;
-    if (counts->calls != refuse)
+    if (call != refuse)
         return 0;
     counts->refused += 1;
     errno = ENOMEM;

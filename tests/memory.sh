@@ -10,6 +10,9 @@
 #
 # Needs a C compiler, Python 3, and the executables that the gate leaves (what is missing it
 # builds).
+
+# Each sweep counts in a subshell of its own, with a folder of its own.
+# shellcheck disable=SC2030,SC2031
 set -u
 cd "$(dirname "$0")/.." || exit 1
 . tests/lib.sh
@@ -83,25 +86,36 @@ beside sweep cm_world_tests commands::a_left_chunk_waits_for_its_receipt 203
 a=cafebabe0000003400050700020100014107000401
 a+=00106a6176612f6c616e672f4f626a6563740021000100030000000000000000
 built=$(executable)
-printf 'loader app\ndefine app %s\nfind app A\nloader app\nunload app\nfind app A\n' "$a" \
-    >"$work/script"
+{
+    printf 'loader app\ndefine app %s\nloader ext\ndefine ext %s\n' "$a" "$a"
+    printf '%s\n' 'find app A' 'loader app' 'unload app' 'find app A' 'tighten ext' 'find ext A'
+} >"$work/script"
 # sweep_program SCRIPT REFUSALS WORD..
 sweep_program() {
     WORK=$work tests/refused_memory.py "$built" "$library" "${@:2}" <"$1"
     check_last "the program with a refused allocation: ${*:2}"
 }
-beside sweep_program "$work/script" 336 apply --memory
-beside sweep_program "$work/script" 336 apply FILE
+beside sweep_program "$work/script" 370 apply --memory
+beside sweep_program "$work/script" 370 apply FILE
 beside sweep_program "$work/script" 91 format FILE
 # Opening a file alone, and looking at it.
 beside sweep_program /dev/null 331 apply FILE
 beside sweep_program /dev/null 252 check FILE
 beside sweep_program /dev/null 365 list FILE
+# The same for a cache that is started for threads: what they share, and the flusher's thread.
+beside sweep_program /dev/null 352 apply FILE --workers 2
+beside sweep_program "$work/script" 403 apply FILE --workers 2
+# The same by the library alone: one thread makes a loader and defines a class.
+bench=$(built cm_bench)
+sweep_threads() {
+    WORK=$work tests/refused_memory.py "$bench" "$library" "$1" threads FILE --threads 1
+    check_last "a cache for threads with a refused allocation"
+}
+beside sweep_threads 369
 tell_sweeps
 
-# asks NAME HEX: reading, judging and recording this class asks for no more than 8,192 bytes at
-# once, though it claims more; the words of the program's four verbs take some 5,000.
-bench=$(built cm_bench)
+# asks NAME HEX: reading, judging and recording this class asks for no more than 16,384 bytes at
+# once, though it claims more; the words of the program's six verbs take some 10,000.
 asks() {
     local length=$((${#2} / 2)) status most
     printf '%08x%s' "$length" "$2" >"$work/hex"
@@ -111,7 +125,7 @@ asks() {
     ALLOCATIONS=$work/counts LD_PRELOAD=$library "$bench" classes <"$work/in" >"$work/got"
     status=$?
     most=$(count 2)
-    [ "$status" = 0 ] && [ "$most" -le 8192 ] && grep -q "faults $3" "$work/got"
+    [ "$status" = 0 ] && [ "$most" -le 16384 ] && grep -q "faults $3" "$work/got"
     check_last "$1: $most bytes were asked for at once"
 }
 asks "class A" "$a" 0

@@ -11,7 +11,11 @@ answered as ever, or `refused 9 memory` where nothing else refuses it, or, of a 
 `unsure N` as the last reply (a disk in memory that can't grow is a device that failed); fewer
 replies than lines come with status 3 alone. A file holds what was acknowledged then, or that and
 the next command; one that `format` didn't make isn't there, and one that is only looked at has its
-bytes. REFUSALS is how many runs have to meet a refusal; the first that meets none ends the sweep.
+bytes. `threads`, of cm_bench, makes a file and has one thread make a loader there and define a
+class, on a cache that is started for threads: it ends with status 3 where that can't be started
+(2 where its words can't be read), and the file, once it is made, holds a beginning of the two
+commands, all of those among them that it says are stored.
+REFUSALS is how many runs have to meet a refusal; the first that meets none ends the sweep.
 """
 import copy
 import os
@@ -50,14 +54,31 @@ def is_true(lines, replies, status, cache, has_file):
 
 
 def held_cache():
-    """A cache with classes in two loaders, and one that was unloaded."""
+    """A cache with classes in two loaders, and one that was unloaded. What it left lies before the
+    chunk of another, whose class moves there."""
     cache = oracle.Cache()
     for line in [b"loader web", b"loader app", b"loader old"]:
         cache.answer(line)
-    for loader, name in (b"web", b"B"), (b"web", b"A"), (b"app", b"A"), (b"old", b"A"):
+    for loader, name in (b"old", b"A"), (b"web", b"B"), (b"web", b"A"), (b"app", b"A"):
         cache.answer(runs.define(loader, name, 8))
     cache.answer(b"unload old")
+    cache.answer(b"tighten app")
     return cache
+
+
+def stream_of_threads():
+    """The class that `threads` defines, as it is given."""
+    data = runs.padded(b"A", 0)
+    return len(data).to_bytes(4, "big") + data
+
+
+def states_of_threads():
+    """What a file holds behind none, one and both commands of `threads`."""
+    cache, states = oracle.Cache(), [{}]
+    for line in [b"loader t0", runs.define(b"t0", b"A", 0)]:
+        cache.answer(line)
+        states.append(region.state_of(cache))
+    return states
 
 
 class Sweep:
@@ -68,9 +89,12 @@ class Sweep:
         self.words = [self.path if word == "FILE" else word for word in words]
         self.lines = lines
         self.counts = f"{folder}/counts"
+        self.states = states_of_threads()
+        self.is_made = False
         self.checks = runs.Checks()
         # Whether the file is only looked at.
-        self.looks = words[0] in ("check", "list") or not lines
+        self.makes = words[0] in ("format", "threads")
+        self.looks = words[0] in ("check", "list") or not self.makes and not lines
         self.begins = (region.file_of(held_cache()) if self.looks
                        else bytes(region.Region(oracle.Geometry()).bytes))
 
@@ -78,7 +102,7 @@ class Sweep:
         """What came of the run with that allocation refused, and whether there was one."""
         if self.path and os.path.exists(self.path):
             os.remove(self.path)
-        if self.path and self.words[0] != "format":
+        if self.path and not self.makes:
             with open(self.path, "wb") as file:
                 file.write(self.begins)
         env = {"LD_PRELOAD": self.library, "ALLOCATIONS": self.counts, "REFUSE": str(refuse)}
@@ -105,6 +129,24 @@ class Sweep:
             good = ran[0] in ([], [b"memory"]) and ran[1] == 3 and not os.path.exists(self.path)
         self.checks.check(name, good, f"{ran}")
 
+    def check_threads(self, name, ran):
+        replies, status, errors = ran
+        stored = [b"stored %d handed %d committed %d of_passes %d missing 0" % (n, n, n, n)
+                  for n in range(3)]
+        ends = status == 0 and not errors and len(replies) == 1 and replies[0] in stored
+        good = ends or (status in (2, 3) and errors and not replies)
+        self.checks.check(name, good, f"{ran}")
+        held = runs.state_in(self.path) if os.path.exists(self.path) else (None, None)
+        if ends:
+            count = stored.index(replies[0])
+            good = held == (self.states[count], count)
+        else:
+            # A cache is made before it is opened, so those refused later find it.
+            is_cache = held[1] is not None
+            good = held == (self.states[held[1]], held[1]) if is_cache else not self.is_made
+            self.is_made = self.is_made or is_cache
+        self.checks.check(f"{name}: the file", good, f"{held!s:.200}")
+
     def check_look(self, name, ran):
         """All is told, or the beginning of it with status 3; the file has its bytes."""
         file = region.File(self.begins)
@@ -122,6 +164,8 @@ class Sweep:
             name = f"{self.words[0]}, allocation {refuse} refused"
             if self.words[0] == "format":
                 self.check_format(name, ran)
+            elif self.words[0] == "threads":
+                self.check_threads(name, ran)
             elif self.looks:
                 self.check_look(name, ran)
             else:
@@ -135,7 +179,8 @@ class Sweep:
 
 def main(program, library, wanted, *words):
     with tempfile.TemporaryDirectory(dir=os.environ.get("WORK")) as folder:
-        lines = oracle.lines_of(sys.stdin.buffer.read())
+        lines = (stream_of_threads() if words[0] == "threads"
+                 else oracle.lines_of(sys.stdin.buffer.read()))
         return Sweep(program, library, words, lines, folder).sweep(int(wanted))
 
 
