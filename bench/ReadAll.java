@@ -12,8 +12,8 @@ import org.objectweb.asm.ClassReader;
 import org.objectweb.asm.tree.ClassNode;
 
 /**
- * A mature library's full read of the class files on standard input, each behind its length in four
- * bytes. Prints a line in the form of cm_bench.
+ * A mature library's full read of the class files on standard input, each preceded by its length in
+ * four bytes. Prints a line in the form of cm_bench.
  *
  * Arguments: the library (ASM, Javassist or BCEL), passes to warm up, and passes of which the best
  * counts.

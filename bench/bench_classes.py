@@ -1,5 +1,5 @@
 #!/usr/bin/env python3
-"""Writes class files for `cm_bench` to standard output, each behind its length (four bytes,
+"""Writes class files for `cm_bench` to standard output, each preceded by its length (four bytes,
 big-endian).
 
     bench/bench_classes.py [--only-52] PATH..
@@ -215,7 +215,7 @@ def folded(a, b):
 
 
 def state_behind(block, length):
-    """The hasher's state behind the first sixteen bytes of so many."""
+    """The hasher's state after the first sixteen bytes of so many."""
     low, high = struct.unpack("<QQ", block)
     return folded(low ^ (INITIAL + length & MASK), high ^ MULTIPLIER)
 

@@ -14,52 +14,24 @@
 # Then files of 10,000, 20,000 and 30,000 classes (bench/many_classes.py) are read into memory and
 # opened; beside the opening are cm_bench's rows on the same classes: read_class (reading and
 # judging) and Record::read (checking records).
-#
-# What isn't installed is fetched, if the machine reaches Debian's packages. A store that still
-# isn't there is named and left out.
 set -eu
 top=$(cd "$(dirname "${BASH_SOURCE[0]}")/.." && pwd)
 runs=${1:-5}
-packages=(libasm-java libcommons-io-java libcommons-lang3-java libguava-java
-    libsqlite3-dev liblmdb-dev)
-jars=(/usr/share/java/asm{,-analysis,-commons,-tree,-util}.jar
-    /usr/share/java/{commons-io,commons-lang3,guava}.jar)
 sizes=(--top 12 --roots 64 --slots 16384)
 
-fetch() {
-    dpkg -s "${packages[@]}" >/dev/null 2>&1 && return
-    { apt-get update -qq && apt-get install -y -qq "${packages[@]}"; } >&2 || true
-}
-
 . "$top/bin/build.sh"
-
-# has HEADER: whether the C compiler finds it
-has() {
-    echo "#include <$1>" | gcc -E - >/dev/null 2>&1
-}
+. "$top/bench/lib.sh"
 
 work=$(mktemp -d)
 folder=
 trap 'rm -rf "$work" ${folder:+"$folder"}' EXIT
 
+# shellcheck disable=SC2119 # no packages beside those that all need
 fetch
-for jar in "${jars[@]}"; do
-    [ -e "$jar" ] && continue
-    echo "missing: $jar (of ${packages[*]:0:4}): no classes to measure" >&2
-    exit 1
-done
+need_jars
 stores=(bare joined holes)
-flags=()
-if has sqlite3.h; then
-    stores+=(sqlite) flags+=(-DWITH_SQLITE -lsqlite3)
-else
-    echo "missing: libsqlite3-dev: no row of SQLite"
-fi
-if has lmdb.h; then
-    stores+=(lmdb) flags+=(-DWITH_LMDB -llmdb)
-else
-    echo "missing: liblmdb-dev: no row of LMDB"
-fi
+add_store sqlite sqlite3.h -DWITH_SQLITE -lsqlite3
+add_store lmdb lmdb.h -DWITH_LMDB -llmdb
 gcc -O2 -o "$work/stores" "$top/bench/stores.c" "${flags[@]}"
 build cm_bench
 bench=$top/crates/cm_bench/out/cm_bench

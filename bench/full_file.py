@@ -5,7 +5,7 @@ may be among them. It isn't part of the gate.
     bench/full_file.py PROGRAM [RUNS] [FOLDER]
 
 A file has the greatest sizes that there are: roots of 4 MiB, up to 256, and 65,536 slots in each
-half. In each root lie the 127 classes of one loader, one behind another in one chunk, so of 256
+half. In each root lie the 127 classes of one loader, one after another in one chunk, so of 256
 roots 32,768 rows live, which is as many as there may be. It is written from docs/REGION.md, and its
 records are tests/oracle.py's; nothing of the program's code is in it. Each row has the least of
 RUNS runs (3), with the file in the page cache; the files lie in FOLDER (one beside the program) and
@@ -72,7 +72,7 @@ def record(name):
 
 
 def slots(roots):
-    """The slots of half 0: its head, the loaders, and the classes of each behind all of them."""
+    """The slots of half 0: its head, the loaders, and the classes of each after all of them."""
     rows = roots * (CLASSES + 1)
     yield region.head_slot(rows, 1, roots, gate=region.OPEN)
     for root in range(roots):

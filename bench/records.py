@@ -1,7 +1,7 @@
 #!/usr/bin/env python3
 """Writes the records of a region file to standard output, in the order of their commands, each
-behind its length in four bytes and its place in the file in eight, big-endian. docs/REGION.md says
-how such a file is read; of its journal this reads half 0 alone.
+preceded by its length in four bytes and its place in the file in eight, big-endian. docs/REGION.md
+says how such a file is read; of its journal this reads half 0 alone.
 
     bench/records.py FILE
 """

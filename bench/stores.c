@@ -1,17 +1,19 @@
 /* Stores records one commit after another, for comparison with `cm_bench put`:
  *
  *     stores sqlite|lmdb|bare|joined|holes FILE GROUP < RECORDS
+ *     stores rocksdb FILE THREADS < RECORDS
  *
- * RECORDS are records one behind another, each behind its length in four bytes and its place in the
- * cache's file in eight, big-endian. GROUP of them make a commit, which is on the disk when it
- * returns: SQLite with a write-ahead log and synchronous=FULL, LMDB as it comes. `bare` makes the
- * device calls that a commit of the cache makes, and nothing else: zeros where the file has too few
- * roots, each record in its place, the group's slots, fdatasync, the gate's byte, fdatasync.
- * `joined` makes one write of records that lie one behind another, and `holes` that and grows the
- * file without writing zeros, as the cache doesn't: they tell what that would bring. It prints the
- * records, the commits and the nanoseconds of all commits together; making and opening the file
- * isn't counted, for none of them. Each of the two libraries is there where WITH_SQLITE or
- * WITH_LMDB is defined. */
+ * RECORDS are records one behind another, each behind its length in four bytes and its place in
+ * the cache's file in eight, big-endian. GROUP of them make a commit, which is on the disk when it
+ * returns: SQLite with a write-ahead log and synchronous=FULL, LMDB as it comes. With RocksDB each
+ * of THREADS threads stores its share of the records, one a commit, synced: RocksDB itself joins
+ * the commits of threads that wait. `bare` makes the device calls that a commit of the cache
+ * makes, and nothing else: zeros where the file has too few roots, each record in its place, the
+ * group's slots, fdatasync, the gate's byte, fdatasync. `joined` makes one write of records that
+ * lie one behind another, and `holes` that and grows the file without writing zeros, as the cache
+ * doesn't: they tell what that would bring. It prints the records, the commits and the nanoseconds
+ * of all commits together; making and opening the file isn't counted, for none of them. Each of
+ * the three libraries is there where WITH_SQLITE, WITH_LMDB or WITH_ROCKSDB is defined. */
 #include <fcntl.h>
 #include <stdint.h>
 #include <stdio.h>
@@ -24,6 +26,10 @@
 #endif
 #ifdef WITH_SQLITE
 #include <sqlite3.h>
+#endif
+#ifdef WITH_ROCKSDB
+#include <pthread.h>
+#include <rocksdb/c.h>
 #endif
 
 /* The sizes of files.sh: top 12, 16384 slots. Zeros are written in pieces, as the cache does. */
@@ -95,7 +101,7 @@ static uint64_t now(void)
     return (uint64_t)t.tv_sec * 1000000000u + (uint64_t)t.tv_nsec;
 }
 
-#if defined WITH_SQLITE || defined WITH_LMDB
+#if defined WITH_SQLITE || defined WITH_LMDB || defined WITH_ROCKSDB
 static int name_of(char *name, size_t size, size_t number)
 {
     return snprintf(name, size, "app/class%zu", number);
@@ -172,6 +178,59 @@ static void lmdb_commit(const struct record *group, size_t count, size_t number)
     }
     if (mdb_txn_commit(open))
         fail("mdb_txn_commit");
+}
+#endif
+
+#ifdef WITH_ROCKSDB
+/* ---- RocksDB */
+
+enum { MOST_THREADS = 64 };
+
+static rocksdb_t *rocks;
+
+struct share {
+    const struct records *records;
+    size_t first, step;
+};
+
+static void rocksdb_begin(const char *path)
+{
+    char *fault = NULL;
+    rocksdb_options_t *options = rocksdb_options_create();
+    rocksdb_options_set_create_if_missing(options, 1);
+    rocks = rocksdb_open(options, path, &fault);
+    if (fault)
+        fail(fault);
+}
+
+static void *rocksdb_store(void *given)
+{
+    const struct share *share = given;
+    rocksdb_writeoptions_t *synced = rocksdb_writeoptions_create();
+    char name[64], *fault = NULL;
+    rocksdb_writeoptions_set_sync(synced, 1);
+    for (size_t i = share->first; i < share->records->count; i += share->step) {
+        const struct record *record = share->records->all + i;
+        size_t length = (size_t)name_of(name, sizeof name, i);
+        rocksdb_put(rocks, synced, name, length, (const char *)record->bytes, record->length,
+                    &fault);
+        if (fault)
+            fail(fault);
+    }
+    return NULL;
+}
+
+static void rocksdb_store_all(const struct records *records, size_t count)
+{
+    pthread_t threads[MOST_THREADS];
+    struct share shares[MOST_THREADS];
+    for (size_t i = 0; i < count; i++) {
+        shares[i] = (struct share){ records, i, count };
+        if (pthread_create(threads + i, NULL, rocksdb_store, shares + i))
+            fail("pthread_create");
+    }
+    for (size_t i = 0; i < count; i++)
+        pthread_join(threads[i], NULL);
 }
 #endif
 
@@ -275,6 +334,12 @@ static void holes_commit(const struct record *group, size_t count, size_t number
 
 /* ---- */
 
+static void tell(const char *name, size_t records, size_t commits, uint64_t start)
+{
+    printf("%s records %zu commits %zu ns %llu\n", name, records, commits,
+           (unsigned long long)(now() - start));
+}
+
 int main(int count, char **words)
 {
     static const struct {
@@ -294,9 +359,20 @@ int main(int count, char **words)
     };
     size_t group = count == 4 ? strtoul(words[3], NULL, 10) : 0;
     if (group < 1 || group > GROUP_LIMIT) {
-        fprintf(stderr, "stores sqlite|lmdb|bare|joined|holes FILE GROUP < RECORDS\n");
+        fprintf(stderr, "stores sqlite|lmdb|bare|joined|holes FILE GROUP < RECORDS\n"
+                        "stores rocksdb FILE THREADS < RECORDS\n");
         return 2;
     }
+#ifdef WITH_ROCKSDB
+    if (!strcmp(words[1], "rocksdb")) {
+        struct records records = read_records();
+        rocksdb_begin(words[2]);
+        uint64_t start = now();
+        rocksdb_store_all(&records, group);
+        tell(words[1], records.count, records.count, start);
+        return 0;
+    }
+#endif
     for (size_t i = 0; i < sizeof stores / sizeof *stores; i++) {
         if (strcmp(words[1], stores[i].name))
             continue;
@@ -307,8 +383,7 @@ int main(int count, char **words)
         for (size_t at = 0; at < records.count; at += group, commits++)
             stores[i].commit(records.all + at,
                 records.count - at < group ? records.count - at : group, at);
-        printf("%s records %zu commits %zu ns %llu\n", words[1], records.count, commits,
-               (unsigned long long)(now() - start));
+        tell(words[1], records.count, commits, start);
         return 0;
     }
     fprintf(stderr, "stores: no store %s\n", words[1]);

@@ -1,6 +1,6 @@
 #!/usr/bin/env bash
-# What the benchmark counts: the calls of the accepted cache, and a class stored in a file and found
-# there. Times aren't looked at.
+# What the benchmark counts: the calls of the accepted cache, a class stored in a file and found
+# there, and what threads store at once. Times aren't looked at.
 set -u
 cd "$(dirname "$0")/.." || exit 1
 . tests/lib.sh
@@ -23,6 +23,13 @@ check "a class is stored" 0
 status=$?
 echo "classes 1 found 1" >"$work/want"
 check "it is found" 0
+
+# Four loaders and the one class.
+"$bench" threads "$work/other" --threads 4 --finders 2 --top 3 --roots 1 --slots 256 \
+    <crates/cm_bench/stdin >"$work/got" 2>"$work/errors"
+status=$?
+echo "stored 5 handed 5 committed 5 of_passes 5 missing 0" >"$work/want"
+check "threads store it" 0
 
 "$bench" nothing >"$work/got" 2>"$work/errors"
 status=$?
