@@ -5,8 +5,8 @@
  * place (place, length, bytes), `s` a sync, `c` a cut (length), `r` bytes for standard output (0,
  * length, bytes). A call that fails has the letter in upper case, and the bytes that were written
  * all the same. FAIL=N lets the Nth call of `w`, `s` and `c` fail, counted from 1; a write that
- * fails stores its first STORES bytes. What comes behind it is let through. KEEP lets no file be
- * removed.
+ * fails stores its first STORES bytes. What comes behind it is let through. READ=N lets the Nth
+ * read at a place fail. KEEP lets no file be removed.
  */
 #define _GNU_SOURCE
 #include <errno.h>
@@ -18,7 +18,7 @@
 #include <unistd.h>
 
 static int file = -1;
-static uint64_t fails, stores, calls;
+static uint64_t fails, stores, calls, bad_read, reads;
 
 static uint64_t number(const char *name)
 {
@@ -32,6 +32,7 @@ __attribute__((constructor)) static void begin(void)
     int low = path ? open(path, O_WRONLY | O_CREAT | O_APPEND, 0600) : -1;
     fails = number("FAIL");
     stores = number("STORES");
+    bad_read = number("READ");
     if (low < 0)
         return;
     file = fcntl(low, F_DUPFD_CLOEXEC, 100);
@@ -76,6 +77,17 @@ ssize_t pwrite(int to, const void *bytes, size_t length, off_t at)
 ssize_t pwrite64(int to, const void *bytes, size_t length, off_t at)
 {
     return pwrite(to, bytes, length, at);
+}
+
+ssize_t pread(int from, void *bytes, size_t length, off_t at)
+{
+    reads += 1;
+    return reads == bad_read ? fail() : syscall(SYS_pread64, from, bytes, length, at);
+}
+
+ssize_t pread64(int from, void *bytes, size_t length, off_t at)
+{
+    return pread(from, bytes, length, at);
 }
 
 static int sync_by(long call, int of)

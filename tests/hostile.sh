@@ -1,0 +1,16 @@
+#!/usr/bin/env bash
+# Hostile use: a device that fails at each call, crashes before and inside each device call of five
+# scripts, damaged files, class files that lead nowhere, closed streams; the wanted words are
+# written out. STEP=N stops every Nth loader of the long script instead of every 16th. Needs a C
+# compiler and Python 3.
+set -u
+cd "$(dirname "$0")/.." || exit 1
+. tests/lib.sh
+
+library=$work/calls.so
+if ! cc -O2 -Wall -Werror -shared -fPIC -o "$library" tests/calls.c; then
+    echo "0 passed, 1 failed"
+    exit 1
+fi
+WORK=$work python3 tests/hostile.py "$(executable)" "$(built cm_simulate)" "$library" \
+    "${STEP:-16}"
