@@ -1,3 +1,4 @@
+# shellcheck shell=bash
 # Sourced by what runs a program of this repository: bin/cmcache, bin/cm_simulate, the scripts of
 # tests/ and bench/.
 

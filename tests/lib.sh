@@ -1,3 +1,4 @@
+# shellcheck shell=bash
 # What the end-to-end scripts share: each check counts, and the last line says how many passed.
 top=$(cd "$(dirname "${BASH_SOURCE[0]}")/.." && pwd)
 program=${CMCACHE:-$top/bin/cmcache} # CMCACHE names another build
@@ -32,6 +33,8 @@ check_status() {
 
 # check_last NAME: the last command ended with 0. A command inside the name would be the last one.
 check_last() {
+    # The status is that of the condition before the call, as it should be.
+    # shellcheck disable=SC2319
     if [ $? = 0 ]; then
         passed=$((passed + 1))
     else

@@ -44,7 +44,7 @@ check_status "wrong words with a full standard error" 2
 status=$?
 check_status "wrong words with a closed standard error" 2
 
-# Help is asked for before and behind a command; it is no mistake.
+# Help is asked for before and after a command; it is no mistake.
 for words in -h "format new --help" "apply -h"; do
     # shellcheck disable=SC2086
     run $words
@@ -80,7 +80,7 @@ done
 [ -z "$(ls -A)" ]
 check_last "wrong words make no file"
 
-# A path is the word that stands in its place, whatever it looks like: behind `--` an option's
+# A path is the word that stands in its place, whatever it looks like: after `--` an option's
 # name too.
 mkdir folder
 run format folder/a
