@@ -1,7 +1,8 @@
 #!/usr/bin/env python3
 """Looks whether README.md and docs/ name what is there: reads the repository at the current folder,
 prints a line for each thing named that isn't, and last how many were looked at: 'N passed, M
-failed'.
+failed'. Of README.md also whether its library example is code of cm_example, and whether its
+limits are those of the code.
 
     tests/docs.py
 """
@@ -185,9 +186,72 @@ def planted():
                    f"{PROOFS}:{number}: the edit {name} in the audit {of}")
 
 
+README = TOP / "README.md"
+
+
+def fenced(kind):
+    """The blocks of README.md in a fence of this kind, each as its lines."""
+    return [block.splitlines()
+            for block in re.findall(rf"^```{kind}\n(.*?)^```$", README.read_text(), re.S | re.M)]
+
+
+def example():
+    """README.md's library example is code of cm_example, which the gate proves and runs: each of
+    its parts, between empty lines, stands there word for word, and in this order."""
+    code = (TOP / "crates/cm_example/src/main.rt").read_text()
+    at = 0
+    for block in fenced("rust"):
+        for part in "\n".join(block).split("\n\n"):
+            found = code.find(f"\n{part}\n", at)
+            yield found >= 0, f"{README}: in cm_example: {part.strip().splitlines()[0]}"
+            at = max(at, found + len(part))
+
+
+# The limits of README.md: the row, which of its numbers, and the code that says the same, with N
+# for the number.
+LIMITS = (
+    ("record of a class", 0, "cm_record_layout/src/packing.rt", "MAX_WORDS: u64 = N;"),
+    ("a root", 2, "cm_pool/src/geometry.rt", "(N..=12).contains(&top)"),
+    ("a root", 3, "cm_pool/src/geometry.rt", "(3..=N).contains(&top)"),
+    ("a root", 4, "cm_plan/src/command.rt", 'TOP,\n        "N",'),
+    ("roots of a file", 0, "cm_pool/src/geometry.rt", "(N..=256).contains(&roots)"),
+    ("roots of a file", 1, "cm_pool/src/geometry.rt", "(1..=N).contains(&roots)"),
+    ("roots of a file", 2, "cm_plan/src/command.rt", 'ROOTS, "N",'),
+    ("slots in a half of the journal", 0, "cm_pool/src/geometry.rt",
+     "(N..=65536).contains(&slots)"),
+    ("slots in a half of the journal", 1, "cm_pool/src/geometry.rt", "(256..=N).contains(&slots)"),
+    ("slots in a half of the journal", 2, "cm_plan/src/command.rt", 'SLOTS,\n        "N",'),
+    ("name of a loader", 0, "cm_layout/src/name.rt", "NAME_LIMIT: usize = N;"),
+    ("line of a script", 0, "cm_lines/src/line_buffer.rt", "LINE_LIMIT: usize = N;"),
+    ("commands stored together", 0, "cm_layout/src/entry.rt", "GROUP_SLOTS: usize = N;"),
+    ("commands of a file", 1, "cm_layout/src/heads.rt", "LAST_NUMBER: u64 = 1 << N;"),
+    ("passes of a running cache", 0, "cm_cache/src/shared.rt", "MOST_PASSES: u64 = N;"),
+    ("workers", 1, "cm_plan/src/planning.rt", "MOST_WORKERS: u32 = N;"),
+)
+
+
+def limits():
+    """The limits of README.md are those of the code, and what follows from them."""
+    rows = {row[0]: [int(number.replace(",", "")) for number in re.findall(r"\d[\d,]*", row[1])]
+            for row in (cells(line) for _, line in lines_of(README)) if len(row) == 2}
+    for what, place, file, code in LIMITS:
+        number = str(rows[what][place]) if len(rows.get(what, [])) > place else "no number"
+        text = re.sub(r"(?<=\d)_(?=\d)", "", (TOP / "crates" / file).read_text())
+        yield (re.sub(r"\bN\b", number, code) in text,
+               f"{README}: the limit of {what}, as in crates/{file}: {code}")
+    top, roots, slots = (rows[what][place] for what, place in
+                         (("a root", 3), ("roots of a file", 1),
+                          ("slots in a half of the journal", 1)))
+    yield (rows["file"] == [4096 + 2 * 64 * slots + roots * 8 * (128 << top)],
+           f"{README}: the bytes of the largest file")
+    half = rows["slots in a half of the journal"]
+    yield (rows["live loaders and classes of a file"] == [half[2] // 2, slots // 2],
+           f"{README}: half of the slots")
+
+
 def main():
     passed = failed = 0
-    for look in (links, map_rows, paths, contracts, planted):
+    for look in (links, map_rows, paths, contracts, planted, example, limits):
         looked = list(look())
         if not looked:
             failed += 1
