@@ -5,7 +5,7 @@ ghost use Rattle.std.specs.List.{All, sum_by};
 ghost use Rattle.std.specs.Arc.{arc_value};
 ghost use Rattle.cm_record.specs.Names.{class_name_in};
 ghost use Rattle.cm_group.specs.Groups.{IsRightRecord};
-ghost use Rattle.cm_state.specs.Step.{AddLoader, Define, Unload, Tighten};
+ghost use Rattle.cm_state.specs.Step.{AddLoader, Define, Unload, Tighten, UnloadAll};
 ghost use Rattle.cm_prepare.specs.Commands.{change_asked};
 ghost use Rattle.cm_prepare.specs.declared.refusal.Refusal.TheVariants as refusal;
 ghost use Rattle.cm_cache.specs.Shared.{PassState, Tells, most_passes};
@@ -22,7 +22,7 @@ use crate::shared::{Pass, Shared};
 use cm_commit::Committer;
 use cm_disk::Disk;
 use cm_front::Front;
-use cm_prepare::{Command, Prepared, Refusal};
+use cm_prepare::{Command, Names, Prepared, Refusal};
 use cm_record::Record;
 use cm_state::rows_tell_state;
 use std::alloc::{AllocError, Global};
@@ -144,6 +144,20 @@ impl<K: Naming> Cache<K> {
         ensures { Tells pass.old (Tighten name.now) result pass.new }
     {
         self.change(rt, pass, Command::Tighten(name))
+    }
+
+    /// Unloads the loaders of these names at once, with all their classes: all of them or none,
+    /// under one number. `BadList` where there is no name, there are more than seven, or one stands
+    /// there twice.
+    pub fn unload_all<R: Wait>(
+        &self,
+        rt: &R,
+        pass: &mut Pass<K>,
+        names: Names<'_>,
+    ) -> Result<u64, Refusal>
+        ensures { Tells pass.old (UnloadAll names.entry) result pass.new }
+    {
+        self.change(rt, pass, Command::UnloadAll(names))
     }
 
     fn change<R: Wait>(

@@ -9,7 +9,7 @@ use cm_cache::{Cache, Naming, NewCache, Pass};
 use cm_commit::Committer;
 use cm_disk::SimDisk;
 use cm_front::Front;
-use cm_prepare::Refusal;
+use cm_prepare::{Names, Refusal};
 use std::alloc::{AllocError, Global};
 use std::marker::Brand;
 use std::sync::Wait;
@@ -23,6 +23,7 @@ enum Call {
     Define(u8),
     Unload(u8),
     Tighten(u8),
+    UnloadAll(&'static [&'static [u8]]),
     Find(u8),
     Stop,
 }
@@ -66,6 +67,7 @@ fn make_call<K: Naming, R: Wait>(
         Call::Define(loader) => answer_to(define(rt, alloc, cache, pass, loader)),
         Call::Unload(name) => answer_to(cache.unload(rt, pass, &[name])),
         Call::Tighten(name) => answer_to(cache.tighten(rt, pass, &[name])),
+        Call::UnloadAll(names) => answer_to(cache.unload_all(rt, pass, Names::new(names))),
         Call::Find(name) => match cache.find(rt, &[name], b"A") {
             Ok(Some(_)) => Answer::Found,
             Ok(None) => Answer::Nothing,
@@ -202,6 +204,55 @@ fn a_move_is_stored_and_changes_nothing_that_is_found(rt: HostRuntime) -> Result
             Answer::Number(6),
             Answer::Found,
             Answer::Refused(Refusal::NoMove),
+        ]
+        .as_slice()
+    );
+    Ok(())
+}
+
+const TOGETHER: &[Call] = &[
+    Call::AddLoader(b'a'),
+    Call::AddLoader(b'b'),
+    Call::Define(b'a'),
+    Call::Define(b'b'),
+    Call::UnloadAll(&[b"a", b"c"]),
+    Call::UnloadAll(&[b"a", b"a"]),
+    Call::UnloadAll(&[]),
+    Call::Find(b'a'),
+    Call::UnloadAll(&[b"b", b"a"]),
+    Call::Find(b'a'),
+    Call::Find(b'b'),
+];
+
+#[test]
+fn several_loaders_go_at_once_or_not_at_all(rt: HostRuntime) -> Result<(), Fail> {
+    let alloc = rt.alloc();
+    let (front, committer) = opened(alloc, formatted(alloc)?)?;
+    let new = NewCache::new(alloc, committer.number())?;
+    let (counts, answers) = run::<Brand, HostRuntime>(&rt, alloc, new, front, committer, TOGETHER)?;
+    assert_eq!(rt;
+        counts,
+        Counts {
+            handed: 5,
+            committed: 5,
+            of_passes: 5,
+            missing: 0
+        }
+    );
+    assert_eq!(rt;
+        answers.as_slice(),
+        [
+            Answer::Number(1),
+            Answer::Number(2),
+            Answer::Number(3),
+            Answer::Number(4),
+            Answer::Refused(Refusal::NoLoader),
+            Answer::Refused(Refusal::BadList),
+            Answer::Refused(Refusal::BadList),
+            Answer::Found,
+            Answer::Number(5),
+            Answer::Nothing,
+            Answer::Nothing,
         ]
         .as_slice()
     );

@@ -271,6 +271,7 @@ can-record c n rows k len right counted joins long =
       tt,
     )
     by_entry (entry.Unload e) moved keeps has apart roots = tt
+    by_entry (entry.UnloadAll e) moved keeps has apart roots = tt
     by_entry (entry.Move e) moved keeps has apart roots =
         let k = move-keeps c.sizes rows (n + 1) e keeps in
         let words : words_in moved ≡ used_words e.from rows =
@@ -392,6 +393,7 @@ one-few c n rows k joins =
     by_entry (entry.Live (Class r words)) keeps has =
         let is = (class_inside c.sizes rows n r keeps).0 in omega (arith, is.root)
     by_entry (entry.Unload e) keeps has = omega arith
+    by_entry (entry.UnloadAll e) keeps has = omega arith
     by_entry (entry.Move e) keeps has =
         let chunk = (move-keeps c.sizes rows (n + 1) e keeps).chunk in
         let is = put-inside c.sizes e.to 0 [] chunk (omega arith) in omega (arith, is.root)

@@ -1,7 +1,7 @@
 -- Whether a class's name is new is told by what is committed and by the entries before it.
 -- For `take_group`.
 use Rattle.std.proofs.Common.{◌≡◌, ℕ, Bool, true, false, cond, not, List, []}
-use Rattle.std.proofs.Common.{◌∷◌, ◌++◌, Some, None, inl, inr, refl, sym, subst, ◌∙◌}
+use Rattle.std.proofs.Common.{◌∷◌, ◌++◌, Some, None, inl, inr, refl, sym, ap, subst, ◌∙◌}
 use Rattle.std.proofs.Common.{eqb, is_some, is_none}
 use Rattle.std.specs.Prelude.{◌&&◌, ◌||◌, ◌==◌}
 use Rattle.std.specs.Str.{bytes_eq}
@@ -15,8 +15,9 @@ use Rattle.cm_layout.specs.declared.class_row.ClassRow.{ClassRow}
 use Rattle.cm_layout.specs.declared.loader_row.LoaderRow.{LoaderRow}
 use Rattle.cm_layout.specs.declared.row.Row.{Row}
 use Rattle.cm_layout.specs.declared.row.Row.TheVariants.{Loader, Class}
-use Rattle.cm_layout.specs.Rows.{name_of, without_loader, moved, classes_in}
+use Rattle.cm_layout.specs.Rows.{name_of, without_loader, without_loaders, moved, classes_in}
 use Rattle.cm_layout.specs.Rules.{is_live}
+use Rattle.cm_layout.proofs.{name-gone, name-without}
 use Rattle.cm_state.specs.State.{words_show, class_among}
 use Rattle.cm_group.specs.Groups.{Carried}
 use Rattle.cm_commit.specs.Joining.{makes_class}
@@ -73,7 +74,7 @@ other a b c same differ = by_eq (eqb a c) refl
         true_not (sym (eq-eqb c b (sym (eqb-true a c e) ∙ eqb-true a b same)) ∙ differ)
     by_eq false e = refl
 
-pub there-without : (u v : ℕ) (name : List ℕ) (rows : List (Row (List ℕ))) → eqb u v ≡ false
+there-without : (u v : ℕ) (name : List ℕ) (rows : List (Row (List ℕ))) → eqb u v ≡ false
     → is_there u name (without_loader v rows) ≡ is_there u name rows
 there-without u v name [] differ = refl
 there-without u v name (Loader s ∷ rows) differ =
@@ -147,42 +148,37 @@ live-class u (Loader s ∷ rows) r words = by_test (eqb s.number u) (live-class 
     by_test false rest = rest
 live-class u (Class s w ∷ rows) r words = live-class u rows r words
 
-pub live-without : (u v : ℕ) (rows : List (Row (List ℕ)))
+live-without : (u v : ℕ) (rows : List (Row (List ℕ)))
     → is_live u (without_loader v rows) ≡ true → (is_live u rows ≡ true) × (eqb u v ≡ false)
-live-without u v [] live = absurd (cc)
-live-without u v (Loader s ∷ rows) live =
-    by_test (eqb s.number v) refl (λ h. live-without u v rows h) live
+live-without u v rows live = by_test (eqb u v) refl
   where
-    there : (t : Bool) → is_live u rows ≡ true
-        → is_some (cond t (Some s.name) (name_of u rows)) ≡ true
-    there true h = refl
-    there false h = h
+    gone : {X : Type 0} → name_of u (without_loader v rows) ≡ None → X
+    gone none = let not_live = sym live ∙ ap is_some none in absurd (cc)
 
-    kept : (t : Bool) → eqb s.number u ≡ t → eqb s.number v ≡ false
-        → (is_live u (without_loader v rows) ≡ true → (is_live u rows ≡ true) × (eqb u v ≡ false))
-        → is_some (cond t (Some s.name) (name_of u (without_loader v rows))) ≡ true
-        → (is_some (cond t (Some s.name) (name_of u rows)) ≡ true) × (eqb u v ≡ false)
-    kept true e differ rest h =
-        (refl, subst (λ (k : ℕ). eqb k v ≡ false) (eqb-true s.number u e) differ)
-    kept false e differ rest h = rest h
+    by_test : (t : Bool) → eqb u v ≡ t → (is_live u rows ≡ true) × (eqb u v ≡ false)
+    by_test true same =
+        gone (subst (λ (k : ℕ). name_of k (without_loader v rows) ≡ None) (sym (eqb-true u v same))
+        (name-gone v rows))
+    by_test false differ =
+        let turned = other v v u (eq-eqb v v refl) differ in
+        (sym (ap is_some (name-without u v rows turned)) ∙ live, differ)
 
-    by_test : (t : Bool) → eqb s.number v ≡ t
-        → (is_live u (without_loader v rows) ≡ true → (is_live u rows ≡ true) × (eqb u v ≡ false))
-        → is_live u (cond (not t) (Loader s ∷ without_loader v rows) (without_loader v rows)) ≡ true
-        → (is_some (cond (eqb s.number u) (Some s.name) (name_of u rows)) ≡ true)
-        × (eqb u v ≡ false)
-    by_test true e rest h = (there (eqb s.number u) (rest h).0, (rest h).1)
-    by_test false e rest h = kept (eqb s.number u) refl e rest h
-live-without u v (Class s w ∷ rows) live =
-    by_test (s.loader == v) (λ h. live-without u v rows h) live
-  where
-    by_test : (t : Bool)
-        → (is_live u (without_loader v rows) ≡ true → (is_live u rows ≡ true) × (eqb u v ≡ false))
-        → is_live u (cond (not t) (Class s w ∷ without_loader v rows) (without_loader v rows))
-        ≡ true
-        → (is_live u rows ≡ true) × (eqb u v ≡ false)
-    by_test true rest h = rest h
-    by_test false rest h = rest h
+-- a loader that is left lived before, and has the classes that it had
+pub record IsLeft (u : ℕ) (vs : List ℕ) (rows : List (Row (List ℕ))) : Type 0 where
+  pub live : is_live u rows ≡ true
+  pub there : (name : List ℕ)
+      → is_there u name (without_loaders vs rows) ≡ is_there u name rows
+
+pub left-without : (u : ℕ) (vs : List ℕ) (rows : List (Row (List ℕ)))
+    → is_live u (without_loaders vs rows) ≡ true → IsLeft u vs rows
+left-without u [] rows live = record { live = live; there = λ name. refl }
+left-without u (v ∷ vs) rows live =
+    let rest = left-without u vs (without_loader v rows) live in
+    let one = live-without u v rows rest.live in
+    record {
+      live = one.0;
+      there = λ name. rest.there name ∙ there-without u v name rows one.1;
+    }
 
 -- ---- entries before
 

@@ -3,9 +3,9 @@
 use Rattle.std.proofs.Common.{◌≡◌, ℕ, ◌+◌, ◌*◌, ◌^◌, ◌≤◌, inl, inr, Bool, true, false, cond, List}
 use Rattle.std.proofs.Common.{[], ◌∷◌, ◌++◌, length, None, is_none, refl, ap, subst, arith}
 use Rattle.std.proofs.Common.{◌∙◌, length-append}
-use Rattle.std.specs.Prelude.{nat_lt, not, ◌==◌}
+use Rattle.std.specs.Prelude.{nat_lt, nat_le, not, ◌==◌}
 use Rattle.std.specs.List.{AllByRecursion, list_all}
-use Rattle.std.proofs.lemmas.Bool.{eq-eqb, lt-ltb, and_from}
+use Rattle.std.proofs.lemmas.Bool.{eq-eqb, lt-ltb, le-leb, and_from}
 use Rattle.std.proofs.Math.Pow.{pow_mono}
 use Rattle.cm_pool.specs.declared.chunk.Chunk.{Chunk}
 use Rattle.cm_pool.specs.Chunks.{chunk_size, same_chunk}
@@ -16,9 +16,12 @@ use Rattle.cm_layout.specs.declared.row.Row.{Row}
 use Rattle.cm_layout.specs.declared.row.Row.TheVariants.{Loader, Class}
 use Rattle.cm_layout.specs.declared.entry.Entry.{Entry}
 use Rattle.cm_layout.specs.declared.entry.Entry.TheVariants as entry
+use Rattle.cm_layout.specs.Names.{unload_limit}
+use Rattle.cm_layout.specs.Slots.{FitsEntry}
 use Rattle.cm_layout.specs.Offsets.{root_size}
 use Rattle.cm_layout.specs.declared.relocation.Move.{Move}
-use Rattle.cm_layout.specs.Rows.{bare, numbers_in, rows_after, without_loader, is_of, moved}
+use Rattle.cm_layout.specs.Rows.{bare, numbers_in, rows_after, without_loader, without_loaders}
+use Rattle.cm_layout.specs.Rows.{is_of, moved}
 use Rattle.cm_layout.specs.Rows.{used_words, kept_on}
 use Rattle.cm_layout.specs.Rules.{broken_rule}
 use Rattle.cm_layout.specs.Frames.{BareRow, LiveRowsKeep, bare_entry}
@@ -32,7 +35,7 @@ use Rattle.cm_group.specs.Groups.{Carried, Handed, IsGroup, CarriesRight, IsRigh
 use Rattle.cm_group.specs.Groups.{records_of}
 use Rattle.cm_group.proofs.{enough}
 use Rattle.cm_commit.specs.Committed.{Committed, journal_of}
-use Rattle.cm_commit.specs.Offers.{filled, HasRecords, has_own, MayJoinAll, IsNext}
+use Rattle.cm_commit.specs.Offers.{filled, HasRecords, are_some, has_own, MayJoinAll, IsNext}
 use Rattle.cm_commit.specs.Offers.{carries_own, rows_after_group}
 use Rattle.cm_commit.specs.Guarding.{IsCommitted}
 use Rattle.cm_commit.specs.Keeping.{keep_rules}
@@ -56,13 +59,17 @@ none_carried : (moved : List (List ℕ)) → moved ≡ [] → (length moved == 0
 none_carried moved is = eq-eqb (length moved) 0 (ap length is)
 
 own_entry : (rows : List (Row (List ℕ))) (e : Entry (List ℕ)) (moved : List (List ℕ))
-    → HasRecords rows e moved → has_own e moved ≡ true
-own_entry rows (entry.Live (Loader r)) moved has = none_carried moved has.1
-own_entry rows (entry.Live (Class r words)) moved has =
+    → FitsEntry e → HasRecords rows e moved → has_own e moved ≡ true
+own_entry rows (entry.Live (Loader r)) moved fits has = none_carried moved has.1
+own_entry rows (entry.Live (Class r words)) moved fits has =
     and_from (length moved == 0) (length words == r.place.words) (none_carried moved has.1)
     (eq-eqb (length words) r.place.words has.0)
-own_entry rows (entry.Unload e) moved has = none_carried moved has.1
-own_entry rows (entry.Move e) moved has = refl
+own_entry rows (entry.Unload e) moved fits has = none_carried moved has.1
+own_entry rows (entry.Move e) moved fits has = refl
+own_entry rows (entry.UnloadAll e) moved fits has =
+    and_from (length moved == 0) (are_some e.loaders) (none_carried moved has.1)
+    (and_from (nat_le 1 (length e.loaders)) (nat_le (length e.loaders) unload_limit)
+    (le-leb 1 (length e.loaders) fits.some) (le-leb (length e.loaders) unload_limit fits.few))
 
 pub own_all : (sizes : Sizes) (committed rows : List (Row (List ℕ))) (n : ℕ)
     (carried : List Carried) → MayJoinAll sizes committed rows n carried
@@ -70,7 +77,7 @@ pub own_all : (sizes : Sizes) (committed rows : List (Row (List ℕ))) (n : ℕ)
 own_all sizes committed rows n [] joins = refl
 own_all sizes committed rows n (c ∷ carried) joins =
     and_from (carries_own c) (list_all carries_own carried)
-    (own_entry rows c.entry c.moved joins.0.records)
+    (own_entry rows c.entry c.moved joins.0.follows.fits joins.0.records)
     (own_all sizes committed (rows_after rows (filled c)) (n + 1) carried joins.1)
 
 small-append : (size : ℕ) (xs ys : List (Place × List ℕ)) → AreSmall size xs → AreSmall size ys
@@ -114,6 +121,8 @@ fit_one sizes rows n (entry.Live (Class r words)) moved g kept counted keeps has
       few = omega arith;
     }
 fit_one sizes rows n (entry.Unload e) moved g kept counted keeps has =
+    record { small = tt; offsets = tt; few = omega arith }
+fit_one sizes rows n (entry.UnloadAll e) moved g kept counted keeps has =
     record { small = tt; offsets = tt; few = omega arith }
 fit_one sizes rows n (entry.Move e) moved g kept counted keeps has =
     let within = move_within sizes rows e moved counted (move-keeps sizes rows (n + 1) e keeps)
@@ -231,6 +240,12 @@ right-without u (row ∷ rows) right =
     by_test true rest = (right.0, rest)
     by_test false rest = rest
 
+right-without-all : (us : List ℕ) (rows : List (Row (List ℕ))) → AreRight rows
+    → AreRight (without_loaders us rows)
+right-without-all [] rows right = right
+right-without-all (u ∷ us) rows right =
+    right-without-all us (without_loader u rows) (right-without u rows right)
+
 right-moved : (from to : Chunk) (rows : List (Row (List ℕ))) → AreRight rows
     → AreRight (moved from to rows)
 right-moved from to [] right = tt
@@ -252,6 +267,7 @@ right-one rows (entry.Live (Loader r)) moved right all =
 right-one rows (entry.Live (Class r words)) moved right all =
     right-append rows (Class r words ∷ []) right (all.0, tt)
 right-one rows (entry.Unload e) moved right all = right-without e.loader rows right
+right-one rows (entry.UnloadAll e) moved right all = right-without-all e.loaders rows right
 right-one rows (entry.Move e) moved right all = right-moved e.from e.to rows right
 
 pub right_rows_after : (sizes : Sizes) (committed rows : List (Row (List ℕ))) (n : ℕ)

@@ -12,7 +12,8 @@ use Rattle.cm_layout.specs.declared.row.Row.{Row}
 use Rattle.cm_layout.specs.declared.row.Row.TheVariants.{Loader, Class}
 use Rattle.cm_layout.specs.declared.entry.Entry.{Entry}
 use Rattle.cm_layout.specs.declared.entry.Entry.TheVariants as entry
-use Rattle.cm_layout.specs.Rows.{used_words, kept_on, rows_after, without_loader, moved}
+use Rattle.cm_layout.specs.Rows.{used_words, kept_on, rows_after, without_loader}
+use Rattle.cm_layout.specs.Rows.{without_loaders, moved}
 use Rattle.cm_layout.proofs.{used-append}
 use Rattle.cm_commit.specs.Keeps.{AreCounted}
 use Rattle.cm_commit.specs.Offers.{HasOwn}
@@ -50,6 +51,12 @@ counted-without u (Class r words ∷ rows) counted =
     by_test true rest = rest
     by_test false rest = (counted.0, rest)
 
+counted-without-all : (us : List ℕ) (rows : List (Row (List ℕ))) → AreCounted rows
+    → AreCounted (without_loaders us rows)
+counted-without-all [] rows counted = counted
+counted-without-all (u ∷ us) rows counted =
+    counted-without-all us (without_loader u rows) (counted-without u rows counted)
+
 counted-moved : (from to : Chunk) (rows : List (Row (List ℕ))) → AreCounted rows
     → AreCounted (moved from to rows)
 counted-moved from to [] counted = tt
@@ -70,6 +77,7 @@ counted-after rows (entry.Live (Loader r)) counted has =
 counted-after rows (entry.Live (Class r words)) counted has =
     counted-append rows (Class r words ∷ []) counted (has, tt)
 counted-after rows (entry.Unload e) counted has = counted-without e.loader rows counted
+counted-after rows (entry.UnloadAll e) counted has = counted-without-all e.loaders rows counted
 counted-after rows (entry.Move e) counted has = counted-moved e.from e.to rows counted
 
 -- ---- records on one chunk

@@ -26,7 +26,7 @@ use Rattle.cm_commit.specs.GroupPlans.{roots_of_entry, roots_of_entries}
 use Rattle.cm_commit.specs.Laws.{AreTold, TellsWords}
 use Rattle.cm_commit.proofs.Places.{ends_in_root}
 use Rattle.cm_commit.proofs.Writing.{written-append}
-use Rattle.cm_commit.proofs.Held.{HoldRows, hold-append, hold-without}
+use Rattle.cm_commit.proofs.Held.{HoldRows, hold-append, hold-without, hold-without-all}
 use Rattle.cm_commit.proofs.Counted.{counted-held}
 use Rattle.cm_commit.proofs.MovedRecords.{move-keeps, move-holds}
 use Rattle.cm_commit.proofs.Records.{class_inside, record-leaves, record-stands, roots-mono}
@@ -75,6 +75,10 @@ entry-stands sizes n committed rows c contents kept joins tells long held =
     by_entry (entry.Unload e) moved keeps has back roots = record {
       longer = omega arith;
       held = hold-without sizes contents e.loader rows held;
+    }
+    by_entry (entry.UnloadAll e) moved keeps has back roots = record {
+      longer = omega arith;
+      held = hold-without-all sizes contents e.loaders rows held;
     }
     by_entry (entry.Move e) moved keeps has back roots =
         let holds = move-holds sizes n rows e moved contents kept

@@ -38,6 +38,7 @@ bare-kept {P} f e c same = by_entry e ∙ ap bare_entry same
     by_entry (entry.Live (Class r p)) = refl
     by_entry (entry.Unload d) = refl
     by_entry (entry.Move d) = refl
+    by_entry (entry.UnloadAll d) = refl
 
 none_from : (o : Option EntryRule) → is_none o ≡ true → o ≡ None
 none_from None e = refl

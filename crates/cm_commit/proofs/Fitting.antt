@@ -3,7 +3,7 @@
 use Rattle.std.proofs.Common.{◌≡◌, ℕ, ◌+◌, ◌^◌, ◌<◌, ◌≤◌, Bool, true, false, cond, List, []}
 use Rattle.std.proofs.Common.{◌∷◌, length, Some, None, inl, inr, refl, sym, subst, arith, eqb}
 use Rattle.std.specs.Prelude.{◌&&◌, ◌==◌, nat_le, is_some, is_none}
-use Rattle.std.specs.List.{list_all}
+use Rattle.std.specs.List.{list_all, AllByRecursion}
 use Rattle.std.proofs.lemmas.Bool.{eqb-true, leb-true, and_parts}
 use Rattle.std.proofs.Math.Pow.{pow_mono}
 use Rattle.cm_pool.specs.Geometry.{Sizes, IsGeometry}
@@ -15,15 +15,15 @@ use Rattle.cm_layout.specs.declared.row.Row.{Row}
 use Rattle.cm_layout.specs.declared.row.Row.TheVariants.{Loader, Class}
 use Rattle.cm_layout.specs.declared.entry.Entry.{Entry}
 use Rattle.cm_layout.specs.declared.entry.Entry.TheVariants as entry
-use Rattle.cm_layout.specs.Names.{is_loader_name, is_visible, name_limit, name_room}
+use Rattle.cm_layout.specs.Names.{is_loader_name, is_visible, name_limit, name_room, unload_limit}
 use Rattle.cm_layout.specs.declared.relocation.Move.{Move}
 use Rattle.cm_layout.specs.Slots.{FitsEntry, FitsClass, FitsMove, FitsChunk}
 use Rattle.cm_layout.specs.Rows.{name_of, number_of, numbers_in, kept_on}
-use Rattle.cm_layout.specs.Rules.{broken_rule, broken_of, is_live, has_room, class_fits}
-use Rattle.cm_layout.specs.Rules.{is_new_loader}
+use Rattle.cm_layout.specs.Rules.{broken_rule, broken_of, is_live, are_live, differ, has_room}
+use Rattle.cm_layout.specs.Rules.{class_fits, is_new_loader}
 use Rattle.cm_layout.specs.Frames.{BareRow, LiveRowsKeep, bare_entry}
 use Rattle.cm_layout.proofs.{own_loaders, class_keeps, is_last_chunk-among}
-use Rattle.cm_commit.specs.Offers.{HasOwn, HasRecords, has_own}
+use Rattle.cm_commit.specs.Offers.{HasRecords, are_some, has_own}
 use Rattle.cm_commit.proofs.MovedRecords.{MoveKeeps, keeps-move, put_at, put-inside}
 use Rattle.cm_commit.proofs.Places.{IsInside, inside, are_stacked}
 
@@ -34,6 +34,7 @@ abbrev pub MovesRight : List (Row (List ℕ)) → Entry (List ℕ) → List (Lis
 MovesRight rows (entry.Live row) moved = Unit {0}
 MovesRight rows (entry.Unload e) moved = Unit {0}
 MovesRight rows (entry.Move e) moved = moved ≡ kept_on e.from rows
+MovesRight rows (entry.UnloadAll e) moved = Unit {0}
 
 none_there : (records : List (List ℕ)) → (length records == 0) ≡ true → records ≡ []
 none_there [] own = refl
@@ -49,6 +50,8 @@ has_one rows (entry.Live (Class r words)) moved own moves =
     (eqb-true (length words) r.place.words both.1, none_there moved both.0)
 has_one rows (entry.Unload e) moved own moves = (tt, none_there moved own)
 has_one rows (entry.Move e) moved own moves = (tt, moves)
+has_one rows (entry.UnloadAll e) moved own moves =
+    (tt, none_there moved (and_parts (length moved == 0) (are_some e.loaders) own).0)
 
 -- ---- what slots have room for
 
@@ -123,29 +126,51 @@ fits_move sizes n rows e g small keep k =
           (put-inside sizes e.to 0 [] k.chunk (omega arith));
     }
 
+all_fit : (sizes : Sizes) (n : ℕ) (rows : List BareRow) (us : List ℕ) → n < 2 ^ 63
+    → LiveRowsKeep sizes n [] rows → are_live us rows ≡ true → AllByRecursion (λ u. u < 2 ^ 64) us
+all_fit sizes n rows [] small keep live = tt
+all_fit sizes n rows (u ∷ us) small keep live =
+    let parts = and_parts (is_live u rows) (are_live us rows) live in
+    let past = live_past sizes n rows u keep parts.0 in
+    (omega (arith, past, small), all_fit sizes n rows us small keep parts.1)
+
 pub fits_one : (sizes : Sizes) (n : ℕ) (rows : List BareRow) (e : Entry (List ℕ))
+    (moved : List (List ℕ))
     → IsGeometry sizes → n < 2 ^ 63 → LiveRowsKeep sizes n [] rows
-    → broken_rule sizes rows (n + 1) (bare_entry e) ≡ None → HasOwn e → FitsEntry (bare_entry e)
-fits_one sizes n rows (entry.Live (Loader r)) g small keep keeps has =
+    → broken_rule sizes rows (n + 1) (bare_entry e) ≡ None → has_own e moved ≡ true
+    → FitsEntry (bare_entry e)
+fits_one sizes n rows (entry.Live (Loader r)) moved g small keep keeps own =
     let new = is_new_loader sizes rows r in
     let parts = and_parts (r.number == n + 1) new (rule_rows ((r.number == n + 1) && new) keeps) in
     let named = is_loader_name r.name in
-    let own = is_none (number_of r.name rows) in
-    let name = and_parts named own (and_parts (named && own) (has_room sizes rows (Loader r))
+    let other = is_none (number_of r.name rows) in
+    let name = and_parts named other (and_parts (named && other) (has_room sizes rows (Loader r))
     parts.1).0 in
     record {
       number = omega (arith, eqb-true r.number (n + 1) parts.0, small);
       name = short_name r.name name.0;
     }
-fits_one sizes n rows (entry.Live (Class r words)) g small keep keeps has =
+fits_one sizes n rows (entry.Live (Class r words)) moved g small keep keeps own =
     let live = is_live r.loader rows in
     let room = has_room sizes rows (Class r (tt {0})) in
     let rules = rule_both (live && room) (class_fits sizes rows r) keeps in
     let past = live_past sizes n rows r.loader keep (and_parts live room rules.0).0 in
     let k = class_keeps sizes rows r keeps in
     fits_class sizes r g (omega (arith, past, small)) (inside sizes r.place k.chunk k.within)
-fits_one sizes n rows (entry.Unload e) g small keep keeps has =
+fits_one sizes n rows (entry.Unload e) moved g small keep keeps own =
     let past = live_past sizes n rows e.loader keep (rule_rows (is_live e.loader rows) keeps) in
     record { loader = omega (arith, past, small) }
-fits_one sizes n rows (entry.Move e) g small keep keeps has =
+fits_one sizes n rows (entry.Move e) moved g small keep keeps own =
     fits_move sizes n rows e g small keep (keeps-move sizes rows e keeps)
+fits_one sizes n rows (entry.UnloadAll e) moved g small keep keeps own =
+    let differing = differ e.loaders in
+    let live = are_live e.loaders rows in
+    let alive = (and_parts differing live (rule_rows (differing && live) keeps)).1 in
+    let some = nat_le 1 (length e.loaders) in
+    let few = nat_le (length e.loaders) unload_limit in
+    let count = and_parts some few (and_parts (length moved == 0) (some && few) own).1 in
+    record {
+      some = leb-true 1 (length e.loaders) count.0;
+      few = leb-true (length e.loaders) unload_limit count.1;
+      loaders = all_fit sizes n rows e.loaders small keep alive;
+    }

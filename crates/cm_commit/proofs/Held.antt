@@ -13,7 +13,7 @@ use Rattle.cm_layout.specs.declared.class_row.ClassRow.{ClassRow}
 use Rattle.cm_layout.specs.declared.row.Row.{Row}
 use Rattle.cm_layout.specs.declared.row.Row.TheVariants.{Loader, Class}
 use Rattle.cm_layout.specs.Offsets.{roots_at, root_at, record_at, record_in_roots}
-use Rattle.cm_layout.specs.Rows.{classes_in, without_loader}
+use Rattle.cm_layout.specs.Rows.{classes_in, without_loader, without_loaders}
 use Rattle.cm_layout.specs.Frames.{HoldsRow, HoldsRecord}
 use Rattle.cm_layout.specs.Framing.{part, needs}
 use Rattle.cm_commit.proofs.Ranges.{part_same}
@@ -91,6 +91,13 @@ hold-without sizes contents u (Class r words ∷ rows) held =
         (cond (not t) (Class r words ∷ without_loader u rows) (without_loader u rows))
     by_test true rest = rest
     by_test false rest = (held.0, rest)
+
+pub hold-without-all : (sizes : Sizes) (contents us : List ℕ) (rows : List (Row (List ℕ)))
+    → HoldRows sizes contents rows → HoldRows sizes contents (without_loaders us rows)
+hold-without-all sizes contents [] rows held = held
+hold-without-all sizes contents (u ∷ us) rows held =
+    hold-without-all sizes contents us (without_loader u rows)
+    (hold-without sizes contents u rows held)
 
 -- rows that stand there need no more bytes than there are
 pub needs-held : (sizes : Sizes) (contents : List ℕ) (rows : List (Row (List ℕ)))

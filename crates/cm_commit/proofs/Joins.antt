@@ -16,7 +16,7 @@ use Rattle.cm_layout.specs.declared.row.Row.TheVariants.{Loader, Class}
 use Rattle.cm_layout.specs.declared.entry.Entry.{Entry}
 use Rattle.cm_layout.specs.declared.entry.Entry.TheVariants as entry
 use Rattle.cm_layout.specs.Slots.{FitsEntry}
-use Rattle.cm_layout.specs.Rows.{bare, rows_after}
+use Rattle.cm_layout.specs.Rows.{bare, rows_after, without_loaders}
 use Rattle.cm_layout.specs.Rules.{broken_rule, is_live, has_room, class_fits, is_new_loader}
 use Rattle.cm_layout.specs.Frames.{BareRow, AreApart, bare_entry}
 use Rattle.cm_layout.proofs.{own_loaders, name-bare, classes-bare, rule-bare}
@@ -33,9 +33,9 @@ use Rattle.cm_commit.proofs.Rights.{AreKept, kept-after, after-filled, rule-fill
 use Rattle.cm_commit.proofs.Fitting.{has_one, rule_rows, rule_both, live_past, fits_one}
 use Rattle.cm_commit.proofs.MovedOn.{TellsRecords, records_first, records_next, moves-right}
 use Rattle.cm_commit.proofs.MovedOn.{moves-them}
-use Rattle.cm_commit.proofs.ClassNames.{is_there, there-loader, there-class, there-without}
+use Rattle.cm_commit.proofs.ClassNames.{is_there, there-loader, there-class, left-without}
 use Rattle.cm_commit.proofs.ClassNames.{there-moved, live-moved}
-use Rattle.cm_commit.proofs.ClassNames.{none-there, live-loader, live-class, live-without, any-more}
+use Rattle.cm_commit.proofs.ClassNames.{none-there, live-loader, live-class, any-more}
 
 -- ---- tests
 
@@ -108,6 +108,21 @@ no_class committed before c u name none =
     ∙ (ap (λ (t : Bool). is_new_name committed before u name && not t) none
     ∙ sym (with_true (is_new_name committed before u name)))
 
+-- once loaders are unloaded
+names-left : (n : ℕ) (committed : List (Row (List ℕ))) (before : List Carried)
+    (rows : List (Row (List ℕ))) (us : List ℕ) (c : Carried)
+    → ((u : ℕ) (name : List ℕ) → makes_class u name c ≡ false)
+    → TellsNames committed before rows n
+    → TellsNames committed (before ++ c ∷ []) (without_loaders us rows) (n + 1)
+names-left n committed before rows us c none tells = record {
+  live = λ u name live.
+      let is = left-without u us rows live in
+      is.there name
+      ∙ (tells.live u name is.live ∙ sym (no_class committed before c u name (none u name)));
+  later = λ u name lt.
+      no_class committed before c u name (none u name) ∙ tells.later u name (omega (arith, lt));
+}
+
 pub tells_next : (sizes : Sizes) (n : ℕ) (committed : List (Row (List ℕ))) (before : List Carried)
     (rows : List (Row (List ℕ))) (e : Entry (List ℕ)) (moved : List (List ℕ)) → AreKept sizes n rows
     → broken_rule sizes (bare rows) (n + 1) (bare_entry e) ≡ None → HasRecords rows e moved
@@ -156,15 +171,15 @@ tells_next sizes n committed before rows (entry.Live (Class r words)) moved kept
           ∙ tells.later u name (omega (arith, lt));
     }
 tells_next sizes n committed before rows (entry.Unload e) moved kept keeps has tells =
-    let c : Carried = record { entry = entry.Unload e; moved = moved } in
-    record {
-      live = λ u name live.
-          let is = live-without u e.loader rows live in
-          there-without u e.loader name rows is.1
-          ∙ (tells.live u name is.0 ∙ sym (no_class committed before c u name refl));
-      later = λ u name lt.
-          no_class committed before c u name refl ∙ tells.later u name (omega (arith, lt));
-    }
+    names-left n committed before rows (e.loader ∷ []) (record {
+      entry = entry.Unload e;
+      moved = moved;
+    }) (λ u name. refl) tells
+tells_next sizes n committed before rows (entry.UnloadAll e) moved kept keeps has tells =
+    names-left n committed before rows e.loaders (record {
+      entry = entry.UnloadAll e;
+      moved = moved;
+    }) (λ u name. refl) tells
 tells_next sizes n committed before rows (entry.Move e) records kept keeps has tells =
     let c : Carried = record { entry = entry.Move e; moved = records } in
     record {
@@ -183,6 +198,7 @@ fits_filled (entry.Live (Loader r)) fits = fits
 fits_filled (entry.Live (Class r words)) fits = fits
 fits_filled (entry.Unload e) fits = fits
 fits_filled (entry.Move e) fits = fits
+fits_filled (entry.UnloadAll e) fits = fits
 
 apart-bare : {P Q : Type 0} (committed : List (Row P)) (e : Entry Q)
     → writes_apart committed (bare_entry e) ≡ writes_apart committed e
@@ -190,6 +206,7 @@ apart-bare committed (entry.Live (Loader r)) = refl
 apart-bare committed (entry.Live (Class r p)) = refl
 apart-bare committed (entry.Unload e) = refl
 apart-bare committed (entry.Move e) = refl
+apart-bare committed (entry.UnloadAll e) = refl
 
 class_is_new : (sizes : Sizes) (n : ℕ) (committed : List (Row (List ℕ))) (before : List Carried)
     (rows : List (Row (List ℕ))) (e : Entry (List ℕ)) (moved : List (List ℕ))
@@ -211,6 +228,7 @@ class_is_new sizes n committed before rows (entry.Live (Class r words)) moved ke
     )
 class_is_new sizes n committed before rows (entry.Unload e) moved keeps has tells new = tt
 class_is_new sizes n committed before rows (entry.Move e) moved keeps has tells new = tt
+class_is_new sizes n committed before rows (entry.UnloadAll e) moved keeps has tells new = tt
 
 new_class_is : (sizes : Sizes) (n : ℕ) (committed : List (Row (List ℕ))) (before : List Carried)
     (rows : List (Row (List ℕ))) (e : Entry (List ℕ)) (moved : List (List ℕ))
@@ -230,6 +248,7 @@ new_class_is sizes n committed before rows (entry.Live (Class r words)) moved ke
     sym (tells.live r.loader name (sym (live_bare r.loader rows) ∙ alive)) ∙ ap is_none new.0
 new_class_is sizes n committed before rows (entry.Unload e) moved keeps tells new = refl
 new_class_is sizes n committed before rows (entry.Move e) moved keeps tells new = refl
+new_class_is sizes n committed before rows (entry.UnloadAll e) moved keeps tells new = refl
 
 joins_one : (sizes : Sizes) (n : ℕ) (committed : List (Row (List ℕ))) (before : List Carried)
     (rows : List (Row (List ℕ))) (c : Carried) → IsGeometry sizes → n < 2 ^ 63
@@ -244,7 +263,7 @@ joins_one sizes n committed before rows c g small kept tells told keeps own move
     record {
       follows = record {
         fits = fits_filled c.entry
-            (fits_one sizes n (bare rows) c.entry g small kept.live keeps has.0);
+            (fits_one sizes n (bare rows) c.entry c.moved g small kept.live keeps own);
         keeps = sym (rule-bare sizes rows (n + 1) c.entry) ∙ keeps;
         new = class_is_new sizes n committed before rows c.entry c.moved keeps has tells new;
       };

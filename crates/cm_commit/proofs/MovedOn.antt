@@ -18,17 +18,19 @@ use Rattle.cm_layout.specs.declared.row.Row.TheVariants.{Loader, Class}
 use Rattle.cm_layout.specs.declared.entry.Entry.{Entry}
 use Rattle.cm_layout.specs.declared.entry.Entry.TheVariants as entry
 use Rattle.cm_layout.specs.Rows.{bare, classes_in, last_chunk, used_words, kept_on, rows_after}
-use Rattle.cm_layout.specs.Rows.{without_loader, moved}
-use Rattle.cm_layout.specs.Rules.{broken_rule, is_last_chunk, is_unused, has_place}
-use Rattle.cm_layout.specs.Frames.{BareRow, LiveRowsKeep, bare_entry}
+use Rattle.cm_layout.specs.Rows.{without_loader, without_loaders, moved}
+use Rattle.cm_layout.specs.Rules.{broken_rule, is_last_chunk, is_unused, has_place, is_live}
+use Rattle.cm_layout.specs.Rules.{are_live, differ}
+use Rattle.cm_layout.specs.Frames.{BareRow, LiveRowsKeep, AreApart, bare_entry}
 use Rattle.cm_layout.proofs.{class_keeps, classes-bare, classes_in-append, used-append, kept-append}
 use Rattle.cm_layout.proofs.{kept-without, kept-elsewhere, kept-onto, unused-none, begins-at}
-use Rattle.cm_layout.proofs.{is_last_chunk-among, after-bare, last-without}
+use Rattle.cm_layout.proofs.{is_last_chunk-among, after-bare, last-without, live-in-turn}
+use Rattle.cm_layout.proofs.{entry-apart}
 use Rattle.cm_group.specs.Groups.{Carried}
 use Rattle.cm_commit.specs.Joining.{records_then, records_after, committed_on, records_on}
 use Rattle.cm_commit.specs.Joining.{MovesThem}
 use Rattle.cm_commit.specs.Offers.{HasRecords}
-use Rattle.cm_commit.proofs.Fitting.{MovesRight}
+use Rattle.cm_commit.proofs.Fitting.{MovesRight, rule_rows}
 use Rattle.cm_commit.proofs.MovedRecords.{MoveKeeps, move-keeps}
 use Rattle.cm_commit.proofs.Rights.{AreKept}
 
@@ -144,24 +146,36 @@ module _ {P : Type 0} where
                 other = turned c from (subst (λ (x : Chunk). same_chunk x from ≡ false) on e);
               })
 
+-- the rows without a loader, with nothing kept
+bare-without : (u : ℕ) (rows : List (Row (List ℕ)))
+    → bare (without_loader u rows) ≡ without_loader u (bare rows)
+bare-without u rows = after-bare rows (entry.Unload (record { loader = u }))
+
 -- the last chunk of another loader than one that is unloaded
 last-stays : (v u : ℕ) (rows : List (Row (List ℕ))) → (v ≡ u → ⊥)
     → last_chunk v (classes_in (without_loader u rows)) ≡ last_chunk v (classes_in rows)
 last-stays v u rows other =
     ap (last_chunk v) (sym (classes-bare (without_loader u rows))
-    ∙ ap (λ (l : List BareRow). classes_in l) (after-bare rows
-    (entry.Unload (record { loader = u }))))
+    ∙ ap (λ (l : List BareRow). classes_in l) (bare-without u rows))
     ∙ last-without v u (bare rows) other
     ∙ ap (last_chunk v) (classes-bare rows)
 
+-- rows that are apart stay so without a loader
+apart-without : (sizes : Sizes) (n u : ℕ) (rows : List (Row (List ℕ)))
+    → AreApart (classes_in (bare rows)) → is_live u (bare rows) ≡ true
+    → AreApart (classes_in (bare (without_loader u rows)))
+apart-without sizes n u rows apart live =
+    subst (λ (l : List BareRow). AreApart (classes_in l)) (sym (bare-without u rows))
+    (entry-apart sizes (bare rows) n (entry.Unload (record { loader = u })) apart (rw live refl))
+
 -- ---- whose a chunk is
 
-module _ (sizes : Sizes) (n : ℕ) (rows : List (Row (List ℕ))) (kept : AreKept sizes n rows) where
+module _ (rows : List (Row (List ℕ))) (apart : AreApart (classes_in (bare rows))) where
   -- a chunk has one loader
   one-owner : (r s : ClassRow) → Among r (classes_in rows) → Among s (classes_in rows)
       → r.place.chunk ≡ s.place.chunk → r.loader ≡ s.loader
   one-owner r s m k same =
-      (kept.apart r s (subst (λ (l : List ClassRow). Among r l) (sym (classes-bare rows)) m)
+      (apart r s (subst (λ (l : List ClassRow). Among r l) (sym (classes-bare rows)) m)
       (subst (λ (l : List ClassRow). Among s l) (sym (classes-bare rows)) k)
       (subst (λ (d : Chunk). Meets r.place.chunk d) same (meets-itself r.place.chunk))).1
 
@@ -172,6 +186,7 @@ module _ (sizes : Sizes) (n : ℕ) (rows : List (Row (List ℕ))) (kept : AreKep
       let found = is_last_chunk-among u c rows last in
       one-owner s found.0 m found.1 (on ∙ sym found.3) ∙ found.2
 
+module _ (sizes : Sizes) (n : ℕ) (rows : List (Row (List ℕ))) (kept : AreKept sizes n rows) where
   -- each record has words
   some-words : (s : ClassRow) → Among s (classes_in rows) → 1 ≤ s.place.words
   some-words s m =
@@ -249,6 +264,51 @@ records_first rows = record {
   each = λ u c last. ap (λ (t : Bool). cond t (kept_on c rows) []) last;
 }
 
+-- They tell as much once a loader is unloaded,
+without-tells : (committed : List (Row (List ℕ))) (before : List Carried)
+    (rows : List (Row (List ℕ))) (u : ℕ) → AreApart (classes_in (bare rows))
+    → TellsRecords committed before rows → TellsRecords committed before (without_loader u rows)
+without-tells committed before rows u apart tells =
+    record { each = λ v c last. by_own v c (eqb v u) refl last }
+  where
+    by_own : (v : ℕ) (c : Chunk) (t : Bool) → eqb v u ≡ t
+        → is_last_chunk v c (without_loader u rows) ≡ true
+        → records_on committed before v c ≡ kept_on c (without_loader u rows)
+    by_own v c true e last =
+        let found = is_last_chunk-among v c (without_loader u rows) last in
+        absurd (none-left u rows found.0 found.1 (found.2 ∙ eqb-true v u e))
+    by_own v c false e last =
+        tells.each v c was
+        ∙ sym (kept-without c u rows
+        (λ s m own. by_chunk s m own (same_chunk s.place.chunk c) refl))
+      where
+        was : is_last_chunk v c rows ≡ true
+        was =
+            sym (ap (λ (o : Option Chunk). option_map_or (λ l. same_chunk l c) o false)
+            (last-stays v u rows (λ is. no_both (eq-eqb v u is) e))) ∙ last
+
+        by_chunk : (s : ClassRow) → Among s (classes_in rows) → s.loader ≡ u → (t : Bool)
+            → same_chunk s.place.chunk c ≡ t → t ≡ false
+        by_chunk s m own false on = refl
+        by_chunk s m own true on =
+            let mine = owner-of rows apart v c s was m (same_chunk-true s.place.chunk c on) in
+            absurd (no_both (eq-eqb v u (sym mine ∙ own)) e)
+
+-- and once several are, one after another.
+without-all-tells : (sizes : Sizes) (n : ℕ) (committed : List (Row (List ℕ)))
+    (before : List Carried) (us : List ℕ) (rows : List (Row (List ℕ)))
+    → AreApart (classes_in (bare rows)) → (differ us && are_live us (bare rows)) ≡ true
+    → TellsRecords committed before rows
+    → TellsRecords committed before (without_loaders us rows)
+without-all-tells sizes n committed before [] rows apart live tells = tells
+without-all-tells sizes n committed before (u ∷ us) rows apart live tells =
+    let turn = live-in-turn u us (bare rows) live in
+    without-all-tells sizes n committed before us (without_loader u rows)
+    (apart-without sizes n u rows apart turn.0)
+    (subst (λ (l : List BareRow). (differ us && are_live us l) ≡ true) (sym (bare-without u rows))
+    turn.1)
+    (without-tells committed before rows u apart tells)
+
 module _ (sizes : Sizes) (n : ℕ) (committed : List (Row (List ℕ))) (before : List Carried)
     (rows : List (Row (List ℕ))) (kept : AreKept sizes n rows)
     (tells : TellsRecords committed before rows) where
@@ -260,6 +320,14 @@ module _ (sizes : Sizes) (n : ℕ) (committed : List (Row (List ℕ))) (before :
   leaves-them k u c after same last is =
       after-one c (committed_on u c committed) before k
       ∙ same (records_on committed before u c) ∙ tells.each u c last ∙ sym is
+
+  -- entries that leave all records
+  still-tells : (k : Carried)
+      → ((c : Chunk) (records : List (List ℕ)) → records_then c records k.entry k.moved ≡ records)
+      → TellsRecords committed (before ++ k ∷ []) rows
+  still-tells k same = record {
+    each = λ u c last. leaves-them k u c rows (same c) last refl;
+  }
 
   -- a class of another loader lies on another chunk
   lies-elsewhere : (u : ℕ) (c : Chunk) (r : ClassRow) → has_place rows r ≡ true
@@ -279,7 +347,7 @@ module _ (sizes : Sizes) (n : ℕ) (committed : List (Row (List ℕ))) (before :
             | inl top ↦
                 let found = is_last_chunk-among r.loader r.place.chunk rows
                 (and_parts own behind top).0 in
-                let mine = owner-of sizes n rows kept u c found.0 last found.1 (found.3 ∙ on) in
+                let mine = owner-of rows kept.apart u c found.0 last found.1 (found.3 ∙ on) in
                 absurd (no_both (eq-eqb r.loader u (sym found.2 ∙ mine)) other)
             | inr new ↦
                 let found = is_last_chunk-among u c rows last in
@@ -373,36 +441,6 @@ module _ (sizes : Sizes) (n : ℕ) (committed : List (Row (List ℕ))) (before :
           (records ++ words ∷ [])) records) other) was
           (push-kept c r words false other ∙ append-nil (kept_on c rows))
 
-  unload-tells : (u : ℕ) (k : Carried)
-      → ((c : Chunk) (records : List (List ℕ)) → records_then c records k.entry k.moved ≡ records)
-      → TellsRecords committed (before ++ k ∷ []) (without_loader u rows)
-  unload-tells u k same = record { each = λ v c last. by_own v c (eqb v u) refl last }
-    where
-      by_own : (v : ℕ) (c : Chunk) (t : Bool) → eqb v u ≡ t
-          → is_last_chunk v c (without_loader u rows) ≡ true
-          → records_on committed (before ++ k ∷ []) v c ≡ kept_on c (without_loader u rows)
-      by_own v c true e last =
-          let found = is_last_chunk-among v c (without_loader u rows) last in
-          absurd (none-left u rows found.0 found.1 (found.2 ∙ eqb-true v u e))
-      by_own v c false e last =
-          let was : is_last_chunk v c rows ≡ true =
-          sym (ap (λ (o : Option Chunk). option_map_or (λ l. same_chunk l c) o false)
-          (last-stays v u rows (λ is. no_both (eq-eqb v u is) e))) ∙ last in
-          leaves-them k v c (without_loader u rows) (same c) was
-          (kept-without c u rows (λ s m own.
-          by_chunk s m own (same_chunk s.place.chunk c) refl))
-        where
-          by_chunk : (s : ClassRow) → Among s (classes_in rows) → s.loader ≡ u → (t : Bool)
-              → same_chunk s.place.chunk c ≡ t → t ≡ false
-          by_chunk s m own false on = refl
-          by_chunk s m own true on =
-              let was : is_last_chunk v c rows ≡ true =
-              sym (ap (λ (o : Option Chunk). option_map_or (λ l. same_chunk l c) o false)
-              (last-stays v u rows (λ is. no_both (eq-eqb v u is) e))) ∙ last in
-              let mine = owner-of sizes n rows kept v c s was m
-              (same_chunk-true s.place.chunk c on) in
-              absurd (no_both (eq-eqb v u (sym mine ∙ own)) e)
-
   move-tells : (e : Move) (moved_records : List (List ℕ)) → MoveKeeps sizes rows e
       → moved_records ≡ kept_on e.from rows
       → TellsRecords committed
@@ -458,8 +496,14 @@ records_next sizes n committed before rows (entry.Live (Class r words)) moved_re
     rw (sym (classes-bare rows)) (class_keeps sizes (bare rows) r keeps).place in
     class-tells sizes n committed before rows kept tells r words moved_records place
 records_next sizes n committed before rows (entry.Unload e) moved_records kept keeps has tells =
-    unload-tells sizes n committed before rows kept tells e.loader
-    (record { entry = entry.Unload e; moved = moved_records }) (λ c records. refl)
+    let k : Carried = record { entry = entry.Unload e; moved = moved_records } in
+    without-tells committed (before ++ k ∷ []) rows e.loader kept.apart
+    (still-tells sizes n committed before rows kept tells k (λ c records. refl))
+records_next sizes n committed before rows (entry.UnloadAll e) moved_records kept keeps has tells =
+    let k : Carried = record { entry = entry.UnloadAll e; moved = moved_records } in
+    without-all-tells sizes n committed (before ++ k ∷ []) e.loaders rows kept.apart
+    (rule_rows (differ e.loaders && are_live e.loaders (bare rows)) keeps)
+    (still-tells sizes n committed before rows kept tells k (λ c records. refl))
 records_next sizes n committed before rows (entry.Move e) moved_records kept keeps has tells =
     move-tells sizes n committed before rows kept tells e moved_records
     (move-keeps sizes rows (n + 1) e keeps) has.1
@@ -475,6 +519,7 @@ pub moves-right : (sizes : Sizes) (n : ℕ) (committed : List (Row (List ℕ)))
     → MovesRight rows e moved_records
 moves-right sizes n committed before rows (entry.Live row) moved_records keeps tells them = tt
 moves-right sizes n committed before rows (entry.Unload e) moved_records keeps tells them = tt
+moves-right sizes n committed before rows (entry.UnloadAll e) moved_records keeps tells them = tt
 moves-right sizes n committed before rows (entry.Move e) moved_records keeps tells them =
     them ∙ tells.each e.loader e.from (move-keeps sizes rows (n + 1) e keeps).last
 
@@ -486,5 +531,6 @@ pub moves-them : (sizes : Sizes) (n : ℕ) (committed : List (Row (List ℕ)))
     → MovesThem committed before e moved_records
 moves-them sizes n committed before rows (entry.Live row) moved_records keeps tells has = tt
 moves-them sizes n committed before rows (entry.Unload e) moved_records keeps tells has = tt
+moves-them sizes n committed before rows (entry.UnloadAll e) moved_records keeps tells has = tt
 moves-them sizes n committed before rows (entry.Move e) moved_records keeps tells has =
     has.1 ∙ sym (tells.each e.loader e.from (move-keeps sizes rows (n + 1) e keeps).last)

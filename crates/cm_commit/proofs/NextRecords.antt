@@ -58,6 +58,7 @@ pub bare-move : (e : Entry (List ℕ)) (m : Move) → bare_entry e ≡ entry.Mov
 bare-move (entry.Live (Loader r)) m is = absurd (cc)
 bare-move (entry.Live (Class r words)) m is = absurd (cc)
 bare-move (entry.Unload d) m is = absurd (cc)
+bare-move (entry.UnloadAll d) m is = absurd (cc)
 bare-move (entry.Move d) m is = cc
 
 pub move-none : (to : Chunk) (offset : ℕ) (records : List (List ℕ)) (n : ℕ)

@@ -34,6 +34,7 @@ fits-filled c = by_entry c.entry
     by_entry (entry.Live (Class r words)) fits = fits
     by_entry (entry.Unload e) fits = fits
     by_entry (entry.Move e) fits = fits
+    by_entry (entry.UnloadAll e) fits = fits
 
 pub after-filled : (rows : List (Row (List ℕ))) (c : Carried)
     → bare (rows_after rows (filled c)) ≡ rows_after (bare rows) (bare_entry c.entry)

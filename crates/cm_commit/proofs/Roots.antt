@@ -85,6 +85,7 @@ record-stays sizes rows n (entry.Live (Class r words)) moved len keeps counted h
     let ends = ends_in_root sizes r.place (class_inside sizes rows n r keeps).0 in
     omega (arith, bytes, has.0, ends, long)
 record-stays sizes rows n (entry.Unload e) moved len keeps counted has long = refl
+record-stays sizes rows n (entry.UnloadAll e) moved len keeps counted has long = refl
 record-stays sizes rows n (entry.Move e) moved len keeps counted has long =
     let k = move-keeps sizes rows (n + 1) e keeps in
     let words : words_in moved ≡ used_words e.from rows =

@@ -1,39 +1,22 @@
 -- The slots of the half that counts, and of a group more.
 -- For `Committer::advance`, `Committer::images`, `Committer::offer` and others.
-use Rattle.std.proofs.Common.{◌≡◌, ℕ, ◌+◌, ◌-◌, ◌*◌, List, [], ◌∷◌, ◌++◌, length, refl, sym, ap}
+use Rattle.std.proofs.Common.{◌≡◌, ℕ, ◌+◌, ◌*◌, List, [], ◌∷◌, ◌++◌, length, refl, sym, ap}
 use Rattle.std.proofs.Common.{◌∙◌, arith, append_assoc, append-nil}
 use Rattle.std.specs.List.{flat_map}
-use Rattle.std.proofs.lemmas.List.{length-append, length-replicate}
+use Rattle.std.proofs.lemmas.List.{length-append}
 use Rattle.cm_pool.specs.Geometry.{Sizes}
-use Rattle.cm_layout.specs.declared.row.Row.TheVariants.{Loader, Class}
 use Rattle.cm_layout.specs.declared.entry.Entry.TheVariants as entry
 use Rattle.cm_layout.specs.Slots.{half_head_slot, group_head_slot, row_slot}
 use Rattle.cm_layout.specs.Slots.{entry_slot, open_gate}
-use Rattle.cm_layout.specs.Slots.{FitsRow, FitsEntry}
 use Rattle.cm_layout.specs.Rows.{slots_of_rows, slots_of_entries, rows_after, rows_after_all}
 use Rattle.cm_layout.specs.Frames.{BareRow, BareEntry, LiveRowsKeep, EntriesKeep, GroupsKeep}
 use Rattle.cm_layout.specs.Frames.{IsGoodHalf, group_slots, groups_slots}
 use Rattle.cm_layout.specs.Framing.{Framing, used_bytes, used_size, open_half}
-use Rattle.cm_layout.specs.Zeros.{zeros}
+use Rattle.cm_layout.proofs.{slot_count}
 use Rattle.cm_commit.specs.Committed.{slots_of_groups, end_slot, with_group}
 use Rattle.cm_commit.specs.GroupPlans.{slots_behind_gate}
 
 -- ---- how many bytes they take
-
-row_count : (r : BareRow) → FitsRow r → length (row_slot r) ≡ 64
-row_count (Loader r) fits =
-    omega (
-      arith,
-      length-append r.name (zeros (48 - length r.name)),
-      length-replicate {A = ℕ} (48 - length r.name) 0,
-      fits.name,
-    )
-row_count (Class r p) fits = refl
-
-entry_count : (e : BareEntry) → FitsEntry e → length (entry_slot e) ≡ 64
-entry_count (entry.Live row) fits = row_count row fits
-entry_count (entry.Unload e) fits = refl
-entry_count (entry.Move e) fits = refl
 
 pub live_count : (sizes : Sizes) (base : ℕ) (pre rows : List BareRow)
     → LiveRowsKeep sizes base pre rows
@@ -43,7 +26,7 @@ live_count sizes base pre (row ∷ rows) k =
     omega (
       arith,
       live_count sizes base (pre ++ row ∷ []) rows k.2,
-      row_count row k.0,
+      slot_count (entry.Live row) k.0,
       length-append (row_slot row) (flat_map row_slot rows),
     )
 
@@ -52,6 +35,7 @@ one_slot : (e : BareEntry) (es : List BareEntry)
 one_slot (entry.Live row) es = refl
 one_slot (entry.Unload e) es = refl
 one_slot (entry.Move e) es = refl
+one_slot (entry.UnloadAll e) es = refl
 
 pub entries_count : (sizes : Sizes) (rows : List BareRow) (n : ℕ) (es : List BareEntry)
     → EntriesKeep sizes rows n es → length (flat_map entry_slot es) ≡ 64 * slots_of_entries es
@@ -60,7 +44,7 @@ entries_count sizes rows n (e ∷ es) k =
     omega (
       arith,
       entries_count sizes (rows_after rows e) (n + 1) es k.2,
-      entry_count e k.0,
+      slot_count e k.0,
       one_slot e es,
       length-append (entry_slot e) (flat_map entry_slot es),
     )

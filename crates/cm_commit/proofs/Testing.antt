@@ -51,6 +51,7 @@ inside_one sizes rows n (entry.Live (Class r p)) keeps =
     (and_parts chunk some (and_parts (chunk && some) within
     (and_parts (chunk && some && within) (has_place rows r) fits).0).0).0
 inside_one sizes rows n (entry.Unload e) keeps = refl
+inside_one sizes rows n (entry.UnloadAll e) keeps = refl
 inside_one sizes rows n (entry.Move e) keeps =
     let fits = rule_one (move_fits sizes rows e) _ keeps in
     let last = is_last_chunk e.loader e.from rows in
@@ -87,6 +88,7 @@ apart-with : {P Q : Type 0} (f : P → Q) (rows : List (Row P)) (e : BareEntry)
 apart-with f rows (entry.Live (Loader r)) = refl
 apart-with f rows (entry.Live (Class r p)) = rw (classes-with f rows) refl
 apart-with f rows (entry.Unload e) = refl
+apart-with f rows (entry.UnloadAll e) = refl
 apart-with f rows (entry.Move e) = rw (classes-with f rows) refl
 
 pub apart-all : {P Q : Type 0} (f : P → Q) (rows : List (Row P)) (carried : List Carried)

@@ -12,7 +12,7 @@ use Rattle.cm_layout.specs.declared.row.Row.TheVariants.{Loader, Class}
 use Rattle.cm_layout.specs.declared.entry.Entry.{Entry}
 use Rattle.cm_layout.specs.declared.entry.Entry.TheVariants as entry
 use Rattle.cm_layout.specs.Rows.{bare, rows_with, row_with, rows_after, entry_with, moved}
-use Rattle.cm_layout.specs.Rows.{without_loader, slots_of_rows}
+use Rattle.cm_layout.specs.Rows.{without_loader, without_loaders, slots_of_rows}
 use Rattle.cm_layout.specs.Slots.{row_slot, loader_slot, class_slot}
 use Rattle.cm_layout.specs.Frames.{BareRow}
 use Rattle.cm_layout.proofs.{slots-bare, slots_of-with}
@@ -49,6 +49,12 @@ without-with {P} {Q} f u (Class r p ∷ rows) =
     by_test true rest = ap (λ (l : List (Row Q)). Class r (f p) ∷ l) rest
     by_test false rest = rest
 
+without-all-with : {P Q : Type 0} (f : P → Q) (us : List ℕ) (rows : List (Row P))
+    → rows_with f (without_loaders us rows) ≡ without_loaders us (rows_with f rows)
+without-all-with f [] rows = refl
+without-all-with f (u ∷ us) rows =
+    without-all-with f us (without_loader u rows) ∙ ap (without_loaders us) (without-with f u rows)
+
 moved-with : {P Q : Type 0} (f : P → Q) (from to : Chunk) (rows : List (Row P))
     → rows_with f (moved from to rows) ≡ moved from to (rows_with f rows)
 moved-with f from to [] = refl
@@ -71,6 +77,7 @@ pub after-with : {P Q : Type 0} (f : P → Q) (rows : List (Row P)) (e : Entry P
     → rows_with f (rows_after rows e) ≡ rows_after (rows_with f rows) (entry_with f e)
 after-with f rows (entry.Live row) = map-append (row_with f) rows (row ∷ [])
 after-with f rows (entry.Unload e) = without-with f e.loader rows
+after-with f rows (entry.UnloadAll e) = without-all-with f e.loaders rows
 after-with f rows (entry.Move e) = moved-with f e.from e.to rows
 
 -- ---- in a half

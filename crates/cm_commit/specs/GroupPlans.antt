@@ -34,6 +34,7 @@ roots_of_entry (entry.Live (Loader r)) = 0
 roots_of_entry (entry.Live (Class r p)) = r.place.chunk.root + 1
 roots_of_entry (entry.Unload e) = 0
 roots_of_entry (entry.Move e) = e.to.root + 1
+roots_of_entry (entry.UnloadAll e) = 0
 
 abbrev pub roots_of_entries : List BareEntry → ℕ
 roots_of_entries [] = 0
@@ -58,6 +59,7 @@ writes_of (entry.Live (Loader r)) moved = []
 writes_of (entry.Live (Class r words)) moved = (r.place, words) ∷ []
 writes_of (entry.Unload e) moved = []
 writes_of (entry.Move e) moved = move_writes e.to 0 moved
+writes_of (entry.UnloadAll e) moved = []
 
 -- in the order of the entries
 abbrev pub all_writes : List Carried → List (Place × List ℕ)

@@ -57,6 +57,7 @@ is_inside sizes (entry.Live (Loader r)) = true
 is_inside sizes (entry.Live (Class r p)) = is_chunk sizes r.place.chunk
 is_inside sizes (entry.Unload e) = true
 is_inside sizes (entry.Move e) = is_chunk sizes e.to
+is_inside sizes (entry.UnloadAll e) = true
 
 abbrev pub are_inside : Sizes → List Carried → Bool
 are_inside sizes carried = list_all (λ c. is_inside sizes (bare_entry c.entry)) carried
@@ -78,6 +79,7 @@ records_then c records (entry.Live (Class r words)) moved =
     else records
 records_then c records (entry.Unload e) moved = records
 records_then c records (entry.Move e) moved = if same_chunk e.to c then moved else records
+records_then c records (entry.UnloadAll e) moved = records
 
 abbrev pub records_after : Chunk → List (List ℕ) → List Carried → List (List ℕ)
 records_after c records [] = records
@@ -99,6 +101,7 @@ MovesThem committed before (entry.Live row) moved = Unit {0}
 MovesThem committed before (entry.Unload e) moved = Unit {0}
 MovesThem committed before (entry.Move e) moved =
     moved ≡ records_on committed before e.loader e.from
+MovesThem committed before (entry.UnloadAll e) moved = Unit {0}
 
 -- so does each of the entries behind those before
 abbrev pub AllMoveThem : List (Row (List ℕ)) → List Carried → List Carried → Type 0

@@ -6,6 +6,7 @@ use Rattle.cm_layout.specs.declared.row.Row.{Row}
 use Rattle.cm_layout.specs.declared.row.Row.TheVariants.{Loader, Class}
 use Rattle.cm_layout.specs.declared.entry.Entry.{Entry}
 use Rattle.cm_layout.specs.declared.entry.Entry.TheVariants as entry
+use Rattle.cm_layout.specs.Names.{unload_limit}
 use Rattle.cm_layout.specs.Rows.{used_words, rows_after, rows_after_all}
 use Rattle.cm_layout.specs.Rules.{is_unused, is_last_chunk}
 use Rattle.cm_group.specs.Groups.{Carried, Handed, entries_in, slots_taken, moved_with}
@@ -25,18 +26,25 @@ HasOwn (entry.Live (Loader r)) = Unit {0}
 HasOwn (entry.Live (Class r words)) = length words ≡ r.place.words
 HasOwn (entry.Unload e) = Unit {0}
 HasOwn (entry.Move e) = Unit {0}
+HasOwn (entry.UnloadAll e) = Unit {0}
 
 -- it carries the records that it needs, and no others
 abbrev pub HasRecords : List (Row (List ℕ)) → Entry (List ℕ) → List (List ℕ) → Type 0
 HasRecords rows e moved = HasOwn e × (moved ≡ moved_with rows e)
 
--- the same as a test, but for the records that move, which other entries tell
+-- one loader, or as many as go at once
+abbrev pub are_some : List ℕ → Bool
+are_some loaders = nat_le 1 (length loaders) && nat_le (length loaders) unload_limit
+
+-- the same as a test, but for the records that move, which other entries tell; and a list of
+-- loaders is one that a slot has room for
 abbrev pub has_own : Entry (List ℕ) → List (List ℕ) → Bool
 has_own (entry.Live (Loader r)) moved = length moved == 0
 has_own (entry.Live (Class r words)) moved =
     (length moved == 0) && (length words == r.place.words)
 has_own (entry.Unload e) moved = length moved == 0
 has_own (entry.Move e) moved = true
+has_own (entry.UnloadAll e) moved = (length moved == 0) && are_some e.loaders
 
 abbrev pub carries_own : Carried → Bool
 carries_own c = has_own c.entry c.moved
@@ -50,6 +58,7 @@ writes_apart committed (entry.Live (Class r p)) =
     && nat_le (used_words r.place.chunk committed) r.place.offset)
 writes_apart committed (entry.Unload e) = true
 writes_apart committed (entry.Move e) = is_unused e.to committed
+writes_apart committed (entry.UnloadAll e) = true
 
 -- It keeps the rules on the rows before it, its class is new in its loader, and it writes what it
 -- may.

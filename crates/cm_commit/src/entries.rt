@@ -24,7 +24,7 @@ fn roots_of(entry: &Entry<()>) -> u32
     match entry {
         Entry::Live(Row::Class(row, ())) => row.place.chunk.root + 1,
         Entry::Move(entry) => entry.to.root + 1,
-        Entry::Live(Row::Loader(_)) | Entry::Unload(_) => 0,
+        Entry::Live(Row::Loader(_)) | Entry::Unload(_) | Entry::UnloadAll(_) => 0,
     }
 }
 
@@ -74,7 +74,7 @@ fn writes_in(carried: &CarriedEntry) -> usize
     match carried.bare() {
         Entry::Live(Row::Class(_, ())) => 1,
         Entry::Move(_) => carried.moved().len(),
-        Entry::Live(Row::Loader(_)) | Entry::Unload(_) => 0,
+        Entry::Live(Row::Loader(_)) | Entry::Unload(_) | Entry::UnloadAll(_) => 0,
     }
 }
 

@@ -56,6 +56,10 @@ fn carries_own(carried: &CarriedEntry) -> bool
     }
     match carried.bare() {
         Entry::Live(_) | Entry::Unload(_) => carried.moved().is_empty(),
+        Entry::UnloadAll(entry) => {
+            let _loaders = entry.loaders.as_slice(); // so the proof knows how many they are
+            carried.moved().is_empty()
+        }
         Entry::Move(_) => {
             tell_words(carried.moved());
             true
@@ -99,7 +103,7 @@ fn writes_apart(rows: &mut Book<Arc<Record, Global>>, entry: &Entry<()>) -> bool
             rows.is_unused(&row.place.chunk) || is_behind_last(rows, row)
         }
         Entry::Move(entry) => rows.is_unused(&entry.to),
-        Entry::Live(Row::Loader(_)) | Entry::Unload(_) => true,
+        Entry::Live(Row::Loader(_)) | Entry::Unload(_) | Entry::UnloadAll(_) => true,
     }
 }
 

@@ -176,7 +176,7 @@ fn moves_them(
 {
     match carried.bare() {
         Entry::Move(entry) => are_on(rows, before, &entry, carried.moved()),
-        Entry::Live(_) | Entry::Unload(_) => true,
+        Entry::Live(_) | Entry::Unload(_) | Entry::UnloadAll(_) => true,
     }
 }
 

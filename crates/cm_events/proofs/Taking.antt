@@ -23,6 +23,7 @@ command_asked asked (command.AddLoader name) h = ap is_some h
 command_asked asked (command.Define loader class) h = ap is_some h.asked_is
 command_asked asked (command.Unload name) h = ap is_some h
 command_asked asked (command.Tighten name) h = ap is_some h
+command_asked asked (command.UnloadAll names) h = ap is_some h.asked_is
 
 event_asked : (asked : Option Asked) (e : Event) → IsEvent asked e → is_some asked ≡ true
 event_asked asked (event.Accept c) h = command_asked asked c h

@@ -7,7 +7,7 @@ use Rattle.std.specs.Result.{result_ok}
 use Rattle.std.specs.Str.{bytes_eq}
 use Rattle.hex.specs.Hex.{decode_of}
 use Rattle.cm_pool.specs.Geometry.{Sizes}
-use Rattle.cm_lines.specs.Lines.{pieces, is_word, line_limit}
+use Rattle.cm_lines.specs.Lines.{pieces, is_word, are_words, line_limit}
 use Rattle.cm_events.specs.declared.line.EventLine.{EventLine}
 use Rattle.cm_events.specs.declared.line.EventLine.TheVariants as line
 use Rattle.cm_events.specs.Numbers.{number_in}
@@ -19,6 +19,7 @@ pub data Asked : Type 0 where
   AsksDefine : List ℕ → List ℕ → Asked
   AsksUnload : List ℕ → Asked
   AsksTighten : List ℕ → Asked
+  AsksUnloadAll : List (List ℕ) → Asked
   AsksSeal : Asked
   AsksAdvance : Asked
   AsksTrim : Asked
@@ -71,13 +72,19 @@ asked_of_two verb word last =
     then option_and_then (λ len. crash_of len last) (number_in word)
     else None
 
+-- of a verb and the words behind it, where the verb wants two at most
+abbrev pub asked_of_few : List ℕ → List (List ℕ) → Option Asked
+asked_of_few verb [] = asked_alone verb
+asked_of_few verb (word ∷ []) = asked_of_one verb word
+asked_of_few verb (word ∷ last ∷ []) = asked_of_two verb word last
+asked_of_few verb (word ∷ last ∷ further ∷ more) = None
+
 -- of the words that the line consists of
 abbrev pub asked_of_words : List (List ℕ) → Option Asked
 asked_of_words [] = None
-asked_of_words (verb ∷ []) = asked_alone verb
-asked_of_words (verb ∷ word ∷ []) = asked_of_one verb word
-asked_of_words (verb ∷ word ∷ last ∷ []) = asked_of_two verb word last
-asked_of_words (verb ∷ word ∷ last ∷ further ∷ more) = None
+asked_of_words (verb ∷ words) =
+    if bytes_eq verb (codes "unloadall") && are_words words then Some (AsksUnloadAll words)
+    else asked_of_few verb words
 
 -- A line that is too long asks for nothing, whatever it says.
 abbrev pub event_of_line : List ℕ → Option Asked
@@ -92,6 +99,7 @@ seen (line.Loader name) = Some (AsksLoader name.now)
 seen (line.Define loader digits) = define_of loader.now digits.now
 seen (line.Unload name) = Some (AsksUnload name.now)
 seen (line.Tighten name) = Some (AsksTighten name.now)
+seen (line.UnloadAll names) = Some (AsksUnloadAll (pieces 32 names.now))
 seen line.Seal = Some AsksSeal
 seen line.Advance = Some AsksAdvance
 seen line.Trim = Some AsksTrim

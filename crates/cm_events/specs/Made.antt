@@ -1,11 +1,12 @@
 -- What becomes of the lines of a simulation.
 use Rattle.std.specs.Prelude.{◌≡◌, ℕ, ◌+◌, ◌++◌, if◌then◌else◌, List, [], ◌∷◌, Option, Some, None}
-use Rattle.std.specs.Prelude.{map, is_some}
+use Rattle.std.specs.Prelude.{map, take, is_some}
 use Rattle.std.specs.List.{flat_map}
 use Rattle.cm_class.specs.declared.class_file.ClassFile.{ClassFile}
 use Rattle.cm_record.specs.Layout.{lay}
 use Rattle.cm_rules.specs.Answer.{IsRight}
 use Rattle.cm_prepare.specs.Prepare.{IsUnprepared}
+use Rattle.cm_prepare.specs.Names.{names_kept}
 use Rattle.cm_prepare.specs.declared.command.Command.{Command}
 use Rattle.cm_prepare.specs.declared.command.Command.TheVariants as command
 use Rattle.cm_prepare.specs.declared.refusal.Refusal.{Refusal}
@@ -19,7 +20,8 @@ use Rattle.cm_events.specs.declared.simulation.Simulation.{Simulation}
 use Rattle.cm_events.specs.declared.fault.SimulationFault.{SimulationFault}
 use Rattle.cm_events.specs.declared.fault.SimulationFault.TheVariants as fault
 use Rattle.cm_events.specs.Asked.{Asked, AsksLoader, AsksDefine, AsksUnload, AsksTighten, AsksSeal}
-use Rattle.cm_events.specs.Asked.{AsksAdvance, AsksTrim, AsksLearn, AsksLook, AsksFault}
+use Rattle.cm_events.specs.Asked.{AsksUnloadAll, AsksAdvance, AsksTrim, AsksLearn, AsksLook}
+use Rattle.cm_events.specs.Asked.{AsksFault}
 use Rattle.cm_events.specs.Asked.{AsksReopen, AsksCrash, event_of_line, geometry_of_line}
 
 -- ---- one line
@@ -32,12 +34,20 @@ pub record IsDefinition (asked : Option Asked) (loader words : List ℕ) : Type 
   pub right : IsRight bytes c
   pub words_are : words ≡ lay c
 
+-- the command is of the names that are asked for; of more than are kept, all of which would be
+-- refused as well, of the first ones
+pub record IsUnloadAll (asked : Option Asked) (names : List (List ℕ)) : Type 0 where
+  pub all : List (List ℕ)
+  pub asked_is : asked ≡ Some (AsksUnloadAll all)
+  pub names_are : names ≡ take names_kept all
+
 -- the command is what is asked for
 abbrev pub IsCommand : Option Asked → Command → Type 0
 IsCommand asked (command.AddLoader name) = asked ≡ Some (AsksLoader name.now)
 IsCommand asked (command.Define loader class) = IsDefinition asked loader.now class
 IsCommand asked (command.Unload name) = asked ≡ Some (AsksUnload name.now)
 IsCommand asked (command.Tighten name) = asked ≡ Some (AsksTighten name.now)
+IsCommand asked (command.UnloadAll names) = IsUnloadAll asked names
 
 -- the event is what is asked for
 abbrev pub IsEvent : Option Asked → Event → Type 0

@@ -5,10 +5,11 @@ ghost use Rattle.std.specs.Option.{option_map, option_and_then};
 ghost use Rattle.cm_lines.specs.Lines.{pieces, line_limit};
 ghost use Rattle.cm_events.specs.Numbers.{number_in};
 ghost use Rattle.cm_events.specs.Asked.{seen, asked_alone, asked_of_one, asked_of_two};
-ghost use Rattle.cm_events.specs.Asked.{asked_of_words, event_of_line, AsksFault, crash_of};
+ghost use Rattle.cm_events.specs.Asked.{asked_of_few, asked_of_words, event_of_line, AsksFault};
+ghost use Rattle.cm_events.specs.Asked.{crash_of};
 
 use crate::number::number_in;
-use cm_lines::{LINE_LIMIT, cut};
+use cm_lines::{LINE_LIMIT, are_words, cut};
 
 /// What a line asks for. Hexadecimal digits aren't read yet.
 #[derive(Clone, Copy, Debug, PartialEq, Eq)]
@@ -21,6 +22,8 @@ pub(crate) enum EventLine<'a> {
     Unload(&'a [u8]),
     /// `tighten NAME`
     Tighten(&'a [u8]),
+    /// `unloadall NAME NAME ..`: the names as they stand in the line, with one space between.
+    UnloadAll(&'a [u8]),
     /// `seal`
     Seal,
     /// `advance`
@@ -69,6 +72,16 @@ fn parse_words(line: &[u8]) -> Option<EventLine<'_>>
 /// Of a verb and the words behind it.
 fn with_words<'a>(verb: &[u8], rest: &'a [u8]) -> Option<EventLine<'a>>
     ensures { option_and_then seen result ≡ asked_of_words (verb.now ∷ pieces 32 rest.now) }
+{
+    if verb == b"unloadall".as_slice() && are_words(rest) {
+        Some(EventLine::UnloadAll(rest))
+    } else {
+        with_few(verb, rest)
+    }
+}
+
+fn with_few<'a>(verb: &[u8], rest: &'a [u8]) -> Option<EventLine<'a>>
+    ensures { option_and_then seen result ≡ asked_of_few verb.now (pieces 32 rest.now) }
 {
     match cut(rest, b' ') {
         None => with_one(verb, rest),

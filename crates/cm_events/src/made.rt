@@ -1,13 +1,14 @@
 //! Lines that become events.
 
 ghost use Rattle.std.specs.Prelude.{◌≡◌, Some, None, IfOk, IsErrOf};
+ghost use Rattle.cm_lines.specs.Lines.{pieces};
 ghost use Rattle.cm_events.specs.Asked.{seen, event_of_line, define_of, crash_of, bytes_in};
-ghost use Rattle.cm_events.specs.Asked.{AsksDefine};
+ghost use Rattle.cm_events.specs.Asked.{AsksDefine, AsksUnloadAll};
 ghost use Rattle.cm_events.specs.Made.{Comes};
 
 use crate::line::{EventLine, parse};
 use cm_disk::Choice;
-use cm_prepare::{Command, Refusal, prepare};
+use cm_prepare::{Command, Names, Refusal, prepare};
 use cm_world::Event;
 use hex::FromHexError;
 use std::alloc::Global;
@@ -50,6 +51,7 @@ fn make_of<'a>(alloc: Global, line: EventLine<'a>) -> Result<Made<'a>, EventFaul
         EventLine::Define(loader, digits) => define(alloc, loader, digits),
         EventLine::Unload(name) => Ok(Made::Runs(Event::Accept(Command::Unload(name)))),
         EventLine::Tighten(name) => Ok(Made::Runs(Event::Accept(Command::Tighten(name)))),
+        EventLine::UnloadAll(words) => Ok(unload_all(words)),
         EventLine::Seal => Ok(Made::Runs(Event::Seal)),
         EventLine::Advance => Ok(Made::Runs(Event::Advance)),
         EventLine::Trim => Ok(Made::Runs(Event::Trim)),
@@ -59,6 +61,14 @@ fn make_of<'a>(alloc: Global, line: EventLine<'a>) -> Result<Made<'a>, EventFaul
         EventLine::Reopen => Ok(Made::Runs(Event::Reopen)),
         EventLine::Crash(len, digits) => crash(alloc, len, digits),
     }
+}
+
+/// `unloadall NAME NAME ..`
+fn unload_all<'a>(words: &'a [u8]) -> Made<'a>
+    ensures { Comes (Some (AsksUnloadAll (pieces 32 words.now))) result }
+{
+    let names = Names::from_words(words);
+    Made::Runs(Event::Accept(Command::UnloadAll(names)))
 }
 
 /// The bytes that hexadecimal digits spell.

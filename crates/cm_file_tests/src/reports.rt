@@ -1,7 +1,7 @@
 //! What is reported of files that hold a cache.
 
 use crate::disks::{bytes_of, disk_of};
-use crate::stored_calls::Call::{Define, Loader, Tighten, Unload};
+use crate::stored_calls::Call::{Define, Loader, Tighten, Unload, UnloadAll};
 use crate::stored_calls::{Call, disk_after, new_disk};
 use cm_disk::{Disk, FuseDisk, SimDisk};
 use cm_inspect::{Report, check};
@@ -33,7 +33,7 @@ const TWO: [Call; 4] = [
 
 /// Commands, and how many loaders, classes and chunks there are after them, with the number of the
 /// last.
-const CASES: [(&[Call], [usize; 3], u64); 10] = [
+const CASES: [(&[Call], [usize; 3], u64); 11] = [
     (&[], [0, 0, 0], 0),
     (&[Loader(b'a')], [1, 0, 0], 1),
     (&TWO, [2, 2, 2], 4),
@@ -67,6 +67,19 @@ const CASES: [(&[Call], [usize; 3], u64); 10] = [
         ],
         [1, 1, 1],
         6,
+    ),
+    (
+        &[
+            Loader(b'a'),
+            Loader(b'b'),
+            Define(b'a', b'A'),
+            Loader(b'c'),
+            Define(b'b', b'A'),
+            Define(b'c', b'A'),
+            UnloadAll(&[b"c", b"a"]),
+        ],
+        [1, 1, 1],
+        7,
     ),
     // eight records of 16 words fill a chunk of 128
     (

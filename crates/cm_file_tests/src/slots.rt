@@ -1,7 +1,7 @@
 //! Slots of heads, rows and entries, written and read.
 use cm_layout::{
-    ClassRow, Entry, GroupHead, HalfHead, LoaderRow, Move, Row, SLOT_BYTES, SlotName, Unload,
-    is_loader_name,
+    ClassRow, Entry, GroupHead, HalfHead, LoaderNumbers, LoaderRow, Move, Row, SLOT_BYTES,
+    SlotName, Unload, UnloadAll, is_loader_name,
 };
 use cm_pool::{Chunk, Place};
 use std::test::Fail;
@@ -112,6 +112,44 @@ fn moves_are_written_and_read(rt: HostRuntime) {
     assert!(rt; has(&slot, 16, &[0, 0, 0, 0, 1, 0, 0, 0, 0, 1, 0, 0]));
     assert!(rt; has(&slot, 28, &[0, 0, 0, 0, 0, 0, 0, 0, 128, 0, 0, 0]));
     assert!(rt; is_move(&slot, moved));
+}
+
+fn is_unload_all(slot: &[u8; SLOT_BYTES], loaders: &[u64]) -> bool {
+    match Entry::decode(slot) {
+        Some(Entry::UnloadAll(entry)) => entry.loaders.as_slice() == loaders,
+        _ => false,
+    }
+}
+
+fn unload_all_slot(loaders: &[u64]) -> Result<[u8; SLOT_BYTES], Fail> {
+    let loaders = LoaderNumbers::new(loaders).ok_or("one to seven loaders")?;
+    Ok(UnloadAll { loaders }.encode())
+}
+
+#[test]
+fn unloadings_of_several_are_written_and_read(rt: HostRuntime) -> Result<(), Fail> {
+    let slot = unload_all_slot(&[2, 1])?;
+    assert!(rt; has(&slot, 0, &[0, 0x15, 2, 0, 0, 0, 0, 0]));
+    assert!(rt; has(&slot, 8, &[2, 0, 0, 0, 0, 0, 0, 0, 1, 0, 0, 0, 0, 0, 0, 0]));
+    assert!(rt; slot[24..] == [0; 40]);
+    assert!(rt; is_unload_all(&slot, &[2, 1]));
+    let seven = [1, 2, 3, 4, 5, 6, 7];
+    assert!(rt; is_unload_all(&unload_all_slot(&seven)?, &seven));
+    Ok(())
+}
+
+/// Places in the slot of an unloading of two loaders, and bytes there with which it is none.
+const NO_UNLOADINGS: [(usize, u8); 6] = [(0, 1), (2, 0), (2, 1), (2, 8), (3, 1), (63, 1)];
+
+#[test]
+fn no_and_eight_loaders_are_no_list(rt: HostRuntime) -> Result<(), Fail> {
+    assert!(rt; LoaderNumbers::new(&[]).is_none() && LoaderNumbers::new(&[1; 8]).is_none());
+    for (at, byte) in &NO_UNLOADINGS {
+        let mut slot = unload_all_slot(&[2, 1])?;
+        slot[*at] = *byte;
+        assert!(rt; Entry::decode(&slot).is_none());
+    }
+    Ok(())
 }
 
 #[test]

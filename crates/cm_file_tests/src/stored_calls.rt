@@ -4,7 +4,7 @@
 use crate::file_samples::class_of_name;
 use cm_disk::SimDisk;
 use cm_pool::Geometry;
-use cm_prepare::Command;
+use cm_prepare::{Command, Names};
 use cm_recover::{NotOpened, format};
 use cm_session::{Session, open};
 use std::alloc::Global;
@@ -17,6 +17,7 @@ pub enum Call {
     Define(u8, u8),
     Unload(u8),
     Tighten(u8),
+    UnloadAll(&'static [&'static [u8]]),
 }
 
 fn store(alloc: Global, session: &mut Session<SimDisk>, call: Call) -> Result<bool, Fail> {
@@ -27,6 +28,7 @@ fn store(alloc: Global, session: &mut Session<SimDisk>, call: Call) -> Result<bo
         }
         Call::Unload(loader) => session.store(Command::Unload(&[loader])),
         Call::Tighten(loader) => session.store(Command::Tighten(&[loader])),
+        Call::UnloadAll(loaders) => session.store(Command::UnloadAll(Names::new(loaders))),
     };
     Ok(answer.is_ok())
 }

@@ -2,9 +2,9 @@
 -- For `Front::add_loader`, `Front::define`, `Front::unload`.
 use Rattle.std.proofs.Common.{◌≡◌, ℕ, ◌+◌, ◌^◌, ◌<◌, ◌≤◌, Bool, true, false, cond, List, [], ◌∷◌}
 use Rattle.std.proofs.Common.{arith, length, Option, Some, None, inl, inr, refl, sym, ap, subst}
-use Rattle.std.proofs.Common.{◌∙◌}
-use Rattle.std.specs.Prelude.{is_none, Result, Ok, Err, IsTrue, ◌↔◌}
-use Rattle.std.specs.List.{AllByRecursion}
+use Rattle.std.proofs.Common.{◌∙◌, ◌≢◌, eqb}
+use Rattle.std.specs.Prelude.{not, is_none, Result, Ok, Err, IsTrue, ◌↔◌}
+use Rattle.std.specs.List.{AllByRecursion, list_all}
 use Rattle.std.specs.Option.{option_map}
 use Rattle.cm_arena.specs.Placing.{IsFull, Places}
 use Rattle.cm_arena.specs.Tightening.{IsTight}
@@ -13,22 +13,24 @@ use Rattle.cm_arena.specs.declared.refusal.PlaceRefusal.TheVariants as of_place
 use Rattle.cm_pool.specs.declared.chunk.Chunk.{Chunk}
 use Rattle.cm_pool.specs.Chunks.{chunk_size}
 use Rattle.cm_pool.specs.Geometry.{Sizes}
+use Rattle.cm_pool.specs.Lists.{Pairwise}
 use Rattle.cm_record.specs.Layout.{lay}
 use Rattle.cm_group.specs.Groups.{IsRightRecord}
-use Rattle.std.proofs.lemmas.Bool.{ltb-false}
+use Rattle.std.proofs.lemmas.Bool.{ltb-false, eq-eqb, and_parts}
 use Rattle.cm_layout.specs.declared.entry.Entry.{Entry}
 use Rattle.cm_layout.specs.declared.entry.Entry.TheVariants as entry
 use Rattle.cm_layout.specs.declared.row.Row.TheVariants.{Loader, Class}
 use Rattle.cm_layout.specs.Rows.{rows_after, number_of, numbers_in}
 use Rattle.cm_layout.specs.Laws.{LoadersAreOwn}
 use Rattle.cm_layout.specs.declared.entry_rule.EntryRule.{EntryRule}
-use Rattle.cm_layout.specs.Rules.{broken_rule}
+use Rattle.cm_layout.specs.Rules.{broken_rule, is_live, are_live, differ}
 use Rattle.cm_rows.specs.Rows.{LiveRows, is_above}
 use Rattle.cm_pool.specs.FreeSpace.{IsFreeSpace}
 use Rattle.cm_space.specs.Space.{SpaceState, Waits as WaitingChunks, IsKnown, arena_of, with_arena}
+use Rattle.cm_space.specs.Space.{left_by, left_by_all}
 use Rattle.cm_pool.specs.declared.place.Place.{Place}
 use Rattle.cm_space.specs.Ownership.{IsSpace}
-use Rattle.cm_state.specs.Step.{Change, Define, Unload, Tighten}
+use Rattle.cm_state.specs.Step.{Change, Define, Unload, Tighten, UnloadAll}
 use Rattle.cm_state.specs.Entries.{change_of}
 use Rattle.cm_state.specs.Laws.{EntriesAreSteps}
 use Rattle.cm_prepare.specs.declared.refusal.Refusal.{Refusal}
@@ -40,8 +42,9 @@ use Rattle.cm_front.specs.Accepting.{joined_by, SpaceAfter, refusal_of_chunk}
 use Rattle.cm_front.specs.Refusing.{class_asked, refusal_of_place}
 use Rattle.cm_front.specs.Laws.{PlacesKeepRules}
 use Rattle.cm_front.proofs.GoingsClass.{name_is, number_lives, keeps_class}
-use Rattle.cm_front.proofs.GoingsUnload.{left_by, keeps_unload}
-use Rattle.cm_front.proofs.Causes.{IsMade, IsAsked, IsFree, refused}
+use Rattle.cm_front.proofs.GoingsUnload.{keeps_unload, keeps_unload_all}
+use Rattle.cm_front.proofs.NameNumbers.{are_found}
+use Rattle.cm_front.proofs.Causes.{IsMade, IsAsked, AreAsked, IsFree, refused}
 use Rattle.cm_front.proofs.RowFacts.{all_below}
 use Rattle.cm_front.proofs.Goings.{past, Keeps, goes_on, keeps_loader, not_last}
 
@@ -63,6 +66,16 @@ same_groups book space old new number sealed learnt broken closed e = λ i. reco
   broken = broken;
   closed = closed;
 }
+
+-- neither do the space and the groups differ from what they were
+pub unchanged : (book : LiveRows (List ℕ)) (space left : SpaceState) (old new : Waits)
+    (number sealed learnt : ℕ) (broken closed : Bool) (s : FrontState)
+    → left ≡ space → new.groups ≡ old.groups
+    → front_of book space old number sealed learnt broken closed ≡ s
+    → front_of book left new number sealed learnt broken closed ≡ s
+unchanged book space left old new number sealed learnt broken closed s is groups view =
+    ap (λ t. front_of book t new number sealed learnt broken closed) is
+    ∙ (same_groups book space old new number sealed learnt broken closed groups ∙ view)
 
 pub went_on : (book next : LiveRows (List ℕ)) (space left : SpaceState) (old new : Waits)
     (number n sealed learnt : ℕ) (broken closed : Bool) (e : Entry (List ℕ))
@@ -100,29 +113,29 @@ next_follows s groups f e = record {
 
 -- ---- answers
 
-none_refused : (a : Result ℕ Refusal) (n : ℕ) → ◌≡◌ {A = Result ℕ Refusal} a (Ok n)
-    → refused a ≡ None
-none_refused a n e = ap refused e
-
-pub told : (s : FrontState) (change : Change (List ℕ)) (a : Result ℕ Refusal) (r : Refusal)
-    → first_refusal s change ≡ refused a → ◌≡◌ {A = Result ℕ Refusal} a (Err r)
+pub told : {X : Type 0} (s : FrontState) (change : Change (List ℕ))
+    (a : Result X Refusal) (r : Refusal)
+    → first_refusal s change ≡ refused a → ◌≡◌ {A = Result X Refusal} a (Err r)
     → Answers s change (Err r) s
 told s change a r first is = (refl, inl (first ∙ ap refused is))
 
-pub no_memory : (s new : FrontState) (change : Change (List ℕ)) (a : Result ℕ Refusal) (n : ℕ)
-    → first_refusal s change ≡ refused a → ◌≡◌ {A = Result ℕ Refusal} a (Ok n) → new ≡ s
+pub no_memory : {X : Type 0} (s new : FrontState) (change : Change (List ℕ))
+    (a : Result X Refusal) (n : X)
+    → first_refusal s change ≡ refused a → ◌≡◌ {A = Result X Refusal} a (Ok n) → new ≡ s
     → (HasNoChunk s change → ⊥) → Answers s change (Err refusal.NoMemory) new
 no_memory s new change a n first is same room =
     (same, inr (first ∙ ap refused is, inr (refl, room)))
 
-pub no_chunk : (s new : FrontState) (change : Change (List ℕ)) (a : Result ℕ Refusal) (n : ℕ)
-    → first_refusal s change ≡ refused a → ◌≡◌ {A = Result ℕ Refusal} a (Ok n) → new ≡ s
+pub no_chunk : {X : Type 0} (s new : FrontState) (change : Change (List ℕ))
+    (a : Result X Refusal) (n : X)
+    → first_refusal s change ≡ refused a → ◌≡◌ {A = Result X Refusal} a (Ok n) → new ≡ s
     → HasNoChunk s change → Answers s change (Err (refusal_of_chunk change)) new
 no_chunk s new change a n first is same none =
     (same, inr (first ∙ ap refused is, inl (refl, none)))
 
-pub given : (s new : FrontState) (change : Change (List ℕ)) (a : Result ℕ Refusal) (k n : ℕ)
-    → first_refusal s change ≡ refused a → ◌≡◌ {A = Result ℕ Refusal} a (Ok k)
+pub given : {X : Type 0} (s new : FrontState) (change : Change (List ℕ)) (a : Result X Refusal)
+    (k : X) (n : ℕ)
+    → first_refusal s change ≡ refused a → ◌≡◌ {A = Result X Refusal} a (Ok k)
     → (HasNoChunk s change → ⊥) → Accepts s change n new → Answers s change (Ok n) new
 given s new change a k n first is room accepts = (first ∙ ap refused is, room, accepts)
 
@@ -200,17 +213,33 @@ last_of_all learnt n (w ∷ ws) h =
     let to = h.0.to in (omega (arith, to), last_of_all learnt n ws h.1)
 
 pub unload_keeps : LoadersAreOwn → (s : FrontState) (x : List ℕ) (u : ℕ) (left : SpaceState)
-    → IsFront s → IsAsked s x u → left ≡ left_by s u → IsSpace left → IsFreeSpace left.pool
-    → Keeps s (entry.Unload (record { loader = u })) left
+    → IsFront s → IsAsked s x u → left ≡ left_by s.space (s.number + 1) u → IsSpace left
+    → IsFreeSpace left.pool → Keeps s (entry.Unload (record { loader = u })) left
 unload_keeps own s x u left f asked is space free =
     let base = subst IsSpace is space in
     let pool = subst (λ (t : SpaceState). IsFreeSpace t.pool) is free in
     subst (λ t. Keeps s (entry.Unload (record { loader = u })) t) (sym is)
     (keeps_unload own s x u f asked base pool)
 
+pub unload_all_keeps : LoadersAreOwn → (s : FrontState) (xs : List (List ℕ)) (us : List ℕ)
+    (left : SpaceState)
+    → IsFront s → AreAsked s xs us → left ≡ left_by_all s.space (s.number + 1) us → IsSpace left
+    → IsFreeSpace left.pool → Keeps s (entry.UnloadAll (record { loaders = us })) left
+unload_all_keeps own s xs us left f asked is space free =
+    let base = subst IsSpace is space in
+    let pool = subst (λ (t : SpaceState). IsFreeSpace t.pool) is free in
+    subst (λ t. Keeps s (entry.UnloadAll (record { loaders = us })) t) (sym is)
+    (keeps_unload_all own s xs us f asked base pool)
+
 pub unload_asked : LoadersAreOwn → (s : FrontState) (x : List ℕ) (u : ℕ) → IsFront s → IsAsked s x u
     → change_of s.rows (entry.Unload (record { loader = u })) ≡ Some (Unload x)
 unload_asked own s x u f asked = ap (option_map Unload) (name_is own s x u f asked.found)
+
+pub unload_all_asked : LoadersAreOwn → (s : FrontState) (xs : List (List ℕ)) (us : List ℕ)
+    → IsFront s → AreAsked s xs us
+    → change_of s.rows (entry.UnloadAll (record { loaders = us })) ≡ Some (UnloadAll xs)
+unload_all_asked own s xs us f asked =
+    ap (option_map UnloadAll) (are_found own s xs us f asked).named
 
 pub tighten_asked : LoadersAreOwn → (s : FrontState) (x : List ℕ) (u : ℕ) (from to : Chunk)
     → IsFront s → IsAsked s x u
@@ -227,6 +256,30 @@ class_given own s x words u place f asked =
 
 pub is_known : (s : FrontState) (x : List ℕ) (u : ℕ) → IsFront s → IsAsked s x u → IsKnown s.space u
 is_known s x u f asked = (f.known u).1 (number_lives x u s.rows asked.found)
+
+-- loaders that live are known, and no number of those that differ stands twice
+pub all_known : (s : FrontState) (us : List ℕ) → IsFront s → are_live us s.rows ≡ true
+    → AllByRecursion (IsKnown s.space) us
+all_known s [] f live = tt
+all_known s (u ∷ us) f live =
+    let parts = and_parts (is_live u s.rows) (are_live us s.rows) live in
+    ((f.known u).1 parts.0, all_known s us f parts.1)
+
+pub all_apart : (us : List ℕ) → differ us ≡ true → Pairwise (λ u v. u ≢ v) us
+all_apart [] d = tt
+all_apart (u ∷ us) d =
+    let parts = and_parts (list_all (λ v. not (eqb u v)) us) (differ us) d in
+    (from_one us parts.0, all_apart us parts.1)
+  where
+    from_one : (vs : List ℕ) → list_all (λ v. not (eqb u v)) vs ≡ true
+        → AllByRecursion (λ v. u ≢ v) vs
+    from_one [] d = tt
+    from_one (v ∷ vs) d =
+        let parts = and_parts (not (eqb u v)) (list_all (λ w. not (eqb u w)) vs) d in
+        (λ same. not_both (eqb u v) (eq-eqb u v same) parts.0, from_one vs parts.1)
+      where
+        not_both : (t : Bool) → t ≡ true → not t ≡ true → ⊥
+        not_both t p q = absurd (cc)
 
 -- ---- a class
 

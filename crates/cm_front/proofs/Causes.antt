@@ -1,31 +1,35 @@
 -- What is looked for by names in the rows is the first cause against a step of the cache.
 -- For `Front::add_loader`, `Front::define`, `Front::unload`.
-use Rattle.std.proofs.Common.{◌≡◌, ℕ, suc, ◌+◌, Bool, true, false, cond, List, [], ◌∷◌}
+use Rattle.std.proofs.Common.{◌≡◌, ℕ, suc, ◌+◌, ◌≤◌, Bool, true, false, cond, List, [], ◌∷◌}
 use Rattle.std.proofs.Common.{length, Option, Some, None, refl, sym, ap, subst, ◌∙◌, arith, eqb}
-use Rattle.std.specs.Prelude.{not, nat_lt, is_some, Result, Ok, Err, ◌&&◌}
-use Rattle.std.specs.Option.{option_and_then}
+use Rattle.std.specs.Prelude.{not, nat_lt, nat_le, is_some, Result, Ok, Err, ◌&&◌}
+use Rattle.std.specs.List.{list_all}
+use Rattle.std.specs.Option.{option_map, option_and_then}
 use Rattle.std.specs.Str.{bytes_eq}
 use Rattle.std.specs.FinMap as map
+use Rattle.std.proofs.lemmas.Bool.{leb-true, and_parts}
 use Rattle.cm_pool.specs.Chunks.{chunk_size}
 use Rattle.cm_layout.specs.declared.row.Row.{Row}
 use Rattle.cm_layout.specs.declared.row.Row.TheVariants.{Loader, Class}
-use Rattle.cm_layout.specs.Names.{is_loader_name}
+use Rattle.cm_layout.specs.Names.{is_loader_name, unload_limit}
 use Rattle.cm_layout.specs.Rows.{number_of, slots_of_rows}
 use Rattle.cm_layout.specs.Rules.{is_too_much}
 use Rattle.cm_record.specs.Names.{class_name_in}
 use Rattle.cm_index.specs.Index.{class_of}
 use Rattle.cm_state.specs.State.{Loaders, words_show, state_of, class_among, class_in, size}
 use Rattle.cm_state.specs.Step as step
-use Rattle.cm_state.specs.Step.{Cause, Change, AddLoader, Define, Unload, Tighten, last_number}
+use Rattle.cm_state.specs.Step.{Cause, Change, AddLoader, Define, Unload, Tighten, UnloadAll}
+use Rattle.cm_state.specs.Step.{last_number}
 use Rattle.cm_state.specs.Laws.{LoadersAreFound, ClassesAreFound, SizesAgree}
 use Rattle.cm_prepare.specs.declared.refusal.Refusal.{Refusal}
 use Rattle.cm_prepare.specs.declared.refusal.Refusal.TheVariants as refusal
 use Rattle.cm_prepare.specs.Refusals.{refusal_of}
 use Rattle.cm_front.specs.Front.{FrontState, IsFront, first_refusal}
 use Rattle.cm_front.specs.Refusing.{loader_asked, loader_made, class_free, class_asked}
+use Rattle.cm_front.specs.Refusing.{numbers_of, loaders_asked}
 
 -- the refusal in an answer
-abbrev pub refused : Result ℕ Refusal → Option Refusal
+abbrev pub refused : {X : Type 0} → Result X Refusal → Option Refusal
 refused (Ok n) = None
 refused (Err r) = Some r
 
@@ -220,6 +224,58 @@ tighten_refused loaders s x closed broken =
     ∙ unload_as_step (is_loader_name x) (eqb s.number last_number) (number_of x s.rows)
     (state_of words_show s.rows))
 
+-- ---- an unload of several loaders
+
+abbrev all_asked : Bool → Bool → Bool → Option (List ℕ) → Result (List ℕ) Refusal
+all_asked list named spent o =
+    cond (not list) (Err refusal.BadList)
+    (cond (not named) (Err refusal.BadName)
+    (cond spent (Err refusal.NumbersSpent)
+    (elim o [ Some us ↦ Ok us | None ↦ Err refusal.NoLoader ])))
+
+abbrev all_step : Bool → Bool → Bool → Bool → Loaders (List ℕ) → Result (Loaders (List ℕ)) Cause
+all_step list named spent there next =
+    cond (not list) (Err step.BadList)
+    (cond (not named) (Err step.BadName)
+    (cond spent (Err step.NumbersSpent) (cond (not there) (Err step.NoLoader) (Ok next))))
+
+all_as_step : (list named spent : Bool) (o : Option (List ℕ)) (next : Loaders (List ℕ))
+    → first (all_step list named spent (is_some o) next) ≡ refused (all_asked list named spent o)
+all_as_step false named spent o next = refl
+all_as_step true false spent o next = refl
+all_as_step true true true o next = refl
+all_as_step true true false None next = refl
+all_as_step true true false (Some us) next = refl
+
+-- each name has a loader where each has a number
+all_there : LoadersAreFound (List ℕ) → (rows : List (Row (List ℕ))) (xs : List (List ℕ))
+    → list_all (λ x. is_some (map.get (state_of words_show rows) x)) xs
+    ≡ is_some (numbers_of xs rows)
+all_there loaders rows [] = refl
+all_there loaders rows (x ∷ xs) =
+    (λ i. loaders words_show rows x i && all_there loaders rows xs i)
+    ∙ by_answer (number_of x rows) (numbers_of xs rows)
+  where
+    by_answer : (o : Option ℕ) (r : Option (List ℕ))
+        → (is_some o && is_some r)
+        ≡ is_some (option_and_then (λ u. option_map (λ us. u ∷ us) r) o)
+    by_answer None r = refl
+    by_answer (Some u) None = refl
+    by_answer (Some u) (Some us) = refl
+
+pub unload_all_refused : LoadersAreFound (List ℕ) → (s : FrontState) (xs : List (List ℕ))
+    → s.closed ≡ false → s.broken ≡ false
+    → first_refusal s (UnloadAll xs) ≡ refused (loaders_asked s xs)
+unload_all_refused loaders s xs closed broken =
+    running s (UnloadAll xs) closed broken
+    ∙ (ap (λ (b : Bool). first (all_step (step.is_list xs) (list_all is_loader_name xs)
+    (eqb s.number last_number) b (step.without_all xs m))) (all_there loaders s.rows xs)
+    ∙ all_as_step (step.is_list xs) (list_all is_loader_name xs) (eqb s.number last_number)
+    (numbers_of xs s.rows) (step.without_all xs m))
+  where
+    m : Loaders (List ℕ)
+    m = state_of words_show s.rows
+
 -- ---- what an answer says
 
 -- a number is answered: the name is one, and numbers are left
@@ -228,10 +284,10 @@ pub record IsAsked (s : FrontState) (x : List ℕ) (u : ℕ) : Type 0 where
   pub left : eqb s.number last_number ≡ false
   pub found : number_of x s.rows ≡ Some u
 
-err_not_ok : {X : Type 0} (r : Refusal) (n : ℕ) → ◌≡◌ {A = Result ℕ Refusal} (Err r) (Ok n) → X
+err_not_ok : {X Y : Type 0} (r : Refusal) (n : Y) → ◌≡◌ {A = Result Y Refusal} (Err r) (Ok n) → X
 err_not_ok r n e = absurd (cc)
 
-ok_same : (n k : ℕ) → ◌≡◌ {A = Result ℕ Refusal} (Ok n) (Ok k) → n ≡ k
+ok_same : {Y : Type 0} (n k : Y) → ◌≡◌ {A = Result Y Refusal} (Ok n) (Ok k) → n ≡ k
 ok_same n k e = cc
 
 is_asked : (named spent : Bool) (o : Option ℕ) (u : ℕ) → asked named spent o ≡ Ok u
@@ -245,6 +301,40 @@ pub was_asked : (s : FrontState) (x : List ℕ) (u : ℕ) → loader_asked s x �
 was_asked s x u e =
     let h = is_asked (is_loader_name x) (eqb s.number last_number) (number_of x s.rows) u e in
     record { named = h.0; left = h.1; found = h.2 }
+
+-- numbers are answered: there may be an unload of loaders of these names
+pub record AreAsked (s : FrontState) (xs : List (List ℕ)) (us : List ℕ) : Type 0 where
+  pub some : 1 ≤ length xs
+  pub few : length xs ≤ unload_limit
+  pub differ : step.names_differ xs ≡ true
+  pub left : eqb s.number last_number ≡ false
+  pub found : numbers_of xs s.rows ≡ Some us
+
+are_asked : (list named spent : Bool) (o : Option (List ℕ)) (us : List ℕ)
+    → ◌≡◌ {A = Result (List ℕ) Refusal} (all_asked list named spent o) (Ok us)
+    → (list ≡ true) × (spent ≡ false) × (o ≡ Some us)
+are_asked false named spent o us e = err_not_ok refusal.BadList us e
+are_asked true false spent o us e = err_not_ok refusal.BadName us e
+are_asked true true true o us e = err_not_ok refusal.NumbersSpent us e
+are_asked true true false None us e = err_not_ok refusal.NoLoader us e
+are_asked true true false (Some vs) us e = (refl, refl, ap Some (ok_same vs us e))
+
+pub were_asked : (s : FrontState) (xs : List (List ℕ)) (us : List ℕ)
+    → ◌≡◌ {A = Result (List ℕ) Refusal} (loaders_asked s xs) (Ok us) → AreAsked s xs us
+were_asked s xs us e =
+    let h = are_asked (step.is_list xs) (list_all is_loader_name xs) (eqb s.number last_number)
+    (numbers_of xs s.rows) us e in
+    let some = nat_le 1 (length xs) in
+    let few = nat_le (length xs) unload_limit in
+    let parts = and_parts (some && few) (step.names_differ xs) h.0 in
+    let sizes = and_parts some few parts.0 in
+    record {
+      some = leb-true 1 (length xs) sizes.0;
+      few = leb-true (length xs) unload_limit sizes.1;
+      differ = parts.1;
+      left = h.1;
+      found = h.2;
+    }
 
 pub record IsMade (s : FrontState) (x : List ℕ) (n : ℕ) : Type 0 where
   pub named : is_loader_name x ≡ true

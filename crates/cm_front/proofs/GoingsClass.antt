@@ -219,7 +219,7 @@ may_class keep own s x words u place chain left f free p =
       new = (free.new, sym at.amount);
     }
 
-turned : (a b : ℕ) → eqb a b ≡ false → eqb b a ≡ false
+pub turned : (a b : ℕ) → eqb a b ≡ false → eqb b a ≡ false
 turned a b d = by_eq (eqb b a) refl
   where
     by_eq : (t : Bool) → eqb b a ≡ t → t ≡ false

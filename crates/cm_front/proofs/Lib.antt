@@ -8,6 +8,7 @@ mod RowFacts
 mod Spaces
 mod Goings
 mod GoingsClass
+mod NameNumbers
 mod GoingsUnload
 mod GoingsMove
 mod Answering

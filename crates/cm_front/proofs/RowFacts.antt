@@ -98,50 +98,8 @@ classes_left u (Class r p ∷ rows) = by_test (classes_left u rows) (eqb r.loade
     by_test rest true = rest
     by_test rest false = ap (λ l. r ∷ l) rest
 
-pub name_gone : {A : Type 0} (u : ℕ) (rows : List (Row A))
-    → name_of u (without_loader u rows) ≡ None
-name_gone u [] = refl
-name_gone u (Loader r ∷ rows) = by_test (name_gone u rows) (eqb r.number u) refl
-  where
-    by_test : name_of u (without_loader u rows) ≡ None → (t : Bool) → eqb r.number u ≡ t
-        → name_of u (cond (not t) (Loader r ∷ without_loader u rows) (without_loader u rows)) ≡ None
-    by_test rest true e = rest
-    by_test rest false e = rw e rest
-name_gone u (Class r p ∷ rows) = by_test (name_gone u rows) (eqb r.loader u)
-  where
-    by_test : name_of u (without_loader u rows) ≡ None → (t : Bool)
-        → name_of u (cond (not t) (Class r p ∷ without_loader u rows) (without_loader u rows))
-        ≡ None
-    by_test rest true = rest
-    by_test rest false = rest
-
 true_not : true ≡ false → ⊥
 true_not p = absurd (cc)
-
-pub name_left : {A : Type 0} (v u : ℕ) (rows : List (Row A)) → eqb v u ≡ false
-    → name_of v (without_loader u rows) ≡ name_of v rows
-name_left v u [] d = refl
-name_left v u (Loader r ∷ rows) d = by_test (name_left v u rows d) (eqb r.number u) refl
-  where
-    differs : eqb r.number u ≡ true → (t : Bool) → eqb r.number v ≡ t
-        → name_of v rows ≡ cond t (Some r.name) (name_of v rows)
-    differs e true f =
-        let same : v ≡ u = sym (eqb-true r.number v f) ∙ eqb-true r.number u e in
-        absurd (true_not (sym (eq-eqb v u same) ∙ d))
-    differs e false f = refl
-
-    by_test : name_of v (without_loader u rows) ≡ name_of v rows → (t : Bool) → eqb r.number u ≡ t
-        → name_of v (cond (not t) (Loader r ∷ without_loader u rows) (without_loader u rows))
-        ≡ cond (eqb r.number v) (Some r.name) (name_of v rows)
-    by_test rest true e = rest ∙ differs e (eqb r.number v) refl
-    by_test rest false e = ap (λ o. cond (eqb r.number v) (Some r.name) o) rest
-name_left v u (Class r p ∷ rows) d = by_test (name_left v u rows d) (eqb r.loader u)
-  where
-    by_test : name_of v (without_loader u rows) ≡ name_of v rows → (t : Bool)
-        → name_of v (cond (not t) (Class r p ∷ without_loader u rows) (without_loader u rows))
-        ≡ name_of v rows
-    by_test rest true = rest
-    by_test rest false = rest
 
 -- ---- chains
 

@@ -1,7 +1,6 @@
 -- What each call of the accepted cache does.
 use Rattle.std.specs.Prelude.{◌≡◌, ℕ, ◌+◌, ◌-◌, ◌⊎◌, max, nat_le, if◌then◌else◌, List, [], ◌∷◌}
 use Rattle.std.specs.Prelude.{◌++◌, length, Option, Some, None, Result, Ok, Err}
-use Rattle.cm_arena.specs.Chains.{chunks_of}
 use Rattle.cm_arena.specs.Placing.{Places, IsFull}
 use Rattle.cm_arena.specs.Tightening.{IsTight}
 use Rattle.cm_layout.specs.declared.row.Row.{Row}
@@ -10,10 +9,10 @@ use Rattle.cm_layout.specs.declared.entry.Entry.{Entry}
 use Rattle.cm_layout.specs.declared.entry.Entry.TheVariants as entry
 use Rattle.cm_layout.specs.Rows.{number_of, rows_after, group_limit}
 use Rattle.cm_group.specs.Groups.{Carried, Handed, next_number, slots_taken, moved_with}
-use Rattle.cm_space.specs.Space.{SpaceState, arena_of, with_arena, without_arena, learnt}
+use Rattle.cm_space.specs.Space.{SpaceState, arena_of, with_arena, left_by, left_by_all, learnt}
 use Rattle.cm_space.specs.Tightening.{Moves}
 use Rattle.cm_state.specs.State.{words_show}
-use Rattle.cm_state.specs.Step.{Change, AddLoader, Define, Unload, Tighten}
+use Rattle.cm_state.specs.Step.{Change, AddLoader, Define, Unload, Tighten, UnloadAll}
 use Rattle.cm_state.specs.Entries.{MayFollow, change_of}
 use Rattle.cm_prepare.specs.declared.refusal.Refusal.{Refusal}
 use Rattle.cm_prepare.specs.declared.refusal.Refusal.TheVariants as refusal
@@ -48,13 +47,10 @@ SpaceAfter s (entry.Live (Class r words)) new =
     Places (arena_of s.space r.loader) s.space.pool (length words) r.place
     (arena_of new r.loader) new.pool
     × (new ≡ record (with_arena s.space r.loader (arena_of new r.loader)) { pool = new.pool })
-SpaceAfter s (entry.Unload e) new =
-    new ≡ record (without_arena s.space e.loader) {
-      waiting = s.space.waiting
-          ++ record { number = s.number + 1; chunks = chunks_of (arena_of s.space e.loader) } ∷ [];
-    }
+SpaceAfter s (entry.Unload e) new = new ≡ left_by s.space (s.number + 1) e.loader
 SpaceAfter s (entry.Move e) new =
     Moves s.space e.loader (s.number + 1) (record { from = e.from; to = e.to }) new
+SpaceAfter s (entry.UnloadAll e) new = new ≡ left_by_all s.space (s.number + 1) e.loaders
 
 -- the cache with one entry more
 abbrev pub accepted : FrontState → Entry (List ℕ) → SpaceState → FrontState
@@ -86,6 +82,7 @@ HasNoChunk s (Define x words) =
 HasNoChunk s (Unload x) = ⊥
 HasNoChunk s (Tighten x) =
     (u : ℕ) × (number_of x s.rows ≡ Some u) × IsTight (arena_of s.space u) s.space.pool
+HasNoChunk s (UnloadAll xs) = ⊥
 
 -- the refusal then
 abbrev pub refusal_of_chunk : Change (List ℕ) → Refusal
@@ -93,6 +90,7 @@ refusal_of_chunk (AddLoader x) = refusal.RegionFull
 refusal_of_chunk (Define x words) = refusal.RegionFull
 refusal_of_chunk (Unload x) = refusal.RegionFull
 refusal_of_chunk (Tighten x) = refusal.NoMove
+refusal_of_chunk (UnloadAll xs) = refusal.RegionFull
 
 -- The refusal is the first that applies; that there is no chunk, or that an allocation failed, is
 -- told only where none of the others applies, and the latter only where there is a chunk.

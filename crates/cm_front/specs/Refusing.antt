@@ -1,13 +1,16 @@
 -- The causes against a command as they are looked for: by names in the rows.
-use Rattle.std.specs.Prelude.{ℕ, suc, ◌==◌, Bool, not, nat_lt, if◌then◌else◌, List}
-use Rattle.std.specs.Prelude.{length, Some, None, is_some, Result, Ok, Err}
+use Rattle.std.specs.Prelude.{ℕ, suc, ◌==◌, Bool, not, nat_lt, if◌then◌else◌, List, [], ◌∷◌}
+use Rattle.std.specs.Prelude.{length, Option, Some, None, is_some, Result, Ok, Err}
+use Rattle.std.specs.List.{list_all}
+use Rattle.std.specs.Option.{option_map, option_and_then}
 use Rattle.cm_pool.specs.Chunks.{chunk_size}
+use Rattle.cm_layout.specs.declared.row.Row.{Row}
 use Rattle.cm_layout.specs.Names.{is_loader_name}
 use Rattle.cm_layout.specs.Rows.{number_of, slots_of_rows}
 use Rattle.cm_layout.specs.Rules.{is_too_much}
 use Rattle.cm_record.specs.Names.{class_name_in}
 use Rattle.cm_index.specs.Index.{class_of}
-use Rattle.cm_state.specs.Step.{last_number}
+use Rattle.cm_state.specs.Step.{last_number, is_list}
 use Rattle.cm_prepare.specs.declared.refusal.Refusal.{Refusal}
 use Rattle.cm_prepare.specs.declared.refusal.Refusal.TheVariants as refusal
 use Rattle.cm_arena.specs.declared.refusal.PlaceRefusal.{PlaceRefusal}
@@ -20,6 +23,20 @@ loader_asked s x =
     if not (is_loader_name x) then Err refusal.BadName
     else if s.number == last_number then Err refusal.NumbersSpent
     else elim (number_of x s.rows) [ Some u ↦ Ok u | None ↦ Err refusal.NoLoader ]
+
+-- the numbers of the live loaders of these names, where each of them has one
+abbrev pub numbers_of : {A : Type 0} → List (List ℕ) → List (Row A) → Option (List ℕ)
+numbers_of [] rows = Some []
+numbers_of (x ∷ xs) rows =
+    option_and_then (λ u. option_map (λ us. u ∷ us) (numbers_of xs rows)) (number_of x rows)
+
+-- the numbers of the live loaders that a command names, in the order of the names
+abbrev pub loaders_asked : FrontState → List (List ℕ) → Result (List ℕ) Refusal
+loaders_asked s xs =
+    if not (is_list xs) then Err refusal.BadList
+    else if not (list_all is_loader_name xs) then Err refusal.BadName
+    else if s.number == last_number then Err refusal.NumbersSpent
+    else elim (numbers_of xs s.rows) [ Some us ↦ Ok us | None ↦ Err refusal.NoLoader ]
 
 -- no slots are left beside the loaders and classes that live for what needs so many
 abbrev pub journal_full : FrontState → ℕ → Bool

@@ -10,6 +10,7 @@ ghost use Rattle.cm_layout.specs.declared.entry.Entry.TheVariants as variant;
 ghost use Rattle.cm_layout.specs.declared.row.Row.TheVariants.{Loader, Class};
 ghost use Rattle.cm_prepare.specs.Commands.{change_asked};
 ghost use Rattle.cm_state.specs.Step.{AddLoader, Define, Unload as UnloadOf, Tighten};
+ghost use Rattle.cm_state.specs.Step.{UnloadAll as UnloadAllOf};
 ghost use Rattle.cm_front.specs.Accepting.{Answers};
 ghost use Rattle.cm_front.specs.Refusing.{refusal_of_place};
 
@@ -18,8 +19,10 @@ use crate::laws::places_keep_rules;
 use crate::unsealed::Unsealed;
 use cm_arena::{Moved, PlaceRefusal};
 use cm_group::{CarriedEntry, MovedRecords};
-use cm_layout::{ClassRow, Entry, LoaderRow, Move, Row, SlotName, Unload, loaders_are_own};
-use cm_prepare::{Command, Prepared, Refusal};
+use cm_layout::{
+    ClassRow, Entry, LoaderRow, Move, Row, SlotName, Unload, UnloadAll, loaders_are_own,
+};
+use cm_prepare::{Command, Names, Prepared, Refusal};
 use cm_record::Record;
 use cm_rows::{Book, LastKept};
 use cm_space::{chunks_are_apart, held_chunks_are_used};
@@ -31,11 +34,12 @@ impl Front {
     /// Accepts a command and gives it the next number. It joins the newest group that isn't handed
     /// out, while that has slots for it.
     ///
-    /// The refusals are looked for in this order: `Closed`, `Broken`, `BadName`, `NumbersSpent`,
-    /// `LoaderExists` or `NoLoader`, `ClassExists`, `RecordTooLong`, `JournalFull`, `RegionFull` or
-    /// `NoMove`; `NoMemory` is returned only where none of these applies. `JournalFull` says that
-    /// as many loaders and classes live as may, half as many as a half of the journal has slots, so
-    /// no unload meets it. A refused command takes no number and leaves all as it was.
+    /// The refusals are looked for in this order: `Closed`, `Broken`, `BadList`, `BadName`,
+    /// `NumbersSpent`, `LoaderExists` or `NoLoader`, `ClassExists`, `RecordTooLong`, `JournalFull`,
+    /// `RegionFull` or `NoMove`; `NoMemory` is returned only where none of these applies. Of
+    /// several loaders, `BadName` and `NoLoader` come for any of them. `JournalFull` says that as
+    /// many loaders and classes live as may, half as many as a half of the journal has slots, so no
+    /// unload meets it. A refused command takes no number and leaves all as it was.
     pub fn accept(&mut self, command: Command<'_>) -> Result<u64, Refusal>
         ensures { Answers self.old (change_asked command.entry) result self.new }
     {
@@ -50,6 +54,7 @@ impl Front {
             Command::Define(name, class) => self.define(name, class),
             Command::Unload(name) => self.unload(name),
             Command::Tighten(name) => self.move_down(name),
+            Command::UnloadAll(names) => self.unload_all(&names),
         }
     }
 
@@ -129,6 +134,27 @@ impl Front {
         let _is_space = self.space.geometry(); // so the proof knows that it is one
         let _rule = self.book.apply(number, Entry::Unload(Unload { loader })); // it breaks none
         let entry = CarriedEntry::unload(self.alloc, Unload { loader });
+        self.unsealed.join(number, entry);
+        self.number = number;
+        Ok(number)
+    }
+
+    fn unload_all(&mut self, names: &Names<'_>) -> Result<u64, Refusal>
+        requires running { self.old.closed ≡ false }
+        requires whole { self.old.broken ≡ false }
+        ensures { Answers self.old (UnloadAllOf names.now) result self.new }
+    {
+        rows_tell_state();
+        loaders_are_own();
+        entries_are_steps();
+        let loaders = self.loaders_asked(names)?;
+        self.unsealed.make_ready()?;
+        let number = self.number + 1;
+        self.space.leave_all(loaders.as_slice(), number)?;
+        let _is_space = self.space.geometry(); // so the proof knows that it is one
+        let unloaded = Entry::UnloadAll(UnloadAll { loaders });
+        let _rule = self.book.apply(number, unloaded); // it breaks none
+        let entry = CarriedEntry::unload_all(self.alloc, UnloadAll { loaders });
         self.unsealed.join(number, entry);
         self.number = number;
         Ok(number)

@@ -1,11 +1,14 @@
 //! What stands against a command, by the names in the rows.
 
-ghost use Rattle.std.specs.Prelude.{◌≡◌};
+ghost use Rattle.std.specs.Prelude.{◌≡◌, ◌≤◌, length, map};
+ghost use Rattle.cm_layout.specs.Names.{unload_limit};
 ghost use Rattle.cm_front.specs.Refusing.{loader_asked, journal_full, loader_made, class_asked};
+ghost use Rattle.cm_front.specs.Refusing.{numbers_of, loaders_asked};
 
 use crate::front::Front;
-use cm_layout::{LAST_NUMBER, is_loader_name};
-use cm_prepare::{Prepared, Refusal};
+use crate::name_list::{are_loader_names, is_list};
+use cm_layout::{LAST_NUMBER, LoaderNumbers, UNLOAD_LIMIT, is_loader_name};
+use cm_prepare::{Names, Prepared, Refusal};
 
 impl Front {
     /// Whether too few slots are left beside the loaders and classes that live for what needs so
@@ -27,6 +30,36 @@ impl Front {
             return Err(Refusal::NumbersSpent);
         }
         self.book.loader(name).ok_or(Refusal::NoLoader)
+    }
+
+    /// The numbers of the live loaders that a command names, in the order of the names.
+    pub(crate) fn loaders_asked(&self, names: &Names<'_>) -> Result<LoaderNumbers, Refusal>
+        ensures { result ≡ loaders_asked self.now names.now }
+    {
+        let names = names.as_slice();
+        if !is_list(names) {
+            return Err(Refusal::BadList);
+        }
+        if !are_loader_names(names) {
+            return Err(Refusal::BadName);
+        }
+        if self.number == LAST_NUMBER {
+            return Err(Refusal::NumbersSpent);
+        }
+        self.numbers_of(names).ok_or(Refusal::NoLoader)
+    }
+
+    // The numbers of the live loaders of these names, where each of them has one.
+    fn numbers_of(&self, names: &[&[u8]]) -> Option<LoaderNumbers>
+        requires some { 1 ≤ length names.now }
+        requires few { length names.now ≤ unload_limit }
+        ensures { result ≡ numbers_of (map (λ name. name.now) names.now) self.now.rows }
+    {
+        let mut numbers = [0; UNLOAD_LIMIT];
+        for (at, name) in names.iter().enumerate() {
+            numbers[at] = self.book.loader(name)?;
+        }
+        LoaderNumbers::new(&numbers[..names.len()])
     }
 
     /// The number that a new loader of this name gets.

@@ -5,6 +5,7 @@ mod accept;
 mod checks;
 mod front;
 mod laws;
+mod name_list;
 mod restore;
 mod unsealed;
 

@@ -13,6 +13,7 @@ one_slot : (e : BareEntry) → 1 ≤ slots_of e
 one_slot (entry.Live r) = omega arith
 one_slot (entry.Unload e) = omega arith
 one_slot (entry.Move e) = omega arith
+one_slot (entry.UnloadAll e) = omega arith
 
 pub taken-append : (xs ys : List Carried)
     → slots_taken (xs ++ ys) ≡ slots_taken xs + slots_taken ys

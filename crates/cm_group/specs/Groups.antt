@@ -38,6 +38,7 @@ class_made (entry.Live (Loader r)) = None
 class_made (entry.Live (Class r p)) = Some (r, p)
 class_made (entry.Unload e) = None
 class_made (entry.Move e) = None
+class_made (entry.UnloadAll e) = None
 
 -- the records that an entry writes: a class's own, those that move, none for any other
 abbrev pub records_of : Entry (List ℕ) → List (List ℕ) → List (List ℕ)
@@ -45,12 +46,14 @@ records_of (entry.Live (Loader r)) moved = []
 records_of (entry.Live (Class r words)) moved = words ∷ []
 records_of (entry.Unload e) moved = []
 records_of (entry.Move e) moved = moved
+records_of (entry.UnloadAll e) moved = []
 
 -- the records that move with an entry, where these rows live before it: those on the old chunk
 abbrev pub moved_with : List (Row (List ℕ)) → Entry (List ℕ) → List (List ℕ)
 moved_with rows (entry.Live row) = []
 moved_with rows (entry.Unload e) = []
 moved_with rows (entry.Move e) = kept_on e.from rows
+moved_with rows (entry.UnloadAll e) = []
 
 -- where records lie that lie one behind another, each at an offset of 32 bits
 abbrev pub offsets_from : ℕ → List (List ℕ) → List ℕ

@@ -11,7 +11,7 @@ ghost use Rattle.cm_layout.specs.declared.entry.Entry.TheVariants as variant;
 ghost use Rattle.cm_layout.specs.declared.row.Row.TheVariants.{Loader, Class};
 
 use crate::moved::MovedRecords;
-use cm_layout::{ClassRow, Entry, LoaderRow, Move, Row, Unload};
+use cm_layout::{ClassRow, Entry, LoaderRow, Move, Row, Unload, UnloadAll};
 use cm_record::Record;
 use std::alloc::Global;
 use std::marker::Model;
@@ -72,6 +72,16 @@ impl CarriedEntry {
         }
     }
 
+    /// That several loaders are unloaded at once, which writes no record.
+    pub fn unload_all(alloc: Global, entry: UnloadAll) -> CarriedEntry
+        ensures { result ≡ record { entry = variant.UnloadAll entry; moved = [] } }
+    {
+        CarriedEntry {
+            entry: Entry::UnloadAll(entry),
+            moved: MovedRecords::none(alloc),
+        }
+    }
+
     /// That a loader's last chunk moves, with the records that lie on it, in order. Takes no
     /// memory.
     pub fn relocation(entry: Move, moved: MovedRecords) -> CarriedEntry
@@ -99,7 +109,8 @@ impl CarriedEntry {
     {
         match &self.entry {
             Entry::Live(Row::Class(row, class)) => Some((row, class)),
-            Entry::Live(Row::Loader(_)) | Entry::Unload(_) | Entry::Move(_) => None,
+            Entry::Live(Row::Loader(_)) | Entry::Unload(_) | Entry::Move(_) | Entry::UnloadAll(_) =>
+                None,
         }
     }
 

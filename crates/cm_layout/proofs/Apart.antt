@@ -16,7 +16,8 @@ use Rattle.cm_layout.specs.declared.row.Row.TheVariants.{Loader, Class}
 use Rattle.cm_layout.specs.declared.entry.Entry.TheVariants as entry
 use Rattle.cm_layout.specs.declared.entry_rule.EntryRule.{EntryRule}
 use Rattle.cm_layout.specs.declared.entry_rule.EntryRule.TheVariants.{OnChunks}
-use Rattle.cm_layout.specs.Rows.{classes_in, used_words, without_loader, moved}
+use Rattle.cm_layout.specs.Rows.{classes_in, used_words, without_loader, without_loaders}
+use Rattle.cm_layout.specs.Rows.{moved}
 use Rattle.cm_layout.specs.Rows.{rows_after, rows_after_all}
 use Rattle.cm_layout.specs.Rules.{is_chunk, is_unused, is_last_chunk, has_place, class_fits}
 use Rattle.cm_layout.specs.Rules.{move_fits, broken_of, broken_rule, broken_live_rule, is_live}
@@ -135,6 +136,12 @@ unload-among u (Class r p ∷ rows) x m = by_test (λ k. unload-among u rows x k
     by_test behind true m = inr (behind m)
     by_test behind false (inl e) = inl e
     by_test behind false (inr m) = inr (behind m)
+
+unload_all-among : (us : List ℕ) (rows : List BareRow) (x : ClassRow)
+    → Among x (classes_in (without_loaders us rows)) → Among x (classes_in rows)
+unload_all-among [] rows x m = m
+unload_all-among (u ∷ us) rows x m =
+    unload-among u rows x (unload_all-among us (without_loader u rows) x m)
 
 -- ---- a move
 
@@ -255,6 +262,9 @@ entry-apart sizes rows n (entry.Live (Class r p)) apart h =
 entry-apart sizes rows n (entry.Unload e) apart h =
     fewer-apart (classes_in rows) (classes_in (without_loader e.loader rows))
     (unload-among e.loader rows) apart
+entry-apart sizes rows n (entry.UnloadAll e) apart h =
+    fewer-apart (classes_in rows) (classes_in (without_loaders e.loaders rows))
+    (unload_all-among e.loaders rows) apart
 entry-apart sizes rows n (entry.Move e) apart h =
     let last = is_last_chunk e.loader e.from rows in
     let lawful = is_chunk sizes e.to in

@@ -12,11 +12,12 @@ use Rattle.cm_layout.specs.declared.row.Row.TheVariants.{Loader, Class}
 use Rattle.cm_layout.specs.declared.entry.Entry.{Entry}
 use Rattle.cm_layout.specs.declared.entry.Entry.TheVariants as entry
 use Rattle.cm_layout.specs.Rows.{name_of, number_of, numbers_in, classes_in, slots_of_rows}
-use Rattle.cm_layout.specs.Rows.{without_loader, moved, rows_after, rows_with}
+use Rattle.cm_layout.specs.Rows.{without_loader, without_loaders, moved, rows_after, rows_with}
 use Rattle.cm_layout.specs.Rows.{bare}
 use Rattle.cm_layout.specs.Rules.{broken_rule}
 use Rattle.cm_layout.specs.Loaders.{LoadersDiffer}
 use Rattle.cm_layout.specs.Frames.{bare_row, bare_entry}
+use Rattle.cm_layout.proofs.Unloaded.{all-live-with}
 use Rattle.std.proofs.lemmas.List.{map-append}
 
 pub bare-with : {A B : Type 0} (f : A → B) (rows : List (Row A)) → bare (rows_with f rows)
@@ -97,6 +98,12 @@ without-bare {A} u (Class r c ∷ rows) = by_test (eqb r.loader u) (without-bare
     by_test true rest = rest
     by_test false rest = ap (λ l. Class r (tt {0}) ∷ l) rest
 
+without_all-bare : {A : Type 0} (us : List ℕ) (rows : List (Row A))
+    → bare (without_loaders us rows) ≡ without_loaders us (bare rows)
+without_all-bare [] rows = refl
+without_all-bare (u ∷ us) rows =
+    without_all-bare us (without_loader u rows) ∙ ap (without_loaders us) (without-bare u rows)
+
 moved-bare : {A : Type 0} (from to : Chunk) (rows : List (Row A))
     → bare (moved from to rows) ≡ moved from to (bare rows)
 moved-bare from to [] = refl
@@ -119,6 +126,7 @@ pub after-bare : {A : Type 0} (rows : List (Row A)) (e : Entry A)
 after-bare rows (entry.Live row) = more-bare rows row
 after-bare rows (entry.Unload e) = without-bare e.loader rows
 after-bare rows (entry.Move e) = moved-bare e.from e.to rows
+after-bare rows (entry.UnloadAll e) = without_all-bare e.loaders rows
 
 pub rule-bare : {A : Type 0} (sizes : Sizes) (rows : List (Row A)) (n : ℕ) (e : Entry A)
     → broken_rule sizes (bare rows) n (bare_entry e) ≡ broken_rule sizes rows n e
@@ -128,3 +136,5 @@ rule-bare sizes rows n (entry.Live (Class r c)) =
     rw (name-bare r.loader rows) (rw (slots-bare rows) (rw (classes-bare rows) refl))
 rule-bare sizes rows n (entry.Unload e) = rw (name-bare e.loader rows) refl
 rule-bare sizes rows n (entry.Move e) = rw (classes-bare rows) refl
+rule-bare sizes rows n (entry.UnloadAll e) =
+    rw (all-live-with e.loaders rows (bare rows) (λ u. name-bare u rows)) refl

@@ -10,6 +10,9 @@ mod Matched
 mod BareRows
 mod ClassPlaces
 mod KeptOn
+mod Padded
+mod Numbers
+mod Unloaded
 -- Chunks of rows that keep the rules share no word, but for the records of one loader on one chunk.
 pub use Apart.{entry-apart, rows_after_all-append}
 -- Contents frame at most one thing: the sizes, the rows with their words, and the number.
@@ -37,3 +40,5 @@ pub use ClassPlaces.{apart-unused, last_chunk-among, is_last_chunk-among, begins
 -- What is kept of the classes on one chunk, after each change of the rows.
 pub use KeptOn.{kept-append, kept-with, kept-without, kept-elsewhere, kept-onto, none-kept}
 pub use KeptOn.{unused-none, none-used, begins-at, moves-stand}
+-- Loaders that go at once: each is live in its turn, and the others stay.
+pub use Unloaded.{live-in-turn, name-without, name-gone}

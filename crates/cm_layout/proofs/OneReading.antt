@@ -23,6 +23,7 @@ use Rattle.cm_layout.specs.Frames.{OpenHalf, half_bytes, IsGoodHalf, rows_of}
 use Rattle.cm_layout.specs.Frames.{number_at_end, IsOlder, Counts, HoldsRecord, HoldsRow}
 use Rattle.cm_layout.specs.Frames.{Region, region_bytes, Frames}
 use Rattle.cm_layout.specs.Laws.{FramesAreOne}
+use Rattle.cm_layout.proofs.Numbers.{padded-count}
 use Rattle.cm_layout.proofs.OneSlot.{same_entry, same_half_head, same_group_head, same_four}
 use Rattle.cm_layout.specs.Zeros.{zeros}
 
@@ -66,6 +67,11 @@ slot_count (entry.Live (Loader r)) fits =
 slot_count (entry.Live (Class r p)) fits = refl
 slot_count (entry.Unload e) fits = refl
 slot_count (entry.Move e) fits = refl
+slot_count (entry.UnloadAll e) fits =
+    omega (
+      arith,
+      padded-count e.loaders 7 fits.few,
+    )
 
 -- the first slots of two lists are one, and so are the rest
 first_slot : (d e : BareEntry) (x y : List ℕ) → FitsEntry d → FitsEntry e
@@ -79,6 +85,7 @@ abbrev live_of : BareEntry → BareRow → BareRow
 live_of (entry.Live r) s = r
 live_of (entry.Unload e) s = s
 live_of (entry.Move e) s = s
+live_of (entry.UnloadAll e) s = s
 
 -- ---- live rows
 
@@ -107,6 +114,7 @@ some_slots : (e : BareEntry) → 1 ≤ slots_of e
 some_slots (entry.Live r) = omega arith
 some_slots (entry.Unload e) = omega arith
 some_slots (entry.Move e) = omega arith
+some_slots (entry.UnloadAll e) = omega arith
 
 same_entries : (sizes : Sizes) (n m : ℕ) (p q : List BareRow) (xs ys : List BareEntry)
     (x y : List ℕ)

@@ -1,7 +1,9 @@
 -- What is read from a slot is what was written there.
 -- For `slot_determines_entry`, `slot_determines_head`.
-use Rattle.std.proofs.Common.{◌≡◌, ℕ, ◌+◌, ◌<◌, ◌-◌, ◌^◌, List, length, take, drop, get_or}
+use Rattle.std.proofs.Common.{◌≡◌, ℕ, ◌+◌, ◌<◌, ◌-◌, ◌^◌, List, [], ◌∷◌, ◌++◌, length, take, drop}
+use Rattle.std.proofs.Common.{get_or}
 use Rattle.std.proofs.Common.{replicate, refl, sym, ap, ◌∙◌, arith}
+use Rattle.std.specs.List.{flat_map, AllByRecursion}
 use Rattle.std.specs.Int.{w16, w32, w64, from_le_bytes, to_le_bytes}
 use Rattle.std.proofs.lemmas.Nat.{from_le_bytes-to_le_bytes_2, from_le_bytes-to_le_bytes_4}
 use Rattle.std.proofs.lemmas.Nat.{from_le_bytes-to_le_bytes_8}
@@ -13,6 +15,7 @@ use Rattle.cm_layout.specs.declared.loader_row.LoaderRow.{LoaderRow}
 use Rattle.cm_layout.specs.declared.class_row.ClassRow.{ClassRow}
 use Rattle.cm_layout.specs.declared.unload.Unload.{Unload}
 use Rattle.cm_layout.specs.declared.relocation.Move.{Move}
+use Rattle.cm_layout.specs.declared.unload_all.UnloadAll.{UnloadAll}
 use Rattle.cm_layout.specs.declared.row.Row.{Row}
 use Rattle.cm_layout.specs.declared.row.Row.TheVariants.{Loader, Class}
 use Rattle.cm_layout.specs.declared.entry.Entry.{Entry}
@@ -20,7 +23,8 @@ use Rattle.cm_layout.specs.declared.entry.Entry.TheVariants as entry
 use Rattle.cm_layout.specs.Slots.{entry_slot, row_slot, loader_slot, class_slot, unload_slot}
 use Rattle.cm_layout.specs.Slots.{move_slot, half_head_slot, group_head_slot, FitsEntry, FitsChunk}
 use Rattle.cm_layout.specs.Slots.{FitsLoader, FitsClass, FitsUnload, FitsMove, FitsHalfHead}
-use Rattle.cm_layout.specs.Slots.{FitsGroupHead}
+use Rattle.cm_layout.specs.Slots.{FitsGroupHead, FitsUnloadAll, unload_all_slot}
+use Rattle.cm_layout.specs.Zeros.{zeros}
 
 -- the numbers that stand at a place
 abbrev two_at : ℕ → List ℕ → ℕ
@@ -125,6 +129,29 @@ same_move e d fe fd same =
     refl same in
     (λ i. record { loader = loader i; from = from_is i; to = to_is i })
 
+same_numbers : (us vs x y : List ℕ) → AllByRecursion (λ u. u < 2 ^ 64) us
+    → AllByRecursion (λ v. v < 2 ^ 64) vs → length us ≡ length vs
+    → flat_map (to_le_bytes w64) (us ++ x) ≡ flat_map (to_le_bytes w64) (vs ++ y) → us ≡ vs
+same_numbers [] [] x y fu fv count same = refl
+same_numbers [] (v ∷ vs) x y fu fv count same = absurd (omega (arith, count))
+same_numbers (u ∷ us) [] x y fu fv count same = absurd (omega (arith, count))
+same_numbers (u ∷ us) (v ∷ vs) x y fu fv count same =
+    let first : u ≡ v =
+    same_eight 0 u v (flat_map (to_le_bytes w64) (u ∷ us ++ x))
+    (flat_map (to_le_bytes w64) (v ∷ vs ++ y)) fu.0 fv.0 refl refl same in
+    let rest : us ≡ vs =
+    same_numbers us vs x y fu.1 fv.1 (omega (arith, count)) (ap (drop 8) same) in
+    (λ i. first i ∷ rest i)
+
+same_unload_all : (e d : UnloadAll) → FitsUnloadAll e → FitsUnloadAll d
+    → unload_all_slot e ≡ unload_all_slot d → e ≡ d
+same_unload_all e d fe fd same =
+    let count : length e.loaders ≡ length d.loaders = ap (λ t. get_or t 2 0) same in
+    let loaders : e.loaders ≡ d.loaders =
+    same_numbers e.loaders d.loaders (zeros (7 - length e.loaders)) (zeros (7 - length d.loaders))
+    fe.loaders fd.loaders count (ap (drop 8) same) in
+    (λ i. record { loaders = loaders i })
+
 -- the byte that says what a slot is
 abbrev kind : List ℕ → ℕ
 kind slot = get_or slot 1 0
@@ -146,6 +173,8 @@ same_entry (entry.Live r) (entry.Live s) fe fd same = ap entry.Live (same_row r 
 same_entry (entry.Unload e) (entry.Unload d) fe fd same =
     ap entry.Unload (same_unload e d fe fd same)
 same_entry (entry.Move e) (entry.Move d) fe fd same = ap entry.Move (same_move e d fe fd same)
+same_entry (entry.UnloadAll e) (entry.UnloadAll d) fe fd same =
+    ap entry.UnloadAll (same_unload_all e d fe fd same)
 same_entry (entry.Live r) (entry.Unload d) fe fd same =
     absurd (omega (arith, ap kind same, row_kind r))
 same_entry (entry.Live r) (entry.Move d) fe fd same =
@@ -156,6 +185,16 @@ same_entry (entry.Move e) (entry.Live s) fe fd same =
     absurd (omega (arith, ap kind same, row_kind s))
 same_entry (entry.Unload e) (entry.Move d) fe fd same = absurd (omega (arith, ap kind same))
 same_entry (entry.Move e) (entry.Unload d) fe fd same = absurd (omega (arith, ap kind same))
+same_entry (entry.Live r) (entry.UnloadAll d) fe fd same =
+    absurd (omega (arith, ap kind same, row_kind r))
+same_entry (entry.UnloadAll e) (entry.Live s) fe fd same =
+    absurd (omega (arith, ap kind same, row_kind s))
+same_entry (entry.Unload e) (entry.UnloadAll d) fe fd same =
+    absurd (omega (arith, ap kind same))
+same_entry (entry.UnloadAll e) (entry.Unload d) fe fd same =
+    absurd (omega (arith, ap kind same))
+same_entry (entry.Move e) (entry.UnloadAll d) fe fd same = absurd (omega (arith, ap kind same))
+same_entry (entry.UnloadAll e) (entry.Move d) fe fd same = absurd (omega (arith, ap kind same))
 
 -- ---- heads
 

@@ -21,7 +21,8 @@ use Rattle.cm_layout.specs.declared.entry_rule.EntryRule.TheVariants.{OnRows, On
 use Rattle.cm_layout.specs.Names.{is_loader_name}
 use Rattle.cm_layout.specs.Slots.{FitsRow, FitsChunk, FitsEntry}
 use Rattle.cm_layout.specs.Rows.{name_of, number_of, numbers_in, classes_in, slots_of_rows}
-use Rattle.cm_layout.specs.Rows.{slots_of_row, used_words, last_chunk, is_of, without_loader, moved}
+use Rattle.cm_layout.specs.Rows.{slots_of_row, used_words, last_chunk, is_of, without_loader}
+use Rattle.cm_layout.specs.Rows.{without_loaders, moved}
 use Rattle.cm_layout.specs.Rows.{moved_row}
 use Rattle.cm_layout.specs.Rows.{rows_after, rows_after_all}
 use Rattle.cm_layout.specs.Rules.{row_limit, has_room, is_live, is_new_loader, is_chunk, meets}
@@ -1064,6 +1065,13 @@ below_all n (u ∷ numbers) h =
     and_true (nat_lt u (n + 1)) (list_all (λ v. nat_lt v (n + 1)) numbers)
     (lt-ltb u (n + 1) (omega (arith, h.0))) (below_all n numbers h.1)
 
+stay-without_all : (sizes : Sizes) (base : ℕ) (us : List ℕ) (rows : List BareRow)
+    → LiveRowsKeep sizes base [] rows → LiveRowsKeep sizes base [] (without_loaders us rows)
+stay-without_all sizes base [] rows k = k
+stay-without_all sizes base (u ∷ us) rows k =
+    stay-without_all sizes base us (without_loader u rows)
+    (stay-without sizes base u [] rows none_apart k)
+
 loader-live : (sizes : Sizes) (n : ℕ) (rows : List BareRow) (r : LoaderRow)
     → LiveRowsKeep sizes n [] rows → broken_rule sizes rows (n + 1) (entry.Live (Loader r)) ≡ None
     → broken_live_rule sizes (n + 1) rows (Loader r) ≡ None
@@ -1112,6 +1120,9 @@ entry-live sizes rows n (entry.Move e) apart k fits h =
     (none_at_all e.to)
     (none_meets e.to (classes_in rows) front.1)
     (leb-true (used_words e.from rows) (chunk_size e.to.order) parts.1)
+    (live-higher sizes n (n + 1) [] rows (omega arith) k)
+entry-live sizes rows n (entry.UnloadAll e) apart k fits h =
+    stay-without_all sizes (n + 1) e.loaders rows
     (live-higher sizes n (n + 1) [] rows (omega arith) k)
 
 entries-live : (sizes : Sizes) (rows : List BareRow) (n : ℕ) (entries : List BareEntry)

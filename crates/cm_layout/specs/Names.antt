@@ -17,3 +17,7 @@ is_visible b = nat_le 33 b && nat_le b 126
 abbrev pub is_loader_name : List ℕ → Bool
 is_loader_name name =
     nat_le 1 (length name) && nat_le (length name) name_limit && list_all is_visible name
+
+-- how many loaders are unloaded at once at most
+abbrev pub unload_limit : ℕ
+unload_limit = 7

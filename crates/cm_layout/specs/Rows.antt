@@ -11,7 +11,7 @@ use Rattle.cm_layout.specs.declared.class_row.ClassRow.{ClassRow}
 use Rattle.cm_layout.specs.declared.row.Row.{Row}
 use Rattle.cm_layout.specs.declared.row.Row.TheVariants.{Loader, Class}
 use Rattle.cm_layout.specs.declared.entry.Entry.{Entry}
-use Rattle.cm_layout.specs.declared.entry.Entry.TheVariants.{Live, Unload, Move}
+use Rattle.cm_layout.specs.declared.entry.Entry.TheVariants.{Live, Unload, Move, UnloadAll}
 
 -- ---- what rows say
 
@@ -50,6 +50,7 @@ abbrev pub slots_of : {P : Type 0} → Entry P → ℕ
 slots_of (Live row) = slots_of_row row
 slots_of (Unload e) = 1
 slots_of (Move e) = 1
+slots_of (UnloadAll e) = 1
 
 abbrev pub slots_of_rows : {P : Type 0} → List (Row P) → ℕ
 slots_of_rows [] = 0
@@ -92,6 +93,11 @@ is_of u (Class r p) = r.loader == u
 abbrev pub without_loader : {P : Type 0} → ℕ → List (Row P) → List (Row P)
 without_loader u rows = filter (λ row. not (is_of u row)) rows
 
+-- without the loaders of these numbers, one after another
+abbrev pub without_loaders : {P : Type 0} → List ℕ → List (Row P) → List (Row P)
+without_loaders [] rows = rows
+without_loaders (u ∷ us) rows = without_loaders us (without_loader u rows)
+
 -- a record on the old chunk lies on the new one, at the same offset
 abbrev pub moved_row : {P : Type 0} → Chunk → Chunk → Row P → Row P
 moved_row from to (Loader r) = Loader r
@@ -113,6 +119,7 @@ abbrev pub rows_after : {P : Type 0} → List (Row P) → Entry P → List (Row 
 rows_after rows (Live row) = rows ++ row ∷ []
 rows_after rows (Unload e) = without_loader e.loader rows
 rows_after rows (Move e) = moved e.from e.to rows
+rows_after rows (UnloadAll e) = without_loaders e.loaders rows
 
 abbrev pub rows_after_all : {P : Type 0} → List (Row P) → List (Entry P) → List (Row P)
 rows_after_all rows [] = rows
@@ -131,6 +138,7 @@ abbrev pub entry_with : {P Q : Type 0} → (P → Q) → Entry P → Entry Q
 entry_with f (Live row) = Live (row_with f row)
 entry_with f (Unload e) = Unload e
 entry_with f (Move e) = Move e
+entry_with f (UnloadAll e) = UnloadAll e
 
 -- with nothing kept
 abbrev pub bare : {P : Type 0} → List (Row P) → List (Row (Unit {0}))

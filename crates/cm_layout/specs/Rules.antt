@@ -1,8 +1,10 @@
 -- The rules that entries and live rows keep, where these rows live before them. Each rule is one on
 -- rows (loaders, names, numbers, how many rows there are) or one on chunks (chunks, offsets,
 -- sizes), so that the first that is broken has a sort.
-use Rattle.std.specs.Prelude.{ℕ, ◌+◌, ◌/◌, ◌%◌, ◌==◌, Bool, false, not, ◌&&◌, ◌||◌, nat_lt, nat_le}
-use Rattle.std.specs.Prelude.{min, max, if◌then◌else◌, List, Option, Some, None, is_some, is_none}
+use Rattle.std.specs.Prelude.{ℕ, ◌+◌, ◌/◌, ◌%◌, ◌==◌, Bool, true, false, not, ◌&&◌, ◌||◌, nat_lt}
+use Rattle.std.specs.Prelude.{nat_le}
+use Rattle.std.specs.Prelude.{min, max, if◌then◌else◌, List, [], ◌∷◌, Option, Some, None, is_some}
+use Rattle.std.specs.Prelude.{is_none}
 use Rattle.std.specs.List.{list_all, list_any}
 use Rattle.std.specs.Option.{option_map_or}
 use Rattle.cm_pool.specs.declared.chunk.Chunk.{Chunk}
@@ -36,6 +38,15 @@ is_too_much sizes taken need = nat_lt (row_limit sizes) (taken + need)
 
 abbrev pub is_live : {P : Type 0} → ℕ → List (Row P) → Bool
 is_live u rows = is_some (name_of u rows)
+
+-- all these loaders live
+abbrev pub are_live : {P : Type 0} → List ℕ → List (Row P) → Bool
+are_live us rows = list_all (λ u. is_live u rows) us
+
+-- no number stands there twice
+abbrev pub differ : List ℕ → Bool
+differ [] = true
+differ (u ∷ us) = list_all (λ v. not (u == v)) us && differ us
 
 -- a loader with a name of its own
 abbrev pub is_new_loader : {P : Type 0} → Sizes → List (Row P) → LoaderRow → Bool
@@ -96,6 +107,8 @@ broken_rule sizes rows number (entry.Live (Class r p)) =
 broken_rule sizes rows number (entry.Unload e) = if is_live e.loader rows then None else Some OnRows
 broken_rule sizes rows number (entry.Move e) =
     if move_fits sizes rows e then None else Some OnChunks
+broken_rule sizes rows number (entry.UnloadAll e) =
+    if differ e.loaders && are_live e.loaders rows then None else Some OnRows
 
 -- by a live row behind a half's head: a loader's number is one of the past, and above those before
 -- it

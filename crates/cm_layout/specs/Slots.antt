@@ -3,6 +3,7 @@
 -- that aren't named are 00.
 use Rattle.std.specs.Prelude.{ℕ, ◌<◌, ◌≤◌, ◌-◌, ◌^◌, List, ◌∷◌, ◌++◌, length}
 use Rattle.std.specs.Int.{w16, w32, w64, to_le_bytes}
+use Rattle.std.specs.List.{flat_map, AllByRecursion}
 use Rattle.cm_pool.specs.declared.chunk.Chunk.{Chunk}
 use Rattle.cm_layout.specs.declared.heads.HalfHead.{HalfHead}
 use Rattle.cm_layout.specs.declared.heads.GroupHead.{GroupHead}
@@ -10,11 +11,13 @@ use Rattle.cm_layout.specs.declared.loader_row.LoaderRow.{LoaderRow}
 use Rattle.cm_layout.specs.declared.class_row.ClassRow.{ClassRow}
 use Rattle.cm_layout.specs.declared.unload.Unload.{Unload}
 use Rattle.cm_layout.specs.declared.relocation.Move.{Move}
+use Rattle.cm_layout.specs.declared.unload_all.UnloadAll.{UnloadAll}
 use Rattle.cm_layout.specs.declared.row.Row.{Row}
 use Rattle.cm_layout.specs.declared.row.Row.TheVariants.{Loader, Class}
 use Rattle.cm_layout.specs.declared.entry.Entry.{Entry}
 use Rattle.cm_layout.specs.declared.entry.Entry.TheVariants as entry
 use Rattle.cm_layout.specs.Names.{name_room}
+pub use Rattle.cm_layout.specs.Names.{unload_limit}
 use Rattle.cm_layout.specs.Zeros.{zeros}
 
 -- the gate byte of a head that is open
@@ -72,6 +75,13 @@ move_slot e =
     ++ to_le_bytes w32 e.to.root ++ to_le_bytes w32 e.to.order ++ to_le_bytes w32 e.to.at
     ++ zeros 24
 
+-- loaders that are unloaded at once: how many, and their numbers, 0 in the place of those that
+-- there could be more
+abbrev pub unload_all_slot : UnloadAll → List ℕ
+unload_all_slot e =
+    (0 ∷ 21 ∷ length e.loaders ∷ zeros 5)
+    ++ flat_map (to_le_bytes w64) (e.loaders ++ zeros (unload_limit - length e.loaders))
+
 abbrev pub row_slot : {P : Type 0} → Row P → List ℕ
 row_slot (Loader r) = loader_slot r
 row_slot (Class r p) = class_slot r
@@ -80,6 +90,7 @@ abbrev pub entry_slot : {P : Type 0} → Entry P → List ℕ
 entry_slot (entry.Live r) = row_slot r
 entry_slot (entry.Unload e) = unload_slot e
 entry_slot (entry.Move e) = move_slot e
+entry_slot (entry.UnloadAll e) = unload_all_slot e
 
 -- ---- what has an encoding: each number fits its field, and a name its slot
 
@@ -116,6 +127,11 @@ pub record FitsMove (e : Move) : Type 0 where
   pub from : FitsChunk e.from
   pub to : FitsChunk e.to
 
+pub record FitsUnloadAll (e : UnloadAll) : Type 0 where
+  pub some : 1 ≤ length e.loaders
+  pub few : length e.loaders ≤ unload_limit
+  pub loaders : AllByRecursion (λ u. u < 2 ^ 64) e.loaders
+
 abbrev pub FitsRow : {P : Type 0} → Row P → Type 0
 FitsRow (Loader r) = FitsLoader r
 FitsRow (Class r p) = FitsClass r
@@ -124,3 +140,4 @@ abbrev pub FitsEntry : {P : Type 0} → Entry P → Type 0
 FitsEntry (entry.Live r) = FitsRow r
 FitsEntry (entry.Unload e) = FitsUnload e
 FitsEntry (entry.Move e) = FitsMove e
+FitsEntry (entry.UnloadAll e) = FitsUnloadAll e

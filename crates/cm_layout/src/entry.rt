@@ -8,6 +8,7 @@ use crate::relocation::Move;
 use crate::row::Row;
 use crate::slot::SLOT_BYTES;
 use crate::unload::Unload;
+use crate::unload_all::UnloadAll;
 
 /// How many slots a group's entries may take.
 pub const GROUP_SLOTS: usize = 64;
@@ -19,6 +20,7 @@ pub enum Entry<P> {
     Live(Row<P>),
     Unload(Unload),
     Move(Move),
+    UnloadAll(UnloadAll),
 }
 
 impl<P> Entry<P> {
@@ -34,6 +36,7 @@ impl<P> Entry<P> {
             Entry::Live(row) => Entry::Live(row.bare()),
             Entry::Unload(entry) => Entry::Unload(*entry),
             Entry::Move(entry) => Entry::Move(*entry),
+            Entry::UnloadAll(entry) => Entry::UnloadAll(*entry),
         }
     }
 
@@ -42,7 +45,7 @@ impl<P> Entry<P> {
         ensures { result ≡ slots_of self.now }
     {
         match self {
-            Entry::Live(_) | Entry::Unload(_) | Entry::Move(_) => 1,
+            Entry::Live(_) | Entry::Unload(_) | Entry::Move(_) | Entry::UnloadAll(_) => 1,
         }
     }
 
@@ -54,6 +57,7 @@ impl<P> Entry<P> {
             Entry::Live(row) => row.encode(),
             Entry::Unload(entry) => entry.encode(),
             Entry::Move(entry) => entry.encode(),
+            Entry::UnloadAll(entry) => entry.encode(),
         }
     }
 }
@@ -76,7 +80,10 @@ impl Entry<()> {
         if let Some(entry) = Unload::decode(slot) {
             return Some(Entry::Unload(entry));
         }
-        let entry = Move::decode(slot)?;
-        Some(Entry::Move(entry))
+        if let Some(entry) = Move::decode(slot) {
+            return Some(Entry::Move(entry));
+        }
+        let entry = UnloadAll::decode(slot)?;
+        Some(Entry::UnloadAll(entry))
     }
 }

@@ -11,3 +11,5 @@ pub(crate) const CLASS: u8 = 0x12;
 pub(crate) const UNLOAD: u8 = 0x13;
 
 pub(crate) const MOVE: u8 = 0x14;
+
+pub(crate) const UNLOAD_ALL: u8 = 0x15;

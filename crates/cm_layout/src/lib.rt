@@ -9,6 +9,7 @@ mod half;
 mod heads;
 mod kind;
 mod laws;
+mod loader_numbers;
 mod loader_row;
 mod name;
 mod offsets;
@@ -17,6 +18,7 @@ mod row;
 mod slot;
 mod superblock;
 mod unload;
+mod unload_all;
 
 pub use class_row::ClassRow;
 pub use entry::{Entry, GROUP_SLOTS};
@@ -28,6 +30,7 @@ pub use laws::{
     loaders_are_own, moves_stand, rows_are_apart, rows_stay_live, slot_determines_entry,
     slot_determines_head,
 };
+pub use loader_numbers::{LoaderNumbers, UNLOAD_LIMIT};
 pub use loader_row::LoaderRow;
 pub use name::{NAME_LIMIT, NAME_ROOM, SlotName, is_loader_name};
 pub use offsets::{
@@ -38,3 +41,4 @@ pub use row::Row;
 pub use slot::{OPEN_GATE, SLOT_BYTES, SUPERBLOCK_BYTES};
 pub use superblock::Superblock;
 pub use unload::Unload;
+pub use unload_all::UnloadAll;

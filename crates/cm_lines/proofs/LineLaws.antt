@@ -1,18 +1,20 @@
 -- How lines and words make up a text.
 -- On `pieces`, `LinesMakeScript`, `OneSpelling`.
-use Rattle.std.proofs.Common.{◌≡◌, ◌≢◌, ◌⊎◌, ℕ, Bool, true, false, cond, ◌&&◌, eqb, ltb, List, []}
+use Rattle.std.proofs.Common.{◌≡◌, ◌≢◌, ◌<◌, ◌⊎◌, ℕ, Bool, true, false, cond, ◌&&◌, eqb, ltb, List}
+use Rattle.std.proofs.Common.{[]}
 use Rattle.std.proofs.Common.{◌∷◌, ◌++◌, length, All, Option, Some, None, inl, inr, refl, sym, ap}
 use Rattle.std.proofs.Common.{subst, ◌∙◌, append_assoc, append-nil, eq-eqb, arith}
 use Rattle.std.specs.Prelude.{codes}
-use Rattle.std.specs.List.{AllByRecursion, onto_first, join_with_byte}
+use Rattle.std.specs.List.{AllByRecursion, onto_first, join_with_byte, flat_map, list_all}
 use Rattle.std.specs.Str.{bytes_eq}
 use Rattle.std.proofs.lemmas.Bool.{lt-ltb, ltb-true, and_parts}
 use Rattle.std.proofs.lemmas.List.Elements.{All-nil, All-cons, All-from_recursion}
+use Rattle.std.proofs.lemmas.List.Elements.{recursion_from_All}
 use Rattle.std.proofs.lemmas.List.Splits.{join_with_byte-slice_split}
 use Rattle.std.proofs.lemmas.Slice.Eq.{bytes_eq-Decides}
 use Rattle.cm_lines.specs.Lines.{Asked, AsksLoader, AsksUnload, AsksTighten, AsksDefine, AsksFind}
 use Rattle.cm_lines.specs.Lines.{pieces, without_empty_rest, lines_of, is_word, question_in}
-use Rattle.cm_lines.specs.Lines.{question_of_words}
+use Rattle.cm_lines.specs.Lines.{AsksUnloadAll, are_words, question_of_few, question_of_words}
 use Rattle.cm_lines.specs.Laws.{put_together, LinesMakeScript, IsWord, AreWords, spelled}
 use Rattle.cm_lines.specs.Laws.{OneSpelling}
 use Rattle.cm_lines.proofs.Cuts.{pieces_cut, pieces_none}
@@ -85,171 +87,166 @@ lines_make_script script =
 
 -- ---- words
 
+IsClean : List ℕ → Type 0
+IsClean text = All (λ b. b ≢ 32) text
+
+IsSpelled : List ℕ → Asked → Type 0
+IsSpelled line question = (line ≡ spelled question) × AreWords question
+
+word : (text : List ℕ) → is_word text ≡ true → IsClean text → IsWord text
+unfolding IsClean
+word text some clean = (ltb-true 0 (length text) some, clean)
+
+words : (texts : List (List ℕ)) → list_all is_word texts ≡ true → AllByRecursion IsClean texts
+    → AllByRecursion IsWord texts
+words [] some clean = tt
+words (text ∷ texts) some clean =
+    let t = and_parts (is_word text) (list_all is_word texts) some in
+    (word text t.0 clean.0, words texts t.1 clean.1)
+
+-- names with a space before each
+abbrev spaced : List (List ℕ) → List ℕ
+spaced names = flat_map (λ name. 32 ∷ name) names
+
+spaced_joined : (first : List ℕ) (more : List (List ℕ))
+    → join_with_byte 32 (first ∷ more) ≡ first ++ spaced more
+spaced_joined first [] = sym (append-nil first)
+spaced_joined first (next ∷ more) = ap (λ l. first ++ 32 ∷ l) (spaced_joined next more)
+
+-- ---- what is asked for is spelled
+
 chosen : (t : Bool) (x y : Asked) (rest : Option Asked) → cond t (Some x) rest ≡ Some y
     → ((t ≡ true) × (x ≡ y)) ⊎ (rest ≡ Some y)
 chosen true x y rest e = inl (refl, (cc))
 chosen false x y rest e = inr e
 
-word : (text : List ℕ) → is_word text ≡ true → All (λ b. b ≢ 32) text → IsWord text
-word text some clean = (ltb-true 0 (length text) some, clean)
+module _ (verb line : List ℕ) (question : Asked) where
+  -- it is asked for by the verb that is said, or else by what is left
+  by_verb : (said behind : List ℕ) (are : Bool) (asked : Asked) (rest : Option Asked)
+      → verb ++ behind ≡ line → (are ≡ true → IsSpelled (said ++ behind) asked)
+      → (rest ≡ Some question → IsSpelled line question)
+      → cond (bytes_eq verb said && are) (Some asked) rest ≡ Some question
+      → IsSpelled line question
+  by_verb said behind are asked rest joined spells other e =
+      picked (chosen (bytes_eq verb said && are) asked question rest e)
+    where
+      picked : (((bytes_eq verb said && are) ≡ true) × (asked ≡ question))
+          ⊎ (rest ≡ Some question) → IsSpelled line question
+      picked (inl h) =
+          let t = and_parts (bytes_eq verb said) are h.0 in
+          let is = (bytes_eq-Decides verb said).0 t.0 in
+          subst (λ q. IsSpelled line q) h.1
+          (subst (λ l. IsSpelled l asked) (ap (λ v. v ++ behind) (sym is) ∙ joined) (spells t.1))
+      picked (inr f) = other f
 
-IsSpelled : List ℕ → Asked → Type 0
-IsSpelled line question = (line ≡ spelled question) × AreWords question
-
-of_loader : (verb name line : List ℕ) (question : Asked) → verb ++ 32 ∷ name ≡ line
-    → All (λ b. b ≢ 32) name
-    → ((bytes_eq verb (codes "loader") && is_word name) ≡ true) × (AsksLoader name ≡ question)
-    → IsSpelled line question
+of_few : (verb : List ℕ) (names : List (List ℕ)) (line : List ℕ) (question : Asked)
+    → join_with_byte 32 (verb ∷ names) ≡ line → AllByRecursion IsClean names
+    → question_of_few verb names ≡ Some question → IsSpelled line question
 unfolding IsSpelled
-of_loader verb name line question joined clean h =
-    let t = and_parts (bytes_eq verb (codes "loader")) (is_word name) h.0 in
-    let is = (bytes_eq-Decides verb (codes "loader")).0 t.0 in
-    subst (λ q. (line ≡ spelled q) × AreWords q) h.1
-    (sym joined ∙ ap (λ v. v ++ 32 ∷ name) is, word name t.1 clean)
-
-of_unload : (verb name line : List ℕ) (question : Asked) → verb ++ 32 ∷ name ≡ line
-    → All (λ b. b ≢ 32) name
-    → ((bytes_eq verb (codes "unload") && is_word name) ≡ true) × (AsksUnload name ≡ question)
-    → IsSpelled line question
-unfolding IsSpelled
-of_unload verb name line question joined clean h =
-    let t = and_parts (bytes_eq verb (codes "unload")) (is_word name) h.0 in
-    let is = (bytes_eq-Decides verb (codes "unload")).0 t.0 in
-    subst (λ q. (line ≡ spelled q) × AreWords q) h.1
-    (sym joined ∙ ap (λ v. v ++ 32 ∷ name) is, word name t.1 clean)
-
-of_tighten : (verb name line : List ℕ) (question : Asked) → verb ++ 32 ∷ name ≡ line
-    → All (λ b. b ≢ 32) name
-    → ((bytes_eq verb (codes "tighten") && is_word name) ≡ true) × (AsksTighten name ≡ question)
-    → IsSpelled line question
-unfolding IsSpelled
-of_tighten verb name line question joined clean h =
-    let t = and_parts (bytes_eq verb (codes "tighten")) (is_word name) h.0 in
-    let is = (bytes_eq-Decides verb (codes "tighten")).0 t.0 in
-    subst (λ q. (line ≡ spelled q) × AreWords q) h.1
-    (sym joined ∙ ap (λ v. v ++ 32 ∷ name) is, word name t.1 clean)
-
-of_define : (verb loader digits line : List ℕ) (question : Asked)
-    → verb ++ (32 ∷ (loader ++ (32 ∷ digits))) ≡ line → All (λ b. b ≢ 32) loader
-    → All (λ b. b ≢ 32) digits
-    → ((bytes_eq verb (codes "define") && (is_word loader && is_word digits)) ≡ true)
-    × (AsksDefine loader digits ≡ question) → IsSpelled line question
-unfolding IsSpelled
-of_define verb loader digits line question joined clean clean' h =
-    let t = and_parts (bytes_eq verb (codes "define")) (is_word loader && is_word digits) h.0 in
-    let w = and_parts (is_word loader) (is_word digits) t.1 in
-    let is = (bytes_eq-Decides verb (codes "define")).0 t.0 in
-    subst (λ q. (line ≡ spelled q) × AreWords q) h.1 (
-      sym joined ∙ ap (λ v. v ++ (32 ∷ (loader ++ (32 ∷ digits)))) is,
-      (word loader w.0 clean, word digits w.1 clean'),
-    )
-
-of_find : (verb loader name line : List ℕ) (question : Asked)
-    → verb ++ (32 ∷ (loader ++ (32 ∷ name))) ≡ line → All (λ b. b ≢ 32) loader
-    → All (λ b. b ≢ 32) name
-    → ((bytes_eq verb (codes "find") && (is_word loader && is_word name)) ≡ true)
-    × (AsksFind loader name ≡ question) → IsSpelled line question
-unfolding IsSpelled
-of_find verb loader name line question joined clean clean' h =
-    let t = and_parts (bytes_eq verb (codes "find")) (is_word loader && is_word name) h.0 in
-    let w = and_parts (is_word loader) (is_word name) t.1 in
-    let is = (bytes_eq-Decides verb (codes "find")).0 t.0 in
-    subst (λ q. (line ≡ spelled q) × AreWords q) h.1 (
-      sym joined ∙ ap (λ v. v ++ (32 ∷ (loader ++ (32 ∷ name)))) is,
-      (word loader w.0 clean, word name w.1 clean'),
-    )
-
-abbrev tightens : List ℕ → List ℕ → Option Asked
-tightens verb name =
-    cond (bytes_eq verb (codes "tighten") && is_word name) (Some (AsksTighten name)) None
-
-abbrev unloads : List ℕ → List ℕ → Option Asked
-unloads verb name =
-    cond (bytes_eq verb (codes "unload") && is_word name) (Some (AsksUnload name))
-    (tightens verb name)
-
-abbrev finds : List ℕ → List ℕ → List ℕ → Option Asked
-finds verb loader name =
-    cond (bytes_eq verb (codes "find") && (is_word loader && is_word name))
-    (Some (AsksFind loader name)) None
+of_few verb [] line question joined clean e = absurd (cc)
+of_few verb (name ∷ []) line question joined clean e =
+    by_verb verb line question (codes "loader") (32 ∷ name) (is_word name) (AsksLoader name) _
+    joined (λ some. (refl, word name some clean.0))
+    (by_verb verb line question (codes "unload") (32 ∷ name) (is_word name) (AsksUnload name) _
+    joined (λ some. (refl, word name some clean.0))
+    (by_verb verb line question (codes "tighten") (32 ∷ name) (is_word name) (AsksTighten name) None
+    joined (λ some. (refl, word name some clean.0))
+    (λ f. absurd (cc)))) e
+of_few verb (name ∷ last ∷ []) line question joined clean e =
+    by_verb verb line question (codes "define") (32 ∷ (name ++ 32 ∷ last))
+    (is_word name && is_word last) (AsksDefine name last) _ joined
+    (λ some. (refl, both some))
+    (by_verb verb line question (codes "find") (32 ∷ (name ++ 32 ∷ last))
+    (is_word name && is_word last) (AsksFind name last) None joined
+    (λ some. (refl, both some))
+    (λ f. absurd (cc))) e
+  where
+    both : (is_word name && is_word last) ≡ true → IsWord name × IsWord last
+    both some =
+        let t = and_parts (is_word name) (is_word last) some in
+        (word name t.0 clean.0, word last t.1 clean.1.0)
+of_few verb (name ∷ last ∷ further ∷ more) line question joined clean e = absurd (cc)
 
 of_pieces : (parts : List (List ℕ)) (line : List ℕ) (question : Asked)
-    → join_with_byte 32 parts ≡ line → AllByRecursion (All (λ b. b ≢ 32)) parts
+    → join_with_byte 32 parts ≡ line → AllByRecursion IsClean parts
     → question_of_words parts ≡ Some question → IsSpelled line question
+unfolding IsSpelled
 of_pieces [] line question joined clean e = absurd (cc)
-of_pieces (verb ∷ []) line question joined clean e = absurd (cc)
-of_pieces (verb ∷ name ∷ []) line question joined clean e =
-    first (chosen (bytes_eq verb (codes "loader") && is_word name) (AsksLoader name) question
-    (unloads verb name) e)
+of_pieces (verb ∷ names) line question joined clean e =
+    by_verb verb line question (codes "unloadall") (spaced names) (are_words names)
+    (AsksUnloadAll names) (question_of_few verb names)
+    (sym (spaced_joined verb names) ∙ joined) (λ some. (refl, all some))
+    (of_few verb names line question joined clean.1) e
   where
-    last : (((bytes_eq verb (codes "tighten") && is_word name) ≡ true)
-        × (AsksTighten name ≡ question)) ⊎ (None ≡ Some question) → IsSpelled line question
-    last (inl h) = of_tighten verb name line question joined clean.1.0 h
-    last (inr f) = absurd (cc)
+    all : are_words names ≡ true → (0 < length names) × All IsWord names
+    all some =
+        let t = and_parts (ltb 0 (length names)) (list_all is_word names) some in (
+          ltb-true 0 (length names) t.0,
+          All-from_recursion IsWord names (words names t.1 clean.1),
+        )
 
-    then : (((bytes_eq verb (codes "unload") && is_word name) ≡ true)
-        × (AsksUnload name ≡ question)) ⊎ (tightens verb name ≡ Some question)
-        → IsSpelled line question
-    then (inl h) = of_unload verb name line question joined clean.1.0 h
-    then (inr f) =
-        last (chosen (bytes_eq verb (codes "tighten") && is_word name) (AsksTighten name) question
-        None f)
-
-    first : (((bytes_eq verb (codes "loader") && is_word name) ≡ true)
-        × (AsksLoader name ≡ question)) ⊎ (unloads verb name ≡ Some question)
-        → IsSpelled line question
-    first (inl h) = of_loader verb name line question joined clean.1.0 h
-    first (inr f) =
-        then (chosen (bytes_eq verb (codes "unload") && is_word name) (AsksUnload name) question
-        (tightens verb name) f)
-of_pieces (verb ∷ name ∷ last ∷ []) line question joined clean e =
-    first (chosen (bytes_eq verb (codes "define") && (is_word name && is_word last))
-    (AsksDefine name last) question (finds verb name last) e)
-  where
-    then : (((bytes_eq verb (codes "find") && (is_word name && is_word last)) ≡ true)
-        × (AsksFind name last ≡ question)) ⊎ (None ≡ Some question) → IsSpelled line question
-    then (inl h) = of_find verb name last line question joined clean.1.0 clean.1.1.0 h
-    then (inr f) = absurd (cc)
-
-    first : (((bytes_eq verb (codes "define") && (is_word name && is_word last)) ≡ true)
-        × (AsksDefine name last ≡ question)) ⊎ (finds verb name last ≡ Some question)
-        → IsSpelled line question
-    first (inl h) = of_define verb name last line question joined clean.1.0 clean.1.1.0 h
-    first (inr f) =
-        then (chosen (bytes_eq verb (codes "find") && (is_word name && is_word last))
-        (AsksFind name last) question None f)
-of_pieces (verb ∷ name ∷ last ∷ further ∷ more) line question joined clean e = absurd (cc)
+-- ---- what is spelled is asked for
 
 is_some_word : (text : List ℕ) → IsWord text → is_word text ≡ true
 is_some_word text w = lt-ltb 0 (length text) w.0
 
+all_some_words : (texts : List (List ℕ)) → AllByRecursion IsWord texts
+    → list_all is_word texts ≡ true
+all_some_words [] w = refl
+all_some_words (text ∷ texts) w =
+    ap (λ t. t && list_all is_word texts) (is_some_word text w.0) ∙ all_some_words texts w.1
+
+pieces_spaced : (first : List ℕ) (more : List (List ℕ)) → IsWord first
+    → AllByRecursion IsWord more → pieces 32 (first ++ spaced more) ≡ first ∷ more
+pieces_spaced first [] w ws = ap (pieces 32) (append-nil first) ∙ pieces_none 32 first w.1
+pieces_spaced first (next ∷ more) w ws =
+    pieces_cut 32 (first ++ 32 ∷ (next ++ spaced more)) first (next ++ spaced more) refl w.1
+    ∙ ap (λ l. first ∷ l) (pieces_spaced next more ws.0 ws.1)
+
+are_some_words : (texts : List (List ℕ)) → 0 < length texts → AllByRecursion IsWord texts
+    → are_words texts ≡ true
+are_some_words texts some w =
+    ap (λ t. t && list_all is_word texts) (lt-ltb 0 (length texts) some) ∙ all_some_words texts w
+
+-- of a verb with one name, and of one with two
+asks_one : (verb name : List ℕ) (asked : Asked) → IsWord name
+    → question_of_words (verb ∷ name ∷ []) ≡ cond (is_word name) (Some asked) None
+    → question_of_words (verb ∷ pieces 32 name) ≡ Some asked
+asks_one verb name asked w is =
+    ap (λ l. question_of_words (verb ∷ l)) (pieces_none 32 name w.1) ∙ is
+    ∙ ap (λ t. cond t (Some asked) None) (is_some_word name w)
+
+asks_two : (verb name last : List ℕ) (asked : Asked) → IsWord name × IsWord last
+    → question_of_words (verb ∷ name ∷ last ∷ [])
+    ≡ cond (is_word name && is_word last) (Some asked) None
+    → question_of_words (verb ∷ pieces 32 (name ++ 32 ∷ last)) ≡ Some asked
+asks_two verb name last asked w is =
+    ap (λ l. question_of_words (verb ∷ l))
+    (pieces_cut 32 (name ++ 32 ∷ last) name last refl w.0.1 ∙ ap (λ l. name ∷ l)
+    (pieces_none 32 last w.1.1))
+    ∙ is ∙ ap (λ t. cond (t && is_word last) (Some asked) None) (is_some_word name w.0)
+    ∙ ap (λ t. cond t (Some asked) None) (is_some_word last w.1)
+
+asks_all : (names : List (List ℕ)) → (0 < length names) × All IsWord names
+    → question_in (spelled (AsksUnloadAll names)) ≡ Some (AsksUnloadAll names)
+asks_all [] w = absurd (omega (arith, w.0))
+asks_all (name ∷ more) w =
+    let ws = recursion_from_All IsWord (name ∷ more) w.1 in
+    ap (λ l. question_of_words (codes "unloadall" ∷ l)) (pieces_spaced name more ws.0 ws.1)
+    ∙ ap (λ t. cond t (Some (AsksUnloadAll (name ∷ more)))
+    (question_of_few (codes "unloadall") (name ∷ more))) (are_some_words (name ∷ more) w.0 ws)
+
 asks : (question : Asked) → AreWords question → question_in (spelled question) ≡ Some question
-asks (AsksLoader name) words =
-    ap (λ l. question_of_words (codes "loader" ∷ l)) (pieces_none 32 name words.1) ∙ ap
-    (λ t. cond t (Some (AsksLoader name)) None) (is_some_word name words)
-asks (AsksUnload name) words =
-    ap (λ l. question_of_words (codes "unload" ∷ l)) (pieces_none 32 name words.1) ∙ ap
-    (λ t. cond t (Some (AsksUnload name)) None) (is_some_word name words)
-asks (AsksTighten name) words =
-    ap (λ l. question_of_words (codes "tighten" ∷ l)) (pieces_none 32 name words.1) ∙ ap
-    (λ t. cond t (Some (AsksTighten name)) None) (is_some_word name words)
-asks (AsksDefine loader digits) words =
-    ap (λ l. question_of_words (codes "define" ∷ l))
-    (pieces_cut 32 (loader ++ 32 ∷ digits) loader digits refl words.0.1 ∙ ap (λ l. loader ∷ l)
-    (pieces_none 32 digits words.1.1))
-    ∙ ap (λ t. cond (t && is_word digits) (Some (AsksDefine loader digits)) None)
-    (is_some_word loader words.0) ∙ ap (λ t. cond t (Some (AsksDefine loader digits)) None)
-    (is_some_word digits words.1)
-asks (AsksFind loader name) words =
-    ap (λ l. question_of_words (codes "find" ∷ l))
-    (pieces_cut 32 (loader ++ 32 ∷ name) loader name refl words.0.1 ∙ ap (λ l. loader ∷ l)
-    (pieces_none 32 name words.1.1))
-    ∙ ap (λ t. cond (t && is_word name) (Some (AsksFind loader name)) None)
-    (is_some_word loader words.0) ∙ ap (λ t. cond t (Some (AsksFind loader name)) None)
-    (is_some_word name words.1)
+asks (AsksLoader name) w = asks_one (codes "loader") name (AsksLoader name) w refl
+asks (AsksUnload name) w = asks_one (codes "unload") name (AsksUnload name) w refl
+asks (AsksTighten name) w = asks_one (codes "tighten") name (AsksTighten name) w refl
+asks (AsksDefine loader digits) w =
+    asks_two (codes "define") loader digits (AsksDefine loader digits) w refl
+asks (AsksFind loader name) w = asks_two (codes "find") loader name (AsksFind loader name) w refl
+asks (AsksUnloadAll names) w = asks_all names w
 
 pub one_spelling : OneSpelling
-unfolding IsSpelled
+unfolding IsSpelled IsClean
 one_spelling line question = (
   λ e. of_pieces (pieces 32 line) line question (join_with_byte-slice_split 32 line)
       (pieces_clean 32 line) e,

@@ -1,9 +1,9 @@
 -- The definitions computed on lines and scripts.
-use Rattle.std.proofs.Common.{◌≡◌, [], ◌∷◌, ◌++◌, Some, None, refl}
+use Rattle.std.proofs.Common.{◌≡◌, [], ◌∷◌, ◌++◌, Some, None, refl, replicate}
 use Rattle.std.specs.Prelude.{codes}
 use Rattle.cm_lines.specs.Escapes.{escaped, unescaped}
 use Rattle.cm_lines.specs.Lines.{question_in, lines_of, AsksLoader, AsksUnload, AsksTighten}
-use Rattle.cm_lines.specs.Lines.{AsksDefine, AsksFind}
+use Rattle.cm_lines.specs.Lines.{AsksDefine, AsksFind, AsksUnloadAll}
 
 -- ---- lines
 
@@ -22,6 +22,18 @@ asks_define = refl
 
 asks_find : question_in (codes "find app %c3%a9") ≡ Some (AsksFind (codes "app") (codes "%c3%a9"))
 asks_find = refl
+
+asks_unload_all : question_in (codes "unloadall app ext")
+    ≡ Some (AsksUnloadAll (codes "app" ∷ codes "ext" ∷ []))
+asks_unload_all = refl
+
+asks_unload_all_of_one : question_in (codes "unloadall app")
+    ≡ Some (AsksUnloadAll (codes "app" ∷ []))
+asks_unload_all_of_one = refl
+
+asks_unload_all_of_nine : question_in (codes "unloadall a a a a a a a a a")
+    ≡ Some (AsksUnloadAll (replicate 9 (codes "a")))
+asks_unload_all_of_nine = refl
 
 two_bytes_escaped : escaped (0xC3 ∷ 0xA9 ∷ []) ≡ codes "%C3%A9"
 two_bytes_escaped = refl
@@ -43,6 +55,18 @@ tighten_alone = refl
 
 tighten_of_two : question_in (codes "tighten a b") ≡ None
 tighten_of_two = refl
+
+unload_all_alone : question_in (codes "unloadall") ≡ None
+unload_all_alone = refl
+
+unload_all_of_nothing : question_in (codes "unloadall ") ≡ None
+unload_all_of_nothing = refl
+
+unload_all_with_two_spaces : question_in (codes "unloadall a  b") ≡ None
+unload_all_with_two_spaces = refl
+
+unload_all_with_space_behind : question_in (codes "unloadall a b ") ≡ None
+unload_all_with_space_behind = refl
 
 no_name : question_in (codes "loader ") ≡ None
 no_name = refl

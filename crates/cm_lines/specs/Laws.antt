@@ -4,7 +4,7 @@ use Rattle.std.specs.Prelude.{Some}
 use Rattle.std.specs.List.{All, flat_map}
 use Rattle.cm_lines.specs.Escapes.{escaped, unescaped, with_upper_digits}
 use Rattle.cm_lines.specs.Lines.{Asked, AsksLoader, AsksUnload, AsksTighten, AsksDefine, AsksFind}
-use Rattle.cm_lines.specs.Lines.{question_in, lines_of}
+use Rattle.cm_lines.specs.Lines.{AsksUnloadAll, question_in, lines_of}
 
 -- ---- lines
 
@@ -30,6 +30,7 @@ AreWords (AsksUnload name) = IsWord name
 AreWords (AsksTighten name) = IsWord name
 AreWords (AsksDefine loader digits) = IsWord loader × IsWord digits
 AreWords (AsksFind loader name) = IsWord loader × IsWord name
+AreWords (AsksUnloadAll names) = (0 < length names) × All IsWord names
 
 abbrev pub spelled : Asked → List ℕ
 spelled (AsksLoader name) = codes "loader " ++ name
@@ -37,6 +38,7 @@ spelled (AsksUnload name) = codes "unload " ++ name
 spelled (AsksTighten name) = codes "tighten " ++ name
 spelled (AsksDefine loader digits) = codes "define " ++ (loader ++ 32 ∷ digits)
 spelled (AsksFind loader name) = codes "find " ++ (loader ++ 32 ∷ name)
+spelled (AsksUnloadAll names) = codes "unloadall" ++ flat_map (λ name. 32 ∷ name) names
 
 -- A line asks for something exactly where it is spelled so, in words.
 abbrev pub OneSpelling : Type 0

@@ -1,7 +1,7 @@
 -- How a script is cut into lines, and which line asks for what.
 use Rattle.std.specs.Prelude.{ℕ, Bool, ◌&&◌, ◌==◌, nat_lt, if◌then◌else◌, List, [], ◌∷◌, length}
 use Rattle.std.specs.Prelude.{codes, Option, Some, None}
-use Rattle.std.specs.List.{slice_split}
+use Rattle.std.specs.List.{slice_split, list_all}
 use Rattle.std.specs.Str.{bytes_eq}
 use Rattle.cm_lines.specs.declared.line.Line.{Line}
 use Rattle.cm_lines.specs.declared.line.Line.TheVariants as line
@@ -34,26 +34,37 @@ pub data Asked : Type 0 where
   AsksTighten : List ℕ → Asked
   AsksDefine : List ℕ → List ℕ → Asked
   AsksFind : List ℕ → List ℕ → Asked
+  AsksUnloadAll : List (List ℕ) → Asked
 
 abbrev pub is_word : List ℕ → Bool
 is_word text = nat_lt 0 (length text)
 
--- of the words that the line consists of
-abbrev pub question_of_words : List (List ℕ) → Option Asked
-question_of_words [] = None
-question_of_words (verb ∷ []) = None
-question_of_words (verb ∷ name ∷ []) =
+-- one or more
+abbrev pub are_words : List (List ℕ) → Bool
+are_words texts = nat_lt 0 (length texts) && list_all is_word texts
+
+-- of a verb and the words behind it, where the verb wants one or two
+abbrev pub question_of_few : List ℕ → List (List ℕ) → Option Asked
+question_of_few verb [] = None
+question_of_few verb (name ∷ []) =
     if bytes_eq verb (codes "loader") && is_word name then Some (AsksLoader name)
     else if bytes_eq verb (codes "unload") && is_word name then Some (AsksUnload name)
     else if bytes_eq verb (codes "tighten") && is_word name then Some (AsksTighten name)
     else None
-question_of_words (verb ∷ name ∷ last ∷ []) =
+question_of_few verb (name ∷ last ∷ []) =
     if bytes_eq verb (codes "define") && (is_word name && is_word last)
     then Some (AsksDefine name last)
     else if bytes_eq verb (codes "find") && (is_word name && is_word last)
     then Some (AsksFind name last)
     else None
-question_of_words (verb ∷ name ∷ last ∷ further ∷ more) = None
+question_of_few verb (name ∷ last ∷ further ∷ more) = None
+
+-- of the words that the line consists of
+abbrev pub question_of_words : List (List ℕ) → Option Asked
+question_of_words [] = None
+question_of_words (verb ∷ words) =
+    if bytes_eq verb (codes "unloadall") && are_words words then Some (AsksUnloadAll words)
+    else question_of_few verb words
 
 -- Words are separated by exactly one space, and none is empty.
 abbrev pub question_in : List ℕ → Option Asked
@@ -70,3 +81,4 @@ seen (line.Unload name) = AsksUnload name.now
 seen (line.Tighten name) = AsksTighten name.now
 seen (line.Define loader digits) = AsksDefine loader.now digits.now
 seen (line.Find loader class) = AsksFind loader.now class.now
+seen (line.UnloadAll names) = AsksUnloadAll (pieces 32 names.now)

@@ -18,6 +18,6 @@ pub use laws::{
     lines_make_the_script, names_have_one_spelling, questions_have_one_spelling,
     unescaping_undoes_escaping,
 };
-pub use line::{Line, parse};
+pub use line::{Line, are_words, parse};
 pub use line_buffer::{LINE_LIMIT, LineBuffer};
 pub use output::write_line;

@@ -2,7 +2,7 @@
 
 ghost use Rattle.std.specs.Prelude.{◌≡◌, [], ◌∷◌};
 ghost use Rattle.std.specs.Option.{option_map};
-ghost use Rattle.cm_lines.specs.Lines.{question_in, question_of_words, seen};
+ghost use Rattle.cm_lines.specs.Lines.{pieces, are_words, question_in, question_of_few, seen};
 
 use crate::cutting::cut;
 
@@ -19,6 +19,8 @@ pub enum Line<'a> {
     Define(&'a [u8], &'a [u8]),
     /// `find NAME CLASS`
     Find(&'a [u8], &'a [u8]),
+    /// `unloadall NAME NAME ..`: the names as they stand in the line, with one space between.
+    UnloadAll(&'a [u8]),
 }
 
 /// What a line asks for, if it has one of the known forms: words with one space between, none
@@ -26,9 +28,27 @@ pub enum Line<'a> {
 pub fn parse(line: &[u8]) -> Option<Line<'_>>
     ensures { option_map seen result ≡ question_in line.now }
 {
-    let (verb, rest) = cut(line, b' ')?;
-    match cut(rest, b' ') {
-        None => of_one_name(verb, rest),
+    let (verb, words) = cut(line, b' ')?;
+    if verb == b"unloadall".as_slice() && are_words(words) {
+        Some(Line::UnloadAll(words))
+    } else {
+        of_few_words(verb, words)
+    }
+}
+
+/// Whether a text is words with one space between, none empty.
+pub fn are_words(text: &[u8]) -> bool
+    ensures { result ≡ are_words (pieces 32 text.now) }
+{
+    text.split(|byte| *byte == b' ')
+        .all(|word| !word.is_empty())
+}
+
+fn of_few_words<'a>(verb: &[u8], words: &'a [u8]) -> Option<Line<'a>>
+    ensures { option_map seen result ≡ question_of_few verb.now (pieces 32 words.now) }
+{
+    match cut(words, b' ') {
+        None => of_one_name(verb, words),
         Some((name, last)) => match cut(last, b' ') {
             None => of_two_names(verb, name, last),
             Some(_) => None,
@@ -37,7 +57,7 @@ pub fn parse(line: &[u8]) -> Option<Line<'_>>
 }
 
 fn of_one_name<'a>(verb: &[u8], name: &'a [u8]) -> Option<Line<'a>>
-    ensures { option_map seen result ≡ question_of_words (verb.now ∷ name.now ∷ []) }
+    ensures { option_map seen result ≡ question_of_few verb.now (name.now ∷ []) }
 {
     if name.is_empty() {
         None
@@ -53,7 +73,7 @@ fn of_one_name<'a>(verb: &[u8], name: &'a [u8]) -> Option<Line<'a>>
 }
 
 fn of_two_names<'a>(verb: &[u8], name: &'a [u8], last: &'a [u8]) -> Option<Line<'a>>
-    ensures { option_map seen result ≡ question_of_words (verb.now ∷ name.now ∷ last.now ∷ []) }
+    ensures { option_map seen result ≡ question_of_few verb.now (name.now ∷ last.now ∷ []) }
 {
     if name.is_empty() || last.is_empty() {
         None

@@ -25,7 +25,7 @@ use Rattle.cm_layout.specs.Rules.{is_last_chunk, is_unused}
 use Rattle.cm_layout.specs.Frames.{AreApart}
 use Rattle.cm_layout.proofs.{classes-bare, apart-unused}
 use Rattle.cm_group.specs.Groups.{Carried, Handed, slots_taken, group_limit}
-use Rattle.cm_space.specs.Space.{SpaceState, Waits, arena_of}
+use Rattle.cm_space.specs.Space.{SpaceState, Waits, arena_of, left_by, left_by_all}
 use Rattle.cm_space.specs.Laws.{OwnedIsUsed, OwnedOrWaiting}
 use Rattle.cm_state.specs.State.{words_show}
 use Rattle.cm_state.specs.Entries.{MayFollow}
@@ -57,6 +57,7 @@ has_records s (entry.Live (Loader r)) may = (tt, refl)
 has_records s (entry.Live (Class r words)) may = (may.new.1, refl)
 has_records s (entry.Unload e) may = (tt, refl)
 has_records s (entry.Move e) may = (tt, refl)
+has_records s (entry.UnloadAll e) may = (tt, refl)
 
 joined_last : (n : ℕ) (groups : List Handed) (c : Carried)
     → flat_map (λ (g : Handed). g.entries) (joined_by n groups c)
@@ -130,6 +131,12 @@ left_pool : (s : FrontState) (e : Move) (new : SpaceState) → SpaceAfter s (ent
     → new.pool ≡ without s.space.pool e.to
 left_pool s e new after = ap (λ (t : SpaceState). t.pool) after.after ∙ after.tightens.left_is
 
+-- loaders that leave take no words
+pool_left : (s : SpaceState) (number : ℕ) (us : List ℕ)
+    → (left_by_all s number us).pool ≡ s.pool
+pool_left s number [] = refl
+pool_left s number (u ∷ us) = pool_left (left_by s number u) number us
+
 -- words that weren't free aren't free after it
 used_kept : TakenIsHeld → RootsKeepHeld → (s : FrontState) (e : Entry (List ℕ)) (new : SpaceState)
     → SpaceAfter s e new → (d : Chunk) → IsUsedChunk s.space.pool d → IsUsedChunk new.pool d
@@ -148,6 +155,9 @@ used_kept held roots s (entry.Unload e) new after d used =
 used_kept held roots s (entry.Move e) new after d used =
     subst (λ p. IsUsedChunk p d) (sym (left_pool s e new after))
     (used_without held s.space.pool e.to d after.tightens.may.first.free used)
+used_kept held roots s (entry.UnloadAll e) new after d used =
+    subst (λ p. IsUsedChunk p d)
+    (sym (ap (λ (t : SpaceState). t.pool) after ∙ pool_left s.space (s.number + 1) e.loaders)) used
 
 among_last : (ws : List Waits) (v w : Waits) → Among w (ws ++ v ∷ []) → Among w ws ⊎ (w ≡ v)
 among_last [] v w (inl e) = inr e
@@ -168,6 +178,14 @@ one_later number waiting chunks k at to none w c among small in_w r in_rows =
           absurd (omega (arith, later, small, to))
     ]
 
+all_later : (number : ℕ) (us : List ℕ) (s : SpaceState) (k : ℕ) (at : WordRows)
+    → k ≤ number → UseNoneDue s.waiting k at
+    → UseNoneDue (left_by_all s (number + 1) us).waiting k at
+all_later number [] s k at to none = none
+all_later number (u ∷ us) s k at to none =
+    all_later number us (left_by s (number + 1) u) k at to
+    (one_later number s.waiting (chunks_of (arena_of s u)) k at to none)
+
 -- what waits, waits for no number that earlier rows have, but for what waited before
 due_kept : (s : FrontState) (e : Entry (List ℕ)) (new : SpaceState) → SpaceAfter s e new → (k : ℕ)
     (at : WordRows) → k ≤ s.number → UseNoneDue s.space.waiting k at → UseNoneDue new.waiting k at
@@ -182,6 +200,9 @@ due_kept s (entry.Unload e) new after k at to none =
 due_kept s (entry.Move e) new after k at to none =
     subst (λ (t : SpaceState). UseNoneDue t.waiting k at) (sym after.after)
     (one_later s.number s.space.waiting (e.from ∷ []) k at to none)
+due_kept s (entry.UnloadAll e) new after k at to none =
+    subst (λ (t : SpaceState). UseNoneDue t.waiting k at) (sym after)
+    (all_later s.number e.loaders s.space k at to none)
 
 -- ---- apart from all rows before
 
@@ -230,6 +251,9 @@ entry_apart known rows number out s (entry.Move e) new f a after =
     (λ k at h. apart-unused e.to (classes_in at) (λ d m.
     free-apart s.space.pool e.to d.place.chunk after.tightens.may.first.free (h d m)))
     a.used
+entry_apart known rows number out s (entry.UnloadAll e) new f a after =
+    at_all (λ n at. AreUsed s.space.pool at) (λ k at. true ≡ true) number rows (pending out s)
+    (λ k at h. refl) a.used
 
 -- ---- one command more
 

@@ -3,7 +3,8 @@
 use Rattle.std.proofs.Common.{◌≡◌, ℕ, Bool, true, false, cond, List, [], ◌∷◌, length}
 use Rattle.std.proofs.Common.{Option, Some, None, Result, Ok, Err, refl, sym, ap}
 use Rattle.std.proofs.Common.{◌∙◌, is_some, eqb}
-use Rattle.std.specs.Prelude.{not, nat_lt}
+use Rattle.std.specs.Prelude.{not, nat_lt, ◌&&◌}
+use Rattle.std.specs.List.{list_all}
 use Rattle.std.specs.Option.{option_map, option_and_then}
 use Rattle.std.specs.FinMap.{get}
 use Rattle.cm_class.specs.declared.class_file.ClassFile.{ClassFile}
@@ -17,9 +18,10 @@ use Rattle.cm_layout.specs.Rows.{number_of, rows_with}
 use Rattle.cm_layout.specs.Rules.{is_too_much}
 use Rattle.cm_layout.proofs.{slots_of-with}
 use Rattle.cm_state.specs.State.{class_shows, words_show, class_in, class_among, state_of}
-use Rattle.cm_state.specs.Step.{Change, AddLoader, Define, Unload, Tighten, Cause, step, is_full}
+use Rattle.cm_state.specs.Step.{Change, AddLoader, Define, Unload, Tighten, UnloadAll, Cause}
+use Rattle.cm_state.specs.Step.{step, is_full}
 use Rattle.cm_state.specs.Step.{BadName, NumbersSpent, LoaderExists, NoLoader, ClassExists}
-use Rattle.cm_state.specs.Step.{RecordTooLong, JournalFull, last_number}
+use Rattle.cm_state.specs.Step.{RecordTooLong, JournalFull, BadList, last_number, is_list}
 use Rattle.cm_state.specs.Entries.{AreCacheRows}
 use Rattle.cm_state.specs.Laws.{LoadersAreFound, ClassesAreFound, SizesAgree}
 use Rattle.cm_machine.specs.Machine.{Asks}
@@ -80,6 +82,14 @@ loader_cause m true true there = refl
 loader_cause m true false false = refl
 loader_cause m true false true = refl
 
+list_cause : {M : Type 0} (m : M) (list name spent there : Bool)
+    → cause_in (cond (not list) (Err BadList) (cond (not name) (Err BadName)
+    (cond spent (Err NumbersSpent) (cond (not there) (Err NoLoader) (Ok m)))))
+    ≡ first_of ((not list, BadList) ∷ (not name, BadName) ∷ (spent, NumbersSpent)
+    ∷ (not there, NoLoader) ∷ [])
+list_cause m false name spent there = refl
+list_cause m true name spent there = loader_cause m name spent there
+
 -- ---- the same tests
 
 -- rows with classes and with words
@@ -94,6 +104,13 @@ same_loader : Known → (rows : ClassRows) (x : List ℕ)
 same_loader known rows x =
     known.word_loaders words_show (rows_with lay rows) x
     ∙ (ap is_some (number_words x rows) ∙ sym (known.loaders class_shows rows x))
+
+same_loaders : Known → (rows : ClassRows) (xs : List (List ℕ))
+    → list_all (λ x. is_some (get (state_of words_show (rows_with lay rows)) x)) xs
+    ≡ list_all (λ x. is_some (get (state_of class_shows rows) x)) xs
+same_loaders known rows [] = refl
+same_loaders known rows (x ∷ xs) =
+    (λ i. same_loader known rows x i && same_loaders known rows xs i)
 
 pub some_mapped : {A B : Type 0} (f : A → B) (o : Option A) → is_some (option_map f o) ≡ is_some o
 some_mapped f None = refl
@@ -197,4 +214,12 @@ same_cause known sizes n rows (Tighten x) change both asks =
     ∷ (not t, NoLoader) ∷ [])) (same_loader known rows x)
     ∙ (sym (loader_cause _ (is_loader_name x) (eqb n last_number)
     (is_some (get (state_of class_shows rows) x)))
+    ∙ ap (λ c. cause_in (step class_shows sizes (state_of class_shows rows) n c)) (sym asks)))
+same_cause known sizes n rows (UnloadAll xs) change both asks =
+    list_cause _ (is_list xs) (list_all is_loader_name xs) (eqb n last_number)
+    (list_all (λ x. is_some (get (state_of words_show (rows_with lay rows)) x)) xs)
+    ∙ (ap (λ t. first_of ((not (is_list xs), BadList) ∷ (not (list_all is_loader_name xs), BadName)
+    ∷ (eqb n last_number, NumbersSpent) ∷ (not t, NoLoader) ∷ [])) (same_loaders known rows xs)
+    ∙ (sym (list_cause _ (is_list xs) (list_all is_loader_name xs) (eqb n last_number)
+    (list_all (λ x. is_some (get (state_of class_shows rows) x)) xs))
     ∙ ap (λ c. cause_in (step class_shows sizes (state_of class_shows rows) n c)) (sym asks)))

@@ -3,7 +3,7 @@
 use Rattle.std.proofs.Common.{◌≡◌, ℕ, ◌+◌, Bool, true, false, cond, List, [], ◌∷◌, ◌++◌}
 use Rattle.std.proofs.Common.{Option, Some, None, refl, sym, ap, ◌∙◌, eqb}
 use Rattle.std.specs.Prelude.{◌&&◌, not}
-use Rattle.std.specs.Option.{option_map}
+use Rattle.std.specs.Option.{option_map, option_and_then}
 use Rattle.std.specs.Str.{bytes_eq}
 use Rattle.std.proofs.lemmas.List.{map-append}
 use Rattle.cm_class.specs.declared.class_file.ClassFile.{ClassFile}
@@ -18,13 +18,14 @@ use Rattle.cm_layout.specs.declared.row.Row.TheVariants.{Loader, Class}
 use Rattle.cm_layout.specs.declared.entry.Entry.{Entry}
 use Rattle.cm_layout.specs.declared.entry.Entry.TheVariants as entry
 use Rattle.cm_layout.specs.Slots.{FitsEntry}
-use Rattle.cm_layout.specs.Rows.{name_of, number_of, rows_after, without_loader, moved, bare}
+use Rattle.cm_layout.specs.Rows.{name_of, number_of, rows_after, without_loader, bare}
+use Rattle.cm_layout.specs.Rows.{without_loaders, moved}
 use Rattle.cm_layout.specs.Rows.{row_with, rows_with, entry_with}
 use Rattle.cm_layout.specs.Rules.{broken_rule}
 use Rattle.cm_layout.specs.Frames.{bare_entry}
 use Rattle.cm_layout.proofs.{rule-bare}
 use Rattle.cm_state.specs.State.{class_shows, words_show, class_among}
-use Rattle.cm_state.specs.Entries.{MayFollow, IsNewClass}
+use Rattle.cm_state.specs.Entries.{MayFollow, IsNewClass, names_of}
 use Rattle.cm_machine.specs.Machine.{IsRight}
 use Rattle.cm_machine.specs.Following.{AreRight, IsRightEntry}
 
@@ -52,6 +53,7 @@ bare_entry_words (entry.Live (Loader r)) = refl
 bare_entry_words (entry.Live (Class r c)) = refl
 bare_entry_words (entry.Unload e) = refl
 bare_entry_words (entry.Move e) = refl
+bare_entry_words (entry.UnloadAll e) = refl
 
 rule_words : (sizes : Sizes) (rows : ClassRows) (n : ℕ) (e : Entry ClassFile)
     → broken_rule sizes (rows_with lay rows) n (entry_with lay e) ≡ broken_rule sizes rows n e
@@ -65,11 +67,19 @@ fits_words (entry.Live (Loader r)) f = f
 fits_words (entry.Live (Class r c)) f = f
 fits_words (entry.Unload e) f = f
 fits_words (entry.Move e) f = f
+fits_words (entry.UnloadAll e) f = f
 
 pub name_words : (u : ℕ) (rows : ClassRows) → name_of u (rows_with lay rows) ≡ name_of u rows
 name_words u [] = refl
 name_words u (Loader r ∷ rows) = ap (cond (eqb r.number u) (Some r.name)) (name_words u rows)
 name_words u (Class r c ∷ rows) = name_words u rows
+
+pub names_words : (us : List ℕ) (rows : ClassRows)
+    → names_of (rows_with lay rows) us ≡ names_of rows us
+names_words [] rows = refl
+names_words (u ∷ us) rows =
+    (λ i. option_and_then (λ x. option_map (λ xs. x ∷ xs) (names_words us rows i))
+    (name_words u rows i))
 
 pub number_words : (x : List ℕ) (rows : ClassRows)
     → number_of x (rows_with lay rows) ≡ number_of x rows
@@ -102,6 +112,12 @@ without_words u (Class r c ∷ rows) = by_test (eqb r.loader u) (without_words u
     by_test true rest = rest
     by_test false rest = ap (λ l. Class r (lay c) ∷ l) rest
 
+without_all_words : (us : List ℕ) (rows : ClassRows)
+    → rows_with lay (without_loaders us rows) ≡ without_loaders us (rows_with lay rows)
+without_all_words [] rows = refl
+without_all_words (u ∷ us) rows =
+    without_all_words us (without_loader u rows) ∙ ap (without_loaders us) (without_words u rows)
+
 moved_words : (from to : Chunk) (rows : ClassRows)
     → rows_with lay (moved from to rows) ≡ moved from to (rows_with lay rows)
 moved_words from to [] = refl
@@ -126,6 +142,28 @@ after_words rows (entry.Live row) =
     map-append (λ (r : Row ClassFile). row_with lay r) rows (row ∷ [])
 after_words rows (entry.Unload e) = without_words e.loader rows
 after_words rows (entry.Move e) = moved_words e.from e.to rows
+after_words rows (entry.UnloadAll e) = without_all_words e.loaders rows
+
+right_without : (u : ℕ) (rows : ClassRows) → AreRight rows → AreRight (without_loader u rows)
+right_without u [] r = tt
+right_without u (Loader l ∷ rows) r = by_test (eqb l.number u) (right_without u rows r)
+  where
+    by_test : (t : Bool) → AreRight (without_loader u rows)
+        → AreRight (cond (not t) (Loader l ∷ without_loader u rows) (without_loader u rows))
+    by_test true rest = rest
+    by_test false rest = rest
+right_without u (Class l c ∷ rows) r = by_test (eqb l.loader u) (right_without u rows r.1)
+  where
+    by_test : (t : Bool) → AreRight (without_loader u rows)
+        → AreRight (cond (not t) (Class l c ∷ without_loader u rows) (without_loader u rows))
+    by_test true rest = rest
+    by_test false rest = (r.0, rest)
+
+right_without_all : (us : List ℕ) (rows : ClassRows) → AreRight rows
+    → AreRight (without_loaders us rows)
+right_without_all [] rows r = r
+right_without_all (u ∷ us) rows r =
+    right_without_all us (without_loader u rows) (right_without u rows r)
 
 pub right_after : (rows : ClassRows) (e : Entry ClassFile) → AreRight rows → IsRightEntry e
     → AreRight (rows_after rows e)
@@ -139,24 +177,8 @@ right_after rows (entry.Live row) r is = more rows r
     more [] r = one row is
     more (Loader l ∷ rows) r = more rows r
     more (Class l c ∷ rows) r = (r.0, more rows r.1)
-right_after rows (entry.Unload e) r is = left rows r
-  where
-    left : (rows : ClassRows) → AreRight rows → AreRight (without_loader e.loader rows)
-    left [] r = tt
-    left (Loader l ∷ rows) r = by_test (eqb l.number e.loader) (left rows r)
-      where
-        by_test : (t : Bool) → AreRight (without_loader e.loader rows)
-            → AreRight (cond (not t) (Loader l ∷ without_loader e.loader rows)
-            (without_loader e.loader rows))
-        by_test true rest = rest
-        by_test false rest = rest
-    left (Class l c ∷ rows) r = by_test (eqb l.loader e.loader) (left rows r.1)
-      where
-        by_test : (t : Bool) → AreRight (without_loader e.loader rows)
-            → AreRight (cond (not t) (Class l c ∷ without_loader e.loader rows)
-            (without_loader e.loader rows))
-        by_test true rest = rest
-        by_test false rest = (r.0, rest)
+right_after rows (entry.Unload e) r is = right_without e.loader rows r
+right_after rows (entry.UnloadAll e) r is = right_without_all e.loaders rows r
 right_after rows (entry.Move e) r is = stay rows r
   where
     stay : (rows : ClassRows) → AreRight rows → AreRight (moved e.from e.to rows)
@@ -208,6 +230,7 @@ new_words tell rows (entry.Live (Class r c)) right is new = (
 )
 new_words tell rows (entry.Unload e) right is new = tt
 new_words tell rows (entry.Move e) right is new = tt
+new_words tell rows (entry.UnloadAll e) right is new = tt
 
 -- an entry that may follow by the words of records may follow by classes
 pub may_follow : TellName → (sizes : Sizes) (n : ℕ) (rows : ClassRows) (e : Entry ClassFile)

@@ -22,8 +22,8 @@ use Rattle.cm_prepare.specs.declared.refusal.Refusal.TheVariants as refusal
 use Rattle.cm_prepare.specs.Refusals.{refusal_of}
 use Rattle.cm_space.specs.Space.{SpaceState}
 use Rattle.cm_state.specs.State.{CacheState, Loaders, class_shows, words_show, class_in, state_of}
-use Rattle.cm_state.specs.Step.{Change, AddLoader, Define, Unload, Tighten, Cause, step}
-use Rattle.cm_state.specs.Entries.{AreCacheRows, MayFollow, change_of}
+use Rattle.cm_state.specs.Step.{Change, AddLoader, Define, Unload, Tighten, UnloadAll, Cause, step}
+use Rattle.cm_state.specs.Entries.{AreCacheRows, MayFollow, change_of, names_of}
 use Rattle.cm_state.specs.Laws.{EntriesAreSteps, ChangesGoOn}
 use Rattle.cm_commit.specs.Offers.{filled}
 use Rattle.cm_front.specs.Front.{FrontState, IsFront, first_refusal}
@@ -36,7 +36,7 @@ use Rattle.cm_machine.specs.Machine.{IsReason as IsMachineReason, Accepts as Mac
 use Rattle.cm_machine.specs.Following.{IsRightEntry, Make, Follows}
 use Rattle.cm_machine.specs.Laws.{FollowsFront, IsAccepted, AcceptedIsMade, RefusedIsRefused}
 use Rattle.cm_machine.specs.Laws.{FoundIsThere, CommandsAreCounted, RowsAreAfter, OpenedFollows}
-use Rattle.cm_machine.proofs.Classes.{ClassRows, name_words, may_follow}
+use Rattle.cm_machine.proofs.Classes.{ClassRows, name_words, names_words, may_follow}
 use Rattle.cm_machine.proofs.Causes.{Known, Both, cause_in, same_cause, same_class}
 use Rattle.cm_machine.proofs.Making.{Whole, whole, make_two, map_length}
 
@@ -68,6 +68,12 @@ record IsEntryOf (rows : ClassRows) (e : Entry (List ℕ)) (change : Change Clas
   words : entry_with lay with_class ≡ e
   right : IsRightEntry with_class
   makes : change_of rows with_class ≡ Some change
+
+-- what a change that is made of something found is made of
+asked_by : {X : Type 0} (made : X → Change (List ℕ)) (o : Option X) (asked : Change (List ℕ))
+    → option_map made o ≡ Some asked → (x : X) × (o ≡ Some x) × (asked ≡ made x)
+asked_by made None asked h = absurd (cc)
+asked_by made (Some x) asked h = (x, refl, sym (some_is _ _ h))
 
 entry_of : (s : FrontState) (rows : ClassRows) (e : Entry (List ℕ)) (space : SpaceState)
     (asked : Change (List ℕ)) (change : Change ClassFile) → rows_with lay rows ≡ s.rows
@@ -101,41 +107,38 @@ entry_of s rows (entry.Live (Class r words)) space asked change are is after ask
               ∙ ap Some (sym class.3);
         }
 entry_of s rows (entry.Unload u) space asked change are is after asks =
-    by_name (name_of u.loader s.rows) refl is
-  where
-    by_name : (o : Option (List ℕ)) → name_of u.loader s.rows ≡ o
-        → ◌≡◌ {A = Option (Change (List ℕ))} (option_map Unload o) (Some asked)
-        → IsEntryOf rows (entry.Unload u) change
-    by_name None e h = absurd (cc)
-    by_name (Some x) e h =
-        let same : asked ≡ Unload x = sym (some_is _ _ h) in
-        record {
-          with_class = entry.Unload u;
-          words = refl;
-          right = tt;
-          makes =
-              ap (option_map Unload)
-              (sym (name_words u.loader rows) ∙ (ap (name_of u.loader) are ∙ e))
-              ∙ ap Some (sym (subst (λ a. Asks a change) same asks));
-        }
+    let found = asked_by Unload (name_of u.loader s.rows) asked is in
+    record {
+      with_class = entry.Unload u;
+      words = refl;
+      right = tt;
+      makes =
+          ap (option_map Unload)
+          (sym (name_words u.loader rows) ∙ (ap (name_of u.loader) are ∙ found.1))
+          ∙ ap Some (sym (subst (λ a. Asks a change) found.2 asks));
+    }
 entry_of s rows (entry.Move m) space asked change are is after asks =
-    by_name (name_of m.loader s.rows) refl is
-  where
-    by_name : (o : Option (List ℕ)) → name_of m.loader s.rows ≡ o
-        → ◌≡◌ {A = Option (Change (List ℕ))} (option_map Tighten o) (Some asked)
-        → IsEntryOf rows (entry.Move m) change
-    by_name None e h = absurd (cc)
-    by_name (Some x) e h =
-        let same : asked ≡ Tighten x = sym (some_is _ _ h) in
-        record {
-          with_class = entry.Move m;
-          words = refl;
-          right = tt;
-          makes =
-              ap (option_map Tighten)
-              (sym (name_words m.loader rows) ∙ (ap (name_of m.loader) are ∙ e))
-              ∙ ap Some (sym (subst (λ a. Asks a change) same asks));
-        }
+    let found = asked_by Tighten (name_of m.loader s.rows) asked is in
+    record {
+      with_class = entry.Move m;
+      words = refl;
+      right = tt;
+      makes =
+          ap (option_map Tighten)
+          (sym (name_words m.loader rows) ∙ (ap (name_of m.loader) are ∙ found.1))
+          ∙ ap Some (sym (subst (λ a. Asks a change) found.2 asks));
+    }
+entry_of s rows (entry.UnloadAll u) space asked change are is after asks =
+    let found = asked_by UnloadAll (names_of s.rows u.loaders) asked is in
+    record {
+      with_class = entry.UnloadAll u;
+      words = refl;
+      right = tt;
+      makes =
+          ap (option_map UnloadAll)
+          (sym (names_words u.loaders rows) ∙ (ap (λ l. names_of l u.loaders) are ∙ found.1))
+          ∙ ap Some (sym (subst (λ a. Asks a change) found.2 asks));
+    }
 
 module _ (known : Known) (steps : EntriesAreSteps ClassFile) (on : ChangesGoOn) (k : Machine)
     (rows : List (Row (List ℕ))) (number : ℕ) (out : List Carried) (s new : FrontState)
@@ -301,6 +304,9 @@ wants_room s (Define x words) change r asks (inr memory) =
     subst (λ c. WantsRoom c r) (sym asks.3) (inr memory.0)
 wants_room s (Unload x) change r asks (inl none) = absurd none.1
 wants_room s (Unload x) change r asks (inr memory) =
+    subst (λ c. WantsRoom c r) (sym asks) memory.0
+wants_room s (UnloadAll xs) change r asks (inl none) = absurd none.1
+wants_room s (UnloadAll xs) change r asks (inr memory) =
     subst (λ c. WantsRoom c r) (sym asks) memory.0
 wants_room s (Tighten x) change r asks (inl none) =
     subst (λ c. WantsRoom c r) (sym asks) (inl none.0)

@@ -17,14 +17,14 @@ use Rattle.cm_pool.specs.Geometry.{Sizes}
 use Rattle.cm_pool.specs.declared.chunk.Chunk.{Chunk}
 use Rattle.cm_pool.specs.Chunks.{chunk_size, same_chunk, Meets}
 use Rattle.cm_pool.specs.Lists.{Among}
-use Rattle.cm_pool.proofs.{same_chunk-true, same_chunk-itself, meets-itself}
+use Rattle.cm_pool.proofs.{same_chunk-true, same_chunk-itself, meets-itself, among-filter_from}
 use Rattle.cm_layout.specs.declared.class_row.ClassRow.{ClassRow}
 use Rattle.cm_layout.specs.declared.row.Row.TheVariants.{Loader, Class}
 use Rattle.cm_layout.specs.declared.entry.Entry.{Entry}
 use Rattle.cm_layout.specs.declared.entry.Entry.TheVariants as entry
 use Rattle.cm_layout.specs.declared.relocation.Move.{Move}
 use Rattle.cm_layout.specs.Rows.{classes_in, last_chunk, used_words, rows_after, without_loader}
-use Rattle.cm_layout.specs.Rows.{moved}
+use Rattle.cm_layout.specs.Rows.{without_loaders, moved}
 use Rattle.cm_layout.specs.Rules.{is_unused, is_last_chunk, has_place, class_fits, is_chunk}
 use Rattle.cm_layout.specs.Rules.{broken_of}
 use Rattle.cm_layout.specs.Rules.{is_live, has_room}
@@ -346,6 +346,22 @@ grown_unload old now u g apart = record {
           | inr last ↦ let to = last.1 in inr (last.0, omega (arith, to, stay))
         ]
 
+-- without a loader chunks stay apart
+apart_left : (u : ℕ) (now : WordRows) → AreApart (classes_in now)
+    → AreApart (classes_in (without_loader u now))
+apart_left u now apart r s in_r in_s meet =
+    let among = λ (d : ClassRow) (m : Among d (classes_in (without_loader u now))).
+    (among-filter_from (λ (c : ClassRow). not (eqb c.loader u)) d (classes_in now)
+    (subst (λ (l : List ClassRow). Among d l) (classes_left u now) m)).0 in
+    apart r s (among r in_r) (among s in_s) meet
+
+grown_unload_all : (old : WordRows) (us : List ℕ) (now : WordRows) → IsGrown old now
+    → AreApart (classes_in now) → IsGrown old (without_loaders us now)
+grown_unload_all old [] now g apart = g
+grown_unload_all old (u ∷ us) now g apart =
+    grown_unload_all old us (without_loader u now) (grown_unload old now u g apart)
+    (apart_left u now apart)
+
 -- ---- a move
 
 used_moved : (c from to : Chunk) (now : WordRows) → same_chunk from c ≡ false
@@ -430,6 +446,8 @@ grown_entry sizes n old now (entry.Live (Class r words)) g are may apart =
     (may_go old r apart)
 grown_entry sizes n old now (entry.Unload e) g are may apart =
     grown_unload old now e.loader g are.apart
+grown_entry sizes n old now (entry.UnloadAll e) g are may apart =
+    grown_unload_all old e.loaders now g are.apart
 grown_entry sizes n old now (entry.Move e) g are may apart =
     let kept : MoveKeeps sizes now e = keeps-move sizes now e may.keeps in
     grown_move old now e g kept.unused apart

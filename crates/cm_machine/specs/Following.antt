@@ -25,6 +25,7 @@ IsRightEntry (entry.Live (Loader r)) = Unit {0}
 IsRightEntry (entry.Live (Class r c)) = IsRight c
 IsRightEntry (entry.Unload e) = Unit {0}
 IsRightEntry (entry.Move e) = Unit {0}
+IsRightEntry (entry.UnloadAll e) = Unit {0}
 
 -- rows with classes that are right, known by the words of their records
 pub record AreClasses (sizes : Sizes) (number : ℕ) (rows : List (Row (List ℕ)))

@@ -12,7 +12,7 @@ use Rattle.cm_prepare.specs.declared.refusal.Refusal.TheVariants as refusal
 use Rattle.cm_prepare.specs.Refusals.{refusal_of}
 use Rattle.cm_rules.specs.Keeps.{KeepsRules}
 use Rattle.cm_state.specs.State.{CacheState, class_shows}
-use Rattle.cm_state.specs.Step.{Change, AddLoader, Define, Unload, Tighten, Cause, step}
+use Rattle.cm_state.specs.Step.{Change, AddLoader, Define, Unload, Tighten, UnloadAll, Cause, step}
 use Rattle.cm_state.specs.Fold.{fold}
 
 -- what the cache held before the first command, and the number of the last one before that
@@ -74,6 +74,7 @@ Asks (Define x words) change =
     (c : ClassFile) × IsRight c × (lay c ≡ words) × (change ≡ Define x c)
 Asks (Unload x) change = change ≡ Unload x
 Asks (Tighten x) change = change ≡ Tighten x
+Asks (UnloadAll xs) change = change ≡ UnloadAll xs
 
 -- It is accepted with the next number, where no cause stands against it.
 pub record Accepts (sizes : Sizes) (k : Machine) (change : Change ClassFile) (number : ℕ)
@@ -92,6 +93,7 @@ WantsRoom (AddLoader x) r = r ≡ refusal.NoMemory
 WantsRoom (Define x c) r = (r ≡ refusal.RegionFull) ⊎ (r ≡ refusal.NoMemory)
 WantsRoom (Unload x) r = r ≡ refusal.NoMemory
 WantsRoom (Tighten x) r = (r ≡ refusal.NoMove) ⊎ (r ≡ refusal.NoMemory)
+WantsRoom (UnloadAll xs) r = r ≡ refusal.NoMemory
 
 abbrev pub IsReason : Result CacheState Cause → Change ClassFile → Refusal → Type 0
 IsReason (Err cause) change r = r ≡ refusal_of cause

@@ -103,7 +103,7 @@ fn apply_command<'a>(alloc: Global) -> Result<Command<'a>, AllocError> {
     Command::new(alloc, APPLY)
         .about(
             "Run a script from standard input: lines `loader NAME`, `unload NAME`, \
-             `tighten NAME`, `define NAME HEX`, `find NAME CLASS`",
+             `unloadall NAME NAME ..`, `tighten NAME`, `define NAME HEX`, `find NAME CLASS`",
         )
         .arg(file)?
         .arg(memory)?

@@ -2,7 +2,7 @@
 use Rattle.std.specs.Prelude.{ℕ, List}
 use Rattle.cm_prepare.specs.declared.command.Command.{Command}
 use Rattle.cm_prepare.specs.declared.command.Command.TheVariants as command
-use Rattle.cm_state.specs.Step.{Change, AddLoader, Define, Unload, Tighten}
+use Rattle.cm_state.specs.Step.{Change, AddLoader, Define, Unload, Tighten, UnloadAll}
 
 -- a class is asked for by the words of its record
 abbrev pub change_asked : Command → Change (List ℕ)
@@ -10,3 +10,4 @@ change_asked (command.AddLoader x) = AddLoader x.now
 change_asked (command.Define x class) = Define x.now class
 change_asked (command.Unload x) = Unload x.now
 change_asked (command.Tighten x) = Tighten x.now
+change_asked (command.UnloadAll xs) = UnloadAll xs

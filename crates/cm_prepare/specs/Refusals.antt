@@ -3,7 +3,7 @@ use Rattle.std.specs.Prelude.{ℕ}
 use Rattle.cm_prepare.specs.declared.refusal.Refusal.{Refusal}
 use Rattle.cm_prepare.specs.declared.refusal.Refusal.TheVariants as refusal
 use Rattle.cm_state.specs.Step.{Cause, BadName, NumbersSpent, LoaderExists, NoLoader, ClassExists}
-use Rattle.cm_state.specs.Step.{RecordTooLong, JournalFull}
+use Rattle.cm_state.specs.Step.{RecordTooLong, JournalFull, BadList}
 
 -- whatever is wrong with a class file is 14
 abbrev pub refusal_number : Refusal → ℕ
@@ -22,6 +22,7 @@ refusal_number refusal.NumbersSpent = 12
 refusal_number (refusal.Unsure n) = 13
 refusal_number (refusal.BadClass bad) = 14
 refusal_number refusal.BadLine = 15
+refusal_number refusal.BadList = 16
 
 -- the refusal for a cause against a step of the cache
 abbrev pub refusal_of : Cause → Refusal
@@ -32,3 +33,4 @@ refusal_of NoLoader = refusal.NoLoader
 refusal_of ClassExists = refusal.ClassExists
 refusal_of RecordTooLong = refusal.RecordTooLong
 refusal_of JournalFull = refusal.JournalFull
+refusal_of BadList = refusal.BadList

@@ -1,8 +1,9 @@
 //! The commands that change a cache.
 
+use crate::names::Names;
 use crate::prepared::Prepared;
 
-/// One change of a cache, of the loader of a name.
+/// One change of a cache, of the loader of a name or of the loaders of several.
 #[derive(Debug, Drop)]
 pub enum Command<'a> {
     /// A loader comes into being, without classes.
@@ -14,4 +15,6 @@ pub enum Command<'a> {
     /// The records on a loader's last chunk move to a smaller chunk, or to one that lies before it.
     /// The loaders and classes stay as they are.
     Tighten(&'a [u8]),
+    /// Several loaders go at once, with all their classes: one to seven, none of them twice.
+    UnloadAll(Names<'a>),
 }

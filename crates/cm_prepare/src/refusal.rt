@@ -59,6 +59,9 @@ pub enum Refusal {
     /// A line of a script has no known form.
     #[error("line")]
     BadLine,
+    /// There is no name, there are more than seven, or one stands there twice.
+    #[error("list")]
+    BadList,
 }
 
 impl Refusal {
@@ -82,6 +85,7 @@ impl Refusal {
             Refusal::Unsure(_) => 13,
             Refusal::BadClass(_) => 14,
             Refusal::BadLine => 15,
+            Refusal::BadList => 16,
         }
     }
 }

@@ -13,7 +13,7 @@ use Rattle.cm_layout.specs.declared.row.Row.{Row}
 use Rattle.cm_layout.specs.declared.row.Row.TheVariants.{Loader, Class}
 use Rattle.cm_layout.specs.declared.entry.Entry.{Entry}
 use Rattle.cm_layout.specs.declared.entry.Entry.TheVariants as entry
-use Rattle.cm_layout.specs.Rows.{numbers_in, without_loader, moved, rows_after}
+use Rattle.cm_layout.specs.Rows.{numbers_in, without_loader, without_loaders, moved, rows_after}
 use Rattle.cm_layout.specs.Rules.{broken_rule, broken_live_rule, is_new_loader}
 use Rattle.cm_rows.specs.Rows.{is_above}
 
@@ -80,6 +80,12 @@ below_moved {P} n from to (Class r c ∷ rows) b =
     by_test true rest = rest
     by_test false rest = rest
 
+below_without_all : {P : Type 0} (n : ℕ) (us : List ℕ) (rows : List (Row P)) → AreBelow n rows
+    → AreBelow n (without_loaders us rows)
+below_without_all n [] rows b = b
+below_without_all n (u ∷ us) rows b =
+    below_without_all n us (without_loader u rows) (below_without n u rows b)
+
 kept : (t : Bool) → None ≡ cond t None (Some OnRows) → t ≡ true
 kept true h = refl
 kept false h = absurd (cc)
@@ -119,6 +125,9 @@ above_entry sizes n rows (entry.Live (Class r p)) keeps above =
 above_entry sizes n rows (entry.Unload e) keeps above =
     below_to (n + 1 + 1) (without_loader e.loader rows) (below_without (n + 1 + 1) e.loader rows
     (below_more (n + 1) (n + 1 + 1) rows (omega arith) (below_from (n + 1) rows above)))
+above_entry sizes n rows (entry.UnloadAll e) keeps above =
+    below_to (n + 1 + 1) (without_loaders e.loaders rows) (below_without_all (n + 1 + 1) e.loaders
+    rows (below_more (n + 1) (n + 1 + 1) rows (omega arith) (below_from (n + 1) rows above)))
 above_entry sizes n rows (entry.Move e) keeps above =
     below_to (n + 1 + 1) (moved e.from e.to rows) (below_moved (n + 1 + 1) e.from e.to rows
     (below_more (n + 1) (n + 1 + 1) rows (omega arith) (below_from (n + 1) rows above)))

@@ -1,7 +1,9 @@
 //! The book of live rows.
 
 ghost use Rattle.std.specs.Prelude.{◌≡◌, ◌&&◌, IsTrue, IfOk, [], ◌∷◌, ◌++◌, Some, None, is_none};
-ghost use Rattle.std.specs.Prelude.{if◌then◌else◌, length};
+ghost use Rattle.std.specs.Prelude.{if◌then◌else◌, length, not, ◌==◌};
+ghost use Rattle.std.specs.List.{list_all};
+ghost use Rattle.cm_layout.specs.Rules.{differ};
 
 use crate::last_kept::LastKept;
 use crate::links::{link, make_room, move_rows, push_place, relink, unload_rows};
@@ -63,10 +65,12 @@ impl<P: Kept> Model for Book<P> {
 impl<P: Kept> Book<P> {
     ghost use Rattle.cm_layout.specs.declared.entry_rule.EntryRule.TheVariants.{OnRows, OnChunks};
     ghost use Rattle.cm_layout.specs.declared.row.Row.TheVariants.{Loader, Class};
-    ghost use Rattle.cm_layout.specs.Rows.{rows_after, without_loader, moved, slots_of_rows};
+    ghost use Rattle.cm_layout.specs.Rows.{rows_after, without_loader, without_loaders, moved};
+    ghost use Rattle.cm_layout.specs.Rows.{slots_of_rows};
     ghost use Rattle.cm_layout.specs.Rows.{number_of as number_of_name};
     ghost use Rattle.cm_layout.specs.Rules.{broken_rule, broken_live_rule, is_new_loader, is_live};
-    ghost use Rattle.cm_layout.specs.Rules.{move_fits, is_chunk, is_unused, is_too_much};
+    ghost use Rattle.cm_layout.specs.Rules.{move_fits, is_chunk, is_unused, is_too_much, are_live};
+    ghost use Rattle.cm_layout.specs.Rules.{differ};
     ghost use Rattle.cm_rows.specs.Rows.{is_above, last_of, class_of, kept_on_last};
     ghost use Rattle.std.specs.Option.{option_copied};
 
@@ -108,6 +112,7 @@ impl<P: Kept> Book<P> {
             Entry::Live(Row::Class(row, kept)) => self.define(row, kept),
             Entry::Unload(entry) => self.unload(entry.loader),
             Entry::Move(entry) => self.relocate(&entry),
+            Entry::UnloadAll(entry) => self.unload_all(entry.loaders.as_slice()),
         }
     }
 
@@ -320,6 +325,32 @@ impl<P: Kept> Book<P> {
         None
     }
 
+    fn unload_all(&mut self, numbers: &[u64]) -> Option<EntryRule>
+        ensures broken { result
+            ≡ (if differ numbers.now && are_live numbers.now self.old.rows
+            then None
+            else Some OnRows) }
+        ensures left { self.new
+            ≡ (if is_none result
+            then record self.old { rows = without_loaders numbers.now self.old.rows }
+            else self.old) }
+    {
+        if !are_different(numbers) || !self.are_live(numbers) {
+            return Some(EntryRule::OnRows);
+        }
+        for number in numbers {
+            self.unload(*number);
+        }
+        None
+    }
+
+    // Whether a loader of each of these numbers lives.
+    fn are_live(&self, numbers: &[u64]) -> bool
+        ensures { result ≡ are_live numbers.now self.now.rows }
+    {
+        numbers.iter().all(|number| self.is_live(*number))
+    }
+
     fn relocate(&mut self, entry: &Move) -> Option<EntryRule>
         ensures broken { result
             ≡ (if move_fits self.old.sizes self.old.rows entry.now then None else Some OnChunks) }
@@ -358,6 +389,26 @@ impl<P: Kept> Book<P> {
         set_last(&mut self.loaders.slots, at, entry.loader, moved);
         None
     }
+}
+
+// Whether no number stands there twice. They are few.
+fn are_different(numbers: &[u64]) -> bool
+    ensures { result ≡ differ numbers.now }
+{
+    let mut left = numbers;
+    while let Some((first, others)) = left.split_first() {
+        if !differs_from_all(*first, others) {
+            return false;
+        }
+        left = others;
+    }
+    true
+}
+
+fn differs_from_all(number: u64, others: &[u64]) -> bool
+    ensures { result ≡ list_all (λ other. not (number == other)) others.now }
+{
+    others.iter().all(|other| number != *other)
 }
 
 impl Book<()> {

@@ -2,7 +2,7 @@
 
 ghost use Rattle.std.specs.Prelude.{◌≡◌};
 
-use crate::samples::Sample::{Class, Loader, Move, Unload};
+use crate::samples::Sample::{Class, Loader, Move, Unload, UnloadAll};
 use crate::samples::{CHUNKS, Case, ROWS, chunk, class_row, loader_row, offer_each, small_book};
 use cm_layout::{EntryRule, Row};
 use cm_pool::Chunk;
@@ -118,6 +118,35 @@ fn move_last(rt: &impl Abort, book: &mut Book<()>) -> Result<(), Fail> {
 fn moves_a_loaders_last_chunk(rt: HostRuntime) -> Result<(), Fail> {
     let mut book = small_book(rt.alloc())?;
     move_last(&rt, &mut book)
+}
+
+static GONE_AT_ONCE: [Case<'_>; 14] = [
+    (1, Loader(1, b"app"), None),
+    (2, Loader(2, b"lib"), None),
+    (3, Loader(3, b"ext"), None),
+    (4, Class(1, FIRST, 0, 8), None),
+    (5, Class(2, SECOND, 0, 8), None),
+    (6, UnloadAll(&[1, 4]), ROWS),
+    (6, UnloadAll(&[1, 1]), ROWS),
+    (6, UnloadAll(&[4]), ROWS),
+    (6, UnloadAll(&[2, 1]), None),
+    (7, UnloadAll(&[3, 2]), ROWS),
+    (7, Class(3, FIRST, 0, 8), None),
+    (8, Class(3, SECOND, 0, 8), None),
+    (9, UnloadAll(&[3]), None),
+    (10, UnloadAll(&[3]), ROWS),
+];
+
+fn unload_at_once(rt: &impl Abort, book: &mut Book<()>) -> Result<(), Fail> {
+    offer_each(book, &GONE_AT_ONCE)?;
+    assert_eq!(rt; book.len(), 0);
+    Ok(())
+}
+
+#[test]
+fn unloads_several_loaders_at_once(rt: HostRuntime) -> Result<(), Fail> {
+    let mut book = small_book(rt.alloc())?;
+    unload_at_once(&rt, &mut book)
 }
 
 // A live row as tables write it.

@@ -121,6 +121,15 @@ impl Plain {
         if fits { None } else { CHUNKS }
     }
 
+    fn unload_all_rule(&self, loaders: &[u64]) -> Option<EntryRule> {
+        for (at, loader) in loaders.iter().enumerate() {
+            if !self.lives(*loader) || loaders[..at].contains(loader) {
+                return ROWS;
+            }
+        }
+        None
+    }
+
     fn rule(&self, entry: &Entry<()>) -> Option<EntryRule> {
         match entry {
             Entry::Live(Row::Loader(_)) if self.rows.len() >= LIMIT => ROWS,
@@ -129,6 +138,7 @@ impl Plain {
             Entry::Unload(entry) if !self.lives(entry.loader) => ROWS,
             Entry::Unload(_) => None,
             Entry::Move(entry) => self.move_rule(entry),
+            Entry::UnloadAll(entry) => self.unload_all_rule(entry.loaders.as_slice()),
         }
     }
 
@@ -160,6 +170,10 @@ impl Plain {
             })?,
             Entry::Unload(entry) => self.rows.retain(|row| row.loader != entry.loader),
             Entry::Move(entry) => self.relocate(entry),
+            Entry::UnloadAll(entry) => {
+                let loaders = entry.loaders.as_slice();
+                self.rows.retain(|row| !loaders.contains(&row.loader));
+            }
         }
         Ok(None)
     }

@@ -1,6 +1,6 @@
 //! Entries by chance, most of which break no rule.
 use crate::plain::Plain;
-use crate::samples::{chunk, class, loader, move_of, unload};
+use crate::samples::{chunk, class, loader, move_of, unload, unload_all};
 use cm_layout::Entry;
 use cm_pool::Chunk;
 use cm_rows::LastChunk;
@@ -43,7 +43,8 @@ impl Random {
         });
         Ok(match self.below(16) {
             0 | 1 => loader(number, &name_of(number))?,
-            2 => unload(owner),
+            2 if self.below(2) == 0 => unload(owner),
+            2 => unload_all(&[owner, self.loader(rows, number)])?,
             3 | 4 => move_of(owner, last.chunk, self.chunk()),
             5..=8 => class(owner, self.chunk(), 0, self.below(140)),
             _ => class(owner, last.chunk, last.used, self.below(40)),

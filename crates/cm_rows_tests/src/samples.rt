@@ -2,7 +2,9 @@
 
 ghost use Rattle.std.specs.Prelude.{◌≡◌, IfOk};
 
-use cm_layout::{ClassRow, Entry, EntryRule, LoaderRow, Move, Row, SlotName, Unload};
+use cm_layout::{
+    ClassRow, Entry, EntryRule, LoaderNumbers, LoaderRow, Move, Row, SlotName, Unload, UnloadAll,
+};
 use cm_pool::{Chunk, Geometry, Place};
 use cm_rows::{Book, Kept};
 use std::alloc::Global;
@@ -80,6 +82,11 @@ pub fn unload<P>(loader: u64) -> Entry<P> {
     Entry::Unload(Unload { loader })
 }
 
+pub fn unload_all<P>(loaders: &[u64]) -> Result<Entry<P>, Fail> {
+    let loaders = LoaderNumbers::new(loaders).ok_or("one to seven loaders")?;
+    Ok(Entry::UnloadAll(UnloadAll { loaders }))
+}
+
 pub fn move_of<P>(loader: u64, from: Chunk, to: Chunk) -> Entry<P> {
     Entry::Move(Move { loader, from, to })
 }
@@ -95,6 +102,7 @@ pub enum Sample<'a> {
     Unload(u64),
     /// A loader's chunk moves to another, each by its order and first word.
     Move(u64, (u32, u32), (u32, u32)),
+    UnloadAll(&'a [u64]),
 }
 
 impl<'a> Sample<'a> {
@@ -109,6 +117,7 @@ impl<'a> Sample<'a> {
             Sample::Move(loader, from, to) => {
                 Ok(move_of(loader, chunk(from.0, from.1), chunk(to.0, to.1)))
             }
+            Sample::UnloadAll(loaders) => unload_all(loaders),
         }
     }
 }

@@ -64,6 +64,7 @@ fn look_at(command: &Command<'_>)
         }
         Command::Unload(_) => {}
         Command::Tighten(_) => {}
+        Command::UnloadAll(_) => {}
     }
 }
 

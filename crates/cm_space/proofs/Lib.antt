@@ -7,4 +7,5 @@ mod Rooted
 mod Owners
 mod Adopted
 mod Views
+mod InTurn
 mod Learning

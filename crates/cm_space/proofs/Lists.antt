@@ -1,6 +1,6 @@
 -- Facts on lists: what holds of all elements, pair by pair, and which stand in a list.
 -- For `Space::add_loader`, `Space::adopt`, `Space::chunks` and others.
-use Rattle.std.proofs.Common.{◌≡◌, List, [], ◌∷◌, ◌++◌, sym, subst, inl, inr, ◌⊎◌, ◌∙◌}
+use Rattle.std.proofs.Common.{List, [], ◌∷◌, ◌++◌, sym, subst, inl, inr}
 use Rattle.std.specs.List.{AllByRecursion}
 use Rattle.cm_pool.specs.Lists.{Pairwise, Among}
 use Rattle.cm_pool.proofs.{each-weaker, each-among, each-join, each-front, each-back, pairs-insert}

@@ -1,24 +1,29 @@
 -- What is true of each space stays true with each change.
 -- For `Space::add_loader`, `Space::adopt`, `Space::learn` and others.
-use Rattle.std.proofs.Common.{◌≡◌, ℕ, ◌≤◌, List, [], ◌∷◌, ◌++◌, Some, None, refl, sym, ap, ◌∙◌}
-use Rattle.std.proofs.Common.{subst, append-nil, length, arith}
+use Rattle.std.proofs.Common.{◌≡◌, ◌≢◌, ℕ, ◌≤◌, Bool, true, false, cond, List, [], ◌∷◌, ◌++◌}
+use Rattle.std.proofs.Common.{Option, Some, None, refl, sym, ap, ◌∙◌, IsSome, subst, append-nil}
+use Rattle.std.proofs.Common.{length, arith}
+use Rattle.std.specs.Prelude.{unwrap_or}
 use Rattle.std.specs.List.{AllByRecursion}
-use Rattle.std.specs.Ordering.{nat_cmp}
+use Rattle.std.specs.Ordering.{nat_cmp, is_eq}
+use Rattle.std.specs.Cmp.{nat_cmp_total}
 use Rattle.std.specs.FinMap as map
 use Rattle.cm_pool.specs.declared.chunk.Chunk.{Chunk}
 use Rattle.cm_pool.specs.Chunks.{Meets}
 use Rattle.cm_pool.specs.Geometry.{Sizes}
 use Rattle.cm_pool.specs.FreeSpace.{FreeSpace, IsUsedChunk}
 use Rattle.cm_pool.specs.Held.{AreHeld, NoneIsLost}
-use Rattle.cm_pool.proofs.{each-back, pairs-back}
+use Rattle.cm_pool.specs.Lists.{Pairwise}
+use Rattle.cm_pool.proofs.{each-back, each-join, pairs-back}
 use Rattle.cm_arena.specs.Chains.{Filled, chunks_of}
-use Rattle.cm_space.specs.Space.{SpaceState, Waits, with_arena, without_arena, waiting_chunks}
+use Rattle.cm_space.specs.Space.{SpaceState, Waits, IsKnown, arena_of, with_arena, left_by}
+use Rattle.cm_space.specs.Space.{left_by_all, waiting_chunks}
 use Rattle.cm_space.specs.Space.{learnt, empty_space, due, not_due}
 use Rattle.cm_space.specs.Ownership.{IsSpace, held_chunks, owned_chunks}
 use Rattle.cm_space.proofs.Lists.{pairs-push}
 use Rattle.cm_space.proofs.Alike.{alike-same, alike-then, alike-trade, alike-behind}
 use Rattle.cm_space.proofs.Arenas.{owned, of_others, insert-back, had-out, none-others}
-use Rattle.cm_space.proofs.Arenas.{remove-others}
+use Rattle.cm_space.proofs.Arenas.{remove-others, same_key}
 use Rattle.cm_space.proofs.Giving.{held-given, kept-given, due-parts, rises-not_due, chunks-append}
 
 -- what others have beside one arena
@@ -67,19 +72,17 @@ added s k none h =
     }
 
 -- an arena less, whose chunks wait
-pub left : (s : SpaceState) (k : ℕ) (chain : List Filled) (n : ℕ) → map.get s.arenas k ≡ Some chain
-    → AllByRecursion (λ (w : Waits). w.number ≤ n) s.waiting → IsSpace s
-    → IsSpace (record (without_arena s k)
-    { waiting = s.waiting ++ record { number = n; chunks = chunks_of chain } ∷ [] })
-left s k chain n had last h =
-    let mine = chunks_of chain in
+pub left : (s : SpaceState) (n k : ℕ) → IsKnown s k
+    → AllByRecursion (λ (w : Waits). w.number ≤ n) s.waiting → IsSpace s → IsSpace (left_by s n k)
+left s n k known last h =
+    let mine = chunks_of (arena_of s k) in
     let ws = waiting_chunks s.waiting in
     let w : Waits = record { number = n; chunks = mine } in
     let rest : owned (map.remove s.arenas k) ≡ of_others s.arenas k =
     ap owned_chunks (remove-others s.arenas k) in
     let behind : waiting_chunks (s.waiting ++ w ∷ []) ≡ ws ++ (mine ++ []) =
     chunks-append s.waiting (w ∷ []) in
-    let moved = alike-then _ _ _ (had-out s.arenas k chain ws had)
+    let moved = alike-then _ _ _ (had-out s.arenas k (arena_of s k) ws (known-had s k known))
     (alike-then _ _ _ (alike-same _ _
     (ap (λ cs. mine ++ (of_others s.arenas k ++ cs)) (sym (append-nil ws))))
     (alike-then _ _ _ (alike-trade mine (of_others s.arenas k) (ws ++ []))
@@ -90,6 +93,41 @@ left s k chain n had last h =
       none_lost = moved.kept s.pool [] h.none_lost;
       rises = pairs-push (λ (v w : Waits). v.number ≤ w.number) s.waiting w h.rises last;
     }
+  where
+    known-had : (s : SpaceState) (k : ℕ) → IsKnown s k → map.get s.arenas k ≡ Some (arena_of s k)
+    known-had s k known = by_answer (map.get s.arenas k) known
+      where
+        by_answer : (o : Option (List Filled)) → IsSome o → o ≡ Some (unwrap_or o [])
+        by_answer (Some chain) h = refl
+        by_answer None h = absurd (cc)
+
+-- the others have their arenas still
+pub known-behind : (s : SpaceState) (n u : ℕ) (us : List ℕ) → AllByRecursion (λ v. u ≢ v) us
+    → AllByRecursion (IsKnown s) us → AllByRecursion (IsKnown (left_by s n u)) us
+known-behind s n u [] differ known = tt
+known-behind s n u (v ∷ us) differ known = (
+  subst (λ o. IsSome o) (sym (get-left v differ.0)) known.0,
+  known-behind s n u us differ.1 known.1,
+)
+  where
+    get-left : (v : ℕ) → u ≢ v → map.get (left_by s n u).arenas v ≡ map.get s.arenas v
+    get-left v other =
+        map.get-remove nat_cmp_total s.arenas u v ∙ by_test (is_eq (nat_cmp v u)) refl
+      where
+        by_test : (t : Bool) → is_eq (nat_cmp v u) ≡ t
+            → cond t None (map.get s.arenas v) ≡ map.get s.arenas v
+        by_test true e = absurd (other (sym (same_key v u e)))
+        by_test false e = refl
+
+-- several arenas less, one after another
+pub left-all : (s : SpaceState) (n : ℕ) (us : List ℕ) → AllByRecursion (IsKnown s) us
+    → Pairwise (λ u v. u ≢ v) us → AllByRecursion (λ (w : Waits). w.number ≤ n) s.waiting
+    → IsSpace s → IsSpace (left_by_all s n us)
+left-all s n [] known differ last h = h
+left-all s n (u ∷ us) known differ last h =
+    left-all (left_by s n u) n us (known-behind s n u us differ.0 known.1) differ.1
+    (each-join (λ (w : Waits). w.number ≤ n) s.waiting _ last (omega arith, tt))
+    (left s n u known.0 last h)
 
 -- an arena and the pool changed, and a chunk that was left waits behind the others
 pub tightened : (s : SpaceState) (k : ℕ) (chain next : List Filled) (p : FreeSpace) (from : Chunk)

@@ -8,10 +8,10 @@ use Rattle.std.specs.Map.{lookup}
 use Rattle.std.proofs.lemmas.List.{map-append}
 use Rattle.std.specs.FinMap as map
 use Rattle.cm_pool.specs.FreeSpace.{FreeSpace}
-use Rattle.cm_arena.specs.Chains.{Filled}
+use Rattle.cm_arena.specs.Chains.{Filled, chunks_of}
 use Rattle.cm_space.specs.declared.waiting.Waiting.{Waiting}
 use Rattle.cm_space.specs.Space.{SpaceState, Waits, IsKnown, arena_of, with_arena, without_arena}
-use Rattle.cm_space.specs.Space.{state_of, waits_of, waits_in}
+use Rattle.cm_space.specs.Space.{state_of, waits_of, waits_in, AreLeft}
 use Rattle.cm_space.specs.Ownership.{IsSpace}
 use Rattle.cm_space.proofs.Arenas.{Entries, Arenas, Sets, get-lookup, entries-insert}
 use Rattle.cm_space.proofs.Arenas.{entries-remove, get-inserted, insert-had}
@@ -120,13 +120,19 @@ one_less p es new ws s k view sets =
     (λ i. record { pool = p; arenas = arenas i; waiting = waits_in ws })
     ∙ ap (λ (t : SpaceState). without_arena t k) view
 
-pub one_left : (p : FreeSpace) (es new : Entries) (ws vs : List Waiting) (s : SpaceState) (k : ℕ)
-    (w : Waiting) (left : Waits)
-    → state_of p es ws ≡ s → Sets es new k None → vs ≡ ws ++ w ∷ [] → waits_of w ≡ left
-    → state_of p new vs ≡ record (without_arena s k) { waiting = s.waiting ++ left ∷ [] }
-one_left p es new ws vs s k w left view sets pushed is =
-    let waiting : waits_in vs ≡ s.waiting ++ left ∷ [] =
+-- whatever the pool
+pub one_left : (es new : Entries) (ws vs : List Waiting) (k n : ℕ) (chain : List Filled)
+    (w : Waiting)
+    → found es k ≡ Some chain → Sets es new k None → vs ≡ ws ++ w ∷ []
+    → waits_of w ≡ record { number = n; chunks = chunks_of chain }
+    → AreLeft es ws n (k ∷ []) new vs
+one_left es new ws vs k n chain w had sets pushed is p =
+    let s = state_of p es ws in
+    let mine : chain ≡ arena_of s k = sym (ap (λ o. unwrap_or o []) (get-lookup es k ∙ had)) in
+    let waits : Waits = record { number = n; chunks = chunks_of (arena_of s k) } in
+    let waiting : waits_in vs ≡ waits_in ws ++ waits ∷ [] =
     ap waits_in pushed ∙ map-append waits_of ws (w ∷ [])
-    ∙ (λ i. ap (λ (t : SpaceState). t.waiting) view i ++ is i ∷ []) in
-    let rest = one_less p es new ws s k view sets in
+    ∙ ap (λ (v : Waits). waits_in ws ++ v ∷ [])
+    (is ∙ ap (λ (c : List Filled). record { number = n; chunks = chunks_of c }) mine) in
+    let rest = one_less p es new ws s k refl sets in
     λ i. record { pool = (rest i).pool; arenas = (rest i).arenas; waiting = waiting i }

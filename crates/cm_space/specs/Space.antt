@@ -10,7 +10,7 @@ use Rattle.std.specs.Coded.{Coded, code_by, coded×, coded_ℕ, coded_list}
 use Rattle.cm_pool.specs.declared.chunk.Chunk.{Chunk}
 use Rattle.cm_pool.specs.Geometry.{Sizes}
 use Rattle.cm_pool.specs.FreeSpace.{FreeSpace, with_chunk, free_space_code}
-use Rattle.cm_arena.specs.Chains.{Filled, chain_code}
+use Rattle.cm_arena.specs.Chains.{Filled, chunks_of, chain_code}
 use Rattle.cm_space.specs.declared.waiting.Waiting.{Waiting}
 
 -- chunks that wait for a number
@@ -47,6 +47,19 @@ with_arena s loader chain = record s { arenas = map.insert s.arenas loader chain
 
 abbrev pub without_arena : SpaceState → ℕ → SpaceState
 without_arena s loader = record s { arenas = map.remove s.arenas loader }
+
+-- the space without a loader's arena, whose chunks wait for a number behind those that wait
+-- already; and so without those of several, one after another
+abbrev pub left_by : SpaceState → ℕ → ℕ → SpaceState
+left_by s number loader =
+    record (without_arena s loader) {
+      waiting = s.waiting
+          ++ record { number = number; chunks = chunks_of (arena_of s loader) } ∷ [];
+    }
+
+abbrev pub left_by_all : SpaceState → ℕ → List ℕ → SpaceState
+left_by_all s number [] = s
+left_by_all s number (loader ∷ loaders) = left_by_all (left_by s number loader) number loaders
 
 -- the pool with the words of all these chunks
 abbrev pub with_chunks : FreeSpace → List Chunk → FreeSpace
@@ -96,6 +109,17 @@ IsLater number (w ∷ ws) = number < w.number
 abbrev pub state_of : FreeSpace → List (ℕ × List Filled) → List Waiting → SpaceState
 state_of pool arenas waiting =
     record { pool = pool; arenas = map.from_entries arenas; waiting = waits_in waiting }
+
+-- the loader has an arena among these
+abbrev pub HasArena : List (ℕ × List Filled) → ℕ → Type 0
+HasArena arenas loader = IsSome (map.get (map.from_entries {R = nat_cmp} arenas) loader)
+
+-- whatever the pool, the arenas of these loaders are gone, and their chunks wait for the number
+abbrev pub AreLeft : List (ℕ × List Filled) → List Waiting → ℕ → List ℕ → List (ℕ × List Filled)
+    → List Waiting → Type 0
+AreLeft arenas waiting number loaders left behind =
+    (pool : FreeSpace)
+    → state_of pool left behind ≡ left_by_all (state_of pool arenas waiting) number loaders
 
 -- a value of this kind as data
 abbrev pub waits_code : Coded Waits

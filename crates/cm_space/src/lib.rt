@@ -3,6 +3,7 @@
 
 mod adopt;
 mod laws;
+mod leaving;
 mod space;
 mod waiting;
 

@@ -1,11 +1,12 @@
 // A space.
-ghost use Rattle.std.specs.Prelude.{◌≡◌, ◌≤◌, ◌<◌, ◌↔◌, IsTrue, IfOk, OnOk, OnErr, IsErrOf};
-ghost use Rattle.std.specs.Prelude.{◌∷◌, ◌++◌, [], option_map, if◌then◌else◌};
+ghost use Rattle.std.specs.Prelude.{◌≡◌, ◌≢◌, ◌≤◌, ◌<◌, ◌↔◌, IsTrue, IfOk, OnOk, OnErr, IsErrOf};
+ghost use Rattle.std.specs.Prelude.{[], option_map, if◌then◌else◌};
 ghost use Rattle.std.specs.List.{AllByRecursion};
 ghost use Rattle.std.specs.FinMap as map;
 ghost use Rattle.cm_pool.specs.Chunks.{chunk_size};
 
 use crate::adopt::adopt_place;
+use crate::leaving::{leave_each, leave_one};
 use crate::waiting::{Waiting, free_due, reserve_left, wait_behind};
 use cm_arena::{Arena, Moved, PlaceRefusal};
 use cm_pool::{Chunk, Geometry, Place, Pool};
@@ -42,11 +43,12 @@ impl Model for Space {
 
 impl Space {
     ghost use Rattle.cm_arena.specs.Chains.{chunks_of, used_of};
+    ghost use Rattle.cm_pool.specs.Lists.{Pairwise};
     ghost use Rattle.cm_arena.specs.Placing.{Places, IsFull, HasRoom};
     ghost use Rattle.cm_pool.specs.FreeSpace.{IsFreeSpace};
     ghost use Rattle.cm_pool.specs.Places.{IsInside};
     ghost use Rattle.cm_space.specs.Space.{Waits, empty_space, IsKnown, arena_of, with_arena};
-    ghost use Rattle.cm_space.specs.Space.{without_arena, learnt};
+    ghost use Rattle.cm_space.specs.Space.{left_by, left_by_all, learnt};
     ghost use Rattle.cm_space.specs.Ownership.{IsSpace, Owns};
     ghost use Rattle.cm_space.specs.Adopting.{adopted, IsAdoptable, IsOnTheWay};
     ghost use Rattle.cm_arena.specs.Tightening.{IsTight};
@@ -185,20 +187,26 @@ impl Space {
     pub fn leave(&mut self, loader: u64, number: u64) -> Result<(), AllocError>
         requires known { IsKnown self.old loader }
         requires last { AllByRecursion (λ (w : Waits). w.number ≤ number) self.old.waiting }
-        ensures ok { OnOk result (self.new ≡ record (without_arena self.old loader) {
-          waiting = self.old.waiting
-              ++ record { number = number; chunks = chunks_of (arena_of self.old loader) } ∷ [];
-        }) }
+        ensures ok { OnOk result (self.new ≡ left_by self.old number loader) }
         ensures err { OnErr result (self.new ≡ self.old) }
     {
         self.waiting.reserve(1)?;
-        let arena = self.arenas.remove(&loader).unwrap();
-        self.waiting
-            .push_back(Waiting {
-                number,
-                chunks: arena.release(),
-            })
-            .unwrap();
+        leave_one(&mut self.arenas, &mut self.waiting, loader, number);
+        Ok(())
+    }
+
+    /// Takes the arenas of several loaders away, one after another, as [`leave`](Space::leave)
+    /// takes one: their chunks wait for the number, in the order of the loaders. Either all go or
+    /// none, since all memory is taken first. An `Err` changes nothing.
+    pub fn leave_all(&mut self, loaders: &[u64], number: u64) -> Result<(), AllocError>
+        requires known { AllByRecursion (IsKnown self.old) loaders.now }
+        requires differ { Pairwise (λ u v. u ≢ v) loaders.now }
+        requires last { AllByRecursion (λ (w : Waits). w.number ≤ number) self.old.waiting }
+        ensures ok { OnOk result (self.new ≡ left_by_all self.old number loaders.now) }
+        ensures err { OnErr result (self.new ≡ self.old) }
+    {
+        self.waiting.reserve(loaders.len())?;
+        leave_each(&mut self.arenas, &mut self.waiting, loaders, number);
         Ok(())
     }
 

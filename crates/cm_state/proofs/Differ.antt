@@ -16,7 +16,8 @@ use Rattle.cm_pool.specs.Lists.{Among}
 use Rattle.cm_layout.specs.declared.class_row.ClassRow.{ClassRow}
 use Rattle.cm_layout.specs.declared.row.Row.{Row}
 use Rattle.cm_layout.specs.declared.row.Row.TheVariants.{Loader, Class}
-use Rattle.cm_layout.specs.Rows.{name_of, number_of, numbers_in, is_of, without_loader, moved}
+use Rattle.cm_layout.specs.Rows.{name_of, number_of, numbers_in, is_of, without_loader}
+use Rattle.cm_layout.specs.Rows.{without_loaders, moved}
 use Rattle.cm_layout.specs.Rows.{moved_row}
 use Rattle.cm_layout.specs.Loaders.{LoadersDiffer}
 use Rattle.cm_state.specs.State.{Shows, NamesDiffer, class_among}
@@ -178,6 +179,12 @@ differ_without {A} shows u pre (Class r c ∷ rows) d =
       subst (λ (l : List (Row A)). NamesDiffer shows l (without_loader u rows))
           (without_more u pre (Class r c) false is) rest,
     )
+
+pub differ_without_all : {A : Type 0} (shows : Shows A) (us : List ℕ) (rows : List (Row A))
+    → NamesDiffer shows [] rows → NamesDiffer shows [] (without_loaders us rows)
+differ_without_all shows [] rows d = d
+differ_without_all shows (u ∷ us) rows d =
+    differ_without_all shows us (without_loader u rows) (differ_without shows u [] rows d)
 
 pub differ_moved : {A : Type 0} (shows : Shows A) (from to : Chunk) (pre rows : List (Row A))
     → NamesDiffer shows pre rows → NamesDiffer shows (moved from to pre) (moved from to rows)

@@ -2,7 +2,7 @@
 -- For `entries_are_steps`, `rows_tell_state` and others.
 use Rattle.std.proofs.Common.{◌≡◌, ℕ, ◌+◌, ◌^◌, ◌<◌, ◌≤◌, Bool, true, false, cond, List, [], ◌∷◌}
 use Rattle.std.proofs.Common.{◌++◌, Option, Some, None, Ok, refl, sym, ap, subst, ◌∙◌, arith, eqb}
-use Rattle.std.proofs.Common.{is_some, is_none, append-nil, append_assoc, length, inl, inr}
+use Rattle.std.proofs.Common.{le-leb, is_some, is_none, append-nil, append_assoc, length, inl, inr}
 use Rattle.std.specs.Prelude.{◌&&◌, ◌%◌, nat_lt, nat_le, unwrap_or}
 use Rattle.std.specs.List.{list_all}
 use Rattle.std.specs.Option.{option_map, option_map_or, option_and_then}
@@ -22,13 +22,13 @@ use Rattle.cm_layout.specs.declared.row.Row.TheVariants.{Loader, Class}
 use Rattle.cm_layout.specs.declared.entry.Entry.{Entry}
 use Rattle.cm_layout.specs.declared.entry.Entry.TheVariants as entry
 use Rattle.cm_layout.specs.declared.entry_rule.EntryRule.TheVariants.{OnRows, OnChunks}
-use Rattle.cm_layout.specs.Names.{is_loader_name}
+use Rattle.cm_layout.specs.Names.{is_loader_name, unload_limit}
 use Rattle.cm_layout.specs.Rows.{name_of, number_of, numbers_in, classes_in, slots_of_rows}
 use Rattle.cm_layout.specs.Slots.{FitsEntry}
 use Rattle.cm_layout.specs.Rows.{rows_after, bare, used_words, last_chunk}
 use Rattle.cm_layout.specs.Rules.{row_limit, has_room, is_live, is_new_loader, is_chunk, has_place}
 use Rattle.cm_layout.specs.Rules.{class_fits, broken_of, broken_live_rule, move_fits}
-use Rattle.cm_layout.specs.Rules.{is_last_chunk, is_unused}
+use Rattle.cm_layout.specs.Rules.{is_last_chunk, is_unused, differ, are_live}
 use Rattle.cm_layout.specs.Loaders.{HasOwnLoaders}
 use Rattle.cm_layout.specs.Frames.{AreApart, LiveRowsKeep, bare_row, bare_entry}
 use Rattle.cm_layout.specs.Laws.{EntriesStayLive, RowsGrow, LoadersAreOwn}
@@ -36,16 +36,19 @@ use Rattle.cm_layout.proofs.{number-bare, name-bare, numbers-bare, classes-bare,
 use Rattle.cm_layout.proofs.{differ-bare, more-bare, after-bare, rule-bare}
 use Rattle.cm_state.specs.State.{ByName, Loaders, Shows, NamesDiffer, class_among, class_in}
 use Rattle.cm_state.specs.State.{size, total, classes_of, state_of}
-use Rattle.cm_state.specs.Step.{AddLoader, Define, Unload, Tighten, step, is_full, last_number}
+use Rattle.cm_state.specs.Step.{AddLoader, Define, Unload, Tighten, UnloadAll, step, is_full}
+use Rattle.cm_state.specs.Step.{last_number, is_list, names_differ, without_all}
 use Rattle.cm_state.specs.Step.{with_loader, with_class}
 use Rattle.cm_state.specs.Entries.{AreCacheRows, MayFollow}
 use Rattle.cm_state.specs.Laws.{SizesAgree, EntriesAreSteps}
 use Rattle.cm_state.proofs.RowStates.{loader_found, class_found, is_loader_found, class_in_rows}
 use Rattle.cm_state.proofs.RowStates.{state_with_loader, state_with_class, state_without}
 use Rattle.cm_state.proofs.RowStates.{state_moved}
+use Rattle.cm_state.proofs.Leaving.{leave}
 use Rattle.cm_state.proofs.Sizes.{size_more_loader, size_more_class}
 use Rattle.cm_state.proofs.Differ.{number_found, only_name, some_name, number_among}
 use Rattle.cm_state.proofs.Differ.{loader_differs, class_differs, differ_without, differ_moved}
+use Rattle.cm_state.proofs.Differ.{differ_without_all}
 
 -- ---- tests
 
@@ -102,6 +105,13 @@ step_tighten : {A : Type 0} (shows : Shows A) (sizes : Sizes) (m : Loaders A) (n
     → is_loader_name x ≡ true → eqb n last_number ≡ false → is_some (get m x) ≡ true
     → step shows sizes m n (Tighten x) ≡ Ok m
 step_tighten shows sizes m n x name more there = rw name (rw more (rw there refl))
+
+step_unload_all : {A : Type 0} (shows : Shows A) (sizes : Sizes) (m : Loaders A) (n : ℕ)
+    (xs : List (List ℕ)) → is_list xs ≡ true → list_all is_loader_name xs ≡ true
+    → eqb n last_number ≡ false → list_all (λ x. is_some (get m x)) xs ≡ true
+    → step shows sizes m n (UnloadAll xs) ≡ Ok (without_all xs m)
+step_unload_all shows sizes m n xs list name more there =
+    rw list (rw name (rw more (rw there refl)))
 
 -- ---- what the rules say
 
@@ -328,6 +338,7 @@ fits-bare (entry.Live (Loader r)) f = f
 fits-bare (entry.Live (Class r c)) f = f
 fits-bare (entry.Unload e) f = f
 fits-bare (entry.Move e) f = f
+fits-bare (entry.UnloadAll e) f = f
 
 -- a loader whose last chunk is moved has a class, so it lives
 last_of : (u : ℕ) (classes : List ClassRow) (c : Chunk) → last_chunk u classes ≡ Some c
@@ -394,6 +405,12 @@ next_rows {A} stay shows sizes n rows e are may differ =
       apart = subst AreApart (ap classes_in (sym after) ∙ classes-bare (rows_after rows e)) next.0;
       differ = differ;
     }
+
+-- as many as may go at once, none of them twice
+list_of : (xs : List (List ℕ)) → 1 ≤ length xs → length xs ≤ unload_limit
+    → names_differ xs ≡ true → is_list xs ≡ true
+list_of xs some few apart =
+    rw (le-leb 1 (length xs) some) (rw (le-leb (length xs) unload_limit few) apart)
 
 pub entries_step : {A : Type 0} → EntriesStayLive → RowsGrow → LoadersAreOwn
     → EntriesAreSteps A
@@ -463,4 +480,25 @@ entries_step {A} stay grow own shows sizes n rows (entry.Move e) are may small =
           ∙ ap Ok (sym (state_moved shows e.from e.to rows));
       rows_are = next_rows stay shows sizes n rows (entry.Move e) are may
           (differ_moved shows e.from e.to [] rows are.differ);
+    }
+entries_step {A} stay grow own shows sizes n rows (entry.UnloadAll e) are may small =
+    let without = λ (k : ℕ) (some : List (Row A)) (u : ℕ) (live : AreCacheRows shows sizes k some)
+    (fits : u < 2 ^ 64) (is : is_live u some ≡ true).
+    next_rows stay shows sizes k some (entry.Unload (record { loader = u })) live
+    (record { fits = record { loader = fits }; keeps = rw is refl; new = tt })
+    (differ_without shows u [] some live.differ) in
+    let owns = λ (k : ℕ) (some : List (Row A)) (live : AreCacheRows shows sizes k some).
+    own-bare k some (own sizes k (bare some) live.live) in
+    let this = leave shows sizes without owns n e.loaders rows are may.fits.loaders
+    (kept (differ e.loaders && are_live e.loaders rows) may.keeps) in
+    record {
+      change = UnloadAll this.names;
+      change_is = ap (option_map UnloadAll) this.names_are;
+      next = step_unload_all shows sizes (state_of shows rows) n this.names
+          (list_of this.names (omega (arith, this.count, may.fits.some))
+          (omega (arith, this.count, may.fits.few)) this.differ)
+          this.named (not_last n small) this.there
+          ∙ ap Ok this.left;
+      rows_are = next_rows stay shows sizes n rows (entry.UnloadAll e) are may
+          (differ_without_all shows e.loaders rows are.differ);
     }

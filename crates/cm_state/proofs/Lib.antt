@@ -3,6 +3,7 @@ mod Maps
 mod RowStates
 mod Sizes
 mod Differ
+mod Leaving
 mod EntrySteps
 mod Folds
 mod OneCache

@@ -1,21 +1,26 @@
 -- One step of the cache: what a change makes of its state, or the first cause against it. Only what
 -- the cache holds is spoken of, no chunks, journal or offsets; and of a class only what it shows,
 -- so that one definition serves classes and records.
-use Rattle.std.specs.Prelude.{ℕ, ◌^◌, ◌==◌, Bool, not, nat_lt, if◌then◌else◌, List, is_some}
+use Rattle.std.specs.Prelude.{ℕ, ◌^◌, ◌==◌, ◌&&◌, Bool, true, not, nat_lt, nat_le, if◌then◌else◌}
+use Rattle.std.specs.Prelude.{List, [], ◌∷◌, length, is_some}
 use Rattle.std.specs.Prelude.{unwrap_or, Result, Ok, Err}
 use Rattle.std.specs.FinMap as map
+use Rattle.std.specs.List.{list_all}
+use Rattle.std.specs.Str.{bytes_eq}
 use Rattle.cm_pool.specs.Geometry.{Sizes}
 use Rattle.cm_pool.specs.Chunks.{chunk_size}
 use Rattle.cm_layout.specs.Names.{is_loader_name}
+use Rattle.cm_layout.specs.Slots.{unload_limit}
 use Rattle.cm_layout.specs.Rules.{is_too_much}
 use Rattle.cm_state.specs.State.{Loaders, Shows, class_in, size}
 
--- a change that is asked for, of the loader of a name
+-- a change that is asked for, of the loader of a name or of the loaders of several
 pub data Change (A : Type 0) : Type 0 where
   AddLoader : List ℕ → Change A
   Define : List ℕ → A → Change A
   Unload : List ℕ → Change A
   Tighten : List ℕ → Change A
+  UnloadAll : List (List ℕ) → Change A
 
 -- why it isn't made
 pub data Cause : Type 0 where
@@ -26,6 +31,7 @@ pub data Cause : Type 0 where
   ClassExists : Cause
   RecordTooLong : Cause
   JournalFull : Cause
+  BadList : Cause
 
 -- the last number that a command may have
 abbrev pub last_number : ℕ
@@ -43,6 +49,20 @@ with_loader m x = map.insert m x map.empty
 abbrev pub with_class : {A : Type 0} → Shows A → Loaders A → List ℕ → A → Loaders A
 with_class shows m x c =
     map.insert m x (map.insert (unwrap_or (map.get m x) map.empty) (shows.name c) c)
+
+-- no name stands there twice
+abbrev pub names_differ : List (List ℕ) → Bool
+names_differ [] = true
+names_differ (x ∷ xs) = list_all (λ y. not (bytes_eq x y)) xs && names_differ xs
+
+-- names of loaders that may go at once: one to seven, none of them twice
+abbrev pub is_list : List (List ℕ) → Bool
+is_list xs = nat_le 1 (length xs) && nat_le (length xs) unload_limit && names_differ xs
+
+-- without the loaders of these names, one after another
+abbrev pub without_all : {A : Type 0} → List (List ℕ) → Loaders A → Loaders A
+without_all [] m = m
+without_all (x ∷ xs) m = without_all xs (map.remove m x)
 
 -- the first cause that applies, or the next state; n is the number of the last change
 abbrev pub step : {A : Type 0} → Shows A → Sizes → Loaders A → ℕ → Change A
@@ -71,3 +91,9 @@ step shows sizes m n (Tighten x) =
     else if n == last_number then Err NumbersSpent
     else if not (is_some (map.get m x)) then Err NoLoader
     else Ok m
+step shows sizes m n (UnloadAll xs) =
+    if not (is_list xs) then Err BadList
+    else if not (list_all is_loader_name xs) then Err BadName
+    else if n == last_number then Err NumbersSpent
+    else if not (list_all (λ x. is_some (map.get m x)) xs) then Err NoLoader
+    else Ok (without_all xs m)

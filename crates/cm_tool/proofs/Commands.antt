@@ -1,7 +1,8 @@
 -- From what a session answers to a command to what is replied.
--- For `add_loader`, `answer`, `define` and others.
+-- For `answer_number`, `answer`, `define` and others.
 use Rattle.std.proofs.Common.{◌≡◌, ◌≤◌, ◌⊎◌, ℕ, Bool, true, false, List, length, Option, Some, None}
 use Rattle.std.proofs.Common.{Result, Ok, Err, IfOk, OnOk, inl, inr, refl, sym, ap, subst, ◌∙◌}
+use Rattle.std.proofs.Common.{take}
 use Rattle.hex.specs.Hex.{decode_of}
 use Rattle.hex.specs.declared.error.FromHexError.{FromHexError}
 use Rattle.hex.specs.declared.error.FromHexError.TheVariants.{OutOfMemory}
@@ -13,10 +14,11 @@ use Rattle.cm_guards.specs.Calls.{LeavesOnly}
 use Rattle.cm_record.specs.Layout.{lay, limit, IsRecord, IsRecordOf}
 use Rattle.cm_record.specs.Names.{class_name_of, class_name_in}
 use Rattle.cm_rules.specs.Answer.{IsRight}
-use Rattle.cm_state.specs.Step.{Change, AddLoader, Define, Unload, Tighten}
+use Rattle.cm_state.specs.Step.{Change, AddLoader, Define, Unload, Tighten, UnloadAll}
 use Rattle.cm_prepare.specs.declared.refusal.Refusal.{Refusal}
 use Rattle.cm_prepare.specs.declared.refusal.Refusal.TheVariants as refusal
 use Rattle.cm_prepare.specs.Prepare.{IsUnprepared}
+use Rattle.cm_prepare.specs.Names.{names_kept}
 use Rattle.cm_machine.specs.Machine.{Machine, Asks, Refuses}
 use Rattle.cm_machine.specs.Laws.{Finds}
 use Rattle.cm_session.specs.declared.session.Session.{Session}
@@ -26,13 +28,14 @@ use Rattle.cm_session.specs.Moves.{GoesWith}
 use Rattle.cm_session.specs.Storing.{Storing, Stores, FailsOnly, MakesNoCall}
 use Rattle.cm_lines.specs.Escapes.{unescaped}
 use Rattle.cm_lines.specs.Lines.{Asked, AsksLoader, AsksUnload, AsksTighten, AsksDefine, AsksFind}
+use Rattle.cm_lines.specs.Lines.{AsksUnloadAll}
 use Rattle.cm_tool.specs.declared.reply.Reply.{Reply}
 use Rattle.cm_tool.specs.Texts.{ReplyText, number_reply, defined_reply, none_reply, class_reply}
 use Rattle.cm_tool.specs.Texts.{refusal_reply, unsure_reply, bad_line_reply}
 use Rattle.cm_tool.specs.Replies.{IsReply}
 use Rattle.cm_tool.specs.Answers.{Served, served, AnswersCommand, AnswersAsked, AnswersDefine}
 use Rattle.cm_tool.specs.Answers.{AnswersFind, IsChangeOf, IsDefineOf}
-use Rattle.cm_tool.specs.Serving.{IsReady, LedTo, MayGoOn, IsLeft, Replies, Tells}
+use Rattle.cm_tool.specs.Serving.{IsReady, LedTo, MayGoOn, IsLeft, IsAskedBy, Replies, Tells}
 use Rattle.cm_tool.proofs.Moments.{stored_goes_on}
 
 -- ---- lines that change nothing
@@ -62,29 +65,43 @@ pub record Fits (sizes : Sizes) (question : Option Asked) (told : ℕ → ReplyT
       → AnswersAsked sizes question old given new
   pub change_of : (change : Change ClassFile) → Asks asked change → IsChangeOf question change
 
-pub loader_fits : (sizes : Sizes) (name : List ℕ)
-    → Fits sizes (Some (AsksLoader name)) number_reply (AddLoader name)
-loader_fits sizes name = record {
+-- of the one change that a command asks for, where the question is answered by its number
+of_one : (sizes : Sizes) (question : Asked) (asked : Change (List ℕ)) (one : Change ClassFile)
+    → ((change : Change ClassFile) → Asks asked change → change ≡ one)
+    → ((old : Served) (given : ReplyText) (new : Served)
+    → AnswersCommand sizes one number_reply old given new
+    → AnswersAsked sizes (Some question) old given new)
+    → IsChangeOf (Some question) one → Fits sizes (Some question) number_reply asked
+of_one sizes question asked one only answers is = record {
   answers = λ change asks old given new h.
-      subst (λ (d : Change ClassFile). AnswersCommand sizes d number_reply old given new) asks h;
-  change_of = λ change asks. asks;
+      answers old given new
+      (subst (λ (d : Change ClassFile). AnswersCommand sizes d number_reply old given new)
+      (only change asks) h);
+  change_of = λ change asks. subst (IsChangeOf (Some question)) (sym (only change asks)) is;
 }
 
-pub unload_fits : (sizes : Sizes) (name : List ℕ)
-    → Fits sizes (Some (AsksUnload name)) number_reply (Unload name)
-unload_fits sizes name = record {
-  answers = λ change asks old given new h.
-      subst (λ (d : Change ClassFile). AnswersCommand sizes d number_reply old given new) asks h;
-  change_of = λ change asks. asks;
-}
-
-pub tighten_fits : (sizes : Sizes) (name : List ℕ)
-    → Fits sizes (Some (AsksTighten name)) number_reply (Tighten name)
-tighten_fits sizes name = record {
-  answers = λ change asks old given new h.
-      subst (λ (d : Change ClassFile). AnswersCommand sizes d number_reply old given new) asks h;
-  change_of = λ change asks. asks;
-}
+-- a question that asks for a command is answered by the command's number
+pub number_fits : (sizes : Sizes) (question : Asked) (asked : Change (List ℕ))
+    → IsAskedBy question asked → Fits sizes (Some question) number_reply asked
+number_fits sizes (AsksLoader name) asked is =
+    subst (Fits sizes (Some (AsksLoader name)) number_reply) (sym is)
+    (of_one sizes (AsksLoader name) (AddLoader name) (AddLoader name) (λ change asks. asks)
+    (λ old given new h. h) refl)
+number_fits sizes (AsksUnload name) asked is =
+    subst (Fits sizes (Some (AsksUnload name)) number_reply) (sym is)
+    (of_one sizes (AsksUnload name) (Unload name) (Unload name) (λ change asks. asks)
+    (λ old given new h. h) refl)
+number_fits sizes (AsksTighten name) asked is =
+    subst (Fits sizes (Some (AsksTighten name)) number_reply) (sym is)
+    (of_one sizes (AsksTighten name) (Tighten name) (Tighten name) (λ change asks. asks)
+    (λ old given new h. h) refl)
+number_fits sizes (AsksUnloadAll names) asked is =
+    let kept = take names_kept names in
+    subst (Fits sizes (Some (AsksUnloadAll names)) number_reply) (sym is)
+    (of_one sizes (AsksUnloadAll names) (UnloadAll kept) (UnloadAll kept) (λ change asks. asks)
+    (λ old given new h. h) refl)
+number_fits sizes (AsksDefine loader digits) asked is = absurd is
+number_fits sizes (AsksFind loader class) asked is = absurd is
 
 -- no two classes have one layout
 abbrev pub LayIsOne : Type 0

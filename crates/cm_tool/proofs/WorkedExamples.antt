@@ -112,6 +112,10 @@ numbers_spent : (refusal_reply refusal.NumbersSpent).text ≡ codes "refused 12 
 unfolding digits
 numbers_spent = refl
 
+bad_list : (refusal_reply refusal.BadList).text ≡ codes "refused 16 list"
+unfolding digits
+bad_list = refl
+
 truncated : (refusal_reply (refusal.BadClass bad.Truncated)).text ≡ codes "refused 14 truncated"
 unfolding digits
 truncated = refl

@@ -1,6 +1,7 @@
 -- The answers of a cache to the lines of a script: to one line after another, each by what the
 -- abstract machine came to so far.
 use Rattle.std.specs.Prelude.{◌≡◌, ◌<◌, ◌≤◌, ◌⊎◌, ℕ, ◌++◌, true, false, List, [], ◌∷◌, length}
+use Rattle.std.specs.Prelude.{take}
 use Rattle.std.specs.Prelude.{Option, Some, None, Result, Ok, Err}
 use Rattle.hex.specs.Hex.{decode_of}
 use Rattle.hex.specs.declared.error.FromHexError.{FromHexError}
@@ -9,15 +10,16 @@ use Rattle.cm_pool.specs.Geometry.{Sizes}
 use Rattle.cm_record.specs.Layout.{lay, limit, IsRecordOf}
 use Rattle.cm_record.specs.Names.{class_name_of}
 use Rattle.cm_rules.specs.Answer.{IsRight}
-use Rattle.cm_state.specs.Step.{Change, AddLoader, Define, Unload, Tighten}
+use Rattle.cm_state.specs.Step.{Change, AddLoader, Define, Unload, Tighten, UnloadAll}
 use Rattle.cm_prepare.specs.declared.refusal.Refusal.{Refusal}
 use Rattle.cm_prepare.specs.Prepare.{IsUnprepared}
+use Rattle.cm_prepare.specs.Names.{names_kept}
 use Rattle.cm_machine.specs.Machine.{Machine, Accepts, Refuses}
 use Rattle.cm_machine.specs.Laws.{Finds}
 use Rattle.cm_session.specs.Images.{StandsFor}
 use Rattle.cm_lines.specs.Escapes.{unescaped}
 use Rattle.cm_lines.specs.Lines.{Asked, AsksLoader, AsksUnload, AsksTighten, AsksDefine, AsksFind}
-use Rattle.cm_lines.specs.Lines.{asked_by}
+use Rattle.cm_lines.specs.Lines.{AsksUnloadAll, asked_by}
 use Rattle.cm_tool.specs.Texts.{ReplyText, number_reply, defined_reply, none_reply, class_reply}
 use Rattle.cm_tool.specs.Texts.{refusal_reply, unsure_reply, bad_line_reply}
 use Rattle.cm_tool.specs.Replies.{is_unsure}
@@ -128,6 +130,9 @@ AnswersAsked sizes (Some (AsksUnload name)) old given new =
     AnswersCommand sizes (Unload name) number_reply old given new
 AnswersAsked sizes (Some (AsksTighten name)) old given new =
     AnswersCommand sizes (Tighten name) number_reply old given new
+-- Of more than seven names the first eight are enough: those are refused as all of them would be.
+AnswersAsked sizes (Some (AsksUnloadAll names)) old given new =
+    AnswersCommand sizes (UnloadAll (take names_kept names)) number_reply old given new
 AnswersAsked sizes (Some (AsksDefine loader digits)) old given new =
     AnswersDefine sizes loader (decode_of digits) old given new
 AnswersAsked sizes (Some (AsksFind loader name)) old given new =
@@ -151,6 +156,7 @@ IsChangeOf None change = ⊥
 IsChangeOf (Some (AsksLoader name)) change = change ≡ AddLoader name
 IsChangeOf (Some (AsksUnload name)) change = change ≡ Unload name
 IsChangeOf (Some (AsksTighten name)) change = change ≡ Tighten name
+IsChangeOf (Some (AsksUnloadAll names)) change = change ≡ UnloadAll (take names_kept names)
 IsChangeOf (Some (AsksDefine loader digits)) change = IsDefineOf loader (decode_of digits) change
 IsChangeOf (Some (AsksFind loader name)) change = ⊥
 

@@ -1,16 +1,18 @@
 -- The replies of a cache that runs to lines, whose commands are accepted through one pass.
-use Rattle.std.specs.Prelude.{◌≡◌, ◌⊎◌, ℕ, List, length, Option, Some, None, Result, Ok, Err}
+use Rattle.std.specs.Prelude.{◌≡◌, ◌⊎◌, ℕ, List, length, take, Option, Some, None, Result, Ok, Err}
 use Rattle.hex.specs.Hex.{decode_of}
 use Rattle.hex.specs.declared.error.FromHexError.{FromHexError}
 use Rattle.cm_class.specs.declared.class_file.ClassFile.{ClassFile}
 use Rattle.cm_record.specs.Layout.{IsRecordOf}
 use Rattle.cm_record.specs.Names.{class_name_in}
-use Rattle.cm_state.specs.Step.{Change, AddLoader, Define, Unload, Tighten}
+use Rattle.cm_state.specs.Step.{Change, AddLoader, Define, Unload, Tighten, UnloadAll}
 use Rattle.cm_prepare.specs.declared.refusal.Refusal.{Refusal}
 use Rattle.cm_prepare.specs.Prepare.{IsUnprepared}
+use Rattle.cm_prepare.specs.Names.{names_kept}
 use Rattle.cm_cache.specs.Shared.{PassState, Tells}
 use Rattle.cm_lines.specs.Escapes.{unescaped}
 use Rattle.cm_lines.specs.Lines.{Asked, AsksLoader, AsksUnload, AsksTighten, AsksDefine, AsksFind}
+use Rattle.cm_lines.specs.Lines.{AsksUnloadAll}
 use Rattle.cm_tool.specs.Texts.{ReplyText, number_reply, defined_reply, none_reply, class_reply}
 use Rattle.cm_tool.specs.Texts.{refusal_reply, bad_line_reply}
 use Rattle.cm_tool.specs.Ahead.{AreWordsOf}
@@ -61,6 +63,9 @@ RepliesToAsked (Some (AsksUnload name)) old given new =
     RepliesTo (Unload name) number_reply old given new
 RepliesToAsked (Some (AsksTighten name)) old given new =
     RepliesTo (Tighten name) number_reply old given new
+-- of more than seven names the first eight are enough, as in `AnswersAsked`
+RepliesToAsked (Some (AsksUnloadAll names)) old given new =
+    RepliesTo (UnloadAll (take names_kept names)) number_reply old given new
 RepliesToAsked (Some (AsksDefine loader digits)) old given new =
     RepliesToDefine loader (decode_of digits) old given new
 RepliesToAsked (Some (AsksFind loader name)) old given new =

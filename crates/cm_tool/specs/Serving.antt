@@ -1,9 +1,11 @@
 -- What the functions of a script do to the session that they run on.
-use Rattle.std.specs.Prelude.{◌≡◌, ◌≤◌, ◌⊎◌, ℕ, false, List, Option, Result, Ok, Err, IfOk}
+use Rattle.std.specs.Prelude.{◌≡◌, ◌≤◌, ◌⊎◌, ℕ, false, List, take, Option, Result, Ok, Err, IfOk}
 use Rattle.cm_pool.specs.Geometry.{Sizes}
 use Rattle.cm_disk.specs.Disk.{View, Unsynced}
 use Rattle.cm_guards.specs.Guards.{EachImage}
 use Rattle.cm_guards.specs.Calls.{LeavesOnly}
+use Rattle.cm_state.specs.Step.{Change, AddLoader, Unload, Tighten, UnloadAll}
+use Rattle.cm_prepare.specs.Names.{names_kept}
 use Rattle.cm_machine.specs.Machine.{Machine}
 use Rattle.cm_session.specs.declared.session.Session.{Session}
 use Rattle.cm_session.specs.declared.storing.NotStored.{NotStored}
@@ -11,7 +13,8 @@ use Rattle.cm_session.specs.declared.storing.NotStored.TheVariants.{Refused, NoM
 use Rattle.cm_session.specs.Images.{StandsForSome}
 use Rattle.cm_session.specs.Moves.{GoesWith}
 use Rattle.cm_session.specs.Storing.{IsAtRest}
-use Rattle.cm_lines.specs.Lines.{Asked}
+use Rattle.cm_lines.specs.Lines.{Asked, AsksLoader, AsksUnload, AsksTighten, AsksDefine, AsksFind}
+use Rattle.cm_lines.specs.Lines.{AsksUnloadAll}
 use Rattle.cm_tool.specs.declared.reply.Reply.{Reply}
 use Rattle.cm_tool.specs.Texts.{ReplyText, refusal_reply, unsure_reply}
 use Rattle.cm_tool.specs.Replies.{IsReply, is_unsure}
@@ -46,6 +49,15 @@ pub record MayGoOn {D : Type 0} (view : View D)
       (StandsBetween old.committer.sizes k next)
 
 -- ---- replies
+
+-- the change is what the question asks for, and the reply tells no more than its number
+abbrev pub IsAskedBy : Asked → Change (List ℕ) → Type 0
+IsAskedBy (AsksLoader name) change = change ≡ AddLoader name
+IsAskedBy (AsksUnload name) change = change ≡ Unload name
+IsAskedBy (AsksTighten name) change = change ≡ Tighten name
+IsAskedBy (AsksUnloadAll names) change = change ≡ UnloadAll (take names_kept names)
+IsAskedBy (AsksDefine loader digits) change = ⊥
+IsAskedBy (AsksFind loader class) change = ⊥
 
 -- all is stored again, and the device works unless the reply is unsure
 pub record IsLeft (given : ReplyText) (k : Machine) : Type 0 where

@@ -95,6 +95,7 @@ refusal_text refusal.NumbersSpent = codes "numbers spent"
 refusal_text (refusal.Unsure n) = codes "unsure " ++ decimal n
 refusal_text (refusal.BadClass bad) = bad_class_text bad
 refusal_text refusal.BadLine = codes "line"
+refusal_text refusal.BadList = codes "list"
 
 -- ---- of commands that aren't done
 

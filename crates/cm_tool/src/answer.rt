@@ -9,16 +9,17 @@ ghost use Rattle.cm_record.specs.Layout.{lay};
 ghost use Rattle.cm_rules.specs.Answer.{IsRight};
 ghost use Rattle.cm_machine.specs.Machine.{Machine};
 ghost use Rattle.cm_session.specs.Moves.{GoesWith};
-ghost use Rattle.cm_lines.specs.Lines.{seen, AsksLoader, AsksUnload, AsksTighten, AsksDefine};
-ghost use Rattle.cm_lines.specs.Lines.{AsksFind};
+ghost use Rattle.cm_lines.specs.Lines.{Asked, seen, AsksDefine, AsksFind};
+ghost use Rattle.cm_prepare.specs.Commands.{change_asked};
 ghost use Rattle.cm_tool.specs.Texts.{number_reply, defined_reply};
 ghost use Rattle.cm_tool.specs.Answers.{served};
 ghost use Rattle.cm_tool.specs.Serving.{IsReady, LedTo, MayGoOn, Replies, Tells, TellsNotStored};
+ghost use Rattle.cm_tool.specs.Serving.{IsAskedBy};
 
 use crate::Reply;
 use cm_disk::Disk;
 use cm_lines::{Line, NameFault, unescape};
-use cm_prepare::{Command, Prepared, prepare};
+use cm_prepare::{Command, Names, Prepared, prepare};
 use cm_record::{layout_determines_class, words_tell_name};
 use cm_session::{NotStored, Session};
 use hex::FromHexError;
@@ -57,59 +58,32 @@ fn answer_question<D: Disk>(
     ensures sizes { session.new.committer.sizes ≡ session.old.committer.sizes }
 {
     match question {
-        Line::Loader(name) => add_loader(alloc, session, name),
-        Line::Unload(name) => unload(alloc, session, name),
-        Line::Tighten(name) => tighten(alloc, session, name),
+        Line::Loader(name) => answer_number(alloc, session, Command::AddLoader(name)),
+        Line::Unload(name) => answer_number(alloc, session, Command::Unload(name)),
+        Line::Tighten(name) => answer_number(alloc, session, Command::Tighten(name)),
+        Line::UnloadAll(words) => {
+            answer_number(alloc, session, Command::UnloadAll(Names::from_words(words)))
+        }
         Line::Define(loader, digits) => define(alloc, session, loader, digits),
         Line::Find(loader, class) => find(alloc, session, loader, class),
     }
 }
 
-fn add_loader<D: Disk>(
+/// Runs a command whose reply tells no more than its number once it is done.
+fn answer_number<D: Disk>(
     alloc: Global,
     session: &mut Session<D>,
-    name: &[u8],
+    command: Command<'_>,
 ) -> Result<Reply, AllocError>
-    ensures machine { (k : Machine) → GoesWith k session.old → IsReady k
-        → LedTo (Replies session.old.committer.sizes (Some (AsksLoader name.now)) result
+    ensures machine { (question : Asked) → IsAskedBy question (change_asked command.entry)
+        → (k : Machine) → GoesWith k session.old → IsReady k
+        → LedTo (Replies session.old.committer.sizes (Some question) result
         (served k (D.view.failures session.old.committer.disk)))
         (D.view.failures session.new.committer.disk)
         (MayGoOn D.view k session.old session.new) }
     ensures sizes { session.new.committer.sizes ≡ session.old.committer.sizes }
 {
-    let stored = session.store(Command::AddLoader(name));
-    tell_number(alloc, stored)
-}
-
-fn unload<D: Disk>(
-    alloc: Global,
-    session: &mut Session<D>,
-    name: &[u8],
-) -> Result<Reply, AllocError>
-    ensures machine { (k : Machine) → GoesWith k session.old → IsReady k
-        → LedTo (Replies session.old.committer.sizes (Some (AsksUnload name.now)) result
-        (served k (D.view.failures session.old.committer.disk)))
-        (D.view.failures session.new.committer.disk)
-        (MayGoOn D.view k session.old session.new) }
-    ensures sizes { session.new.committer.sizes ≡ session.old.committer.sizes }
-{
-    let stored = session.store(Command::Unload(name));
-    tell_number(alloc, stored)
-}
-
-fn tighten<D: Disk>(
-    alloc: Global,
-    session: &mut Session<D>,
-    name: &[u8],
-) -> Result<Reply, AllocError>
-    ensures machine { (k : Machine) → GoesWith k session.old → IsReady k
-        → LedTo (Replies session.old.committer.sizes (Some (AsksTighten name.now)) result
-        (served k (D.view.failures session.old.committer.disk)))
-        (D.view.failures session.new.committer.disk)
-        (MayGoOn D.view k session.old session.new) }
-    ensures sizes { session.new.committer.sizes ≡ session.old.committer.sizes }
-{
-    let stored = session.store(Command::Tighten(name));
+    let stored = session.store(command);
     tell_number(alloc, stored)
 }
 

@@ -17,7 +17,7 @@ use crate::script::{Outcome, ToolFault};
 use crate::{Reply, ReplyKind};
 use cm_cache::{Cache, Naming, Pass};
 use cm_lines::{Line, NameFault, unescape, write_line};
-use cm_prepare::Refusal;
+use cm_prepare::{Names, Refusal};
 use std::alloc::{AllocError, Global};
 use std::io::{BufRead, Write};
 use std::sync::Wait;
@@ -119,6 +119,10 @@ fn answer<K: Naming, T: Wait>(
         Some(Line::Loader(name)) => tell_number(alloc, cache.add_loader(rt, pass, name)),
         Some(Line::Unload(name)) => tell_number(alloc, cache.unload(rt, pass, name)),
         Some(Line::Tighten(name)) => tell_number(alloc, cache.tighten(rt, pass, name)),
+        Some(Line::UnloadAll(words)) => {
+            let names = Names::from_words(words);
+            tell_number(alloc, cache.unload_all(rt, pass, names))
+        }
         Some(Line::Define(loader, digits)) => {
             define(
                 rt,

@@ -28,6 +28,7 @@ pub fn text_of_refusal(alloc: Global, refusal: Refusal) -> Result<Vec<u8>, Alloc
         Refusal::Unsure(number) => word_with_number(alloc, b"unsure ", number),
         Refusal::BadClass(bad) => text_of_bad_class(alloc, bad),
         Refusal::BadLine => text(alloc, b"line"),
+        Refusal::BadList => text(alloc, b"list"),
     }
 }
 

@@ -2,7 +2,7 @@ use cm_lines::{Line, NameFault, escape_into, parse, unescape};
 use std::alloc::Global;
 use std::test::*;
 
-const FORMS: [(&[u8], Line<'_>); 7] = [
+const FORMS: [(&[u8], Line<'_>); 10] = [
     (b"loader app", Line::Loader(b"app")),
     (b"unload app", Line::Unload(b"app")),
     (b"unload unload", Line::Unload(b"unload")),
@@ -10,6 +10,12 @@ const FORMS: [(&[u8], Line<'_>); 7] = [
     (b"tighten unload", Line::Tighten(b"unload")),
     (b"define app cafebabe", Line::Define(b"app", b"cafebabe")),
     (b"find a% %c3%a9", Line::Find(b"a%", b"%c3%a9")),
+    (b"unloadall app", Line::UnloadAll(b"app")),
+    (b"unloadall b a \xff", Line::UnloadAll(b"b a \xff")),
+    (
+        b"unloadall a b c d e f g h a",
+        Line::UnloadAll(b"a b c d e f g h a"),
+    ),
 ];
 
 #[test]
@@ -20,7 +26,7 @@ fn lines_of_known_forms_are_parsed(rt: HostRuntime) -> Result<(), Fail> {
     Ok(())
 }
 
-const OTHERS: [&[u8]; 20] = [
+const OTHERS: [&[u8]; 27] = [
     b"",
     b" ",
     b"unload",
@@ -31,6 +37,13 @@ const OTHERS: [&[u8]; 20] = [
     b"unload a b",
     b"Unload app",
     b"unloads app",
+    b"unloadall",
+    b"unloadall ",
+    b"unloadall  app",
+    b"unloadall a ",
+    b"unloadall a  b",
+    b" unloadall app",
+    b"unloadalls app",
     b"tighten",
     b"tighten ",
     b"tighten a b",

@@ -41,7 +41,7 @@ fn expand(alloc: Global, script: &[u8]) -> Result<Vec<u8>, Fail> {
 }
 
 /// Scripts, and the replies to each.
-const CASES: [(&[u8], &[u8]); 11] = [
+const CASES: [(&[u8], &[u8]); 13] = [
     (b"", b""),
     (b"loader app", b"ok 1\n"),
     (
@@ -71,6 +71,15 @@ const CASES: [(&[u8], &[u8]); 11] = [
     (
         b"loader a\ndefine a @\nunload a\nfind a A\nloader a\nfind a A\nfind a %41\n",
         b"ok 1\nok 2 A\nok 3\nnone\nok 4\nnone\nrefused 15 line\n",
+    ),
+    (
+        b"loader a\nloader b\ndefine a @\ndefine b @\nunloadall a c\nunloadall a a\n\
+            unloadall b a\nfind a A\n",
+        b"ok 1\nok 2\nok 3 A\nok 4 A\nrefused 3 no loader\nrefused 16 list\nok 5\nnone\n",
+    ),
+    (
+        b"unloadall a b c d e f g h\nunloadall\nunloadall a \xff a\nunloadall a \xff\n",
+        b"refused 16 list\nrefused 15 line\nrefused 16 list\nrefused 1 name\n",
     ),
 ];
 

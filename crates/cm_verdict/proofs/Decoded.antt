@@ -1,15 +1,17 @@
 -- What is read from a slot is what was written there, and nothing else is read.
 -- For `entry_in`, `group_head_in`, `half_head_in` and others.
-use Rattle.std.proofs.Common.{◌≡◌, ℕ, ◌-◌, ◌<◌, ◌≤◌, ◌^◌, Bool, true, false, cond, List}
+use Rattle.std.proofs.Common.{◌≡◌, ℕ, zero, suc, ◌-◌, ◌<◌, ◌≤◌, ◌^◌, Bool, true, false, cond, List}
+use Rattle.std.proofs.Common.{[], ◌∷◌, ◌++◌, length-append}
 use Rattle.std.proofs.Common.{length, take, drop, replicate, Option, Some, None, refl, sym, ap}
 use Rattle.std.proofs.Common.{subst, ◌∙◌, arith, length-take}
 use Rattle.std.specs.Prelude.{◌&&◌, nat_le, ◌==◌}
 use Rattle.std.specs.Int.{w16, w32, w64, from_le_bytes, to_le_bytes}
+use Rattle.std.specs.List.{flat_map, AllByRecursion}
 use Rattle.std.specs.Option.{option_map}
 use Rattle.std.specs.Str.{bytes_eq}
 use Rattle.std.proofs.lemmas.Nat.{from_le_bytes-to_le_bytes_2, from_le_bytes-to_le_bytes_4}
 use Rattle.std.proofs.lemmas.Nat.{from_le_bytes-to_le_bytes_8}
-use Rattle.std.proofs.lemmas.List.{take_at}
+use Rattle.std.proofs.lemmas.List.{take_at, length-replicate}
 use Rattle.std.proofs.lemmas.Slice.Eq.{bytes_eq-Decides}
 use Rattle.std.proofs.lemmas.Bool.{and_parts, and_from, leb-true, le-leb}
 use Rattle.cm_pool.specs.Geometry.{Sizes, IsGeometry}
@@ -20,19 +22,21 @@ use Rattle.cm_layout.specs.declared.loader_row.LoaderRow.{LoaderRow}
 use Rattle.cm_layout.specs.declared.class_row.ClassRow.{ClassRow}
 use Rattle.cm_layout.specs.declared.unload.Unload.{Unload}
 use Rattle.cm_layout.specs.declared.relocation.Move.{Move}
+use Rattle.cm_layout.specs.declared.unload_all.UnloadAll.{UnloadAll}
 use Rattle.cm_layout.specs.declared.row.Row.TheVariants.{Loader, Class}
 use Rattle.cm_layout.specs.declared.entry.Entry.TheVariants as entry
 use Rattle.cm_layout.specs.Slots.{half_head_slot, group_head_slot, loader_slot, class_slot}
 use Rattle.cm_layout.specs.Slots.{unload_slot, move_slot, row_slot, entry_slot, FitsHalfHead}
 use Rattle.cm_layout.specs.Slots.{FitsGroupHead, FitsLoader, FitsClass, FitsUnload, FitsMove}
-use Rattle.cm_layout.specs.Slots.{FitsRow, FitsEntry, FitsChunk}
+use Rattle.cm_layout.specs.Slots.{FitsRow, FitsEntry, FitsChunk, FitsUnloadAll, unload_all_slot}
 use Rattle.cm_layout.specs.Superblock.{superblock_bytes}
 use Rattle.cm_layout.specs.Frames.{BareRow, BareEntry}
 use Rattle.cm_verdict.specs.Decoding.{two_at, four_at, eight_at, if_spelled, half_head_at}
 use Rattle.cm_verdict.specs.Decoding.{half_head_in, group_head_at, group_head_in, name_size}
 use Rattle.cm_verdict.specs.Decoding.{loader_at, loader_in, class_at, class_in, chunk_at, unload_at}
 use Rattle.cm_verdict.specs.Decoding.{unload_in, move_at, move_in, kind_at, row_in, entry_in}
-use Rattle.cm_verdict.specs.Decoding.{sizes_at, is_lawful, sizes_in}
+use Rattle.cm_verdict.specs.Decoding.{sizes_at, is_lawful, sizes_in, loaders_size, eights_in}
+use Rattle.cm_verdict.specs.Decoding.{unload_all_at, unload_all_in}
 
 -- ---- encodings
 
@@ -223,6 +227,76 @@ unload_again e fits =
     (λ i. if_spelled (unload_slot (same i)) (unload_slot e) (same i))
     ∙ spelled_is (unload_slot e) (unload_slot e) e refl
 
+eights_count : (n : ℕ) (bytes : List ℕ) → length (eights_in n bytes) ≡ n
+eights_count zero bytes = refl
+eights_count (suc n) bytes = omega (arith, eights_count n (drop 8 bytes))
+
+abbrev AreSmall : List ℕ → Type 0
+AreSmall us = AllByRecursion (λ u. u < 2 ^ 64) us
+
+-- numbers that were written are small ones when they are read, and the same where they were small
+eights_small : (n : ℕ) (us : List ℕ) → n ≤ length us
+    → AreSmall (eights_in n (flat_map (to_le_bytes w64) us))
+eights_small zero us few = tt
+eights_small (suc n) [] few = absurd (omega (arith, few))
+eights_small (suc n) (u ∷ us) few = (small_8 u, eights_small n us (omega (arith, few)))
+
+eights_back : (us more : List ℕ) → AreSmall us
+    → eights_in (length us) (flat_map (to_le_bytes w64) (us ++ more)) ≡ us
+eights_back [] more small = refl
+eights_back (u ∷ us) more small =
+    (λ i. from_le_bytes-to_le_bytes_8 u small.0 i ∷ eights_back us more small.1 i)
+
+unload_all_spelled : (slot : List ℕ) (e : UnloadAll) → unload_all_in slot ≡ Some e
+    → (slot ≡ unload_all_slot e) × FitsUnloadAll e
+unfolding unload_all_in
+unload_all_spelled slot u = by_size (nat_le 1 n && nat_le n 7) refl
+  where
+    n : ℕ
+    n = loaders_size slot
+
+    by_size : (t : Bool) → (nat_le 1 n && nat_le n 7) ≡ t
+        → cond t (if_spelled (unload_all_slot (unload_all_at slot)) slot (unload_all_at slot)) None
+        ≡ Some u
+        → (slot ≡ unload_all_slot u) × FitsUnloadAll u
+    by_size true is e =
+        let s = spelled_some (unload_all_slot (unload_all_at slot)) slot (unload_all_at slot) u e in
+        let parts = and_parts (nat_le 1 n) (nat_le n 7) is in
+        let few : n ≤ 7 = leb-true n 7 parts.1 in
+        let numbers = eights_in n (drop 8 slot) in
+        let count = eights_count n (drop 8 slot) in
+        let room : n ≤ length (numbers ++ replicate (7 - length numbers) 0) =
+        omega (
+          arith,
+          few,
+          count,
+          length-append numbers (replicate (7 - length numbers) 0),
+          length-replicate {A = ℕ} (7 - length numbers) 0,
+        ) in
+        let fits : FitsUnloadAll (unload_all_at slot) = record {
+          some = omega (arith, count, leb-true 1 n parts.0);
+          few = omega (arith, count, few);
+          loaders = subst (λ (l : List ℕ). AreSmall (eights_in n (drop 8 l))) s.same
+              (eights_small n (numbers ++ replicate (7 - length numbers) 0) room);
+        } in
+        (sym s.same ∙ ap unload_all_slot s.value, subst FitsUnloadAll s.value fits)
+    by_size false is e = no_some u e
+
+unload_all_again : (e : UnloadAll) → FitsUnloadAll e → unload_all_in (unload_all_slot e) ≡ Some e
+unfolding unload_all_in
+unload_all_again e fits =
+    let slot = unload_all_slot e in
+    let n = length e.loaders in
+    let loaders : eights_in n (drop 8 slot) ≡ e.loaders =
+    eights_back e.loaders (replicate (7 - n) 0) fits.loaders in
+    let same : unload_all_at slot ≡ e = (λ i. record { loaders = loaders i }) in
+    let lawful : (nat_le 1 n && nat_le n 7) ≡ true =
+    rw (le-leb 1 n fits.some) (le-leb n 7 fits.few) in
+    ap (λ t. cond t (if_spelled (unload_all_slot (unload_all_at slot)) slot (unload_all_at slot))
+    None) lawful
+    ∙ ((λ i. if_spelled (unload_all_slot (same i)) slot (same i))
+    ∙ spelled_is slot slot e refl)
+
 move_spelled : (slot : List ℕ) (m : Move) → move_in slot ≡ Some m
     → (slot ≡ move_slot m) × FitsMove m
 unfolding move_in
@@ -292,22 +366,28 @@ row_again (Class r u) fits = ap (option_map (λ (c : ClassRow). Class c tt)) (cl
 pub entry_spelled : (slot : List ℕ) (e : BareEntry) → entry_in slot ≡ Some e
     → (slot ≡ entry_slot e) × FitsEntry e
 unfolding entry_in
-entry_spelled slot v = by_kind (kind_at slot == 19) (kind_at slot == 20)
+entry_spelled slot v =
+    by_kind (kind_at slot == 19) (kind_at slot == 20) (kind_at slot == 21)
   where
-    by_kind : (t u : Bool)
+    by_kind : (t u s : Bool)
         → cond t (option_map (λ e. entry.Unload e) (unload_in slot))
         (cond u (option_map (λ e. entry.Move e) (move_in slot))
-        (option_map (λ r. entry.Live r) (row_in slot))) ≡ Some v
+        (cond s (option_map (λ e. entry.UnloadAll e) (unload_all_in slot))
+        (option_map (λ r. entry.Live r) (row_in slot)))) ≡ Some v
         → (slot ≡ entry_slot v) × FitsEntry v
-    by_kind true u e =
+    by_kind true u s e =
         mapped_some (λ (d : Unload). entry.Unload d) (unload_in slot) v e (λ d there is.
         let s = unload_spelled slot d there in
         subst (λ (w : BareEntry). (slot ≡ entry_slot w) × FitsEntry w) is s)
-    by_kind false true e =
+    by_kind false true s e =
         mapped_some (λ (d : Move). entry.Move d) (move_in slot) v e (λ d there is.
         let s = move_spelled slot d there in
         subst (λ (w : BareEntry). (slot ≡ entry_slot w) × FitsEntry w) is s)
-    by_kind false false e =
+    by_kind false false true e =
+        mapped_some (λ (d : UnloadAll). entry.UnloadAll d) (unload_all_in slot) v e (λ d there is.
+        let s = unload_all_spelled slot d there in
+        subst (λ (w : BareEntry). (slot ≡ entry_slot w) × FitsEntry w) is s)
+    by_kind false false false e =
         mapped_some (λ (d : BareRow). entry.Live d) (row_in slot) v e (λ d there is.
         let s = row_spelled slot d there in
         subst (λ (w : BareEntry). (slot ≡ entry_slot w) × FitsEntry w) is s)
@@ -321,6 +401,8 @@ entry_again (entry.Live (Class r u)) fits =
 entry_again (entry.Unload e) fits =
     ap (option_map (λ (d : Unload). entry.Unload d)) (unload_again e fits)
 entry_again (entry.Move e) fits = ap (option_map (λ (d : Move). entry.Move d)) (move_again e fits)
+entry_again (entry.UnloadAll e) fits =
+    ap (option_map (λ (d : UnloadAll). entry.UnloadAll d)) (unload_all_again e fits)
 
 -- what isn't spelled isn't there
 pub none_is : {A : Type 0} (o : Option A) → ((x : A) → o ≡ Some x → ⊥) → None ≡ o

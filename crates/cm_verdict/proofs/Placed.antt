@@ -22,6 +22,7 @@ entry_bare n (entry.Live (Loader r)) = refl
 entry_bare n (entry.Live (Class r u)) = refl
 entry_bare n (entry.Unload e) = refl
 entry_bare n (entry.Move e) = refl
+entry_bare n (entry.UnloadAll e) = refl
 
 pub live_rule_bare : {A : Type 0} (sizes : Sizes) (base : ℕ) (rows : List (Row A)) (row : Row A)
     → broken_live_rule sizes base (bare rows) (bare_row row) ≡ broken_live_rule sizes base rows row

@@ -47,6 +47,7 @@ pub slots_one : (e : BareEntry) → slots_of e ≡ 1
 slots_one (entry.Live r) = refl
 slots_one (entry.Unload e) = refl
 slots_one (entry.Move e) = refl
+slots_one (entry.UnloadAll e) = refl
 
 pub slots_many : (es : List BareEntry) → slots_of_entries es ≡ length es
 slots_many [] = refl

@@ -1,6 +1,7 @@
 -- What bytes spell, as functions: fields are read at their places, and only writing them again
 -- tells whether the bytes are an encoding.
-use Rattle.std.specs.Prelude.{ℕ, ◌+◌, ◌==◌, ◌&&◌, nat_le, Bool, if◌then◌else◌, List, take, drop}
+use Rattle.std.specs.Prelude.{ℕ, zero, suc, ◌+◌, ◌==◌, ◌&&◌, nat_le, Bool, if◌then◌else◌, List, []}
+use Rattle.std.specs.Prelude.{◌∷◌, take, drop}
 use Rattle.std.specs.Prelude.{Option, Some, None, get_or}
 use Rattle.std.specs.Int.{w16, w32, w64, from_le_bytes}
 use Rattle.std.specs.Option.{option_map}
@@ -13,11 +14,13 @@ use Rattle.cm_layout.specs.declared.loader_row.LoaderRow.{LoaderRow}
 use Rattle.cm_layout.specs.declared.class_row.ClassRow.{ClassRow}
 use Rattle.cm_layout.specs.declared.unload.Unload.{Unload}
 use Rattle.cm_layout.specs.declared.relocation.Move.{Move}
+use Rattle.cm_layout.specs.declared.unload_all.UnloadAll.{UnloadAll}
 use Rattle.cm_layout.specs.declared.row.Row.TheVariants.{Loader, Class}
 use Rattle.cm_layout.specs.declared.entry.Entry.TheVariants as entry
 use Rattle.cm_layout.specs.Names.{name_room}
 use Rattle.cm_layout.specs.Slots.{open_gate, half_head_slot, group_head_slot, loader_slot}
 use Rattle.cm_layout.specs.Slots.{class_slot, unload_slot, move_slot}
+use Rattle.cm_layout.specs.Slots.{unload_all_slot, unload_limit}
 use Rattle.cm_layout.specs.Superblock.{superblock_bytes}
 use Rattle.cm_layout.specs.Frames.{BareRow, BareEntry}
 
@@ -104,6 +107,22 @@ move_at slot = record {
 unfoldable pub move_in : List ℕ → Option Move
 move_in slot = if_spelled (move_slot (move_at slot)) slot (move_at slot)
 
+abbrev pub loaders_size : List ℕ → ℕ
+loaders_size slot = get_or slot 2 0
+
+-- so many numbers, one behind another
+abbrev pub eights_in : ℕ → List ℕ → List ℕ
+eights_in zero bytes = []
+eights_in (suc n) bytes = eight_at 0 bytes ∷ eights_in n (drop 8 bytes)
+
+abbrev pub unload_all_at : List ℕ → UnloadAll
+unload_all_at slot = record { loaders = eights_in (loaders_size slot) (drop 8 slot) }
+
+unfoldable pub unload_all_in : List ℕ → Option UnloadAll
+unload_all_in slot =
+    if nat_le 1 (loaders_size slot) && nat_le (loaders_size slot) unload_limit
+    then if_spelled (unload_all_slot (unload_all_at slot)) slot (unload_all_at slot) else None
+
 -- the byte that says what a slot is
 abbrev pub kind_at : List ℕ → ℕ
 kind_at slot = get_or slot 1 0
@@ -117,6 +136,7 @@ unfoldable pub entry_in : List ℕ → Option BareEntry
 entry_in slot =
     if kind_at slot == 19 then option_map (λ e. entry.Unload e) (unload_in slot)
     else if kind_at slot == 20 then option_map (λ e. entry.Move e) (move_in slot)
+    else if kind_at slot == 21 then option_map (λ e. entry.UnloadAll e) (unload_all_in slot)
     else option_map (λ r. entry.Live r) (row_in slot)
 
 -- ---- the superblock

@@ -1,13 +1,17 @@
 //! What slots spell.
 
-ghost use Rattle.std.specs.Prelude.{◌≡◌};
+ghost use Rattle.std.specs.Prelude.{◌≡◌, ◌<◌, ◌^◌};
+ghost use Rattle.std.specs.List.{AllByRecursion};
 ghost use Rattle.cm_layout.specs.Slots.{FitsHalfHead, FitsGroupHead, FitsLoader, FitsClass};
-ghost use Rattle.cm_layout.specs.Slots.{FitsUnload, FitsChunk, FitsMove, FitsRow, FitsEntry};
+ghost use Rattle.cm_layout.specs.Slots.{FitsUnload, FitsUnloadAll, FitsChunk, FitsMove, FitsRow};
+ghost use Rattle.cm_layout.specs.Slots.{FitsEntry};
 ghost use Rattle.cm_verdict.specs.Decoding.{half_head_in as half_head_spelled};
 ghost use Rattle.cm_verdict.specs.Decoding.{group_head_in as group_head_spelled};
 ghost use Rattle.cm_verdict.specs.Decoding.{row_in as row_spelled, entry_in as entry_spelled};
 
-use cm_layout::{ClassRow, Entry, GroupHead, HalfHead, LoaderRow, Move, Row, SLOT_BYTES, Unload};
+use cm_layout::{
+    ClassRow, Entry, GroupHead, HalfHead, LoaderRow, Move, Row, SLOT_BYTES, Unload, UnloadAll,
+};
 use cm_pool::Chunk;
 
 /// The head of a half that a slot with an open gate spells.
@@ -46,6 +50,7 @@ pub(crate) fn row_in(slot: &[u8; SLOT_BYTES]) -> Option<Row<()>>
         Entry::Live(row) => Some(row),
         Entry::Unload(_) => None,
         Entry::Move(_) => None,
+        Entry::UnloadAll(_) => None,
     }
 }
 
@@ -105,6 +110,20 @@ fn fits_move(entry: &Move)
     let _loader = entry.loader;
 }
 
+fn fits_unload_all(entry: &UnloadAll)
+    ensures { FitsUnloadAll entry.now }
+{
+    fits_numbers(entry.loaders.as_slice());
+}
+
+fn fits_numbers(numbers: &[u64])
+    ensures { AllByRecursion (λ u. u < 2 ^ 64) numbers.now }
+{
+    for number in numbers {
+        let _number = *number;
+    }
+}
+
 fn fits_row(row: &Row<()>)
     ensures { FitsRow row.now }
 {
@@ -121,5 +140,6 @@ fn fits_entry(entry: &Entry<()>)
         Entry::Live(row) => fits_row(row),
         Entry::Unload(entry) => fits_unload(entry),
         Entry::Move(entry) => fits_move(entry),
+        Entry::UnloadAll(entry) => fits_unload_all(entry),
     }
 }

@@ -77,6 +77,7 @@ fn placed_entry(slot: u32, entry: Entry<()>) -> Entry<DefinedAt>
         Entry::Live(row) => Entry::Live(placed_row(slot, row)),
         Entry::Unload(entry) => Entry::Unload(entry),
         Entry::Move(entry) => Entry::Move(entry),
+        Entry::UnloadAll(entry) => Entry::UnloadAll(entry),
     }
 }
 

@@ -1,6 +1,6 @@
 //! Calls of an accepted cache as values, so that a test is a table of calls and answers.
 
-use crate::fronts::{add_loader, define, tighten, unload, words};
+use crate::fronts::{add_loader, define, tighten, unload, unload_all, words};
 use cm_front::Front;
 use cm_group::{Group, Receipt};
 use cm_layout::Entry;
@@ -15,6 +15,7 @@ pub enum Call {
     Define(u8, usize),
     Unload(u8),
     Tighten(u8),
+    UnloadAll(&'static [&'static [u8]]),
     Find(u8, u8),
     Seal,
     SealPlace,
@@ -91,7 +92,7 @@ fn seal_move(front: &mut Front) -> Option<Answer> {
     let last = group.entries().last()?;
     match last.bare() {
         Entry::Move(moves) => Some(Answer::Moved(moves.from, moves.to, last.moved().len())),
-        Entry::Live(_) | Entry::Unload(_) => None,
+        Entry::Live(_) | Entry::Unload(_) | Entry::UnloadAll(_) => None,
     }
 }
 
@@ -102,6 +103,7 @@ pub fn make(front: &mut Front, classes: &[Prepared], call: Call) -> Answer {
         Call::Define(loader, at) => define_at(front, loader, classes, at),
         Call::Unload(loader) => answer_number(unload(front, &[loader])),
         Call::Tighten(loader) => answer_number(tighten(front, &[loader])),
+        Call::UnloadAll(loaders) => answer_number(unload_all(front, loaders)),
         Call::Find(loader, class) => find(front, loader, class),
         Call::Seal => seal(front),
         Call::SealPlace => seal_place(front).unwrap_or(Answer::Nothing),

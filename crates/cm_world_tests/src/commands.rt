@@ -133,6 +133,69 @@ fn a_chunk_that_a_move_leaves_waits_for_its_receipt(rt: HostRuntime) -> Result<(
     Ok(())
 }
 
+/// The records of `a` and `b` fill the one root, until both loaders are gone and that is learnt.
+const TOGETHER: [(Call, Answer); 16] = [
+    (Call::AddLoader(b'a'), Answer::Number(1)),
+    (Call::AddLoader(b'b'), Answer::Number(2)),
+    (Call::Define(b'a', 0), Answer::Number(3)),
+    (Call::Define(b'b', 0), Answer::Number(4)),
+    (
+        Call::UnloadAll(&[b"a", b"c"]),
+        Answer::Refused(Refusal::NoLoader),
+    ),
+    (Call::Find(b'a', b'A'), Answer::Words(512)),
+    (Call::UnloadAll(&[b"b", b"a"]), Answer::Number(5)),
+    (Call::Find(b'a', b'A'), Answer::Nothing),
+    (Call::Find(b'b', b'A'), Answer::Nothing),
+    (Call::AddLoader(b'a'), Answer::Number(6)),
+    (Call::Seal, Answer::Group(1, 6, 0)),
+    (Call::Learn(4), Answer::Done),
+    (Call::Define(b'a', 0), Answer::Refused(Refusal::RegionFull)),
+    (Call::Learn(5), Answer::Done),
+    (Call::Define(b'a', 0), Answer::Number(7)),
+    (Call::Define(b'a', 1), Answer::Number(8)),
+];
+
+#[test]
+fn chunks_of_loaders_that_go_at_once_wait_for_the_receipt(rt: HostRuntime) -> Result<(), Fail> {
+    let samples = [(b'A', 8 * (512 - 20)), (b'B', 8 * (512 - 20))];
+    assert_eq!(rt; first_other(rt.alloc(), 1, &samples, &TOGETHER)?, None);
+    Ok(())
+}
+
+const LISTS: [(Call, Answer); 12] = [
+    (Call::AddLoader(b'a'), Answer::Number(1)),
+    (Call::UnloadAll(&[]), Answer::Refused(Refusal::BadList)),
+    (
+        Call::UnloadAll(&[b"a", b"b", b"c", b"d", b"e", b"f", b"g", b"h"]),
+        Answer::Refused(Refusal::BadList),
+    ),
+    (
+        Call::UnloadAll(&[b"a", b" ", b"a"]),
+        Answer::Refused(Refusal::BadList),
+    ),
+    (
+        Call::UnloadAll(&[b"b", b" "]),
+        Answer::Refused(Refusal::BadName),
+    ),
+    (
+        Call::UnloadAll(&[b"a", b"b"]),
+        Answer::Refused(Refusal::NoLoader),
+    ),
+    (Call::UnloadAll(&[b"a"]), Answer::Number(2)),
+    (Call::AddLoader(b'a'), Answer::Number(3)),
+    (Call::Fail, Answer::Done),
+    (Call::UnloadAll(&[]), Answer::Refused(Refusal::Broken)),
+    (Call::Close, Answer::Done),
+    (Call::UnloadAll(&[]), Answer::Refused(Refusal::Closed)),
+];
+
+#[test]
+fn lists_are_refused_before_names(rt: HostRuntime) -> Result<(), Fail> {
+    assert_eq!(rt; first_other(rt.alloc(), 1, &[], &LISTS)?, None);
+    Ok(())
+}
+
 /// How many bytes an attribute has, how many words the record takes, and the order of its chunk.
 const CHUNKS: [(u32, u32, u32); 3] = [(864, 128, 0), (865, 129, 1), (8_032, 1_024, 3)];
 

@@ -5,7 +5,7 @@
 use crate::classes::class_of_parts;
 use cm_front::Front;
 use cm_pool::Geometry;
-use cm_prepare::{Command, Prepared, Refusal};
+use cm_prepare::{Command, Names, Prepared, Refusal};
 use std::alloc::{AllocError, Global};
 use std::test::Fail;
 
@@ -55,6 +55,13 @@ pub fn unload(front: &mut Front, name: &[u8]) -> Result<u64, Refusal> {
 pub fn tighten(front: &mut Front, name: &[u8]) -> Result<u64, Refusal> {
     match front.accept(Command::Tighten(name)) {
         Err(Refusal::NoMemory) => front.accept(Command::Tighten(name)),
+        answer => answer,
+    }
+}
+
+pub fn unload_all(front: &mut Front, names: &[&[u8]]) -> Result<u64, Refusal> {
+    match front.accept(Command::UnloadAll(Names::new(names))) {
+        Err(Refusal::NoMemory) => front.accept(Command::UnloadAll(Names::new(names))),
         answer => answer,
     }
 }

@@ -3,7 +3,7 @@
 ghost use Rattle.std.specs.Prelude.{◌<◌, ◌≤◌, length};
 
 use crate::commands::classes;
-use crate::fronts::{add_loader, define, empty, tighten, unload, words};
+use crate::fronts::{add_loader, define, empty, tighten, unload, unload_all, words};
 use crate::words::{Chain, ROOTS, Region, TOP, Written};
 use cm_front::Front;
 use cm_group::{CarriedEntry, Group, Receipt};
@@ -104,6 +104,23 @@ impl Model {
         Ok(number)
     }
 
+    fn unload_both(&mut self, loader: usize, other: usize) -> Result<u64, Refusal>
+        requires loader { loader < 6 }
+        requires other { other < 6 }
+    {
+        if loader == other {
+            return Err(Refusal::BadList);
+        }
+        let left = self.lives[loader].ok_or(Refusal::NoLoader)?;
+        let left_too = self.lives[other].ok_or(Refusal::NoLoader)?;
+        let number = self.accept(Written::Nothing)?;
+        self.lives[loader] = None;
+        self.lives[other] = None;
+        self.region.leave(left, number);
+        self.region.leave(left_too, number);
+        Ok(number)
+    }
+
     fn tighten(&mut self, loader: usize) -> Result<u64, Refusal>
         requires { loader < 6 }
     {
@@ -132,7 +149,7 @@ fn written_by(entry: &CarriedEntry) -> Written {
     match entry.bare() {
         Entry::Live(Row::Class(row, _)) => Written::Class(row.place),
         Entry::Move(moves) => Written::Moved(moves.from, moves.to, entry.moved().len()),
-        Entry::Live(Row::Loader(_)) | Entry::Unload(_) => Written::Nothing,
+        Entry::Live(Row::Loader(_)) | Entry::Unload(_) | Entry::UnloadAll(_) => Written::Nothing,
     }
 }
 
@@ -175,9 +192,13 @@ fn agrees(front: &mut Front, model: &mut Model, classes: &[Prepared], choice: u3
     let loader = (choice % 6) as usize;
     let class = (choice / 16 % 8) as usize;
     let name = [(choice % 6) as u8 + 0x61];
+    let other = (choice / 4_096 % 6) as usize;
     let is_same = match choice / 256 % 16 {
         0..=2 => add_loader(front, &name) == model.add_loader(loader),
-        3 | 4 => unload(front, &name) == model.unload(loader),
+        3 => unload(front, &name) == model.unload(loader),
+        4 => {
+            unload_all(front, &[&name, &[other as u8 + 0x61]]) == model.unload_both(loader, other)
+        }
         5 => seals(front, model),
         6 => learns(front, model, choice / 4_096),
         7 | 8 => tighten(front, &name) == model.tighten(loader),

@@ -1,36 +1,28 @@
-use Rattle.std.proofs.Common.{◌≡◌, ◌∷◌, sym, ap, ◌∙◌}
-use Rattle.cm_lines.specs.Lines.{pieces}
-use Rattle.cm_lines.proofs.{pieces_cut, pieces_none, pieces_some}
-use Rattle.cm_events.specs.Asked.{asked_of_words}
+use Rattle.std.proofs.Common.{◌≡◌, true, false, cond, ◌&&◌, Some, arith, sym, ap, ◌∙◌}
+use Rattle.std.specs.Prelude.{codes}
+use Rattle.std.specs.Str.{bytes_eq}
+use Rattle.cm_lines.specs.Lines.{pieces, are_words}
+use Rattle.cm_events.specs.Asked.{AsksUnloadAll, asked_of_few}
 use Rattle.cm_events.proofs.line.with_words.Goals as goal
+use Rattle.cm_events.proofs.line.with_words.Goals.{else-eq-via-then-eq+else-are_words}
+use Rattle.cm_events.proofs.line.with_words.Goals.{else-eq-via-else-eq}
 
-pub returns-in-None : goal.returns-in-None
-returns-in-None c =
-    c.with_one.ensures ∙ sym
-    (ap (λ those. asked_of_words (c.args.verb.now ∷ those))
-    (pieces_none 32 c.args.rest.now c.in-None.ensures.none))
+pub returns-then-are_words : goal.returns-then-are_words
+returns-then-are_words c =
+    let verb = c.args.verb.now in
+    let names = pieces 32 c.args.rest.now in
+    let is : (bytes_eq verb (codes "unloadall") && are_words names) ≡ true =
+    grind (arith, c.if-eq.ensures {u = tt}, c.as_slice.ensures, c.if-are_words.ensures {u = tt}) in
+    sym (ap (λ t. cond t (Some (AsksUnloadAll names)) (asked_of_few verb names)) is)
 
-pub returns-in-None-cut : goal.returns-in-None-cut
-returns-in-None-cut c =
-    let word = c.in-Some.word.now in
-    let last = c.in-Some.last.now in
-    let more = pieces_cut 32 c.args.rest.now word last c.in-Some.ensures.found
-    c.in-Some.ensures.first in
-    let end = pieces_none 32 last c.in-None-cut.ensures.none in
-    c.with_two.ensures ∙ sym
-    (ap (λ those. asked_of_words (c.args.verb.now ∷ those)) (more ∙ ap (λ those. word ∷ those) end))
-
-pub returns-in-Some-cut : goal.returns-in-Some-cut
-returns-in-Some-cut c =
-    let word = c.in-Some.word.now in
-    let last = c.in-Some.last.now in
-    let third = c.in-Some-cut.field-0.0.now in
-    let further = c.in-Some-cut.field-0.1.now in
-    let more = pieces_cut 32 c.args.rest.now word last c.in-Some.ensures.found
-    c.in-Some.ensures.first in
-    let those = pieces_cut 32 last third further c.in-Some-cut.ensures.found
-    c.in-Some-cut.ensures.first in
-    let end = pieces_some 32 further in
-    let all : pieces 32 c.args.rest.now ≡ word ∷ third ∷ end.0 ∷ end.1 =
-    more ∙ ap (λ some. word ∷ some) (those ∙ ap (λ some. third ∷ some) end.2) in
-    sym (ap (λ some. asked_of_words (c.args.verb.now ∷ some)) all)
+pub returns-else-eq : goal.returns-else-eq
+returns-else-eq c =
+    let verb = c.args.verb.now in
+    let names = pieces 32 c.args.rest.now in
+    let not : (bytes_eq verb (codes "unloadall") && are_words names) ≡ false =
+    elim c.else-eq.branch [
+      | else-eq-via-then-eq+else-are_words w ↦ grind (arith, w.if-are_words.ensures {u = tt})
+      | else-eq-via-else-eq w ↦ grind (arith, w.if-eq.ensures {u = tt}, c.as_slice.ensures)
+    ] in
+    c.with_few.ensures
+    ∙ sym (ap (λ t. cond t (Some (AsksUnloadAll names)) (asked_of_few verb names)) not)

@@ -2,7 +2,7 @@ use Rattle.std.proofs.Common.{List, ℕ, ◌≤◌, length, refl, subst, sym, �
 use Rattle.cm_record.specs.Layout.{limit}
 use Rattle.cm_prepare.specs.declared.command.Command.{Command}
 use Rattle.cm_prepare.specs.Commands.{change_asked}
-use Rattle.cm_state.specs.Step.{AddLoader, Unload, Tighten}
+use Rattle.cm_state.specs.Step.{AddLoader, Unload, Tighten, UnloadAll}
 use Rattle.cm_session.specs.Moves.{IsAsked}
 use Rattle.cm_session.proofs.Commands.{is_asked}
 use Rattle.cm_session.proofs.session.look_at.Goals as goal
@@ -28,3 +28,8 @@ pub returns-in-Tighten : goal.returns-in-Tighten
 returns-in-Tighten c =
     subst (λ (command : Command). IsAsked (change_asked command)) (sym c.in-Tighten.is)
     (Tighten _, refl)
+
+pub returns-in-UnloadAll : goal.returns-in-UnloadAll
+returns-in-UnloadAll c =
+    subst (λ (command : Command). IsAsked (change_asked command)) (sym c.in-UnloadAll.is)
+    (UnloadAll _, refl)

@@ -1,7 +1,9 @@
-use Rattle.std.proofs.Common.{◌∙◌, Some, None, ap, sym}
-use Rattle.cm_state.specs.Step.{AddLoader, Unload, Tighten}
+use Rattle.std.proofs.Common.{◌∙◌, Some, None, ap, subst, sym, take}
+use Rattle.cm_state.specs.Step.{AddLoader, Unload, Tighten, UnloadAll}
 use Rattle.cm_lines.specs.Lines.{asked_by, AsksLoader, AsksUnload, AsksTighten, AsksDefine}
-use Rattle.cm_lines.specs.Lines.{AsksFind}
+use Rattle.cm_lines.specs.Lines.{AsksFind, AsksUnloadAll, pieces}
+use Rattle.cm_prepare.specs.Names.{names_kept}
+use Rattle.cm_cache.specs.Shared.{Tells}
 use Rattle.cm_tool.specs.Texts.{number_reply, bad_line_reply}
 use Rattle.cm_tool.proofs.Calls.{told, unasked, asks, asks_nothing, of_line}
 use Rattle.cm_tool.proofs.serving.answer.Goals as goal
@@ -39,6 +41,21 @@ returns-in-Some-Tighten g c = λ text holds.
     (at.is ∙ ap Some at.field-0-is))
     (told (Tighten name) number_reply c.args.pass.now c.tighten.new.pass c.tighten.result
     reply.result c.tighten.ensures reply.ensures)
+
+pub returns-in-Some-UnloadAll : goal.returns-in-Some-UnloadAll
+returns-in-Some-UnloadAll g c = λ text holds.
+    let at = c.in-Some-UnloadAll in
+    let names = pieces 32 at.words.now in
+    let kept = take names_kept names in
+    let s = c.args.pass.now in
+    let call = c.unload_all in
+    let reply = c.tell_number-in-Some-UnloadAll in
+    of_line (asked_by text) (Some (AsksUnloadAll names)) s call.new.pass reply.result
+    (asks c.question.result _ (asked_by text) (c.question.ensures text holds)
+    (at.is ∙ ap Some at.field-0-is))
+    (told (UnloadAll kept) number_reply s call.new.pass call.result reply.result
+    (subst (λ l. Tells s (UnloadAll l) call.result call.new.pass) c.from_words-names.ensures
+    call.ensures) reply.ensures)
 
 pub returns-in-Some-Define : goal.returns-in-Some-Define
 returns-in-Some-Define g c = λ text holds.

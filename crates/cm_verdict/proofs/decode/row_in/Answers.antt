@@ -36,3 +36,9 @@ returns-in-Move c =
     none_is (row_in c.args.slot.now) (λ row there.
     no_live (entry_in c.args.slot.now) _ (sym c.entry_in.ensures ∙ c.in_ok-entry.was {u = tt})
     (λ r live. let is = c.in-Move.is in cc) row (entry_of_row c.args.slot.now row there))
+
+pub returns-in-UnloadAll : goal.returns-in-UnloadAll
+returns-in-UnloadAll c =
+    none_is (row_in c.args.slot.now) (λ row there.
+    no_live (entry_in c.args.slot.now) _ (sym c.entry_in.ensures ∙ c.in_ok-entry.was {u = tt})
+    (λ r live. let is = c.in-UnloadAll.is in cc) row (entry_of_row c.args.slot.now row there))

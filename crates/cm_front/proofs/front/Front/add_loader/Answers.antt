@@ -17,7 +17,8 @@ use Rattle.cm_front.specs.Accepting.{Accepts, joined_by}
 use Rattle.cm_front.specs.Refusing.{loader_made}
 use Rattle.cm_front.proofs.Causes.{loader_refused, was_made}
 use Rattle.cm_front.proofs.Goings.{never_known, not_last}
-use Rattle.cm_front.proofs.Answering.{same_groups, above, next_follows, told, no_memory, given}
+use Rattle.cm_front.proofs.Answering.{same_groups, unchanged, above, next_follows, told, no_memory}
+use Rattle.cm_front.proofs.Answering.{given}
 use Rattle.cm_front.proofs.Answering.{Went, went_all, loader_keeps}
 use Rattle.cm_front.proofs.front.Front.add_loader.Goals as goal
 
@@ -64,10 +65,9 @@ returns-in_err-add_loader c =
     let i = c.self.inside in
     let first = loader_refused c.rows_tell_state.ensures.loaders.1 c.rows_tell_state.ensures.sizes.1
     s x (subst IsFront c.self.view_is c.self.invariant) c.requires.running c.requires.whole in
-    let same = ap (λ space. front_of i.book space c.make_ready.new.self i.number i.sealed i.learnt
-    i.is_broken i.is_closed) c.in_err-add_loader.ensures.err
-    ∙ (same_groups i.book i.space i.unsealed c.make_ready.new.self i.number i.sealed i.learnt
-    i.is_broken i.is_closed c.make_ready.ensures.groups ∙ c.self.view_is) in
+    let same = unchanged i.book i.space c.add_loader.new.self i.unsealed c.make_ready.new.self
+    i.number i.sealed i.learnt i.is_broken i.is_closed s c.in_err-add_loader.ensures.err
+    c.make_ready.ensures.groups c.self.view_is in
     rw (p.1, p.2) (no_memory s _ (AddLoader x) (loader_made s x) c.in_ok-number.number first
     (sym c.in_ok-number.ensures) same (λ b. b))
 

@@ -19,7 +19,7 @@ use Rattle.cm_front.specs.Accepting.{Answers, Accepts, joined_by}
 use Rattle.cm_front.specs.Refusing.{class_asked}
 use Rattle.cm_front.proofs.Causes.{class_refused, was_free}
 use Rattle.cm_front.proofs.Goings.{not_last}
-use Rattle.cm_front.proofs.Answering.{same_groups, above, told, given, full_answer, place_answer}
+use Rattle.cm_front.proofs.Answering.{unchanged, above, told, given, full_answer, place_answer}
 use Rattle.cm_front.proofs.Answering.{Went, went_all, class_keeps, class_given, is_known}
 use Rattle.cm_front.proofs.Answering.{words_some, not_full_for}
 use Rattle.cm_front.proofs.front.Front.define.Goals as goal
@@ -67,10 +67,9 @@ returns-in_default c =
     let first =
     class_refused c.rows_tell_state.ensures.loaders.1 c.rows_tell_state.ensures.classes.1
     c.rows_tell_state.ensures.sizes.1 s x k f c.requires.running c.requires.whole in
-    let same = ap (λ space. front_of i.book space c.room_for.new.unsealed i.number i.sealed i.learnt
-    i.is_broken i.is_closed) c.is_full.ensures.left
-    ∙ (same_groups i.book i.space i.unsealed c.room_for.new.unsealed i.number i.sealed i.learnt
-    i.is_broken i.is_closed c.room_for.ensures.groups ∙ c.self.view_is) in
+    let same = unchanged i.book i.space c.is_full.new.self i.unsealed c.room_for.new.unsealed
+    i.number i.sealed i.learnt i.is_broken i.is_closed s c.is_full.ensures.left
+    c.room_for.ensures.groups c.self.view_is in
     let free = was_free s x k u (sym c.in_ok-loader.ensures) in
     let tells = subst (λ (t : FrontState). IsTrue c.is_full.result
     ↔ IsFull (arena_of t.space u) t.space.pool c.words-words.result) c.self.view_is
@@ -127,10 +126,9 @@ returns-in-Err c =
     let first =
     class_refused c.rows_tell_state.ensures.loaders.1 c.rows_tell_state.ensures.classes.1
     c.rows_tell_state.ensures.sizes.1 s x w f c.requires.running c.requires.whole in
-    let same = ap (λ space. front_of i.book space c.room_for.new.unsealed i.number i.sealed i.learnt
-    i.is_broken i.is_closed) c.in-Err.ensures.err
-    ∙ (same_groups i.book i.space i.unsealed c.room_for.new.unsealed i.number i.sealed i.learnt
-    i.is_broken i.is_closed c.room_for.ensures.groups ∙ c.self.view_is) in
+    let same = unchanged i.book i.space c.place.new.self i.unsealed c.room_for.new.unsealed
+    i.number i.sealed i.learnt i.is_broken i.is_closed s c.in-Err.ensures.err
+    c.room_for.ensures.groups c.self.view_is in
     let free = was_free s x w u (sym c.in_ok-loader.ensures) in
     let long = subst (λ (t : FrontState). ◌≡◌ {A = Result Place PlaceRefusal} (Err c.in-Err.refusal)
     (Err of_place.RecordTooLong) → chunk_size t.space.pool.geometry.top < c.words-words.result)

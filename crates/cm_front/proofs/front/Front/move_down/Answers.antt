@@ -1,6 +1,6 @@
 use Rattle.std.proofs.Common.{◌≡◌, ℕ, ◌+◌, ◌≤◌, Bool, false, cond, refl, sym, ap, subst, ◌∙◌}
 use Rattle.std.proofs.Common.{List}
-use Rattle.std.specs.Prelude.{Result, Ok, Err, IsTrue, is_none}
+use Rattle.std.specs.Prelude.{Result, Ok, Err, IsTrue, is_none, ◌↔◌}
 use Rattle.std.specs.List.{AllByRecursion}
 use Rattle.std.proofs.lemmas.Result.{err_from_is_err_and}
 use Rattle.cm_arena.specs.Tightening.{IsTight}
@@ -13,14 +13,16 @@ use Rattle.cm_layout.specs.Rules.{broken_rule}
 use Rattle.cm_space.specs.Space.{SpaceState, Waits, arena_of}
 use Rattle.cm_space.specs.Tightening.{Moves, Answers as SpaceAnswers}
 use Rattle.cm_state.specs.Step.{Tighten}
+use Rattle.cm_state.specs.Laws.{LoadersAreFound}
 use Rattle.cm_prepare.specs.declared.refusal.Refusal.{Refusal}
+use Rattle.cm_prepare.specs.declared.refusal.Refusal.TheVariants as refusal
 use Rattle.cm_front.specs.Front.{FrontState, front_of}
-use Rattle.cm_front.specs.Accepting.{Accepts, joined_by}
+use Rattle.cm_front.specs.Accepting.{Answers, Accepts, joined_by}
 use Rattle.cm_front.specs.Refusing.{loader_asked}
 use Rattle.cm_front.proofs.Causes.{IsAsked, tighten_refused, was_asked}
 use Rattle.cm_front.proofs.Goings.{not_last}
 use Rattle.cm_front.proofs.GoingsMove.{Known, IsMoved, keeps_move, last_from, right-kept}
-use Rattle.cm_front.proofs.Answering.{same_groups, above, told, no_memory, no_chunk, not_tight_for}
+use Rattle.cm_front.proofs.Answering.{unchanged, above, told, no_memory, no_chunk, not_tight_for}
 use Rattle.cm_front.proofs.Answering.{given, Went, went_all, tighten_asked, last_of_all, is_known}
 use Rattle.cm_front.proofs.front.Front.move_down.Goals as goal
 use Rattle.cm_front.proofs.front.Front.move_down.Goals.{After-geometry-is_space, After-self-1}
@@ -66,49 +68,48 @@ returns-then-is_tight c =
 no_way : (b : Bool) → b ≡ false → IsTrue b → ⊥
 no_way b failed holds = absurd (cc)
 
+-- the records on the loader's last chunk may move, as the test said that failed
+loose : (s inside : FrontState) (u : ℕ) (tight : Bool) → inside ≡ s → tight ≡ false
+    → (IsTrue tight ↔ IsTight (arena_of inside.space u) inside.space.pool)
+    → IsTight (arena_of s.space u) s.space.pool → ⊥
+loose s inside u tight view failed tells h =
+    no_way tight failed (tells.1
+    (subst (λ (t : FrontState). IsTight (arena_of t.space u) t.space.pool) (sym view) h))
+
+-- an allocation failed, and nothing is changed
+failed : LoadersAreFound (List ℕ) → (s inside new : FrontState) (x : List ℕ) (u : ℕ) (tight : Bool)
+    → s.closed ≡ false → s.broken ≡ false
+    → ◌≡◌ {A = Result ℕ Refusal} (Ok u) (loader_asked s x) → inside ≡ s → tight ≡ false
+    → (IsTrue tight ↔ IsTight (arena_of inside.space u) inside.space.pool) → new ≡ s
+    → Answers s (Tighten x) (Err refusal.NoMemory) new
+failed loaders s inside new x u tight running whole asked view not_tight tells same =
+    no_memory s new (Tighten x) (loader_asked s x) u (tighten_refused loaders s x running whole)
+    (sym asked) same (not_tight_for s x u (was_asked s x u (sym asked)).found
+    (loose s inside u tight view not_tight tells))
+
 pub returns-in_err-make_ready : goal.returns-in_err-make_ready
 returns-in_err-make_ready c =
     let p = err_from_is_err_and c.from_residual-in_err-make_ready.result
     c.from_residual-in_err-make_ready.ensures.1 in
-    let s = c.args.self.now in
-    let x = c.args.name.now in
-    let u = c.in_ok-loader.loader in
     let i = c.self.inside in
-    let first = tighten_refused c.rows_tell_state.ensures.loaders.1 s x c.requires.running
-    c.requires.whole in
-    let same = ap (λ space. front_of i.book space c.make_ready.new.self i.number i.sealed i.learnt
-    i.is_broken i.is_closed) c.is_tight.ensures.left
-    ∙ (same_groups i.book i.space i.unsealed c.make_ready.new.self i.number i.sealed i.learnt
-    i.is_broken i.is_closed c.make_ready.ensures.groups ∙ c.self.view_is) in
-    let loose : IsTight (arena_of s.space u) s.space.pool → ⊥ =
-    λ h. no_way c.is_tight.result c.if-is_tight.false (c.is_tight.ensures.tight.1
-    (subst (λ (t : FrontState). IsTight (arena_of t.space u) t.space.pool) (sym c.self.view_is)
-    h)) in
-    rw (p.1, p.2) (no_memory s _ (Tighten x) (loader_asked s x) u first
-    (sym c.in_ok-loader.ensures) same
-    (not_tight_for s x u (was_asked s x u (sym c.in_ok-loader.ensures)).found loose))
+    rw (p.1, p.2) (failed c.rows_tell_state.ensures.loaders.1 c.args.self.now _ _ c.args.name.now
+    c.in_ok-loader.loader c.is_tight.result c.requires.running c.requires.whole
+    c.in_ok-loader.ensures c.self.view_is c.if-is_tight.false c.is_tight.ensures.tight
+    (unchanged i.book i.space c.is_tight.new.self i.unsealed c.make_ready.new.self i.number i.sealed
+    i.learnt i.is_broken i.is_closed c.args.self.now c.is_tight.ensures.left
+    c.make_ready.ensures.groups c.self.view_is))
 
 pub returns-in_err-records : goal.returns-in_err-records
 returns-in_err-records c =
     let p = err_from_is_err_and c.from_residual-in_err-records.result
     c.from_residual-in_err-records.ensures.1 in
-    let s = c.args.self.now in
-    let x = c.args.name.now in
-    let u = c.in_ok-loader.loader in
     let i = c.self.inside in
-    let first = tighten_refused c.rows_tell_state.ensures.loaders.1 s x c.requires.running
-    c.requires.whole in
-    let same = ap (λ space. front_of i.book space c.make_ready.new.self i.number i.sealed i.learnt
-    i.is_broken i.is_closed) c.is_tight.ensures.left
-    ∙ (same_groups i.book i.space i.unsealed c.make_ready.new.self i.number i.sealed i.learnt
-    i.is_broken i.is_closed c.make_ready.ensures.groups ∙ c.self.view_is) in
-    let loose : IsTight (arena_of s.space u) s.space.pool → ⊥ =
-    λ h. no_way c.is_tight.result c.if-is_tight.false (c.is_tight.ensures.tight.1
-    (subst (λ (t : FrontState). IsTight (arena_of t.space u) t.space.pool) (sym c.self.view_is)
-    h)) in
-    rw (p.1, p.2) (no_memory s _ (Tighten x) (loader_asked s x) u first
-    (sym c.in_ok-loader.ensures) same
-    (not_tight_for s x u (was_asked s x u (sym c.in_ok-loader.ensures)).found loose))
+    rw (p.1, p.2) (failed c.rows_tell_state.ensures.loaders.1 c.args.self.now _ _ c.args.name.now
+    c.in_ok-loader.loader c.is_tight.result c.requires.running c.requires.whole
+    c.in_ok-loader.ensures c.self.view_is c.if-is_tight.false c.is_tight.ensures.tight
+    (unchanged i.book i.space c.is_tight.new.self i.unsealed c.make_ready.new.self i.number i.sealed
+    i.learnt i.is_broken i.is_closed c.args.self.now c.is_tight.ensures.left
+    c.make_ready.ensures.groups c.self.view_is))
 
 pub tighten-requires-clause-last : goal.tighten-requires-clause-last
 tighten-requires-clause-last c =
@@ -121,23 +122,14 @@ pub returns-in_err-moved : goal.returns-in_err-moved
 returns-in_err-moved c =
     let p = err_from_is_err_and c.from_residual-in_err-moved.result
     c.from_residual-in_err-moved.ensures.1 in
-    let s = c.args.self.now in
-    let x = c.args.name.now in
-    let u = c.in_ok-loader.loader in
     let i = c.self.inside in
-    let first = tighten_refused c.rows_tell_state.ensures.loaders.1 s x c.requires.running
-    c.requires.whole in
-    let same = ap (λ space. front_of i.book space c.make_ready.new.self i.number i.sealed i.learnt
-    i.is_broken i.is_closed) (c.in_err-moved.ensures.err.0 ∙ c.is_tight.ensures.left)
-    ∙ (same_groups i.book i.space i.unsealed c.make_ready.new.self i.number i.sealed i.learnt
-    i.is_broken i.is_closed c.make_ready.ensures.groups ∙ c.self.view_is) in
-    let loose : IsTight (arena_of s.space u) s.space.pool → ⊥ =
-    λ h. no_way c.is_tight.result c.if-is_tight.false (c.is_tight.ensures.tight.1
-    (subst (λ (t : FrontState). IsTight (arena_of t.space u) t.space.pool) (sym c.self.view_is)
-    h)) in
-    rw (p.1, p.2) (no_memory s _ (Tighten x) (loader_asked s x) u first
-    (sym c.in_ok-loader.ensures) same
-    (not_tight_for s x u (was_asked s x u (sym c.in_ok-loader.ensures)).found loose))
+    rw (p.1, p.2) (failed c.rows_tell_state.ensures.loaders.1 c.args.self.now _ _ c.args.name.now
+    c.in_ok-loader.loader c.is_tight.result c.requires.running c.requires.whole
+    c.in_ok-loader.ensures c.self.view_is c.if-is_tight.false c.is_tight.ensures.tight
+    (unchanged i.book i.space c.tighten.new.self i.unsealed c.make_ready.new.self i.number i.sealed
+    i.learnt i.is_broken i.is_closed c.args.self.now
+    (c.in_err-moved.ensures.err.0 ∙ c.is_tight.ensures.left) c.make_ready.ensures.groups
+    c.self.view_is))
 
 pub returns-in_default : goal.returns-in_default
 returns-in_default c =
@@ -255,13 +247,10 @@ returns c =
     let u = c.in_ok-loader.loader in
     let first = tighten_refused c.rows_tell_state.ensures.loaders.1 s x c.requires.running
     c.requires.whole in
-    let loose : IsTight (arena_of s.space u) s.space.pool → ⊥ =
-    λ h. no_way c.is_tight.result c.if-is_tight.false (c.is_tight.ensures.tight.1
-    (subst (λ (t : FrontState). IsTight (arena_of t.space u) t.space.pool) (sym c.self.view_is)
-    h)) in
     given s _ (Tighten x) (loader_asked s x) u (c.self.inside.number + 1) first
     (sym c.in_ok-loader.ensures)
-    (not_tight_for s x u (was_asked s x u (sym c.in_ok-loader.ensures)).found loose)
+    (not_tight_for s x u (was_asked s x u (sym c.in_ok-loader.ensures)).found
+    (loose s _ u c.is_tight.result c.self.view_is c.if-is_tight.false c.is_tight.ensures.tight))
     (subst (λ (t : FrontState). Accepts t (Tighten x) (c.self.inside.number + 1)
     (front_of c.apply-rule.new.self c.tighten.new.self c.join.new.self (c.self.inside.number + 1)
     c.self.inside.sealed c.self.inside.learnt c.self.inside.is_broken c.self.inside.is_closed))

@@ -10,7 +10,8 @@ use Rattle.cm_front.specs.Accepting.{Accepts, joined_by}
 use Rattle.cm_front.specs.Refusing.{loader_asked}
 use Rattle.cm_front.proofs.Causes.{unload_refused, was_asked}
 use Rattle.cm_front.proofs.Goings.{not_last}
-use Rattle.cm_front.proofs.Answering.{same_groups, above, told, no_memory, given, Went, went_all}
+use Rattle.cm_front.proofs.Answering.{same_groups, unchanged, above, told, no_memory, given, Went}
+use Rattle.cm_front.proofs.Answering.{went_all}
 use Rattle.cm_front.proofs.Answering.{unload_keeps, unload_asked, last_of_all, is_known}
 use Rattle.cm_front.proofs.front.Front.unload.Goals as goal
 
@@ -64,10 +65,9 @@ returns-in_err-leave c =
     let i = c.self.inside in
     let first = unload_refused c.rows_tell_state.ensures.loaders.1 s x c.requires.running
     c.requires.whole in
-    let same = ap (λ space. front_of i.book space c.make_ready.new.self i.number i.sealed i.learnt
-    i.is_broken i.is_closed) c.in_err-leave.ensures.err
-    ∙ (same_groups i.book i.space i.unsealed c.make_ready.new.self i.number i.sealed i.learnt
-    i.is_broken i.is_closed c.make_ready.ensures.groups ∙ c.self.view_is) in
+    let same = unchanged i.book i.space c.leave.new.self i.unsealed c.make_ready.new.self
+    i.number i.sealed i.learnt i.is_broken i.is_closed s c.in_err-leave.ensures.err
+    c.make_ready.ensures.groups c.self.view_is in
     rw (p.1, p.2) (no_memory s _ (Unload x) (loader_asked s x) c.in_ok-loader.loader first
     (sym c.in_ok-loader.ensures) same (λ b. b))
 

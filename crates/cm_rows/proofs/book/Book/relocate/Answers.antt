@@ -26,6 +26,7 @@ use Rattle.cm_rows.proofs.Verdicts.{last-at, last-absent, move-none, move-no_roo
 use Rattle.cm_rows.proofs.Verdicts.{move-fits, on_chunks-unless, none-if, room-from}
 use Rattle.cm_rows.proofs.book.Book.relocate.Goals as goal
 use Rattle.cm_rows.proofs.book.Book.relocate.Goals.{then-not-has_room-via-then-not-has_room}
+use Rattle.cm_rows.proofs.book.Book.relocate.Goals.{}
 use Rattle.cm_rows.proofs.book.Book.relocate.Goals.{then-not-has_room-via-else-not-has_room+then-not-take}
 
 pub returns-in_default-clause-broken : goal.returns-in_default-clause-broken

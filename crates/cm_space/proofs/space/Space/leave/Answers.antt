@@ -1,57 +1,30 @@
-use Rattle.std.proofs.Common.{◌≡◌, List, [], ◌∷◌, ◌++◌, Some, sym, ap, ◌∙◌, subst, IsSome}
-use Rattle.std.specs.Prelude.{unwrap_or}
-use Rattle.std.specs.FinMap as map
-use Rattle.cm_pool.specs.declared.chunk.Chunk.{Chunk}
-use Rattle.cm_arena.specs.Chains.{Filled, chunks_of}
-use Rattle.cm_space.specs.Space.{Waits, arena_of, without_arena, state_of}
+use Rattle.std.proofs.Common.{◌≡◌, ap, ◌∙◌, sym, subst}
+use Rattle.cm_space.specs.Space.{SpaceState, IsKnown, left_by, state_of}
 use Rattle.cm_space.specs.Ownership.{IsSpace}
 use Rattle.cm_space.proofs.Spaces.{left}
-use Rattle.cm_space.proofs.Views.{view-get, one_left}
 use Rattle.cm_space.proofs.space.Space.leave.Goals as goal
-use Rattle.cm_space.proofs.space.Space.leave.Goals.{After-unwrap}
+use Rattle.cm_space.proofs.space.Space.leave.Goals.{After-leave_one}
 
-pub unwrap-arena-requires : goal.unwrap-arena-requires
-unwrap-arena-requires c =
-    let a = c.self.inside in
-    subst (λ o. IsSome o) (sym
-    (c.remove.ensures.value ∙ view-get a.pool a.arenas.entries a.waiting.items c.args.self.now
-    c.args.loader c.self.view_is)) c.requires.known
+pub leave_one-requires-clause-known : goal.leave_one-requires-clause-known
+leave_one-requires-clause-known c =
+    subst (λ (s : SpaceState). IsKnown s c.args.loader) (sym c.self.view_is) c.requires.known
 
-had : (c : After-unwrap) → map.get c.args.self.now.arenas c.args.loader ≡ Some c.unwrap-arena.result
-had c =
-    let a = c.self.inside in
-    sym (view-get a.pool a.arenas.entries a.waiting.items c.args.self.now c.args.loader
-    c.self.view_is) ∙ sym c.remove.ensures.value ∙ c.unwrap-arena.ensures
-
-abbrev parting : (c : After-unwrap) → List Chunk → Waits
-parting c cs = record { number = c.args.number; chunks = cs }
-
-new : (c : After-unwrap)
-    → state_of c.self.inside.pool c.remove.new.self.entries c.push_back.new.self.items
-    ≡ record (without_arena c.args.self.now c.args.loader)
-    { waiting = c.args.self.now.waiting ++ parting c (chunks_of c.unwrap-arena.result) ∷ [] }
+new : (c : After-leave_one)
+    → state_of c.self.inside.pool c.leave_one.new.arenas.entries c.leave_one.new.waiting.items
+    ≡ left_by c.args.self.now c.args.number c.args.loader
 new c =
     let a = c.self.inside in
-    one_left a.pool a.arenas.entries c.remove.new.self.entries a.waiting.items
-    c.push_back.new.self.items c.args.self.now c.args.loader
-    (record { number = c.args.number; chunks = c.release.result })
-    (parting c (chunks_of c.unwrap-arena.result)) c.self.view_is c.remove.ensures.updates.0
-    (rw c.unwrap.ensures at c.push_back.ensures.items
-    ∙ ap (λ ws. ws ++ record { number = c.args.number; chunks = c.release.result } ∷ [])
-    c.reserve.ensures.items)
-    (ap (parting c) c.release.ensures)
+    c.leave_one.ensures.left a.pool
+    ∙ ap (λ ws. left_by (state_of a.pool a.arenas.entries ws) c.args.number c.args.loader)
+    c.reserve.ensures.items
+    ∙ ap (λ s. left_by s c.args.number c.args.loader) c.self.view_is
 
 pub invariant_of-self-2 : goal.invariant_of-self-2
 invariant_of-self-2 c =
-    let at = (goal.at.invariant_of-self-2 c).After-unwrap in
+    let at = (goal.at.invariant_of-self-2 c).After-leave_one in
     subst IsSpace (sym (new at))
-    (left c.args.self.now c.args.loader c.unwrap-arena.result c.args.number (had at) c.requires.last
+    (left c.args.self.now c.args.number c.args.loader c.requires.known c.requires.last
     (subst IsSpace c.self.view_is c.self.invariant))
 
 pub returns-clause-ok : goal.returns-clause-ok
-returns-clause-ok c =
-    let at = (goal.at.returns-clause-ok c).After-unwrap in
-    let chain : c.unwrap-arena.result ≡ arena_of c.args.self.now c.args.loader =
-    sym (ap (λ o. unwrap_or o []) (had at)) in
-    new at ∙ ap (λ (chain : List Filled). record (without_arena c.args.self.now c.args.loader)
-    { waiting = c.args.self.now.waiting ++ parting at (chunks_of chain) ∷ [] }) chain
+returns-clause-ok c = new ((goal.at.returns-clause-ok c).After-leave_one)

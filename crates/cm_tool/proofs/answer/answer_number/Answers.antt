@@ -1,23 +1,21 @@
 use Rattle.std.proofs.Common.{Some, ap}
-use Rattle.cm_state.specs.Step.{Unload}
 use Rattle.cm_commit.specs.States.{CommitterState}
-use Rattle.cm_lines.specs.Lines.{AsksUnload}
+use Rattle.cm_prepare.specs.Commands.{change_asked}
 use Rattle.cm_tool.specs.Texts.{number_reply}
-use Rattle.cm_tool.proofs.Commands.{command_replies, unload_fits}
-use Rattle.cm_tool.proofs.answer.unload.Goals as goal
+use Rattle.cm_tool.proofs.Commands.{command_replies, number_fits}
+use Rattle.cm_tool.proofs.answer.answer_number.Goals as goal
 
 pub returns-clause-machine : goal.returns-clause-machine
 returns-clause-machine g c =
     let s = c.args.session.now in
-    let name = c.args.name.now in
+    let asked = change_asked c.args.command in
     let call = c.store-stored in
     let disk = g.D.Disk in
-    λ k goes ready.
-    command_replies disk.view (Some (AsksUnload name)) number_reply k
-    (Unload name)
+    λ question is k goes ready.
+    command_replies disk.view (Some question) number_reply k asked
     (disk.view.failures s.committer.disk) (disk.view.failures call.new.self.committer.disk) s
-    call.new.self
-    call.result c.tell_number.result ready (unload_fits s.committer.sizes name)
+    call.new.self call.result c.tell_number.result ready
+    (number_fits s.committer.sizes question asked is)
     (call.ensures.machine k goes ready.rest) (call.ensures.cause k goes ready.rest)
     (λ none. ap (λ (x : CommitterState _). disk.view.failures x.disk) (call.ensures.no_call none))
     call.ensures.no_call c.tell_number.ensures
