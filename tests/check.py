@@ -29,6 +29,7 @@ SCRIPTS = [
     "loader a\n",
     f"loader a\nloader b\ndefine a {A}\ndefine b {A}\n",
     f"loader a\ndefine a {A}\ndefine a {B}\nunload a\nloader a\ndefine a {A}\n",
+    f"loader a\nloader b\ndefine a {A}\ndefine b {A}\nloader c\nunloadall c a\ndefine b {B}\n",
     # The second class moves to a smaller chunk.
     f"loader a\ndefine a {A}\ndefine a {runs.padded(b'B', 864).hex()}\ntighten a\n",
 ]
@@ -85,13 +86,16 @@ def whole_file():
         region.head_slot(2, 2, 3, gate=region.OPEN),
         region.entry_slot(("loader", 1, b"a")),
         region.entry_slot(("define", 1, first, 0, one)),
-        region.group_slot(5, 4, gate=region.OPEN),
+        region.group_slot(8, 4, gate=region.OPEN),
         region.entry_slot(("loader", 4, b"b")),
         region.entry_slot(("define", 4, second, 0, one)),
         region.entry_slot(("loader", 6, b"c")),
         region.entry_slot(("unload", 6)),
         region.spelled(region.MOVE, "6xQIIIIII", 1, *first, *third),
-        region.group_slot(1, 9, gate=region.OPEN),
+        region.entry_slot(("loader", 9, b"d")),
+        region.entry_slot(("loader", 10, b"e")),
+        region.entry_slot(("unloadall", [10, 9])),
+        region.group_slot(1, 12, gate=region.OPEN),
         region.entry_slot(("define", 1, third, len(one), two)),
     ]
     data = region.Region(oracle.Geometry(3, 1, 256)).bytes + bytes(8 * 1024)
@@ -101,7 +105,7 @@ def whole_file():
     return data
 
 
-WHOLE = b"ok loaders 2 classes 3 chunks 2 number 9\n"
+WHOLE = b"ok loaders 2 classes 3 chunks 2 number 12\n"
 
 
 def changes():
@@ -111,7 +115,7 @@ def changes():
     data = whole_file()
     zeros = range(32, region.SUPERBLOCK - 8)
     used = [*range(32), *range(zeros.stop, HALVES[0] + 2 * region.SLOT),
-            *range(HALVES[1], HALVES[1] + 12 * region.SLOT)]
+            *range(HALVES[1], HALVES[1] + 15 * region.SLOT)]
     used += [ROOTS + 8 * at + byte for begin, end in ((128, 145), (256, 289))
              for at in range(begin, end) for byte in range(8)]
     for at in used:

@@ -44,6 +44,9 @@ SCRIPT = [
     b"tighten ext",
     b"tighten ext",
     b"find ext E",
+    b"unloadall ext app",
+    b"find ext E",
+    b"loader app",
 ]
 # So many commands come before it that the journal is written anew in the midst of it, into a half
 # that was used before.

@@ -53,7 +53,7 @@ FAILS = [
 ]
 
 
-def check_failing_device(checks, simulator):
+def check_failing_device(checks, run):
     for call, stores, number in FAILS:
         for stored in stores:
             lines = [USUAL, loader(b"a"), b"seal"]
@@ -74,8 +74,33 @@ def check_failing_device(checks, simulator):
             want += ["broken", "broken", f"learnt {acknowledged}", "refused 10", found,
                      f"opened {number}", "number 1" if number == 0 else "refused 2",
                      "class 16" if number == 2 else "none"]
-            got = simulate(simulator, lines)
+            got = run(lines)
             checks.check(f"call {call} fails after {stored} bytes", got == (want, 0, ""), got)
+
+
+class Quiet:
+    """Counts what passed."""
+
+    def __init__(self):
+        self.passed = 0
+
+    def check(self, _, holds, __):
+        self.passed += holds
+
+
+def check_lazy_worlds(checks, simulator):
+    """A world that replies the same to each device call passes no row of that table."""
+    for reply in "working", "idle":
+        def lazy(lines, reply=reply):
+            replies, status, told = simulate(simulator, lines)
+            # The first line is the geometry, to which there is no reply.
+            replies = [reply if line == b"advance" else due
+                       for line, due in zip(lines[1:], replies)]
+            return replies, status, told
+
+        quiet = Quiet()
+        check_failing_device(quiet, lazy)
+        checks.check(f"a world that only ever replies {reply}", quiet.passed == 0, quiet.passed)
 
 
 # ---- crashes at each device call
@@ -135,6 +160,13 @@ def scripts():
         [{}, {"a": {}}, {"a": {"A": 20}}, {"a": {"A": 20, "B": 128}},
          {"a": {"A": 20, "B": 128}}],
         20, [("a", "A"), ("a", "B")])
+    yield Script(
+        "two loaders that go at once", USUAL,
+        one_by_one([loader(b"a"), loader(b"b"), define(b"a", A), define(b"b", A),
+                    b"unloadall b a"], [4, 4, 6, 5, 4]),
+        [{}, {"a": {}}, {"a": {}, "b": {}}, {"a": {"A": 16}, "b": {}},
+         {"a": {"A": 16}, "b": {"A": 16}}, {}],
+        23, [("a", "A"), ("b", "A")])
     yield Script(
         "a trim", USUAL,
         one_by_one([loader(b"a"), define(b"a", A), b"unload a"], [4, 6, 4]) + [b"trim", None, None]
@@ -298,8 +330,8 @@ def check_whole_file(checks, program, folder):
     got = runs.run(program, ["apply", path],
                    [b"find a B", loader(b"c"), define(b"c", A), b"unload b", b"tighten a"])
     checks.check("half 1 goes on", got == (
-        [b"class B flags 0021 super java/lang/Object words 16", b"ok 10", b"ok 11 A", b"ok 12",
-         b"ok 13"], 0, ""), got)
+        [b"class B flags 0021 super java/lang/Object words 16", b"ok 13", b"ok 14 A", b"ok 15",
+         b"ok 16"], 0, ""), got)
     # Both records of `a` fit into one block, and what `b` left is free.
     got = runs.run(program, ["list", path])
     checks.check("what it holds then", got == (
@@ -424,6 +456,22 @@ def check_examples(checks, program, folder):
     checks.check("where it lies", got == ([b"loader a", b"class A words 20 root 0 at 0",
                                            b"class B words 128 root 0 at 128"], 0, ""), got)
 
+    path = os.path.join(folder, "several")
+    lines = [loader(b"a"), loader(b"b"), define(b"a", A), define(b"b", A), b"unloadall a c",
+             b"unloadall a a", b"unloadall b a", b"find a A"]
+    wanted = [b"ok 1", b"ok 2", b"ok 3 A", b"ok 4 A", b"refused 3 no loader", b"refused 16 list",
+              b"ok 5", b"none"]
+    got, data = new_file(program, path, lines)
+    checks.check("loaders that go at once", got == (wanted, 1, ""), got)
+    # The fifth group's one entry is in slot 10 of half 0.
+    entry = bytes.fromhex("0015020000000000" "0200000000000000" "0100000000000000").ljust(64, b"\0")
+    checks.check("their entry", data[4096 + 640:4096 + 704] == entry, data[4096 + 640:4096 + 704])
+    path = os.path.join(folder, "by_two")
+    runs.run(program, ["format", path])
+    got = runs.run(program, ["apply", path, "--workers", "2"], lines)
+    with open(path, "rb") as file:
+        checks.check("by two workers", got == (wanted, 1, "") and file.read() == data, got)
+
     path = os.path.join(folder, "sizes")
     runs.run(program, ["format", path])
     sizes = [os.path.getsize(path)]
@@ -492,7 +540,8 @@ def check_closed_streams(checks, program, folder):
 
 def main(program, simulator, library, step):
     checks = runs.Checks()
-    check_failing_device(checks, simulator)
+    check_failing_device(checks, lambda lines: simulate(simulator, lines))
+    check_lazy_worlds(checks, simulator)
     check_crashes(checks, simulator, step)
     check_bad_classes(checks, program)
     with tempfile.TemporaryDirectory(dir=os.environ.get("WORK")) as folder:

@@ -80,6 +80,8 @@ beside sweep cm_space_tests arenas::places_words 15
 beside sweep cm_space_tests arenas::takes_larger_chunks_in_a_longer_chain 25
 beside sweep cm_class_tests faults::a_fault_behind_a_refusal 11
 beside sweep cm_world_tests commands::a_left_chunk_waits_for_its_receipt 203
+beside sweep cm_world_tests \
+    commands::chunks_of_loaders_that_go_at_once_wait_for_the_receipt 212
 
 # The program's own: making a file, and scripts with commands that are done, refused, and looked up,
 # in memory and on a file.
@@ -88,15 +90,16 @@ a+=00106a6176612f6c616e672f4f626a6563740021000100030000000000000000
 built=$(executable)
 {
     printf 'loader app\ndefine app %s\nloader ext\ndefine ext %s\n' "$a" "$a"
-    printf '%s\n' 'find app A' 'loader app' 'unload app' 'find app A' 'tighten ext' 'find ext A'
+    printf '%s\n' 'find app A' 'loader app' 'unload app' 'find app A' 'tighten ext' 'find ext A' \
+        'unloadall ext app' 'unloadall app app' 'find ext A'
 } >"$work/script"
 # sweep_program SCRIPT REFUSALS WORD..
 sweep_program() {
     WORK=$work tests/refused_memory.py "$built" "$library" "${@:2}" <"$1"
     check_last "the program with a refused allocation: ${*:2}"
 }
-beside sweep_program "$work/script" 370 apply --memory
-beside sweep_program "$work/script" 370 apply FILE
+beside sweep_program "$work/script" 387 apply --memory
+beside sweep_program "$work/script" 387 apply FILE
 beside sweep_program "$work/script" 91 format FILE
 # Opening a file alone, and looking at it.
 beside sweep_program /dev/null 331 apply FILE
@@ -104,7 +107,7 @@ beside sweep_program /dev/null 252 check FILE
 beside sweep_program /dev/null 365 list FILE
 # The same for a cache that is started for threads: what they share, and the flusher's thread.
 beside sweep_program /dev/null 352 apply FILE --workers 2
-beside sweep_program "$work/script" 403 apply FILE --workers 2
+beside sweep_program "$work/script" 423 apply FILE --workers 2
 # The same by the library alone: one thread makes a loader and defines a class.
 bench=$(built cm_bench)
 sweep_threads() {

@@ -829,12 +829,25 @@ class Cache:
         self.loaders[name] = Loader(number)
         return b"ok %d" % number
 
-    def unload(self, name):
-        gone = self.named(name)
+    def leave(self, name):
+        """The loader goes, and its chunks are free once the next line is run."""
+        gone = self.loaders.pop(name)
         for chunk, _ in gone.arena.chain:
             self.pool.give(chunk)
-        del self.loaders[name]
-        return b"ok %d" % self.done("unload", gone.number)
+        return gone.number
+
+    def unload(self, name):
+        self.named(name)
+        return b"ok %d" % self.done("unload", self.leave(name))
+
+    def unload_all(self, names):
+        if len(names) > 7 or len(set(names)) < len(names):
+            raise Refused("16 list")
+        for name in names:
+            self.check_name(name)
+        for name in names:
+            self.named(name)
+        return b"ok %d" % self.done("unloadall", [self.leave(name) for name in names])
 
     def tighten(self, name):
         """The journal says from where and to where, and the move carries each record that lay
@@ -885,6 +898,8 @@ class Cache:
             return self.loader(words[1])
         if words[0] == b"unload" and len(words) == 2:
             return self.unload(words[1])
+        if words[0] == b"unloadall" and len(words) >= 2:
+            return self.unload_all(words[1:])
         if words[0] == b"tighten" and len(words) == 2:
             return self.tighten(words[1])
         if words[0] == b"define" and len(words) == 3:

@@ -21,6 +21,7 @@ SUPERBLOCK = 4096
 SLOT = 64
 NUMBERS = 2 ** 63
 HEAD, GROUP, LOADER, DEFINE, UNLOAD, MOVE = 0x01, 0x02, 0x11, 0x12, 0x13, 0x14
+UNLOAD_ALL = 0x15
 
 
 class NotACache(Exception):
@@ -63,6 +64,8 @@ def entry_slot(entry):
     if kind == "move":
         loader, old, new, _ = what
         return spelled(MOVE, "6xQIIIIII", loader, *old, *new)
+    if kind == "unloadall":
+        return spelled(UNLOAD_ALL, f"B5x{len(what[0])}Q", len(what[0]), *what[0])
     return spelled(UNLOAD, "6xQ", what[0])
 
 
@@ -144,6 +147,8 @@ class Region:
         self.slot += 2
         if entry[0] == "unload":
             self.rows = [row for row in self.rows if row[1] != entry[1]]
+        elif entry[0] == "unloadall":
+            self.rows = [row for row in self.rows if row[1] not in entry[1]]
         elif entry[0] == "move":
             _, loader, old, new, _ = entry
             self.rows = [(*row[:2], new, *row[3:]) if row[:3] == ("define", loader, old) else row
@@ -269,6 +274,11 @@ class File:
             if slot != entry_slot(("unload", number(slot, 8, 8))):
                 raise Damaged(5, index)
             self.unload(index, number(slot, 8, 8))
+        elif kind == UNLOAD_ALL and slot[0] == 0 and own is not None:
+            loaders = [number(slot, 8 * place, 8) for place in range(1, 1 + min(slot[2], 7))]
+            if not 1 <= slot[2] <= 7 or slot != entry_slot(("unloadall", loaders)):
+                raise Damaged(5, index)
+            self.unload_all(index, loaders)
         elif kind == MOVE and slot[0] == 0 and own is not None:
             loader, *places = struct.unpack("<QIIIIII", slot[8:40])
             if slot != spelled(MOVE, "6xQIIIIII", loader, *places):
@@ -333,6 +343,11 @@ class File:
         if not self.lives(loader):
             raise Damaged(6, index)
         self.rows = [row for row in self.rows if row.loader != loader]
+
+    def unload_all(self, index, loaders):
+        if len(set(loaders)) < len(loaders) or not all(map(self.lives, loaders)):
+            raise Damaged(6, index)
+        self.rows = [row for row in self.rows if row.loader not in loaders]
 
     def move(self, index, loader, old, new):
         last, used = self.last_chunk(loader)

@@ -91,6 +91,21 @@ printf '%s\n' 'refused 3 no loader' 'ok 1' 'ok 2 A' 'ok 3' none 'refused 3 no lo
 run apply --memory
 check "loaders that are unloaded" 1
 
+{
+    printf 'loader a\nloader b\ndefine a %s\ndefine b %s\n' "$a" "$a"
+    printf '%s\n' 'unloadall a c' 'unloadall a a' 'unloadall b a' 'find a A'
+    printf '%s\n' 'unloadall a b c d e f g h' 'unloadall' 'unloadall ' 'unloadall a  b' \
+        'unloadall a '
+    printf 'unloadall \xff b b\nunloadall \xff b\nunloadall b \xff\n'
+    printf '%s\n' 'loader a' 'unloadall a' 'unloadall a b c d e f g'
+} >"$work/in"
+printf '%s\n' 'ok 1' 'ok 2' 'ok 3 A' 'ok 4 A' 'refused 3 no loader' 'refused 16 list' 'ok 5' none \
+    'refused 16 list' 'refused 15 line' 'refused 15 line' 'refused 15 line' 'refused 15 line' \
+    'refused 16 list' 'refused 1 name' 'refused 1 name' 'ok 6' 'ok 7' 'refused 3 no loader' \
+    >"$work/want"
+run apply --memory
+check "loaders that are unloaded at once" 1
+
 # padded X M: class A with another name of one letter, and an attribute of M zeros.
 padded() {
     printf 'cafebabe000000340006070002010001%02x' "'$1"

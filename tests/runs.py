@@ -31,8 +31,10 @@ def some_line(rng):
         return b"loader " + loader
     if chance < 0.80:
         return define(loader, name, rng.choice([0, 8, 100, 900, 3000, 8000]))
-    if chance < 0.88:
+    if chance < 0.86:
         return b"unload " + loader
+    if chance < 0.90:
+        return b"unloadall " + b" ".join(rng.sample(LOADERS, rng.choice([1, 2, 2, 3])))
     if chance < 0.95:
         return b"tighten " + loader
     return b"find %s %s" % (loader, name)

@@ -255,6 +255,17 @@ class World:
         return self.accept({n: c for n, c in self.loaders().items() if n != name},
                            self.named(name), left=left)
 
+    def unloadall(self, *names):
+        refusal = None
+        if len(names) > 7 or len(set(names)) < len(names):
+            refusal = 16
+        else:
+            refusals = [self.named(name) for name in names]
+            refusal = 1 if 1 in refusals else 3 if 3 in refusals else None
+        left = [chunk for name in names for chunk, _ in chain_of(self.loaders().get(name, {}))]
+        return self.accept({n: c for n, c in self.loaders().items() if n not in names}, refusal,
+                           left=left)
+
     def tighten(self, name):
         refusal = self.named(name)
         classes = self.loaders().get(name, {})
@@ -482,8 +493,10 @@ def draw_command(draw, add, world):
             else TOO_LONG if draw.random() < 0.01 else draw.choice(CLASSES)[0])
     elif kind < 0.92:
         add("tighten", draw_tail(draw, world))
-    else:
+    elif kind < 0.96:
         add("unload", name)
+    else:
+        add("unloadall", *(draw_name(draw, world) for _ in range(draw.choice([1, 2, 2, 3, 8]))))
 
 
 def draw_event(draw, simulation, busy, at_rest):
@@ -897,6 +910,7 @@ def check_forms(checks, program):
     bad = [b"", b" ", b"seal ", b" seal", b"Seal", b"seal 1", b"loader", b"loader ", b"loader a b",
            b"loader  a", b"define a", b"define a 0"]
     bad += [b"define a 0g", b"define a -", b"define a 00 00", b"unload", b"unload a b", b"look a",
+            b"unloadall", b"unloadall ", b"unloadall a  b", b"unloadall a ",
             b"look a A B", b"fault", b"fault -1", b"fault +1"]
     bad += [b"fault 1x", b"fault 18446744073709551616", b"fault 0x1", b"reopen 1", b"crash",
             b"crash 0", b"crash 0 ", b"crash - 00", b"crash 0 0"]
@@ -995,6 +1009,9 @@ def sweep_script():
     return simulation
 
 
+MAY_WANT_MEMORY = "loader", "define", "unload", "unloadall", "tighten", "seal", "look"
+
+
 def is_true(simulation, replies):
     """Whether each reply is as ever, but for one that tells of the allocation that failed."""
     world = World(3, 2, 256)
@@ -1002,8 +1019,7 @@ def is_true(simulation, replies):
     for (name, words), reply in zip(simulation.events, replies):
         if left and name == "advance" and reply == "device":
             due, left = world.advance(may_fail=True), 0
-        elif (left and name in ("loader", "define", "unload", "tighten", "seal", "look")
-                and reply == "refused 9"):
+        elif left and name in MAY_WANT_MEMORY and reply == "refused 9":
             due, left = reply, 0
         else:
             due = getattr(world, name)(*words)
