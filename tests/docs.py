@@ -223,6 +223,8 @@ LIMITS = (
     ("slots in a half of the journal", 2, "cm_plan/src/command.rt", 'SLOTS,\n        "N",'),
     ("name of a loader", 0, "cm_layout/src/name.rt", "NAME_LIMIT: usize = N;"),
     ("line of a script", 0, "cm_lines/src/line_buffer.rt", "LINE_LIMIT: usize = N;"),
+    ("loaders that `unloadall` removes at once", 0, "cm_layout/src/loader_numbers.rt",
+     "UNLOAD_LIMIT: usize = N;"),
     ("commands stored together", 0, "cm_layout/src/entry.rt", "GROUP_SLOTS: usize = N;"),
     ("commands of a file", 1, "cm_layout/src/heads.rt", "LAST_NUMBER: u64 = 1 << N;"),
     ("passes of a running cache", 0, "cm_cache/src/shared.rt", "MOST_PASSES: u64 = N;"),
