@@ -31,7 +31,7 @@ pub fn bootstrap_count(class: &Class) -> u16
         .attributes()
         .get(first_place(class, Known::BootstrapMethods))
     {
-        Some(attribute) => stated_count(class, attribute),
+        Some(attribute) => stated_count(class, &attribute),
         None => 0,
     }
 }

@@ -1,7 +1,7 @@
 ghost use Rattle.std.specs.Prelude.{◌≡◌, position};
 ghost use Rattle.cm_attributes.specs.Names.{is_known, count_of, first_place};
 
-use cm_class::{Attribute, Class};
+use cm_class::{Attribute, Attributes, Class};
 
 /// The attributes whose contents are looked into (JVMS 4.7).
 #[derive(Clone, Copy, Debug, PartialEq, Eq)]
@@ -50,7 +50,7 @@ pub fn is_known(class: &Class, known: Known, attribute: &Attribute) -> bool
 }
 
 /// How many of the attributes are this one.
-pub fn count(class: &Class, known: Known, attributes: &[Attribute]) -> usize
+pub fn count(class: &Class, known: Known, attributes: &Attributes) -> usize
     ensures { result ≡ count_of class.now known attributes.now }
 {
     attributes
@@ -62,10 +62,15 @@ pub fn count(class: &Class, known: Known, attributes: &[Attribute]) -> usize
 fn position_of(class: &Class, known: Known) -> Option<usize>
     ensures { result ≡ position (is_known class.now known) class.now.attributes }
 {
-    class
-        .attributes()
-        .iter()
-        .position(|attribute| is_known(class, known, attribute))
+    let mut rest = class.attributes();
+    let mut place = 0;
+    while let Some(attribute) = rest.next() {
+        if is_known(class, known, &attribute) {
+            return Some(place);
+        }
+        place += 1;
+    }
+    None
 }
 
 /// The first place among the attributes of the class itself where this one stands; their number,

@@ -6,6 +6,7 @@ mod PoolLaws
 mod Classes
 mod Loops
 mod Walks
+mod InPlace
 mod Sinks
 mod Shapes
 -- What is known of a reader of one part: what it says of any bytes, and that a spelling with any

@@ -1,6 +1,6 @@
 -- What is known of a reader of one part: what it says of any bytes, and that a spelling with any
 -- bytes behind it is read. And how readers that stand one behind another keep this.
--- For `each_input_has_one_answer`, `many_attributes`, `many_members` and others.
+-- For `each_input_has_one_answer`, `many_members` and others.
 use Rattle.std.proofs.Common.{◌≡◌, ℕ, ◌+◌, List, [], ◌∷◌, ◌++◌, length, Result, Ok, Err, refl, sym}
 use Rattle.std.proofs.Common.{ap, subst, ◌∙◌, append_assoc}
 use Rattle.cm_class.specs.declared.stop.Stop.{Stop}

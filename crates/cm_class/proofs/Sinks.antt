@@ -1,5 +1,5 @@
 -- Reading items one after the other into a sink, as a loop does.
--- For `many_attributes`, `many_members`, `many_numbers`, `slots`.
+-- For `many_members`, `many_numbers`, `slots`.
 use Rattle.std.proofs.Common.{◌≡◌, Bool, true, false, ℕ, ◌-◌, ◌+◌, ◌≤◌, ◌<◌, List, [], ◌∷◌, ◌++◌}
 use Rattle.std.proofs.Common.{Ok, Err, sym, ap, ◌∙◌}
 use Rattle.cm_class.specs.declared.stop.Stop.{Stop}
@@ -7,7 +7,7 @@ use Rattle.cm_class.specs.declared.constant.Constant.{Constant}
 use Rattle.cm_class.specs.declared.constant.Slot.{Slot}
 use Rattle.cm_class.specs.declared.constant.Slot.TheVariants.{Usable, Unusable}
 use Rattle.cm_class.specs.Spelling.{is_wide}
-use Rattle.cm_class.specs.Reading.{rest_of, made_at, GivesTo, many_at}
+use Rattle.cm_class.specs.Reading.{◌>>=◌, rest_of, GivesTo, many_at}
 use Rattle.cm_class.specs.Reading.{constant_at, slots_at}
 use Rattle.cm_class.proofs.Readers.{Read}
 use Rattle.cm_class.proofs.Loops.{with_front, goes_on, ends, is_done, slots_second, slots_usable}
@@ -74,25 +74,29 @@ module _ (count i : ℕ) (now : List ℕ) {keeps : Bool} {front : List Slot} {al
 
     pub usable_fills : (c : Constant) (after : List ℕ) (longer : List Slot) → i < count
         → IsSplit keeps front (slots_at false (count - i) now) all
-        → (keeps ≡ true → constant_at (count - i) now ≡ Ok (c, after))
-        → (keeps ≡ false → made_at is_wide (constant_at (count - i)) now ≡ Ok (is_wide c, after))
+        → constant_at (count - i) now ≡ Ok (c, after)
         → (keeps ≡ true → longer ≡ front ++ Usable c ∷ [])
         → IsSplit keeps longer (slots_at (is_wide c) (count - (i + 1)) after) all
-    usable_fills c after longer lt so_far kept walked pushed = record {
+    usable_fills c after longer lt so_far h pushed = record {
       kept = λ k. rw (pushed k)
-          (slots_usable front count i now c after all lt (kept k) (so_far.kept k));
+          (slots_usable front count i now c after all lt h (so_far.kept k));
       walked = λ k.
-          walk_usable count i now (is_wide c) after (rest_of all) lt (walked k) (so_far.walked k);
+          walk_usable count i now (is_wide c) after (rest_of all) lt
+          (ap (λ (read : Read Constant). read >>= λ x. Ok (is_wide x.0, x.1)) h)
+          (so_far.walked k);
     }
 
-    pub slots_refuse : {X Z : Type 0} {view : X → Constant × List ℕ} {seen : Z → List Slot × List ℕ}
-        (stop : Stop) → i < count → IsSplit keeps front (slots_at false (count - i) now) all
-        → GivesTo keeps view (Err stop) (constant_at (count - i) now)
-        → (keeps ≡ false → made_at is_wide (constant_at (count - i)) now ≡ Err stop)
-        → GivesTo keeps seen (Err stop) all
-    slots_refuse stop lt so_far h walked = record {
-      kept = λ k. slots_end stop front count i now all lt (h.kept k) (so_far.kept k);
-      walked = λ k. slots_stop stop count i now (rest_of all) lt (walked k) (so_far.walked k);
+    pub slots_refuse : {Z : Type 0} {seen : Z → List Slot × List ℕ} (stop : Stop) → i < count
+        → IsSplit keeps front (slots_at false (count - i) now) all
+        → constant_at (count - i) now ≡ Err stop → GivesTo keeps seen (Err stop) all
+    slots_refuse stop lt so_far h = record {
+      kept = λ k.
+          slots_end stop front count i now all lt
+          (fails_exactly stop (constant_at (count - i) now) h) (so_far.kept k);
+      walked = λ k.
+          slots_stop stop count i now (rest_of all) lt
+          (ap (λ (read : Read Constant). read >>= λ x. Ok (is_wide x.0, x.1)) h)
+          (so_far.walked k);
     }
 
     pub slots_full : {Z : Type 0} (second : Bool) (seen : Z → List Slot × List ℕ) (z : Z)

@@ -1,5 +1,5 @@
 -- Walking over items one after the other, as a loop does that keeps none of them.
--- For `many_attributes`, `many_members`, `many_numbers`, `slots`.
+-- For `many_members`, `many_numbers`, `slots`.
 use Rattle.std.proofs.Common.{◌≡◌, Bool, true, false, ℕ, suc, ◌-◌, ◌+◌, ◌≤◌, ◌<◌, List, ◌∷◌, Result}
 use Rattle.std.proofs.Common.{Ok, Err, refl, sym, ◌∙◌, arith}
 use Rattle.cm_class.specs.declared.stop.Stop.{Stop}

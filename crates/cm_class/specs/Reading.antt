@@ -256,6 +256,19 @@ unfoldable pub attribute_at : List ℕ → Result (Attribute × List ℕ) Stop
 attribute_at bytes =
     made_at (λ x. record { name = x.0; bytes = x.1 }) (both_at (number_at 2) (sized_at 4)) bytes
 
+-- the items that are read, where they are; and that they are
+abbrev pub items_of : {A : Type 0} → Result (List A × List ℕ) Stop → List A
+items_of (Ok x) = x.0
+items_of (Err e) = []
+
+abbrev pub Succeeds : {A : Type 0} → Result A Stop → Type 0
+Succeeds (Ok x) = Unit {0}
+Succeeds (Err e) = ⊥
+
+-- so many attributes, where they begin so
+abbrev pub attributes_of : ℕ → List ℕ → List Attribute
+attributes_of n bytes = items_of (many_at attribute_at n bytes)
+
 unfoldable pub member_at : List ℕ → Result (Member × List ℕ) Stop
 member_at bytes =
     made_at (λ x. record { flags = x.0; name = x.1.0; descriptor = x.1.1.0; attributes = x.1.1.1 })

@@ -1,16 +1,18 @@
 ghost use Rattle.std.specs.Prelude.{◌≡◌};
 
-use crate::class_file::{Attribute, ClassFile, Member};
+use crate::attributes::Attributes;
+use crate::class_file::{ClassFile, Member};
 use crate::constant::Slot;
 use std::marker::Model;
 
-/// A class file that has a spelling in bytes. Contracts see the `ClassFile` that it holds.
+/// A class file that has a spelling in bytes, and borrows them. Contracts see the `ClassFile` that
+/// it holds.
 #[derive(Debug, Drop)]
-pub struct Class {
-    file: ClassFile,
+pub struct Class<'a> {
+    file: ClassFile<'a>,
 }
 
-impl Model for Class {
+impl<'a> Model for Class<'a> {
     ghost use Rattle.cm_class.specs.declared.class_file.ClassFile.{ClassFile};
     ghost use Rattle.cm_class.specs.Spelling.{HasSpelling};
 
@@ -21,21 +23,21 @@ impl Model for Class {
     ghost invariant = { λ class. HasSpelling class.file };
 }
 
-impl Class {
-    ghost use Rattle.std.specs.Prelude.{◌≡◌};
+impl<'a> Class<'a> {
+    ghost use Rattle.std.specs.Prelude.{◌≡◌, ◌<◌, ◌^◌, length};
     ghost use Rattle.cm_class.specs.Spelling.{HasSpelling};
 
     /// The class of these parts. Each list is within its count, each wide constant has its unusable
     /// slot, and no other slot is unusable.
-    pub fn from_file(file: ClassFile) -> Class
+    pub fn from_file(file: ClassFile<'a>) -> Class<'a>
         requires { HasSpelling file }
-        ensures { result ≡ file }
+        ensures { result ≡ file.entry }
     {
         Class { file }
     }
 
     /// The constant pool from index 1 on.
-    pub fn slots(&self) -> &[Slot]
+    pub fn slots(&self) -> &[Slot<'a>]
         ensures { result.now ≡ self.now.slots }
     {
         self.file.slots.as_slice()
@@ -71,23 +73,24 @@ impl Class {
     }
 
     /// The fields, in the file's order.
-    pub fn fields(&self) -> &[Member]
+    pub fn fields(&self) -> &[Member<'a>]
         ensures { result.now ≡ self.now.fields }
     {
         self.file.fields.as_slice()
     }
 
     /// The methods, in the file's order.
-    pub fn methods(&self) -> &[Member]
+    pub fn methods(&self) -> &[Member<'a>]
         ensures { result.now ≡ self.now.methods }
     {
         self.file.methods.as_slice()
     }
 
     /// The attributes of the class itself, in the file's order.
-    pub fn attributes(&self) -> &[Attribute]
-        ensures { result.now ≡ self.now.attributes }
+    pub fn attributes(&self) -> Attributes<'a>
+        ensures same { result ≡ self.now.attributes }
+        ensures short { length result < 2 ^ 16 }
     {
-        self.file.attributes.as_slice()
+        self.file.attributes.iter()
     }
 }

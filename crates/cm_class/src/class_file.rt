@@ -1,19 +1,21 @@
-ghost use Rattle.std.specs.Prelude.{◌≡◌};
+ghost use Rattle.std.specs.Prelude.{◌≡◌, ◌<◌, ◌^◌, length};
 
+use crate::attributes::Attributes;
+use crate::bytes::Bytes;
 use crate::constant::Slot;
 use crate::items::Items;
 
-/// An attribute (JVMS 4.7), its content as bytes.
+/// An attribute (JVMS 4.7), its content where it lies in the file.
 #[derive(Debug, Drop)]
-pub struct Attribute {
+pub struct Attribute<'a> {
     /// Index of its name in the pool.
     pub name: u16,
-    pub bytes: Items<u8>,
+    pub bytes: Bytes<'a>,
 }
 
-impl Attribute {
+impl<'a> Attribute<'a> {
     /// Its content.
-    pub fn content(&self) -> &[u8]
+    pub fn content(&self) -> &'a [u8]
         ensures { result.now ≡ self.now.bytes }
     {
         self.bytes.as_slice()
@@ -22,36 +24,37 @@ impl Attribute {
 
 /// A field or a method (JVMS 4.5, 4.6).
 #[derive(Debug, Drop)]
-pub struct Member {
+pub struct Member<'a> {
     pub flags: u16,
     /// Index of its name in the pool.
     pub name: u16,
     /// Index of its descriptor in the pool.
     pub descriptor: u16,
-    pub attributes: Items<Attribute>,
+    pub attributes: Attributes<'a>,
 }
 
-impl Member {
+impl<'a> Member<'a> {
     /// Its attributes, in the file's order.
-    pub fn attributes(&self) -> &[Attribute]
-        ensures { result.now ≡ self.now.attributes }
+    pub fn attributes(&self) -> Attributes<'a>
+        ensures same { result ≡ self.now.attributes }
+        ensures short { length result < 2 ^ 16 }
     {
-        self.attributes.as_slice()
+        self.attributes.iter()
     }
 }
 
 /// All that a class file of version 52.0 holds (JVMS 4.1), of any sizes: some have no spelling, as
 /// one of 65,536 fields.
 #[derive(Debug, Drop)]
-pub struct ClassFile {
+pub struct ClassFile<'a> {
     /// The constant pool from index 1 on.
-    pub slots: Items<Slot>,
+    pub slots: Items<Slot<'a>>,
     pub flags: u16,
     pub this_class: u16,
     /// 0 where there is none.
     pub super_class: u16,
     pub interfaces: Items<u16>,
-    pub fields: Items<Member>,
-    pub methods: Items<Member>,
-    pub attributes: Items<Attribute>,
+    pub fields: Items<Member<'a>>,
+    pub methods: Items<Member<'a>>,
+    pub attributes: Attributes<'a>,
 }

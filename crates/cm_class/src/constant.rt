@@ -1,12 +1,12 @@
 ghost use Rattle.std.specs.Prelude.{◌≡◌};
 
-use crate::items::Items;
+use crate::bytes::Bytes;
 
 /// A constant of the pool (JVMS 4.4). Each index is one of the pool, from 1 on.
 #[derive(Debug, Drop)]
-pub enum Constant {
+pub enum Constant<'a> {
     /// Tag 1: bytes, whose form rules of their own judge.
-    Utf8(Items<u8>),
+    Utf8(Bytes<'a>),
     /// Tag 3: the number's bits.
     Integer(u32),
     /// Tag 4: the number's bits.
@@ -59,7 +59,7 @@ pub enum Constant {
     },
 }
 
-impl Constant {
+impl<'a> Constant<'a> {
     ghost use Rattle.std.specs.Prelude.{◌≡◌};
     ghost use Rattle.cm_class.specs.Spelling.{is_wide};
 
@@ -73,9 +73,9 @@ impl Constant {
 
 /// What stands at one index of the constant pool.
 #[derive(Debug, Drop)]
-pub enum Slot {
+pub enum Slot<'a> {
     /// A constant begins here.
-    Usable(Constant),
+    Usable(Constant<'a>),
     /// The second index of the Long or Double before it.
     Unusable,
 }

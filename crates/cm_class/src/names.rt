@@ -4,7 +4,7 @@ use crate::class::Class;
 use crate::constant::{Constant, Slot};
 use crate::kind::Kind;
 
-impl Constant {
+impl<'a> Constant<'a> {
     ghost use Rattle.std.specs.Prelude.{◌≡◌};
     ghost use Rattle.cm_class.specs.Names.{kind_of, is_kind};
     ghost use Rattle.cm_class.specs.Reading.{tag_number};
@@ -41,7 +41,7 @@ impl Constant {
     }
 }
 
-impl Class {
+impl<'a> Class<'a> {
     ghost use Rattle.std.specs.Prelude.{◌≡◌, option_copied};
     ghost use Rattle.std.specs.Option.{option_map_or};
     ghost use Rattle.cm_class.specs.Names.{constant_named, names, utf8, names_utf8};
@@ -50,7 +50,7 @@ impl Class {
 
     /// The constant that an index of the pool names; none at 0, behind a Long or a Double, and past
     /// the pool (JVMS 4.4).
-    pub fn constant(&self, index: u16) -> Option<&Constant>
+    pub fn constant(&self, index: u16) -> Option<&Constant<'a>>
         ensures { option_copied result ≡ constant_named self.now index }
     {
         if index == 0 {

@@ -9,7 +9,7 @@ use crate::stop::Stop;
 use byteorder::{BigEndian, ByteOrder};
 
 /// The magic number, minor version 0 and major version 52 (JVMS 4.1).
-const HEADING: [u8; 8] = [0xCA, 0xFE, 0xBA, 0xBE, 0, 0, 0, 52];
+pub const HEADING: [u8; 8] = [0xCA, 0xFE, 0xBA, 0xBE, 0, 0, 0, 52];
 
 pub(crate) fn read_u8(bytes: &[u8]) -> Result<(u8, &[u8]), Stop>
     ensures { GivesExactly (λ x. (x.0, x.1.now)) result (byte_at bytes.now) }

@@ -1,10 +1,10 @@
 //! Readers of the constant pool.
 ghost use Rattle.std.specs.Prelude.{◌≡◌, true, false};
 ghost use Rattle.cm_class.specs.Reading.{GivesTo, GivesExactly, tag_at, info_at, constant_at};
-ghost use Rattle.cm_class.specs.Reading.{slots_at, pool_at, both_at, number_at, made_at};
+ghost use Rattle.cm_class.specs.Reading.{slots_at, pool_at, both_at, number_at};
 ghost use Rattle.cm_class.specs.Reading.{is_number, is_member, has_indexes};
-ghost use Rattle.cm_class.specs.Spelling.{is_wide};
 
+use crate::bytes::Bytes;
 use crate::constant::{Constant, Slot};
 use crate::items::Items;
 use crate::kind::Kind;
@@ -40,7 +40,7 @@ fn two(bytes: &[u8]) -> Result<(u16, u16, &[u8]), Stop>
 
 /// A number behind its tag (JVMS 4.4.4, 4.4.5).
 #[tactic(auto, unfolding(crate::specs::Reading::one_at))]
-fn number(kind: Kind, bytes: &[u8]) -> Result<(Constant, &[u8]), Stop>
+fn number<'a>(kind: Kind, bytes: &'a [u8]) -> Result<(Constant<'a>, &'a [u8]), Stop>
     requires { is_number kind ≡ true }
     ensures { GivesExactly (λ x. (x.0, x.1.now)) result (info_at kind bytes.now) }
 {
@@ -67,7 +67,7 @@ fn number(kind: Kind, bytes: &[u8]) -> Result<(Constant, &[u8]), Stop>
 
 /// What names a field, a method or an interface's method, behind its tag (JVMS 4.4.2).
 #[tactic(auto, unfolding(crate::specs::Reading::two_at))]
-fn member(kind: Kind, bytes: &[u8]) -> Result<(Constant, &[u8]), Stop>
+fn member<'a>(kind: Kind, bytes: &'a [u8]) -> Result<(Constant<'a>, &'a [u8]), Stop>
     requires { is_member kind ≡ true }
     ensures { GivesExactly (λ x. (x.0, x.1.now)) result (info_at kind bytes.now) }
 {
@@ -108,7 +108,7 @@ fn member(kind: Kind, bytes: &[u8]) -> Result<(Constant, &[u8]), Stop>
 
 /// The other indexes behind a tag (JVMS 4.4.1, 4.4.3, 4.4.6, 4.4.8 to 4.4.10).
 #[tactic(auto, unfolding(crate::specs::Reading::one_at, crate::specs::Reading::two_at))]
-fn indexes(kind: Kind, bytes: &[u8]) -> Result<(Constant, &[u8]), Stop>
+fn indexes<'a>(kind: Kind, bytes: &'a [u8]) -> Result<(Constant<'a>, &'a [u8]), Stop>
     requires { has_indexes kind ≡ true }
     ensures { GivesExactly (λ x. (x.0, x.1.now)) result (info_at kind bytes.now) }
 {
@@ -150,15 +150,13 @@ fn indexes(kind: Kind, bytes: &[u8]) -> Result<(Constant, &[u8]), Stop>
 
 /// What stands behind a tag.
 #[tactic(auto, unfolding(crate::specs::Reading::utf8_at))]
-fn info<S: Sink>(sink: S, kind: Kind, bytes: &[u8]) -> Result<(Constant, &[u8]), Stop>
-    ensures read { GivesTo S.keeps (λ x. (x.0, x.1.now)) result (info_at kind bytes.now) }
-    ensures wide { S.keeps ≡ false → GivesExactly (λ x. (is_wide x.0, x.1.now)) result
-        (made_at is_wide (info_at kind) bytes.now) }
+fn info<'a>(kind: Kind, bytes: &'a [u8]) -> Result<(Constant<'a>, &'a [u8]), Stop>
+    ensures { GivesExactly (λ x. (x.0, x.1.now)) result (info_at kind bytes.now) }
 {
     match kind {
         Kind::Utf8 => {
             let (utf8, rest) = read_utf8(bytes)?;
-            Ok((Constant::Utf8(sink.bytes(utf8)?), rest))
+            Ok((Constant::Utf8(Bytes::of(utf8)), rest))
         }
         Kind::Integer | Kind::Float | Kind::Long | Kind::Double => number(kind, bytes),
         Kind::Fieldref | Kind::Methodref | Kind::InterfaceMethodref => member(kind, bytes),
@@ -167,17 +165,19 @@ fn info<S: Sink>(sink: S, kind: Kind, bytes: &[u8]) -> Result<(Constant, &[u8]),
 }
 
 #[tactic(auto, unfolding(crate::specs::Reading::constant_at))]
-fn constant<S: Sink>(sink: S, left: u16, bytes: &[u8]) -> Result<(Constant, &[u8]), Stop>
-    ensures read { GivesTo S.keeps (λ x. (x.0, x.1.now)) result (constant_at left bytes.now) }
-    ensures wide { S.keeps ≡ false → GivesExactly (λ x. (is_wide x.0, x.1.now)) result
-        (made_at is_wide (constant_at left) bytes.now) }
+fn constant<'a>(left: u16, bytes: &'a [u8]) -> Result<(Constant<'a>, &'a [u8]), Stop>
+    ensures { GivesExactly (λ x. (x.0, x.1.now)) result (constant_at left bytes.now) }
 {
     let (tag, rest) = tag(left, bytes)?;
-    info(sink, tag, rest)
+    info(tag, rest)
 }
 
 /// So many slots, each constant and, behind a wide one, its unusable second index.
-fn slots<S: Sink>(sink: S, count: u16, bytes: &[u8]) -> Result<(Vec<Slot>, &[u8]), Stop>
+fn slots<'a, S: Sink>(
+    sink: S,
+    count: u16,
+    bytes: &'a [u8],
+) -> Result<(Vec<Slot<'a>>, &'a [u8]), Stop>
     ensures { GivesTo S.keeps (λ x. (x.0.items, x.1.now)) result (slots_at false count bytes.now) }
 {
     let mut slots = sink.room(room_for(count, 3, bytes))?;
@@ -188,7 +188,7 @@ fn slots<S: Sink>(sink: S, count: u16, bytes: &[u8]) -> Result<(Vec<Slot>, &[u8]
             sink.push(&mut slots, Slot::Unusable)?;
             second = false;
         } else {
-            let (item, after) = constant(sink, count - index, rest)?;
+            let (item, after) = constant(count - index, rest)?;
             second = item.is_wide();
             sink.push(&mut slots, Slot::Usable(item))?;
             rest = after;
@@ -199,7 +199,10 @@ fn slots<S: Sink>(sink: S, count: u16, bytes: &[u8]) -> Result<(Vec<Slot>, &[u8]
 
 /// The heading, the pool's count and its slots.
 #[tactic(auto, unfolding(crate::specs::Reading::pool_at))]
-pub(crate) fn pool<S: Sink>(sink: S, bytes: &[u8]) -> Result<(Items<Slot>, &[u8]), Stop>
+pub(crate) fn pool<'a, S: Sink>(
+    sink: S,
+    bytes: &'a [u8],
+) -> Result<(Items<Slot<'a>>, &'a [u8]), Stop>
     ensures { GivesTo S.keeps (λ x. (x.0, x.1.now)) result (pool_at bytes.now) }
 {
     let rest = skip_heading(bytes)?;

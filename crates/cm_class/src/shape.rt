@@ -6,18 +6,19 @@ ghost use Rattle.cm_class.specs.Shape.{Spells, IsSpelling, IsFault, IsAnswer};
 ghost use Rattle.cm_class.specs.Reading.{GivesTo, GivesExactly, rest_of, class_at, answer_of};
 ghost use Rattle.cm_class.specs.Reading.{IsUnlessRefused};
 
+use crate::attributes::counted_attributes;
 use crate::class::Class;
 use crate::class_file::ClassFile;
 use crate::fault::ShapeFault;
-use crate::members::{attributes, interfaces, members};
+use crate::members::{interfaces, members};
 use crate::numbers::read_u16;
 use crate::pool::pool;
 use crate::sink::{Nothing, Sink};
 use crate::stop::Stop;
-use std::alloc::Global;
+use std::alloc::{AllocError, Global};
 
 #[tactic(auto, unfolding(crate::specs::Reading::class_at))]
-fn class_file<S: Sink>(sink: S, bytes: &[u8]) -> Result<(ClassFile, &[u8]), Stop>
+fn class_file<'a, S: Sink>(sink: S, bytes: &'a [u8]) -> Result<(ClassFile<'a>, &'a [u8]), Stop>
     ensures { GivesTo S.keeps (λ x. (x.0, x.1.now)) result (class_at bytes.now) }
 {
     let (slots, rest) = pool(sink, bytes)?;
@@ -27,7 +28,7 @@ fn class_file<S: Sink>(sink: S, bytes: &[u8]) -> Result<(ClassFile, &[u8]), Stop
     let (interfaces, rest) = interfaces(sink, rest)?;
     let (fields, rest) = members(sink, rest)?;
     let (methods, rest) = members(sink, rest)?;
-    let (attributes, rest) = attributes(sink, rest)?;
+    let (attributes, rest) = counted_attributes(rest)?;
     let file = ClassFile {
         slots,
         flags,
@@ -65,7 +66,7 @@ fn refusal(bytes: &[u8], left: Result<&[u8], Stop>) -> ShapeFault
 }
 
 /// The class file that the bytes spell, all of them.
-fn read_whole(alloc: Global, bytes: &[u8]) -> Result<Class, ShapeFault>
+fn read_whole<'a>(alloc: Global, bytes: &'a [u8]) -> Result<Class<'a>, ShapeFault>
     ensures { IsUnlessRefused (answer_of bytes.now (class_at bytes.now)) result }
 {
     match class_file(alloc, bytes) {
@@ -83,7 +84,7 @@ fn read_whole(alloc: Global, bytes: &[u8]) -> Result<Class, ShapeFault>
 /// they have; or with `NoMemory`, only where they are one and an allocation failed. It reserves
 /// memory only for bytes that are there, whatever the counts and lengths in the file say. Where
 /// an allocation failed, and only there, a second pass, which takes none, looks for a fault.
-pub fn read_shape(alloc: Global, bytes: &[u8]) -> Result<Class, ShapeFault>
+pub fn read_shape<'a>(alloc: Global, bytes: &'a [u8]) -> Result<Class<'a>, ShapeFault>
     ensures ok { IfOk result (Spells bytes.now) }
     ensures fault { IfErr result (IsFault bytes.now) }
 
@@ -92,4 +93,14 @@ pub fn read_shape(alloc: Global, bytes: &[u8]) -> Result<Class, ShapeFault>
         → (result ≡ answer) ⊎ ((result ≡ Err ShapeFault.NoMemory) × IsSpelling bytes.now) }
 {
     read_whole(alloc, bytes)
+}
+
+/// The class that the bytes spell, which are known to spell one.
+pub fn class_of_spelling<'a>(alloc: Global, bytes: &'a [u8]) -> Result<Class<'a>, AllocError>
+    ensures { (c : ClassFile) → Spells bytes.now c → IfOk result (λ class. class ≡ c) }
+{
+    match read_shape(alloc, bytes) {
+        Ok(class) => Ok(class),
+        Err(_) => Err(AllocError),
+    }
 }

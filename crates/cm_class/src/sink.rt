@@ -1,8 +1,7 @@
-//! What becomes of bytes and items that were read.
+//! What becomes of items that were read.
 ghost use Rattle.std.specs.Prelude.{◌≡◌, ◌++◌, ◌∷◌, [], Bool, true, false, IfOk, IfErr};
 ghost use Rattle.cm_class.specs.declared.stop.Stop.TheVariants.{NoMemory};
 
-use crate::items::Items;
 use crate::stop::Stop;
 use std::alloc::Global;
 
@@ -11,11 +10,6 @@ use std::alloc::Global;
 pub(crate) trait Sink: Copy {
     /// Whether what was read is kept.
     ghost keeps: { Bool };
-
-    /// A copy of bytes.
-    fn bytes(self, bytes: &[u8]) -> Result<Items<u8>, Stop>
-        ensures kept { keeps ≡ true → IfOk result (λ items. items ≡ bytes.now) }
-        ensures refused { IfErr result (λ stop. (stop ≡ NoMemory) × (keeps ≡ true)) };
 
     /// A list with room for so many items.
     fn room<T: Drop>(self, room: usize) -> Result<Vec<T>, Stop>
@@ -31,10 +25,6 @@ pub(crate) trait Sink: Copy {
 
 impl Sink for Global {
     ghost keeps = { true };
-
-    fn bytes(self, bytes: &[u8]) -> Result<Items<u8>, Stop> {
-        Ok(Items::from_vec(Vec::from_slice(self, bytes)?))
-    }
 
     fn room<T: Drop>(self, room: usize) -> Result<Vec<T>, Stop> {
         Ok(Vec::with_capacity(self, room)?)
@@ -54,10 +44,6 @@ pub(crate) struct Nothing {
 
 impl Sink for Nothing {
     ghost keeps = { false };
-
-    fn bytes(self, _bytes: &[u8]) -> Result<Items<u8>, Stop> {
-        Ok(Items::from_vec(Vec::new(self.alloc)))
-    }
 
     fn room<T: Drop>(self, _room: usize) -> Result<Vec<T>, Stop> {
         Ok(Vec::new(self.alloc))

@@ -1,6 +1,6 @@
 //! Members and code of records whose indexes cost much to look at, so that they are found by marks.
-use crate::member_samples::{Indexes, class_of};
-use crate::record_samples::{record_of, record_of_class};
+use crate::member_samples::{Indexes, class_bytes};
+use crate::record_samples::record_of;
 use cm_record::{Constant, Record};
 use std::alloc::{AllocError, Global};
 use std::test::Fail;
@@ -10,8 +10,7 @@ const MEMBERS: [Indexes; 5] = [(1, 2), (1, 3), (1, 4), (1, 5), (1, 6)];
 // Fields and methods of one name, each with another descriptor but for the last one.
 fn overloads(alloc: Global, name: &[u8]) -> Result<Record, Fail> {
     let utf8s: [&[u8]; 6] = [name, b"()B", b"()C", b"()D", b"()F", b"()B"];
-    let class = class_of(alloc, &utf8s, &MEMBERS, &MEMBERS)?;
-    record_of_class(alloc, &class)
+    record_of(alloc, &class_bytes(alloc, &utf8s, &MEMBERS, &MEMBERS)?)
 }
 
 fn indexes(record: &Record, name: &[u8], descriptor: &[u8]) -> [Option<u16>; 2] {

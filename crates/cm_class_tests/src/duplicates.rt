@@ -1,6 +1,6 @@
 //! Fields and methods with the name and the descriptor of one before them.
-use crate::member_samples::{Indexes, class_of};
-use cm_class::Class;
+use crate::member_samples::{Indexes, class_bytes};
+use cm_class::{Class, read_shape};
 use cm_duplicates::{first_duplicate_field, first_duplicate_method};
 use std::alloc::Global;
 use std::hash::{FoldHasher, Hasher};
@@ -23,7 +23,8 @@ fn find_duplicate(
     fields: &[Indexes],
     methods: &[Indexes],
 ) -> Result<Found, Fail> {
-    let class = class_of(alloc, utf8s, fields, methods)?;
+    let bytes = class_bytes(alloc, utf8s, fields, methods)?;
+    let class = read_shape(alloc, &bytes)?;
     find_duplicate_in(alloc, &class)
 }
 

@@ -1,5 +1,4 @@
 //! Classes with given fields and methods, by their bytes.
-use cm_class::{Class, read_shape};
 use std::alloc::{AllocError, Global};
 use std::test::Fail;
 
@@ -55,14 +54,15 @@ fn put_class(
     Ok(put(bytes, 0)?)
 }
 
-/// A class whose pool has these Utf8s, from index 1 on, and which has these fields and methods.
-pub fn class_of(
+/// The bytes of a class whose pool has these Utf8s, from index 1 on, and which has these fields and
+/// methods.
+pub fn class_bytes(
     alloc: Global,
     utf8s: &[&[u8]],
     fields: &[Indexes],
     methods: &[Indexes],
-) -> Result<Class, Fail> {
+) -> Result<Vec<u8>, Fail> {
     let mut bytes = Vec::new(alloc);
     put_class(&mut bytes, utf8s, fields, methods)?;
-    Ok(read_shape(alloc, &bytes)?)
+    Ok(bytes)
 }

@@ -1,6 +1,6 @@
 //! The parts of classes, read from their bytes.
 use crate::samples::{CLASS_A, EACH_KIND};
-use cm_class::{Attribute, Class, Constant, Member, Slot, read_shape};
+use cm_class::{Attributes, Class, Constant, Member, Slot, read_shape};
 use std::process::Abort;
 use std::test::Fail;
 
@@ -122,17 +122,16 @@ fn each_kind_of_constant(rt: HostRuntime) -> Result<(), Fail> {
 }
 
 /// Whether there is one attribute, with this name and these bytes.
-fn is_one_attribute(attributes: &[Attribute], name: u16, bytes: &[u8]) -> bool {
-    match attributes.split_first() {
-        Some((first, others)) => {
-            others.is_empty() && first.name == name && first.content() == bytes
-        }
+fn is_one_attribute(attributes: &Attributes, name: u16, bytes: &[u8]) -> bool {
+    let mut rest = attributes.iter();
+    match rest.next() {
+        Some(first) => rest.next().is_none() && first.name == name && first.content() == bytes,
         None => false,
     }
 }
 
 /// The one member, where there is one, of these flags and these indexes of its name and descriptor.
-fn one_member(members: &[Member], expected: [u16; 3]) -> Option<&Member> {
+fn one_member<'m, 'a>(members: &'m [Member<'a>], expected: [u16; 3]) -> Option<&'m Member<'a>> {
     let (first, others) = members.split_first()?;
     let numbers = [first.flags, first.name, first.descriptor];
     if others.is_empty() && numbers == expected {
@@ -144,20 +143,20 @@ fn one_member(members: &[Member], expected: [u16; 3]) -> Option<&Member> {
 
 fn has_field(class: &Class) -> bool {
     one_member(class.fields(), [0x19, 1, 1]).is_some_and(|field| is_one_attribute(
-        field.attributes(),
+        &field.attributes(),
         1,
         &[0xab, 0xcd],
     ))
 }
 
 fn has_method(class: &Class) -> bool {
-    one_member(class.methods(), [0x401, 2, 3]).is_some_and(|method| method.attributes().is_empty())
+    one_member(class.methods(), [0x401, 2, 3]).is_some_and(|method| method.attributes().len() == 0)
 }
 
 fn has_each_part(rt: &impl Abort, class: &Class) {
     assert_eq!(rt; class.interfaces(), [8].as_slice());
     assert!(rt; has_field(class) && has_method(class));
-    assert!(rt; is_one_attribute(class.attributes(), 5, &[]));
+    assert!(rt; is_one_attribute(&class.attributes(), 5, &[]));
 }
 
 #[test]

@@ -26,14 +26,11 @@ fn records_are_as_described(rt: HostRuntime) -> Result<(), Fail> {
     Ok(())
 }
 
-/// The class of the record that has these words.
-fn class_of_words(alloc: Global, words: &[u64]) -> Result<Class, Fail> {
-    let record = Record::read(alloc, words)?;
-    Ok(record.to_class(alloc)?)
-}
-
+/// The record of the class that the record of these words gives.
 fn record_again(alloc: Global, words: &[u64]) -> Result<Record, Fail> {
-    let class = class_of_words(alloc, words)?;
+    let record = Record::read(alloc, words)?;
+    let mut spelling = Vec::new(alloc);
+    let class = record.to_class(alloc, &mut spelling)?;
     record_of_class(alloc, &class)
 }
 
@@ -55,16 +52,11 @@ fn words_of(alloc: Global, class: &Class) -> Result<u32, RecordRefusal> {
     Ok(build(alloc, class)?.words())
 }
 
-/// How many words the record of a class has that has an attribute of so many bytes.
+/// How many words the record of class A has, with an attribute of so many bytes.
 fn words_with(alloc: Global, count: u32) -> Result<Result<u32, RecordRefusal>, Fail> {
-    let class = class_with(alloc, count)?;
-    Ok(words_of(alloc, &class))
-}
-
-/// Class A with an attribute of so many bytes.
-fn class_with(alloc: Global, count: u32) -> Result<Class, Fail> {
     let bytes = with_attribute(alloc, count)?;
-    Ok(read_shape(alloc, &bytes)?)
+    let class = read_shape(alloc, &bytes)?;
+    Ok(words_of(alloc, &class))
 }
 
 /// As many bytes of an attribute as the longest record has, behind 20 words.

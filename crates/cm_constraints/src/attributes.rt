@@ -9,7 +9,7 @@ ghost use Rattle.cm_constraints.specs.Attributes.{bootstrap_attribute_is_right};
 
 use crate::flags::{ACC_STATIC, has};
 use cm_attributes::{Known, count, first_place, is_content, is_known, is_value_of};
-use cm_class::{Attribute, Class, Member};
+use cm_class::{Attribute, Attributes, Class, Member};
 
 const OF_FIELD: [Known; 4] = [
     Known::ConstantValue,
@@ -49,22 +49,31 @@ fn has_content_of(class: &Class, among: &[Known], attribute: &Attribute) -> bool
     })
 }
 
-fn have_content_of(class: &Class, among: &[Known], attributes: &[Attribute]) -> bool
+fn have_content_of(class: &Class, among: &[Known], attributes: &Attributes) -> bool
     ensures { result ≡ list_all (has_content_of class.now among.now) attributes.now }
 {
-    attributes
-        .iter()
-        .all(|attribute| has_content_of(class, among, attribute))
+    let mut rest = attributes.iter();
+    while let Some(attribute) = rest.next() {
+        if !has_content_of(class, among, &attribute) {
+            return false;
+        }
+    }
+    true
 }
 
 /// Whether each ConstantValue among the attributes is a value of this descriptor's type.
-fn are_values_of(class: &Class, descriptor: &[u8], attributes: &[Attribute]) -> bool
+fn are_values_of(class: &Class, descriptor: &[u8], attributes: &Attributes) -> bool
     ensures { result ≡ are_values_of class.now descriptor.now attributes.now }
 {
-    attributes
-        .iter()
-        .filter(|attribute| is_known(class, Known::ConstantValue, attribute))
-        .all(|attribute| is_value_of(class, descriptor, attribute.content()))
+    let mut rest = attributes.iter();
+    while let Some(attribute) = rest.next() {
+        if is_known(class, Known::ConstantValue, &attribute)
+            && !is_value_of(class, descriptor, attribute.content())
+        {
+            return false;
+        }
+    }
+    true
 }
 
 /// Whether the value of a static field is one of its type (JVMS 4.7.2).
@@ -72,7 +81,7 @@ fn values_agree(class: &Class, field: &Member) -> bool
     ensures { result ≡ values_agree class.now field.now }
 {
     !has(field.flags, ACC_STATIC)
-        || are_values_of(class, class.utf8(field.descriptor), field.attributes())
+        || are_values_of(class, class.utf8(field.descriptor), &field.attributes())
 }
 
 /// Whether a field's attributes have their contents, with at most one ConstantValue, which is of
@@ -81,8 +90,8 @@ pub fn field_attributes_are_right(class: &Class, field: &Member) -> bool
     ensures { result ≡ field_attributes_are_right class.now field.now }
 {
     let attributes = field.attributes();
-    count(class, Known::ConstantValue, attributes) <= 1
-        && have_content_of(class, &OF_FIELD, attributes)
+    count(class, Known::ConstantValue, &attributes) <= 1
+        && have_content_of(class, &OF_FIELD, &attributes)
         && values_agree(class, field)
 }
 
@@ -92,8 +101,8 @@ pub fn method_attributes_are_right(class: &Class, method: &Member) -> bool
     ensures { result ≡ method_attributes_are_right class.now method.now }
 {
     let attributes = method.attributes();
-    count(class, Known::Exceptions, attributes) <= 1
-        && have_content_of(class, &OF_METHOD, attributes)
+    count(class, Known::Exceptions, &attributes) <= 1
+        && have_content_of(class, &OF_METHOD, &attributes)
 }
 
 /// Whether an attribute of the class at a place is none of these, or the first of its name. The

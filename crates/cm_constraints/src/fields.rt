@@ -6,14 +6,18 @@ ghost use Rattle.cm_class.specs.Names.{names};
 ghost use Rattle.cm_constraints.specs.Members.{names_utf8s, field_is_named};
 
 use crate::subject::Subject;
-use cm_class::{Attribute, Class, Kind, Member};
+use cm_class::{Attributes, Class, Kind, Member};
 
-fn attributes_name_utf8s(class: &Class, attributes: &[Attribute]) -> bool
+fn attributes_name_utf8s(class: &Class, attributes: &Attributes) -> bool
     ensures { result ≡ list_all (λ a. names kinds.Utf8 class.now a.name) attributes.now }
 {
-    attributes
-        .iter()
-        .all(|attribute| class.names(attribute.name, Kind::Utf8))
+    let mut rest = attributes.iter();
+    while let Some(attribute) = rest.next() {
+        if !class.names(attribute.name, Kind::Utf8) {
+            return false;
+        }
+    }
+    true
 }
 
 /// Whether the name and the descriptor of a field or method, and the names of its attributes, are
@@ -23,7 +27,7 @@ pub fn names_utf8s(class: &Class, member: &Member) -> bool
 {
     class.names(member.name, Kind::Utf8)
         && class.names(member.descriptor, Kind::Utf8)
-        && attributes_name_utf8s(class, member.attributes())
+        && attributes_name_utf8s(class, &member.attributes())
 }
 
 /// Whether a field has a field's name and descriptor (JVMS 4.5).

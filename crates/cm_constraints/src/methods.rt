@@ -57,7 +57,7 @@ pub fn flags_fit_method(class: &Class, method: &Member) -> bool
 pub fn code_count_is_right(class: &Class, method: &Member) -> bool
     ensures { result ≡ code_count_is_right class.now method.now }
 {
-    let codes = count(class, Known::Code, method.attributes());
+    let codes = count(class, Known::Code, &method.attributes());
     if is_clinit(class, method) {
         codes <= 1
     } else if has(method.flags, ACC_NATIVE | ACC_ABSTRACT) {
@@ -71,9 +71,13 @@ pub fn code_count_is_right(class: &Class, method: &Member) -> bool
 pub fn code_has_form(class: &Class, method: &Member) -> bool
     ensures { result ≡ code_has_form class.now method.now }
 {
-    method
-        .attributes()
-        .iter()
-        .filter(|attribute| is_known(class, Known::Code, attribute))
-        .all(|attribute| is_content(class, Known::Code, attribute.content()))
+    let mut rest = method.attributes();
+    while let Some(attribute) = rest.next() {
+        if is_known(class, Known::Code, &attribute)
+            && !is_content(class, Known::Code, attribute.content())
+        {
+            return false;
+        }
+    }
+    true
 }

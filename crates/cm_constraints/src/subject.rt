@@ -31,7 +31,7 @@ fn all_have_form(table: &[Judgement]) -> bool
 /// constants and members name it.
 #[derive(Drop)]
 pub struct Subject<'a> {
-    pub class: &'a Class,
+    pub class: &'a Class<'a>,
     /// For each slot of the pool.
     table: Vec<Judgement>,
     bootstrap_count: u16,
@@ -41,7 +41,7 @@ pub struct Subject<'a> {
 
 impl<'a> Subject<'a> {
     /// The class, looked into. It takes memory for a few bytes a constant.
-    pub fn new(alloc: Global, class: &'a Class) -> Result<Subject<'a>, AllocError>
+    pub fn new(alloc: Global, class: &'a Class<'a>) -> Result<Subject<'a>, AllocError>
         ensures { IfOk result (λ subject. subject.class.now ≡ class.entry.now) }
     {
         let table = judgements(alloc, class)?;

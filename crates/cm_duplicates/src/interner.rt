@@ -13,7 +13,7 @@ use std::collections::BTreeMap;
 /// For each Utf8 that was asked for one index that stands for it, and for all that are equal.
 #[derive(Drop)]
 pub(crate) struct Interner<'a> {
-    pub(crate) class: &'a Class,
+    pub(crate) class: &'a Class<'a>,
     /// The index that stands for bytes.
     pub(crate) interned: BTreeMap<&'a [u8], u16>,
     /// For an index the one that stands for its Utf8, once it was asked for.
@@ -46,7 +46,7 @@ fn intern<'a>(
 impl<'a> Interner<'a> {
     ghost use Rattle.std.specs.Prelude.{replicate};
 
-    pub(crate) fn new(alloc: Global, class: &'a Class) -> Result<Interner<'a>, AllocError>
+    pub(crate) fn new(alloc: Global, class: &'a Class<'a>) -> Result<Interner<'a>, AllocError>
         ensures { IfOk result (λ made. made.class.now ≡ class.entry.now) }
     {
         let _spelled = class.flags(); // brings the class's invariant into the proof's scope

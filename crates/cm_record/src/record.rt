@@ -24,11 +24,11 @@ use crate::member::{Member, find_member};
 use crate::names::name_run;
 use crate::order::{cmp_run_to, cmp_runs};
 use crate::run::{Run, is_same_run, run_bytes};
-use cm_class::Class;
+use cm_class::{Class, class_of_spelling};
 use cm_record_layout::{
     HEAD_CLASS, HEAD_COUNTS, HEAD_MEMBERS_AT, bytes_tell_words, first, fourth, second, third,
 };
-use cm_record_reading::{RecordFault, is_record, read_class};
+use cm_record_reading::{RecordFault, is_record, spell_class};
 use cm_record_writing::{RecordRefusal, write_class};
 use cm_words::WordBuf;
 use std::alloc::{AllocError, Global};
@@ -173,12 +173,16 @@ impl Record {
         constant_at_index(self.as_slice(), index)
     }
 
-    /// Its class.
-    pub fn to_class(&self, alloc: Global) -> Result<Class, AllocError>
+    /// Its class, which borrows the buffer that it is spelled in, of which nothing is kept.
+    pub fn to_class<'b>(
+        &self,
+        alloc: Global,
+        buffer: &'b mut Vec<u8>,
+    ) -> Result<Class<'b>, AllocError>
         ensures { IfOk result (λ c. IsRecordOf c self.now) }
     {
-        match read_class(alloc, self.as_slice()) {
-            Ok(file) => Ok(Class::from_file(file)),
+        match spell_class(self.as_slice(), buffer) {
+            Ok(()) => class_of_spelling(alloc, buffer),
             Err(RecordFault::NoMemory) => Err(AllocError),
             Err(RecordFault::NotARecord) => unreachable!(),
         }

@@ -1,5 +1,5 @@
 -- What was laid out is read again, whatever follows it.
--- For `is_record`, `layout_determines_class`, `read_class`.
+-- For `is_record`, `layout_determines_class`, `spell_class`.
 use Rattle.std.proofs.Common.{◌≡◌, ◌+◌, ◌-◌, ◌*◌, ◌^◌, ℕ, Bool, true, false, List, [], ◌∷◌, ◌++◌}
 use Rattle.std.proofs.Common.{length, Some, refl, ◌∙◌, ap, arith, append_assoc, length-append}
 use Rattle.std.specs.Prelude.{◌==◌, nat_lt}

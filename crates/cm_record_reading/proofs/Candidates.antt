@@ -1,5 +1,5 @@
 -- What a directory word may stand for, of the words of a class.
--- For `is_record`, `layout_determines_class`, `read_class`.
+-- For `is_record`, `layout_determines_class`, `spell_class`.
 use Rattle.std.proofs.Common.{◌≡◌, ◌<◌, ◌+◌, ◌*◌, ◌/◌, ◌%◌, ◌^◌, ℕ, Some, refl, arith}
 use Rattle.cm_class.specs.declared.constant.Constant.TheVariants as constant
 use Rattle.cm_record_layout.specs.Packing.{first_of, second_of, third_of, fourth_of, upper_of}

@@ -6,6 +6,8 @@ mod WholeRecord
 mod Fronts
 mod Turns
 mod Taken
+mod Counts
+mod Spelled
 mod TakenRecord
 mod Skips
 -- A run is read back.

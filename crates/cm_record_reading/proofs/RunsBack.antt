@@ -1,5 +1,5 @@
 -- A run is read back.
--- For `is_record`, `layout_determines_class`, `read_class` and others.
+-- For `is_record`, `layout_determines_class`, `spell_class` and others.
 use Rattle.std.proofs.Common.{◌≡◌, ◌-◌, ℕ, zero, suc, true, List, [], ◌∷◌, ◌++◌, length, take, drop}
 use Rattle.std.proofs.Common.{Some, refl, sym, ap, arith}
 use Rattle.std.specs.Prelude.{◌==◌}

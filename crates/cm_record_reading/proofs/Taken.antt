@@ -1,5 +1,5 @@
 -- What is read was laid out so.
--- For `is_record`, `read_class` and others.
+-- For `is_record`, `spell_class` and others.
 use Rattle.std.proofs.Common.{◌≡◌, ◌<◌, ◌+◌, ◌-◌, ◌*◌, ◌^◌, ℕ, zero, suc, Bool, true}
 use Rattle.std.proofs.Common.{false, List, [], ◌∷◌, ◌++◌, length, take, min, Option, Some, None}
 use Rattle.std.proofs.Common.{inl, inr, refl, sym, ◌∙◌, ap, subst, arith, append_assoc}
@@ -16,6 +16,7 @@ use Rattle.cm_class.specs.declared.class_file.Attribute.{Attribute}
 use Rattle.cm_class.specs.declared.class_file.Member.{Member}
 use Rattle.cm_class.specs.declared.kind.Kind.{Kind}
 use Rattle.cm_class.specs.declared.kind.Kind.TheVariants as kinds
+use Rattle.cm_class.specs.Names.{is_kind}
 use Rattle.cm_class.specs.Reading.{tag_of}
 use Rattle.cm_class.specs.Spelling.{is_wide, IsU2, AreBytes, ConstantFits, SlotsFit, AttributeFits}
 use Rattle.cm_class.specs.Spelling.{MemberFits}
@@ -145,13 +146,14 @@ run_taken count words x e = run_from_taken (run_words count) count words x refl 
 -- ---- the constant pool
 
 -- a constant of one word, which has no run
-record IsPlain (c : Constant) : Type 0 where
+pub record IsPlain (c : Constant) : Type 0 where
   pub narrow : is_wide c ≡ false
+  pub other : is_kind kinds.Utf8 c ≡ false
   pub no_run : constant_run c ≡ []
   pub word : (at : ℕ) → constant_words at c ≡ whole_word c ∷ []
   pub fits : ConstantFits c
 
-abbrev EntryFits : Option DirectoryEntry → Type 0
+abbrev pub EntryFits : Option DirectoryEntry → Type 0
 EntryFits None = Unit {0}
 EntryFits (Some (entry.Utf8 count)) = count < 2 ^ 16
 EntryFits (Some entry.Long) = Unit {0}
@@ -162,29 +164,65 @@ EntryFits (Some (entry.Whole c)) = IsPlain c
 fits_of_kind : (kind : Kind) (word : ℕ) → EntryFits (Some (entry_of_kind kind word))
 fits_of_kind kinds.Utf8 word = omega arith
 fits_of_kind kinds.Integer word =
-    record { narrow = refl; no_run = refl; word = λ at. refl; fits = omega arith }
+    record { narrow = refl; other = refl; no_run = refl; word = λ at. refl; fits = omega arith }
 fits_of_kind kinds.Float word =
-    record { narrow = refl; no_run = refl; word = λ at. refl; fits = omega arith }
+    record { narrow = refl; other = refl; no_run = refl; word = λ at. refl; fits = omega arith }
 fits_of_kind kinds.Long word = tt
 fits_of_kind kinds.Double word = tt
 fits_of_kind kinds.Class word =
-    record { narrow = refl; no_run = refl; word = λ at. refl; fits = omega arith }
+    record { narrow = refl; other = refl; no_run = refl; word = λ at. refl; fits = omega arith }
 fits_of_kind kinds.String word =
-    record { narrow = refl; no_run = refl; word = λ at. refl; fits = omega arith }
+    record { narrow = refl; other = refl; no_run = refl; word = λ at. refl; fits = omega arith }
 fits_of_kind kinds.Fieldref word =
-    record { narrow = refl; no_run = refl; word = λ at. refl; fits = (omega arith, omega arith) }
+    record {
+      narrow = refl;
+      other = refl;
+      no_run = refl;
+      word = λ at. refl;
+      fits = (omega arith, omega arith);
+    }
 fits_of_kind kinds.Methodref word =
-    record { narrow = refl; no_run = refl; word = λ at. refl; fits = (omega arith, omega arith) }
+    record {
+      narrow = refl;
+      other = refl;
+      no_run = refl;
+      word = λ at. refl;
+      fits = (omega arith, omega arith);
+    }
 fits_of_kind kinds.InterfaceMethodref word =
-    record { narrow = refl; no_run = refl; word = λ at. refl; fits = (omega arith, omega arith) }
+    record {
+      narrow = refl;
+      other = refl;
+      no_run = refl;
+      word = λ at. refl;
+      fits = (omega arith, omega arith);
+    }
 fits_of_kind kinds.NameAndType word =
-    record { narrow = refl; no_run = refl; word = λ at. refl; fits = (omega arith, omega arith) }
+    record {
+      narrow = refl;
+      other = refl;
+      no_run = refl;
+      word = λ at. refl;
+      fits = (omega arith, omega arith);
+    }
 fits_of_kind kinds.MethodHandle word =
-    record { narrow = refl; no_run = refl; word = λ at. refl; fits = (omega arith, omega arith) }
+    record {
+      narrow = refl;
+      other = refl;
+      no_run = refl;
+      word = λ at. refl;
+      fits = (omega arith, omega arith);
+    }
 fits_of_kind kinds.MethodType word =
-    record { narrow = refl; no_run = refl; word = λ at. refl; fits = omega arith }
+    record { narrow = refl; other = refl; no_run = refl; word = λ at. refl; fits = omega arith }
 fits_of_kind kinds.InvokeDynamic word =
-    record { narrow = refl; no_run = refl; word = λ at. refl; fits = (omega arith, omega arith) }
+    record {
+      narrow = refl;
+      other = refl;
+      no_run = refl;
+      word = λ at. refl;
+      fits = (omega arith, omega arith);
+    }
 
 candidate_fits : (word : ℕ) → EntryFits (candidate word)
 unfolding candidate
@@ -195,11 +233,12 @@ candidate_fits word = by_kind (tag_of (first_of word))
     by_kind None = tt
     by_kind (Some kind) = fits_of_kind kind word
 
-record EntryTaken (at word : ℕ) (e : DirectoryEntry) : Type 0 where
+pub record EntryTaken (at word : ℕ) (e : DirectoryEntry) : Type 0 where
   pub word_is : entry_word at e ≡ word
   pub fits : EntryFits (Some e)
 
-entry_taken : (at word : ℕ) (e : DirectoryEntry) → entry_of at word ≡ Some e → EntryTaken at word e
+pub entry_taken : (at word : ℕ) (e : DirectoryEntry) → entry_of at word ≡ Some e
+    → EntryTaken at word e
 unfolding entry_of
 entry_taken at word e read =
     let one = bind_some (candidate word) _ e read in

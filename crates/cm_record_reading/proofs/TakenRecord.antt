@@ -1,9 +1,9 @@
 -- A whole record that is read was laid out so.
--- For `is_record`, `read_class` and others.
+-- For `is_record`, `spell_class` and others.
 use Rattle.std.proofs.Common.{◌≡◌, ◌<◌, ◌≤◌, ◌+◌, ◌-◌, ◌*◌, ◌^◌, ℕ, true, false, List, [], ◌∷◌}
-use Rattle.std.proofs.Common.{◌++◌, length, get_or, drop, Option, Some, None, Result, Ok, Err, refl}
+use Rattle.std.proofs.Common.{◌++◌, length, get_or, drop, Option, Some, None, refl}
 use Rattle.std.proofs.Common.{sym, ◌∙◌, ap, subst, arith, append_assoc, length-append}
-use Rattle.std.specs.Prelude.{◌==◌, nat_le, is_some, IfOk, IsErrOf, ◌&&◌}
+use Rattle.std.specs.Prelude.{◌==◌, nat_le, is_some, ◌&&◌}
 use Rattle.std.proofs.lemmas.List.{drop_at, drop-drop, length-drop}
 use Rattle.std.proofs.lemmas.Bool.{eqb-true, leb-true, and_parts}
 use Rattle.cm_class.specs.declared.constant.Slot.{Slot}
@@ -14,15 +14,13 @@ use Rattle.cm_class.specs.Spelling.{HasSpelling}
 use Rattle.cm_record_layout.specs.Packing.{four_numbers, first_of, second_of, third_of, fourth_of}
 use Rattle.cm_record_layout.specs.Layout.{lay, limit, directory, utf8_runs, members}
 use Rattle.cm_record_layout.specs.Layout.{member_attributes, attributes, attribute_runs}
-use Rattle.cm_record_layout.specs.Layout.{attributes_at, runs_at, record_len, IsRecord, IsRecordOf}
+use Rattle.cm_record_layout.specs.Layout.{attributes_at, runs_at, record_len, IsRecord}
 use Rattle.cm_record_reading.specs.Reading.{slots_at, interfaces_from, attributes_from}
 use Rattle.cm_record_reading.specs.Reading.{members_from, is_counted, has_directory}
 use Rattle.cm_record_reading.specs.Reading.{sections_follow}
 use Rattle.cm_record_reading.specs.Reading.{sections_lie_within, head_is_right, sections_end}
 use Rattle.cm_record_reading.specs.Reading.{pool_from}
-use Rattle.cm_record_reading.specs.Reading.{body_from, pool_of, body_of, class_at, Gives}
-use Rattle.cm_record_reading.specs.declared.fault.RecordFault.{RecordFault}
-use Rattle.cm_record_reading.specs.declared.fault.RecordFault.TheVariants.{NotARecord}
+use Rattle.cm_record_reading.specs.Reading.{body_from, pool_of, body_of, class_at}
 use Rattle.cm_record_layout.proofs.{four_numbers_parts, attributes_len, all_attributes_len}
 use Rattle.cm_record_layout.proofs.{all_members_len, all_runs_len, lay_len, main_there}
 use Rattle.cm_record_layout.proofs.{word_0, word_1, word_2, word_3, word_4, word_5, word_6, word_7}
@@ -32,7 +30,7 @@ use Rattle.cm_record_reading.proofs.Taken.{bind_some, only_if_some, some_same, S
 use Rattle.cm_record_reading.proofs.Taken.{InterfacesTaken, MembersTaken, AttributesTaken}
 use Rattle.cm_record_reading.proofs.Taken.{slots_taken, interfaces_taken, members_taken}
 use Rattle.cm_record_reading.proofs.Taken.{attributes_taken}
-use Rattle.cm_record_reading.proofs.WholeRecord.{class_again, always_read}
+use Rattle.cm_record_reading.proofs.WholeRecord.{class_again}
 
 -- the first nine words of a list that is long enough
 nine : (w : List ℕ) → 9 ≤ length w
@@ -457,18 +455,3 @@ pub read_of_record : (w : List ℕ) → IsRecord w → is_some (class_at w) ≡ 
 read_of_record w (c, is) = ap is_some (ap class_at is.laid ∙ class_again c is.spelled)
 
 -- ---- what reading answers
-
-pub read_is_record : (w : List ℕ) → get_or w 1 0 < 2 ^ 64 → get_or w 2 0 < 2 ^ 64
-    → length w ≤ limit → (r : Result ClassFile RecordFault) → Gives (λ c. c) r (class_at w)
-    → IfOk r (λ c. IsRecordOf c w)
-read_is_record w small_1 small_2 short (Ok c) read = let taken =
-    class_taken w c small_1 small_2 read in
-    record { spelled = taken.0; laid = taken.1; short = short }
-read_is_record w small_1 small_2 short (Err e) read = tt
-
-pub refused_is_none : (w : List ℕ) (r : Result ClassFile RecordFault) → Gives
-    (λ c. c) r (class_at w) → IsErrOf r NotARecord → IsRecord w → ⊥
-refused_is_none w r read refused is =
-    let none : class_at w ≡ None = subst (λ (x : Result ClassFile RecordFault). Gives
-    (λ c. c) x (class_at w)) refused read in
-    always_read w is none

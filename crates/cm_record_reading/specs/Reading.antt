@@ -4,6 +4,7 @@
 use Rattle.std.specs.Prelude.{◌≡◌, ℕ, zero, suc, ◌+◌, ◌-◌, ◌*◌, ◌/◌, ◌%◌, ◌^◌, Bool, true, false}
 use Rattle.std.specs.Prelude.{List, [], ◌∷◌, ◌++◌, length, take, drop, get_or, Option, Some, None}
 use Rattle.std.specs.Prelude.{Result, Ok, Err, nat_lt, nat_le, ◌==◌, ◌&&◌}
+use Rattle.std.specs.List.{flat_map}
 use Rattle.cm_class.specs.declared.constant.Constant.{Constant}
 use Rattle.cm_class.specs.declared.constant.Constant.TheVariants as constant
 use Rattle.cm_class.specs.declared.constant.Slot.{Slot}
@@ -13,7 +14,8 @@ use Rattle.cm_class.specs.declared.class_file.Member.{Member}
 use Rattle.cm_class.specs.declared.class_file.ClassFile.{ClassFile}
 use Rattle.cm_class.specs.declared.kind.Kind.{Kind}
 use Rattle.cm_class.specs.declared.kind.Kind.TheVariants as kinds
-use Rattle.cm_class.specs.Spelling.{is_wide}
+use Rattle.cm_class.specs.Spelling.{is_wide, heading, u2, slot_bytes, constant_bytes}
+use Rattle.cm_class.specs.Spelling.{attribute_bytes, member_bytes, counted, spell}
 use Rattle.cm_class.specs.Reading.{tag_of}
 use Rattle.cm_record_reading.specs.declared.entry.DirectoryEntry.{DirectoryEntry}
 use Rattle.cm_record_reading.specs.declared.entry.DirectoryEntry.TheVariants as entry
@@ -292,15 +294,64 @@ abbrev pub with_front : {A B : Type 0} → List A → Option (List A × B) → O
 with_front front None = None
 with_front front (Some read) = Some (front ++ read.0, read.1)
 
-abbrev pub with_front3 : {A B C : Type 0} → List A → Option (List A × B × C) → Option (List A × B
-    × C)
-with_front3 front None = None
-with_front3 front (Some read) = Some (front ++ read.0, read.1, read.2)
+-- ---- what a buffer holds once what is read is spelled behind what it held
 
-abbrev pub with_front4 : {A B C D : Type 0} → List A → Option (List A × B × C × D)
-    → Option (List A × B × C × D)
-with_front4 front None = None
-with_front4 front (Some read) = Some (front ++ read.0, read.1, read.2, read.3)
+abbrev pub behind : {A B : Type 0} → List ℕ → (A → List ℕ) → Option (A × B) → Option (List ℕ × B)
+behind front spelled None = None
+behind front spelled (Some read) = Some (front ++ spelled read.0, read.1)
+
+abbrev pub behind3 : {A B C : Type 0} → List ℕ → (A → List ℕ) → Option (A × B × C)
+    → Option (List ℕ × B × C)
+behind3 front spelled None = None
+behind3 front spelled (Some read) = Some (front ++ spelled read.0, read.1, read.2)
+
+abbrev pub behind4 : {A B C D : Type 0} → List ℕ → (A → List ℕ) → Option (A × B × C × D)
+    → Option (List ℕ × B × C × D)
+behind4 front spelled None = None
+behind4 front spelled (Some read) = Some (front ++ spelled read.0, read.1, read.2, read.3)
+
+abbrev pub utf8_bytes : List ℕ → List ℕ
+utf8_bytes bytes = constant_bytes (constant.Utf8 bytes)
+
+-- of a constant, and whether it is wide
+abbrev pub constant_behind : List ℕ → Option (Constant × List ℕ × List ℕ) → Option (List ℕ × Bool
+    × List ℕ × List ℕ)
+constant_behind front None = None
+constant_behind front (Some read) =
+    Some (front ++ constant_bytes read.0, is_wide read.0, read.1, read.2)
+
+-- an attribute of this name
+abbrev pub content_bytes : ℕ → List ℕ → List ℕ
+content_bytes name bytes = attribute_bytes (record { name = name; bytes = bytes })
+
+-- a class file up to its interfaces, the numbers among them from the head of a record
+abbrev pub pool_bytes : List ℕ → List Slot → List ℕ → List ℕ
+pool_bytes words slots interfaces =
+    heading ++ u2 (length slots + 1) ++ flat_map slot_bytes slots
+    ++ u2 (first_of (head_class words)) ++ u2 (second_of (head_class words))
+    ++ u2 (third_of (head_class words)) ++ counted u2 interfaces
+
+abbrev pub pool_behind : List ℕ → List ℕ → Option (List Slot × List ℕ × List ℕ × List ℕ)
+    → Option (List ℕ × List ℕ × List ℕ)
+pool_behind front words None = None
+pool_behind front words (Some read) =
+    Some (front ++ pool_bytes words read.0 read.1, read.2, read.3)
+
+abbrev pub body_behind : List ℕ → Option (List Member × List Member × List Attribute × List ℕ
+    × List ℕ × List ℕ) → Option (List ℕ × List ℕ × List ℕ × List ℕ)
+body_behind front None = None
+body_behind front (Some read) =
+    Some (
+      front ++ counted member_bytes read.0 ++ counted member_bytes read.1
+          ++ counted attribute_bytes read.2,
+      read.3,
+      read.4,
+      read.5,
+    )
+
+abbrev pub class_behind : List ℕ → Option ClassFile → Option (List ℕ)
+class_behind front None = None
+class_behind front (Some c) = Some (front ++ spell c)
 
 -- ---- what is left, where nothing is kept of what is read
 

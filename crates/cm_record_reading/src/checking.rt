@@ -1,4 +1,4 @@
-//! Telling whether words are a record, without memory: the walk of `reading`, which keeps nothing.
+//! Telling whether words are a record, without memory: the walk of `spelling`, which keeps nothing.
 ghost use Rattle.std.specs.Prelude.{◌≡◌, ◌≤◌, length, false, ◌↔◌, IfSome, IsTrue, is_some};
 ghost use Rattle.cm_record_layout.specs.Layout.{limit, IsRecord};
 ghost use Rattle.cm_record_reading.specs.Reading.{Leaves, left1, left2, left3, width_left, run_at};
@@ -261,9 +261,26 @@ fn skip_body<'a, 'b, 'c>(
         (body_left (body_from total counts.fields counts.methods counts.attributes main.now
         attributes.now runs.now)) }
 {
-    let (main, attributes, runs) = skip_members(total, counts.fields, main, attributes, runs)?;
-    let (main, attributes, runs) = skip_members(total, counts.methods, main, attributes, runs)?;
-    let (attributes, runs) = skip_attributes(total, counts.attributes, attributes, runs)?;
+    let (main, attributes, runs) = skip_members(
+        total,
+        usize::from(counts.fields),
+        main,
+        attributes,
+        runs,
+    )?;
+    let (main, attributes, runs) = skip_members(
+        total,
+        usize::from(counts.methods),
+        main,
+        attributes,
+        runs,
+    )?;
+    let (attributes, runs) = skip_attributes(
+        total,
+        usize::from(counts.attributes),
+        attributes,
+        runs,
+    )?;
     Some((main, attributes, runs))
 }
 

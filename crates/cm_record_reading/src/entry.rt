@@ -14,15 +14,15 @@ use cm_record_layout::{SECOND, THIRD, first, fourth, second, third, upper, whole
 /// What a word of the directory stands for: a Utf8 with its length, the beginning of a wide
 /// constant, or a whole constant.
 #[derive(Debug, Drop)]
-pub(crate) enum DirectoryEntry {
+pub(crate) enum DirectoryEntry<'a> {
     Utf8(u16),
     Long,
     Double,
-    Whole(Constant),
+    Whole(Constant<'a>),
 }
 
 /// What a word of this kind stands for.
-fn entry_of_kind(kind: Kind, word: u64) -> DirectoryEntry
+fn entry_of_kind<'a>(kind: Kind, word: u64) -> DirectoryEntry<'a>
     ensures { result ≡ entry_of_kind_of kind word }
 {
     let (one, two) = (third(word), fourth(word));
@@ -65,7 +65,7 @@ fn entry_of_kind(kind: Kind, word: u64) -> DirectoryEntry
 
 /// What a word may stand for, by its tag.
 #[tactic(auto, unfolding(crate::specs::Reading::candidate))]
-fn candidate(word: u64) -> Option<DirectoryEntry>
+fn candidate<'a>(word: u64) -> Option<DirectoryEntry<'a>>
     ensures { result ≡ candidate_of word }
 {
     let kind = Kind::from_tag(first(word))?;
@@ -89,7 +89,7 @@ fn entry_word(at: u64, entry: &DirectoryEntry) -> u64
 
 /// What a word of the directory stands for, where its run would begin at `at`.
 #[tactic(auto, unfolding(crate::specs::Reading::entry_of))]
-pub(crate) fn entry_at(at: u64, word: u64) -> Option<DirectoryEntry>
+pub(crate) fn entry_at<'a>(at: u64, word: u64) -> Option<DirectoryEntry<'a>>
     requires { at ≤ limit }
     ensures { result ≡ entry_of at word }
 {

@@ -1,24 +1,26 @@
-//! Reading a whole record.
+//! Spelling the class of a whole record.
 ghost use Rattle.std.specs.Prelude.{◌≡◌, ◌≤◌, ◌+◌, ◌↔◌, length, slice_index, IsTrue, IfOk, IsErrOf};
+ghost use Rattle.cm_class.specs.declared.class_file.ClassFile.{ClassFile};
+ghost use Rattle.cm_class.specs.Spelling.{spell};
 ghost use Rattle.cm_record_layout.specs.Layout.{limit, IsRecord, IsRecordOf};
 ghost use Rattle.cm_record_reading.specs.Reading.{Gives, head_is_right as head_is_right_of};
 ghost use Rattle.cm_record_reading.specs.Reading.{is_counted as is_counted_of};
 ghost use Rattle.cm_record_reading.specs.Reading.{has_directory as has_directory_of};
 ghost use Rattle.cm_record_reading.specs.Reading.{sections_follow as sections_follow_of};
 ghost use Rattle.cm_record_reading.specs.Reading.{sections_lie_within as sections_lie_within_of};
-ghost use Rattle.cm_record_reading.specs.Reading.{sections_end as sections_end_of, pool_from};
-ghost use Rattle.cm_record_reading.specs.Reading.{body_from, class_at};
+ghost use Rattle.cm_record_reading.specs.Reading.{sections_end as sections_end_of, pool_of};
+ghost use Rattle.cm_record_reading.specs.Reading.{body_from, class_at, pool_behind, body_behind};
+ghost use Rattle.cm_record_reading.specs.Reading.{class_behind};
 ghost use Rattle.cm_record_layout.specs.Packing.{first_of};
 
 use crate::fault::RecordFault;
-use crate::reading::{read_attributes, read_interfaces, read_members, read_slots};
-use cm_class::{Attribute, ClassFile, Items, Member, Slot};
+use crate::spelling::{put_u16, spell_attributes, spell_interfaces, spell_members, spell_slots};
+use cm_class::HEADING;
 use cm_record_layout::{
     DIRECTORY_AT, HEAD_ATTRIBUTES_AT, HEAD_CLASS, HEAD_COUNTS, HEAD_DIRECTORY_AT,
     HEAD_INTERFACES_AT, HEAD_MEMBERS_AT, HEAD_RUNS_AT, HEAD_TOTAL, SLOT_1_AT, first, fourth,
     second, third, words_from,
 };
-use std::alloc::Global;
 
 /// The head and slot 0 are there, and the words are counted.
 fn is_counted(words: &[u64]) -> bool
@@ -79,9 +81,9 @@ pub(crate) fn head_is_right(words: &[u64]) -> bool
 /// How many fields, methods and attributes a class has of its own.
 #[derive(Clone, Copy)]
 pub(crate) struct Counts {
-    pub fields: usize,
-    pub methods: usize,
-    pub attributes: usize,
+    pub fields: u16,
+    pub methods: u16,
+    pub attributes: u16,
 }
 
 impl Counts {
@@ -95,9 +97,9 @@ impl Counts {
         ensures attributes { result.attributes ≡ fourth_of word }
     {
         Counts {
-            fields: usize::from(second(word)),
-            methods: usize::from(third(word)),
-            attributes: usize::from(fourth(word)),
+            fields: second(word),
+            methods: third(word),
+            attributes: fourth(word),
         }
     }
 }
@@ -114,138 +116,95 @@ pub(crate) fn sections_end(words: &[u64], main: &[u64], attributes: &[u64], runs
         && runs.is_empty()
 }
 
-/// The slots of the pool and the interfaces, and what is left behind them.
-#[tactic(auto, unfolding(crate::specs::Reading::pool_from))]
-fn read_pool<'a, 'b>(
-    alloc: Global,
-    total: usize,
-    count: usize,
-    interfaces: usize,
-    main: &'a [u64],
-    runs: &'b [u64],
-) -> Result<(Vec<Slot>, Vec<u16>, &'a [u64], &'b [u64]), RecordFault>
-    requires short { total ≤ limit }
-    requires suffix { length runs.now ≤ total }
-    ensures read { Gives (λ x. (x.0.items, x.1.items, x.2.now, x.3.now)) result
-        (pool_from total count interfaces main.now runs.now) }
-    ensures suffix { IfOk result (λ x. length x.3.now ≤ length runs.now) }
+/// The heading, the pool, the flags, the two classes and the interfaces, and what is left behind
+/// the interfaces and behind the pool's runs.
+fn spell_pool<'a>(
+    words: &'a [u64],
+    out: &mut Vec<u8>,
+) -> Result<(&'a [u64], &'a [u64]), RecordFault>
+    requires short { length words.now ≤ limit }
+    requires long { 9 ≤ length words.now }
+    requires slots { 1 ≤ first_of (slice_index words.now 2) }
+    requires runs { slice_index words.now 7 ≤ length words.now }
+    ensures read { Gives (λ x. (out.new.items, x.0.now, x.1.now)) result
+        (pool_behind out.old.items words.now (pool_of words.now)) }
+    ensures suffix { IfOk result (λ x. length x.1.now ≤ length words.now) }
 {
-    let (slots, main, runs) = read_slots(alloc, total, count, main, runs)?;
-    let (interfaces, main) = read_interfaces(alloc, interfaces, main)?;
-    Ok((slots, interfaces, main, runs))
+    let (class, counts) = (words[HEAD_CLASS], words[HEAD_COUNTS]);
+    let runs = words_from(words, words[HEAD_RUNS_AT] as usize);
+    out.extend_from_slice(&HEADING)?;
+    put_u16(first(counts), out)?;
+    let count = usize::from(first(counts)) - 1;
+    let (main, runs) = spell_slots(words.len(), count, words_from(words, SLOT_1_AT), runs, out)?;
+    put_u16(first(class), out)?;
+    put_u16(second(class), out)?;
+    put_u16(third(class), out)?;
+    let main = spell_interfaces(fourth(class), main, out)?;
+    Ok((main, runs))
 }
 
-/// What stands behind the pool and the interfaces, and what is left behind each section.
-#[derive(Drop)]
-struct Body<'a, 'b, 'c> {
-    fields: Vec<Member>,
-    methods: Vec<Member>,
-    own: Vec<Attribute>,
-    main: &'a [u64],
-    attributes: &'b [u64],
-    runs: &'c [u64],
-}
-
-/// So many fields, methods and attributes of the class.
-#[tactic(auto, unfolding(crate::specs::Reading::body_from))]
-fn read_body<'a, 'b, 'c>(
-    alloc: Global,
+/// So many fields, methods and attributes of the class, and what is left behind each section.
+fn spell_body<'a, 'b, 'c>(
     total: usize,
     counts: Counts,
     main: &'a [u64],
     attributes: &'b [u64],
     runs: &'c [u64],
-) -> Result<Body<'a, 'b, 'c>, RecordFault>
+    out: &mut Vec<u8>,
+) -> Result<(&'a [u64], &'b [u64], &'c [u64]), RecordFault>
     requires attributes { length attributes.now ≤ total }
     requires runs { length runs.now ≤ total }
-    ensures { Gives
-        (λ x. (
-          x.fields.items,
-          x.methods.items,
-          x.own.items,
-          x.main.now,
-          x.attributes.now,
-          x.runs.now,
-        )) result
-        (body_from total counts.fields counts.methods counts.attributes main.now attributes.now
-        runs.now) }
+    ensures { Gives (λ x. (out.new.items, x.0.now, x.1.now, x.2.now)) result
+        (body_behind out.old.items (body_from total counts.fields counts.methods counts.attributes
+        main.now attributes.now runs.now)) }
 {
-    let (fields, main, attributes, runs) = read_members(
-        alloc,
+    let (main, attributes, runs) = spell_members(
         total,
         counts.fields,
         main,
         attributes,
         runs,
+        out,
     )?;
-    let (methods, main, attributes, runs) = read_members(
-        alloc,
+    let (main, attributes, runs) = spell_members(
         total,
         counts.methods,
         main,
         attributes,
         runs,
+        out,
     )?;
-    let (own, attributes, runs) = read_attributes(
-        alloc,
-        total,
-        counts.attributes,
-        attributes,
-        runs,
-    )?;
-    Ok(Body {
-        fields,
-        methods,
-        own,
-        main,
-        attributes,
-        runs,
-    })
+    let (attributes, runs) = spell_attributes(total, counts.attributes, attributes, runs, out)?;
+    Ok((main, attributes, runs))
 }
 
-/// The class whose layout the words are.
-#[tactic(auto, unfolding(crate::specs::Reading::class_at))]
-fn class_of_words(alloc: Global, words: &[u64]) -> Result<ClassFile, RecordFault>
+/// Puts the spelling of the class whose layout the words are behind what the buffer holds.
+fn spell_words(words: &[u64], out: &mut Vec<u8>) -> Result<(), RecordFault>
     requires { length words.now ≤ limit }
-    ensures { Gives (λ c. c) result (class_at words.now) }
+    ensures { Gives (λ _. out.new.items) result (class_behind out.old.items (class_at words.now)) }
 {
     if !head_is_right(words) {
         return Err(RecordFault::NotARecord);
     }
-    let total = words.len();
-    let (class, counts) = (words[HEAD_CLASS], words[HEAD_COUNTS]);
-    let runs = words_from(words, words[HEAD_RUNS_AT] as usize);
-    let (slots, interfaces, main, runs) = read_pool(
-        alloc,
-        total,
-        first(counts) as usize - 1,
-        fourth(class) as usize,
-        words_from(words, SLOT_1_AT),
-        runs,
-    )?;
+    let (main, runs) = spell_pool(words, out)?;
     let attributes = words_from(words, words[HEAD_ATTRIBUTES_AT] as usize);
-    let body = read_body(alloc, total, Counts::of(counts), main, attributes, runs)?;
-    if !sections_end(words, body.main, body.attributes, body.runs) {
+    let counts = Counts::of(words[HEAD_COUNTS]);
+    let (main, attributes, runs) = spell_body(words.len(), counts, main, attributes, runs, out)?;
+    if !sections_end(words, main, attributes, runs) {
         return Err(RecordFault::NotARecord);
     }
-    Ok(ClassFile {
-        slots: Items::from_vec(slots),
-        flags: first(class),
-        this_class: second(class),
-        super_class: third(class),
-        interfaces: Items::from_vec(interfaces),
-        fields: Items::from_vec(body.fields),
-        methods: Items::from_vec(body.methods),
-        attributes: Items::from_vec(body.own),
-    })
+    Ok(())
 }
 
-/// The class that has these words as its record. `NotARecord` comes only where no class has,
-/// `NoMemory` only where an allocation failed.
-pub fn read_class(alloc: Global, words: &[u64]) -> Result<ClassFile, RecordFault>
+/// Makes the buffer hold the spelling of the class that has these words as its record, and no more.
+/// `NotARecord` comes only where no class has, `NoMemory` only where an allocation failed; what the
+/// buffer holds then isn't told.
+pub fn spell_class(words: &[u64], out: &mut Vec<u8>) -> Result<(), RecordFault>
     requires { length words.now ≤ limit }
-    ensures ok { IfOk result (λ c. IsRecordOf c words.now) }
+    ensures ok { IfOk result (λ _. (c : ClassFile) × IsRecordOf c words.now
+        × (out.new.items ≡ spell c)) }
     ensures not_a_record { IsErrOf result RecordFault.NotARecord → IsRecord words.now → ⊥ }
 {
-    class_of_words(alloc, words)
+    out.clear();
+    spell_words(words, out)
 }

@@ -30,7 +30,7 @@ fn push_member_attributes(words: &mut WordBuf, at: u64, these: &[Member]) -> u64
 {
     let mut at = at;
     for member in these {
-        at = push_attributes(words, at, member.attributes());
+        at = push_attributes(words, at, &member.attributes());
     }
     at
 }
@@ -44,7 +44,7 @@ fn push_member_runs(words: &mut WordBuf, these: &[Member])
     ensures capacity { words.new.capacity ≡ words.old.capacity }
 {
     for member in these {
-        push_attribute_runs(words, member.attributes());
+        push_attribute_runs(words, &member.attributes());
     }
 }
 
@@ -114,9 +114,9 @@ pub(crate) fn push_attributes_and_runs(words: &mut WordBuf, class: &Class, place
 {
     let next = push_member_attributes(words, places.attribute_runs, class.fields());
     let next = push_member_attributes(words, next, class.methods());
-    push_attributes(words, next, class.attributes());
+    push_attributes(words, next, &class.attributes());
     push_utf8_runs(words, class.slots());
     push_member_runs(words, class.fields());
     push_member_runs(words, class.methods());
-    push_attribute_runs(words, class.attributes());
+    push_attribute_runs(words, &class.attributes());
 }

@@ -5,7 +5,7 @@ ghost use Rattle.cm_record_layout.specs.Layout.{utf8_runs, member_attributes, at
 ghost use Rattle.cm_record_layout.specs.Layout.{record_len, lay, limit};
 
 use crate::sections::{attribute_run_words, slot_run_words};
-use cm_class::{Attribute, Class, Member, Slot};
+use cm_class::{Attributes, Class, Member, Slot};
 use cm_record_layout::{MAX_WORDS, SLOT_1_AT};
 
 /// How many words the runs of the pool take; the greatest u64 stands for more.
@@ -20,14 +20,15 @@ fn utf8_words(slots: &[Slot]) -> u64
 }
 
 /// How many words attributes and their runs take; the greatest u64 stands for more.
-fn attribute_words(these: &[Attribute]) -> u64
+fn attribute_words(these: &Attributes) -> u64
     ensures { result ≡ min (2 * length these.now + length (attribute_runs these.now)) (2 ^ 64 - 1) }
 {
     let mut total: u64 = 0;
-    for attribute in these {
+    let mut rest = these.iter();
+    while let Some(attribute) = rest.next() {
         total = total
             .saturating_add(2)
-            .saturating_add(attribute_run_words(attribute));
+            .saturating_add(attribute_run_words(&attribute));
     }
     total
 }
@@ -42,7 +43,7 @@ fn member_words(these: &[Member]) -> u64
     for member in these {
         total = total
             .saturating_add(2)
-            .saturating_add(attribute_words(member.attributes()));
+            .saturating_add(attribute_words(&member.attributes()));
     }
     total
 }
@@ -80,7 +81,7 @@ fn words_of(class: &Class) -> u64
         .saturating_add(utf8_words(class.slots()))
         .saturating_add(member_words(class.fields()))
         .saturating_add(member_words(class.methods()))
-        .saturating_add(attribute_words(class.attributes()))
+        .saturating_add(attribute_words(&class.attributes()))
 }
 
 impl Places {

@@ -8,7 +8,7 @@ ghost use Rattle.cm_record_layout.specs.Layout.{utf8_runs, members, member_attri
 ghost use Rattle.cm_record_layout.specs.Layout.{attribute_run, attribute_runs, limit};
 
 use crate::runs::push_run;
-use cm_class::{Attribute, Constant, Kind, Member, Slot};
+use cm_class::{Attribute, Attributes, Constant, Kind, Member, Slot};
 use cm_record_layout::{SECOND, THIRD, four_numbers, run_words, whole_word};
 use cm_words::WordBuf;
 
@@ -137,7 +137,7 @@ fn attribute_word(attribute: &Attribute) -> u64
 
 /// Adds attributes, where the run of the first begins at `at`. It gives where that of the next
 /// would.
-pub(crate) fn push_attributes(words: &mut WordBuf, at: u64, these: &[Attribute]) -> u64
+pub(crate) fn push_attributes(words: &mut WordBuf, at: u64, these: &Attributes) -> u64
     requires short { at + length (attribute_runs these.now) ≤ limit }
     requires room { length words.old.words + length (attributes at these.now) ≤ words.old.capacity }
     ensures words { words.new.words ≡ words.old.words ++ attributes at these.now }
@@ -145,21 +145,23 @@ pub(crate) fn push_attributes(words: &mut WordBuf, at: u64, these: &[Attribute])
     ensures next { result ≡ at + length (attribute_runs these.now) }
 {
     let mut at = at;
-    for attribute in these {
-        words.push(attribute_word(attribute));
+    let mut rest = these.iter();
+    while let Some(attribute) = rest.next() {
+        words.push(attribute_word(&attribute));
         words.push(at);
-        at += attribute_run_words(attribute);
+        at += attribute_run_words(&attribute);
     }
     at
 }
 
 /// Adds the runs of attributes.
-pub(crate) fn push_attribute_runs(words: &mut WordBuf, these: &[Attribute])
+pub(crate) fn push_attribute_runs(words: &mut WordBuf, these: &Attributes)
     requires { length words.old.words + length (attribute_runs these.now) ≤ words.old.capacity }
     ensures words { words.new.words ≡ words.old.words ++ attribute_runs these.now }
     ensures capacity { words.new.capacity ≡ words.old.capacity }
 {
-    for attribute in these {
+    let mut rest = these.iter();
+    while let Some(attribute) = rest.next() {
         push_run(words, attribute.content());
     }
 }

@@ -47,6 +47,28 @@ module _ {A : Type 0} (test : ℕ → A → Bool) where
   none_fails items i total le so_far =
       ap (first_failing test i) (sym (drop_all i items le)) ∙ so_far
 
+  -- the same where an iterator gives the items
+
+  pub fails_next : (rest others : List A) (i : ℕ) (x : A) (total : Option ℕ) → rest ≡ x ∷ others
+      → false ≡ test i x → first_failing test i rest ≡ total → Some i ≡ total
+  unfolding first_failing
+  fails_next rest others i x total is h so_far =
+      ap (λ (b : Bool). cond b (first_failing test (i + 1) others) (Some i)) h
+      ∙ ap (first_failing test i) (sym is) ∙ so_far
+
+  pub passes_next : (rest others : List A) (i : ℕ) (x : A) (total : Option ℕ) → rest ≡ x ∷ others
+      → true ≡ test i x → first_failing test i rest ≡ total
+      → first_failing test (i + 1) others ≡ total
+  unfolding first_failing
+  passes_next rest others i x total is h so_far =
+      ap (λ (b : Bool). cond b (first_failing test (i + 1) others) (Some i)) h
+      ∙ ap (first_failing test i) (sym is) ∙ so_far
+
+  pub none_left : (rest : List A) (i : ℕ) (total : Option ℕ) → rest ≡ []
+      → first_failing test i rest ≡ total → None ≡ total
+  unfolding first_failing
+  none_left rest i total is so_far = ap (first_failing test i) (sym is) ∙ so_far
+
 -- ---- from places to spots
 
 or_else-cond : {A : Type 0} (b : Bool) (x : A) (y z w : Option A) → w ≡ or_else y z

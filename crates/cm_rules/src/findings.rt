@@ -10,7 +10,7 @@ use std::alloc::{AllocError, Global};
 /// A class, with all that takes memory to find out of it.
 #[derive(Drop)]
 pub(crate) struct Findings<'a> {
-    pub(crate) class: &'a Class,
+    pub(crate) class: &'a Class<'a>,
     pub(crate) subject: Subject<'a>,
     /// The first field with the name and the descriptor of one before it.
     pub(crate) duplicate_field: Option<u16>,
@@ -22,7 +22,7 @@ pub(crate) struct Findings<'a> {
 }
 
 impl<'a> Findings<'a> {
-    pub(crate) fn new(alloc: Global, class: &'a Class) -> Result<Findings<'a>, AllocError>
+    pub(crate) fn new(alloc: Global, class: &'a Class<'a>) -> Result<Findings<'a>, AllocError>
         ensures { IfOk result (λ findings. findings.class.now ≡ class.entry.now) }
     {
         let _spelled = class.flags(); // brings the class's invariant into the proof's scope

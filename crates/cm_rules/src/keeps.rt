@@ -166,10 +166,13 @@ fn attributes_keep(class: &Class) -> bool
     ensures { result ≡ true
         → first_failing (attribute_keeps class.now) 0 class.now.attributes ≡ None }
 {
-    for (place, item) in class.attributes().iter().enumerate() {
-        if !attribute_keeps(class, place, item) {
+    let mut rest = class.attributes();
+    let mut place = 0;
+    while let Some(item) = rest.next() {
+        if !attribute_keeps(class, place, &item) {
             return false;
         }
+        place += 1;
     }
     true
 }

@@ -81,7 +81,7 @@ fn class_fault(fault: ShapeFault) -> ClassFault
     }
 }
 
-fn read_and_judge(alloc: Global, bytes: &[u8]) -> Result<Class, ClassFault>
+fn read_and_judge<'a>(alloc: Global, bytes: &'a [u8]) -> Result<Class<'a>, ClassFault>
     ensures { IsUnlessRefused bytes.now result }
 {
     match read_shape(alloc, bytes) {
@@ -100,7 +100,7 @@ fn read_and_judge(alloc: Global, bytes: &[u8]) -> Result<Class, ClassFault>
 /// where the class breaks a rule, with the first such rule and its first spot; or with `NoMemory`,
 /// where they spell a class file and an allocation failed: a fault of their shape is told in any
 /// case.
-pub fn read_class(alloc: Global, bytes: &[u8]) -> Result<Class, ClassFault>
+pub fn read_class<'a>(alloc: Global, bytes: &'a [u8]) -> Result<Class<'a>, ClassFault>
     ensures ok { IfOk result (IsRight bytes.now) }
     ensures fault { IfErr result (IsWrong bytes.now) }
 

@@ -85,10 +85,13 @@ fn first_method(findings: &Findings, rule: Rule) -> Option<u16>
 fn first_attribute(findings: &Findings, rule: Rule) -> Option<u16>
     ensures { result ≡ attribute_failing findings.now.class.now rule }
 {
-    for (place, item) in findings.class.attributes().iter().enumerate() {
-        if !attribute_rule(findings, rule, place, item) {
+    let mut rest = findings.class.attributes();
+    let mut place = 0;
+    while let Some(item) = rest.next() {
+        if !attribute_rule(findings, rule, place, &item) {
             return Some(place as u16);
         }
+        place += 1;
     }
     None
 }

@@ -114,7 +114,8 @@ fn pick_wanted(alloc: Global, record: &Record, class: &Class) -> Result<Wanted, 
 
 /// A record with all that is looked for in it.
 fn subject_of(alloc: Global, record: Record) -> Result<Subject, AllocError> {
-    let class = record.to_class(alloc)?;
+    let mut spelling = Vec::new(alloc);
+    let class = record.to_class(alloc, &mut spelling)?;
     let wanted = pick_wanted(alloc, &record, &class)?;
     Ok(Subject { record, wanted })
 }

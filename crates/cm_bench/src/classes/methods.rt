@@ -55,7 +55,8 @@ fn print_methods_in(
 /// Prints a line for each method of a record.
 fn print_methods_of(rt: &(impl Print + AllocGlobal), record: &Record) -> Result<()> {
     let class_name = record.class_name(rt.alloc())?;
-    let class = record.to_class(rt.alloc())?;
+    let mut spelling = Vec::new(rt.alloc());
+    let class = record.to_class(rt.alloc(), &mut spelling)?;
     print_methods_in(rt, record, &class, &class_name)
 }
 

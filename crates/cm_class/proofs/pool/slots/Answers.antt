@@ -12,7 +12,7 @@ returns-in_err-item g c =
     let so_far = rw c.if-second.false at c.loop-index.invariant in
     rw (p.1, p.2)
     (slots_refuse c.args.count c.loop-index.index c.loop-index.rest.now c.in_err-item.field-0.0
-    c.loop-index-test.true so_far c.in_err-item.ensures.read c.in_err-item.ensures.wide)
+    c.loop-index-test.true so_far c.in_err-item.ensures)
 
 pub loop-index-preserved : goal.loop-index-preserved
 loop-index-preserved g c = elim c.if-second.branch [
@@ -26,7 +26,7 @@ loop-index-preserved g c = elim c.if-second.branch [
       rw (w.slots-is, w.second-is, w.rest-is, w.is_wide-second.ensures)
       (usable_fills c.args.count c.loop-index.index c.loop-index.rest.now w.in_ok-item.item
       w.in_ok-item.after.now w.push-else-second.new.list.items c.loop-index-test.true so_far
-      w.in_ok-item.ensures.read.kept w.in_ok-item.ensures.wide w.in_ok-push-2.ensures.kept)
+      w.in_ok-item.ensures w.in_ok-push-2.ensures.kept)
 ]
 
 pub returns : goal.returns

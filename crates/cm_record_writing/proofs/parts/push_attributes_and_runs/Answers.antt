@@ -52,8 +52,8 @@ push_attributes-requires-clause-room c =
           (member_attributes c.methods.result.now) (member_attributes k.methods)
           c.push_member_attributes-next-2.ensures.words (ap member_attributes c.methods.ensures),
       c.push_member_attributes-next-2.ensures.capacity,
-      attributes_len c.push_member_attributes-next-2.result c.attributes.result.now,
-      ap length c.attributes.ensures,
+      attributes_len c.push_member_attributes-next-2.result c.attributes.result,
+      ap length c.attributes.ensures.same,
     )
 
 pub push_utf8_runs-requires : goal.push_utf8_runs-requires
@@ -75,7 +75,8 @@ push_utf8_runs-requires c =
       c.push_member_attributes-next-2.ensures.capacity,
       grown_attributes c.push_member_attributes-next-2.new.words.words
           c.push_attributes.new.words.words c.push_member_attributes-next-2.result
-          c.attributes.result.now k.attributes c.push_attributes.ensures.words c.attributes.ensures,
+          c.attributes.result k.attributes c.push_attributes.ensures.words
+          c.attributes.ensures.same,
       c.push_attributes.ensures.capacity,
       ap (λ xs. length (utf8_runs xs)) c.slots.ensures,
     )
@@ -99,7 +100,8 @@ push_member_runs-requires c =
       c.push_member_attributes-next-2.ensures.capacity,
       grown_attributes c.push_member_attributes-next-2.new.words.words
           c.push_attributes.new.words.words c.push_member_attributes-next-2.result
-          c.attributes.result.now k.attributes c.push_attributes.ensures.words c.attributes.ensures,
+          c.attributes.result k.attributes c.push_attributes.ensures.words
+          c.attributes.ensures.same,
       c.push_attributes.ensures.capacity,
       grown c.push_attributes.new.words.words c.push_utf8_runs.new.words.words
           (utf8_runs c.slots.result.now) (utf8_runs k.slots) c.push_utf8_runs.ensures.words
@@ -127,7 +129,8 @@ push_member_runs-requires-2 c =
       c.push_member_attributes-next-2.ensures.capacity,
       grown_attributes c.push_member_attributes-next-2.new.words.words
           c.push_attributes.new.words.words c.push_member_attributes-next-2.result
-          c.attributes.result.now k.attributes c.push_attributes.ensures.words c.attributes.ensures,
+          c.attributes.result k.attributes c.push_attributes.ensures.words
+          c.attributes.ensures.same,
       c.push_attributes.ensures.capacity,
       grown c.push_attributes.new.words.words c.push_utf8_runs.new.words.words
           (utf8_runs c.slots.result.now) (utf8_runs k.slots) c.push_utf8_runs.ensures.words
@@ -160,7 +163,8 @@ push_attribute_runs-requires c =
       c.push_member_attributes-next-2.ensures.capacity,
       grown_attributes c.push_member_attributes-next-2.new.words.words
           c.push_attributes.new.words.words c.push_member_attributes-next-2.result
-          c.attributes.result.now k.attributes c.push_attributes.ensures.words c.attributes.ensures,
+          c.attributes.result k.attributes c.push_attributes.ensures.words
+          c.attributes.ensures.same,
       c.push_attributes.ensures.capacity,
       grown c.push_attributes.new.words.words c.push_utf8_runs.new.words.words
           (utf8_runs c.slots.result.now) (utf8_runs k.slots) c.push_utf8_runs.ensures.words
@@ -176,7 +180,7 @@ push_attribute_runs-requires c =
           (attribute_runs (member_attributes k.methods)) c.push_member_runs-2.ensures.words
           (ap (λ xs. length (attribute_runs (member_attributes xs))) c.methods-2.ensures),
       c.push_member_runs-2.ensures.capacity,
-      ap (λ xs. length (attribute_runs xs)) c.attributes-2.ensures,
+      ap (λ xs. length (attribute_runs xs)) c.attributes-2.ensures.same,
     )
 
 pub returns-clause-words : goal.returns-clause-words
@@ -201,11 +205,11 @@ returns-clause-words c =
     (λ xs. w1 ++ attributes n1 (member_attributes xs)) c.methods.ensures)
     (c.push_member_attributes-next-2.ensures.next ∙ ap
     (λ xs. n1 + length (attribute_runs (member_attributes xs))) c.methods.ensures)
-    (c.push_attributes.ensures.words ∙ ap (λ xs. w2 ++ attributes n2 xs) c.attributes.ensures)
+    (c.push_attributes.ensures.words ∙ ap (λ xs. w2 ++ attributes n2 xs) c.attributes.ensures.same)
     (c.push_utf8_runs.ensures.words ∙ ap (λ xs. w3 ++ utf8_runs xs) c.slots.ensures)
     (c.push_member_runs.ensures.words ∙ ap
     (λ xs. w4 ++ attribute_runs (member_attributes xs)) c.fields-2.ensures)
     (c.push_member_runs-2.ensures.words ∙ ap
     (λ xs. w5 ++ attribute_runs (member_attributes xs)) c.methods-2.ensures)
     (c.push_attribute_runs.ensures.words ∙ ap
-    (λ xs. w6 ++ attribute_runs xs) c.attributes-2.ensures)
+    (λ xs. w6 ++ attribute_runs xs) c.attributes-2.ensures.same)

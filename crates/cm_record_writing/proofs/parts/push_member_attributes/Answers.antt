@@ -23,8 +23,8 @@ push_attributes-at-requires-clause-room c =
       attributes_len l.at all,
       ap length split,
       length-append own rest,
-      attributes_len l.at c.attributes.result.now,
-      ap length c.attributes.ensures,
+      attributes_len l.at c.attributes.result,
+      ap length c.attributes.ensures.same,
     )
 
 pub loop-member-preserved : goal.loop-member-preserved
@@ -41,7 +41,7 @@ loop-member-preserved c =
     ap (λ xs. length (attribute_runs xs)) split
     ∙ (ap length (attribute_runs_append own rest)
     ∙ length-append (attribute_runs own) (attribute_runs rest)) in
-    let slice = c.attributes.ensures in
+    let slice = c.attributes.ensures.same in
     let pushed = c.push_attributes-at in
     let added : pushed.new.words.words ≡ l.words.words ++ attributes at own =
     pushed.ensures.words ∙ ap (λ xs. l.words.words ++ attributes at xs) slice in

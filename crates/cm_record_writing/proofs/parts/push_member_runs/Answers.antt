@@ -21,5 +21,5 @@ push_attribute_runs-requires c =
           c.args.words.now.capacity l.invariant.added l.invariant.capacity c.requires,
       ap length parts,
       length-append (attribute_runs own) (attribute_runs rest),
-      ap (λ xs. length (attribute_runs xs)) c.attributes.ensures,
+      ap (λ xs. length (attribute_runs xs)) c.attributes.ensures.same,
     )

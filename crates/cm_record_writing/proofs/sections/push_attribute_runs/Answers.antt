@@ -1,5 +1,4 @@
-use Rattle.std.proofs.Common.{◌≡◌, ◌+◌, ◌∷◌, length, drop, length-append, ap, arith}
-use Rattle.std.proofs.lemmas.Grind.{common_steps}
+use Rattle.std.proofs.Common.{◌≡◌, ◌∷◌, length, length-append, ap, arith}
 use Rattle.cm_record_layout.specs.Packing.{packed}
 use Rattle.cm_record_layout.specs.Layout.{attribute_runs, attribute_run}
 use Rattle.cm_record_writing.proofs.Room.{room_left}
@@ -9,12 +8,12 @@ pub push_run-requires : goal.push_run-requires
 push_run-requires c =
     let l = c.loop-attribute in
     let these = c.args.these.now in
-    let a = c.attribute-item.result in
-    let behind = drop (l.attribute-index + 1) these in
-    let split : drop l.attribute-index these ≡ a ∷ behind = grind (arith, common_steps) in
+    let a = c.in-Some.attribute in
+    let behind = c.next.new.self in
+    let split : l.rest ≡ a ∷ behind = c.in-Some.ensures.steps in
     omega (
       arith,
-      room_left l.words.words (attribute_runs (drop l.attribute-index these)) c.args.words.now.words
+      room_left l.words.words (attribute_runs l.rest) c.args.words.now.words
           (attribute_runs these) l.words.capacity c.args.words.now.capacity l.invariant.added
           l.invariant.capacity c.requires,
       ap (λ xs. length (attribute_runs xs)) split,
