@@ -273,6 +273,58 @@ for gate in A4 00 FF A5; do
     check "a gate that is $gate" 1
 done
 
+# ---- files of an older version are moved over
+
+older() { # FILE: a file of two loaders and three classes, whose half is of the version before
+    printf 'loader a\ndefine a %s\nloader b\ndefine a %s\ndefine b %s\nunload b\n' "$a" \
+        "$(padded B 0)" "$a" | python3 tests/region.py after >"$1"
+    printf '%b' '\x01' | dd of="$1" bs=1 seek=4098 conv=notrunc status=none
+}
+older "$work/older"
+python3 tests/region.py opened "$work/older" >"$work/moved"
+printf 'find a A\nfind a B\nfind b A\n' >"$work/in"
+printf '%s\n' 'class A flags 0021 super java/lang/Object words 16' \
+    'class B flags 0021 super java/lang/Object words 20' none >"$work/want"
+cp "$work/older" "$work/kept"
+"$program" check "$work/older" >"$work/got"
+[ "$(cat "$work/got")" = "ok loaders 1 classes 2 chunks 1 number 6" ]
+check_last "an older file is checked"
+cmp -s "$work/older" "$work/kept"
+check_last "checking leaves it as it is"
+run apply "$work/older"
+check "an older file is moved over" 0
+cmp -s "$work/older" "$work/moved"
+check_last "by a script: its bytes"
+for how in list trim; do
+    cp "$work/kept" "$work/older"
+    run "$how" "$work/older"
+    [ "$status" = 0 ] && cmp -s "$work/older" "$work/moved"
+    check_last "by $how: its bytes"
+done
+# Files that the program made when it wrote version 1: one with moves, one whose half 1 counts, and
+# one with as many rows as may live.
+for kind in moves second full; do
+    gzip -d -c "tests/data/older_$kind.gz" >"$work/older"
+    python3 tests/region.py opened "$work/older" >"$work/moved"
+    python3 tests/region.py list "$work/older" >"$work/want"
+    run list "$work/older"
+    check "an older file: $kind" 0
+    cmp -s "$work/older" "$work/moved"
+    check_last "an older file: $kind: its bytes"
+    run list "$work/older"
+    check "an older file: $kind: once more" 0
+done
+printf 'loader last\nunload g0\nloader last\n' >"$work/in"
+printf '%s\n' 'refused 7 journal full' 'ok 129' 'ok 130' >"$work/want"
+run apply "$work/older"
+check "a full older file goes on" 1
+
+python3 tests/region.py opened "$work/moved" >"$work/older"
+chmod a-w "$work/older"
+run list "$work/older"
+[ "$status" = 0 ]
+check_last "what is moved over is listed without a right to write"
+
 # ---- what isn't opened
 
 : >"$work/in"

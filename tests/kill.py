@@ -6,7 +6,8 @@ holds then.
 
 Each reply that came before the kill has to be the right one; the file, read by region.py, checked,
 listed and looked up by the program, has to hold all commands that were acknowledged and, of the
-others, at most the one that was being run. A kill of `trim` comes after each, and leaves the same.
+others, at most the one that was being run. A kill of `trim` comes after each, and leaves the same;
+then the file is made one of the version before, and a kill comes while it is moved over.
 The next run goes on with the file as it is. Some kills hit `format`: its file is no cache then, or
 the empty one, or there is none. The words are further ones of `apply`.
 """
@@ -94,6 +95,36 @@ def kill_trim(checks, program, path, cache, rng, longest):
                         f"{file.roots} roots, {used} in use") and good
 
 
+def made_older(path):
+    """Makes the file one of the version before, whose entries are spelled alike; not where a half's
+    epoch is one that only the newer version has. Whether it is one now."""
+    file = region.read(path)
+    data = bytearray(file.data)
+    for half in (0, 1):
+        at = region.SUPERBLOCK + region.SLOT * file.slots * half
+        if data[at] == region.OPEN:
+            if region.number(data, at + 8, 8) > region.number(data, at + 16, 8) + 1:
+                return False
+            data[at + 2] = 1
+    with open(path, "wb") as out:
+        out.write(data)
+    return True
+
+
+def kill_moving_over(checks, program, path, cache, rng, longest):
+    """A file of the version before is listed, and so moved over: by a run that is killed, and by
+    one that isn't."""
+    if not made_older(path):
+        return True
+    killed([program, "list", path], [], rng.uniform(0, longest))
+    name = f"moving over killed after {cache.number} commands"
+    good = runs.settle(checks, f"{name}: the file", path, cache, None)
+    good = runs.tell(checks, f"{name}, and then not", program, path) and good
+    good = runs.settle(checks, f"{name}, and then not: the file", path, cache, None) and good
+    return checks.check(f"{name}, and then not: its version",
+                        region.read(path).version == region.VERSION) and good
+
+
 def kill_format(checks, program, path, rng, longest):
     killed([program, "format", path], [], rng.uniform(0, longest))
     if os.path.exists(path):
@@ -137,6 +168,7 @@ def main(program, kills, seed, further):
             hits += was_hit
             done += 1
             good = good and kill_trim(checks, program, path, cache, rng, making)
+            good = good and kill_moving_over(checks, program, path, cache, rng, making)
             # A run that ended by itself was shorter than thought.
             delay = min(longest, 1.05 * delay) if was_hit else 0.8 * delay
             if not good:

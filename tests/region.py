@@ -3,6 +3,9 @@
 
     tests/region.py check FILE             what `cmcache check FILE` has to say of it
     tests/region.py list FILE              what `cmcache list FILE` has to say of it
+    tests/region.py opened FILE            writes the bytes that it has once it was opened: those
+                                           that it had, or of an older version those that it is
+                                           moved over to
     tests/region.py new TOP ROOTS SLOTS    writes the bytes of a new file
     tests/region.py after < SCRIPT         writes the bytes of a new file after the script, whose
                                            replies oracle.py gives
@@ -22,6 +25,8 @@ SLOT = 64
 NUMBERS = 2 ** 63
 HEAD, GROUP, LOADER, DEFINE, UNLOAD, MOVE = 0x01, 0x02, 0x11, 0x12, 0x13, 0x14
 UNLOAD_ALL = 0x15
+# The version of entries that is written; files of the one before are read, and moved over.
+VERSION = 2
 
 
 class NotACache(Exception):
@@ -45,8 +50,8 @@ def spelled(kind, form, *numbers, gate=0):
     return (bytes([gate, kind]) + struct.pack("<" + form, *numbers)).ljust(SLOT, b"\0")
 
 
-def head_slot(live, epoch, base, gate=0):
-    return spelled(HEAD, "HIQQ", 1, live, epoch, base, gate=gate)
+def head_slot(live, epoch, base, gate=0, version=VERSION):
+    return spelled(HEAD, "HIQQ", version, live, epoch, base, gate=gate)
 
 
 def group_slot(count, first, gate=0):
@@ -226,16 +231,17 @@ class File:
             slot = self.slot(index)
             if slot[0] != OPEN:
                 continue
-            live, epoch, base = number(slot, 4, 4), number(slot, 8, 8), number(slot, 16, 8)
-            good = slot == head_slot(live, epoch, base, gate=OPEN)
-            if not (good and live <= self.slots // 2 and base <= NUMBERS
-                    and 1 <= epoch <= base + 1):
+            version, live = number(slot, 2, 2), number(slot, 4, 4)
+            epoch, base = number(slot, 8, 8), number(slot, 16, 8)
+            good = slot == head_slot(live, epoch, base, gate=OPEN, version=version)
+            if not (good and 1 <= version <= VERSION and live <= self.slots // 2
+                    and base <= NUMBERS and 1 <= epoch <= base + version):
                 raise Damaged(4, index)
-            halves[half] = (epoch, live, base)
+            halves[half] = (epoch, live, base, version)
         if not halves or len(halves) == 2 and halves[0][0] == halves[1][0]:
             raise Damaged(3, 0)
         self.half = max(halves, key=lambda half: halves[half][0])
-        self.epoch, self.live, self.number = halves[self.half]
+        self.epoch, self.live, self.number, self.version = halves[self.half]
 
     def walk(self):
         first = self.slots * self.half
@@ -374,6 +380,23 @@ class File:
             if earlier.name == row.name:
                 raise Damaged(9, row.slot)
 
+    def row_slot(self, row):
+        if not row.chunk:
+            return entry_slot(("loader", row.loader, row.name))
+        return spelled(DEFINE, "2xIQIIII", row.words, row.loader, *row.chunk, row.offset)
+
+    def opened(self):
+        """The bytes once the file was opened: one of an older version has its live rows in its
+        other half then, which counts."""
+        data = bytearray(self.data)
+        if self.version == VERSION:
+            return data
+        head = head_slot(len(self.rows), self.epoch + 1, self.number, gate=OPEN)
+        slots = b"".join([head, *map(self.row_slot, self.rows), bytes(SLOT)])
+        at = SUPERBLOCK + SLOT * self.slots * (1 - self.half)
+        data[at:at + len(slots)] = slots
+        return data
+
     def report(self):
         classes = [row for row in self.rows if row.chunk]
         chunks = {row.chunk for row in classes}
@@ -500,6 +523,8 @@ def main(words):
         return 1
     if words[0] == "check":
         print(file.report())
+    elif words[0] == "opened":
+        out.write(file.opened())
     else:
         out.writelines(line + b"\n" for line in file.listed())
     return 0

@@ -9,7 +9,8 @@ use Rattle.cm_disk.specs.Disk.{OnlyNow, View, IsSettled, IsSound}
 use Rattle.cm_pool.specs.Geometry.{Sizes}
 use Rattle.cm_layout.specs.declared.row.Row.{Row}
 use Rattle.cm_layout.specs.Rows.{bare, rows_with, numbers_in}
-use Rattle.cm_layout.specs.Frames.{BareRow}
+use Rattle.cm_layout.specs.Frames.{BareRow, entry_version}
+use Rattle.cm_layout.specs.Laws.{IsNewest}
 use Rattle.cm_layout.specs.Offsets.{root_at}
 use Rattle.cm_layout.proofs.{numbers-bare}
 use Rattle.cm_guards.specs.Guards.{EachImage}
@@ -17,7 +18,7 @@ use Rattle.cm_guards.specs.Calls.{LeavesOnly}
 use Rattle.cm_guards.specs.Stages.{Stage, after_call, calls_left, leaves, CallsOnce, TakesCall}
 use Rattle.cm_guards.specs.Stages.{StagesStand}
 use Rattle.cm_guards.proofs.{settled_images, leaves_more, takes_call, stages_leave, call_done}
-use Rattle.cm_guards.proofs.{call_failed, call_moments as moments_of, leaves_so}
+use Rattle.cm_guards.proofs.{call_failed, call_moments as moments_of, leaves_so, leaves_one}
 use Rattle.cm_rows.specs.Rows.{LiveRows, is_above}
 use Rattle.cm_group.specs.Groups.{Handed, entries_in, slots_taken}
 use Rattle.cm_state.specs.State.{words_show}
@@ -45,11 +46,12 @@ use Rattle.cm_commit.specs.Keeps.{AreRight, rows_then}
 use Rattle.cm_commit.proofs.Committing.{fits_journal, cache_after, right_rows_after}
 use Rattle.cm_commit.proofs.Journals.{half_fits, target_is, end_after}
 use Rattle.cm_commit.proofs.Shown.{shows_cache}
-use Rattle.cm_commit.proofs.Through.{shows_holds, ready_right, ready_next, after_right}
+use Rattle.cm_commit.proofs.Through.{shows_holds, ready_right, ready_newest, ready_next}
+use Rattle.cm_commit.proofs.Through.{after_right}
 use Rattle.cm_commit.proofs.Trims.{few_used, whole_used}
 use Rattle.cm_commit.proofs.With.{bare-with}
 
-of_ok : {T E : Type 0} (r : Result T E) (A : Type 0) (x : T) → r ≡ Ok x → OnOk r A → A
+pub of_ok : {T E : Type 0} (r : Result T E) (A : Type 0) (x : T) → r ≡ Ok x → OnOk r A → A
 of_ok (Ok y) A x e a = a
 of_ok (Err f) A x e a = absurd (cc)
 
@@ -67,6 +69,15 @@ module _ {D : Type 0} (view : View D) (s : CommitterState D)
   shows_before image held =
       shows_cache (record before { framing = held.framing }) image held.right i.records
       i.cache.differ held.matches
+
+  newest_before : (image : List ℕ) → Holds before image → IsNewest image
+  newest_before image held = record {
+    sizes = s.sizes;
+    rows = s.rows;
+    number = s.number;
+    framed = record { framing = held.framing; right = held.right; matches = held.matches };
+    version = omega (arith, i.newest, held.no_older, held.right.good.head.version_to);
+  }
 
   -- the half of a checkpoint fits
   pub half : FitsHalf (journal_at s) (bare s.rows)
@@ -96,6 +107,20 @@ module _ {D : Type 0} (view : View D) (s : CommitterState D)
             (shows_before image (shows_holds before image i.right (images.each image is)));
       }
 
+  pub idle_newest : s.underway ≡ None
+      → EachImage (view.contents s.disk) (view.unsynced s.disk) IsNewest
+  idle_newest none =
+      let at : IsIdle before roots s.broken (view.contents s.disk) (view.unsynced s.disk) =
+      subst (λ (o : Option Work). IsAt before roots o s.left s.broken (view.contents s.disk)
+      (view.unsynced s.disk)) none i.at in
+      let images = settled_images (Shows before) (view.contents s.disk) (view.unsynced s.disk)
+      at.settled
+      at.shows in
+      record {
+        each = λ image is.
+            newest_before image (shows_holds before image i.right (images.each image is));
+      }
+
   -- ---- stages are left, which lead to what is committed then
 
   module _ (then : Committed) (long : ℕ) (some : s.left ≡ [] → ⊥)
@@ -108,17 +133,31 @@ module _ {D : Type 0} (view : View D) (s : CommitterState D)
     abbrev Stand : Bool → Type 0
     Stand t = StandsBroken t before then long s.left (view.contents s.disk) (view.unsynced s.disk)
 
+    stages_left_behind : (t : Bool) → Stand t
+        → EachImage (view.contents s.disk) (view.unsynced s.disk)
+        (leaves s.left (Holds before) (Shows then))
+    stages_left_behind false stands =
+        stages_leave (Holds before) (Shows then) long s.left (view.contents s.disk)
+        (view.unsynced s.disk) some stands
+    stages_left_behind true stands = stands
+
     pub stage_images : Stand s.broken → EachImage (view.contents s.disk) (view.unsynced s.disk)
         (MayLeave s)
-    stage_images at = by_test s.broken at
-      where
-        by_test : (t : Bool) → Stand t → EachImage (view.contents s.disk) (view.unsynced s.disk)
-            (MayLeave s)
-        by_test false stands =
-            let images = stages_leave (Holds before) (Shows then) long s.left (view.contents s.disk)
-            (view.unsynced s.disk) some stands in
-            record { each = λ image is. so image (images.each image is) }
-        by_test true stands = record { each = λ image is. so image (stands.each image is) }
+    stage_images at =
+        let images = stages_left_behind s.broken at in
+        record { each = λ image is. so image (images.each image is) }
+
+    -- in halves of the newest version, if those that it leads to are
+    pub stage_newest : ((image : List ℕ) → Shows then image → IsNewest image) → Stand s.broken
+        → EachImage (view.contents s.disk) (view.unsynced s.disk) IsNewest
+    stage_newest newest_then at =
+        let images = stages_left_behind s.broken at in
+        record {
+          each = λ image is.
+              leaves_one s.left IsNewest image
+              (leaves_so s.left (Holds before) (Shows then) IsNewest IsNewest newest_before
+              newest_then image (images.each image is));
+        }
 
     module _ (at : Stand s.broken) (sound : s.broken ≡ false) where
       stands : StagesStand (Holds before) (Shows then) long s.left (view.contents s.disk)
@@ -181,6 +220,12 @@ module _ {D : Type 0} (view : View D) (s : CommitterState D)
     pub trim_images : EachImage (view.contents s.disk) (view.unsynced s.disk) (MayLeave s)
     trim_images = stage_images before left_long trim_at.some shows_still trim_at.stands
 
+    pub trim_newest : EachImage (view.contents s.disk) (view.unsynced s.disk) IsNewest
+    trim_newest =
+        stage_newest before left_long trim_at.some shows_still
+        (λ image shows. newest_before image (shows_holds before image i.right shows))
+        trim_at.stands
+
     module _ (sound : s.broken ≡ false) where
       pub trim_takes : IsSound (view.contents s.disk) (view.unsynced s.disk)
           → TakesCall s.left (length (view.contents s.disk))
@@ -200,6 +245,7 @@ module _ {D : Type 0} (view : View D) (s : CommitterState D)
             roots room
         trim_is_broken f e = record {
           framing = i.framing;
+          newest = i.newest;
           journal_is = i.journal_is;
           right = i.right;
           cache = i.cache;
@@ -224,6 +270,7 @@ module _ {D : Type 0} (view : View D) (s : CommitterState D)
             room
         trim_is_working x e left left_is some = record {
           framing = i.framing;
+          newest = i.newest;
           journal_is = i.journal_is;
           right = i.right;
           cache = i.cache;
@@ -263,6 +310,7 @@ module _ {D : Type 0} (view : View D) (s : CommitterState D)
               (record s { disk = new; underway = None; left = [] }) sizes next roots room
           is_trimmed = record {
             framing = i.framing;
+            newest = i.newest;
             journal_is = i.journal_is;
             right = i.right;
             cache = i.cache;
@@ -327,6 +375,9 @@ module _ {D : Type 0} (view : View D) (s : CommitterState D)
     right-next : IsCommitted after
     right-next = after_right before group i.right busy.is busy.next
 
+    newest-next : after.framing.head.version ≡ entry_version
+    newest-next = ready_newest before group i.right busy.is busy.next i.newest
+
     cache-next : AreCacheRows words_show s.sizes after.number after.rows
     cache-next =
         cache_after s.sizes s.rows s.rows s.number group.entries i.cache busy.next.entries
@@ -342,8 +393,21 @@ module _ {D : Type 0} (view : View D) (s : CommitterState D)
         subst (λ (o : Option Work). ShowsWith s o image) (sym underway)
         (shows_cache after image right-next records-next cache-next.differ shows)
 
+    newest_after : (image : List ℕ) → Shows after image → IsNewest image
+    newest_after image shows = record {
+      sizes = after.sizes;
+      rows = after.rows;
+      number = after.number;
+      framed = record { framing = after.framing; right = right-next; matches = shows };
+      version = newest-next;
+    }
+
     pub busy_images : EachImage (view.contents s.disk) (view.unsynced s.disk) (MayLeave s)
     busy_images = stage_images after busy.long busy.some shows_after busy.stands
+
+    pub busy_newest : EachImage (view.contents s.disk) (view.unsynced s.disk) IsNewest
+    busy_newest =
+        stage_newest after busy.long busy.some shows_after newest_after busy.stands
 
     module _ (sound : s.broken ≡ false) where
       -- the next call can be made
@@ -371,6 +435,7 @@ module _ {D : Type 0} (view : View D) (s : CommitterState D)
             roots more
         is_broken f e more le = record {
           framing = i.framing;
+          newest = i.newest;
           journal_is = i.journal_is;
           right = i.right;
           cache = i.cache;
@@ -399,6 +464,7 @@ module _ {D : Type 0} (view : View D) (s : CommitterState D)
             more
         is_working x e left left_is some more le = record {
           framing = i.framing;
+          newest = i.newest;
           journal_is = i.journal_is;
           right = i.right;
           cache = i.cache;
@@ -446,6 +512,7 @@ module _ {D : Type 0} (view : View D) (s : CommitterState D)
             busy.long l (view.contents new) (view.unsynced new)) last (done x e) in
             record {
               framing = with_group ready.framing (entries_in group.entries);
+              newest = newest-next;
               journal_is = λ k. record (journal_of after) {
                 end = sym (end_after ready.framing (entries_in group.entries)) k;
               };
@@ -489,6 +556,15 @@ module _ {D : Type 0} (view : View D) (s : CommitterState D)
       by_work None e = idle_images e (empty e)
       by_work (Some Trimming) e = trim_images e
       by_work (Some (Storing group)) e = busy_images group e
+
+  pub newest_images : EachImage (view.contents s.disk) (view.unsynced s.disk) IsNewest
+  newest_images = by_work s.underway refl
+    where
+      by_work : (o : Option Work) → s.underway ≡ o
+          → EachImage (view.contents s.disk) (view.unsynced s.disk) IsNewest
+      by_work None e = idle_newest e
+      by_work (Some Trimming) e = trim_newest e
+      by_work (Some (Storing group)) e = busy_newest group e
 
 pub steps_are : (broken : Bool) (left : List Stage) (n : ℕ) → broken ≡ false → n ≡ calls_left left
     → n ≡ cond broken 0 (calls_left left)

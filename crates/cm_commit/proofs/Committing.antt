@@ -26,7 +26,7 @@ use Rattle.cm_layout.specs.Rows.{used_words, kept_on}
 use Rattle.cm_layout.specs.Rules.{broken_rule}
 use Rattle.cm_layout.specs.Frames.{BareRow, LiveRowsKeep, bare_entry}
 use Rattle.cm_layout.proofs.{entry-apart, entry-live, live-append, own_loaders, slots-bare}
-use Rattle.cm_layout.proofs.{slots-length}
+use Rattle.cm_layout.proofs.{rows-within}
 use Rattle.cm_rows.specs.Rows.{is_above}
 use Rattle.cm_state.specs.State.{words_show}
 use Rattle.cm_state.specs.Entries.{AreCacheRows}
@@ -138,7 +138,7 @@ fit_one sizes rows n (entry.Move e) moved g kept counted keeps has =
         ap length has.1,
         kept-few e.from rows,
         slots-bare rows,
-        slots-length rows,
+        rows-within rows,
         some,
         g.slots_to,
       );

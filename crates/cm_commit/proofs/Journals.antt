@@ -26,7 +26,7 @@ half_fits c right =
       few = rows_few c right;
       size = live_count c.sizes c.number [] (bare c.rows)
           (rows_live c.sizes c.framing c.rows c.number right);
-      epoch = omega (arith, head.epoch_to, head.base);
+      epoch = omega (arith, head.epoch_to, head.version_to, head.base);
       number = omega (arith, number);
     }
 

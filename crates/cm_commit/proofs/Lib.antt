@@ -18,6 +18,7 @@ mod NewHalves
 mod Shutting
 mod Reopened
 mod Renewing
+mod Renewals
 mod Applied
 mod Shown
 mod With
@@ -44,6 +45,8 @@ mod Offering
 pub use Slots.{end_is}
 -- Where records lie that keep the rules: inside their chunks, one behind another.
 pub use Places.{inside, ends_in_root}
+-- Contents that match what is committed stand for its cache.
+pub use Shown.{shows_cache}
 -- How many whole roots a file has that ends where a root does.
 pub use Trims.{whole_used}
 -- A move that keeps the rules, and which chunk was a loader's last before it.

@@ -11,14 +11,14 @@ use Rattle.cm_pool.specs.Geometry.{Sizes}
 use Rattle.cm_layout.specs.declared.loader_row.LoaderRow.{LoaderRow}
 use Rattle.cm_layout.specs.declared.row.Row.TheVariants.{Loader, Class}
 use Rattle.cm_layout.specs.declared.entry_rule.EntryRule.TheVariants.{OnRows}
-use Rattle.cm_layout.specs.Names.{is_loader_name}
-use Rattle.cm_layout.specs.Rows.{slots_of_rows, slots_of_entries, number_of}
+use Rattle.cm_layout.specs.Names.{is_loader_name, slots_of_name}
+use Rattle.cm_layout.specs.Rows.{slots_of_row, slots_of_rows, slots_of_entries, number_of}
 use Rattle.cm_layout.specs.Rows.{numbers_in, rows_after_all, bare}
 use Rattle.cm_layout.specs.Rules.{row_limit, has_room, is_new_loader, broken_live_rule}
 use Rattle.cm_layout.specs.Frames.{BareRow, BareEntry, LiveRowsKeep, GroupsKeep, IsGoodHead}
 use Rattle.cm_layout.specs.Frames.{IsGoodHalf}
 use Rattle.cm_layout.specs.Framing.{open_half}
-use Rattle.cm_layout.proofs.{class_keeps}
+use Rattle.cm_layout.proofs.{class_keeps, slots-push}
 use Rattle.cm_group.specs.Groups.{Handed, IsGroup, slots_taken}
 use Rattle.cm_commit.specs.Committed.{Committed, slots_of_groups, end_slot, journal_of}
 use Rattle.cm_commit.specs.Checkpoints.{renewed, renewed_framing, is_due}
@@ -27,11 +27,6 @@ use Rattle.cm_commit.proofs.Slots.{end_is}
 use Rattle.cm_commit.proofs.Guards.{rows_live}
 
 -- ---- live rows take half of the slots at most
-
-slots-push : (rows : List BareRow) (row : BareRow)
-    → slots_of_rows (rows ++ row ∷ []) ≡ slots_of_rows rows + 1
-slots-push [] row = omega arith
-slots-push (r ∷ rows) row = omega (arith, slots-push rows row)
 
 no_rule : (t : Bool) → cond t None (Some OnRows) ≡ None → t ≡ true
 no_rule true h = refl
@@ -48,9 +43,11 @@ loader_room sizes base rows r h =
     (and_parts past new (no_rule (past && new) h)).1).1
 
 room_for : (sizes : Sizes) (base : ℕ) (rows : List BareRow) (row : BareRow)
-    → broken_live_rule sizes base rows row ≡ None → slots_of_rows rows + 1 ≤ row_limit sizes
+    → broken_live_rule sizes base rows row ≡ None
+    → slots_of_rows rows + slots_of_row row ≤ row_limit sizes
 room_for sizes base rows (Loader r) h =
-    leb-true (slots_of_rows rows + 1) (row_limit sizes) (loader_room sizes base rows r h)
+    leb-true (slots_of_rows rows + slots_of_name r.name) (row_limit sizes)
+    (loader_room sizes base rows r h)
 room_for sizes base rows (Class r p) h =
     leb-true (slots_of_rows rows + 1) (row_limit sizes) (class_keeps sizes rows r h).room
 
@@ -108,7 +105,9 @@ number_few c right =
 
 -- ---- the renewed halves
 
-good_head : (c : Committed) → IsCommitted c → c.framing.head.epoch ≤ c.number
+-- An epoch may be one above the number: the head of a half that a file was made with, or moved over
+-- to, is.
+pub good_head : (c : Committed) → IsCommitted c → c.framing.head.epoch ≤ c.number + 1
     → IsGoodHead c.sizes (renewed_framing c).head
 good_head c right past =
     let few = rows_few c right in
@@ -120,7 +119,8 @@ good_head c right past =
         epoch = omega (arith, past, number);
         base = omega (arith, number);
       };
-      version = refl;
+      version_from = omega arith;
+      version_to = omega arith;
       live = few;
       base = number;
       epoch_from = omega arith;
@@ -163,6 +163,7 @@ full_halves_renew c group right is due =
     let before = groups_some c.sizes c.framing.live c.framing.head.base c.framing.groups
     right.good.groups
     (omega (arith, full, is.few, head.live, right.good.count, right.lawful.slots_from)) in (
-      good_head c right (omega (arith, before, head.epoch_to, right.number_is)),
+      good_head c right
+          (omega (arith, before, head.epoch_to, head.version_to, right.number_is)),
       omega (arith, few, is.few, right.lawful.slots_from),
     )

@@ -83,6 +83,7 @@ module _ {D : Type 0} (view : View D) (s : CommitterState D)
       (record s { underway = Some Trimming; left = trim_plan s.sizes used }) sizes next used room
   trim_taken sound none used used_is = record {
     framing = i.framing;
+    newest = i.newest;
     journal_is = i.journal_is;
     right = i.right;
     cache = i.cache;
@@ -206,6 +207,7 @@ module _ {D : Type 0} (view : View D) (s : CommitterState D)
         → IsCommitter view with_group_underway sizes new roots room
     taken new new_is = record {
       framing = i.framing;
+      newest = i.newest;
       journal_is = i.journal_is;
       right = i.right;
       cache = i.cache;

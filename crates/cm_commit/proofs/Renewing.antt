@@ -46,6 +46,7 @@ rests c contents right shows = record {
     framing = c.framing;
     right = right;
     matches = (guarded c right).carries contents other shows.long agrees shows;
+    no_older = omega arith;
   };
 }
 
@@ -72,7 +73,12 @@ module _ (c : Committed) (right : IsCommitted c) where
 
   module _ (contents : List ℕ) (shows : Shows c contents) where
     holds_here : Holds c contents
-    holds_here = record { framing = c.framing; right = right; matches = shows }
+    holds_here = record {
+      framing = c.framing;
+      right = right;
+      matches = shows;
+      no_older = omega arith;
+    }
 
     inside_here : gate < length contents
     inside_here = (has_gate c contents shut_gate right shows).inside
@@ -96,6 +102,7 @@ module _ (c : Committed) (right : IsCommitted c) where
           framing = shut.framing;
           right = shut_right;
           matches = shut_by b (λ is. false≢true (sym e ∙ eq-eqb b open_gate is));
+          no_older = omega arith;
         }
 
     shut_first : (t : Bool) → is_some c.framing.older ≡ t → IsShutFirst t contents
@@ -216,12 +223,14 @@ module _ (c : Committed) (right : IsCommitted c) where
                 framing = renewed_framing c;
                 right = right_renewed c right head;
                 matches = renewed_half;
+                no_older = right.good.head.version_to;
               })
           by_test false e = record {
             framing = shut.framing;
             right = shut_right;
             matches = (other_halves_shut shut with_half b shut_right shows_half
                 (λ is. false≢true (sym e ∙ eq-eqb b open_gate is))).shows;
+            no_older = omega arith;
           }
 
       last_claim : (next : Committed) (long : ℕ) (stages : List Stage)
@@ -238,7 +247,12 @@ module _ (c : Committed) (right : IsCommitted c) where
         rests = rests shut base shut_right shows;
         can = (fits, tt);
         behind = record {
-          holds = record { framing = shut.framing; right = shut_right; matches = shows_half };
+          holds = record {
+            framing = shut.framing;
+            right = shut_right;
+            matches = shows_half;
+            no_older = omega arith;
+          };
           turns = record {
             inside = inside_half;
             either = λ b small. record { which = inl (either_half b) };

@@ -10,7 +10,7 @@ use Rattle.std.proofs.lemmas.List.{take-take, take_at, get_or_at, get_or-set_oth
 use Rattle.cm_layout.specs.declared.half.Half.{Half}
 use Rattle.cm_layout.specs.declared.half.Half.TheVariants.{Zero, One}
 use Rattle.cm_layout.specs.Offsets.{half_at}
-use Rattle.cm_layout.specs.Slots.{open_gate, half_head_rest, half_head_slot, row_slot}
+use Rattle.cm_layout.specs.Slots.{open_gate, half_head_rest, half_head_slot, row_slots}
 use Rattle.cm_layout.specs.Frames.{IsGoodHead, groups_slots}
 use Rattle.cm_layout.specs.Framing.{Framing, part, used_bytes, used_size, other_half}
 use Rattle.cm_layout.specs.Zeros.{blank, zeros}
@@ -34,7 +34,7 @@ used-head : (f : Framing) → take 64 (used_bytes f) ≡ half_head_slot f.head
 unfolding used_bytes
 used-head f =
     take_at (half_head_slot f.head)
-    (flat_map row_slot f.live ++ groups_slots f.head.base f.groups) 64 refl
+    (flat_map row_slots f.live ++ groups_slots f.head.base f.groups) 64 refl
 
 blank-behind : (front : List ℕ) → get_or (front ++ blank 64) (length front) 0 ≡ 0
 unfolding blank
@@ -46,14 +46,14 @@ module _ (c : Committed) where
 
   -- the new half behind its gate, up to its end
   abbrev front : List ℕ
-  front = half_head_rest next.head ++ flat_map row_slot next.live
+  front = half_head_rest next.head ++ flat_map row_slots next.live
 
   abbrev behind : List ℕ
   behind = half_behind_gate next.head next.live
 
   behind-is : behind ≡ front ++ blank 64
   behind-is =
-      sym (append_assoc (half_head_rest next.head) (flat_map row_slot next.live) (blank 64))
+      sym (append_assoc (half_head_rest next.head) (flat_map row_slots next.live) (blank 64))
 
   pub behind-count : length behind ≡ length front + 64
   behind-count =
@@ -62,7 +62,7 @@ module _ (c : Committed) where
   used-renewed : used_bytes next ≡ open_gate ∷ front
   unfolding used_bytes
   used-renewed =
-      ap (λ (l : List ℕ). half_head_slot next.head ++ l) (append-nil (flat_map row_slot next.live))
+      ap (λ (l : List ℕ). half_head_slot next.head ++ l) (append-nil (flat_map row_slots next.live))
 
   pub size-renewed : used_size next ≡ suc (length front)
   size-renewed = ap length used-renewed

@@ -6,8 +6,8 @@ use Rattle.std.specs.List.{flat_map}
 use Rattle.std.proofs.lemmas.List.{length-append}
 use Rattle.cm_pool.specs.Geometry.{Sizes}
 use Rattle.cm_layout.specs.declared.entry.Entry.TheVariants as entry
-use Rattle.cm_layout.specs.Slots.{half_head_slot, group_head_slot, row_slot}
-use Rattle.cm_layout.specs.Slots.{entry_slot, open_gate}
+use Rattle.cm_layout.specs.Slots.{half_head_slot, group_head_slot, row_slots}
+use Rattle.cm_layout.specs.Slots.{entry_slots, open_gate}
 use Rattle.cm_layout.specs.Rows.{slots_of_rows, slots_of_entries, rows_after, rows_after_all}
 use Rattle.cm_layout.specs.Frames.{BareRow, BareEntry, LiveRowsKeep, EntriesKeep, GroupsKeep}
 use Rattle.cm_layout.specs.Frames.{IsGoodHalf, group_slots, groups_slots}
@@ -20,33 +20,26 @@ use Rattle.cm_commit.specs.GroupPlans.{slots_behind_gate}
 
 pub live_count : (sizes : Sizes) (base : ℕ) (pre rows : List BareRow)
     → LiveRowsKeep sizes base pre rows
-    → length (flat_map row_slot rows) ≡ 64 * slots_of_rows rows
+    → length (flat_map row_slots rows) ≡ 64 * slots_of_rows rows
 live_count sizes base pre [] k = refl
 live_count sizes base pre (row ∷ rows) k =
     omega (
       arith,
       live_count sizes base (pre ++ row ∷ []) rows k.2,
       slot_count (entry.Live row) k.0,
-      length-append (row_slot row) (flat_map row_slot rows),
+      length-append (row_slots row) (flat_map row_slots rows),
     )
 
-one_slot : (e : BareEntry) (es : List BareEntry)
-    → slots_of_entries (e ∷ es) ≡ 1 + slots_of_entries es
-one_slot (entry.Live row) es = refl
-one_slot (entry.Unload e) es = refl
-one_slot (entry.Move e) es = refl
-one_slot (entry.UnloadAll e) es = refl
-
 pub entries_count : (sizes : Sizes) (rows : List BareRow) (n : ℕ) (es : List BareEntry)
-    → EntriesKeep sizes rows n es → length (flat_map entry_slot es) ≡ 64 * slots_of_entries es
+    → EntriesKeep sizes rows n es
+    → length (flat_map entry_slots es) ≡ 64 * slots_of_entries es
 entries_count sizes rows n [] k = refl
 entries_count sizes rows n (e ∷ es) k =
     omega (
       arith,
       entries_count sizes (rows_after rows e) (n + 1) es k.2,
       slot_count e k.0,
-      one_slot e es,
-      length-append (entry_slot e) (flat_map entry_slot es),
+      length-append (entry_slots e) (flat_map entry_slots es),
     )
 
 pub group_count : (sizes : Sizes) (rows : List BareRow) (n : ℕ) (group : List BareEntry)
@@ -58,7 +51,7 @@ group_count sizes rows n group k =
       entries_count sizes rows n group k,
       length-append
           (group_head_slot (record { count = slots_of_entries group; first = n + 1 }))
-          (flat_map entry_slot group),
+          (flat_map entry_slots group),
     )
 
 groups_count : (sizes : Sizes) (rows : List BareRow) (n : ℕ) (groups : List (List BareEntry))
@@ -79,7 +72,7 @@ pub end_is : (sizes : Sizes) (f : Framing) → IsGoodHalf sizes (open_half f)
 unfolding used_bytes
 end_is sizes f good =
     let head = half_head_slot f.head in
-    let live = flat_map row_slot f.live in
+    let live = flat_map row_slots f.live in
     let groups = groups_slots f.head.base f.groups in
     omega (
       arith,
@@ -117,7 +110,7 @@ pub used-more : (f : Framing) (n : ℕ) (group : List BareEntry)
 unfolding used_bytes last_number
 used-more f n group e =
     let head = half_head_slot f.head in
-    let live = flat_map row_slot f.live in
+    let live = flat_map row_slots f.live in
     let groups = groups_slots f.head.base f.groups in
     let last : last_number f.head.base f.groups ≡ n = sym e in
     ap (λ (l : List ℕ). head ++ (live ++ l))

@@ -6,7 +6,7 @@ use Rattle.std.specs.List.{flat_map}
 use Rattle.std.proofs.lemmas.Bool.{lt-ltb, le-ltb}
 use Rattle.cm_pool.specs.Geometry.{Sizes}
 use Rattle.cm_layout.specs.Offsets.{slot_size}
-use Rattle.cm_layout.specs.Slots.{group_head_rest, entry_slot}
+use Rattle.cm_layout.specs.Slots.{group_head_rest, entry_slots}
 use Rattle.cm_layout.specs.Rows.{slots_of_entries}
 use Rattle.cm_layout.specs.Frames.{BareEntry}
 use Rattle.cm_layout.specs.Zeros.{blank}
@@ -15,10 +15,10 @@ use Rattle.cm_commit.specs.GroupPlans.{slots_behind_gate, shut_slot}
 pub front_put : (n count : ℕ) (es : List BareEntry) (head all : List ℕ)
     → count ≡ slots_of_entries es
     → head ≡ group_head_rest (record { count = count; first = n + 1 })
-    → all ≡ head ++ flat_map entry_slot es → all ≡ slots_behind_gate n es
+    → all ≡ head ++ flat_map entry_slots es → all ≡ slots_behind_gate n es
 front_put n count es head all count_is head_is all_is =
     all_is
-    ∙ ap (λ (l : List ℕ). l ++ flat_map entry_slot es)
+    ∙ ap (λ (l : List ℕ). l ++ flat_map entry_slots es)
     (head_is
     ∙ ap (λ (k : ℕ). group_head_rest (record { count = k; first = n + 1 })) count_is)
 

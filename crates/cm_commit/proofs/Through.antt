@@ -8,10 +8,12 @@ use Rattle.std.proofs.lemmas.Bool.{leb-false}
 use Rattle.cm_disk.specs.Calls.{overwritten}
 use Rattle.cm_layout.specs.Slots.{open_gate}
 use Rattle.cm_layout.specs.Rows.{bare, slots_of_rows}
+use Rattle.cm_layout.specs.Frames.{entry_version}
 use Rattle.cm_guards.specs.Gates.{Turns}
 use Rattle.cm_guards.specs.Plans.{written}
 use Rattle.cm_guards.specs.Stages.{Stage, IsReady, gone_through}
 use Rattle.cm_guards.proofs.{turned, overwritten_size, kept_by_plan, gone_through-append}
+use Rattle.cm_guards.proofs.{ready_less}
 use Rattle.cm_group.specs.Groups.{Handed, IsGroup, slots_taken}
 use Rattle.cm_group.proofs.{enough}
 use Rattle.cm_commit.specs.Committed.{Committed, journal_of, end_slot}
@@ -36,7 +38,7 @@ use Rattle.cm_commit.proofs.Renewing.{checkpoints_renew, rests}
 pub shows_holds : (c : Committed) (contents : List ℕ) → IsCommitted c → Shows c contents
     → Holds c contents
 shows_holds c contents right shows =
-    record { framing = c.framing; right = right; matches = shows }
+    record { framing = c.framing; right = right; matches = shows; no_older = omega arith }
 
 -- ---- a group that has room
 
@@ -134,6 +136,15 @@ module _ (c : Committed) (group : Handed) (right : IsCommitted c) (is : IsGroup 
     };
   }
 
+  -- it is of the newest version where the half that counted was
+  pub ready_newest : c.framing.head.version ≡ entry_version
+      → (ready_for c group.entries).framing.head.version ≡ entry_version
+  ready_newest newest = by_test due
+    where
+      by_test : (t : Bool) → (ready_by t).framing.head.version ≡ entry_version
+      by_test true = refl
+      by_test false = newest
+
   pub ready_right : IsCommitted (ready_for c group.entries)
   ready_right = (readied due refl).committed
 
@@ -199,7 +210,14 @@ module _ (c : Committed) (group : Handed) (contents : List ℕ) (right : IsCommi
             group.entries) there) (ap length (sym same))
             (subst (λ (l : List Stage). IsReady (Holds c) (Shows (committed_after d group))
             (length (gone_through (group_plan d (length there) group.entries) there)) l there)
-            plan_is behind));
+            plan_is (ready_less (Holds d) (Holds c) (Shows (committed_after d group))
+            (λ x held. record {
+              framing = held.framing;
+              right = held.right;
+              matches = held.matches;
+              no_older = omega (arith, held.no_older, right.good.head.version_to);
+            }) (length (gone_through (group_plan d (length there) group.entries) there))
+            (group_plan d (length there) group.entries) there behind)));
         roots_are = ap (λ (n : ℕ). roots_then (whole_roots c.sizes n) group) (sym r.size)
             ∙ (group_roots d group there r.right is ready.room tells r.shows
             ∙ ap (λ (l : List ℕ). whole_roots c.sizes (length l)) (sym same));

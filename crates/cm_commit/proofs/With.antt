@@ -13,7 +13,7 @@ use Rattle.cm_layout.specs.declared.entry.Entry.{Entry}
 use Rattle.cm_layout.specs.declared.entry.Entry.TheVariants as entry
 use Rattle.cm_layout.specs.Rows.{bare, rows_with, row_with, rows_after, entry_with, moved}
 use Rattle.cm_layout.specs.Rows.{without_loader, without_loaders, slots_of_rows}
-use Rattle.cm_layout.specs.Slots.{row_slot, loader_slot, class_slot}
+use Rattle.cm_layout.specs.Slots.{row_slots, loader_slots, class_slot}
 use Rattle.cm_layout.specs.Frames.{BareRow}
 use Rattle.cm_layout.proofs.{slots-bare, slots_of-with}
 
@@ -84,10 +84,10 @@ after-with f rows (entry.Move e) = moved-with f e.from e.to rows
 
 -- what is kept of a class has no part in its slot
 pub slots-with : {P Q : Type 0} (f : P → Q) (rows : List (Row P))
-    → flat_map row_slot (bare (rows_with f rows)) ≡ flat_map row_slot rows
+    → flat_map row_slots (bare (rows_with f rows)) ≡ flat_map row_slots rows
 slots-with f [] = refl
 slots-with f (Loader r ∷ rows) =
-    ap (λ (l : List ℕ). loader_slot r ++ l) (slots-with f rows)
+    ap (λ (l : List ℕ). loader_slots r ++ l) (slots-with f rows)
 slots-with f (Class r p ∷ rows) =
     ap (λ (l : List ℕ). class_slot r ++ l) (slots-with f rows)
 

@@ -10,7 +10,7 @@ use Rattle.cm_pool.specs.Geometry.{Sizes}
 use Rattle.cm_layout.specs.declared.half.Half.{Half}
 use Rattle.cm_layout.specs.declared.heads.HalfHead.{HalfHead}
 use Rattle.cm_layout.specs.Offsets.{slot_size, half_at}
-use Rattle.cm_layout.specs.Slots.{open_gate, half_head_rest, row_slot}
+use Rattle.cm_layout.specs.Slots.{open_gate, half_head_rest, row_slots}
 use Rattle.cm_layout.specs.Rows.{slots_of_rows, bare}
 use Rattle.cm_layout.specs.Frames.{BareRow, entry_version}
 use Rattle.cm_layout.specs.Framing.{Framing, other_half}
@@ -34,7 +34,7 @@ next_head epoch number rows = record {
 
 -- the bytes behind its gate: the rest of its head, the live rows, a slot of zeros
 abbrev pub half_behind_gate : HalfHead → List BareRow → List ℕ
-half_behind_gate head rows = half_head_rest head ++ (flat_map row_slot rows ++ blank slot_size)
+half_behind_gate head rows = half_head_rest head ++ (flat_map row_slots rows ++ blank slot_size)
 
 abbrev pub half_write : Sizes → Half → HalfHead → List BareRow → Write
 half_write sizes half head rows =

@@ -11,7 +11,7 @@ use Rattle.cm_layout.specs.declared.row.Row.TheVariants.{Loader, Class}
 use Rattle.cm_layout.specs.declared.entry.Entry.{Entry}
 use Rattle.cm_layout.specs.declared.entry.Entry.TheVariants as entry
 use Rattle.cm_layout.specs.Offsets.{slot_size, slot_at, roots_at, root_at, root_size, record_at}
-use Rattle.cm_layout.specs.Slots.{open_gate, group_head_rest, entry_slot}
+use Rattle.cm_layout.specs.Slots.{open_gate, group_head_rest, entry_slots}
 use Rattle.cm_layout.specs.Rows.{slots_of_entries, move_writes}
 use Rattle.cm_layout.specs.Frames.{BareRow, BareEntry}
 use Rattle.cm_layout.specs.Zeros.{blank}
@@ -82,7 +82,7 @@ shut_slot sizes slot = if nat_lt slot sizes.slots then blank slot_size else []
 abbrev pub slots_behind_gate : ℕ → List BareEntry → List ℕ
 slots_behind_gate n entries =
     group_head_rest (record { count = slots_of_entries entries; first = n + 1 })
-    ++ flat_map entry_slot entries
+    ++ flat_map entry_slots entries
 
 abbrev pub slots_write : Sizes → Half → ℕ → ℕ → List BareEntry → Write
 slots_write sizes half slot n entries = record {

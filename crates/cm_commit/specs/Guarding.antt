@@ -1,10 +1,11 @@
 -- What is guarded while a group is stored: all that what is committed rests on. While a checkpoint
 -- is written, it is the same but for the other half, of which the shut gate alone counts.
-use Rattle.std.specs.Prelude.{ℕ, Bool, false, ◌||◌, List, [], ◌∷◌, None}
+use Rattle.std.specs.Prelude.{ℕ, ◌≤◌, Bool, false, ◌||◌, List, [], ◌∷◌, None}
 use Rattle.cm_disk.specs.Disk.{is_among}
-use Rattle.cm_layout.specs.Framing.{Range, IsRight, Matches, guards}
+use Rattle.cm_pool.specs.Geometry.{Sizes}
+use Rattle.cm_layout.specs.declared.row.Row.{Row}
+use Rattle.cm_layout.specs.Framing.{Framing, Range, IsRight, Matches, guards}
 use Rattle.cm_layout.specs.Framing.{needs}
-use Rattle.cm_layout.specs.Laws.{IsFramed}
 use Rattle.cm_guards.specs.Guards.{Guard}
 use Rattle.cm_commit.specs.Committed.{Committed}
 
@@ -28,9 +29,18 @@ guard_of c = record {
 abbrev pub Shows : Committed → List ℕ → Type 0
 Shows c contents = Matches c.sizes c.framing c.rows contents
 
--- they show it in these halves or in others: they frame its rows and its number
+-- they frame these rows and this number, in halves of which the one that counts is of this version
+-- or a newer one
+pub record HoldsFrom (version : ℕ) (sizes : Sizes) (rows : List (Row (List ℕ))) (number : ℕ)
+    (contents : List ℕ) : Type 0 where
+  pub framing : Framing
+  pub right : IsRight sizes framing rows number
+  pub matches : Matches sizes framing rows contents
+  pub no_older : version ≤ framing.head.version
+
+-- they show it in these halves or in others, of no older a version
 abbrev pub Holds : Committed → List ℕ → Type 0
-Holds c contents = IsFramed c.sizes contents c.rows c.number
+Holds c contents = HoldsFrom c.framing.head.version c.sizes c.rows c.number contents
 
 -- the same with the other half's gate shut
 abbrev pub shut_other : Committed → Committed

@@ -8,6 +8,7 @@ use Rattle.cm_layout.specs.declared.row.Row.{Row}
 use Rattle.cm_layout.specs.declared.row.Row.TheVariants.{Loader, Class}
 use Rattle.cm_layout.specs.Offsets.{half_size, root_at, root_size}
 use Rattle.cm_layout.specs.Rows.{bare}
+use Rattle.cm_layout.specs.Frames.{entry_version}
 use Rattle.cm_layout.specs.Framing.{Framing, IsRight, Matches}
 use Rattle.cm_guards.specs.Guards.{EachImage}
 use Rattle.cm_guards.specs.Stages.{Stage, StagesStand, leaves}
@@ -41,11 +42,13 @@ abbrev pub AreCounted : List (Row (List ℕ)) → Type 0
 AreCounted rows = AllByRecursion HasItsWords rows
 
 -- Contents hold the cache of these rows, and the journal goes on there: they match a framing whose
--- halves are as the journal says, they have so many whole roots, and all of it is stored.
+-- halves are as the journal says, the one that counts of this version, they have so many whole
+-- roots, and all of it is stored.
 pub record IsHeld (contents : List ℕ) (unsynced : Unsynced) (journal : Journal)
-    (rows : List (Row (List ℕ))) (roots : ℕ) : Type 0 where
+    (rows : List (Row (List ℕ))) (roots version : ℕ) : Type 0 where
   pub settled : IsSettled contents unsynced
   pub framing : Framing
+  pub version_is : framing.head.version ≡ version
   pub journal_is : journal ≡ journal_of (record {
     sizes = journal.geometry;
     rows = rows;
@@ -120,6 +123,7 @@ pub record IsCommitter {D : Type 0} (view : View D)
     (s : CommitterState D) (sizes : Sizes) (next : LiveRows (Unit {0}))
     (roots room : ℕ) : Type 0 where
   pub framing : Framing
+  pub newest : framing.head.version ≡ entry_version
   pub journal_is : journal_at s ≡ journal_of (record {
     sizes = s.sizes;
     rows = s.rows;

@@ -7,6 +7,7 @@ pub mod States
 pub mod Steps
 pub mod Guarding
 pub mod Keeps
+pub mod Renewals
 pub mod Laws
 pub mod Keeping
 pub mod Advances

@@ -6,7 +6,7 @@ use Rattle.std.specs.List.{flat_map, AllByRecursion}
 use Rattle.cm_pool.specs.Geometry.{Sizes, IsGeometry}
 use Rattle.cm_pool.specs.declared.place.Place.{Place}
 use Rattle.cm_layout.specs.Offsets.{slot_at, half_at, root_size}
-use Rattle.cm_layout.specs.Slots.{open_gate, row_slot, entry_slot}
+use Rattle.cm_layout.specs.Slots.{open_gate, row_slots, entry_slots}
 use Rattle.cm_layout.specs.Rows.{slots_of_rows}
 use Rattle.cm_layout.specs.Rules.{row_limit}
 use Rattle.cm_layout.specs.Frames.{BareRow}
@@ -126,7 +126,7 @@ is_trim (plan.Trim at) = true
 pub record FitsHalf (j : Journal) (rows : List BareRow) : Type 0 where
   pub lawful : IsGeometry j.geometry
   pub few : slots_of_rows rows ≤ row_limit j.geometry
-  pub size : length (flat_map row_slot rows) ≡ 64 * slots_of_rows rows
+  pub size : length (flat_map row_slots rows) ≡ 64 * slots_of_rows rows
   pub epoch : j.epoch + 1 < 2 ^ 64
   pub number : j.number < 2 ^ 64
 
@@ -150,5 +150,5 @@ pub record FitsJournal (j : Journal) (group : Handed) : Type 0 where
   pub roots : roots_of_entries (entries_in group.entries) ≤ j.geometry.roots
   pub number : j.number < 2 ^ 63
   pub room : j.end + slots_taken group.entries < j.geometry.slots
-  pub size : length (flat_map entry_slot (entries_in group.entries))
+  pub size : length (flat_map entry_slots (entries_in group.entries))
       ≡ 64 * slots_taken group.entries

@@ -4,7 +4,7 @@ ghost use Rattle.std.specs.Prelude.{◌≡◌, ◌≤◌, ◌+◌, ◌*◌, ◌+
 ghost use Rattle.cm_record_layout.specs.Packing.{word_bytes};
 ghost use Rattle.cm_layout.specs.Zeros.{blank};
 ghost use Rattle.cm_layout.specs.Offsets.{slot_size};
-ghost use Rattle.cm_layout.specs.Slots.{half_head_rest, group_head_rest, row_slot, entry_slot};
+ghost use Rattle.cm_layout.specs.Slots.{half_head_rest, group_head_rest, row_slots, entry_slots};
 ghost use Rattle.cm_layout.specs.Rows.{bare, rows_with};
 ghost use Rattle.std.specs.Arc.{arc_value};
 ghost use Rattle.cm_commit.specs.Checkpoints.{half_behind_gate};
@@ -43,14 +43,15 @@ pub(crate) fn put_record(buffer: &mut Vec<u8>, class: &Record)
 
 /// Puts the slots of entries behind what is there.
 fn add_entries(buffer: &mut Vec<u8>, entries: &[CarriedEntry])
-    requires { length buffer.old.items + length (flat_map entry_slot (entries_in entries.now))
+    requires { length buffer.old.items + length (flat_map entry_slots (entries_in entries.now))
         ≤ vec_capacity buffer.old }
     ensures bytes { buffer.new.items ≡ buffer.old.items
-        ++ flat_map entry_slot (entries_in entries.now) }
+        ++ flat_map entry_slots (entries_in entries.now) }
     ensures room { vec_capacity buffer.old ≤ vec_capacity buffer.new }
 {
     for carried in entries {
-        buffer.extend_from_slice(&carried.bare().encode()).unwrap();
+        let slots = carried.bare().encode();
+        buffer.extend_from_slice(slots.as_bytes()).unwrap();
     }
 }
 
@@ -67,22 +68,23 @@ fn put_half_head(buffer: &mut Vec<u8>, head: &HalfHead)
 /// Puts the slots of live rows behind what is there.
 fn add_rows(buffer: &mut Vec<u8>, rows: &Book<Arc<Record, Global>>)
     requires { length buffer.old.items
-        + length (flat_map row_slot (bare (rows_with arc_value rows.now.rows)))
+        + length (flat_map row_slots (bare (rows_with arc_value rows.now.rows)))
         ≤ vec_capacity buffer.old }
     ensures bytes { buffer.new.items ≡ buffer.old.items
-        ++ flat_map row_slot (bare (rows_with arc_value rows.now.rows)) }
+        ++ flat_map row_slots (bare (rows_with arc_value rows.now.rows)) }
     ensures room { vec_capacity buffer.old ≤ vec_capacity buffer.new }
 {
     let mut left = rows.walk();
     while let Some(row) = left.next() {
-        buffer.extend_from_slice(&row.encode()).unwrap();
+        let slots = row.encode();
+        buffer.extend_from_slice(slots.as_bytes()).unwrap();
     }
 }
 
 /// Puts a half of the journal, behind the byte of its gate, in the place of what is there: its
 /// head, the live rows, and a shut slot behind them.
 pub(crate) fn put_half(buffer: &mut Vec<u8>, head: &HalfHead, rows: &Book<Arc<Record, Global>>)
-    requires room { 127 + length (flat_map row_slot (bare (rows_with arc_value rows.now.rows)))
+    requires room { 127 + length (flat_map row_slots (bare (rows_with arc_value rows.now.rows)))
         ≤ vec_capacity buffer.old }
     ensures bytes { buffer.new.items
         ≡ half_behind_gate head.now (bare (rows_with arc_value rows.now.rows)) }
@@ -124,7 +126,7 @@ pub(crate) fn put_slots(
     requires count { count ≡ slots_taken entries.now }
     requires number { journal.number < 2 ^ 63 }
     requires end { journal.end + count < journal.geometry.slots }
-    requires size { length (flat_map entry_slot (entries_in entries.now)) ≡ 64 * count }
+    requires size { length (flat_map entry_slots (entries_in entries.now)) ≡ 64 * count }
     requires room { 64 * count + 127 ≤ vec_capacity buffer.old }
     ensures bytes { buffer.new.items ≡ slots_behind_gate journal.number (entries_in entries.now)
         ++ shut_slot journal.geometry (journal.end + count + 1) }

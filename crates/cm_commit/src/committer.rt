@@ -17,6 +17,8 @@ ghost use Rattle.cm_commit.specs.States.{MayLeave, Takes, with_taken, NoGroup};
 ghost use Rattle.cm_commit.specs.States.{BeginsTrim};
 ghost use Rattle.cm_commit.specs.Advances.{Advances, CallsDevice, EndsBehind, HasRisen};
 ghost use Rattle.cm_commit.specs.Trims.{roots_of_rows};
+ghost use Rattle.cm_layout.specs.Frames.{entry_version};
+ghost use Rattle.cm_layout.specs.Laws.{IsNewest};
 ghost use Rattle.cm_layout.specs.Rows.{bare, rows_with};
 ghost use Rattle.cm_commit.specs.Keeps.{IsHeld, most_written, roots_then};
 
@@ -167,8 +169,9 @@ fn finish(
 }
 
 impl<D: Disk> Committer<D> {
-    /// The committer of a disk that holds the cache of these rows, whose journal goes on as given,
-    /// and that has so many whole roots. An `Err` hands the disk back as it was.
+    /// The committer of a disk that holds the cache of these rows, whose journal goes on as given
+    /// in a half of the version that is written now, and that has so many whole roots. An `Err`
+    /// hands the disk back as it was.
     pub fn new(
         alloc: Global,
         disk: D,
@@ -178,7 +181,7 @@ impl<D: Disk> Committer<D> {
     ) -> Result<Committer<D>, NotMade<D>>
         requires sizes { rows.sizes ≡ journal.geometry }
         requires held { IsHeld (D.view.contents disk) (D.view.unsynced disk) journal
-            (rows_with arc_value rows.rows) roots }
+            (rows_with arc_value rows.rows) roots entry_version }
         ensures made { IfOk result (λ c. c ≡ record {
           disk = disk;
           sizes = journal.geometry;
@@ -370,6 +373,15 @@ impl<D: Disk> Committer<D> {
     pub fn images(&self)
         ensures { EachImage (D.view.contents self.now.disk) (D.view.unsynced self.now.disk)
             (MayLeave self.now) }
+    {
+        let _broken = self.is_broken; // so the proof knows what the committer keeps
+    }
+
+    /// Does nothing: its clause says that whatever a crash leaves now, the half that counts in it
+    /// is of the version that is written now.
+    pub fn versions(&self)
+        ensures { EachImage (D.view.contents self.now.disk) (D.view.unsynced self.now.disk)
+            IsNewest }
     {
         let _broken = self.is_broken; // so the proof knows what the committer keeps
     }

@@ -54,7 +54,7 @@ pub(crate) fn renewed_head(journal: &Journal, rows: &Book<Arc<Record, Global>>) 
 }
 
 /// Where the journal goes on after a checkpoint.
-fn renewed(journal: &Journal, rows: &Book<Arc<Record, Global>>) -> Journal
+pub(crate) fn renewed(journal: &Journal, rows: &Book<Arc<Record, Global>>) -> Journal
     requires { FitsHalf journal.now (bare (rows_with arc_value rows.now.rows)) }
     ensures { result ≡ renewed_journal journal.now (bare (rows_with arc_value rows.now.rows)) }
 {

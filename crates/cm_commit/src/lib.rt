@@ -14,6 +14,7 @@ mod mismatch;
 mod moving;
 mod plan;
 mod progress;
+mod renewal;
 mod step;
 mod trim;
 
@@ -25,3 +26,4 @@ pub use laws::{
 };
 pub use mismatch::Mismatch;
 pub use progress::{AdvanceFault, NotIdle, Progress};
+pub use renewal::{RenewFault, renew};

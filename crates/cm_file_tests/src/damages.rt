@@ -29,7 +29,7 @@ const ONE: usize = 20_480;
 const SLOT: usize = 64;
 
 /// A byte, what stands in its place, and what is found then.
-const CHANGES: [(usize, u8, Found<Summary>); 24] = [
+const CHANGES: [(usize, u8, Found<Summary>); 28] = [
     // nothing changed
     (ZERO, 0xA5, Sound(WHOLE)),
     // the superblock: its magic, its gate, its version, a size, a byte behind them
@@ -40,12 +40,17 @@ const CHANGES: [(usize, u8, Found<Summary>); 24] = [
     (100, 1, Damaged(Damage::Superblock, 0)),
     // more slots than the file has room for
     (21, 2, Damaged(Damage::Length, 0)),
-    // no half is open; the head of half 0 is of another version, of an epoch to come; the head
-    // of half 1 is blank
+    // no half is open; the head of half 0 is of another version, or of an epoch that is none or
+    // still to come; the head of half 1 is blank
     (ZERO, 0, Damaged(Damage::Halves, 0)),
-    (ZERO + 2, 2, Damaged(Damage::Head, 0)),
-    (ZERO + 8, 2, Damaged(Damage::Head, 0)),
+    (ZERO + 2, 0, Damaged(Damage::Head, 0)),
+    (ZERO + 2, 3, Damaged(Damage::Head, 0)),
+    (ZERO + 8, 0, Damaged(Damage::Head, 0)),
+    (ZERO + 8, 3, Damaged(Damage::Head, 0)),
     (ONE, 0xA5, Damaged(Damage::Head, 256)),
+    // the version before, and the epoch that a file has which was moved over when it was empty
+    (ZERO + 2, 1, Sound(WHOLE)),
+    (ZERO + 8, 2, Sound(WHOLE)),
     // a group of none, of another number, of 65 entries
     (ZERO + SLOT + 2, 0, Damaged(Damage::Head, 1)),
     (ZERO + 3 * SLOT + 8, 3, Damaged(Damage::Head, 3)),

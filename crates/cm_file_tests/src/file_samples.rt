@@ -2,7 +2,8 @@
 
 use crate::disks::put;
 use cm_layout::{
-    ClassRow, GroupHead, HalfHead, LoaderRow, SLOT_BYTES, SUPERBLOCK_BYTES, SlotName, Superblock,
+    ClassRow, ENTRY_VERSION, GroupHead, HalfHead, LoaderRow, SLOT_BYTES, SUPERBLOCK_BYTES,
+    SlotName, Superblock,
 };
 use cm_pool::{Chunk, Geometry, Place};
 use cm_prepare::{Prepared, prepare};
@@ -66,32 +67,28 @@ fn class_row(offset: u32, words: u32) -> ClassRow {
     }
 }
 
-fn group(first: u64) -> [u8; SLOT_BYTES] {
-    GroupHead { count: 1, first }.encode()
+// A group of one entry.
+fn push_group(bytes: &mut Vec<u8>, first: u64, entry: &[u8]) -> Result<(), Fail> {
+    bytes.extend_from_slice(&GroupHead { count: 1, first }.encode())?;
+    bytes.extend_from_slice(entry)?;
+    Ok(())
 }
 
 /// Halves of 256 slots: loader `a` and two classes, whose records have so many words, in slots 1 to
 /// 6 of half 0.
 pub fn push_halves(bytes: &mut Vec<u8>, first: u32, second: u32) -> Result<(), Fail> {
     let head = HalfHead {
-        version: 1,
+        version: ENTRY_VERSION,
         live: 0,
         epoch: 1,
         base: 0,
     };
     let name = SlotName::new(b"a").ok_or("a short name")?;
-    let slots = [
-        head.encode(),
-        group(1),
-        LoaderRow { number: 1, name }.encode(),
-        group(2),
-        class_row(0, first).encode(),
-        group(3),
-        class_row(first, second).encode(),
-    ];
-    for slot in &slots {
-        bytes.extend_from_slice(slot)?;
-    }
+    bytes.extend_from_slice(&head.encode())?;
+    let loader = LoaderRow { number: 1, name }.encode();
+    push_group(bytes, 1, loader.as_bytes())?;
+    push_group(bytes, 2, &class_row(0, first).encode())?;
+    push_group(bytes, 3, &class_row(first, second).encode())?;
     bytes.resize(SUPERBLOCK_BYTES + 2 * 256 * SLOT_BYTES, 0)?;
     Ok(())
 }

@@ -14,6 +14,8 @@ mod halves;
 #[cfg(test)]
 mod making_files;
 #[cfg(test)]
+mod older_files;
+#[cfg(test)]
 mod reading_files;
 #[cfg(test)]
 mod reports;

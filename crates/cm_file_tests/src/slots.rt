@@ -1,7 +1,7 @@
 //! Slots of heads, rows and entries, written and read.
 use cm_layout::{
     ClassRow, Entry, GroupHead, HalfHead, LoaderNumbers, LoaderRow, Move, Row, SLOT_BYTES,
-    SlotName, Unload, UnloadAll, is_loader_name,
+    SlotName, Slots, Unload, UnloadAll, is_loader_name,
 };
 use cm_pool::{Chunk, Place};
 use std::test::Fail;
@@ -65,20 +65,35 @@ fn classes_are_written_and_read(rt: HostRuntime) {
     assert!(rt; is_class(&slot, class));
 }
 
-fn loader_slot(name: SlotName) -> [u8; SLOT_BYTES] {
+fn loader_slots(name: &[u8]) -> Result<Slots, Fail> {
+    let name = SlotName::new(name).ok_or("two slots have room for it")?;
     let loader: Row<()> = Row::Loader(LoaderRow { number: 9, name });
-    Entry::Live(loader).encode()
+    Ok(Entry::Live(loader).encode())
 }
 
-fn is_loader(slot: &[u8; SLOT_BYTES]) -> bool {
-    matches!(Entry::decode(slot), Some(Entry::Live(Row::Loader(_))))
+/// Whether the first slot is read as that of a loader.
+fn is_loader(slots: &[u8]) -> bool {
+    match slots.first_chunk::<SLOT_BYTES>() {
+        Some(slot) => matches!(Entry::decode(slot), Some(Entry::Live(Row::Loader(_)))),
+        None => false,
+    }
 }
 
 #[test]
 fn loaders_are_written_and_read(rt: HostRuntime) -> Result<(), Fail> {
-    let slot = loader_slot(SlotName::new(b"app").ok_or("three bytes fit")?);
-    assert!(rt; has(&slot, 0, &[0, 0x11, 3]) && has(&slot, 16, b"app\0"));
-    assert!(rt; is_loader(&slot));
+    let slots = loader_slots(b"app")?;
+    let bytes = slots.as_bytes();
+    assert!(rt; bytes.len() == 64 && has(bytes, 0, &[0, 0x11, 3]) && has(bytes, 16, b"app\0"));
+    assert!(rt; is_loader(bytes));
+    Ok(())
+}
+
+#[test]
+fn a_name_of_49_bytes_goes_on_in_the_next_slot(rt: HostRuntime) -> Result<(), Fail> {
+    let slots = loader_slots(&[b'a'; 49])?;
+    let bytes = slots.as_bytes();
+    assert!(rt; bytes.len() == 128 && has(bytes, 0, &[0, 0x11, 49]) && !is_loader(bytes));
+    assert!(rt; has(bytes, 63, &[b'a', 0, 0x16, 0]) && has(bytes, 79, &[0, b'a', 0]));
     Ok(())
 }
 
@@ -171,8 +186,8 @@ const NAMES: [(&[u8], bool); 6] = [
 
 #[test]
 fn names_of_49_bytes_are_refused(rt: HostRuntime) {
-    assert!(rt; SlotName::new(&[b'a'; 48]).is_some());
-    assert!(rt; SlotName::new(&[b'a'; 49]).is_none());
+    assert!(rt; SlotName::new(&[b'a'; 96]).is_some());
+    assert!(rt; SlotName::new(&[b'a'; 97]).is_none());
     for (name, expected) in &NAMES {
         assert_eq!(rt; is_loader_name(name), *expected);
     }

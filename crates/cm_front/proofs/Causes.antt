@@ -11,12 +11,13 @@ use Rattle.std.proofs.lemmas.Bool.{leb-true, and_parts}
 use Rattle.cm_pool.specs.Chunks.{chunk_size}
 use Rattle.cm_layout.specs.declared.row.Row.{Row}
 use Rattle.cm_layout.specs.declared.row.Row.TheVariants.{Loader, Class}
-use Rattle.cm_layout.specs.Names.{is_loader_name, unload_limit}
+use Rattle.cm_layout.specs.Names.{is_loader_name, slots_of_name, unload_limit}
 use Rattle.cm_layout.specs.Rows.{number_of, slots_of_rows}
 use Rattle.cm_layout.specs.Rules.{is_too_much}
 use Rattle.cm_record.specs.Names.{class_name_in}
 use Rattle.cm_index.specs.Index.{class_of}
-use Rattle.cm_state.specs.State.{Loaders, words_show, state_of, class_among, class_in, size}
+use Rattle.cm_state.specs.State.{Loaders, words_show, state_of, class_among, class_in}
+use Rattle.cm_state.specs.State.{slots_of_state}
 use Rattle.cm_state.specs.Step as step
 use Rattle.cm_state.specs.Step.{Cause, Change, AddLoader, Define, Unload, Tighten, UnloadAll}
 use Rattle.cm_state.specs.Step.{last_number}
@@ -70,9 +71,9 @@ one_class u name (Class r words ∷ rows) =
     ap (cond (eqb r.loader u && bytes_eq (class_name_in words) name) (Some words))
     (one_class u name rows)
 
-size_is : SizesAgree (List ℕ) → (s : FrontState) → IsFront s
-    → size (state_of words_show s.rows) ≡ slots_of_rows s.rows
-size_is sizes s f = sizes words_show s.sizes s.number s.rows f.rows
+slots_are : SizesAgree (List ℕ) → (s : FrontState) → IsFront s
+    → slots_of_state (state_of words_show s.rows) ≡ slots_of_rows s.rows
+slots_are sizes s f = (sizes words_show s.sizes s.number s.rows f.rows).1
 
 -- a running cache's first refusal is that of the step
 running : (s : FrontState) (change : Change (List ℕ)) → s.closed ≡ false → s.broken ≡ false
@@ -92,13 +93,15 @@ pub loader_refused : LoadersAreFound (List ℕ) → SizesAgree (List ℕ) → (s
 loader_refused loaders sizes s x f closed broken =
     running s (AddLoader x) closed broken
     ∙ (ap (λ (b : Bool). first (loader_step (is_loader_name x) (eqb s.number last_number) b
-    (is_too_much s.sizes (size m) 1) (step.with_loader m x)))
+    (is_too_much s.sizes (slots_of_state m) (slots_of_name x)) (step.with_loader m x)))
     (loaders words_show s.rows x)
     ∙ (ap (λ (k : ℕ). first (loader_step (is_loader_name x) (eqb s.number last_number)
-    (is_some (number_of x s.rows)) (is_too_much s.sizes k 1) (step.with_loader m x)))
-    (size_is sizes s f)
+    (is_some (number_of x s.rows)) (is_too_much s.sizes k (slots_of_name x))
+    (step.with_loader m x)))
+    (slots_are sizes s f)
     ∙ made_as_step (is_loader_name x) (eqb s.number last_number) (is_some (number_of x s.rows))
-    (is_too_much s.sizes (slots_of_rows s.rows) 1) (step.with_loader m x) (suc s.number)))
+    (is_too_much s.sizes (slots_of_rows s.rows) (slots_of_name x)) (step.with_loader m x)
+    (suc s.number)))
   where
     m : Loaders (List ℕ)
     m = state_of words_show s.rows
@@ -150,14 +153,15 @@ pub class_refused : LoadersAreFound (List ℕ) → ClassesAreFound (List ℕ) �
 class_refused loaders classes sizes s x words f closed broken =
     running s (Define x words) closed broken
     ∙ (ap (λ (b : Bool). first (class_step named spent b
-    (is_some (class_in m x (class_name_in words))) long (is_too_much s.sizes (size m) 1) next))
+    (is_some (class_in m x (class_name_in words))) long
+    (is_too_much s.sizes (slots_of_state m) 1) next))
     (loaders words_show s.rows x)
     ∙ (ap (λ (o : Option (List ℕ)). first (class_step named spent (is_some o_x) (is_some o) long
-    (is_too_much s.sizes (size m) 1) next))
+    (is_too_much s.sizes (slots_of_state m) 1) next))
     (classes words_show s.rows x (class_name_in words))
     ∙ (ap (λ (k : ℕ). first (class_step named spent (is_some o_x)
     (is_some (option_and_then among o_x))
-    long (is_too_much s.sizes k 1) next)) (size_is sizes s f)
+    long (is_too_much s.sizes k 1) next)) (slots_are sizes s f)
     ∙ (class_as_step named spent o_x among long full next
     ∙ ap (λ (g : ℕ → Option (List ℕ)). refused (elim (asked named spent o_x)
     [ Err r ↦ Err r | Ok u ↦ free (is_some (g u)) long full u ])) same))))
@@ -340,7 +344,7 @@ pub record IsMade (s : FrontState) (x : List ℕ) (n : ℕ) : Type 0 where
   pub named : is_loader_name x ≡ true
   pub left : eqb s.number last_number ≡ false
   pub absent : number_of x s.rows ≡ None
-  pub room : is_too_much s.sizes (slots_of_rows s.rows) 1 ≡ false
+  pub room : is_too_much s.sizes (slots_of_rows s.rows) (slots_of_name x) ≡ false
   pub number : n ≡ s.number + 1
 
 none_of : (o : Option ℕ) → is_some o ≡ false → o ≡ None
@@ -358,7 +362,7 @@ is_made true false false false n k e = (refl, refl, refl, refl, ok_same n k e)
 pub was_made : (s : FrontState) (x : List ℕ) (n : ℕ) → loader_made s x ≡ Ok n → IsMade s x n
 was_made s x n e =
     let h = is_made (is_loader_name x) (eqb s.number last_number) (is_some (number_of x s.rows))
-    (is_too_much s.sizes (slots_of_rows s.rows) 1) (suc s.number) n e in
+    (is_too_much s.sizes (slots_of_rows s.rows) (slots_of_name x)) (suc s.number) n e in
     let next : suc s.number ≡ n = h.4 in
     record {
       named = h.0;

@@ -15,7 +15,7 @@ use Rattle.cm_layout.specs.declared.row.Row.{Row}
 use Rattle.cm_layout.specs.declared.row.Row.TheVariants.{Loader, Class}
 use Rattle.cm_layout.specs.declared.entry.Entry.{Entry}
 use Rattle.cm_layout.specs.declared.entry.Entry.TheVariants as entry
-use Rattle.cm_layout.specs.Names.{is_loader_name, name_limit, name_room}
+use Rattle.cm_layout.specs.Names.{is_loader_name, name_limit, name_room, slots_of_name}
 use Rattle.cm_layout.specs.Rows.{name_of, numbers_in, rows_after, bare}
 use Rattle.cm_layout.specs.Rows.{slots_of_rows}
 use Rattle.cm_layout.specs.Rules.{is_live, row_limit, is_too_much}
@@ -113,11 +113,12 @@ loader_fits x named =
     let short = nat_le (length x) name_limit in
     leb-true (length x) name_limit (and_parts some short (and_parts (some && short) _ named).0).1
 
-pub room_left : (s : FrontState) → is_too_much s.sizes (slots_of_rows s.rows) 1 ≡ false
-    → nat_le (slots_of_rows s.rows + 1) (row_limit s.sizes) ≡ true
-room_left s e =
-    le-leb (slots_of_rows s.rows + 1) (row_limit s.sizes)
-    (ltb-false (row_limit s.sizes) (slots_of_rows s.rows + 1) e)
+pub room_left : (s : FrontState) (need : ℕ)
+    → is_too_much s.sizes (slots_of_rows s.rows) need ≡ false
+    → nat_le (slots_of_rows s.rows + need) (row_limit s.sizes) ≡ true
+room_left s need e =
+    le-leb (slots_of_rows s.rows + need) (row_limit s.sizes)
+    (ltb-false (row_limit s.sizes) (slots_of_rows s.rows + need) e)
 
 loader_row : FrontState → List ℕ → LoaderRow
 loader_row s x = record { number = s.number + 1; name = x }
@@ -128,7 +129,7 @@ may_loader : (s : FrontState) (x : List ℕ) (n : ℕ) → s.number < 2 ^ 63 →
 may_loader s x n below m = record {
   fits = record { number = omega (arith, below, arith); name = loader_fits x m.named };
   keeps = rw (eq-eqb (s.number + 1) (s.number + 1) refl)
-      (rw m.named (rw m.absent (rw (room_left s m.room) refl)));
+      (rw m.named (rw m.absent (rw (room_left s (slots_of_name x) m.room) refl)));
   new = tt;
 }
 

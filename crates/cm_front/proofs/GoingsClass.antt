@@ -215,7 +215,7 @@ may_class keep own s x words u place chain left f free p =
     let fits : class_fits s.sizes s.rows r ≡ true = fits_bare s.sizes s.rows r ∙ at.fits in
     record {
       fits = fits_slot s.sizes (bare s.rows) r f.lawful (omega (arith, before, numbers)) at.fits;
-      keeps = rw live (rw (room_left s free.room) (rw fits refl));
+      keeps = rw live (rw (room_left s 1 free.room) (rw fits refl));
       new = (free.new, sym at.amount);
     }
 

@@ -5,7 +5,7 @@ use Rattle.std.specs.List.{list_all}
 use Rattle.std.specs.Option.{option_map, option_and_then}
 use Rattle.cm_pool.specs.Chunks.{chunk_size}
 use Rattle.cm_layout.specs.declared.row.Row.{Row}
-use Rattle.cm_layout.specs.Names.{is_loader_name}
+use Rattle.cm_layout.specs.Names.{is_loader_name, slots_of_name}
 use Rattle.cm_layout.specs.Rows.{number_of, slots_of_rows}
 use Rattle.cm_layout.specs.Rules.{is_too_much}
 use Rattle.cm_record.specs.Names.{class_name_in}
@@ -48,7 +48,7 @@ loader_made s x =
     if not (is_loader_name x) then Err refusal.BadName
     else if s.number == last_number then Err refusal.NumbersSpent
     else if is_some (number_of x s.rows) then Err refusal.LoaderExists
-    else if journal_full s 1 then Err refusal.JournalFull
+    else if journal_full s (slots_of_name x) then Err refusal.JournalFull
     else Ok (suc s.number)
 
 -- the number of the loader in which the class can be defined

@@ -37,9 +37,10 @@ impl Front {
     /// The refusals are looked for in this order: `Closed`, `Broken`, `BadList`, `BadName`,
     /// `NumbersSpent`, `LoaderExists` or `NoLoader`, `ClassExists`, `RecordTooLong`, `JournalFull`,
     /// `RegionFull` or `NoMove`; `NoMemory` is returned only where none of these applies. Of
-    /// several loaders, `BadName` and `NoLoader` come for any of them. `JournalFull` says that as
-    /// many loaders and classes live as may, half as many as a half of the journal has slots, so no
-    /// unload meets it. A refused command takes no number and leaves all as it was.
+    /// several loaders, `BadName` and `NoLoader` come for any of them. `JournalFull` says that the
+    /// loaders and classes would take more slots than they may, half of those that a half of the
+    /// journal has, so no unload meets it. A refused command takes no number and leaves all as it
+    /// was.
     pub fn accept(&mut self, command: Command<'_>) -> Result<u64, Refusal>
         ensures { Answers self.old (change_asked command.entry) result self.new }
     {

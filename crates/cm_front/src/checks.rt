@@ -7,7 +7,7 @@ ghost use Rattle.cm_front.specs.Refusing.{numbers_of, loaders_asked};
 
 use crate::front::Front;
 use crate::name_list::{are_loader_names, is_list};
-use cm_layout::{LAST_NUMBER, LoaderNumbers, UNLOAD_LIMIT, is_loader_name};
+use cm_layout::{LAST_NUMBER, LoaderNumbers, UNLOAD_LIMIT, is_loader_name, slots_of_name};
 use cm_prepare::{Names, Prepared, Refusal};
 
 impl Front {
@@ -75,7 +75,7 @@ impl Front {
         if self.book.loader(name).is_some() {
             return Err(Refusal::LoaderExists);
         }
-        if self.is_journal_full(1) {
+        if self.is_journal_full(slots_of_name(name)) {
             return Err(Refusal::JournalFull);
         }
         Ok(self.number + 1)

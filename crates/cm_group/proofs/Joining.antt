@@ -3,17 +3,11 @@
 use Rattle.std.proofs.Common.{◌≡◌, ℕ, ◌+◌, ◌^◌, ◌≤◌, max, List, [], ◌∷◌, ◌++◌, length, arith}
 use Rattle.std.specs.List.{AllByRecursion}
 use Rattle.std.proofs.lemmas.List.{length-append}
-use Rattle.cm_layout.specs.declared.entry.Entry.TheVariants as entry
 use Rattle.cm_layout.specs.Rows.{slots_of}
-use Rattle.cm_layout.specs.Frames.{BareEntry, bare_entry}
+use Rattle.cm_layout.specs.Frames.{bare_entry}
+use Rattle.cm_layout.proofs.{some_slots}
 use Rattle.cm_group.specs.Groups.{Carried, CarriesRight, Handed, KeepsGroup, GoesOn}
 use Rattle.cm_group.specs.Groups.{slots_taken}
-
-one_slot : (e : BareEntry) → 1 ≤ slots_of e
-one_slot (entry.Live r) = omega arith
-one_slot (entry.Unload e) = omega arith
-one_slot (entry.Move e) = omega arith
-one_slot (entry.UnloadAll e) = omega arith
 
 pub taken-append : (xs ys : List Carried)
     → slots_taken (xs ++ ys) ≡ slots_taken xs + slots_taken ys
@@ -23,7 +17,7 @@ taken-append (x ∷ xs) ys = omega (arith, taken-append xs ys)
 -- no more entries than slots
 pub enough : (xs : List Carried) → length xs ≤ slots_taken xs
 enough [] = omega arith
-enough (x ∷ xs) = omega (arith, enough xs, one_slot (bare_entry x.entry))
+enough (x ∷ xs) = omega (arith, enough xs, some_slots (bare_entry x.entry))
 
 right-append : (xs ys : List Carried) → AllByRecursion CarriesRight xs
     → AllByRecursion CarriesRight ys → AllByRecursion CarriesRight (xs ++ ys)
@@ -40,7 +34,7 @@ pub with_entry : (capacity slots more room : ℕ) (group : Handed) (c : Carried)
 with_entry capacity slots more room group c grown k m right fits numbers wide e =
     let taken = taken-append group.entries (c ∷ []) in
     let count = length-append group.entries (c ∷ []) in
-    let one = one_slot (bare_entry c.entry) in
+    let one = some_slots (bare_entry c.entry) in
     rw e (record {
       is = record {
         some = omega (arith, count);

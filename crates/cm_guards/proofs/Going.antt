@@ -431,3 +431,59 @@ leaves_so (Settle ∷ []) P Q R S f g image l = record {
 }
 leaves_so (Settle ∷ stage ∷ stages) P Q R S f g image l = f image l
 leaves_so (Cut len ∷ stages) P Q R S f g image l = f image l
+
+-- what leaves one fact only
+pub leaves_one : (left : List Stage) (P : List ℕ → Type 0) (image : List ℕ) → leaves left P P image
+    → P image
+leaves_one [] P image l = l
+leaves_one (Store writes ∷ left) P image l = l
+leaves_one (Turn gate byte ∷ []) P image l = elim l.which [ inl p ↦ p | inr q ↦ q ]
+leaves_one (Turn gate byte ∷ stage ∷ left) P image l = l
+leaves_one (Settle ∷ []) P image l = elim l.which [ inl p ↦ p | inr q ↦ q ]
+leaves_one (Settle ∷ stage ∷ left) P image l = l
+leaves_one (Cut len ∷ left) P image l = l
+
+-- ---- a first fact that says less
+
+module _ (P R Q : List ℕ → Type 0) (less : (x : List ℕ) → P x → R x) where
+  claim_less : (stages : List Stage) (x : List ℕ) → claim_behind stages P Q x
+      → claim_behind stages R Q x
+  claim_less [] x q = q
+  claim_less (stage ∷ stages) x p = less x p
+
+  rests_less : (g : Guard) (x : List ℕ) → Rests g P x → Rests g R x
+  rests_less g x rests = record {
+    ends = rests.ends;
+    long = rests.long;
+    each = λ other agrees. less other (rests.each other agrees);
+  }
+
+  pub ready_less : (long : ℕ) (stages : List Stage) (x : List ℕ) → IsReady P Q long stages x
+      → IsReady R Q long stages x
+  ready_less long [] x ready = ready
+  ready_less long (Store writes ∷ stages) x ready = record {
+    guard = ready.guard;
+    rests = rests_less ready.guard x ready.rests;
+    can = ready.can;
+    behind = ready_less long stages (written writes x) ready.behind;
+  }
+  ready_less long (Turn gate byte ∷ stages) x ready = record {
+    holds = less x ready.holds;
+    turns = record {
+      inside = ready.turns.inside;
+      either = λ b small. record {
+        which = ⊎_elim (λ p. inl (less _ p)) (λ q. inr (claim_less stages _ q))
+            (ready.turns.either b small).which;
+      };
+      last = claim_less stages _ ready.turns.last;
+    };
+    behind = ready_less long stages (overwritten gate (byte ∷ []) x) ready.behind;
+  }
+  ready_less long (Settle ∷ stages) x ready = ready
+  ready_less long (Cut len ∷ stages) x ready = record {
+    guard = ready.guard;
+    rests = rests_less ready.guard x ready.rests;
+    enough = ready.enough;
+    within = ready.within;
+    behind = ready_less long stages (take len x) ready.behind;
+  }

@@ -23,3 +23,4 @@ pub use Steps.{turning}
 -- Stages: what stands between two calls, what one call makes of it, and what a crash leaves.
 pub use Going.{ready_stands, takes_call, stages_leave, call_done, call_failed, call_moments}
 pub use Going.{call_cause, calls_left-append, gone_through-append, one_call_less, leaves_so}
+pub use Going.{leaves_one, ready_less}

@@ -7,12 +7,12 @@ use Rattle.cm_record.specs.Layout.{lay}
 use Rattle.cm_layout.specs.declared.class_row.ClassRow.{ClassRow}
 use Rattle.cm_layout.specs.declared.row.Row.{Row}
 use Rattle.cm_layout.specs.declared.row.Row.TheVariants.{Loader, Class}
-use Rattle.cm_layout.specs.Rows.{numbers_in, classes_in, rows_with, slots_of_rows, bare}
+use Rattle.cm_layout.specs.Rows.{numbers_in, classes_in, rows_with, bare}
 use Rattle.cm_layout.specs.Loaders.{HasOwnLoaders}
 use Rattle.cm_layout.specs.Rules.{is_live}
 use Rattle.cm_layout.specs.Frames.{AreApart, LiveRowsKeep}
 use Rattle.cm_layout.specs.Laws.{LoadersAreOwn}
-use Rattle.cm_layout.proofs.{name-bare, classes-bare, differ-bare, slots-length}
+use Rattle.cm_layout.proofs.{name-bare, classes-bare, differ-bare}
 use Rattle.cm_pool.specs.Lists.{Among}
 use Rattle.cm_rows.specs.Rows.{LiveRows}
 use Rattle.cm_state.specs.State.{class_shows}
@@ -91,10 +91,9 @@ module _ (live : FoundIsLive) (framed : FoundIsFramed) (stands : VerdictStands)
       loaders = counted.loaders ∙ sym (loaders_counted class_shows s.rows s.rows
           (differ-bare s.rows loaders.differ));
       classes =
-          let size = sizes class_shows s.found.sizes s.found.number s.rows cache in
-          let slots = slots-length s.rows in
+          let size = (sizes class_shows s.found.sizes s.found.number s.rows cache).0 in
           let each = each_counts s.rows in
-          omega (arith, size, slots, each, counted.loaders, counted.classes);
+          omega (arith, size, each, counted.loaders, counted.classes);
       chunks = counted.chunks
           ∙ sym (chunks_counted s.rows (differ-bare s.rows loaders.differ) owned);
       number = counted.number;

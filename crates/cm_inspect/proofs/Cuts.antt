@@ -1,7 +1,7 @@
 -- A trim's two device calls, and what stands meanwhile.
 -- For `cut`, `trim_file`, `trim_to`.
 use Rattle.std.proofs.Common.{◌≡◌, ℕ, Bool, true, false, List, [], ◌∷◌, length}
-use Rattle.std.proofs.Common.{Option, Some, None, Result, Ok, Err, inl, inr, refl, sym, ap, subst}
+use Rattle.std.proofs.Common.{Option, Some, None, Result, Ok, Err, refl, sym, ap, subst}
 use Rattle.std.proofs.Common.{◌∙◌, arith}
 use Rattle.std.proofs.Common.{get_or}
 use Rattle.std.specs.Prelude.{IfOk, IsErr}
@@ -10,7 +10,8 @@ use Rattle.cm_disk.specs.Disk.{View, Unsynced, IsImage, IsWithin}
 use Rattle.cm_disk.proofs.{false_before}
 use Rattle.cm_layout.specs.declared.row.Row.{Row}
 use Rattle.cm_layout.specs.Offsets.{root_at}
-use Rattle.cm_guards.specs.Stages.{Stage, Store, Turn, Settle, Cut, leaves, calls_left, after_call}
+use Rattle.cm_guards.proofs.{leaves_one, leaves_so}
+use Rattle.cm_guards.specs.Stages.{Stage, Store, Cut, calls_left, after_call}
 use Rattle.cm_commit.specs.declared.progress.NotIdle.{NotIdle}
 use Rattle.cm_commit.specs.declared.progress.Progress.{Progress}
 use Rattle.cm_commit.specs.declared.progress.Progress.TheVariants.{Idle, Working, Done, Trimmed}
@@ -33,30 +34,24 @@ use Rattle.cm_inspect.specs.declared.status.Status.TheVariants as status
 use Rattle.cm_inspect.specs.Inspecting.{Writes, told, status_of}
 use Rattle.cm_inspect.specs.Texts.{roots_line, fault_line}
 use Rattle.cm_inspect.proofs.Statuses.{never_done}
-use Rattle.cm_inspect.specs.Trimming.{IsKept, HasNoMore, Uses, StandsForSame, IsTrimmed, rows_in}
+use Rattle.cm_inspect.specs.Trimming.{IsKept, HasNoMore, Uses, IsTrimmed, rows_in}
+use Rattle.cm_recover.specs.Opened.{StandsForSame}
 
 -- ---- what a crash leaves
-
-one_of : (left : List Stage) (P Q : List ℕ → Type 0) (image : List ℕ) → (Q image → P image)
-    → leaves left P Q image → P image
-one_of [] P Q image so l = l
-one_of (Store writes ∷ left) P Q image so l = l
-one_of (Turn gate byte ∷ []) P Q image so l = elim l.which [ inl p ↦ p | inr q ↦ so q ]
-one_of (Turn gate byte ∷ stage ∷ left) P Q image so l = l
-one_of (Settle ∷ []) P Q image so l = elim l.which [ inl p ↦ p | inr q ↦ so q ]
-one_of (Settle ∷ stage ∷ left) P Q image so l = l
-one_of (Cut len ∷ left) P Q image so l = l
 
 -- while no group is under way, it is what is committed
 pub shows_committed : {D : Type 0} (s : CommitterState D) → NoGroup s.underway → (image : List ℕ)
     → MayLeave s image → ShowsCommitted s image
 shows_committed s none image l =
-    one_of s.left (ShowsCommitted s) (ShowsWith s s.underway) image (with_it s.underway none) l
+    leaves_one s.left (ShowsCommitted s) image
+    (leaves_so s.left (ShowsCommitted s) (ShowsWith s s.underway) (ShowsCommitted s)
+    (ShowsCommitted s) (λ x shows. shows) (λ x. with_it s.underway none x) image l)
   where
-    with_it : (u : Option Work) → NoGroup u → ShowsWith s u image → ShowsCommitted s image
-    with_it None none shows = shows
-    with_it (Some Trimming) none shows = shows
-    with_it (Some (Storing group)) none shows = absurd none
+    with_it : (u : Option Work) → NoGroup u → (x : List ℕ) → ShowsWith s u x
+        → ShowsCommitted s x
+    with_it None none x shows = shows
+    with_it (Some Trimming) none x shows = shows
+    with_it (Some (Storing group)) none x shows = absurd none
 
 -- of one where the same is
 pub shows_as : {D : Type 0} (old new : CommitterState D) → IsKept old new → (image : List ℕ)

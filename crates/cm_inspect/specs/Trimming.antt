@@ -1,15 +1,14 @@
 -- What comes of trimming a file: it is cut behind the last root that its rows use, and stands for
 -- the same cache at each moment.
-use Rattle.std.specs.Prelude.{◌≡◌, ◌≤◌, ◌⊎◌, ℕ, min, List, length, Option, Result, Ok}
+use Rattle.std.specs.Prelude.{◌≡◌, ◌≤◌, ℕ, min, List, length, Option, Result, Ok}
 use Rattle.cm_pool.specs.Geometry.{Sizes}
 use Rattle.cm_record.specs.Layout.{lay}
 use Rattle.cm_layout.specs.declared.row.Row.{Row}
 use Rattle.cm_layout.specs.Rows.{rows_with}
-use Rattle.cm_disk.specs.Disk.{Unsynced, IsImage}
 use Rattle.cm_state.specs.Stands.{Stands}
 use Rattle.cm_verdict.specs.Verdict.{Standing, state_in, arenas_in, verdict}
 use Rattle.cm_commit.specs.GroupPlans.{whole_roots}
-use Rattle.cm_commit.specs.States.{CommitterState, NoGroup, ShowsCache}
+use Rattle.cm_commit.specs.States.{CommitterState, NoGroup}
 use Rattle.cm_commit.specs.Trims.{roots_of_rows}
 use Rattle.cm_inspect.specs.declared.fault.InspectFault.{InspectFault}
 use Rattle.cm_inspect.specs.declared.status.Status.{Status}
@@ -43,17 +42,6 @@ abbrev pub TrimsTo : List ℕ → Type 0 → Option (List ℕ) → Option (List 
     → Result Status InspectFault → Type 0
 TrimsTo contents Failed held holds result =
     Tells (Uses contents) roots_line contents Failed held holds result
-
--- the image stands for the cache that the contents stand for
-pub record StandsForSame (contents image : List ℕ) : Type 0 where
-  pub standing : Standing
-  pub verdict_is : verdict contents ≡ Ok standing
-  pub shows : ShowsCache standing.found.sizes (rows_in standing) standing.found.number image
-
--- A crash leaves what it might have left before, or what stands for the same cache.
-abbrev pub LeavesSame : List ℕ → Unsynced → List ℕ → Type 0
-LeavesSame contents unsynced image =
-    IsImage contents unsynced image ⊎ StandsForSame contents image
 
 -- the contents stand for a cache; these hold no root behind those that its rows use
 pub record IsTrimmed (contents left : List ℕ) : Type 0 where

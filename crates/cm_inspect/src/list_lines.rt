@@ -2,7 +2,7 @@
 
 ghost use Rattle.std.specs.Prelude.{◌≡◌, ◌<◌, Ok};
 ghost use Rattle.cm_disk.specs.Disk.{IsSettled};
-ghost use Rattle.cm_recover.specs.Opened.{SyncsAndReads};
+ghost use Rattle.cm_recover.specs.Opened.{OpensThrough};
 ghost use Rattle.cm_inspect.specs.Listing.{listing};
 ghost use Rattle.cm_inspect.specs.Texts.{list_lines};
 ghost use Rattle.cm_inspect.specs.Inspecting.{Writes, ListsTo, status_in, disk_left};
@@ -22,11 +22,11 @@ use std::io::Write;
 /// status and the disk: in byte order of their names `loader NAME`, and behind each those of its
 /// classes, `class CLASS words W root R at P`, with `Done`; of a file that isn't opened what
 /// [`crate::check_to`] writes. The file is opened as for a script, with a sync, so no crash takes
-/// back what is listed; nothing is written to it.
+/// back what is listed. Nothing is written to it, unless it is of an older version: then it is
+/// moved over.
 ///
 /// It is an `Err` where the writer fails (`Output`), or an allocation failed for the lines
 /// (`NoMemory`).
-#[tactic(auto, using(crate::proofs::Rose::syncs_rose))]
 pub fn list_to<W: Write, D: Disk>(
     alloc: Global,
     writer: &mut W,
@@ -37,7 +37,7 @@ pub fn list_to<W: Write, D: Disk>(
         (W.contents writer.old) (W.contents writer.new) (status_in result) }
     ensures stored { status_in result ≡ Ok Status.Done
         → IsSettled (D.view.contents (disk_left result)) (D.view.unsynced (disk_left result)) }
-    ensures run { SyncsAndReads D.view disk
+    ensures run { OpensThrough D.view disk
         (disk_left result) (D.view.failures disk < D.view.failures (disk_left result)) }
 {
     match open(alloc, disk) {

@@ -5,7 +5,8 @@ ghost use Rattle.cm_guards.specs.Calls.{LeavesOnly};
 ghost use Rattle.cm_guards.specs.Guards.{EachImage};
 ghost use Rattle.cm_inspect.specs.Texts.{roots_line};
 ghost use Rattle.cm_inspect.specs.Inspecting.{Writes, told, status_of, status_in, disk_left};
-ghost use Rattle.cm_inspect.specs.Trimming.{TrimsTo, LeavesSame, IsTrimmed};
+ghost use Rattle.cm_recover.specs.Opened.{LeavesSame};
+ghost use Rattle.cm_inspect.specs.Trimming.{TrimsTo, IsTrimmed};
 
 use crate::fault::{InspectFault, NotInspected};
 use crate::status::Status;
@@ -23,6 +24,7 @@ use std::io::Write;
 /// where the device fails.
 ///
 /// At each moment a crash leaves what it might have left before, or what stands for the same cache.
+/// A file of an older version is moved over first.
 ///
 /// It is an `Err` where the writer fails (`Output`), or an allocation failed for the line
 /// (`NoMemory`).

@@ -1,7 +1,7 @@
 -- Rows with nothing kept of a class have the same loaders, numbers, chunks and rules.
 -- On `bare`, `bare_entry`, `rows_with`, for crates above.
-use Rattle.std.proofs.Common.{◌≡◌, ℕ, ◌+◌, Bool, true, false, cond, List, [], ◌∷◌, ◌++◌, refl}
-use Rattle.std.proofs.Common.{length, Some, sym, ap, ◌∙◌, eqb, arith}
+use Rattle.std.proofs.Common.{◌≡◌, ℕ, Bool, true, false, cond, List, [], ◌∷◌, ◌++◌, refl}
+use Rattle.std.proofs.Common.{Some, sym, ap, ◌∙◌, eqb}
 use Rattle.std.specs.Prelude.{not}
 use Rattle.std.specs.Str.{bytes_eq}
 use Rattle.cm_pool.specs.declared.chunk.Chunk.{Chunk}
@@ -11,13 +11,14 @@ use Rattle.cm_layout.specs.declared.row.Row.{Row}
 use Rattle.cm_layout.specs.declared.row.Row.TheVariants.{Loader, Class}
 use Rattle.cm_layout.specs.declared.entry.Entry.{Entry}
 use Rattle.cm_layout.specs.declared.entry.Entry.TheVariants as entry
-use Rattle.cm_layout.specs.Rows.{name_of, number_of, numbers_in, classes_in, slots_of_rows}
+use Rattle.cm_layout.specs.Rows.{name_of, number_of, numbers_in, classes_in}
 use Rattle.cm_layout.specs.Rows.{without_loader, without_loaders, moved, rows_after, rows_with}
 use Rattle.cm_layout.specs.Rows.{bare}
 use Rattle.cm_layout.specs.Rules.{broken_rule}
 use Rattle.cm_layout.specs.Loaders.{LoadersDiffer}
 use Rattle.cm_layout.specs.Frames.{bare_row, bare_entry}
 use Rattle.cm_layout.proofs.Unloaded.{all-live-with}
+use Rattle.cm_layout.proofs.SlotCounts.{slots-bare}
 use Rattle.std.proofs.lemmas.List.{map-append}
 
 pub bare-with : {A B : Type 0} (f : A → B) (rows : List (Row A)) → bare (rows_with f rows)
@@ -47,23 +48,6 @@ pub classes-bare : {A : Type 0} (rows : List (Row A)) → classes_in (bare rows)
 classes-bare [] = refl
 classes-bare (Loader r ∷ rows) = classes-bare rows
 classes-bare (Class r c ∷ rows) = ap (λ l. r ∷ l) (classes-bare rows)
-
-pub slots-bare : {A : Type 0} (rows : List (Row A)) → slots_of_rows (bare rows) ≡ slots_of_rows rows
-slots-bare [] = refl
-slots-bare (Loader r ∷ rows) = ap (λ (n : ℕ). 1 + n) (slots-bare rows)
-slots-bare (Class r c ∷ rows) = ap (λ (n : ℕ). 1 + n) (slots-bare rows)
-
--- what is kept of a class takes none
-pub slots_of-with : {A B : Type 0} (f : A → B) (rows : List (Row A))
-    → slots_of_rows (rows_with f rows) ≡ slots_of_rows rows
-slots_of-with f [] = refl
-slots_of-with f (Loader r ∷ rows) = ap (λ (n : ℕ). 1 + n) (slots_of-with f rows)
-slots_of-with f (Class r c ∷ rows) = ap (λ (n : ℕ). 1 + n) (slots_of-with f rows)
-
--- each row takes one slot
-pub slots-length : {A : Type 0} (rows : List (Row A)) → slots_of_rows rows ≡ length rows
-slots-length [] = refl
-slots-length (row ∷ rows) = let rest = slots-length rows in omega (arith, rest)
 
 pub differ-bare : {A : Type 0} (rows : List (Row A)) → LoadersDiffer (bare rows)
     → LoadersDiffer rows

@@ -1,4 +1,5 @@
 -- What crates above may cite of these proofs is what `pub use` passes on; all else is private.
+mod LoaderSlots
 mod OneSlot
 mod Apart
 mod OneReading
@@ -7,16 +8,22 @@ mod StayLive
 mod OwnLoaders
 mod Agreement
 mod Matched
+mod SlotCounts
+mod OneHalf
 mod BareRows
 mod ClassPlaces
 mod KeptOn
 mod Padded
+mod SlotsJoined
 mod Numbers
 mod Unloaded
 -- Chunks of rows that keep the rules share no word, but for the records of one loader on one chunk.
 pub use Apart.{entry-apart, rows_after_all-append}
--- Contents frame at most one thing: the sizes, the rows with their words, and the number.
-pub use OneReading.{slot_count}
+-- Contents frame at most one thing: the sizes, the rows with their words, and the number. An entry
+-- has 64 bytes for each slot that it takes, and takes one at least.
+pub use OneReading.{slot_count, some_slots}
+-- A name that one slot has room for: its loader has one slot, which tells it.
+pub use LoaderSlots.{not_long, slots-short, short-name, front-back}
 -- A superblock is its front, zeros and a gate.
 pub use Superblocks.{length-blank}
 -- Rows after entries that keep the rules are live rows that keep theirs: what a checkpoint writes.
@@ -28,12 +35,13 @@ pub use OwnLoaders.{own_loaders}
 -- Contents that agree on what is guarded match the same framing.
 pub use Agreement.{record_part, agreement_matches}
 -- Contents frame rows exactly where they match a framing that is right for them.
-pub use Matched.{matches_frame}
+pub use Matched.{matches_frame, matched_head}
 -- Rows with nothing kept of a class have the same loaders, numbers, chunks and rules.
-pub use BareRows.{bare-with, number-bare, name-bare, numbers-bare, classes-bare, slots-bare}
+pub use BareRows.{bare-with, number-bare, name-bare, numbers-bare, classes-bare}
 pub use BareRows.{differ-bare, more-bare, after-bare, rule-bare}
--- How many slots rows take: one each, whatever is kept of their classes.
-pub use BareRows.{slots-length, slots_of-with}
+-- How many slots rows take: one or two each, whatever is kept of their classes.
+pub use SlotCounts.{slots-name, rows-within, slots-within, slots-append, slots-push}
+pub use SlotCounts.{slots-without, slots-moved, slots_of-with, slots-bare}
 -- Where classes lie: what the tests on chunks, on last chunks and on words in use say.
 pub use ClassPlaces.{meets-true, classes_in-append, used-append, is_unused-apart}
 pub use ClassPlaces.{apart-unused, last_chunk-among, is_last_chunk-among, begins_behind}

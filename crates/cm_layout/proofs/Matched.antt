@@ -13,11 +13,12 @@ use Rattle.cm_layout.specs.declared.heads.HalfHead.{HalfHead}
 use Rattle.cm_layout.specs.declared.row.Row.{Row}
 use Rattle.cm_layout.specs.declared.row.Row.TheVariants.{Loader, Class}
 use Rattle.cm_layout.specs.Offsets.{superblock_size, slot_size, half_size, half_at, roots_at}
-use Rattle.cm_layout.specs.Slots.{open_gate, half_head_slot, row_slot}
+use Rattle.cm_layout.specs.Slots.{open_gate, half_head_slot, row_slots}
 use Rattle.cm_layout.specs.Superblock.{superblock_bytes, superblock_front}
 use Rattle.cm_layout.specs.Superblock.{superblock_zeros}
 use Rattle.cm_layout.specs.Rows.{bare}
-use Rattle.cm_layout.specs.Frames.{Frames, Region, region_bytes, Counts, OpenHalf, IsGoodHalf}
+use Rattle.cm_layout.specs.Frames.{BareRow, Frames, Region, region_bytes, Counts, OpenHalf}
+use Rattle.cm_layout.specs.Frames.{IsGoodHalf}
 use Rattle.cm_layout.specs.Frames.{IsEnd, IsOlder, HoldsRow, half_bytes, groups_slots}
 use Rattle.cm_layout.specs.Framing.{Framing, IsRight, Matches, HasOlder, IsRightOlder, part, needs}
 use Rattle.cm_layout.specs.Framing.{used_bytes, used_size, open_half, other_half}
@@ -78,7 +79,7 @@ lies sizes contents r bytes count_0 count_1 =
 
 -- ---- from frames
 
-framing_of : Half → OpenHalf → Option HalfHead → Framing
+unfoldable pub framing_of : Half → OpenHalf → Option HalfHead → Framing
 framing_of counting h older = record {
   counting = counting;
   head = h.head;
@@ -87,12 +88,12 @@ framing_of counting h older = record {
   older = older;
 }
 
-half_split : (counting : Half) (h : OpenHalf) (older : Option HalfHead)
+pub half_split : (counting : Half) (h : OpenHalf) (older : Option HalfHead)
     → half_bytes h ≡ used_bytes (framing_of counting h older) ++ h.behind
 unfolding used_bytes framing_of
 half_split counting h older =
     let head = half_head_slot h.head in
-    let live = flat_map row_slot h.live in
+    let live = flat_map row_slots h.live in
     let groups = groups_slots h.head.base h.groups in
     ap (λ (l : List ℕ). head ++ l) (sym (append_assoc live groups h.behind))
     ∙ sym (append_assoc head (live ++ groups) h.behind)
@@ -184,7 +185,7 @@ matched : (sizes : Sizes) (contents : List ℕ) (rows : List (Row (List ℕ))) (
     → drop (half_at sizes counting) contents ≡ half ++ rest → length half ≡ half_size sizes
     → drop (half_at sizes (other_half counting)) contents ≡ other ++ behind
     → length other ≡ half_size sizes
-    → IsFramed sizes contents rows n
+    → (m : IsFramed sizes contents rows n) × (m.framing.head ≡ c.half.head)
 unfolding framing_of
 matched sizes contents rows n f counting half other rest behind parts c there count beside
     other_count =
@@ -195,39 +196,50 @@ matched sizes contents rows n f counting half other rest behind parts c there co
     there (c.bytes ∙ half_split counting c.half older) count c.good.end in
     let some : 0 < length other = omega (arith, other_count, half_some sizes f.lawful) in
     let second = older_found sizes c.half.head.epoch (half_at sizes (other_half counting)) contents
-    other behind c.older beside some in
-    record {
-      framing = framing;
-      right = record {
-        lawful = f.lawful;
-        fits = here.fits;
-        good = good_open sizes c.half c.good;
-        older = second.1;
-        rows_are = c.rows_are;
-        number_is = c.number_is;
-        apart = f.apart;
-      };
-      matches = record {
-        long = needs_long sizes f.region.roots contents rows parts.long f.records;
-        superblock = parts.front;
-        used = here.used;
-        end = here.end;
-        other = second.0;
-        records = subst (λ (roots : List ℕ). AllByRecursion (HoldsRow sizes roots) rows)
-            (sym parts.behind) f.records;
-      };
-    }
+    other behind c.older beside some in (
+      record {
+        framing = framing;
+        right = record {
+          lawful = f.lawful;
+          fits = here.fits;
+          good = good_open sizes c.half c.good;
+          older = second.1;
+          rows_are = c.rows_are;
+          number_is = c.number_is;
+          apart = f.apart;
+        };
+        matches = record {
+          long = needs_long sizes f.region.roots contents rows parts.long f.records;
+          superblock = parts.front;
+          used = here.used;
+          end = here.end;
+          other = second.0;
+          records = subst (λ (roots : List ℕ). AllByRecursion (HoldsRow sizes roots) rows)
+              (sym parts.behind) f.records;
+        };
+      },
+      refl,
+    )
 
-pub frames_are_matched : FramesAreMatched
-frames_are_matched sizes contents rows n f =
+-- the head of the half that counts
+abbrev pub counted_head : {sizes : Sizes} {zero one : List ℕ} {rows : List BareRow} {n : ℕ}
+    → Counts sizes zero one rows n ⊎ Counts sizes one zero rows n → HalfHead
+counted_head (inl c) = c.half.head
+counted_head (inr c) = c.half.head
+
+-- the framing has that head
+pub matched_head : (sizes : Sizes) (contents : List ℕ) (rows : List (Row (List ℕ))) (n : ℕ)
+    (f : Frames sizes contents rows n)
+    → (m : IsFramed sizes contents rows n) × (m.framing.head ≡ counted_head f.counts)
+matched_head sizes contents rows n f =
     by_half f.counts
   where
     parts : Lies sizes contents f.region.half_0 f.region.half_1 f.region.roots
     parts = lies sizes contents f.region f.bytes f.half_0 f.half_1
 
-    by_half : Counts sizes f.region.half_0 f.region.half_1 (bare rows) n
-        ⊎ Counts sizes f.region.half_1 f.region.half_0 (bare rows) n
-        → IsFramed sizes contents rows n
+    by_half : (c : Counts sizes f.region.half_0 f.region.half_1 (bare rows) n
+        ⊎ Counts sizes f.region.half_1 f.region.half_0 (bare rows) n)
+        → (m : IsFramed sizes contents rows n) × (m.framing.head ≡ counted_head c)
     by_half (inl c) =
         matched sizes contents rows n f Zero f.region.half_0 f.region.half_1
         (f.region.half_1 ++ f.region.roots) f.region.roots parts c parts.zero f.half_0
@@ -235,6 +247,9 @@ frames_are_matched sizes contents rows n f =
     by_half (inr c) =
         matched sizes contents rows n f One f.region.half_1 f.region.half_0 f.region.roots
         (f.region.half_1 ++ f.region.roots) parts c parts.one f.half_1 parts.zero f.half_0
+
+pub frames_are_matched : FramesAreMatched
+frames_are_matched sizes contents rows n f = (matched_head sizes contents rows n f).0
 
 -- ---- to frames
 
@@ -276,7 +291,7 @@ end_from [] h = tt
 end_from (b ∷ bytes) h = h (omega arith)
 
 -- the half that counts, out of what matches
-half_back : (sizes : Sizes) (f : Framing) (at : ℕ) (contents : List ℕ)
+pub half_back : (sizes : Sizes) (f : Framing) (at : ℕ) (contents : List ℕ)
     → at + half_size sizes ≤ length contents → used_size f ≤ half_size sizes
     → part at (used_size f) contents ≡ used_bytes f
     → (used_size f < half_size sizes → get_or contents (at + used_size f) 0 ≢ open_gate)
@@ -327,7 +342,7 @@ older_back sizes epoch at (Some head) contents some there right =
       right.1,
     )
 
-needs_roots : (sizes : Sizes) (rows : List (Row (List ℕ))) → roots_at sizes ≤ needs sizes rows
+pub needs_roots : (sizes : Sizes) (rows : List (Row (List ℕ))) → roots_at sizes ≤ needs sizes rows
 needs_roots sizes [] = omega arith
 needs_roots sizes (Loader r ∷ rows) = needs_roots sizes rows
 needs_roots sizes (Class r words ∷ rows) = let rest = needs_roots sizes rows in omega (arith, rest)

@@ -1,21 +1,23 @@
 -- Contents frame at most one thing: the sizes, the rows with their words, and the number.
 -- For `contents_determine_rows` and others.
-use Rattle.std.proofs.Common.{◌≡◌, ℕ, ◌+◌, ◌-◌, ◌<◌, ◌≤◌, ◌⊎◌, List, [], ◌∷◌, ◌++◌, length}
+use Rattle.std.proofs.Common.{◌≡◌, ℕ, ◌+◌, ◌*◌, ◌<◌, ◌≤◌, ◌⊎◌, List, [], ◌∷◌, ◌++◌, length}
+use Rattle.std.proofs.Common.{get_or}
+use Rattle.std.specs.Prelude.{◌==◌, ◌&&◌, nat_lt, if◌then◌else◌}
 use Rattle.std.proofs.Common.{take, drop, inl, inr, refl, sym, ap, subst, ◌∙◌, arith, append_assoc}
 use Rattle.std.specs.List.{flat_map, AllByRecursion}
-use Rattle.std.proofs.lemmas.List.{take_at, drop_at, append_cancel_left, length-append}
-use Rattle.std.proofs.lemmas.List.{length-replicate}
+use Rattle.std.proofs.lemmas.List.{take_at, drop_at, append_cancel_left}
 use Rattle.cm_pool.specs.Geometry.{Sizes, IsGeometry}
 use Rattle.cm_layout.specs.declared.heads.HalfHead.{HalfHead}
 use Rattle.cm_layout.specs.declared.class_row.ClassRow.{ClassRow}
 use Rattle.cm_layout.specs.declared.row.Row.{Row}
 use Rattle.cm_layout.specs.declared.row.Row.TheVariants.{Loader, Class}
 use Rattle.cm_layout.specs.declared.entry.Entry.TheVariants as entry
-use Rattle.cm_layout.specs.Slots.{half_head_slot, row_slot, entry_slot}
+use Rattle.cm_layout.specs.Slots.{half_head_slot, row_slots, entry_slots}
 use Rattle.cm_layout.specs.Slots.{FitsGroupHead}
 use Rattle.cm_layout.specs.Slots.{FitsEntry}
 use Rattle.cm_layout.specs.Superblock.{superblock_front, superblock_bytes}
-use Rattle.cm_layout.specs.Rows.{slots_of, slots_of_rows, slots_of_entries}
+use Rattle.cm_layout.specs.Names.{name_room}
+use Rattle.cm_layout.specs.Rows.{slots_of_row, slots_of, slots_of_rows, slots_of_entries}
 use Rattle.cm_layout.specs.Rows.{rows_after, rows_after_all, bare}
 use Rattle.cm_layout.specs.Frames.{BareRow, BareEntry, LiveRowsKeep, EntriesKeep, GroupKeeps}
 use Rattle.cm_layout.specs.Frames.{GroupsKeep, group_slots, groups_slots, IsEnd, IsGoodHead}
@@ -24,8 +26,9 @@ use Rattle.cm_layout.specs.Frames.{number_at_end, IsOlder, Counts, HoldsRecord, 
 use Rattle.cm_layout.specs.Frames.{Region, region_bytes, Frames}
 use Rattle.cm_layout.specs.Laws.{FramesAreOne}
 use Rattle.cm_layout.proofs.Numbers.{padded-count}
+use Rattle.cm_layout.proofs.LoaderSlots.{loader_slots-count}
+use Rattle.cm_layout.proofs.SlotCounts.{slots-row}
 use Rattle.cm_layout.proofs.OneSlot.{same_entry, same_half_head, same_group_head, same_four}
-use Rattle.cm_layout.specs.Zeros.{zeros}
 
 -- ---- lists that begin alike
 
@@ -55,15 +58,9 @@ same_sizes s t x y gs gt e =
 
 -- ---- slots one behind another
 
--- each entry has one slot
-pub slot_count : (e : BareEntry) → FitsEntry e → length (entry_slot e) ≡ 64
-slot_count (entry.Live (Loader r)) fits =
-    omega (
-      arith,
-      length-append r.name (zeros (48 - length r.name)),
-      length-replicate {A = ℕ} (48 - length r.name) 0,
-      fits.name,
-    )
+-- an entry has as many bytes as the slots that it takes
+pub slot_count : (e : BareEntry) → FitsEntry e → length (entry_slots e) ≡ 64 * slots_of e
+slot_count (entry.Live (Loader r)) fits = loader_slots-count r (omega (arith, fits.name))
 slot_count (entry.Live (Class r p)) fits = refl
 slot_count (entry.Unload e) fits = refl
 slot_count (entry.Move e) fits = refl
@@ -73,12 +70,26 @@ slot_count (entry.UnloadAll e) fits =
       padded-count e.loaders 7 fits.few,
     )
 
--- the first slots of two lists are one, and so are the rest
-first_slot : (d e : BareEntry) (x y : List ℕ) → FitsEntry d → FitsEntry e
-    → entry_slot d ++ x ≡ entry_slot e ++ y → (d ≡ e) × (x ≡ y)
-first_slot d e x y fd fe h =
-    let p = same_parts (entry_slot d) (entry_slot e) x y
-    (slot_count d fd ∙ sym (slot_count e fe)) h in
+-- how many slots are taken from here on: two by a loader whose name is longer than its slot
+-- has room for
+abbrev slots_said : List ℕ → ℕ
+slots_said bytes = if (get_or bytes 1 0 == 17) && nat_lt name_room (get_or bytes 2 0) then 2 else 1
+
+said : (e : BareEntry) (x : List ℕ) → slots_said (entry_slots e ++ x) ≡ slots_of e
+said (entry.Live (Loader r)) x = refl
+said (entry.Live (Class r p)) x = refl
+said (entry.Unload e) x = refl
+said (entry.Move e) x = refl
+said (entry.UnloadAll e) x = refl
+
+-- the first entries of two lists are one, and so are the rest
+first_entry : (d e : BareEntry) (x y : List ℕ) → FitsEntry d → FitsEntry e
+    → entry_slots d ++ x ≡ entry_slots e ++ y → (d ≡ e) × (x ≡ y)
+first_entry d e x y fd fe h =
+    let taken : slots_of d ≡ slots_of e = sym (said d x) ∙ ap slots_said h ∙ said e y in
+    let count : length (entry_slots d) ≡ length (entry_slots e) =
+    slot_count d fd ∙ ap (λ (n : ℕ). 64 * n) taken ∙ sym (slot_count e fe) in
+    let p = same_parts (entry_slots d) (entry_slots e) x y count h in
     (same_entry d e fd fe p.0, p.1)
 
 abbrev live_of : BareEntry → BareRow → BareRow
@@ -92,26 +103,29 @@ live_of (entry.UnloadAll e) s = s
 same_rows : (sizes : Sizes) (base : ℕ) (p q xs ys : List BareRow) (x y : List ℕ)
     → LiveRowsKeep sizes base p xs → LiveRowsKeep sizes base q ys
     → slots_of_rows xs ≡ slots_of_rows ys
-    → flat_map row_slot xs ++ x ≡ flat_map row_slot ys ++ y → (xs ≡ ys) × (x ≡ y)
+    → flat_map row_slots xs ++ x ≡ flat_map row_slots ys ++ y → (xs ≡ ys) × (x ≡ y)
 same_rows sizes base p q [] [] x y kx ky count h = (refl, h)
-same_rows sizes base p q [] (s ∷ ys) x y kx ky count h = absurd (omega (arith, count))
-same_rows sizes base p q (r ∷ xs) [] x y kx ky count h = absurd (omega (arith, count))
+same_rows sizes base p q [] (s ∷ ys) x y kx ky count h =
+    absurd (omega (arith, count, (slots-row s).0))
+same_rows sizes base p q (r ∷ xs) [] x y kx ky count h =
+    absurd (omega (arith, count, (slots-row r).0))
 same_rows sizes base p q (r ∷ xs) (s ∷ ys) x y kx ky count h =
-    let apart : row_slot r ++ (flat_map row_slot xs ++ x) ≡ row_slot s
-    ++ (flat_map row_slot ys ++ y) =
-    sym (append_assoc (row_slot r) (flat_map row_slot xs) x) ∙ h
-    ∙ append_assoc (row_slot s) (flat_map row_slot ys) y in
-    let first = first_slot (entry.Live r) (entry.Live s) (flat_map row_slot xs ++ x)
-    (flat_map row_slot ys ++ y) kx.0 ky.0 apart in
+    let apart : row_slots r ++ (flat_map row_slots xs ++ x) ≡ row_slots s
+    ++ (flat_map row_slots ys ++ y) =
+    sym (append_assoc (row_slots r) (flat_map row_slots xs) x) ∙ h
+    ∙ append_assoc (row_slots s) (flat_map row_slots ys) y in
+    let first = first_entry (entry.Live r) (entry.Live s) (flat_map row_slots xs ++ x)
+    (flat_map row_slots ys ++ y) kx.0 ky.0 apart in
     let one : r ≡ s = ap (λ e. live_of e r) first.0 in
+    let taken : slots_of_row r ≡ slots_of_row s = ap slots_of_row one in
     let rest = same_rows sizes base (p ++ r ∷ []) (q ++ s ∷ []) xs ys x y kx.2 ky.2
-    (omega (arith, count)) first.1 in
+    (omega (arith, count, taken)) first.1 in
     ((λ i. one i ∷ rest.0 i), rest.1)
 
 -- ---- entries
 
-some_slots : (e : BareEntry) → 1 ≤ slots_of e
-some_slots (entry.Live r) = omega arith
+pub some_slots : (e : BareEntry) → 1 ≤ slots_of e
+some_slots (entry.Live r) = (slots-row r).0
 some_slots (entry.Unload e) = omega arith
 some_slots (entry.Move e) = omega arith
 some_slots (entry.UnloadAll e) = omega arith
@@ -120,19 +134,19 @@ same_entries : (sizes : Sizes) (n m : ℕ) (p q : List BareRow) (xs ys : List Ba
     (x y : List ℕ)
     → EntriesKeep sizes p n xs → EntriesKeep sizes q m ys
     → slots_of_entries xs ≡ slots_of_entries ys
-    → flat_map entry_slot xs ++ x ≡ flat_map entry_slot ys ++ y → (xs ≡ ys) × (x ≡ y)
+    → flat_map entry_slots xs ++ x ≡ flat_map entry_slots ys ++ y → (xs ≡ ys) × (x ≡ y)
 same_entries sizes n m p q [] [] x y kx ky count h = (refl, h)
 same_entries sizes n m p q [] (d ∷ ys) x y kx ky count h =
     absurd (omega (arith, count, some_slots d))
 same_entries sizes n m p q (e ∷ xs) [] x y kx ky count h =
     absurd (omega (arith, count, some_slots e))
 same_entries sizes n m p q (e ∷ xs) (d ∷ ys) x y kx ky count h =
-    let apart : entry_slot e ++ (flat_map entry_slot xs ++ x) ≡ entry_slot d
-    ++ (flat_map entry_slot ys ++ y) =
-    sym (append_assoc (entry_slot e) (flat_map entry_slot xs) x) ∙ h
-    ∙ append_assoc (entry_slot d) (flat_map entry_slot ys) y in
-    let first = first_slot e d (flat_map entry_slot xs ++ x) (flat_map entry_slot ys ++ y) kx.0 ky.0
-    apart in
+    let apart : entry_slots e ++ (flat_map entry_slots xs ++ x) ≡ entry_slots d
+    ++ (flat_map entry_slots ys ++ y) =
+    sym (append_assoc (entry_slots e) (flat_map entry_slots xs) x) ∙ h
+    ∙ append_assoc (entry_slots d) (flat_map entry_slots ys) y in
+    let first = first_entry e d (flat_map entry_slots xs ++ x) (flat_map entry_slots ys ++ y)
+    kx.0 ky.0 apart in
     let taken : slots_of e ≡ slots_of d = ap slots_of first.0 in
     let rest = same_entries sizes (n + 1) (m + 1) (rows_after p e) (rows_after q d) xs ys x y kx.2
     ky.2 (omega (arith, count, taken)) first.1 in
@@ -189,13 +203,18 @@ same_heads : (sizes : Sizes) (h g : HalfHead) (x y : List ℕ) → IsGoodHead si
 same_heads sizes h g x y kh kg e =
     (same_half_head h g kh.fits kg.fits (ap (take 64) e), ap (drop 64) e)
 
-same_half : (sizes : Sizes) (h g : OpenHalf) → IsGoodHalf sizes h → IsGoodHalf sizes g
-    → half_bytes h ≡ half_bytes g
-    → (rows_of h ≡ rows_of g) × (number_at_end h ≡ number_at_end g)
-same_half sizes h g kh kg e =
+-- halves with the same bytes are one, but for what stands behind their end
+pub record AreOne (h g : OpenHalf) : Type 0 where
+  pub head : h.head ≡ g.head
+  pub live : h.live ≡ g.live
+  pub groups : h.groups ≡ g.groups
+
+pub one_half : (sizes : Sizes) (h g : OpenHalf) → IsGoodHalf sizes h → IsGoodHalf sizes g
+    → half_bytes h ≡ half_bytes g → AreOne h g
+one_half sizes h g kh kg e =
     let head = same_heads sizes h.head g.head
-    (flat_map row_slot h.live ++ (groups_slots h.head.base h.groups ++ h.behind))
-    (flat_map row_slot g.live ++ (groups_slots g.head.base g.groups ++ g.behind)) kh.head kg.head
+    (flat_map row_slots h.live ++ (groups_slots h.head.base h.groups ++ h.behind))
+    (flat_map row_slots g.live ++ (groups_slots g.head.base g.groups ++ g.behind)) kh.head kg.head
     e in
     let base : h.head.base ≡ g.head.base = ap (λ v. v.base) head.0 in
     let live_g : LiveRowsKeep sizes h.head.base [] g.live =
@@ -212,10 +231,20 @@ same_half sizes h g kh kg e =
     let from_here : groups_slots h.head.base h.groups ++ h.behind
     ≡ groups_slots h.head.base g.groups ++ g.behind =
     live.1 ∙ (λ i. groups_slots (sym base i) g.groups ++ g.behind) in
-    let groups : h.groups ≡ g.groups = same_groups sizes h.live h.head.base h.groups g.groups
-    h.behind g.behind kh.groups groups_g kh.end kg.end from_here in (
-      (λ i. rows_after_all (live.0 i) (flat_map (λ group. group) (groups i))),
-      (λ i. base i + length (flat_map (λ group. group) (groups i))),
+    record {
+      head = head.0;
+      live = live.0;
+      groups = same_groups sizes h.live h.head.base h.groups g.groups h.behind g.behind kh.groups
+          groups_g kh.end kg.end from_here;
+    }
+
+same_half : (sizes : Sizes) (h g : OpenHalf) → IsGoodHalf sizes h → IsGoodHalf sizes g
+    → half_bytes h ≡ half_bytes g
+    → (rows_of h ≡ rows_of g) × (number_at_end h ≡ number_at_end g)
+same_half sizes h g kh kg e =
+    let one = one_half sizes h g kh kg e in (
+      (λ i. rows_after_all (one.live i) (flat_map (λ group. group) (one.groups i))),
+      (λ i. (one.head i).base + length (flat_map (λ group. group) (one.groups i))),
     )
 
 -- a half that counts doesn't let the other count
@@ -225,7 +254,7 @@ newer : (sizes : Sizes) (a b : OpenHalf) (bytes : List ℕ) → IsGoodHalf sizes
 newer sizes a b bytes kb is (inl shut) = absurd (subst IsEnd is shut refl)
 newer sizes a b bytes kb is (inr old) =
     let one = same_heads sizes old.0 b.head old.1
-    (flat_map row_slot b.live ++ (groups_slots b.head.base b.groups ++ b.behind)) old.3 kb.head
+    (flat_map row_slots b.live ++ (groups_slots b.head.base b.groups ++ b.behind)) old.3 kb.head
     (sym old.2 ∙ is) in
     subst (λ (v : HalfHead). v.epoch < a.head.epoch) one.0 old.4
 

@@ -2,12 +2,11 @@
 -- For `slot_determines_entry`, `slot_determines_head`.
 use Rattle.std.proofs.Common.{◌≡◌, ℕ, ◌+◌, ◌<◌, ◌-◌, ◌^◌, List, [], ◌∷◌, ◌++◌, length, take, drop}
 use Rattle.std.proofs.Common.{get_or}
-use Rattle.std.proofs.Common.{replicate, refl, sym, ap, ◌∙◌, arith}
+use Rattle.std.proofs.Common.{refl, sym, ap, ◌∙◌, arith}
 use Rattle.std.specs.List.{flat_map, AllByRecursion}
 use Rattle.std.specs.Int.{w16, w32, w64, from_le_bytes, to_le_bytes}
 use Rattle.std.proofs.lemmas.Nat.{from_le_bytes-to_le_bytes_2, from_le_bytes-to_le_bytes_4}
 use Rattle.std.proofs.lemmas.Nat.{from_le_bytes-to_le_bytes_8}
-use Rattle.std.proofs.lemmas.List.{take_at}
 use Rattle.cm_layout.specs.declared.heads.HalfHead.{HalfHead}
 use Rattle.cm_layout.specs.declared.heads.GroupHead.{GroupHead}
 use Rattle.cm_pool.specs.declared.chunk.Chunk.{Chunk}
@@ -20,11 +19,12 @@ use Rattle.cm_layout.specs.declared.row.Row.{Row}
 use Rattle.cm_layout.specs.declared.row.Row.TheVariants.{Loader, Class}
 use Rattle.cm_layout.specs.declared.entry.Entry.{Entry}
 use Rattle.cm_layout.specs.declared.entry.Entry.TheVariants as entry
-use Rattle.cm_layout.specs.Slots.{entry_slot, row_slot, loader_slot, class_slot, unload_slot}
+use Rattle.cm_layout.specs.Slots.{entry_slots, row_slots, loader_slots, class_slot, unload_slot}
 use Rattle.cm_layout.specs.Slots.{move_slot, half_head_slot, group_head_slot, FitsEntry, FitsChunk}
 use Rattle.cm_layout.specs.Slots.{FitsLoader, FitsClass, FitsUnload, FitsMove, FitsHalfHead}
 use Rattle.cm_layout.specs.Slots.{FitsGroupHead, FitsUnloadAll, unload_all_slot}
 use Rattle.cm_layout.specs.Zeros.{zeros}
+use Rattle.cm_layout.proofs.LoaderSlots.{name_in, name-back}
 
 -- the numbers that stand at a place
 abbrev two_at : ℕ → List ℕ → ℕ
@@ -59,18 +59,15 @@ same_two at a b xs ys small_a small_b p q e =
 
 -- ---- rows and entries
 
-loader_name_at : (r : LoaderRow) → take (length r.name) (drop 16 (loader_slot r)) ≡ r.name
-loader_name_at r = take_at r.name (replicate (48 - length r.name) 0) (length r.name) refl
-
-same_loader : (r s : LoaderRow) → FitsLoader r → FitsLoader s → loader_slot r ≡ loader_slot s
+same_loader : (r s : LoaderRow) → FitsLoader r → FitsLoader s → loader_slots r ≡ loader_slots s
     → r ≡ s
 same_loader r s fr fs same =
     let number : r.number ≡ s.number =
-    same_eight 8 r.number s.number (loader_slot r) (loader_slot s) fr.number fs.number refl refl
-    same in
-    let count : length r.name ≡ length s.name = ap (λ t. get_or t 2 0) same in
+    same_eight 8 r.number s.number (loader_slots r) (loader_slots s) fr.number fs.number refl
+    refl same in
     let name : r.name ≡ s.name =
-    sym (loader_name_at r) ∙ (λ i. take (count i) (drop 16 (same i))) ∙ loader_name_at s in
+    sym (name-back r (omega (arith, fr.name))) ∙ ap name_in same
+    ∙ name-back s (omega (arith, fs.name)) in
     (λ i. record { number = number i; name = name i })
 
 -- the chunk at a place of two equal slots
@@ -157,18 +154,18 @@ abbrev kind : List ℕ → ℕ
 kind slot = get_or slot 1 0
 
 same_row : (r s : Row (Unit {0})) → FitsEntry (entry.Live r) → FitsEntry (entry.Live s)
-    → row_slot r ≡ row_slot s → r ≡ s
+    → row_slots r ≡ row_slots s → r ≡ s
 same_row (Loader r) (Loader s) fr fs same = ap Loader (same_loader r s fr fs same)
 same_row (Class r p) (Class s q) fr fs same = (λ i. Class (same_class r s fr fs same i) tt)
 same_row (Loader r) (Class s q) fr fs same = absurd (omega (arith, ap kind same))
 same_row (Class r p) (Loader s) fr fs same = absurd (omega (arith, ap kind same))
 
-row_kind : (r : Row (Unit {0})) → kind (row_slot r) < 19
+row_kind : (r : Row (Unit {0})) → kind (row_slots r) < 19
 row_kind (Loader r) = omega arith
 row_kind (Class r p) = omega arith
 
-pub same_entry : (e d : Entry (Unit {0})) → FitsEntry e → FitsEntry d → entry_slot e ≡ entry_slot d
-    → e ≡ d
+pub same_entry : (e d : Entry (Unit {0})) → FitsEntry e → FitsEntry d
+    → entry_slots e ≡ entry_slots d → e ≡ d
 same_entry (entry.Live r) (entry.Live s) fe fd same = ap entry.Live (same_row r s fe fd same)
 same_entry (entry.Unload e) (entry.Unload d) fe fd same =
     ap entry.Unload (same_unload e d fe fd same)

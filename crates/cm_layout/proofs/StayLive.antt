@@ -38,6 +38,7 @@ use Rattle.cm_layout.proofs.Apart.{entry-apart, entries-apart}
 use Rattle.cm_layout.proofs.Apart.{live_rows-apart, rows_after_all-append}
 use Rattle.cm_layout.proofs.ClassPlaces.{meets-true, classes_in-append, is_last_chunk-among}
 use Rattle.cm_layout.proofs.ClassPlaces.{used-append, begins_behind}
+use Rattle.cm_layout.proofs.SlotCounts.{slots-without, slots-moved}
 use Rattle.cm_layout.specs.declared.row.Row.{Row}
 use Rattle.std.proofs.lemmas.List.{map-append, length-append}
 
@@ -253,17 +254,6 @@ new-without x u (Class r c ∷ rows) h = by_test (eqb r.loader u) (new-without x
         (cond (not t) (Class r c ∷ without_loader u rows) (without_loader u rows))) ≡ true
     by_test true rest = rest
     by_test false rest = rest
-
-slots-without : (u : ℕ) (rows : List BareRow)
-    → slots_of_rows (without_loader u rows) ≤ slots_of_rows rows
-slots-without u [] = omega arith
-slots-without u (row ∷ rows) = by_test (is_of u row) (slots-without u rows)
-  where
-    by_test : (t : Bool) → slots_of_rows (without_loader u rows) ≤ slots_of_rows rows
-        → slots_of_rows (cond (not t) (row ∷ without_loader u rows) (without_loader u rows))
-        ≤ slots_of_rows (row ∷ rows)
-    by_test true rest = omega (arith, rest)
-    by_test false rest = omega (arith, rest)
 
 room-without : (sizes : Sizes) (u : ℕ) (pre : List BareRow) (row : BareRow)
     → has_room sizes pre row ≡ true → has_room sizes (without_loader u pre) row ≡ true
@@ -567,11 +557,6 @@ name-moved u from to (Class r p ∷ rows) =
         ∷ moved from to rows) ≡ name_of u rows
     by_test true rest = rest
     by_test false rest = rest
-
-slots-moved : (from to : Chunk) (rows : List BareRow)
-    → slots_of_rows (moved from to rows) ≡ slots_of_rows rows
-slots-moved from to [] = refl
-slots-moved from to (row ∷ rows) = omega (arith, slots-moved from to rows)
 
 last-moved : (v : ℕ) (from to : Chunk) (classes : List ClassRow)
     → last_chunk v (map (moved_class from to) classes)

@@ -15,8 +15,8 @@ use Rattle.cm_layout.specs.declared.row.Row.{Row}
 use Rattle.cm_layout.specs.declared.row.Row.TheVariants.{Loader, Class}
 use Rattle.cm_layout.specs.declared.entry.Entry.{Entry}
 use Rattle.cm_layout.specs.Offsets.{half_size, root_size, record_in_roots}
-use Rattle.cm_layout.specs.Slots.{open_gate, half_head_slot, group_head_slot, row_slot}
-use Rattle.cm_layout.specs.Slots.{entry_slot}
+use Rattle.cm_layout.specs.Slots.{open_gate, half_head_slot, group_head_slot, row_slots}
+use Rattle.cm_layout.specs.Slots.{entry_slots}
 use Rattle.cm_layout.specs.Slots.{FitsHalfHead, FitsRow, FitsEntry}
 use Rattle.cm_layout.specs.Superblock.{superblock_bytes}
 use Rattle.cm_layout.specs.Rows.{slots_of_rows, slots_of_entries, group_limit, classes_in}
@@ -73,7 +73,7 @@ GroupsKeep sizes rows n (group ∷ groups) =
 abbrev pub group_slots : ℕ → List BareEntry → List ℕ
 group_slots n group =
     group_head_slot (record { count = slots_of_entries group; first = n + 1 })
-    ++ flat_map entry_slot group
+    ++ flat_map entry_slots group
 
 abbrev pub groups_slots : ℕ → List (List BareEntry) → List ℕ
 groups_slots n [] = []
@@ -84,17 +84,23 @@ abbrev pub IsEnd : List ℕ → Type 0
 IsEnd [] = Unit {0}
 IsEnd (b ∷ bytes) = b ≢ open_gate
 
--- the one version of entries that there is
+-- the version of entries that is written, and the oldest that is read
 abbrev pub entry_version : ℕ
-entry_version = 1
+entry_version = 2
 
+abbrev pub oldest_version : ℕ
+oldest_version = 1
+
+-- Each half that is written anew has an epoch more, and each but the first of a file comes after a
+-- command, or moves an older file over.
 pub record IsGoodHead (sizes : Sizes) (head : HalfHead) : Type 0 where
   pub fits : FitsHalfHead head
-  pub version : head.version ≡ entry_version
+  pub version_from : oldest_version ≤ head.version
+  pub version_to : head.version ≤ entry_version
   pub live : head.live ≤ row_limit sizes
   pub base : head.base ≤ 2 ^ 63
   pub epoch_from : 1 ≤ head.epoch
-  pub epoch_to : head.epoch ≤ head.base + 1
+  pub epoch_to : head.epoch ≤ head.base + head.version
 
 -- What an open half holds: its head, the live rows, the groups, and what stands behind their end.
 pub record OpenHalf : Type 0 where
@@ -106,7 +112,7 @@ pub record OpenHalf : Type 0 where
 abbrev pub half_bytes : OpenHalf → List ℕ
 half_bytes h =
     half_head_slot h.head
-    ++ (flat_map row_slot h.live ++ (groups_slots h.head.base h.groups ++ h.behind))
+    ++ (flat_map row_slots h.live ++ (groups_slots h.head.base h.groups ++ h.behind))
 
 pub record IsGoodHalf (sizes : Sizes) (h : OpenHalf) : Type 0 where
   pub head : IsGoodHead sizes h.head

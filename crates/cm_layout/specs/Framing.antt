@@ -11,7 +11,7 @@ use Rattle.cm_layout.specs.declared.row.Row.{Row}
 use Rattle.cm_layout.specs.declared.row.Row.TheVariants.{Loader, Class}
 use Rattle.cm_layout.specs.Offsets.{superblock_size, slot_size, half_size, half_at, roots_at}
 use Rattle.cm_layout.specs.Offsets.{root_at, record_at}
-use Rattle.cm_layout.specs.Slots.{open_gate, half_head_slot, row_slot}
+use Rattle.cm_layout.specs.Slots.{open_gate, half_head_slot, row_slots}
 use Rattle.cm_layout.specs.Superblock.{superblock_bytes}
 use Rattle.cm_layout.specs.Rows.{classes_in, bare}
 use Rattle.cm_layout.specs.Frames.{BareRow, BareEntry, OpenHalf, IsGoodHead, IsGoodHalf, AreApart}
@@ -48,7 +48,7 @@ other_half One = Zero
 -- the bytes of the half that counts, up to its end
 unfoldable pub used_bytes : Framing → List ℕ
 used_bytes f =
-    half_head_slot f.head ++ (flat_map row_slot f.live ++ groups_slots f.head.base f.groups)
+    half_head_slot f.head ++ (flat_map row_slots f.live ++ groups_slots f.head.base f.groups)
 
 abbrev pub used_size : Framing → ℕ
 used_size f = length (used_bytes f)

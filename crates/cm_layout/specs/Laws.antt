@@ -11,6 +11,7 @@ use Rattle.cm_layout.specs.Rules.{broken_rule, broken_live_rule}
 use Rattle.cm_layout.specs.Loaders.{HasOwnLoaders}
 use Rattle.cm_layout.specs.Frames.{BareRow, BareEntry, OpenHalf, IsGoodHalf, AreApart, LiveRowsKeep}
 use Rattle.cm_layout.specs.Frames.{rows_of, number_at_end, HoldsRecord, HoldsRow, Frames}
+use Rattle.cm_layout.specs.Frames.{entry_version}
 use Rattle.cm_layout.specs.Framing.{Framing, IsRight, Matches, Agree, guards, needs}
 
 -- After rows and entries that keep the rules, chunks that differ share no word, and none has two
@@ -72,6 +73,28 @@ pub record IsFramed (sizes : Sizes) (contents : List ℕ) (rows : List (Row (Lis
   pub framing : Framing
   pub right : IsRight sizes framing rows number
   pub matches : Matches sizes framing rows contents
+
+-- the half that counts in these contents is of the version that is written now
+pub record IsNewest (contents : List ℕ) : Type 0 where
+  pub sizes : Sizes
+  pub rows : List (Row (List ℕ))
+  pub number : ℕ
+  pub framed : IsFramed sizes contents rows number
+  pub version : framed.framing.head.version ≡ entry_version
+
+-- Whatever framings contents match, one half counts in them, with one head, the same live rows and
+-- the same groups.
+pub record AreOneHalf (f g : Framing) : Type 0 where
+  pub counting : f.counting ≡ g.counting
+  pub head : f.head ≡ g.head
+  pub live : f.live ≡ g.live
+  pub groups : f.groups ≡ g.groups
+
+abbrev pub FramingsAreOne : Type 0
+FramingsAreOne =
+    (s t : Sizes) (contents : List ℕ) (rows more : List (Row (List ℕ))) (n m : ℕ)
+    (a : IsFramed s contents rows n) (b : IsFramed t contents more m)
+    → AreOneHalf a.framing b.framing
 
 abbrev pub FramesAreMatched : Type 0
 FramesAreMatched =

@@ -1,14 +1,26 @@
 -- Names of loaders.
-use Rattle.std.specs.Prelude.{ℕ, Bool, ◌&&◌, nat_le, List, length}
+use Rattle.std.specs.Prelude.{ℕ, Bool, ◌&&◌, nat_le, nat_lt, if◌then◌else◌, List, length}
 use Rattle.std.specs.List.{list_all}
 
 -- the most bytes that a loader's name has
 abbrev pub name_limit : ℕ
 name_limit = 48
 
--- how many bytes of a name a slot has room for
+-- how many bytes of a name a loader's own slot has room for
 abbrev pub name_room : ℕ
 name_room = 48
+
+-- and how many with the slot that follows
+abbrev pub long_name_room : ℕ
+long_name_room = 96
+
+-- the name goes on in the slot that follows
+abbrev pub is_long : List ℕ → Bool
+is_long name = nat_lt name_room (length name)
+
+-- how many slots a loader of this name takes
+abbrev pub slots_of_name : List ℕ → ℕ
+slots_of_name name = if is_long name then 2 else 1
 
 -- a byte from 21 to 7E, in hexadecimal: a visible character of ASCII
 abbrev pub is_visible : ℕ → Bool

@@ -12,6 +12,7 @@ use Rattle.cm_layout.specs.declared.row.Row.{Row}
 use Rattle.cm_layout.specs.declared.row.Row.TheVariants.{Loader, Class}
 use Rattle.cm_layout.specs.declared.entry.Entry.{Entry}
 use Rattle.cm_layout.specs.declared.entry.Entry.TheVariants.{Live, Unload, Move, UnloadAll}
+use Rattle.cm_layout.specs.Names.{slots_of_name}
 
 -- ---- what rows say
 
@@ -44,7 +45,8 @@ chunks_in rows = map (λ r. r.place.chunk) (classes_in rows)
 
 -- how many slots a row takes as a live row, and an entry in its group
 abbrev pub slots_of_row : {P : Type 0} → Row P → ℕ
-slots_of_row row = 1
+slots_of_row (Loader r) = slots_of_name r.name
+slots_of_row (Class r p) = 1
 
 abbrev pub slots_of : {P : Type 0} → Entry P → ℕ
 slots_of (Live row) = slots_of_row row

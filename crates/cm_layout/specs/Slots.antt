@@ -1,7 +1,8 @@
 -- The slots of a region file: 64 bytes each, numbers little-endian. Byte 0 of a head is its gate,
--- open exactly where it is A5; byte 0 of an entry is 00. Byte 1 says what the slot is. All bytes
--- that aren't named are 00.
-use Rattle.std.specs.Prelude.{ℕ, ◌<◌, ◌≤◌, ◌-◌, ◌^◌, List, ◌∷◌, ◌++◌, length}
+-- open exactly where it is A5; byte 0 of any other slot is 00. Byte 1 says what the slot is. All
+-- bytes that aren't named are 00.
+use Rattle.std.specs.Prelude.{ℕ, ◌<◌, ◌≤◌, ◌-◌, ◌^◌, if◌then◌else◌, List, [], ◌∷◌, ◌++◌, length}
+use Rattle.std.specs.Prelude.{take, drop}
 use Rattle.std.specs.Int.{w16, w32, w64, to_le_bytes}
 use Rattle.std.specs.List.{flat_map, AllByRecursion}
 use Rattle.cm_pool.specs.declared.chunk.Chunk.{Chunk}
@@ -16,7 +17,7 @@ use Rattle.cm_layout.specs.declared.row.Row.{Row}
 use Rattle.cm_layout.specs.declared.row.Row.TheVariants.{Loader, Class}
 use Rattle.cm_layout.specs.declared.entry.Entry.{Entry}
 use Rattle.cm_layout.specs.declared.entry.Entry.TheVariants as entry
-use Rattle.cm_layout.specs.Names.{name_room}
+use Rattle.cm_layout.specs.Names.{name_room, long_name_room, is_long}
 pub use Rattle.cm_layout.specs.Names.{unload_limit}
 use Rattle.cm_layout.specs.Zeros.{zeros}
 
@@ -45,11 +46,23 @@ group_head_slot h = open_gate ∷ group_head_rest h
 
 -- ---- rows and entries
 
--- a loader: its name's length, its number, its name
+-- a name, and zeros for the bytes that it could have more
+abbrev pub padded : List ℕ → List ℕ
+padded name = name ++ zeros (long_name_room - length name)
+
+-- a loader: its name's length, its number, its name as far as there is room
 abbrev pub loader_slot : LoaderRow → List ℕ
 loader_slot r =
     (0 ∷ 17 ∷ length r.name ∷ zeros 5) ++ to_le_bytes w64 r.number
-    ++ (r.name ++ zeros (name_room - length r.name))
+    ++ take name_room (padded r.name)
+
+-- the rest of a longer name, in the slot behind its loader's
+abbrev pub rest_slot : List ℕ → List ℕ
+rest_slot name = (0 ∷ 22 ∷ zeros 14) ++ drop name_room (padded name)
+
+-- a loader with the rest of its name, where that is a long one
+abbrev pub loader_slots : LoaderRow → List ℕ
+loader_slots r = loader_slot r ++ (if is_long r.name then rest_slot r.name else [])
 
 -- a chunk: root, order and place
 abbrev pub chunk_bytes : Chunk → List ℕ
@@ -82,15 +95,15 @@ unload_all_slot e =
     (0 ∷ 21 ∷ length e.loaders ∷ zeros 5)
     ++ flat_map (to_le_bytes w64) (e.loaders ++ zeros (unload_limit - length e.loaders))
 
-abbrev pub row_slot : {P : Type 0} → Row P → List ℕ
-row_slot (Loader r) = loader_slot r
-row_slot (Class r p) = class_slot r
+abbrev pub row_slots : {P : Type 0} → Row P → List ℕ
+row_slots (Loader r) = loader_slots r
+row_slots (Class r p) = class_slot r
 
-abbrev pub entry_slot : {P : Type 0} → Entry P → List ℕ
-entry_slot (entry.Live r) = row_slot r
-entry_slot (entry.Unload e) = unload_slot e
-entry_slot (entry.Move e) = move_slot e
-entry_slot (entry.UnloadAll e) = unload_all_slot e
+abbrev pub entry_slots : {P : Type 0} → Entry P → List ℕ
+entry_slots (entry.Live r) = row_slots r
+entry_slots (entry.Unload e) = unload_slot e
+entry_slots (entry.Move e) = move_slot e
+entry_slots (entry.UnloadAll e) = unload_all_slot e
 
 -- ---- what has an encoding: each number fits its field, and a name its slot
 

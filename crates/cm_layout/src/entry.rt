@@ -7,6 +7,7 @@ use crate::loader_row::LoaderRow;
 use crate::relocation::Move;
 use crate::row::Row;
 use crate::slot::SLOT_BYTES;
+use crate::slots::Slots;
 use crate::unload::Unload;
 use crate::unload_all::UnloadAll;
 
@@ -24,7 +25,7 @@ pub enum Entry<P> {
 }
 
 impl<P> Entry<P> {
-    ghost use Rattle.cm_layout.specs.Slots.{entry_slot};
+    ghost use Rattle.cm_layout.specs.Slots.{entry_slots};
     ghost use Rattle.cm_layout.specs.Rows.{slots_of};
     ghost use Rattle.cm_layout.specs.Frames.{bare_entry};
 
@@ -45,30 +46,31 @@ impl<P> Entry<P> {
         ensures { result ≡ slots_of self.now }
     {
         match self {
-            Entry::Live(_) | Entry::Unload(_) | Entry::Move(_) | Entry::UnloadAll(_) => 1,
+            Entry::Live(row) => row.slots(),
+            Entry::Unload(_) | Entry::Move(_) | Entry::UnloadAll(_) => 1,
         }
     }
 
-    /// The slot of this entry. What is kept of a class beside its place has no part in it.
-    pub fn encode(&self) -> [u8; SLOT_BYTES]
-        ensures { result ≡ entry_slot self.now }
+    /// The slots of this entry. What is kept of a class beside its place has no part in them.
+    pub fn encode(&self) -> Slots
+        ensures { result ≡ entry_slots self.now }
     {
         match self {
             Entry::Live(row) => row.encode(),
-            Entry::Unload(entry) => entry.encode(),
-            Entry::Move(entry) => entry.encode(),
-            Entry::UnloadAll(entry) => entry.encode(),
+            Entry::Unload(entry) => Slots::one(&entry.encode()),
+            Entry::Move(entry) => Slots::one(&entry.encode()),
+            Entry::UnloadAll(entry) => Slots::one(&entry.encode()),
         }
     }
 }
 
 impl Entry<()> {
-    ghost use Rattle.cm_layout.specs.Slots.{entry_slot, FitsEntry};
+    ghost use Rattle.cm_layout.specs.Slots.{entry_slots, FitsEntry};
 
     /// The entry that a slot spells, if it does.
     pub fn decode(slot: &[u8; SLOT_BYTES]) -> Option<Entry<()>>
-        ensures found { IfSome result (λ entry. slot.now ≡ entry_slot entry) }
-        ensures only { (entry : _) → FitsEntry entry → slot.now ≡ entry_slot entry
+        ensures found { IfSome result (λ entry. slot.now ≡ entry_slots entry) }
+        ensures only { (entry : _) → FitsEntry entry → slot.now ≡ entry_slots entry
             → result ≡ Some entry }
     {
         if let Some(row) = LoaderRow::decode(slot) {

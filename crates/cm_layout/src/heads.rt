@@ -20,8 +20,11 @@ const COUNT_AT: usize = 2;
 
 const FIRST_AT: usize = 8;
 
-/// The one version of entries that there is.
-pub const ENTRY_VERSION: u16 = 1;
+/// The version of entries that is written.
+pub const ENTRY_VERSION: u16 = 2;
+
+/// The oldest version of entries that is read. A file of it is moved over when it is opened.
+pub const OLDEST_VERSION: u16 = 1;
 
 /// The last number that a command may have.
 pub const LAST_NUMBER: u64 = 1 << 63;

@@ -13,3 +13,5 @@ pub(crate) const UNLOAD: u8 = 0x13;
 pub(crate) const MOVE: u8 = 0x14;
 
 pub(crate) const UNLOAD_ALL: u8 = 0x15;
+
+pub(crate) const REST: u8 = 0x16;

@@ -4,15 +4,15 @@ ghost use Rattle.std.specs.Prelude.{◌≡◌};
 ghost use Rattle.cm_layout.specs.declared.entry.Entry.{Entry};
 ghost use Rattle.cm_layout.specs.declared.heads.HalfHead.{HalfHead};
 ghost use Rattle.cm_layout.specs.declared.heads.GroupHead.{GroupHead};
-ghost use Rattle.cm_layout.specs.Laws.{FramesAreOne, RowsAreApart, RowsStayLive};
+ghost use Rattle.cm_layout.specs.Laws.{FramesAreOne, FramingsAreOne, RowsAreApart, RowsStayLive};
 ghost use Rattle.cm_layout.specs.Laws.{EntriesStayLive, RowsGrow, LoadersAreOwn, MovesStand};
 ghost use Rattle.cm_layout.specs.Laws.{FramesAreMatched, MatchesFrame, AgreementMatches};
-ghost use Rattle.cm_layout.specs.Slots.{entry_slot, FitsEntry, half_head_slot, FitsHalfHead};
+ghost use Rattle.cm_layout.specs.Slots.{entry_slots, FitsEntry, half_head_slot, FitsHalfHead};
 ghost use Rattle.cm_layout.specs.Slots.{group_head_slot, FitsGroupHead};
 
 /// A slot tells its entry: no two entries that fit have one slot.
 pub fn slot_determines_entry()
-    ensures { (e d : Entry (Unit {0})) → FitsEntry e → FitsEntry d → entry_slot e ≡ entry_slot d
+    ensures { (e d : Entry (Unit {0})) → FitsEntry e → FitsEntry d → entry_slots e ≡ entry_slots d
         → e ≡ d }
 {}
 
@@ -58,6 +58,12 @@ pub fn moves_stand()
 /// the number of the last command.
 pub fn contents_determine_rows()
     ensures { FramesAreOne }
+{}
+
+/// A file's contents tell the half that counts: whatever framings they match, it is the same half
+/// with the same head, live rows and groups.
+pub fn contents_determine_head()
+    ensures { FramingsAreOne }
 {}
 
 /// Contents frame rows and a number exactly where they match, range by range, a framing that is

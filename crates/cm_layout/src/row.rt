@@ -4,7 +4,7 @@ ghost use Rattle.std.specs.Prelude.{◌≡◌};
 
 use crate::class_row::ClassRow;
 use crate::loader_row::LoaderRow;
-use crate::slot::SLOT_BYTES;
+use crate::slots::Slots;
 
 /// What lives: a loader, or a class with what is kept of it (nothing, its record's words, its
 /// class).
@@ -15,7 +15,8 @@ pub enum Row<P> {
 }
 
 impl<P> Row<P> {
-    ghost use Rattle.cm_layout.specs.Slots.{row_slot};
+    ghost use Rattle.cm_layout.specs.Slots.{row_slots};
+    ghost use Rattle.cm_layout.specs.Rows.{slots_of_row};
     ghost use Rattle.cm_layout.specs.Frames.{bare_row};
 
     /// The row with nothing kept of a class.
@@ -28,13 +29,23 @@ impl<P> Row<P> {
         }
     }
 
-    /// The slot of this row. What is kept of a class beside its place has no part in it.
-    pub fn encode(&self) -> [u8; SLOT_BYTES]
-        ensures { result ≡ row_slot self.now }
+    /// How many slots it takes as a live row.
+    pub fn slots(&self) -> usize
+        ensures { result ≡ slots_of_row self.now }
+    {
+        match self {
+            Row::Loader(row) => row.name.slots(),
+            Row::Class(_, _) => 1,
+        }
+    }
+
+    /// The slots of this row. What is kept of a class beside its place has no part in them.
+    pub fn encode(&self) -> Slots
+        ensures { result ≡ row_slots self.now }
     {
         match self {
             Row::Loader(row) => row.encode(),
-            Row::Class(row, _) => row.encode(),
+            Row::Class(row, _) => Slots::one(&row.encode()),
         }
     }
 }

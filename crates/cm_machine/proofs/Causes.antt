@@ -13,7 +13,7 @@ use Rattle.cm_pool.specs.Chunks.{chunk_size}
 use Rattle.cm_pool.specs.Geometry.{Sizes}
 use Rattle.cm_record.specs.Layout.{lay}
 use Rattle.cm_record.specs.Names.{class_name_in}
-use Rattle.cm_layout.specs.Names.{is_loader_name}
+use Rattle.cm_layout.specs.Names.{is_loader_name, slots_of_name}
 use Rattle.cm_layout.specs.Rows.{number_of, rows_with}
 use Rattle.cm_layout.specs.Rules.{is_too_much}
 use Rattle.cm_layout.proofs.{slots_of-with}
@@ -133,13 +133,13 @@ same_class known rows x name right =
     by_number None = refl
     by_number (Some u) = among_words known.tell u name rows right
 
-same_full : Known → (sizes : Sizes) (n : ℕ) (rows : ClassRows) → Both sizes n rows
-    → is_full sizes (state_of words_show (rows_with lay rows)) 1
-    ≡ is_full sizes (state_of class_shows rows) 1
-same_full known sizes n rows both =
-    ap (λ k. is_too_much sizes k 1)
-    (known.word_sizes words_show sizes n (rows_with lay rows) both.words
-    ∙ (slots_of-with lay rows ∙ sym (known.sizes class_shows sizes n rows both.cache)))
+same_full : Known → (sizes : Sizes) (n : ℕ) (rows : ClassRows) (need : ℕ) → Both sizes n rows
+    → is_full sizes (state_of words_show (rows_with lay rows)) need
+    ≡ is_full sizes (state_of class_shows rows) need
+same_full known sizes n rows need both =
+    ap (λ k. is_too_much sizes k need)
+    ((known.word_sizes words_show sizes n (rows_with lay rows) both.words).1
+    ∙ (slots_of-with lay rows ∙ sym (known.sizes class_shows sizes n rows both.cache).1))
 
 -- ---- one cause
 
@@ -150,16 +150,18 @@ pub same_cause : Known → (sizes : Sizes) (n : ℕ) (rows : ClassRows) (asked :
 same_cause known sizes n rows (AddLoader x) change both asks =
     add_cause _ (is_loader_name x) (eqb n last_number)
     (is_some (get (state_of words_show (rows_with lay rows)) x))
-    (is_full sizes (state_of words_show (rows_with lay rows)) 1)
+    (is_full sizes (state_of words_show (rows_with lay rows)) (slots_of_name x))
     ∙ (ap (λ t. first_of ((not (is_loader_name x), BadName) ∷ (eqb n last_number, NumbersSpent)
     ∷ (t, LoaderExists)
-    ∷ (is_full sizes (state_of words_show (rows_with lay rows)) 1, JournalFull) ∷ []))
+    ∷ (is_full sizes (state_of words_show (rows_with lay rows)) (slots_of_name x), JournalFull)
+    ∷ []))
     (same_loader known rows x)
     ∙ (ap (λ t. first_of ((not (is_loader_name x), BadName) ∷ (eqb n last_number, NumbersSpent)
     ∷ (is_some (get (state_of class_shows rows) x), LoaderExists) ∷ (t, JournalFull) ∷ []))
-    (same_full known sizes n rows both)
+    (same_full known sizes n rows (slots_of_name x) both)
     ∙ (sym (add_cause _ (is_loader_name x) (eqb n last_number)
-    (is_some (get (state_of class_shows rows) x)) (is_full sizes (state_of class_shows rows) 1))
+    (is_some (get (state_of class_shows rows) x))
+    (is_full sizes (state_of class_shows rows) (slots_of_name x)))
     ∙ ap (λ c. cause_in (step class_shows sizes (state_of class_shows rows) n c)) (sym asks))))
 same_cause known sizes n rows (Define x words) change both (c, right, laid, is) =
     ap (λ w. cause_in (step words_show sizes (state_of words_show (rows_with lay rows)) n (Define x
@@ -177,7 +179,7 @@ same_cause known sizes n rows (Define x words) change both (c, right, laid, is) 
     (is_full sizes (state_of words_show (rows_with lay rows)) 1)) same_has
     ∙ (ap (λ t. tests (is_some (get (state_of class_shows rows) x))
     (is_some (class_in (state_of class_shows rows) x (class_name_of c))) t)
-    (same_full known sizes n rows both)
+    (same_full known sizes n rows 1 both)
     ∙ (sym (define_cause _ (is_loader_name x) (eqb n last_number)
     (is_some (get (state_of class_shows rows) x))
     (is_some (class_in (state_of class_shows rows) x (class_name_of c)))

@@ -24,6 +24,7 @@ pub record IsMadeOf (contents : List ℕ) (file : StandingFile) (f : Found)
   pub end : file.journal.end ≡ f.end
   pub epoch : file.journal.epoch ≡ f.head.epoch
   pub other : file.journal.other_open ≡ other_is_open f.sizes f.half contents
+  pub version : file.version ≡ f.head.version
   pub roots : file.roots ≡ whole_roots f.sizes (length contents)
   pub rows_are : file.rows ≡ rows
   pub committed_sizes : file.committed.sizes ≡ rows.sizes
@@ -49,6 +50,7 @@ assembled contents file f rows found t made = record {
     end = made.end;
     epoch = made.epoch;
     other = made.other;
+    version = made.version;
     roots = made.roots;
     rows = made.rows_are
         ∙ (λ i. record { sizes = t.alike.sizes_are i; rows = t.alike.words i });

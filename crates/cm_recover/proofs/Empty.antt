@@ -15,12 +15,13 @@ use Rattle.cm_layout.specs.Offsets.{half_size, roots_at}
 use Rattle.cm_layout.specs.Slots.{half_head_slot}
 use Rattle.cm_layout.specs.Superblock.{superblock_bytes, superblock_front, superblock_zeros}
 use Rattle.cm_layout.specs.Frames.{Frames, IsEnd}
-use Rattle.cm_layout.proofs.{length-blank}
+use Rattle.cm_layout.specs.declared.heads.HalfHead.{HalfHead}
+use Rattle.cm_layout.proofs.{length-blank, matched_head}
 use Rattle.cm_layout.specs.Zeros.{blank}
 use Rattle.cm_guards.specs.Gates.{OneOf}
 use Rattle.cm_recover.specs.NewFile.{first_head, new_bytes, shut_bytes, zeros_behind, IsNoCache}
 use Rattle.cm_recover.specs.NewFile.{IsEmptyCache}
-use Rattle.cm_recover.specs.Laws.{NewIsEmpty, GateTurns}
+use Rattle.cm_recover.specs.Laws.{NewIsEmpty, NewIsNewest, GateTurns}
 use Rattle.cm_recover.proofs.Shut.{shut_is_no_cache}
 
 -- ---- zeros
@@ -97,7 +98,8 @@ framed sizes g = record {
           epoch = omega arith;
           base = omega arith;
         };
-        version = refl;
+        version_from = omega arith;
+        version_to = omega arith;
         live = omega arith;
         base = omega arith;
         epoch_from = omega arith;
@@ -125,6 +127,19 @@ new_is_empty sizes g = record {
   state_is = refl;
   arenas_are = refl;
 }
+
+-- its half is of the version that is written now
+pub new_is_newest : NewIsNewest
+unfolding framed
+new_is_newest sizes g =
+    let m = matched_head sizes (new_bytes sizes) [] 0 (framed sizes g) in
+    record {
+      sizes = sizes;
+      rows = [];
+      number = 0;
+      framed = m.0;
+      version = ap (λ (h : HalfHead). h.version) m.1;
+    }
 
 -- ---- its gate
 

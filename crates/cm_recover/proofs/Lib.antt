@@ -13,6 +13,7 @@ mod Shared
 mod Assembled
 mod SyncRuns
 mod Opened
+mod MovedOver
 -- The verdict, step by step, and what is answered of it.
 pub use Verdicts.{fault_told}
 -- What a file stands for has what the accepted cache and its committer are made of.

@@ -1,9 +1,10 @@
 -- What a file stands for has what the accepted cache and its committer are made of.
 -- For `open` and others.
-use Rattle.std.proofs.Common.{◌≡◌, ℕ, ◌^◌, ◌≤◌, Bool, true, false, cond, List, [], ◌∷◌}
+use Rattle.std.proofs.Common.{◌≡◌, ℕ, ◌+◌, ◌^◌, ◌<◌, ◌≤◌, Bool, true, false, cond, List, [], ◌∷◌}
 use Rattle.std.proofs.Common.{◌++◌, length, drop, Some, None, Ok, refl, sym, ap, subst, ◌∙◌}
 use Rattle.std.proofs.Common.{arith, eqb, is_some}
-use Rattle.std.specs.Prelude.{◌&&◌}
+use Rattle.std.specs.Prelude.{◌&&◌, nat_le, nat_lt}
+use Rattle.std.proofs.lemmas.Bool.{leb-true, leb-false, lt-ltb, ltb-true, le-ltb}
 use Rattle.std.specs.FinMap as map
 use Rattle.std.specs.List.{AllByRecursion}
 use Rattle.std.specs.Str.{bytes_eq}
@@ -20,9 +21,10 @@ use Rattle.cm_layout.specs.Offsets.{roots_at}
 use Rattle.cm_layout.specs.declared.row.Row.TheVariants.{Loader, Class}
 use Rattle.cm_layout.specs.declared.class_row.ClassRow.{ClassRow}
 use Rattle.cm_layout.specs.Rows.{rows_with, row_with, bare, classes_in}
-use Rattle.cm_layout.specs.Frames.{BareRow, LiveRowsKeep, HoldsRow}
+use Rattle.cm_layout.specs.Frames.{BareRow, LiveRowsKeep, HoldsRow, IsGoodHead, entry_version}
+use Rattle.cm_layout.specs.Laws.{IsFramed as FramesRows}
 use Rattle.cm_layout.specs.Framing.{IsRight, Matches}
-use Rattle.cm_commit.proofs.{end_is as ends_with_slots}
+use Rattle.cm_commit.proofs.{end_is as ends_with_slots, shows_cache}
 use Rattle.cm_state.specs.State.{NamesDiffer, class_shows, words_show, class_among}
 use Rattle.cm_state.specs.Stands.{EachKeepsRules, arenas_among, chunks_of as chunks_begun}
 use Rattle.cm_state.specs.Entries.{AreCacheRows}
@@ -38,16 +40,21 @@ use Rattle.cm_rows.specs.Rows.{LiveRows}
 use Rattle.cm_commit.specs.declared.journal.Journal.{Journal}
 use Rattle.cm_commit.specs.GroupPlans.{whole_roots}
 use Rattle.cm_commit.specs.Committed.{journal_of}
+use Rattle.cm_commit.specs.Checkpoints.{renewed_journal}
+use Rattle.cm_commit.specs.Renewals.{MayRenew}
 use Rattle.cm_commit.specs.Laws.{OthersAreTold}
 use Rattle.cm_recover.specs.Opening.{other_is_open}
 use Rattle.cm_commit.specs.Keeps.{IsHeld, AreRight as AreCommittedRight}
-use Rattle.cm_commit.specs.States.{CommitterState}
+use Rattle.cm_guards.specs.Stages.{Stage, leaves}
+use Rattle.cm_commit.specs.States.{CommitterState, MayLeave, ShowsCache, ShowsCommitted}
+use Rattle.cm_commit.specs.States.{ShowsWith}
 use Rattle.cm_front.specs.Front.{FrontState, IsFront}
 use Rattle.cm_front.specs.Arenas.{ArenasAreOfRows, chunks_owned}
 use Rattle.cm_front.specs.Restoring.{Restores}
 use Rattle.cm_recover.specs.declared.standing.StandingFile.{StandingFile}
 use Rattle.cm_recover.specs.Standing.{TellNames, Tells, IsStanding}
-use Rattle.cm_recover.specs.Opened.{Opens, arenas_by_name, AreShort, IsOpened}
+use Rattle.cm_recover.specs.Opened.{Opens, arenas_by_name, AreShort, IsOpened, found_journal}
+use Rattle.cm_recover.specs.Opened.{is_older, opened_journal, IsOlderFile, StandsForSame}
 use Rattle.cm_recover.proofs.RecordPlaces.{place_of, short_enough}
 use Rattle.cm_recover.proofs.Passing.{more_named}
 
@@ -235,16 +242,9 @@ module _ (live : FoundIsLive) (framed : FoundIsFramed) (stands : VerdictStands)
   front_last = let n = t.alike.number in omega (arith, n, o.number_is)
 
   abbrev journal_told : Journal
-  journal_told = record {
-    geometry = told.found.sizes;
-    half = told.found.half;
-    end = told.found.end;
-    epoch = told.found.head.epoch;
-    other_open = other_is_open told.found.sizes told.found.half contents;
-    number = told.found.number;
-  }
+  journal_told = found_journal contents told
 
-  journal_is : file.journal ≡ journal_told
+  pub journal_is : file.journal ≡ journal_told
   journal_is = λ i. record {
     geometry = t.alike.geometry i;
     half = t.alike.half i;
@@ -280,14 +280,18 @@ module _ (live : FoundIsLive) (framed : FoundIsFramed) (stands : VerdictStands)
         number = told.found.number;
       }
 
-  pub held : (now : List ℕ) (unsynced : Unsynced) → IsSettled now unsynced → now ≡ contents
+  pub held : (version : ℕ) → told.found.head.version ≡ version → (now : List ℕ)
+      (unsynced : Unsynced) → IsSettled now unsynced → now ≡ contents
       → IsHeld now unsynced file.journal (rows_with arc_value file.committed.rows) file.roots
-  held now unsynced settled same =
+      version
+  held version version_is now unsynced settled same =
       rw (t.alike.committed, t.alike.roots)
       (subst (λ (j : Journal). IsHeld now unsynced j (rows_with lay told.rows)
-      (whole_roots told.found.sizes (length contents))) (sym journal_is) (record {
+      (whole_roots told.found.sizes (length contents)) version) (sym journal_is)
+      (record {
         settled = settled;
         framing = o.framing;
+        version_is = ap (λ (h : HalfHead). h.version) o.head_is ∙ version_is;
         journal_is = goes_on;
         right = o.right;
         matches = subst (Matches told.found.sizes o.framing (rows_with lay told.rows)) (sym same)
@@ -298,24 +302,124 @@ module _ (live : FoundIsLive) (framed : FoundIsFramed) (stands : VerdictStands)
         roots_are = ap (λ (l : List ℕ). whole_roots told.found.sizes (length l)) (sym same);
       }))
 
+  -- ---- its version
+
+  head_good : IsGoodHead told.found.sizes told.found.head
+  head_good = subst (IsGoodHead told.found.sizes) o.head_is o.right.good.head
+
+  -- where it is the one that is written now, the journal goes on as it was found
+  pub version_now : 2 ≤ file.version
+      → (told.found.head.version ≡ entry_version) × (file.journal ≡ opened_journal contents told)
+  version_now least =
+      let is = t.alike.version in
+      let most : told.found.head.version ≤ 2 = head_good.version_to in
+      let no_less : nat_lt told.found.head.version 2 ≡ false =
+      le-ltb told.found.head.version 2 (omega (arith, least, is)) in (
+        omega (arith, least, is, most),
+        journal_is
+            ∙ ap (λ (b : Bool). cond b
+            (renewed_journal journal_told (bare (rows_with lay told.rows))) journal_told)
+            (sym no_less),
+      )
+
+  module _ (before : file.version < 2) where
+    older : is_older told ≡ true
+    older =
+        let is = t.alike.version in
+        lt-ltb told.found.head.version 2 (omega (arith, before, is))
+
+    pub older_file : IsOlderFile contents
+    older_file = record { standing = told; verdict_is = t.verdict_is; older = older }
+
+    pub may_renew : (unsynced : Unsynced) → IsSettled contents unsynced
+        → MayRenew contents unsynced file.journal (rows_with arc_value file.committed.rows)
+    may_renew unsynced settled = record {
+      version = told.found.head.version;
+      held = subst (λ (roots : ℕ). IsHeld contents unsynced file.journal
+          (rows_with arc_value file.committed.rows) roots told.found.head.version)
+          (t.alike.roots
+          ∙ ap (λ (z : Sizes). whole_roots z (length contents)) (sym t.alike.geometry))
+          (held told.found.head.version refl contents unsynced settled refl);
+      epoch =
+          let less = ltb-true told.found.head.version 2 older in
+          let epoch = t.alike.epoch in
+          let number = t.alike.number in
+          let base = ap (λ (h : HalfHead). h.base) o.head_is in
+          let last = o.right.number_is in
+          let most : told.found.head.epoch ≤ told.found.head.base + told.found.head.version =
+          head_good.epoch_to in
+          omega (arith, less, epoch, number, base, last, most);
+    }
+
+    pub renewed_told : (j : Journal)
+        → j ≡ renewed_journal file.journal (bare (rows_with arc_value file.committed.rows))
+        → j ≡ opened_journal contents told
+    renewed_told j is =
+        is
+        ∙ ((λ i. renewed_journal (journal_is i) (bare (t.alike.committed i)))
+        ∙ ap (λ (b : Bool). cond b (renewed_journal journal_told (bare (rows_with lay told.rows)))
+        journal_told) (sym older))
+
+    pub roots_told : (now : List ℕ) (unsynced : Unsynced) (j : Journal)
+        → IsHeld now unsynced j (rows_with arc_value file.committed.rows)
+        (whole_roots file.journal.geometry (length contents)) entry_version
+        → IsHeld now unsynced j (rows_with arc_value file.committed.rows) file.roots entry_version
+    roots_told now unsynced j =
+        subst (λ (roots : ℕ). IsHeld now unsynced j (rows_with arc_value file.committed.rows) roots
+        entry_version)
+        (ap (λ (z : Sizes). whole_roots z (length contents)) t.alike.geometry ∙ sym t.alike.roots)
+
+  -- what frames these rows and this number stands for the same cache
+  pub same_framed : (image : List ℕ)
+      → FramesRows file.journal.geometry image (rows_with arc_value file.committed.rows)
+      file.journal.number
+      → StandsForSame contents image
+  same_framed image framed =
+      let here : FramesRows told.found.sizes image (rows_with lay told.rows) told.found.number =
+      subst (λ (x : Sizes × (List (Row (List ℕ)) × ℕ)). FramesRows x.0 image x.1.0 x.1.1)
+      (λ i. (t.alike.geometry i, (t.alike.committed i, t.alike.number i))) framed in
+      record {
+        standing = told;
+        verdict_is = t.verdict_is;
+        shows = shows_cache (record {
+          sizes = told.found.sizes;
+          rows = rows_with lay told.rows;
+          number = told.found.number;
+          framing = here.framing;
+        }) image here.right (committed_right (rows_with lay told.rows) o.records) o.cache.differ
+            here.matches;
+      }
+
+  -- and so do the contents themselves
+  pub framed_here : StandsForSame contents contents
+  framed_here =
+      let here : FramesRows told.found.sizes contents (rows_with lay told.rows)
+      told.found.number = record { framing = o.framing; right = o.right; matches = o.matches } in
+      same_framed contents
+      (subst (λ (x : Sizes × (List (Row (List ℕ)) × ℕ)). FramesRows x.0 contents x.1.0 x.1.1)
+      (λ i. (sym t.alike.geometry i, (sym t.alike.committed i, sym t.alike.number i))) here)
+
+  -- ---- once it is opened
+
   pub opens : {D : Type 0} (arenas : ArenasAreOfRows) (disk : D) (front : FrontState)
-      (committer : CommitterState D) → IsFront front
+      (committer : CommitterState D) (journal : Journal) → IsFront front
       → Restores file.rows file.journal.number front
+      → journal ≡ opened_journal contents told
       → committer ≡ record {
         disk = disk;
-        sizes = file.journal.geometry;
+        sizes = journal.geometry;
         rows = rows_with arc_value file.committed.rows;
-        number = file.journal.number;
-        half = file.journal.half;
-        end = file.journal.end;
-        epoch = file.journal.epoch;
-        other_open = file.journal.other_open;
+        number = journal.number;
+        half = journal.half;
+        end = journal.end;
+        epoch = journal.epoch;
+        other_open = journal.other_open;
         underway = None;
         left = [];
         broken = false;
       }
       → Opens contents front committer
-  opens {D = D} arenas disk front committer is restored made = record {
+  opens {D = D} arenas disk front committer journal is restored goes made = record {
     standing = told;
     verdict_is = t.verdict_is;
     stands = (stands contents told t.verdict_is).stands;
@@ -332,15 +436,67 @@ module _ (live : FoundIsLive) (framed : FoundIsFramed) (stands : VerdictStands)
         ∙ ap (chunks_begun u) (same_places told.rows)))) told.rows;
     committer_is = made ∙ (λ i. record {
       disk = sym (ap (λ (c : CommitterState D). c.disk) made) i;
-      sizes = t.alike.geometry i;
+      sizes = (ap (λ (j : Journal). j.geometry) goes ∙ same_region) i;
       rows = t.alike.committed i;
-      number = t.alike.number i;
-      half = t.alike.half i;
-      end = t.alike.end i;
-      epoch = t.alike.epoch i;
-      other_open = t.alike.other i;
+      number = (ap (λ (j : Journal). j.number) goes ∙ same_number) i;
+      half = (goes i).half;
+      end = (goes i).end;
+      epoch = (goes i).epoch;
+      other_open = (goes i).other_open;
       underway = None;
       left = [];
       broken = false;
     });
   }
+    where
+      by_test : (b : Bool) → ((cond b (renewed_journal journal_told
+          (bare (rows_with lay told.rows))) journal_told).geometry ≡ told.found.sizes)
+          × ((cond b (renewed_journal journal_told (bare (rows_with lay told.rows)))
+          journal_told).number ≡ told.found.number)
+      by_test true = (refl, refl)
+      by_test false = (refl, refl)
+
+      same_region : (opened_journal contents told).geometry ≡ told.found.sizes
+      same_region = (by_test (is_older told)).0
+
+      same_number : (opened_journal contents told).number ≡ told.found.number
+      same_number = (by_test (is_older told)).1
+
+  pub sizes_told : (journal : Journal) → journal ≡ opened_journal contents told
+      → file.committed.sizes ≡ journal.geometry
+  sizes_told journal goes =
+      t.alike.committed_sizes
+      ∙ sym (ap (λ (j : Journal). j.geometry) goes ∙ by_test (is_older told))
+    where
+      by_test : (b : Bool) → (cond b (renewed_journal journal_told
+          (bare (rows_with lay told.rows))) journal_told).geometry ≡ told.found.sizes
+      by_test true = refl
+      by_test false = refl
+
+-- where the journal goes on, said of contents that are the same
+pub journal_same : (mid contents : List ℕ) → mid ≡ contents → (file : StandingFile)
+    (t : Tells (IsStanding contents) (verdict contents) file) (journal : Journal)
+    → ((u : Tells (IsStanding mid) (verdict mid) file) → journal ≡ opened_journal mid u.told)
+    → journal ≡ opened_journal contents t.told
+journal_same mid contents same file t journal goes =
+    subst (λ (l : List ℕ). (u : Tells (IsStanding l) (verdict l) file)
+    → journal ≡ opened_journal l u.told) same goes t
+
+-- what a crash leaves of a committer that was just opened
+pub same_shown : {D : Type 0} (contents : List ℕ) (front : FrontState)
+    (committer : CommitterState D) → (o : Opens contents front committer) → (image : List ℕ)
+    → MayLeave committer image → StandsForSame contents image
+same_shown {D = D} contents front committer o image left =
+    let shown : ShowsCommitted committer image =
+    subst (λ (l : List Stage). leaves l (ShowsCommitted committer)
+    (ShowsWith committer committer.underway) image)
+    (ap (λ (c : CommitterState D). c.left) o.committer_is) left in
+    record {
+      standing = o.standing;
+      verdict_is = o.verdict_is;
+      shows = subst (λ (x : Sizes × (List (Row (List ℕ)) × ℕ)). ShowsCache x.0 x.1.0 x.1.1 image)
+          (λ k. (
+            (o.committer_is k).sizes,
+            ((o.committer_is k).rows, (o.committer_is k).number),
+          )) shown;
+    }

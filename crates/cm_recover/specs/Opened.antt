@@ -1,14 +1,15 @@
 -- What a file is opened as: the accepted cache and its committer, both with what the file stands
 -- for.
-use Rattle.std.specs.Prelude.{◌≡◌, ◌<◌, ◌≤◌, ◌^◌, ℕ, List, [], ◌∷◌, length, None}
-use Rattle.std.specs.Prelude.{Result, Ok, Err, false}
+use Rattle.std.specs.Prelude.{◌≡◌, ◌<◌, ◌≤◌, ◌⊎◌, ◌^◌, ℕ, List, [], ◌∷◌, length, None, Bool}
+use Rattle.std.specs.Prelude.{Result, Ok, Err, true, false, nat_lt, if◌then◌else◌}
 use Rattle.std.specs.FinMap as map
 use Rattle.cm_class.specs.declared.class_file.ClassFile.{ClassFile}
 use Rattle.cm_pool.specs.Geometry.{IsGeometry}
 use Rattle.cm_record.specs.Layout.{lay, limit}
 use Rattle.cm_layout.specs.declared.row.Row.{Row}
 use Rattle.cm_layout.specs.declared.row.Row.TheVariants.{Loader, Class}
-use Rattle.cm_layout.specs.Rows.{rows_with}
+use Rattle.cm_layout.specs.Rows.{rows_with, bare}
+use Rattle.cm_layout.specs.Frames.{entry_version}
 use Rattle.cm_layout.specs.Framing.{Framing, IsRight, Matches}
 use Rattle.cm_disk.specs.Disk.{View, Unsynced, IsImage, IsWithin}
 use Rattle.cm_guards.specs.Calls.{LeavesOnly}
@@ -19,7 +20,9 @@ use Rattle.cm_verdict.specs.Verdict.{Standing, state_in, arenas_in, verdict}
 use Rattle.cm_front.specs.Front.{FrontState, AreRight}
 use Rattle.cm_front.specs.Arenas.{chunks_owned}
 use Rattle.cm_front.specs.Restoring.{Restores}
-use Rattle.cm_commit.specs.States.{CommitterState}
+use Rattle.cm_commit.specs.States.{CommitterState, ShowsCache}
+use Rattle.cm_commit.specs.declared.journal.Journal.{Journal}
+use Rattle.cm_commit.specs.Checkpoints.{renewed_journal}
 use Rattle.cm_commit.specs.Committed.{end_slot}
 use Rattle.cm_recover.specs.Opening.{other_is_open}
 use Rattle.cm_recover.specs.declared.opening.NotOpened.{NotOpened}
@@ -51,6 +54,27 @@ pub record IsOpened (contents : List ℕ) (s : Standing) (rows : List (Row (List
   pub number_is : s.found.number ≤ 2 ^ 63
   pub lawful : IsGeometry s.found.sizes
 
+-- where the journal goes on in a file of these contents
+abbrev pub found_journal : List ℕ → Standing → Journal
+found_journal contents s = record {
+  geometry = s.found.sizes;
+  half = s.found.half;
+  end = s.found.end;
+  epoch = s.found.head.epoch;
+  other_open = other_is_open s.found.sizes s.found.half contents;
+  number = s.found.number;
+}
+
+-- the half that counts is of an older version than is written now
+abbrev pub is_older : Standing → Bool
+is_older s = nat_lt s.found.head.version entry_version
+
+-- and where it goes on once the file is opened: in the other half, where that was written anew
+abbrev pub opened_journal : List ℕ → Standing → Journal
+opened_journal contents s =
+    if is_older s then renewed_journal (found_journal contents s) (bare (rows_with lay s.rows))
+    else found_journal contents s
+
 -- the contents stand for this, and both have its rows with the words of their records, and its
 -- number: the accepted cache has the arenas that they stand for, and nothing to hand out; the
 -- committer has nothing under way
@@ -70,10 +94,10 @@ pub record Opens {D : Type 0} (contents : List ℕ) (front : FrontState)
     sizes = standing.found.sizes;
     rows = rows_with lay standing.rows;
     number = standing.found.number;
-    half = standing.found.half;
-    end = standing.found.end;
-    epoch = standing.found.head.epoch;
-    other_open = other_is_open standing.found.sizes standing.found.half contents;
+    half = (opened_journal contents standing).half;
+    end = (opened_journal contents standing).end;
+    epoch = (opened_journal contents standing).epoch;
+    other_open = (opened_journal contents standing).other_open;
     underway = None;
     left = [];
     broken = false;
@@ -89,6 +113,42 @@ pub record SyncsAndReads {D : Type 0} (view : View D) (old new : D)
   pub contents_stay : view.contents new ≡ view.contents old
   pub no_more : IsWithin (view.unsynced old) (view.unsynced new)
   pub images : LeavesOnly view old new (IsImage (view.contents old) (view.unsynced old))
+  pub later : view.failures old ≤ view.failures new
+  pub cause : Faulted → view.failures old < view.failures new
+  pub no_cause : (Faulted → ⊥) → view.failures new ≡ view.failures old
+
+-- The contents stand for a cache, whose half that counts is of an older version than is written
+-- now: the file is moved over when it is opened.
+pub record IsOlderFile (contents : List ℕ) : Type 0 where
+  pub standing : Standing
+  pub verdict_is : verdict contents ≡ Ok standing
+  pub older : is_older standing ≡ true
+
+-- the image stands for the cache that the contents stand for
+pub record StandsForSame (contents image : List ℕ) : Type 0 where
+  pub standing : Standing
+  pub verdict_is : verdict contents ≡ Ok standing
+  pub shows : ShowsCache standing.found.sizes (rows_with lay standing.rows) standing.found.number
+      image
+
+-- A crash leaves what it might have left before, or what stands for the same cache.
+abbrev pub LeavesSame : List ℕ → Unsynced → List ℕ → Type 0
+LeavesSame contents unsynced image =
+    IsImage contents unsynced image ⊎ StandsForSame contents image
+
+-- the device is told to have failed exactly where it did
+pub record TellsDevice (before now : ℕ) (Faulted : Type 0) : Type 0 where
+  pub later : before ≤ now
+  pub cause : Faulted → before < now
+  pub no_cause : (Faulted → ⊥) → now ≡ before
+
+-- What opening makes of the disk. Unless the file is of an older version, it is a run of calls that
+-- sync and read. At each moment a crash leaves what it might have left before, or what stands for
+-- the same cache.
+pub record OpensThrough {D : Type 0} (view : View D) (old new : D)
+    (Faulted : Type 0) : Type 0 where
+  pub reads_alone : (IsOlderFile (view.contents old) → ⊥) → SyncsAndReads view old new Faulted
+  pub images : LeavesOnly view old new (LeavesSame (view.contents old) (view.unsynced old))
   pub later : view.failures old ≤ view.failures new
   pub cause : Faulted → view.failures old < view.failures new
   pub no_cause : (Faulted → ⊥) → view.failures new ≡ view.failures old

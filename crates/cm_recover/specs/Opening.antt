@@ -12,6 +12,8 @@ use Rattle.cm_verdict.specs.declared.fault.FileFault.TheVariants.{NotACache, Dam
 use Rattle.cm_verdict.specs.Faults.{◌>>=◌}
 use Rattle.cm_verdict.specs.Found.{Found, counting_half, walk_through, found_walked}
 use Rattle.cm_verdict.specs.Walking.{walked}
+use Rattle.cm_commit.specs.declared.renewal.RenewFault.{RenewFault}
+use Rattle.cm_commit.specs.declared.renewal.RenewFault.TheVariants as renew_fault
 use Rattle.cm_recover.specs.declared.fault.OpenFault.{OpenFault}
 use Rattle.cm_recover.specs.declared.fault.OpenFault.TheVariants as open_fault
 use Rattle.cm_recover.specs.declared.reading.FoundFile.{FoundFile}
@@ -19,6 +21,10 @@ use Rattle.cm_recover.specs.declared.reading.FoundFile.{FoundFile}
 abbrev pub fault_of : FileFault → OpenFault
 fault_of NotACache = open_fault.NotACache
 fault_of (Damaged what slot) = open_fault.Damaged what slot
+
+abbrev pub fault_of_renewal : RenewFault → OpenFault
+fault_of_renewal renew_fault.Device = open_fault.Device
+fault_of_renewal renew_fault.NoMemory = open_fault.NoMemory
 
 -- a fault is that of the verdict, or one of the device or of memory
 abbrev pub IsFaultIn : {B : Type 0} → OpenFault → Result B FileFault → Type 0

@@ -113,6 +113,7 @@ pub record IsStanding (contents : List ℕ) (file : StandingFile) (s : Standing)
   pub end : file.journal.end ≡ s.found.end
   pub epoch : file.journal.epoch ≡ s.found.head.epoch
   pub other : file.journal.other_open ≡ other_is_open s.found.sizes s.found.half contents
+  pub version : file.version ≡ s.found.head.version
   pub roots : file.roots ≡ whole_roots s.found.sizes (length contents)
   pub rows : file.rows ≡ record { sizes = s.found.sizes; rows = rows_with lay s.rows }
   pub committed_sizes : file.committed.sizes ≡ s.found.sizes

@@ -3,8 +3,9 @@
 ghost use Rattle.std.specs.Prelude.{◌≡◌};
 ghost use Rattle.cm_recover.specs.declared.fault.FormatFault.TheVariants as fault;
 ghost use Rattle.cm_recover.specs.declared.fault.OpenFault.TheVariants as open_fault;
-ghost use Rattle.cm_recover.specs.Opening.{fault_of};
+ghost use Rattle.cm_recover.specs.Opening.{fault_of, fault_of_renewal};
 
+use cm_commit::RenewFault;
 use cm_disk::DeviceFault;
 use cm_verdict::{Damage, FileFault};
 use std::alloc::AllocError;
@@ -40,7 +41,7 @@ impl From<AllocError> for FormatFault {
     }
 }
 
-/// Why a file isn't opened. It stays as it was.
+/// Why a file isn't opened. It stands for what it stood for.
 #[derive(Clone, Copy, Debug, PartialEq, Eq, Error)]
 pub enum OpenFault {
     /// The file is shorter than a superblock, or its first bytes or the gate of its superblock are
@@ -74,6 +75,17 @@ impl From<DeviceFault> for OpenFault {
 
     fn from(_fault: DeviceFault) -> OpenFault {
         OpenFault::Device
+    }
+}
+
+impl From<RenewFault> for OpenFault {
+    ghost from_gives = { λ fault e. e ≡ fault_of_renewal fault };
+
+    fn from(fault: RenewFault) -> OpenFault {
+        match fault {
+            RenewFault::Device => OpenFault::Device,
+            RenewFault::NoMemory => OpenFault::NoMemory,
+        }
     }
 }
 

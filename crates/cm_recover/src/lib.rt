@@ -4,6 +4,7 @@
 mod fault;
 mod laws;
 mod making;
+mod moving_over;
 mod new_file;
 mod opening;
 mod reach;
@@ -13,9 +14,9 @@ mod shared_rows;
 mod standing;
 
 pub use fault::{FormatFault, OpenFault};
-pub use laws::new_file_is_empty;
+pub use laws::{new_file_is_empty, newest_is_not_older};
 pub use making::format;
 pub use opening::{NotOpened, open};
 pub use reach::bytes_read;
-pub use reading::{FoundFile, read_found};
+pub use reading::{FoundFile, is_older, read_found};
 pub use standing::{StandingFile, read_standing};

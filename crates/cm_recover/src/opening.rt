@@ -6,9 +6,12 @@ ghost use Rattle.cm_verdict.specs.Verdict.{verdict};
 ghost use Rattle.cm_recover.specs.declared.fault.OpenFault.TheVariants as open_fault;
 ghost use Rattle.cm_recover.specs.Opening.{IsFaultIn};
 ghost use Rattle.cm_recover.specs.Standing.{Answers, IsStanding};
+ghost use Rattle.cm_layout.specs.Laws.{IsNewest};
 ghost use Rattle.cm_recover.specs.Opened.{SyncsAndReads, Opens, disk_after, MeetsDevice};
+ghost use Rattle.cm_recover.specs.Opened.{OpensThrough, StandsForSame};
 
 use crate::fault::OpenFault;
+use crate::moving_over::move_over;
 use crate::standing::{StandingFile, read_standing};
 use cm_commit::{Committer, NotMade, others_are_told};
 use cm_disk::Disk;
@@ -21,7 +24,8 @@ use std::alloc::Global;
 #[derive(Debug)]
 pub struct NotOpened<D> {
     pub fault: OpenFault,
-    /// With the contents that it had, and no more of them unsynced.
+    /// What a crash may leave of it is what it might have left before, or stands for the same
+    /// cache.
     pub disk: D,
 }
 
@@ -40,17 +44,23 @@ fn read_synced<D: Disk>(alloc: Global, disk: &mut D) -> Result<StandingFile, Ope
 /// Opens the cache of a file: the accepted cache, and the committer of its disk, both with the rows
 /// that the file stands for and the number of its last command; each loader's arena has the chunks
 /// that the file stands for, and no others. It begins with a sync, so a crash leaves what was
-/// opened, and nothing else; the rest are reads.
+/// opened, and nothing else; reads follow. A file whose half that counts is of an older version
+/// than is written now is moved over then: six device calls write the other half anew, as in a
+/// checkpoint, and at each moment a crash leaves what stands for the same cache.
 ///
 /// `NotACache` and `Damaged` exactly where the verdict on the file's bytes says so; `Device` where
-/// the device failed; `NoMemory` where an allocation failed. The disk is handed back then, as it
-/// was, and each image that a crash may leave is one that it might have left before the call.
+/// the device failed; `NoMemory` where an allocation failed. The disk is handed back then, and each
+/// image that a crash may leave is one that it might have left before the call, or stands for the
+/// same cache.
 pub fn open<D: Disk>(alloc: Global, mut disk: D) -> Result<(Front, Committer<D>), NotOpened<D>>
     ensures opened { IfOk result (λ p. Opens (D.view.contents disk) p.0 p.1) }
+    ensures same { IfOk result
+        (λ p. StandsForSame (D.view.contents disk) (D.view.contents p.1.disk)) }
+    ensures newest { IfOk result (λ p. IsNewest (D.view.contents p.1.disk)) }
     ensures stored { IfOk result
         (λ p. IsSettled (D.view.contents p.1.disk) (D.view.unsynced p.1.disk)) }
     ensures fault { IfErr result (λ e. IsFaultIn e.fault (verdict (D.view.contents disk))) }
-    ensures run { SyncsAndReads D.view disk
+    ensures run { OpensThrough D.view disk
         (disk_after result) (MeetsDevice result) }
 {
     found_is_live();
@@ -63,8 +73,12 @@ pub fn open<D: Disk>(alloc: Global, mut disk: D) -> Result<(Front, Committer<D>)
         Ok(file) => file,
         Err(fault) => return Err(NotOpened { fault, disk }),
     };
-    let journal = file.journal;
-    let Ok(front) = Front::restore(alloc, journal.geometry, file.rows, journal.number) else {
+    let journal = match move_over(alloc, &mut disk, &file) {
+        Ok(journal) => journal,
+        Err(fault) => return Err(NotOpened { fault, disk }),
+    };
+    let found = file.journal;
+    let Ok(front) = Front::restore(alloc, found.geometry, file.rows, found.number) else {
         return Err(NotOpened {
             fault: OpenFault::NoMemory,
             disk,
@@ -72,7 +86,11 @@ pub fn open<D: Disk>(alloc: Global, mut disk: D) -> Result<(Front, Committer<D>)
     };
     let _is_cache = front.geometry(); // so the proof knows that its arenas are those of its rows
     match Committer::new(alloc, disk, journal, file.committed, file.roots) {
-        Ok(committer) => Ok((front, committer)),
+        Ok(committer) => {
+            committer.images();
+            committer.versions();
+            Ok((front, committer))
+        }
         Err(NotMade { disk }) => Err(NotOpened {
             fault: OpenFault::NoMemory,
             disk,

@@ -1,18 +1,19 @@
 //! What a file holds without its records, by a run of reads.
 
+ghost use Rattle.cm_layout.specs.Frames.{entry_version};
 ghost use Rattle.std.specs.Prelude.{◌≡◌, ◌≤◌, ◌+◌, ◌*◌, ◌⊎◌, ◌==◌, length, take, get_or, Err};
-ghost use Rattle.std.specs.Prelude.{IfOk, IfErr};
+ghost use Rattle.std.specs.Prelude.{IfOk, IfErr, nat_lt};
 ghost use Rattle.cm_guards.specs.Calls.{Reads};
 ghost use Rattle.cm_layout.specs.Framing.{part, other_half};
 ghost use Rattle.cm_layout.specs.Slots.{open_gate};
-ghost use Rattle.cm_verdict.specs.Found.{sizes_found as sizes_found_in, found_in};
+ghost use Rattle.cm_verdict.specs.Found.{Found, sizes_found as sizes_found_in, found_in};
 ghost use Rattle.cm_recover.specs.declared.fault.OpenFault.TheVariants as open_fault;
 ghost use Rattle.cm_recover.specs.Opening.{IsAnswer, found_in_halves, found_of, half_of};
 ghost use Rattle.cm_recover.specs.Opening.{other_is_open};
 
 use crate::fault::OpenFault;
 use cm_disk::Disk;
-use cm_layout::{Half, OPEN_GATE, SLOT_BYTES, SUPERBLOCK_BYTES, half_at};
+use cm_layout::{ENTRY_VERSION, Half, OPEN_GATE, SLOT_BYTES, SUPERBLOCK_BYTES, half_at};
 use cm_pool::Geometry;
 use cm_rows::Book;
 use cm_verdict::{Counting, HalfWalk, counting_half, find_sizes, walk_through};
@@ -139,4 +140,16 @@ pub fn read_found<D: Disk>(alloc: Global, disk: &mut D) -> Result<FoundFile, Ope
     let zero = read_part(alloc, disk, half_at(geometry, Half::Zero), size)?;
     let one = read_part(alloc, disk, half_at(geometry, Half::One), size)?;
     walk_halves(alloc, geometry, &zero, &one)
+}
+
+/// Whether the half that counts is of an older version than is written now, so that opening the
+/// file moves it over. It is a run of reads, as [`read_found`]'s, and fails as that does.
+pub fn is_older<D: Disk>(alloc: Global, disk: &mut D) -> Result<bool, OpenFault>
+    ensures older { IfOk result (λ b. (f : Found) → found_in (D.view.contents disk.old) ≡ Ok f
+        → b ≡ nat_lt f.head.version entry_version) }
+    ensures reads { Reads D.view disk.old disk.new
+        (result ≡ Err open_fault.Device) }
+{
+    let found = read_found(alloc, disk)?;
+    Ok(found.counts.head.version < ENTRY_VERSION)
 }

@@ -14,7 +14,9 @@ use std::alloc::{AllocError, Global};
 #[derive(Drop)]
 pub(crate) struct RecordWords {
     bytes: Vec<u8>,
-    words: Vec<u64>,
+    pub(crate) words: Vec<u64>,
+    /// Where the class of the words is spelled.
+    pub(crate) spelling: Vec<u8>,
 }
 
 // Puts the words of these bytes in the place of others.
@@ -35,6 +37,7 @@ impl RecordWords {
         RecordWords {
             bytes: Vec::new(alloc),
             words: Vec::new(alloc),
+            spelling: Vec::new(alloc),
         }
     }
 
@@ -59,12 +62,5 @@ impl RecordWords {
         disk.read(at, &mut self.bytes)?;
         pack(&self.bytes, &mut self.words)?;
         Ok(())
-    }
-
-    /// The words.
-    pub(crate) fn as_slice(&self) -> &[u64]
-        ensures { result.now ≡ self.now.words.items }
-    {
-        &self.words
     }
 }

@@ -36,6 +36,8 @@ use std::sync::Arc;
 #[derive(Drop)]
 pub struct StandingFile {
     pub journal: Journal,
+    /// The version of the half that counts.
+    pub version: u16,
     /// How many whole roots the file has.
     pub roots: u32,
     /// The rows, for the accepted cache.
@@ -53,13 +55,17 @@ fn whole_roots(geometry: Geometry, long: u64) -> u32
     (long.saturating_sub(roots_at(geometry)) / root_bytes(geometry)) as u32
 }
 
-// The class whose record these words are, if it keeps the class rules.
-fn prepare_record(alloc: Global, words: &[u64]) -> Result<Option<Prepared>, AllocError>
+// The class whose record these words are, if it keeps the class rules. It is spelled in the buffer.
+fn prepare_record(
+    alloc: Global,
+    buffer: &mut Vec<u8>,
+    words: &[u64],
+) -> Result<Option<Prepared>, AllocError>
     requires { length words.now ≤ limit }
     ensures { IfOk result (IsKeptClass words.now) }
 {
     words_tell_name();
-    let Some(record) = read_record(alloc, words)? else {
+    let Some(record) = read_record(alloc, buffer, words)? else {
         return Ok(None);
     };
     let class = Prepared::of_record(alloc, record)?;
@@ -101,7 +107,7 @@ impl SecondPass {
         }
         let at = record_at(self.geometry, place);
         words.read(disk, at, place.words as usize)?;
-        match prepare_record(self.alloc, words.as_slice())? {
+        match prepare_record(self.alloc, &mut words.spelling, &words.words)? {
             Some(class) => Ok(class),
             None => Err(OpenFault::Damaged {
                 what: Damage::Record,
@@ -222,6 +228,7 @@ pub fn read_standing<D: Disk>(alloc: Global, disk: &mut D) -> Result<StandingFil
             other_open: found.other_open,
             number: pass.number,
         },
+        version: found.counts.head.version,
         roots: whole_roots(found.geometry, long),
         rows,
         committed,

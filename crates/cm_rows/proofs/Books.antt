@@ -2,7 +2,7 @@
 -- For `Book+unit::copy_from`, `Book::add_loader`, `Book::define` and others.
 use Rattle.std.proofs.Common.{◌≡◌, ◌≢◌, ℕ, ◌+◌, ◌<◌, ◌≤◌, ◌⊎◌, Bool, true, false, cond, eqb, List}
 use Rattle.std.proofs.Common.{[], ◌∷◌, ◌++◌, length, get_or, set, Option, Some, None, inl, inr, sym}
-use Rattle.std.proofs.Common.{◌∙◌, ap, subst, arith, length-append, append-nil}
+use Rattle.std.proofs.Common.{◌∙◌, ap, subst, arith, append-nil}
 use Rattle.std.specs.Prelude.{not, filter}
 use Rattle.std.specs.List.{AllByRecursion, remove}
 use Rattle.std.proofs.lemmas.Bool.{eq-eqb}
@@ -19,9 +19,11 @@ use Rattle.cm_layout.specs.declared.loader_row.LoaderRow.{LoaderRow}
 use Rattle.cm_layout.specs.declared.relocation.Move.{Move}
 use Rattle.cm_layout.specs.declared.row.Row.{Row}
 use Rattle.cm_layout.specs.declared.row.Row.TheVariants.{Loader, Class}
-use Rattle.cm_layout.specs.Rows.{classes_in, numbers_in, without_loader, moved, bare, row_with}
+use Rattle.cm_layout.specs.Names.{slots_of_name}
+use Rattle.cm_layout.specs.Rows.{classes_in, numbers_in, without_loader, moved, bare, slots_of_rows}
 use Rattle.cm_layout.specs.Rules.{row_limit, is_chunk, has_place}
-use Rattle.cm_layout.proofs.{last_chunk-among, numbers-moved}
+use Rattle.cm_layout.proofs.{last_chunk-among, numbers-moved, rows-within, slots-push}
+use Rattle.cm_layout.proofs.{slots-without, slots-moved, slots-bare}
 use Rattle.cm_rows.specs.declared.live_loader.LastChunk.{LastChunk}
 use Rattle.cm_rows.specs.declared.live_loader.LiveLoader.{LiveLoader}
 use Rattle.cm_rows.specs.Rows.{last_of, is_above}
@@ -35,8 +37,7 @@ use Rattle.cm_rows.proofs.Loaders.{rises-push, all-numbers, at-among}
 use Rattle.cm_rows.proofs.Holding.{free-is, take-push, swap}
 use Rattle.cm_rows.proofs.RowFacts.{numbers-few, classes-push_class, numbers-push_class}
 use Rattle.cm_rows.proofs.RowFacts.{classes-push_loader, numbers-push_loader, classes-without}
-use Rattle.cm_rows.proofs.RowFacts.{numbers-without, length-without, classes-moved}
-use Rattle.cm_rows.proofs.RowFacts.{length-moved, classes-bare, numbers-bare}
+use Rattle.cm_rows.proofs.RowFacts.{numbers-without, classes-moved, classes-bare, numbers-bare}
 use Rattle.cm_rows.proofs.Verdicts.{above-all, last-at, has_room_for, room-from, place-top}
 use Rattle.cm_rows.proofs.Verdicts.{place-front, place-none}
 use Rattle.cm_rows.proofs.Changes.{ne-eqb, last_use, last_of-is, use-chunk, Joins, founded-push}
@@ -83,7 +84,7 @@ module _ {P : Type 0} where
   -- beside what every class more does
   pushed : (sizes : Sizes) (rows : List (Row P)) (ls : List LiveLoader) (p q : FreeSpace)
       (r : ClassRow) (k : P) (i : ℕ)
-      → IsBook sizes rows ls p → length rows < row_limit sizes → IsAt ls r.loader i
+      → IsBook sizes rows ls p → slots_of_rows rows < row_limit sizes → IsAt ls r.loader i
       → Joins (classes_in rows) r → Holds sizes q (first_chunks (classes_in rows ++ r ∷ []))
       → IsBook sizes (rows ++ Class r k ∷ []) (with_last ls i r.loader (used_to_end r)) q
   pushed sizes rows ls p q r k i h few at joins holds =
@@ -92,7 +93,7 @@ module _ {P : Type 0} where
       let o : Option LastChunk = Some (used_to_end r) in
       record {
         lawful = h.lawful;
-        few = omega (arith, length-append rows (Class r k ∷ []));
+        few = omega (arith, slots-push rows (Class r k));
         loaders = loaders-set rows (rows ++ Class r k ∷ []) ls r.loader i o h.loaders at numbers
             (λ v. last_of-is v (rows ++ Class r k ∷ []) ∙ ap (last_use v) classes
             ∙ last_use-push (classes_in rows) r v joins
@@ -122,7 +123,7 @@ module _ {P : Type 0} where
   -- behind the last record in its loader's last chunk
   pub define-top : (sizes : Sizes) (rows : List (Row P)) (ls : List LiveLoader) (p : FreeSpace)
       (r : ClassRow) (k : P) (i : ℕ)
-      → IsBook sizes rows ls p → length rows < row_limit sizes → IsAt ls r.loader i
+      → IsBook sizes rows ls p → slots_of_rows rows < row_limit sizes → IsAt ls r.loader i
       → 1 ≤ r.place.words
       → last_of r.loader rows ≡ Some (record { chunk = r.place.chunk; used = r.place.offset })
       → IsBook sizes (rows ++ Class r k ∷ []) (with_last ls i r.loader (used_to_end r)) p
@@ -145,7 +146,7 @@ module _ {P : Type 0} where
   -- first in a chunk that was free
   pub define-new : (sizes : Sizes) (rows : List (Row P)) (ls : List LiveLoader) (p : FreeSpace)
       (r : ClassRow) (k : P) (i : ℕ)
-      → IsBook sizes rows ls p → length rows < row_limit sizes → IsAt ls r.loader i
+      → IsBook sizes rows ls p → slots_of_rows rows < row_limit sizes → IsAt ls r.loader i
       → 1 ≤ r.place.words → r.place.offset ≡ 0 → IsFreeChunk p r.place.chunk
       → IsBook sizes (rows ++ Class r k ∷ []) (with_last ls i r.loader (used_to_end r))
       (without p r.place.chunk)
@@ -166,7 +167,8 @@ module _ {P : Type 0} where
 module _ {P : Type 0} where
   pub add-loader : (sizes : Sizes) (rows : List (Row P)) (ls : List LiveLoader) (p : FreeSpace)
       (r : LoaderRow)
-      → IsBook sizes rows ls p → length rows < row_limit sizes → is_above r.number rows ≡ true
+      → IsBook sizes rows ls p → slots_of_rows rows + slots_of_name r.name ≤ row_limit sizes
+      → is_above r.number rows ≡ true
       → IsBook sizes (rows ++ Loader r ∷ [])
       (ls ++ record { number = r.number; last = None } ∷ []) p
   add-loader sizes rows ls p r h few above =
@@ -177,7 +179,7 @@ module _ {P : Type 0} where
       (λ n. n < r.number)) (sym h.loaders.numbers) (above-all rows r.number above)) in
       record {
         lawful = h.lawful;
-        few = omega (arith, length-append rows (Loader r ∷ []));
+        few = omega (arith, few, slots-push rows (Loader r));
         loaders = record {
           numbers = numbers-push ls l ∙ ap
               (λ ns. ns ++ r.number ∷ []) h.loaders.numbers ∙ sym numbers;
@@ -212,7 +214,7 @@ module _ {P : Type 0} where
       let none : Option LastChunk = None in
       record {
         lawful = h.lawful;
-        few = omega (arith, length-without u rows, h.few);
+        few = omega (arith, slots-without u rows, h.few);
         loaders = record {
           numbers = numbers-remove u ls i d h.loaders.rises.each at.within is ∙ ap (filter
               (λ n. not (eqb n u))) h.loaders.numbers ∙ sym numbers;
@@ -261,7 +263,7 @@ module _ {P : Type 0} where
         swapped.0,
         record {
           lawful = h.lawful;
-          few = omega (arith, length-moved from to rows, h.few);
+          few = omega (arith, slots-moved from to rows, h.few);
           loaders = loaders-set rows (moved from to rows) ls u i o h.loaders at numbers
               (λ v. last_of-is v (moved from to rows) ∙ ap (last_use v) classes
               ∙ last_use-moved u from to k v h.live.founded is.0 unused
@@ -289,7 +291,7 @@ module _ {P : Type 0} where
 module _ {P : Type 0} where
   pub defined : (sizes : Sizes) (rows : List (Row P)) (ls : List LiveLoader) (p q : FreeSpace)
       (r : ClassRow) (k : P) (i : ℕ) (l : LiveLoader)
-      → IsBook sizes rows ls p → length rows < row_limit sizes → IsAt ls r.loader i
+      → IsBook sizes rows ls p → slots_of_rows rows < row_limit sizes → IsAt ls r.loader i
       → l ≡ get_or ls i l → 1 ≤ r.place.words → TakesPlace l.last r.place p q
       → IsBook sizes (rows ++ Class r k ∷ []) (with_last ls i r.loader (used_to_end r)) q
   defined sizes rows ls p q r k i l h few at is some (inl (top, same)) =
@@ -351,7 +353,7 @@ module _ {P : Type 0} where
       let numbers = numbers-bare rows in
       record {
         lawful = h.lawful;
-        few = omega (arith, h.few, length-map rows (row_with {P = P} {Q = Unit {0}} (λ p. tt)));
+        few = omega (arith, h.few, slots-bare rows);
         loaders = record {
           numbers = h.loaders.numbers ∙ sym numbers;
           rises = h.loaders.rises;
@@ -374,6 +376,7 @@ module _ {P : Type 0} where
       omega (
         arith,
         h.few,
+        rows-within rows,
         length-map ls
             (λ (l : LiveLoader). l.number),
         ap length h.loaders.numbers,

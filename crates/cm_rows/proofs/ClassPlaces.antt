@@ -1,6 +1,6 @@
 -- What the place of a class says of the rules on its row.
 -- For `Book::define`.
-use Rattle.std.proofs.Common.{◌≡◌, ◌⊎◌, ℕ, Bool, true, false, List, length, Some, None, inl, inr}
+use Rattle.std.proofs.Common.{◌≡◌, ◌⊎◌, ℕ, Bool, true, false, List, Some, None, inl, inr}
 use Rattle.std.proofs.Common.{arith}
 use Rattle.cm_pool.specs.Geometry.{Sizes}
 use Rattle.cm_pool.specs.FreeSpace.{FreeSpace}
@@ -9,6 +9,7 @@ use Rattle.cm_layout.specs.declared.entry_rule.EntryRule.{EntryRule}
 use Rattle.cm_layout.specs.declared.entry_rule.EntryRule.TheVariants.{OnRows, OnChunks}
 use Rattle.cm_layout.specs.declared.row.Row.{Row}
 use Rattle.cm_layout.specs.declared.row.Row.TheVariants.{Class}
+use Rattle.cm_layout.specs.Rows.{slots_of_rows}
 use Rattle.cm_layout.specs.Rules.{broken_live_rule, class_fits, has_place, has_room, is_live}
 use Rattle.cm_index.specs.declared.slot.BookSlot.{BookSlot}
 use Rattle.cm_index.specs.Living.{living}
@@ -24,7 +25,7 @@ use Rattle.cm_rows.proofs.Verdicts.{on_chunks-place, on_none, on_rows-live, on_r
 
 module _ {P : Type 0} (sizes : Sizes) (rows : List (Row P))
     (loaders : List (BookSlot LiveLoader)) (old new : FreeSpace) (r : ClassRow)
-    (kept : P) (count : ℕ) (counted : count ≡ length rows)
+    (kept : P) (taken : ℕ) (counted : taken ≡ slots_of_rows rows)
     (book : IsBook sizes rows (living loaders) old) where
   abbrev live : Bool
   live = is_live r.loader rows
@@ -32,7 +33,7 @@ module _ {P : Type 0} (sizes : Sizes) (rows : List (Row P))
   abbrev room : Bool
   room = has_room sizes rows (Class r kept)
 
-  module _ (at : ℕ) (slot : BookSlot LiveLoader) (may : MayCome sizes count loaders r at slot) where
+  module _ (at : ℕ) (slot : BookSlot LiveLoader) (may : MayCome sizes taken loaders r at slot) where
     pub among : StandsAmong loaders at
     among = stands loaders r.loader at may.kept
 
@@ -43,17 +44,17 @@ module _ {P : Type 0} (sizes : Sizes) (rows : List (Row P))
     lives = live-at rows (living loaders) r.loader among.place book.loaders found
 
     roomy : room ≡ true
-    roomy = room-is sizes rows (Class r kept) (omega (arith, may.few, counted))
+    roomy = room-is sizes rows r kept (omega (arith, may.few, counted))
 
   -- the rule that the row breaks
-  pub broken : (rule : EntryRule) → Breaks sizes count loaders r old new rule
+  pub broken : (rule : EntryRule) → Breaks sizes taken loaders r old new rule
       → Some rule ≡ broken_live_rule sizes 0 rows (Class r kept)
   broken OnRows (inl absent) =
       on_rows-live live room (class_fits sizes rows r)
       (not_live rows (living loaders) r.loader book.loaders absent)
   broken OnRows (inr full) =
       on_rows-room live room (class_fits sizes rows r)
-      (no_room-is sizes rows (Class r kept) (omega (arith, full, counted)))
+      (no_room-is sizes rows r kept (omega (arith, full, counted)))
   broken OnChunks u = by_why u.why
     where
       by_why : (is_inside sizes r ≡ false)
@@ -71,7 +72,7 @@ module _ {P : Type 0} (sizes : Sizes) (rows : List (Row P))
           (inside-chunk sizes r inside).0 none)
 
   -- it breaks none
-  pub keeps_all : IsPlaced sizes count loaders r old new
+  pub keeps_all : IsPlaced sizes taken loaders r old new
       → None ≡ broken_live_rule sizes 0 rows (Class r kept)
   keeps_all p =
       on_none live room (is_inside sizes r) (has_place rows r) (lives p.at p.slot p.may)

@@ -9,7 +9,8 @@ use Rattle.cm_pool.specs.declared.chunk.Chunk.{Chunk}
 use Rattle.cm_pool.specs.Geometry.{Sizes}
 use Rattle.cm_pool.specs.FreeSpace.{FreeSpace, IsUsedChunk, with_chunk}
 use Rattle.cm_layout.specs.declared.row.Row.{Row}
-use Rattle.cm_layout.specs.Rows.{classes_in}
+use Rattle.cm_layout.specs.Rows.{classes_in, slots_of_row, slots_of_rows}
+use Rattle.cm_layout.proofs.{slots-append}
 use Rattle.cm_index.specs.declared.slot.BookSlot.{BookSlot}
 use Rattle.cm_index.specs.Living.{living}
 use Rattle.cm_rows.specs.Held.{chunks_of, Holds, first_chunks, own_chunk}
@@ -70,6 +71,19 @@ module _ {X : Type 0} where
       )
 
 module _ {P : Type 0} where
+  pub less-ended : (slots : List (BookSlot (Row P))) (i : ℕ) (s x : BookSlot (Row P))
+      → slice_get slots i ≡ Some s → s.live ≡ true → x.live ≡ false
+      → slots_of_rows (living (set slots i x)) + slots_of_row s.item ≡ slots_of_rows (living slots)
+  less-ended slots i s x there live dead =
+      let a = around slots i s x there live dead in
+      omega (
+        arith,
+        ap (λ l. slots_of_rows l) a.was,
+        ap (λ l. slots_of_rows l) a.is,
+        slots-append a.front (s.item ∷ a.rest),
+        slots-append a.front a.rest,
+      )
+
   firsts-append : (rows more : List (Row P)) → chunks_of (rows ++ more)
       ≡ chunks_of rows ++ chunks_of more
   firsts-append rows more = ap first_chunks (classes-append rows more)

@@ -84,16 +84,6 @@ module _ {P : Type 0} where
       by_test behind true = behind
       by_test behind false = behind
 
-  pub length-without : (u : ℕ) (rows : List (Row P)) → length (without_loader u rows) ≤ length rows
-  length-without u [] = omega arith
-  length-without u (row ∷ rows) = by_test (length-without u rows) (not (is_of u row))
-    where
-      by_test : length (without_loader u rows) ≤ length rows → (t : Bool)
-          → length (cond t (row ∷ without_loader u rows) (without_loader u rows))
-          ≤ length (row ∷ rows)
-      by_test behind true = omega (arith, behind)
-      by_test behind false = omega (arith, behind)
-
   pub classes-moved : (from to : Chunk) (rows : List (Row P))
       → classes_in (moved from to rows) ≡ map (moved_class from to) (classes_in rows)
   classes-moved from to [] = refl

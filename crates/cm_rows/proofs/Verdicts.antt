@@ -7,7 +7,8 @@ use Rattle.std.proofs.Common.{ap, subst, arith}
 use Rattle.std.specs.Prelude.{not, ◌==◌, ◌^◌, ◌&&◌, ◌||◌, nat_le, nat_lt, max, min, is_none}
 use Rattle.std.specs.List.{list_any, list_all, AllByRecursion}
 use Rattle.std.specs.Option.{option_map, option_map_or}
-use Rattle.std.proofs.lemmas.Bool.{eqb-true, eq-eqb, ltb-true, leb-true, and_parts, or_cases}
+use Rattle.std.proofs.lemmas.Bool.{eqb-true, eq-eqb, ltb-true, ltb-false, leb-true, le-leb}
+use Rattle.std.proofs.lemmas.Bool.{and_parts, or_cases}
 use Rattle.std.proofs.Math.Nat.{pow-le-pow_right}
 use Rattle.std.proofs.lemmas.Bool.Decides.{nat_tests}
 use Rattle.cm_pool.specs.declared.chunk.Chunk.{Chunk}
@@ -20,8 +21,8 @@ use Rattle.cm_layout.specs.declared.class_row.ClassRow.{ClassRow}
 use Rattle.cm_layout.specs.declared.loader_row.LoaderRow.{LoaderRow}
 use Rattle.cm_layout.specs.declared.relocation.Move.{Move}
 use Rattle.cm_layout.specs.declared.row.Row.{Row}
-use Rattle.cm_layout.specs.declared.row.Row.TheVariants.{Loader}
-use Rattle.cm_layout.specs.Names.{is_loader_name}
+use Rattle.cm_layout.specs.declared.row.Row.TheVariants.{Loader, Class}
+use Rattle.cm_layout.specs.Names.{is_loader_name, slots_of_name}
 use Rattle.cm_layout.specs.Rows.{classes_in, numbers_in, chunks_in, number_of, used_words}
 use Rattle.cm_layout.specs.Rows.{last_chunk, slots_of_rows}
 use Rattle.cm_layout.specs.Rules.{is_chunk, meets, is_unused, is_last_chunk, has_place, move_fits}
@@ -39,7 +40,7 @@ use Rattle.cm_rows.specs.Placing.{is_inside}
 use Rattle.cm_rows.proofs.Classes.{first-among}
 use Rattle.cm_rows.proofs.Loaders.{at-among, absent-among, last_in-at, last_in-absent}
 use Rattle.cm_rows.proofs.Holding.{free-is}
-use Rattle.cm_layout.proofs.{slots-length}
+use Rattle.cm_layout.proofs.{rows-within, slots-name}
 use Rattle.cm_rows.proofs.RowFacts.{live-among, among-live}
 
 -- ---- tests
@@ -100,27 +101,37 @@ module _ {P : Type 0} where
 -- ---- room
 
 module _ {P : Type 0} where
-  pub full-is : (sizes : Sizes) (rows : List (Row P)) (limit count need : ℕ)
-      → limit ≡ row_limit sizes → count ≡ length rows → length rows ≤ row_limit sizes
-      → nat_lt (limit - count) need ≡ is_too_much sizes (slots_of_rows rows) need
-  full-is sizes rows limit count need is counted few =
-      let e = slots-length rows in grind (arith, nat_tests)
+  pub full-is : (sizes : Sizes) (rows : List (Row P)) (limit taken need : ℕ)
+      → limit ≡ row_limit sizes → taken ≡ slots_of_rows rows → slots_of_rows rows ≤ row_limit sizes
+      → nat_lt (limit - taken) need ≡ is_too_much sizes (slots_of_rows rows) need
+  full-is sizes rows limit taken need is counted few = grind (arith, nat_tests)
 
-  pub room-left : (sizes : Sizes) (rows : List (Row P)) (r : LoaderRow)
-      → is_too_much sizes (slots_of_rows rows) 1 ≡ false → has_room sizes rows (Loader r) ≡ true
-  room-left sizes rows r left = grind (arith, nat_tests)
+  pub room-left : (sizes : Sizes) (rows : List (Row P)) (r : LoaderRow) (need : ℕ)
+      → need ≡ slots_of_name r.name → is_too_much sizes (slots_of_rows rows) need ≡ false
+      → has_room sizes rows (Loader r) ≡ true
+  room-left sizes rows r need is left =
+      le-leb (slots_of_rows rows + slots_of_name r.name) (row_limit sizes)
+      (omega (arith, is, ltb-false (row_limit sizes) (slots_of_rows rows + need) left))
 
-  pub no_room-left : (sizes : Sizes) (rows : List (Row P)) (r : LoaderRow)
-      → is_too_much sizes (slots_of_rows rows) 1 ≡ true → has_room sizes rows (Loader r) ≡ false
-  no_room-left sizes rows r full = grind (arith, nat_tests)
+  pub no_room-left : (sizes : Sizes) (rows : List (Row P)) (r : LoaderRow) (need : ℕ)
+      → need ≡ slots_of_name r.name → is_too_much sizes (slots_of_rows rows) need ≡ true
+      → has_room sizes rows (Loader r) ≡ false
+  no_room-left sizes rows r need is full =
+      not-true (has_room sizes rows (Loader r)) (λ room.
+      absurd (omega (
+        arith,
+        is,
+        ltb-true (row_limit sizes) (slots_of_rows rows + need) full,
+        leb-true (slots_of_rows rows + slots_of_name r.name) (row_limit sizes) room,
+      )))
 
-  pub room-is : (sizes : Sizes) (rows : List (Row P)) (row : Row P)
-      → length rows < row_limit sizes → has_room sizes rows row ≡ true
-  room-is sizes rows row lt = let e = slots-length rows in grind (arith, nat_tests)
+  pub room-is : (sizes : Sizes) (rows : List (Row P)) (r : ClassRow) (k : P)
+      → slots_of_rows rows < row_limit sizes → has_room sizes rows (Class r k) ≡ true
+  room-is sizes rows r k lt = grind (arith, nat_tests)
 
-  pub no_room-is : (sizes : Sizes) (rows : List (Row P)) (row : Row P)
-      → row_limit sizes ≤ length rows → has_room sizes rows row ≡ false
-  no_room-is sizes rows row le = let e = slots-length rows in grind (arith, nat_tests)
+  pub no_room-is : (sizes : Sizes) (rows : List (Row P)) (r : ClassRow) (k : P)
+      → row_limit sizes ≤ slots_of_rows rows → has_room sizes rows (Class r k) ≡ false
+  no_room-is sizes rows r k le = grind (arith, nat_tests)
 
 -- ---- chunks
 
@@ -330,32 +341,28 @@ none-is None h = refl
 none-is (Some n) h = absurd (cc)
 
 module _ {P : Type 0} where
-  pub new-is : (sizes : Sizes) (rows : List (Row P)) (r : LoaderRow)
-      → is_new_loader sizes rows r
-      ≡ (is_loader_name r.name && is_none (number_of r.name rows)
-      && nat_lt (length rows) (row_limit sizes))
-  new-is sizes rows r =
-      let e = slots-length rows in
-      let same : has_room sizes rows (Loader r) ≡ nat_lt (length rows) (row_limit sizes) =
-      grind (arith, nat_tests) in
-      ap (λ (t : Bool). is_loader_name r.name && is_none (number_of r.name rows) && t) same
-
   pub new-name : (sizes : Sizes) (rows : List (Row P)) (r : LoaderRow)
       → is_new_loader sizes rows r ≡ true → number_of r.name rows ≡ None
   new-name sizes rows r h =
       let first =
       and_parts (is_loader_name r.name && is_none (number_of r.name rows))
-      (nat_lt (length rows) (row_limit sizes)) (sym (new-is sizes rows r) ∙ h) in
+      (has_room sizes rows (Loader r)) h in
       none-is (number_of r.name rows)
       (and_parts (is_loader_name r.name) (is_none (number_of r.name rows)) first.0).1
 
   pub new-few : (sizes : Sizes) (rows : List (Row P)) (r : LoaderRow)
-      → is_new_loader sizes rows r ≡ true → length rows < row_limit sizes
+      → is_new_loader sizes rows r ≡ true
+      → slots_of_rows rows + slots_of_name r.name ≤ row_limit sizes
   new-few sizes rows r h =
       let last =
       (and_parts (is_loader_name r.name && is_none (number_of r.name rows))
-      (nat_lt (length rows) (row_limit sizes)) (sym (new-is sizes rows r) ∙ h)).1 in
-      ltb-true _ _ last
+      (has_room sizes rows (Loader r)) h).1 in
+      leb-true (slots_of_rows rows + slots_of_name r.name) (row_limit sizes) last
+
+  -- where there is room for a loader, fewer rows live than can
+  pub fewer-rows : (sizes : Sizes) (rows : List (Row P)) (x : List ℕ)
+      → slots_of_rows rows + slots_of_name x ≤ row_limit sizes → length rows < row_limit sizes
+  fewer-rows sizes rows x few = omega (arith, few, rows-within rows, (slots-name x).0)
 
 -- ---- the first broken rule of a class
 

@@ -5,7 +5,7 @@ use Rattle.cm_pool.specs.FreeSpace.{FreeSpace}
 use Rattle.cm_pool.specs.Lists.{Among}
 use Rattle.cm_layout.specs.declared.class_row.ClassRow.{ClassRow}
 use Rattle.cm_layout.specs.declared.row.Row.{Row}
-use Rattle.cm_layout.specs.Rows.{numbers_in, classes_in}
+use Rattle.cm_layout.specs.Rows.{numbers_in, classes_in, slots_of_rows}
 use Rattle.cm_layout.specs.Rules.{row_limit}
 use Rattle.cm_index.specs.Index.{HasIndex}
 use Rattle.cm_rows.specs.declared.live_loader.LiveLoader.{LiveLoader}
@@ -28,11 +28,11 @@ pub record AreLiveRows {P : Type 0} (sizes : Sizes) (rows : List (Row P))
   pub founded : AreFounded (classes_in rows)
   pub owned : (r : ClassRow) → Among r (classes_in rows) → Among r.loader (numbers_in rows)
 
--- the rows are no more than can live, and these are their loaders
+-- the rows take no more slots than live rows may, and these are their loaders
 pub record IsBook {P : Type 0} (sizes : Sizes) (rows : List (Row P)) (known : List LiveLoader)
     (pool : FreeSpace) : Type 0 where
   pub lawful : IsGeometry sizes
-  pub few : length rows ≤ row_limit sizes
+  pub few : slots_of_rows rows ≤ row_limit sizes
   pub loaders : AreLoadersOf rows known
   pub live : AreLiveRows sizes rows pool
 

@@ -19,36 +19,37 @@ abbrev pub is_inside : Sizes → ClassRow → Bool
 is_inside sizes r = is_chunk sizes r.place.chunk && nat_le 1 r.place.words
     && nat_le (r.place.offset + r.place.words) (chunk_size r.place.chunk.order)
 
--- beside so many rows there is room for one more, and its loader lives, at this place
-pub record MayCome (sizes : Sizes) (count : ℕ) (loaders : List (BookSlot LiveLoader)) (r : ClassRow)
+-- beside rows that take so many slots there is room for one more, and its loader lives, at this
+-- place
+pub record MayCome (sizes : Sizes) (taken : ℕ) (loaders : List (BookSlot LiveLoader)) (r : ClassRow)
     (at : ℕ) (slot : BookSlot LiveLoader) : Type 0 where
-  pub few : count < row_limit sizes
+  pub few : taken < row_limit sizes
   pub kept : IsKept loaders r.loader at
   pub slot_is : slot ≡ get_or loaders at slot
 
 -- its place is taken
-pub record IsPlaced (sizes : Sizes) (count : ℕ) (loaders : List (BookSlot LiveLoader))
+pub record IsPlaced (sizes : Sizes) (taken : ℕ) (loaders : List (BookSlot LiveLoader))
     (r : ClassRow)
     (old new : FreeSpace) : Type 0 where
   pub at : ℕ
   pub slot : BookSlot LiveLoader
-  pub may : MayCome sizes count loaders r at slot
+  pub may : MayCome sizes taken loaders r at slot
   pub inside : is_inside sizes r ≡ true
   pub takes : TakesPlace slot.item.last r.place old new
 
 -- it has no place
-pub record IsUnplaced (sizes : Sizes) (count : ℕ) (loaders : List (BookSlot LiveLoader))
+pub record IsUnplaced (sizes : Sizes) (taken : ℕ) (loaders : List (BookSlot LiveLoader))
     (r : ClassRow)
     (old new : FreeSpace) : Type 0 where
   pub at : ℕ
   pub slot : BookSlot LiveLoader
-  pub may : MayCome sizes count loaders r at slot
+  pub may : MayCome sizes taken loaders r at slot
   pub why : (is_inside sizes r ≡ false)
       ⊎ ((is_inside sizes r ≡ true) × HasNoPlace slot.item.last r.place old new)
 
 -- the first rule that it breaks
 abbrev pub Breaks : Sizes → ℕ → List (BookSlot LiveLoader) → ClassRow → FreeSpace → FreeSpace
     → EntryRule → Type 0
-Breaks sizes count loaders r old new OnRows =
-    IsAbsent (living loaders) r.loader ⊎ (row_limit sizes ≤ count)
-Breaks sizes count loaders r old new OnChunks = IsUnplaced sizes count loaders r old new
+Breaks sizes taken loaders r old new OnRows =
+    IsAbsent (living loaders) r.loader ⊎ (row_limit sizes ≤ taken)
+Breaks sizes taken loaders r old new OnChunks = IsUnplaced sizes taken loaders r old new

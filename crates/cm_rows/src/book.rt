@@ -38,6 +38,8 @@ pub struct Book<P: Kept> {
     rows: RowPlaces<P>,
     /// How many of the rows live.
     count: usize,
+    /// How many slots these take as live rows.
+    taken: usize,
     loaders: LoaderPlaces,
     pool: Pool,
 }
@@ -49,6 +51,7 @@ impl<P: Kept> Model for Book<P> {
     ghost use Rattle.cm_rows.specs.Book.{IsBook, AreIndexed};
     ghost use Rattle.cm_rows.specs.Links.{HasLinks};
     ghost use Rattle.cm_index.specs.Living.{living};
+    ghost use Rattle.cm_layout.specs.Rows.{slots_of_rows};
 
     ghost Value = { LiveRows P };
 
@@ -59,7 +62,8 @@ impl<P: Kept> Model for Book<P> {
         × AreIndexed P.mark P.name b.geometry b.rows
         × HasLinks b.geometry b.rows b.loaders
         × HasLoaders b.geometry b.loaders (length b.rows.slots.items)
-        × (b.count ≡ length (living b.rows.slots.items)) };
+        × (b.count ≡ length (living b.rows.slots.items))
+        × (b.taken ≡ slots_of_rows (living b.rows.slots.items)) };
 }
 
 impl<P: Kept> Book<P> {
@@ -86,6 +90,7 @@ impl<P: Kept> Book<P> {
             geometry,
             rows,
             count: 0,
+            taken: 0,
             loaders,
             pool,
         })
@@ -211,6 +216,7 @@ impl<P: Kept> Book<P> {
         give_all(&self.rows.slots, &mut self.pool);
         self.rows.clear();
         self.count = 0;
+        self.taken = 0;
         self.loaders.clear();
     }
 
@@ -232,21 +238,21 @@ impl<P: Kept> Book<P> {
     pub fn slots(&self) -> usize
         ensures { result ≡ slots_of_rows self.now.rows }
     {
-        self.count
+        self.taken
     }
 
     /// Whether too few slots for live rows are left beside these rows for what needs so many.
     pub fn is_full(&self, need: usize) -> bool
         ensures { result ≡ is_too_much self.now.sizes (slots_of_rows self.now.rows) need }
     {
-        row_limit(self.geometry) - self.count < need
+        row_limit(self.geometry) - self.taken < need
     }
 
     /// Whether a loader can be added: its name is new, and there is room for its row.
     fn is_new_loader(&self, row: &LoaderRow) -> bool
         ensures { result ≡ is_new_loader self.now.sizes self.now.rows row.now }
     {
-        !self.is_full(1)
+        !self.is_full(row.name.slots())
             && is_new_loader_name(&self.rows.index, &self.rows.slots, row.name.as_bytes())
     }
 
@@ -268,6 +274,7 @@ impl<P: Kept> Book<P> {
         push_place(&mut self.rows.before, None);
         push_row(&mut self.rows.slots, &mut self.rows.index, Row::Loader(row));
         self.count += 1;
+        self.taken += row.name.slots();
         None
     }
 
@@ -278,8 +285,8 @@ impl<P: Kept> Book<P> {
             then record self.old { rows = self.old.rows ++ Class row kept ∷ [] }
             else self.old) }
     {
-        let (count, loaders) = (self.count, &self.loaders.slots);
-        if let Some(rule) = place_class(self.geometry, count, loaders, &row, &mut self.pool) {
+        let (taken, loaders) = (self.taken, &self.loaders.slots);
+        if let Some(rule) = place_class(self.geometry, taken, loaders, &row, &mut self.pool) {
             return Some(rule);
         }
         let used = row.place.offset + row.place.words;
@@ -299,6 +306,7 @@ impl<P: Kept> Book<P> {
             Row::Class(row, kept),
         );
         self.count += 1;
+        self.taken += 1;
         None
     }
 
@@ -313,14 +321,15 @@ impl<P: Kept> Book<P> {
             return Some(EntryRule::OnRows);
         };
         let last = self.loaders.newest[at];
-        let ended = unload_rows(
+        let gone = unload_rows(
             &mut self.rows.slots,
             &self.rows.before,
             number,
             last,
             &mut self.pool,
         );
-        self.count -= ended;
+        self.count -= gone.rows;
+        self.taken -= gone.slots;
         self.loaders.end(at, number);
         None
     }
@@ -423,6 +432,7 @@ impl Book<()> {
         take_all(&other.rows.slots, &mut self.pool);
         copy_rows(&mut self.rows.slots, &other.rows.slots);
         self.count = other.count;
+        self.taken = other.taken;
         index_rows(&mut self.rows.index, &self.rows.slots);
         copy_loaders(&mut self.loaders.slots, &other.loaders.slots);
         relink(

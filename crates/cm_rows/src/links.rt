@@ -11,6 +11,7 @@ ghost use Rattle.cm_rows.specs.Held.{Holds, chunks_of};
 ghost use Rattle.cm_rows.specs.Links.{loader_in, last_place, last_places, AreLinked, HasLinks};
 ghost use Rattle.cm_rows.specs.Links.{AreOwned, GoesBack, OthersStay, ended};
 ghost use Rattle.cm_rows.specs.Loaders.{Rises, numbers_of, items, HasLoaders};
+ghost use Rattle.cm_layout.specs.Rows.{slots_of_row, slots_of_rows};
 ghost use Rattle.cm_layout.specs.Rules.{row_limit as row_limit_of};
 
 use crate::live_loader::{LastChunk, LiveLoader, find};
@@ -35,49 +36,66 @@ pub fn link(before: &mut Vec<Option<u32>>, newest: &mut Vec<Option<u32>>, loader
     newest[loader] = Some(place);
 }
 
-/// Ends the rows of a loader, from its last one on, and gives their chunks back to the pool. Says
-/// how many they were.
+/// How many rows went with a loader, and how many slots they took as live rows.
+#[derive(Clone, Copy, Debug)]
+pub struct Gone {
+    pub rows: usize,
+    pub slots: usize,
+}
+
+/// Ends the rows of a loader, from its last one on, and gives their chunks back to the pool.
 pub fn unload_rows<P>(
     slots: &mut Vec<BookSlot<Row<P>>>,
     before: &[Option<u32>],
     loader: u64,
     newest: Option<u32>,
     pool: &mut Pool,
-) -> usize
+) -> Gone
     requires linked { AreLinked slots.old.items before.now }
     requires newest { newest ≡ last_place loader slots.old.items }
     requires holds { Holds pool.old.geometry pool.old (chunks_of (living slots.old.items)) }
     ensures slots { slots.new.items ≡ map (unloaded loader) slots.old.items }
     ensures linked { AreLinked slots.new.items before.now }
     ensures holds { Holds pool.old.geometry pool.new (chunks_of (living slots.new.items)) }
-    ensures count { length (living slots.new.items) + result ≡ length (living slots.old.items) }
+    ensures rows { length (living slots.new.items) + result.rows ≡ length (living slots.old.items) }
+    ensures taken { slots_of_rows (living slots.new.items) + result.slots
+        ≡ slots_of_rows (living slots.old.items) }
     ensures capacity { vec_capacity slots.new ≡ vec_capacity slots.old }
 {
     let mut next = newest;
     let mut count = 0;
+    let mut taken = 0;
     while let Some(place) = next {
-        end_row(slots, place as usize, pool);
+        taken += end_row(slots, place as usize, pool);
         next = before[place as usize];
         count += 1;
     }
-    count
+    Gone {
+        rows: count,
+        slots: taken,
+    }
 }
 
-// Ends a row, and gives its chunk back to the pool where it is the first record there.
-fn end_row<P>(slots: &mut Vec<BookSlot<Row<P>>>, at: usize, pool: &mut Pool)
+// Ends a row, and gives its chunk back to the pool where it is the first record there. Says how
+// many slots the row took.
+fn end_row<P>(slots: &mut Vec<BookSlot<Row<P>>>, at: usize, pool: &mut Pool) -> usize
     requires within { at < vec_len slots.old }
     requires lives { LivesAt slots.old.items at }
     requires holds { Holds pool.old.geometry pool.old (chunks_of (living slots.old.items)) }
     ensures slots { (d : BookSlot (Row P)) → slots.new.items
         ≡ slice_set slots.old.items at (ended (get_or slots.old.items at d)) }
+    ensures taken { (d : BookSlot (Row P)) → result
+        ≡ slots_of_row (get_or slots.old.items at d).item }
     ensures holds { Holds pool.old.geometry pool.new (chunks_of (living slots.new.items)) }
     ensures capacity { vec_capacity slots.new ≡ vec_capacity slots.old }
 {
     let chunk = own_chunk(&slots[at].item);
+    let taken = slots[at].item.slots();
     slots[at].live = false;
     if let Some(chunk) = chunk {
         pool.give(chunk);
     }
+    taken
 }
 
 /// Lets the records on a loader's last chunk lie on another. Goes over the loader's rows from its

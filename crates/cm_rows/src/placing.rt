@@ -10,25 +10,25 @@ use cm_index::BookSlot;
 use cm_layout::{ClassRow, EntryRule, row_limit};
 use cm_pool::{Geometry, Pool};
 
-/// Takes the place of a class's record, where its row may come behind so many rows with these
-/// loaders; or tells the first rule that the row breaks, and nothing is taken.
+/// Takes the place of a class's record, where its row may come behind rows that take so many slots,
+/// with these loaders; or tells the first rule that the row breaks, and nothing is taken.
 pub fn place_class(
     geometry: Geometry,
-    count: usize,
+    taken: usize,
     loaders: &[BookSlot<LiveLoader>],
     row: &ClassRow,
     pool: &mut Pool,
 ) -> Option<EntryRule>
     requires { Rises (items loaders.now) }
-    ensures broken { IfSome result (Breaks geometry count loaders.now row.now pool.old pool.new) }
+    ensures broken { IfSome result (Breaks geometry taken loaders.now row.now pool.old pool.new) }
     ensures same { IfSome result (λ rule. pool.new ≡ pool.old) }
-    ensures placed { IfNone result (IsPlaced geometry count loaders.now row.now pool.old pool.new) }
+    ensures placed { IfNone result (IsPlaced geometry taken loaders.now row.now pool.old pool.new) }
 {
     let Some(at) = find(loaders, row.loader) else {
         return Some(EntryRule::OnRows);
     };
     let last = loaders[at].item.last;
-    if count >= row_limit(geometry) {
+    if taken >= row_limit(geometry) {
         return Some(EntryRule::OnRows);
     }
     if !is_inside(geometry, &row.place) {

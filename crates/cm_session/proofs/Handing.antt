@@ -2,10 +2,9 @@
 -- For `Session::learn`, `Session::offer_next`, `Session::seal`.
 use Rattle.std.proofs.Common.{◌≡◌, ℕ, ◌+◌, ◌-◌, ◌≤◌, ◌<◌, Bool, List, [], ◌∷◌, ◌++◌, length}
 use Rattle.std.proofs.Common.{Result, Ok, Err, map, refl, sym, ap, subst, ◌∙◌, arith, append_assoc}
-use Rattle.std.proofs.lemmas.List.{length-append, length-map}
+use Rattle.std.proofs.lemmas.List.{length-append}
 use Rattle.cm_pool.specs.Geometry.{Sizes}
-use Rattle.cm_layout.specs.Frames.{bare_entry}
-use Rattle.cm_group.specs.Groups.{Carried, Handed, IsGroup, group_limit, entries_in}
+use Rattle.cm_group.specs.Groups.{Carried, Handed, IsGroup, group_limit}
 use Rattle.std.specs.Prelude.{◌||◌, IsOk, OnOk}
 use Rattle.cm_commit.specs.Offers.{filled}
 use Rattle.cm_commit.specs.States.{CommitterState}
@@ -21,7 +20,7 @@ use Rattle.cm_machine.specs.Machine.{Base, Machine, Holds, Seals, accepted_to}
 use Rattle.cm_session.specs.Session.{of_underway, commands_of, GoBehind, IsAheadOfLearnt}
 use Rattle.cm_session.specs.Session.{IsSession}
 use Rattle.cm_session.specs.Moves.{Leads, Learns}
-use Rattle.cm_verdict.proofs.{slots_many}
+use Rattle.cm_group.proofs.{enough}
 use Rattle.cm_session.proofs.Learnt.{all_learnt, learnt_handed}
 use Rattle.cm_session.proofs.Queued.{commands_more, behind_more}
 
@@ -144,9 +143,7 @@ module _ {D : Type 0} (counted : CommandsAreCounted) (handed : HandedIsAhead) (k
   many : length group.entries ≤ group_limit
   many =
       let few = is.few in
-      let slots = slots_many (entries_in group.entries) in
-      let long = length-map group.entries (λ (c : Carried). bare_entry c.entry) in
-      omega (arith, few, slots, long)
+      omega (arith, few, enough group.entries)
 
   all_known : last ≤ accepted_to k
   all_known =

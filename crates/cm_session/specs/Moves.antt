@@ -148,12 +148,11 @@ IsOutside (open_fault.Damaged what slot) = ⊥
 IsOutside open_fault.Device = Unit {0}
 IsOutside open_fault.NoMemory = Unit {0}
 
--- the session of these contents, all of which are stored
+-- the session of these contents; all that its disk holds is stored
 pub record Opened {D : Type 0} (view : View D) (sizes : Sizes)
     (bytes : List ℕ) (k : Machine) (s : Session D) : Type 0 where
   pub leads : Leads (Reopening sizes k bytes) (λ next. GoesWith next s)
   pub sizes_are : s.committer.sizes ≡ sizes
-  pub contents_are : view.contents s.committer.disk ≡ bytes
   pub settled : IsSettled (view.contents s.committer.disk) (view.unsynced s.committer.disk)
 
 -- The contents stand for a cache, and the session goes with the machine that begins with it.

@@ -4,7 +4,7 @@ ghost use Rattle.std.specs.Prelude.{IfOk, IfErr};
 ghost use Rattle.cm_pool.specs.Geometry.{Sizes};
 ghost use Rattle.cm_verdict.specs.Verdict.{verdict};
 ghost use Rattle.cm_recover.specs.Opening.{IsFaultIn};
-ghost use Rattle.cm_recover.specs.Opened.{SyncsAndReads};
+ghost use Rattle.cm_recover.specs.Opened.{OpensThrough};
 ghost use Rattle.cm_machine.specs.Machine.{Machine};
 ghost use Rattle.cm_session.specs.Images.{StandsForSome};
 ghost use Rattle.cm_session.specs.Moves.{Opened, Begins, IsOutside, disk_of, MeetsDevice};
@@ -32,7 +32,7 @@ pub fn open<D: Disk>(alloc: Global, disk: D) -> Result<Session<D>, NotOpened<D>>
     ensures stands { (sizes : Sizes) (k : Machine) → StandsForSome sizes k (D.view.contents disk)
         → IfErr result (λ e. IsOutside e.fault) }
     ensures fault { IfErr result (λ e. IsFaultIn e.fault (verdict (D.view.contents disk))) }
-    ensures run { SyncsAndReads D.view disk
+    ensures run { OpensThrough D.view disk
         (disk_of result) (MeetsDevice result) }
 {
     opened_is_ahead();

@@ -5,6 +5,7 @@ ghost use Rattle.std.specs.Option.{option_map};
 ghost use Rattle.std.specs.Arc.{arc_value};
 ghost use Rattle.cm_guards.specs.Guards.{EachImage};
 ghost use Rattle.cm_guards.specs.Calls.{LeavesOnly};
+ghost use Rattle.cm_layout.specs.Laws.{IsNewest};
 ghost use Rattle.cm_prepare.specs.Commands.{change_asked};
 ghost use Rattle.cm_front.specs.Accepting.{Answers as AnswersAsFront};
 ghost use Rattle.cm_commit.specs.Advances.{CallsDevice, EndsBehind, HasRisen};
@@ -250,6 +251,15 @@ impl<D: Disk> Session<D> {
     {
         committed_rows_are_the_machines();
         self.committer.images();
+    }
+
+    /// Does nothing: its clause says that whatever a crash leaves now, the half that counts in it
+    /// is of the version that is written now.
+    pub fn versions(&self)
+        ensures { EachImage (D.view.contents self.now.committer.disk)
+            (D.view.unsynced self.now.committer.disk) IsNewest }
+    {
+        self.committer.versions();
     }
 
     /// The number of the last command that is acknowledged.

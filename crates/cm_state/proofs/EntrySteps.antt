@@ -22,7 +22,7 @@ use Rattle.cm_layout.specs.declared.row.Row.TheVariants.{Loader, Class}
 use Rattle.cm_layout.specs.declared.entry.Entry.{Entry}
 use Rattle.cm_layout.specs.declared.entry.Entry.TheVariants as entry
 use Rattle.cm_layout.specs.declared.entry_rule.EntryRule.TheVariants.{OnRows, OnChunks}
-use Rattle.cm_layout.specs.Names.{is_loader_name, unload_limit}
+use Rattle.cm_layout.specs.Names.{is_loader_name, slots_of_name, unload_limit}
 use Rattle.cm_layout.specs.Rows.{name_of, number_of, numbers_in, classes_in, slots_of_rows}
 use Rattle.cm_layout.specs.Slots.{FitsEntry}
 use Rattle.cm_layout.specs.Rows.{rows_after, bare, used_words, last_chunk}
@@ -35,7 +35,7 @@ use Rattle.cm_layout.specs.Laws.{EntriesStayLive, RowsGrow, LoadersAreOwn}
 use Rattle.cm_layout.proofs.{number-bare, name-bare, numbers-bare, classes-bare, slots-bare}
 use Rattle.cm_layout.proofs.{differ-bare, more-bare, after-bare, rule-bare}
 use Rattle.cm_state.specs.State.{ByName, Loaders, Shows, NamesDiffer, class_among, class_in}
-use Rattle.cm_state.specs.State.{size, total, classes_of, state_of}
+use Rattle.cm_state.specs.State.{total, classes_of, state_of, slots_of_state}
 use Rattle.cm_state.specs.Step.{AddLoader, Define, Unload, Tighten, UnloadAll, step, is_full}
 use Rattle.cm_state.specs.Step.{last_number, is_list, names_differ, without_all}
 use Rattle.cm_state.specs.Step.{with_loader, with_class}
@@ -45,7 +45,7 @@ use Rattle.cm_state.proofs.RowStates.{loader_found, class_found, is_loader_found
 use Rattle.cm_state.proofs.RowStates.{state_with_loader, state_with_class, state_without}
 use Rattle.cm_state.proofs.RowStates.{state_moved}
 use Rattle.cm_state.proofs.Leaving.{leave}
-use Rattle.cm_state.proofs.Sizes.{size_more_loader, size_more_class}
+use Rattle.cm_state.proofs.Sizes.{counted, counted_loader, counted_class}
 use Rattle.cm_state.proofs.Differ.{number_found, only_name, some_name, number_among}
 use Rattle.cm_state.proofs.Differ.{loader_differs, class_differs, differ_without, differ_moved}
 use Rattle.cm_state.proofs.Differ.{differ_without_all}
@@ -83,7 +83,7 @@ not_last n small = by_test (eqb n last_number) refl
 
 step_loader : {A : Type 0} (shows : Shows A) (sizes : Sizes) (m : Loaders A) (n : ℕ) (x : List ℕ)
     → is_loader_name x ≡ true → eqb n last_number ≡ false → is_some (get m x) ≡ false
-    → is_full sizes m 1 ≡ false
+    → is_full sizes m (slots_of_name x) ≡ false
     → step shows sizes m n (AddLoader x) ≡ Ok (with_loader m x)
 step_loader shows sizes m n x name more new room = rw name (rw more (rw new (rw room refl)))
 
@@ -118,7 +118,7 @@ step_unload_all shows sizes m n xs list name more there =
 record LoaderMay {A : Type 0} (sizes : Sizes) (rows : List (Row A)) (r : LoaderRow) : Type 0 where
   name : is_loader_name r.name ≡ true
   new : number_of r.name rows ≡ None
-  room : slots_of_rows rows + 1 ≤ row_limit sizes
+  room : slots_of_rows rows + slots_of_name r.name ≤ row_limit sizes
 
 loader_may : {A : Type 0} (sizes : Sizes) (rows : List (Row A)) (r : LoaderRow)
     → is_new_loader sizes rows r ≡ true → LoaderMay sizes rows r
@@ -131,7 +131,7 @@ loader_may {A} sizes rows r h =
     record {
       name = front.0;
       new = none_is (number_of r.name rows) front.1;
-      room = leb-true (slots_of_rows rows + 1) (row_limit sizes) parts.1;
+      room = leb-true (slots_of_rows rows + slots_of_name r.name) (row_limit sizes) parts.1;
     }
 
 record ClassMay {A : Type 0} (sizes : Sizes) (rows : List (Row A)) (r : ClassRow) : Type 0 where
@@ -221,23 +221,27 @@ grown_class shows n rows own r c x named new =
 
 -- ---- sizes
 
-size_loader : {A : Type 0} (shows : Shows A) (rows : List (Row A)) (x : List ℕ)
-    → number_of x rows ≡ None
-    → size (with_loader (state_of shows rows) x) ≡ size (state_of shows rows) + 1
-size_loader {A} shows rows x new =
-    size_more_loader (state_of shows rows) x
+size_loader : {A : Type 0} (counts : List ℕ → ℕ) (shows : Shows A) (rows : List (Row A))
+    (x : List ℕ) → number_of x rows ≡ None
+    → counted counts (with_loader (state_of shows rows) x)
+    ≡ counted counts (state_of shows rows) + counts x
+size_loader {A} counts shows rows x new =
+    counted_loader counts (state_of shows rows) x
     (loader_found shows rows rows x ∙ ap (option_map (λ u. classes_of shows u rows)) new)
 
-size_class : {A : Type 0} (shows : Shows A) (rows : List (Row A)) (x : List ℕ) (u : ℕ) (c : A)
+size_class : {A : Type 0} (counts : List ℕ → ℕ) (shows : Shows A) (rows : List (Row A))
+    (x : List ℕ) (u : ℕ) (c : A)
     → number_of x rows ≡ Some u → class_among shows u (shows.name c) rows ≡ None
-    → size (with_class shows (state_of shows rows) x c) ≡ size (state_of shows rows) + 1
-size_class {A} shows rows x u c there new =
+    → counted counts (with_class shows (state_of shows rows) x c)
+    ≡ counted counts (state_of shows rows) + 1
+size_class {A} counts shows rows x u c there new =
     let here : get (state_of shows rows) x ≡ Some (classes_of shows u rows) =
     loader_found shows rows rows x ∙ ap (option_map (λ v. classes_of shows v rows)) there in
     let old : unwrap_or (get (state_of shows rows) x) empty ≡ classes_of shows u rows =
     ap (λ (o : Option (ByName A)). unwrap_or o empty) here in
-    ap (λ (m : ByName A). size (insert (state_of shows rows) x (insert m (shows.name c) c))) old
-    ∙ size_more_class (state_of shows rows) x (classes_of shows u rows) (shows.name c) c here
+    ap (λ (m : ByName A). counted counts (insert (state_of shows rows) x
+    (insert m (shows.name c) c))) old
+    ∙ counted_class counts (state_of shows rows) x (classes_of shows u rows) (shows.name c) c here
     (class_found shows u rows (shows.name c) ∙ new)
 
 record LiveLoaderMay (pre : List ℕ) (r : LoaderRow) (new : Bool) : Type 0 where
@@ -275,61 +279,94 @@ live-bare sizes n rows (Loader r) =
 live-bare sizes n rows (Class r c) =
     rw (name-bare r.loader rows) (rw (slots-bare rows) (rw (classes-bare rows) refl))
 
-sizes_from : {A : Type 0} → RowsGrow → LoadersAreOwn → (shows : Shows A) (sizes : Sizes) (n : ℕ)
-    (pre rows : List (Row A)) → LiveRowsKeep sizes n [] (bare pre)
+-- of rows as much is counted as of their state
+weighed : {A : Type 0} → (List ℕ → ℕ) → List (Row A) → ℕ
+weighed counts [] = 0
+weighed counts (Loader r ∷ rows) = counts r.name + weighed counts rows
+weighed counts (Class r c ∷ rows) = 1 + weighed counts rows
+
+weighed-rows : {A : Type 0} (rows : List (Row A)) → weighed (λ x. 1) rows ≡ length rows
+unfolding weighed
+weighed-rows [] = refl
+weighed-rows (Loader r ∷ rows) = omega (arith, weighed-rows rows)
+weighed-rows (Class r c ∷ rows) = omega (arith, weighed-rows rows)
+
+weighed-slots : {A : Type 0} (rows : List (Row A))
+    → weighed slots_of_name rows ≡ slots_of_rows rows
+unfolding weighed
+weighed-slots [] = refl
+weighed-slots (Loader r ∷ rows) = omega (arith, weighed-slots rows)
+weighed-slots (Class r c ∷ rows) = omega (arith, weighed-slots rows)
+
+sizes_from : {A : Type 0} → RowsGrow → LoadersAreOwn → (counts : List ℕ → ℕ) (shows : Shows A)
+    (sizes : Sizes) (n : ℕ) (pre rows : List (Row A)) → LiveRowsKeep sizes n [] (bare pre)
     → LiveRowsKeep sizes n (bare pre) (bare rows) → NamesDiffer shows pre rows
-    → size (state_of shows (pre ++ rows)) ≡ size (state_of shows pre) + slots_of_rows rows
-sizes_from {A} grow own shows sizes n pre [] before live differ =
-    (λ i. size (state_of shows (append-nil pre i))) ∙ omega arith
-sizes_from {A} grow own shows sizes n pre (Loader r ∷ rows) before live differ =
+    → counted counts (state_of shows (pre ++ rows))
+    ≡ counted counts (state_of shows pre) + weighed counts rows
+unfolding weighed
+sizes_from {A} grow own counts shows sizes n pre [] before live differ =
+    (λ i. counted counts (state_of shows (append-nil pre i))) ∙ omega arith
+sizes_from {A} grow own counts shows sizes n pre (Loader r ∷ rows) before live differ =
     let rule : broken_live_rule sizes n pre (Loader r) ≡ None =
     sym (live-bare sizes n pre (Loader r)) ∙ live.1 in
     let may = live_loader sizes n pre r rule in
     let new = (loader_may sizes pre r may.is_new).new in
     let mine = own-bare n pre (own sizes n (bare pre) before) in
-    let one : size (state_of shows (pre ++ Loader r ∷ [])) ≡ size (state_of shows pre) + 1 =
-    ap (λ (m : Loaders A). size m) (grown_loader shows n pre mine r new may.above)
-    ∙ size_loader shows pre r.name new in
-    let next = sizes_from grow own shows sizes n (pre ++ Loader r ∷ []) rows
+    let one : counted counts (state_of shows (pre ++ Loader r ∷ []))
+    ≡ counted counts (state_of shows pre) + counts r.name =
+    ap (λ (m : Loaders A). counted counts m) (grown_loader shows n pre mine r new may.above)
+    ∙ size_loader counts shows pre r.name new in
+    let next = sizes_from grow own counts shows sizes n (pre ++ Loader r ∷ []) rows
     (subst (λ l. LiveRowsKeep sizes n [] l) (sym (more-bare pre (Loader r)))
     (grow sizes n (bare pre) (Loader r) before live.0 live.1))
     (subst (λ l. LiveRowsKeep sizes n l (bare rows)) (sym (more-bare pre (Loader r))) live.2)
     differ in
-    (λ i. size (state_of shows (sym (append_assoc pre (Loader r ∷ []) rows) i)))
+    (λ i. counted counts (state_of shows (sym (append_assoc pre (Loader r ∷ []) rows) i)))
     ∙ omega (arith, next, one)
-sizes_from {A} grow own shows sizes n pre (Class r c ∷ rows) before live differ =
+sizes_from {A} grow own counts shows sizes n pre (Class r c ∷ rows) before live differ =
     let rule : broken_live_rule sizes n pre (Class r c) ≡ None =
     sym (live-bare sizes n pre (Class r c)) ∙ live.1 in
     let mine = own-bare n pre (own sizes n (bare pre) before) in
     let named = some_name r.loader pre (class_may sizes pre r c rule).live in
     let there = number_found named.0 r.loader pre mine.differ named.1 in
-    let one : size (state_of shows (pre ++ Class r c ∷ [])) ≡ size (state_of shows pre) + 1 =
-    ap (λ (m : Loaders A). size m) (grown_class shows n pre mine r c named.0 named.1 differ.0)
-    ∙ size_class shows pre named.0 r.loader c there differ.0 in
-    let next = sizes_from grow own shows sizes n (pre ++ Class r c ∷ []) rows
+    let one : counted counts (state_of shows (pre ++ Class r c ∷ []))
+    ≡ counted counts (state_of shows pre) + 1 =
+    ap (λ (m : Loaders A). counted counts m)
+    (grown_class shows n pre mine r c named.0 named.1 differ.0)
+    ∙ size_class counts shows pre named.0 r.loader c there differ.0 in
+    let next = sizes_from grow own counts shows sizes n (pre ++ Class r c ∷ []) rows
     (subst (λ l. LiveRowsKeep sizes n [] l) (sym (more-bare pre (Class r c)))
     (grow sizes n (bare pre) (Class r (tt {0})) before live.0 live.1))
     (subst (λ l. LiveRowsKeep sizes n l (bare rows)) (sym (more-bare pre (Class r c))) live.2)
     differ.1 in
-    (λ i. size (state_of shows (sym (append_assoc pre (Class r c ∷ []) rows) i)))
+    (λ i. counted counts (state_of shows (sym (append_assoc pre (Class r c ∷ []) rows) i)))
     ∙ omega (arith, next, one)
 
-size-empty : (A : Type 0) → size (empty {X = ByName A} {R = slice_cmp nat_cmp}) ≡ 0
-size-empty A = no_total (entries (empty {X = ByName A} {R = slice_cmp nat_cmp}))
+none-counted : (A : Type 0) (counts : List ℕ → ℕ)
+    → counted counts (empty {X = ByName A} {R = slice_cmp nat_cmp}) ≡ 0
+none-counted A counts = no_total (entries (empty {X = ByName A} {R = slice_cmp nat_cmp}))
     (sym (len-entries (empty {X = ByName A} {R = slice_cmp nat_cmp}))
     ∙ len-empty (slice_cmp nat_cmp) (ByName A))
   where
-    no_total : (es : List (List ℕ × ByName A)) → length es ≡ 0 → total es ≡ 0
+    no_total : (es : List (List ℕ × ByName A)) → length es ≡ 0 → total counts es ≡ 0
     no_total [] e = refl
     no_total (x ∷ es) e = absurd (omega (arith, e))
 
-pub sizes_agree : {A : Type 0} → RowsGrow → LoadersAreOwn → SizesAgree A
-sizes_agree {A} grow own shows sizes n rows are =
-    let grown : size (state_of shows rows) ≡ size (empty {X = ByName A} {R = slice_cmp nat_cmp})
-    + slots_of_rows rows =
-    sizes_from grow own shows sizes n [] rows tt are.live are.differ in
-    let none = size-empty A in
+counts_agree : {A : Type 0} → RowsGrow → LoadersAreOwn → (counts : List ℕ → ℕ) (shows : Shows A)
+    (sizes : Sizes) (n : ℕ) (rows : List (Row A)) → AreCacheRows shows sizes n rows
+    → counted counts (state_of shows rows) ≡ weighed counts rows
+counts_agree {A} grow own counts shows sizes n rows are =
+    let grown : counted counts (state_of shows rows)
+    ≡ counted counts (empty {X = ByName A} {R = slice_cmp nat_cmp}) + weighed counts rows =
+    sizes_from grow own counts shows sizes n [] rows tt are.live are.differ in
+    let none = none-counted A counts in
     omega (arith, grown, none)
+
+pub sizes_agree : {A : Type 0} → RowsGrow → LoadersAreOwn → SizesAgree A
+sizes_agree {A} grow own shows sizes n rows are = (
+  counts_agree grow own (λ x. 1) shows sizes n rows are ∙ weighed-rows rows,
+  counts_agree grow own slots_of_name shows sizes n rows are ∙ weighed-slots rows,
+)
 
 -- ---- entries
 
@@ -387,9 +424,10 @@ mover_lives {A} sizes n rows own e h =
     let one = some_last e.loader (classes_in rows) e.from front.0 in
     subst (λ (u : ℕ). is_live u rows ≡ true) one.2 (own.owned one.0 one.1)
 
-room_left : {A : Type 0} (sizes : Sizes) (m : Loaders A) (k : ℕ) → size m ≡ k
-    → k + 1 ≤ row_limit sizes → is_full sizes m 1 ≡ false
-room_left sizes m k is few = not_lt (row_limit sizes) (size m + 1) (omega (arith, is, few))
+room_left : {A : Type 0} (sizes : Sizes) (m : Loaders A) (k need : ℕ) → slots_of_state m ≡ k
+    → k + need ≤ row_limit sizes → is_full sizes m need ≡ false
+room_left sizes m k need is few =
+    not_lt (row_limit sizes) (slots_of_state m + need) (omega (arith, is, few))
 
 next_rows : {A : Type 0} → EntriesStayLive → (shows : Shows A) (sizes : Sizes) (n : ℕ)
     (rows : List (Row A)) (e : Entry A) → AreCacheRows shows sizes n rows
@@ -420,8 +458,8 @@ entries_step {A} stay grow own shows sizes n rows (entry.Live (Loader r)) are ma
     (kept (eqb r.number (n + 1) && is_new_loader sizes rows r) may.keeps) in
     let number = eqb-true r.number (n + 1) parts.0 in
     let this = loader_may sizes rows r parts.1 in
-    let room = room_left sizes (state_of shows rows) (slots_of_rows rows)
-    (sizes_agree grow own shows sizes n rows are) this.room in
+    let room = room_left sizes (state_of shows rows) (slots_of_rows rows) (slots_of_name r.name)
+    (sizes_agree grow own shows sizes n rows are).1 this.room in
     record {
       change = AddLoader r.name;
       change_is = refl;
@@ -438,8 +476,8 @@ entries_step {A} stay grow own shows sizes n rows (entry.Live (Class r c)) are m
     let named = some_name r.loader rows this.live in
     let x = named.0 in
     let there = number_found x r.loader rows mine.differ named.1 in
-    let room = room_left sizes (state_of shows rows) (slots_of_rows rows)
-    (sizes_agree grow own shows sizes n rows are) this.room in
+    let room = room_left sizes (state_of shows rows) (slots_of_rows rows) 1
+    (sizes_agree grow own shows sizes n rows are).1 this.room in
     record {
       change = Define x c;
       change_is = ap (option_map (λ y. Define y c)) named.1;

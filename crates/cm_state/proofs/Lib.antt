@@ -6,6 +6,7 @@ mod Differ
 mod Leaving
 mod EntrySteps
 mod Folds
+mod Gone
 mod OneCache
 mod Arenas
 -- Finite maps from names.

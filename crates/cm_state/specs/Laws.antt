@@ -1,5 +1,8 @@
 -- What holds of the definitions themselves.
-use Rattle.std.specs.Prelude.{◌≡◌, ◌≢◌, ℕ, ◌+◌, ◌^◌, ◌<◌, List, ◌++◌, length, Some, Ok, is_some}
+use Rattle.std.specs.Prelude.{◌≡◌, ◌≢◌, ℕ, ◌+◌, ◌^◌, ◌<◌, List, ◌++◌, length, Some, None, Ok}
+use Rattle.std.specs.Prelude.{is_some, not, filter, if◌then◌else◌}
+use Rattle.std.specs.List.{list_any}
+use Rattle.std.specs.Str.{bytes_eq}
 use Rattle.std.specs.Option.{option_and_then}
 use Rattle.std.specs.FinMap as map
 use Rattle.cm_class.specs.declared.class_file.ClassFile.{ClassFile}
@@ -10,10 +13,11 @@ use Rattle.cm_pool.specs.Lists.{Among, Pairwise}
 use Rattle.cm_layout.specs.declared.class_row.ClassRow.{ClassRow}
 use Rattle.cm_layout.specs.declared.row.Row.{Row}
 use Rattle.cm_layout.specs.declared.entry.Entry.{Entry}
-use Rattle.cm_layout.specs.Rows.{name_of, number_of, classes_in, slots_of_rows, rows_after}
-use Rattle.cm_state.specs.State.{CacheState, Shows, class_shows, class_in, class_among, size}
-use Rattle.cm_state.specs.State.{state_of}
-use Rattle.cm_state.specs.Step.{Change, step}
+use Rattle.cm_layout.specs.Rows.{name_of, number_of, classes_in, slots_of_rows, rows_after, is_of}
+use Rattle.cm_layout.specs.Rows.{without_loaders}
+use Rattle.cm_state.specs.State.{CacheState, Loaders, Shows, class_shows, class_in, class_among}
+use Rattle.cm_state.specs.State.{size, slots_of_state, state_of}
+use Rattle.cm_state.specs.Step.{Change, step, without_all}
 use Rattle.cm_state.specs.Fold.{fold}
 use Rattle.cm_state.specs.Entries.{AreCacheRows, MayFollow, change_of}
 use Rattle.cm_state.specs.Stands.{Arenas, Stands}
@@ -33,7 +37,7 @@ NumbersFollow =
     → fold class_shows sizes m n changes ≡ Some (last, number) → number ≡ n + length changes
 
 -- What the state of rows holds is found in the rows: loaders by name, classes by name in a loader;
--- and its size is that of the rows.
+-- and it has as many of these as there are rows, which take as many slots.
 abbrev pub LoadersAreFound : Type 0 → Type 0
 LoadersAreFound A =
     (shows : Shows A) (rows : List (Row A)) (name : List ℕ)
@@ -48,7 +52,24 @@ ClassesAreFound A =
 abbrev pub SizesAgree : Type 0 → Type 0
 SizesAgree A =
     (shows : Shows A) (sizes : Sizes) (n : ℕ) (rows : List (Row A))
-    → AreCacheRows shows sizes n rows → size (state_of shows rows) ≡ slots_of_rows rows
+    → AreCacheRows shows sizes n rows
+    → (size (state_of shows rows) ≡ length rows)
+    × (slots_of_state (state_of shows rows) ≡ slots_of_rows rows)
+
+-- Of loaders that go at once exactly theirs is gone: the cache has none of these names then, and
+-- under each other name what it had. So it is with rows: those stay whose loader isn't one of
+-- these.
+abbrev pub LoadersGo : Type 0 → Type 0
+LoadersGo A =
+    (m : Loaders A) (names : List (List ℕ)) (name : List ℕ)
+    → map.get (without_all names m) name
+    ≡ (if list_any (λ x. bytes_eq x name) names then None else map.get m name)
+
+abbrev pub RowsGo : Type 0 → Type 0
+RowsGo A =
+    (loaders : List ℕ) (rows : List (Row A))
+    → without_loaders loaders rows
+    ≡ filter (λ row. not (list_any (λ u. is_of u row) loaders)) rows
 
 -- An entry that may follow is a step of the cache: some change that has no cause against it, and
 -- the next state is that of the rows after the entry.

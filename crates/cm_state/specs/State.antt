@@ -11,6 +11,7 @@ use Rattle.cm_class.specs.declared.class_file.ClassFile.{ClassFile}
 use Rattle.cm_class.specs.Names.{class_name_of}
 use Rattle.cm_record.specs.Layout.{lay}
 use Rattle.cm_record.specs.Names.{class_name_in}
+use Rattle.cm_layout.specs.Names.{slots_of_name}
 use Rattle.cm_layout.specs.declared.row.Row.{Row}
 use Rattle.cm_layout.specs.declared.row.Row.TheVariants.{Loader, Class}
 
@@ -42,13 +43,18 @@ CacheState = Loaders ClassFile
 abbrev pub class_in : {A : Type 0} → Loaders A → List ℕ → List ℕ → Option A
 class_in m loader name = option_and_then (λ classes. map.get classes name) (map.get m loader)
 
--- loaders and classes together
-abbrev pub total : {A : Type 0} → List (List ℕ × ByName A) → ℕ
-total [] = 0
-total (loader ∷ loaders) = 1 + map.len loader.1 + total loaders
+-- classes, and loaders, each of which counts as much as its name does
+abbrev pub total : {A : Type 0} → (List ℕ → ℕ) → List (List ℕ × ByName A) → ℕ
+total counts [] = 0
+total counts (loader ∷ loaders) = counts loader.0 + map.len loader.1 + total counts loaders
 
+-- loaders and classes together
 abbrev pub size : {A : Type 0} → Loaders A → ℕ
-size m = total (map.entries m)
+size m = total (λ name. 1) (map.entries m)
+
+-- how many slots they take as live rows
+abbrev pub slots_of_state : {A : Type 0} → Loaders A → ℕ
+slots_of_state m = total slots_of_name (map.entries m)
 
 -- ---- of rows
 

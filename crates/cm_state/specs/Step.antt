@@ -9,10 +9,10 @@ use Rattle.std.specs.List.{list_all}
 use Rattle.std.specs.Str.{bytes_eq}
 use Rattle.cm_pool.specs.Geometry.{Sizes}
 use Rattle.cm_pool.specs.Chunks.{chunk_size}
-use Rattle.cm_layout.specs.Names.{is_loader_name}
+use Rattle.cm_layout.specs.Names.{is_loader_name, slots_of_name}
 use Rattle.cm_layout.specs.Slots.{unload_limit}
 use Rattle.cm_layout.specs.Rules.{is_too_much}
-use Rattle.cm_state.specs.State.{Loaders, Shows, class_in, size}
+use Rattle.cm_state.specs.State.{Loaders, Shows, class_in, slots_of_state}
 
 -- a change that is asked for, of the loader of a name or of the loaders of several
 pub data Change (A : Type 0) : Type 0 where
@@ -39,7 +39,7 @@ last_number = 2 ^ 63
 
 -- half of a half's slots are for what lives: none is left for what needs so many
 abbrev pub is_full : {A : Type 0} → Sizes → Loaders A → ℕ → Bool
-is_full sizes m need = is_too_much sizes (size m) need
+is_full sizes m need = is_too_much sizes (slots_of_state m) need
 
 -- a loader without classes more
 abbrev pub with_loader : {A : Type 0} → Loaders A → List ℕ → Loaders A
@@ -71,7 +71,7 @@ step shows sizes m n (AddLoader x) =
     if not (is_loader_name x) then Err BadName
     else if n == last_number then Err NumbersSpent
     else if is_some (map.get m x) then Err LoaderExists
-    else if is_full sizes m 1 then Err JournalFull
+    else if is_full sizes m (slots_of_name x) then Err JournalFull
     else Ok (with_loader m x)
 step shows sizes m n (Define x c) =
     if not (is_loader_name x) then Err BadName

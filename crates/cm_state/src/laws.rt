@@ -5,7 +5,7 @@ ghost use Rattle.std.specs.Prelude.{ℕ, List};
 ghost use Rattle.cm_class.specs.declared.class_file.ClassFile.{ClassFile};
 ghost use Rattle.cm_state.specs.Laws.{ChangesGoOn, NumbersFollow, StandForOne};
 ghost use Rattle.cm_state.specs.Laws.{LoadersAreFound, ClassesAreFound, SizesAgree};
-ghost use Rattle.cm_state.specs.Laws.{EntriesAreSteps};
+ghost use Rattle.cm_state.specs.Laws.{LoadersGo, RowsGo, EntriesAreSteps};
 ghost use Rattle.cm_state.specs.Laws.{ArenasAreApart, EachRecordIsInItsArena};
 
 use cm_layout::{contents_determine_rows, live_rows_go_on, loaders_are_own, rows_stay_live};
@@ -28,7 +28,8 @@ pub fn contents_determine_cache()
 }
 
 /// What the state of rows holds is found in the rows, with classes as well as with the words of
-/// their records: loaders by name, classes by name in a loader; and its size is that of the rows.
+/// their records: loaders by name, classes by name in a loader; and it has as many of these as
+/// there are rows, which take as many slots.
 pub fn rows_tell_state()
     ensures loaders { LoadersAreFound ClassFile × LoadersAreFound (List ℕ) }
     ensures classes { ClassesAreFound ClassFile × ClassesAreFound (List ℕ) }
@@ -37,6 +38,13 @@ pub fn rows_tell_state()
     live_rows_go_on();
     loaders_are_own();
 }
+
+/// Of loaders that go at once exactly theirs is gone, with all their classes, in whatever order
+/// they are named; so it is with rows.
+pub fn named_loaders_go()
+    ensures loaders { LoadersGo ClassFile × LoadersGo (List ℕ) }
+    ensures rows { RowsGo ClassFile × RowsGo (List ℕ) }
+{}
 
 /// An entry that keeps the entry rules on the rows of a cache, with a class that is new in its
 /// loader, is a step of the cache: the change that it makes has no cause against it, and the next

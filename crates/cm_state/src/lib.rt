@@ -4,5 +4,6 @@
 mod laws;
 
 pub use laws::{
-    arenas_are_apart, changes_go_on, contents_determine_cache, entries_are_steps, rows_tell_state,
+    arenas_are_apart, changes_go_on, contents_determine_cache, entries_are_steps, named_loaders_go,
+    rows_tell_state,
 };

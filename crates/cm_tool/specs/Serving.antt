@@ -1,7 +1,8 @@
 -- What the functions of a script do to the session that they run on.
 use Rattle.std.specs.Prelude.{◌≡◌, ◌≤◌, ◌⊎◌, ℕ, false, List, take, Option, Result, Ok, Err, IfOk}
 use Rattle.cm_pool.specs.Geometry.{Sizes}
-use Rattle.cm_disk.specs.Disk.{View, Unsynced}
+use Rattle.cm_disk.specs.Disk.{View, Unsynced, IsImage}
+use Rattle.cm_recover.specs.Opened.{IsOlderFile, LeavesSame}
 use Rattle.cm_guards.specs.Guards.{EachImage}
 use Rattle.cm_guards.specs.Calls.{LeavesOnly}
 use Rattle.cm_state.specs.Step.{Change, AddLoader, Unload, Tighten, UnloadAll}
@@ -100,6 +101,14 @@ medium view disk = record {
   unsynced = view.unsynced disk;
   failures = view.failures disk;
 }
+
+-- While the cache is opened a crash leaves what it might have left before; or, where the file is of
+-- an older version and is moved over, what stands for the same cache.
+pub record LeavesOpening {D : Type 0} (Leaves : D → D → (List ℕ → Type 0) → Type 0)
+    (begun opened : D) (disk : Medium) : Type 0 where
+  pub alone : (IsOlderFile disk.bytes → ⊥)
+      → Leaves begun opened (IsImage disk.bytes disk.unsynced)
+  pub either : Leaves begun opened (LeavesSame disk.bytes disk.unsynced)
 
 -- Whatever a crash leaves of the disk stands for all that was acknowledged, and nothing that
 -- wasn't handed out.

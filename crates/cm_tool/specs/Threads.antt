@@ -3,7 +3,6 @@ use Rattle.std.specs.Prelude.{◌≡◌, ◌≤◌, ℕ, true, List, Option, Som
 use Rattle.std.specs.Prelude.{IsSomeAnd}
 use Rattle.cm_record.specs.Layout.{lay}
 use Rattle.cm_layout.specs.Rows.{rows_with}
-use Rattle.cm_disk.specs.Disk.{IsImage}
 use Rattle.cm_state.specs.Stands.{Stands}
 use Rattle.cm_verdict.specs.Verdict.{Standing, state_in, arenas_in, verdict}
 use Rattle.cm_lines.specs.Streams.{Io}
@@ -13,7 +12,7 @@ use Rattle.cm_tool.specs.declared.apply.ApplyFault.{ApplyFault}
 use Rattle.cm_tool.specs.declared.apply.ApplyFault.TheVariants as apply
 use Rattle.cm_tool.specs.declared.script.Outcome.{Outcome}
 use Rattle.cm_tool.specs.declared.script.ToolFault.TheVariants as fault
-use Rattle.cm_tool.specs.Serving.{Medium}
+use Rattle.cm_tool.specs.Serving.{Medium, LeavesOpening}
 use Rattle.cm_tool.specs.Applied.{IsUntouched}
 
 -- Whatever a crash leaves of the disk holds what was opened with a beginning of the commands that
@@ -42,7 +41,7 @@ pub record RunsInThreads {D : Type 0} (Leaves : D → D → (List ℕ → Type 0
   pub stands : Stands standing.found.sizes disk.bytes (state_in standing) (arenas_in standing)
       standing.found.number
   pub opened : D
-  pub opening : Leaves begun opened (IsImage disk.bytes disk.unsynced)
+  pub opening : LeavesOpening Leaves begun opened disk
   -- how often the disk had failed when the cache was opened
   pub failures : ℕ
   pub later : disk.failures ≤ failures

@@ -29,10 +29,11 @@ pub enum ApplyFault {
 /// each as soon as it is there. A command's `ok` is written once the command is stored.
 ///
 /// A crash at any moment of a line leaves all that was acknowledged before that line, and nothing
-/// that wasn't handed out by its end; while the cache is opened, what it might have left before.
+/// that wasn't handed out by its end; while the cache is opened, what it might have left before,
+/// or, where a file of an older version is moved over, what stands for the same cache.
 ///
-/// The disk is handed back in any case. After `Open` it has the bytes that it had; after `Script`
-/// all that was acknowledged is stored.
+/// The disk is handed back in any case. After `Open` it stands for what it stood for; after
+/// `Script` all that was acknowledged is stored.
 pub fn apply_script<R: BufRead, W: Write, D: Disk>(
     alloc: Global,
     reader: &mut R,

@@ -12,14 +12,14 @@ use Rattle.cm_layout.specs.declared.half.Half.TheVariants.{Zero, One}
 use Rattle.cm_layout.specs.declared.row.Row.{Row}
 use Rattle.cm_layout.specs.declared.row.Row.TheVariants.{Loader, Class}
 use Rattle.cm_layout.specs.Offsets.{superblock_size, half_size, half_at, roots_at}
-use Rattle.cm_layout.specs.Slots.{open_gate, half_head_slot, row_slot, entry_slot}
+use Rattle.cm_layout.specs.Slots.{open_gate, half_head_slot, row_slots, entry_slots}
 use Rattle.cm_layout.specs.Rows.{slots_of_entries, classes_in, bare, rows_after_all}
 use Rattle.cm_layout.specs.Frames.{BareRow, BareEntry, IsEnd, IsGoodHalf, LiveRowsKeep, GroupsKeep}
 use Rattle.cm_layout.specs.Frames.{AreApart, groups_slots, rows_of, number_at_end}
 use Rattle.cm_layout.specs.Framing.{Framing, IsRight, Matches, used_bytes, used_size}
 use Rattle.cm_layout.specs.Framing.{open_half, other_half, needs}
 use Rattle.cm_layout.specs.Laws.{RowsAreApart, RowsStayLive, FramesAreMatched, MatchesFrame}
-use Rattle.cm_layout.proofs.{classes-bare}
+use Rattle.cm_layout.proofs.{classes-bare, some_slots}
 use Rattle.cm_verdict.specs.declared.counting.Counting.{Counting}
 use Rattle.cm_verdict.specs.declared.fault.FileFault.{FileFault}
 use Rattle.cm_verdict.specs.Faults.{◌>>=◌}
@@ -28,7 +28,7 @@ use Rattle.cm_verdict.specs.Found.{counting, counting_half, Found, half_in, head
 use Rattle.cm_verdict.specs.Found.{found_walked, walk_through, sizes_found, found_in, Begins}
 use Rattle.cm_verdict.specs.Laws.{rows_words, AreWhole, IsLive, FoundIsLive, IsFramed}
 use Rattle.cm_verdict.specs.Laws.{FoundIsFramed, IsFound, FramedIsFound}
-use Rattle.cm_verdict.proofs.Walks.{end_from, from_slot, next_from, slots_one, HasGroups, HasLive}
+use Rattle.cm_verdict.proofs.Walks.{end_from, from_slot, next_from, HasGroups, HasLive}
 use Rattle.cm_verdict.proofs.Walks.{live_walked}
 use Rattle.cm_verdict.proofs.WalksBack.{Reaches, live_found}
 use Rattle.cm_verdict.proofs.Heads.{IsCounting, counted, counting_back}
@@ -40,7 +40,7 @@ use Rattle.cm_verdict.proofs.Parts.{each_held, needs_long, SameWords, same_words
 
 no_entries : (es : List BareEntry) → slots_of_entries es ≡ 0 → es ≡ []
 no_entries [] e = refl
-no_entries (d ∷ es) e = absurd (omega (arith, e, slots_one d))
+no_entries (d ∷ es) e = absurd (omega (arith, e, some_slots d))
 
 -- groups from a slot on, with no group under way
 record HasWholeGroups (half : List ℕ) (slot : ℕ) (rows : List BareRow) (number : ℕ)
@@ -63,7 +63,7 @@ whole_groups sizes half slot rows number e g =
           g.middle g.groups)
           none g.groups_keep);
       bytes = g.bytes
-          ∙ (λ i. flat_map entry_slot (none i)
+          ∙ (λ i. flat_map entry_slots (none i)
           ++ (groups_slots (same i) g.groups ++ from_slot half e.slot));
       rows_are = g.rows_are
           ∙ ap (λ (l : List BareEntry). rows_after_all (rows_after_all rows l)
@@ -128,7 +128,7 @@ module _ (apart : RowsAreApart) (contents : List ℕ) (sizes : Sizes) (c : Count
   half_is =
       next_from half 0
       ∙ ((λ i. head_is i ++ (found_live.bytes
-      ∙ ap (λ (l : List ℕ). flat_map row_slot found_live.live ++ l) groups.bytes) i)
+      ∙ ap (λ (l : List ℕ). flat_map row_slots found_live.live ++ l) groups.bytes) i)
       ∙ used_split framing behind)
 
   used_is : used_size framing ≡ 64 * w.slot
@@ -275,13 +275,13 @@ used_some f =
     omega (
       arith,
       length-append (half_head_slot f.head)
-          (flat_map row_slot f.live ++ groups_slots f.head.base f.groups),
+          (flat_map row_slots f.live ++ groups_slots f.head.base f.groups),
     )
 
 used_head : (f : Framing) → take 64 (used_bytes f) ≡ half_head_slot f.head
 unfolding used_bytes
 used_head f =
-    take_at (half_head_slot f.head) (flat_map row_slot f.live ++ groups_slots f.head.base f.groups)
+    take_at (half_head_slot f.head) (flat_map row_slots f.live ++ groups_slots f.head.base f.groups)
     64 refl
 
 module _ (contents : List ℕ) (sizes : Sizes) (rows : List (Row (List ℕ))) (number : ℕ)
@@ -341,11 +341,11 @@ module _ (contents : List ℕ) (sizes : Sizes) (rows : List (Row (List ℕ))) (n
       m.end goes_on (sym byte ∙ gate))
 
   behind_head : from_slot whole_half 1
-      ≡ flat_map row_slot fr.live ++ (groups_slots fr.head.base fr.groups ++ rest)
+      ≡ flat_map row_slots fr.live ++ (groups_slots fr.head.base fr.groups ++ rest)
   behind_head =
       ap (drop 64) (split ∙ sym (used_split fr rest))
       ∙ drop_at (half_head_slot fr.head)
-      (flat_map row_slot fr.live ++ (groups_slots fr.head.base fr.groups ++ rest)) 64 refl
+      (flat_map row_slots fr.live ++ (groups_slots fr.head.base fr.groups ++ rest)) 64 refl
 
   reach : Reaches sizes (first_slot sizes fr.counting) whole_half whole_long (sizes.slots - 1)
       (start fr.head) (rows_of (open_half fr)) (number_at_end (open_half fr))

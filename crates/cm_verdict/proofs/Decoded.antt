@@ -25,12 +25,14 @@ use Rattle.cm_layout.specs.declared.relocation.Move.{Move}
 use Rattle.cm_layout.specs.declared.unload_all.UnloadAll.{UnloadAll}
 use Rattle.cm_layout.specs.declared.row.Row.TheVariants.{Loader, Class}
 use Rattle.cm_layout.specs.declared.entry.Entry.TheVariants as entry
-use Rattle.cm_layout.specs.Slots.{half_head_slot, group_head_slot, loader_slot, class_slot}
-use Rattle.cm_layout.specs.Slots.{unload_slot, move_slot, row_slot, entry_slot, FitsHalfHead}
+use Rattle.cm_layout.specs.Slots.{half_head_slot, group_head_slot, loader_slot, loader_slots}
+use Rattle.cm_layout.specs.Slots.{class_slot}
+use Rattle.cm_layout.specs.Slots.{unload_slot, move_slot, row_slots, entry_slots, FitsHalfHead}
 use Rattle.cm_layout.specs.Slots.{FitsGroupHead, FitsLoader, FitsClass, FitsUnload, FitsMove}
 use Rattle.cm_layout.specs.Slots.{FitsRow, FitsEntry, FitsChunk, FitsUnloadAll, unload_all_slot}
 use Rattle.cm_layout.specs.Superblock.{superblock_bytes}
 use Rattle.cm_layout.specs.Frames.{BareRow, BareEntry}
+use Rattle.cm_layout.proofs.{slots-short, front-back}
 use Rattle.cm_verdict.specs.Decoding.{two_at, four_at, eight_at, if_spelled, half_head_at}
 use Rattle.cm_verdict.specs.Decoding.{half_head_in, group_head_at, group_head_in, name_size}
 use Rattle.cm_verdict.specs.Decoding.{loader_at, loader_in, class_at, class_in, chunk_at, unload_at}
@@ -130,13 +132,13 @@ group_head_again h fits =
 -- ---- loaders
 
 loader_spelled : (slot : List ℕ) (r : LoaderRow) → loader_in slot ≡ Some r
-    → (slot ≡ loader_slot r) × FitsLoader r
+    → (slot ≡ loader_slots r) × FitsLoader r
 unfolding loader_in
 loader_spelled slot r = by_size (nat_le (name_size slot) 48) refl
   where
     by_size : (t : Bool) → nat_le (name_size slot) 48 ≡ t
         → cond t (if_spelled (loader_slot (loader_at slot)) slot (loader_at slot)) None ≡ Some r
-        → (slot ≡ loader_slot r) × FitsLoader r
+        → (slot ≡ loader_slots r) × FitsLoader r
     by_size true is e =
         let s = spelled_some (loader_slot (loader_at slot)) slot (loader_at slot) r e in
         let number : eight_at 8 slot < 2 ^ 64 =
@@ -146,17 +148,19 @@ loader_spelled slot r = by_size (nat_le (name_size slot) 48) refl
           number = number;
           name = omega (arith, length-take (name_size slot) (drop 16 slot), small);
         } in
-        (sym s.same ∙ ap loader_slot s.value, subst FitsLoader s.value fits)
+        let of_r : FitsLoader r = subst FitsLoader s.value fits in
+        (sym s.same ∙ ap loader_slot s.value ∙ sym (slots-short r of_r.name), of_r)
     by_size false is e = no_some r e
 
-loader_again : (r : LoaderRow) → FitsLoader r → loader_in (loader_slot r) ≡ Some r
+loader_again : (r : LoaderRow) → FitsLoader r → loader_in (loader_slots r) ≡ Some r
 unfolding loader_in
 loader_again r fits =
     let name : take (length r.name) (drop 16 (loader_slot r)) ≡ r.name =
-    take_at r.name (replicate (48 - length r.name) 0) (length r.name) refl in
+    front-back r.name fits.name in
     let same : loader_at (loader_slot r) ≡ r =
     (λ i. record { number = from_le_bytes-to_le_bytes_8 r.number fits.number i; name = name i }) in
-    ap (λ t. cond t (if_spelled (loader_slot (loader_at (loader_slot r))) (loader_slot r)
+    ap loader_in (slots-short r fits.name)
+    ∙ ap (λ t. cond t (if_spelled (loader_slot (loader_at (loader_slot r))) (loader_slot r)
     (loader_at (loader_slot r))) None) (le-leb (length r.name) 48 fits.name)
     ∙ ((λ i. if_spelled (loader_slot (same i)) (loader_slot r) (same i))
     ∙ spelled_is (loader_slot r) (loader_slot r) r refl)
@@ -341,30 +345,30 @@ mapped_some f None y e k = no_some y e
 mapped_some f (Some x) y e k = k x refl (same_some (f x) y e)
 
 pub row_spelled : (slot : List ℕ) (row : BareRow) → row_in slot ≡ Some row
-    → (slot ≡ row_slot row) × FitsRow row
+    → (slot ≡ row_slots row) × FitsRow row
 unfolding row_in
 row_spelled slot row = by_kind (kind_at slot == 17)
   where
     by_kind : (t : Bool)
         → cond t (option_map (λ r. Loader r) (loader_in slot))
         (option_map (λ r. Class r tt) (class_in slot)) ≡ Some row
-        → (slot ≡ row_slot row) × FitsRow row
+        → (slot ≡ row_slots row) × FitsRow row
     by_kind true e =
         mapped_some (λ (r : LoaderRow). Loader r) (loader_in slot) row e (λ r there is.
         let s = loader_spelled slot r there in
-        subst (λ (w : BareRow). (slot ≡ row_slot w) × FitsRow w) is s)
+        subst (λ (w : BareRow). (slot ≡ row_slots w) × FitsRow w) is s)
     by_kind false e =
         mapped_some (λ (r : ClassRow). Class r tt) (class_in slot) row e (λ r there is.
         let s = class_spelled slot r there in
-        subst (λ (w : BareRow). (slot ≡ row_slot w) × FitsRow w) is s)
+        subst (λ (w : BareRow). (slot ≡ row_slots w) × FitsRow w) is s)
 
-pub row_again : (row : BareRow) → FitsRow row → row_in (row_slot row) ≡ Some row
+pub row_again : (row : BareRow) → FitsRow row → row_in (row_slots row) ≡ Some row
 unfolding row_in
 row_again (Loader r) fits = ap (option_map (λ (l : LoaderRow). Loader l)) (loader_again r fits)
 row_again (Class r u) fits = ap (option_map (λ (c : ClassRow). Class c tt)) (class_again r fits)
 
 pub entry_spelled : (slot : List ℕ) (e : BareEntry) → entry_in slot ≡ Some e
-    → (slot ≡ entry_slot e) × FitsEntry e
+    → (slot ≡ entry_slots e) × FitsEntry e
 unfolding entry_in
 entry_spelled slot v =
     by_kind (kind_at slot == 19) (kind_at slot == 20) (kind_at slot == 21)
@@ -374,25 +378,25 @@ entry_spelled slot v =
         (cond u (option_map (λ e. entry.Move e) (move_in slot))
         (cond s (option_map (λ e. entry.UnloadAll e) (unload_all_in slot))
         (option_map (λ r. entry.Live r) (row_in slot)))) ≡ Some v
-        → (slot ≡ entry_slot v) × FitsEntry v
+        → (slot ≡ entry_slots v) × FitsEntry v
     by_kind true u s e =
         mapped_some (λ (d : Unload). entry.Unload d) (unload_in slot) v e (λ d there is.
         let s = unload_spelled slot d there in
-        subst (λ (w : BareEntry). (slot ≡ entry_slot w) × FitsEntry w) is s)
+        subst (λ (w : BareEntry). (slot ≡ entry_slots w) × FitsEntry w) is s)
     by_kind false true s e =
         mapped_some (λ (d : Move). entry.Move d) (move_in slot) v e (λ d there is.
         let s = move_spelled slot d there in
-        subst (λ (w : BareEntry). (slot ≡ entry_slot w) × FitsEntry w) is s)
+        subst (λ (w : BareEntry). (slot ≡ entry_slots w) × FitsEntry w) is s)
     by_kind false false true e =
         mapped_some (λ (d : UnloadAll). entry.UnloadAll d) (unload_all_in slot) v e (λ d there is.
         let s = unload_all_spelled slot d there in
-        subst (λ (w : BareEntry). (slot ≡ entry_slot w) × FitsEntry w) is s)
+        subst (λ (w : BareEntry). (slot ≡ entry_slots w) × FitsEntry w) is s)
     by_kind false false false e =
         mapped_some (λ (d : BareRow). entry.Live d) (row_in slot) v e (λ d there is.
         let s = row_spelled slot d there in
-        subst (λ (w : BareEntry). (slot ≡ entry_slot w) × FitsEntry w) is s)
+        subst (λ (w : BareEntry). (slot ≡ entry_slots w) × FitsEntry w) is s)
 
-pub entry_again : (e : BareEntry) → FitsEntry e → entry_in (entry_slot e) ≡ Some e
+pub entry_again : (e : BareEntry) → FitsEntry e → entry_in (entry_slots e) ≡ Some e
 unfolding entry_in
 entry_again (entry.Live (Loader r)) fits =
     ap (option_map (λ (d : BareRow). entry.Live d)) (row_again (Loader r) fits)

@@ -4,8 +4,8 @@ use Rattle.std.proofs.Common.{sym}
 use Rattle.std.proofs.Common.{◌≡◌, ◌≢◌, ℕ, ◌+◌, ◌≤◌, ◌^◌, Bool, true, false, cond}
 use Rattle.std.proofs.Common.{List, Option, Some, None, Ok, Err, refl, ap, subst, ◌∙◌, arith}
 use Rattle.std.specs.Prelude.{IfOk, ◌&&◌, nat_le, nat_lt, ◌==◌, Result}
-use Rattle.std.proofs.lemmas.Bool.{and_parts, and_from, leb-true, le-leb, eqb-true, eqb-false}
-use Rattle.std.proofs.lemmas.Bool.{eq-eqb, ne_eqb, ltb-true, lt-ltb, ltb-false, le-ltb}
+use Rattle.std.proofs.lemmas.Bool.{and_parts, and_from, leb-true, le-leb, eqb-false}
+use Rattle.std.proofs.lemmas.Bool.{ne_eqb, ltb-true, lt-ltb, ltb-false, le-ltb}
 use Rattle.cm_pool.specs.Geometry.{Sizes}
 use Rattle.cm_layout.specs.declared.half.Half.{Half}
 use Rattle.cm_layout.specs.declared.half.Half.TheVariants.{Zero, One}
@@ -21,35 +21,39 @@ use Rattle.cm_verdict.specs.declared.fault.FileFault.{FileFault}
 use Rattle.cm_verdict.specs.Faults.{◌>>=◌, at_slot}
 use Rattle.cm_verdict.specs.Decoding.{is_open, half_head_in}
 use Rattle.cm_verdict.specs.Walk.{first_slot}
-use Rattle.cm_verdict.specs.Found.{is_good_head, good_head, open_head, counting, which_half}
+use Rattle.cm_verdict.specs.Found.{is_version, is_good_head, good_head, open_head, counting}
+use Rattle.cm_verdict.specs.Found.{which_half}
 use Rattle.cm_verdict.specs.Found.{counting_half}
 use Rattle.cm_verdict.proofs.Decoded.{half_head_spelled, half_head_again}
 
 -- ---- one head
 
 parts_good : (sizes : Sizes) (h : HalfHead) → is_good_head sizes h ≡ true
-    → (h.version ≡ 1) × (h.live ≤ row_limit sizes) × (h.base ≤ 2 ^ 63) × (1 ≤ h.epoch)
-    × (h.epoch ≤ h.base + 1)
+    → (1 ≤ h.version) × (h.version ≤ 2) × (h.live ≤ row_limit sizes) × (h.base ≤ 2 ^ 63)
+    × (1 ≤ h.epoch) × (h.epoch ≤ h.base + h.version)
 parts_good sizes h e =
-    let a = and_parts ((h.version == 1) && nat_le h.live (row_limit sizes) && nat_le h.base (2 ^ 63)
-    && nat_le 1 h.epoch) (nat_le h.epoch (h.base + 1)) e in
-    let b = and_parts ((h.version == 1) && nat_le h.live (row_limit sizes)
-    && nat_le h.base (2 ^ 63)) (nat_le 1 h.epoch) a.0 in
-    let c = and_parts ((h.version == 1) && nat_le h.live (row_limit sizes)) (nat_le h.base (2 ^ 63))
-    b.0 in
-    let d = and_parts (h.version == 1) (nat_le h.live (row_limit sizes)) c.0 in (
-      eqb-true h.version 1 d.0,
+    let live = nat_le h.live (row_limit sizes) in
+    let base = nat_le h.base (2 ^ 63) in
+    let a = and_parts (is_version h.version && live && base && nat_le 1 h.epoch)
+    (nat_le h.epoch (h.base + h.version)) e in
+    let b = and_parts (is_version h.version && live && base) (nat_le 1 h.epoch) a.0 in
+    let c = and_parts (is_version h.version && live) base b.0 in
+    let d = and_parts (is_version h.version) live c.0 in
+    let v = and_parts (nat_le 1 h.version) (nat_le h.version 2) d.0 in (
+      leb-true 1 h.version v.0,
+      leb-true h.version 2 v.1,
       leb-true h.live (row_limit sizes) d.1,
       leb-true h.base (2 ^ 63) c.1,
       leb-true 1 h.epoch b.1,
-      leb-true h.epoch (h.base + 1) a.1,
+      leb-true h.epoch (h.base + h.version) a.1,
     )
 
 is_good : (sizes : Sizes) (h : HalfHead) → IsGoodHead sizes h → is_good_head sizes h ≡ true
 is_good sizes h g =
-    and_from _ _ (and_from _ _ (and_from _ _ (and_from _ _ (eq-eqb h.version 1 g.version)
+    and_from _ _ (and_from _ _ (and_from _ _ (and_from _ _
+    (and_from _ _ (le-leb 1 h.version g.version_from) (le-leb h.version 2 g.version_to))
     (le-leb h.live (row_limit sizes) g.live)) (le-leb h.base (2 ^ 63) g.base))
-    (le-leb 1 h.epoch g.epoch_from)) (le-leb h.epoch (h.base + 1) g.epoch_to)
+    (le-leb 1 h.epoch g.epoch_from)) (le-leb h.epoch (h.base + h.version) g.epoch_to)
 
 -- a half's slot 0: shut, or the slot of a head
 abbrev pub IsHeadOf : Option HalfHead → List ℕ → Type 0
@@ -81,11 +85,12 @@ opened sizes slot o = by_gate (is_open slot) refl
           s.0,
           record {
             fits = s.1;
-            version = p.0;
-            live = p.1;
-            base = p.2;
-            epoch_from = p.3;
-            epoch_to = p.4;
+            version_from = p.0;
+            version_to = p.1;
+            live = p.2;
+            base = p.3;
+            epoch_from = p.4;
+            epoch_to = p.5;
           },
         )
     by_good h there false good e = absurd (cc)

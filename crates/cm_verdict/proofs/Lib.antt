@@ -11,8 +11,6 @@ mod Records
 mod Goings
 -- Where a class was defined has no part in the rules, nor in what an entry makes of rows.
 pub use Placed.{live_rule_bare}
--- Where the walk comes to an end, the half is what a half is made of.
-pub use Walks.{slots_many}
 -- The parts of a file: its superblock, its halves, and the records of rows.
 pub use Parts.{begun_with, half_within, part_long, bare_words}
 -- The second pass: each class that lives has a record of a class that keeps the rules, under a name

@@ -22,7 +22,7 @@ use Rattle.cm_layout.specs.declared.row.Row.{Row}
 use Rattle.cm_layout.specs.declared.row.Row.TheVariants.{Loader, Class}
 use Rattle.cm_layout.specs.Offsets.{slot_size, half_size, half_at, roots_at}
 use Rattle.cm_layout.specs.Offsets.{record_at}
-use Rattle.cm_layout.specs.Slots.{open_gate, half_head_slot, row_slot}
+use Rattle.cm_layout.specs.Slots.{open_gate, half_head_slot, row_slots}
 use Rattle.cm_layout.specs.Superblock.{superblock_front, superblock_zeros}
 use Rattle.cm_layout.specs.Superblock.{magic}
 use Rattle.cm_layout.specs.Rows.{bare}
@@ -137,12 +137,12 @@ older_head at (Some h) contents there = there
 
 pub used_split : (f : Framing) (behind : List ℕ)
     → half_head_slot f.head
-    ++ (flat_map row_slot f.live ++ (groups_slots f.head.base f.groups ++ behind))
+    ++ (flat_map row_slots f.live ++ (groups_slots f.head.base f.groups ++ behind))
     ≡ used_bytes f ++ behind
 unfolding used_bytes
 used_split f behind =
     let head = half_head_slot f.head in
-    let live = flat_map row_slot f.live in
+    let live = flat_map row_slots f.live in
     let groups = groups_slots f.head.base f.groups in
     ap (λ (l : List ℕ). head ++ l) (sym (append_assoc live groups behind))
     ∙ sym (append_assoc head (live ++ groups) behind)

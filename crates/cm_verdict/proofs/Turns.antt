@@ -8,7 +8,7 @@ use Rattle.std.proofs.lemmas.Bool.{eq-eqb, ne_eqb}
 use Rattle.cm_pool.specs.Geometry.{Sizes}
 use Rattle.cm_layout.specs.declared.heads.GroupHead.{GroupHead}
 use Rattle.cm_layout.specs.declared.entry_rule.EntryRule.{EntryRule}
-use Rattle.cm_layout.specs.Slots.{group_head_slot, row_slot, entry_slot, FitsGroupHead, FitsRow}
+use Rattle.cm_layout.specs.Slots.{group_head_slot, row_slots, entry_slots, FitsGroupHead, FitsRow}
 use Rattle.cm_layout.specs.Slots.{FitsEntry}
 use Rattle.cm_layout.specs.Rows.{rows_after}
 use Rattle.cm_layout.specs.Rules.{broken_rule, broken_live_rule}
@@ -63,11 +63,11 @@ pub data Goes (sizes : Sizes) (first : ℕ) (w : Walked) (slot : List ℕ)
     (next : Walked) : Type 0 where
   Group : (h : GroupHead) → w.left ≡ 0 → slot ≡ group_head_slot h → IsGoodGroup sizes w h
       → begun w h ≡ next → Goes sizes first w slot next
-  LiveRow : (row : BareRow) → 1 ≤ w.left → w.live ≡ true → slot ≡ row_slot row → FitsRow row
+  LiveRow : (row : BareRow) → 1 ≤ w.left → w.live ≡ true → slot ≡ row_slots row → FitsRow row
       → broken_live_rule sizes w.number w.rows (placed_row (first + w.slot) row) ≡ None
       → next_slot w (w.rows ++ placed_row (first + w.slot) row ∷ []) w.number ≡ next
       → Goes sizes first w slot next
-  Entry : (e : BareEntry) → 1 ≤ w.left → w.live ≡ false → slot ≡ entry_slot e → FitsEntry e
+  Entry : (e : BareEntry) → 1 ≤ w.left → w.live ≡ false → slot ≡ entry_slots e → FitsEntry e
       → broken_rule sizes w.rows (w.number + 1) (placed_entry (first + w.slot) e) ≡ None
       → next_slot w (rows_after w.rows (placed_entry (first + w.slot) e)) (w.number + 1) ≡ next
       → Goes sizes first w slot next
@@ -195,7 +195,7 @@ group_goes sizes first w slot h none is fits good =
     rw (eq-eqb w.left 0 none) (rw gate (rw there (rw (is_good sizes w h good) refl)))
 
 pub row_goes : (sizes : Sizes) (first : ℕ) (w : Walked) (slot : List ℕ) (row : BareRow)
-    → 1 ≤ w.left → w.live ≡ true → slot ≡ row_slot row → FitsRow row
+    → 1 ≤ w.left → w.live ≡ true → slot ≡ row_slots row → FitsRow row
     → broken_live_rule sizes w.number w.rows (placed_row (first + w.slot) row) ≡ None
     → turn sizes first w slot
     ≡ Go (next_slot w (w.rows ++ placed_row (first + w.slot) row ∷ []) w.number)
@@ -205,7 +205,7 @@ row_goes sizes first w slot row some live is fits keeps =
     rw (ne_eqb w.left 0 (omega arith)) (rw live (rw there (rw keeps refl)))
 
 pub entry_goes : (sizes : Sizes) (first : ℕ) (w : Walked) (slot : List ℕ) (e : BareEntry)
-    → 1 ≤ w.left → w.live ≡ false → slot ≡ entry_slot e → FitsEntry e
+    → 1 ≤ w.left → w.live ≡ false → slot ≡ entry_slots e → FitsEntry e
     → broken_rule sizes w.rows (w.number + 1) (placed_entry (first + w.slot) e) ≡ None
     → turn sizes first w slot
     ≡ Go (next_slot w (rows_after w.rows (placed_entry (first + w.slot) e)) (w.number + 1))

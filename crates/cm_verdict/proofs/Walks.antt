@@ -1,7 +1,7 @@
 -- Where the walk comes to an end, the half is what a half is made of.
 -- For `found_is_framed`, `found_is_live` and others.
 use Rattle.std.proofs.Common.{◌≡◌, ◌≢◌, ℕ, zero, suc, ◌+◌, ◌-◌, ◌*◌, ◌<◌, ◌≤◌, ◌⊎◌, inl, inr}
-use Rattle.std.proofs.Common.{Bool, true, false, List, [], ◌∷◌, ◌++◌, length, drop, get_or}
+use Rattle.std.proofs.Common.{Bool, true, false, cond, List, [], ◌∷◌, ◌++◌, length, drop, get_or}
 use Rattle.std.proofs.Common.{None, Ok, refl, sym, ap, subst, ◌∙◌, arith, append_assoc}
 use Rattle.std.proofs.Common.{append-nil, drop-drop}
 use Rattle.std.specs.Prelude.{Result}
@@ -11,13 +11,15 @@ use Rattle.std.proofs.lemmas.List.{take-append-drop, get_or-take, length-append}
 use Rattle.std.proofs.Math.ListN.{drop_of_length-le}
 use Rattle.cm_pool.specs.Geometry.{Sizes}
 use Rattle.cm_layout.specs.declared.heads.GroupHead.{GroupHead}
+use Rattle.cm_layout.specs.declared.row.Row.TheVariants.{Loader, Class}
 use Rattle.cm_layout.specs.declared.entry.Entry.TheVariants as entry
-use Rattle.cm_layout.specs.Slots.{group_head_slot, row_slot, entry_slot, FitsRow, FitsEntry}
+use Rattle.cm_layout.specs.Slots.{group_head_slot, row_slots, entry_slots, FitsRow, FitsEntry}
 use Rattle.cm_layout.specs.Rows.{slots_of, slots_of_rows, slots_of_entries, rows_after}
 use Rattle.cm_layout.specs.Rows.{rows_after_all, bare}
 use Rattle.cm_layout.specs.Rules.{broken_rule, broken_live_rule}
 use Rattle.cm_layout.specs.Frames.{BareRow, BareEntry, LiveRowsKeep, EntriesKeep}
 use Rattle.cm_layout.specs.Frames.{GroupsKeep, groups_slots, IsEnd}
+use Rattle.cm_layout.proofs.{not_long}
 use Rattle.cm_verdict.specs.declared.fault.FileFault.{FileFault}
 use Rattle.cm_verdict.specs.Decoding.{is_open}
 use Rattle.cm_verdict.specs.Walk.{Walked, Turn, Stop, Go, Bad, placed_row, placed_entry, next_slot}
@@ -43,15 +45,21 @@ pub end_from : (bytes : List ℕ) → (0 < length bytes → get_or bytes 0 0 ≢
 end_from [] h = tt
 end_from (b ∷ bytes) h = h (omega arith)
 
-pub slots_one : (e : BareEntry) → slots_of e ≡ 1
-slots_one (entry.Live r) = refl
-slots_one (entry.Unload e) = refl
-slots_one (entry.Move e) = refl
-slots_one (entry.UnloadAll e) = refl
+-- an entry that is read from one slot takes one
+pub slots_one : (e : BareEntry) → FitsEntry e → slots_of e ≡ 1
+slots_one (entry.Live (Loader r)) fits =
+    ap (λ (t : Bool). cond t 2 1) (not_long r.name fits.name)
+slots_one (entry.Live (Class r p)) fits = refl
+slots_one (entry.Unload e) fits = refl
+slots_one (entry.Move e) fits = refl
+slots_one (entry.UnloadAll e) fits = refl
 
-pub slots_many : (es : List BareEntry) → slots_of_entries es ≡ length es
-slots_many [] = refl
-slots_many (e ∷ es) = let rest = slots_many es in omega (arith, slots_one e, rest)
+pub slots_many : (sizes : Sizes) (rows : List BareRow) (n : ℕ) (es : List BareEntry)
+    → EntriesKeep sizes rows n es → slots_of_entries es ≡ length es
+slots_many sizes rows n [] k = refl
+slots_many sizes rows n (e ∷ es) k =
+    let rest = slots_many sizes (rows_after rows e) (n + 1) es k.2 in
+    omega (arith, slots_one e k.0, rest)
 
 -- ---- what is found from a slot on
 
@@ -68,7 +76,7 @@ pub record HasGroups (sizes : Sizes) (half : List ℕ) (slot : ℕ) (rows : List
   pub middle_is : middle ≡ number + length entries
   pub groups_keep : GroupsKeep sizes (rows_after_all rows entries) middle groups
   pub bytes : from_slot half slot
-      ≡ flat_map entry_slot entries ++ (groups_slots middle groups ++ from_slot half e.slot)
+      ≡ flat_map entry_slots entries ++ (groups_slots middle groups ++ from_slot half e.slot)
   pub end : IsEnd (from_slot half e.slot)
   pub within : e.slot ≤ sizes.slots
   pub rows_are : bare e.rows
@@ -96,14 +104,14 @@ ended sizes half w none within end = record {
 
 -- an entry before them
 with_entry : (sizes : Sizes) (half : List ℕ) (slot : ℕ) (rows : List BareRow) (number left : ℕ)
-    (e : Walked) (d : BareEntry) → 1 ≤ left → slot_of half slot ≡ entry_slot d → FitsEntry d
+    (e : Walked) (d : BareEntry) → 1 ≤ left → slot_of half slot ≡ entry_slots d → FitsEntry d
     → broken_rule sizes rows (number + 1) d ≡ None
     → HasGroups sizes half (slot + 1) (rows_after rows d) (number + 1) (left - 1) e
     → HasGroups sizes half slot rows number left e
 with_entry sizes half slot rows number left e d some is fits keeps g = record {
   entries = d ∷ g.entries;
   groups = g.groups;
-  count = omega (arith, g.count, slots_one d, some);
+  count = omega (arith, g.count, slots_one d fits, some);
   keep = (fits, keeps, g.keep);
   middle = g.middle;
   middle_is = omega (arith, g.middle_is);
@@ -112,7 +120,7 @@ with_entry sizes half slot rows number left e d some is fits keeps g = record {
       let behind = groups_slots g.middle g.groups ++ from_slot half e.slot in
       next_from half slot
       ∙ ((λ i. is i ++ g.bytes i)
-      ∙ sym (append_assoc (entry_slot d) (flat_map entry_slot g.entries) behind));
+      ∙ sym (append_assoc (entry_slots d) (flat_map entry_slots g.entries) behind));
   end = g.end;
   within = g.within;
   rows_are = g.rows_are;
@@ -135,7 +143,12 @@ with_group sizes half w e h none is good g = record {
     record {
       some = omega (arith, g.count, good.some);
       few = omega (arith, g.count, good.few);
-      numbers = omega (arith, g.count, slots_many g.entries, good.last);
+      numbers = omega (
+        arith,
+        g.count,
+        slots_many sizes (bare w.rows) w.number g.entries g.keep,
+        good.last,
+      );
       entries = g.keep;
     },
     subst (λ (n : ℕ). GroupsKeep sizes (rows_after_all (bare w.rows) g.entries) n g.groups)
@@ -144,7 +157,7 @@ with_group sizes half w e h none is good g = record {
   bytes =
       let head : h ≡ record { count = slots_of_entries g.entries; first = w.number + 1 } =
       (λ i. record { count = sym g.count i; first = good.first i }) in
-      let es = flat_map entry_slot g.entries in
+      let es = flat_map entry_slots g.entries in
       let behind = from_slot half e.slot in
       let hs = group_head_slot
       (record { count = slots_of_entries g.entries; first = w.number + 1 }) in
@@ -177,7 +190,7 @@ pub record HasLive (sizes : Sizes) (half : List ℕ) (slot : ℕ) (rows : List B
   pub count : slots_of_rows live ≡ left
   pub keep : LiveRowsKeep sizes base rows live
   pub middle : ℕ
-  pub bytes : from_slot half slot ≡ flat_map row_slot live ++ from_slot half middle
+  pub bytes : from_slot half slot ≡ flat_map row_slots live ++ from_slot half middle
   pub groups : HasGroups sizes half middle (rows ++ live) base 0 e
 
 no_rows : (sizes : Sizes) (half : List ℕ) (slot : ℕ) (rows : List BareRow) (base : ℕ) (e : Walked)
@@ -193,18 +206,18 @@ no_rows sizes half slot rows base e g = record {
 }
 
 with_row : (sizes : Sizes) (half : List ℕ) (slot : ℕ) (rows : List BareRow) (base left : ℕ)
-    (e : Walked) (row : BareRow) → 1 ≤ left → slot_of half slot ≡ row_slot row → FitsRow row
+    (e : Walked) (row : BareRow) → 1 ≤ left → slot_of half slot ≡ row_slots row → FitsRow row
     → broken_live_rule sizes base rows row ≡ None
     → HasLive sizes half (slot + 1) (rows ++ row ∷ []) base (left - 1) e
     → HasLive sizes half slot rows base left e
 with_row sizes half slot rows base left e row some is fits keeps l = record {
   live = row ∷ l.live;
-  count = omega (arith, l.count, some);
+  count = omega (arith, l.count, slots_one (entry.Live row) fits, some);
   keep = (fits, keeps, l.keep);
   middle = l.middle;
   bytes = next_from half slot
       ∙ ((λ i. is i ++ l.bytes i)
-      ∙ sym (append_assoc (row_slot row) (flat_map row_slot l.live) (from_slot half l.middle)));
+      ∙ sym (append_assoc (row_slots row) (flat_map row_slots l.live) (from_slot half l.middle)));
   groups = subst (λ (r : List BareRow). HasGroups sizes half l.middle r base 0 e)
       (append_assoc rows (row ∷ []) l.live) l.groups;
 }

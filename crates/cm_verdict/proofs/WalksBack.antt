@@ -10,8 +10,8 @@ use Rattle.std.proofs.lemmas.List.{take_at, drop_at, get_or-take, length-append}
 use Rattle.cm_pool.specs.Geometry.{Sizes}
 use Rattle.cm_layout.specs.declared.heads.GroupHead.{GroupHead}
 use Rattle.cm_layout.specs.declared.entry.Entry.TheVariants as entry
-use Rattle.cm_layout.specs.Slots.{group_head_slot, row_slot, entry_slot}
-use Rattle.cm_layout.specs.Slots.{FitsGroupHead}
+use Rattle.cm_layout.specs.Slots.{group_head_slot, row_slots, entry_slots}
+use Rattle.cm_layout.specs.Slots.{FitsGroupHead, FitsEntry}
 use Rattle.cm_layout.specs.Rules.{broken_rule, broken_live_rule}
 use Rattle.cm_layout.specs.Rows.{slots_of_rows, slots_of_entries, rows_after, rows_after_all, bare}
 use Rattle.cm_layout.specs.Frames.{BareRow, BareEntry, LiveRowsKeep, EntriesKeep, GroupKeeps}
@@ -27,17 +27,20 @@ use Rattle.cm_verdict.proofs.Walks.{from_slot, slots_one, slots_many}
 -- ---- slots
 
 entries_count : (sizes : Sizes) (rows : List BareRow) (n : ℕ) (es : List BareEntry)
-    → EntriesKeep sizes rows n es → length (flat_map entry_slot es) ≡ 64 * slots_of_entries es
+    → EntriesKeep sizes rows n es → length (flat_map entry_slots es) ≡ 64 * slots_of_entries es
 entries_count sizes rows n [] k = refl
 entries_count sizes rows n (e ∷ es) k =
     let rest = entries_count sizes (rows_after rows e) (n + 1) es k.2 in
     omega (
       arith,
       rest,
-      slots_one e,
       slot_count e k.0,
-      length-append (entry_slot e) (flat_map entry_slot es),
+      length-append (entry_slots e) (flat_map entry_slots es),
     )
+
+-- an entry that fits one slot is one
+one_count : (e : BareEntry) → FitsEntry e → length (entry_slots e) ≡ 64
+one_count e fits = omega (arith, slot_count e fits, slots_one e fits)
 
 -- a slot that stands in front of others
 record IsFront (half : List ℕ) (slot : ℕ) (front rest : List ℕ) : Type 0 where
@@ -76,7 +79,7 @@ module _ (sizes : Sizes) (first : ℕ) (half : List ℕ) (long : length half ≡
     pub keep : EntriesKeep sizes rows number entries
     pub groups_keep : GroupsKeep sizes (rows_after_all rows entries) middle groups
     pub bytes : from_slot half w.slot
-        ≡ flat_map entry_slot entries ++ (groups_slots middle groups ++ behind)
+        ≡ flat_map entry_slots entries ++ (groups_slots middle groups ++ behind)
     pub end : IsEnd behind
 
   room : (slot : ℕ) (more : ℕ) → slot + more ≡ sizes.slots
@@ -179,11 +182,11 @@ module _ (sizes : Sizes) (first : ℕ) (half : List ℕ) (long : length half ≡
       }
 
       rest : List ℕ
-      rest = flat_map entry_slot group ++ (groups_slots (middle + length group) groups ++ behind)
+      rest = flat_map entry_slots group ++ (groups_slots (middle + length group) groups ++ behind)
 
       whole : from_slot half w.slot ≡ group_head_slot h ++ rest
       whole =
-          let es = flat_map entry_slot group in
+          let es = flat_map entry_slots group in
           let gs = groups_slots (middle + length group) groups in
           a.bytes ∙ (append_assoc (group_head_slot h ++ es) gs behind
           ∙ append_assoc (group_head_slot h) es (gs ++ behind))
@@ -195,7 +198,7 @@ module _ (sizes : Sizes) (first : ℕ) (half : List ℕ) (long : length half ≡
       good =
           let all = ap length whole in
           let parts = length-append (group_head_slot h) rest in
-          let more_parts = length-append (flat_map entry_slot group)
+          let more_parts = length-append (flat_map entry_slots group)
           (groups_slots (middle + length group) groups ++ behind) in
           let count = entries_count sizes rows middle group keeps.entries in
           record {
@@ -203,7 +206,12 @@ module _ (sizes : Sizes) (first : ℕ) (half : List ℕ) (long : length half ≡
             few = keeps.few;
             room = omega (arith, all, parts, more_parts, count, room w.slot (suc more) at, at);
             first = omega (arith, same);
-            last = omega (arith, keeps.numbers, slots_many group, same);
+            last = omega (
+              arith,
+              keeps.numbers,
+              slots_many sizes rows middle group keeps.entries,
+              same,
+            );
           }
 
   -- an entry of the group
@@ -220,7 +228,7 @@ module _ (sizes : Sizes) (first : ℕ) (half : List ℕ) (long : length half ≡
       refl
       (finds next entries groups behind (rows_after rows d) (number + 1) middle
       (omega (arith, at)) record {
-        count = omega (arith, a.count, slots_one d);
+        count = omega (arith, a.count, slots_one d a.keep.0);
         phase = inr live;
         rows_are = placed_after (first + w.slot) w.rows d
             ∙ ap (λ (r : List BareRow). rows_after r d) a.rows_are;
@@ -236,7 +244,7 @@ module _ (sizes : Sizes) (first : ℕ) (half : List ℕ) (long : length half ≡
       next = next_slot w (rows_after w.rows (placed_entry (first + w.slot) d)) (w.number + 1)
 
       some : 1 ≤ w.left
-      some = omega (arith, a.count, slots_one d)
+      some = omega (arith, a.count, slots_one d a.keep.0)
 
       by_phase : (w.left ≡ 0) ⊎ (w.live ≡ false) → w.live ≡ false
       by_phase (inl none) = absurd (omega (arith, none, some))
@@ -246,13 +254,13 @@ module _ (sizes : Sizes) (first : ℕ) (half : List ℕ) (long : length half ≡
       live = by_phase a.phase
 
       rest : List ℕ
-      rest = flat_map entry_slot entries ++ (groups_slots middle groups ++ behind)
+      rest = flat_map entry_slots entries ++ (groups_slots middle groups ++ behind)
 
-      front : IsFront half w.slot (entry_slot d) rest
-      front = in_front half w.slot (entry_slot d) rest
-          (a.bytes ∙ append_assoc (entry_slot d) (flat_map entry_slot entries)
+      front : IsFront half w.slot (entry_slots d) rest
+      front = in_front half w.slot (entry_slots d) rest
+          (a.bytes ∙ append_assoc (entry_slots d) (flat_map entry_slots entries)
           (groups_slots middle groups ++ behind))
-          (slot_count d a.keep.0)
+          (one_count d a.keep.0)
 
       keeps : broken_rule sizes w.rows (w.number + 1) (placed_entry (first + w.slot) d) ≡ None
       keeps =
@@ -272,10 +280,10 @@ module _ (sizes : Sizes) (first : ℕ) (half : List ℕ) (long : length half ≡
       absurd (omega (arith, all, room w.slot 0 at))
   groups_found zero w (d ∷ entries) groups behind rows number middle at a =
       let all = ap length a.bytes in
-      let parts = length-append (entry_slot d ++ flat_map entry_slot entries)
+      let parts = length-append (entry_slots d ++ flat_map entry_slots entries)
       (groups_slots middle groups ++ behind) in
-      let front = length-append (entry_slot d) (flat_map entry_slot entries) in
-      absurd (omega (arith, all, parts, front, slot_count d a.keep.0, room w.slot 0 at))
+      let front = length-append (entry_slots d) (flat_map entry_slots entries) in
+      absurd (omega (arith, all, parts, front, one_count d a.keep.0, room w.slot 0 at))
   groups_found (suc more) w [] [] behind rows number middle at a =
       stopped more w rows (number_behind middle []) at (sym a.count)
       (subst IsEnd (sym a.bytes) a.end) a.rows_are (omega (arith, a.number_is, a.middle_is))
@@ -294,7 +302,7 @@ module _ (sizes : Sizes) (first : ℕ) (half : List ℕ) (long : length half ≡
     pub keep : LiveRowsKeep sizes base rows live
     pub groups_keep : GroupsKeep sizes (rows ++ live) base groups
     pub bytes : from_slot half w.slot
-        ≡ flat_map row_slot live ++ (groups_slots base groups ++ behind)
+        ≡ flat_map row_slots live ++ (groups_slots base groups ++ behind)
     pub end : IsEnd behind
 
   abbrev pub FindsLive : ℕ → Type 0
@@ -320,7 +328,7 @@ module _ (sizes : Sizes) (first : ℕ) (half : List ℕ) (long : length half ≡
       (row_goes sizes first w (slot_of half w.slot) row some a.phase front.here a.keep.0 keeps)
       (ap (λ (r : List BareRow). rows_after_all r (flat_map (λ group. group) groups)) joined) refl
       (finds next live groups behind (rows ++ row ∷ []) base (omega (arith, at)) record {
-        count = omega (arith, a.count);
+        count = omega (arith, a.count, slots_one (entry.Live row) a.keep.0);
         phase = a.phase;
         rows_are = placed_more (first + w.slot) w.rows row
             ∙ ap (λ (r : List BareRow). r ++ row ∷ []) a.rows_are;
@@ -336,19 +344,19 @@ module _ (sizes : Sizes) (first : ℕ) (half : List ℕ) (long : length half ≡
       next = next_slot w (w.rows ++ placed_row (first + w.slot) row ∷ []) w.number
 
       some : 1 ≤ w.left
-      some = omega (arith, a.count)
+      some = omega (arith, a.count, slots_one (entry.Live row) a.keep.0)
 
       joined : (rows ++ row ∷ []) ++ live ≡ rows ++ row ∷ live
       joined = append_assoc rows (row ∷ []) live
 
       rest : List ℕ
-      rest = flat_map row_slot live ++ (groups_slots base groups ++ behind)
+      rest = flat_map row_slots live ++ (groups_slots base groups ++ behind)
 
-      front : IsFront half w.slot (row_slot row) rest
-      front = in_front half w.slot (row_slot row) rest
-          (a.bytes ∙ append_assoc (row_slot row) (flat_map row_slot live)
+      front : IsFront half w.slot (row_slots row) rest
+      front = in_front half w.slot (row_slots row) rest
+          (a.bytes ∙ append_assoc (row_slots row) (flat_map row_slots live)
           (groups_slots base groups ++ behind))
-          (slot_count (entry.Live row) a.keep.0)
+          (one_count (entry.Live row) a.keep.0)
 
       keeps : broken_live_rule sizes w.number w.rows (placed_row (first + w.slot) row) ≡ None
       keeps =
@@ -380,15 +388,15 @@ module _ (sizes : Sizes) (first : ℕ) (half : List ℕ) (long : length half ≡
       }
   live_found zero w (row ∷ live) groups behind rows base at a =
       let all = ap length a.bytes in
-      let parts = length-append (row_slot row ++ flat_map row_slot live)
+      let parts = length-append (row_slots row ++ flat_map row_slots live)
       (groups_slots base groups ++ behind) in
-      let front = length-append (row_slot row) (flat_map row_slot live) in
+      let front = length-append (row_slots row) (flat_map row_slots live) in
       absurd (omega (
         arith,
         all,
         parts,
         front,
-        slot_count (entry.Live row) a.keep.0,
+        one_count (entry.Live row) a.keep.0,
         room w.slot 0 at,
       ))
   live_found (suc more) w (row ∷ live) groups behind rows base at a =

@@ -14,7 +14,7 @@ use Rattle.cm_layout.specs.Offsets.{superblock_size, slot_size, half_size, half_
 use Rattle.cm_layout.specs.Slots.{open_gate}
 use Rattle.cm_layout.specs.Superblock.{magic, superblock_bytes}
 use Rattle.cm_layout.specs.Rules.{row_limit}
-use Rattle.cm_layout.specs.Frames.{entry_version}
+use Rattle.cm_layout.specs.Frames.{entry_version, oldest_version}
 use Rattle.cm_layout.specs.Framing.{part}
 use Rattle.cm_verdict.specs.declared.counting.Counting.{Counting}
 use Rattle.cm_verdict.specs.declared.defined_at.DefinedAt.{DefinedAt}
@@ -52,10 +52,13 @@ pub record Begins (long : ℕ) (block : List ℕ) (sizes : Sizes) : Type 0 where
 
 -- ---- the half that counts
 
+abbrev pub is_version : ℕ → Bool
+is_version v = nat_le oldest_version v && nat_le v entry_version
+
 abbrev pub is_good_head : Sizes → HalfHead → Bool
 is_good_head sizes h =
-    (h.version == entry_version) && nat_le h.live (row_limit sizes) && nat_le h.base (2 ^ 63)
-    && nat_le 1 h.epoch && nat_le h.epoch (h.base + 1)
+    is_version h.version && nat_le h.live (row_limit sizes) && nat_le h.base (2 ^ 63)
+    && nat_le 1 h.epoch && nat_le h.epoch (h.base + h.version)
 
 abbrev pub good_head : Sizes → Option HalfHead → Result (Option HalfHead) Damage
 good_head sizes None = Err damage.Head

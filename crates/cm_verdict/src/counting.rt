@@ -4,13 +4,16 @@ ghost use Rattle.std.specs.Prelude.{◌≡◌, Some, IfOk};
 ghost use Rattle.cm_layout.specs.Frames.{IsGoodHead};
 ghost use Rattle.cm_verdict.specs.Faults.{at_slot as at_slot_of};
 ghost use Rattle.cm_verdict.specs.Found.{is_good_head as is_good_head_of};
+ghost use Rattle.cm_verdict.specs.Found.{is_version as is_version_of};
 ghost use Rattle.cm_verdict.specs.Found.{open_head as open_head_of, which_half as which_half_of};
 ghost use Rattle.cm_verdict.specs.Found.{counting_half as counting_half_of};
 ghost use Rattle.cm_verdict.specs.Walk.{first_slot as first_slot_of};
 
 use crate::decode::half_head_in;
 use crate::fault::{Damage, FileFault};
-use cm_layout::{ENTRY_VERSION, Half, HalfHead, LAST_NUMBER, OPEN_GATE, SLOT_BYTES, row_limit};
+use cm_layout::{
+    ENTRY_VERSION, Half, HalfHead, LAST_NUMBER, OLDEST_VERSION, OPEN_GATE, SLOT_BYTES, row_limit,
+};
 use cm_pool::Geometry;
 
 /// The half that counts, with its head.
@@ -20,15 +23,22 @@ pub struct Counting {
     pub head: HalfHead,
 }
 
+// Whether entries of this version are read.
+fn is_version(version: u16) -> bool
+    ensures { result ≡ is_version_of version }
+{
+    version >= OLDEST_VERSION && version <= ENTRY_VERSION
+}
+
 // Whether the head of a half is good.
 fn is_good_head(geometry: Geometry, head: &HalfHead) -> bool
     ensures { result ≡ is_good_head_of geometry head.now }
 {
-    head.version == ENTRY_VERSION
+    is_version(head.version)
         && head.live as usize <= row_limit(geometry)
         && head.base <= LAST_NUMBER
         && head.epoch >= 1
-        && head.epoch <= head.base + 1
+        && head.epoch <= head.base + u64::from(head.version)
 }
 
 // The head of a half, where it is open, by its slot 0.

@@ -4,7 +4,7 @@ ghost use Rattle.std.specs.Prelude.{◌≡◌, ◌<◌, ◌^◌};
 ghost use Rattle.std.specs.List.{AllByRecursion};
 ghost use Rattle.cm_layout.specs.Slots.{FitsHalfHead, FitsGroupHead, FitsLoader, FitsClass};
 ghost use Rattle.cm_layout.specs.Slots.{FitsUnload, FitsUnloadAll, FitsChunk, FitsMove, FitsRow};
-ghost use Rattle.cm_layout.specs.Slots.{FitsEntry};
+ghost use Rattle.cm_layout.specs.Slots.{FitsEntry, loader_slots, row_slots, entry_slots};
 ghost use Rattle.cm_verdict.specs.Decoding.{half_head_in as half_head_spelled};
 ghost use Rattle.cm_verdict.specs.Decoding.{group_head_in as group_head_spelled};
 ghost use Rattle.cm_verdict.specs.Decoding.{row_in as row_spelled, entry_in as entry_spelled};
@@ -37,7 +37,7 @@ pub(crate) fn entry_in(slot: &[u8; SLOT_BYTES]) -> Option<Entry<()>>
     ensures { result ≡ entry_spelled slot.now }
 {
     let entry = Entry::decode(slot)?;
-    fits_entry(&entry);
+    fits_entry(&entry, slot);
     Some(entry)
 }
 
@@ -72,7 +72,9 @@ fn fits_group_head(head: &GroupHead)
     let _first = head.first;
 }
 
-fn fits_loader(row: &LoaderRow)
+// What fills one slot has a name of its room.
+fn fits_loader(row: &LoaderRow, slot: &[u8; SLOT_BYTES])
+    requires { slot.now ≡ loader_slots row.now }
     ensures { FitsLoader row.now }
 {
     let _number = row.number;
@@ -124,20 +126,22 @@ fn fits_numbers(numbers: &[u64])
     }
 }
 
-fn fits_row(row: &Row<()>)
+fn fits_row(row: &Row<()>, slot: &[u8; SLOT_BYTES])
+    requires { slot.now ≡ row_slots row.now }
     ensures { FitsRow row.now }
 {
     match row {
-        Row::Loader(row) => fits_loader(row),
+        Row::Loader(row) => fits_loader(row, slot),
         Row::Class(row, _) => fits_class(row),
     }
 }
 
-fn fits_entry(entry: &Entry<()>)
+fn fits_entry(entry: &Entry<()>, slot: &[u8; SLOT_BYTES])
+    requires { slot.now ≡ entry_slots entry.now }
     ensures { FitsEntry entry.now }
 {
     match entry {
-        Entry::Live(row) => fits_row(row),
+        Entry::Live(row) => fits_row(row, slot),
         Entry::Unload(entry) => fits_unload(entry),
         Entry::Move(entry) => fits_move(entry),
         Entry::UnloadAll(entry) => fits_unload_all(entry),

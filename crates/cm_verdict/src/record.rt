@@ -6,9 +6,9 @@ ghost use Rattle.cm_rules.specs.Fault.{fault};
 ghost use Rattle.cm_verdict.specs.Verdict.{class_kept};
 ghost use Rattle.cm_verdict.specs.Kept.{IsKeptRecord};
 
-use cm_class::Class;
+use cm_class::{Class, class_of_spelling};
 use cm_record::{Record, RecordFault};
-use cm_record_reading::read_class;
+use cm_record_reading::spell_class;
 use cm_rules::first_fault;
 use std::alloc::{AllocError, Global};
 
@@ -20,24 +20,33 @@ fn keeps_rules(alloc: Global, class: &Class) -> Result<bool, AllocError>
     Ok(broken.is_none())
 }
 
-// Whether these words are the record of a class that keeps the class rules.
-fn are_kept(alloc: Global, words: &[u64]) -> Result<bool, AllocError>
+// Whether these words are the record of a class that keeps the class rules. The class is spelled in
+// the buffer.
+fn are_kept(alloc: Global, buffer: &mut Vec<u8>, words: &[u64]) -> Result<bool, AllocError>
     requires { length words.now ≤ limit }
     ensures { IfOk result (λ kept. kept ≡ is_some (class_kept words.now)) }
 {
-    match read_class(alloc, words) {
-        Ok(file) => keeps_rules(alloc, &Class::from_file(file)),
+    match spell_class(words, buffer) {
+        Ok(()) => {
+            let class = class_of_spelling(alloc, buffer)?;
+            keeps_rules(alloc, &class)
+        }
         Err(RecordFault::NotARecord) => Ok(false),
         Err(RecordFault::NoMemory) => Err(AllocError),
     }
 }
 
-/// The record of these words, if they are that of a class that keeps the class rules.
-pub fn read_record(alloc: Global, words: &[u64]) -> Result<Option<Record>, AllocError>
+/// The record of these words, if they are that of a class that keeps the class rules. Its class is
+/// spelled in the buffer, of which nothing is kept: one serves for any number of records.
+pub fn read_record(
+    alloc: Global,
+    buffer: &mut Vec<u8>,
+    words: &[u64],
+) -> Result<Option<Record>, AllocError>
     requires { length words.now ≤ limit }
     ensures { IfOk result (IsKeptRecord words.now) }
 {
-    if !are_kept(alloc, words)? {
+    if !are_kept(alloc, buffer, words)? {
         return Ok(None);
     }
     let record = Record::of_words(alloc, words)?;

@@ -4,6 +4,7 @@ ghost use Rattle.std.specs.Prelude.{◌≡◌, IfOk, IfErr};
 ghost use Rattle.cm_pool.specs.Geometry.{Sizes};
 ghost use Rattle.cm_disk.specs.Sim.{sim_contents, sim_unsynced};
 ghost use Rattle.cm_disk.specs.Disk.{IsSettled};
+ghost use Rattle.cm_layout.specs.Laws.{IsNewest};
 ghost use Rattle.cm_machine.specs.Machine.{Machine};
 ghost use Rattle.cm_recover.specs.NewFile.{new_bytes, IsEmptyCache};
 ghost use Rattle.cm_session.specs.Images.{StandsForSome};
@@ -17,17 +18,20 @@ use crate::reply::Reply;
 use crate::world::World;
 use cm_disk::{Choice, SimDisk, settled_has_one_image};
 use cm_pool::Geometry;
-use cm_recover::{FormatFault, NotOpened, OpenFault, format};
+use cm_recover::{
+    FormatFault, NotOpened, OpenFault, format, new_file_is_empty, newest_is_not_older,
+};
 use std::alloc::Global;
 
 /// Opens the file of a disk.
 fn open_file(alloc: Global, disk: SimDisk) -> Result<(World, Reply), OpenFault>
     ensures opened { (sizes : Sizes) (before : State)
-        → StandsForSome sizes before.machine (sim_contents disk)
+        → StandsForSome sizes before.machine (sim_contents disk) → IsNewest (sim_contents disk)
         → IfOk result (λ p. MovesTo sizes before.machine p.1 disk before p.0) }
     ensures fault { (sizes : Sizes) (k : Machine) → StandsForSome sizes k (sim_contents disk)
         → IfErr result IsOutside }
 {
+    newest_is_not_older();
     match cm_session::open(alloc, disk) {
         Ok(mut session) => {
             session.disarm(); // as its calls have: so the proof knows it
@@ -43,8 +47,11 @@ fn open_file(alloc: Global, disk: SimDisk) -> Result<(World, Reply), OpenFault>
 fn make_disk(alloc: Global, geometry: Geometry) -> Result<SimDisk, OpenFault>
     ensures made { IfOk result (λ disk. sim_contents disk ≡ new_bytes geometry) }
     ensures empty { IfOk result (λ disk. IsEmptyCache geometry (sim_contents disk)) }
+    ensures newest { IfOk result (λ disk. IsNewest (sim_contents disk)) }
     ensures fault { IfErr result IsOutside }
 {
+    new_file_is_empty();
+    let _lawful = geometry.top(); // so the proof knows that its sizes are within the limits
     let mut disk = SimDisk::new(alloc);
     match format(alloc, &mut disk, geometry) {
         Ok(()) => Ok(disk),
@@ -76,6 +83,7 @@ impl World {
     {
         let World { alloc, session } = self;
         session.images();
+        session.versions();
         let mut disk = session.into_disk();
         disk.disarm();
         open_file(alloc, disk)
@@ -89,6 +97,7 @@ impl World {
     {
         let World { alloc, session } = self;
         session.images();
+        session.versions();
         settled_has_one_image();
         let disk = session.into_disk().crash(alloc, &choice)?;
         open_file(alloc, disk)

@@ -2,8 +2,9 @@
 
 use crate::files::{disk_of, say_not_opened, tell_failure};
 use crate::status::fail;
-use cm_file_disk::{FileDisk, OpenedFile};
+use cm_file_disk::{FileDisk, OpenError, OpenedFile};
 use cm_inspect::{NotInspected, Status, check_to, list_to, trim_to};
+use cm_recover::is_older;
 use std::fs::{File, Files};
 use std::io;
 
@@ -21,13 +22,26 @@ pub fn check_file(
     }
 }
 
+/// The disk of a file that is listed. No right to write to it is needed, unless it is of an older
+/// version: then opening its cache moves it over.
+fn disk_to_list(
+    rt: &(impl Files<File = File> + AllocGlobal),
+    path: &str,
+) -> Result<FileDisk, OpenError> {
+    let mut disk = disk_of(OpenedFile::open_read_only(rt, rt.alloc(), path))?;
+    match is_older(rt.alloc(), &mut disk) {
+        Ok(true) => disk_of(OpenedFile::open(rt, rt.alloc(), path)),
+        _ => Ok(disk),
+    }
+}
+
 /// Lists what the cache in a file holds, and gives the status. The file is opened as for a script,
-/// with a sync, and nothing is written.
+/// with a sync, and nothing is written, unless it is of an older version.
 pub fn list_file(
     rt: &(impl Print + Eprint + Files<File = File> + AllocGlobal),
     path: &str,
 ) -> Status {
-    match disk_of(OpenedFile::open_read_only(rt, rt.alloc(), path)) {
+    match disk_to_list(rt, path) {
         Ok(disk) => {
             let told = list_to(rt.alloc(), &mut io::writer(rt), disk);
             status_of_told(rt, path, told)

@@ -15,4 +15,4 @@ returns c =
     let j = c.args.journal.now in
     let count : c.slots.result ≡ slots_of_rows (bare (rows_with arc_value c.args.rows.now.rows)) =
     c.slots.ensures ∙ sym (counted-with arc_value c.args.rows.now.rows) in
-    λ i. record { version = 1; live = count i; epoch = j.epoch + 1; base = j.number }
+    λ i. record { version = 2; live = count i; epoch = j.epoch + 1; base = j.number }

@@ -10,6 +10,8 @@ use Rattle.cm_inspect.specs.declared.status.Status.{Status}
 use Rattle.cm_inspect.specs.declared.status.Status.TheVariants.{Done}
 use Rattle.cm_inspect.specs.Texts.{list_lines, fault_line}
 use Rattle.cm_inspect.specs.Inspecting.{Writes, fault_status}
+use Rattle.cm_recover.specs.Opened.{OpensThrough}
+use Rattle.cm_inspect.proofs.Rose.{opens_rose}
 use Rattle.cm_inspect.proofs.Statuses.{never_done}
 use Rattle.cm_inspect.proofs.list_lines.list_to.Goals as goal
 
@@ -60,3 +62,21 @@ returns-in-Err-clause-stored g c =
     λ done. absurd
     (never_done _ _ _ c.in-Err.field-0.fault c.tell_fault-status.result c.tell_fault-status.ensures
     (sym c.with_disk-in-Err.ensures.status ∙ done))
+
+pub returns-in-Ok-clause-run : goal.returns-in-Ok-clause-run
+returns-in-Ok-clause-run g c =
+    let disk = g.D.Disk in
+    let failures = disk.view.failures in
+    subst (λ d. OpensThrough disk.view c.args.disk d (failures c.args.disk < failures d))
+    (sym (c.with_disk.ensures.disk ∙ c.into_disk.ensures))
+    (opens_rose disk.view c.args.disk c.in-Ok.committer.disk ⊥ c.in-Ok.ensures.run)
+
+pub returns-in-Err-clause-run : goal.returns-in-Err-clause-run
+returns-in-Err-clause-run g c =
+    let disk = g.D.Disk in
+    let failures = disk.view.failures in
+    let fault = c.in-Err.field-0.fault in
+    subst (λ d. OpensThrough disk.view c.args.disk d (failures c.args.disk < failures d))
+    (sym c.with_disk-in-Err.ensures.disk)
+    (opens_rose disk.view c.args.disk c.in-Err.field-0.disk (fault ≡ open_fault.Device)
+    c.in-Err.ensures.run)

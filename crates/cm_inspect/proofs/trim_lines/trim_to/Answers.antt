@@ -1,6 +1,5 @@
-use Rattle.std.proofs.Common.{◌≡◌, ◌<◌, ◌∙◌, Result, Err, inl, inr, sym, ap, subst, arith}
+use Rattle.std.proofs.Common.{◌≡◌, ◌<◌, ◌∙◌, Result, Err, inr, sym, ap, subst, arith}
 use Rattle.std.specs.Prelude.{is_err}
-use Rattle.cm_disk.specs.Disk.{IsImage}
 use Rattle.cm_guards.specs.Calls.{LeavesOnly}
 use Rattle.cm_guards.specs.Guards.{EachImage}
 use Rattle.cm_guards.proofs.{leaves_more, leaves_on}
@@ -11,7 +10,8 @@ use Rattle.cm_inspect.specs.declared.fault.InspectFault.{InspectFault}
 use Rattle.cm_inspect.specs.declared.status.Status.{Status}
 use Rattle.cm_inspect.specs.Inspecting.{Writes, told, status_of, fault_status}
 use Rattle.cm_inspect.specs.Texts.{roots_line, fault_line}
-use Rattle.cm_inspect.specs.Trimming.{LeavesSame, IsTrimmed, HasNoMore}
+use Rattle.cm_inspect.specs.Trimming.{IsTrimmed, HasNoMore}
+use Rattle.cm_recover.specs.Opened.{LeavesSame}
 use Rattle.cm_inspect.proofs.Cuts.{roots_told, trimmed_so, same_cache, shows_as, of_ok, done_roots}
 use Rattle.cm_inspect.proofs.trim_lines.trim_to.Goals as goal
 
@@ -70,8 +70,7 @@ returns-in-Ok-clause-moments g c =
     subst (λ d. LeavesOnly disk.view before d (LeavesSame contents unsynced))
     (sym left_is)
     (leaves_on disk.view before mid new (LeavesSame contents unsynced)
-    (leaves_more disk.view before mid (IsImage contents unsynced)
-    (LeavesSame contents unsynced) (λ image i. inl i) c.in-Ok.ensures.run.images)
+    c.in-Ok.ensures.run.images
     (leaves_more disk.view mid new (ShowsCommitted committer)
     (LeavesSame contents unsynced)
     (λ image shows. inr (same_cache contents c.in-Ok._front committer opened image shows))
@@ -111,3 +110,19 @@ returns-in-Err-clause-told g c =
           Writes held holds (fault_line fault) (fault_status fault) r)
           (sym c.with_disk-in-Err.ensures.status) c.tell_fault-status.ensures;
     }
+
+-- what a crash leaves now it may have left at the end of opening
+pub returns-in-Err-clause-images : goal.returns-in-Err-clause-images
+returns-in-Err-clause-images g c =
+    let disk = g.D.Disk in
+    let left = c.in-Err.field-0.disk in
+    let run = c.in-Err.ensures.run in
+    let contents = disk.view.contents c.args.disk in
+    let unsynced = disk.view.unsynced c.args.disk in
+    subst (λ d. EachImage (disk.view.contents d) (disk.view.unsynced d)
+    (LeavesSame contents unsynced)) (sym c.with_disk-in-Err.ensures.disk)
+    (record {
+      each = λ image i.
+          run.images.each image
+          (g.met.D.Disk.counts_now left (disk.view.moment c.args.disk) image run.images.later i);
+    })

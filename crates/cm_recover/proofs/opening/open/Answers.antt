@@ -1,4 +1,11 @@
-use Rattle.cm_recover.proofs.Opened.{front_rows, front_right, front_last, held, opens}
+use Rattle.std.proofs.Common.{◌≡◌, refl, sym, ap, ◌∙◌}
+use Rattle.cm_guards.proofs.{contents_are_image}
+use Rattle.cm_commit.specs.States.{CommitterState}
+use Rattle.cm_recover.specs.declared.fault.OpenFault.TheVariants as open_fault
+use Rattle.cm_recover.proofs.Opened.{front_rows, front_right, front_last, opens, same_shown}
+use Rattle.cm_recover.proofs.Opened.{sizes_told, journal_same}
+use Rattle.cm_recover.proofs.MovedOver.{then_through}
+use Rattle.cm_recover.proofs.Readings.{ok_no_fault}
 use Rattle.cm_recover.proofs.opening.open.Goals as goal
 
 pub restore-requires-clause-rows : goal.restore-requires-clause-rows
@@ -19,19 +26,76 @@ restore-requires-clause-last g c =
     c.verdict_is_exact.ensures.stands c.words_tell_name.ensures c.others_are_told.ensures
     (g.D.Disk.view.contents c.args.disk) c.in-Ok.file c.in-Ok.ensures.standing
 
-pub new-requires-clause-held : goal.new-requires-clause-held
-new-requires-clause-held g c =
-    held c.found_is_live.ensures c.found_is_framed.ensures.framed
+pub new-requires-clause-sizes : goal.new-requires-clause-sizes
+new-requires-clause-sizes g c =
+    let view = g.D.Disk.view in
+    sizes_told c.found_is_live.ensures c.found_is_framed.ensures.framed
     c.verdict_is_exact.ensures.stands c.words_tell_name.ensures c.others_are_told.ensures
-    (g.D.Disk.view.contents c.args.disk) c.in-Ok.file c.in-Ok.ensures.standing
-    (g.D.Disk.view.contents c.read_synced.new.disk) (g.D.Disk.view.unsynced c.read_synced.new.disk)
-    c.in-Ok.ensures.stored c.in-Ok.ensures.run.contents_stay
+    (view.contents c.args.disk) c.in-Ok.file c.in-Ok.ensures.standing
+    c.in-Ok-move_over.journal
+    (journal_same (view.contents c.read_synced.new.disk) (view.contents c.args.disk)
+    c.in-Ok.ensures.run.contents_stay c.in-Ok.file c.in-Ok.ensures.standing
+    c.in-Ok-move_over.journal c.in-Ok-move_over.ensures.journal)
+
+pub new-requires-clause-held : goal.new-requires-clause-held
+new-requires-clause-held g c = c.in-Ok-move_over.ensures.held
 
 pub returns-in-Ok-new-clause-opened : goal.returns-in-Ok-new-clause-opened
 returns-in-Ok-new-clause-opened g c =
+    let view = g.D.Disk.view in
     opens c.found_is_live.ensures c.found_is_framed.ensures.framed
     c.verdict_is_exact.ensures.stands c.words_tell_name.ensures c.others_are_told.ensures
-    (g.D.Disk.view.contents c.args.disk) c.in-Ok.file c.in-Ok.ensures.standing
-    c.arenas_are_of_rows.ensures c.read_synced.new.disk c.in-Ok-restore.front c.in-Ok-new.committer
-    c.geometry-is_cache.ensures.lawful c.in-Ok-restore.ensures
+    (view.contents c.args.disk) c.in-Ok.file c.in-Ok.ensures.standing
+    c.arenas_are_of_rows.ensures c.move_over.new.disk c.in-Ok-restore.front c.in-Ok-new.committer
+    c.in-Ok-move_over.journal c.geometry-is_cache.ensures.lawful c.in-Ok-restore.ensures
+    (journal_same (view.contents c.read_synced.new.disk) (view.contents c.args.disk)
+    c.in-Ok.ensures.run.contents_stay c.in-Ok.file c.in-Ok.ensures.standing
+    c.in-Ok-move_over.journal c.in-Ok-move_over.ensures.journal)
     c.in-Ok-new.ensures.made
+
+pub returns-in-Ok-new-clause-same : goal.returns-in-Ok-new-clause-same
+returns-in-Ok-new-clause-same g c =
+    let view = g.D.Disk.view in
+    let disk = c.in-Ok-new.committer.disk in
+    same_shown (view.contents c.args.disk) c.in-Ok-restore.front c.in-Ok-new.committer
+    (returns-in-Ok-new-clause-opened g c) (view.contents disk)
+    (c.images.ensures.each (view.contents disk)
+    (contents_are_image (view.contents disk) (view.unsynced disk) (g.met.D.Disk.sound disk)))
+
+pub returns-in-Ok-new-clause-newest : goal.returns-in-Ok-new-clause-newest
+returns-in-Ok-new-clause-newest g c =
+    let view = g.D.Disk.view in
+    let disk = c.in-Ok-new.committer.disk in
+    c.versions.ensures.each (view.contents disk)
+    (contents_are_image (view.contents disk) (view.unsynced disk) (g.met.D.Disk.sound disk))
+
+pub returns-in-Err-move_over-clause-run : goal.returns-in-Err-move_over-clause-run
+returns-in-Err-move_over-clause-run g c =
+    let moved = c.in-Err-move_over.ensures in
+    then_through g.D.Disk.view c.args.disk c.read_synced.new.disk c.move_over.new.disk
+    c.move_over.new.disk _ _ _ (ok_no_fault _ _ open_fault.Device refl) c.in-Ok.ensures.run
+    moved.no_call moved.images moved.cause refl (λ e. cc) (λ e. cc)
+
+pub returns-in_default-clause-run : goal.returns-in_default-clause-run
+returns-in_default-clause-run g c =
+    let moved = c.in-Ok-move_over.ensures in
+    then_through g.D.Disk.view c.args.disk c.read_synced.new.disk c.move_over.new.disk
+    c.move_over.new.disk _ _ _ (ok_no_fault _ _ open_fault.Device refl) c.in-Ok.ensures.run
+    moved.no_call moved.images moved.cause refl (λ e. absurd (cc)) (λ e. absurd (cc))
+
+pub returns-in-Err-new-clause-run : goal.returns-in-Err-new-clause-run
+returns-in-Err-new-clause-run g c =
+    let moved = c.in-Ok-move_over.ensures in
+    then_through g.D.Disk.view c.args.disk c.read_synced.new.disk c.move_over.new.disk
+    c.in-Err-new.field-0.disk _ _ (open_fault.NoMemory ≡ open_fault.Device)
+    (ok_no_fault _ _ open_fault.Device refl) c.in-Ok.ensures.run moved.no_call moved.images
+    moved.cause c.in-Err-new.ensures.not_made (λ e. absurd (cc)) (λ e. absurd (cc))
+
+pub returns-in-Ok-new-clause-run : goal.returns-in-Ok-new-clause-run
+returns-in-Ok-new-clause-run g c =
+    let moved = c.in-Ok-move_over.ensures in
+    then_through g.D.Disk.view c.args.disk c.read_synced.new.disk c.move_over.new.disk
+    c.in-Ok-new.committer.disk _ _ ⊥ (ok_no_fault _ _ open_fault.Device refl) c.in-Ok.ensures.run
+    moved.no_call moved.images moved.cause
+    (ap (λ (s : CommitterState _). s.disk) c.in-Ok-new.ensures.made) (λ e. absurd (cc))
+    (λ e. absurd e)

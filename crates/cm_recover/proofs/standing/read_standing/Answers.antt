@@ -60,6 +60,7 @@ returns-clause-standing g c =
       end = c.end-end.ensures;
       epoch = refl;
       other = c.in_ok-found.ensures.other;
+      version = refl;
       roots = c.whole_roots.ensures ∙ ap (whole_roots f.sizes)
           (c.in_ok-long.ensures.len ∙ ap length c.in_ok-found.ensures.reads.contents_stay);
       rows_are = c.into_books-rows.ensures.accepted;

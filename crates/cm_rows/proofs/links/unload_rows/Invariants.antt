@@ -1,5 +1,5 @@
 use Rattle.std.proofs.Common.{◌≡◌, ◌+◌, length, map, vec_capacity}
-use Rattle.cm_layout.specs.Rows.{classes_in}
+use Rattle.cm_layout.specs.Rows.{classes_in, slots_of_rows}
 use Rattle.cm_index.specs.Living.{living, unloaded}
 use Rattle.cm_rows.specs.Held.{Holds, first_chunks}
 use Rattle.cm_rows.specs.Links.{AreLinked, last_place, places_left}
@@ -13,7 +13,9 @@ invariant-loop-next g l =
       next : l.next ≡ last_place l.loader l.slots.items;
       holds : Holds l.initial.pool.geometry l.pool
           (first_chunks (classes_in (living l.slots.items)));
-      count : length (living l.slots.items) + l.count ≡ length (living l.initial.slots.items);
+      rows : length (living l.slots.items) + l.count ≡ length (living l.initial.slots.items);
+      taken : slots_of_rows (living l.slots.items) + l.taken
+          ≡ slots_of_rows (living l.initial.slots.items);
       capacity : vec_capacity l.slots ≡ vec_capacity l.initial.slots;
     }
 

@@ -17,7 +17,7 @@ returns-then-not-is_inside-clause-broken c =
       at = c.in-Some.at;
       slot = slot;
       may = record {
-        few = omega (arith, c.row_limit.ensures, c.if-count-row_limit.false);
+        few = omega (arith, c.row_limit.ensures, c.if-taken-row_limit.false);
         kept = kept;
         slot_is = same-default loaders c.in-Some.at none slot within;
       };

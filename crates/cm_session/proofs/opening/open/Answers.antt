@@ -38,7 +38,6 @@ returns-clause-opened g c =
           sizes k bytes some front committer opens is));
       sizes_are = same_sizes one live framed stands c.words_tell_name.ensures
           c.opened_is_ahead.ensures on sizes k bytes some front committer opens is;
-      contents_are = c.in-Ok.ensures.run.contents_stay;
       settled = c.in-Ok.ensures.stored;
     }
 

@@ -1,4 +1,4 @@
-use Rattle.std.proofs.Common.{subst}
+use Rattle.std.proofs.Common.{refl, subst}
 use Rattle.cm_guards.specs.Calls.{LeavesOnly}
 use Rattle.cm_machine.specs.Machine.{machine_from}
 use Rattle.cm_lines.specs.Streams.{io}
@@ -20,7 +20,10 @@ returns-in-Ok-default-clause-ok g c =
       arenas = begins.arenas;
       stands = begins.stands;
       opened = s.committer.disk;
-      opening = c.in-Ok.ensures.run.images;
+      opening = record {
+        alone = λ newest. (c.in-Ok.ensures.run.reads_alone newest).images;
+        either = c.in-Ok.ensures.run.images;
+      };
       failures = opened;
       later = c.in-Ok.ensures.run.later;
       new = run.0;
@@ -45,7 +48,10 @@ returns-in-Err-default-clause-err g c =
       arenas = begins.arenas;
       stands = begins.stands;
       opened = s.committer.disk;
-      opening = c.in-Ok.ensures.run.images;
+      opening = record {
+        alone = λ newest. (c.in-Ok.ensures.run.reads_alone newest).images;
+        either = c.in-Ok.ensures.run.images;
+      };
       failures = opened;
       later = c.in-Ok.ensures.run.later;
       new = run.0;
@@ -55,4 +61,19 @@ returns-in-Err-default-clause-err g c =
           (pause (served (machine_from begins.base) opened) s.committer.disk)
           (pause run.0 c.run_to_end.result.1)) c.in-Err-default.is-0 run.1;
       leaves = run.2;
+    }
+
+pub returns-in-Err-clause-err : goal.returns-in-Err-clause-err
+returns-in-Err-clause-err g c =
+    let run = c.in-Err.ensures.run in
+    record {
+      bytes_stay = λ newest. (run.reads_alone newest).contents_stay;
+      no_more = λ newest. (run.reads_alone newest).no_more;
+      moments = record {
+        alone = λ newest. (run.reads_alone newest).images;
+        either = run.images;
+      };
+      nothing = refl;
+      fault_is = c.in-Err.ensures.fault;
+      device = run.cause;
     }

@@ -4,13 +4,15 @@ use Rattle.cm_rules.specs.Fault.{fault}
 use Rattle.cm_verdict.proofs.Records.{kept_by, no_record}
 use Rattle.cm_verdict.proofs.record.are_kept.Goals as goal
 
-pub returns-in-Ok : goal.returns-in-Ok
-returns-in-Ok c =
-    let read = c.in-Ok.ensures {u = tt} in
-    IfOk-weaker c.keeps_rules-in-Ok.result _ _
-    (λ kept is. is ∙ kept_by c.args.words.now c.in-Ok.file (fault c.from_file.result) read.ok
-    (ap fault c.from_file.ensures))
-    c.keeps_rules-in-Ok.ensures
+pub returns-in_ok-class-in-Ok : goal.returns-in_ok-class-in-Ok
+returns-in_ok-class-in-Ok c =
+    let found = c.in-Ok.ensures.ok in
+    let same = c.in_ok-class-in-Ok.ensures found.0
+    (record { fits = found.1.spelled; spelled = c.deref.ensures.value ∙ found.2 }) in
+    IfOk-weaker c.keeps_rules.result _ _
+    (λ kept is. is ∙ kept_by c.args.words.now found.0 (fault c.in_ok-class-in-Ok.class) found.1
+    (ap fault same))
+    c.keeps_rules.ensures
 
 pub returns-in-Err-NotARecord : goal.returns-in-Err-NotARecord
 returns-in-Err-NotARecord c =

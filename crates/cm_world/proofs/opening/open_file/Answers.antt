@@ -12,8 +12,10 @@ use Rattle.cm_world.proofs.opening.open_file.Goals as goal
 
 pub returns-in-Ok-clause-opened : goal.returns-in-Ok-clause-opened
 returns-in-Ok-clause-opened c =
-    λ sizes before some.
+    λ sizes before some newest.
     let o = c.in-Ok.ensures.opened sizes before.machine some in
+    let run = c.in-Ok.ensures.run.reads_alone
+    (c.newest_is_not_older.ensures (sim_contents c.args.disk) newest) in
     let d = c.in-Ok.session.committer.disk in
     let now = c.disarm.new.self in
     let disk = c.args.disk in
@@ -29,14 +31,14 @@ returns-in-Ok-clause-opened c =
             ∙ (sym goes.acknowledged_is
             ∙ ap (λ (k : Machine). k.acknowledged) o.leads.does.reopens.next_is));
         contents_stay = subst (λ (z : CommitterState SimDisk).
-            sim_contents z.disk ≡ sim_contents disk) same o.contents_are;
+            sim_contents z.disk ≡ sim_contents disk) same run.contents_stay;
         stored = subst (λ (z : CommitterState SimDisk).
             IsSettled (sim_contents z.disk) (sim_unsynced z.disk)) same o.settled;
         disarmed = ap (λ (z : CommitterState SimDisk). sim_armed z.disk) c.disarm.ensures.disk;
       };
       moments = subst (λ (z : CommitterState SimDisk). LeavesOnly sim_view disk
           z.disk (IsImage (sim_contents disk) (sim_unsynced disk))) same
-          (let before = c.in-Ok.ensures.run.images in
+          (let before = run.images in
           record { later = before.later; each = before.each; before = before.before });
       images = subst (λ z. Shows z o.leads.next w) sizes_are (c.images.ensures o.leads.next goes);
       goes = goes;

@@ -9,6 +9,7 @@ invariant_of-result g c =
     let held = c.requires.held in
     record {
       framing = held.framing;
+      newest = held.version_is;
       journal_is = held.journal_is;
       right = held.right;
       cache = held.cache;

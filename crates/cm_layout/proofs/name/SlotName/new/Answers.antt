@@ -9,6 +9,6 @@ invariant_of-result c =
     let copied : length c.copy_from_slice.new.self ≡ n =
     ap length c.copy_from_slice.ensures.after in (
       omega arith,
-      whole 48 c.copy_from_slice.new.self _ n copied (drop-replicate {X = ℕ} n 48 0) (omega arith),
-      zeros_behind 48 c.copy_from_slice.new.self _ n copied (drop-replicate {X = ℕ} n 48 0),
+      whole 96 c.copy_from_slice.new.self _ n copied (drop-replicate {X = ℕ} n 96 0) (omega arith),
+      zeros_behind 96 c.copy_from_slice.new.self _ n copied (drop-replicate {X = ℕ} n 96 0),
     )

@@ -11,7 +11,7 @@ pub prepare_record-requires : goal.prepare_record-requires
 prepare_record-requires g c =
     let words = c.args.place.words in
     let bytes = part c.record_at-at.result (8 * words) (g.D.Disk.view.contents c.args.disk.now) in
-    let count = ap length c.as_slice.ensures
+    let count = ap length c.deref.ensures.value
     ∙ (ap length c.in_ok-read.ensures.words ∙ length-packed_into words bytes) in
     let short = short_enough c.args.self.now.geometry c.args.place c.requires.place in
     omega (arith, count, short)

@@ -1,8 +1,9 @@
 use Rattle.std.proofs.Common.{◌≡◌, ◌≤◌, length, ap, sym, ◌∙◌, subst, arith}
 use Rattle.std.proofs.lemmas.List.{length-map}
 use Rattle.cm_pool.specs.Geometry.{Sizes}
-use Rattle.cm_layout.specs.Rows.{row_with, bare}
+use Rattle.cm_layout.specs.Rows.{row_with, bare, slots_of_rows}
 use Rattle.cm_layout.specs.Rules.{row_limit}
+use Rattle.cm_layout.proofs.{rows-within, slots-bare}
 use Rattle.cm_index.specs.Index.{AreUnique}
 use Rattle.cm_index.specs.Living.{living}
 use Rattle.cm_index.proofs.{living-swept, swept-live, length-swept, unique-bare}
@@ -34,6 +35,7 @@ few g c = omega (
   ap (λ l. length (living l))
       c.deref-3.ensures.value,
   c.other.invariant.0.few,
+  rows-within (living c.other.inside.rows.slots.items),
   ap row_limit (same g c),
 )
 
@@ -45,6 +47,7 @@ copy_rows-requires g c =
     rw c.deref-3.ensures.value (omega (
       arith,
       c.other.invariant.0.few,
+      rows-within (living o.rows.slots.items),
       c.self.invariant.2.room,
       ap row_limit sizes,
     ))
@@ -126,6 +129,22 @@ relink-requires-clause-owned g c =
     (owned-rows c.self.inside.geometry (bare (living o.rows.slots.items)) (living ls)
     c.take_all.new.pool (book g at.After-copy_loaders (same g at.After-copy_rows)))
 
+pub relink-requires-clause-fits : goal.relink-requires-clause-fits
+relink-requires-clause-fits g c =
+    rw c.deref-7.ensures.value (omega (
+      arith,
+      few g (goal.at.relink-requires-clause-fits g c).After-copy_rows,
+      c.self.invariant.0.lawful.slots_to,
+    ))
+
+pub relink-requires-clause-room : goal.relink-requires-clause-room
+relink-requires-clause-room g c =
+    rw c.deref-7.ensures.value (omega (
+      arith,
+      few g (goal.at.relink-requires-clause-room g c).After-copy_rows,
+      c.self.invariant.2.before_room,
+    ))
+
 pub relink-requires-clause-newest_room : goal.relink-requires-clause-newest_room
 relink-requires-clause-newest_room g c =
     let at = goal.at.relink-requires-clause-newest_room g c in
@@ -197,4 +216,5 @@ invariant_of-self g c =
       },
       c.other.invariant.4 ∙ sym (ap length is ∙ length-map rs (row_with {P = g.row.Q.Denot} {Q =
           Unit {0}} (λ p. tt))),
+      c.other.invariant.5 ∙ sym (ap (λ l. slots_of_rows l) is ∙ slots-bare rs),
     )

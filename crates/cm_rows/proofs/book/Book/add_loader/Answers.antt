@@ -4,7 +4,10 @@ use Rattle.std.specs.List.{AllByRecursion}
 use Rattle.cm_layout.specs.declared.entry_rule.EntryRule.TheVariants.{OnRows}
 use Rattle.cm_layout.specs.declared.row.Row.{Row}
 use Rattle.cm_layout.specs.declared.row.Row.TheVariants.{Loader}
+use Rattle.cm_layout.specs.Names.{slots_of_name}
+use Rattle.cm_layout.specs.Rows.{slots_of_rows}
 use Rattle.cm_layout.specs.Rules.{is_new_loader, row_limit}
+use Rattle.cm_layout.proofs.{slots-push}
 use Rattle.cm_index.specs.declared.slot.BookSlot.{BookSlot}
 use Rattle.cm_index.specs.Index.{AreUnique}
 use Rattle.cm_index.specs.Living.{living}
@@ -17,7 +20,7 @@ use Rattle.cm_rows.proofs.Books.{add-loader}
 use Rattle.cm_rows.proofs.KeptPlaces.{all-below}
 use Rattle.cm_rows.proofs.Placed.{as-many, links-loader, loaders-below, loaders-fewer, loaders-push}
 use Rattle.cm_rows.proofs.Placed.{owned-rows}
-use Rattle.cm_rows.proofs.Verdicts.{new-few, new-name}
+use Rattle.cm_rows.proofs.Verdicts.{new-few, new-name, fewer-rows}
 use Rattle.cm_rows.proofs.book.Book.add_loader.Given.{Over}
 use Rattle.cm_rows.proofs.book.Book.add_loader.Goals as goal
 use Rattle.cm_rows.proofs.book.Book.add_loader.Goals.{After-is_new_loader, After-push_row}
@@ -45,14 +48,24 @@ new : (g : Over) (c : After-is_new_loader g) → c.is_new_loader.result ≡ true
 new g c is = sym (rw (← c.self.view_is) at c.is_new_loader.ensures) ∙ is
 
 few : (g : Over) (c : After-is_new_loader g) → c.is_new_loader.result ≡ true
-    → length (living c.self.inside.rows.slots.items) < row_limit c.self.inside.geometry
+    → slots_of_rows (living c.self.inside.rows.slots.items) + slots_of_name c.args.row.name
+    ≤ row_limit c.self.inside.geometry
 few g c is = new-few c.self.inside.geometry (living c.self.inside.rows.slots.items) c.args.row
     (new g c is)
 
 pub make_room-requires-clause-few : goal.make_room-requires-clause-few
 make_room-requires-clause-few g c =
-    few g (goal.at.make_room-requires-clause-few g c).After-is_new_loader
-    c.if-not-is_new_loader.false
+    fewer-rows c.self.inside.geometry (living c.self.inside.rows.slots.items) c.args.row.name
+    (few g (goal.at.make_room-requires-clause-few g c).After-is_new_loader
+    c.if-not-is_new_loader.false)
+
+pub overflow_add-self : goal.overflow_add-self
+overflow_add-self g c =
+    let a = c.self.inside in
+    let room = few g (goal.at.overflow_add-self g c).After-is_new_loader
+    c.if-not-is_new_loader.false in
+    let fewer = fewer-rows a.geometry (living a.rows.slots.items) c.args.row.name room in
+    omega (arith, fewer, c.self.invariant.4, c.self.invariant.0.lawful.slots_to)
 
 pub make_room-requires-clause-loaders_few : goal.make_room-requires-clause-loaders_few
 make_room-requires-clause-loaders_few g c =
@@ -157,4 +170,11 @@ invariant_of-self g c =
       loaders-push sizes left new_loaders (length there.slots.items) (length new_rows.slots.items)
           r.number m.loaders under c.push.ensures.slots c.push.ensures.capacity more,
       omega (arith, c.self.invariant.4, ap length is, length-append rows (Loader r ∷ [])),
+      omega (
+        arith,
+        c.self.invariant.5,
+        c.slots.ensures,
+        ap (λ l. slots_of_rows l) is,
+        slots-push rows (Loader r),
+      ),
     )

@@ -66,4 +66,5 @@ invariant_of-self g c =
         room = loader_room.slots;
       },
       rw (none.slots) refl,
+      rw (none.slots) refl,
     )

@@ -3,7 +3,9 @@ use Rattle.std.proofs.Common.{length, length-append, vec_capacity, get_or, set}
 use Rattle.std.proofs.Common.{Some, true, refl, sym, ap, subst, ◌∙◌, arith}
 use Rattle.cm_layout.specs.declared.row.Row.{Row}
 use Rattle.cm_layout.specs.declared.row.Row.TheVariants.{Class}
+use Rattle.cm_layout.specs.Rows.{slots_of_rows}
 use Rattle.cm_layout.specs.Rules.{row_limit}
+use Rattle.cm_layout.proofs.{rows-within, slots-push}
 use Rattle.cm_index.specs.declared.slot.BookSlot.{BookSlot}
 use Rattle.cm_index.specs.Index.{AreUnique}
 use Rattle.cm_index.specs.Living.{living}
@@ -29,8 +31,8 @@ returns-in-Some-clause-broken g c =
     let a = c.self.inside in
     rw (← c.self.view_is)
     (broken a.geometry (living a.rows.slots.items) a.loaders.slots.items a.pool
-    c.place_class.new.pool c.args.row c.args.kept a.count
-    c.self.invariant.4 c.self.invariant.0 c.in-Some.rule
+    c.place_class.new.pool c.args.row c.args.kept a.taken
+    c.self.invariant.5 c.self.invariant.0 c.in-Some.rule
     (rw c.deref.ensures.value at c.in-Some.ensures.broken))
 
 pub returns-clause-broken : goal.returns-clause-broken
@@ -38,9 +40,29 @@ returns-clause-broken g c =
     let a = c.self.inside in
     rw (← c.self.view_is)
     (keeps_all a.geometry (living a.rows.slots.items) a.loaders.slots.items a.pool
-    c.place_class.new.pool c.args.row c.args.kept a.count
-    c.self.invariant.4 c.self.invariant.0
+    c.place_class.new.pool c.args.row c.args.kept a.taken
+    c.self.invariant.5 c.self.invariant.0
     (rw c.deref.ensures.value at c.in_default.ensures.placed))
+
+pub make_room-requires-clause-few : goal.make_room-requires-clause-few
+make_room-requires-clause-few g c =
+    omega (
+      arith,
+      (c.in_default.ensures.placed).may.few,
+      c.self.invariant.5,
+      rows-within (living c.self.inside.rows.slots.items),
+    )
+
+pub overflow_add-self : goal.overflow_add-self
+overflow_add-self g c =
+    omega (
+      arith,
+      (c.in_default.ensures.placed).may.few,
+      c.self.invariant.4,
+      c.self.invariant.5,
+      rows-within (living c.self.inside.rows.slots.items),
+      c.self.invariant.0.lawful.slots_to,
+    )
 
 pub make_room-requires-clause-loaders_few : goal.make_room-requires-clause-loaders_few
 make_room-requires-clause-loaders_few g c =
@@ -109,7 +131,8 @@ invariant_of-self-2 g c =
     let after = (goal.at.invariant_of-self-2 g c).After-push_row in
     let is = next g after in
     let p = rw c.deref.ensures.value at c.in_default.ensures.placed in
-    let few : length rows < row_limit sizes = omega (arith, p.may.few, c.self.invariant.4) in
+    let few : slots_of_rows rows < row_limit sizes =
+    omega (arith, p.may.few, c.self.invariant.5) in
     let at = stands loaders r.loader p.at p.may.kept in
     let found = at-living loaders r.loader p.at p.may.kept at in
     let has = same-kept loaders p.at at p.slot p.may.slot_is in
@@ -172,6 +195,12 @@ invariant_of-self-2 g c =
       loaders-set sizes left new_loaders (length there.slots.items) (length new_rows.slots.items)
           r.loader here o m.loaders kept_now.at c.set_last.ensures.loaders roomier more,
       omega (arith, c.self.invariant.4, ap length is, length-append rows (Class r k ∷ [])),
+      omega (
+        arith,
+        c.self.invariant.5,
+        ap (λ l. slots_of_rows l) is,
+        slots-push rows (Class r k),
+      ),
     )
 
 pub overflow_add-used : goal.overflow_add-used

@@ -28,7 +28,7 @@ returns-then-not-is_full g c =
     rw (c.as_bytes.ensures.value, c.deref.ensures.value) at c.is_new_loader_name.ensures in
     let left = sym (rw (← c.self.view_is) at c.is_full.ensures) ∙ c.if-not-is_full.true in
     rw (← c.self.view_is) (new ∙ with_room name (has_room sizes rows (Loader row))
-    (room-left sizes rows row left))
+    (room-left sizes rows row c.slots.result c.slots.ensures left))
 
 pub returns-else-not-is_full : goal.returns-else-not-is_full
 returns-else-not-is_full g c =
@@ -39,4 +39,4 @@ returns-else-not-is_full g c =
     let full = sym (rw (← c.self.view_is) at c.is_full.ensures) ∙ c.if-not-is_full.false in
     rw (← c.self.view_is) (ap not c.if-not-is_full.false
     ∙ without_room name (has_room sizes rows (Loader row))
-    (no_room-left sizes rows row full))
+    (no_room-left sizes rows row c.slots.result c.slots.ensures full))

@@ -32,4 +32,5 @@ invariant_of-result g c =
         room = omega (arith, loader_room.slots, limit);
       },
       rw (none.slots) refl,
+      rw (none.slots) refl,
     )

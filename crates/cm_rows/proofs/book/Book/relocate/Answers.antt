@@ -3,6 +3,8 @@ use Rattle.std.proofs.Common.{refl, sym, ap, subst, ◌∙◌, arith}
 use Rattle.std.proofs.lemmas.List.{length-map}
 use Rattle.cm_pool.specs.declared.chunk.Chunk.{Chunk}
 use Rattle.cm_layout.specs.declared.row.Row.{Row}
+use Rattle.cm_layout.specs.Rows.{slots_of_rows}
+use Rattle.cm_layout.proofs.{slots-moved}
 use Rattle.cm_layout.specs.Rows.{classes_in, moved}
 use Rattle.cm_layout.specs.Rules.{move_fits}
 use Rattle.cm_layout.proofs.{last_chunk-among}
@@ -215,6 +217,7 @@ invariant_of-self-2 g c =
       loaders-set sizes a.loaders new_loaders (length slots) (length new_rows.slots.items)
           e.loader i o c.self.invariant.3 found.at c.set_last.ensures.loaders roomier as_long,
       c.self.invariant.4 ∙ sym (ap length is ∙ length-moved e.from e.to rows),
+      c.self.invariant.5 ∙ sym (ap (λ l. slots_of_rows l) is ∙ slots-moved e.from e.to rows),
     )
 
 pub returns-clause-broken : goal.returns-clause-broken

@@ -39,8 +39,8 @@ returns-clause-broken g c =
     (live-at rows (living ls) c.args.number at.place c.self.invariant.0.loaders
     (at-living ls c.args.number c.in-Some.at found at)))
 
-pub unload_rows-ended-requires-clause-newest : goal.unload_rows-ended-requires-clause-newest
-unload_rows-ended-requires-clause-newest g c =
+pub unload_rows-gone-requires-clause-newest : goal.unload_rows-gone-requires-clause-newest
+unload_rows-gone-requires-clause-newest g c =
     let a = c.self.inside in
     let found = rw c.deref.ensures.value at c.in-Some.ensures.found in
     c.index-last.ensures ∙ last-at-place a.geometry a.rows a.loaders c.args.number c.in-Some.at
@@ -51,7 +51,7 @@ returns-clause-left g c =
     let a = c.self.inside in
     rw (← c.self.view_is)
     (ap (λ (l : List (Row g.row.P.Denot)). record { sizes = a.geometry; rows = l })
-    (ap living c.unload_rows-ended.ensures.slots
+    (ap living c.unload_rows-gone.ensures.slots
     ∙ living-unloaded c.args.number a.rows.slots.items))
 
 pub end-requires-clause-within : goal.end-requires-clause-within
@@ -82,10 +82,10 @@ invariant_of-self g c =
     let u = c.args.number in
     let i = c.in-Some.at in
     let h = c.self.invariant.0 in
-    let unloads = c.unload_rows-ended.ensures in
-    let p = c.unload_rows-ended.new.pool in
+    let unloads = c.unload_rows-gone.ensures in
+    let p = c.unload_rows-gone.new.pool in
     let new_rows : RowPlaces g.row.P.Denot = record {
-      slots = c.unload_rows-ended.new.slots;
+      slots = c.unload_rows-gone.new.slots;
       before = a.rows.before;
       index = a.rows.index;
       places = a.rows.places;
@@ -128,5 +128,6 @@ invariant_of-self g c =
           }),
       loaders-ended sizes a.loaders new_loaders (length slots) (length new_rows.slots.items) u i
           c.self.invariant.3 kept.at e roomier as_long,
-      omega (arith, unloads.count, c.self.invariant.4),
+      omega (arith, unloads.rows, c.self.invariant.4),
+      omega (arith, unloads.taken, c.self.invariant.5),
     )

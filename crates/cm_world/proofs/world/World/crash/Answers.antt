@@ -31,7 +31,10 @@ returns-clause-moved c =
     (λ next o. o)
     (one_image c.settled_has_one_image.ensures b left.fresh
     (StandsForSome w.session.committer.sizes k) some) m)
-    (c.open_file.ensures.opened w.session.committer.sizes (state w k) some)
+    (c.open_file.ensures.opened w.session.committer.sizes (state w k) some
+    (c.versions.ensures.each (sim_contents b)
+    (subst (λ (x : SimDisk). IsImage (sim_contents x) (sim_unsynced x) (sim_contents b)) same
+    left.image)))
 
 pub returns-clause-fault : goal.returns-clause-fault
 returns-clause-fault c =

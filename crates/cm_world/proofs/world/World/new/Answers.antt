@@ -9,7 +9,8 @@ returns-in-Ok-clause-begun c =
     let disk = c.in_ok-disk.disk in
     begun sizes c.in-Ok._reply disk c.in-Ok.world c.in_ok-disk.ensures.made
     (c.in-Ok.ensures.opened sizes (record { disk = disk; machine = empty_machine })
-    (nothing_stands sizes (sim_contents disk) c.in_ok-disk.ensures.empty))
+    (nothing_stands sizes (sim_contents disk) c.in_ok-disk.ensures.empty)
+    c.in_ok-disk.ensures.newest)
 
 pub returns-in-Err-clause-fault : goal.returns-in-Err-clause-fault
 returns-in-Err-clause-fault c =

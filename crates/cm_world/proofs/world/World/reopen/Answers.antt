@@ -2,6 +2,7 @@ use Rattle.std.proofs.Common.{◌≡◌, None, sym, ap, subst, ◌∙◌}
 use Rattle.cm_disk.specs.declared.sim.SimDisk.{SimDisk}
 use Rattle.cm_disk.specs.Disk.{IsImage}
 use Rattle.cm_disk.specs.Sim.{sim_contents, sim_unsynced}
+use Rattle.cm_layout.specs.Laws.{IsNewest}
 use Rattle.cm_session.specs.Images.{StandsForSome}
 use Rattle.cm_world.specs.declared.event.Event.TheVariants as event
 use Rattle.cm_world.specs.Moves.{state}
@@ -24,7 +25,9 @@ returns-clause-moved c =
     (λ p m. opened_moves k event.Reopen p.1 w p.0 b b_is (λ next o. o)
     (λ image is. images.each image
     (subst (λ (x : SimDisk). IsImage (sim_contents x) (sim_unsynced x) image) b_is is)) m)
-    (c.open_file.ensures.opened w.session.committer.sizes (state w k) some)
+    (c.open_file.ensures.opened w.session.committer.sizes (state w k) some
+    (subst (λ (x : SimDisk). IsNewest (sim_contents x)) (sym b_is)
+    (c.versions.ensures.each (sim_contents d) (now_left d))))
 
 pub returns-clause-fault : goal.returns-clause-fault
 returns-clause-fault c =
