@@ -78,10 +78,14 @@ done
 beside sweep cm_space_tests pools::a_failed_allocation_leaves_the_pool_as_it_was 13
 beside sweep cm_space_tests arenas::places_words 15
 beside sweep cm_space_tests arenas::takes_larger_chunks_in_a_longer_chain 25
-beside sweep cm_class_tests faults::a_fault_behind_a_refusal 11
-beside sweep cm_world_tests commands::a_left_chunk_waits_for_its_receipt 203
+beside sweep cm_class_tests faults::a_fault_behind_a_refusal 4
+beside sweep cm_world_tests commands::a_left_chunk_waits_for_its_receipt 194
 beside sweep cm_world_tests \
-    commands::chunks_of_loaders_that_go_at_once_wait_for_the_receipt 212
+    commands::chunks_of_loaders_that_go_at_once_wait_for_the_receipt 202
+beside sweep cm_world_tests refused::a_class_is_found_after_a_refusal 203
+beside sweep cm_world_tests refused::a_loader_comes_again_after_a_refusal 214
+beside sweep cm_world_tests refused::a_chunk_is_left_after_a_refusal 221
+beside sweep cm_world_tests made_again::a_file_is_made_and_opened_after_a_refusal 109
 
 # The program's own: making a file, and scripts with commands that are done, refused, and looked up,
 # in memory and on a file.
@@ -98,23 +102,23 @@ sweep_program() {
     WORK=$work tests/refused_memory.py "$built" "$library" "${@:2}" <"$1"
     check_last "the program with a refused allocation: ${*:2}"
 }
-beside sweep_program "$work/script" 387 apply --memory
-beside sweep_program "$work/script" 387 apply FILE
+beside sweep_program "$work/script" 383 apply --memory
+beside sweep_program "$work/script" 383 apply FILE
 beside sweep_program "$work/script" 91 format FILE
 # Opening a file alone, and looking at it.
-beside sweep_program /dev/null 331 apply FILE
-beside sweep_program /dev/null 252 check FILE
-beside sweep_program /dev/null 365 list FILE
+beside sweep_program /dev/null 321 apply FILE
+beside sweep_program /dev/null 242 check FILE
+beside sweep_program /dev/null 401 list FILE
 # The same for a cache that is started for threads: what they share, and the flusher's thread.
-beside sweep_program /dev/null 352 apply FILE --workers 2
-beside sweep_program "$work/script" 423 apply FILE --workers 2
+beside sweep_program /dev/null 342 apply FILE --workers 2
+beside sweep_program "$work/script" 419 apply FILE --workers 2
 # The same by the library alone: one thread makes a loader and defines a class.
 bench=$(built cm_bench)
 sweep_threads() {
     WORK=$work tests/refused_memory.py "$bench" "$library" "$1" threads FILE --threads 1
     check_last "a cache for threads with a refused allocation"
 }
-beside sweep_threads 369
+beside sweep_threads 365
 tell_sweeps
 
 # asks NAME HEX: reading, judging and recording this class asks for no more than 16,384 bytes at

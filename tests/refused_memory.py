@@ -162,6 +162,8 @@ class Sweep:
         for refuse in range(1, MOST):
             ran, has_met = self.run(refuse)
             name = f"{self.words[0]}, allocation {refuse} refused"
+            # Neither input nor output failed.
+            self.checks.check(f"{name}: its fault", "put failed" not in ran[2], f"{ran}")
             if self.words[0] == "format":
                 self.check_format(name, ran)
             elif self.words[0] == "threads":

@@ -954,7 +954,7 @@ def check_disk(checks, program):
     """The file behind one loader, by docs/REGION.md, and behind a class a root longer."""
     superblock = b"CMCACHE1" + struct.pack("<4I", 1, 3, 2, 256)
     superblock += bytes(4095 - len(superblock)) + b"\xa5"
-    head = slot(0x01, at_0_1=0xa5, at_2_2=1, at_8_8=1)
+    head = slot(0x01, at_0_1=0xa5, at_2_2=2, at_8_8=1)
     group = slot(0x02, at_0_1=0xa5, at_2_2=1, at_8_8=1)
     loader = slot(0x11, at_2_1=3, at_8_8=1)
     loader[16:19] = b"app"

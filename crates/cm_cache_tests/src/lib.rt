@@ -5,6 +5,8 @@
 mod adding;
 #[cfg(test)]
 mod calling;
+#[cfg(test)]
+mod fused;
 // Its definition stands in specs/, which are read with no test too.
 pub mod held_disk;
 #[cfg(test)]

@@ -14,6 +14,8 @@ mod file_contents;
 #[cfg(test)]
 mod held;
 #[cfg(test)]
+mod long_writes;
+#[cfg(test)]
 mod opening_files;
 mod reading;
 #[cfg(test)]

@@ -1,6 +1,6 @@
 //! Classes to store.
 
-use cm_prepare::{Prepared, prepare};
+use cm_prepare::{Prepared, Refusal, prepare};
 use std::alloc::Global;
 use std::test::Fail;
 
@@ -10,15 +10,19 @@ pub const CLASS_A: &[u8] = b"cafebabe000000340005070002010001410700040100106a617
 
 /// The class of these bytes. It is asked for once more where an allocation failed.
 pub fn class_of(alloc: Global, bytes: &[u8]) -> Result<Prepared, Fail> {
-    match prepare(alloc, bytes) {
-        Ok(class) => Ok(class),
-        Err(_) => Ok(prepare(alloc, bytes).ok().ok_or("a class")?),
-    }
+    let class = match prepare(alloc, bytes) {
+        Err(Refusal::NoMemory) => prepare(alloc, bytes),
+        answer => answer,
+    };
+    Ok(class.ok().ok_or("a class")?)
 }
 
-/// The class that a text spells.
+/// The class that a text spells. It is read once more where an allocation failed.
 pub fn class(alloc: Global, text: &[u8]) -> Result<Prepared, Fail> {
-    let bytes = hex::decode(alloc, text)?;
+    let bytes = match hex::decode(alloc, text) {
+        Ok(bytes) => bytes,
+        Err(_) => hex::decode(alloc, text)?,
+    };
     class_of(alloc, &bytes)
 }
 

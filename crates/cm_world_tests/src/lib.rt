@@ -22,11 +22,17 @@ mod list_calls;
 #[cfg(test)]
 mod lists;
 #[cfg(test)]
+mod made_again;
+#[cfg(test)]
 mod moves;
 #[cfg(test)]
 mod offers;
 #[cfg(test)]
 mod random;
+#[cfg(test)]
+mod refused;
+#[cfg(test)]
+mod shared_classes;
 #[cfg(test)]
 mod small_files;
 #[cfg(test)]

@@ -2,7 +2,9 @@
 
 use crate::turns::name;
 use cm_disk::{Disk, SimDisk};
-use cm_layout::{GroupHead, HalfHead, LoaderRow, SUPERBLOCK_BYTES, SlotName, Superblock};
+use cm_layout::{
+    ENTRY_VERSION, GroupHead, HalfHead, LoaderRow, SUPERBLOCK_BYTES, SlotName, Superblock,
+};
 use cm_pool::Geometry;
 use std::alloc::Global;
 use std::test::Fail;
@@ -47,7 +49,8 @@ fn push_loader(bytes: &mut Vec<u8>, number: u64, name: &[u8]) -> Result<(), Fail
         first: number,
     };
     bytes.extend_from_slice(&head.encode())?;
-    bytes.extend_from_slice(&LoaderRow { number, name }.encode())?;
+    let loader = LoaderRow { number, name }.encode();
+    bytes.extend_from_slice(loader.as_bytes())?;
     Ok(())
 }
 
@@ -61,7 +64,7 @@ fn push_loaders(bytes: &mut Vec<u8>, count: usize) -> Result<(), Fail> {
 
 fn push_half(bytes: &mut Vec<u8>, loaders: usize) -> Result<(), Fail> {
     let head = HalfHead {
-        version: 1,
+        version: ENTRY_VERSION,
         live: 0,
         epoch: 1,
         base: 0,

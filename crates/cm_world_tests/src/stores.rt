@@ -17,9 +17,11 @@ use std::test::*;
 const CLASSES: [(u8, u32); 2] = [(b'A', 0), (b'B', 0)];
 
 /// Commands that make a group, how many device calls it takes, and the number of the last of them.
-const GROUPS: [(&[Call], u64, u64); 4] = [
-    // a root and a record, beside the slots, the gate and two syncs
-    (&[Call::AddLoader(b'a'), Call::Define(b'a', 0)], 6, 2),
+const GROUPS: [(&[Call], u64, u64); 5] = [
+    // the slots, the gate and two syncs
+    (&[Call::AddLoader(b'a')], 4, 1),
+    // a root and a record besides
+    (&[Call::Define(b'a', 0)], 6, 2),
     // two records in the root that is there
     (
         &[

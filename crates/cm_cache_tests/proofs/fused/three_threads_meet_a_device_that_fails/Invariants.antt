@@ -1,0 +1,17 @@
+use Rattle.crossbeam_channel.specs.Ends.{sends_on}
+use Rattle.cm_disk.specs.Fuse.{fuse_failures}
+use Rattle.cm_cache.specs.Channel.{channel_of}
+use Rattle.cm_cache.specs.Starting.{base_of}
+use Rattle.cm_cache_tests.proofs.fused.three_threads_meet_a_device_that_fails.Given as goal
+
+-- what was just opened, with what was made for it
+abbrev pub ghosts-run-K-Naming : goal.ghosts-run-K-Naming
+ghosts-run-K-Naming g a = record {
+  base = base_of a.committer;
+  channel = channel_of (sends_on a.new.channel.sender);
+  board = a.new.board.table.shared.table_id;
+  failed = fuse_failures a.committer.disk;
+}
+
+abbrev pub ghosts-run-K-Ledger : goal.ghosts-run-K-Ledger
+ghosts-run-K-Ledger g a = record { name = a.new.ledger.name; parts = a.new.ledger.parts }
