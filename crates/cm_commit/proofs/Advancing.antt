@@ -373,7 +373,7 @@ module _ {D : Type 0} (view : View D) (s : CommitterState D)
         busy.counted (ready_next before group i.right busy.is busy.next)).few
 
     right-next : IsCommitted after
-    right-next = after_right before group i.right busy.is busy.next
+    right-next = after_right before group i.right busy.is busy.next i.newest
 
     newest-next : after.framing.head.version ≡ entry_version
     newest-next = ready_newest before group i.right busy.is busy.next i.newest

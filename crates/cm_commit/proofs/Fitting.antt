@@ -15,7 +15,7 @@ use Rattle.cm_layout.specs.declared.row.Row.{Row}
 use Rattle.cm_layout.specs.declared.row.Row.TheVariants.{Loader, Class}
 use Rattle.cm_layout.specs.declared.entry.Entry.{Entry}
 use Rattle.cm_layout.specs.declared.entry.Entry.TheVariants as entry
-use Rattle.cm_layout.specs.Names.{is_loader_name, is_visible, name_limit, name_room, unload_limit}
+use Rattle.cm_layout.specs.Names.{is_loader_name, is_visible, name_limit, unload_limit}
 use Rattle.cm_layout.specs.declared.relocation.Move.{Move}
 use Rattle.cm_layout.specs.Slots.{FitsEntry, FitsClass, FitsMove, FitsChunk}
 use Rattle.cm_layout.specs.Rows.{name_of, number_of, numbers_in, kept_on}
@@ -82,7 +82,7 @@ pub live_past : (sizes : Sizes) (n : ℕ) (rows : List BareRow) (u : ℕ)
     → LiveRowsKeep sizes n [] rows → is_live u rows ≡ true → u ≤ n
 live_past sizes n rows u keep live = (own_loaders sizes n rows keep).past u (among_live u rows live)
 
-short_name : (x : List ℕ) → is_loader_name x ≡ true → length x ≤ name_room
+short_name : (x : List ℕ) → is_loader_name x ≡ true → length x ≤ name_limit
 short_name x named =
     let some = nat_le 1 (length x) in
     let short = nat_le (length x) name_limit in

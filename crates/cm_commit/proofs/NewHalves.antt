@@ -18,7 +18,7 @@ use Rattle.cm_layout.specs.Rules.{row_limit, has_room, is_new_loader, broken_liv
 use Rattle.cm_layout.specs.Frames.{BareRow, BareEntry, LiveRowsKeep, GroupsKeep, IsGoodHead}
 use Rattle.cm_layout.specs.Frames.{IsGoodHalf}
 use Rattle.cm_layout.specs.Framing.{open_half}
-use Rattle.cm_layout.proofs.{class_keeps, slots-push}
+use Rattle.cm_layout.proofs.{class_keeps, slots-push, newest-rows}
 use Rattle.cm_group.specs.Groups.{Handed, IsGroup, slots_taken}
 use Rattle.cm_commit.specs.Committed.{Committed, slots_of_groups, end_slot, journal_of}
 use Rattle.cm_commit.specs.Checkpoints.{renewed, renewed_framing, is_due}
@@ -132,11 +132,14 @@ pub right_renewed : (c : Committed) → IsCommitted c → IsGoodHead c.sizes (re
     → IsCommitted (renewed c)
 right_renewed c right head =
     let few = rows_few c right in
+    let keep = rows_live c.sizes c.framing c.rows c.number right in
     let good : IsGoodHalf c.sizes (open_half (renewed_framing c)) = record {
       head = head;
       count = refl;
-      live = rows_live c.sizes c.framing c.rows c.number right;
+      live = keep;
+      live_version = newest-rows c.sizes c.number [] (bare c.rows) keep;
       groups = tt;
+      groups_version = tt;
       end = tt;
     } in
     record {

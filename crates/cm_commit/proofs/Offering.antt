@@ -161,7 +161,8 @@ module _ {D : Type 0} (view : View D) (s : CommitterState D)
     stands : StagesStand (Holds before) (Shows after) (length behind) plan now
         (view.unsynced s.disk)
     stands =
-        let through = groups_go_through before group now i.right is takes.next tells idle.shows in
+        let through = groups_go_through before group now i.right is takes.next i.newest tells
+        idle.shows in
         subst (λ (l : List Stage). StagesStand (Holds before) (Shows after)
         (length (gone_through l now)) l now (view.unsynced s.disk)) same_plan
         (ready_stands (Holds before) (Shows after) _ _ now (view.unsynced s.disk) idle.settled
@@ -182,7 +183,8 @@ module _ {D : Type 0} (view : View D) (s : CommitterState D)
 
     roots_so : roots_then roots group ≡ whole_roots s.sizes (length behind)
     roots_so =
-        let through = groups_go_through before group now i.right is takes.next tells idle.shows in
+        let through = groups_go_through before group now i.right is takes.next i.newest tells
+        idle.shows in
         ap (λ (k : ℕ). roots_then k group) idle.roots_are
         ∙ through.roots
         ∙ ap (λ (l : List Stage). whole_roots s.sizes (length (gone_through l now))) same_plan

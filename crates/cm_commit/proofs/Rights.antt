@@ -2,14 +2,14 @@
 -- For `Committer::advance`, `Committer::images`, `Committer::offer` and others.
 use Rattle.std.proofs.Common.{◌≡◌, ℕ, ◌+◌, ◌*◌, ◌≤◌, List, [], ◌∷◌, ◌++◌, length, refl}
 use Rattle.std.proofs.Common.{sym, ap, subst, ◌∙◌, arith, append-nil, append_assoc, None}
-use Rattle.std.specs.List.{flat_map}
+use Rattle.std.specs.List.{flat_map, AllByRecursion}
 use Rattle.std.proofs.lemmas.List.{length-append}
 use Rattle.cm_pool.specs.Geometry.{Sizes}
 use Rattle.cm_layout.specs.declared.row.Row.{Row}
 use Rattle.cm_layout.specs.declared.row.Row.TheVariants.{Loader, Class}
 use Rattle.cm_layout.specs.declared.entry.Entry.{Entry}
 use Rattle.cm_layout.specs.declared.entry.Entry.TheVariants as entry
-use Rattle.cm_layout.specs.Slots.{FitsEntry}
+use Rattle.cm_layout.specs.Slots.{FitsEntry, EntryOfVersion}
 use Rattle.cm_layout.specs.Rows.{rows_after, rows_after_all, classes_in, bare}
 use Rattle.cm_layout.specs.Rules.{broken_rule}
 use Rattle.cm_layout.specs.Frames.{BareRow, BareEntry, EntriesKeep, GroupKeeps, GroupsKeep}
@@ -17,9 +17,10 @@ use Rattle.cm_layout.specs.Frames.{AreApart}
 use Rattle.cm_layout.specs.Frames.{LiveRowsKeep, rows_of, entries_of, group_slots, bare_entry}
 use Rattle.cm_layout.specs.Framing.{IsRight, used_bytes, used_size, open_half}
 use Rattle.cm_layout.proofs.{entry-apart, rows_after_all-append, entry-live, classes-bare}
-use Rattle.cm_layout.proofs.{after-bare, rule-bare}
+use Rattle.cm_layout.proofs.{after-bare, rule-bare, newest-entries}
 use Rattle.cm_group.specs.Groups.{Carried, Handed, IsGroup, entries_in, slots_taken}
 use Rattle.cm_commit.specs.Committed.{Committed, end_slot, with_group}
+use Rattle.cm_commit.specs.Guarding.{CountsNewest}
 use Rattle.cm_commit.specs.Offers.{filled, MayJoin, MayJoinAll, IsNext, rows_after_group}
 use Rattle.cm_commit.proofs.Slots.{end_is, used-more, group_count}
 use Rattle.cm_commit.proofs.Guards.{rows_live}
@@ -151,11 +152,16 @@ size-more c group right next =
       end_is c.sizes c.framing right.good,
     )
 
+all-more : {A : Type 0} (P : A → Type 0) (xs : List A) (x : A) → AllByRecursion P xs → P x
+    → AllByRecursion P (xs ++ x ∷ [])
+all-more P [] x all one = (one, tt)
+all-more P (y ∷ xs) x all one = (all.0, all-more P xs x all.1 one)
+
 pub right_after : (c : Committed) (group : Handed) → IsRight c.sizes c.framing c.rows c.number
-    → IsGroup group → IsNext c group → 1 ≤ slots_taken group.entries
+    → IsGroup group → IsNext c group → CountsNewest c → 1 ≤ slots_taken group.entries
     → IsRight c.sizes (with_group c.framing (entries_in group.entries))
     (rows_after_group c.rows group.entries) (c.number + length group.entries)
-right_after c group right is next some =
+right_after c group right is next newest some =
     let es = entries_in group.entries in
     let count = count-entries group.entries in
     let keep = entries_keep c.sizes c.rows c.rows c.number group.entries next.entries in
@@ -175,6 +181,11 @@ right_after c group right is next some =
         head = right.good.head;
         count = right.good.count;
         live = right.good.live;
+        live_version = right.good.live_version;
+        groups_version = all-more (AllByRecursion (EntryOfVersion c.framing.head.version))
+            c.framing.groups es right.good.groups_version
+            (subst (λ (v : ℕ). AllByRecursion (EntryOfVersion v) es) (sym newest)
+            (newest-entries c.sizes (bare c.rows) c.number es keep));
         groups = groups-more c.sizes c.framing.live c.framing.head.base c.framing.groups es
             right.good.groups
             (subst (λ (m : ℕ). GroupKeeps c.sizes (rows_of (open_half c.framing)) m es)

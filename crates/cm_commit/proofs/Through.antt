@@ -22,7 +22,7 @@ use Rattle.cm_commit.specs.Checkpoints.{checkpoint_of, checkpoint_plan, is_due}
 use Rattle.cm_commit.specs.Offers.{IsNext, MayCome, committed_after}
 use Rattle.cm_commit.specs.GroupPlans.{group_plan, group_writes, gate_at, plan_at}
 use Rattle.cm_commit.specs.GroupPlans.{whole_roots}
-use Rattle.cm_commit.specs.Guarding.{IsCommitted, Shows, Holds, guard_of}
+use Rattle.cm_commit.specs.Guarding.{IsCommitted, CountsNewest, Shows, Holds, guard_of}
 use Rattle.cm_commit.specs.Keeps.{roots_then}
 use Rattle.cm_commit.specs.Laws.{TellsWords, GroupsGoThrough}
 use Rattle.cm_commit.proofs.Guards.{guarded, needs_roots}
@@ -43,7 +43,7 @@ shows_holds c contents right shows =
 -- ---- a group that has room
 
 module _ (c : Committed) (group : Handed) (contents : List ℕ) (right : IsCommitted c)
-    (is : IsGroup group) (next : IsNext c group)
+    (is : IsGroup group) (next : IsNext c group) (newest : CountsNewest c)
     (tells : AllByRecursion TellsWords group.entries) (shows : Shows c contents) where
   abbrev after : Committed
   after = committed_after c group
@@ -57,7 +57,7 @@ module _ (c : Committed) (group : Handed) (contents : List ℕ) (right : IsCommi
   -- the gate turns what is held
   turns : Turns (Holds c) (Shows after) (gate_at c) open_gate base
   turns =
-      let t = (groups_turn c group contents right is next tells shows).turns in
+      let t = (groups_turn c group contents right is next newest tells shows).turns in
       record {
         inside = t.inside;
         either = λ b small. record {
@@ -70,7 +70,7 @@ module _ (c : Committed) (group : Handed) (contents : List ℕ) (right : IsCommi
   pub group_ready : IsReady (Holds c) (Shows after) (length opened)
       (group_plan c (length contents) group.entries) contents
   group_ready =
-      let t = groups_turn c group contents right is next tells shows in
+      let t = groups_turn c group contents right is next newest tells shows in
       record {
         guard = guard_of c;
         rests = rests c contents right shows;
@@ -91,7 +91,7 @@ module _ (c : Committed) (group : Handed) (contents : List ℕ) (right : IsCommi
   pub group_roots : roots_then (whole_roots c.sizes (length contents)) group
       ≡ whole_roots c.sizes (length opened)
   group_roots =
-      let t = groups_turn c group contents right is next tells shows in
+      let t = groups_turn c group contents right is next newest tells shows in
       let inside = t.turns.inside in
       let size = overwritten_size (gate_at c) (open_gate ∷ []) base (omega (arith, inside)) in
       let same : length opened ≡ length base = omega (arith, size, inside) in
@@ -152,15 +152,17 @@ module _ (c : Committed) (group : Handed) (right : IsCommitted c) (is : IsGroup 
   ready_next = (readied due refl).room
 
   -- and what is committed after it
-  pub after_right : IsCommitted (committed_after (ready_for c group.entries) group)
-  after_right =
+  pub after_right : CountsNewest c
+      → IsCommitted (committed_after (ready_for c group.entries) group)
+  after_right newest =
       right_after (ready_for c group.entries) group ready_right is ready_next
+      (ready_newest newest)
       (omega (arith, is.some, enough group.entries))
 
 -- ---- either way
 
 module _ (c : Committed) (group : Handed) (contents : List ℕ) (right : IsCommitted c)
-    (is : IsGroup group) (next : MayCome c.sizes c.rows c.number group)
+    (is : IsGroup group) (next : MayCome c.sizes c.rows c.number group) (newest : CountsNewest c)
     (tells : AllByRecursion TellsWords group.entries) (shows : Shows c contents) where
   abbrev roots : ℕ
   roots = whole_roots c.sizes (length contents)
@@ -191,7 +193,7 @@ module _ (c : Committed) (group : Handed) (contents : List ℕ) (right : IsCommi
       (1 + slots_of_rows (bare c.rows)) c.number roots group.entries =
       (λ i. plan_at c.sizes d.framing.counting (end i) c.number (whole_roots c.sizes (r.size i))
       group.entries) in
-      let behind = group_ready d group there r.right is ready.room tells r.shows in
+      let behind = group_ready d group there r.right is ready.room refl tells r.shows in
       let same : gone_through (plan_by true) contents ≡ gone_through
       (group_plan d (length there) group.entries) there =
       gone_through-append (checkpoint_plan c)
@@ -219,22 +221,22 @@ module _ (c : Committed) (group : Handed) (contents : List ℕ) (right : IsCommi
             }) (length (gone_through (group_plan d (length there) group.entries) there))
             (group_plan d (length there) group.entries) there behind)));
         roots_are = ap (λ (n : ℕ). roots_then (whole_roots c.sizes n) group) (sym r.size)
-            ∙ (group_roots d group there r.right is ready.room tells r.shows
+            ∙ (group_roots d group there r.right is ready.room refl tells r.shows
             ∙ ap (λ (l : List ℕ). whole_roots c.sizes (length l)) (sym same));
       }
   goes_by false e =
       let ready = readied c group right is next false e in
       record {
-        ready = group_ready c group contents right is ready.room tells shows;
-        roots_are = group_roots c group contents right is ready.room tells shows;
+        ready = group_ready c group contents right is ready.room newest tells shows;
+        roots_are = group_roots c group contents right is ready.room newest tells shows;
       }
 
 pub groups_go_through : GroupsGoThrough
-groups_go_through c group contents right is next tells shows =
-    let by = goes_by c group contents right is next tells shows
+groups_go_through c group contents right is next newest tells shows =
+    let by = goes_by c group contents right is next newest tells shows
     (is_due (journal_of c) group.entries) refl in
     record {
       ready = by.ready;
-      right = after_right c group right is next;
+      right = after_right c group right is next newest;
       roots = by.roots_are;
     }

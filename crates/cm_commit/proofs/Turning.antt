@@ -27,7 +27,7 @@ use Rattle.cm_guards.specs.Plans.{Write, Fits, written, CanWrite}
 use Rattle.cm_guards.proofs.{kept_by_plan, overwritten_size}
 use Rattle.cm_group.specs.Groups.{Handed, IsGroup, entries_in}
 use Rattle.cm_commit.specs.Committed.{Committed, end_slot, with_group}
-use Rattle.cm_commit.specs.Guarding.{guard_of, Shows, IsCommitted}
+use Rattle.cm_commit.specs.Guarding.{guard_of, Shows, IsCommitted, CountsNewest}
 use Rattle.cm_commit.specs.Offers.{IsNext, rows_after_group, committed_after}
 use Rattle.cm_commit.specs.GroupPlans.{group_writes, root_writes, all_writes, record_writes}
 use Rattle.cm_commit.specs.GroupPlans.{slots_write}
@@ -346,18 +346,18 @@ module _ (c : Committed) (group : Handed) (right : IsCommitted c) (next : IsNext
                 (λ same. false≢true (sym e ∙ eq-eqb b open_gate same)) shows-base);
           }
 
-      pub turned : IsGroup group → IsTurned c group contents
-      turned is = record {
+      pub turned : CountsNewest c → IsGroup group → IsTurned c group contents
+      turned newest is = record {
         can = can-all;
         turns = record {
           inside = gate-inside;
           either = λ b small. with_byte b;
           last = opened;
         };
-        next = right_after c group right is next
+        next = right_after c group right is next newest
             (omega (arith, is.some, enough group.entries));
       }
 
 pub groups_turn : GroupsTurn
-groups_turn c group contents right is next tell shows =
-    turned c group right next contents shows tell is
+groups_turn c group contents right is next newest tell shows =
+    turned c group right next contents shows tell newest is

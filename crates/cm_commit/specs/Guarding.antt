@@ -1,9 +1,10 @@
 -- What is guarded while a group is stored: all that what is committed rests on. While a checkpoint
 -- is written, it is the same but for the other half, of which the shut gate alone counts.
-use Rattle.std.specs.Prelude.{ℕ, ◌≤◌, Bool, false, ◌||◌, List, [], ◌∷◌, None}
+use Rattle.std.specs.Prelude.{◌≡◌, ℕ, ◌≤◌, Bool, false, ◌||◌, List, [], ◌∷◌, None}
 use Rattle.cm_disk.specs.Disk.{is_among}
 use Rattle.cm_pool.specs.Geometry.{Sizes}
 use Rattle.cm_layout.specs.declared.row.Row.{Row}
+use Rattle.cm_layout.specs.Frames.{entry_version}
 use Rattle.cm_layout.specs.Framing.{Framing, Range, IsRight, Matches, guards}
 use Rattle.cm_layout.specs.Framing.{needs}
 use Rattle.cm_guards.specs.Guards.{Guard}
@@ -17,6 +18,10 @@ is_in (r ∷ ranges) i = is_among r.at r.count i || is_in ranges i
 -- the halves are right for the rows and the number, whatever contents show them
 abbrev pub IsCommitted : Committed → Type 0
 IsCommitted c = IsRight c.sizes c.framing c.rows c.number
+
+-- the half that counts is of the version that is written now, which knows long names too
+abbrev pub CountsNewest : Committed → Type 0
+CountsNewest c = c.framing.head.version ≡ entry_version
 
 -- the positions that what is committed rests on, and the bytes that it needs
 abbrev pub guard_of : Committed → Guard

@@ -20,7 +20,7 @@ use Rattle.cm_commit.specs.Checkpoints.{checkpoint_plan}
 use Rattle.cm_commit.specs.Offers.{IsNext, MayCome, committed_after}
 use Rattle.cm_commit.specs.GroupPlans.{group_writes, gate_at, roots_to_add, plan_of, whole_roots}
 use Rattle.cm_commit.specs.GroupPlans.{all_writes}
-use Rattle.cm_commit.specs.Guarding.{IsCommitted, Shows, Holds, shut_other, guard_of}
+use Rattle.cm_commit.specs.Guarding.{IsCommitted, CountsNewest, Shows, Holds, shut_other, guard_of}
 use Rattle.cm_commit.specs.Keeps.{roots_then}
 use Rattle.cm_commit.specs.Trims.{roots_of_rows, trim_plan}
 
@@ -61,8 +61,8 @@ pub record IsTurned (c : Committed) (group : Handed) (contents : List ℕ) : Typ
 abbrev pub GroupsTurn : Type 0
 GroupsTurn =
     (c : Committed) (group : Handed) (contents : List ℕ) → IsCommitted c → IsGroup group
-    → IsNext c group → AllByRecursion TellsWords group.entries → Shows c contents
-    → IsTurned c group contents
+    → IsNext c group → CountsNewest c → AllByRecursion TellsWords group.entries
+    → Shows c contents → IsTurned c group contents
 
 -- ---- checkpoints
 
@@ -146,8 +146,8 @@ pub record GoesThrough (c : Committed) (group : Handed) (contents : List ℕ)
 abbrev pub GroupsGoThrough : Type 0
 GroupsGoThrough =
     (c : Committed) (group : Handed) (contents : List ℕ) → IsCommitted c → IsGroup group
-    → MayCome c.sizes c.rows c.number group → AllByRecursion TellsWords group.entries
-    → Shows c contents
+    → MayCome c.sizes c.rows c.number group → CountsNewest c
+    → AllByRecursion TellsWords group.entries → Shows c contents
     → GoesThrough c group contents
     (plan_of (journal_of c) (bare c.rows) (whole_roots c.sizes (length contents)) group.entries)
 

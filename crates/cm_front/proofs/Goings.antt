@@ -15,7 +15,7 @@ use Rattle.cm_layout.specs.declared.row.Row.{Row}
 use Rattle.cm_layout.specs.declared.row.Row.TheVariants.{Loader, Class}
 use Rattle.cm_layout.specs.declared.entry.Entry.{Entry}
 use Rattle.cm_layout.specs.declared.entry.Entry.TheVariants as entry
-use Rattle.cm_layout.specs.Names.{is_loader_name, name_limit, name_room, slots_of_name}
+use Rattle.cm_layout.specs.Names.{is_loader_name, name_limit, slots_of_name}
 use Rattle.cm_layout.specs.Rows.{name_of, numbers_in, rows_after, bare}
 use Rattle.cm_layout.specs.Rows.{slots_of_rows}
 use Rattle.cm_layout.specs.Rules.{is_live, row_limit, is_too_much}
@@ -107,7 +107,7 @@ right_more (Class l words ∷ rows) row a r = (a.0, right_more rows row a.1 r)
 
 -- ---- a loader
 
-loader_fits : (x : List ℕ) → is_loader_name x ≡ true → length x ≤ name_room
+loader_fits : (x : List ℕ) → is_loader_name x ≡ true → length x ≤ name_limit
 loader_fits x named =
     let some = nat_le 1 (length x) in
     let short = nat_le (length x) name_limit in

@@ -10,6 +10,7 @@ mod Agreement
 mod Matched
 mod SlotCounts
 mod OneHalf
+mod Newest
 mod BareRows
 mod ClassPlaces
 mod KeptOn
@@ -22,8 +23,10 @@ pub use Apart.{entry-apart, rows_after_all-append}
 -- Contents frame at most one thing: the sizes, the rows with their words, and the number. An entry
 -- has 64 bytes for each slot that it takes, and takes one at least.
 pub use OneReading.{slot_count, some_slots}
--- A name that one slot has room for: its loader has one slot, which tells it.
-pub use LoaderSlots.{not_long, slots-short, short-name, front-back}
+-- The slots of a loader: how many bytes they are, and that they tell its name. One is enough for a
+-- name that it has room for.
+pub use LoaderSlots.{loader_slot-count, rest_slot-count, loader_slots-count, name-back, not_long}
+pub use LoaderSlots.{within-room}
 -- A superblock is its front, zeros and a gate.
 pub use Superblocks.{length-blank}
 -- Rows after entries that keep the rules are live rows that keep theirs: what a checkpoint writes.
@@ -32,6 +35,8 @@ pub use StayLive.{last-without}
 -- Live rows that keep the rules: their loaders differ, have numbers of the past, and own each
 -- class.
 pub use OwnLoaders.{own_loaders}
+-- Rows and entries that fit their slots are of the version that is written now.
+pub use Newest.{newest-rows, newest-entries}
 -- Contents that agree on what is guarded match the same framing.
 pub use Agreement.{record_part, agreement_matches}
 -- Contents frame rows exactly where they match a framing that is right for them.

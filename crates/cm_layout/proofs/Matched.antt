@@ -170,7 +170,9 @@ good_open sizes h g = record {
   head = g.head;
   count = g.count;
   live = g.live;
+  live_version = g.live_version;
   groups = g.groups;
+  groups_version = g.groups_version;
   end = tt;
 }
 
@@ -362,7 +364,9 @@ counts_back sizes f rows n half other right split older =
         head = right.good.head;
         count = right.good.count;
         live = right.good.live;
+        live_version = right.good.live_version;
         groups = right.good.groups;
+        groups_version = right.good.groups_version;
         end = split.2;
       };
       older = older;

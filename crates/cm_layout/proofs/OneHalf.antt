@@ -52,7 +52,9 @@ open_here sizes contents rows n a =
         head = right.good.head;
         count = right.good.count;
         live = right.good.live;
+        live_version = right.good.live_version;
         groups = right.good.groups;
+        groups_version = right.good.groups_version;
         end = back.2;
       };
     }

@@ -1,7 +1,7 @@
 -- One slot, or two, in the bytes that two have.
 -- For `Slots::one`, `Slots::two`.
 use Rattle.std.proofs.Common.{◌≡◌, ◌≤◌, ℕ, ◌-◌, length, List, [], ◌++◌, take, drop, sym, ap, ◌∙◌}
-use Rattle.std.proofs.Common.{refl, arith, length-append, append-nil}
+use Rattle.std.proofs.Common.{arith, length-append, append-nil}
 use Rattle.std.proofs.lemmas.List.{take_at, drop_at, take-append-drop}
 use Rattle.std.proofs.Math.ListN.{drop_of_length-le}
 use Rattle.cm_layout.specs.Zeros.{zeros}
@@ -37,15 +37,15 @@ of_two first second bytes one other is =
       all ∙ is,
     )
 
--- the second slot, where the first has been put before zeros
-pub put_second : (first second front behind : List ℕ) → length first ≡ 64 → front ≡ first
-    → length behind ≡ 64
-    → take 64 (front ++ behind) ++ (second ++ drop 64 (drop 64 (front ++ behind)))
+-- a second part, where the first, of as many bytes, has been put before zeros
+pub put_second : (n : ℕ) (first second front behind : List ℕ) → length first ≡ n → front ≡ first
+    → length behind ≡ n
+    → take n (front ++ behind) ++ (second ++ drop n (drop n (front ++ behind)))
     ≡ first ++ second
-put_second first second front behind one is count =
-    let size : length front ≡ 64 = ap length is ∙ one in
-    let none : drop 64 (drop 64 (front ++ behind)) ≡ [] =
-    ap (drop 64) (drop_at front behind 64 size)
-    ∙ drop_of_length-le behind {i = 64} (omega (arith, count)) in
-    (λ i. (take_at front behind 64 size ∙ is) i ++ (second ++ none i))
+put_second n first second front behind one is count =
+    let size : length front ≡ n = ap length is ∙ one in
+    let none : drop n (drop n (front ++ behind)) ≡ [] =
+    ap (drop n) (drop_at front behind n size)
+    ∙ drop_of_length-le behind {i = n} (omega (arith, count)) in
+    (λ i. (take_at front behind n size ∙ is) i ++ (second ++ none i))
     ∙ ap (λ l. first ++ l) (append-nil second)

@@ -17,7 +17,7 @@ use Rattle.cm_layout.specs.declared.entry.Entry.{Entry}
 use Rattle.cm_layout.specs.Offsets.{half_size, root_size, record_in_roots}
 use Rattle.cm_layout.specs.Slots.{open_gate, half_head_slot, group_head_slot, row_slots}
 use Rattle.cm_layout.specs.Slots.{entry_slots}
-use Rattle.cm_layout.specs.Slots.{FitsHalfHead, FitsRow, FitsEntry}
+use Rattle.cm_layout.specs.Slots.{FitsHalfHead, FitsRow, FitsEntry, RowOfVersion, EntryOfVersion}
 use Rattle.cm_layout.specs.Superblock.{superblock_bytes}
 use Rattle.cm_layout.specs.Rows.{slots_of_rows, slots_of_entries, group_limit, classes_in}
 use Rattle.cm_layout.specs.Rows.{rows_after}
@@ -118,7 +118,9 @@ pub record IsGoodHalf (sizes : Sizes) (h : OpenHalf) : Type 0 where
   pub head : IsGoodHead sizes h.head
   pub count : slots_of_rows h.live ≡ h.head.live
   pub live : LiveRowsKeep sizes h.head.base [] h.live
+  pub live_version : AllByRecursion (RowOfVersion h.head.version) h.live
   pub groups : GroupsKeep sizes h.live h.head.base h.groups
+  pub groups_version : AllByRecursion (AllByRecursion (EntryOfVersion h.head.version)) h.groups
   pub end : IsEnd h.behind
 
 -- its entries, the rows that live after them, and the number of the last command

@@ -1,10 +1,6 @@
 -- Names of loaders.
-use Rattle.std.specs.Prelude.{ℕ, Bool, ◌&&◌, nat_le, nat_lt, if◌then◌else◌, List, length}
+use Rattle.std.specs.Prelude.{ℕ, ◌==◌, Bool, ◌&&◌, nat_le, nat_lt, if◌then◌else◌, List, length}
 use Rattle.std.specs.List.{list_all}
-
--- the most bytes that a loader's name has
-abbrev pub name_limit : ℕ
-name_limit = 48
 
 -- how many bytes of a name a loader's own slot has room for
 abbrev pub name_room : ℕ
@@ -13,6 +9,14 @@ name_room = 48
 -- and how many with the slot that follows
 abbrev pub long_name_room : ℕ
 long_name_room = 96
+
+-- the most bytes that a loader's name has
+abbrev pub name_limit : ℕ
+name_limit = long_name_room
+
+-- and that it has in entries of a version: the first knows no slot that follows
+abbrev pub limit_of : ℕ → ℕ
+limit_of version = if version == 1 then name_room else name_limit
 
 -- the name goes on in the slot that follows
 abbrev pub is_long : List ℕ → Bool

@@ -17,7 +17,7 @@ use Rattle.cm_layout.specs.declared.row.Row.{Row}
 use Rattle.cm_layout.specs.declared.row.Row.TheVariants.{Loader, Class}
 use Rattle.cm_layout.specs.declared.entry.Entry.{Entry}
 use Rattle.cm_layout.specs.declared.entry.Entry.TheVariants as entry
-use Rattle.cm_layout.specs.Names.{name_room, long_name_room, is_long}
+use Rattle.cm_layout.specs.Names.{name_room, long_name_room, name_limit, limit_of, is_long}
 pub use Rattle.cm_layout.specs.Names.{unload_limit}
 use Rattle.cm_layout.specs.Zeros.{zeros}
 
@@ -124,7 +124,7 @@ pub record FitsChunk (c : Chunk) : Type 0 where
 
 pub record FitsLoader (r : LoaderRow) : Type 0 where
   pub number : r.number < 2 ^ 64
-  pub name : length r.name ≤ name_room
+  pub name : length r.name ≤ name_limit
 
 pub record FitsClass (r : ClassRow) : Type 0 where
   pub words : r.place.words < 2 ^ 32
@@ -154,3 +154,15 @@ FitsEntry (entry.Live r) = FitsRow r
 FitsEntry (entry.Unload e) = FitsUnload e
 FitsEntry (entry.Move e) = FitsMove e
 FitsEntry (entry.UnloadAll e) = FitsUnloadAll e
+
+-- ---- what entries of a version may be: the first version has no names that need two slots
+
+abbrev pub RowOfVersion : {P : Type 0} → ℕ → Row P → Type 0
+RowOfVersion version (Loader r) = length r.name ≤ limit_of version
+RowOfVersion version (Class r p) = Unit {0}
+
+abbrev pub EntryOfVersion : {P : Type 0} → ℕ → Entry P → Type 0
+EntryOfVersion version (entry.Live r) = RowOfVersion version r
+EntryOfVersion version (entry.Unload e) = Unit {0}
+EntryOfVersion version (entry.Move e) = Unit {0}
+EntryOfVersion version (entry.UnloadAll e) = Unit {0}

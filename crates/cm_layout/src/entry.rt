@@ -1,12 +1,13 @@
 //! The entries of the journal: what one command leaves in a group.
 
-ghost use Rattle.std.specs.Prelude.{◌≡◌, IfSome, Some};
+ghost use Rattle.std.specs.Prelude.{◌≡◌, ◌≤◌, ◌*◌, ◌++◌, length, take, IfSome, Some};
+ghost use Rattle.cm_layout.specs.Offsets.{slot_size};
 
 use crate::class_row::ClassRow;
 use crate::loader_row::LoaderRow;
 use crate::relocation::Move;
 use crate::row::Row;
-use crate::slot::SLOT_BYTES;
+use crate::slot::front_slot;
 use crate::slots::Slots;
 use crate::unload::Unload;
 use crate::unload_all::UnloadAll;
@@ -65,17 +66,23 @@ impl<P> Entry<P> {
 }
 
 impl Entry<()> {
-    ghost use Rattle.cm_layout.specs.Slots.{entry_slots, FitsEntry};
+    ghost use Rattle.cm_layout.specs.Slots.{entry_slots, FitsEntry, EntryOfVersion};
+    ghost use Rattle.cm_layout.specs.Rows.{slots_of};
 
-    /// The entry that a slot spells, if it does.
-    pub fn decode(slot: &[u8; SLOT_BYTES]) -> Option<Entry<()>>
-        ensures found { IfSome result (λ entry. slot.now ≡ entry_slots entry) }
-        ensures only { (entry : _) → FitsEntry entry → slot.now ≡ entry_slots entry
-            → result ≡ Some entry }
+    /// The entry that these slots begin with, if they do with one of this version. It takes as many
+    /// of them as [`slots`](Entry::slots) says.
+    pub fn decode(version: u16, slots: &[u8]) -> Option<Entry<()>>
+        requires { slot_size ≤ length slots.now }
+        ensures found { IfSome result (λ entry.
+            take (slot_size * slots_of entry) slots.now ≡ entry_slots entry) }
+        ensures version { IfSome result (EntryOfVersion version) }
+        ensures only { (entry : _) (behind : _) → FitsEntry entry → EntryOfVersion version entry
+            → slots.now ≡ entry_slots entry ++ behind → result ≡ Some entry }
     {
-        if let Some(row) = LoaderRow::decode(slot) {
+        if let Some(row) = LoaderRow::decode(version, slots) {
             return Some(Entry::Live(Row::Loader(row)));
         }
+        let slot = front_slot(slots);
         if let Some(row) = ClassRow::decode(slot) {
             return Some(Entry::Live(Row::Class(row, ())));
         }

@@ -39,7 +39,7 @@ pub use offsets::{
 };
 pub use relocation::Move;
 pub use row::Row;
-pub use slot::{OPEN_GATE, SLOT_BYTES, SUPERBLOCK_BYTES};
+pub use slot::{OPEN_GATE, SLOT_BYTES, SUPERBLOCK_BYTES, front_slot, is_rest};
 pub use slots::Slots;
 pub use superblock::Superblock;
 pub use unload::Unload;

@@ -1,11 +1,14 @@
 //! A live loader, and its slots.
 
-ghost use Rattle.std.specs.Prelude.{◌≡◌, ◌≤◌, length, IfSome, Some};
-ghost use Rattle.cm_layout.specs.Names.{name_room};
+ghost use Rattle.std.specs.Prelude.{◌≡◌, ◌≤◌, ◌*◌, ◌++◌, length, take, drop, IfSome, Some};
+ghost use Rattle.std.specs.Prelude.{if◌then◌else◌, nat_le};
+ghost use Rattle.cm_layout.specs.Names.{name_room, limit_of, slots_of_name};
+ghost use Rattle.cm_layout.specs.Offsets.{slot_size};
+ghost use Rattle.cm_layout.specs.Zeros.{zeros};
 
 use crate::kind;
-use crate::name::{NAME_ROOM, SlotName};
-use crate::slot::{KIND_AT, SLOT_BYTES, is_same_slot};
+use crate::name::{LONG_NAME_ROOM, NAME_ROOM, SlotName, name_limit_of};
+use crate::slot::{KIND_AT, SLOT_BYTES};
 use crate::slots::Slots;
 use byteorder::{ByteOrder, LittleEndian};
 
@@ -62,34 +65,56 @@ impl LoaderRow {
         slot
     }
 
-    /// The row that a slot spells, if it spells one of a loader.
-    pub fn decode(slot: &[u8; SLOT_BYTES]) -> Option<LoaderRow>
-        ensures found { IfSome result (λ row. slot.now ≡ loader_slots row) }
-        ensures only { (row : _) → FitsLoader row → slot.now ≡ loader_slots row
-            → result ≡ Some row }
+    /// The row that these slots begin with, if they do with one of a loader, as entries of this
+    /// version have it: its slot, and the rest of a longer name in the one behind it.
+    pub fn decode(version: u16, slots: &[u8]) -> Option<LoaderRow>
+        requires { slot_size ≤ length slots.now }
+        ensures found { IfSome result (λ row.
+            take (slot_size * slots_of_name row.name) slots.now ≡ loader_slots row) }
+        ensures version { IfSome result (λ row. length row.name ≤ limit_of version) }
+        ensures only { (row : _) (behind : _) → FitsLoader row → length row.name ≤ limit_of version
+            → slots.now ≡ loader_slots row ++ behind → result ≡ Some row }
     {
-        let row = LoaderRow::at_its_places(slot)?;
-        if is_same_slot(&row.first_slot(), slot) {
+        let row = LoaderRow::at_its_places(version, slots)?;
+        if slots.starts_with(row.encode().as_bytes()) {
             Some(row)
         } else {
             None
         }
     }
 
-    // What stands where a loader's slot has its fields. Only writing it again tells whether it is
+    // What stands where a loader's slots have its fields. Only writing it again tells whether it is
     // one.
-    fn at_its_places(slot: &[u8; SLOT_BYTES]) -> Option<LoaderRow>
-        ensures short { IfSome result (λ row. length row.name ≤ name_room) }
-        ensures only { (row : _) → FitsLoader row → slot.now ≡ loader_slot row
-            → result ≡ Some row }
+    fn at_its_places(version: u16, slots: &[u8]) -> Option<LoaderRow>
+        requires { slot_size ≤ length slots.now }
+        ensures version { IfSome result (λ row. length row.name ≤ limit_of version) }
+        ensures only { (row : _) (behind : _) → FitsLoader row → length row.name ≤ limit_of version
+            → slots.now ≡ loader_slots row ++ behind → result ≡ Some row }
     {
-        let len = usize::from(slot[LENGTH_AT]);
-        if len > NAME_ROOM {
+        let len = usize::from(slots[LENGTH_AT]);
+        if len > name_limit_of(version) {
             return None;
         }
+        let name = name_room_in(slots);
         Some(LoaderRow {
-            number: LittleEndian::read_u64(&slot[NUMBER_AT..]),
-            name: SlotName::new(&slot[NAME_AT..NAME_AT + len])?,
+            number: LittleEndian::read_u64(&slots[NUMBER_AT..]),
+            name: SlotName::new(&name[..len])?,
         })
     }
+}
+
+// The bytes where a loader's slots have room for its name: zeros for the second slot where there is
+// none.
+fn name_room_in(slots: &[u8]) -> [u8; LONG_NAME_ROOM]
+    requires { slot_size ≤ length slots.now }
+    ensures { result ≡ take name_room (drop 16 slots.now)
+        ++ (if nat_le 128 (length slots.now) then take name_room (drop 80 slots.now)
+        else zeros name_room) }
+{
+    let mut name = [0; LONG_NAME_ROOM];
+    name[..NAME_ROOM].copy_from_slice(&slots[NAME_AT..SLOT_BYTES]);
+    if slots.len() >= 2 * SLOT_BYTES {
+        name[NAME_ROOM..].copy_from_slice(&slots[SLOT_BYTES + NAME_AT..2 * SLOT_BYTES]);
+    }
+    name
 }

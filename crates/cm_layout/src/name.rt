@@ -3,19 +3,20 @@
 ghost use Rattle.std.specs.Prelude.{◌≡◌, ◌≤◌, ◌-◌, ◌↔◌, length, take, drop, IsSome, IfSome};
 ghost use Rattle.std.specs.List.{list_all};
 ghost use Rattle.cm_layout.specs.Names.{is_loader_name, is_visible, is_long as is_long_name};
-ghost use Rattle.cm_layout.specs.Names.{name_room, long_name_room, slots_of_name};
+ghost use Rattle.cm_layout.specs.Names.{name_room, long_name_room, slots_of_name, limit_of};
 ghost use Rattle.cm_layout.specs.Slots.{padded};
 
+use crate::heads::OLDEST_VERSION;
 use std::marker::Model;
-
-/// How many bytes a loader's name has at most.
-pub const NAME_LIMIT: usize = 48;
 
 /// How many bytes of a name a loader's own slot has room for.
 pub const NAME_ROOM: usize = 48;
 
 /// How many bytes of a name there is room for with the slot that follows.
 pub const LONG_NAME_ROOM: usize = 96;
+
+/// How many bytes a loader's name has at most.
+pub const NAME_LIMIT: usize = LONG_NAME_ROOM;
 
 /// A name that one slot or two have room for, kept in place.
 #[derive(Clone, Copy, Debug)]
@@ -114,6 +115,18 @@ pub fn slots_of_name(name: &[u8]) -> usize
     if name.len() > NAME_ROOM { 2 } else { 1 }
 }
 
+/// How many bytes a loader's name has at most in entries of this version: the first knows no slot
+/// that follows.
+pub(crate) fn name_limit_of(version: u16) -> usize
+    ensures { result ≡ limit_of version }
+{
+    if version == OLDEST_VERSION {
+        NAME_ROOM
+    } else {
+        NAME_LIMIT
+    }
+}
+
 /// Whether each byte is a visible character of ASCII.
 fn are_visible(bytes: &[u8]) -> bool
     ensures { result ≡ list_all is_visible bytes.now }
@@ -121,7 +134,7 @@ fn are_visible(bytes: &[u8]) -> bool
     bytes.iter().all(|byte| *byte >= 0x21 && *byte <= 0x7E)
 }
 
-/// Whether these bytes are a loader's name: 1 to 48 of them, each from 21 to 7E (hexadecimal).
+/// Whether these bytes are a loader's name: 1 to 96 of them, each from 21 to 7E (hexadecimal).
 pub fn is_loader_name(name: &[u8]) -> bool
     ensures { result ≡ is_loader_name name.now }
 {

@@ -107,7 +107,9 @@ framed sizes g = record {
       };
       count = refl;
       live = tt;
+      live_version = tt;
       groups = tt;
+      groups_version = tt;
       end = shut_blank (half_size sizes - 64);
     };
     older = inl (shut_blank (half_size sizes));

@@ -1,19 +1,11 @@
 -- A file is synced and read, and moved over where it is of an older version.
 -- For `move_over`, `open`.
-use Rattle.std.proofs.Common.{◌≡◌, ◌<◌, ℕ, List, inl, inr, sym, ap, subst, ◌∙◌, arith}
-use Rattle.std.specs.Prelude.{Result, Ok, Err}
-use Rattle.cm_disk.specs.Disk.{View, Unsynced, IsImage}
+use Rattle.std.proofs.Common.{◌≡◌, ℕ, List, inl, inr, sym, ap, subst, ◌∙◌, arith}
+use Rattle.cm_disk.specs.Disk.{View, IsImage}
 use Rattle.cm_guards.specs.Calls.{LeavesOnly}
 use Rattle.cm_guards.proofs.{leaves_on, leaves_more}
-use Rattle.cm_commit.specs.declared.renewal.RenewFault.{RenewFault}
-use Rattle.cm_commit.specs.declared.renewal.RenewFault.TheVariants as renew_fault
-use Rattle.cm_commit.specs.Renewals.{RenewCause}
-use Rattle.cm_recover.specs.declared.fault.OpenFault.{OpenFault}
-use Rattle.cm_recover.specs.declared.fault.OpenFault.TheVariants as open_fault
-use Rattle.cm_recover.specs.Opening.{IsFaultIn, fault_of_renewal}
 use Rattle.cm_recover.specs.Opened.{SyncsAndReads, OpensThrough, IsOlderFile, StandsForSame}
 use Rattle.cm_recover.specs.Opened.{LeavesSame, TellsDevice}
-use Rattle.cm_verdict.specs.declared.fault.FileFault.{FileFault}
 
 module _ {D : Type 0} (view : View D) where
   -- a file that isn't moved over

@@ -3,8 +3,8 @@
 use Rattle.std.proofs.Common.{◌≡◌, ℕ, ◌+◌, ◌^◌, ◌<◌, ◌≤◌, Bool, true, false, cond, List, [], ◌∷◌}
 use Rattle.std.proofs.Common.{◌++◌, length, drop, Some, None, Ok, refl, sym, ap, subst, ◌∙◌}
 use Rattle.std.proofs.Common.{arith, eqb, is_some}
-use Rattle.std.specs.Prelude.{◌&&◌, nat_le, nat_lt}
-use Rattle.std.proofs.lemmas.Bool.{leb-true, leb-false, lt-ltb, ltb-true, le-ltb}
+use Rattle.std.specs.Prelude.{◌&&◌, nat_lt}
+use Rattle.std.proofs.lemmas.Bool.{lt-ltb, ltb-true, le-ltb}
 use Rattle.std.specs.FinMap as map
 use Rattle.std.specs.List.{AllByRecursion}
 use Rattle.std.specs.Str.{bytes_eq}

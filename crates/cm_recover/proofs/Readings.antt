@@ -1,8 +1,8 @@
 -- Runs of reads, one behind the other, where the last one's fault is told.
 -- For `SecondPass::take_all`, `read_found`, `read_standing`.
-use Rattle.std.proofs.Common.{◌≡◌, ℕ, List, Ok, Err, inr, ◌⊎◌, ⊎_elim}
+use Rattle.std.proofs.Common.{◌≡◌, Ok, Err, inr, ◌⊎◌, ⊎_elim}
 use Rattle.std.specs.Prelude.{Result, IsErr, IsErrAnd}
-use Rattle.cm_disk.specs.Disk.{View, Unsynced}
+use Rattle.cm_disk.specs.Disk.{View}
 use Rattle.cm_guards.specs.Calls.{Reads}
 use Rattle.cm_guards.proofs.{reads_on, reads_as}
 use Rattle.cm_recover.specs.declared.fault.OpenFault.{OpenFault}

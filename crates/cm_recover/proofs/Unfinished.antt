@@ -5,7 +5,7 @@ use Rattle.std.specs.Prelude.{max, Result, Ok, Err, IsErr, is_ok}
 use Rattle.cm_pool.specs.Geometry.{Sizes}
 use Rattle.cm_layout.specs.Offsets.{roots_at}
 use Rattle.cm_disk.specs.Disk.{OnlyNow, View, Unsynced, IsImage, IsSettled, IsWithin, widened}
-use Rattle.cm_disk.specs.Calls.{Passes, Elapses}
+use Rattle.cm_disk.specs.Calls.{Passes}
 use Rattle.cm_guards.specs.Guards.{EachImage}
 use Rattle.cm_guards.specs.Calls.{LeavesOnly}
 use Rattle.cm_guards.proofs.{one_call, leaves_on, run_then_sync}

@@ -13,7 +13,9 @@ ghost use Rattle.cm_recover.specs.Opening.{other_is_open};
 
 use crate::fault::OpenFault;
 use cm_disk::Disk;
-use cm_layout::{ENTRY_VERSION, Half, OPEN_GATE, SLOT_BYTES, SUPERBLOCK_BYTES, half_at};
+use cm_layout::{
+    ENTRY_VERSION, Half, OPEN_GATE, SLOT_BYTES, SUPERBLOCK_BYTES, front_slot, half_at,
+};
 use cm_pool::Geometry;
 use cm_rows::Book;
 use cm_verdict::{Counting, HalfWalk, counting_half, find_sizes, walk_through};
@@ -67,17 +69,6 @@ fn read_sizes<D: Disk>(alloc: Global, disk: &mut D) -> Result<Geometry, OpenFaul
     Ok(geometry)
 }
 
-// The head of a half.
-fn first_slot(half: &[u8]) -> &[u8; SLOT_BYTES]
-    requires { 64 ≤ length half.now }
-    ensures { result.now ≡ take 64 half.now }
-{
-    match half.first_chunk::<SLOT_BYTES>() {
-        Some(slot) => slot,
-        None => unreachable!(),
-    }
-}
-
 // Whether the gate is open of the half that isn't this one.
 fn is_other_open(half: Half, zero: &[u8], one: &[u8]) -> bool
     requires zero { 1 ≤ length zero.now }
@@ -107,7 +98,7 @@ fn walk_halves(
     ensures in_memory { result ≡ Err open_fault.Device → ⊥ }
 {
     let _lawful = geometry.top(); // so the proof knows that its sizes are within the limits
-    let counts = counting_half(geometry, first_slot(zero), first_slot(one))?;
+    let counts = counting_half(geometry, front_slot(zero), front_slot(one))?;
     let half = match counts.half {
         Half::Zero => zero,
         Half::One => one,

@@ -4,7 +4,7 @@ use Rattle.std.proofs.Common.{◌≡◌, ◌≢◌, ℕ, ◌+◌, ◌-◌, ◌*�
 use Rattle.std.proofs.Common.{◌++◌, length, take, drop, get_or, Ok, Err, refl, sym}
 use Rattle.std.proofs.Common.{ap, subst, ◌∙◌, arith, length-drop}
 use Rattle.std.specs.Prelude.{Result}
-use Rattle.std.specs.List.{flat_map}
+use Rattle.std.specs.List.{flat_map, AllByRecursion}
 use Rattle.std.proofs.lemmas.List.{get_or-drop, get_or-take, length-append, take-take, take_at}
 use Rattle.std.proofs.lemmas.List.{drop_at, take-append-drop}
 use Rattle.cm_pool.specs.Geometry.{Sizes}
@@ -13,6 +13,7 @@ use Rattle.cm_layout.specs.declared.row.Row.{Row}
 use Rattle.cm_layout.specs.declared.row.Row.TheVariants.{Loader, Class}
 use Rattle.cm_layout.specs.Offsets.{superblock_size, half_size, half_at, roots_at}
 use Rattle.cm_layout.specs.Slots.{open_gate, half_head_slot, row_slots, entry_slots}
+use Rattle.cm_layout.specs.Slots.{EntryOfVersion}
 use Rattle.cm_layout.specs.Rows.{slots_of_entries, classes_in, bare, rows_after_all}
 use Rattle.cm_layout.specs.Frames.{BareRow, BareEntry, IsEnd, IsGoodHalf, LiveRowsKeep, GroupsKeep}
 use Rattle.cm_layout.specs.Frames.{AreApart, groups_slots, rows_of, number_at_end}
@@ -23,12 +24,13 @@ use Rattle.cm_layout.proofs.{classes-bare, some_slots}
 use Rattle.cm_verdict.specs.declared.counting.Counting.{Counting}
 use Rattle.cm_verdict.specs.declared.fault.FileFault.{FileFault}
 use Rattle.cm_verdict.specs.Faults.{◌>>=◌}
-use Rattle.cm_verdict.specs.Walk.{Walked, slot_of, start, first_slot}
+use Rattle.cm_verdict.specs.Decoding.{front}
+use Rattle.cm_verdict.specs.Walk.{Walked, from_slot, start, first_slot}
 use Rattle.cm_verdict.specs.Found.{counting, counting_half, Found, half_in, head_in}
 use Rattle.cm_verdict.specs.Found.{found_walked, walk_through, sizes_found, found_in, Begins}
 use Rattle.cm_verdict.specs.Laws.{rows_words, AreWhole, IsLive, FoundIsLive, IsFramed}
 use Rattle.cm_verdict.specs.Laws.{FoundIsFramed, IsFound, FramedIsFound}
-use Rattle.cm_verdict.proofs.Walks.{end_from, from_slot, next_from, HasGroups, HasLive}
+use Rattle.cm_verdict.proofs.Walks.{end_from, next_from, HasGroups, HasLive}
 use Rattle.cm_verdict.proofs.Walks.{live_walked}
 use Rattle.cm_verdict.proofs.WalksBack.{Reaches, live_found}
 use Rattle.cm_verdict.proofs.Heads.{IsCounting, counted, counting_back}
@@ -43,17 +45,18 @@ no_entries [] e = refl
 no_entries (d ∷ es) e = absurd (omega (arith, e, some_slots d))
 
 -- groups from a slot on, with no group under way
-record HasWholeGroups (half : List ℕ) (slot : ℕ) (rows : List BareRow) (number : ℕ)
-    (e : Walked) (groups : List (List BareEntry)) (sizes : Sizes) : Type 0 where
+record HasWholeGroups (version : ℕ) (half : List ℕ) (slot : ℕ) (rows : List BareRow)
+    (number : ℕ) (e : Walked) (groups : List (List BareEntry)) (sizes : Sizes) : Type 0 where
   keep : GroupsKeep sizes rows number groups
+  of_version : AllByRecursion (AllByRecursion (EntryOfVersion version)) groups
   bytes : from_slot half slot ≡ groups_slots number groups ++ from_slot half e.slot
   rows_are : bare e.rows ≡ rows_after_all rows (flat_map (λ group. group) groups)
   number_is : e.number ≡ number + length (flat_map (λ group. group) groups)
 
-whole_groups : (sizes : Sizes) (half : List ℕ) (slot : ℕ) (rows : List BareRow) (number : ℕ)
-    (e : Walked) → (g : HasGroups sizes half slot rows number 0 e)
-    → HasWholeGroups half slot rows number e g.groups sizes
-whole_groups sizes half slot rows number e g =
+whole_groups : (version : ℕ) (sizes : Sizes) (half : List ℕ) (slot : ℕ) (rows : List BareRow)
+    (number : ℕ) (e : Walked) → (g : HasGroups version sizes half slot rows number 0 e)
+    → HasWholeGroups version half slot rows number e g.groups sizes
+whole_groups version sizes half slot rows number e g =
     let none : g.entries ≡ [] = no_entries g.entries g.count in
     let same : g.middle ≡ number = g.middle_is ∙ ap (λ (l : List BareEntry). number + length l) none
     ∙ omega arith in
@@ -62,6 +65,7 @@ whole_groups sizes half slot rows number e g =
           (subst (λ (l : List BareEntry). GroupsKeep sizes (rows_after_all rows l)
           g.middle g.groups)
           none g.groups_keep);
+      of_version = g.groups_of_version;
       bytes = g.bytes
           ∙ (λ i. flat_map entry_slots (none i)
           ++ (groups_slots (same i) g.groups ++ from_slot half e.slot));
@@ -97,15 +101,19 @@ module _ (apart : RowsAreApart) (contents : List ℕ) (sizes : Sizes) (c : Count
   half_long : length half ≡ 64 * sizes.slots
   half_long = part_long (half_at sizes c.half) (half_size sizes) contents in_file
 
-  found_live : HasLive sizes half 1 [] c.head.base c.head.live w
+  found_live : HasLive c.head.version sizes half 1 [] c.head.base c.head.live w
   found_live =
       live_walked sizes (first_slot sizes c.half) half half_long (sizes.slots - 1) w (start c.head)
-      (omega (arith, b.lawful.slots_from))
-      (omega (arith, b.lawful.slots_from, k.good.live)) refl walked
+      (record {
+        inside = omega (arith, b.lawful.slots_from, k.good.live);
+        enough = omega (arith, b.lawful.slots_from);
+      }) refl walked
 
-  groups : HasWholeGroups half found_live.middle found_live.live c.head.base w
+  groups : HasWholeGroups c.head.version half found_live.middle found_live.live c.head.base w
       found_live.groups.groups sizes
-  groups = whole_groups sizes half found_live.middle found_live.live c.head.base w found_live.groups
+  groups =
+      whole_groups c.head.version sizes half found_live.middle found_live.live c.head.base w
+      found_live.groups
 
   abbrev framing : Framing
   framing = record {
@@ -119,7 +127,7 @@ module _ (apart : RowsAreApart) (contents : List ℕ) (sizes : Sizes) (c : Count
   abbrev behind : List ℕ
   behind = from_slot half w.slot
 
-  head_is : slot_of half 0 ≡ half_head_slot c.head
+  head_is : front (from_slot half 0) ≡ half_head_slot c.head
   head_is =
       take-take 64 (half_size sizes) (drop (half_at sizes c.half) contents)
       (omega (arith, b.lawful.slots_from)) ∙ k.here
@@ -161,7 +169,9 @@ module _ (apart : RowsAreApart) (contents : List ℕ) (sizes : Sizes) (c : Count
     head = k.good;
     count = found_live.count;
     live = found_live.keep;
+    live_version = found_live.of_version;
     groups = groups.keep;
+    groups_version = groups.of_version;
     end = tt;
   }
 
@@ -358,7 +368,9 @@ module _ (contents : List ℕ) (sizes : Sizes) (rows : List (Row (List ℕ))) (n
         rows_are = refl;
         base_is = refl;
         keep = right.good.live;
+        of_version = right.good.live_version;
         groups_keep = right.good.groups;
+        groups_of_version = right.good.groups_version;
         bytes = behind_head;
         end = rest_end;
       }

@@ -3,15 +3,15 @@
 use Rattle.std.proofs.Common.{◌≡◌, ℕ, zero, suc, ◌-◌, ◌<◌, ◌≤◌, ◌^◌, Bool, true, false, cond, List}
 use Rattle.std.proofs.Common.{[], ◌∷◌, ◌++◌, length-append}
 use Rattle.std.proofs.Common.{length, take, drop, replicate, Option, Some, None, refl, sym, ap}
-use Rattle.std.proofs.Common.{subst, ◌∙◌, arith, length-take}
-use Rattle.std.specs.Prelude.{◌&&◌, nat_le, ◌==◌}
+use Rattle.std.proofs.Common.{subst, ◌∙◌, arith}
+use Rattle.std.specs.Prelude.{◌&&◌, nat_le, nat_lt, ◌==◌, ◌*◌}
 use Rattle.std.specs.Int.{w16, w32, w64, from_le_bytes, to_le_bytes}
 use Rattle.std.specs.List.{flat_map, AllByRecursion}
 use Rattle.std.specs.Option.{option_map}
 use Rattle.std.specs.Str.{bytes_eq}
 use Rattle.std.proofs.lemmas.Nat.{from_le_bytes-to_le_bytes_2, from_le_bytes-to_le_bytes_4}
 use Rattle.std.proofs.lemmas.Nat.{from_le_bytes-to_le_bytes_8}
-use Rattle.std.proofs.lemmas.List.{take_at, length-replicate}
+use Rattle.std.proofs.lemmas.List.{take_at, take-append-drop, get_or-take, length-replicate}
 use Rattle.std.proofs.lemmas.Slice.Eq.{bytes_eq-Decides}
 use Rattle.std.proofs.lemmas.Bool.{and_parts, and_from, leb-true, le-leb}
 use Rattle.cm_pool.specs.Geometry.{Sizes, IsGeometry}
@@ -25,17 +25,21 @@ use Rattle.cm_layout.specs.declared.relocation.Move.{Move}
 use Rattle.cm_layout.specs.declared.unload_all.UnloadAll.{UnloadAll}
 use Rattle.cm_layout.specs.declared.row.Row.TheVariants.{Loader, Class}
 use Rattle.cm_layout.specs.declared.entry.Entry.TheVariants as entry
-use Rattle.cm_layout.specs.Slots.{half_head_slot, group_head_slot, loader_slot, loader_slots}
+use Rattle.cm_layout.specs.Slots.{half_head_slot, group_head_slot, loader_slots}
 use Rattle.cm_layout.specs.Slots.{class_slot}
 use Rattle.cm_layout.specs.Slots.{unload_slot, move_slot, row_slots, entry_slots, FitsHalfHead}
 use Rattle.cm_layout.specs.Slots.{FitsGroupHead, FitsLoader, FitsClass, FitsUnload, FitsMove}
 use Rattle.cm_layout.specs.Slots.{FitsRow, FitsEntry, FitsChunk, FitsUnloadAll, unload_all_slot}
 use Rattle.cm_layout.specs.Superblock.{superblock_bytes}
 use Rattle.cm_layout.specs.Frames.{BareRow, BareEntry}
-use Rattle.cm_layout.proofs.{slots-short, front-back}
+use Rattle.cm_layout.specs.Slots.{RowOfVersion, EntryOfVersion}
+use Rattle.cm_layout.specs.Names.{name_room, limit_of, slots_of_name}
+use Rattle.cm_layout.specs.Rows.{slots_of, slots_of_row}
+use Rattle.cm_layout.proofs.{loader_slots-count, name-back, within-room, slot_count}
 use Rattle.cm_verdict.specs.Decoding.{two_at, four_at, eight_at, if_spelled, half_head_at}
 use Rattle.cm_verdict.specs.Decoding.{half_head_in, group_head_at, group_head_in, name_size}
-use Rattle.cm_verdict.specs.Decoding.{loader_at, loader_in, class_at, class_in, chunk_at, unload_at}
+use Rattle.cm_verdict.specs.Decoding.{front, loader_slots_at, loader_of, loader_at, loader_in}
+use Rattle.cm_verdict.specs.Decoding.{class_at, class_in, chunk_at, unload_at}
 use Rattle.cm_verdict.specs.Decoding.{unload_in, move_at, move_in, kind_at, row_in, entry_in}
 use Rattle.cm_verdict.specs.Decoding.{sizes_at, is_lawful, sizes_in, loaders_size, eights_in}
 use Rattle.cm_verdict.specs.Decoding.{unload_all_at, unload_all_in}
@@ -131,39 +135,70 @@ group_head_again h fits =
 
 -- ---- loaders
 
-loader_spelled : (slot : List ℕ) (r : LoaderRow) → loader_in slot ≡ Some r
-    → (slot ≡ loader_slots r) × FitsLoader r
-unfolding loader_in
-loader_spelled slot r = by_size (nat_le (name_size slot) 48) refl
+-- what slots begin with: an entry that fits them and is of this version
+pub record BeginsWith (version : ℕ) (slots : List ℕ) (e : BareEntry) : Type 0 where
+  pub here : take (64 * slots_of e) slots ≡ entry_slots e
+  pub fits : FitsEntry e
+  pub of_version : EntryOfVersion version e
+
+-- its length stands in the first slot
+own_size : (slots : List ℕ) → name_size (loader_slots_at slots) ≡ name_size slots
+own_size slots = by_test (nat_lt name_room (name_size slots))
   where
-    by_size : (t : Bool) → nat_le (name_size slot) 48 ≡ t
-        → cond t (if_spelled (loader_slot (loader_at slot)) slot (loader_at slot)) None ≡ Some r
-        → (slot ≡ loader_slots r) × FitsLoader r
+    by_test : (t : Bool) → name_size (take (64 * cond t 2 1) slots) ≡ name_size slots
+    by_test true = get_or-take 128 slots 2 0 (omega arith)
+    by_test false = get_or-take 64 slots 2 0 (omega arith)
+
+loader_spelled : (version : ℕ) (slots : List ℕ) (r : LoaderRow)
+    → loader_in version slots ≡ Some r → BeginsWith version slots (entry.Live (Loader r))
+unfolding loader_in
+loader_spelled version slots r =
+    by_size (nat_le (name_size slots) (limit_of version)) refl
+  where
+    own : List ℕ
+    own = loader_slots_at slots
+
+    by_size : (t : Bool) → nat_le (name_size slots) (limit_of version) ≡ t
+        → cond t (loader_of own) None ≡ Some r
+        → BeginsWith version slots (entry.Live (Loader r))
     by_size true is e =
-        let s = spelled_some (loader_slot (loader_at slot)) slot (loader_at slot) r e in
-        let number : eight_at 8 slot < 2 ^ 64 =
-        subst (λ (l : List ℕ). eight_at 8 l < 2 ^ 64) s.same (small_8 (eight_at 8 slot)) in
-        let small : name_size slot ≤ 48 = leb-true (name_size slot) 48 is in
-        let fits : FitsLoader (loader_at slot) = record {
-          number = number;
-          name = omega (arith, length-take (name_size slot) (drop 16 slot), small);
-        } in
-        let of_r : FitsLoader r = subst FitsLoader s.value fits in
-        (sym s.same ∙ ap loader_slot s.value ∙ sym (slots-short r of_r.name), of_r)
+        let s = spelled_some (loader_slots (loader_at own)) own (loader_at own) r e in
+        let here : own ≡ loader_slots r = sym s.same ∙ ap loader_slots s.value in
+        let size : name_size slots ≡ length r.name =
+        sym (own_size slots) ∙ ap name_size here in
+        let small : name_size slots ≤ limit_of version =
+        leb-true (name_size slots) (limit_of version) is in
+        let number : r.number < 2 ^ 64 =
+        subst (λ (n : ℕ). n < 2 ^ 64) (ap (λ (l : LoaderRow). l.number) s.value)
+        (subst (λ (l : List ℕ). eight_at 8 l < 2 ^ 64) s.same (small_8 (eight_at 8 own))) in
+        let name : length r.name ≤ limit_of version = omega (arith, size, small) in
+        record {
+          here = ap (λ (n : ℕ). take (64 * cond (nat_lt name_room n) 2 1) slots) (sym size)
+              ∙ here;
+          fits = record {
+            number = number;
+            name = within-room version (length r.name) name;
+          };
+          of_version = name;
+        }
     by_size false is e = no_some r e
 
-loader_again : (r : LoaderRow) → FitsLoader r → loader_in (loader_slots r) ≡ Some r
+pub loader_again : (version : ℕ) (r : LoaderRow) (behind : List ℕ) → FitsLoader r
+    → length r.name ≤ limit_of version → loader_in version (loader_slots r ++ behind) ≡ Some r
 unfolding loader_in
-loader_again r fits =
-    let name : take (length r.name) (drop 16 (loader_slot r)) ≡ r.name =
-    front-back r.name fits.name in
-    let same : loader_at (loader_slot r) ≡ r =
-    (λ i. record { number = from_le_bytes-to_le_bytes_8 r.number fits.number i; name = name i }) in
-    ap loader_in (slots-short r fits.name)
-    ∙ ap (λ t. cond t (if_spelled (loader_slot (loader_at (loader_slot r))) (loader_slot r)
-    (loader_at (loader_slot r))) None) (le-leb (length r.name) 48 fits.name)
-    ∙ ((λ i. if_spelled (loader_slot (same i)) (loader_slot r) (same i))
-    ∙ spelled_is (loader_slot r) (loader_slot r) r refl)
+loader_again version r behind fits short =
+    let own : loader_slots_at (loader_slots r ++ behind) ≡ loader_slots r =
+    take_at (loader_slots r) behind (64 * slots_of_name r.name) (loader_slots-count r fits.name) in
+    let same : loader_at (loader_slots r) ≡ r =
+    (λ i. record {
+      number = from_le_bytes-to_le_bytes_8 r.number fits.number i;
+      name = name-back r fits.name i;
+    }) in
+    ap (λ t. cond t (loader_of (loader_slots_at (loader_slots r ++ behind))) None)
+    (le-leb (length r.name) (limit_of version) short)
+    ∙ (ap loader_of own
+    ∙ ((λ i. if_spelled (loader_slots (same i)) (loader_slots r) (same i))
+    ∙ spelled_is (loader_slots r) (loader_slots r) r refl))
 
 -- ---- classes
 
@@ -344,84 +379,109 @@ mapped_some : {A B P : Type 0} (f : A → B) (o : Option A) (y : B) → option_m
 mapped_some f None y e k = no_some y e
 mapped_some f (Some x) y e k = k x refl (same_some (f x) y e)
 
-pub row_spelled : (slot : List ℕ) (row : BareRow) → row_in slot ≡ Some row
-    → (slot ≡ row_slots row) × FitsRow row
+pub row_spelled : (version : ℕ) (slots : List ℕ) (row : BareRow)
+    → row_in version slots ≡ Some row → BeginsWith version slots (entry.Live row)
 unfolding row_in
-row_spelled slot row = by_kind (kind_at slot == 17)
+row_spelled version slots row = by_kind (kind_at slots == 17)
   where
     by_kind : (t : Bool)
-        → cond t (option_map (λ r. Loader r) (loader_in slot))
-        (option_map (λ r. Class r tt) (class_in slot)) ≡ Some row
-        → (slot ≡ row_slots row) × FitsRow row
+        → cond t (option_map (λ r. Loader r) (loader_in version slots))
+        (option_map (λ r. Class r tt) (class_in (front slots))) ≡ Some row
+        → BeginsWith version slots (entry.Live row)
     by_kind true e =
-        mapped_some (λ (r : LoaderRow). Loader r) (loader_in slot) row e (λ r there is.
-        let s = loader_spelled slot r there in
-        subst (λ (w : BareRow). (slot ≡ row_slots w) × FitsRow w) is s)
+        mapped_some (λ (r : LoaderRow). Loader r) (loader_in version slots) row e (λ r there is.
+        subst (λ (w : BareRow). BeginsWith version slots (entry.Live w)) is
+        (loader_spelled version slots r there))
     by_kind false e =
-        mapped_some (λ (r : ClassRow). Class r tt) (class_in slot) row e (λ r there is.
-        let s = class_spelled slot r there in
-        subst (λ (w : BareRow). (slot ≡ row_slots w) × FitsRow w) is s)
+        mapped_some (λ (r : ClassRow). Class r tt) (class_in (front slots)) row e (λ r there is.
+        let s = class_spelled (front slots) r there in
+        subst (λ (w : BareRow). BeginsWith version slots (entry.Live w)) is
+        (record { here = s.0; fits = s.1; of_version = tt }))
 
-pub row_again : (row : BareRow) → FitsRow row → row_in (row_slots row) ≡ Some row
+pub row_again : (version : ℕ) (row : BareRow) (behind : List ℕ) → FitsRow row
+    → RowOfVersion version row → row_in version (row_slots row ++ behind) ≡ Some row
 unfolding row_in
-row_again (Loader r) fits = ap (option_map (λ (l : LoaderRow). Loader l)) (loader_again r fits)
-row_again (Class r u) fits = ap (option_map (λ (c : ClassRow). Class c tt)) (class_again r fits)
+row_again version (Loader r) behind fits short =
+    ap (option_map (λ (l : LoaderRow). Loader l)) (loader_again version r behind fits short)
+row_again version (Class r u) behind fits any =
+    ap (option_map (λ (c : ClassRow). Class c tt)) (class_again r fits)
 
-pub entry_spelled : (slot : List ℕ) (e : BareEntry) → entry_in slot ≡ Some e
-    → (slot ≡ entry_slots e) × FitsEntry e
+pub entry_spelled : (version : ℕ) (slots : List ℕ) (e : BareEntry)
+    → entry_in version slots ≡ Some e → BeginsWith version slots e
 unfolding entry_in
-entry_spelled slot v =
-    by_kind (kind_at slot == 19) (kind_at slot == 20) (kind_at slot == 21)
+entry_spelled version slots v =
+    by_kind (kind_at slots == 19) (kind_at slots == 20) (kind_at slots == 21)
   where
     by_kind : (t u s : Bool)
-        → cond t (option_map (λ e. entry.Unload e) (unload_in slot))
-        (cond u (option_map (λ e. entry.Move e) (move_in slot))
-        (cond s (option_map (λ e. entry.UnloadAll e) (unload_all_in slot))
-        (option_map (λ r. entry.Live r) (row_in slot)))) ≡ Some v
-        → (slot ≡ entry_slots v) × FitsEntry v
+        → cond t (option_map (λ e. entry.Unload e) (unload_in (front slots)))
+        (cond u (option_map (λ e. entry.Move e) (move_in (front slots)))
+        (cond s (option_map (λ e. entry.UnloadAll e) (unload_all_in (front slots)))
+        (option_map (λ r. entry.Live r) (row_in version slots)))) ≡ Some v
+        → BeginsWith version slots v
     by_kind true u s e =
-        mapped_some (λ (d : Unload). entry.Unload d) (unload_in slot) v e (λ d there is.
-        let s = unload_spelled slot d there in
-        subst (λ (w : BareEntry). (slot ≡ entry_slots w) × FitsEntry w) is s)
+        mapped_some (λ (d : Unload). entry.Unload d) (unload_in (front slots)) v e (λ d there is.
+        let s = unload_spelled (front slots) d there in
+        subst (BeginsWith version slots) is
+        (record { here = s.0; fits = s.1; of_version = tt }))
     by_kind false true s e =
-        mapped_some (λ (d : Move). entry.Move d) (move_in slot) v e (λ d there is.
-        let s = move_spelled slot d there in
-        subst (λ (w : BareEntry). (slot ≡ entry_slots w) × FitsEntry w) is s)
+        mapped_some (λ (d : Move). entry.Move d) (move_in (front slots)) v e (λ d there is.
+        let s = move_spelled (front slots) d there in
+        subst (BeginsWith version slots) is
+        (record { here = s.0; fits = s.1; of_version = tt }))
     by_kind false false true e =
-        mapped_some (λ (d : UnloadAll). entry.UnloadAll d) (unload_all_in slot) v e (λ d there is.
-        let s = unload_all_spelled slot d there in
-        subst (λ (w : BareEntry). (slot ≡ entry_slots w) × FitsEntry w) is s)
+        mapped_some (λ (d : UnloadAll). entry.UnloadAll d) (unload_all_in (front slots)) v e
+        (λ d there is.
+        let s = unload_all_spelled (front slots) d there in
+        subst (BeginsWith version slots) is
+        (record { here = s.0; fits = s.1; of_version = tt }))
     by_kind false false false e =
-        mapped_some (λ (d : BareRow). entry.Live d) (row_in slot) v e (λ d there is.
-        let s = row_spelled slot d there in
-        subst (λ (w : BareEntry). (slot ≡ entry_slots w) × FitsEntry w) is s)
+        mapped_some (λ (d : BareRow). entry.Live d) (row_in version slots) v e (λ d there is.
+        subst (BeginsWith version slots) is (row_spelled version slots d there))
 
-pub entry_again : (e : BareEntry) → FitsEntry e → entry_in (entry_slots e) ≡ Some e
+pub entry_again : (version : ℕ) (e : BareEntry) (behind : List ℕ) → FitsEntry e
+    → EntryOfVersion version e → entry_in version (entry_slots e ++ behind) ≡ Some e
 unfolding entry_in
-entry_again (entry.Live (Loader r)) fits =
-    ap (option_map (λ (d : BareRow). entry.Live d)) (row_again (Loader r) fits)
-entry_again (entry.Live (Class r u)) fits =
-    ap (option_map (λ (d : BareRow). entry.Live d)) (row_again (Class r u) fits)
-entry_again (entry.Unload e) fits =
+entry_again version (entry.Live (Loader r)) behind fits short =
+    ap (option_map (λ (d : BareRow). entry.Live d))
+    (row_again version (Loader r) behind fits short)
+entry_again version (entry.Live (Class r u)) behind fits any =
+    ap (option_map (λ (d : BareRow). entry.Live d)) (row_again version (Class r u) behind fits any)
+entry_again version (entry.Unload e) behind fits any =
     ap (option_map (λ (d : Unload). entry.Unload d)) (unload_again e fits)
-entry_again (entry.Move e) fits = ap (option_map (λ (d : Move). entry.Move d)) (move_again e fits)
-entry_again (entry.UnloadAll e) fits =
-    ap (option_map (λ (d : UnloadAll). entry.UnloadAll d)) (unload_all_again e fits)
+entry_again version (entry.Move e) behind fits any =
+    ap (option_map (λ (d : Move). entry.Move d)) (move_again e fits)
+entry_again version (entry.UnloadAll e) behind fits any =
+    ap (option_map (λ (d : UnloadAll). entry.UnloadAll d))
+    (ap unload_all_in
+    (take_at (unload_all_slot e) behind 64 (slot_count (entry.UnloadAll e) fits))
+    ∙ unload_all_again e fits)
+
+-- slots that begin with an entry, and what follows it
+pub spelled_whole : (version : ℕ) (slots : List ℕ) (e : BareEntry) → BeginsWith version slots e
+    → slots ≡ entry_slots e ++ drop (64 * slots_of e) slots
+spelled_whole version slots e b =
+    sym (take-append-drop (64 * slots_of e) slots)
+    ∙ ap (λ (l : List ℕ). l ++ drop (64 * slots_of e) slots) b.here
 
 -- what isn't spelled isn't there
 pub none_is : {A : Type 0} (o : Option A) → ((x : A) → o ≡ Some x → ⊥) → None ≡ o
 none_is None h = refl
 none_is (Some x) h = absurd (h x refl)
 
-pub row_of_entry : (slot : List ℕ) (row : BareRow) → entry_in slot ≡ Some (entry.Live row)
-    → row_in slot ≡ Some row
-row_of_entry slot row e =
-    let s = entry_spelled slot (entry.Live row) e in ap row_in s.0 ∙ row_again row s.1
+pub row_of_entry : (version : ℕ) (slots : List ℕ) (row : BareRow)
+    → entry_in version slots ≡ Some (entry.Live row) → row_in version slots ≡ Some row
+row_of_entry version slots row e =
+    let s = entry_spelled version slots (entry.Live row) e in
+    ap (row_in version) (spelled_whole version slots (entry.Live row) s)
+    ∙ row_again version row (drop (64 * slots_of_row row) slots) s.fits s.of_version
 
-pub entry_of_row : (slot : List ℕ) (row : BareRow) → row_in slot ≡ Some row
-    → entry_in slot ≡ Some (entry.Live row)
-entry_of_row slot row e =
-    let s = row_spelled slot row e in ap entry_in s.0 ∙ entry_again (entry.Live row) s.1
+pub entry_of_row : (version : ℕ) (slots : List ℕ) (row : BareRow)
+    → row_in version slots ≡ Some row → entry_in version slots ≡ Some (entry.Live row)
+entry_of_row version slots row e =
+    let s = row_spelled version slots row e in
+    ap (entry_in version) (spelled_whole version slots (entry.Live row) s)
+    ∙ entry_again version (entry.Live row) (drop (64 * slots_of_row row) slots) s.fits
+    s.of_version
 
 -- ---- the superblock
 

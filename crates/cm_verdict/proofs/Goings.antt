@@ -1,47 +1,64 @@
--- The walk, one slot after another.
+-- The walk, one turn after another.
 -- For `HalfWalk::walk_all`.
-use Rattle.std.proofs.Common.{◌≡◌, ℕ, suc, ◌+◌, ◌-◌, ◌<◌, ◌≤◌, List, Ok, Err, sym, ap, ◌∙◌, arith}
+use Rattle.std.proofs.Common.{◌≡◌, ℕ, suc, ◌+◌, ◌-◌, ◌<◌, ◌≤◌, Bool, cond, List, Ok}
+use Rattle.std.proofs.Common.{Err, sym, ap, ◌∙◌, arith}
 use Rattle.std.specs.Prelude.{Result}
+use Rattle.std.proofs.lemmas.Bool.{lt-ltb, le-ltb}
 use Rattle.cm_pool.specs.Geometry.{Sizes}
 use Rattle.cm_verdict.specs.declared.fault.Damage.{Damage}
 use Rattle.cm_verdict.specs.declared.fault.FileFault.{FileFault}
 use Rattle.cm_verdict.specs.declared.fault.FileFault.TheVariants.{Damaged}
-use Rattle.cm_verdict.specs.Walk.{Walked, Turn, Stop, Go, Bad, turn, slot_of, on_turn, walk}
+use Rattle.cm_verdict.specs.Walk.{Walked, Turn, Stop, Go, Bad, turn, from_slot, on_turn, walk}
 
--- the next slot first
-next_first : (sizes : Sizes) (first : ℕ) (half : List ℕ) (slots at : ℕ) (w : Walked) (t : Turn)
-    → at < slots → w.slot ≡ at → turn sizes first w (slot_of half at) ≡ t
-    → walk sizes first half (slots - at) w
-    ≡ on_turn (first + at) w (λ next. walk sizes first half (slots - (at + 1)) next) t
+-- of so many turns, the next one first
+abbrev after_turn : Sizes → ℕ → List ℕ → ℕ → Walked → Turn → Result Walked FileFault
+after_turn sizes first half turns w t =
+    on_turn (first + w.slot) w (λ next. walk sizes first half turns next) t
+
+next_first : (sizes : Sizes) (first : ℕ) (half : List ℕ) (all at : ℕ) (w : Walked) (t : Turn)
+    → at < all → w.slot < sizes.slots → turn sizes first w (from_slot half w.slot) ≡ t
+    → walk sizes first half (all - at) w ≡ after_turn sizes first half (all - (at + 1)) w t
 unfolding walk
-next_first sizes first half slots at w t lt slot says =
-    let more : slots - at ≡ suc (slots - (at + 1)) = omega arith in
+next_first sizes first half all at w t lt inside says =
+    let more : all - at ≡ suc (all - (at + 1)) = omega arith in
+    let turned = turn sizes first w (from_slot half w.slot) in
     ap (λ (n : ℕ). walk sizes first half n w) more
-    ∙ (λ i. on_turn (first + slot i) w (λ next. walk sizes first half (slots - (at + 1)) next)
-    (turn sizes first w (slot_of half (slot i))))
-    ∙ ap (on_turn (first + at) w (λ next. walk sizes first half (slots - (at + 1)) next)) says
+    ∙ (ap (λ (b : Bool). cond b (after_turn sizes first half (all - (at + 1)) w turned) (Ok w))
+    (lt-ltb w.slot sizes.slots inside)
+    ∙ ap (after_turn sizes first half (all - (at + 1)) w) says)
 
-module _ (sizes : Sizes) (first : ℕ) (half : List ℕ) (slots at : ℕ) (w : Walked)
-    (all : Result Walked FileFault) where
-  pub walk_on : at < slots → w.slot ≡ at → walk sizes first half (slots - at) w ≡ all
-      → (next : Walked) → turn sizes first w (slot_of half at) ≡ Go next
-      → walk sizes first half (slots - (at + 1)) next ≡ all
-  walk_on lt slot same next says =
-      sym (next_first sizes first half slots at w (Go next) lt slot says) ∙ same
+module _ (sizes : Sizes) (first : ℕ) (half : List ℕ) (all at : ℕ) (w : Walked)
+    (comes_to : Result Walked FileFault) where
+  pub walk_on : at < all → w.slot < sizes.slots → walk sizes first half (all - at) w ≡ comes_to
+      → (next : Walked) → turn sizes first w (from_slot half w.slot) ≡ Go next
+      → walk sizes first half (all - (at + 1)) next ≡ comes_to
+  walk_on lt inside same next says =
+      sym (next_first sizes first half all at w (Go next) lt inside says) ∙ same
 
-  pub walk_ends : at < slots → w.slot ≡ at → walk sizes first half (slots - at) w ≡ all
-      → turn sizes first w (slot_of half at) ≡ Stop → all ≡ Ok w
-  walk_ends lt slot same says =
-      sym same ∙ next_first sizes first half slots at w Stop lt slot says
+  pub walk_ends : at < all → w.slot < sizes.slots → walk sizes first half (all - at) w ≡ comes_to
+      → turn sizes first w (from_slot half w.slot) ≡ Stop → comes_to ≡ Ok w
+  walk_ends lt inside same says =
+      sym same ∙ next_first sizes first half all at w Stop lt inside says
 
-  pub walk_fails : at < slots → w.slot ≡ at → walk sizes first half (slots - at) w ≡ all
-      → (what : Damage) → turn sizes first w (slot_of half at) ≡ Bad what
-      → all ≡ Err (Damaged what (first + at))
-  walk_fails lt slot same what says =
-      sym same ∙ next_first sizes first half slots at w (Bad what) lt slot says
+  pub walk_fails : at < all → w.slot < sizes.slots → walk sizes first half (all - at) w ≡ comes_to
+      → (what : Damage) → turn sizes first w (from_slot half w.slot) ≡ Bad what
+      → comes_to ≡ Err (Damaged what (first + w.slot))
+  walk_fails lt inside same what says =
+      sym same ∙ next_first sizes first half all at w (Bad what) lt inside says
 
-  pub walk_is_over : slots ≤ at → walk sizes first half (slots - at) w ≡ all → all ≡ Ok w
+  pub walk_is_through : at < all → sizes.slots ≤ w.slot
+      → walk sizes first half (all - at) w ≡ comes_to → comes_to ≡ Ok w
+  unfolding walk
+  walk_is_through lt through same =
+      let more : all - at ≡ suc (all - (at + 1)) = omega arith in
+      let turned = turn sizes first w (from_slot half w.slot) in
+      sym same
+      ∙ (ap (λ (n : ℕ). walk sizes first half n w) more
+      ∙ ap (λ (b : Bool). cond b (after_turn sizes first half (all - (at + 1)) w turned) (Ok w))
+      (le-ltb w.slot sizes.slots through))
+
+  pub walk_is_over : all ≤ at → walk sizes first half (all - at) w ≡ comes_to → comes_to ≡ Ok w
   unfolding walk
   walk_is_over le same =
-      let none : slots - at ≡ 0 = omega arith in
+      let none : all - at ≡ 0 = omega arith in
       sym same ∙ ap (λ (n : ℕ). walk sizes first half n w) none

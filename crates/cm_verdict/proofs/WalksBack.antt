@@ -1,28 +1,32 @@
 -- A half that is made of live rows and groups is walked through to its end.
 -- For `found_is_framed`, `found_is_live`.
-use Rattle.std.proofs.Common.{◌≡◌, ◌≢◌, ℕ, zero, suc, ◌+◌, ◌*◌, ◌<◌, ◌≤◌, ◌⊎◌, inl, inr}
-use Rattle.std.proofs.Common.{Bool, true, false, List, [], ◌∷◌, ◌++◌, length, take, drop, get_or}
-use Rattle.std.proofs.Common.{None, Ok, refl, sym, ap, subst, ◌∙◌, arith, append_assoc}
-use Rattle.std.proofs.Common.{append-nil, drop-drop, length-drop}
-use Rattle.std.specs.List.{flat_map}
-use Rattle.std.proofs.lemmas.Bool.{ne_eqb}
-use Rattle.std.proofs.lemmas.List.{take_at, drop_at, get_or-take, length-append}
+use Rattle.std.proofs.Common.{◌≡◌, ◌≢◌, ℕ, zero, suc, ◌+◌, ◌-◌, ◌*◌, ◌<◌, ◌≤◌, ◌⊎◌, inl, inr}
+use Rattle.std.proofs.Common.{Bool, true, false, cond, List, [], ◌∷◌, ◌++◌, length, take, drop}
+use Rattle.std.proofs.Common.{get_or, None, Ok, refl, sym, ap, subst, ◌∙◌, arith, append_assoc}
+use Rattle.std.proofs.Common.{append-nil, length-drop}
+use Rattle.std.specs.Prelude.{nat_le, nat_lt}
+use Rattle.std.specs.List.{flat_map, AllByRecursion}
+use Rattle.std.proofs.lemmas.Bool.{ne_eqb, leb-true, leb-false, ltb-true, lt-ltb}
+use Rattle.std.proofs.lemmas.List.{take_at, drop_at, length-append}
+use Rattle.std.proofs.Math.Seq.{take-append-add}
 use Rattle.cm_pool.specs.Geometry.{Sizes}
 use Rattle.cm_layout.specs.declared.heads.GroupHead.{GroupHead}
 use Rattle.cm_layout.specs.declared.entry.Entry.TheVariants as entry
 use Rattle.cm_layout.specs.Slots.{group_head_slot, row_slots, entry_slots}
-use Rattle.cm_layout.specs.Slots.{FitsGroupHead, FitsEntry}
+use Rattle.cm_layout.specs.Slots.{FitsGroupHead, RowOfVersion, EntryOfVersion}
 use Rattle.cm_layout.specs.Rules.{broken_rule, broken_live_rule}
-use Rattle.cm_layout.specs.Rows.{slots_of_rows, slots_of_entries, rows_after, rows_after_all, bare}
+use Rattle.cm_layout.specs.Rows.{slots_of_row, slots_of, slots_of_rows, slots_of_entries}
+use Rattle.cm_layout.specs.Rows.{rows_after, rows_after_all, bare}
 use Rattle.cm_layout.specs.Frames.{BareRow, BareEntry, LiveRowsKeep, EntriesKeep, GroupKeeps}
 use Rattle.cm_layout.specs.Frames.{GroupsKeep, groups_slots, IsEnd}
-use Rattle.cm_layout.proofs.{slot_count}
-use Rattle.cm_verdict.specs.Decoding.{is_open}
-use Rattle.cm_verdict.specs.Walk.{Walked, Go, placed_row, placed_entry, next_slot}
-use Rattle.cm_verdict.specs.Walk.{begun, turn, slot_of, on_turn, walk}
+use Rattle.cm_layout.proofs.{slot_count, some_slots}
+use Rattle.cm_verdict.specs.Decoding.{is_open, numbers_of}
+use Rattle.cm_verdict.specs.Walk.{Walked, Go, placed_row, placed_entry}
+use Rattle.cm_verdict.specs.Walk.{begun, turn, from_slot, on_turn, walk}
 use Rattle.cm_verdict.proofs.Turns.{IsGoodGroup, does_stop, group_goes, row_goes, entry_goes}
+use Rattle.cm_verdict.proofs.Turns.{after_row, after_entry}
 use Rattle.cm_verdict.proofs.Placed.{placed_live_rule, placed_rule, placed_more, placed_after}
-use Rattle.cm_verdict.proofs.Walks.{from_slot, slots_one, slots_many}
+use Rattle.cm_verdict.proofs.Walks.{further, numbers_many}
 
 -- ---- slots
 
@@ -38,22 +42,26 @@ entries_count sizes rows n (e ∷ es) k =
       length-append (entry_slots e) (flat_map entry_slots es),
     )
 
--- an entry that fits one slot is one
-one_count : (e : BareEntry) → FitsEntry e → length (entry_slots e) ≡ 64
-one_count e fits = omega (arith, slot_count e fits, slots_one e fits)
+-- slots that stand in front of others, where so many are left of the live rows or of the group
+record IsFront (half : List ℕ) (slot : ℕ) (begin rest : List ℕ) (n : ℕ) : Type 0 where
+  here : take (64 * n) (from_slot half slot) ≡ begin
+  behind : from_slot half (slot + n) ≡ rest
 
--- a slot that stands in front of others
-record IsFront (half : List ℕ) (slot : ℕ) (front rest : List ℕ) : Type 0 where
-  here : slot_of half slot ≡ front
-  behind : from_slot half (slot + 1) ≡ rest
-
-in_front : (half : List ℕ) (slot : ℕ) (front rest : List ℕ) → from_slot half slot ≡ front ++ rest
-    → length front ≡ 64 → IsFront half slot front rest
-in_front half slot front rest e count = record {
-  here = ap (take 64) e ∙ take_at front rest 64 count;
-  behind = sym (drop-drop 64 (64 * slot) half ∙ ap (λ (n : ℕ). drop n half) (omega arith))
-      ∙ (ap (drop 64) e ∙ drop_at front rest 64 count);
+in_front : (half : List ℕ) (slot : ℕ) (begin rest : List ℕ) (n : ℕ)
+    → from_slot half slot ≡ begin ++ rest → length begin ≡ 64 * n
+    → IsFront half slot begin rest n
+in_front half slot begin rest n e count = record {
+  here = ap (take (64 * n)) e ∙ take_at begin rest (64 * n) count;
+  behind = sym (further half slot n) ∙ (ap (drop (64 * n)) e ∙ drop_at begin rest (64 * n) count);
 }
+
+-- all that is left of a list begins with what the list begins with
+left_begins : (slots begin rest : List ℕ) (n : ℕ) → slots ≡ begin ++ rest → length begin ≤ n
+    → take n slots ≡ begin ++ take (n - length begin) rest
+left_begins slots begin rest n e count =
+    ap (take n) e
+    ∙ (ap (λ (k : ℕ). take k (begin ++ rest)) (omega (arith, count))
+    ∙ take-append-add begin rest (n - length begin))
 
 rows_joined : (rows : List BareRow) (a b : List BareEntry)
     → rows_after_all rows (a ++ b) ≡ rows_after_all (rows_after_all rows a) b
@@ -62,9 +70,9 @@ rows_joined rows (d ∷ a) b = rows_joined (rows_after rows d) a b
 
 module _ (sizes : Sizes) (first : ℕ) (half : List ℕ) (long : length half ≡ 64 * sizes.slots) where
   -- the walk comes to its end with these rows and this number
-  pub record Reaches (more : ℕ) (w : Walked) (rows : List BareRow) (number : ℕ) : Type 0 where
+  pub record Reaches (turns : ℕ) (w : Walked) (rows : List BareRow) (number : ℕ) : Type 0 where
     pub end : Walked
-    pub walked : walk sizes first half more w ≡ Ok end
+    pub walked : walk sizes first half turns w ≡ Ok end
     pub rows_are : bare end.rows ≡ rows
     pub number_is : end.number ≡ number
 
@@ -77,24 +85,64 @@ module _ (sizes : Sizes) (first : ℕ) (half : List ℕ) (long : length half ≡
     pub number_is : w.number ≡ number
     pub middle_is : middle ≡ number + length entries
     pub keep : EntriesKeep sizes rows number entries
+    pub of_version : AllByRecursion (EntryOfVersion w.version) entries
     pub groups_keep : GroupsKeep sizes (rows_after_all rows entries) middle groups
+    pub groups_of_version : AllByRecursion (AllByRecursion (EntryOfVersion w.version)) groups
     pub bytes : from_slot half w.slot
         ≡ flat_map entry_slots entries ++ (groups_slots middle groups ++ behind)
     pub end : IsEnd behind
 
-  room : (slot : ℕ) (more : ℕ) → slot + more ≡ sizes.slots
-      → length (from_slot half slot) ≡ 64 * more
-  room slot more at = omega (arith, length-drop (64 * slot) half, long)
+  room : (slot : ℕ) → length (from_slot half slot) + 64 * slot ≡ 64 * sizes.slots
+      ⊎ (length (from_slot half slot) ≡ 0)
+  room slot = by_order (nat_le slot sizes.slots) refl
+    where
+      by_order : (t : Bool) → nat_le slot sizes.slots ≡ t
+          → (length (from_slot half slot) + 64 * slot ≡ 64 * sizes.slots)
+          ⊎ (length (from_slot half slot) ≡ 0)
+      by_order true e = inl (omega (
+        arith,
+        length-drop (64 * slot) half,
+        long,
+        leb-true slot sizes.slots e,
+      ))
+      by_order false e = inr (omega (
+        arith,
+        length-drop (64 * slot) half,
+        long,
+        leb-false slot sizes.slots e,
+      ))
 
-  -- what was reached behind one slot is reached
-  reached : (more : ℕ) (w next : Walked) (rows rows' : List BareRow) (number number' : ℕ)
-      → turn sizes first w (slot_of half w.slot) ≡ Go next → rows ≡ rows' → number ≡ number'
-      → Reaches more next rows number → Reaches (suc more) w rows' number'
+  -- where slots stand, the half goes on
+  goes_on : (slot n : ℕ) → 1 ≤ n → 64 * n ≤ length (from_slot half slot)
+      → slot + n ≤ sizes.slots
+  goes_on slot n some long_enough = by_room (room slot)
+    where
+      by_room : (length (from_slot half slot) + 64 * slot ≡ 64 * sizes.slots)
+          ⊎ (length (from_slot half slot) ≡ 0) → slot + n ≤ sizes.slots
+      by_room (inl is) = omega (arith, is, long_enough)
+      by_room (inr none) = absurd (omega (arith, none, long_enough, some))
+
+  -- a turn first
+  turned : (turns : ℕ) (w : Walked) → w.slot < sizes.slots
+      → walk sizes first half (suc turns) w
+      ≡ on_turn (first + w.slot) w (λ next. walk sizes first half turns next)
+      (turn sizes first w (from_slot half w.slot))
   unfolding walk
-  reached more w next rows rows' number number' goes same_rows same_number r = record {
+  turned turns w lt =
+      ap (λ (r : Bool). cond r (on_turn (first + w.slot) w
+      (λ next. walk sizes first half turns next)
+      (turn sizes first w (from_slot half w.slot))) (Ok w)) (lt-ltb w.slot sizes.slots lt)
+
+  -- what was reached behind a turn is reached
+  reached : (turns : ℕ) (w next : Walked) (rows rows' : List BareRow) (number number' : ℕ)
+      → w.slot < sizes.slots → turn sizes first w (from_slot half w.slot) ≡ Go next
+      → rows ≡ rows' → number ≡ number' → Reaches turns next rows number
+      → Reaches (suc turns) w rows' number'
+  reached turns w next rows rows' number number' lt goes same_rows same_number r = record {
     end = r.end;
-    walked = ap (on_turn (first + w.slot) w (λ next. walk sizes first half more next)) goes
-        ∙ r.walked;
+    walked = turned turns w lt
+        ∙ (ap (on_turn (first + w.slot) w (λ next. walk sizes first half turns next)) goes
+        ∙ r.walked);
     rows_are = r.rows_are ∙ same_rows;
     number_is = r.number_is ∙ same_number;
   }
@@ -103,21 +151,32 @@ module _ (sizes : Sizes) (first : ℕ) (half : List ℕ) (long : length half ≡
   first_shut [] end some = absurd (omega (arith, some))
   first_shut (b ∷ bytes) end some = end
 
-  stopped : (more : ℕ) (w : Walked) (rows : List BareRow) (number : ℕ)
-      → w.slot + suc more ≡ sizes.slots → w.left ≡ 0 → IsEnd (from_slot half w.slot)
-      → bare w.rows ≡ rows → w.number ≡ number → Reaches (suc more) w rows number
+  stopped : (turns : ℕ) (w : Walked) (rows : List BareRow) (number : ℕ) → w.left ≡ 0
+      → IsEnd (from_slot half w.slot) → bare w.rows ≡ rows → w.number ≡ number
+      → Reaches (suc turns) w rows number
   unfolding walk
-  stopped more w rows number at none end rows_are number_is =
-      let some : 0 < length (from_slot half w.slot) = omega (arith, room w.slot (suc more) at) in
-      let byte : get_or (slot_of half w.slot) 0 0 ≡ get_or (from_slot half w.slot) 0 0 =
-      get_or-take 64 (from_slot half w.slot) 0 0 (omega arith) in
-      let shut : is_open (slot_of half w.slot) ≡ false =
-      ne_eqb (get_or (slot_of half w.slot) 0 0) 165
-      (λ gate. first_shut (from_slot half w.slot) end some (sym byte ∙ gate)) in
-      record {
+  stopped turns w rows number none end rows_are number_is =
+      by_room (nat_lt w.slot sizes.slots) refl
+    where
+      ends : (t : Bool) → nat_lt w.slot sizes.slots ≡ t
+          → cond t (on_turn (first + w.slot) w (λ next. walk sizes first half turns next)
+          (turn sizes first w (from_slot half w.slot))) (Ok w) ≡ Ok w
+      ends true lt =
+          let is : length (from_slot half w.slot) + 64 * w.slot ≡ 64 * sizes.slots =
+          omega (arith, length-drop (64 * w.slot) half, long, ltb-true w.slot sizes.slots lt) in
+          let some : 0 < length (from_slot half w.slot) =
+          omega (arith, is, ltb-true w.slot sizes.slots lt) in
+          let shut : is_open (from_slot half w.slot) ≡ false =
+          ne_eqb (get_or (from_slot half w.slot) 0 0) 165
+          (first_shut (from_slot half w.slot) end some) in
+          ap (on_turn (first + w.slot) w (λ next. walk sizes first half turns next))
+          (does_stop sizes first w (from_slot half w.slot) (record { none = none; shut = shut }))
+      ends false past = refl
+
+      by_room : (t : Bool) → nat_lt w.slot sizes.slots ≡ t → Reaches (suc turns) w rows number
+      by_room t is = record {
         end = w;
-        walked = ap (on_turn (first + w.slot) w (λ next. walk sizes first half more next))
-            (does_stop sizes first w (slot_of half w.slot) (record { none = none; shut = shut }));
+        walked = ends (nat_lt w.slot sizes.slots) refl;
         rows_are = rows_are;
         number_is = number_is;
       }
@@ -130,144 +189,177 @@ module _ (sizes : Sizes) (first : ℕ) (half : List ℕ) (long : length half ≡
   number_behind middle groups = middle + length (flat_map (λ group. group) groups)
 
   abbrev pub Finds : ℕ → Type 0
-  Finds more =
+  Finds turns =
       (w : Walked) (entries : List BareEntry) (groups : List (List BareEntry)) (behind : List ℕ)
-      (rows : List BareRow) (number middle : ℕ) → w.slot + more ≡ sizes.slots
+      (rows : List BareRow) (number middle : ℕ) → sizes.slots ≤ w.slot + turns
       → IsAhead w entries groups behind rows number middle
-      → Reaches more w (rows_behind rows entries groups) (number_behind middle groups)
-
-  no_live : (l : Bool) → l ≡ true → l ≡ false → ⊥
-  no_live l t f = cc
+      → Reaches turns w (rows_behind rows entries groups) (number_behind middle groups)
 
   -- a group's head, and then its entries
-  group_found : (more : ℕ) → Finds more
-      → (w : Walked) (group : List BareEntry) (groups : List (List BareEntry)) (behind : List ℕ)
-      (rows : List BareRow) (number middle : ℕ) → w.slot + suc more ≡ sizes.slots
-      → IsAhead w [] (group ∷ groups) behind rows number middle
-      → Reaches (suc more) w (rows_behind rows [] (group ∷ groups))
-      (number_behind middle (group ∷ groups))
-  group_found more finds w group groups behind rows number middle at a =
-      reached more w (begun w h) (rows_behind rows group groups)
-      (rows_behind rows [] (group ∷ groups))
-      (number_behind (middle + length group) groups) (number_behind middle (group ∷ groups))
-      (group_goes sizes first w (slot_of half w.slot) h (sym a.count) front.here fits good)
-      (sym (rows_joined rows group (flat_map (λ group. group) groups)))
-      (omega (arith, length-append group (flat_map (λ group. group) groups)))
-      (finds (begun w h) group groups behind rows middle (middle + length group)
-      (omega (arith, at)) record {
-        count = refl;
-        phase = inr refl;
-        rows_are = a.rows_are;
-        number_is = same;
-        middle_is = refl;
-        keep = keeps.entries;
-        groups_keep = a.groups_keep.1;
-        bytes = front.behind;
-        end = a.end;
-      })
-    where
-      h : GroupHead
-      h = record { count = slots_of_entries group; first = middle + 1 }
+  module _ (w : Walked) (group : List BareEntry) (groups : List (List BareEntry))
+      (behind : List ℕ) (rows : List BareRow) (number middle : ℕ)
+      (a : IsAhead w [] (group ∷ groups) behind rows number middle) where
+    abbrev h : GroupHead
+    h = record { count = slots_of_entries group; first = middle + 1 }
 
-      keeps : GroupKeeps sizes rows middle group
-      keeps = a.groups_keep.0
+    keeps : GroupKeeps sizes rows middle group
+    keeps = a.groups_keep.0
 
-      same : w.number ≡ middle
-      same = omega (arith, a.number_is, a.middle_is)
+    same_number : w.number ≡ middle
+    same_number = omega (arith, a.number_is, a.middle_is)
 
-      fits : FitsGroupHead h
-      fits = record {
-        count = omega (arith, keeps.few);
-        first = omega (arith, keeps.numbers);
-      }
+    head_fits : FitsGroupHead h
+    head_fits = record {
+      count = omega (arith, keeps.few);
+      first = omega (arith, keeps.numbers);
+    }
 
-      rest : List ℕ
-      rest = flat_map entry_slots group ++ (groups_slots (middle + length group) groups ++ behind)
+    abbrev others : List ℕ
+    others = groups_slots (middle + length group) groups ++ behind
 
-      whole : from_slot half w.slot ≡ group_head_slot h ++ rest
-      whole =
-          let es = flat_map entry_slots group in
-          let gs = groups_slots (middle + length group) groups in
-          a.bytes ∙ (append_assoc (group_head_slot h ++ es) gs behind
-          ∙ append_assoc (group_head_slot h) es (gs ++ behind))
+    abbrev rest : List ℕ
+    rest = flat_map entry_slots group ++ others
 
-      front : IsFront half w.slot (group_head_slot h) rest
-      front = in_front half w.slot (group_head_slot h) rest whole refl
+    whole : from_slot half w.slot ≡ group_head_slot h ++ rest
+    whole =
+        let es = flat_map entry_slots group in
+        let gs = groups_slots (middle + length group) groups in
+        a.bytes ∙ (append_assoc (group_head_slot h ++ es) gs behind
+        ∙ append_assoc (group_head_slot h) es (gs ++ behind))
 
-      good : IsGoodGroup sizes w h
-      good =
-          let all = ap length whole in
-          let parts = length-append (group_head_slot h) rest in
-          let more_parts = length-append (flat_map entry_slots group)
-          (groups_slots (middle + length group) groups ++ behind) in
-          let count = entries_count sizes rows middle group keeps.entries in
-          record {
-            some = keeps.some;
-            few = keeps.few;
-            room = omega (arith, all, parts, more_parts, count, room w.slot (suc more) at, at);
-            first = omega (arith, same);
-            last = omega (
-              arith,
-              keeps.numbers,
-              slots_many sizes rows middle group keeps.entries,
-              same,
-            );
-          }
+    head_front : IsFront half w.slot (group_head_slot h) rest 1
+    head_front = in_front half w.slot (group_head_slot h) rest 1 whole refl
+
+    within : w.slot + (1 + slots_of_entries group) ≤ sizes.slots
+    within =
+        goes_on w.slot (1 + slots_of_entries group) (omega arith)
+        (omega (
+          arith,
+          ap length whole,
+          length-append (group_head_slot h) rest,
+          length-append (flat_map entry_slots group) others,
+          entries_count sizes rows middle group keeps.entries,
+        ))
+
+    good : IsGoodGroup sizes w h (drop 64 (from_slot half w.slot))
+    good = record {
+      some = keeps.some;
+      few = keeps.few;
+      room = omega (arith, within);
+      first = omega (arith, same_number);
+      last = omega (
+        arith,
+        keeps.numbers,
+        same_number,
+        ap (numbers_of w.version (slots_of_entries group)) (further half w.slot 1
+            ∙ head_front.behind),
+        numbers_many w.version sizes rows middle group others keeps.entries
+            a.groups_of_version.0,
+      );
+    }
+
+    group_found : (turns : ℕ) → Finds turns → sizes.slots ≤ w.slot + suc turns
+        → Reaches (suc turns) w (rows_behind rows [] (group ∷ groups))
+        (number_behind middle (group ∷ groups))
+    group_found turns finds at =
+        reached turns w (begun w h) (rows_behind rows group groups)
+        (rows_behind rows [] (group ∷ groups))
+        (number_behind (middle + length group) groups) (number_behind middle (group ∷ groups))
+        (omega (arith, within))
+        (group_goes sizes first w (from_slot half w.slot) h (sym a.count) head_front.here head_fits
+        good)
+        (sym (rows_joined rows group (flat_map (λ group. group) groups)))
+        (omega (arith, length-append group (flat_map (λ group. group) groups)))
+        (finds (begun w h) group groups behind rows middle (middle + length group)
+        (omega (arith, at)) record {
+          count = refl;
+          phase = inr refl;
+          rows_are = a.rows_are;
+          number_is = same_number;
+          middle_is = refl;
+          keep = keeps.entries;
+          of_version = a.groups_of_version.0;
+          groups_keep = a.groups_keep.1;
+          groups_of_version = a.groups_of_version.1;
+          bytes = head_front.behind;
+          end = a.end;
+        })
 
   -- an entry of the group
-  entry_found : (more : ℕ) → Finds more
-      → (w : Walked) (d : BareEntry) (entries : List BareEntry) (groups : List (List BareEntry))
-      (behind : List ℕ) (rows : List BareRow) (number middle : ℕ) → w.slot + suc more ≡ sizes.slots
-      → IsAhead w (d ∷ entries) groups behind rows number middle
-      → Reaches (suc more) w (rows_behind rows (d ∷ entries) groups) (number_behind middle groups)
-  entry_found more finds w d entries groups behind rows number middle at a =
-      reached more w next (rows_behind rows (d ∷ entries) groups)
-      (rows_behind rows (d ∷ entries) groups) (number_behind middle groups)
-      (number_behind middle groups)
-      (entry_goes sizes first w (slot_of half w.slot) d some live front.here a.keep.0 keeps) refl
-      refl
-      (finds next entries groups behind (rows_after rows d) (number + 1) middle
-      (omega (arith, at)) record {
-        count = omega (arith, a.count, slots_one d a.keep.0);
-        phase = inr live;
-        rows_are = placed_after (first + w.slot) w.rows d
-            ∙ ap (λ (r : List BareRow). rows_after r d) a.rows_are;
-        number_is = omega (arith, a.number_is);
-        middle_is = omega (arith, a.middle_is);
-        keep = a.keep.2;
-        groups_keep = a.groups_keep;
-        bytes = front.behind;
-        end = a.end;
-      })
-    where
-      next : Walked
-      next = next_slot w (rows_after w.rows (placed_entry (first + w.slot) d)) (w.number + 1)
+  module _ (w : Walked) (d : BareEntry) (entries : List BareEntry)
+      (groups : List (List BareEntry)) (behind : List ℕ) (rows : List BareRow)
+      (number middle : ℕ) (a : IsAhead w (d ∷ entries) groups behind rows number middle) where
+    abbrev entries_behind : List ℕ
+    entries_behind = flat_map entry_slots entries ++ (groups_slots middle groups ++ behind)
 
-      some : 1 ≤ w.left
-      some = omega (arith, a.count, slots_one d a.keep.0)
+    entry_whole : from_slot half w.slot ≡ entry_slots d ++ entries_behind
+    entry_whole =
+        a.bytes ∙ append_assoc (entry_slots d) (flat_map entry_slots entries)
+        (groups_slots middle groups ++ behind)
 
-      by_phase : (w.left ≡ 0) ⊎ (w.live ≡ false) → w.live ≡ false
-      by_phase (inl none) = absurd (omega (arith, none, some))
-      by_phase (inr live) = live
+    entry_front : IsFront half w.slot (entry_slots d) entries_behind (slots_of d)
+    entry_front = in_front half w.slot (entry_slots d) entries_behind (slots_of d) entry_whole
+        (slot_count d a.keep.0)
 
-      live : w.live ≡ false
-      live = by_phase a.phase
+    entry_some : 1 ≤ w.left
+    entry_some = omega (arith, a.count, some_slots d)
 
-      rest : List ℕ
-      rest = flat_map entry_slots entries ++ (groups_slots middle groups ++ behind)
+    entry_phase : (w.left ≡ 0) ⊎ (w.live ≡ false) → w.live ≡ false
+    entry_phase (inl none) = absurd (omega (arith, none, entry_some))
+    entry_phase (inr live) = live
 
-      front : IsFront half w.slot (entry_slots d) rest
-      front = in_front half w.slot (entry_slots d) rest
-          (a.bytes ∙ append_assoc (entry_slots d) (flat_map entry_slots entries)
-          (groups_slots middle groups ++ behind))
-          (one_count d a.keep.0)
+    entry_within : w.slot + slots_of d ≤ sizes.slots
+    entry_within =
+        goes_on w.slot (slots_of d) (some_slots d)
+        (omega (
+          arith,
+          ap length entry_whole,
+          length-append (entry_slots d) entries_behind,
+          slot_count d a.keep.0,
+        ))
 
-      keeps : broken_rule sizes w.rows (w.number + 1) (placed_entry (first + w.slot) d) ≡ None
-      keeps =
-          sym (placed_rule sizes (w.number + 1) (first + w.slot) w.rows d)
-          ∙ ((λ i. broken_rule sizes (a.rows_are i) (a.number_is i + 1) d) ∙ a.keep.1)
+    entry_keeps : broken_rule sizes w.rows (w.number + 1) (placed_entry (first + w.slot) d) ≡ None
+    entry_keeps =
+        sym (placed_rule sizes (w.number + 1) (first + w.slot) w.rows d)
+        ∙ ((λ i. broken_rule sizes (a.rows_are i) (a.number_is i + 1) d) ∙ a.keep.1)
 
-  pub groups_found : (more : ℕ) → Finds more
+    entry_found : (turns : ℕ) → Finds turns → sizes.slots ≤ w.slot + suc turns
+        → Reaches (suc turns) w (rows_behind rows (d ∷ entries) groups)
+        (number_behind middle groups)
+    entry_found turns finds at =
+        reached turns w (after_entry first w d) (rows_behind rows (d ∷ entries) groups)
+        (rows_behind rows (d ∷ entries) groups) (number_behind middle groups)
+        (number_behind middle groups)
+        (omega (arith, entry_within, some_slots d))
+        (entry_goes sizes first w (from_slot half w.slot) d
+        (take (64 * w.left - length (entry_slots d)) entries_behind) entry_some
+        (entry_phase a.phase)
+        (left_begins (from_slot half w.slot) (entry_slots d) entries_behind (64 * w.left)
+        entry_whole (omega (arith, slot_count d a.keep.0, a.count)))
+        a.keep.0 a.of_version.0 entry_keeps) refl
+        refl
+        (finds (after_entry first w d) entries groups behind (rows_after rows d) (number + 1) middle
+        (omega (arith, at, some_slots d)) record {
+          count = omega (arith, a.count);
+          phase = inr (entry_phase a.phase);
+          rows_are = placed_after (first + w.slot) w.rows d
+              ∙ ap (λ (r : List BareRow). rows_after r d) a.rows_are;
+          number_is = omega (arith, a.number_is);
+          middle_is = omega (arith, a.middle_is);
+          keep = a.keep.2;
+          of_version = a.of_version.1;
+          groups_keep = a.groups_keep;
+          groups_of_version = a.groups_of_version;
+          bytes = entry_front.behind;
+          end = a.end;
+        })
+
+  -- with no turn left the half is through
+  none_left : (w : Walked) (n : ℕ) → sizes.slots ≤ w.slot + 0 → 1 ≤ n → w.slot + n ≤ sizes.slots
+      → ⊥
+  none_left w n at some within = omega (arith, at, some, within)
+
+  pub groups_found : (turns : ℕ) → Finds turns
   unfolding walk
   groups_found zero w [] [] behind rows number middle at a = record {
     end = w;
@@ -276,21 +368,18 @@ module _ (sizes : Sizes) (first : ℕ) (half : List ℕ) (long : length half ≡
     number_is = omega (arith, a.number_is, a.middle_is);
   }
   groups_found zero w [] (g ∷ groups) behind rows number middle at a =
-      let all = ap length a.bytes in
-      absurd (omega (arith, all, room w.slot 0 at))
+      absurd (none_left w (1 + slots_of_entries g) at (omega arith)
+      (within w g groups behind rows number middle a))
   groups_found zero w (d ∷ entries) groups behind rows number middle at a =
-      let all = ap length a.bytes in
-      let parts = length-append (entry_slots d ++ flat_map entry_slots entries)
-      (groups_slots middle groups ++ behind) in
-      let front = length-append (entry_slots d) (flat_map entry_slots entries) in
-      absurd (omega (arith, all, parts, front, one_count d a.keep.0, room w.slot 0 at))
-  groups_found (suc more) w [] [] behind rows number middle at a =
-      stopped more w rows (number_behind middle []) at (sym a.count)
+      absurd (none_left w (slots_of d) at (some_slots d)
+      (entry_within w d entries groups behind rows number middle a))
+  groups_found (suc turns) w [] [] behind rows number middle at a =
+      stopped turns w rows (number_behind middle []) (sym a.count)
       (subst IsEnd (sym a.bytes) a.end) a.rows_are (omega (arith, a.number_is, a.middle_is))
-  groups_found (suc more) w [] (g ∷ groups) behind rows number middle at a =
-      group_found more (groups_found more) w g groups behind rows number middle at a
-  groups_found (suc more) w (d ∷ entries) groups behind rows number middle at a =
-      entry_found more (groups_found more) w d entries groups behind rows number middle at a
+  groups_found (suc turns) w [] (g ∷ groups) behind rows number middle at a =
+      group_found w g groups behind rows number middle a turns (groups_found turns) at
+  groups_found (suc turns) w (d ∷ entries) groups behind rows number middle at a =
+      entry_found w d entries groups behind rows number middle a turns (groups_found turns) at
 
   -- live rows ahead, and groups behind them
   pub record IsAheadLive (w : Walked) (live : List BareRow) (groups : List (List BareEntry))
@@ -300,82 +389,108 @@ module _ (sizes : Sizes) (first : ℕ) (half : List ℕ) (long : length half ≡
     pub rows_are : bare w.rows ≡ rows
     pub base_is : w.number ≡ base
     pub keep : LiveRowsKeep sizes base rows live
+    pub of_version : AllByRecursion (RowOfVersion w.version) live
     pub groups_keep : GroupsKeep sizes (rows ++ live) base groups
+    pub groups_of_version : AllByRecursion (AllByRecursion (EntryOfVersion w.version)) groups
     pub bytes : from_slot half w.slot
         ≡ flat_map row_slots live ++ (groups_slots base groups ++ behind)
     pub end : IsEnd behind
 
   abbrev pub FindsLive : ℕ → Type 0
-  FindsLive more =
+  FindsLive turns =
       (w : Walked) (live : List BareRow) (groups : List (List BareEntry)) (behind : List ℕ)
-      (rows : List BareRow) (base : ℕ) → w.slot + more ≡ sizes.slots
+      (rows : List BareRow) (base : ℕ) → sizes.slots ≤ w.slot + turns
       → IsAheadLive w live groups behind rows base
-      → Reaches more w (rows_after_all (rows ++ live) (flat_map (λ group. group) groups))
+      → Reaches turns w (rows_after_all (rows ++ live) (flat_map (λ group. group) groups))
       (number_behind base groups)
 
-  row_found : (more : ℕ) → FindsLive more
-      → (w : Walked) (row : BareRow) (live : List BareRow) (groups : List (List BareEntry))
-      (behind : List ℕ) (rows : List BareRow) (base : ℕ) → w.slot + suc more ≡ sizes.slots
-      → IsAheadLive w (row ∷ live) groups behind rows base
-      → Reaches (suc more) w
-      (rows_after_all (rows ++ row ∷ live) (flat_map (λ group. group) groups))
-      (number_behind base groups)
-  row_found more finds w row live groups behind rows base at a =
-      reached more w next
-      (rows_after_all ((rows ++ row ∷ []) ++ live) (flat_map (λ group. group) groups))
-      (rows_after_all (rows ++ row ∷ live) (flat_map (λ group. group) groups))
-      (number_behind base groups) (number_behind base groups)
-      (row_goes sizes first w (slot_of half w.slot) row some a.phase front.here a.keep.0 keeps)
-      (ap (λ (r : List BareRow). rows_after_all r (flat_map (λ group. group) groups)) joined) refl
-      (finds next live groups behind (rows ++ row ∷ []) base (omega (arith, at)) record {
-        count = omega (arith, a.count, slots_one (entry.Live row) a.keep.0);
-        phase = a.phase;
-        rows_are = placed_more (first + w.slot) w.rows row
-            ∙ ap (λ (r : List BareRow). r ++ row ∷ []) a.rows_are;
-        base_is = a.base_is;
-        keep = a.keep.2;
-        groups_keep = subst (λ (r : List BareRow). GroupsKeep sizes r base groups) (sym joined)
-            a.groups_keep;
-        bytes = front.behind;
-        end = a.end;
-      })
-    where
-      next : Walked
-      next = next_slot w (w.rows ++ placed_row (first + w.slot) row ∷ []) w.number
+  module _ (w : Walked) (row : BareRow) (live : List BareRow) (groups : List (List BareEntry))
+      (behind : List ℕ) (rows : List BareRow) (base : ℕ)
+      (a : IsAheadLive w (row ∷ live) groups behind rows base) where
+    abbrev rows_behind_row : List ℕ
+    rows_behind_row = flat_map row_slots live ++ (groups_slots base groups ++ behind)
 
-      some : 1 ≤ w.left
-      some = omega (arith, a.count, slots_one (entry.Live row) a.keep.0)
+    row_count : length (row_slots row) ≡ 64 * slots_of_row row
+    row_count = slot_count (entry.Live row) a.keep.0
 
-      joined : (rows ++ row ∷ []) ++ live ≡ rows ++ row ∷ live
-      joined = append_assoc rows (row ∷ []) live
+    row_some : 1 ≤ slots_of_row row
+    row_some = some_slots (entry.Live row)
 
-      rest : List ℕ
-      rest = flat_map row_slots live ++ (groups_slots base groups ++ behind)
+    row_whole : from_slot half w.slot ≡ row_slots row ++ rows_behind_row
+    row_whole =
+        a.bytes ∙ append_assoc (row_slots row) (flat_map row_slots live)
+        (groups_slots base groups ++ behind)
 
-      front : IsFront half w.slot (row_slots row) rest
-      front = in_front half w.slot (row_slots row) rest
-          (a.bytes ∙ append_assoc (row_slots row) (flat_map row_slots live)
-          (groups_slots base groups ++ behind))
-          (one_count (entry.Live row) a.keep.0)
+    row_front : IsFront half w.slot (row_slots row) rows_behind_row (slots_of_row row)
+    row_front =
+        in_front half w.slot (row_slots row) rows_behind_row (slots_of_row row) row_whole row_count
 
-      keeps : broken_live_rule sizes w.number w.rows (placed_row (first + w.slot) row) ≡ None
-      keeps =
-          sym (placed_live_rule sizes w.number (first + w.slot) w.rows row)
-          ∙ ((λ i. broken_live_rule sizes (a.base_is i) (a.rows_are i) row) ∙ a.keep.1)
+    row_within : w.slot + slots_of_row row ≤ sizes.slots
+    row_within =
+        goes_on w.slot (slots_of_row row) row_some
+        (omega (
+          arith,
+          ap length row_whole,
+          length-append (row_slots row) rows_behind_row,
+          row_count,
+        ))
 
-  pub live_found : (more : ℕ) → FindsLive more
-  live_found more w [] groups behind rows base at a =
+    joined : (rows ++ row ∷ []) ++ live ≡ rows ++ row ∷ live
+    joined = append_assoc rows (row ∷ []) live
+
+    row_keeps : broken_live_rule sizes w.number w.rows (placed_row (first + w.slot) row) ≡ None
+    row_keeps =
+        sym (placed_live_rule sizes w.number (first + w.slot) w.rows row)
+        ∙ ((λ i. broken_live_rule sizes (a.base_is i) (a.rows_are i) row) ∙ a.keep.1)
+
+    row_found : (turns : ℕ) → FindsLive turns → sizes.slots ≤ w.slot + suc turns
+        → Reaches (suc turns) w
+        (rows_after_all (rows ++ row ∷ live) (flat_map (λ group. group) groups))
+        (number_behind base groups)
+    row_found turns finds at =
+        reached turns w (after_row first w row)
+        (rows_after_all ((rows ++ row ∷ []) ++ live) (flat_map (λ group. group) groups))
+        (rows_after_all (rows ++ row ∷ live) (flat_map (λ group. group) groups))
+        (number_behind base groups) (number_behind base groups)
+        (omega (arith, row_within, row_some))
+        (row_goes sizes first w (from_slot half w.slot) row
+        (take (64 * w.left - length (row_slots row)) rows_behind_row)
+        (omega (arith, a.count, row_some)) a.phase
+        (left_begins (from_slot half w.slot) (row_slots row) rows_behind_row (64 * w.left) row_whole
+        (omega (arith, row_count, a.count)))
+        a.keep.0 a.of_version.0 row_keeps)
+        (ap (λ (r : List BareRow). rows_after_all r (flat_map (λ group. group) groups)) joined) refl
+        (finds (after_row first w row) live groups behind (rows ++ row ∷ []) base
+        (omega (arith, at, row_some)) record {
+          count = omega (arith, a.count);
+          phase = a.phase;
+          rows_are = placed_more (first + w.slot) w.rows row
+              ∙ ap (λ (r : List BareRow). r ++ row ∷ []) a.rows_are;
+          base_is = a.base_is;
+          keep = a.keep.2;
+          of_version = a.of_version.1;
+          groups_keep = subst (λ (r : List BareRow). GroupsKeep sizes r base groups) (sym joined)
+              a.groups_keep;
+          groups_of_version = a.groups_of_version;
+          bytes = row_front.behind;
+          end = a.end;
+        })
+
+  pub live_found : (turns : ℕ) → FindsLive turns
+  live_found turns w [] groups behind rows base at a =
       let none : 0 ≡ w.left = a.count in
       let same : rows ++ [] ≡ rows = append-nil rows in
-      let r = groups_found more w [] groups behind rows base base at record {
+      let r = groups_found turns w [] groups behind rows base base at record {
         count = none;
         phase = inl (sym none);
         rows_are = a.rows_are;
         number_is = a.base_is;
         middle_is = omega arith;
         keep = tt;
+        of_version = tt;
         groups_keep =
             subst (λ (r : List BareRow). GroupsKeep sizes r base groups) same a.groups_keep;
+        groups_of_version = a.groups_of_version;
         bytes = a.bytes;
         end = a.end;
       } in record {
@@ -387,17 +502,7 @@ module _ (sizes : Sizes) (first : ℕ) (half : List ℕ) (long : length half ≡
         number_is = r.number_is;
       }
   live_found zero w (row ∷ live) groups behind rows base at a =
-      let all = ap length a.bytes in
-      let parts = length-append (row_slots row ++ flat_map row_slots live)
-      (groups_slots base groups ++ behind) in
-      let front = length-append (row_slots row) (flat_map row_slots live) in
-      absurd (omega (
-        arith,
-        all,
-        parts,
-        front,
-        one_count (entry.Live row) a.keep.0,
-        room w.slot 0 at,
-      ))
-  live_found (suc more) w (row ∷ live) groups behind rows base at a =
-      row_found more (live_found more) w row live groups behind rows base at a
+      absurd (none_left w (slots_of_row row) at (some_slots (entry.Live row))
+      (row_within w row live groups behind rows base a))
+  live_found (suc turns) w (row ∷ live) groups behind rows base at a =
+      row_found w row live groups behind rows base a turns (live_found turns) at

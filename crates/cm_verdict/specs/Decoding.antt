@@ -1,6 +1,7 @@
 -- What bytes spell, as functions: fields are read at their places, and only writing them again
 -- tells whether the bytes are an encoding.
-use Rattle.std.specs.Prelude.{ℕ, zero, suc, ◌+◌, ◌==◌, ◌&&◌, nat_le, Bool, if◌then◌else◌, List, []}
+use Rattle.std.specs.Prelude.{ℕ, zero, suc, ◌≤◌, length, ◌+◌, ◌*◌, ◌==◌, ◌&&◌, nat_le, nat_lt, Bool}
+use Rattle.std.specs.Prelude.{if◌then◌else◌, List, [], ◌++◌}
 use Rattle.std.specs.Prelude.{◌∷◌, take, drop}
 use Rattle.std.specs.Prelude.{Option, Some, None, get_or}
 use Rattle.std.specs.Int.{w16, w32, w64, from_le_bytes}
@@ -17,8 +18,9 @@ use Rattle.cm_layout.specs.declared.relocation.Move.{Move}
 use Rattle.cm_layout.specs.declared.unload_all.UnloadAll.{UnloadAll}
 use Rattle.cm_layout.specs.declared.row.Row.TheVariants.{Loader, Class}
 use Rattle.cm_layout.specs.declared.entry.Entry.TheVariants as entry
-use Rattle.cm_layout.specs.Names.{name_room}
-use Rattle.cm_layout.specs.Slots.{open_gate, half_head_slot, group_head_slot, loader_slot}
+use Rattle.cm_layout.specs.Names.{name_room, limit_of}
+use Rattle.cm_layout.specs.Offsets.{slot_size}
+use Rattle.cm_layout.specs.Slots.{open_gate, half_head_slot, group_head_slot, loader_slots}
 use Rattle.cm_layout.specs.Slots.{class_slot, unload_slot, move_slot}
 use Rattle.cm_layout.specs.Slots.{unload_all_slot, unload_limit}
 use Rattle.cm_layout.specs.Superblock.{superblock_bytes}
@@ -64,16 +66,31 @@ group_head_in slot = if_spelled (group_head_slot (group_head_at slot)) slot (gro
 
 -- ---- rows and entries
 
+-- slots stand one behind another here: those of a row or an entry, and more behind them
+abbrev pub front : List ℕ → List ℕ
+front slots = take slot_size slots
+
 abbrev pub name_size : List ℕ → ℕ
-name_size slot = get_or slot 2 0
+name_size slots = get_or slots 2 0
+
+-- the slots of a loader: two where its name has more bytes than the first has room for
+abbrev pub loader_slots_at : List ℕ → List ℕ
+loader_slots_at slots =
+    take (slot_size * (if nat_lt name_room (name_size slots) then 2 else 1)) slots
+
+-- its name is in the first as far as there is room, and its rest in the second
+abbrev pub name_at : List ℕ → List ℕ
+name_at slots = take (name_size slots) (take name_room (drop 16 slots) ++ drop 80 slots)
 
 abbrev pub loader_at : List ℕ → LoaderRow
-loader_at slot = record { number = eight_at 8 slot; name = take (name_size slot) (drop 16 slot) }
+loader_at slots = record { number = eight_at 8 slots; name = name_at slots }
 
-unfoldable pub loader_in : List ℕ → Option LoaderRow
-loader_in slot =
-    if nat_le (name_size slot) name_room
-    then if_spelled (loader_slot (loader_at slot)) slot (loader_at slot) else None
+abbrev pub loader_of : List ℕ → Option LoaderRow
+loader_of slots = if_spelled (loader_slots (loader_at slots)) slots (loader_at slots)
+
+unfoldable pub loader_in : ℕ → List ℕ → Option LoaderRow
+loader_in version slots =
+    if nat_le (name_size slots) (limit_of version) then loader_of (loader_slots_at slots) else None
 
 abbrev pub chunk_at : ℕ → List ℕ → Chunk
 chunk_at at slot = record {
@@ -127,17 +144,34 @@ unload_all_in slot =
 abbrev pub kind_at : List ℕ → ℕ
 kind_at slot = get_or slot 1 0
 
-unfoldable pub row_in : List ℕ → Option BareRow
-row_in slot =
-    if kind_at slot == 17 then option_map (λ r. Loader r) (loader_in slot)
-    else option_map (λ r. Class r tt) (class_in slot)
+-- the row, and the entry, that slots begin with, of this version
+unfoldable pub row_in : ℕ → List ℕ → Option BareRow
+row_in version slots =
+    if kind_at slots == 17 then option_map (λ r. Loader r) (loader_in version slots)
+    else option_map (λ r. Class r tt) (class_in (front slots))
 
-unfoldable pub entry_in : List ℕ → Option BareEntry
-entry_in slot =
-    if kind_at slot == 19 then option_map (λ e. entry.Unload e) (unload_in slot)
-    else if kind_at slot == 20 then option_map (λ e. entry.Move e) (move_in slot)
-    else if kind_at slot == 21 then option_map (λ e. entry.UnloadAll e) (unload_all_in slot)
-    else option_map (λ r. entry.Live r) (row_in slot)
+unfoldable pub entry_in : ℕ → List ℕ → Option BareEntry
+entry_in version slots =
+    if kind_at slots == 19 then option_map (λ e. entry.Unload e) (unload_in (front slots))
+    else if kind_at slots == 20 then option_map (λ e. entry.Move e) (move_in (front slots))
+    else if kind_at slots == 21
+    then option_map (λ e. entry.UnloadAll e) (unload_all_in (front slots))
+    else option_map (λ r. entry.Live r) (row_in version slots)
+
+-- a row or an entry takes a slot at least, and no more than there are
+pub record AreTaken (slots : List ℕ) (taken : ℕ) : Type 0 where
+  pub some : 1 ≤ taken
+  pub few : slot_size * taken ≤ length slots
+
+-- how many of these slots take a number: all but the rests of names, of which the first version
+-- knows none
+unfoldable pub numbers_in : ℕ → List ℕ → ℕ
+numbers_in zero slots = 0
+numbers_in (suc count) slots =
+    (if kind_at slots == 22 then 0 else 1) + numbers_in count (drop slot_size slots)
+
+abbrev pub numbers_of : ℕ → ℕ → List ℕ → ℕ
+numbers_of version count slots = if version == 1 then count else numbers_in count slots
 
 -- ---- the superblock
 

@@ -1,5 +1,5 @@
 -- A walk in memory, seen as what the definitions say of it.
-use Rattle.std.specs.Prelude.{◌≡◌, ◌≤◌, ◌+◌, ◌^◌, true, false, Result, Ok, Err}
+use Rattle.std.specs.Prelude.{◌≡◌, ◌≤◌, ◌+◌, ◌^◌, true, Result, Ok, Err}
 use Rattle.cm_rows.specs.Rows.{is_above}
 use Rattle.cm_verdict.specs.declared.fault.Damage.{Damage}
 use Rattle.cm_verdict.specs.declared.fault.FileFault.{FileFault}
@@ -10,6 +10,7 @@ use Rattle.cm_verdict.specs.Walk.{Walked, Turn, Stop, Go, Bad}
 
 abbrev pub walked : HalfWalk → Walked
 walked h = record {
+  version = h.version;
   slot = h.slot;
   rows = h.book.rows;
   number = h.number;
@@ -17,22 +18,28 @@ walked h = record {
   left = h.left;
 }
 
--- what holds between two slots: the book is of these sizes, all loaders have numbers of the past,
--- and no number passes its limit before the group ends
+-- what holds between two turns: the book is of these sizes, all loaders have numbers of the past,
+-- each slot behind the base gave one number at most, and what is left lies in the half
 pub record IsSteady (h : HalfWalk) : Type 0 where
   pub sizes : h.book.sizes ≡ h.geometry
   pub above : is_above (h.number + 1) h.book.rows ≡ true
-  pub number : h.number ≤ 2 ^ 63
-  pub group : h.live ≡ false → h.number + h.left ≤ 2 ^ 63
-  pub slot : h.slot ≤ 65536
+  pub number : h.number ≤ 2 ^ 63 + h.slot
+  pub slot : h.slot + h.left ≤ h.geometry.slots
+  pub slots : h.geometry.slots ≤ 65536
   pub first : h.first ≤ 65536
 
--- what a slot of live rows or of a group says
+-- a turn leaves the sizes, the version, and where the half lies as they were
+pub record IsSameWalk (old new : HalfWalk) : Type 0 where
+  pub geometry : new.geometry ≡ old.geometry
+  pub version : new.version ≡ old.version
+  pub first : new.first ≡ old.first
+
+-- what slots of live rows or of a group say
 abbrev pub IsStep : Result (Unit {0}) Damage → Walked → Turn → Type 0
 IsStep (Ok u) next t = t ≡ Go next
 IsStep (Err what) next t = t ≡ Bad what
 
--- what a slot says; where it ends the half, nothing has changed
+-- what the next slots say; where the half ends, nothing has changed
 abbrev pub IsTurn : Result WalkStep Damage → Walked → Walked → Turn → Type 0
 IsTurn (Ok On) old next t = t ≡ Go next
 IsTurn (Ok End) old next t = (t ≡ Stop) × (next ≡ old)

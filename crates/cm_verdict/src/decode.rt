@@ -1,13 +1,16 @@
 //! What slots spell.
 
-ghost use Rattle.std.specs.Prelude.{◌≡◌, ◌<◌, ◌^◌};
+ghost use Rattle.std.specs.Prelude.{◌≡◌, ◌<◌, ◌≤◌, ◌^◌, length, IfSome};
 ghost use Rattle.std.specs.List.{AllByRecursion};
 ghost use Rattle.cm_layout.specs.Slots.{FitsHalfHead, FitsGroupHead, FitsLoader, FitsClass};
 ghost use Rattle.cm_layout.specs.Slots.{FitsUnload, FitsUnloadAll, FitsChunk, FitsMove, FitsRow};
-ghost use Rattle.cm_layout.specs.Slots.{FitsEntry, loader_slots, row_slots, entry_slots};
+ghost use Rattle.cm_layout.specs.Slots.{FitsEntry};
+ghost use Rattle.cm_layout.specs.Offsets.{slot_size};
+ghost use Rattle.cm_layout.specs.Rows.{slots_of_row, slots_of};
 ghost use Rattle.cm_verdict.specs.Decoding.{half_head_in as half_head_spelled};
 ghost use Rattle.cm_verdict.specs.Decoding.{group_head_in as group_head_spelled};
 ghost use Rattle.cm_verdict.specs.Decoding.{row_in as row_spelled, entry_in as entry_spelled};
+ghost use Rattle.cm_verdict.specs.Decoding.{AreTaken};
 
 use cm_layout::{
     ClassRow, Entry, GroupHead, HalfHead, LoaderRow, Move, Row, SLOT_BYTES, Unload, UnloadAll,
@@ -32,20 +35,24 @@ pub(crate) fn group_head_in(slot: &[u8; SLOT_BYTES]) -> Option<GroupHead>
     Some(head)
 }
 
-/// The entry that a slot spells.
-pub(crate) fn entry_in(slot: &[u8; SLOT_BYTES]) -> Option<Entry<()>>
-    ensures { result ≡ entry_spelled slot.now }
+/// The entry of this version that slots begin with.
+pub(crate) fn entry_in(version: u16, slots: &[u8]) -> Option<Entry<()>>
+    requires { slot_size ≤ length slots.now }
+    ensures value { result ≡ entry_spelled version slots.now }
+    ensures taken { IfSome result (λ entry. AreTaken slots.now (slots_of entry)) }
 {
-    let entry = Entry::decode(slot)?;
-    fits_entry(&entry, slot);
+    let entry = Entry::decode(version, slots)?;
+    fits_entry(&entry);
     Some(entry)
 }
 
-/// The live row that a slot spells, that of a loader or of a class.
-pub(crate) fn row_in(slot: &[u8; SLOT_BYTES]) -> Option<Row<()>>
-    ensures { result ≡ row_spelled slot.now }
+/// The live row of this version that slots begin with, that of a loader or of a class.
+pub(crate) fn row_in(version: u16, slots: &[u8]) -> Option<Row<()>>
+    requires { slot_size ≤ length slots.now }
+    ensures value { result ≡ row_spelled version slots.now }
+    ensures taken { IfSome result (λ row. AreTaken slots.now (slots_of_row row)) }
 {
-    let entry = entry_in(slot)?;
+    let entry = entry_in(version, slots)?;
     match entry {
         Entry::Live(row) => Some(row),
         Entry::Unload(_) => None,
@@ -72,9 +79,7 @@ fn fits_group_head(head: &GroupHead)
     let _first = head.first;
 }
 
-// What fills one slot has a name of its room.
-fn fits_loader(row: &LoaderRow, slot: &[u8; SLOT_BYTES])
-    requires { slot.now ≡ loader_slots row.now }
+fn fits_loader(row: &LoaderRow)
     ensures { FitsLoader row.now }
 {
     let _number = row.number;
@@ -126,22 +131,20 @@ fn fits_numbers(numbers: &[u64])
     }
 }
 
-fn fits_row(row: &Row<()>, slot: &[u8; SLOT_BYTES])
-    requires { slot.now ≡ row_slots row.now }
+fn fits_row(row: &Row<()>)
     ensures { FitsRow row.now }
 {
     match row {
-        Row::Loader(row) => fits_loader(row, slot),
+        Row::Loader(row) => fits_loader(row),
         Row::Class(row, _) => fits_class(row),
     }
 }
 
-fn fits_entry(entry: &Entry<()>, slot: &[u8; SLOT_BYTES])
-    requires { slot.now ≡ entry_slots entry.now }
+fn fits_entry(entry: &Entry<()>)
     ensures { FitsEntry entry.now }
 {
     match entry {
-        Entry::Live(row) => fits_row(row, slot),
+        Entry::Live(row) => fits_row(row),
         Entry::Unload(entry) => fits_unload(entry),
         Entry::Move(entry) => fits_move(entry),
         Entry::UnloadAll(entry) => fits_unload_all(entry),

@@ -2,24 +2,27 @@
 
 ghost use Rattle.std.specs.Prelude.{◌≡◌, ◌≤◌, ◌<◌, ◌+◌, ◌*◌, ◌-◌, ◌^◌, [], length, false, true};
 ghost use Rattle.std.specs.Prelude.{OnOk};
-ghost use Rattle.cm_layout.specs.Rules.{row_limit};
+ghost use Rattle.cm_layout.specs.Offsets.{slot_size};
+ghost use Rattle.cm_layout.specs.Frames.{IsGoodHead};
 ghost use Rattle.cm_verdict.specs.Faults.{damage_of as damage_of_rule};
 ghost use Rattle.cm_verdict.specs.Decoding.{row_in as row_spelled, entry_in as entry_spelled};
-ghost use Rattle.cm_verdict.specs.Decoding.{group_head_in as group_head_spelled};
+ghost use Rattle.cm_verdict.specs.Decoding.{group_head_in as group_head_spelled, numbers_in};
+ghost use Rattle.cm_verdict.specs.Decoding.{numbers_of};
 ghost use Rattle.cm_verdict.specs.Walk.{placed_row as placed_row_at};
 ghost use Rattle.cm_verdict.specs.Walk.{placed_entry as placed_entry_at, live_turn as live_turn_of};
 ghost use Rattle.cm_verdict.specs.Walk.{entry_turn as entry_turn_of, is_good_group};
-ghost use Rattle.cm_verdict.specs.Walk.{gate_turn as gate_turn_of, turn as turn_of, slot_of, walk};
+ghost use Rattle.cm_verdict.specs.Walk.{gate_turn as gate_turn_of, turn as turn_of, walk};
 ghost use Rattle.cm_verdict.specs.Walk.{start, first_slot as first_slot_of};
 ghost use Rattle.cm_verdict.specs.Found.{walk_through as walk_through_of};
-ghost use Rattle.cm_verdict.specs.Walking.{walked, IsSteady, IsStep, IsTurn, IsWalk};
+ghost use Rattle.cm_verdict.specs.Walking.{walked, IsSteady, IsSameWalk, IsStep, IsTurn, IsWalk};
 
 use crate::counting::Counting;
 use crate::decode::{entry_in, group_head_in, row_in};
 use crate::defined_at::DefinedAt;
 use crate::fault::{Damage, FileFault};
 use cm_layout::{
-    Entry, EntryRule, GROUP_SLOTS, GroupHead, Half, LAST_NUMBER, OPEN_GATE, Row, SLOT_BYTES,
+    Entry, EntryRule, GROUP_SLOTS, GroupHead, Half, LAST_NUMBER, OLDEST_VERSION, OPEN_GATE, Row,
+    SLOT_BYTES, front_slot, is_rest,
 };
 use cm_pool::Geometry;
 use cm_rows::Book;
@@ -28,6 +31,8 @@ use cm_rows::Book;
 #[derive(Drop)]
 pub struct HalfWalk {
     geometry: Geometry,
+    /// The version of the half's entries.
+    version: u16,
     /// What lives.
     book: Book<DefinedAt>,
     /// The number of the half's slot 0, counted over both halves.
@@ -42,7 +47,7 @@ pub struct HalfWalk {
     left: u32,
 }
 
-/// How a walk goes on behind a slot.
+/// How a walk goes on.
 #[derive(Clone, Copy, Debug, PartialEq, Eq)]
 enum WalkStep {
     On,
@@ -103,84 +108,91 @@ impl HalfWalk {
         self.book
     }
 
-    // A live row.
-    fn live_turn(&mut self, slot: &[u8; SLOT_BYTES]) -> Result<(), Damage>
+    // A live row. The slots are those of the live rows that are still to come.
+    fn live_turn(&mut self, slots: &[u8]) -> Result<(), Damage>
         requires steady { IsSteady self.old }
         requires live { self.old.live ≡ true }
         requires some { 1 ≤ self.old.left }
-        requires room { self.old.slot < 65536 }
+        requires slots { length slots.now ≡ slot_size * self.old.left }
         ensures turned { IsStep result (walked self.new)
             (live_turn_of self.old.geometry self.old.first (walked self.old)
-            (row_spelled slot.now)) }
+            (row_spelled self.old.version slots.now)) }
         ensures steady { OnOk result (IsSteady self.new) }
-        ensures kept { (self.new.geometry ≡ self.old.geometry) × (self.new.first ≡ self.old.first) }
+        ensures kept { IsSameWalk self.old self.new }
     {
-        let Some(row) = row_in(slot) else {
+        let Some(row) = row_in(self.version, slots) else {
             return Err(Damage::Slot);
         };
+        let taken = row.slots() as u32;
         let row = placed_row(self.first + self.slot, row);
         if let Some(rule) = self.book.apply_live(self.number, row) {
             return Err(damage_of(rule));
         }
-        self.slot += 1;
-        self.left -= 1;
+        self.slot += taken;
+        self.left -= taken;
         Ok(())
     }
 
-    // An entry of a group.
-    fn entry_turn(&mut self, slot: &[u8; SLOT_BYTES]) -> Result<(), Damage>
+    // An entry of a group. The slots are those of the group that are still to come.
+    fn entry_turn(&mut self, slots: &[u8]) -> Result<(), Damage>
         requires steady { IsSteady self.old }
         requires live { self.old.live ≡ false }
         requires some { 1 ≤ self.old.left }
-        requires room { self.old.slot < 65536 }
+        requires slots { length slots.now ≡ slot_size * self.old.left }
         ensures turned { IsStep result (walked self.new)
             (entry_turn_of self.old.geometry self.old.first (walked self.old)
-            (entry_spelled slot.now)) }
+            (entry_spelled self.old.version slots.now)) }
         ensures steady { OnOk result (IsSteady self.new) }
-        ensures kept { (self.new.geometry ≡ self.old.geometry) × (self.new.first ≡ self.old.first) }
+        ensures kept { IsSameWalk self.old self.new }
     {
-        let Some(entry) = entry_in(slot) else {
+        let Some(entry) = entry_in(self.version, slots) else {
             return Err(Damage::Slot);
         };
+        let taken = entry.slots() as u32;
         let entry = placed_entry(self.first + self.slot, entry);
         if let Some(rule) = self.book.apply(self.number + 1, entry) {
             return Err(damage_of(rule));
         }
-        self.slot += 1;
+        self.slot += taken;
         self.number += 1;
-        self.left -= 1;
+        self.left -= taken;
         Ok(())
     }
 
-    // Whether the head of a group is good that stands in the next slot.
-    fn is_good_group(&self, head: &GroupHead) -> bool
-        requires { IsSteady self.now }
-        ensures { result ≡ is_good_group self.now.geometry (walked self.now) head.now }
+    // Whether the head of a group is good that stands in the next slot, with these slots behind it.
+    fn is_good_group(&self, head: &GroupHead, entries: &[u8]) -> bool
+        requires steady { IsSteady self.now }
+        requires entries { length entries.now + slot_size * (self.now.slot + 1)
+            ≡ slot_size * self.now.geometry.slots }
+        ensures { result ≡ is_good_group self.now.geometry (walked self.now) head.now entries.now }
     {
         let count = u32::from(head.count);
         count >= 1
             && count as usize <= GROUP_SLOTS
             && self.slot + count <= self.geometry.slots() - 1
             && head.first == self.number + 1
-            && self.number + u64::from(head.count) <= LAST_NUMBER
+            && self.number + numbers_of(self.version, head.count, entries) <= LAST_NUMBER
     }
 
     // A gate: the head of a group, or the half's end.
-    fn gate_turn(&mut self, slot: &[u8; SLOT_BYTES]) -> Result<WalkStep, Damage>
+    fn gate_turn(&mut self, slots: &[u8]) -> Result<WalkStep, Damage>
         requires steady { IsSteady self.old }
-        requires room { self.old.slot < 65536 }
+        requires none { self.old.left ≡ 0 }
+        requires some { self.old.slot < self.old.geometry.slots }
+        requires slots { length slots.now + slot_size * self.old.slot
+            ≡ slot_size * self.old.geometry.slots }
         ensures turned { IsTurn result (walked self.old) (walked self.new)
-            (gate_turn_of self.old.geometry (walked self.old) slot.now) }
+            (gate_turn_of self.old.geometry (walked self.old) slots.now) }
         ensures steady { OnOk result (IsSteady self.new) }
-        ensures kept { (self.new.geometry ≡ self.old.geometry) × (self.new.first ≡ self.old.first) }
+        ensures kept { IsSameWalk self.old self.new }
     {
-        if slot[0] != OPEN_GATE {
+        if slots[0] != OPEN_GATE {
             return Ok(WalkStep::End);
         }
-        let Some(head) = group_head_in(slot) else {
+        let Some(head) = group_head_in(front_slot(slots)) else {
             return Err(Damage::Head);
         };
-        if !self.is_good_group(&head) {
+        if !self.is_good_group(&head, &slots[SLOT_BYTES..]) {
             return Err(Damage::Head);
         }
         self.slot += 1;
@@ -189,23 +201,26 @@ impl HalfWalk {
         Ok(WalkStep::On)
     }
 
-    // What the next slot says.
+    // What the slots from here on say first.
     #[tactic(auto, unfolding(crate::specs::Walk::turn))]
-    fn turn(&mut self, slot: &[u8; SLOT_BYTES]) -> Result<WalkStep, Damage>
+    fn turn(&mut self, slots: &[u8]) -> Result<WalkStep, Damage>
         requires steady { IsSteady self.old }
-        requires room { self.old.slot < 65536 }
+        requires some { self.old.slot < self.old.geometry.slots }
+        requires slots { length slots.now + slot_size * self.old.slot
+            ≡ slot_size * self.old.geometry.slots }
         ensures turned { IsTurn result (walked self.old) (walked self.new)
-            (turn_of self.old.geometry self.old.first (walked self.old) slot.now) }
+            (turn_of self.old.geometry self.old.first (walked self.old) slots.now) }
         ensures steady { OnOk result (IsSteady self.new) }
-        ensures kept { (self.new.geometry ≡ self.old.geometry) × (self.new.first ≡ self.old.first) }
+        ensures kept { IsSameWalk self.old self.new }
     {
         if self.left == 0 {
-            return self.gate_turn(slot);
+            return self.gate_turn(slots);
         }
+        let left = &slots[..SLOT_BYTES * self.left as usize];
         if self.live {
-            self.live_turn(slot)?;
+            self.live_turn(left)?;
         } else {
-            self.entry_turn(slot)?;
+            self.entry_turn(left)?;
         }
         Ok(WalkStep::On)
     }
@@ -213,7 +228,7 @@ impl HalfWalk {
     // The beginning of a walk through the half that counts, behind its head.
     fn new(geometry: Geometry, book: Book<DefinedAt>, counts: &Counting) -> HalfWalk
         requires book { book ≡ record { sizes = geometry; rows = [] } }
-        requires base { counts.now.head.base ≤ 2 ^ 63 }
+        requires good { IsGoodHead geometry counts.now.head }
         ensures walked { walked result ≡ start counts.now.head }
         ensures half { result.first ≡ first_slot_of geometry counts.now.half }
         ensures geometry { result.geometry ≡ geometry }
@@ -226,6 +241,7 @@ impl HalfWalk {
         };
         HalfWalk {
             geometry,
+            version: counts.head.version,
             book,
             first,
             slot: 1,
@@ -243,14 +259,18 @@ impl HalfWalk {
         ensures { IsWalk result (walk self.geometry self.first half.now (self.geometry.slots - 1)
             (walked self)) }
     {
-        let first = self.first;
-        for at in 1..self.geometry.slots() {
-            match self.turn(slot_at(half, at)) {
+        // A turn takes a slot at least, and two where a loader has a long name.
+        for _turn in 1..self.geometry.slots() {
+            let at = self.slot;
+            if at >= self.geometry.slots() {
+                return Ok(self);
+            }
+            match self.turn(&half[SLOT_BYTES * at as usize..]) {
                 Ok(WalkStep::On) => {}
                 Ok(WalkStep::End) => return Ok(self),
                 Err(what) => return Err(FileFault::Damaged {
                     what,
-                    slot: first + at,
+                    slot: self.first + at,
                 }),
             }
         }
@@ -268,21 +288,37 @@ pub fn walk_through(
     half: &[u8],
 ) -> Result<HalfWalk, FileFault>
     requires book { book ≡ record { sizes = geometry; rows = [] } }
-    requires base { counts.now.head.base ≤ 2 ^ 63 }
+    requires good { IsGoodHead geometry counts.now.head }
     requires long { length half.now ≡ 64 * geometry.slots }
     ensures { IsWalk result (walk_through_of geometry counts.now half.now) }
 {
     HalfWalk::new(geometry, book, counts).walk_all(half)
 }
 
-// A slot of a half.
-fn slot_at(half: &[u8], at: u32) -> &[u8; SLOT_BYTES]
-    requires { 64 * at + 64 ≤ length half.now }
-    ensures { result.now ≡ slot_of half.now at }
+// How many of a group's slots take a number: all but the rests of names, of which the oldest
+// version knows none.
+fn numbers_of(version: u16, count: u16, slots: &[u8]) -> u64
+    requires { slot_size * count ≤ length slots.now }
+    ensures value { result ≡ numbers_of version count slots.now }
+    ensures few { result ≤ count }
 {
-    let rest = &half[SLOT_BYTES * at as usize..];
-    match rest.first_chunk::<SLOT_BYTES>() {
-        Some(slot) => slot,
-        None => unreachable!(),
+    if version == OLDEST_VERSION {
+        u64::from(count)
+    } else {
+        numbers_in(count, slots)
     }
+}
+
+fn numbers_in(count: u16, slots: &[u8]) -> u64
+    requires { slot_size * count ≤ length slots.now }
+    ensures value { result ≡ numbers_in count slots.now }
+    ensures few { result ≤ count }
+{
+    let mut numbers = 0;
+    for slot in 0..usize::from(count) {
+        if !is_rest(front_slot(&slots[SLOT_BYTES * slot..])) {
+            numbers += 1;
+        }
+    }
+    numbers
 }

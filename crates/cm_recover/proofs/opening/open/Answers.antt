@@ -1,4 +1,4 @@
-use Rattle.std.proofs.Common.{◌≡◌, refl, sym, ap, ◌∙◌}
+use Rattle.std.proofs.Common.{◌≡◌, refl, ap}
 use Rattle.cm_guards.proofs.{contents_are_image}
 use Rattle.cm_commit.specs.States.{CommitterState}
 use Rattle.cm_recover.specs.declared.fault.OpenFault.TheVariants as open_fault

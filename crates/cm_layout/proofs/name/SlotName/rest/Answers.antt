@@ -1,4 +1,4 @@
-use Rattle.std.proofs.Common.{drop, ap, ◌∙◌, refl}
+use Rattle.std.proofs.Common.{drop, ap, ◌∙◌}
 use Rattle.cm_layout.proofs.Padded.{padded-is, all_left}
 use Rattle.cm_layout.proofs.name.SlotName.rest.Goals as goal
 
