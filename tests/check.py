@@ -32,6 +32,8 @@ SCRIPTS = [
     f"loader a\nloader b\ndefine a {A}\ndefine b {A}\nloader c\nunloadall c a\ndefine b {B}\n",
     # The second class moves to a smaller chunk.
     f"loader a\ndefine a {A}\ndefine a {runs.padded(b'B', 864).hex()}\ntighten a\n",
+    # Loaders of long names take two slots.
+    f"loader {'m' * 49}\nloader {'n' * 48}\nloader {'n' * 96}\ndefine {'m' * 49} {A}\n",
 ]
 
 
@@ -77,26 +79,32 @@ ROOTS = region.SUPERBLOCK + 2 * 256 * region.SLOT
 VALUES = 0x00, 0x01, 0x02, 0x11, 0x7F, 0x80, 0xA4, 0xA5, 0xFE, 0xFF
 
 
+# Names that take two slots.
+LONG, LONGEST = b"m" * 49, b"n" * 96
+
+
 def whole_file():
-    """A file with an entry of each kind. Half 1 counts, of which a loader and a class live; half 0
-    is an older one."""
+    """A file with an entry of each kind. Half 1 counts, of which two loaders and a class live; half
+    0 is an older one."""
     one, two = (oracle.read_shape(bytes.fromhex(text))[0].record() for text in (A, B))
     first, second, third = (0, 0, 0), (0, 0, 128), (0, 1, 256)
     slots = [
-        region.head_slot(2, 2, 3, gate=region.OPEN),
-        region.entry_slot(("loader", 1, b"a")),
-        region.entry_slot(("define", 1, first, 0, one)),
-        region.group_slot(8, 4, gate=region.OPEN),
-        region.entry_slot(("loader", 4, b"b")),
-        region.entry_slot(("define", 4, second, 0, one)),
-        region.entry_slot(("loader", 6, b"c")),
-        region.entry_slot(("unload", 6)),
+        region.head_slot(4, 2, 3, gate=region.OPEN),
+        region.entry_slots(("loader", 1, b"a")),
+        region.entry_slots(("loader", 3, LONG)),
+        region.entry_slots(("define", 1, first, 0, one)),
+        region.group_slot(10, 4, gate=region.OPEN),
+        region.entry_slots(("loader", 4, b"b")),
+        region.entry_slots(("define", 4, second, 0, one)),
+        region.entry_slots(("loader", 6, b"c")),
+        region.entry_slots(("unload", 6)),
         region.spelled(region.MOVE, "6xQIIIIII", 1, *first, *third),
-        region.entry_slot(("loader", 9, b"d")),
-        region.entry_slot(("loader", 10, b"e")),
-        region.entry_slot(("unloadall", [10, 9])),
-        region.group_slot(1, 12, gate=region.OPEN),
-        region.entry_slot(("define", 1, third, len(one), two)),
+        region.entry_slots(("loader", 9, b"d")),
+        region.entry_slots(("loader", 10, b"e")),
+        region.entry_slots(("unloadall", [10, 9])),
+        region.entry_slots(("loader", 12, LONGEST)),
+        region.group_slot(1, 13, gate=region.OPEN),
+        region.entry_slots(("define", 1, third, len(one), two)),
     ]
     data = region.Region(oracle.Geometry(3, 1, 256)).bytes + bytes(8 * 1024)
     data[HALVES[1]:HALVES[1] + region.SLOT * len(slots)] = b"".join(slots)
@@ -105,7 +113,10 @@ def whole_file():
     return data
 
 
-WHOLE = b"ok loaders 2 classes 3 chunks 2 number 12\n"
+WHOLE = b"ok loaders 4 classes 3 chunks 2 number 13\n"
+
+# The slots of half 1 where the name of a loader has more bytes than need each of the values.
+NAME_SLOTS = 2, 3, 14, 15
 
 
 def changes():
@@ -115,11 +126,14 @@ def changes():
     data = whole_file()
     zeros = range(32, region.SUPERBLOCK - 8)
     used = [*range(32), *range(zeros.stop, HALVES[0] + 2 * region.SLOT),
-            *range(HALVES[1], HALVES[1] + 15 * region.SLOT)]
+            *range(HALVES[1], HALVES[1] + 19 * region.SLOT)]
     used += [ROOTS + 8 * at + byte for begin, end in ((128, 145), (256, 289))
              for at in range(begin, end) for byte in range(8)]
+    names = {HALVES[1] + region.SLOT * slot + byte for slot in NAME_SLOTS
+             for byte in range(17, region.SLOT - 1)}
     for at in used:
-        for value in sorted({*VALUES, (data[at] + 1) % 256} - {data[at]}):
+        values = {0x00, 0x20, 0x7F} if at in names else {*VALUES, (data[at] + 1) % 256}
+        for value in sorted(values - {data[at]}):
             yield at, value
     for at in zeros:
         yield at, 1

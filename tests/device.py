@@ -22,30 +22,32 @@ import runs
 
 PIECE = 65_536
 SMALL = oracle.Geometry(top=3, roots=8, slots=256)
+# A name that takes two slots of the journal.
+EXT = runs.LONG_LOADERS[-1]
 SCRIPT = [
     b"loader app",
     runs.define(b"app", b"A", 0),
     runs.define(b"app", b"B", 900),
     b"find app B",
-    b"loader ext",
-    runs.define(b"ext", b"A", 8000),
+    b"loader " + EXT,
+    runs.define(EXT, b"A", 8000),
     runs.define(b"app", b"B", 0),
     b"unload app",
     b"loader app",
     runs.define(b"app", b"C", 3000),
     b"find app B",
-    b"unload ext",
+    b"unload " + EXT,
     runs.define(b"app", b"A", 5000),
-    b"loader ext",
-    runs.define(b"ext", b"A", 864),
-    runs.define(b"ext", b"D", 0),
-    runs.define(b"ext", b"E", 0),
+    b"loader " + EXT,
+    runs.define(EXT, b"A", 864),
+    runs.define(EXT, b"D", 0),
+    runs.define(EXT, b"E", 0),
     # Two records move; then there is no better chunk.
-    b"tighten ext",
-    b"tighten ext",
-    b"find ext E",
-    b"unloadall ext app",
-    b"find ext E",
+    b"tighten " + EXT,
+    b"tighten " + EXT,
+    b"find " + EXT + b" E",
+    b"unloadall " + EXT + b" app",
+    b"find " + EXT + b" E",
     b"loader app",
 ]
 # So many commands come before it that the journal is written anew in the midst of it, into a half

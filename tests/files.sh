@@ -325,6 +325,86 @@ run list "$work/older"
 [ "$status" = 0 ]
 check_last "what is moved over is listed without a right to write"
 
+# ---- names that take two slots of the journal
+
+# name X N: a name of so many bytes.
+name() {
+    printf "$1%.0s" $(seq "$2")
+}
+
+long=$work/long
+: >"$work/in"
+run format "$long" --top 3 --roots 1 --slots 256
+{
+    for at in $(seq 10 73); do
+        printf 'loader %s%s\n' "$(name l 94)" "$at"
+    done
+    printf 'loader a\nloader %s\nunload %s10\nloader a\n' "$(name m 97)" "$(name l 94)"
+    printf 'loader %s\nloader %s\nloader b\n' "$(name m 49)" "$(name m 48)"
+} >"$work/in"
+run apply "$long"
+{
+    printf 'ok %s\n' $(seq 64)
+    printf '%s\n' 'refused 7 journal full' 'refused 1 name' 'ok 65' 'ok 66' \
+        'refused 7 journal full' 'ok 67' 'refused 7 journal full'
+} >"$work/want"
+check "64 loaders of 96 bytes, and no room for a name of one" 1
+run check "$long"
+check_says "a file of long names" 0 "ok loaders 65 classes 0 chunks 0 number 67"
+[ "$(python3 tests/region.py check "$long")" = "$(cat "$work/got")" ]
+check_last "a file of long names: the verdict"
+python3 tests/region.py list "$long" >"$work/list"
+
+# Groups up to the half's end and beyond: half 1 counts then, behind a checkpoint.
+for at in $(seq 40); do printf 'unload a\nloader a\n'; done >"$work/in"
+run apply "$long"
+printf 'ok %s\n' $(seq 68 147) >"$work/want"
+check "a checkpoint with long names" 0
+cp "$work/list" "$work/want"
+run list "$long"
+check "a checkpoint with long names: the list" 0
+[ "$(od -An -tu1 -j $((4096 + 64 * 256)) -N 5 "$long" | tr -s ' ')" = " 165 1 2 0 128" ]
+check_last "a checkpoint with long names: half 1 counts slots"
+[ "$(python3 tests/region.py list "$long" | cmp - "$work/list")" = "" ]
+check_last "a checkpoint with long names: the file"
+
+: >"$work/in"
+# spoiled NAME WORDS OFFSET BYTES [FILE]: a file of two names of 49 bytes, the second without its
+# rest where told so by a file, with bytes changed.
+spoiled() {
+    printf 'loader %s\nloader %s\nloader a\n' "$(name m 49)" "$(name n 49)" |
+        python3 tests/region.py after >"$work/spoiled"
+    printf '%b' "$4" | dd of="$work/spoiled" bs=1 seek="$3" conv=notrunc status=none
+    cp "$work/spoiled" "$work/kept"
+    run check "$work/spoiled"
+    check_says "$1" 1 "$2"
+    [ "$(python3 tests/region.py check "$work/spoiled")" = "$2" ]
+    check_last "$1: the verdict"
+}
+# Slots 1 to 3 are a head, a loader and the rest of its name; so are 4 to 6; 7 and 8 are a head and
+# a loader.
+spoiled "a name without its rest" "damaged 5 2" $((4096 + 64 * 3 + 1)) '\x13'
+spoiled "a rest of another kind" "damaged 5 2" $((4096 + 64 * 3 + 1)) '\x11'
+spoiled "a rest that isn't zeros" "damaged 5 2" $((4096 + 64 * 3 + 17)) 'm'
+spoiled "a rest with another first byte" "damaged 5 2" $((4096 + 64 * 3)) '\x01'
+spoiled "a name that ends in another slot" "damaged 5 2" $((4096 + 64 * 2 + 2)) '\x30'
+spoiled "a space in the first slot" "damaged 6 2" $((4096 + 64 * 2 + 16)) ' '
+spoiled "a space in the rest" "damaged 6 2" $((4096 + 64 * 3 + 16)) ' '
+spoiled "7F in the rest" "damaged 6 5" $((4096 + 64 * 6 + 16)) '\x7f'
+spoiled "a rest of its own" "damaged 5 8" $((4096 + 64 * 8 + 1)) '\x16'
+spoiled "a group that ends before the rest" "damaged 5 2" $((4096 + 64 + 2)) '\x01'
+spoiled "a name of 97 bytes" "damaged 5 5" $((4096 + 64 * 5 + 2)) 'a'
+python3 tests/region.py new 8 64 4096 >"$work/older"
+printf '\x01' | dd of="$work/older" bs=1 seek=4098 conv=notrunc status=none
+printf 'loader app\n' | python3 tests/region.py after >"$work/moved"
+tail -c +$((4096 + 64 + 1)) "$work/moved" |
+    dd of="$work/older" bs=64 seek=65 conv=notrunc status=none
+printf '1' | dd of="$work/older" bs=1 seek=$((4096 + 64 * 2 + 2)) conv=notrunc status=none
+run check "$work/older"
+check_says "a name of 49 bytes in a file of version 1" 1 "damaged 5 2"
+[ "$(python3 tests/region.py check "$work/older")" = "damaged 5 2" ]
+check_last "a name of 49 bytes in a file of version 1: the verdict"
+
 # ---- what isn't opened
 
 : >"$work/in"

@@ -22,6 +22,7 @@ NO_SPACE = "No space left on device (os error 28)"
 SMALL = oracle.Geometry(top=3, roots=8, slots=256)
 SCRIPT = [
     b"loader app",
+    b"loader " + runs.LONG_LOADERS[-1],
     runs.define(b"app", b"A", 0),
     runs.define(b"app", b"B", 3000),
     runs.define(b"app", b"C", 8000),

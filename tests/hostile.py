@@ -167,6 +167,13 @@ def scripts():
         [{}, {"a": {}}, {"a": {}, "b": {}}, {"a": {"A": 16}, "b": {}},
          {"a": {"A": 16}, "b": {"A": 16}}, {}],
         23, [("a", "A"), ("b", "A")])
+    long, longest = "m" * 49, "n" * 96
+    yield Script(
+        "names that take two slots", USUAL,
+        one_by_one([loader(long.encode()), define(long.encode(), A), loader(longest.encode()),
+                    b"unload " + long.encode()], [4, 6, 4, 4]),
+        [{}, {long: {}}, {long: {"A": 16}}, {long: {"A": 16}, longest: {}}, {longest: {}}],
+        18, [(long, "A"), (longest, "A")])
     yield Script(
         "a trim", USUAL,
         one_by_one([loader(b"a"), define(b"a", A), b"unload a"], [4, 6, 4]) + [b"trim", None, None]
@@ -319,24 +326,27 @@ def check_changed_files(checks, program, folder):
 # ---- files that no short script leaves
 
 def check_whole_file(checks, program, folder):
-    """Half 1 counts, half 0 is an older one; two live rows, two groups, an unload and a move."""
+    """Half 1 counts, half 0 is an older one; three live rows, two groups, an unload and a move; two
+    of the loaders have names that take two slots."""
     path = os.path.join(folder, "halves")
     with open(path, "wb") as file:
         file.write(check.whole_file())
     got = runs.run(program, ["list", path])
     checks.check("a list of half 1", got == (
         [b"loader a", b"class A words 16 root 0 at 256", b"class B words 16 root 0 at 272",
-         b"loader b", b"class A words 16 root 0 at 128"], 0, ""), got)
+         b"loader b", b"class A words 16 root 0 at 128", loader(b"m" * 49), loader(b"n" * 96)], 0,
+        ""), got)
     got = runs.run(program, ["apply", path],
                    [b"find a B", loader(b"c"), define(b"c", A), b"unload b", b"tighten a"])
     checks.check("half 1 goes on", got == (
-        [b"class B flags 0021 super java/lang/Object words 16", b"ok 13", b"ok 14 A", b"ok 15",
-         b"ok 16"], 0, ""), got)
+        [b"class B flags 0021 super java/lang/Object words 16", b"ok 14", b"ok 15 A", b"ok 16",
+         b"ok 17"], 0, ""), got)
     # Both records of `a` fit into one block, and what `b` left is free.
     got = runs.run(program, ["list", path])
     checks.check("what it holds then", got == (
         [b"loader a", b"class A words 16 root 0 at 128", b"class B words 16 root 0 at 144",
-         b"loader c", b"class A words 16 root 0 at 0"], 0, ""), got)
+         b"loader c", b"class A words 16 root 0 at 0", loader(b"m" * 49), loader(b"n" * 96)], 0,
+        ""), got)
 
 
 def check_odd_files(checks, program, folder):

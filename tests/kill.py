@@ -63,10 +63,10 @@ def killed(words, lines, delay):
     return out.split(b"\n")[:-1], status == -9
 
 
-def kill_apply(checks, program, words, cache, rng, longest):
+def kill_apply(checks, program, words, cache, loaders, rng, longest):
     """Whether the run was killed, and whether all that it left is right."""
     path = words[1]
-    lines = [runs.some_line(rng) for _ in range(LINES)]
+    lines = [runs.some_line(rng, loaders) for _ in range(LINES)]
     replies, was_hit = killed([program, *words], lines, rng.uniform(0, longest))
     cache.reopened()
     wanted = [cache.answer(line) for line in lines[:len(replies)]]
@@ -97,8 +97,12 @@ def kill_trim(checks, program, path, cache, rng, longest):
 
 def made_older(path):
     """Makes the file one of the version before, whose entries are spelled alike; not where a half's
-    epoch is one that only the newer version has. Whether it is one now."""
+    epoch, or a name that takes two slots, is one that only the newer version has. Whether it is one
+    now."""
     file = region.read(path)
+    first = file.slots * file.half
+    if any(file.slot(first + place)[1] == region.REST for place in range(1, file.end)):
+        return False
     data = bytearray(file.data)
     for half in (0, 1):
         at = region.SUPERBLOCK + region.SLOT * file.slots * half
@@ -147,24 +151,27 @@ def main(program, kills, seed, further):
         # How long a run takes that only opens, and one of all lines: kills come at any moment
         # of it.
         runs.run(program, ["format", path])
-        lines = [runs.some_line(rng) for _ in range(LINES)]
+        lines = [runs.some_line(rng, runs.LOADERS) for _ in range(LINES)]
         words = ["apply", path, *further]
         longest = 1.1 * time_of(lambda: runs.run(program, words, lines))
         making = 1.1 * time_of(lambda: runs.run(program, ["format", other]))
         os.remove(other)
         hits = done = 0
         delay = longest
-        cache = None
+        cache = loaders = None
         while hits < kills and done < 3 * kills:
             if cache is None or done % KILLS_A_FILE == 0:
-                geometry = GEOMETRIES[done // KILLS_A_FILE % len(GEOMETRIES)]
+                files = done // KILLS_A_FILE
+                geometry = GEOMETRIES[files % len(GEOMETRIES)]
+                # Only a file without long names can be made one of the version before.
+                loaders = runs.LONG_LOADERS if files % 2 else runs.LOADERS
                 cache = runs.new_cache(geometry)
                 os.remove(path)
                 if not checks.check(
                         "format",
                         runs.run(program, format_words(path, geometry)) == ([b"ok"], 0, "")):
                     break
-            was_hit, good = kill_apply(checks, program, words, cache, rng, delay)
+            was_hit, good = kill_apply(checks, program, words, cache, loaders, rng, delay)
             hits += was_hit
             done += 1
             good = good and kill_trim(checks, program, path, cache, rng, making)

@@ -14,6 +14,8 @@ import sys
 LINE_LIMIT = 16_777_216
 RECORD_LIMIT = 524_288
 UNIT = 128  # words of the least chunk
+NAME_LIMIT = 96  # bytes of a loader's name
+NAME_ROOM = 48  # and how many of them a slot of the journal has room for
 
 
 # ---- the shape of a class file
@@ -655,6 +657,15 @@ def escaped(name):
     return b"".join(bytes([b]) if 0x21 <= b <= 0x7e and b != 0x25 else b"%%%02X" % b for b in name)
 
 
+def is_loader_name(name):
+    return 1 <= len(name) <= NAME_LIMIT and all(0x21 <= byte <= 0x7e for byte in name)
+
+
+def slots_of_name(name):
+    """How many slots of the journal a loader of this name takes."""
+    return 2 if len(name) > NAME_ROOM else 1
+
+
 ESCAPES = re.compile(rb"(?:[\x21-\x24\x26-\x7e]|%[0-9A-Fa-f]{2})+")
 
 
@@ -799,15 +810,18 @@ class Cache:
         return self
 
     def check_name(self, name):
-        if not re.fullmatch(rb"[\x21-\x7e]{1,48}", name):
+        if not is_loader_name(name):
             raise Refused("1 name")
 
-    def check_room(self):
-        if len(self.loaders) + self.classes() >= self.geometry.slots // 2:
+    def check_room(self, slots):
+        """What lives takes at most half the slots of a half of the journal."""
+        if self.slots() + slots > self.geometry.slots // 2:
             raise Refused("7 journal full")
 
-    def classes(self):
-        return sum(len(loader.classes) for loader in self.loaders.values())
+    def slots(self):
+        """How many slots the loaders and classes take that live."""
+        return (sum(map(slots_of_name, self.loaders))
+                + sum(len(loader.classes) for loader in self.loaders.values()))
 
     def named(self, name):
         self.check_name(name)
@@ -824,7 +838,7 @@ class Cache:
         self.check_name(name)
         if name in self.loaders:
             raise Refused("2 loader exists")
-        self.check_room()
+        self.check_room(slots_of_name(name))
         number = self.done("loader", self.number + 1, name)
         self.loaders[name] = Loader(number)
         return b"ok %d" % number
@@ -876,7 +890,7 @@ class Cache:
             raise Refused("4 class exists")
         if len(words) > UNIT << self.geometry.top:
             raise Refused("5 record too long")
-        self.check_room()
+        self.check_room(1)
         chunk, offset = loader.arena.place(len(words), self.pool, self.geometry.top)
         super_name = escaped(found.class_name(found.super_class)) if found.super_class else b"-"
         told = b"flags %04x super %s words %d" % (found.flags, super_name, len(words))

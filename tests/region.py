@@ -24,7 +24,7 @@ SUPERBLOCK = 4096
 SLOT = 64
 NUMBERS = 2 ** 63
 HEAD, GROUP, LOADER, DEFINE, UNLOAD, MOVE = 0x01, 0x02, 0x11, 0x12, 0x13, 0x14
-UNLOAD_ALL = 0x15
+UNLOAD_ALL, REST = 0x15, 0x16
 # The version of entries that is written; files of the one before are read, and moved over.
 VERSION = 2
 
@@ -58,11 +58,19 @@ def group_slot(count, first, gate=0):
     return spelled(GROUP, "H4xQ", count, first, gate=gate)
 
 
-def entry_slot(entry):
+def rest_slot(rest):
+    """The slot with those bytes of a loader's name that its own has no room for."""
+    return spelled(REST, "")[:16] + rest.ljust(48, b"\0")
+
+
+def entry_slots(entry):
+    """The slot of an entry, or the two that a loader of a long name takes."""
     kind, *what = entry
     if kind == "loader":
         number, name = what
-        return spelled(LOADER, "B5xQ", len(name), number)[:16] + name.ljust(48, b"\0")
+        first, rest = name[:oracle.NAME_ROOM], name[oracle.NAME_ROOM:]
+        slot = spelled(LOADER, "B5xQ", len(name), number)[:16] + first.ljust(48, b"\0")
+        return slot + (rest_slot(rest) if rest else b"")
     if kind == "define":
         loader, (root, order, at), offset, words = what
         return spelled(DEFINE, "2xIQIIII", len(words), loader, root, order, at, offset)
@@ -72,6 +80,10 @@ def entry_slot(entry):
     if kind == "unloadall":
         return spelled(UNLOAD_ALL, f"B5x{len(what[0])}Q", len(what[0]), *what[0])
     return spelled(UNLOAD, "6xQ", what[0])
+
+
+def slots_of(entry):
+    return oracle.slots_of_name(entry[2]) if entry[0] == "loader" else 1
 
 
 def records_of(entry):
@@ -100,9 +112,13 @@ class Region:
         halves = head_slot(0, 1, 0, gate=OPEN).ljust(2 * SLOT * geometry.slots, b"\0")
         self.bytes = bytearray(superblock + halves)
 
-    def is_due(self):
+    def is_due(self, entry):
         """Whether a group of one command has no room left in the half that counts."""
-        return self.slot + 2 > self.geometry.slots
+        return self.slot + 1 + slots_of(entry) > self.geometry.slots
+
+    def behind_rows(self):
+        """The first slot behind what lives, once that is written into a half."""
+        return 1 + sum(map(slots_of, self.rows))
 
     def half_at(self, half):
         return SUPERBLOCK + SLOT * self.geometry.slots * half
@@ -112,7 +128,8 @@ class Region:
         half = self.half_at(1 - self.half)
         yield (half, b"\0") if self.is_other_open else None
         yield None
-        slots = [head_slot(len(self.rows), self.epoch + 1, number), *map(entry_slot, self.rows)]
+        head = head_slot(self.behind_rows() - 1, self.epoch + 1, number)
+        slots = [head, *map(entry_slots, self.rows)]
         yield half + 1, b"".join(slots)[1:] + bytes(SLOT)
         yield None
         yield half, bytes([OPEN])
@@ -122,9 +139,9 @@ class Region:
         """The device calls that store a command: each a place and the bytes to write there, or None
         for a sync."""
         half, slot = self.half, self.slot
-        if self.is_due():
+        if self.is_due(entry):
             yield from self.checkpoint(number - 1)
-            half, slot = 1 - self.half, 1 + len(self.rows)
+            half, slot = 1 - self.half, self.behind_rows()
         size = oracle.UNIT * 8 << self.geometry.top
         roots = SUPERBLOCK + 2 * SLOT * self.geometry.slots
         records = records_of(entry)
@@ -134,7 +151,7 @@ class Region:
         for (root, _, at), offset, words in records:
             yield roots + root * size + 8 * (at + offset), struct.pack(f"<{len(words)}Q", *words)
         group = self.half_at(half) + SLOT * slot
-        slots = group_slot(1, number) + entry_slot(entry) + bytes(SLOT)
+        slots = group_slot(slots_of(entry), number) + entry_slots(entry) + bytes(SLOT)
         room = self.geometry.slots - slot
         yield group + 1, slots[1:SLOT * room]
         yield None
@@ -146,10 +163,10 @@ class Region:
             if call:
                 at, data = call
                 self.bytes[at:at + len(data)] = data
-        if self.is_due():
-            self.half, self.epoch, self.slot = 1 - self.half, self.epoch + 1, 1 + len(self.rows)
+        if self.is_due(entry):
+            self.half, self.epoch, self.slot = 1 - self.half, self.epoch + 1, self.behind_rows()
             self.is_other_open = True
-        self.slot += 2
+        self.slot += 1 + slots_of(entry)
         if entry[0] == "unload":
             self.rows = [row for row in self.rows if row[1] != entry[1]]
         elif entry[0] == "unloadall":
@@ -179,6 +196,7 @@ class Row:
         self.slot = slot
         self.loader = loader
         self.name = name
+        self.slots = 1 if name is None else oracle.slots_of_name(name)
         self.chunk = chunk
         self.offset = offset
         self.words = words
@@ -245,44 +263,64 @@ class File:
 
     def walk(self):
         first = self.slots * self.half
-        for place in range(1, self.live + 1):
-            self.read_entry(first + place, None)
-        place = 1 + self.live
+        place, end = 1, 1 + self.live
+        while place < end:
+            place += self.read_entry(first + place, first + end, None)
         while place < self.slots and self.slot(first + place)[0] == OPEN:
             slot = self.slot(first + place)
             count, begins = number(slot, 2, 2), number(slot, 8, 8)
             good = slot == group_slot(count, begins, gate=OPEN) and 1 <= count <= 64
             good = good and place + count <= self.slots - 1 and begins == self.number + 1
-            if not good or self.number + count > NUMBERS:
+            if not good or self.number + self.numbers(first + place + 1, count) > NUMBERS:
                 raise Damaged(4, first + place)
-            for entry in range(1, count + 1):
+            place, end = place + 1, place + 1 + count
+            while place < end:
                 self.number += 1
-                self.read_entry(first + place + entry, self.number)
-            place += count + 1
+                place += self.read_entry(first + place, first + end, self.number)
         self.end = place
 
-    def read_entry(self, index, own):
-        """An entry of a group has a number of its own; a live row has none."""
+    def numbers(self, index, count):
+        """How many numbers the slots of a group take: the rest of a name takes none."""
+        kinds = [self.slot(index + place)[1] for place in range(count)]
+        return count if self.version == 1 else count - kinds.count(REST)
+
+    def read_loader(self, index, end):
+        """A loader's number and name. What is left of a long name stands in the slot behind its
+        own, which belongs to the same group, or to the live rows too."""
+        slot = self.slot(index)
+        length, loader = slot[2], number(slot, 8, 8)
+        name = slot[16:16 + min(length, oracle.NAME_ROOM)]
+        if length > oracle.NAME_ROOM:
+            if self.version == 1 or length > oracle.NAME_LIMIT or index + 1 == end:
+                raise Damaged(5, index)
+            rest = self.slot(index + 1)
+            name += rest[16:16 + length - oracle.NAME_ROOM]
+            slot += rest
+        if slot != entry_slots(("loader", loader, name)):
+            raise Damaged(5, index)
+        return loader, name
+
+    def read_entry(self, index, end, own):
+        """An entry, of which no slot lies at this end or behind it: how many slots it takes. One of
+        a group has a number of its own; a live row has none."""
         slot = self.slot(index)
         kind = slot[1]
         if kind == LOADER and slot[0] == 0:
-            length, loader = slot[2], number(slot, 8, 8)
-            name = slot[16:16 + min(length, 48)]
-            if length > 48 or slot != entry_slot(("loader", loader, name)):
-                raise Damaged(5, index)
+            loader, name = self.read_loader(index, end)
             self.add_loader(index, own, loader, name)
-        elif kind == DEFINE and slot[0] == 0:
+            return oracle.slots_of_name(name)
+        if kind == DEFINE and slot[0] == 0:
             words, loader, root, order, at, offset = struct.unpack("<IQIIII", slot[4:32])
             if slot != spelled(DEFINE, "2xIQIIII", words, loader, root, order, at, offset):
                 raise Damaged(5, index)
             self.add_class(index, loader, (root, order, at), offset, words)
         elif kind == UNLOAD and slot[0] == 0 and own is not None:
-            if slot != entry_slot(("unload", number(slot, 8, 8))):
+            if slot != entry_slots(("unload", number(slot, 8, 8))):
                 raise Damaged(5, index)
             self.unload(index, number(slot, 8, 8))
         elif kind == UNLOAD_ALL and slot[0] == 0 and own is not None:
             loaders = [number(slot, 8 * place, 8) for place in range(1, 1 + min(slot[2], 7))]
-            if not 1 <= slot[2] <= 7 or slot != entry_slot(("unloadall", loaders)):
+            if not 1 <= slot[2] <= 7 or slot != entry_slots(("unloadall", loaders)):
                 raise Damaged(5, index)
             self.unload_all(index, loaders)
         elif kind == MOVE and slot[0] == 0 and own is not None:
@@ -292,6 +330,7 @@ class File:
             self.move(index, loader, tuple(places[:3]), tuple(places[3:]))
         else:
             raise Damaged(5, index)
+        return 1
 
     def loaders(self):
         return [row for row in self.rows if not row.chunk]
@@ -302,12 +341,11 @@ class File:
     def lives(self, loader):
         return any(row.loader == loader for row in self.loaders())
 
-    def has_room(self):
-        return len(self.rows) < self.slots // 2
+    def has_room(self, slots):
+        return sum(row.slots for row in self.rows) + slots <= self.slots // 2
 
     def add_loader(self, index, own, loader, name):
-        good = (1 <= len(name) <= 48 and all(0x21 <= byte <= 0x7E for byte in name)
-                and self.has_room())
+        good = oracle.is_loader_name(name) and self.has_room(oracle.slots_of_name(name))
         good = good and all(row.name != name for row in self.loaders())
         if own is None:
             good = (good and 1 <= loader <= self.number
@@ -337,7 +375,7 @@ class File:
         return not any(row.chunk and meet(chunk, row.chunk) for row in self.rows)
 
     def add_class(self, index, loader, chunk, offset, words):
-        if not self.lives(loader) or not self.has_room():
+        if not self.lives(loader) or not self.has_room(1):
             raise Damaged(6, index)
         good = self.is_chunk(chunk) and words >= 1 and offset + words <= oracle.UNIT << chunk[1]
         if not good or ((chunk, offset) != self.last_chunk(loader)
@@ -382,7 +420,7 @@ class File:
 
     def row_slot(self, row):
         if not row.chunk:
-            return entry_slot(("loader", row.loader, row.name))
+            return entry_slots(("loader", row.loader, row.name))
         return spelled(DEFINE, "2xIQIIII", row.words, row.loader, *row.chunk, row.offset)
 
     def opened(self):
@@ -391,7 +429,8 @@ class File:
         data = bytearray(self.data)
         if self.version == VERSION:
             return data
-        head = head_slot(len(self.rows), self.epoch + 1, self.number, gate=OPEN)
+        live = sum(row.slots for row in self.rows)
+        head = head_slot(live, self.epoch + 1, self.number, gate=OPEN)
         slots = b"".join([head, *map(self.row_slot, self.rows), bytes(SLOT)])
         at = SUPERBLOCK + SLOT * self.slots * (1 - self.half)
         data[at:at + len(slots)] = slots

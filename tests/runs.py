@@ -7,6 +7,9 @@ import oracle
 import region
 
 LOADERS = [b"app", b"ext", b"lib", b"web"]
+# Loaders some of whose names need two slots of the journal.
+LONG_LOADERS = [b"app", b"m" * 48, b"m" * 49, b"m" * 96]
+TOO_LONG = b"m" * 97
 CLASSES = [b"A", b"B", b"C", b"D", b"E", b"F"]
 HEAD = bytes.fromhex(
     "cafebabe00000034000607000201000141" "0700040100106a6176612f6c616e672f4f626a656374" "01000158")
@@ -24,9 +27,14 @@ def define(loader, name, zeros):
     return b"define %s %s" % (loader, padded(name, zeros).hex().encode())
 
 
-def some_line(rng):
+def some_loaders(rng):
+    """The loaders that lines by chance speak of."""
+    return rng.choice([LOADERS, LONG_LOADERS])
+
+
+def some_line(rng, loaders):
     """A line by chance: mostly classes, of some sizes."""
-    loader, name, chance = rng.choice(LOADERS), rng.choice(CLASSES), rng.random()
+    loader, name, chance = rng.choice(loaders), rng.choice(CLASSES), rng.random()
     if chance < 0.25:
         return b"loader " + loader
     if chance < 0.80:
@@ -34,7 +42,7 @@ def some_line(rng):
     if chance < 0.86:
         return b"unload " + loader
     if chance < 0.90:
-        return b"unloadall " + b" ".join(rng.sample(LOADERS, rng.choice([1, 2, 2, 3])))
+        return b"unloadall " + b" ".join(rng.sample(loaders, rng.choice([1, 2, 2, 3])))
     if chance < 0.95:
         return b"tighten " + loader
     return b"find %s %s" % (loader, name)
@@ -44,7 +52,8 @@ def is_change(line):
     return not line.startswith(b"find ")
 
 
-FINDS = [b"find %s %s" % (loader, name) for loader in LOADERS for name in CLASSES]
+FINDS = [b"find %s %s" % (loader, name) for loader in LOADERS + LONG_LOADERS[1:]
+         for name in CLASSES]
 
 
 class Checks:

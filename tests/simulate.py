@@ -28,7 +28,7 @@ import region
 
 LISTS = 1500
 UNIT = 128  # words of the least chunk
-MOST_IN_GROUP = 64
+MOST_IN_GROUP = 64  # slots
 MOST_ALLOCATIONS = 2000
 
 
@@ -78,9 +78,18 @@ GATES = {
 }
 
 
+def slots_of(name):
+    """How many slots a loader of this name takes."""
+    return 2 if len(name) > 48 else 1
+
+
 def rows_in(loaders):
-    """How many loaders and classes live."""
-    return len(loaders) + sum(len(classes) for classes in loaders.values())
+    """How many slots the loaders and classes take that live."""
+    return sum(slots_of(name) + len(classes) for name, classes in loaders.items())
+
+
+def is_name(name):
+    return bool(re.fullmatch(rb"[\x21-\x7e]{1,96}", name))
 
 
 def order_for(words):
@@ -103,15 +112,13 @@ def roots_in(loaders):
 
 
 class Group:
-    """Commands that are stored together: the number of the last, how many, and the device calls to
-    make."""
+    """Commands that are stored together: the numbers of the first and the last, and how many slots
+    all of them take."""
 
-    def __init__(self, first, last):
+    def __init__(self, first, last, slots):
         self.first = first
         self.last = last
-
-    def count(self):
-        return self.last - self.first + 1
+        self.slots = slots
 
 
 class World:
@@ -124,7 +131,8 @@ class World:
         self.root_bytes = 8 * UNIT << top
         self.base = 4096 + 128 * slots
         self.slots = slots
-        # Of each command, how many records it writes, and the roots that the file needs for them.
+        # Of each command, how many records it writes, the roots that the file needs for them, and
+        # how many slots it takes.
         self.commands = []
         # After each command, the loaders' classes, each with its words and its chunk.
         self.states = [{}]
@@ -170,7 +178,7 @@ class World:
             self.end = 1 + rows_in(self.states[self.acknowledged])
             self.is_other_open = True
         elif turned == "group" and gate == 0xa5:
-            self.end += 1 + self.under_way.count()
+            self.end += 1 + self.under_way.slots
             return self.under_way.last
         return self.acknowledged
 
@@ -219,34 +227,37 @@ class World:
 
     # -- commands
 
-    def accept(self, loaders, refusal, records=(), left=()):
-        """Of a command that writes records into these chunks, and leaves chunks."""
+    def accept(self, loaders, refusal, records=(), left=(), slots=1):
+        """Of a command that writes records into these chunks, leaves chunks, and takes so many
+        slots."""
         if self.told:
             return "refused 10"
         if refusal:
             return f"refused {refusal}"
-        self.commands.append((len(records), max((chunk[0] + 1 for chunk in records), default=0)))
+        roots = max((chunk[0] + 1 for chunk in records), default=0)
+        self.commands.append((len(records), roots, slots))
         self.states.append(loaders)
         self.present = max(self.present, roots_in(loaders))
         self.waiting += [(self.number(), chunk) for chunk in left]
         return f"number {self.number()}"
 
-    def is_full(self):
-        return rows_in(self.loaders()) >= self.slots // 2
+    def is_full(self, slots):
+        """Whether what lives leaves no room for so many slots more."""
+        return rows_in(self.loaders()) + slots > self.slots // 2
 
     def loader(self, name):
         refusal = None
-        if not re.fullmatch(rb"[\x21-\x7e]{1,48}", name):
+        if not is_name(name):
             refusal = 1
         elif name in self.loaders():
             refusal = 2
-        elif self.is_full():
+        elif self.is_full(slots_of(name)):
             refusal = 7
-        return self.accept({**self.loaders(), name: {}}, refusal)
+        return self.accept({**self.loaders(), name: {}}, refusal, slots=slots_of(name))
 
     def named(self, name):
         """Why there is no loader of that name."""
-        if not re.fullmatch(rb"[\x21-\x7e]{1,48}", name):
+        if not is_name(name):
             return 1
         return None if name in self.loaders() else 3
 
@@ -291,7 +302,7 @@ class World:
             refusal = 4
         elif not refusal and words > self.root_words:
             refusal = 5
-        elif not refusal and self.is_full():
+        elif not refusal and self.is_full(1):
             refusal = 7
         if refusal:
             return self.accept(None, refusal)
@@ -310,21 +321,28 @@ class World:
     def seal(self):
         if self.sealed == self.number():
             return "none"
-        # Unsealed commands are in groups of 64, but for those in the newest.
-        group = Group(self.sealed + 1, min(self.sealed + MOST_IN_GROUP, self.number()))
+        # Unsealed commands are in groups of as many as fit into 64 slots, but for those in the
+        # newest.
+        group = Group(self.sealed + 1, self.sealed, 0)
+        for _, _, slots in self.commands[self.sealed:]:
+            if group.slots + slots > MOST_IN_GROUP:
+                break
+            group.last += 1
+            group.slots += slots
         self.sealed = group.last
         self.queue.append(group)
         return f"group {group.first} {group.last}"
 
     def take_group(self):
         group = self.queue.pop(0)
-        while self.queue and group.count() + self.queue[0].count() <= MOST_IN_GROUP:
-            group.last = self.queue.pop(0).last
+        while self.queue and group.slots + self.queue[0].slots <= MOST_IN_GROUP:
+            other = self.queue.pop(0)
+            group.last, group.slots = other.last, group.slots + other.slots
         written = self.commands[group.first - 1:group.last]
-        records = sum(count for count, _ in written)
-        grows = max(0, max(roots for _, roots in written) - self.file_roots())
+        records = sum(count for count, _, _ in written)
+        grows = max(0, max(roots for _, roots, _ in written) - self.file_roots())
         self.under_way = group
-        if self.end + 1 + group.count() > self.slots:
+        if self.end + 1 + group.slots > self.slots:
             self.calls = ["other half's gate" if self.is_other_open else "sync", *CHECKPOINT[1:]]
         self.calls += ["root"] * grows + ["record"] * records + ["group", "sync", "gate", "sync"]
 
@@ -457,7 +475,9 @@ class Checks:
 
 # ---- event lists
 
-NAMES = [b"a", b"b", b"c", b"app", b"~!%"]
+NAMES = [b"a", b"b", b"c", b"app", b"~!%", b"m" * 49, b"n" * 96]
+# Names on both sides of each limit, and bytes that no name has.
+ODD_NAMES = [b"x" * length for length in (47, 48, 49, 95, 96, 97)] + [b"x" * 48 + b"\x7f", b"\x7f"]
 CLASSES = ([(class_a(n), n) for n in (b"A", b"B", b"C")]
            + [(class_p(b"A", 0), b"A"), (class_p(b"D", 33), b"D"), (class_p(b"E", 8), b"E")]
            + [(class_p(b"F", 864), b"F"), (class_p(b"G", 900), b"G"), (class_p(b"H", 5000), b"H")]
@@ -472,8 +492,7 @@ def draw_name(draw, world):
     """A loader's name: mostly one that lives."""
     if world.loaders() and draw.random() < 0.7:
         return draw.choice(sorted(world.loaders()))
-    return (draw.choice(NAMES) if draw.random() < 0.9
-            else draw.choice([b"x" * 48, b"x" * 49, b"\x7f", b"\xc3\xa9"]))
+    return draw.choice(NAMES if draw.random() < 0.9 else ODD_NAMES + [b"\xc3\xa9"])
 
 
 def draw_tail(draw, world):
@@ -485,7 +504,7 @@ def draw_tail(draw, world):
 def draw_command(draw, add, world):
     kind = draw.random()
     name = (draw_name(draw, world) if kind >= 0.35
-            else draw.choice(NAMES + [b"x" * 48, b"x" * 49, b"\xff"]))
+            else draw.choice(NAMES if draw.random() < 0.7 else ODD_NAMES + [b"\xff"]))
     if kind < 0.35:
         add("loader", name)
     elif kind < 0.78:
@@ -536,10 +555,13 @@ def fill_journal(draw, simulation):
     """Commands until as many loaders live as may."""
     simulation.add("reopen")
     for count in range(600):
-        if simulation.add("loader", b"l%d" % count) == "refused 7":
+        name = b"l%d" % count
+        if draw.random() < 0.3:
+            name = name.ljust(draw.choice([47, 48, 49, 95, 96]), b"l")
+        if simulation.add("loader", name) == "refused 7":
             break
         if draw.random() < 0.5:
-            simulation.add("unload", b"l%d" % count)
+            simulation.add("unload", name)
         if draw.random() < 0.3:
             simulation.add("seal")
         for _ in range(draw.randrange(3)):
@@ -903,6 +925,41 @@ def check_region(checks, program):
         checks.check(got == ["number 1", reply], f"a record of {words} words: {got}")
 
 
+# ---- names that take two slots
+
+def check_long_names(checks, program):
+    """Worked out by hand: what lives takes at most 128 slots, and a group has at most 64."""
+    names = [b"%d" % number for number in range(64)]
+    lines = [b"geometry 3 1 256"]
+    lines += [b"loader " + name.rjust(96, b"l") for name in names[:40]]
+    lines += [b"seal"] * 3 + [b"advance"] * 9
+    wanted = [f"number {number}" for number in range(1, 41)]
+    wanted += ["group 1 32", "group 33 40", "none"]
+    wanted += [*["working"] * 3, "done 32", *["working"] * 3, "done 40", "idle"]
+    got, status, _ = run(program, b"\n".join(lines))
+    checks.check(got == wanted and status == 0, f"40 long names at once: {got}")
+    lines, wanted = [b"geometry 3 1 256"], []
+    for number, name in enumerate(names, 1):
+        lines += [b"loader " + name.rjust(96, b"l"), b"seal"] + [b"advance"] * 4 + [b"learn"]
+        wanted += [f"number {number}", f"group {number} {number}", *["working"] * 3,
+                   f"done {number}", f"learnt {number}"]
+    for line, reply in ((b"loader a", "refused 7"), (b"loader " + b"a" * 96, "refused 7"),
+                        (b"loader " + b"a" * 97, "refused 1"),
+                        (b"unload " + names[0].rjust(96, b"l"), "number 65"),
+                        (b"loader a", "number 66"), (b"loader " + b"a" * 49, "refused 7"),
+                        (b"loader " + b"a" * 48, "number 67"), (b"loader b", "refused 7")):
+        lines.append(line)
+        wanted.append(reply)
+    got, status, _ = run(program, b"\n".join(lines))
+    checks.check(got == wanted and status == 0, f"64 long names: {got[-12:]}")
+    for count, other, groups in (63, 96, ["group 1 63", "group 64 64"]), \
+            (63, 48, ["group 1 64", "none"]), (62, 96, ["group 1 63", "none"]):
+        lines = [b"geometry 3 1 256"] + [b"loader l%d" % number for number in range(count)]
+        lines += [b"loader " + b"a" * other, b"seal", b"seal"]
+        got, _, _ = run(program, b"\n".join(lines))
+        checks.check(got[-2:] == groups, f"{count} names and one of {other} bytes: {got[-2:]}")
+
+
 # ---- lines of another form
 
 def check_forms(checks, program):
@@ -960,12 +1017,25 @@ def check_disk(checks, program):
     loader[16:19] = b"app"
     slots = bytes(head + group + loader)
     file = superblock + slots + bytes(2 * 256 * 64 - len(slots))
+    # A name of 49 bytes goes on in slot 3, and the next group stands at slot 4.
+    long = slot(0x11, at_2_1=49, at_8_8=1)
+    long[16:] = b"m" * 48
+    rest = slot(0x16, at_16_1=0x6d)
+    slots = bytes(head + slot(0x02, at_0_1=0xa5, at_2_2=2, at_8_8=1) + long + rest
+                  + slot(0x02, at_0_1=0xa5, at_2_2=1, at_8_8=2) + slot(0x13, at_8_8=1))
+    long_file = superblock + slots + bytes(2 * 256 * 64 - len(slots))
     lines = b"geometry 3 2 256\nloader app\nseal\nadvance\nadvance\nadvance\nadvance\n"
     with tempfile.TemporaryDirectory() as folder:
         path = os.path.join(folder, "disk")
         _, status, _ = run(program, lines, "--disk", path)
         with open(path, "rb") as held:
             checks.check(status == 0 and held.read() == file, "the file behind one loader")
+        words = b"loader", b"unload"
+        run(program, b"geometry 3 2 256\n" + b"".join(
+            word + b" " + b"m" * 49 + b"\nseal\n" + b"advance\n" * 4 for word in words),
+            "--disk", path)
+        with open(path, "rb") as held:
+            checks.check(held.read() == long_file, "the file behind a loader of a long name")
         run(program, lines + b"define app " + class_a().hex().encode()
             + b"\nseal\nadvance\nfault 0\n", "--disk", path)
         with open(path, "rb") as held:
@@ -1054,7 +1124,7 @@ def main(words):
         print(f"{LISTS} event lists:",
               ", ".join(f"{kind} {count}" for kind, count in sorted(met.items())))
         for check in (check_walks, check_moves, check_move_waits, check_move_grows, check_trims,
-                      check_region, check_forms, check_disk):
+                      check_region, check_long_names, check_forms, check_disk):
             check(checks, words[0])
     print(f"{checks.passed} passed, {checks.failed} failed")
     return 1 if checks.failed else 0

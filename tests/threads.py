@@ -38,13 +38,15 @@ MOST_LINES = 100
 # Of so many scripts one is run on a device that fails.
 FAILING = 4
 # Lines that are refused whatever the cache holds.
-BAD_LINES = [b"", b"find app", b"loader " + b"x" * 49, b"define app 0", b"define app cafebabe",
+BAD_LINES = [b"", b"find app", b"loader " + runs.TOO_LONG, b"define app 0", b"define app cafebabe",
              b"define app " + PLAIN + b"00", b"find app %41", b"unload  app"]
 
 
-def some_line(rng):
-    """A line by chance, now and then one that no cache takes."""
-    return rng.choice(BAD_LINES) if rng.random() < 0.06 else runs.some_line(rng)
+def some_lines(rng):
+    """Lines by chance, now and then one that no cache takes."""
+    loaders = runs.some_loaders(rng)
+    return [rng.choice(BAD_LINES) if rng.random() < 0.06 else runs.some_line(rng, loaders)
+            for _ in range(rng.randrange(MOST_LINES))]
 
 
 class Script:
@@ -164,7 +166,7 @@ def main(program, library, scripts, seed):
         for name, lines in ROWS.items():
             bench.run_all(name, Script(lines))
         for number in range(scripts):
-            script = Script([some_line(rng) for _ in range(rng.randrange(MOST_LINES))])
+            script = Script(some_lines(rng))
             name = f"seed {seed}, script {number}"
             if number % FAILING:
                 bench.run_all(name, script)
