@@ -1,7 +1,8 @@
 //! The front of a file, up to its roots, and what is found in it: one loader with two classes, each
 //! in a group of its own.
 
-ghost use Rattle.std.specs.Prelude.{◌≡◌, ◌≤◌, ◌*◌, ◌^◌, IfOk, IfSome, length};
+ghost use Rattle.std.specs.Prelude.{◌≡◌, ◌*◌, IfOk, IfSome, length};
+ghost use Rattle.cm_layout.specs.Frames.{IsGoodHead};
 
 use crate::file_samples::push_halves;
 use crate::found::{Summary, tell_half};
@@ -38,7 +39,7 @@ fn walk_half(
     counts: &Counting,
     half: &[u8],
 ) -> Result<Told, Fail>
-    requires base { counts.now.head.base ≤ 2 ^ 63 }
+    requires good { IsGoodHead geometry counts.now.head }
     requires long { length half.now ≡ 64 * geometry.slots }
 {
     let book = Book::new(alloc, geometry)?;
@@ -61,7 +62,8 @@ fn both_halves(front: &[u8], size: usize) -> Option<(&[u8], &[u8])>
 
 // What the heads of two halves tell.
 fn count(geometry: Geometry, zero: &[u8], one: &[u8]) -> Option<Result<Counting, FileFault>>
-    ensures base { IfSome result (λ answer. IfOk answer (λ counts. counts.head.base ≤ 2 ^ 63)) }
+    ensures good { IfSome result (λ answer.
+        IfOk answer (λ counts. IsGoodHead geometry counts.head)) }
 {
     let head_0 = zero.first_chunk::<SLOT_BYTES>()?;
     let head_1 = one.first_chunk::<SLOT_BYTES>()?;

@@ -12,6 +12,8 @@ mod found;
 #[cfg(test)]
 mod halves;
 #[cfg(test)]
+mod long_names;
+#[cfg(test)]
 mod making_files;
 #[cfg(test)]
 mod older_files;

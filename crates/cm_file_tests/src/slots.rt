@@ -1,10 +1,11 @@
 //! Slots of heads, rows and entries, written and read.
+use crate::disks::put;
 use cm_layout::{
-    ClassRow, Entry, GroupHead, HalfHead, LoaderNumbers, LoaderRow, Move, Row, SLOT_BYTES,
-    SlotName, Slots, Unload, UnloadAll, is_loader_name,
+    ClassRow, ENTRY_VERSION, Entry, GroupHead, HalfHead, LoaderNumbers, LoaderRow, Move,
+    OLDEST_VERSION, Row, SLOT_BYTES, SlotName, Slots, Unload, UnloadAll, is_loader_name,
 };
 use cm_pool::{Chunk, Place};
-use std::test::Fail;
+use std::test::*;
 
 fn chunk(root: u32, order: u32, at: u32) -> Chunk {
     Chunk { root, order, at }
@@ -46,8 +47,14 @@ fn heads_of_groups_are_written_and_read(rt: HostRuntime) {
     assert_eq!(rt; GroupHead::decode(&slot), Some(group));
 }
 
+/// The entry that a slot spells alone, in the version that is written.
+fn entry_in(slot: &[u8; SLOT_BYTES]) -> Option<Entry<()>> {
+    Entry::decode(ENTRY_VERSION, slot)
+}
+
 fn is_class(slot: &[u8; SLOT_BYTES], class: ClassRow) -> bool {
-    ClassRow::decode(slot) == Some(class) && LoaderRow::decode(slot).is_none()
+    let is_loader = LoaderRow::decode(ENTRY_VERSION, slot).is_some();
+    ClassRow::decode(slot) == Some(class) && !is_loader
 }
 
 #[test]
@@ -71,10 +78,26 @@ fn loader_slots(name: &[u8]) -> Result<Slots, Fail> {
     Ok(Entry::Live(loader).encode())
 }
 
-/// Whether the first slot is read as that of a loader.
-fn is_loader(slots: &[u8]) -> bool {
-    match slots.first_chunk::<SLOT_BYTES>() {
-        Some(slot) => matches!(Entry::decode(slot), Some(Entry::Live(Row::Loader(_)))),
+/// The loader that slots are read to begin with, by an entry and by a row alike.
+fn loader_in(version: u16, slots: &[u8]) -> Option<LoaderRow> {
+    if slots.len() < SLOT_BYTES {
+        return None;
+    }
+    let row = LoaderRow::decode(version, slots)?;
+    match Entry::decode(version, slots) {
+        Some(Entry::Live(Row::Loader(loader))) => {
+            let is_same = loader.number == row.number
+                && loader.name.as_bytes() == row.name.as_bytes();
+            if is_same { Some(row) } else { None }
+        }
+        _ => None,
+    }
+}
+
+/// Whether slots are read to begin with loader 9, of this name.
+fn is_loader(version: u16, slots: &[u8], name: &[u8]) -> bool {
+    match loader_in(version, slots) {
+        Some(row) => row.number == 9 && row.name.as_bytes() == name,
         None => false,
     }
 }
@@ -84,7 +107,8 @@ fn loaders_are_written_and_read(rt: HostRuntime) -> Result<(), Fail> {
     let slots = loader_slots(b"app")?;
     let bytes = slots.as_bytes();
     assert!(rt; bytes.len() == 64 && has(bytes, 0, &[0, 0x11, 3]) && has(bytes, 16, b"app\0"));
-    assert!(rt; is_loader(bytes));
+    assert!(rt; is_loader(ENTRY_VERSION, bytes, b"app"));
+    assert!(rt; is_loader(OLDEST_VERSION, bytes, b"app"));
     Ok(())
 }
 
@@ -92,13 +116,78 @@ fn loaders_are_written_and_read(rt: HostRuntime) -> Result<(), Fail> {
 fn a_name_of_49_bytes_goes_on_in_the_next_slot(rt: HostRuntime) -> Result<(), Fail> {
     let slots = loader_slots(&[b'a'; 49])?;
     let bytes = slots.as_bytes();
-    assert!(rt; bytes.len() == 128 && has(bytes, 0, &[0, 0x11, 49]) && !is_loader(bytes));
+    assert!(rt; bytes.len() == 128 && has(bytes, 0, &[0, 0x11, 49, 0, 0, 0, 0, 0, 9, 0]));
     assert!(rt; has(bytes, 63, &[b'a', 0, 0x16, 0]) && has(bytes, 79, &[0, b'a', 0]));
+    assert!(rt; is_loader(ENTRY_VERSION, bytes, &[b'a'; 49]));
+    // the first version knows no such name, and one slot is too few for it
+    assert!(rt; loader_in(OLDEST_VERSION, bytes).is_none());
+    let first = bytes.get(..64).ok_or("two slots")?;
+    assert!(rt; loader_in(ENTRY_VERSION, first).is_none());
+    Ok(())
+}
+
+#[test]
+fn a_name_of_48_bytes_fills_its_slot_and_one_of_96_both(rt: HostRuntime) -> Result<(), Fail> {
+    let slots = loader_slots(&[b'a'; 48])?;
+    let bytes = slots.as_bytes();
+    assert!(rt; bytes.len() == 64 && has(bytes, 2, &[48]) && has(bytes, 16, &[b'a'; 48]));
+    assert!(rt; is_loader(OLDEST_VERSION, bytes, &[b'a'; 48]));
+    let slots = loader_slots(&[b'z'; 96])?;
+    let bytes = slots.as_bytes();
+    assert!(rt; bytes.len() == 128 && has(bytes, 2, &[96]));
+    assert!(rt; has(bytes, 16, &[b'z'; 48]) && has(bytes, 80, &[b'z'; 48]));
+    assert!(rt; is_loader(ENTRY_VERSION, bytes, &[b'z'; 96]));
+    Ok(())
+}
+
+/// Places in the two slots of a name of 49 bytes, bytes there, and how long the name is that is
+/// read then, if one is.
+const LONG_NAMES: [(usize, u8, Option<usize>); 14] = [
+    (63, b'a', Some(49)),
+    // a byte that no name has is read all the same
+    (63, 0, Some(49)),
+    (80, b' ', Some(49)),
+    // its length says how many slots it has
+    (2, 48, Some(48)),
+    (2, 50, Some(50)),
+    (2, 96, Some(96)),
+    (2, 97, None),
+    // a rest of another form
+    (64, 1, None),
+    (65, 0x11, None),
+    (66, 1, None),
+    (79, 1, None),
+    (81, b'a', None),
+    (127, 1, None),
+    // and a loader's slot of another form
+    (3, 1, None),
+];
+
+#[test]
+fn a_rest_of_another_form_makes_no_loader(rt: HostRuntime) -> Result<(), Fail> {
+    let slots = loader_slots(&[b'a'; 49])?;
+    for (at, byte, long) in &LONG_NAMES {
+        let mut bytes = Vec::from_slice(rt.alloc(), slots.as_bytes())?;
+        put(&mut bytes, *at, *byte);
+        let row = loader_in(ENTRY_VERSION, &bytes);
+        let found = row.map(|row| row.name.as_bytes().len());
+        assert_eq!(rt; found, *long, "{byte} at {at}");
+    }
+    Ok(())
+}
+
+#[test]
+fn a_rest_alone_is_no_entry(rt: HostRuntime) -> Result<(), Fail> {
+    let slots = loader_slots(&[b'a'; 49])?;
+    let rest = slots.as_bytes().get(64..).ok_or("two slots")?;
+    let rest = rest.first_chunk::<SLOT_BYTES>().ok_or("a slot")?;
+    assert!(rt; entry_in(rest).is_none());
+    assert!(rt; Entry::decode(OLDEST_VERSION, rest).is_none());
     Ok(())
 }
 
 fn is_unload(slot: &[u8; SLOT_BYTES], unload: Unload) -> bool {
-    let is_entry = matches!(Entry::decode(slot), Some(Entry::Unload(_)));
+    let is_entry = matches!(entry_in(slot), Some(Entry::Unload(_)));
     is_entry && Unload::decode(slot) == Some(unload)
 }
 
@@ -111,7 +200,7 @@ fn unloadings_are_written_and_read(rt: HostRuntime) {
 }
 
 fn is_move(slot: &[u8; SLOT_BYTES], moved: Move) -> bool {
-    let is_entry = matches!(Entry::decode(slot), Some(Entry::Move(_)));
+    let is_entry = matches!(entry_in(slot), Some(Entry::Move(_)));
     is_entry && Move::decode(slot) == Some(moved)
 }
 
@@ -130,7 +219,7 @@ fn moves_are_written_and_read(rt: HostRuntime) {
 }
 
 fn is_unload_all(slot: &[u8; SLOT_BYTES], loaders: &[u64]) -> bool {
-    match Entry::decode(slot) {
+    match entry_in(slot) {
         Some(Entry::UnloadAll(entry)) => entry.loaders.as_slice() == loaders,
         _ => false,
     }
@@ -162,7 +251,7 @@ fn no_and_eight_loaders_are_no_list(rt: HostRuntime) -> Result<(), Fail> {
     for (at, byte) in &NO_UNLOADINGS {
         let mut slot = unload_all_slot(&[2, 1])?;
         slot[*at] = *byte;
-        assert!(rt; Entry::decode(&slot).is_none());
+        assert!(rt; entry_in(&slot).is_none());
     }
     Ok(())
 }
@@ -175,17 +264,23 @@ fn a_byte_that_has_to_be_0_counts(rt: HostRuntime) {
 }
 
 /// Names, and whether a loader may have them.
-const NAMES: [(&[u8], bool); 6] = [
+const NAMES: [(&[u8], bool); 9] = [
     (b"app", true),
     (b"", false),
     (&[b'~'; 48], true),
-    (&[b'!'; 49], false),
+    (&[b'!'; 49], true),
+    (&[b'~'; 96], true),
+    (&[b'!'; 97], false),
     (b"my app", false),
     (b"caf\xc3\xa9", false),
+    (
+        b"this-name-takes-two-slots-and-its-last-byte-is-one-outside\x7f",
+        false,
+    ),
 ];
 
 #[test]
-fn names_of_49_bytes_are_refused(rt: HostRuntime) {
+fn names_of_97_bytes_are_refused(rt: HostRuntime) {
     assert!(rt; SlotName::new(&[b'a'; 96]).is_some());
     assert!(rt; SlotName::new(&[b'a'; 97]).is_none());
     for (name, expected) in &NAMES {
