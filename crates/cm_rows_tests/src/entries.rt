@@ -2,8 +2,11 @@
 
 ghost use Rattle.std.specs.Prelude.{◌≡◌};
 
+use crate::random::long_name_of;
 use crate::samples::Sample::{Class, Loader, Move, Unload, UnloadAll};
-use crate::samples::{CHUNKS, Case, ROWS, chunk, class_row, loader_row, offer_each, small_book};
+use crate::samples::{
+    CHUNKS, Case, ROWS, chunk, class_row, loader, loader_row, offer_each, small_book, take,
+};
 use cm_layout::{EntryRule, Row};
 use cm_pool::Chunk;
 use cm_rows::{Book, LastChunk};
@@ -147,6 +150,44 @@ fn unload_at_once(rt: &impl Abort, book: &mut Book<()>) -> Result<(), Fail> {
 fn unloads_several_loaders_at_once(rt: HostRuntime) -> Result<(), Fail> {
     let mut book = small_book(rt.alloc())?;
     unload_at_once(&rt, &mut book)
+}
+
+// 63 loaders of 96 bytes take 126 of the 128 slots that live rows may have.
+static FULL: [Case<'_>; 10] = [
+    (
+        64,
+        Loader(
+            64,
+            b"my name takes two slots, but a space is no byte of one",
+        ),
+        ROWS,
+    ),
+    (64, Loader(64, &[b'm'; 49]), None),
+    (65, Loader(65, b"a"), ROWS),
+    (65, Loader(65, &[b'n'; 96]), ROWS),
+    (65, Class(1, FIRST, 0, 8), ROWS),
+    (65, Unload(64), None),
+    (66, Class(1, FIRST, 0, 8), None),
+    (67, Loader(67, &[b'n'; 49]), ROWS),
+    (67, Loader(67, &[b'n'; 48]), None),
+    (68, Class(1, FIRST, 8, 8), ROWS),
+];
+
+fn fill_with_long_names(rt: &impl Abort, book: &mut Book<()>) -> Result<(), Fail> {
+    for number in 1..64 {
+        take(book, number, loader(number, &long_name_of(number))?)?;
+    }
+    assert!(rt; book.slots() == 126 && !book.is_full(2) && book.is_full(3));
+    offer_each(book, &FULL)?;
+    assert!(rt; book.len() == 65 && book.slots() == 128 && book.is_full(1));
+    assert_eq!(rt; book.loader(&long_name_of(63)), Some(63));
+    Ok(())
+}
+
+#[test]
+fn long_names_take_two_slots(rt: HostRuntime) -> Result<(), Fail> {
+    let mut book = small_book(rt.alloc())?;
+    fill_with_long_names(&rt, &mut book)
 }
 
 // A live row as tables write it.

@@ -1,6 +1,6 @@
 //! Groups of entries: how many they take, and which join.
 use cm_group::{CarriedEntry, Group};
-use cm_layout::Unload;
+use cm_layout::{LoaderRow, SlotName, Unload};
 use std::alloc::{AllocGlobal, Global};
 use std::process::Abort;
 use std::test::Fail;
@@ -37,6 +37,81 @@ fn takes_64(rt: &(impl Abort + AllocGlobal), group: &mut Group) {
 fn a_group_takes_64_entries_and_no_more(rt: HostRuntime) -> Result<(), Fail> {
     let mut group = group_of(rt.alloc(), 5, 64)?;
     takes_64(&rt, &mut group);
+    Ok(())
+}
+
+fn loader_entry(alloc: Global, name: &[u8]) -> Result<CarriedEntry, Fail> {
+    let name = SlotName::new(name).ok_or("two slots have room for it")?;
+    Ok(CarriedEntry::loader(alloc, LoaderRow { number: 1, name }))
+}
+
+// Whether a group takes a loader of this name.
+fn takes_loader(alloc: Global, group: &mut Group, name: &[u8]) -> Result<bool, Fail> {
+    let next = group.first() + group.count() as u64;
+    let entry = loader_entry(alloc, name)?;
+    Ok(next <= 1 << 63 && group.push(entry).is_ok())
+}
+
+// A group of so many loaders of 96 bytes.
+fn group_of_long_names(alloc: Global, first: u64, count: u64) -> Result<Group, Fail> {
+    if first == 0 || first > 1_000 {
+        return Err("a first number from 1 to 1000".into());
+    }
+    let mut group = Group::new(alloc, first, loader_entry(alloc, &[b'n'; 96])?)?;
+    for _ in 1..count {
+        let _pushed = takes_loader(alloc, &mut group, &[b'n'; 96])?;
+    }
+    Ok(group)
+}
+
+fn takes_32_long_names(rt: &(impl Abort + AllocGlobal), group: &mut Group) -> Result<(), Fail> {
+    assert_eq!(rt; (group.count(), group.slots()), (32, 64));
+    assert!(rt; !takes_loader(rt.alloc(), group, b"a")?);
+    Ok(())
+}
+
+#[test]
+fn a_group_takes_32_long_names(rt: HostRuntime) -> Result<(), Fail> {
+    let mut group = group_of_long_names(rt.alloc(), 1, 40)?;
+    takes_32_long_names(&rt, &mut group)
+}
+
+// Names for a group of 31 long ones, and whether it takes each after the ones before.
+const BEHIND_31: [(&[u8], bool, usize); 5] = [
+    (b"a", true, 63),
+    (&[b'm'; 49], false, 63),
+    (&[b'm'; 96], false, 63),
+    (&[b'm'; 48], true, 64),
+    (b"b", false, 64),
+];
+
+fn takes_what_has_slots(rt: &(impl Abort + AllocGlobal), group: &mut Group) -> Result<(), Fail> {
+    for (name, is_taken, slots) in &BEHIND_31 {
+        let found = takes_loader(rt.alloc(), group, name)?;
+        assert_eq!(rt; (found, group.slots()), (*is_taken, *slots));
+    }
+    Ok(())
+}
+
+#[test]
+fn a_group_takes_what_it_has_slots_for(rt: HostRuntime) -> Result<(), Fail> {
+    let mut group = group_of_long_names(rt.alloc(), 1, 31)?;
+    takes_what_has_slots(&rt, &mut group)
+}
+
+// Whether the second group joins, and the first one's entries and slots then.
+fn join_long_names(alloc: Global, count: u64, more: u64) -> Result<(bool, usize, usize), Fail> {
+    let mut group = group_of_long_names(alloc, 1, count)?;
+    let other = group_of_long_names(alloc, count.wrapping_add(1), more)?;
+    let joins = group.add(other).is_ok();
+    Ok((joins, group.count(), group.slots()))
+}
+
+#[test]
+fn groups_join_by_their_slots(rt: HostRuntime) -> Result<(), Fail> {
+    assert_eq!(rt; join_long_names(rt.alloc(), 16, 16)?, (true, 32, 64));
+    assert_eq!(rt; join_long_names(rt.alloc(), 16, 17)?, (false, 16, 32));
+    assert_eq!(rt; join_long_names(rt.alloc(), 32, 8)?, (false, 32, 64));
     Ok(())
 }
 

@@ -1,6 +1,6 @@
 //! A plain model: the rows in a list, each question answered by going over all of them.
 use crate::samples::{CHUNKS, ROWS};
-use cm_layout::{ClassRow, Entry, EntryRule, Move, Row};
+use cm_layout::{ClassRow, Entry, EntryRule, LoaderRow, Move, Row};
 use cm_pool::{Chunk, Place};
 use cm_rows::LastChunk;
 use std::alloc::{AllocError, Global};
@@ -8,6 +8,8 @@ use std::alloc::{AllocError, Global};
 #[derive(Clone, Copy)]
 pub struct PlainRow {
     pub loader: u64,
+    /// How many slots it takes: two for a loader whose name has more than 48 bytes.
+    pub slots: usize,
     /// Where the record of a class lies; none of the loader's own row.
     pub place: Option<Place>,
 }
@@ -44,11 +46,29 @@ impl PlainRow {
     }
 }
 
+// How many slots a loader of this name takes.
+fn slots_of(row: &LoaderRow) -> usize {
+    if row.name.as_bytes().len() > 48 { 2 } else { 1 }
+}
+
 impl Plain {
     pub fn new(alloc: Global) -> Plain {
         Plain {
             rows: Vec::new(alloc),
         }
+    }
+
+    /// How many slots all rows take.
+    pub fn taken(&self) -> usize {
+        let mut taken = 0usize;
+        for row in &self.rows {
+            taken = taken.wrapping_add(row.slots);
+        }
+        taken
+    }
+
+    fn has_room(&self, slots: usize) -> bool {
+        self.taken().wrapping_add(slots) <= LIMIT
     }
 
     fn lives(&self, loader: u64) -> bool {
@@ -86,7 +106,7 @@ impl Plain {
     }
 
     fn define_rule(&self, row: &ClassRow) -> Option<EntryRule> {
-        if !self.lives(row.loader) || self.rows.len() >= LIMIT {
+        if !self.lives(row.loader) || !self.has_room(1) {
             return ROWS;
         }
         let place = row.place;
@@ -132,7 +152,7 @@ impl Plain {
 
     fn rule(&self, entry: &Entry<()>) -> Option<EntryRule> {
         match entry {
-            Entry::Live(Row::Loader(_)) if self.rows.len() >= LIMIT => ROWS,
+            Entry::Live(Row::Loader(row)) if !self.has_room(slots_of(row)) => ROWS,
             Entry::Live(Row::Loader(_)) => None,
             Entry::Live(Row::Class(row, _)) => self.define_rule(row),
             Entry::Unload(entry) if !self.lives(entry.loader) => ROWS,
@@ -162,10 +182,12 @@ impl Plain {
         match entry {
             Entry::Live(Row::Loader(row)) => self.rows.push(PlainRow {
                 loader: row.number,
+                slots: slots_of(row),
                 place: None,
             })?,
             Entry::Live(Row::Class(row, _)) => self.rows.push(PlainRow {
                 loader: row.loader,
+                slots: 1,
                 place: Some(row.place),
             })?,
             Entry::Unload(entry) => self.rows.retain(|row| row.loader != entry.loader),

@@ -34,6 +34,14 @@ impl Random {
         rows.rows.get(at).map_or(number, |row| row.loader)
     }
 
+    // A loader whose name may take two slots.
+    fn loader_entry(&mut self, number: u64) -> Result<Entry<()>, Fail> {
+        let at = self.below(LENGTHS.len() as u32) as usize;
+        let long = LENGTHS.get(at).map_or(3, |long| *long);
+        let name = long_name_of(number);
+        loader(number, name.get(..long).ok_or("no name is longer")?)
+    }
+
     /// An entry of this number, mostly on a loader of the last few.
     pub fn entry(&mut self, rows: &Plain, number: u64) -> Result<Entry<()>, Fail> {
         let owner = self.loader(rows, number);
@@ -42,7 +50,7 @@ impl Random {
             used: 0,
         });
         Ok(match self.below(16) {
-            0 | 1 => loader(number, &name_of(number))?,
+            0 | 1 => self.loader_entry(number)?,
             2 if self.below(2) == 0 => unload(owner),
             2 => unload_all(&[owner, self.loader(rows, number)])?,
             3 | 4 => move_of(owner, last.chunk, self.chunk()),
@@ -50,6 +58,19 @@ impl Random {
             _ => class(owner, last.chunk, last.used, self.below(40)),
         })
     }
+}
+
+/// How many bytes names have: on both sides of what a slot has room for, and the most.
+const LENGTHS: [usize; 6] = [3, 47, 48, 49, 95, 96];
+
+/// A name of 96 visible characters, of which the first three are those of the short name.
+pub fn long_name_of(number: u64) -> [u8; 96] {
+    let [first, second, third] = name_of(number);
+    let mut name = [b'~'; 96];
+    name[0] = first;
+    name[1] = second;
+    name[2] = third;
+    name
 }
 
 /// A name of three visible characters.

@@ -35,6 +35,9 @@ fn offer_to_both(
     if book.len() != plain.rows.len() {
         return Err("another number of rows".into());
     }
+    if book.slots() != plain.taken() {
+        return Err("another number of slots".into());
+    }
     Ok(expected.is_none())
 }
 
