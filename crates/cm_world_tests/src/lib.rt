@@ -22,6 +22,8 @@ mod list_calls;
 #[cfg(test)]
 mod lists;
 #[cfg(test)]
+mod long_names;
+#[cfg(test)]
 mod made_again;
 #[cfg(test)]
 mod moves;

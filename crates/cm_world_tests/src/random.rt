@@ -18,6 +18,16 @@ const LOADERS: usize = 6;
 
 const CLASSES: usize = 8;
 
+/// Names, one for each of them: of one byte, and on both sides of what a slot has room for.
+const NAMES: [&[u8]; LOADERS] = [
+    b"a",
+    &[b'b'; 47],
+    &[b'c'; 48],
+    &[b'd'; 49],
+    &[b'e'; 95],
+    &[b'f'; 96],
+];
+
 /// How many words the record of each class has.
 const WORDS: [u32; CLASSES] = [20, 24, 120, 128, 129, 300, 1_024, 3_000];
 
@@ -191,20 +201,18 @@ fn agrees(front: &mut Front, model: &mut Model, classes: &[Prepared], choice: u3
 {
     let loader = (choice % 6) as usize;
     let class = (choice / 16 % 8) as usize;
-    let name = [(choice % 6) as u8 + 0x61];
+    let name = NAMES[loader];
     let other = (choice / 4_096 % 6) as usize;
     let is_same = match choice / 256 % 16 {
-        0..=2 => add_loader(front, &name) == model.add_loader(loader),
-        3 => unload(front, &name) == model.unload(loader),
-        4 => {
-            unload_all(front, &[&name, &[other as u8 + 0x61]]) == model.unload_both(loader, other)
-        }
+        0..=2 => add_loader(front, name) == model.add_loader(loader),
+        3 => unload(front, name) == model.unload(loader),
+        4 => unload_all(front, &[name, NAMES[other]]) == model.unload_both(loader, other),
         5 => seals(front, model),
         6 => learns(front, model, choice / 4_096),
-        7 | 8 => tighten(front, &name) == model.tighten(loader),
-        _ => define(front, &name, &classes[class]) == model.define(loader, class),
+        7 | 8 => tighten(front, name) == model.tighten(loader),
+        _ => define(front, name, &classes[class]) == model.define(loader, class),
     };
-    is_same && words(front, &name, &[class as u8 + 0x41]) == model.words(loader, class)
+    is_same && words(front, name, &[class as u8 + 0x41]) == model.words(loader, class)
 }
 
 // Which of 10,000 random calls is the first whose answer the model doesn't give.

@@ -8,11 +8,23 @@ use cm_prepare::Refusal;
 const LETTERS: &[u8] = b"!#$%&'()*+-./0123456789:;<=>?@ABCDEFGHIJKLMNOPQRSTUVWXYZ[]^_`\
     abcdefghijklmnopqrstuvwxyz{|}~";
 
+/// The same bytes, each twice.
+const TWICE: &[u8] = b"!#$%&'()*+-./0123456789:;<=>?@ABCDEFGHIJKLMNOPQRSTUVWXYZ[]^_`\
+    abcdefghijklmnopqrstuvwxyz{|}~\
+    !#$%&'()*+-./0123456789:;<=>?@ABCDEFGHIJKLMNOPQRSTUVWXYZ[]^_`\
+    abcdefghijklmnopqrstuvwxyz{|}~";
+
 /// The name of a loader by its turn: of 181 in a row no two have the same.
 pub fn name(turn: usize) -> &'static [u8] {
     let at = turn % 181;
     let (from, long) = if at < 91 { (at, 1) } else { (at - 91, 2) };
     LETTERS.get(from..from + long).unwrap_or(&[])
+}
+
+/// A name of 96 bytes by its turn: of 86 in a row no two have the same.
+pub fn long_name(turn: usize) -> &'static [u8] {
+    let at = turn % 86;
+    TWICE.get(at..at + 96).unwrap_or(&[])
 }
 
 /// A group: how many of the oldest loaders go, how many come then, and how many device calls it
