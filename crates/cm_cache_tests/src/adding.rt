@@ -43,10 +43,15 @@ struct AllAdded<K: Naming> {
 
 fn add_loaders<K: Naming, R: Wait>(rt: &R, cache: &Cache<K>, adder: Adder<K>) -> Added<K> {
     let Adder { letter, mut pass } = adder;
+    // the names of every other thread need two slots of the journal
+    let long = if letter % 2 == 0 { 3 } else { 96 };
     let mut numbers = [0; EACH];
     for (at, number) in numbers.iter_mut().enumerate() {
-        let name = [letter, b'0' + (at / 10) as u8, b'0' + (at % 10) as u8];
-        *number = cache.add_loader(rt, &mut pass, &name).unwrap_or(0);
+        let mut name = [b'~'; 96];
+        name[0] = letter;
+        name[1] = b'0' + (at / 10) as u8;
+        name[2] = b'0' + (at % 10) as u8;
+        *number = cache.add_loader(rt, &mut pass, &name[..long]).unwrap_or(0);
     }
     Added { numbers, pass }
 }

@@ -41,7 +41,7 @@ fn expand(alloc: Global, script: &[u8]) -> Result<Vec<u8>, Fail> {
 }
 
 /// Scripts, and the replies to each.
-const CASES: [(&[u8], &[u8]); 13] = [
+const CASES: [(&[u8], &[u8]); 14] = [
     (b"", b""),
     (b"loader app", b"ok 1\n"),
     (
@@ -62,6 +62,24 @@ const CASES: [(&[u8], &[u8]); 13] = [
     (
         b"loader a\nloader a\nloader \x7f\nunload b\n",
         b"ok 1\nrefused 2 loader exists\nrefused 1 name\nrefused 3 no loader\n",
+    ),
+    // names of 48 and 49 bytes, of 96 and 97
+    (
+        b"loader mmmmmmmmmmmmmmmmmmmmmmmmmmmmmmmmmmmmmmmmmmmmmmmm\n\
+            loader mmmmmmmmmmmmmmmmmmmmmmmmmmmmmmmmmmmmmmmmmmmmmmmmm\n\
+            define mmmmmmmmmmmmmmmmmmmmmmmmmmmmmmmmmmmmmmmmmmmmmmmmm @\n\
+            find mmmmmmmmmmmmmmmmmmmmmmmmmmmmmmmmmmmmmmmmmmmmmmmm A\n\
+            find mmmmmmmmmmmmmmmmmmmmmmmmmmmmmmmmmmmmmmmmmmmmmmmmm A\n\
+            loader nnnnnnnnnnnnnnnnnnnnnnnnnnnnnnnnnnnnnnnnnnnnnnnn\
+            nnnnnnnnnnnnnnnnnnnnnnnnnnnnnnnnnnnnnnnnnnnnnnnn\n\
+            loader nnnnnnnnnnnnnnnnnnnnnnnnnnnnnnnnnnnnnnnnnnnnnnnn\
+            nnnnnnnnnnnnnnnnnnnnnnnnnnnnnnnnnnnnnnnnnnnnnnnnn\n\
+            find nnnnnnnnnnnnnnnnnnnnnnnnnnnnnnnnnnnnnnnnnnnnnnnn\
+            nnnnnnnnnnnnnnnnnnnnnnnnnnnnnnnnnnnnnnnnnnnnnnnnn A\n\
+            unload nnnnnnnnnnnnnnnnnnnnnnnnnnnnnnnnnnnnnnnnnnnnnnnn\
+            nnnnnnnnnnnnnnnnnnnnnnnnnnnnnnnnnnnnnnnnnnnnnnnn\n",
+        b"ok 1\nok 2\nok 3 A\nnone\nclass A flags 0021 super java/lang/Object words 16\n\
+            ok 4\nrefused 1 name\nnone\nok 5\n",
     ),
     (
         b"tighten a\nloader a\ntighten a\ndefine a @\ntighten a\ntighten \x7f\ntighten\n",

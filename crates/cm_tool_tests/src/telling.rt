@@ -9,7 +9,7 @@ use std::test::*;
 /// A script, the line that a check tells of the cache after it, and the lines of its list.
 type Case<'a> = (&'a [u8], &'a [u8], &'a [u8]);
 
-const CASES: [Case<'_>; 6] = [
+const CASES: [Case<'_>; 7] = [
     (b"", b"ok loaders 0 classes 0 chunks 0 number 0\n", b""),
     (
         b"loader app\n",
@@ -40,6 +40,20 @@ const CASES: [Case<'_>; 6] = [
         b"loader a\ndefine a <0141>\nloader a%\nunload a\nloader ~\ndefine ~ <0141>\n",
         b"ok loaders 2 classes 1 chunks 1 number 6\n",
         b"loader a%\nloader ~\nclass A words 16 root 0 at 0\n",
+    ),
+    // names that take two slots, and differ in the second
+    (
+        b"loader mmmmmmmmmmmmmmmmmmmmmmmmmmmmmmmmmmmmmmmmmmmmmmmmmb\n\
+            loader mmmmmmmmmmmmmmmmmmmmmmmmmmmmmmmmmmmmmmmmmmmmmmmmma\n\
+            define mmmmmmmmmmmmmmmmmmmmmmmmmmmmmmmmmmmmmmmmmmmmmmmmmb <0141>\n\
+            loader mmmmmmmmmmmmmmmmmmmmmmmmmmmmmmmmmmmmmmmmmmmmmmmm\
+            mmmmmmmmmmmmmmmmmmmmmmmmmmmmmmmmmmmmmmmmmmmmmmmm\n",
+        b"ok loaders 3 classes 1 chunks 1 number 4\n",
+        b"loader mmmmmmmmmmmmmmmmmmmmmmmmmmmmmmmmmmmmmmmmmmmmmmmmma\n\
+            loader mmmmmmmmmmmmmmmmmmmmmmmmmmmmmmmmmmmmmmmmmmmmmmmmmb\n\
+            class A words 16 root 0 at 0\n\
+            loader mmmmmmmmmmmmmmmmmmmmmmmmmmmmmmmmmmmmmmmmmmmmmmmm\
+            mmmmmmmmmmmmmmmmmmmmmmmmmmmmmmmmmmmmmmmmmmmmmmmm\n",
     ),
     // eight classes fill a chunk; the ninth, in one of 256 words, moves to one of 128
     (
