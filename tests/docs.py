@@ -221,7 +221,10 @@ LIMITS = (
      "(N..=65536).contains(&slots)"),
     ("slots in a half of the journal", 1, "cm_pool/src/geometry.rt", "(256..=N).contains(&slots)"),
     ("slots in a half of the journal", 2, "cm_plan/src/command.rt", 'SLOTS,\n        "N",'),
-    ("name of a loader", 0, "cm_layout/src/name.rt", "NAME_LIMIT: usize = N;"),
+    ("name of a loader", 0, "cm_layout/src/name.rt", "LONG_NAME_ROOM: usize = N;\n\n"
+     "/// How many bytes a loader's name has at most.\n"
+     "pub const NAME_LIMIT: usize = LONG_NAME_ROOM;"),
+    ("name of a loader", 3, "cm_layout/src/name.rt", "pub const NAME_ROOM: usize = N;"),
     ("line of a script", 0, "cm_lines/src/line_buffer.rt", "LINE_LIMIT: usize = N;"),
     ("loaders that `unloadall` removes at once", 0, "cm_layout/src/loader_numbers.rt",
      "UNLOAD_LIMIT: usize = N;"),

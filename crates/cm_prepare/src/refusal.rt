@@ -12,7 +12,7 @@ use thiserror::Error;
 /// places in a class that breaks a rule.
 #[derive(Clone, Copy, Debug, PartialEq, Eq, Error)]
 pub enum Refusal {
-    /// A loader's name isn't 1 to 48 bytes from 21 to 7E.
+    /// A loader's name isn't 1 to 96 bytes from 21 to 7E.
     #[error("name")]
     BadName,
     /// The name is taken.
