@@ -47,6 +47,22 @@ printf 'refused 1 name\nnone\nok 1\n' >"$work/want"
 run apply --memory
 check "bytes that aren't UTF-8" 1
 
+name() { printf "$1%.0s" $(seq "$2"); } # X N: a name of so many bytes
+for bytes in 47 48 49 95 96 97; do echo "loader $(name m $bytes)"; done >"$work/in"
+{
+    echo "find $(name m 97) A"
+    echo "unload $(name m 97)"
+    echo "loader $(name m 96)"
+    echo "unloadall $(name m 49) $(name m 96) $(name m 48)"
+    echo "loader $(name m 60) "
+    printf 'loader %s\x7f\n' "$(name m 60)"
+    echo "loader $(name m 49)"
+} >>"$work/in"
+printf '%s\n' 'ok 1' 'ok 2' 'ok 3' 'ok 4' 'ok 5' 'refused 1 name' none 'refused 1 name' \
+    'refused 2 loader exists' 'ok 6' 'refused 15 line' 'refused 1 name' 'ok 7' >"$work/want"
+run apply --memory
+check "names of 47 to 97 bytes" 1
+
 {
     echo "loader app"
     echo "define app ${a}00"
