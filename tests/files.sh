@@ -369,13 +369,12 @@ check_last "a checkpoint with long names: half 1 counts slots"
 check_last "a checkpoint with long names: the file"
 
 : >"$work/in"
-# spoiled NAME WORDS OFFSET BYTES [FILE]: a file of two names of 49 bytes, the second without its
-# rest where told so by a file, with bytes changed.
+# spoiled NAME WORDS OFFSET BYTES: a file of two names of 49 bytes and one of one, with bytes
+# changed.
 spoiled() {
     printf 'loader %s\nloader %s\nloader a\n' "$(name m 49)" "$(name n 49)" |
         python3 tests/region.py after >"$work/spoiled"
     printf '%b' "$4" | dd of="$work/spoiled" bs=1 seek="$3" conv=notrunc status=none
-    cp "$work/spoiled" "$work/kept"
     run check "$work/spoiled"
     check_says "$1" 1 "$2"
     [ "$(python3 tests/region.py check "$work/spoiled")" = "$2" ]
@@ -387,7 +386,7 @@ spoiled "a name without its rest" "damaged 5 2" $((4096 + 64 * 3 + 1)) '\x13'
 spoiled "a rest of another kind" "damaged 5 2" $((4096 + 64 * 3 + 1)) '\x11'
 spoiled "a rest that isn't zeros" "damaged 5 2" $((4096 + 64 * 3 + 17)) 'm'
 spoiled "a rest with another first byte" "damaged 5 2" $((4096 + 64 * 3)) '\x01'
-spoiled "a name that ends in another slot" "damaged 5 2" $((4096 + 64 * 2 + 2)) '\x30'
+spoiled "a rest behind a name of 48 bytes" "damaged 5 3" $((4096 + 64 * 2 + 2)) '\x30'
 spoiled "a space in the first slot" "damaged 6 2" $((4096 + 64 * 2 + 16)) ' '
 spoiled "a space in the rest" "damaged 6 2" $((4096 + 64 * 3 + 16)) ' '
 spoiled "7F in the rest" "damaged 6 5" $((4096 + 64 * 6 + 16)) '\x7f'
