@@ -4,12 +4,12 @@
 use crate::disks::put;
 use crate::found::Found::{Damaged, Sound};
 use crate::found::{Found, Summary};
-use crate::halves::find_half;
+use crate::halves::{find_half, small_front};
 use cm_layout::{
     ENTRY_VERSION, GroupHead, HalfHead, LoaderRow, OLDEST_VERSION, SlotName, Superblock,
 };
 use cm_pool::Geometry;
-use cm_verdict::Damage;
+use cm_verdict::{Damage, FileFault};
 use std::alloc::Global;
 use std::test::*;
 
@@ -197,6 +197,60 @@ const CHANGED_GROUPS: [(usize, u8, Found<Summary>); 34] = [
 fn a_rest_belongs_to_the_loader_before_it(rt: HostRuntime) -> Result<(), Fail> {
     let other = first_other(rt.alloc(), &IN_GROUPS, &CHANGED_GROUPS)?;
     assert_eq!(rt; other, None);
+    Ok(())
+}
+
+/// Puts the rest of the name `FIRST` into a slot of half 0.
+fn put_rest(bytes: &mut [u8], slot: usize) {
+    let at = ZERO.wrapping_add(slot.wrapping_mul(SLOT));
+    for place in 0..SLOT {
+        put(bytes, at.wrapping_add(place), 0);
+    }
+    put(bytes, at.wrapping_add(1), 0x16);
+    put(bytes, at.wrapping_add(16), b'a');
+}
+
+/// Slots into which that rest is put, and what is found then.
+const RESTS: [(usize, Found<Summary>); 6] = [
+    // its own
+    (3, Sound(FIVE)),
+    // that of the name which differs there alone
+    (6, Damaged(Damage::Rows, 5)),
+    // first in a group, of one slot and of more
+    (8, Damaged(Damage::Slot, 8)),
+    (10, Damaged(Damage::Slot, 10)),
+    // behind a short name
+    (11, Damaged(Damage::Slot, 11)),
+    // behind a name of 96 bytes, 47 of which are 0 then: it is spelled, but no loader may have it
+    (12, Damaged(Damage::Rows, 11)),
+];
+
+#[test]
+fn a_rest_elsewhere_is_damage(rt: HostRuntime) -> Result<(), Fail> {
+    let front = front_of(rt.alloc(), &IN_GROUPS)?;
+    for (slot, found) in &RESTS {
+        let mut bytes = Vec::from_slice(rt.alloc(), &front)?;
+        put_rest(&mut bytes, *slot);
+        assert_eq!(rt;
+            find_half(rt.alloc(), &bytes)?,
+            found.in_bytes(),
+            "in slot {slot}"
+        );
+    }
+    Ok(())
+}
+
+#[test]
+fn a_rest_behind_a_class_is_damage(rt: HostRuntime) -> Result<(), Fail> {
+    // the group of the first class has a slot more, where the second class's group begins
+    let mut front = small_front(rt.alloc())?;
+    put(&mut front, ZERO + 3 * SLOT + 2, 2);
+    put_rest(&mut front, 5);
+    let damage = FileFault::Damaged {
+        what: Damage::Slot,
+        slot: 5,
+    };
+    assert_eq!(rt; find_half(rt.alloc(), &front)?, Err(damage));
     Ok(())
 }
 
