@@ -7,6 +7,7 @@ mod Sections
 mod WorkedExamples
 -- Runs, word by word.
 pub use Packed.{length-packed_into, packed_len, packed_more, word_same, length-bytes_of}
+pub use Packed.{word_back}
 -- How many words the sections have.
 pub use Lengths.{attribute_runs_append, all_attributes_len, all_runs, all_runs_len, all_members_len}
 pub use Lengths.{attributes_append, members_append, directory_len, members_len, attributes_len}

@@ -1,14 +1,15 @@
 -- What is read piece by piece.
 -- For `read_run`.
-use Rattle.std.proofs.Common.{◌≡◌, ◌<◌, ◌≤◌, ◌-◌, ℕ, zero, suc, true, false, List, [], ◌∷◌, ◌++◌}
+use Rattle.std.proofs.Common.{◌≡◌, ◌<◌, ◌≤◌, ◌*◌, ◌-◌, ◌^◌, ℕ, zero, suc, true, false, List}
+use Rattle.std.proofs.Common.{[], ◌∷◌, ◌++◌}
 use Rattle.std.proofs.Common.{length, take, drop, get_or, min, Option, Some, None, refl, sym, ◌∙◌}
-use Rattle.std.proofs.Common.{ap, arith, append_assoc}
+use Rattle.std.proofs.Common.{ap, arith, append_assoc, Fits, w64}
 use Rattle.std.specs.Prelude.{◌==◌}
-use Rattle.std.proofs.lemmas.List.{take_min, take_all, length-take, append-nil}
+use Rattle.std.proofs.lemmas.List.{take_min, take_all, append-nil}
 use Rattle.std.proofs.lemmas.Bool.{eq-eqb, ne_eqb}
-use Rattle.cm_record_layout.specs.Packing.{word_from, bytes_of, run_words}
+use Rattle.cm_record_layout.specs.Packing.{word_from, bytes_of, word_bytes, run_words}
 use Rattle.cm_record_reading.specs.Reading.{◌>>=◌, run_from, run_at, with_front}
-use Rattle.cm_record_layout.proofs.{length-bytes_of}
+use Rattle.cm_record_layout.proofs.{length-bytes_of, word_back}
 
 pub with_front-nil : {A B : Type 0} (read : Option (List A × B)) → with_front [] read ≡ read
 with_front-nil None = refl
@@ -55,43 +56,84 @@ run_good left word rest front some e same =
     rw (one_more left some, whole_front left word front e, test)
     (go_on front (run_at (left - 8) rest))
 
--- ---- the turns of a loop that reads a run, of which all is what it should read
+-- a whole word may be any
+run_whole : (left word : ℕ) (rest : List ℕ) → 8 ≤ left → word < 2 ^ 64
+    → run_at left (word ∷ rest) ≡ with_front (bytes_of word) (run_at (left - 8) rest)
+run_whole left word rest enough small =
+    let all : bytes_of word ≡ take (min left 8) (bytes_of word) =
+    sym (take_all (min left 8) (bytes_of word) (omega (arith, length-bytes_of word, enough))) in
+    run_good left word rest (bytes_of word) (omega (arith, enough)) all (word_back word small)
 
-pub run_short : (bytes rest : List ℕ) (left : ℕ) (all : Option (List ℕ × List ℕ))
-    → with_front bytes (run_at left rest) ≡ all → 0 < left → length rest < 1 → all ≡ None
-run_short bytes [] left all kept some short = sym kept ∙ ap (with_front bytes) (run_none left some)
-run_short bytes (w ∷ rest) left all kept some short = absurd (omega arith)
+-- these are all words of 64 bits
+abbrev pub AreSmall : List ℕ → Type 0
+AreSmall words = (i : ℕ) → Fits w64 (get_or words i 0)
 
-pub run_wrong : (bytes rest eight : List ℕ) (left n found : ℕ) (all : Option (List ℕ × List ℕ))
-    → with_front bytes (run_at left rest) ≡ all → 0 < left → 1 ≤ length rest
-    → eight ≡ bytes_of (get_or rest 0 0) → n ≡ min left 8 → found ≡ word_from (take n eight)
-    → (found ≡ get_or rest 0 0 → ⊥) → all ≡ None
-run_wrong bytes [] eight left n found all kept some long ee en ef other = absurd (omega arith)
-run_wrong bytes (w ∷ rest) eight left n found all kept some long ee en ef other =
-    let front : take n eight ≡ take (min left 8) (bytes_of w) = rw (ee, en) refl in
-    sym kept ∙ ap (with_front bytes) (run_bad left w rest (take n eight) some front
-    (λ same. other (ef ∙ same)))
+-- whole words first
+pub run_words_first : (n left : ℕ) (words : List ℕ) → n ≤ length words → 8 * n ≤ left
+    → AreSmall words
+    → run_at left words
+    ≡ with_front (word_bytes (take n words)) (run_at (left - 8 * n) (drop n words))
+run_words_first zero left words within few small =
+    let all : left ≡ left - 8 * 0 = omega arith in
+    ap (λ (k : ℕ). run_at k words) all ∙ sym (with_front-nil (run_at (left - 8 * 0) words))
+run_words_first (suc n) left [] within few small = absurd (omega (arith, within))
+run_words_first (suc n) left (word ∷ words) within few small =
+    let rest = run_words_first n (left - 8) words (omega (arith, within)) (omega (arith, few))
+    (λ i. small (suc i)) in
+    let less : left - 8 - 8 * n ≡ left - 8 * suc n = omega (arith, few) in
+    run_whole left word words (omega (arith, few)) (omega (arith, small 0))
+    ∙ (ap (with_front (bytes_of word)) rest
+    ∙ (sym (with_front-append (bytes_of word) (word_bytes (take n words))
+    (run_at (left - 8 - 8 * n) (drop n words)))
+    ∙ ap (λ (k : ℕ). with_front (bytes_of word ++ word_bytes (take n words))
+    (run_at k (drop n words))) less))
 
-pub run_next : (bytes bytes' rest eight : List ℕ) (left n found : ℕ) (all : Option (List ℕ
-    × List ℕ)) → with_front bytes (run_at left rest) ≡ all → 0 < left → 1 ≤ length rest
-    → eight ≡ bytes_of (get_or rest 0 0) → n ≡ min left 8 → found ≡ word_from (take n eight)
-    → found ≡ get_or rest 0 0 → bytes' ≡ bytes ++ take n eight
-    → with_front bytes' (run_at (left - length (take n eight))
-    (take (length rest - 1) (drop 1 rest))) ≡ all
-run_next bytes bytes' [] eight left n found all kept some long ee en ef same eb =
-    absurd (omega arith)
-run_next bytes bytes' (w ∷ rest) eight left n found all kept some long ee en ef same eb =
-    let front : take n eight ≡ take (min left 8) (bytes_of w) = rw (ee, en) refl in
-    let size : left - length (take n eight) ≡ left - 8 =
-    omega (arith, length-take n eight, ap length ee, length-bytes_of w, en) in
-    let behind : take (length (w ∷ rest) - 1) (drop 1 (w ∷ rest)) ≡ rest =
-    take_all (length (w ∷ rest) - 1) rest (omega arith) in
-    rw (eb, size, behind) (with_front-append bytes (take n eight) (run_at (left - 8) rest)
-    ∙ (ap (with_front bytes) (sym (run_good left w rest (take n eight) some front (sym ef ∙ same)))
-    ∙ kept))
+-- too few words
+pub run_too_long : (n left : ℕ) (words : List ℕ) → length words < n → 8 * n ≤ left
+    → AreSmall words → run_at left words ≡ None
+run_too_long zero left words short few small = absurd (omega (arith, short))
+run_too_long (suc n) left [] short few small = run_none left (omega (arith, few))
+run_too_long (suc n) left (word ∷ words) short few small =
+    run_whole left word words (omega (arith, few)) (omega (arith, small 0))
+    ∙ ap (with_front (bytes_of word))
+    (run_too_long n (left - 8) words (omega (arith, short)) (omega (arith, few))
+    (λ i. small (suc i)))
 
-pub run_done : (bytes rest : List ℕ) (left : ℕ) (all : Option (List ℕ × List ℕ))
-    → with_front bytes (run_at left rest) ≡ all → left ≤ 0 → all ≡ Some (bytes, rest)
+-- ---- the end of a run: none of its bytes are left, or fewer than a word has
+
+pub run_done : (words : List ℕ) → run_at 0 words ≡ Some ([], words)
 unfolding run_from
-run_done bytes rest zero all kept none = sym kept ∙ ap (λ w. Some (w, rest)) (append-nil bytes)
-run_done bytes rest (suc left) all kept none = absurd (omega arith)
+run_done words = refl
+
+abbrev pub behind_first : List ℕ → List ℕ
+behind_first words = take (length words - 1) (drop 1 words)
+
+pub run_ends : (left found : ℕ) (words eight : List ℕ) → 0 < left → left < 8 → 1 ≤ length words
+    → eight ≡ bytes_of (get_or words 0 0) → found ≡ word_from (take left eight)
+    → found ≡ get_or words 0 0
+    → run_at left words ≡ Some (take left eight, behind_first words)
+run_ends left found [] eight some few long ee ef same = absurd (omega (arith, long))
+run_ends left found (w ∷ rest) eight some few long ee ef same =
+    let front : take left eight ≡ take (min left 8) (bytes_of w) =
+    rw ee (ap (λ (n : ℕ). take n (bytes_of w)) (omega (arith, few))) in
+    let none : left - 8 ≡ 0 = omega (arith, few) in
+    let behind : behind_first (w ∷ rest) ≡ rest =
+    take_all (length (w ∷ rest) - 1) rest (omega arith) in
+    run_good left w rest (take left eight) some front (sym ef ∙ same)
+    ∙ (ap (λ (n : ℕ). with_front (take left eight) (run_at n rest)) none
+    ∙ (ap (with_front (take left eight)) (run_done rest)
+    ∙ (λ i. Some (append-nil (take left eight) i, sym behind i))))
+
+pub run_breaks : (left found : ℕ) (words eight : List ℕ) → 0 < left → left < 8 → 1 ≤ length words
+    → eight ≡ bytes_of (get_or words 0 0) → found ≡ word_from (take left eight)
+    → (found ≡ get_or words 0 0 → ⊥) → run_at left words ≡ None
+run_breaks left found [] eight some few long ee ef other = absurd (omega (arith, long))
+run_breaks left found (w ∷ rest) eight some few long ee ef other =
+    let front : take left eight ≡ take (min left 8) (bytes_of w) =
+    rw ee (ap (λ (n : ℕ). take n (bytes_of w)) (omega (arith, few))) in
+    run_bad left w rest (take left eight) some front (λ same. other (ef ∙ same))
+
+pub run_stops : (left : ℕ) (words : List ℕ) → 0 < left → length words < 1
+    → run_at left words ≡ None
+run_stops left [] some short = run_none left some
+run_stops left (w ∷ rest) some short = absurd (omega (arith, short))

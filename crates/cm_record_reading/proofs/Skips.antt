@@ -1,23 +1,22 @@
 -- The turns of the loops that keep nothing. `all` is what the whole loop should leave.
 -- For `skip_attributes`, `skip_interfaces`, `skip_members` and others.
-use Rattle.std.proofs.Common.{◌≡◌, ◌<◌, ◌≤◌, ◌+◌, ◌-◌, ◌^◌, ℕ, zero, suc, Bool, true, false, List}
-use Rattle.std.proofs.Common.{[], ◌∷◌, length, take, drop, get_or, min, Option, Some, None, refl}
+use Rattle.std.proofs.Common.{◌≡◌, ◌<◌, ◌≤◌, ◌+◌, ◌*◌, ◌-◌, ◌^◌, ℕ, zero, suc, Bool, true, false}
+use Rattle.std.proofs.Common.{List, [], ◌∷◌, length, take, drop, get_or, Option, Some, None, refl}
 use Rattle.std.proofs.Common.{sym, ◌∙◌, ap, arith}
 use Rattle.std.specs.Prelude.{nat_lt}
-use Rattle.std.proofs.lemmas.List.{take_all, length-take}
+use Rattle.std.proofs.lemmas.List.{take_all}
 use Rattle.std.proofs.lemmas.Bool.{lt-ltb, le-ltb}
 use Rattle.cm_class.specs.declared.constant.Constant.{Constant}
 use Rattle.cm_class.specs.declared.constant.Slot.TheVariants.{Usable, Unusable}
 use Rattle.cm_class.specs.declared.class_file.Attribute.{Attribute}
 use Rattle.cm_class.specs.declared.class_file.Member.{Member}
 use Rattle.cm_class.specs.Spelling.{is_wide}
-use Rattle.cm_record_layout.specs.Packing.{word_from, bytes_of}
-use Rattle.cm_record_reading.specs.Reading.{◌>>=◌, run_from, run_at, interfaces_from, constant_at}
+use Rattle.cm_record_layout.specs.Packing.{word_bytes}
+use Rattle.cm_record_reading.specs.Reading.{◌>>=◌, run_at, interfaces_from, constant_at}
 use Rattle.cm_record_reading.specs.Reading.{slots_at, attribute_at, attributes_from, member_at}
 use Rattle.cm_record_reading.specs.Reading.{members_from, with_front, left1, left2, left3}
 use Rattle.cm_record_reading.specs.Reading.{width_left}
-use Rattle.cm_record_layout.proofs.{length-bytes_of}
-use Rattle.cm_record_reading.proofs.Fronts.{run_none, run_bad, run_good}
+use Rattle.cm_record_reading.proofs.Fronts.{AreSmall, run_words_first}
 
 left1-with_front : {A B : Type 0} (front : List A) (read : Option (List A × B))
     → left1 (with_front front read) ≡ left1 read
@@ -77,42 +76,13 @@ width_none : (read : Option (Constant × List ℕ × List ℕ)) → width_left r
 width_none None e = refl
 width_none (Some read) e = absurd (cc)
 
--- ---- runs
+-- ---- runs: whole words first, and then the end
 
-pub run_short : (rest : List ℕ) (left : ℕ) (all : Option (List ℕ))
-    → left1 (run_at left rest) ≡ all → 0 < left → length rest < 1 → all ≡ None
-run_short [] left all kept some short = sym kept ∙ ap left1 (run_none left some)
-run_short (w ∷ rest) left all kept some short = absurd (omega arith)
-
-pub run_wrong : (rest eight : List ℕ) (left n found : ℕ) (all : Option (List ℕ))
-    → left1 (run_at left rest) ≡ all → 0 < left → 1 ≤ length rest
-    → eight ≡ bytes_of (get_or rest 0 0) → n ≡ min left 8 → found ≡ word_from (take n eight)
-    → (found ≡ get_or rest 0 0 → ⊥) → all ≡ None
-run_wrong [] eight left n found all kept some long ee en ef other = absurd (omega arith)
-run_wrong (w ∷ rest) eight left n found all kept some long ee en ef other =
-    let front : take n eight ≡ take (min left 8) (bytes_of w) = rw (ee, en) refl in
-    sym kept ∙ ap left1 (run_bad left w rest (take n eight) some front (λ same. other (ef ∙ same)))
-
-pub run_next : (rest eight : List ℕ) (left n found : ℕ) (all : Option (List ℕ))
-    → left1 (run_at left rest) ≡ all → 0 < left → 1 ≤ length rest
-    → eight ≡ bytes_of (get_or rest 0 0) → n ≡ min left 8 → found ≡ word_from (take n eight)
-    → found ≡ get_or rest 0 0
-    → left1 (run_at (left - length (take n eight)) (take (length rest - 1) (drop 1 rest))) ≡ all
-run_next [] eight left n found all kept some long ee en ef same = absurd (omega arith)
-run_next (w ∷ rest) eight left n found all kept some long ee en ef same =
-    let front : take n eight ≡ take (min left 8) (bytes_of w) = rw (ee, en) refl in
-    let size : left - length (take n eight) ≡ left - 8 =
-    omega (arith, length-take n eight, ap length ee, length-bytes_of w, en) in
-    let behind : take (length (w ∷ rest) - 1) (drop 1 (w ∷ rest)) ≡ rest =
-    take_all (length (w ∷ rest) - 1) rest (omega arith) in
-    rw (size, behind) (sym (left1-with_front (take n eight) (run_at (left - 8) rest))
-    ∙ (ap left1 (sym (run_good left w rest (take n eight) some front (sym ef ∙ same))) ∙ kept))
-
-pub run_done : (rest : List ℕ) (left : ℕ) (all : Option (List ℕ))
-    → left1 (run_at left rest) ≡ all → left ≤ 0 → all ≡ Some rest
-unfolding run_from
-run_done rest zero all kept none = sym kept
-run_done rest (suc left) all kept none = absurd (omega arith)
+pub run_behind : (n left : ℕ) (words : List ℕ) → n ≤ length words → 8 * n ≤ left
+    → AreSmall words → left1 (run_at left words) ≡ left1 (run_at (left - 8 * n) (drop n words))
+run_behind n left words within few small =
+    ap left1 (run_words_first n left words within few small)
+    ∙ left1-with_front (word_bytes (take n words)) (run_at (left - 8 * n) (drop n words))
 
 -- ---- interfaces
 

@@ -14,26 +14,25 @@ use cm_record_layout::{
     bytes_of, first, fourth, second, third, upper, word_of, words_from,
 };
 
-/// The words behind a run of so many bytes.
+/// The words behind a run of so many bytes. Whole words may be any: only the last one is looked at,
+/// where the run doesn't fill it.
 fn skip_run(count: usize, words: &[u64]) -> Option<&[u64]>
     ensures left { Leaves (λ x. x.now) result (left1 (run_at count words.now)) }
     ensures suffix { IfSome result (λ x. length x.now ≤ length words.now) }
 {
-    let mut left = count;
-    let mut rest = words;
-    while left > 0 {
-        let [word, behind @ ..] = rest else {
-            return None;
-        };
-        let eight = bytes_of(*word);
-        let front = &eight[..left.min(8)];
-        if word_of(front) != *word {
-            return None;
-        }
-        left -= front.len();
-        rest = behind;
+    let rest = words.get(count / 8..)?;
+    let left = count % 8;
+    if left == 0 {
+        return Some(rest);
     }
-    Some(rest)
+    let [word, behind @ ..] = rest else {
+        return None;
+    };
+    let eight = bytes_of(*word);
+    if word_of(&eight[..left]) != *word {
+        return None;
+    }
+    Some(behind)
 }
 
 /// Whether a constant is wide, and what is left behind it.

@@ -1,7 +1,7 @@
 //! Spelling a class from the words of a record, part by part and in the class file's order. Each
 //! function reads from slices that end where the record ends, so what is left of one says where in
 //! the record it begins, and puts the bytes of what it read behind those in a buffer.
-ghost use Rattle.std.specs.Prelude.{◌≡◌, ◌++◌, ◌≤◌, length, false, IfOk};
+ghost use Rattle.std.specs.Prelude.{◌≡◌, ◌++◌, ◌≤◌, length, false, IfOk, OnOk};
 ghost use Rattle.std.specs.List.{flat_map};
 ghost use Rattle.cm_class.specs.declared.constant.Constant.TheVariants as constants;
 ghost use Rattle.cm_class.specs.declared.kind.Kind.TheVariants as kinds;
@@ -10,6 +10,7 @@ ghost use Rattle.cm_class.specs.Reading.{tag_number};
 ghost use Rattle.cm_class.specs.Spelling.{u1, u2, u4, u8, slot_bytes, constant_bytes};
 ghost use Rattle.cm_class.specs.Spelling.{attribute_bytes, member_bytes, counted};
 ghost use Rattle.cm_record_layout.specs.Layout.{limit};
+ghost use Rattle.cm_record_layout.specs.Packing.{word_bytes};
 ghost use Rattle.cm_record_reading.specs.Reading.{Gives, run_at, constant_at, slots_at, with_front};
 ghost use Rattle.cm_record_reading.specs.Reading.{interfaces_from, attribute_at, attributes_from};
 ghost use Rattle.cm_record_reading.specs.Reading.{member_at, members_from};
@@ -53,22 +54,34 @@ fn spell_run<'a>(
         (with_front out.old.items (run_at count words.now)) }
     ensures suffix { IfOk result (λ x. length x.now ≤ length words.now) }
 {
-    let mut left = count;
-    let mut rest = words;
-    while left > 0 {
-        let [word, behind @ ..] = rest else {
-            return Err(RecordFault::NotARecord);
-        };
-        let eight = bytes_of(*word);
-        let front = &eight[..left.min(8)];
-        if word_of(front) != *word {
-            return Err(RecordFault::NotARecord);
-        }
-        out.extend_from_slice(front)?;
-        left -= front.len();
-        rest = behind;
+    let Some(whole) = words.get(..count / 8) else {
+        return Err(RecordFault::NotARecord);
+    };
+    put_words(whole, out)?;
+    let rest = &words[count / 8..];
+    let left = count % 8;
+    if left == 0 {
+        return Ok(rest);
     }
-    Ok(rest)
+    let [word, behind @ ..] = rest else {
+        return Err(RecordFault::NotARecord);
+    };
+    let eight = bytes_of(*word);
+    if word_of(&eight[..left]) != *word {
+        return Err(RecordFault::NotARecord);
+    }
+    out.extend_from_slice(&eight[..left])?;
+    Ok(behind)
+}
+
+/// Puts the bytes of words into the buffer.
+fn put_words(words: &[u64], out: &mut Vec<u8>) -> Result<(), AllocError>
+    ensures { OnOk result (out.new.items ≡ out.old.items ++ word_bytes words.now) }
+{
+    for word in words {
+        out.extend_from_slice(&bytes_of(*word))?;
+    }
+    Ok(())
 }
 
 /// Puts a number of two bytes into the buffer.
