@@ -120,7 +120,7 @@ names_of c d table e h =
 
 module _ (c : ClassFile) (members : List Member) (numbers repeated : List ℕ)
     (are : AreNumbers c members numbers) (has : HasRepeated numbers repeated) where
-  one_number : (k i : ℕ) (m x : Member) → k < i → i < length members → m ≡ get_or members i m
+  pub one_number : (k i : ℕ) (m x : Member) → k < i → i < length members → m ≡ get_or members i m
       → Agree c m (get_or members k x) → get_or numbers k 0 ≡ get_or numbers i 0
   one_number k i m x lt within is agree =
       let before : k < length members = omega (arith, lt, within) in
@@ -305,3 +305,67 @@ module _ (c : ClassFile) (members : List Member) (numbers repeated : List ℕ)
                   descriptor = descriptor;
                   was_seen = at_key;
                 }
+
+-- ---- the numbers alone that were seen before a place
+
+abbrev pub Numbers : Type 0
+Numbers = BTreeSet ℕ
+
+abbrev pub SeenNumbers : List Member → List ℕ → List ℕ → Numbers → ℕ → Type 0
+SeenNumbers members numbers repeated seen place =
+    (k : ℕ) → k < place → k < length members → Contains repeated (get_or numbers k 0)
+    → contains nat_cmp seen (get_or numbers k 0) ≡ true
+
+module _ (c : ClassFile) (members : List Member) (numbers repeated : List ℕ)
+    (are : AreNumbers c members numbers) (has : HasRepeated numbers repeated) (seen : Numbers)
+    (i : ℕ) (m : Member) (within : i < length members) (is : m ≡ get_or members i m)
+    (so_far : SeenNumbers members numbers repeated seen i) where
+  number_at : (k : ℕ) → k < i + 1 → (k < i) ⊎ (k ≡ i)
+  number_at k lt = ⊎_elim inl (λ le. inr (omega (arith, le, lt))) (cases_lt k i)
+
+  -- a number that isn't repeated adds nothing
+  pub numbers_without : (Contains repeated (get_or numbers i 0) → ⊥)
+      → SeenNumbers members numbers repeated seen (i + 1)
+  numbers_without lacks k lt inside h =
+      ⊎_elim (λ before. so_far k before inside h)
+      (λ here. absurd (lacks (subst (λ (j : ℕ). Contains repeated (get_or numbers j 0)) here h)))
+      (number_at k lt)
+
+  -- one that wasn't seen is that of no member before
+  pub first_of_number : Contains repeated (get_or numbers i 0)
+      → contains nat_cmp seen (get_or numbers i 0) ≡ false → is_first c members i m ≡ true
+  first_of_number candidate fresh =
+      stands_first c members i m (λ k x lt inside agree.
+      let one = one_number c members numbers repeated are has k i m x lt within is agree in
+      let known : contains nat_cmp seen (get_or numbers i 0) ≡ true =
+      ap (contains nat_cmp seen) (sym one)
+      ∙ so_far k lt inside (subst (Contains repeated) (sym one) candidate) in
+      cc)
+
+  -- and is seen from then on
+  pub numbers_with : (after : Numbers)
+      → ((q : ℕ) → contains nat_cmp after q
+      ≡ cond (is_eq (nat_cmp (get_or numbers i 0) q)) true (contains nat_cmp seen q))
+      → SeenNumbers members numbers repeated after (i + 1)
+  numbers_with after added k lt inside h = ⊎_elim before here (number_at k lt)
+    where
+      both : (b : Bool) → cond b true true ≡ true
+      both true = refl
+      both false = refl
+
+      is_eq-same : (n : ℕ) → is_eq (nat_cmp n n) ≡ true
+      is_eq-same n = grind (arith, nat_tests)
+
+      before : k < i → contains nat_cmp after (get_or numbers k 0) ≡ true
+      before lt_i =
+          added (get_or numbers k 0)
+          ∙ (ap (cond (is_eq (nat_cmp (get_or numbers i 0) (get_or numbers k 0))) true)
+          (so_far k lt_i inside h)
+          ∙ both (is_eq (nat_cmp (get_or numbers i 0) (get_or numbers k 0))))
+
+      here : k ≡ i → contains nat_cmp after (get_or numbers k 0) ≡ true
+      here e =
+          ap (λ (j : ℕ). contains nat_cmp after (get_or numbers j 0)) e
+          ∙ (added (get_or numbers i 0)
+          ∙ ap (λ (b : Bool). cond b true (contains nat_cmp seen (get_or numbers i 0)))
+          (is_eq-same (get_or numbers i 0)))

@@ -6,6 +6,7 @@ ghost use Rattle.cm_duplicates.specs.Fingerprints.{HasRepeated, member_fingerpri
 
 use crate::candidates::first_among_repeated;
 use crate::fingerprints::{Strength, member_fingerprints};
+use crate::meeting::first_where_they_meet;
 use crate::pairs::first_by_pairs;
 use crate::repeated::find_repeats;
 use cm_class::{Class, Member};
@@ -26,10 +27,16 @@ fn first_duplicate(
         return Ok(first_by_pairs(class, members));
     }
     let fingerprints = member_fingerprints(alloc, class, members, Strength::Quick)?;
-    if find_repeats(alloc, &fingerprints)?.is_empty() {
+    let meeting = find_repeats(alloc, &fingerprints)?;
+    if meeting.is_empty() {
         return Ok(None);
     }
-    first_by_strong_fingerprints(alloc, class, members)
+    // Where nobody chose names whose fingerprints meet, those that do are a duplicate's.
+    let found = first_where_they_meet(alloc, class, members, &fingerprints, &meeting)?;
+    match found {
+        Some(place) => Ok(Some(place)),
+        None => first_by_strong_fingerprints(alloc, class, members),
+    }
 }
 
 /// The first duplicate, where quick fingerprints meet, by chance or by choice.

@@ -6,6 +6,7 @@ mod duplicates;
 mod fingerprints;
 mod interner;
 mod laws;
+mod meeting;
 mod pairs;
 mod repeated;
 

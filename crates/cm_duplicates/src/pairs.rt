@@ -13,7 +13,7 @@ fn same_utf8(class: &Class, a: u16, b: u16) -> bool
     a == b || class.utf8(a) == class.utf8(b)
 }
 
-fn same_member(class: &Class, a: &Member, b: &Member) -> bool
+pub(crate) fn same_member(class: &Class, a: &Member, b: &Member) -> bool
     ensures { result ≡ same_member class.now a.now b.now }
 {
     same_utf8(class, a.name, b.name) && same_utf8(class, a.descriptor, b.descriptor)

@@ -10,15 +10,15 @@ returns-then-is_empty c =
     let class = c.args.class.now in
     let members = c.args.members.now in
     let numbers = c.in_ok-fingerprints.fingerprints.items in
-    let repeated = c.in_ok-find_repeats.field-0.items in
+    let repeated = c.in_ok-meeting.meeting.items in
     let are : AreNumbers class members numbers =
     are_numbers Quick class members numbers c.in_ok-fingerprints.ensures in
     let has : HasRepeated numbers repeated =
-    rw c.deref.ensures.value at c.in_ok-find_repeats.ensures.all in
+    rw c.deref.ensures.value at c.in_ok-meeting.ensures.all in
     let none : length repeated ≡ 0 =
     omega (
       arith,
       eqb-true _ 0 (sym c.is_empty.ensures ∙ c.if-is_empty.true),
-      c.in_ok-find_repeats.field-0.ok.0,
+      c.in_ok-meeting.meeting.ok.0,
     ) in
     sym (none_repeated class members numbers repeated are has none)
