@@ -211,15 +211,15 @@ def example():
 # for the number.
 LIMITS = (
     ("record of a class", 0, "cm_record_layout/src/packing.rt", "MAX_WORDS: u64 = N;"),
-    ("a root", 2, "cm_pool/src/geometry.rt", "(N..=12).contains(&top)"),
-    ("a root", 3, "cm_pool/src/geometry.rt", "(3..=N).contains(&top)"),
+    ("a root", 2, "cm_pool/src/geometry.rt", "LEAST_TOP: u32 = N;"),
+    ("a root", 3, "cm_pool/src/geometry.rt", "MOST_TOP: u32 = N;"),
     ("a root", 4, "cm_plan/src/command.rt", 'TOP,\n        "N",'),
-    ("roots of a file", 0, "cm_pool/src/geometry.rt", "(N..=256).contains(&roots)"),
-    ("roots of a file", 1, "cm_pool/src/geometry.rt", "(1..=N).contains(&roots)"),
+    ("roots of a file", 0, "cm_pool/src/geometry.rt", "LEAST_ROOTS: u32 = N;"),
+    ("roots of a file", 1, "cm_pool/src/geometry.rt", "MOST_ROOTS: u32 = N;"),
     ("roots of a file", 2, "cm_plan/src/command.rt", 'ROOTS, "N",'),
     ("slots in a half of the journal", 0, "cm_pool/src/geometry.rt",
-     "(N..=65536).contains(&slots)"),
-    ("slots in a half of the journal", 1, "cm_pool/src/geometry.rt", "(256..=N).contains(&slots)"),
+     "LEAST_SLOTS: u32 = N;"),
+    ("slots in a half of the journal", 1, "cm_pool/src/geometry.rt", "MOST_SLOTS: u32 = N;"),
     ("slots in a half of the journal", 2, "cm_plan/src/command.rt", 'SLOTS,\n        "N",'),
     ("name of a loader", 0, "cm_layout/src/name.rt", "LONG_NAME_ROOM: usize = N;\n\n"
      "/// How many bytes a loader's name has at most.\n"

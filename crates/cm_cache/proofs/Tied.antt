@@ -13,7 +13,7 @@ use Rattle.cm_state.specs.Entries.{change_of}
 use Rattle.cm_commit.specs.Offers.{filled, rows_after_group}
 use Rattle.cm_front.specs.declared.front.Stranger.{Stranger}
 use Rattle.cm_front.specs.Front.{FrontState, IsFront}
-use Rattle.cm_front.specs.Accepting.{Accepts, begun_by, carried, joined_by, with_learnt}
+use Rattle.cm_front.specs.Accepting.{FrontAccepts, begun_by, carried, joined_by, with_learnt}
 use Rattle.cm_machine.specs.Ahead.{IsAhead, pending}
 use Rattle.cm_machine.specs.Handover.{AcceptedIsAhead, HandedIsAhead, LearntIsAhead}
 use Rattle.cm_machine.specs.Handover.{CommittedIsAhead, FailedIsAhead}
@@ -87,21 +87,21 @@ fresh_is_tied base s f = record {
 
 -- what was accepted is all that waits
 one_waits : (s between : FrontState) (change : Change (List ℕ)) (n : ℕ) → s.unsealed ≡ []
-    → (a : Accepts s change n between)
+    → (a : FrontAccepts s change n between)
     → between.unsealed ≡ begun_by (s.number + 1) (carried s.rows a.entry) ∷ []
 one_waits s between change n none a =
     ap (λ (f : FrontState). f.unsealed) a.after
     ∙ ap (λ l. joined_by (s.number + 1) l (carried s.rows a.entry)) none
 
 pub some_waits : (s between : FrontState) (change : Change (List ℕ)) (n : ℕ) → s.unsealed ≡ []
-    → Accepts s change n between → between.unsealed ≡ [] → ⊥
+    → FrontAccepts s change n between → between.unsealed ≡ [] → ⊥
 some_waits s between change n none a empty =
     let one = one_waits s between change n none a in
     cc
 
 module _ (base : Base) (h : HandingState) (change : Change (List ℕ)) (n : ℕ) (group : Handed)
     (new : FrontState) (t : IsTied base h) (o : TakesOut h.front change n group new) where
-  accepts : Accepts h.front change n o.between
+  accepts : FrontAccepts h.front change n o.between
   accepts = o.answers.2
 
   oldest_is : o.hands.oldest ≡ begun_by (h.front.number + 1) (carried h.front.rows accepts.entry)

@@ -7,7 +7,7 @@ use Rattle.cm_state.specs.Step.{Change}
 use Rattle.cm_state.specs.Entries.{change_of}
 use Rattle.cm_commit.specs.Offers.{filled, rows_after_group}
 use Rattle.cm_front.specs.Front.{FrontState, IsFront, front_code}
-use Rattle.cm_front.specs.Accepting.{Answers, HandsOut}
+use Rattle.cm_front.specs.Accepting.{FrontAnswers, HandsOut}
 use Rattle.cm_machine.specs.Ahead.{IsAhead}
 use Rattle.cm_cache.specs.declared.board_view.Seen.{Seen}
 use Rattle.cm_cache.specs.declared.channel.Base.{Base}
@@ -77,7 +77,7 @@ pub record TakesOut (s : FrontState) (change : Change (List ℕ)) (n : ℕ) (gro
     (new : FrontState) : Type 0 where
   pub between : FrontState
   pub is_between : IsFront between
-  pub answers : Answers s change (Ok n) between
+  pub answers : FrontAnswers s change (Ok n) between
   pub hands : HandsOut between group new
   pub is_group : IsGroup group
   pub is_new : IsFront new

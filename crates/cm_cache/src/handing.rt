@@ -91,7 +91,7 @@ impl<K: Naming> Handing<K> {
         handed_groups_are_next();
         ahead_stays_ahead();
         let _learnt = self.front.learn(receipt);
-        let _front = self.front.geometry();
+        self.front.invariant_holds();
     }
 
     /// The device failed: from now on no command is accepted.
@@ -103,7 +103,7 @@ impl<K: Naming> Handing<K> {
     {
         ahead_stays_ahead();
         self.front.fail();
-        let _front = self.front.geometry();
+        self.front.invariant_holds();
     }
 
     /// Takes note of what was seen on the Board: a failure, and what is stored.
@@ -136,7 +136,7 @@ impl<K: Naming> Handing<K> {
     {
         ahead_stays_ahead();
         self.front.close();
-        let _front = self.front.geometry();
+        self.front.invariant_holds();
     }
 
     /// Sends the End, and gives up the cache. Waits while the channel is full.
@@ -161,11 +161,11 @@ fn take_out(front: &mut Front, command: Command<'_>) -> Result<(u64, Group), Ref
         Ok(number) => number,
         Err(refusal) => return Err(refusal),
     };
-    let _between = front.geometry();
+    front.invariant_holds();
     let Some(group) = front.seal() else {
         unreachable!()
     };
     let _first = group.first();
-    let _after = front.geometry();
+    front.invariant_holds();
     Ok((number, group))
 }

@@ -23,5 +23,5 @@ pub fn opened_may_start<D: Disk>(front: &Front, committer: &Committer<D>)
     found_is_framed();
     verdict_is_exact();
     words_tell_name();
-    let _lawful = front.geometry();
+    front.invariant_holds();
 }

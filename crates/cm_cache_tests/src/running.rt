@@ -67,7 +67,7 @@ pub fn opened<D: Disk + Drop>(alloc: Global, disk: D) -> Result<(Front, Committe
     words_tell_name();
     match open(alloc, disk) {
         Ok((front, committer)) => {
-            let _lawful = front.geometry();
+            front.invariant_holds();
             Ok((front, committer))
         }
         Err(not_opened) => {

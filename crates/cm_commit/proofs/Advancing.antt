@@ -20,7 +20,7 @@ use Rattle.cm_guards.specs.Stages.{StagesStand}
 use Rattle.cm_guards.proofs.{settled_images, leaves_more, takes_call, stages_leave, call_done}
 use Rattle.cm_guards.proofs.{call_failed, call_moments as moments_of, leaves_so, leaves_one}
 use Rattle.cm_rows.specs.Rows.{LiveRows, is_above}
-use Rattle.cm_group.specs.Groups.{Handed, entries_in, slots_taken}
+use Rattle.cm_group.specs.Groups.{Handed, AreRight, entries_in, slots_taken}
 use Rattle.cm_state.specs.State.{words_show}
 use Rattle.cm_state.specs.Entries.{AreCacheRows}
 use Rattle.cm_commit.specs.declared.journal.Journal.{Journal}
@@ -42,7 +42,7 @@ use Rattle.cm_commit.specs.Trims.{roots_of_rows}
 use Rattle.cm_commit.specs.Advances.{with_committed}
 use Rattle.cm_commit.specs.Keeps.{IsCommitter, IsIdle, IsBusy, IsTrimming, IsAt, StandsBroken}
 use Rattle.cm_commit.specs.Keeps.{roots_then}
-use Rattle.cm_commit.specs.Keeps.{AreRight, rows_then}
+use Rattle.cm_commit.specs.Keeps.{rows_then}
 use Rattle.cm_commit.proofs.Committing.{fits_journal, cache_after, right_rows_after}
 use Rattle.cm_commit.proofs.Journals.{half_fits, target_is, end_after}
 use Rattle.cm_commit.proofs.Shown.{shows_cache}
@@ -600,23 +600,6 @@ as_committed s to target group disk e sizes number = λ i. record {
   underway = None;
   left = [];
   broken = s.broken;
-}
-
--- a committer as its parts are seen
-abbrev pub seen : {D : Type 0} → D → Journal → List (Row (List ℕ)) → ℕ → Option Handed → PlanStep
-    → Bool → CommitterState D
-seen disk j rows roots group now broken = record {
-  disk = disk;
-  sizes = j.geometry;
-  rows = rows;
-  number = j.number;
-  half = j.half;
-  end = j.end;
-  epoch = j.epoch;
-  other_open = j.other_open;
-  underway = work_of group now;
-  left = stages_left j (bare rows) roots group now;
-  broken = broken;
 }
 
 pub told_ok : {T E : Type 0} (r : Result T E) (P : T → Type 0) (x : T) → r ≡ Ok x → IfOk r P → P x

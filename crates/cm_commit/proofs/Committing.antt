@@ -26,12 +26,13 @@ use Rattle.cm_layout.specs.Rows.{used_words, kept_on}
 use Rattle.cm_layout.specs.Rules.{broken_rule}
 use Rattle.cm_layout.specs.Frames.{BareRow, LiveRowsKeep, bare_entry}
 use Rattle.cm_layout.proofs.{entry-apart, entry-live, live-append, own_loaders, slots-bare}
-use Rattle.cm_layout.proofs.{rows-within}
+use Rattle.cm_layout.proofs.{rows-within, each-append, each-without, each-without-all, each-moved}
 use Rattle.cm_rows.specs.Rows.{is_above}
 use Rattle.cm_state.specs.State.{words_show}
 use Rattle.cm_state.specs.Entries.{AreCacheRows}
 use Rattle.cm_state.proofs.{entries_step}
-use Rattle.cm_group.specs.Groups.{Carried, Handed, IsGroup, CarriesRight, IsRightRecord, entries_in}
+use Rattle.cm_group.specs.Groups.{Carried, Handed, IsGroup, CarriesRight, IsRightRecord, AreRight}
+use Rattle.cm_group.specs.Groups.{entries_in}
 use Rattle.cm_group.specs.Groups.{records_of}
 use Rattle.cm_group.proofs.{enough}
 use Rattle.cm_commit.specs.Committed.{Committed, journal_of}
@@ -39,7 +40,7 @@ use Rattle.cm_commit.specs.Offers.{filled, HasRecords, are_some, has_own, MayJoi
 use Rattle.cm_commit.specs.Offers.{carries_own, rows_after_group}
 use Rattle.cm_commit.specs.Guarding.{IsCommitted}
 use Rattle.cm_commit.specs.Keeping.{keep_rules}
-use Rattle.cm_commit.specs.Keeps.{AreRight, AreCounted}
+use Rattle.cm_commit.specs.Keeps.{AreCounted}
 use Rattle.cm_commit.specs.GroupPlans.{writes_of, all_writes}
 use Rattle.cm_commit.specs.Steps.{AreSmall, HaveOffsets, FitsJournal}
 use Rattle.cm_commit.proofs.Apart.{roots-few}
@@ -224,51 +225,18 @@ cache_after sizes committed rows n (c ∷ carried) cache joins le =
     (cache_after sizes committed (rows_after rows (filled c)) (n + 1) carried one.rows_are joins.1
     (omega (arith, le)))
 
-right-append : (rows more : List (Row (List ℕ))) → AreRight rows → AreRight more
-    → AreRight (rows ++ more)
-right-append [] more right new = new
-right-append (row ∷ rows) more right new = (right.0, right-append rows more right.1 new)
-
-right-without : (u : ℕ) (rows : List (Row (List ℕ))) → AreRight rows
-    → AreRight (without_loader u rows)
-right-without u [] right = tt
-right-without u (row ∷ rows) right =
-    by_test (not (is_of u row)) (right-without u rows right.1)
-  where
-    by_test : (t : Bool) → AreRight (without_loader u rows)
-        → AreRight (cond t (row ∷ without_loader u rows) (without_loader u rows))
-    by_test true rest = (right.0, rest)
-    by_test false rest = rest
-
-right-without-all : (us : List ℕ) (rows : List (Row (List ℕ))) → AreRight rows
-    → AreRight (without_loaders us rows)
-right-without-all [] rows right = right
-right-without-all (u ∷ us) rows right =
-    right-without-all us (without_loader u rows) (right-without u rows right)
-
-right-moved : (from to : Chunk) (rows : List (Row (List ℕ))) → AreRight rows
-    → AreRight (moved from to rows)
-right-moved from to [] right = tt
-right-moved from to (Loader r ∷ rows) right = (tt, right-moved from to rows right.1)
-right-moved from to (Class r words ∷ rows) right =
-    by_test (same_chunk r.place.chunk from) (right-moved from to rows right.1)
-  where
-    by_test : (t : Bool) → AreRight (moved from to rows)
-        → AreRight (cond t (Class (record r { place = record r.place { chunk = to } }) words)
-        (Class r words) ∷ moved from to rows)
-    by_test true rest = (right.0, rest)
-    by_test false rest = (right.0, rest)
-
 right-one : (rows : List (Row (List ℕ))) (e : Entry (List ℕ)) (moved : List (List ℕ))
     → AreRight rows → AllByRecursion IsRightRecord (records_of e moved)
     → AreRight (rows_after rows e)
 right-one rows (entry.Live (Loader r)) moved right all =
-    right-append rows (Loader r ∷ []) right (tt, tt)
+    each-append IsRightRecord rows (Loader r ∷ []) right tt
 right-one rows (entry.Live (Class r words)) moved right all =
-    right-append rows (Class r words ∷ []) right (all.0, tt)
-right-one rows (entry.Unload e) moved right all = right-without e.loader rows right
-right-one rows (entry.UnloadAll e) moved right all = right-without-all e.loaders rows right
-right-one rows (entry.Move e) moved right all = right-moved e.from e.to rows right
+    each-append IsRightRecord rows (Class r words ∷ []) right (all.0, tt)
+right-one rows (entry.Unload e) moved right all =
+    each-without IsRightRecord e.loader rows right
+right-one rows (entry.UnloadAll e) moved right all =
+    each-without-all IsRightRecord e.loaders rows right
+right-one rows (entry.Move e) moved right all = each-moved IsRightRecord e.from e.to rows right
 
 pub right_rows_after : (sizes : Sizes) (committed rows : List (Row (List ℕ))) (n : ℕ)
     (carried : List Carried) → AreRight rows → AllByRecursion CarriesRight carried

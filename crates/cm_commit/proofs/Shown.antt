@@ -24,13 +24,13 @@ use Rattle.cm_layout.specs.Offsets.{roots_at}
 use Rattle.cm_layout.specs.Rows.{classes_in, rows_with, row_with}
 use Rattle.cm_layout.specs.Frames.{HoldsRow, Frames}
 use Rattle.cm_layout.proofs.{matches_frame}
+use Rattle.cm_group.specs.Groups.{AreRight}
 use Rattle.std.specs.List.{AllByRecursion}
 use Rattle.cm_state.specs.State.{NamesDiffer, class_among, class_shows, words_show, state_of}
 use Rattle.cm_state.specs.Stands.{EachKeepsRules, arenas_among}
 use Rattle.cm_commit.specs.Committed.{Committed}
 use Rattle.cm_commit.specs.Guarding.{IsCommitted, Shows}
 use Rattle.cm_commit.specs.States.{ShowsCache}
-use Rattle.cm_commit.specs.Keeps.{AreRight}
 use Rattle.cm_commit.proofs.Guards.{rows_inside}
 use Rattle.cm_commit.proofs.Places.{IsInside}
 
@@ -112,7 +112,7 @@ has_classes : (rows : List (Row (List ℕ))) → AreRight rows → AreShort rows
 unfolding AreNamed AreShort
 has_classes [] right short = record { classes = []; laid = refl; kept = tt; named = tt }
 has_classes (Loader r ∷ rows) right short =
-    let rest = has_classes rows right.1 short in
+    let rest = has_classes rows right short in
     record {
       classes = Loader r ∷ rest.classes;
       laid = ap (λ (l : List (Row (List ℕ))). Loader r ∷ l) rest.laid;

@@ -12,7 +12,7 @@ use Rattle.cm_layout.specs.Frames.{entry_version}
 use Rattle.cm_layout.specs.Framing.{Framing, IsRight, Matches}
 use Rattle.cm_guards.specs.Guards.{EachImage}
 use Rattle.cm_guards.specs.Stages.{Stage, StagesStand, leaves}
-use Rattle.cm_group.specs.Groups.{Handed, IsGroup, IsRightRecord, entries_in}
+use Rattle.cm_group.specs.Groups.{Handed, IsGroup, AreRight, entries_in}
 use Rattle.cm_rows.specs.Rows.{LiveRows}
 use Rattle.cm_state.specs.State.{words_show}
 use Rattle.cm_state.specs.Entries.{AreCacheRows}
@@ -24,14 +24,6 @@ use Rattle.cm_commit.specs.GroupPlans.{whole_roots, roots_of_entries}
 use Rattle.cm_commit.specs.Guarding.{Shows, Holds}
 use Rattle.cm_commit.specs.States.{Work, Storing, Trimming, CommitterState, journal_at}
 use Rattle.cm_commit.specs.Trims.{roots_of_rows}
-
--- each record is that of a class that keeps the class rules
-abbrev pub HasRightRecord : Row (List ℕ) → Type 0
-HasRightRecord (Loader r) = Unit {0}
-HasRightRecord (Class r words) = IsRightRecord words
-
-abbrev pub AreRight : List (Row (List ℕ)) → Type 0
-AreRight rows = AllByRecursion HasRightRecord rows
 
 -- a class's record has as many words as its row says
 abbrev pub HasItsWords : Row (List ℕ) → Type 0

@@ -7,7 +7,8 @@ use Rattle.cm_pool.specs.Geometry.{Sizes, IsGeometry}
 use Rattle.cm_pool.specs.declared.place.Place.{Place}
 use Rattle.cm_layout.specs.Offsets.{slot_at, half_at, root_size}
 use Rattle.cm_layout.specs.Slots.{open_gate, row_slots, entry_slots}
-use Rattle.cm_layout.specs.Rows.{slots_of_rows}
+use Rattle.cm_layout.specs.declared.row.Row.{Row}
+use Rattle.cm_layout.specs.Rows.{slots_of_rows, bare}
 use Rattle.cm_layout.specs.Rules.{row_limit}
 use Rattle.cm_layout.specs.Frames.{BareRow}
 use Rattle.cm_layout.specs.Framing.{other_half}
@@ -26,7 +27,7 @@ use Rattle.cm_guards.specs.Stages.{Stage, Store, Turn, Settle}
 use Rattle.cm_commit.specs.Checkpoints.{next_head, half_write, half_stages, checkpoint_of}
 use Rattle.cm_commit.specs.Checkpoints.{target_of}
 use Rattle.cm_commit.specs.GroupPlans.{writes_left, all_writes, roots_of_entries}
-use Rattle.cm_commit.specs.States.{Work, Storing, Trimming}
+use Rattle.cm_commit.specs.States.{Work, Storing, Trimming, CommitterState}
 use Rattle.cm_commit.specs.Trims.{trim_plan}
 
 -- the gate of the next group
@@ -113,6 +114,23 @@ ungrouped_work (plan.Trim at) = Some Trimming
 abbrev pub work_of : Option Handed → PlanStep → Option Work
 work_of None s = ungrouped_work s
 work_of (Some group) s = Some (Storing group)
+
+-- what a committer of these parts is seen as
+abbrev pub committer_of : {D : Type 0} → D → Journal → List (Row (List ℕ)) → ℕ → Option Handed
+    → PlanStep → Bool → CommitterState D
+committer_of disk j rows roots group s broken = record {
+  disk = disk;
+  sizes = j.geometry;
+  rows = rows;
+  number = j.number;
+  half = j.half;
+  end = j.end;
+  epoch = j.epoch;
+  other_open = j.other_open;
+  underway = work_of group s;
+  left = stages_left j (bare rows) roots group s;
+  broken = broken;
+}
 
 -- the step isn't one of a trim
 abbrev pub is_trim : PlanStep → Bool

@@ -70,42 +70,20 @@ pub struct Committer<D: Disk> {
 impl<D: Disk> Model for Committer<D> {
     ghost use Rattle.std.specs.Prelude.{vec_capacity};
     ghost use Rattle.std.specs.Arc.{arc_value};
-    ghost use Rattle.cm_layout.specs.Rows.{bare, rows_with};
+    ghost use Rattle.cm_layout.specs.Rows.{rows_with};
     ghost use Rattle.cm_commit.specs.States.{CommitterState};
-    ghost use Rattle.cm_commit.specs.Steps.{stages_left, work_of};
+    ghost use Rattle.cm_commit.specs.Steps.{committer_of};
     ghost use Rattle.cm_commit.specs.Keeps.{IsCommitter};
 
     ghost Value = { CommitterState D };
 
-    ghost view = { λ c. record {
-      disk = c.disk;
-      sizes = c.journal.geometry;
-      rows = rows_with arc_value c.rows.rows;
-      number = c.journal.number;
-      half = c.journal.half;
-      end = c.journal.end;
-      epoch = c.journal.epoch;
-      other_open = c.journal.other_open;
-      underway = work_of c.group c.step;
-      left = stages_left c.journal (bare (rows_with arc_value c.rows.rows)) c.roots c.group c.step;
-      broken = c.is_broken;
-    } };
+    ghost view = { λ c. committer_of c.disk c.journal (rows_with arc_value c.rows.rows) c.roots
+        c.group c.step c.is_broken };
 
     ghost invariant = { λ c. IsCommitter D.view
-        (record {
-          disk = c.disk;
-          sizes = c.journal.geometry;
-          rows = rows_with arc_value c.rows.rows;
-          number = c.journal.number;
-          half = c.journal.half;
-          end = c.journal.end;
-          epoch = c.journal.epoch;
-          other_open = c.journal.other_open;
-          underway = work_of c.group c.step;
-          left = stages_left c.journal (bare (rows_with arc_value c.rows.rows)) c.roots c.group
-              c.step;
-          broken = c.is_broken;
-        }) c.rows.sizes c.next c.roots (vec_capacity c.buffer) };
+        (committer_of c.disk c.journal (rows_with arc_value c.rows.rows) c.roots c.group c.step
+        c.is_broken)
+        c.rows.sizes c.next c.roots (vec_capacity c.buffer) };
 }
 
 /// A committer that wasn't made, since an allocation failed; its disk.
@@ -374,7 +352,7 @@ impl<D: Disk> Committer<D> {
         ensures { EachImage (D.view.contents self.now.disk) (D.view.unsynced self.now.disk)
             (MayLeave self.now) }
     {
-        let _broken = self.is_broken; // so the proof knows what the committer keeps
+        let _read = self.is_broken; // the read of a field brings the invariant
     }
 
     /// Does nothing: its clause says that whatever a crash leaves now, the half that counts in it
@@ -383,7 +361,7 @@ impl<D: Disk> Committer<D> {
         ensures { EachImage (D.view.contents self.now.disk) (D.view.unsynced self.now.disk)
             IsNewest }
     {
-        let _broken = self.is_broken; // so the proof knows what the committer keeps
+        let _read = self.is_broken; // the read of a field brings the invariant
     }
 
     /// How many device calls are left.

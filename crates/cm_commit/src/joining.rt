@@ -57,7 +57,7 @@ fn carries_own(carried: &CarriedEntry) -> bool
     match carried.bare() {
         Entry::Live(_) | Entry::Unload(_) => carried.moved().is_empty(),
         Entry::UnloadAll(entry) => {
-            let _loaders = entry.loaders.as_slice(); // so the proof knows how many they are
+            entry.loaders.invariant_holds();
             carried.moved().is_empty()
         }
         Entry::Move(_) => {
@@ -126,7 +126,8 @@ fn have_one_name(one: &Record, other: &Record) -> bool
     ensures { result ≡ bytes_eq (class_name_in one.now) (class_name_in other.now) }
 {
     words_tell_name();
-    let _words = (one.words(), other.words()); // so the proof knows that they are records
+    one.invariant_holds();
+    other.invariant_holds();
     one.same_name(other)
 }
 

@@ -14,7 +14,7 @@ use Rattle.cm_disk.proofs.{untouched_torn, uncut}
 use Rattle.cm_file_disk.specs.declared.course.Call.{Call}
 use Rattle.cm_file_disk.specs.declared.course.Call.TheVariants.{Opened, Wrote, NotWritten, Cut}
 use Rattle.cm_file_disk.specs.declared.course.Call.TheVariants.{NotCut, Synced, Failed}
-use Rattle.cm_file_disk.specs.State.{State}
+use Rattle.cm_file_disk.specs.State.{FileState}
 use Rattle.cm_file_disk.specs.Calls.{IsOpenedAs, Follows, after}
 
 -- these bytes, and zeros up to a length
@@ -58,7 +58,7 @@ part_of_beginning at n bytes contents e le =
     ∙ ap (λ (l : List ℕ). take n l) (sym (drop-append-le at bytes rest (omega arith)))
     ∙ ap (λ (l : List ℕ). take n (drop at l)) e
 
-abbrev pub next : Call → List ℕ → State → State
+abbrev pub next : Call → List ℕ → FileState → FileState
 next (Opened len) bytes old = after (Opened len) bytes (filled len bytes) old
 next (Wrote at) bytes old = after (Wrote at) bytes (overwritten at bytes old.now.bytes) old
 next (NotWritten at) bytes old = after (NotWritten at) bytes old.now.bytes old
@@ -67,7 +67,7 @@ next (NotCut len) bytes old = after (NotCut len) bytes old.now.bytes old
 next Synced bytes old = after Synced bytes old.now.bytes old
 next Failed bytes old = after Failed bytes old.now.bytes old
 
-pub follows : (call : Call) (bytes : List ℕ) (old : State)
+pub follows : (call : Call) (bytes : List ℕ) (old : FileState)
     → Follows call bytes old (next call bytes old)
 follows (Opened len) bytes old = record {
   left = (filled_begins len bytes, filled_bytes len bytes);

@@ -11,11 +11,12 @@ use Rattle.cm_disk.proofs.{overwritten_torn}
 use Rattle.cm_file_disk.specs.declared.course.Call.{Call}
 use Rattle.cm_file_disk.specs.declared.course.Call.TheVariants.{Wrote, NotWritten, Cut, NotCut}
 use Rattle.cm_file_disk.specs.declared.course.Call.TheVariants.{Synced}
-use Rattle.cm_file_disk.specs.State.{State, moment_unsynced, IsSoundState, opened, lowered, stored}
+use Rattle.cm_file_disk.specs.State.{FileState, moment_unsynced, IsSoundState, opened, lowered}
+use Rattle.cm_file_disk.specs.State.{stored}
 use Rattle.cm_file_disk.specs.Calls.{Leaves, Follows, after, gone}
 
 -- time goes on from a state to the next; `most` is what may be unsynced during the call
-abbrev pub Passes : Unsynced → State → State → Type 0
+abbrev pub Passes : Unsynced → FileState → FileState → Type 0
 Passes most old new =
     Elapses (length old.moments) (length new.moments)
     (LeftSince old.now.bytes (moment_unsynced old.now) old.moments)
@@ -28,7 +29,8 @@ opened_within at n now =
     narrow now.ranges (opened at n now).ranges now.least now.least now.greatest
     (opened at n now).greatest at n refl refl refl
 
-passes_write : (at n failures : ℕ) (old : State) (left : List ℕ) → IsTorn at n old.now.bytes left
+passes_write : (at n failures : ℕ) (old : FileState) (left : List ℕ)
+    → IsTorn at n old.now.bytes left
     → Passes (widened at n (moment_unsynced old.now)) old
     (record (gone (opened at n old.now) left old) { failures = failures })
 passes_write at n failures old left torn =
@@ -39,7 +41,7 @@ passes_write at n failures old left torn =
     (wider old.now.ranges m.ranges old.now.least m.least old.now.greatest m.greatest at n refl refl
     refl) within torn within
 
-passes_cut : (len failures : ℕ) (old : State) (left : List ℕ) → IsCut len old.now.bytes left
+passes_cut : (len failures : ℕ) (old : FileState) (left : List ℕ) → IsCut len old.now.bytes left
     → Passes (shortened len (moment_unsynced old.now)) old
     (record (gone (lowered len old.now) left old) { failures = failures })
 passes_cut len failures old left cut =
@@ -60,7 +62,7 @@ taken_is_cut len old left le e =
       front = e ∙ ap (λ (n : ℕ). take n old) (sym size);
     }
 
-passes_sync : (old : State) (left : List ℕ) → IsSoundState old → left ≡ old.now.bytes
+passes_sync : (old : FileState) (left : List ℕ) → IsSoundState old → left ≡ old.now.bytes
     → Passes (moment_unsynced old.now) old (record (gone old.now left old) { now = stored left })
 passes_sync old left sound e =
     let size : length left ≡ length old.now.bytes = ap length e in
@@ -73,14 +75,14 @@ passes_sync old left sound e =
     })
 
 -- a fact of each state that may come after a call holds of the one that came
-carried : (P : State → Type 0) (call : Call) (bytes : List ℕ) (old new : State)
+carried : (P : FileState → Type 0) (call : Call) (bytes : List ℕ) (old new : FileState)
     → Follows call bytes old new
     → ((left : List ℕ) → Leaves call bytes old.now.bytes left → P (after call bytes left old))
     → P new
 carried P call bytes old new follows each =
     subst P (sym follows.state) (each new.now.bytes follows.left)
 
-pub wrote : (at : ℕ) (bytes : List ℕ) (old new : State) → at ≤ length old.now.bytes
+pub wrote : (at : ℕ) (bytes : List ℕ) (old new : FileState) → at ≤ length old.now.bytes
     → Follows (Wrote at) bytes old new
     → Passes (widened at (length bytes) (moment_unsynced old.now)) old new
 wrote at bytes old new le follows =
@@ -89,7 +91,7 @@ wrote at bytes old new le follows =
     (λ left e. passes_write at (length bytes) old.failures old left
     (overwritten_torn at bytes old.now.bytes left le e))
 
-pub not_written : (at : ℕ) (bytes : List ℕ) (old new : State)
+pub not_written : (at : ℕ) (bytes : List ℕ) (old new : FileState)
     → Follows (NotWritten at) bytes old new
     → Passes (widened at (length bytes) (moment_unsynced old.now)) old new
 not_written at bytes old new follows =
@@ -97,34 +99,35 @@ not_written at bytes old new follows =
     old new follows
     (λ left torn. passes_write at (length bytes) (old.failures + 1) old left torn.0)
 
-pub wrote_within : (at : ℕ) (bytes : List ℕ) (old new : State) → Follows (Wrote at) bytes old new
+pub wrote_within : (at : ℕ) (bytes : List ℕ) (old new : FileState)
+    → Follows (Wrote at) bytes old new
     → IsWithin (widened at (length bytes) (moment_unsynced old.now)) (moment_unsynced new.now)
 wrote_within at bytes old new follows =
-    carried (λ (s : State). IsWithin (widened at (length bytes) (moment_unsynced old.now))
+    carried (λ (s : FileState). IsWithin (widened at (length bytes) (moment_unsynced old.now))
     (moment_unsynced s.now)) (Wrote at) bytes old new follows
     (λ left e. opened_within at (length bytes) old.now)
 
-pub not_written_within : (at : ℕ) (bytes : List ℕ) (old new : State)
+pub not_written_within : (at : ℕ) (bytes : List ℕ) (old new : FileState)
     → Follows (NotWritten at) bytes old new
     → IsWithin (widened at (length bytes) (moment_unsynced old.now)) (moment_unsynced new.now)
 not_written_within at bytes old new follows =
-    carried (λ (s : State). IsWithin (widened at (length bytes) (moment_unsynced old.now))
+    carried (λ (s : FileState). IsWithin (widened at (length bytes) (moment_unsynced old.now))
     (moment_unsynced s.now)) (NotWritten at) bytes old new follows
     (λ left torn. opened_within at (length bytes) old.now)
 
-pub was_cut : (len : ℕ) (old new : State) → len ≤ length old.now.bytes
+pub was_cut : (len : ℕ) (old new : FileState) → len ≤ length old.now.bytes
     → Follows (Cut len) [] old new → Passes (shortened len (moment_unsynced old.now)) old new
 was_cut len old new le follows =
     carried (Passes (shortened len (moment_unsynced old.now)) old) (Cut len) [] old new follows
     (λ left e. passes_cut len old.failures old left (taken_is_cut len old.now.bytes left le e))
 
-pub not_cut : (len : ℕ) (old new : State) → len ≤ length old.now.bytes
+pub not_cut : (len : ℕ) (old new : FileState) → len ≤ length old.now.bytes
     → Follows (NotCut len) [] old new → Passes (shortened len (moment_unsynced old.now)) old new
 not_cut len old new le follows =
     carried (Passes (shortened len (moment_unsynced old.now)) old) (NotCut len) [] old new follows
     (λ left cut. passes_cut len (old.failures + 1) old left (cut le))
 
-pub synced : (old new : State) → IsSoundState old → Follows Synced [] old new
+pub synced : (old new : FileState) → IsSoundState old → Follows Synced [] old new
     → Passes (moment_unsynced old.now) old new
 synced old new sound follows =
     carried (Passes (moment_unsynced old.now) old) Synced [] old new follows

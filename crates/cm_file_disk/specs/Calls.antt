@@ -6,7 +6,7 @@ use Rattle.cm_disk.specs.Moments.{Moment}
 use Rattle.cm_file_disk.specs.declared.course.Call.{Call}
 use Rattle.cm_file_disk.specs.declared.course.Call.TheVariants.{Opened, Wrote, NotWritten, Cut}
 use Rattle.cm_file_disk.specs.declared.course.Call.TheVariants.{NotCut, Synced, Failed}
-use Rattle.cm_file_disk.specs.State.{State, opened_state, stored, opened, lowered}
+use Rattle.cm_file_disk.specs.State.{FileState, opened_state, stored, opened, lowered}
 
 -- a file had this length when it was opened, and began with these bytes
 pub record IsOpenedAs (len : ℕ) (beginning contents : List ℕ) : Type 0 where
@@ -27,7 +27,7 @@ Leaves Synced bytes old left = left ≡ old
 Leaves Failed bytes old left = left ≡ old
 
 -- it went through a moment, at which a crash may have left it, to other bytes
-abbrev pub gone : Moment → List ℕ → State → State
+abbrev pub gone : Moment → List ℕ → FileState → FileState
 gone during left old = record {
   now = record during { bytes = left };
   moments = during ∷ old.moments;
@@ -35,7 +35,7 @@ gone during left old = record {
 }
 
 -- the state after a call that left these bytes
-abbrev pub after : Call → List ℕ → List ℕ → State → State
+abbrev pub after : Call → List ℕ → List ℕ → FileState → FileState
 after (Opened len) bytes left old = opened_state left
 after (Wrote at) bytes left old = gone (opened at (length bytes) old.now) left old
 after (NotWritten at) bytes left old =
@@ -47,6 +47,6 @@ after Synced bytes left old = record (gone old.now left old) { now = stored left
 after Failed bytes left old = record old { failures = old.failures + 1 }
 
 -- a call goes over from a state to the next
-pub record Follows (call : Call) (bytes : List ℕ) (old new : State) : Type 0 where
+pub record Follows (call : Call) (bytes : List ℕ) (old new : FileState) : Type 0 where
   pub left : Leaves call bytes old.now.bytes new.now.bytes
   pub state : new ≡ after call bytes new.now.bytes old

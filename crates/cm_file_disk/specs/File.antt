@@ -9,10 +9,10 @@ use Rattle.cm_disk.specs.Disk.{View, Unsynced, IsSettled}
 use Rattle.cm_disk.specs.Moments.{LeftSince}
 use Rattle.cm_file_disk.specs.declared.disk.FileDisk.{FileDisk}
 use Rattle.cm_file_disk.specs.declared.opening.OpenedFile.{OpenedFile}
-use Rattle.cm_file_disk.specs.State.{State, moment_unsynced}
+use Rattle.cm_file_disk.specs.State.{FileState, moment_unsynced}
 use Rattle.cm_file_disk.specs.Image.{image_holds, image_cause}
 
-abbrev pub file_state : FileDisk → State
+abbrev pub file_state : FileDisk → FileState
 file_state disk = disk.course.state
 
 abbrev pub file_contents : FileDisk → List ℕ
@@ -76,7 +76,7 @@ pub record IsOpened (file : OpenedFile) (reach : ℕ) (disk : FileDisk) : Type 0
 
 -- A call that asks something: it fails exactly where this isn't known any more, and changes
 -- nothing.
-pub record Answers (is_known : Bool) (old new : FileDisk) (ok : Bool) : Type 0 where
+pub record OnlyAsks (is_known : Bool) (old new : FileDisk) (ok : Bool) : Type 0 where
   pub exactly : ok ≡ is_known
   pub held : (n : ℕ) → holds new n ≡ holds old n
   pub cause : file_cause new ≡ file_cause old
@@ -102,8 +102,8 @@ pub record Syncs (old new : FileDisk) (ok : Bool) : Type 0 where
 
 -- what this call does besides
 abbrev pub file_made : DiskCall → FileDisk → FileDisk → Bool → Type 0
-file_made Len old new ok = Answers (not (is_lost old)) old new ok
-file_made (Read at n) old new ok = Answers (holds old (at + n)) old new ok
+file_made Len old new ok = OnlyAsks (not (is_lost old)) old new ok
+file_made (Read at n) old new ok = OnlyAsks (holds old (at + n)) old new ok
 file_made (Write at bytes) old new ok = GivesUp old new ok
 file_made (Cut len) old new ok = GivesUp old new ok
 file_made Sync old new ok = Syncs old new ok

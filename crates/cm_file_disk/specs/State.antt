@@ -4,7 +4,7 @@ use Rattle.cm_disk.specs.Disk.{Unsynced, IsSound}
 use Rattle.cm_disk.specs.Moments.{Moment, unsynced_of}
 
 -- what it holds, the moments that it has had, the newest first, and how often the device has failed
-pub record State : Type 0 where
+pub record FileState : Type 0 where
   pub now : Moment
   pub moments : List Moment
   pub failures : ℕ
@@ -12,7 +12,7 @@ pub record State : Type 0 where
 abbrev pub moment_unsynced : Moment → Unsynced
 moment_unsynced moment = unsynced_of moment.ranges moment.least moment.greatest
 
-abbrev pub IsSoundState : State → Type 0
+abbrev pub IsSoundState : FileState → Type 0
 IsSoundState state = IsSound state.now.bytes (moment_unsynced state.now)
 
 -- all of it is stored
@@ -34,7 +34,7 @@ unsure bytes = record {
 }
 
 -- a file of these bytes was opened
-abbrev pub opened_state : List ℕ → State
+abbrev pub opened_state : List ℕ → FileState
 opened_state bytes = record { now = unsure bytes; moments = []; failures = 0 }
 
 -- a write of n bytes was begun
@@ -49,5 +49,5 @@ abbrev pub lowered : ℕ → Moment → Moment
 lowered len moment = record moment { least = min moment.least len }
 
 -- a file of no bytes
-abbrev pub no_bytes : State
+abbrev pub no_bytes : FileState
 no_bytes = record { now = stored []; moments = []; failures = 0 }

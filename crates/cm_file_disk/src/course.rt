@@ -1,7 +1,7 @@
 //! What has become of a file by the calls on it, which only clauses read: it takes no memory.
 ghost use Rattle.std.specs.Prelude.{◌≡◌, ◌≤◌, ◌^◌, length};
 ghost use Rattle.std.specs.Borrow.{ftrue};
-ghost use Rattle.cm_file_disk.specs.State.{State, IsSoundState, no_bytes, opened_state};
+ghost use Rattle.cm_file_disk.specs.State.{FileState, IsSoundState, no_bytes, opened_state};
 
 use std::marker::{Model, PhantomData};
 
@@ -27,7 +27,7 @@ pub enum Call {
 #[derive(Drop)]
 pub struct Course {
     marker: PhantomData<u8>,
-    pub ghost state: { State },
+    pub ghost state: { FileState },
 }
 
 impl Model for Course {

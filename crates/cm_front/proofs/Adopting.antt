@@ -31,7 +31,7 @@ use Rattle.cm_space.specs.Adopting.{with_roots, reaching, IsAdoptable}
 use Rattle.cm_space.specs.Ownership.{IsSpace, Owns, WaitsFor}
 use Rattle.cm_space.specs.Laws.{EachWord, RootsReach}
 use Rattle.cm_front.specs.Chains.{chain_from, top_of}
-use Rattle.cm_front.specs.Laws.{GoesWith}
+use Rattle.cm_front.specs.Laws.{SpaceGoesWith}
 use Rattle.cm_front.proofs.Chains.{never-on}
 use Rattle.cm_front.proofs.Chains.{no_last}
 use Rattle.cm_front.proofs.Tops.{chains_end_at_top}
@@ -203,7 +203,7 @@ pub record Stands (sizes : Sizes) (n : ℕ) (pre : List BareRow) (space : SpaceS
   pub lawful : IsGeometry sizes
   pub live : LiveRowsKeep sizes n [] pre
   pub apart : AreApart (classes_in pre)
-  pub goes : GoesWith sizes pre space
+  pub goes : SpaceGoesWith sizes pre space
   pub waiting : space.waiting ≡ []
 
 pub record SpaceLaws : Type 0 where

@@ -26,7 +26,7 @@ use Rattle.cm_layout.specs.declared.entry_rule.EntryRule.{EntryRule}
 use Rattle.cm_layout.specs.Rules.{broken_rule, is_live, are_live, differ}
 use Rattle.cm_rows.specs.Rows.{LiveRows, is_above}
 use Rattle.cm_pool.specs.FreeSpace.{IsFreeSpace}
-use Rattle.cm_space.specs.Space.{SpaceState, Waits as WaitingChunks, IsKnown, arena_of, with_arena}
+use Rattle.cm_space.specs.Space.{SpaceState, WaitingChunks, IsKnown, arena_of, with_arena}
 use Rattle.cm_space.specs.Space.{left_by, left_by_all}
 use Rattle.cm_pool.specs.declared.place.Place.{Place}
 use Rattle.cm_space.specs.Ownership.{IsSpace}
@@ -35,9 +35,9 @@ use Rattle.cm_state.specs.Entries.{change_of}
 use Rattle.cm_state.specs.Laws.{EntriesAreSteps}
 use Rattle.cm_prepare.specs.declared.refusal.Refusal.{Refusal}
 use Rattle.cm_prepare.specs.declared.refusal.Refusal.TheVariants as refusal
-use Rattle.cm_front.specs.Unsealed.{Waits, GoUpTo, Follow}
+use Rattle.cm_front.specs.Unsealed.{WaitingGroups, GoUpTo, Follow}
 use Rattle.cm_front.specs.Front.{FrontState, IsFront, IsDueLater, front_of, first_refusal}
-use Rattle.cm_front.specs.Accepting.{Answers, Accepts, HasNoChunk, accepted, carried}
+use Rattle.cm_front.specs.Accepting.{FrontAnswers, FrontAccepts, HasNoChunk, accepted, carried}
 use Rattle.cm_front.specs.Accepting.{joined_by, SpaceAfter, refusal_of_chunk}
 use Rattle.cm_front.specs.Refusing.{class_asked, refusal_of_place}
 use Rattle.cm_front.specs.Laws.{PlacesKeepRules}
@@ -51,7 +51,7 @@ use Rattle.cm_front.proofs.Goings.{past, Keeps, goes_on, keeps_loader, not_last}
 -- ---- the value
 
 -- only the groups matter of what isn't handed out
-pub same_groups : (book : LiveRows (List ℕ)) (space : SpaceState) (old new : Waits)
+pub same_groups : (book : LiveRows (List ℕ)) (space : SpaceState) (old new : WaitingGroups)
     (number sealed learnt : ℕ) (broken closed : Bool) → new.groups ≡ old.groups
     → front_of book space new number sealed learnt broken closed
     ≡ front_of book space old number sealed learnt broken closed
@@ -68,7 +68,7 @@ same_groups book space old new number sealed learnt broken closed e = λ i. reco
 }
 
 -- neither do the space and the groups differ from what they were
-pub unchanged : (book : LiveRows (List ℕ)) (space left : SpaceState) (old new : Waits)
+pub unchanged : (book : LiveRows (List ℕ)) (space left : SpaceState) (old new : WaitingGroups)
     (number sealed learnt : ℕ) (broken closed : Bool) (s : FrontState)
     → left ≡ space → new.groups ≡ old.groups
     → front_of book space old number sealed learnt broken closed ≡ s
@@ -77,7 +77,7 @@ unchanged book space left old new number sealed learnt broken closed s is groups
     ap (λ t. front_of book t new number sealed learnt broken closed) is
     ∙ (same_groups book space old new number sealed learnt broken closed groups ∙ view)
 
-pub went_on : (book next : LiveRows (List ℕ)) (space left : SpaceState) (old new : Waits)
+pub went_on : (book next : LiveRows (List ℕ)) (space left : SpaceState) (old new : WaitingGroups)
     (number n sealed learnt : ℕ) (broken closed : Bool) (e : Entry (List ℕ))
     → next ≡ record { sizes = book.sizes; rows = rows_after book.rows e }
     → new.groups ≡ joined_by (number + 1) old.groups (carried book.rows e) → n ≡ number + 1
@@ -116,32 +116,32 @@ next_follows s groups f e = record {
 pub told : {X : Type 0} (s : FrontState) (change : Change (List ℕ))
     (a : Result X Refusal) (r : Refusal)
     → first_refusal s change ≡ refused a → ◌≡◌ {A = Result X Refusal} a (Err r)
-    → Answers s change (Err r) s
+    → FrontAnswers s change (Err r) s
 told s change a r first is = (refl, inl (first ∙ ap refused is))
 
 pub no_memory : {X : Type 0} (s new : FrontState) (change : Change (List ℕ))
     (a : Result X Refusal) (n : X)
     → first_refusal s change ≡ refused a → ◌≡◌ {A = Result X Refusal} a (Ok n) → new ≡ s
-    → (HasNoChunk s change → ⊥) → Answers s change (Err refusal.NoMemory) new
+    → (HasNoChunk s change → ⊥) → FrontAnswers s change (Err refusal.NoMemory) new
 no_memory s new change a n first is same room =
     (same, inr (first ∙ ap refused is, inr (refl, room)))
 
 pub no_chunk : {X : Type 0} (s new : FrontState) (change : Change (List ℕ))
     (a : Result X Refusal) (n : X)
     → first_refusal s change ≡ refused a → ◌≡◌ {A = Result X Refusal} a (Ok n) → new ≡ s
-    → HasNoChunk s change → Answers s change (Err (refusal_of_chunk change)) new
+    → HasNoChunk s change → FrontAnswers s change (Err (refusal_of_chunk change)) new
 no_chunk s new change a n first is same none =
     (same, inr (first ∙ ap refused is, inl (refl, none)))
 
 pub given : {X : Type 0} (s new : FrontState) (change : Change (List ℕ)) (a : Result X Refusal)
     (k : X) (n : ℕ)
     → first_refusal s change ≡ refused a → ◌≡◌ {A = Result X Refusal} a (Ok k)
-    → (HasNoChunk s change → ⊥) → Accepts s change n new → Answers s change (Ok n) new
+    → (HasNoChunk s change → ⊥) → FrontAccepts s change n new → FrontAnswers s change (Ok n) new
 given s new change a k n first is room accepts = (first ∙ ap refused is, room, accepts)
 
 pub accepts : (s new : FrontState) (change : Change (List ℕ)) (n : ℕ) (e : Entry (List ℕ))
     (space : SpaceState) → n ≡ s.number + 1 → Keeps s e space → SpaceAfter s e space
-    → new ≡ accepted s e space → change_of s.rows e ≡ Some change → Accepts s change n new
+    → new ≡ accepted s e space → change_of s.rows e ≡ Some change → FrontAccepts s change n new
 accepts s new change n e space is keeps after new_is some = record {
   number = is;
   entry = e;
@@ -159,10 +159,10 @@ accepts s new change n e space is keeps after new_is some = record {
 pub record Went (s : FrontState) (change : Change (List ℕ)) (n : ℕ)
     (new : FrontState) : Type 0 where
   pub front : IsFront new
-  pub accepts : Accepts s change n new
+  pub accepts : FrontAccepts s change n new
 
 pub went_all : EntriesAreSteps (List ℕ) → (book next : LiveRows (List ℕ)) (space left : SpaceState)
-    (old mid new : Waits) (number n sealed learnt : ℕ) (broken closed : Bool)
+    (old mid new : WaitingGroups) (number n sealed learnt : ℕ) (broken closed : Bool)
     (e : Entry (List ℕ)) (change : Change (List ℕ)) (o : Option EntryRule)
     → IsFront (front_of book space old number sealed learnt broken closed)
     → number < 2 ^ 63 → n ≡ number + 1
@@ -330,7 +330,7 @@ pub full_answer : (s new : FrontState) (x words : List ℕ) (u k : ℕ)
     → ◌≡◌ {A = Result ℕ Refusal} (class_asked s x words) (Ok u) → new ≡ s → k ≡ length words
     → number_of x s.rows ≡ Some u → (b : Bool)
     → (IsTrue b ↔ IsFull (arena_of s.space u) s.space.pool k)
-    → Answers s (Define x words) (Err (cond b refusal.RegionFull refusal.NoMemory)) new
+    → FrontAnswers s (Define x words) (Err (cond b refusal.RegionFull refusal.NoMemory)) new
 full_answer s new x words u k first is same amount found true tells =
     no_chunk s new (Define x words) (class_asked s x words) u first is same
     (u, found, subst (λ n. IsFull (arena_of s.space u) s.space.pool n) amount (tells.0 refl))
@@ -350,7 +350,7 @@ pub place_answer : (s new : FrontState) (x words : List ℕ) (u k : ℕ)
     → (r ≡ of_place.RecordTooLong → chunk_size s.space.pool.geometry.top < k)
     → (r ≡ of_place.RegionFull → IsFull (arena_of s.space u) s.space.pool k)
     → (IsFull (arena_of s.space u) s.space.pool k → r ≡ of_place.RegionFull)
-    → Answers s (Define x words) (Err (refusal_of_place r)) new
+    → FrontAnswers s (Define x words) (Err (refusal_of_place r)) new
 place_answer s new x words u k first is same amount f free of_place.RecordTooLong long
     full is_full =
     absurd (too_short (long refl) (ltb-false (chunk_size s.sizes.top) (length words) free.fits))

@@ -21,16 +21,17 @@ use Rattle.cm_layout.specs.Rows.{slots_of_rows}
 use Rattle.cm_layout.specs.Rules.{is_live, row_limit, is_too_much}
 use Rattle.cm_layout.specs.Laws.{LoadersAreOwn}
 use Rattle.cm_layout.specs.Loaders.{HasOwnLoaders}
-use Rattle.cm_layout.proofs.{numbers-bare}
-use Rattle.cm_space.specs.Space.{SpaceState, Waits, IsKnown, arena_of, with_arena}
+use Rattle.cm_layout.proofs.{numbers-bare, each-append}
+use Rattle.cm_group.specs.Groups.{IsRightRecord, AreRight}
+use Rattle.cm_space.specs.Space.{SpaceState, WaitingChunks, IsKnown, arena_of, with_arena}
 use Rattle.cm_space.specs.Ownership.{IsSpace}
 use Rattle.cm_state.specs.State.{words_show}
 use Rattle.cm_state.specs.Step.{last_number}
 use Rattle.cm_state.specs.Laws.{EntriesAreSteps}
 use Rattle.cm_state.specs.Entries.{MayFollow}
 use Rattle.cm_front.specs.Chains.{chain_of}
-use Rattle.cm_front.specs.Laws.{GoesWith}
-use Rattle.cm_front.specs.Front.{FrontState, IsFront, AreRight, IsDueLater}
+use Rattle.cm_front.specs.Laws.{SpaceGoesWith}
+use Rattle.cm_front.specs.Front.{FrontState, IsFront, IsDueLater}
 use Rattle.cm_front.specs.Accepting.{accepted, carried}
 use Rattle.cm_front.proofs.Groups.{follow_joined}
 use Rattle.cm_front.proofs.RowFacts.{chain_bare, among_named}
@@ -71,7 +72,7 @@ live_past own s f u live = past own s f u (among_named u s.rows live)
 pub record Keeps (s : FrontState) (e : Entry (List ℕ)) (space : SpaceState) : Type 0 where
   pub may : MayFollow words_show s.sizes s.number s.rows e
   pub right : AreRight (rows_after s.rows e)
-  pub goes : GoesWith s.sizes (bare (rows_after s.rows e)) space
+  pub goes : SpaceGoesWith s.sizes (bare (rows_after s.rows e)) space
   pub known : (u : ℕ) → IsKnown space u ↔ (is_live u (rows_after s.rows e) ≡ true)
   pub waiting : AllByRecursion (IsDueLater s.learnt (s.number + 1)) space.waiting
 
@@ -92,18 +93,12 @@ goes_on steps s e space f below k =
     }
 
 -- what waits for a number waits for it also when there is one more
-pub due_later : (learnt n : ℕ) (ws : List Waits) → AllByRecursion (IsDueLater learnt n) ws
+pub due_later : (learnt n : ℕ) (ws : List WaitingChunks) → AllByRecursion (IsDueLater learnt n) ws
     → AllByRecursion (IsDueLater learnt (n + 1)) ws
 due_later learnt n [] h = tt
 due_later learnt n (w ∷ ws) h =
     let to = h.0.to in
     (record { from = h.0.from; to = omega (arith, to) }, due_later learnt n ws h.1)
-
-pub right_more : (rows : List (Row (List ℕ))) (row : Row (List ℕ)) → AreRight rows
-    → AreRight (row ∷ []) → AreRight (rows ++ row ∷ [])
-right_more [] row a r = r
-right_more (Loader l ∷ rows) row a r = right_more rows row a r
-right_more (Class l words ∷ rows) row a r = (a.0, right_more rows row a.1 r)
 
 -- ---- a loader
 
@@ -213,7 +208,7 @@ keeps_loader own s x n f below m is pool =
     let r : LoaderRow = record { number = s.number + 1; name = x } in
     record {
       may = may_loader s x n below m;
-      right = right_more s.rows (Loader r) f.right tt;
+      right = each-append IsRightRecord s.rows (Loader r ∷ []) f.right tt;
       goes = record {
         is = is;
         pool = pool;

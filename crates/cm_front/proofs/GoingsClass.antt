@@ -29,7 +29,7 @@ use Rattle.cm_layout.specs.Slots.{FitsClass}
 use Rattle.cm_layout.specs.Frames.{AreApart, BareRow}
 use Rattle.cm_layout.specs.Laws.{LoadersAreOwn}
 use Rattle.cm_layout.specs.Loaders.{LoadersDiffer}
-use Rattle.cm_layout.proofs.{classes-bare}
+use Rattle.cm_layout.proofs.{classes-bare, each-append}
 use Rattle.cm_space.specs.Space.{SpaceState, IsKnown, arena_of, with_arena}
 use Rattle.cm_space.specs.Ownership.{IsSpace}
 use Rattle.cm_state.specs.State.{words_show}
@@ -41,7 +41,7 @@ use Rattle.cm_front.specs.Front.{FrontState, IsFront}
 use Rattle.cm_front.proofs.RowFacts.{chain_bare, name_with_class, chain_of_others}
 use Rattle.cm_front.proofs.Spaces.{got_same, got_other}
 use Rattle.cm_front.proofs.Causes.{IsFree}
-use Rattle.cm_front.proofs.Goings.{Keeps, due_later, right_more, room_left, live_past}
+use Rattle.cm_front.proofs.Goings.{Keeps, due_later, room_left, live_past}
 
 -- ---- loaders by name and number
 
@@ -287,7 +287,7 @@ keeps_class keep own s x words u place chain left f free right p is pool =
     let live = number_lives x u s.rows free.asked.found in
     record {
       may = may_class keep own s x words u place chain left f free p;
-      right = right_more s.rows (Class r words) f.right (right, tt);
+      right = each-append IsRightRecord s.rows (Class r words ∷ []) f.right (right, tt);
       goes = record {
         is = is;
         pool = pool;

@@ -27,15 +27,15 @@ use Rattle.cm_layout.specs.Rules.{is_live, is_chunk, is_unused, is_last_chunk, m
 use Rattle.cm_layout.specs.Slots.{FitsChunk}
 use Rattle.cm_layout.specs.Frames.{AreApart, BareRow}
 use Rattle.cm_layout.specs.Laws.{LoadersAreOwn}
-use Rattle.cm_layout.proofs.{classes-bare, apart-unused, rule-bare}
-use Rattle.cm_group.specs.Groups.{IsRightRecord}
+use Rattle.cm_layout.proofs.{classes-bare, apart-unused, rule-bare, each-moved}
+use Rattle.cm_group.specs.Groups.{IsRightRecord, AreRight}
 use Rattle.cm_rows.proofs.{moved_class, classes-moved}
 use Rattle.cm_space.specs.Space.{SpaceState, IsKnown, arena_of, with_arena}
 use Rattle.cm_space.specs.Ownership.{IsSpace, WaitsFor}
 use Rattle.cm_space.specs.Laws.{OwnedIsUsed, OwnedOrWaiting}
 use Rattle.cm_space.specs.Tightening.{Moves}
 use Rattle.cm_front.specs.Chains.{chain_from, chain_of}
-use Rattle.cm_front.specs.Front.{FrontState, IsFront, AreRight, IsDueLater}
+use Rattle.cm_front.specs.Front.{FrontState, IsFront, IsDueLater}
 use Rattle.cm_front.proofs.Adopting.{last_is}
 use Rattle.cm_front.proofs.Causes.{IsAsked}
 use Rattle.cm_front.proofs.Goings.{Keeps, due_later, live_past}
@@ -237,19 +237,6 @@ renamed-last from to used (f ∷ g ∷ rest) last new =
     ∙ ap (λ l. f ∷ l) (renamed-last from to used (g ∷ rest) last (λ d m. new d (inr m)))
 
 -- ---- what rows say after it
-
-right-moved : (from to : Chunk) (rows : List (Row (List ℕ))) → AreRight rows
-    → AreRight (moved from to rows)
-right-moved from to [] a = tt
-right-moved from to (Loader r ∷ rows) a = right-moved from to rows a
-right-moved from to (Class r words ∷ rows) a =
-    by_test (same_chunk r.place.chunk from) (right-moved from to rows a.1)
-  where
-    by_test : (t : Bool) → AreRight (moved from to rows)
-        → AreRight (cond t (Class (record r { place = record r.place { chunk = to } }) words)
-        (Class r words) ∷ moved from to rows)
-    by_test true rest = (a.0, rest)
-    by_test false rest = (a.0, rest)
 
 -- the records that move are of classes that keep the rules
 pub right-kept : (c : Chunk) (rows : List (Row (List ℕ))) → AreRight rows
@@ -502,7 +489,7 @@ module _ (known : Known) (s : FrontState) (x : List ℕ) (u : ℕ) (from to : Ch
               ∙ rw fits refl;
           new = tt;
         };
-        right = right-moved from to s.rows f.right;
+        right = each-moved IsRightRecord from to s.rows f.right;
         goes = record {
           is = m.is;
           pool = m.pool;

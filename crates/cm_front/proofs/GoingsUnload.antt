@@ -15,14 +15,16 @@ use Rattle.cm_layout.specs.declared.entry.Entry.TheVariants as entry
 use Rattle.cm_layout.specs.Rows.{name_of, without_loader, without_loaders, rows_after, bare}
 use Rattle.cm_layout.specs.Rules.{is_live, are_live}
 use Rattle.cm_layout.specs.Laws.{LoadersAreOwn}
-use Rattle.cm_layout.proofs.{name-gone, name-without}
-use Rattle.cm_space.specs.Space.{SpaceState, Waits, IsKnown, arena_of, without_arena, left_by}
+use Rattle.cm_layout.proofs.{name-gone, name-without, each-without}
+use Rattle.cm_group.specs.Groups.{IsRightRecord, AreRight}
+use Rattle.cm_space.specs.Space.{SpaceState, WaitingChunks, IsKnown, arena_of, without_arena}
+use Rattle.cm_space.specs.Space.{left_by}
 use Rattle.cm_space.specs.Space.{left_by_all}
 use Rattle.cm_space.specs.Ownership.{IsSpace}
 use Rattle.cm_state.specs.State.{words_show}
 use Rattle.cm_state.specs.Entries.{MayFollow}
 use Rattle.cm_front.specs.Chains.{chain_of}
-use Rattle.cm_front.specs.Front.{FrontState, IsFront, AreRight, IsDueLater}
+use Rattle.cm_front.specs.Front.{FrontState, IsFront, IsDueLater}
 use Rattle.cm_front.proofs.RowFacts.{chain_bare, chain_gone, chain_left}
 use Rattle.cm_front.proofs.Spaces.{got_none, got_left}
 use Rattle.cm_front.proofs.Causes.{IsAsked, AreAsked}
@@ -31,27 +33,11 @@ use Rattle.cm_front.proofs.Goings.{Keeps, due_later, live_past}
 use Rattle.cm_front.proofs.GoingsClass.{number_lives, turned}
 use Rattle.cm_front.proofs.NameNumbers.{are_found}
 
-pub due_more : (learnt n : ℕ) (ws : List Waits) (w : Waits)
+pub due_more : (learnt n : ℕ) (ws : List WaitingChunks) (w : WaitingChunks)
     → AllByRecursion (IsDueLater learnt n) ws → IsDueLater learnt n w
     → AllByRecursion (IsDueLater learnt n) (ws ++ w ∷ [])
 due_more learnt n [] w h d = (d, tt)
 due_more learnt n (v ∷ ws) w h d = (h.0, due_more learnt n ws w h.1 d)
-
-right_without : (u : ℕ) (rows : List (Row (List ℕ))) → AreRight rows
-    → AreRight (without_loader u rows)
-right_without u [] a = tt
-right_without u (Loader r ∷ rows) a = by_test (right_without u rows a) (eqb r.number u)
-  where
-    by_test : AreRight (without_loader u rows) → (t : Bool)
-        → AreRight (cond (not t) (Loader r ∷ without_loader u rows) (without_loader u rows))
-    by_test rest true = rest
-    by_test rest false = rest
-right_without u (Class r words ∷ rows) a = by_test (right_without u rows a.1) (eqb r.loader u)
-  where
-    by_test : AreRight (without_loader u rows) → (t : Bool)
-        → AreRight (cond (not t) (Class r words ∷ without_loader u rows) (without_loader u rows))
-    by_test rest true = rest
-    by_test rest false = (a.0, rest)
 
 -- rows and a space that fit each other, but for the words of the space's chunks
 pub record AreOfOne (learnt n : ℕ) (rows : List (Row (List ℕ))) (space : SpaceState)
@@ -109,7 +95,7 @@ module _ {learnt n : ℕ} {rows : List (Row (List ℕ))} {space : SpaceState} wh
   one_left : (u : ℕ) → learnt < n → AreOfOne learnt n rows space
       → AreOfOne learnt n (without_loader u rows) (left_by space n u)
   one_left u later one = record {
-    right = right_without u rows one.right;
+    right = each-without IsRightRecord u rows one.right;
     chains = chains_left u one;
     known = known_left u one;
     waiting =

@@ -14,12 +14,12 @@ use Rattle.cm_rows.specs.Rows.{LiveRows}
 use Rattle.cm_record.specs.Names.{class_name_in}
 use Rattle.cm_index.specs.Index.{class_of}
 use Rattle.cm_group.specs.Groups.{Handed, next_number}
-use Rattle.cm_space.specs.Space.{SpaceState, Waits as WaitingChunks, with_chunks, waiting_chunks}
+use Rattle.cm_space.specs.Space.{SpaceState, WaitingChunks, with_chunks, waiting_chunks}
 use Rattle.cm_space.specs.Space.{due, not_due, learnt}
 use Rattle.cm_space.specs.Ownership.{IsSpace}
 use Rattle.cm_state.specs.State.{words_show, state_of, class_in, class_among}
 use Rattle.cm_state.specs.Laws.{ClassesAreFound}
-use Rattle.cm_front.specs.Unsealed.{Waits}
+use Rattle.cm_front.specs.Unsealed.{WaitingGroups}
 use Rattle.cm_front.specs.Front.{IsFront, IsDueLater, front_of}
 use Rattle.cm_front.specs.Accepting.{HandsOut}
 use Rattle.cm_front.proofs.Causes.{one_class}
@@ -43,7 +43,7 @@ what_is_there classes rows x name u o found is =
 
 -- ---- handing out
 
-pub handed : (book : LiveRows (List ℕ)) (space : SpaceState) (old new : Waits)
+pub handed : (book : LiveRows (List ℕ)) (space : SpaceState) (old new : WaitingGroups)
     (number sealed learnt k : ℕ) (broken closed : Bool) (oldest group : Handed)
     → old.groups ≡ oldest ∷ new.groups
     → group ≡ record { first = oldest.first; learnt = learnt; entries = oldest.entries }
@@ -86,7 +86,7 @@ later learnt m n (w ∷ ws) h = by_test (later learnt m n ws h.1) (nat_lt m w.nu
     by_test rest true e = (record { from = ltb-true m w.number e; to = h.0.to }, rest)
     by_test rest false e = rest
 
-pub learnt_front : (book : LiveRows (List ℕ)) (space left : SpaceState) (unsealed : Waits)
+pub learnt_front : (book : LiveRows (List ℕ)) (space left : SpaceState) (unsealed : WaitingGroups)
     (number sealed old m k : ℕ) (broken closed : Bool)
     → IsFront (front_of book space unsealed number sealed old broken closed)
     → m ≡ max old k → k ≤ sealed → left ≡ learnt space m → IsSpace left → IsFreeSpace left.pool

@@ -63,7 +63,7 @@ accepted s e space =
     }
 
 -- the change is accepted with this number: it is an entry that may follow
-pub record Accepts (s : FrontState) (change : Change (List ℕ)) (n : ℕ)
+pub record FrontAccepts (s : FrontState) (change : Change (List ℕ)) (n : ℕ)
     (new : FrontState) : Type 0 where
   pub number : n ≡ s.number + 1
   pub entry : Entry (List ℕ)
@@ -101,10 +101,10 @@ IsReason s change r =
     × (((r ≡ refusal_of_chunk change) × HasNoChunk s change)
     ⊎ ((r ≡ refusal.NoMemory) × ¬ HasNoChunk s change)))
 
-abbrev pub Answers : FrontState → Change (List ℕ) → Result ℕ Refusal → FrontState → Type 0
-Answers s change (Ok n) new =
-    (first_refusal s change ≡ None) × (¬ HasNoChunk s change) × Accepts s change n new
-Answers s change (Err r) new = (new ≡ s) × IsReason s change r
+abbrev pub FrontAnswers : FrontState → Change (List ℕ) → Result ℕ Refusal → FrontState → Type 0
+FrontAnswers s change (Ok n) new =
+    (first_refusal s change ≡ None) × (¬ HasNoChunk s change) × FrontAccepts s change n new
+FrontAnswers s change (Err r) new = (new ≡ s) × IsReason s change r
 
 -- ---- handing out and learning
 

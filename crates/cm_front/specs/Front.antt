@@ -5,11 +5,10 @@ use Rattle.std.specs.List.{AllByRecursion}
 use Rattle.std.specs.Coded.{Coded, code_by, coded×, codes}
 use Rattle.cm_pool.specs.Geometry.{Sizes, IsGeometry}
 use Rattle.cm_layout.specs.declared.row.Row.{Row}
-use Rattle.cm_layout.specs.declared.row.Row.TheVariants.{Loader, Class}
 use Rattle.cm_layout.specs.Rows.{bare}
 use Rattle.cm_layout.specs.Rules.{is_live}
-use Rattle.cm_group.specs.Groups.{Handed, IsRightRecord}
-use Rattle.cm_space.specs.Space.{SpaceState, Waits as WaitingChunks, IsKnown, state_code}
+use Rattle.cm_group.specs.Groups.{Handed, AreRight}
+use Rattle.cm_space.specs.Space.{SpaceState, WaitingChunks, IsKnown, state_code}
 use Rattle.cm_rows.specs.Rows.{LiveRows}
 use Rattle.cm_state.specs.State.{words_show, state_of}
 use Rattle.cm_state.specs.Step.{Change, step}
@@ -17,8 +16,8 @@ use Rattle.cm_state.specs.Entries.{AreCacheRows}
 use Rattle.cm_prepare.specs.declared.refusal.Refusal.{Refusal}
 use Rattle.cm_prepare.specs.declared.refusal.Refusal.TheVariants as refusal
 use Rattle.cm_prepare.specs.Refusals.{refusal_of}
-use Rattle.cm_front.specs.Laws.{GoesWith}
-use Rattle.cm_front.specs.Unsealed.{Waits, Follow}
+use Rattle.cm_front.specs.Laws.{SpaceGoesWith}
+use Rattle.cm_front.specs.Unsealed.{WaitingGroups, Follow}
 
 pub record FrontState : Type 0 where
   pub sizes : Sizes
@@ -35,7 +34,7 @@ pub record FrontState : Type 0 where
   pub closed : Bool
 
 -- how the code keeps it
-abbrev pub front_of : LiveRows (List ℕ) → SpaceState → Waits → ℕ → ℕ → ℕ → Bool → Bool
+abbrev pub front_of : LiveRows (List ℕ) → SpaceState → WaitingGroups → ℕ → ℕ → ℕ → Bool → Bool
     → FrontState
 front_of book space unsealed number sealed learnt broken closed =
     record {
@@ -93,12 +92,6 @@ front_code =
     })
     (λ _. refl)
 
--- each class's words are the record of a class that keeps the rules
-abbrev pub AreRight : List (Row (List ℕ)) → Type 0
-AreRight [] = Unit {0}
-AreRight (Loader r ∷ rows) = AreRight rows
-AreRight (Class r words ∷ rows) = IsRightRecord words × AreRight rows
-
 -- what waits, waits for a number that isn't learnt and was given
 pub record IsDueLater (learnt number : ℕ) (w : WaitingChunks) : Type 0 where
   pub from : learnt < w.number
@@ -110,7 +103,7 @@ pub record IsFront (s : FrontState) : Type 0 where
   pub lawful : IsGeometry s.sizes
   pub rows : AreCacheRows words_show s.sizes s.number s.rows
   pub right : AreRight s.rows
-  pub space : GoesWith s.sizes (bare s.rows) s.space
+  pub space : SpaceGoesWith s.sizes (bare s.rows) s.space
   pub known : (u : ℕ) → IsKnown s.space u ↔ (is_live u s.rows ≡ true)
   pub waiting : AllByRecursion (IsDueLater s.learnt s.number) s.space.waiting
   pub learnt : s.learnt ≤ s.sealed

@@ -28,7 +28,7 @@ ChainsHaveChunks =
     → Among r.place.chunk (chunks_of (chain_of r.loader rows))
 
 -- A space whose arenas are those of the rows.
-pub record GoesWith (sizes : Sizes) (rows : List BareRow) (space : SpaceState) : Type 0 where
+pub record SpaceGoesWith (sizes : Sizes) (rows : List BareRow) (space : SpaceState) : Type 0 where
   pub is : IsSpace space
   pub pool : IsFreeSpace space.pool
   pub geometry : space.pool.geometry ≡ sizes
@@ -47,6 +47,6 @@ abbrev pub PlacesKeepRules : Type 0
 PlacesKeepRules =
     (sizes : Sizes) (n : ℕ) (rows : List BareRow) (space : SpaceState) (u words : ℕ) (place : Place)
     (chain : List Filled) (left : FreeSpace) → LiveRowsKeep sizes n [] rows
-    → AreApart (classes_in rows) → GoesWith sizes rows space → 1 ≤ words
+    → AreApart (classes_in rows) → SpaceGoesWith sizes rows space → 1 ≤ words
     → Places (arena_of space u) space.pool words place chain left
     → IsPlaceOf sizes rows u words place chain

@@ -11,7 +11,7 @@ use Rattle.cm_rows.specs.Rows.{LiveRows}
 use Rattle.cm_space.specs.Space.{SpaceState, IsKnown, arena_of, with_arena}
 use Rattle.cm_space.specs.Adopting.{IsAdoptable, adopted}
 use Rattle.cm_space.specs.Ownership.{IsSpace}
-use Rattle.cm_front.specs.Laws.{GoesWith}
+use Rattle.cm_front.specs.Laws.{SpaceGoesWith}
 use Rattle.cm_front.specs.Front.{FrontState}
 
 -- one more than the greatest root that a row uses, or none
@@ -23,7 +23,7 @@ roots_of (r ∷ rows) = max (r.place.chunk.root + 1) (roots_of rows)
 -- than rows use
 pub record IsSpaceOf (sizes : Sizes) (rows : List (Row (List ℕ)))
     (space : SpaceState) : Type 0 where
-  pub goes : GoesWith sizes (bare rows) space
+  pub goes : SpaceGoesWith sizes (bare rows) space
   pub known : (u : ℕ) → IsKnown space u ↔ (is_live u rows ≡ true)
   pub waiting : space.waiting ≡ []
   pub roots : space.pool.roots ≡ roots_of (classes_in rows)

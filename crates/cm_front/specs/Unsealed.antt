@@ -2,7 +2,7 @@
 use Rattle.std.specs.Prelude.{◌≡◌, ℕ, Bool, List, [], ◌∷◌, Option, Some, None}
 use Rattle.cm_group.specs.Groups.{Handed, next_number}
 
-pub record Waits : Type 0 where
+pub record WaitingGroups : Type 0 where
   pub groups : List Handed
   -- the next entry takes no memory
   pub is_ready : Bool

@@ -11,7 +11,7 @@ ghost use Rattle.cm_layout.specs.declared.row.Row.TheVariants.{Loader, Class};
 ghost use Rattle.cm_prepare.specs.Commands.{change_asked};
 ghost use Rattle.cm_state.specs.Step.{AddLoader, Define, Unload as UnloadOf, Tighten};
 ghost use Rattle.cm_state.specs.Step.{UnloadAll as UnloadAllOf};
-ghost use Rattle.cm_front.specs.Accepting.{Answers};
+ghost use Rattle.cm_front.specs.Accepting.{FrontAnswers};
 ghost use Rattle.cm_front.specs.Refusing.{refusal_of_place};
 
 use crate::front::Front;
@@ -42,7 +42,7 @@ impl Front {
     /// journal has, so no unload meets it. A refused command takes no number and leaves all as it
     /// was.
     pub fn accept(&mut self, command: Command<'_>) -> Result<u64, Refusal>
-        ensures { Answers self.old (change_asked command.entry) result self.new }
+        ensures { FrontAnswers self.old (change_asked command.entry) result self.new }
     {
         if self.is_closed {
             return Err(Refusal::Closed);
@@ -64,7 +64,7 @@ impl Front {
     /// that is smaller or lies before. The loaders and classes stay as they are, and no root is
     /// added. The chunk that is left waits for the command's number.
     pub fn tighten(&mut self, name: &[u8]) -> Result<u64, Refusal>
-        ensures { Answers self.old (Tighten name.now) result self.new }
+        ensures { FrontAnswers self.old (Tighten name.now) result self.new }
     {
         self.accept(Command::Tighten(name))
     }
@@ -72,7 +72,7 @@ impl Front {
     fn add_loader(&mut self, name: &[u8]) -> Result<u64, Refusal>
         requires running { self.old.closed ≡ false }
         requires whole { self.old.broken ≡ false }
-        ensures { Answers self.old (AddLoader name.now) result self.new }
+        ensures { FrontAnswers self.old (AddLoader name.now) result self.new }
     {
         rows_tell_state();
         loaders_are_own();
@@ -80,7 +80,7 @@ impl Front {
         let number = self.check_loader(name)?;
         self.unsealed.make_ready()?;
         self.space.add_loader(number)?;
-        let _is_space = self.space.geometry(); // so the proof knows that it is one
+        self.space.invariant_holds();
         let _rule = self.book.apply(number, loader_entry(number, name)); // it breaks none
         let entry = CarriedEntry::loader(self.alloc, loader_row(number, name));
         self.unsealed.join(number, entry);
@@ -91,7 +91,7 @@ impl Front {
     fn define(&mut self, name: &[u8], class: Prepared) -> Result<u64, Refusal>
         requires running { self.old.closed ≡ false }
         requires whole { self.old.broken ≡ false }
-        ensures { Answers self.old (Define name.now class) result self.new }
+        ensures { FrontAnswers self.old (Define name.now class) result self.new }
     {
         rows_tell_state();
         loaders_are_own();
@@ -110,7 +110,7 @@ impl Front {
             Ok(place) => place,
             Err(refusal) => return Err(refusal_of_place(refusal)),
         };
-        let _is_space = self.space.geometry(); // so the proof knows that it is one
+        self.space.invariant_holds();
         let number = self.number + 1;
         let row = ClassRow { loader, place };
         let _rule = self.book.apply(number, Entry::Live(Row::Class(row, class))); // it breaks none
@@ -123,7 +123,7 @@ impl Front {
     fn unload(&mut self, name: &[u8]) -> Result<u64, Refusal>
         requires running { self.old.closed ≡ false }
         requires whole { self.old.broken ≡ false }
-        ensures { Answers self.old (UnloadOf name.now) result self.new }
+        ensures { FrontAnswers self.old (UnloadOf name.now) result self.new }
     {
         rows_tell_state();
         loaders_are_own();
@@ -132,7 +132,7 @@ impl Front {
         self.unsealed.make_ready()?;
         let number = self.number + 1;
         self.space.leave(loader, number)?;
-        let _is_space = self.space.geometry(); // so the proof knows that it is one
+        self.space.invariant_holds();
         let _rule = self.book.apply(number, Entry::Unload(Unload { loader })); // it breaks none
         let entry = CarriedEntry::unload(self.alloc, Unload { loader });
         self.unsealed.join(number, entry);
@@ -143,7 +143,7 @@ impl Front {
     fn unload_all(&mut self, names: &Names<'_>) -> Result<u64, Refusal>
         requires running { self.old.closed ≡ false }
         requires whole { self.old.broken ≡ false }
-        ensures { Answers self.old (UnloadAllOf names.now) result self.new }
+        ensures { FrontAnswers self.old (UnloadAllOf names.now) result self.new }
     {
         rows_tell_state();
         loaders_are_own();
@@ -152,7 +152,7 @@ impl Front {
         self.unsealed.make_ready()?;
         let number = self.number + 1;
         self.space.leave_all(loaders.as_slice(), number)?;
-        let _is_space = self.space.geometry(); // so the proof knows that it is one
+        self.space.invariant_holds();
         let unloaded = Entry::UnloadAll(UnloadAll { loaders });
         let _rule = self.book.apply(number, unloaded); // it breaks none
         let entry = CarriedEntry::unload_all(self.alloc, UnloadAll { loaders });
@@ -164,7 +164,7 @@ impl Front {
     fn move_down(&mut self, name: &[u8]) -> Result<u64, Refusal>
         requires running { self.old.closed ≡ false }
         requires whole { self.old.broken ≡ false }
-        ensures { Answers self.old (Tighten name.now) result self.new }
+        ensures { FrontAnswers self.old (Tighten name.now) result self.new }
     {
         rows_tell_state();
         loaders_are_own();
@@ -181,7 +181,7 @@ impl Front {
         let Some(moved) = self.space.tighten(loader, number)? else {
             return Err(Refusal::NoMove);
         };
-        let _is_space = self.space.geometry(); // so the proof knows that it is one
+        self.space.invariant_holds();
         let entry = move_entry(loader, moved);
         let _rule = self.book.apply(number, Entry::Move(entry)); // it breaks none
         self.unsealed

@@ -70,6 +70,13 @@ impl Front {
         self.space.geometry()
     }
 
+    /// Does nothing: its clause says what every accepted cache keeps.
+    pub fn invariant_holds(&self)
+        ensures { IsFront self.now }
+    {
+        self.space.invariant_holds();
+    }
+
     /// The number of the last accepted command.
     pub fn number(&self) -> u64
         ensures { result ≡ self.now.number }
@@ -123,7 +130,7 @@ impl Front {
         }
         self.learnt = self.learnt.max(receipt.number);
         self.space.learn(self.learnt);
-        let _is_space = self.space.geometry(); // so the proof knows that it is one
+        self.space.invariant_holds();
         Ok(())
     }
 

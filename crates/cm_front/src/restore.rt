@@ -4,7 +4,7 @@ ghost use Rattle.std.specs.Prelude.{◌≡◌, ℕ, ◌≤◌, ◌^◌, [], IfOk
 ghost use Rattle.cm_pool.specs.Geometry.{IsGeometry};
 ghost use Rattle.cm_state.specs.State.{words_show};
 ghost use Rattle.cm_state.specs.Entries.{AreCacheRows};
-ghost use Rattle.cm_front.specs.Front.{AreRight};
+ghost use Rattle.cm_group.specs.Groups.{AreRight};
 ghost use Rattle.cm_front.specs.Restoring.{IsSpaceOf, CanTake, Takes, Restores};
 
 use crate::front::Front;
@@ -41,9 +41,9 @@ impl Front {
         requires last { number ≤ 2 ^ 63 }
         ensures { IfOk result (λ front. Restores book number front) }
     {
-        let _lawful = geometry.top(); // so the proof knows that its sizes are within the limits
+        geometry.invariant_holds();
         let mut space = Space::new(alloc, geometry)?;
-        let _is_space = space.geometry(); // and that this is a space
+        space.invariant_holds();
         take_rows(&mut space, &book)?;
         Ok(Front {
             alloc,
@@ -87,6 +87,6 @@ fn take_row(space: &mut Space, row: &Row<Prepared>) -> Result<(), AllocError>
             let _taken = space.adopt(row.loader, row.place)?; // it can be taken
         }
     }
-    let _is_space = space.geometry(); // so the proof knows that it is one
+    space.invariant_holds();
     Ok(())
 }

@@ -25,9 +25,9 @@ pub(crate) struct Unsealed {
 impl Model for Unsealed {
     ghost use Rattle.std.specs.Prelude.{◌++◌, ◌&&◌, is_some, nat_lt, option_to_list};
     ghost use Rattle.std.specs.VecDeque.{deque_capacity, deque_len};
-    ghost use Rattle.cm_front.specs.Unsealed.{Waits, NewestIsLast};
+    ghost use Rattle.cm_front.specs.Unsealed.{WaitingGroups, NewestIsLast};
 
-    ghost Value = { Waits };
+    ghost Value = { WaitingGroups };
 
     ghost view = { λ u. record {
       groups = u.full.items ++ option_to_list u.newest;

@@ -7,7 +7,7 @@ use Rattle.std.specs.List.{AllByRecursion}
 use Rattle.cm_class.specs.declared.class_file.ClassFile.{ClassFile}
 use Rattle.cm_rules.specs.Keeps.{KeepsRules}
 use Rattle.cm_record.specs.Layout.{lay}
-use Rattle.cm_layout.specs.Rows.{slots_of_entries, kept_on}
+use Rattle.cm_layout.specs.Rows.{EachClass, slots_of_entries, kept_on}
 pub use Rattle.cm_layout.specs.Rows.{group_limit}
 use Rattle.cm_layout.specs.declared.class_row.ClassRow.{ClassRow}
 use Rattle.cm_layout.specs.declared.row.Row.{Row}
@@ -72,6 +72,10 @@ next_number group = group.first + length group.entries
 -- the record of a class that keeps the rules
 abbrev pub IsRightRecord : List ℕ → Type 0
 IsRightRecord words = (c : ClassFile) × KeepsRules c × (words ≡ lay c)
+
+-- each class's words are the record of a class that keeps the rules
+abbrev pub AreRight : List (Row (List ℕ)) → Type 0
+AreRight rows = EachClass IsRightRecord rows
 
 abbrev pub CarriesRight : Carried → Type 0
 CarriesRight c = AllByRecursion IsRightRecord (records_of c.entry c.moved)

@@ -40,7 +40,8 @@ fn cmp_records(one: &Record, other: &Record) -> Ordering
     ensures { result ≡ slice_cmp nat_cmp (class_name_in one.now) (class_name_in other.now) }
 {
     words_tell_name();
-    let _words = (one.words(), other.words()); // so the proof knows that they are records
+    one.invariant_holds();
+    other.invariant_holds();
     one.cmp_name(other)
 }
 
@@ -48,7 +49,7 @@ fn cmp_record_to(class: &Record, bytes: &[u8]) -> Ordering
     ensures { result ≡ slice_cmp nat_cmp (class_name_in class.now) bytes.now }
 {
     words_tell_name();
-    let _words = class.words(); // so the proof knows that they are a record
+    class.invariant_holds();
     class.cmp_name_to(bytes)
 }
 
@@ -57,6 +58,6 @@ fn record_mark(class: &Record, owner: Option<u64>) -> u32
     ensures { result ≡ mark_of (rank owner) (class_name_in class.now) }
 {
     words_tell_name();
-    let _words = class.words(); // so the proof knows that they are a record
+    class.invariant_holds();
     class.name_fingerprint(seed_of(owner))
 }

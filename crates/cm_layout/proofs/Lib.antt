@@ -18,6 +18,7 @@ mod Padded
 mod SlotsJoined
 mod Numbers
 mod Unloaded
+mod EachClass
 -- Chunks of rows that keep the rules share no word, but for the records of one loader on one chunk.
 pub use Apart.{entry-apart, rows_after_all-append}
 -- Contents frame at most one thing: the sizes, the rows with their words, and the number. An entry
@@ -55,3 +56,5 @@ pub use KeptOn.{kept-append, kept-with, kept-without, kept-elsewhere, kept-onto,
 pub use KeptOn.{unused-none, none-used, begins-at, moves-stand}
 -- Loaders that go at once: each is live in its turn, and the others stay.
 pub use Unloaded.{live-in-turn, name-without, name-gone}
+-- What is true of all that is kept of classes, after each change of the rows.
+pub use EachClass.{each-append, each-without, each-without-all, each-moved}

@@ -78,6 +78,12 @@ kept_on c (Loader r ∷ rows) = kept_on c rows
 kept_on c (Class r p ∷ rows) =
     if same_chunk r.place.chunk c then p ∷ kept_on c rows else kept_on c rows
 
+-- what is kept of each class is so
+abbrev pub EachClass : {P : Type 0} → (P → Type 0) → List (Row P) → Type 0
+EachClass Is [] = Unit {0}
+EachClass Is (Loader r ∷ rows) = EachClass Is rows
+EachClass Is (Class r p ∷ rows) = Is p × EachClass Is rows
+
 -- the chunk of a loader's last class
 abbrev pub last_chunk : ℕ → List ClassRow → Option Chunk
 last_chunk u [] = None

@@ -25,7 +25,7 @@ use Rattle.cm_layout.specs.Rules.{is_last_chunk, is_unused}
 use Rattle.cm_layout.specs.Frames.{AreApart}
 use Rattle.cm_layout.proofs.{classes-bare, apart-unused}
 use Rattle.cm_group.specs.Groups.{Carried, Handed, slots_taken, group_limit}
-use Rattle.cm_space.specs.Space.{SpaceState, Waits, arena_of, left_by, left_by_all}
+use Rattle.cm_space.specs.Space.{SpaceState, WaitingChunks, arena_of, left_by, left_by_all}
 use Rattle.cm_space.specs.Laws.{OwnedIsUsed, OwnedOrWaiting}
 use Rattle.cm_state.specs.State.{words_show}
 use Rattle.cm_state.specs.Entries.{MayFollow}
@@ -34,7 +34,7 @@ use Rattle.cm_commit.specs.Offers.{filled, HasRecords, writes_apart, rows_after_
 use Rattle.cm_front.specs.Chains.{chain_of}
 use Rattle.cm_front.specs.Laws.{ChainsEndAtTop, ChainsHaveChunks}
 use Rattle.cm_front.specs.Front.{FrontState, IsFront}
-use Rattle.cm_front.specs.Accepting.{Accepts, SpaceAfter, accepted, carried, joined_by}
+use Rattle.cm_front.specs.Accepting.{FrontAccepts, SpaceAfter, accepted, carried, joined_by}
 use Rattle.cm_front.proofs.{some-top, fetched_free, free-apart}
 use Rattle.cm_machine.specs.Ahead.{AllFollow, AtEach, AllApart, AreUsed, UseNoneDue}
 use Rattle.cm_machine.specs.Ahead.{pending, IsAhead}
@@ -159,7 +159,8 @@ used_kept held roots s (entry.UnloadAll e) new after d used =
     subst (λ p. IsUsedChunk p d)
     (sym (ap (λ (t : SpaceState). t.pool) after ∙ pool_left s.space (s.number + 1) e.loaders)) used
 
-among_last : (ws : List Waits) (v w : Waits) → Among w (ws ++ v ∷ []) → Among w ws ⊎ (w ≡ v)
+among_last : (ws : List WaitingChunks) (v w : WaitingChunks) → Among w (ws ++ v ∷ [])
+    → Among w ws ⊎ (w ≡ v)
 among_last [] v w (inl e) = inr e
 among_last [] v w (inr none) = absurd none
 among_last (x ∷ ws) v w (inl e) = inl (inl e)
@@ -167,14 +168,15 @@ among_last (x ∷ ws) v w (inr rest) =
     elim (among_last ws v w rest) [ inl old ↦ inl (inr old) | inr e ↦ inr e ]
 
 -- what is left with the next number waits for none that earlier rows have
-one_later : (number : ℕ) (waiting : List Waits) (chunks : List Chunk) (k : ℕ) (at : WordRows)
+one_later : (number : ℕ) (waiting : List WaitingChunks) (chunks : List Chunk) (k : ℕ)
+    (at : WordRows)
     → k ≤ number → UseNoneDue waiting k at
     → UseNoneDue (waiting ++ record { number = number + 1; chunks = chunks } ∷ []) k at
 one_later number waiting chunks k at to none w c among small in_w r in_rows =
     elim (among_last waiting _ w among) [
       | inl old ↦ none w c old small in_w r in_rows
       | inr is ↦
-          let later : w.number ≡ number + 1 = ap (λ (v : Waits). v.number) is in
+          let later : w.number ≡ number + 1 = ap (λ (v : WaitingChunks). v.number) is in
           absurd (omega (arith, later, small, to))
     ]
 
@@ -192,7 +194,8 @@ due_kept : (s : FrontState) (e : Entry (List ℕ)) (new : SpaceState) → SpaceA
 due_kept s (entry.Live (Loader r)) new after k at to none =
     subst (λ (t : SpaceState). UseNoneDue t.waiting k at) (sym after) none
 due_kept s (entry.Live (Class r words)) new after k at to none =
-    subst (λ (l : List Waits). UseNoneDue l k at) (sym (ap (λ (t : SpaceState). t.waiting) after.1))
+    subst (λ (l : List WaitingChunks). UseNoneDue l k at)
+    (sym (ap (λ (t : SpaceState). t.waiting) after.1))
     none
 due_kept s (entry.Unload e) new after k at to none =
     subst (λ (t : SpaceState). UseNoneDue t.waiting k at) (sym after)
@@ -328,7 +331,7 @@ accepted_ahead known rows number out s e space f g a may after = record {
 
 pub accepted_is_ahead : Known → AcceptedIsAhead
 accepted_is_ahead known rows number out s new change n f g a answer =
-    let is : Accepts s change n new = answer.2 in
+    let is : FrontAccepts s change n new = answer.2 in
     subst (λ t. IsAhead rows number out t) (sym is.after)
     (accepted_ahead known rows number out s is.entry new.space f
     (subst (λ t. IsFront t) is.after g) a is.may is.space)

@@ -25,7 +25,7 @@ use Rattle.cm_state.specs.Step.{RecordTooLong, JournalFull, BadList, last_number
 use Rattle.cm_state.specs.Entries.{AreCacheRows}
 use Rattle.cm_state.specs.Laws.{LoadersAreFound, ClassesAreFound, SizesAgree}
 use Rattle.cm_machine.specs.Machine.{Asks}
-use Rattle.cm_machine.specs.Following.{AreRight}
+use Rattle.cm_machine.specs.Following.{AreRightClasses}
 use Rattle.cm_machine.proofs.Classes.{ClassRows, TellName, name_told, number_words, among_words}
 
 -- What is used of what is known of rows and their state.
@@ -94,7 +94,7 @@ list_cause m true name spent there = loader_cause m name spent there
 
 -- rows with classes and with words
 pub record Both (sizes : Sizes) (n : ℕ) (rows : ClassRows) : Type 0 where
-  pub right : AreRight rows
+  pub right : AreRightClasses rows
   pub cache : AreCacheRows class_shows sizes n rows
   pub words : AreCacheRows words_show sizes n (rows_with lay rows)
 
@@ -117,7 +117,7 @@ some_mapped f None = refl
 some_mapped f (Some x) = refl
 
 -- what is found by name, with words and with classes
-pub same_class : Known → (rows : ClassRows) (x name : List ℕ) → AreRight rows
+pub same_class : Known → (rows : ClassRows) (x name : List ℕ) → AreRightClasses rows
     → class_in (state_of words_show (rows_with lay rows)) x name
     ≡ option_map lay (class_in (state_of class_shows rows) x name)
 same_class known rows x name right =

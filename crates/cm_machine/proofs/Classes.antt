@@ -23,11 +23,11 @@ use Rattle.cm_layout.specs.Rows.{without_loaders, moved}
 use Rattle.cm_layout.specs.Rows.{row_with, rows_with, entry_with}
 use Rattle.cm_layout.specs.Rules.{broken_rule}
 use Rattle.cm_layout.specs.Frames.{bare_entry}
-use Rattle.cm_layout.proofs.{rule-bare}
+use Rattle.cm_layout.proofs.{rule-bare, each-append, each-without, each-without-all, each-moved}
 use Rattle.cm_state.specs.State.{class_shows, words_show, class_among}
 use Rattle.cm_state.specs.Entries.{MayFollow, IsNewClass, names_of}
 use Rattle.cm_machine.specs.Machine.{IsRight}
-use Rattle.cm_machine.specs.Following.{AreRight, IsRightEntry}
+use Rattle.cm_machine.specs.Following.{AreRightClasses, IsRightEntry}
 
 abbrev pub ClassRows : Type 0
 ClassRows = List (Row ClassFile)
@@ -144,58 +144,18 @@ after_words rows (entry.Unload e) = without_words e.loader rows
 after_words rows (entry.Move e) = moved_words e.from e.to rows
 after_words rows (entry.UnloadAll e) = without_all_words e.loaders rows
 
-right_without : (u : ℕ) (rows : ClassRows) → AreRight rows → AreRight (without_loader u rows)
-right_without u [] r = tt
-right_without u (Loader l ∷ rows) r = by_test (eqb l.number u) (right_without u rows r)
-  where
-    by_test : (t : Bool) → AreRight (without_loader u rows)
-        → AreRight (cond (not t) (Loader l ∷ without_loader u rows) (without_loader u rows))
-    by_test true rest = rest
-    by_test false rest = rest
-right_without u (Class l c ∷ rows) r = by_test (eqb l.loader u) (right_without u rows r.1)
-  where
-    by_test : (t : Bool) → AreRight (without_loader u rows)
-        → AreRight (cond (not t) (Class l c ∷ without_loader u rows) (without_loader u rows))
-    by_test true rest = rest
-    by_test false rest = (r.0, rest)
-
-right_without_all : (us : List ℕ) (rows : ClassRows) → AreRight rows
-    → AreRight (without_loaders us rows)
-right_without_all [] rows r = r
-right_without_all (u ∷ us) rows r =
-    right_without_all us (without_loader u rows) (right_without u rows r)
-
-pub right_after : (rows : ClassRows) (e : Entry ClassFile) → AreRight rows → IsRightEntry e
-    → AreRight (rows_after rows e)
-right_after rows (entry.Live row) r is = more rows r
-  where
-    one : (row : Row ClassFile) → IsRightEntry (entry.Live row) → AreRight (row ∷ [])
-    one (Loader l) h = tt
-    one (Class l c) h = (h, tt)
-
-    more : (rows : ClassRows) → AreRight rows → AreRight (rows ++ row ∷ [])
-    more [] r = one row is
-    more (Loader l ∷ rows) r = more rows r
-    more (Class l c ∷ rows) r = (r.0, more rows r.1)
-right_after rows (entry.Unload e) r is = right_without e.loader rows r
-right_after rows (entry.UnloadAll e) r is = right_without_all e.loaders rows r
-right_after rows (entry.Move e) r is = stay rows r
-  where
-    stay : (rows : ClassRows) → AreRight rows → AreRight (moved e.from e.to rows)
-    stay [] r = tt
-    stay (Loader l ∷ rows) r = stay rows r
-    stay (Class l c ∷ rows) r = by_test (same_chunk l.place.chunk e.from) (stay rows r.1)
-      where
-        by_test : (t : Bool) → AreRight (moved e.from e.to rows)
-            → AreRight (cond t (Class (record l { place = record l.place { chunk = e.to } }) c)
-            (Class l c)
-            ∷ moved e.from e.to rows)
-        by_test true rest = (r.0, rest)
-        by_test false rest = (r.0, rest)
+pub right_after : (rows : ClassRows) (e : Entry ClassFile) → AreRightClasses rows → IsRightEntry e
+    → AreRightClasses (rows_after rows e)
+right_after rows (entry.Live (Loader l)) r is = each-append IsRight rows (Loader l ∷ []) r tt
+right_after rows (entry.Live (Class l c)) r is =
+    each-append IsRight rows (Class l c ∷ []) r (is, tt)
+right_after rows (entry.Unload e) r is = each-without IsRight e.loader rows r
+right_after rows (entry.UnloadAll e) r is = each-without-all IsRight e.loaders rows r
+right_after rows (entry.Move e) r is = each-moved IsRight e.from e.to rows r
 
 -- ---- classes by name
 
-pub among_words : TellName → (u : ℕ) (name : List ℕ) (rows : ClassRows) → AreRight rows
+pub among_words : TellName → (u : ℕ) (name : List ℕ) (rows : ClassRows) → AreRightClasses rows
     → class_among words_show u name (rows_with lay rows)
     ≡ option_map lay (class_among class_shows u name rows)
 among_words tell u name [] r = refl
@@ -217,7 +177,8 @@ pub none_mapped : {A B : Type 0} (f : A → B) (o : Option A) → option_map f o
 none_mapped f None h = refl
 none_mapped f (Some x) h = absurd (cc)
 
-new_words : TellName → (rows : ClassRows) (e : Entry ClassFile) → AreRight rows → IsRightEntry e
+new_words : TellName → (rows : ClassRows) (e : Entry ClassFile) → AreRightClasses rows
+    → IsRightEntry e
     → IsNewClass words_show (rows_with lay rows) (entry_with lay e) → IsNewClass class_shows rows e
 new_words tell rows (entry.Live (Loader r)) right is new = tt
 new_words tell rows (entry.Live (Class r c)) right is new = (
@@ -234,7 +195,7 @@ new_words tell rows (entry.UnloadAll e) right is new = tt
 
 -- an entry that may follow by the words of records may follow by classes
 pub may_follow : TellName → (sizes : Sizes) (n : ℕ) (rows : ClassRows) (e : Entry ClassFile)
-    → AreRight rows → IsRightEntry e
+    → AreRightClasses rows → IsRightEntry e
     → MayFollow words_show sizes n (rows_with lay rows) (entry_with lay e)
     → MayFollow class_shows sizes n rows e
 may_follow tell sizes n rows e right is may = record {

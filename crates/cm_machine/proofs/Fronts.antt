@@ -27,12 +27,12 @@ use Rattle.cm_state.specs.Entries.{AreCacheRows, MayFollow, change_of, names_of}
 use Rattle.cm_state.specs.Laws.{EntriesAreSteps, ChangesGoOn}
 use Rattle.cm_commit.specs.Offers.{filled}
 use Rattle.cm_front.specs.Front.{FrontState, IsFront, first_refusal}
-use Rattle.cm_front.specs.Accepting.{Accepts, HasNoChunk, SpaceAfter, accepted, carried}
+use Rattle.cm_front.specs.Accepting.{FrontAccepts, HasNoChunk, SpaceAfter, accepted, carried}
 use Rattle.cm_front.specs.Accepting.{refusal_of_chunk}
 use Rattle.cm_machine.specs.Ahead.{IsAhead, pending}
 use Rattle.cm_machine.proofs.Accepted.{filled_again, pending_accepted}
 use Rattle.cm_machine.specs.Machine.{Base, Machine, Holds, Asks, WantsRoom, commands_to}
-use Rattle.cm_machine.specs.Machine.{IsReason as IsMachineReason, Accepts as MachineAccepts}
+use Rattle.cm_machine.specs.Machine.{IsReason as IsMachineReason, Accepts}
 use Rattle.cm_machine.specs.Following.{IsRightEntry, Make, Follows}
 use Rattle.cm_machine.specs.Laws.{FollowsFront, IsAccepted, AcceptedIsMade, RefusedIsRefused}
 use Rattle.cm_machine.specs.Laws.{FoundIsThere, CommandsAreCounted, RowsAreAfter, OpenedFollows}
@@ -144,7 +144,8 @@ module _ (known : Known) (steps : EntriesAreSteps ClassFile) (on : ChangesGoOn) 
     (rows : List (Row (List ℕ))) (number : ℕ) (out : List Carried) (s new : FrontState)
     (asked : Change (List ℕ)) (change : Change ClassFile) (n : ℕ) (f : IsFront s) (g : IsFront new)
     (a : IsAhead rows number out s) (follows : FollowsFront k rows number out s)
-    (asks : Asks asked change) (running : s.broken ≡ false) (made : Accepts s asked n new) where
+    (asks : Asks asked change) (running : s.broken ≡ false)
+    (made : FrontAccepts s asked n new) where
   abbrev waits : List (Entry (List ℕ))
   waits = map filled (pending out s)
 
@@ -190,7 +191,7 @@ module _ (known : Known) (steps : EntriesAreSteps ClassFile) (on : ChangesGoOn) 
       ≡ Ok (state_of class_shows (rows_after classes e.with_class)))
       (some_is one.change change (sym one.change_is ∙ e.makes)) one.next
 
-  accepts : MachineAccepts s.sizes k change n next
+  accepts : Accepts s.sizes k change n next
   accepts = record {
     state = state_of class_shows classes;
     holds = w.holds;

@@ -19,7 +19,7 @@ use Rattle.cm_state.specs.Entries.{AreCacheRows}
 use Rattle.cm_state.specs.Laws.{EntriesAreSteps, ChangesGoOn}
 use Rattle.cm_commit.specs.Offers.{filled, rows_after_group}
 use Rattle.cm_machine.specs.Machine.{Base, Machine, Holds, accepted_to}
-use Rattle.cm_machine.specs.Following.{AreRight, Make, Follows}
+use Rattle.cm_machine.specs.Following.{AreRightClasses, Make, Follows}
 use Rattle.cm_machine.proofs.Classes.{ClassRows, after_words, right_after}
 
 some_is : {A : Type 0} (x y : A) → Some x ≡ Some y → x ≡ y
@@ -33,11 +33,12 @@ pub record Leads (sizes : Sizes) (rows : ClassRows) (n : ℕ) (entries : List (E
   pub folds : fold class_shows sizes (state_of class_shows rows) n changes
       ≡ Some (state_of class_shows (rows_after_all rows entries), n + length changes)
   pub cache : AreCacheRows class_shows sizes (n + length entries) (rows_after_all rows entries)
-  pub right : AreRight (rows_after_all rows entries)
+  pub right : AreRightClasses (rows_after_all rows entries)
 
 pub leads : EntriesAreSteps ClassFile → (sizes : Sizes) (rows : ClassRows) (n : ℕ)
     (entries : List (Entry ClassFile)) (changes : List (Change ClassFile))
-    → AreCacheRows class_shows sizes n rows → AreRight rows → Make sizes rows n entries changes
+    → AreCacheRows class_shows sizes n rows → AreRightClasses rows
+    → Make sizes rows n entries changes
     → n + length entries ≤ 2 ^ 63 → Leads sizes rows n entries changes
 leads steps sizes rows n [] [] are right make to = record {
   as_many = refl;
@@ -174,7 +175,7 @@ holds_more on sizes base first rest m k h f =
 pub record Whole {sizes : Sizes} {k : Machine} {rows : List (Row (List ℕ))} {number : ℕ}
     {waits : List (Entry (List ℕ))} (f : Follows sizes k rows number waits) : Type 0 where
   pub words : rows_with lay (rows_after_all f.classes f.entries) ≡ rows_after_all rows waits
-  pub right : AreRight (rows_after_all f.classes f.entries)
+  pub right : AreRightClasses (rows_after_all f.classes f.entries)
   pub cache : AreCacheRows class_shows sizes (number + length waits) (rows_after_all f.classes
       f.entries)
   pub count : accepted_to k ≡ number + length waits

@@ -15,7 +15,8 @@ use Rattle.cm_arena.specs.Placing.{Fetches}
 use Rattle.cm_layout.specs.declared.class_row.ClassRow.{ClassRow}
 use Rattle.cm_layout.specs.Rows.{classes_in, bare}
 use Rattle.cm_layout.proofs.{classes-bare}
-use Rattle.cm_space.specs.Space.{SpaceState, Waits, learnt, with_chunks, waiting_chunks, due}
+use Rattle.cm_space.specs.Space.{SpaceState, WaitingChunks, learnt, with_chunks, waiting_chunks}
+use Rattle.cm_space.specs.Space.{due}
 use Rattle.cm_space.specs.Space.{not_due}
 use Rattle.cm_space.specs.Ownership.{Owns, WaitsFor}
 use Rattle.cm_space.specs.Laws.{OwnedIsUsed, OwnedOrWaiting, LearningFreesDue}
@@ -112,7 +113,8 @@ used_once_learnt frees s m n rows f to used none r among = record {
         (let is = waits.2 in omega (arith, small, to, is)) waits.3 r among
         (r.place.chunk.root, word, record { same_root = refl; from = from; to = end }, covers)
 
-among_later : (m : ℕ) (w : Waits) (ws : List Waits) → Among w (not_due m ws) → Among w ws
+among_later : (m : ℕ) (w : WaitingChunks) (ws : List WaitingChunks) → Among w (not_due m ws)
+    → Among w ws
 among_later m w [] h = h
 among_later m w (v ∷ ws) h = by_test (λ k. among_later m w ws k) (nat_lt m v.number) h
   where

@@ -11,7 +11,7 @@ use Rattle.cm_layout.specs.declared.class_row.ClassRow.{ClassRow}
 use Rattle.cm_layout.specs.declared.row.Row.{Row}
 use Rattle.cm_layout.specs.Rows.{classes_in, rows_after}
 use Rattle.cm_group.specs.Groups.{Carried}
-use Rattle.cm_space.specs.Space.{Waits}
+use Rattle.cm_space.specs.Space.{WaitingChunks}
 use Rattle.cm_state.specs.State.{words_show}
 use Rattle.cm_state.specs.Entries.{AreCacheRows, MayFollow}
 use Rattle.cm_commit.specs.Offers.{filled, HasRecords, writes_apart, rows_after_group}
@@ -48,10 +48,10 @@ abbrev pub AreUsed : FreeSpace → List (Row (List ℕ)) → Type 0
 AreUsed pool rows = (r : ClassRow) → Among r (classes_in rows) → IsUsedChunk pool r.place.chunk
 
 -- no row uses a word of a chunk that waits for a number that they have
-abbrev pub UseNoneDue : List Waits → ℕ → List (Row (List ℕ)) → Type 0
+abbrev pub UseNoneDue : List WaitingChunks → ℕ → List (Row (List ℕ)) → Type 0
 UseNoneDue waiting n rows =
-    (w : Waits) (c : Chunk) → Among w waiting → w.number ≤ n → Among c w.chunks → (r : ClassRow)
-    → Among r (classes_in rows) → ¬ Meets r.place.chunk c
+    (w : WaitingChunks) (c : Chunk) → Among w waiting → w.number ≤ n → Among c w.chunks
+    → (r : ClassRow) → Among r (classes_in rows) → ¬ Meets r.place.chunk c
 
 -- ---- the accepted cache
 

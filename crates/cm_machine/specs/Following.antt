@@ -7,7 +7,7 @@ use Rattle.cm_layout.specs.declared.row.Row.{Row}
 use Rattle.cm_layout.specs.declared.row.Row.TheVariants.{Loader, Class}
 use Rattle.cm_layout.specs.declared.entry.Entry.{Entry}
 use Rattle.cm_layout.specs.declared.entry.Entry.TheVariants as entry
-use Rattle.cm_layout.specs.Rows.{rows_after, rows_with, entry_with}
+use Rattle.cm_layout.specs.Rows.{EachClass, rows_after, rows_with, entry_with}
 use Rattle.cm_state.specs.State.{class_shows, state_of}
 use Rattle.cm_state.specs.Step.{Change}
 use Rattle.cm_state.specs.Entries.{AreCacheRows, MayFollow, change_of}
@@ -15,10 +15,8 @@ use Rattle.cm_machine.specs.Machine.{Machine, Holds, IsRight}
 
 -- ---- classes by their records
 
-abbrev pub AreRight : List (Row ClassFile) → Type 0
-AreRight [] = Unit {0}
-AreRight (Loader r ∷ rows) = AreRight rows
-AreRight (Class r c ∷ rows) = IsRight c × AreRight rows
+abbrev pub AreRightClasses : List (Row ClassFile) → Type 0
+AreRightClasses rows = EachClass IsRight rows
 
 abbrev pub IsRightEntry : Entry ClassFile → Type 0
 IsRightEntry (entry.Live (Loader r)) = Unit {0}
@@ -31,7 +29,7 @@ IsRightEntry (entry.UnloadAll e) = Unit {0}
 pub record AreClasses (sizes : Sizes) (number : ℕ) (rows : List (Row (List ℕ)))
     (classes : List (Row ClassFile)) : Type 0 where
   pub words : rows_with lay classes ≡ rows
-  pub right : AreRight classes
+  pub right : AreRightClasses classes
   pub cache : AreCacheRows class_shows sizes number classes
 
 -- ---- commands by their entries

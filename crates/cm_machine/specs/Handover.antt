@@ -8,7 +8,7 @@ use Rattle.cm_state.specs.Step.{Change}
 use Rattle.cm_state.specs.Entries.{AreCacheRows}
 use Rattle.cm_commit.specs.Offers.{MayJoinAll, rows_after_group}
 use Rattle.cm_front.specs.Front.{FrontState, IsFront}
-use Rattle.cm_front.specs.Accepting.{Answers, HandsOut, with_learnt}
+use Rattle.cm_front.specs.Accepting.{FrontAnswers, HandsOut, with_learnt}
 use Rattle.cm_front.specs.Restoring.{Restores}
 use Rattle.cm_machine.specs.Ahead.{IsAhead}
 
@@ -27,7 +27,7 @@ abbrev pub AcceptedIsAhead : Type 0
 AcceptedIsAhead =
     (rows : List (Row (List ℕ))) (number : ℕ) (out : List Carried) (s new : FrontState)
     (change : Change (List ℕ)) (n : ℕ) → IsFront s → IsFront new
-    → IsAhead rows number out s → Answers s change (Ok n) new → IsAhead rows number out new
+    → IsAhead rows number out s → FrontAnswers s change (Ok n) new → IsAhead rows number out new
 
 abbrev pub HandedIsAhead : Type 0
 HandedIsAhead =

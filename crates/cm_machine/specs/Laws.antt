@@ -13,7 +13,7 @@ use Rattle.cm_state.specs.State.{CacheState, class_in, class_shows, state_of, wo
 use Rattle.cm_state.specs.Step.{Change}
 use Rattle.cm_commit.specs.Offers.{filled, rows_after_group}
 use Rattle.cm_front.specs.Front.{FrontState, IsFront}
-use Rattle.cm_front.specs.Accepting.{Answers}
+use Rattle.cm_front.specs.Accepting.{FrontAnswers}
 use Rattle.cm_machine.specs.Ahead.{IsAhead, pending}
 use Rattle.cm_machine.specs.Machine.{Machine, Holds, Asks, Accepts, Refuses}
 use Rattle.cm_machine.specs.Machine.{accepted_to, commands_to}
@@ -47,7 +47,7 @@ AcceptedIsMade =
     (s new : FrontState) (asked : Change (List ℕ)) (change : Change ClassFile) (n : ℕ) → IsFront s
     → IsFront new
     → IsAhead rows number out s → FollowsFront k rows number out s → Asks asked change
-    → Answers s asked (Ok n) new
+    → FrontAnswers s asked (Ok n) new
     → IsAccepted k (record { rows = rows; number = number; out = out }) s new asked n
 
 -- One that is refused is refused by the machine, or since the cache is broken or closed.
@@ -56,7 +56,7 @@ RefusedIsRefused =
     (k : Machine) (rows : List (Row (List ℕ))) (number : ℕ) (out : List Carried)
     (s new : FrontState) (asked : Change (List ℕ)) (change : Change ClassFile) (r : Refusal)
     → IsFront s → IsAhead rows number out s → FollowsFront k rows number out s
-    → Asks asked change → Answers s asked (Err r) new
+    → Asks asked change → FrontAnswers s asked (Err r) new
     → ((s.closed ≡ true) × (r ≡ refusal.Closed))
     ⊎ (((s.broken ≡ true) × (r ≡ refusal.Broken))
     ⊎ ((s.broken ≡ false) × Refuses s.sizes k change r))

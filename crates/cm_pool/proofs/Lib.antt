@@ -1,12 +1,12 @@
--- What crates above may cite of these proofs is what `pub use` passes on, and the laws on held
--- chunks and free words (`SpaceLaws`); all else is private.
+-- What crates above may cite of these proofs is what `pub use` passes on, the laws on held chunks
+-- and free words (`SpaceLaws`), and those on blocks (`Dyadic`, `Places`); all else is private.
 mod Lists
-mod Dyadic
+pub mod Dyadic
 mod Marks
 mod Trees
 mod FreeWords
 mod Spaces
-mod Places
+pub mod Places
 mod Pools
 mod Emptiness
 mod Firsts

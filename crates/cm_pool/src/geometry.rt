@@ -3,6 +3,24 @@ ghost use Rattle.std.specs.Prelude.{◌≡◌, ◌↔◌, IsSome, IfSome};
 
 use std::marker::Model;
 
+/// The least order that a root can have.
+pub const LEAST_TOP: u32 = 3;
+
+/// The greatest order that a root can have.
+pub const MOST_TOP: u32 = 12;
+
+/// How many roots a region has at least.
+pub const LEAST_ROOTS: u32 = 1;
+
+/// How many roots a region has at most.
+pub const MOST_ROOTS: u32 = 256;
+
+/// How many slots each half of a journal has at least.
+pub const LEAST_SLOTS: u32 = 256;
+
+/// How many slots each half of a journal has at most.
+pub const MOST_SLOTS: u32 = 65_536;
+
 /// The sizes of a region, within their limits. They are chosen when the region is made, and stay.
 #[derive(Clone, Copy, Debug, PartialEq, Eq)]
 pub struct Geometry {
@@ -27,23 +45,29 @@ impl Model for Geometry {
 impl Geometry {
     ghost use Rattle.cm_pool.specs.Geometry.{Sizes, IsGeometry};
 
-    /// The geometry of these sizes, or `None` where one of them is outside its limits: `top` is 3
-    /// to 12, `roots` 1 to 256, and `slots` 256 to 65,536.
+    /// The geometry of these sizes, or `None` where one of them is outside its limits: `top` is
+    /// [`LEAST_TOP`] to [`MOST_TOP`], `roots` [`LEAST_ROOTS`] to [`MOST_ROOTS`], and `slots`
+    /// [`LEAST_SLOTS`] to [`MOST_SLOTS`].
     pub fn new(top: u32, roots: u32, slots: u32) -> Option<Geometry>
         ensures within { IsSome result
             ↔ IsGeometry (record { top = top; roots = roots; slots = slots }) }
         ensures sizes { IfSome result
             (λ g. g ≡ record { top = top; roots = roots; slots = slots }) }
     {
-        let within = (3..=12).contains(&top)
-            && (1..=256).contains(&roots)
-            && (256..=65_536).contains(&slots);
+        let within = (LEAST_TOP..=MOST_TOP).contains(&top)
+            && (LEAST_ROOTS..=MOST_ROOTS).contains(&roots)
+            && (LEAST_SLOTS..=MOST_SLOTS).contains(&slots);
         if within {
             Some(Geometry { top, roots, slots })
         } else {
             None
         }
     }
+
+    /// Does nothing: its clause says that the sizes are within their limits.
+    pub fn invariant_holds(self)
+        ensures { IsGeometry self }
+    {}
 
     /// The order of a root chunk, which has `128 << top` words.
     pub fn top(self) -> u32

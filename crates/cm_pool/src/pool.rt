@@ -61,6 +61,13 @@ impl Pool {
         self.geometry
     }
 
+    /// Does nothing: its clause says what every pool keeps.
+    pub fn invariant_holds(&self)
+        ensures { IsFreeSpace self.now }
+    {
+        let _geometry = self.geometry();
+    }
+
     /// How many roots are present.
     pub fn roots(&self) -> u32
         ensures value { result ≡ self.now.roots }

@@ -7,13 +7,14 @@ use Rattle.std.proofs.Common.{subst, inl, inr, arith}
 use Rattle.std.specs.List.{AllByRecursion}
 use Rattle.std.proofs.lemmas.Nat.{pow_pos, shr-shr}
 use Rattle.std.proofs.lemmas.Bool.{cases_lt, or_cases, or_left, or_right, both_ways, eq-eqb}
-use Rattle.cm_pool_list.specs.declared.block.Block.{Block}
-use Rattle.cm_pool_list.specs.Blocks.{is_in, is_covered, start, stop, Inside, Apart}
+use Rattle.cm_pool.specs.declared.block.Block.{Block}
+use Rattle.cm_pool.specs.Blocks.{is_in, start, stop, Inside}
+use Rattle.cm_pool_list.specs.Blocks.{is_covered, Apart}
 use Rattle.cm_pool.specs.Lists.{Pairwise}
 use Rattle.cm_pool.proofs.{each-weaker, pairs-among}
 use Rattle.cm_pool.specs.Lists.{Among}
-use Rattle.cm_pool_list.proofs.Dyadic.{half_eq, twice, is_in-bounds, is_in-start, is_in-last}
-use Rattle.cm_pool_list.proofs.Dyadic.{inside-is_in, inside-same_order, inside-from_shared}
+use Rattle.cm_pool.proofs.Dyadic.{half_eq, twice, is_in-bounds, is_in-start, is_in-last}
+use Rattle.cm_pool.proofs.Dyadic.{inside-is_in, inside-same_order, inside-from_shared}
 
 -- what the list covers lies in one of its blocks
 pub covering : (bs : List Block) (g : ℕ) → is_covered bs g ≡ true → (b : Block) × Among b bs

@@ -8,13 +8,15 @@ use Rattle.std.specs.List.{insert, remove}
 use Rattle.std.proofs.lemmas.List.{take_at, drop_at, length-take-le, take-append-drop, drop_more}
 use Rattle.std.proofs.lemmas.Nat.{pow_pos}
 use Rattle.std.proofs.Math.Nat.{mul-le-mul_left}
-use Rattle.cm_pool_list.specs.declared.block.Block.{Block}
-use Rattle.cm_pool_list.specs.Blocks.{is_in, is_covered, start, stop, Apart, IsFreeList, IsHole}
-use Rattle.cm_pool_list.specs.Blocks.{left_half, right_half}
+use Rattle.cm_pool.specs.declared.block.Block.{Block}
+use Rattle.cm_pool.specs.Blocks.{is_in, start, stop}
+use Rattle.cm_pool_list.specs.Blocks.{is_covered, Apart, IsFreeList, IsHole}
+use Rattle.cm_pool.specs.Blocks.{left_half, right_half}
 use Rattle.cm_pool.proofs.{each-weaker, each-join, each-front, each-back, pairs-insert}
 use Rattle.cm_pool.proofs.{pairs-remove, pairs-before, pairs-behind}
-use Rattle.cm_pool_list.proofs.Dyadic.{is_in-halves, start-left_half, stop-left_half}
-use Rattle.cm_pool_list.proofs.Dyadic.{stop-right_half, halves-touch}
+use Rattle.cm_pool.proofs.Dyadic.{is_in-halves, start-left_half, stop-left_half}
+use Rattle.cm_pool.proofs.Dyadic.{stop-right_half}
+use Rattle.cm_pool_list.proofs.Halves.{halves-touch}
 use Rattle.cm_pool_list.proofs.FreeLists.{covered-middle, apart-both}
 
 abbrev Before : Block → Block → Type 0

@@ -8,15 +8,19 @@ use Rattle.std.proofs.lemmas.List.{take_at, drop_at, length-take-le, take-append
 use Rattle.std.proofs.lemmas.List.{take_more, get_or-take, get_or-drop, length-drop}
 use Rattle.std.proofs.lemmas.Nat.{pow_pos}
 use Rattle.std.proofs.lemmas.Bool.{both_ways, or_parts, cases_lt}
-use Rattle.cm_pool_list.specs.declared.block.Block.{Block}
-use Rattle.cm_pool_list.specs.Blocks.{is_in, is_covered, start, stop, AreHalves, Apart, IsFreeList}
-use Rattle.cm_pool_list.specs.Blocks.{IsHole, IsHalfBeside, HasNoHalfBeside, block_above}
+use Rattle.cm_pool.specs.declared.block.Block.{Block}
+use Rattle.cm_pool.specs.Blocks.{is_in, start, stop}
+use Rattle.cm_pool_list.specs.Blocks.{is_covered, AreHalves, Apart, IsFreeList}
+use Rattle.cm_pool.specs.Blocks.{block_above}
+use Rattle.cm_pool_list.specs.Blocks.{IsHole, IsHalfBeside, HasNoHalfBeside}
 use Rattle.cm_pool.specs.Lists.{Pairwise}
 use Rattle.cm_pool.proofs.{each-weaker, each-join, each-front, each-back, pairs-insert}
 use Rattle.cm_pool.proofs.{pairs-remove, pairs-before, pairs-behind, pairs-front, pairs-back}
-use Rattle.cm_pool_list.proofs.Dyadic.{is_in-from_bounds, is_in-start, halves-touch}
-use Rattle.cm_pool_list.proofs.Dyadic.{start-block_above, stop-block_above, is_in-block_above}
-use Rattle.cm_pool_list.proofs.Dyadic.{above-halves, order-block_above}
+use Rattle.cm_pool.proofs.Dyadic.{is_in-from_bounds, is_in-start}
+use Rattle.cm_pool_list.proofs.Halves.{halves-touch}
+use Rattle.cm_pool_list.proofs.Halves.{start-block_above, stop-block_above, is_in-block_above}
+use Rattle.cm_pool.proofs.Dyadic.{order-block_above}
+use Rattle.cm_pool_list.proofs.Halves.{above-halves}
 use Rattle.cm_pool_list.proofs.FreeLists.{covered-append}
 use Rattle.cm_pool_list.proofs.Holes.{covered-remove}
 

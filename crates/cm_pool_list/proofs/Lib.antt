@@ -1,7 +1,6 @@
-mod Dyadic
+mod Halves
 mod FreeLists
 mod Holes
 mod Joins
 mod Spaces
-mod Places
 mod Pools

@@ -8,23 +8,25 @@ use Rattle.std.proofs.lemmas.List.{append-nil}
 use Rattle.std.proofs.lemmas.Nat.{pow_pos, mul-le}
 use Rattle.std.proofs.lemmas.Bool.{and_parts, or_cases, both_ways}
 use Rattle.std.proofs.Math.Nat.{mul-le-mul_right, lt_of_mul-lt-mul_right, pow-le-pow_right}
-use Rattle.cm_pool_list.specs.declared.block.Block.{Block}
+use Rattle.cm_pool.specs.declared.block.Block.{Block}
 use Rattle.cm_pool.specs.declared.chunk.Chunk.{Chunk}
 use Rattle.cm_pool.specs.Geometry.{Sizes, IsGeometry}
 use Rattle.cm_pool.specs.Chunks.{chunk_size, IsBlock}
 use Rattle.cm_pool.specs.FreeSpace.{word_number, IsFreeChunk, HasFree, LiesBefore, IsFreeSpace}
 use Rattle.cm_pool.specs.FreeSpace.{with_root}
-use Rattle.cm_pool_list.specs.Blocks.{is_in, is_covered, start, stop, Inside, Apart, IsFreeList}
-use Rattle.cm_pool_list.specs.Blocks.{IsPool, IsSame, space_of}
+use Rattle.cm_pool.specs.Blocks.{is_in, start, stop, Inside}
+use Rattle.cm_pool_list.specs.Blocks.{is_covered, Apart, IsFreeList}
+use Rattle.cm_pool.specs.Blocks.{IsSame}
+use Rattle.cm_pool_list.specs.Blocks.{IsPool, space_of}
 use Rattle.cm_pool.specs.Lists.{Pairwise}
 use Rattle.cm_pool.proofs.{each-among, each-join, pairs-insert, pairs-behind, each-weaker}
 use Rattle.cm_pool.proofs.{number-order}
 use Rattle.cm_pool.specs.Lists.{Among}
-use Rattle.cm_pool_list.proofs.Dyadic.{twice, is_in-bounds, inside-is_in, inside-start}
+use Rattle.cm_pool.proofs.Dyadic.{twice, is_in-bounds, inside-is_in, inside-start}
 use Rattle.cm_pool_list.proofs.FreeLists.{covered-middle, stops-below, covered-inside}
 use Rattle.cm_pool_list.proofs.FreeLists.{covered-among, Holder}
 use Rattle.cm_pool_list.proofs.Holes.{split_at}
-use Rattle.cm_pool_list.proofs.Places.{chunk-place}
+use Rattle.cm_pool.proofs.Places.{chunk-place}
 use Rattle.cm_pool_list.proofs.Spaces.{contains-space_of, free-covered, covered-free}
 use Rattle.cm_pool_list.proofs.Spaces.{space-with_root}
 

@@ -9,14 +9,15 @@ use Rattle.std.specs.FinSet.{contains, contains-from_list_nat, contains-union, c
 use Rattle.std.proofs.lemmas.List.Folds.{list_any-append}
 use Rattle.std.proofs.lemmas.Bool.{false_from_ne_true}
 use Rattle.std.proofs.lemmas.Bool.Decides.{same_from_decides}
-use Rattle.cm_pool_list.specs.declared.block.Block.{Block}
+use Rattle.cm_pool.specs.declared.block.Block.{Block}
 use Rattle.cm_pool.specs.declared.chunk.Chunk.{Chunk}
 use Rattle.cm_pool.specs.Geometry.{Sizes}
 use Rattle.cm_pool.specs.Chunks.{chunk_size, IsBlock}
 use Rattle.cm_pool.specs.FreeSpace.{word_number, IsFreeChunk, IsUsedChunk, words, without}
 use Rattle.cm_pool.specs.FreeSpace.{with_chunk, with_root}
-use Rattle.cm_pool_list.specs.Blocks.{is_in, is_covered, block_words, space_of, IsSame}
-use Rattle.cm_pool_list.proofs.Dyadic.{is_in-bounds, is_in-from_bounds}
+use Rattle.cm_pool.specs.Blocks.{is_in, IsSame}
+use Rattle.cm_pool_list.specs.Blocks.{is_covered, block_words, space_of}
+use Rattle.cm_pool.proofs.Dyadic.{is_in-bounds, is_in-from_bounds}
 use Rattle.cm_pool.proofs.{range-decides, words-decides, same_numbers, chunk-word}
 
 -- a word of a block lies in one of its granules

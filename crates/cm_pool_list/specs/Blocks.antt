@@ -1,51 +1,26 @@
 -- How the pool keeps its free words: a list of blocks in order, as large as they can be.
 -- No public contract speaks of these; they are the invariant behind `Pool`.
-use Rattle.std.specs.Prelude.{◌≡◌, ℕ, ◌+◌, ◌-◌, ◌*◌, ◌/◌, ◌%◌, ◌^◌, ◌<◌, ◌≤◌, ◌==◌, Bool, true}
+use Rattle.std.specs.Prelude.{◌≡◌, ℕ, ◌+◌, ◌-◌, ◌*◌, ◌%◌, ◌^◌, ◌<◌, ◌≤◌, Bool, true}
 use Rattle.std.specs.Prelude.{List, ◌++◌, ◌⊎◌, length, slice_index_or}
 use Rattle.std.specs.List.{AllByRecursion, list_any, range_with_len, flat_map}
 use Rattle.std.specs.FinSet.{from_list}
-use Rattle.cm_pool_list.specs.declared.block.Block.{Block}
+use Rattle.cm_pool.specs.declared.block.Block.{Block}
+use Rattle.cm_pool.specs.Blocks.{is_in, start, stop}
 use Rattle.cm_pool.specs.declared.chunk.Chunk.{Chunk}
 use Rattle.cm_pool.specs.Geometry.{Sizes, IsGeometry}
 use Rattle.cm_pool.specs.Chunks.{chunk_size}
-use Rattle.cm_pool.specs.FreeSpace.{FreeSpace, word_number}
+use Rattle.cm_pool.specs.FreeSpace.{FreeSpace}
 use Rattle.cm_pool.specs.Lists.{Pairwise}
-
--- the granule g is one of the block's
-abbrev pub is_in : Block → ℕ → Bool
-is_in b g = (g / 2 ^ b.order) == b.index
 
 -- the granule g is in one of the blocks
 abbrev pub is_covered : List Block → ℕ → Bool
 is_covered bs g = list_any (λ b. is_in b g) bs
-
--- the block's first granule, and the one behind its last
-abbrev pub start : Block → ℕ
-start b = b.index * 2 ^ b.order
-
-abbrev pub stop : Block → ℕ
-stop b = start b + 2 ^ b.order
-
--- the whole of w is in b
-pub record Inside (w b : Block) : Type 0 where
-  pub smaller : w.order ≤ b.order
-  pub same_part : w.index / 2 ^ (b.order - w.order) ≡ b.index
 
 -- a and b are the left and the right half of one block
 pub record AreHalves (a b : Block) : Type 0 where
   pub same_order : a.order ≡ b.order
   pub left : a.index % 2 ≡ 0
   pub right : b.index ≡ a.index + 1
-
--- the halves of a block, and the block whose half this is
-unfoldable pub left_half : Block → Block
-left_half b = record { index = 2 * b.index; order = b.order - 1 }
-
-unfoldable pub right_half : Block → Block
-right_half b = record { index = 2 * b.index + 1; order = b.order - 1 }
-
-unfoldable pub block_above : Block → Block
-block_above b = record { index = b.index / 2; order = b.order + 1 }
 
 -- a lies before b, and where they are the halves of a block of order at most top, that one would
 -- stand in their place
@@ -92,8 +67,3 @@ pub record IsPool (sizes : Sizes) (roots capacity : ℕ) (bs : List Block) : Typ
   pub listed : IsFreeList sizes.top bs
   pub present : (g : ℕ) → is_covered bs g ≡ true → g < roots * 2 ^ sizes.top
   pub room : sizes.roots * 2 ^ sizes.top ≤ 2 * capacity
-
--- the block has the chunk's words
-pub record IsSame (top : ℕ) (c : Chunk) (b : Block) : Type 0 where
-  pub order : b.order ≡ c.order
-  pub place : b.index * chunk_size b.order ≡ word_number top c.root c.at

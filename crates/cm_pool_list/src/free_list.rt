@@ -1,12 +1,14 @@
 // The pool's list of free blocks: in order, and each as large as it can be.
 ghost use Rattle.std.specs.Prelude.{◌≡◌, ℕ, ◌+◌, ◌-◌, ◌*◌, ◌^◌, ◌<◌, ◌≤◌, ◌&&◌, ◌||◌, Bool, true};
-ghost use Rattle.std.specs.Prelude.{false, not, length, take, drop, slice_index_or, vec_len};
+ghost use Rattle.std.specs.Prelude.{◌↔◌, IsTrue, false, not, length, take, drop, slice_index_or};
+ghost use Rattle.std.specs.Prelude.{vec_len};
 ghost use Rattle.std.specs.Prelude.{vec_capacity, IfSome, OnSome, IfNone, IsSome, MatchOption};
 ghost use Rattle.std.specs.List.{AllByRecursion, insert, position};
-ghost use Rattle.cm_pool_list.specs.Blocks.{is_in, is_covered, start, stop, Inside, IsFreeList};
+ghost use Rattle.cm_pool.specs.Blocks.{is_in, start, stop, Inside};
+ghost use Rattle.cm_pool_list.specs.Blocks.{is_covered, IsFreeList};
 ghost use Rattle.cm_pool_list.specs.Blocks.{IsHole, IsHalfBeside, HasNoHalfBeside, AreHalves};
 
-use crate::block::Block;
+use cm_pool::Block;
 
 /// Where the first block of at least this order stands.
 pub fn first_of_order(free: &[Block], order: u32) -> Option<usize>
@@ -93,6 +95,13 @@ pub fn take_at(free: &mut Vec<Block>, from: usize, wanted: Block)
     }
 }
 
+/// Whether the two are the left and the right half of one block.
+fn are_halves(left: Block, right: Block) -> bool
+    ensures { IsTrue result ↔ AreHalves left right }
+{
+    left.order == right.order && left.index % 2 == 0 && left.index + 1 == right.index
+}
+
 // Where the other half of `block` stands, beside its place, if a block of a larger order can be
 // made of the two.
 fn half_beside(free: &[Block], at: usize, block: Block, top: u32) -> Option<usize>
@@ -104,10 +113,10 @@ fn half_beside(free: &[Block], at: usize, block: Block, top: u32) -> Option<usiz
     if block.order >= top {
         return None;
     }
-    if at > 0 && Block::are_halves(free[at - 1], block) {
+    if at > 0 && are_halves(free[at - 1], block) {
         return Some(at - 1);
     }
-    if at < free.len() && Block::are_halves(block, free[at]) {
+    if at < free.len() && are_halves(block, free[at]) {
         return Some(at);
     }
     None

@@ -1,7 +1,6 @@
 //! A pool as a sorted list of free blocks: a plain body of the same contract, for tests.
 #![tactic(auto)]
 
-mod block;
 mod free_list;
 mod pool;
 

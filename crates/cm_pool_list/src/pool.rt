@@ -3,9 +3,8 @@ ghost use Rattle.std.specs.Prelude.{◌≡◌, ◌<◌, ◌≤◌, ◌↔◌, Is
 ghost use Rattle.std.specs.Prelude.{MatchOption, MatchResult, if◌then◌else◌};
 ghost use Rattle.std.specs.FinSet as set;
 
-use crate::block::Block;
 use crate::free_list::{first_of_order, give_back, holder_of, take_at};
-use cm_pool::{Chunk, Geometry};
+use cm_pool::{Block, Chunk, Geometry};
 use std::alloc::{AllocError, Global};
 use std::marker::Model;
 

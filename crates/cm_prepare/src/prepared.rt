@@ -26,7 +26,7 @@ fn name_of(alloc: Global, class: &Record) -> Result<Vec<u8>, AllocError>
     ensures { IfOk result (λ name. name.items ≡ class_name_in class.now) }
 {
     words_tell_name();
-    let _words = class.words(); // brings into the proof's scope that they are a record
+    class.invariant_holds();
     class.class_name(alloc)
 }
 

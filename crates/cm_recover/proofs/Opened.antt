@@ -28,7 +28,7 @@ use Rattle.cm_commit.proofs.{end_is as ends_with_slots, shows_cache}
 use Rattle.cm_state.specs.State.{NamesDiffer, class_shows, words_show, class_among}
 use Rattle.cm_state.specs.Stands.{EachKeepsRules, arenas_among, chunks_of as chunks_begun}
 use Rattle.cm_state.specs.Entries.{AreCacheRows}
-use Rattle.cm_front.specs.Front.{AreRight}
+use Rattle.cm_group.specs.Groups.{AreRight}
 use Rattle.cm_verdict.specs.Found.{Found}
 use Rattle.cm_verdict.specs.Verdict.{Standing, verdict}
 use Rattle.cm_verdict.specs.Laws.{FoundIsLive, FoundIsFramed, VerdictStands, Proves, IsFramed}
@@ -44,7 +44,7 @@ use Rattle.cm_commit.specs.Checkpoints.{renewed_journal}
 use Rattle.cm_commit.specs.Renewals.{MayRenew}
 use Rattle.cm_commit.specs.Laws.{OthersAreTold}
 use Rattle.cm_recover.specs.Opening.{other_is_open}
-use Rattle.cm_commit.specs.Keeps.{IsHeld, AreRight as AreCommittedRight}
+use Rattle.cm_commit.specs.Keeps.{IsHeld}
 use Rattle.cm_guards.specs.Stages.{Stage, leaves}
 use Rattle.cm_commit.specs.States.{CommitterState, MayLeave, ShowsCache, ShowsCommitted}
 use Rattle.cm_commit.specs.States.{ShowsWith}
@@ -213,11 +213,6 @@ module _ (live : FoundIsLive) (framed : FoundIsFramed) (stands : VerdictStands)
 
 -- ---- in memory
 
-committed_right : (rows : List (Row (List ℕ))) → AreRight rows → AreCommittedRight rows
-committed_right [] right = tt
-committed_right (Loader r ∷ rows) right = (tt, committed_right rows right)
-committed_right (Class r words ∷ rows) right = (right.0, committed_right rows right.1)
-
 module _ (live : FoundIsLive) (framed : FoundIsFramed) (stands : VerdictStands)
     (tells : WordsTellName) (others : OthersAreTold)
     (contents : List ℕ) (file : StandingFile)
@@ -297,7 +292,7 @@ module _ (live : FoundIsLive) (framed : FoundIsFramed) (stands : VerdictStands)
         matches = subst (Matches told.found.sizes o.framing (rows_with lay told.rows)) (sym same)
             o.matches;
         cache = o.cache;
-        records = committed_right (rows_with lay told.rows) o.records;
+        records = o.records;
         number_is = o.number_is;
         roots_are = ap (λ (l : List ℕ). whole_roots told.found.sizes (length l)) (sym same);
       }))
@@ -386,7 +381,7 @@ module _ (live : FoundIsLive) (framed : FoundIsFramed) (stands : VerdictStands)
           rows = rows_with lay told.rows;
           number = told.found.number;
           framing = here.framing;
-        }) image here.right (committed_right (rows_with lay told.rows) o.records) o.cache.differ
+        }) image here.right o.records o.cache.differ
             here.matches;
       }
 

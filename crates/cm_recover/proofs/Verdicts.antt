@@ -16,7 +16,7 @@ use Rattle.cm_verdict.specs.Verdict.{is_whole, class_kept, words_at}
 use Rattle.cm_recover.specs.declared.fault.OpenFault.{OpenFault}
 use Rattle.cm_recover.specs.declared.fault.OpenFault.TheVariants as open_fault
 use Rattle.cm_recover.specs.Opening.{IsFaultIn}
-use Rattle.cm_recover.specs.Standing.{Answers, if_class, class_in_place}
+use Rattle.cm_recover.specs.Standing.{GoesByVerdict, if_class, class_in_place}
 
 -- a fault goes through
 pub through : {A B : Type 0} (e : OpenFault) (x : Result A FileFault) (f : A → Result B FileFault)
@@ -48,7 +48,7 @@ bad_record sizes contents place whole none =
 
 -- it is answered as it came
 pub fault_told : {A B : Type 0} (Alike : A → B → Type 0) (r : Result A OpenFault) (e : OpenFault)
-    (x : Result B FileFault) → IsErrAnd r (λ f. f ≡ e) → IsFaultIn e x → Answers Alike r x
+    (x : Result B FileFault) → IsErrAnd r (λ f. f ≡ e) → IsFaultIn e x → GoesByVerdict Alike r x
 fault_told Alike (Ok value) e x none told = absurd none
 fault_told Alike (Err f) e x same told = subst (λ (g : OpenFault). IsFaultIn g x) (sym same) told
 

@@ -17,7 +17,8 @@ use Rattle.cm_state.specs.Stands.{Stands, Arenas}
 use Rattle.cm_state.specs.State.{words_show}
 use Rattle.cm_state.specs.Entries.{AreCacheRows}
 use Rattle.cm_verdict.specs.Verdict.{Standing, state_in, arenas_in, verdict}
-use Rattle.cm_front.specs.Front.{FrontState, AreRight}
+use Rattle.cm_front.specs.Front.{FrontState}
+use Rattle.cm_group.specs.Groups.{AreRight}
 use Rattle.cm_front.specs.Arenas.{chunks_owned}
 use Rattle.cm_front.specs.Restoring.{Restores}
 use Rattle.cm_commit.specs.States.{CommitterState, ShowsCache}

@@ -37,10 +37,11 @@ pub record Tells {A B : Type 0} (Alike : A → B → Type 0) (verdict : Result B
   pub alike : Alike value told
 
 -- what is answered is what the verdict says
-abbrev pub Answers : {A B : Type 0} → (A → B → Type 0) → Result A OpenFault → Result B FileFault
+abbrev pub GoesByVerdict : {A B : Type 0} → (A → B → Type 0) → Result A OpenFault
+    → Result B FileFault
     → Type 0
-Answers Alike (Ok value) verdict = Tells Alike verdict value
-Answers Alike (Err fault) verdict = IsFaultIn fault verdict
+GoesByVerdict Alike (Ok value) verdict = Tells Alike verdict value
+GoesByVerdict Alike (Err fault) verdict = IsFaultIn fault verdict
 
 -- ---- one record
 

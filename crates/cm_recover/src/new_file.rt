@@ -46,7 +46,7 @@ impl NewFile {
     pub(crate) fn new(alloc: Global, geometry: Geometry) -> Result<NewFile, AllocError>
         ensures { IfOk result (IsNewFile geometry) }
     {
-        let _lawful = geometry.top(); // so the proof knows that its sizes are within the limits
+        geometry.invariant_holds();
         let mut bytes = encode(alloc, geometry)?;
         bytes[GATE_AT] = 0;
         Ok(NewFile { geometry, bytes })

@@ -5,7 +5,7 @@ ghost use Rattle.cm_disk.specs.Disk.{IsSettled};
 ghost use Rattle.cm_verdict.specs.Verdict.{verdict};
 ghost use Rattle.cm_recover.specs.declared.fault.OpenFault.TheVariants as open_fault;
 ghost use Rattle.cm_recover.specs.Opening.{IsFaultIn};
-ghost use Rattle.cm_recover.specs.Standing.{Answers, IsStanding};
+ghost use Rattle.cm_recover.specs.Standing.{GoesByVerdict, IsStanding};
 ghost use Rattle.cm_layout.specs.Laws.{IsNewest};
 ghost use Rattle.cm_recover.specs.Opened.{SyncsAndReads, Opens, disk_after, MeetsDevice};
 ghost use Rattle.cm_recover.specs.Opened.{OpensThrough, StandsForSame};
@@ -31,7 +31,7 @@ pub struct NotOpened<D> {
 
 // Has all stored that the disk holds, and reads what it stands for.
 fn read_synced<D: Disk>(alloc: Global, disk: &mut D) -> Result<StandingFile, OpenFault>
-    ensures standing { Answers (IsStanding (D.view.contents disk.old)) result
+    ensures standing { GoesByVerdict (IsStanding (D.view.contents disk.old)) result
         (verdict (D.view.contents disk.old)) }
     ensures stored { OnOk result (IsSettled (D.view.contents disk.new) (D.view.unsynced disk.new)) }
     ensures run { SyncsAndReads D.view disk.old
@@ -84,7 +84,7 @@ pub fn open<D: Disk>(alloc: Global, mut disk: D) -> Result<(Front, Committer<D>)
             disk,
         });
     };
-    let _is_cache = front.geometry(); // so the proof knows that its arenas are those of its rows
+    front.invariant_holds();
     match Committer::new(alloc, disk, journal, file.committed, file.roots) {
         Ok(committer) => {
             committer.images();

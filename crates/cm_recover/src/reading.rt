@@ -97,7 +97,7 @@ fn walk_halves(
         ≡ (get_or (half_of (other_half f.counts.half) zero.now one.now) 0 0 == open_gate)) }
     ensures in_memory { result ≡ Err open_fault.Device → ⊥ }
 {
-    let _lawful = geometry.top(); // so the proof knows that its sizes are within the limits
+    geometry.invariant_holds();
     let counts = counting_half(geometry, front_slot(zero), front_slot(one))?;
     let half = match counts.half {
         Half::Zero => zero,

@@ -12,7 +12,7 @@ ghost use Rattle.cm_commit.specs.GroupPlans.{whole_roots as whole_roots_of};
 ghost use Rattle.cm_verdict.specs.Faults.{at_slot};
 ghost use Rattle.cm_verdict.specs.Verdict.{classes_found, verdict};
 ghost use Rattle.cm_recover.specs.declared.fault.OpenFault.TheVariants as open_fault;
-ghost use Rattle.cm_recover.specs.Standing.{Answers, IsPlace, class_in_place, IsKeptClass};
+ghost use Rattle.cm_recover.specs.Standing.{GoesByVerdict, IsPlace, class_in_place, IsKeptClass};
 ghost use Rattle.cm_recover.specs.Standing.{IsRecorded, AreRecorded, bare_of, MayFollow};
 ghost use Rattle.cm_recover.specs.Standing.{row_found, IsStanding};
 
@@ -51,7 +51,7 @@ fn whole_roots(geometry: Geometry, long: u64) -> u32
     requires { long ≤ 2 ^ 40 }
     ensures { result ≡ whole_roots_of geometry long }
 {
-    let _lawful = geometry.top(); // so the proof knows that its sizes are within the limits
+    geometry.invariant_holds();
     (long.saturating_sub(roots_at(geometry)) / root_bytes(geometry)) as u32
 }
 
@@ -94,7 +94,7 @@ impl SecondPass {
     ) -> Result<Prepared, OpenFault>
         requires place { IsPlace self.now.geometry place }
         requires long { self.now.long ≡ length (D.view.contents disk.old) }
-        ensures class { Answers IsRecorded result (at_slot slot
+        ensures class { GoesByVerdict IsRecorded result (at_slot slot
             (class_in_place self.now.geometry (D.view.contents disk.old) place)) }
         ensures reads { Reads D.view disk.old
             disk.new (result ≡ Err open_fault.Device) }
@@ -129,13 +129,13 @@ impl SecondPass {
         requires long { self.now.long ≡ length (D.view.contents disk.old) }
         ensures taken { (before : List (RowOf ClassFile))
             → AreRecorded self.now.geometry rows.old before
-            → Answers (λ u. AreRecorded self.now.geometry rows.new) result
+            → GoesByVerdict (λ u. AreRecorded self.now.geometry rows.new) result
             (row_found self.now.geometry (D.view.contents disk.old) before
             (Class row (record { slot = slot }))) }
         ensures reads { Reads D.view disk.old
             disk.new (result ≡ Err open_fault.Device) }
     {
-        let _lawful = self.geometry.top(); // so the proof knows its sizes are within the limits
+        self.geometry.invariant_holds();
         let class = self.class_at(disk, words, row.place, slot)?;
         if rows.has_class(row.loader, &class) {
             return Err(OpenFault::Damaged {
@@ -159,7 +159,7 @@ impl SecondPass {
         requires long { self.now.long ≡ length (D.view.contents disk.old) }
         ensures taken { (before : List (RowOf ClassFile))
             → AreRecorded self.now.geometry rows.old before
-            → Answers (λ u. AreRecorded self.now.geometry rows.new) result
+            → GoesByVerdict (λ u. AreRecorded self.now.geometry rows.new) result
             (row_found self.now.geometry (D.view.contents disk.old) before row.now) }
         ensures reads { Reads D.view disk.old
             disk.new (result ≡ Err open_fault.Device) }
@@ -181,7 +181,7 @@ impl SecondPass {
     ) -> Result<SharedRows, OpenFault>
         requires live { LiveRowsKeep self.now.geometry self.now.number [] (bare found.now.rows) }
         requires long { self.now.long ≡ length (D.view.contents disk.old) }
-        ensures classes { Answers (AreRecorded self.now.geometry) result
+        ensures classes { GoesByVerdict (AreRecorded self.now.geometry) result
             (classes_found self.now.geometry (D.view.contents disk.old) [] found.now.rows) }
         ensures reads { Reads D.view disk.old
             disk.new (result ≡ Err open_fault.Device) }
@@ -202,7 +202,7 @@ impl SecondPass {
 /// `NotACache` and `Damaged` are the first that the contents have. `Device` where the device
 /// failed, `NoMemory` where an allocation did: they say nothing of the contents.
 pub fn read_standing<D: Disk>(alloc: Global, disk: &mut D) -> Result<StandingFile, OpenFault>
-    ensures standing { Answers (IsStanding (D.view.contents disk.old)) result
+    ensures standing { GoesByVerdict (IsStanding (D.view.contents disk.old)) result
         (verdict (D.view.contents disk.old)) }
     ensures reads { Reads D.view disk.old disk.new
         (result ≡ Err open_fault.Device) }

@@ -11,7 +11,7 @@ use Rattle.cm_prepare.specs.declared.refusal.Refusal.TheVariants as refusal
 use Rattle.cm_state.specs.State.{words_show, state_of, class_in}
 use Rattle.cm_state.specs.Step.{Change, Define}
 use Rattle.cm_front.specs.Front.{FrontState, IsFront}
-use Rattle.cm_front.specs.Accepting.{Answers as FrontAnswers}
+use Rattle.cm_front.specs.Accepting.{FrontAnswers}
 use Rattle.cm_commit.specs.States.{CommitterState}
 use Rattle.cm_machine.specs.Handover.{AcceptedIsAhead}
 use Rattle.cm_machine.specs.Machine.{Machine, Asks, Accepts, Refuses}

@@ -9,7 +9,7 @@ use Rattle.cm_group.specs.Groups.{Carried, Handed}
 use Rattle.cm_state.specs.Step.{Change}
 use Rattle.cm_commit.specs.Offers.{rows_after_group}
 use Rattle.cm_front.specs.Front.{FrontState, IsFront}
-use Rattle.cm_front.specs.Accepting.{Answers, HandsOut}
+use Rattle.cm_front.specs.Accepting.{FrontAnswers, HandsOut}
 use Rattle.cm_machine.specs.Ahead.{IsAhead}
 use Rattle.cm_machine.specs.Handover.{AcceptedIsAhead, HandedIsAhead}
 use Rattle.cm_machine.proofs.{rows_after_two}
@@ -29,7 +29,8 @@ module _ (rows : List (Row (List ℕ))) (number : ℕ) (out : List Carried) (fro
 
   module _ (l : IsAheadOfLearnt rows number out front) where
     pub learnt_accepted : AcceptedIsAhead → (new : FrontState) (change : Change (List ℕ)) (n : ℕ)
-        → IsFront front → IsFront new → new.learnt ≡ front.learnt → Answers front change (Ok n) new
+        → IsFront front → IsFront new → new.learnt ≡ front.learnt
+        → FrontAnswers front change (Ok n) new
         → IsAheadOfLearnt rows number out new
     learnt_accepted law new change n is is_new same answer = record {
       known = l.known;

@@ -29,7 +29,7 @@ use Rattle.cm_recover.proofs.{are_short, opened}
 use Rattle.cm_machine.specs.Handover.{OpenedIsAhead}
 use Rattle.cm_machine.specs.Machine.{Base, Machine, Reopens, Holds, commands_to}
 use Rattle.cm_machine.specs.Machine.{machine_from}
-use Rattle.cm_machine.specs.Following.{AreRight, AreClasses, Follows}
+use Rattle.cm_machine.specs.Following.{AreRightClasses, AreClasses, Follows}
 use Rattle.cm_machine.specs.Laws.{OpenedFollows, IsAfter, FollowsFront}
 use Rattle.cm_commit.specs.Offers.{filled}
 use Rattle.cm_machine.specs.Ahead.{IsAhead, pending}
@@ -41,7 +41,7 @@ use Rattle.cm_session.proofs.Learnt.{all_learnt}
 
 -- each class is right, where its record isn't longer than any may be
 are_right : (classes : List (Row ClassFile)) → EachKeepsRules classes
-    → AreShort (rows_with lay classes) → AreRight classes
+    → AreShort (rows_with lay classes) → AreRightClasses classes
 are_right [] kept short = tt
 are_right (Loader r ∷ rows) kept short = are_right rows kept short
 are_right (Class r c ∷ rows) kept short =

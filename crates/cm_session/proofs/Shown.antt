@@ -22,14 +22,14 @@ use Rattle.cm_commit.specs.States.{MayLeave}
 use Rattle.cm_front.specs.Front.{FrontState}
 use Rattle.cm_machine.specs.Ahead.{pending}
 use Rattle.cm_machine.specs.Machine.{Machine, accepted_to}
-use Rattle.cm_machine.specs.Following.{AreRight, Follows}
+use Rattle.cm_machine.specs.Following.{AreRightClasses, Follows}
 use Rattle.cm_machine.specs.Laws.{CommittedFollows, CommandsAreCounted, RowsAreAfter, IsAfter}
 use Rattle.cm_session.specs.Images.{StandsFor, StandsForSome}
 use Rattle.cm_session.specs.Session.{of_underway, commands_of, IsSession}
 
 -- ---- rows that are after commands
 
-each_keeps : (classes : List (Row ClassFile)) → AreRight classes → EachKeepsRules classes
+each_keeps : (classes : List (Row ClassFile)) → AreRightClasses classes → EachKeepsRules classes
 each_keeps [] right = tt
 each_keeps (Loader r ∷ rows) right = each_keeps rows right
 each_keeps (Class r c ∷ rows) right = (right.0.kept, each_keeps rows right.1)

@@ -20,7 +20,7 @@ fn join_next(group: &mut Group, queue: &mut VecDeque<Group>) -> bool
     };
     match group.add(next) {
         Ok(()) => {
-            let _lawful = group.first(); // so the proof knows that it is a group
+            group.invariant_holds();
             true
         }
         Err(next) => {

@@ -47,7 +47,7 @@ pub fn open<D: Disk>(alloc: Global, disk: D) -> Result<Session<D>, NotOpened<D>>
         Ok(opened) => opened,
         Err(not_opened) => return Err(not_opened),
     };
-    let _lawful = front.geometry(); // so the proof knows what the cache keeps
+    front.invariant_holds();
     let sealed = committer.number();
     Ok(Session {
         front,

@@ -7,7 +7,7 @@ ghost use Rattle.cm_guards.specs.Guards.{EachImage};
 ghost use Rattle.cm_guards.specs.Calls.{LeavesOnly};
 ghost use Rattle.cm_layout.specs.Laws.{IsNewest};
 ghost use Rattle.cm_prepare.specs.Commands.{change_asked};
-ghost use Rattle.cm_front.specs.Accepting.{Answers as AnswersAsFront};
+ghost use Rattle.cm_front.specs.Accepting.{FrontAnswers};
 ghost use Rattle.cm_commit.specs.Advances.{CallsDevice, EndsBehind, HasRisen};
 ghost use Rattle.cm_commit.specs.States.{BeginsTrim};
 ghost use Rattle.cm_machine.specs.Machine.{Machine};
@@ -61,7 +61,7 @@ fn look_at(command: &Command<'_>)
     match command {
         Command::AddLoader(_) => {}
         Command::Define(_, class) => {
-            let _words = class.record().words();
+            class.record().invariant_holds();
         }
         Command::Unload(_) => {}
         Command::Tighten(_) => {}
@@ -94,7 +94,7 @@ impl<D: Disk> Session<D> {
         ensures machine { (k : Machine) → GoesWith k self.old
             → Accepting self.old.committer.sizes k (change_asked command.entry) result
             (λ next. GoesWith next self.new) }
-        ensures as_front { AnswersAsFront self.old.front (change_asked command.entry) result
+        ensures as_front { FrontAnswers self.old.front (change_asked command.entry) result
             self.new.front }
         ensures disk { self.new.committer ≡ self.old.committer }
     {
@@ -102,7 +102,7 @@ impl<D: Disk> Session<D> {
         ahead_stays_ahead();
         look_at(&command);
         let number = self.front.accept(command);
-        let _lawful = self.front.geometry(); // so the proof knows what the cache keeps
+        self.front.invariant_holds();
         number
     }
 
@@ -127,7 +127,7 @@ impl<D: Disk> Session<D> {
         let Some(group) = self.front.seal() else {
             return Ok(None);
         };
-        let _lawful = self.front.geometry(); // so the proof knows what the cache keeps
+        self.front.invariant_holds();
         let first = group.first();
         let last = first + (group.count() as u64 - 1);
         self.queue.push_back_reserved(group);
@@ -226,7 +226,7 @@ impl<D: Disk> Session<D> {
         self.notice();
         let number = self.committer.number();
         let _known = self.front.learn(Receipt { number }); // it was handed out
-        let _lawful = self.front.geometry(); // so the proof knows what the cache keeps
+        self.front.invariant_holds();
         number
     }
 

@@ -14,7 +14,7 @@ use Rattle.cm_pool.specs.Held.{AreHeld, NoneIsLost}
 use Rattle.cm_pool.specs.Lists.{Pairwise}
 use Rattle.cm_pool.proofs.{none_lost-given, each-front, pairs-front}
 use Rattle.cm_pool.proofs.SpaceLaws.{held_is_given}
-use Rattle.cm_space.specs.Space.{Waits, with_chunks, waiting_chunks, due, not_due, IsLater}
+use Rattle.cm_space.specs.Space.{WaitingChunks, with_chunks, waiting_chunks, due, not_due, IsLater}
 
 pub with_chunks-append : (p : FreeSpace) (cs ds : List Chunk)
     → with_chunks p (cs ++ ds) ≡ with_chunks (with_chunks p cs) ds
@@ -35,10 +35,10 @@ kept-given p front (c ∷ cs) back h kept =
     kept-given (with_chunk p c) front cs back given.1
     (none_lost-given p front c (cs ++ back) kept given.0)
 
-abbrev pub Rises : List Waits → Type 0
-Rises ws = Pairwise (λ (v w : Waits). v.number ≤ w.number) ws
+abbrev pub Rises : List WaitingChunks → Type 0
+Rises ws = Pairwise (λ (v w : WaitingChunks). v.number ≤ w.number) ws
 
-pub chunks-append : (vs ws : List Waits)
+pub chunks-append : (vs ws : List WaitingChunks)
     → waiting_chunks (vs ++ ws) ≡ waiting_chunks vs ++ waiting_chunks ws
 chunks-append [] ws = refl
 chunks-append (v ∷ vs) ws = ap
@@ -48,7 +48,7 @@ chunks-append (v ∷ vs) ws = ap
 -- ---- which are due
 
 -- nothing is due where each waits for a greater number
-pub record NoneDue (n : ℕ) (ws : List Waits) : Type 0 where
+pub record NoneDue (n : ℕ) (ws : List WaitingChunks) : Type 0 where
   pub none : due n ws ≡ []
   pub all : not_due n ws ≡ ws
 
@@ -61,7 +61,8 @@ is_due-true n m = (λ e. grind (arith, common_steps, e), λ h. grind (arith, com
 isnt_due : (n m : ℕ) → n < m → (nat_le m n ≡ false) × (nat_lt n m ≡ true)
 isnt_due n m h = grind (arith, common_steps)
 
-pub none_due : (n : ℕ) (ws : List Waits) → AllByRecursion (λ (w : Waits). n < w.number) ws
+pub none_due : (n : ℕ) (ws : List WaitingChunks)
+    → AllByRecursion (λ (w : WaitingChunks). n < w.number) ws
     → NoneDue n ws
 none_due n [] h = record { none = refl; all = refl }
 none_due n (w ∷ ws) h =
@@ -69,23 +70,23 @@ none_due n (w ∷ ws) h =
     let e = isnt_due n w.number h.0 in
     record { none = rw (e.0) rest.none; all = rw (e.1) (ap (λ l. w ∷ l) rest.all) }
 
-above : (n : ℕ) (w : Waits) (ws : List Waits) → n < w.number
-    → AllByRecursion (λ (v : Waits). w.number ≤ v.number) ws
-    → AllByRecursion (λ (v : Waits). n < v.number) ws
+above : (n : ℕ) (w : WaitingChunks) (ws : List WaitingChunks) → n < w.number
+    → AllByRecursion (λ (v : WaitingChunks). w.number ≤ v.number) ws
+    → AllByRecursion (λ (v : WaitingChunks). n < v.number) ws
 above n w [] lt h = tt
 above n w (v ∷ vs) lt h = (omega (arith, h.0), above n w vs lt h.1)
 
-pub later-none_due : (n : ℕ) (ws : List Waits) → Rises ws → IsLater n ws → NoneDue n ws
+pub later-none_due : (n : ℕ) (ws : List WaitingChunks) → Rises ws → IsLater n ws → NoneDue n ws
 later-none_due n [] rises later = record { none = refl; all = refl }
 later-none_due n (w ∷ ws) rises later = none_due n (w ∷ ws) (later, above n w ws later rises.0)
 
 -- the oldest is due
-pub due-first : (n : ℕ) (w : Waits) (ws : List Waits) → w.number ≤ n
+pub due-first : (n : ℕ) (w : WaitingChunks) (ws : List WaitingChunks) → w.number ≤ n
     → (due n (w ∷ ws) ≡ w ∷ due n ws) × (not_due n (w ∷ ws) ≡ not_due n ws)
 due-first n w ws h = let e = is_due n w.number h in (rw (e.0) refl, rw (e.1) refl)
 
 -- those that are due stand before the others
-pub due-parts : (n : ℕ) (ws : List Waits) → Rises ws → ws ≡ due n ws ++ not_due n ws
+pub due-parts : (n : ℕ) (ws : List WaitingChunks) → Rises ws → ws ≡ due n ws ++ not_due n ws
 due-parts n [] rises = refl
 due-parts n (w ∷ ws) rises = by_test (nat_le w.number n) refl (due-parts n ws rises.1)
   where
@@ -99,16 +100,16 @@ due-parts n (w ∷ ws) rises = by_test (nat_le w.number n) refl (due-parts n ws 
         let none = none_due n (w ∷ ws) (later, above n w ws later rises.0) in
         λ i. sym none.none i ++ sym none.all i
 
-pub rises-not_due : (n : ℕ) (ws : List Waits) → Rises ws → Rises (not_due n ws)
+pub rises-not_due : (n : ℕ) (ws : List WaitingChunks) → Rises ws → Rises (not_due n ws)
 rises-not_due n [] rises = tt
 rises-not_due n (w ∷ ws) rises =
     let rest = rises-not_due n ws rises.1 in
     elim (nat_lt n w.number) as (λ b. Rises (cond b (w ∷ not_due n ws) (not_due n ws))) [
-      | true ↦ (all-kept n (λ (v : Waits). w.number ≤ v.number) ws rises.0, rest)
+      | true ↦ (all-kept n (λ (v : WaitingChunks). w.number ≤ v.number) ws rises.0, rest)
       | false ↦ rest
     ]
   where
-    all-kept : (n : ℕ) (P : Waits → Type 0) (ws : List Waits) → AllByRecursion P ws
+    all-kept : (n : ℕ) (P : WaitingChunks → Type 0) (ws : List WaitingChunks) → AllByRecursion P ws
         → AllByRecursion P (not_due n ws)
     all-kept n P [] h = tt
     all-kept n P (v ∷ vs) h =
@@ -132,14 +133,14 @@ drop-given p cs i d lt = ap (with_chunks p) (drop_more cs i d lt)
 -- ---- one step of a walk over what waits
 
 -- what is known of what is left while the oldest of it is made free
-pub record IsUnderWay (n : ℕ) (p : FreeSpace) (ws : List Waits) (q : FreeSpace)
-    (vs : List Waits) : Type 0 where
+pub record IsUnderWay (n : ℕ) (p : FreeSpace) (ws : List WaitingChunks) (q : FreeSpace)
+    (vs : List WaitingChunks) : Type 0 where
   pub held : AreHeld q (waiting_chunks vs)
   pub rises : Rises vs
   pub pool : with_chunks q (waiting_chunks (due n vs)) ≡ with_chunks p (waiting_chunks (due n ws))
   pub waiting : not_due n vs ≡ not_due n ws
 
-pub way-first : {n : ℕ} {p q : FreeSpace} {ws vs us : List Waits} {w : Waits}
+pub way-first : {n : ℕ} {p q : FreeSpace} {ws vs us : List WaitingChunks} {w : WaitingChunks}
     → IsUnderWay n p ws q vs
     → vs ≡ w ∷ us → AreHeld q w.chunks
 way-first {n} {p} {q} {ws} {vs} {us} {w} way e =
@@ -149,7 +150,7 @@ way-first {n} {p} {q} {ws} {vs} {us} {w} way e =
       apart = pairs-front (λ a b. ¬ Meets a b) w.chunks (waiting_chunks us) held.apart;
     }
 
-pub way-more : {n : ℕ} {p q : FreeSpace} {ws vs us : List Waits} {w : Waits}
+pub way-more : {n : ℕ} {p q : FreeSpace} {ws vs us : List WaitingChunks} {w : WaitingChunks}
     → IsUnderWay n p ws q vs
     → vs ≡ w ∷ us → w.number ≤ n → IsUnderWay n p ws (with_chunks q w.chunks) us
 way-more {n} {p} {q} {ws} {vs} {us} {w} way e small =
@@ -164,7 +165,8 @@ way-more {n} {p} {q} {ws} {vs} {us} {w} way e small =
       waiting = sym first.1 ∙ ap (not_due n) (sym e) ∙ way.waiting;
     }
 
-pub way-end : {n : ℕ} {p q : FreeSpace} {ws vs : List Waits} → IsUnderWay n p ws q vs → IsLater n vs
+pub way-end : {n : ℕ} {p q : FreeSpace} {ws vs : List WaitingChunks} → IsUnderWay n p ws q vs
+    → IsLater n vs
     → (q ≡ with_chunks p (waiting_chunks (due n ws))) × (vs ≡ not_due n ws)
 way-end {n} {p} {q} {ws} {vs} way later =
     let none = later-none_due n vs way.rises later in (

@@ -10,7 +10,7 @@ use Rattle.cm_pool.specs.Held.{AreHeld, IsHeldWord}
 use Rattle.cm_pool.specs.Lists.{Among}
 use Rattle.cm_pool.proofs.{free-with_chunk}
 use Rattle.cm_pool.proofs.SpaceLaws.{held_is_given}
-use Rattle.cm_space.specs.Space.{Waits, with_chunks, waiting_chunks, due, not_due}
+use Rattle.cm_space.specs.Space.{WaitingChunks, with_chunks, waiting_chunks, due, not_due}
 use Rattle.cm_space.specs.Laws.{LearningFreesDue}
 use Rattle.cm_space.proofs.Giving.{due-parts, chunks-append, is_due-true}
 use Rattle.cm_space.proofs.Spaces.{waiting-held}
@@ -38,7 +38,7 @@ free-given p (c ∷ cs) back root word h =
       ],
     )
 
-among-due : (n : ℕ) (ws : List Waits) (w : Waits) → Among w (due n ws)
+among-due : (n : ℕ) (ws : List WaitingChunks) (w : WaitingChunks) → Among w (due n ws)
     ↔ (Among w ws × (w.number ≤ n))
 among-due n [] w = (λ m. absurd m, λ h. absurd h.0)
 among-due n (v ∷ ws) w = by_test (nat_le v.number n) refl (among-due n ws w)
@@ -50,7 +50,7 @@ among-due n (v ∷ ws) w = by_test (nat_le v.number n) refl (among-due n ws w)
       λ m. elim m [
         | inl same ↦ (
           inl same,
-          subst (λ (u : Waits). u.number ≤ n) (sym same)
+          subst (λ (u : WaitingChunks). u.number ≤ n) (sym same)
               ((is_due-true n v.number).0 e),
         )
         | inr behind ↦ let h = rest.0 behind in (inr h.0, h.1)
@@ -61,7 +61,8 @@ among-due n (v ∷ ws) w = by_test (nat_le v.number n) refl (among-due n ws w)
       λ m. let h = rest.0 m in (inr h.0, h.1),
       λ h. elim h.0 [
         | inl same ↦ let bad =
-            (is_due-true n v.number).1 (subst (λ (u : Waits). u.number ≤ n) same h.1) in absurd (cc)
+            (is_due-true n v.number).1 (subst (λ (u : WaitingChunks). u.number ≤ n) same h.1) in
+            absurd (cc)
         | inr behind ↦ rest.1 (behind, h.1)
       ],
     )

@@ -1,5 +1,5 @@
 -- Who has which chunk, from the lists of chunks.
--- On `Waits`, `waiting_chunks`, `SpaceState`.
+-- On `WaitingChunks`, `waiting_chunks`, `SpaceState`.
 use Rattle.std.proofs.Common.{◌≡◌, ℕ, Bool, true, false, cond, not, T, List, [], ◌∷◌, ◌++◌}
 use Rattle.std.proofs.Common.{Some, None, refl, sym, ap, ◌∙◌, subst, inl, inr}
 use Rattle.std.specs.Prelude.{unwrap_or}
@@ -14,7 +14,7 @@ use Rattle.cm_pool.specs.Lists.{Pairwise, Among}
 use Rattle.cm_pool.proofs.{meets-turned, each-among, pairs-back, pairs-front, pairs-among}
 use Rattle.cm_pool.proofs.{among-left, among-right, among-append}
 use Rattle.cm_arena.specs.Chains.{Filled, chunks_of}
-use Rattle.cm_space.specs.Space.{SpaceState, Waits, waiting_chunks}
+use Rattle.cm_space.specs.Space.{SpaceState, WaitingChunks, waiting_chunks}
 use Rattle.cm_space.specs.Ownership.{Owns, WaitsFor, owned_chunks, held_chunks}
 use Rattle.cm_space.specs.Laws.{OneOwner, OneNumber, OwnedOrWaiting, OwnedIsUsed, WaitingIsUsed}
 use Rattle.cm_space.specs.Laws.{EachWord}
@@ -125,15 +125,17 @@ owned-find (e ∷ es) c sorted m =
     later k chain below found false is = found
 
 -- a chunk that waits stands in the list of them
-pub waits-among : (ws : List Waits) (w : Waits) (c : Chunk) → Among w ws → Among c w.chunks
+pub waits-among : (ws : List WaitingChunks) (w : WaitingChunks) (c : Chunk) → Among w ws
+    → Among c w.chunks
     → Among c (waiting_chunks ws)
 waits-among [] w c none m = absurd none
 waits-among (v ∷ ws) w c (inl e) m = among-left c v.chunks (waiting_chunks ws) (subst
-    (λ (u : Waits). Among c u.chunks) e m)
+    (λ (u : WaitingChunks). Among c u.chunks) e m)
 waits-among (v ∷ ws) w c (inr n) m =
     among-right c v.chunks (waiting_chunks ws) (waits-among ws w c n m)
 
-pub among-waits : (ws : List Waits) (c : Chunk) → Among c (waiting_chunks ws) → (w : Waits)
+pub among-waits : (ws : List WaitingChunks) (c : Chunk) → Among c (waiting_chunks ws)
+    → (w : WaitingChunks)
     × Among w ws × Among c w.chunks
 among-waits [] c m = absurd m
 among-waits (v ∷ ws) c m =
@@ -142,22 +144,24 @@ among-waits (v ∷ ws) c m =
       | inr behind ↦ let found = among-waits ws c behind in (found.0, inr found.1, found.2)
     ]
 
-one_wait : (ws : List Waits) (v w : Waits) (c d : Chunk) → Pairwise Apart (waiting_chunks ws)
+one_wait : (ws : List WaitingChunks) (v w : WaitingChunks) (c d : Chunk)
+    → Pairwise Apart (waiting_chunks ws)
     → Among v ws → Among w ws → Among c v.chunks → Among d w.chunks → Meets c d
     → (v.number ≡ w.number) × (c ≡ d)
 one_wait [] v w c d apart none n in_v in_w meets = absurd none
 one_wait (x ∷ xs) v w c d apart (inl e) (inl f) in_v in_w meets = (
-  ap (λ (u : Waits). u.number) (e ∙ sym f),
+  ap (λ (u : WaitingChunks). u.number) (e ∙ sym f),
   one_of x.chunks c d (pairs-front Apart x.chunks (waiting_chunks xs) apart)
-      (subst (λ (u : Waits). Among c u.chunks) e in_v)
-      (subst (λ (u : Waits). Among d u.chunks) f in_w) meets,
+      (subst (λ (u : WaitingChunks). Among c u.chunks) e in_v)
+      (subst (λ (u : WaitingChunks). Among d u.chunks) f in_w) meets,
 )
 one_wait (x ∷ xs) v w c d apart (inl e) (inr n) in_v in_w meets =
     absurd (pairs-across Apart x.chunks (waiting_chunks xs) c d apart (subst
-    (λ (u : Waits). Among c u.chunks) e in_v) (waits-among xs w d n in_w) meets)
+    (λ (u : WaitingChunks). Among c u.chunks) e in_v) (waits-among xs w d n in_w) meets)
 one_wait (x ∷ xs) v w c d apart (inr m) (inl f) in_v in_w meets =
     absurd (pairs-across Apart x.chunks (waiting_chunks xs) d c apart (subst
-    (λ (u : Waits). Among d u.chunks) f in_w) (waits-among xs v c m in_v) (meets-turned c d meets))
+    (λ (u : WaitingChunks). Among d u.chunks) f in_w) (waits-among xs v c m in_v)
+    (meets-turned c d meets))
 one_wait (x ∷ xs) v w c d apart (inr m) (inr n) in_v in_w meets =
     one_wait xs v w c d (pairs-back Apart x.chunks (waiting_chunks xs) apart) m n in_v in_w meets
 

@@ -16,7 +16,7 @@ use Rattle.cm_pool.specs.Held.{AreHeld, NoneIsLost}
 use Rattle.cm_pool.specs.Lists.{Pairwise}
 use Rattle.cm_pool.proofs.{each-back, each-join, pairs-back}
 use Rattle.cm_arena.specs.Chains.{Filled, chunks_of}
-use Rattle.cm_space.specs.Space.{SpaceState, Waits, IsKnown, arena_of, with_arena, left_by}
+use Rattle.cm_space.specs.Space.{SpaceState, WaitingChunks, IsKnown, arena_of, with_arena, left_by}
 use Rattle.cm_space.specs.Space.{left_by_all, waiting_chunks}
 use Rattle.cm_space.specs.Space.{learnt, empty_space, due, not_due}
 use Rattle.cm_space.specs.Ownership.{IsSpace, held_chunks, owned_chunks}
@@ -73,11 +73,12 @@ added s k none h =
 
 -- an arena less, whose chunks wait
 pub left : (s : SpaceState) (n k : ℕ) → IsKnown s k
-    → AllByRecursion (λ (w : Waits). w.number ≤ n) s.waiting → IsSpace s → IsSpace (left_by s n k)
+    → AllByRecursion (λ (w : WaitingChunks). w.number ≤ n) s.waiting → IsSpace s
+    → IsSpace (left_by s n k)
 left s n k known last h =
     let mine = chunks_of (arena_of s k) in
     let ws = waiting_chunks s.waiting in
-    let w : Waits = record { number = n; chunks = mine } in
+    let w : WaitingChunks = record { number = n; chunks = mine } in
     let rest : owned (map.remove s.arenas k) ≡ of_others s.arenas k =
     ap owned_chunks (remove-others s.arenas k) in
     let behind : waiting_chunks (s.waiting ++ w ∷ []) ≡ ws ++ (mine ++ []) =
@@ -91,7 +92,7 @@ left s n k known last h =
     record {
       held = moved.held s.pool [] h.held;
       none_lost = moved.kept s.pool [] h.none_lost;
-      rises = pairs-push (λ (v w : Waits). v.number ≤ w.number) s.waiting w h.rises last;
+      rises = pairs-push (λ (v w : WaitingChunks). v.number ≤ w.number) s.waiting w h.rises last;
     }
   where
     known-had : (s : SpaceState) (k : ℕ) → IsKnown s k → map.get s.arenas k ≡ Some (arena_of s k)
@@ -121,18 +122,18 @@ known-behind s n u (v ∷ us) differ known = (
 
 -- several arenas less, one after another
 pub left-all : (s : SpaceState) (n : ℕ) (us : List ℕ) → AllByRecursion (IsKnown s) us
-    → Pairwise (λ u v. u ≢ v) us → AllByRecursion (λ (w : Waits). w.number ≤ n) s.waiting
+    → Pairwise (λ u v. u ≢ v) us → AllByRecursion (λ (w : WaitingChunks). w.number ≤ n) s.waiting
     → IsSpace s → IsSpace (left_by_all s n us)
 left-all s n [] known differ last h = h
 left-all s n (u ∷ us) known differ last h =
     left-all (left_by s n u) n us (known-behind s n u us differ.0 known.1) differ.1
-    (each-join (λ (w : Waits). w.number ≤ n) s.waiting _ last (omega arith, tt))
+    (each-join (λ (w : WaitingChunks). w.number ≤ n) s.waiting _ last (omega arith, tt))
     (left s n u known.0 last h)
 
 -- an arena and the pool changed, and a chunk that was left waits behind the others
 pub tightened : (s : SpaceState) (k : ℕ) (chain next : List Filled) (p : FreeSpace) (from : Chunk)
     (n : ℕ) → map.get s.arenas k ≡ Some chain
-    → AllByRecursion (λ (w : Waits). w.number ≤ n) s.waiting → IsSpace s
+    → AllByRecursion (λ (w : WaitingChunks). w.number ≤ n) s.waiting → IsSpace s
     → ((rest : List Chunk) → AreHeld s.pool (chunks_of chain ++ rest)
     → AreHeld p (chunks_of next ++ from ∷ rest))
     → ((rest : List Chunk) → NoneIsLost s.pool (chunks_of chain ++ rest)
@@ -145,7 +146,7 @@ tightened s k chain next p from n had last h held kept =
     let mine = chunks_of next in
     let theirs = of_others s.arenas k in
     let ws = waiting_chunks s.waiting in
-    let w : Waits = record { number = n; chunks = from ∷ [] } in
+    let w : WaitingChunks = record { number = n; chunks = from ∷ [] } in
     let out = had-out s.arenas k chain ws had in
     let behind : waiting_chunks (s.waiting ++ w ∷ []) ≡ ws ++ from ∷ [] =
     chunks-append s.waiting (w ∷ []) in
@@ -158,7 +159,7 @@ tightened s k chain next p from n had last h held kept =
     record {
       held = moved.held p [] (held (beside s k) (out.held s.pool [] h.held));
       none_lost = moved.kept p [] (kept (beside s k) (out.kept s.pool [] h.none_lost));
-      rises = pairs-push (λ (v w : Waits). v.number ≤ w.number) s.waiting w h.rises last;
+      rises = pairs-push (λ (v w : WaitingChunks). v.number ≤ w.number) s.waiting w h.rises last;
     }
 
 -- what is due is free

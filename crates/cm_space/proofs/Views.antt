@@ -10,7 +10,8 @@ use Rattle.std.specs.FinMap as map
 use Rattle.cm_pool.specs.FreeSpace.{FreeSpace}
 use Rattle.cm_arena.specs.Chains.{Filled, chunks_of}
 use Rattle.cm_space.specs.declared.waiting.Waiting.{Waiting}
-use Rattle.cm_space.specs.Space.{SpaceState, Waits, IsKnown, arena_of, with_arena, without_arena}
+use Rattle.cm_space.specs.Space.{SpaceState, WaitingChunks, IsKnown, arena_of, with_arena}
+use Rattle.cm_space.specs.Space.{without_arena}
 use Rattle.cm_space.specs.Space.{state_of, waits_of, waits_in, AreLeft}
 use Rattle.cm_space.specs.Ownership.{IsSpace}
 use Rattle.cm_space.proofs.Arenas.{Entries, Arenas, Sets, get-lookup, entries-insert}
@@ -129,10 +130,10 @@ pub one_left : (es new : Entries) (ws vs : List Waiting) (k n : ℕ) (chain : Li
 one_left es new ws vs k n chain w had sets pushed is p =
     let s = state_of p es ws in
     let mine : chain ≡ arena_of s k = sym (ap (λ o. unwrap_or o []) (get-lookup es k ∙ had)) in
-    let waits : Waits = record { number = n; chunks = chunks_of (arena_of s k) } in
+    let waits : WaitingChunks = record { number = n; chunks = chunks_of (arena_of s k) } in
     let waiting : waits_in vs ≡ waits_in ws ++ waits ∷ [] =
     ap waits_in pushed ∙ map-append waits_of ws (w ∷ [])
-    ∙ ap (λ (v : Waits). waits_in ws ++ v ∷ [])
+    ∙ ap (λ (v : WaitingChunks). waits_in ws ++ v ∷ [])
     (is ∙ ap (λ (c : List Filled). record { number = n; chunks = chunks_of c }) mine) in
     let rest = one_less p es new ws s k refl sets in
     λ i. record { pool = (rest i).pool; arenas = (rest i).arenas; waiting = waiting i }

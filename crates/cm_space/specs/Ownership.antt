@@ -5,7 +5,7 @@ use Rattle.cm_pool.specs.declared.chunk.Chunk.{Chunk}
 use Rattle.cm_pool.specs.Lists.{Pairwise, Among}
 use Rattle.cm_pool.specs.Held.{AreHeld, NoneIsLost}
 use Rattle.cm_arena.specs.Chains.{Filled, chunks_of}
-use Rattle.cm_space.specs.Space.{SpaceState, Waits, arena_of, waiting_chunks}
+use Rattle.cm_space.specs.Space.{SpaceState, WaitingChunks, arena_of, waiting_chunks}
 
 -- the chunk is one of the loader's arena
 abbrev pub Owns : SpaceState → ℕ → Chunk → Type 0
@@ -13,7 +13,8 @@ Owns s loader c = Among c (chunks_of (arena_of s loader))
 
 -- the chunk waits for the number
 abbrev pub WaitsFor : SpaceState → ℕ → Chunk → Type 0
-WaitsFor s number c = (w : Waits) × Among w s.waiting × (w.number ≡ number) × Among c w.chunks
+WaitsFor s number c =
+    (w : WaitingChunks) × Among w s.waiting × (w.number ≡ number) × Among c w.chunks
 
 -- the chunks of some arenas, and all chunks of a space that are owned or wait
 abbrev pub owned_chunks : List (ℕ × List Filled) → List Chunk
@@ -28,4 +29,4 @@ held_chunks s = owned_chunks (map.entries s.arenas) ++ waiting_chunks s.waiting
 pub record IsSpace (s : SpaceState) : Type 0 where
   pub held : AreHeld s.pool (held_chunks s)
   pub none_lost : NoneIsLost s.pool (held_chunks s)
-  pub rises : Pairwise (λ (v w : Waits). v.number ≤ w.number) s.waiting
+  pub rises : Pairwise (λ (v w : WaitingChunks). v.number ≤ w.number) s.waiting

@@ -14,7 +14,7 @@ use Rattle.cm_arena.specs.Chains.{Filled, chunks_of, chain_code}
 use Rattle.cm_space.specs.declared.waiting.Waiting.{Waiting}
 
 -- chunks that wait for a number
-pub record Waits : Type 0 where
+pub record WaitingChunks : Type 0 where
   pub number : ℕ
   pub chunks : List Chunk
 
@@ -22,7 +22,7 @@ pub record Waits : Type 0 where
 pub record SpaceState : Type 0 where
   pub pool : FreeSpace
   pub arenas : map.FinMap nat_cmp (List Filled)
-  pub waiting : List Waits
+  pub waiting : List WaitingChunks
 
 -- no roots, no arenas, and nothing waits
 abbrev pub empty_space : Sizes → SpaceState
@@ -67,15 +67,15 @@ with_chunks p [] = p
 with_chunks p (c ∷ cs) = with_chunks (with_chunk p c) cs
 
 -- the chunks of some that wait
-abbrev pub waiting_chunks : List Waits → List Chunk
+abbrev pub waiting_chunks : List WaitingChunks → List Chunk
 waiting_chunks [] = []
 waiting_chunks (w ∷ ws) = w.chunks ++ waiting_chunks ws
 
 -- those that wait for at most a number, and those that wait for a greater one
-abbrev pub due : ℕ → List Waits → List Waits
+abbrev pub due : ℕ → List WaitingChunks → List WaitingChunks
 due number ws = filter (λ w. nat_le w.number number) ws
 
-abbrev pub not_due : ℕ → List Waits → List Waits
+abbrev pub not_due : ℕ → List WaitingChunks → List WaitingChunks
 not_due number ws = filter (λ w. nat_lt number w.number) ws
 
 -- the space once a number is learnt: the chunks that wait for at most this number are free
@@ -88,21 +88,21 @@ learnt s number =
 
 -- ---- how the code keeps it
 
-abbrev pub waits_of : Waiting → Waits
+abbrev pub waits_of : Waiting → WaitingChunks
 waits_of w = record { number = w.number; chunks = w.chunks.items }
 
-abbrev pub waits_in : List Waiting → List Waits
+abbrev pub waits_in : List Waiting → List WaitingChunks
 waits_in ws = mapped waits_of ws
 
 -- the oldest waits for at most a number, and goes
-pub record IsOldestDue (number : ℕ) (old : List Waits) (chunks : List Chunk)
-    (new : List Waits) : Type 0 where
+pub record IsOldestDue (number : ℕ) (old : List WaitingChunks) (chunks : List Chunk)
+    (new : List WaitingChunks) : Type 0 where
   pub waits_for : ℕ
   pub is_due : waits_for ≤ number
   pub oldest : old ≡ record { number = waits_for; chunks = chunks } ∷ new
 
 -- the oldest, if there is one, waits for a greater number
-abbrev pub IsLater : ℕ → List Waits → Type 0
+abbrev pub IsLater : ℕ → List WaitingChunks → Type 0
 IsLater number [] = Unit {0}
 IsLater number (w ∷ ws) = number < w.number
 
@@ -122,7 +122,7 @@ AreLeft arenas waiting number loaders left behind =
     → state_of pool left behind ≡ left_by_all (state_of pool arenas waiting) number loaders
 
 -- a value of this kind as data
-abbrev pub waits_code : Coded Waits
+abbrev pub waits_code : Coded WaitingChunks
 waits_code =
     code_by (ℕ × List Chunk)
     (coded× coded_ℕ (coded_list (code_by (ℕ × (ℕ × ℕ)) (coded× coded_ℕ (coded× coded_ℕ coded_ℕ))
@@ -132,7 +132,7 @@ waits_code =
 
 abbrev pub state_code : Coded SpaceState
 state_code =
-    code_by (FreeSpace × (map.FinMap nat_cmp (List Filled) × List Waits))
+    code_by (FreeSpace × (map.FinMap nat_cmp (List Filled) × List WaitingChunks))
     (coded× free_space_code (coded× (map.code coded_ℕ chain_code) (coded_list waits_code)))
     (λ s. (s.pool, (s.arenas, s.waiting)))
     (λ t. record { pool = t.0; arenas = t.1.0; waiting = t.1.1 }) (λ _. refl)

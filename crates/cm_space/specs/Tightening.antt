@@ -18,6 +18,6 @@ pub record Moves (s : SpaceState) (loader number : ℕ) (m : Moved) (new : Space
   }
 
 -- they move, or have nowhere to move
-abbrev pub Answers : SpaceState → ℕ → ℕ → SpaceState → Option Moved → Type 0
-Answers s loader number new (Some m) = Moves s loader number m new
-Answers s loader number new None = IsTight (arena_of s loader) s.pool × (new ≡ s)
+abbrev pub MovesOrStays : SpaceState → ℕ → ℕ → SpaceState → Option Moved → Type 0
+MovesOrStays s loader number new (Some m) = Moves s loader number m new
+MovesOrStays s loader number new None = IsTight (arena_of s loader) s.pool × (new ≡ s)

@@ -47,12 +47,13 @@ impl Space {
     ghost use Rattle.cm_arena.specs.Placing.{Places, IsFull, HasRoom};
     ghost use Rattle.cm_pool.specs.FreeSpace.{IsFreeSpace};
     ghost use Rattle.cm_pool.specs.Places.{IsInside};
-    ghost use Rattle.cm_space.specs.Space.{Waits, empty_space, IsKnown, arena_of, with_arena};
+    ghost use Rattle.cm_space.specs.Space.{WaitingChunks, empty_space, IsKnown, arena_of};
+    ghost use Rattle.cm_space.specs.Space.{with_arena};
     ghost use Rattle.cm_space.specs.Space.{left_by, left_by_all, learnt};
     ghost use Rattle.cm_space.specs.Ownership.{IsSpace, Owns};
     ghost use Rattle.cm_space.specs.Adopting.{adopted, IsAdoptable, IsOnTheWay};
     ghost use Rattle.cm_arena.specs.Tightening.{IsTight};
-    ghost use Rattle.cm_space.specs.Tightening.{Answers};
+    ghost use Rattle.cm_space.specs.Tightening.{MovesOrStays};
 
     /// A space with no roots and no loaders.
     pub fn new(alloc: Global, geometry: Geometry) -> Result<Space, AllocError>
@@ -74,6 +75,14 @@ impl Space {
         ensures pool { IsFreeSpace self.now.pool }
     {
         self.pool.geometry()
+    }
+
+    /// Does nothing: its clauses say what every space keeps.
+    pub fn invariant_holds(&self)
+        ensures arenas { IsSpace self.now }
+        ensures pool { IsFreeSpace self.now.pool }
+    {
+        self.pool.invariant_holds();
     }
 
     /// How many roots are present.
@@ -186,7 +195,7 @@ impl Space {
     /// changes nothing.
     pub fn leave(&mut self, loader: u64, number: u64) -> Result<(), AllocError>
         requires known { IsKnown self.old loader }
-        requires last { AllByRecursion (λ (w : Waits). w.number ≤ number) self.old.waiting }
+        requires last { AllByRecursion (λ (w : WaitingChunks). w.number ≤ number) self.old.waiting }
         ensures ok { OnOk result (self.new ≡ left_by self.old number loader) }
         ensures err { OnErr result (self.new ≡ self.old) }
     {
@@ -201,7 +210,7 @@ impl Space {
     pub fn leave_all(&mut self, loaders: &[u64], number: u64) -> Result<(), AllocError>
         requires known { AllByRecursion (IsKnown self.old) loaders.now }
         requires differ { Pairwise (λ u v. u ≢ v) loaders.now }
-        requires last { AllByRecursion (λ (w : Waits). w.number ≤ number) self.old.waiting }
+        requires last { AllByRecursion (λ (w : WaitingChunks). w.number ≤ number) self.old.waiting }
         ensures ok { OnOk result (self.new ≡ left_by_all self.old number loaders.now) }
         ensures err { OnErr result (self.new ≡ self.old) }
     {
@@ -227,8 +236,8 @@ impl Space {
     /// comes only where they have.
     pub fn tighten(&mut self, loader: u64, number: u64) -> Result<Option<Moved>, AllocError>
         requires known { IsKnown self.old loader }
-        requires last { AllByRecursion (λ (w : Waits). w.number ≤ number) self.old.waiting }
-        ensures ok { IfOk result (Answers self.old loader number self.new) }
+        requires last { AllByRecursion (λ (w : WaitingChunks). w.number ≤ number) self.old.waiting }
+        ensures ok { IfOk result (MovesOrStays self.old loader number self.new) }
         ensures err { OnErr result ((self.new ≡ self.old)
             × ¬ IsTight (arena_of self.old loader) self.old.pool) }
     {

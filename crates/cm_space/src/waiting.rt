@@ -4,7 +4,7 @@ ghost use Rattle.std.specs.Prelude.{vec_len, vec_capacity};
 ghost use Rattle.std.specs.VecDeque.{deque_len, deque_capacity};
 ghost use Rattle.cm_pool.specs.Held.{AreHeld};
 ghost use Rattle.cm_pool.specs.Lists.{Pairwise};
-ghost use Rattle.cm_space.specs.Space.{Waits, waits_in, waiting_chunks, with_chunks, due};
+ghost use Rattle.cm_space.specs.Space.{WaitingChunks, waits_in, waiting_chunks, with_chunks, due};
 ghost use Rattle.cm_space.specs.Space.{not_due, IsOldestDue, IsLater};
 
 use cm_pool::{Chunk, Pool};
@@ -49,7 +49,8 @@ pub fn wait_behind(waiting: &mut VecDeque<Waiting>, mut left: Vec<Chunk>, chunk:
 /// Makes the chunks free that wait for at most this number.
 pub fn free_due(pool: &mut Pool, waiting: &mut VecDeque<Waiting>, number: u64)
     requires held { AreHeld pool.old (waiting_chunks (waits_in waiting.old.items)) }
-    requires rises { Pairwise (λ (v w : Waits). v.number ≤ w.number) (waits_in waiting.old.items) }
+    requires rises { Pairwise (λ (v w : WaitingChunks). v.number ≤ w.number)
+        (waits_in waiting.old.items) }
     ensures pool { pool.new
         ≡ with_chunks pool.old (waiting_chunks (due number (waits_in waiting.old.items))) }
     ensures waiting { waits_in waiting.new.items ≡ not_due number (waits_in waiting.old.items) }

@@ -2,7 +2,7 @@
 // What a test does with a space stands in a function that borrows it.
 ghost use Rattle.std.specs.Prelude.{◌≡◌, ◌≤◌, ℕ, [], IfOk, OnOk};
 ghost use Rattle.std.specs.List.{AllByRecursion};
-ghost use Rattle.cm_space.specs.Space.{Waits};
+ghost use Rattle.cm_space.specs.Space.{WaitingChunks};
 
 use crate::samples::{Parts, chunk};
 use cm_arena::{Moved, PlaceRefusal};
@@ -71,10 +71,10 @@ fn is_full(space: &mut Space, loader: u64, words: u32) -> Result<bool, Fail>
 }
 
 fn leave(space: &mut Space, loader: u64, number: u64) -> Result<(), Fail>
-    requires { AllByRecursion (λ (w : Waits). w.number ≤ number) space.old.waiting }
+    requires { AllByRecursion (λ (w : WaitingChunks). w.number ≤ number) space.old.waiting }
     ensures { OnOk result ((later : ℕ) → number ≤ later
-        → AllByRecursion (λ (w : Waits). w.number ≤ number) space.old.waiting
-        → AllByRecursion (λ (w : Waits). w.number ≤ later) space.new.waiting) }
+        → AllByRecursion (λ (w : WaitingChunks). w.number ≤ number) space.old.waiting
+        → AllByRecursion (λ (w : WaitingChunks). w.number ≤ later) space.new.waiting) }
 {
     if !space.is_known(loader) {
         return Err("not known".into());

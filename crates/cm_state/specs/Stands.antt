@@ -10,16 +10,14 @@ use Rattle.cm_pool.specs.declared.chunk.Chunk.{Chunk}
 use Rattle.cm_layout.specs.declared.class_row.ClassRow.{ClassRow}
 use Rattle.cm_layout.specs.declared.row.Row.{Row}
 use Rattle.cm_layout.specs.declared.row.Row.TheVariants.{Loader, Class}
-use Rattle.cm_layout.specs.Rows.{classes_in, rows_with}
+use Rattle.cm_layout.specs.Rows.{EachClass, classes_in, rows_with}
 use Rattle.cm_layout.specs.Frames.{Frames}
 use Rattle.cm_rules.specs.Keeps.{KeepsRules}
 use Rattle.cm_state.specs.State.{ByName, CacheState, NamesDiffer, class_shows, state_of}
 
 -- each class keeps the rules
 abbrev pub EachKeepsRules : List (Row ClassFile) → Type 0
-EachKeepsRules [] = Unit {0}
-EachKeepsRules (Loader r ∷ rows) = EachKeepsRules rows
-EachKeepsRules (Class r c ∷ rows) = KeepsRules c × EachKeepsRules rows
+EachKeepsRules rows = EachClass KeepsRules rows
 
 -- a loader's chunks, in the order of their first records
 abbrev pub chunks_of : ℕ → List ClassRow → List Chunk

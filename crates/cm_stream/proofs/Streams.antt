@@ -11,7 +11,7 @@ use Rattle.std.proofs.lemmas.List.{length-drop, append-nil, flat_map_more}
 use Rattle.std.proofs.lemmas.List.Concat.{flat_map-cons}
 use Rattle.std.proofs.lemmas.Option.{option_and_then_some, some_pair_parts}
 use Rattle.cm_stream.specs.Stream.{frame, stream_of, Fits, AllFit, EndsInClass, number_at, piece_at}
-use Rattle.cm_stream.specs.Stream.{first_at, EndsEarly, IsFault, Answers}
+use Rattle.cm_stream.specs.Stream.{first_at, EndsEarly, IsFault, GivesClasses}
 use Rattle.cm_stream.specs.declared.stream.StreamFault.{StreamFault}
 use Rattle.cm_stream.specs.declared.stream.StreamFault.TheVariants.{InLength, InClass, NoMemory}
 use Rattle.cm_stream.proofs.Numbers.{IsBytes, IsBytes-drop, let_through, held_back, wide32}
@@ -182,7 +182,7 @@ pub answered : {X : Type 0} (view : X → List (List ℕ)) (bytes : List ℕ)
     → IfOk result (λ v. AllFit (view v) × (bytes ≡ stream_of (view v)))
     → IfErr result (IsFault bytes)
     → (classes : List (List ℕ)) → AllFit classes → bytes ≡ stream_of classes
-    → Answers view classes result
+    → GivesClasses view classes result
 answered view bytes (Ok v) ok fault classes fit e =
     only_these bytes (view v) classes ok.0 ok.1 fit e
 answered view bytes (Err f) ok fault classes fit e = only_memory bytes classes f fit e fault

@@ -46,10 +46,10 @@ IsFault bytes (InClass at) = EndsEarly bytes at EndsInClass
 IsFault bytes NoMemory = Unit {0}
 
 -- the answer for a stream of these classes, unless an allocation fails
-abbrev pub Answers : {X : Type 0} → (X → List (List ℕ)) → List (List ℕ) → Result X StreamFault
+abbrev pub GivesClasses : {X : Type 0} → (X → List (List ℕ)) → List (List ℕ) → Result X StreamFault
     → Type 0
-Answers view classes (Ok found) = view found ≡ classes
-Answers view classes (Err fault) = fault ≡ NoMemory
+GivesClasses view classes (Ok found) = view found ≡ classes
+GivesClasses view classes (Err fault) = fault ≡ NoMemory
 
 -- a number at the front of bytes, and what is behind it
 abbrev pub number_at : Width → List ℕ → Option (ℕ × List ℕ)

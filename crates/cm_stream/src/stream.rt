@@ -1,6 +1,6 @@
 //! Class files one behind another, each behind its length.
 ghost use Rattle.std.specs.Prelude.{◌≡◌, ◌≤◌, ◌<◌, List, ℕ, length, map, option_map, IfOk, IfErr};
-ghost use Rattle.cm_stream.specs.Stream.{stream_of, AllFit, IsFault, Answers, EndsInLength};
+ghost use Rattle.cm_stream.specs.Stream.{stream_of, AllFit, IsFault, GivesClasses, EndsInLength};
 ghost use Rattle.cm_stream.specs.Stream.{EndsInClass, first_at};
 ghost use Rattle.cm_stream.specs.declared.stream.StreamFault.TheVariants.{NoMemory};
 
@@ -102,7 +102,7 @@ pub fn classes_in(alloc: Global, bytes: &[u8]) -> Result<Vec<&[u8]>, StreamFault
 
     // The stream of any classes is answered with these, unless an allocation failed.
     ensures only { (classes : List (List ℕ)) → AllFit classes → bytes.now ≡ stream_of classes
-        → Answers (λ v. map (λ class. class.now) v.items) classes result }
+        → GivesClasses (λ v. map (λ class. class.now) v.items) classes result }
 {
     split(alloc, bytes)
 }

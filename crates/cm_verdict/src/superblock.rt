@@ -37,7 +37,7 @@ fn sizes_in(block: &[u8]) -> Option<Geometry>
 {
     let superblock = Superblock::decode(block)?;
     let geometry = superblock.geometry;
-    let _top = geometry.top(); // so the proof knows that they are lawful
+    geometry.invariant_holds();
     Some(geometry)
 }
 

@@ -51,7 +51,7 @@ fn make_disk(alloc: Global, geometry: Geometry) -> Result<SimDisk, OpenFault>
     ensures fault { IfErr result IsOutside }
 {
     new_file_is_empty();
-    let _lawful = geometry.top(); // so the proof knows that its sizes are within the limits
+    geometry.invariant_holds();
     let mut disk = SimDisk::new(alloc);
     match format(alloc, &mut disk, geometry) {
         Ok(()) => Ok(disk),

@@ -6,8 +6,8 @@ use Rattle.cm_index.proofs.records.cmp_records.Goals as goal
 
 pub returns : goal.returns
 returns c =
-    let one = c.words.ensures.laid in
-    let two = c.words-2.ensures.laid in
+    let one = c.invariant_holds.ensures.laid in
+    let two = c.invariant_holds-2.ensures.laid in
     c.cmp_name.ensures one.0 two.0 one.1 two.1
     ∙ ap (λ (x : List ℕ). slice_cmp nat_cmp x (class_name_of two.0))
     (sym (c.words_tell_name.ensures one.0 c.args.one.now one.1))

@@ -1,10 +1,12 @@
 use Rattle.std.proofs.Common.{◌≡◌, ◌<◌, ◌≤◌, ◌||◌, List, length, take, drop, get_or, vec_capacity}
 use Rattle.std.proofs.Common.{refl, sym, ap, ◌∙◌, subst, arith}
 use Rattle.std.specs.List.{AllByRecursion, insert, remove}
-use Rattle.cm_pool_list.specs.declared.block.Block.{Block}
+use Rattle.cm_pool.specs.declared.block.Block.{Block}
 use Rattle.std.proofs.lemmas.List.Edits.{length-remove, length-insert}
-use Rattle.cm_pool_list.specs.Blocks.{is_in, is_covered, start, IsFreeList, IsHole, IsHalfBeside}
-use Rattle.cm_pool_list.specs.Blocks.{HasNoHalfBeside, block_above}
+use Rattle.cm_pool.specs.Blocks.{is_in, start}
+use Rattle.cm_pool_list.specs.Blocks.{is_covered, IsFreeList, IsHole, IsHalfBeside}
+use Rattle.cm_pool.specs.Blocks.{block_above}
+use Rattle.cm_pool_list.specs.Blocks.{HasNoHalfBeside}
 use Rattle.cm_pool_list.proofs.Holes.{covered-insert}
 use Rattle.cm_pool_list.proofs.FreeLists.{length-below}
 use Rattle.cm_pool_list.proofs.Joins.{hole-begin, hole-join, hole-fill, covered-join}

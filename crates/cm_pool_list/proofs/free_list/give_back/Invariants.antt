@@ -1,5 +1,6 @@
 use Rattle.std.proofs.Common.{length, ◌-◌, ◌≡◌, ℕ, ◌≤◌, ◌||◌, take, drop, vec_capacity}
-use Rattle.cm_pool_list.specs.Blocks.{is_in, is_covered, IsHole}
+use Rattle.cm_pool.specs.Blocks.{is_in}
+use Rattle.cm_pool_list.specs.Blocks.{is_covered, IsHole}
 use Rattle.cm_pool_list.proofs.free_list.give_back.Given as goal
 
 abbrev pub invariant-loop-half : goal.invariant-loop-half

@@ -1,6 +1,6 @@
 use Rattle.std.proofs.Common.{◌≤◌, take}
 use Rattle.std.specs.List.{AllByRecursion}
-use Rattle.cm_pool_list.specs.Blocks.{start}
+use Rattle.cm_pool.specs.Blocks.{start}
 use Rattle.cm_pool_list.proofs.free_list.place_of.Given as goal
 
 abbrev pub invariant-loop-at : goal.invariant-loop-at

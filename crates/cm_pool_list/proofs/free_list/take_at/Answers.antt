@@ -5,9 +5,10 @@ use Rattle.std.specs.List.{insert}
 use Rattle.std.proofs.lemmas.List.{get_or_default}
 use Rattle.std.proofs.lemmas.List.Edits.{length-insert, length-remove}
 use Rattle.std.proofs.lemmas.Bool.{or_left, or_right, both_ways}
-use Rattle.cm_pool_list.specs.Blocks.{is_in, is_covered, start, Inside, IsHole, left_half}
-use Rattle.cm_pool_list.specs.Blocks.{right_half}
-use Rattle.cm_pool_list.proofs.Dyadic.{is_in-start, inside-half, inside-same_order}
+use Rattle.cm_pool.specs.Blocks.{is_in, start, Inside, left_half}
+use Rattle.cm_pool_list.specs.Blocks.{is_covered, IsHole}
+use Rattle.cm_pool.specs.Blocks.{right_half}
+use Rattle.cm_pool.proofs.Dyadic.{is_in-start, inside-half, inside-same_order}
 use Rattle.cm_pool_list.proofs.FreeLists.{length-below}
 use Rattle.cm_pool_list.proofs.Holes.{hole-remove, hole-rest, hole-apart, hole-put_left}
 use Rattle.cm_pool_list.proofs.Holes.{hole-put_right, covered-put_left, covered-put_right}

@@ -1,5 +1,6 @@
 use Rattle.std.proofs.Common.{length, ◌-◌, ◌≡◌, ℕ, ◌≤◌, ◌||◌, take, drop, vec_capacity}
-use Rattle.cm_pool_list.specs.Blocks.{is_in, is_covered, Inside, IsFreeList, IsHole}
+use Rattle.cm_pool.specs.Blocks.{is_in, Inside}
+use Rattle.cm_pool_list.specs.Blocks.{is_covered, IsFreeList, IsHole}
 use Rattle.cm_pool_list.proofs.free_list.take_at.Given as goal
 
 abbrev pub invariant-loop-block : goal.invariant-loop-block

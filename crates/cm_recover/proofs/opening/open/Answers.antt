@@ -47,7 +47,7 @@ returns-in-Ok-new-clause-opened g c =
     c.verdict_is_exact.ensures.stands c.words_tell_name.ensures c.others_are_told.ensures
     (view.contents c.args.disk) c.in-Ok.file c.in-Ok.ensures.standing
     c.arenas_are_of_rows.ensures c.move_over.new.disk c.in-Ok-restore.front c.in-Ok-new.committer
-    c.in-Ok-move_over.journal c.geometry-is_cache.ensures.lawful c.in-Ok-restore.ensures
+    c.in-Ok-move_over.journal c.invariant_holds.ensures c.in-Ok-restore.ensures
     (journal_same (view.contents c.read_synced.new.disk) (view.contents c.args.disk)
     c.in-Ok.ensures.run.contents_stay c.in-Ok.file c.in-Ok.ensures.standing
     c.in-Ok-move_over.journal c.in-Ok-move_over.ensures.journal)

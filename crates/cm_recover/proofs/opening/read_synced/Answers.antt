@@ -1,7 +1,7 @@
 use Rattle.std.proofs.Common.{ℕ, List, subst, ap, rules}
 use Rattle.std.specs.Prelude.{is_ok}
 use Rattle.cm_verdict.specs.Verdict.{verdict}
-use Rattle.cm_recover.specs.Standing.{Answers, IsStanding}
+use Rattle.cm_recover.specs.Standing.{GoesByVerdict, IsStanding}
 use Rattle.cm_recover.proofs.SyncRuns.{not_synced, synced, always_ok, settled_after}
 use Rattle.cm_recover.proofs.opening.read_synced.Goals as goal
 
@@ -13,7 +13,7 @@ returns-in_err-sync-clause-run g c =
 
 pub returns-clause-standing : goal.returns-clause-standing
 returns-clause-standing g c =
-    subst (λ (l : List ℕ). Answers (IsStanding l) c.read_standing.result (verdict l))
+    subst (λ (l : List ℕ). GoesByVerdict (IsStanding l) c.read_standing.result (verdict l))
     c.sync.ensures.syncs.same c.read_standing.ensures.standing
 
 pub returns-clause-stored : goal.returns-clause-stored

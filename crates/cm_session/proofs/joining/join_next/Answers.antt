@@ -10,5 +10,5 @@ returns-in-Ok-clause-behind c =
     let ok = c.in-Ok.ensures.ok in
     λ n b. subst (λ (g : Handed). GoBehind n (g ∷ rest)) (sym ok)
     (behind_joined n c.args.group.now c.in-Some.next rest
-    (subst IsGroup ok c.first-lawful.ensures.lawful)
+    (subst IsGroup ok c.invariant_holds.ensures)
     (subst (λ (q : List Handed). GoBehind n (c.args.group.now ∷ q)) c.in-Some.ensures.items b))

@@ -27,7 +27,7 @@ returns-clause-opened g c =
     let stands = c.verdict_is_exact.ensures.stands in
     let one = c.contents_determine_cache.ensures in
     let on = c.committed_rows_are_the_machines.ensures.opened in
-    let is = c.geometry-lawful.ensures.lawful in
+    let is = c.invariant_holds.ensures in
     record {
       leads = subst (λ (q : List Handed). Leads (Reopening sizes k bytes)
           (λ j. IsSession j front committer q c.number-sealed.result false))

@@ -17,7 +17,7 @@ returns-in-Define c =
     subst (λ (command : Command). IsAsked (change_asked command)) (sym c.in-Define.is)
     (is_asked c.in-Define.field-0.now c.in-Define.class c.record.ensures.right
     (subst (λ (l : List ℕ). length l ≤ limit) (c.deref.ensures ∙ c.record.ensures.«record»)
-    (subst (λ (n : ℕ). n ≤ limit) c.words-words.ensures.words c.words-words.ensures.short)))
+    c.invariant_holds.ensures.short))
 
 pub returns-in-Unload : goal.returns-in-Unload
 returns-in-Unload c =

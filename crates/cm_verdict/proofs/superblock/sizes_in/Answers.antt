@@ -14,4 +14,4 @@ pub returns : goal.returns
 returns c =
     let found = c.in_ok-superblock.ensures.found in
     sym (ap sizes_in found ∙ sizes_again c.in_ok-superblock.superblock.geometry
-    c.top-top.ensures.within)
+    c.invariant_holds.ensures)

@@ -10,4 +10,4 @@ invariant_of-self g c =
     (λ f. IsTied g.K.Naming.base (record { front = f; sent = c.self.inside.outgoing }))
     (sym c.close.ensures)
     (failed_is_tied c.ahead_stays_ahead.ensures.failed _ _ _ _ c.self.invariant
-    (subst IsFront c.close.ensures c.geometry-front.ensures.lawful))
+    (subst IsFront c.close.ensures c.invariant_holds.ensures))

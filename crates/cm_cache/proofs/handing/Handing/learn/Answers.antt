@@ -7,4 +7,4 @@ invariant_of-self g c =
     learn_is_tied c.handed_groups_are_next.ensures.committed
     c.ahead_stays_ahead.ensures.learnt _ _ _ _
     c.self.invariant c.learn-learnt.result learnt.known.0 learnt.ok learnt.err
-    c.geometry-front.ensures.lawful
+    c.invariant_holds.ensures

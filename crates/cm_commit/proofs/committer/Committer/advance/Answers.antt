@@ -12,7 +12,8 @@ use Rattle.cm_commit.specs.Keeping.{keep_rules}
 use Rattle.cm_commit.specs.States.{Work, MayLeave}
 use Rattle.cm_commit.specs.Keeps.{IsCommitter}
 use Rattle.cm_commit.specs.Steps.{FitsJournal, plan_left, stages_left, is_trim}
-use Rattle.cm_commit.proofs.Advancing.{seen, images, half, fits, few_roots, takes, busy}
+use Rattle.cm_commit.proofs.Advancing.{images, half, fits, few_roots, takes, busy}
+use Rattle.cm_commit.specs.Steps.{committer_of}
 use Rattle.cm_commit.proofs.Advancing.{call_moments, is_broken, is_working, is_finished, told_ok}
 use Rattle.cm_commit.proofs.Advancing.{some_stages, no_stages, above_own, as_committed}
 use Rattle.cm_commit.proofs.Advancing.{group_works, same_work, nothing_left}
@@ -25,7 +26,7 @@ pub returns-then-self-clause-any_moment : goal.returns-then-self-clause-any_mome
 returns-then-self-clause-any_moment g c =
     let s = c.self.inside in
     let rows = rows_with arc_value s.rows.rows in
-    let v = seen s.disk s.journal rows s.roots s.group s.step s.is_broken in
+    let v = committer_of s.disk s.journal rows s.roots s.group s.step s.is_broken in
     rw (← c.self.view_is)
     (leaves_none g.D.Disk.view
     g.met.D.Disk.only_now s.disk (MayLeave v)
@@ -37,7 +38,7 @@ pub make_call-called-requires-clause-half : goal.make_call-called-requires-claus
 make_call-called-requires-clause-half g c =
     let s = c.self.inside in
     let rows = rows_with arc_value s.rows.rows in
-    let v = seen s.disk s.journal rows s.roots s.group s.step s.is_broken in
+    let v = committer_of s.disk s.journal rows s.roots s.group s.step s.is_broken in
     half g.D.Disk.view v s.rows.sizes s.next s.roots
     (vec_capacity s.buffer) c.self.invariant
 
@@ -45,7 +46,7 @@ pub make_call-called-requires-clause-group : goal.make_call-called-requires-clau
 make_call-called-requires-clause-group g c =
     let s = c.self.inside in
     let rows = rows_with arc_value s.rows.rows in
-    let v = seen s.disk s.journal rows s.roots s.group s.step s.is_broken in
+    let v = committer_of s.disk s.journal rows s.roots s.group s.step s.is_broken in
     fits g.D.Disk.view v s.rows.sizes s.next s.roots
     (vec_capacity s.buffer) c.self.invariant c.in-Some.group
     (group_works s.group c.in-Some.group s.step c.in-Some.is)
@@ -54,7 +55,7 @@ pub make_call-called-requires-clause-fits : goal.make_call-called-requires-claus
 make_call-called-requires-clause-fits g c =
     let s = c.self.inside in
     let rows = rows_with arc_value s.rows.rows in
-    let v = seen s.disk s.journal rows s.roots s.group s.step s.is_broken in
+    let v = committer_of s.disk s.journal rows s.roots s.group s.step s.is_broken in
     subst (λ (o : Option Handed). TakesCall
     (stages_left s.journal (bare rows) s.roots o s.step) (length (g.D.Disk.view.contents s.disk)))
     c.in-Some.is
@@ -67,7 +68,7 @@ pub invariant_of-self : goal.invariant_of-self
 invariant_of-self g c =
     let s = c.self.inside in
     let rows = rows_with arc_value s.rows.rows in
-    let v = seen s.disk s.journal rows s.roots s.group s.step s.is_broken in
+    let v = committer_of s.disk s.journal rows s.roots s.group s.step s.is_broken in
     let made = subst (λ (o : Option Handed). CallsOnce g.D.Disk.view
     (stages_left s.journal (bare rows) s.roots o s.step) s.disk c.make_call-called.new.disk
     c.make_call-called.result) (sym c.in-Some.is) c.make_call-called.ensures.called in
@@ -84,7 +85,7 @@ pub returns-in_default-called-clause-any_moment : goal.returns-in_default-called
 returns-in_default-called-clause-any_moment g c =
     let s = c.self.inside in
     let rows = rows_with arc_value s.rows.rows in
-    let v = seen s.disk s.journal rows s.roots s.group s.step s.is_broken in
+    let v = committer_of s.disk s.journal rows s.roots s.group s.step s.is_broken in
     let made = subst (λ (o : Option Handed). CallsOnce g.D.Disk.view
     (stages_left s.journal (bare rows) s.roots o s.step) s.disk c.make_call-called.new.disk
     c.make_call-called.result) (sym c.in-Some.is) c.make_call-called.ensures.called in
@@ -100,7 +101,7 @@ pub returns-in_default-called-clause-cause : goal.returns-in_default-called-clau
 returns-in_default-called-clause-cause g c =
     let s = c.self.inside in
     let rows = rows_with arc_value s.rows.rows in
-    let v = seen s.disk s.journal rows s.roots s.group s.step s.is_broken in
+    let v = committer_of s.disk s.journal rows s.roots s.group s.step s.is_broken in
     let made = subst (λ (o : Option Handed). CallsOnce g.D.Disk.view
     (stages_left s.journal (bare rows) s.roots o s.step) s.disk c.make_call-called.new.disk
     c.make_call-called.result) (sym c.in-Some.is) c.make_call-called.ensures.called in
@@ -115,7 +116,7 @@ pub invariant_of-self-then-not-is_done : goal.invariant_of-self-then-not-is_done
 invariant_of-self-then-not-is_done g c =
     let s = c.self.inside in
     let rows = rows_with arc_value s.rows.rows in
-    let v = seen s.disk s.journal rows s.roots s.group s.step s.is_broken in
+    let v = committer_of s.disk s.journal rows s.roots s.group s.step s.is_broken in
     let made = subst (λ (o : Option Handed). CallsOnce g.D.Disk.view
     (stages_left s.journal (bare rows) s.roots o s.step) s.disk c.make_call-called.new.disk
     c.make_call-called.result) (sym c.in-Some.is) c.make_call-called.ensures.called in
@@ -156,7 +157,7 @@ pub returns-then-not-is_done-clause-moved : goal.returns-then-not-is_done-clause
 returns-then-not-is_done-clause-moved g c =
     let s = c.self.inside in
     let rows = rows_with arc_value s.rows.rows in
-    let v = seen s.disk s.journal rows s.roots s.group s.step s.is_broken in
+    let v = committer_of s.disk s.journal rows s.roots s.group s.step s.is_broken in
     let made = subst (λ (o : Option Handed). CallsOnce g.D.Disk.view
     (stages_left s.journal (bare rows) s.roots o s.step) s.disk c.make_call-called.new.disk
     c.make_call-called.result) (sym c.in-Some.is) c.make_call-called.ensures.called in
@@ -196,7 +197,7 @@ pub returns-then-not-is_done-clause-any_moment : goal.returns-then-not-is_done-c
 returns-then-not-is_done-clause-any_moment g c =
     let s = c.self.inside in
     let rows = rows_with arc_value s.rows.rows in
-    let v = seen s.disk s.journal rows s.roots s.group s.step s.is_broken in
+    let v = committer_of s.disk s.journal rows s.roots s.group s.step s.is_broken in
     let made = subst (λ (o : Option Handed). CallsOnce g.D.Disk.view
     (stages_left s.journal (bare rows) s.roots o s.step) s.disk c.make_call-called.new.disk
     c.make_call-called.result) (sym c.in-Some.is) c.make_call-called.ensures.called in
@@ -212,7 +213,7 @@ pub returns-then-not-is_done-clause-cause : goal.returns-then-not-is_done-clause
 returns-then-not-is_done-clause-cause g c =
     let s = c.self.inside in
     let rows = rows_with arc_value s.rows.rows in
-    let v = seen s.disk s.journal rows s.roots s.group s.step s.is_broken in
+    let v = committer_of s.disk s.journal rows s.roots s.group s.step s.is_broken in
     let made = subst (λ (o : Option Handed). CallsOnce g.D.Disk.view
     (stages_left s.journal (bare rows) s.roots o s.step) s.disk c.make_call-called.new.disk
     c.make_call-called.result) (sym c.in-Some.is) c.make_call-called.ensures.called in
@@ -224,7 +225,7 @@ pub target_of-target-requires : goal.target_of-target-requires
 target_of-target-requires g c =
     let s = c.self.inside in
     let rows = rows_with arc_value s.rows.rows in
-    let v = seen s.disk s.journal rows s.roots s.group s.step s.is_broken in
+    let v = committer_of s.disk s.journal rows s.roots s.group s.step s.is_broken in
     half g.D.Disk.view v s.rows.sizes s.next s.roots
     (vec_capacity s.buffer) c.self.invariant
 
@@ -232,7 +233,7 @@ pub finish-receipt-requires-clause-first : goal.finish-receipt-requires-clause-f
 finish-receipt-requires-clause-first g c =
     let s = c.self.inside in
     let rows = rows_with arc_value s.rows.rows in
-    let v = seen s.disk s.journal rows s.roots s.group s.step s.is_broken in
+    let v = committer_of s.disk s.journal rows s.roots s.group s.step s.is_broken in
     let underway = group_works s.group c.unwrap-group.result s.step
     (cc (c.take.ensures.value, c.unwrap-group.ensures)) in
     let to = c.target_of-target.result in
@@ -248,7 +249,7 @@ pub finish-receipt-requires-clause-above : goal.finish-receipt-requires-clause-a
 finish-receipt-requires-clause-above g c =
     let s = c.self.inside in
     let rows = rows_with arc_value s.rows.rows in
-    let v = seen s.disk s.journal rows s.roots s.group s.step s.is_broken in
+    let v = committer_of s.disk s.journal rows s.roots s.group s.step s.is_broken in
     let underway = group_works s.group c.unwrap-group.result s.step
     (cc (c.take.ensures.value, c.unwrap-group.ensures)) in
     let to = c.target_of-target.result in
@@ -263,7 +264,7 @@ pub finish-receipt-requires-clause-kept : goal.finish-receipt-requires-clause-ke
 finish-receipt-requires-clause-kept g c =
     let s = c.self.inside in
     let rows = rows_with arc_value s.rows.rows in
-    let v = seen s.disk s.journal rows s.roots s.group s.step s.is_broken in
+    let v = committer_of s.disk s.journal rows s.roots s.group s.step s.is_broken in
     let underway = group_works s.group c.unwrap-group.result s.step
     (cc (c.take.ensures.value, c.unwrap-group.ensures)) in
     let to = c.target_of-target.result in
@@ -282,7 +283,7 @@ pub finish-receipt-requires-clause-needed : goal.finish-receipt-requires-clause-
 finish-receipt-requires-clause-needed g c =
     let s = c.self.inside in
     let rows = rows_with arc_value s.rows.rows in
-    let v = seen s.disk s.journal rows s.roots s.group s.step s.is_broken in
+    let v = committer_of s.disk s.journal rows s.roots s.group s.step s.is_broken in
     let underway = group_works s.group c.unwrap-group.result s.step
     (cc (c.take.ensures.value, c.unwrap-group.ensures)) in
     few_roots g.D.Disk.view v s.rows.sizes s.next s.roots
@@ -293,7 +294,7 @@ pub finish-receipt-requires-clause-end : goal.finish-receipt-requires-clause-end
 finish-receipt-requires-clause-end g c =
     let s = c.self.inside in
     let rows = rows_with arc_value s.rows.rows in
-    let v = seen s.disk s.journal rows s.roots s.group s.step s.is_broken in
+    let v = committer_of s.disk s.journal rows s.roots s.group s.step s.is_broken in
     let underway = group_works s.group c.unwrap-group.result s.step
     (cc (c.take.ensures.value, c.unwrap-group.ensures)) in
     let f = fits g.D.Disk.view v s.rows.sizes s.next s.roots
@@ -308,7 +309,7 @@ pub invariant_of-self-2 : goal.invariant_of-self-2
 invariant_of-self-2 g c =
     let s = c.self.inside in
     let rows = rows_with arc_value s.rows.rows in
-    let v = seen s.disk s.journal rows s.roots s.group s.step s.is_broken in
+    let v = committer_of s.disk s.journal rows s.roots s.group s.step s.is_broken in
     let underway = group_works s.group c.unwrap-group.result s.step
     (cc (c.take.ensures.value, c.unwrap-group.ensures)) in
     let made = subst (λ (o : Option Handed). CallsOnce g.D.Disk.view
@@ -344,7 +345,7 @@ pub returns-clause-any_moment : goal.returns-clause-any_moment
 returns-clause-any_moment g c =
     let s = c.self.inside in
     let rows = rows_with arc_value s.rows.rows in
-    let v = seen s.disk s.journal rows s.roots s.group s.step s.is_broken in
+    let v = committer_of s.disk s.journal rows s.roots s.group s.step s.is_broken in
     let made = subst (λ (o : Option Handed). CallsOnce g.D.Disk.view
     (stages_left s.journal (bare rows) s.roots o s.step) s.disk c.make_call-called.new.disk
     c.make_call-called.result) (sym c.in-Some.is) c.make_call-called.ensures.called in
@@ -360,7 +361,7 @@ pub returns-clause-cause : goal.returns-clause-cause
 returns-clause-cause g c =
     let s = c.self.inside in
     let rows = rows_with arc_value s.rows.rows in
-    let v = seen s.disk s.journal rows s.roots s.group s.step s.is_broken in
+    let v = committer_of s.disk s.journal rows s.roots s.group s.step s.is_broken in
     let made = subst (λ (o : Option Handed). CallsOnce g.D.Disk.view
     (stages_left s.journal (bare rows) s.roots o s.step) s.disk c.make_call-called.new.disk
     c.make_call-called.result) (sym c.in-Some.is) c.make_call-called.ensures.called in
@@ -372,7 +373,7 @@ pub returns-clause-moved : goal.returns-clause-moved
 returns-clause-moved g c =
     let s = c.self.inside in
     let rows = rows_with arc_value s.rows.rows in
-    let v = seen s.disk s.journal rows s.roots s.group s.step s.is_broken in
+    let v = committer_of s.disk s.journal rows s.roots s.group s.step s.is_broken in
     let underway = group_works s.group c.unwrap-group.result s.step
     (cc (c.take.ensures.value, c.unwrap-group.ensures)) in
     let made = subst (λ (o : Option Handed). CallsOnce g.D.Disk.view

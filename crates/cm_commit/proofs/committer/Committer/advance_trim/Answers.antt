@@ -10,7 +10,8 @@ use Rattle.cm_commit.specs.declared.step.PlanStep.TheVariants as plan
 use Rattle.cm_commit.specs.Keeps.{IsCommitter}
 use Rattle.cm_commit.specs.States.{Work, Trimming, NoGroup, CommitterState, MayLeave}
 use Rattle.cm_commit.specs.Steps.{stages_left, trim_left, trim_rest, work_of}
-use Rattle.cm_commit.proofs.Advancing.{seen, images, told_ok, nothing_left, nothing_works, no_group}
+use Rattle.cm_commit.proofs.Advancing.{images, told_ok, nothing_left, nothing_works, no_group}
+use Rattle.cm_commit.specs.Steps.{committer_of}
 use Rattle.cm_commit.proofs.Advancing.{trim_works, trim_stages, some_trim, trim_moments}
 use Rattle.cm_commit.proofs.Advancing.{trim_is_broken, trim_is_working, is_trimmed}
 use Rattle.cm_commit.proofs.committer.Committer.advance_trim.Goals as goal
@@ -19,7 +20,7 @@ pub returns-in_default : goal.returns-in_default
 returns-in_default g c =
     let s = c.self.inside in
     let rows = rows_with arc_value s.rows.rows in
-    let v = seen s.disk s.journal rows s.roots s.group s.step s.is_broken in
+    let v = committer_of s.disk s.journal rows s.roots s.group s.step s.is_broken in
     let ungrouped : NoGroup (work_of s.group s.step) =
     subst (λ (z : CommitterState _). NoGroup z.underway) (sym c.self.view_is)
     c.requires.ungrouped in
@@ -45,7 +46,7 @@ pub invariant_of-self : goal.invariant_of-self
 invariant_of-self g c =
     let s = c.self.inside in
     let rows = rows_with arc_value s.rows.rows in
-    let v = seen s.disk s.journal rows s.roots s.group s.step s.is_broken in
+    let v = committer_of s.disk s.journal rows s.roots s.group s.step s.is_broken in
     let ungrouped : NoGroup (work_of s.group s.step) =
     subst (λ (z : CommitterState _). NoGroup z.underway) (sym c.self.view_is)
     c.requires.ungrouped in
@@ -71,7 +72,7 @@ pub returns-in_default-called-clause-any_moment : goal.returns-in_default-called
 returns-in_default-called-clause-any_moment g c =
     let s = c.self.inside in
     let rows = rows_with arc_value s.rows.rows in
-    let v = seen s.disk s.journal rows s.roots s.group s.step s.is_broken in
+    let v = committer_of s.disk s.journal rows s.roots s.group s.step s.is_broken in
     let ungrouped : NoGroup (work_of s.group s.step) =
     subst (λ (z : CommitterState _). NoGroup z.underway) (sym c.self.view_is)
     c.requires.ungrouped in
@@ -97,7 +98,7 @@ pub invariant_of-self-in-Some : goal.invariant_of-self-in-Some
 invariant_of-self-in-Some g c =
     let s = c.self.inside in
     let rows = rows_with arc_value s.rows.rows in
-    let v = seen s.disk s.journal rows s.roots s.group s.step s.is_broken in
+    let v = committer_of s.disk s.journal rows s.roots s.group s.step s.is_broken in
     let ungrouped : NoGroup (work_of s.group s.step) =
     subst (λ (z : CommitterState _). NoGroup z.underway) (sym c.self.view_is)
     c.requires.ungrouped in
@@ -141,7 +142,7 @@ pub returns-in-Some-clause-any_moment : goal.returns-in-Some-clause-any_moment
 returns-in-Some-clause-any_moment g c =
     let s = c.self.inside in
     let rows = rows_with arc_value s.rows.rows in
-    let v = seen s.disk s.journal rows s.roots s.group s.step s.is_broken in
+    let v = committer_of s.disk s.journal rows s.roots s.group s.step s.is_broken in
     let ungrouped : NoGroup (work_of s.group s.step) =
     subst (λ (z : CommitterState _). NoGroup z.underway) (sym c.self.view_is)
     c.requires.ungrouped in
@@ -167,7 +168,7 @@ pub invariant_of-self-2 : goal.invariant_of-self-2
 invariant_of-self-2 g c =
     let s = c.self.inside in
     let rows = rows_with arc_value s.rows.rows in
-    let v = seen s.disk s.journal rows s.roots s.group s.step s.is_broken in
+    let v = committer_of s.disk s.journal rows s.roots s.group s.step s.is_broken in
     let ungrouped : NoGroup (work_of s.group s.step) =
     subst (λ (z : CommitterState _). NoGroup z.underway) (sym c.self.view_is)
     c.requires.ungrouped in
@@ -205,7 +206,7 @@ pub returns-clause-any_moment : goal.returns-clause-any_moment
 returns-clause-any_moment g c =
     let s = c.self.inside in
     let rows = rows_with arc_value s.rows.rows in
-    let v = seen s.disk s.journal rows s.roots s.group s.step s.is_broken in
+    let v = committer_of s.disk s.journal rows s.roots s.group s.step s.is_broken in
     let ungrouped : NoGroup (work_of s.group s.step) =
     subst (λ (z : CommitterState _). NoGroup z.underway) (sym c.self.view_is)
     c.requires.ungrouped in

@@ -4,7 +4,7 @@ use Rattle.std.specs.Arc.{arc_value}
 use Rattle.cm_layout.specs.Rows.{bare, rows_with}
 use Rattle.cm_commit.specs.States.{CommitterState, Takes}
 use Rattle.cm_commit.specs.Steps.{work_of}
-use Rattle.cm_commit.proofs.Advancing.{seen}
+use Rattle.cm_commit.specs.Steps.{committer_of}
 use Rattle.cm_commit.proofs.Offering.{none_under_way, next_before, next_after, taken, as_taken}
 use Rattle.cm_commit.proofs.Offering.{steps}
 use Rattle.cm_commit.proofs.committer.Committer.offer.Goals as goal
@@ -23,7 +23,7 @@ pub invariant_of-self-2 : goal.invariant_of-self-2
 invariant_of-self-2 g c =
     let s = c.self.inside in
     let rows = rows_with arc_value s.rows.rows in
-    let v = seen s.disk s.journal rows s.roots s.group s.step s.is_broken in
+    let v = committer_of s.disk s.journal rows s.roots s.group s.step s.is_broken in
     let i = c.self.invariant in
     let none = none_under_way (work_of s.group s.step)
     (ap (λ (z : CommitterState _). is_some z.underway) c.self.view_is
@@ -48,7 +48,7 @@ pub returns-clause-taken : goal.returns-clause-taken
 returns-clause-taken g c =
     let s = c.self.inside in
     let rows = rows_with arc_value s.rows.rows in
-    let v = seen s.disk s.journal rows s.roots s.group s.step s.is_broken in
+    let v = committer_of s.disk s.journal rows s.roots s.group s.step s.is_broken in
     let i = c.self.invariant in
     let none = none_under_way (work_of s.group s.step)
     (ap (λ (z : CommitterState _). is_some z.underway) c.self.view_is
@@ -67,7 +67,7 @@ pub returns-clause-steps : goal.returns-clause-steps
 returns-clause-steps g c =
     let s = c.self.inside in
     let rows = rows_with arc_value s.rows.rows in
-    let v = seen s.disk s.journal rows s.roots s.group s.step s.is_broken in
+    let v = committer_of s.disk s.journal rows s.roots s.group s.step s.is_broken in
     let i = c.self.invariant in
     let none = none_under_way (work_of s.group s.step)
     (ap (λ (z : CommitterState _). is_some z.underway) c.self.view_is

@@ -6,13 +6,14 @@ use Rattle.cm_group.specs.Groups.{Carried, Handed, entries_in}
 use Rattle.cm_guards.specs.Stages.{calls_left}
 use Rattle.cm_commit.specs.GroupPlans.{roots_of_entries, all_writes}
 use Rattle.cm_commit.specs.Steps.{plan_left, stages_left}
-use Rattle.cm_commit.proofs.Advancing.{few_roots, few_writes, seen, steps_are, group_works}
+use Rattle.cm_commit.proofs.Advancing.{few_roots, few_writes, steps_are, group_works}
+use Rattle.cm_commit.specs.Steps.{committer_of}
 use Rattle.cm_commit.proofs.committer.Committer.steps_left.Goals as goal
 
 pub calls_at-requires-clause-roots : goal.calls_at-requires-clause-roots
 calls_at-requires-clause-roots g c =
     let s = c.self.inside in
-    let v = seen s.disk s.journal (rows_with arc_value s.rows.rows) s.roots s.group s.step
+    let v = committer_of s.disk s.journal (rows_with arc_value s.rows.rows) s.roots s.group s.step
     s.is_broken in
     let few = few_roots g.D.Disk.view v s.rows.sizes s.next s.roots
     (vec_capacity s.buffer) c.self.invariant c.in-Some.group
@@ -26,7 +27,7 @@ calls_at-requires-clause-roots g c =
 pub calls_at-requires-clause-few : goal.calls_at-requires-clause-few
 calls_at-requires-clause-few g c =
     let s = c.self.inside in
-    let v = seen s.disk s.journal (rows_with arc_value s.rows.rows) s.roots s.group s.step
+    let v = committer_of s.disk s.journal (rows_with arc_value s.rows.rows) s.roots s.group s.step
     s.is_broken in
     let few = few_writes g.D.Disk.view v s.rows.sizes s.next s.roots
     (vec_capacity s.buffer) c.self.invariant c.in-Some.group

@@ -9,7 +9,8 @@ use Rattle.cm_commit.specs.Keeps.{IsCommitter}
 use Rattle.cm_commit.specs.States.{CommitterState, NoGroup}
 use Rattle.cm_commit.specs.Steps.{stages_left, work_of}
 use Rattle.cm_commit.specs.Trims.{roots_of_rows}
-use Rattle.cm_commit.proofs.Advancing.{seen, no_group}
+use Rattle.cm_commit.proofs.Advancing.{no_group}
+use Rattle.cm_commit.specs.Steps.{committer_of}
 use Rattle.cm_commit.proofs.Offering.{none_under_way, trim_taken}
 use Rattle.cm_commit.proofs.committer.Committer.trim.Goals as goal
 
@@ -17,7 +18,7 @@ pub invariant_of-self : goal.invariant_of-self
 invariant_of-self g c =
     let s = c.self.inside in
     let rows = rows_with arc_value s.rows.rows in
-    let v = seen s.disk s.journal rows s.roots s.group s.step s.is_broken in
+    let v = committer_of s.disk s.journal rows s.roots s.group s.step s.is_broken in
     let idle = none_under_way (work_of s.group s.step)
     (ap (λ (z : CommitterState _). is_some z.underway) c.self.view_is
     ∙ (sym c.is_busy.ensures ∙ c.if-is_busy.false)) in

@@ -13,7 +13,7 @@ use Rattle.cm_state.specs.Step.{AddLoader}
 use Rattle.cm_prepare.specs.declared.refusal.Refusal.{Refusal}
 use Rattle.cm_front.specs.Front.{FrontState, IsFront, front_of}
 use Rattle.cm_front.specs.Unsealed.{GoUpTo}
-use Rattle.cm_front.specs.Accepting.{Accepts, joined_by}
+use Rattle.cm_front.specs.Accepting.{FrontAccepts, joined_by}
 use Rattle.cm_front.specs.Refusing.{loader_made}
 use Rattle.cm_front.proofs.Causes.{loader_refused, was_made}
 use Rattle.cm_front.proofs.Goings.{never_known, not_last}
@@ -108,8 +108,8 @@ went c =
     let e : Entry (List ℕ) = entry.Live (Loader (record { number = n; name = x })) in
     let f = c.self.invariant in
     let keeps = loader_keeps c.loaders_are_own.ensures s x n c.add_loader.new.self f made
-    c.in_ok-add_loader.ensures.ok c.geometry-is_space.ensures.lawful
-    c.geometry-is_space.ensures.pool in
+    c.in_ok-add_loader.ensures.ok c.invariant_holds.ensures.arenas
+    c.invariant_holds.ensures.pool in
     went_all c.entries_are_steps.ensures.words i.book c.apply-rule.new.self i.space
     c.add_loader.new.self i.unsealed c.make_ready.new.self c.join.new.self i.number n
     i.sealed i.learnt
@@ -139,7 +139,7 @@ returns c =
     s x (subst IsFront c.self.view_is c.self.invariant) c.requires.running c.requires.whole in
     given s _ (AddLoader x) (loader_made s x) c.in_ok-number.number c.in_ok-number.number first
     (sym c.in_ok-number.ensures) (λ b. b)
-    (subst (λ (t : FrontState). Accepts t (AddLoader x) c.in_ok-number.number
+    (subst (λ (t : FrontState). FrontAccepts t (AddLoader x) c.in_ok-number.number
     (front_of c.apply-rule.new.self c.add_loader.new.self c.join.new.self c.in_ok-number.number
     c.self.inside.sealed c.self.inside.learnt c.self.inside.is_broken c.self.inside.is_closed))
     c.self.view_is (went c).accepts)

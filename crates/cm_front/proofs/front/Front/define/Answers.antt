@@ -15,7 +15,7 @@ use Rattle.cm_state.specs.Step.{Define}
 use Rattle.cm_prepare.specs.declared.refusal.Refusal.{Refusal}
 use Rattle.cm_prepare.specs.declared.refusal.Refusal.TheVariants as refusal
 use Rattle.cm_front.specs.Front.{FrontState, IsFront, front_of}
-use Rattle.cm_front.specs.Accepting.{Answers, Accepts, joined_by}
+use Rattle.cm_front.specs.Accepting.{FrontAnswers, FrontAccepts, joined_by}
 use Rattle.cm_front.specs.Refusing.{class_asked}
 use Rattle.cm_front.proofs.Causes.{class_refused, was_free}
 use Rattle.cm_front.proofs.Goings.{not_last}
@@ -81,11 +81,11 @@ returns-in_default c =
     c.words-words.ensures.words free.asked.found c.is_full.result tells in
     elim c.if-is_full.branch [
       | then-is_full w ↦
-          subst (λ r. Answers s (Define x k) (Err r) new)
+          subst (λ r. FrontAnswers s (Define x k) (Err r) new)
           (ap (λ b. cond b refusal.RegionFull refusal.NoMemory) w.if-is_full.true ∙ sym w.result-is)
           answer
       | else-is_full w ↦
-          subst (λ r. Answers s (Define x k) (Err r) new)
+          subst (λ r. FrontAnswers s (Define x k) (Err r) new)
           (ap (λ b. cond b refusal.RegionFull refusal.NoMemory) w.if-is_full.false
           ∙ sym w.result-is)
           answer
@@ -139,7 +139,7 @@ returns-in-Err c =
     c.self.view_is c.in-Err.ensures.full in
     let new = front_of i.book c.place.new.self c.room_for.new.unsealed i.number i.sealed i.learnt
     i.is_broken i.is_closed in
-    subst (λ r. Answers s (Define x w) (Err r) new) (sym c.refusal_of_place.ensures)
+    subst (λ r. FrontAnswers s (Define x w) (Err r) new) (sym c.refusal_of_place.ensures)
     (place_answer s new x w u c.words-words.result first (sym c.in_ok-loader.ensures) same
     c.words-words.ensures.words f free c.in-Err.refusal (λ e. long (ap Err e))
     (λ e. tells.0 (ap Err e))
@@ -189,7 +189,7 @@ went c =
     let keeps = class_keeps c.places_keep_rules.ensures own s x w u c.words-words.result place
     c.place.new.self f free c.words-words.ensures.right c.words-words.ensures.words
     c.in-Ok-place.ensures.placed c.in-Ok-place.ensures.others
-    c.geometry-is_space.ensures.lawful c.geometry-is_space.ensures.pool in
+    c.invariant_holds.ensures.arenas c.invariant_holds.ensures.pool in
     went_all c.entries_are_steps.ensures.words i.book c.apply-rule.new.self i.space
     c.place.new.self i.unsealed c.room_for.new.unsealed c.join.new.self i.number
     (i.number + 1) i.sealed
@@ -233,7 +233,7 @@ returns c =
     (not_full_for s x w u free.asked.found (λ h. no_ok c.in-Ok-place.place of_place.RegionFull
     (full (subst (λ n. IsFull (arena_of s.space u) s.space.pool n)
     (sym c.words-words.ensures.words) h))))
-    (subst (λ (t : FrontState). Accepts t (Define x w) (c.self.inside.number + 1)
+    (subst (λ (t : FrontState). FrontAccepts t (Define x w) (c.self.inside.number + 1)
     (front_of c.apply-rule.new.self c.place.new.self c.join.new.self (c.self.inside.number + 1)
     c.self.inside.sealed c.self.inside.learnt c.self.inside.is_broken c.self.inside.is_closed))
     c.self.view_is (went c).accepts)

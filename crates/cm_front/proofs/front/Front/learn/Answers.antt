@@ -7,4 +7,4 @@ invariant_of-self c =
     learnt_front i.book i.space c.learn.new.self i.unsealed i.number i.sealed i.learnt
     c.max-self-inside.result c.args.receipt.number i.is_broken i.is_closed c.self.invariant
     c.max-self-inside.ensures c.if-receipt-self.false c.learn.ensures
-    c.geometry-is_space.ensures.lawful c.geometry-is_space.ensures.pool
+    c.invariant_holds.ensures.arenas c.invariant_holds.ensures.pool

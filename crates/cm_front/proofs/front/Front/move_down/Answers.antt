@@ -10,14 +10,14 @@ use Rattle.cm_layout.specs.declared.entry.Entry.TheVariants as entry
 use Rattle.cm_layout.specs.declared.relocation.Move.{Move}
 use Rattle.cm_layout.specs.Rows.{rows_after, kept_on}
 use Rattle.cm_layout.specs.Rules.{broken_rule}
-use Rattle.cm_space.specs.Space.{SpaceState, Waits, arena_of}
-use Rattle.cm_space.specs.Tightening.{Moves, Answers as SpaceAnswers}
+use Rattle.cm_space.specs.Space.{SpaceState, WaitingChunks, arena_of}
+use Rattle.cm_space.specs.Tightening.{Moves, MovesOrStays}
 use Rattle.cm_state.specs.Step.{Tighten}
 use Rattle.cm_state.specs.Laws.{LoadersAreFound}
 use Rattle.cm_prepare.specs.declared.refusal.Refusal.{Refusal}
 use Rattle.cm_prepare.specs.declared.refusal.Refusal.TheVariants as refusal
 use Rattle.cm_front.specs.Front.{FrontState, front_of}
-use Rattle.cm_front.specs.Accepting.{Answers, Accepts, joined_by}
+use Rattle.cm_front.specs.Accepting.{FrontAnswers, FrontAccepts, joined_by}
 use Rattle.cm_front.specs.Refusing.{loader_asked}
 use Rattle.cm_front.proofs.Causes.{IsAsked, tighten_refused, was_asked}
 use Rattle.cm_front.proofs.Goings.{not_last}
@@ -25,7 +25,7 @@ use Rattle.cm_front.proofs.GoingsMove.{Known, IsMoved, keeps_move, last_from, ri
 use Rattle.cm_front.proofs.Answering.{unchanged, above, told, no_memory, no_chunk, not_tight_for}
 use Rattle.cm_front.proofs.Answering.{given, Went, went_all, tighten_asked, last_of_all, is_known}
 use Rattle.cm_front.proofs.front.Front.move_down.Goals as goal
-use Rattle.cm_front.proofs.front.Front.move_down.Goals.{After-geometry-is_space, After-self-1}
+use Rattle.cm_front.proofs.front.Front.move_down.Goals.{After-invariant_holds, After-self-1}
 
 pub returns-in_err-loader : goal.returns-in_err-loader
 returns-in_err-loader c =
@@ -81,7 +81,7 @@ failed : LoadersAreFound (List ℕ) → (s inside new : FrontState) (x : List �
     → s.closed ≡ false → s.broken ≡ false
     → ◌≡◌ {A = Result ℕ Refusal} (Ok u) (loader_asked s x) → inside ≡ s → tight ≡ false
     → (IsTrue tight ↔ IsTight (arena_of inside.space u) inside.space.pool) → new ≡ s
-    → Answers s (Tighten x) (Err refusal.NoMemory) new
+    → FrontAnswers s (Tighten x) (Err refusal.NoMemory) new
 failed loaders s inside new x u tight running whole asked view not_tight tells same =
     no_memory s new (Tighten x) (loader_asked s x) u (tighten_refused loaders s x running whole)
     (sym asked) same (not_tight_for s x u (was_asked s x u (sym asked)).found
@@ -113,7 +113,8 @@ returns-in_err-records c =
 
 pub tighten-requires-clause-last : goal.tighten-requires-clause-last
 tighten-requires-clause-last c =
-    subst (λ (t : SpaceState). AllByRecursion (λ (w : Waits). w.number ≤ c.self.inside.number + 1)
+    subst (λ (t : SpaceState). AllByRecursion
+    (λ (w : WaitingChunks). w.number ≤ c.self.inside.number + 1)
     t.waiting) (sym c.is_tight.ensures.left)
     (last_of_all c.self.inside.learnt c.self.inside.number c.self.inside.space.waiting
     c.self.invariant.waiting)
@@ -134,7 +135,7 @@ returns-in_err-moved c =
 pub returns-in_default : goal.returns-in_default
 returns-in_default c =
     let u = c.in_ok-loader.loader in
-    let answer = subst (SpaceAnswers c.is_tight.new.self u (c.self.inside.number + 1)
+    let answer = subst (MovesOrStays c.is_tight.new.self u (c.self.inside.number + 1)
     c.tighten.new.self) c.in_default.is c.in_ok-moved.ensures.ok in
     let tight = subst (λ (t : SpaceState). IsTight (arena_of t u) t.pool) c.is_tight.ensures.left
     answer.0 in
@@ -146,40 +147,40 @@ apply-rule-requires c =
     above c.loaders_are_own.ensures (front_of i.book i.space i.unsealed i.number i.sealed i.learnt
     i.is_broken i.is_closed) c.self.invariant
 
-abbrev old : (c : After-geometry-is_space) → FrontState
+abbrev old : (c : After-invariant_holds) → FrontState
 old c =
     let i = c.self.inside in
     front_of i.book i.space i.unsealed i.number i.sealed i.learnt i.is_broken i.is_closed
 
-abbrev asked : (c : After-geometry-is_space)
+abbrev asked : (c : After-invariant_holds)
     → IsAsked (old c) c.args.name.now c.in_ok-loader.loader
 asked c =
     was_asked (old c) c.args.name.now c.in_ok-loader.loader
     (subst (λ t. ◌≡◌ {A = Result ℕ Refusal} (loader_asked t c.args.name.now)
     (Ok c.in_ok-loader.loader)) (sym c.self.view_is) (sym c.in_ok-loader.ensures))
 
-abbrev known : (c : After-geometry-is_space) → Known
+abbrev known : (c : After-invariant_holds) → Known
 known c = record {
   own = c.loaders_are_own.ensures;
   used = c.held_chunks_are_used.ensures.owned;
   apart = c.chunks_are_apart.ensures.either;
 }
 
-moves : (c : After-geometry-is_space)
+moves : (c : After-invariant_holds)
     → IsMoved (old c) c.in_ok-loader.loader c.in-Some.moved.from c.in-Some.moved.to
     c.tighten.new.self
 moves c =
     let u = c.in_ok-loader.loader in
-    let answer = subst (SpaceAnswers c.is_tight.new.self u (c.self.inside.number + 1)
+    let answer = subst (MovesOrStays c.is_tight.new.self u (c.self.inside.number + 1)
     c.tighten.new.self) c.in-Some.is c.in_ok-moved.ensures.ok in
     record {
       moves = subst (λ (t : SpaceState). Moves t u (c.self.inside.number + 1) c.in-Some.moved
           c.tighten.new.self) c.is_tight.ensures.left answer;
-      is = c.geometry-is_space.ensures.lawful;
-      pool = c.geometry-is_space.ensures.pool;
+      is = c.invariant_holds.ensures.arenas;
+      pool = c.invariant_holds.ensures.pool;
     }
 
-records : (c : After-geometry-is_space)
+records : (c : After-invariant_holds)
     → c.in_ok-records.records ≡ kept_on c.in-Some.moved.from c.self.inside.book.rows
 records c =
     c.in_ok-records.ensures c.in-Some.moved.from
@@ -188,7 +189,7 @@ records c =
 
 pub relocation-requires : goal.relocation-requires
 relocation-requires c =
-    let at = (goal.at.relocation-requires c).After-geometry-is_space in
+    let at = (goal.at.relocation-requires c).After-invariant_holds in
     record {
       right = subst (λ l. AllByRecursion IsRightRecord l) (sym (records at))
           (right-kept c.in-Some.moved.from c.self.inside.book.rows c.self.invariant.right);
@@ -210,7 +211,7 @@ went c =
     let u = c.in_ok-loader.loader in
     let from = c.in-Some.moved.from in
     let to = c.in-Some.moved.to in
-    let at = (goal.at.After-self-1 c).After-geometry-is_space in
+    let at = (goal.at.After-self-1 c).After-invariant_holds in
     let s : FrontState = old at in
     let e : Entry (List ℕ) = entry.Move (record { loader = u; from = from; to = to }) in
     let f = c.self.invariant in
@@ -251,7 +252,7 @@ returns c =
     (sym c.in_ok-loader.ensures)
     (not_tight_for s x u (was_asked s x u (sym c.in_ok-loader.ensures)).found
     (loose s _ u c.is_tight.result c.self.view_is c.if-is_tight.false c.is_tight.ensures.tight))
-    (subst (λ (t : FrontState). Accepts t (Tighten x) (c.self.inside.number + 1)
+    (subst (λ (t : FrontState). FrontAccepts t (Tighten x) (c.self.inside.number + 1)
     (front_of c.apply-rule.new.self c.tighten.new.self c.join.new.self (c.self.inside.number + 1)
     c.self.inside.sealed c.self.inside.learnt c.self.inside.is_broken c.self.inside.is_closed))
     c.self.view_is (went c).accepts)

@@ -1,7 +1,7 @@
 use Rattle.std.proofs.Common.{ap, sym, subst}
 use Rattle.cm_state.specs.State.{words_show}
 use Rattle.cm_state.specs.Entries.{AreCacheRows}
-use Rattle.cm_front.specs.Front.{AreRight}
+use Rattle.cm_group.specs.Groups.{AreRight}
 use Rattle.cm_front.proofs.front.Front.new.Goals as goal
 
 pub restore-requires-clause-rows : goal.restore-requires-clause-rows

@@ -6,7 +6,7 @@ use Rattle.cm_layout.specs.declared.entry.Entry.TheVariants as entry
 use Rattle.cm_state.specs.Step.{Unload}
 use Rattle.cm_prepare.specs.declared.refusal.Refusal.{Refusal}
 use Rattle.cm_front.specs.Front.{FrontState, front_of}
-use Rattle.cm_front.specs.Accepting.{Accepts, joined_by}
+use Rattle.cm_front.specs.Accepting.{FrontAccepts, joined_by}
 use Rattle.cm_front.specs.Refusing.{loader_asked}
 use Rattle.cm_front.proofs.Causes.{unload_refused, was_asked}
 use Rattle.cm_front.proofs.Goings.{not_last}
@@ -97,7 +97,7 @@ went c =
     let f = c.self.invariant in
     let own = c.loaders_are_own.ensures in
     let keeps = unload_keeps own s x u c.leave.new.self f asked c.in_ok-leave.ensures.ok
-    c.geometry-is_space.ensures.lawful c.geometry-is_space.ensures.pool in
+    c.invariant_holds.ensures.arenas c.invariant_holds.ensures.pool in
     went_all c.entries_are_steps.ensures.words i.book c.apply-rule.new.self i.space
     c.leave.new.self i.unsealed c.make_ready.new.self c.join.new.self i.number
     (i.number + 1) i.sealed
@@ -119,7 +119,7 @@ returns c =
     c.requires.whole in
     given s _ (Unload x) (loader_asked s x) c.in_ok-loader.loader (c.self.inside.number + 1) first
     (sym c.in_ok-loader.ensures) (λ b. b)
-    (subst (λ (t : FrontState). Accepts t (Unload x) (c.self.inside.number + 1)
+    (subst (λ (t : FrontState). FrontAccepts t (Unload x) (c.self.inside.number + 1)
     (front_of c.apply-rule.new.self c.leave.new.self c.join.new.self (c.self.inside.number + 1)
     c.self.inside.sealed c.self.inside.learnt c.self.inside.is_broken c.self.inside.is_closed))
     c.self.view_is (went c).accepts)

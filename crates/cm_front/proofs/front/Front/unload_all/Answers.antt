@@ -10,7 +10,7 @@ use Rattle.cm_space.specs.Space.{IsKnown, left_by_all}
 use Rattle.cm_state.specs.Step.{UnloadAll}
 use Rattle.cm_prepare.specs.declared.refusal.Refusal.{Refusal}
 use Rattle.cm_front.specs.Front.{FrontState, IsFront, front_of}
-use Rattle.cm_front.specs.Accepting.{Accepts, joined_by}
+use Rattle.cm_front.specs.Accepting.{FrontAccepts, joined_by}
 use Rattle.cm_front.specs.Refusing.{loaders_asked}
 use Rattle.cm_front.proofs.Causes.{AreAsked, unload_all_refused, were_asked}
 use Rattle.cm_front.proofs.Goings.{not_last}
@@ -126,7 +126,7 @@ went c =
     c.in_ok-leave_all.ensures.ok
     ∙ ap (λ (vs : List ℕ). left_by_all i.space (i.number + 1) vs) c.as_slice.ensures.value in
     let keeps = unload_all_keeps own s xs us c.leave_all.new.self f are left
-    c.geometry-is_space.ensures.lawful c.geometry-is_space.ensures.pool in
+    c.invariant_holds.ensures.arenas c.invariant_holds.ensures.pool in
     went_all c.entries_are_steps.ensures.words i.book c.apply-rule.new.self i.space
     c.leave_all.new.self i.unsealed c.make_ready.new.self c.join.new.self i.number
     (i.number + 1) i.sealed
@@ -148,7 +148,7 @@ returns c =
     c.requires.whole in
     given s _ (UnloadAll xs) (loaders_asked s xs) c.in_ok-loaders.loaders
     (c.self.inside.number + 1) first (sym c.in_ok-loaders.ensures) (λ b. b)
-    (subst (λ (t : FrontState). Accepts t (UnloadAll xs) (c.self.inside.number + 1)
+    (subst (λ (t : FrontState). FrontAccepts t (UnloadAll xs) (c.self.inside.number + 1)
     (front_of c.apply-rule.new.self c.leave_all.new.self c.join.new.self (c.self.inside.number + 1)
     c.self.inside.sealed c.self.inside.learnt c.self.inside.is_broken c.self.inside.is_closed))
     c.self.view_is (went c).accepts)

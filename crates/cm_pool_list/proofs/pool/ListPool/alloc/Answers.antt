@@ -4,13 +4,13 @@ use Rattle.std.specs.Vec.{vec_capacity}
 use Rattle.std.specs.List.{AllByRecursion}
 use Rattle.std.specs.Option.{is_some}
 use Rattle.std.proofs.lemmas.Bool.{true≢false}
-use Rattle.cm_pool_list.specs.declared.block.Block.{Block}
+use Rattle.cm_pool.specs.declared.block.Block.{Block}
 use Rattle.cm_pool.specs.FreeSpace.{FreeSpace, IsFreeChunk, HasFree, without}
 use Rattle.cm_pool.specs.Chunks.{IsBlock}
-use Rattle.cm_pool_list.specs.Blocks.{IsSame, start, stop}
+use Rattle.cm_pool.specs.Blocks.{IsSame, start, stop}
 use Rattle.cm_pool.proofs.{among-at}
 use Rattle.cm_pool.specs.Lists.{Among}
-use Rattle.cm_pool_list.proofs.Dyadic.{inside-stop, is_in-start}
+use Rattle.cm_pool.proofs.Dyadic.{inside-stop, is_in-start}
 use Rattle.cm_pool_list.proofs.FreeLists.{covered-among}
 use Rattle.cm_pool_list.proofs.Spaces.{space-without}
 use Rattle.cm_pool_list.proofs.Pools.{none-free, first-start, not-before, held-free, listed-stop}

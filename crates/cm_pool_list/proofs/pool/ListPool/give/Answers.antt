@@ -3,8 +3,9 @@ use Rattle.std.specs.Vec.{vec_capacity}
 use Rattle.std.proofs.lemmas.Bool.{or_cases}
 use Rattle.cm_pool.specs.FreeSpace.{FreeSpace, IsUsedChunk, with_chunk}
 use Rattle.cm_pool.specs.Chunks.{IsBlock}
-use Rattle.cm_pool_list.specs.Blocks.{IsSame, IsFreeList, space_of, is_in}
-use Rattle.cm_pool_list.proofs.Dyadic.{is_in-bounds}
+use Rattle.cm_pool.specs.Blocks.{IsSame, is_in}
+use Rattle.cm_pool_list.specs.Blocks.{IsFreeList, space_of}
+use Rattle.cm_pool.proofs.Dyadic.{is_in-bounds}
 use Rattle.cm_pool_list.proofs.Spaces.{used-uncovered, space-with_chunk}
 use Rattle.cm_pool_list.proofs.Pools.{pool-given, same-stop, room-below, few-roots}
 use Rattle.cm_pool_list.proofs.pool.ListPool.give.Goals as goal

@@ -1,7 +1,7 @@
 use Rattle.std.proofs.Common.{◌-◌, ◌*◌, ◌%◌, ◌^◌, ◌≤◌, List, sym, ap, subst}
 use Rattle.std.specs.Vec.{vec_capacity}
 use Rattle.std.proofs.Math.Nat.{mod-eq_of_lt}
-use Rattle.cm_pool_list.specs.declared.block.Block.{Block}
+use Rattle.cm_pool.specs.declared.block.Block.{Block}
 use Rattle.cm_pool_list.specs.Blocks.{IsPool, space_of}
 use Rattle.cm_pool_list.proofs.Pools.{new-room, new-fits}
 use Rattle.cm_pool_list.proofs.pool.ListPool.new.Goals as goal

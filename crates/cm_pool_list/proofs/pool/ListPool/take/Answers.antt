@@ -2,10 +2,10 @@ use Rattle.std.proofs.Common.{◌<◌, List, length, get_or, refl, sym, ap, ◌�
 use Rattle.std.specs.Vec.{vec_capacity}
 use Rattle.std.specs.List.{AllByRecursion}
 use Rattle.std.proofs.lemmas.Bool.{false≢true}
-use Rattle.cm_pool_list.specs.declared.block.Block.{Block}
+use Rattle.cm_pool.specs.declared.block.Block.{Block}
 use Rattle.cm_pool.specs.FreeSpace.{FreeSpace, IsFreeChunk, without}
 use Rattle.cm_pool.specs.Chunks.{IsBlock}
-use Rattle.cm_pool_list.specs.Blocks.{IsSame, Inside}
+use Rattle.cm_pool.specs.Blocks.{IsSame, Inside}
 use Rattle.cm_pool.proofs.{each-among, among-at}
 use Rattle.cm_pool_list.proofs.Spaces.{space-without}
 use Rattle.cm_pool_list.proofs.Pools.{free-held, held-free, listed-room, pool-taken}

@@ -4,5 +4,5 @@ use Rattle.cm_recover.proofs.new_file.NewFile.new.Goals as goal
 
 pub index_mut-requires : goal.index_mut-requires
 index_mut-requires c =
-    let inside = gate_inside c.args.geometry c.top-lawful.ensures.within in
+    let inside = gate_inside c.args.geometry c.invariant_holds.ensures in
     omega (arith, inside, ap length c.in_ok-bytes.ensures)

@@ -8,7 +8,7 @@ use Rattle.cm_recover.proofs.standing.SecondPass.take_class.Goals as goal
 
 pub class_at-requires-clause-place : goal.class_at-requires-clause-place
 class_at-requires-clause-place g c =
-    place_of c.args.self.now.geometry c.top-lawful.ensures.within c.args.self.now.number
+    place_of c.args.self.now.geometry c.invariant_holds.ensures c.args.self.now.number
     (bare c.args.rows.now.rows) c.args.row c.requires.follows.keeps
 
 pub returns-in_err-class-clause-taken : goal.returns-in_err-class-clause-taken

@@ -28,7 +28,7 @@ returns-clause-machine g c =
     (λ j. IsSession j c.learn-known.new.self n.committer n.queue.items n.sealed n.has_failed))
     (sym number)
     (learns laws.learnt laws.failed k s.front c.learn-known.new.self n.committer n.queue.items
-    n.sealed n.has_failed c.geometry-lawful.ensures.lawful then (s.front.broken || s.has_failed)
+    n.sealed n.has_failed c.invariant_holds.ensures then (s.front.broken || s.has_failed)
     (λ j. i.noticed_is j || (i.failed_is ∙ sym i.failed_told) j)
     (learnt
     ∙ (λ j. with_learnt (ap (λ (z : Session _). z.front) same j) (number j))))

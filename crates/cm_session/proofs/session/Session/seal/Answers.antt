@@ -39,7 +39,7 @@ returns-clause-machine g c =
     λ k i. hands_as c.committed_rows_are_the_machines.ensures.counted
     c.ahead_stays_ahead.ensures.handed k s.front c.seal.new.self s.committer s.queue.items s.sealed
     s.has_failed group c.first-first.ensures.lawful c.in-Some.ensures
-    c.geometry-lawful.ensures.lawful i c.first-first.result
+    c.invariant_holds.ensures i c.first-first.result
     (c.first-first.result + (c.count.result - 1)) c.push_back_reserved.new.self.items
     c.first-first.ensures.value
     (λ j. c.first-first.ensures.value j + (c.count.ensures j - 1))

@@ -5,7 +5,8 @@ use Rattle.cm_pool.specs.FreeSpace.{FreeSpace}
 use Rattle.cm_pool.specs.Held.{AreHeld, NoneIsLost}
 use Rattle.cm_arena.specs.Chains.{Filled, chunks_of}
 use Rattle.cm_arena.specs.Tightening.{IsTight, Tightens}
-use Rattle.cm_space.specs.Space.{SpaceState, Waits, arena_of, with_arena, state_of, waits_in}
+use Rattle.cm_space.specs.Space.{SpaceState, WaitingChunks, arena_of, with_arena, state_of}
+use Rattle.cm_space.specs.Space.{waits_in}
 use Rattle.cm_space.specs.Ownership.{IsSpace}
 use Rattle.cm_space.proofs.Spaces.{tightened}
 use Rattle.cm_space.proofs.Views.{IsLent, is_lent, view-get, is_some-map, lent-before, lent-same}
@@ -86,7 +87,7 @@ returns-in_default-tighten-clause-ok c =
     )
 
 -- the chunk left, with the number that it waits for
-abbrev left : (c : After-wait_behind) → Waits
+abbrev left : (c : After-wait_behind) → WaitingChunks
 left c = record { number = c.args.number; chunks = c.in-Some-tighten.moved.from ∷ [] }
 
 view_then : (c : After-wait_behind)
@@ -98,7 +99,7 @@ view_then : (c : After-wait_behind)
     }
 view_then c =
     let l = lent (goal.at.After-wait_behind c).After-unwrap-chain c.tighten.new.self in
-    let waiting = c.wait_behind.ensures ∙ ap (λ (ws : List Waits). ws ++ left c ∷ [])
+    let waiting = c.wait_behind.ensures ∙ ap (λ (ws : List WaitingChunks). ws ++ left c ∷ [])
     (ap waits_in c.reserve_left.ensures.items ∙ l.waiting) in
     λ i. record { pool = c.tighten.new.pool; arenas = l.arenas i; waiting = waiting i }
 
