@@ -8,10 +8,10 @@ use Rattle.std.specs.Option.{option_map_or}
 use Rattle.cm_class.specs.Names.{names, names_such}
 use Rattle.cm_class.specs.declared.kind.Kind.{Kind}
 use Rattle.cm_class.specs.declared.kind.Kind.TheVariants as kinds
-use Rattle.cm_class.specs.declared.constant.Constant.{Constant}
 use Rattle.cm_class.specs.declared.constant.Constant.TheVariants as constant
 use Rattle.cm_class.specs.declared.class_file.Attribute.{Attribute}
 use Rattle.cm_class.specs.declared.class_file.ClassFile.{ClassFile}
+use Rattle.cm_class.specs.Spelling.{ClassConstant}
 use Rattle.cm_attributes.specs.declared.known.Known.{Known}
 use Rattle.cm_attributes.specs.declared.known.Known.TheVariants as known
 use Rattle.cm_attributes.specs.declared.part.Part.{Part}
@@ -44,7 +44,7 @@ is_whole read = option_map_or (λ rest. length rest == 0) read false
 -- ---- parts
 
 -- what a bootstrap method takes (JVMS 4.7.23)
-abbrev pub is_loadable : Constant → Bool
+abbrev pub is_loadable : ClassConstant → Bool
 is_loadable (constant.String utf8) = true
 is_loadable (constant.Class name) = true
 is_loadable (constant.Integer bits) = true

@@ -6,10 +6,9 @@ use Rattle.std.proofs.Common.{append_assoc, add-one, drop-cons, arith}
 use Rattle.std.proofs.lemmas.List.{append-nil, drop_all}
 use Rattle.cm_class.specs.declared.stop.Stop.{Stop}
 use Rattle.cm_class.specs.declared.stop.Stop.TheVariants.{Short, Bad, NoMemory}
-use Rattle.cm_class.specs.declared.constant.Constant.{Constant}
 use Rattle.cm_class.specs.declared.constant.Slot.{Slot}
 use Rattle.cm_class.specs.declared.constant.Slot.TheVariants.{Usable, Unusable}
-use Rattle.cm_class.specs.Spelling.{is_wide}
+use Rattle.cm_class.specs.Spelling.{ClassConstant, is_wide}
 use Rattle.cm_class.specs.Reading.{◌>>=◌, Fails, many_at, literal_at, expected_at, constant_at}
 use Rattle.cm_class.specs.Reading.{slots_at}
 use Rattle.cm_class.proofs.Readers.{Read}
@@ -130,7 +129,7 @@ slots_second front count i bytes total lt so_far =
     rw k (regroup front Unusable (slots_at false (count - (i + 1)) bytes)) in
     sym one ∙ so_far
 
-pub slots_usable : (front : List Slot) (count i : ℕ) (bytes : List ℕ) (c : Constant)
+pub slots_usable : (front : List Slot) (count i : ℕ) (bytes : List ℕ) (c : ClassConstant)
     (after : List ℕ) (total : Read (List Slot)) → i < count
     → constant_at (count - i) bytes ≡ Ok (c, after)
     → with_front front (slots_at false (count - i) bytes) ≡ total
@@ -151,7 +150,7 @@ pub slots_end : (stop : Stop) (front : List Slot) (count i : ℕ) (bytes : List 
 unfolding slots_at
 slots_end stop front count i bytes total lt h so_far =
     let k : count - i ≡ suc (count - (i + 1)) = omega arith in
-    let then : Constant × List ℕ → Read (List Slot) =
+    let then : ClassConstant × List ℕ → Read (List Slot) =
     λ c. slots_at (is_wide c.0) (count - (i + 1)) c.1 >>= λ others.
     Ok (Usable c.0 ∷ others.0, others.1) in
     let split : slots_at false (count - i) bytes ≡ (constant_at (count - i) bytes >>= then) =

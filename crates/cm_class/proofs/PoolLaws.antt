@@ -17,7 +17,7 @@ use Rattle.cm_class.specs.declared.constant.Slot.{Slot}
 use Rattle.cm_class.specs.declared.constant.Slot.TheVariants.{Usable, Unusable}
 use Rattle.cm_class.specs.Spelling.{u1, u2, u4, u8, IsU1, IsU2, IsU4, IsU8, AreBytes, tag, info}
 use Rattle.cm_class.specs.Spelling.{constant_bytes, slot_bytes, is_wide, ConstantFits, SlotsFit}
-use Rattle.cm_class.specs.Spelling.{heading}
+use Rattle.cm_class.specs.Spelling.{ClassConstant, heading}
 use Rattle.cm_class.specs.Names.{kind_of}
 use Rattle.cm_class.specs.Reading.{◌>>=◌, both_at, made_at, number_at, byte_at, sized_at}
 use Rattle.cm_class.specs.Reading.{expected_at, count_at, tag_of, tag_number, takes_two}
@@ -142,7 +142,7 @@ tag_reads left = record {
 
 -- ---- constants
 
-tag-kind : (c : Constant) → tag c ≡ tag_number (kind_of c)
+tag-kind : {U : Type 0} (c : Constant U) → tag c ≡ tag_number (kind_of c)
 tag-kind (constant.Utf8 v) = refl
 tag-kind (constant.Integer v) = refl
 tag-kind (constant.Float v) = refl
@@ -158,7 +158,7 @@ tag-kind (constant.MethodHandle v w) = refl
 tag-kind (constant.MethodType v) = refl
 tag-kind (constant.InvokeDynamic v w) = refl
 
-is_wide-kind : (c : Constant) → is_wide c ≡ takes_two (kind_of c)
+is_wide-kind : {U : Type 0} (c : Constant U) → is_wide c ≡ takes_two (kind_of c)
 is_wide-kind (constant.Utf8 v) = refl
 is_wide-kind (constant.Integer v) = refl
 is_wide-kind (constant.Float v) = refl
@@ -175,7 +175,7 @@ is_wide-kind (constant.MethodType v) = refl
 is_wide-kind (constant.InvokeDynamic v w) = refl
 
 -- the constants of a kind, from their fields
-abbrev OfKind : Kind → Constant → Type 0
+abbrev OfKind : Kind → ClassConstant → Type 0
 OfKind kinds.Utf8 c = (v : List ℕ) × (c ≡ constant.Utf8 v)
 OfKind kinds.Integer c = (v : ℕ) × (c ≡ constant.Integer v)
 OfKind kinds.Float c = (v : ℕ) × (c ≡ constant.Float v)
@@ -191,7 +191,7 @@ OfKind kinds.MethodHandle c = (v : ℕ) × (w : ℕ) × (c ≡ constant.MethodHa
 OfKind kinds.MethodType c = (v : ℕ) × (c ≡ constant.MethodType v)
 OfKind kinds.InvokeDynamic c = (v : ℕ) × (w : ℕ) × (c ≡ constant.InvokeDynamic v w)
 
-of_kind : (c : Constant) → OfKind (kind_of c) c
+of_kind : (c : ClassConstant) → OfKind (kind_of c) c
 of_kind (constant.Utf8 v) = (v, refl)
 of_kind (constant.Integer v) = (v, refl)
 of_kind (constant.Float v) = (v, refl)
@@ -208,11 +208,11 @@ of_kind (constant.MethodType v) = (v, refl)
 of_kind (constant.InvokeDynamic v w) = (v, w, refl)
 
 -- a constant of this kind that fits
-abbrev FitsAs : Kind → Constant → Type 0
+abbrev FitsAs : Kind → ClassConstant → Type 0
 FitsAs t c = ConstantFits c × (kind_of c ≡ t)
 
 -- the fields of such a constant
-fields_of : (t : Kind) (c : Constant) → kind_of c ≡ t → OfKind t c
+fields_of : (t : Kind) (c : ClassConstant) → kind_of c ≡ t → OfKind t c
 fields_of t c e = subst (λ (u : Kind). OfKind u c) e (of_kind c)
 
 info_reads : (t : Kind) → Reads (info_at t) info (FitsAs t)
@@ -305,7 +305,7 @@ info_reads kinds.InvokeDynamic =
     ((f.0, f.1), subst ConstantFits f.2 fits.0, sym f.2)) (λ v fits. ((fits, refl), refl))
 
 -- there is room for the constant
-abbrev pub HasRoom : ℕ → Constant → Type 0
+abbrev pub HasRoom : ℕ → ClassConstant → Type 0
 HasRoom left c = (is_wide c && nat_lt left 2) ≡ false
 
 pub constant_reads : (left : ℕ)
@@ -340,12 +340,12 @@ no_slots : (slots : List Slot) → SlotsAre false 0 slots → [] ≡ slots
 no_slots slots fits = sym (nil_from_length slots fits.1)
 
 -- a constant and the slots behind it
-abbrev ConstantThen : ℕ → Constant → List Slot → Type 0
+abbrev ConstantThen : ℕ → ClassConstant → List Slot → Type 0
 ConstantThen left c slots =
     (rest : List Slot) × (Usable c ∷ rest ≡ slots) × SlotsAre (is_wide c) left rest
 
 usable_parts : (left : ℕ) (slots : List Slot) → SlotsAre false (suc left) slots
-    → (c : Constant) × (rest : List Slot) × (Usable c ∷ rest ≡ slots) × ConstantFits c
+    → (c : ClassConstant) × (rest : List Slot) × (Usable c ∷ rest ≡ slots) × ConstantFits c
     × SlotsAre (is_wide c) left rest
 usable_parts left [] fits = absurd (omega (arith, fits.1))
 usable_parts left (Unusable ∷ rest) fits = absurd fits.0

@@ -3,10 +3,9 @@
 use Rattle.std.proofs.Common.{◌≡◌, Bool, true, false, ℕ, ◌-◌, ◌+◌, ◌≤◌, ◌<◌, List, [], ◌∷◌, ◌++◌}
 use Rattle.std.proofs.Common.{Ok, Err, sym, ap, ◌∙◌}
 use Rattle.cm_class.specs.declared.stop.Stop.{Stop}
-use Rattle.cm_class.specs.declared.constant.Constant.{Constant}
 use Rattle.cm_class.specs.declared.constant.Slot.{Slot}
 use Rattle.cm_class.specs.declared.constant.Slot.TheVariants.{Usable, Unusable}
-use Rattle.cm_class.specs.Spelling.{is_wide}
+use Rattle.cm_class.specs.Spelling.{ClassConstant, is_wide}
 use Rattle.cm_class.specs.Reading.{◌>>=◌, rest_of, GivesTo, many_at}
 use Rattle.cm_class.specs.Reading.{constant_at, slots_at}
 use Rattle.cm_class.proofs.Readers.{Read}
@@ -72,7 +71,7 @@ module _ (count i : ℕ) (now : List ℕ) {keeps : Bool} {front : List Slot} {al
       walked = λ k. walk_second count i now (rest_of all) lt (so_far.walked k);
     }
 
-    pub usable_fills : (c : Constant) (after : List ℕ) (longer : List Slot) → i < count
+    pub usable_fills : (c : ClassConstant) (after : List ℕ) (longer : List Slot) → i < count
         → IsSplit keeps front (slots_at false (count - i) now) all
         → constant_at (count - i) now ≡ Ok (c, after)
         → (keeps ≡ true → longer ≡ front ++ Usable c ∷ [])
@@ -82,7 +81,7 @@ module _ (count i : ℕ) (now : List ℕ) {keeps : Bool} {front : List Slot} {al
           (slots_usable front count i now c after all lt h (so_far.kept k));
       walked = λ k.
           walk_usable count i now (is_wide c) after (rest_of all) lt
-          (ap (λ (read : Read Constant). read >>= λ x. Ok (is_wide x.0, x.1)) h)
+          (ap (λ (read : Read ClassConstant). read >>= λ x. Ok (is_wide x.0, x.1)) h)
           (so_far.walked k);
     }
 
@@ -95,7 +94,7 @@ module _ (count i : ℕ) (now : List ℕ) {keeps : Bool} {front : List Slot} {al
           (fails_exactly stop (constant_at (count - i) now) h) (so_far.kept k);
       walked = λ k.
           slots_stop stop count i now (rest_of all) lt
-          (ap (λ (read : Read Constant). read >>= λ x. Ok (is_wide x.0, x.1)) h)
+          (ap (λ (read : Read ClassConstant). read >>= λ x. Ok (is_wide x.0, x.1)) h)
           (so_far.walked k);
     }
 

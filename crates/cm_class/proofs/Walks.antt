@@ -3,10 +3,9 @@
 use Rattle.std.proofs.Common.{◌≡◌, Bool, true, false, ℕ, suc, ◌-◌, ◌+◌, ◌≤◌, ◌<◌, List, ◌∷◌, Result}
 use Rattle.std.proofs.Common.{Ok, Err, refl, sym, ◌∙◌, arith}
 use Rattle.cm_class.specs.declared.stop.Stop.{Stop}
-use Rattle.cm_class.specs.declared.constant.Constant.{Constant}
 use Rattle.cm_class.specs.declared.constant.Slot.{Slot}
 use Rattle.cm_class.specs.declared.constant.Slot.TheVariants.{Usable, Unusable}
-use Rattle.cm_class.specs.Spelling.{is_wide}
+use Rattle.cm_class.specs.Spelling.{ClassConstant, is_wide}
 use Rattle.cm_class.specs.Reading.{◌>>=◌, rest_of, made_at, many_at, constant_at, slots_at}
 use Rattle.cm_class.proofs.Readers.{Read}
 
@@ -61,7 +60,7 @@ module _ {A : Type 0} (item : List ℕ → Read A) where
 
 -- ---- slots
 
-abbrev with_wide : Read Constant → Read Bool
+abbrev with_wide : Read ClassConstant → Read Bool
 with_wide read = read >>= λ c. Ok (is_wide c.0, c.1)
 
 pub walk_second : (count i : ℕ) (bytes : List ℕ) (total : Rest) → i < count
@@ -81,7 +80,7 @@ walk_second count i bytes total lt so_far =
     same_rest (Err stop) = refl
 
 -- what a constant and the slots behind it leave
-after_usable : (read : Read Constant) (left : ℕ)
+after_usable : (read : Read ClassConstant) (left : ℕ)
     → rest_of (read >>= λ c. slots_at (is_wide c.0) left c.1 >>= λ x. Ok (Usable c.0 ∷ x.0, x.1))
     ≡ (with_wide read >>= λ x. rest_of (slots_at x.0 left x.1))
 after_usable (Ok c) left = same_rest (slots_at (is_wide c.0) left c.1)

@@ -11,21 +11,22 @@ use Rattle.cm_class.specs.declared.constant.Slot.TheVariants.{Usable, Unusable}
 use Rattle.cm_class.specs.declared.kind.Kind.{Kind}
 use Rattle.cm_class.specs.declared.kind.Kind.TheVariants as kinds
 use Rattle.cm_class.specs.declared.class_file.ClassFile.{ClassFile}
+use Rattle.cm_class.specs.Spelling.{ClassConstant}
 
 -- ---- the constant at an index
 
-abbrev pub constant_in : Slot → Option Constant
+abbrev pub constant_in : Slot → Option ClassConstant
 constant_in (Usable c) = Some c
 constant_in Unusable = None
 
-abbrev pub constant_named : ClassFile → ℕ → Option Constant
+abbrev pub constant_named : ClassFile → ℕ → Option ClassConstant
 constant_named c zero = None
 constant_named c (suc i) = option_and_then constant_in (slice_get c.slots i)
 
 -- ---- kinds
 
 -- a constant's kind, the one with its tag
-abbrev pub kind_of : Constant → Kind
+abbrev pub kind_of : {U : Type 0} → Constant U → Kind
 kind_of (constant.Utf8 bytes) = kinds.Utf8
 kind_of (constant.Integer bits) = kinds.Integer
 kind_of (constant.Float bits) = kinds.Float
@@ -41,7 +42,7 @@ kind_of (constant.MethodHandle kind reference) = kinds.MethodHandle
 kind_of (constant.MethodType descriptor) = kinds.MethodType
 kind_of (constant.InvokeDynamic bootstrap_method name_and_type) = kinds.InvokeDynamic
 
-abbrev pub is_kind : Kind → Constant → Bool
+abbrev pub is_kind : {U : Type 0} → Kind → Constant U → Bool
 is_kind kinds.Utf8 (constant.Utf8 bytes) = true
 is_kind kinds.Integer (constant.Integer bits) = true
 is_kind kinds.Float (constant.Float bits) = true
@@ -59,7 +60,7 @@ is_kind kinds.InvokeDynamic (constant.InvokeDynamic bootstrap_method name_and_ty
 is_kind _ _ = false
 
 -- the index names a constant that passes a test
-abbrev pub names_such : (Constant → Bool) → ClassFile → ℕ → Bool
+abbrev pub names_such : (ClassConstant → Bool) → ClassFile → ℕ → Bool
 names_such test c i = option_map_or test (constant_named c i) false
 
 -- the index names a constant of this kind
@@ -68,7 +69,7 @@ names kind c i = names_such (is_kind kind) c i
 
 -- ---- bytes
 
-abbrev pub utf8_in : Constant → List ℕ
+abbrev pub utf8_in : ClassConstant → List ℕ
 utf8_in (constant.Utf8 bytes) = bytes
 utf8_in _ = []
 
@@ -82,7 +83,7 @@ names_utf8 c i bytes = names kinds.Utf8 c i && bytes_eq (utf8 c i) bytes
 
 -- ---- what constants lead to
 
-abbrev pub class_name_index : Constant → ℕ
+abbrev pub class_name_index : ClassConstant → ℕ
 class_name_index (constant.Class name) = name
 class_name_index _ = 0
 
@@ -98,11 +99,11 @@ class_name_of c = class_name c c.this_class
 abbrev pub super_name_of : ClassFile → Option (List ℕ)
 super_name_of c = if c.super_class == 0 then None else Some (class_name c c.super_class)
 
-abbrev pub name_index : Constant → ℕ
+abbrev pub name_index : ClassConstant → ℕ
 name_index (constant.NameAndType name descriptor) = name
 name_index _ = 0
 
-abbrev pub descriptor_index : Constant → ℕ
+abbrev pub descriptor_index : ClassConstant → ℕ
 descriptor_index (constant.NameAndType name descriptor) = descriptor
 descriptor_index _ = 0
 
@@ -120,7 +121,7 @@ pair_name c i = utf8 c (name_index_at c i)
 abbrev pub pair_descriptor : ClassFile → ℕ → List ℕ
 pair_descriptor c i = utf8 c (descriptor_index_at c i)
 
-abbrev pub pair_index : Constant → ℕ
+abbrev pub pair_index : ClassConstant → ℕ
 pair_index (constant.Fieldref class name_and_type) = name_and_type
 pair_index (constant.Methodref class name_and_type) = name_and_type
 pair_index (constant.InterfaceMethodref class name_and_type) = name_and_type

@@ -11,14 +11,13 @@ use Rattle.cm_class.specs.declared.fault.ShapeFault.{ShapeFault}
 use Rattle.cm_class.specs.declared.fault.ShapeFault.TheVariants as faults
 use Rattle.cm_class.specs.declared.kind.Kind.{Kind}
 use Rattle.cm_class.specs.declared.kind.Kind.TheVariants as kinds
-use Rattle.cm_class.specs.declared.constant.Constant.{Constant}
 use Rattle.cm_class.specs.declared.constant.Constant.TheVariants as constant
 use Rattle.cm_class.specs.declared.constant.Slot.{Slot}
 use Rattle.cm_class.specs.declared.constant.Slot.TheVariants.{Usable, Unusable}
 use Rattle.cm_class.specs.declared.class_file.Attribute.{Attribute}
 use Rattle.cm_class.specs.declared.class_file.Member.{Member}
 use Rattle.cm_class.specs.declared.class_file.ClassFile.{ClassFile}
-use Rattle.cm_class.specs.Spelling.{is_wide, heading}
+use Rattle.cm_class.specs.Spelling.{ClassConstant, is_wide, heading}
 
 infixl 10 ◌>>=◌
 abbrev pub ◌>>=◌ : {A B : Type 0} → Result A Stop → (A → Result B Stop) → Result B Stop
@@ -181,15 +180,15 @@ sized_at n bytes = do
   bytes_at size.0 size.1
 
 -- one number, made into a constant
-unfoldable pub one_at : (ℕ → Constant) → ℕ → List ℕ → Result (Constant × List ℕ) Stop
+unfoldable pub one_at : (ℕ → ClassConstant) → ℕ → List ℕ → Result (ClassConstant × List ℕ) Stop
 one_at make n bytes = made_at make (number_at n) bytes
 
 -- two numbers, the second of two bytes, made into a constant
-unfoldable pub two_at : (ℕ → ℕ → Constant) → (List ℕ → Result (ℕ × List ℕ) Stop) → List ℕ
-    → Result (Constant × List ℕ) Stop
+unfoldable pub two_at : (ℕ → ℕ → ClassConstant) → (List ℕ → Result (ℕ × List ℕ) Stop) → List ℕ
+    → Result (ClassConstant × List ℕ) Stop
 two_at make first bytes = made_at (λ x. make x.0 x.1) (both_at first (number_at 2)) bytes
 
-unfoldable pub utf8_at : List ℕ → Result (Constant × List ℕ) Stop
+unfoldable pub utf8_at : List ℕ → Result (ClassConstant × List ℕ) Stop
 utf8_at bytes = made_at constant.Utf8 (sized_at 2) bytes
 
 -- the kinds that have a number behind their tag
@@ -218,7 +217,7 @@ has_indexes kinds.InvokeDynamic = true
 has_indexes _ = false
 
 -- what stands behind a tag
-abbrev pub info_at : Kind → List ℕ → Result (Constant × List ℕ) Stop
+abbrev pub info_at : Kind → List ℕ → Result (ClassConstant × List ℕ) Stop
 info_at kinds.Utf8 bytes = utf8_at bytes
 info_at kinds.Integer bytes = one_at constant.Integer 4 bytes
 info_at kinds.Float bytes = one_at constant.Float 4 bytes
@@ -234,7 +233,7 @@ info_at kinds.MethodHandle bytes = two_at constant.MethodHandle byte_at bytes
 info_at kinds.MethodType bytes = one_at constant.MethodType 2 bytes
 info_at kinds.InvokeDynamic bytes = two_at constant.InvokeDynamic (number_at 2) bytes
 
-unfoldable pub constant_at : ℕ → List ℕ → Result (Constant × List ℕ) Stop
+unfoldable pub constant_at : ℕ → List ℕ → Result (ClassConstant × List ℕ) Stop
 constant_at left bytes = do
   tag ← tag_at left bytes
   info_at tag.0 tag.1

@@ -23,8 +23,12 @@ u4 n = to_be_bytes w32 n
 abbrev pub u8 : ℕ → List ℕ
 u8 n = to_be_bytes w64 n
 
+-- a constant of a class, whose Utf8 has its bytes
+abbrev pub ClassConstant : Type 0
+ClassConstant = Constant (List ℕ)
+
 -- JVMS 4.4, table 4.4-A
-abbrev pub tag : Constant → ℕ
+abbrev pub tag : {U : Type 0} → Constant U → ℕ
 tag (constant.Utf8 bytes) = 1
 tag (constant.Integer bits) = 3
 tag (constant.Float bits) = 4
@@ -41,7 +45,7 @@ tag (constant.MethodType descriptor) = 16
 tag (constant.InvokeDynamic bootstrap_method name_and_type) = 18
 
 -- what stands behind the tag (JVMS 4.4.1 to 4.4.10)
-abbrev pub info : Constant → List ℕ
+abbrev pub info : ClassConstant → List ℕ
 info (constant.Utf8 bytes) = u2 (length bytes) ++ bytes
 info (constant.Integer bits) = u4 bits
 info (constant.Float bits) = u4 bits
@@ -58,7 +62,7 @@ info (constant.MethodType descriptor) = u2 descriptor
 info (constant.InvokeDynamic bootstrap_method name_and_type) =
     u2 bootstrap_method ++ u2 name_and_type
 
-abbrev pub constant_bytes : Constant → List ℕ
+abbrev pub constant_bytes : ClassConstant → List ℕ
 constant_bytes c = u1 (tag c) ++ info c
 
 -- the second index of a Long or Double has no bytes of its own
@@ -109,13 +113,13 @@ abbrev pub AreBytes : List ℕ → Type 0
 AreBytes bytes = AllByRecursion IsU1 bytes
 
 -- a Long or a Double, which takes two indexes of the pool (JVMS 4.4.5)
-abbrev pub is_wide : Constant → Bool
+abbrev pub is_wide : {U : Type 0} → Constant U → Bool
 is_wide (constant.Long bits) = true
 is_wide (constant.Double bits) = true
 is_wide _ = false
 
 -- each number is within its field
-abbrev pub ConstantFits : Constant → Type 0
+abbrev pub ConstantFits : ClassConstant → Type 0
 ConstantFits (constant.Utf8 bytes) = IsU2 (length bytes) × AreBytes bytes
 ConstantFits (constant.Integer bits) = IsU4 bits
 ConstantFits (constant.Float bits) = IsU4 bits

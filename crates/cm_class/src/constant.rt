@@ -2,11 +2,12 @@ ghost use Rattle.std.specs.Prelude.{◌≡◌};
 
 use crate::bytes::Bytes;
 
-/// A constant of the pool (JVMS 4.4). Each index is one of the pool, from 1 on.
-#[derive(Debug, Drop)]
-pub enum Constant<'a> {
+/// A constant of the pool (JVMS 4.4). Each index is one of the pool, from 1 on. `U` stands for the
+/// bytes of a Utf8: in a class it is the bytes, in a record their place.
+#[derive(Clone, Copy, Debug, PartialEq, Eq, Drop)]
+pub enum Constant<U> {
     /// Tag 1: bytes, whose form rules of their own judge.
-    Utf8(Bytes<'a>),
+    Utf8(U),
     /// Tag 3: the number's bits.
     Integer(u32),
     /// Tag 4: the number's bits.
@@ -59,7 +60,7 @@ pub enum Constant<'a> {
     },
 }
 
-impl<'a> Constant<'a> {
+impl<U> Constant<U> {
     ghost use Rattle.std.specs.Prelude.{◌≡◌};
     ghost use Rattle.cm_class.specs.Spelling.{is_wide};
 
@@ -75,7 +76,7 @@ impl<'a> Constant<'a> {
 #[derive(Debug, Drop)]
 pub enum Slot<'a> {
     /// A constant begins here.
-    Usable(Constant<'a>),
+    Usable(Constant<Bytes<'a>>),
     /// The second index of the Long or Double before it.
     Unusable,
 }

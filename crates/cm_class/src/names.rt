@@ -1,10 +1,11 @@
 //! What an index of a class's constant pool names.
 
+use crate::bytes::Bytes;
 use crate::class::Class;
 use crate::constant::{Constant, Slot};
 use crate::kind::Kind;
 
-impl<'a> Constant<'a> {
+impl<U> Constant<U> {
     ghost use Rattle.std.specs.Prelude.{◌≡◌};
     ghost use Rattle.cm_class.specs.Names.{kind_of, is_kind};
     ghost use Rattle.cm_class.specs.Reading.{tag_number};
@@ -50,7 +51,7 @@ impl<'a> Class<'a> {
 
     /// The constant that an index of the pool names; none at 0, behind a Long or a Double, and past
     /// the pool (JVMS 4.4).
-    pub fn constant(&self, index: u16) -> Option<&Constant<'a>>
+    pub fn constant(&self, index: u16) -> Option<&Constant<Bytes<'a>>>
         ensures { option_copied result ≡ constant_named self.now index }
     {
         if index == 0 {

@@ -40,7 +40,7 @@ fn two(bytes: &[u8]) -> Result<(u16, u16, &[u8]), Stop>
 
 /// A number behind its tag (JVMS 4.4.4, 4.4.5).
 #[tactic(auto, unfolding(crate::specs::Reading::one_at))]
-fn number<'a>(kind: Kind, bytes: &'a [u8]) -> Result<(Constant<'a>, &'a [u8]), Stop>
+fn number<'a>(kind: Kind, bytes: &'a [u8]) -> Result<(Constant<Bytes<'a>>, &'a [u8]), Stop>
     requires { is_number kind ≡ true }
     ensures { GivesExactly (λ x. (x.0, x.1.now)) result (info_at kind bytes.now) }
 {
@@ -67,7 +67,7 @@ fn number<'a>(kind: Kind, bytes: &'a [u8]) -> Result<(Constant<'a>, &'a [u8]), S
 
 /// What names a field, a method or an interface's method, behind its tag (JVMS 4.4.2).
 #[tactic(auto, unfolding(crate::specs::Reading::two_at))]
-fn member<'a>(kind: Kind, bytes: &'a [u8]) -> Result<(Constant<'a>, &'a [u8]), Stop>
+fn member<'a>(kind: Kind, bytes: &'a [u8]) -> Result<(Constant<Bytes<'a>>, &'a [u8]), Stop>
     requires { is_member kind ≡ true }
     ensures { GivesExactly (λ x. (x.0, x.1.now)) result (info_at kind bytes.now) }
 {
@@ -108,7 +108,7 @@ fn member<'a>(kind: Kind, bytes: &'a [u8]) -> Result<(Constant<'a>, &'a [u8]), S
 
 /// The other indexes behind a tag (JVMS 4.4.1, 4.4.3, 4.4.6, 4.4.8 to 4.4.10).
 #[tactic(auto, unfolding(crate::specs::Reading::one_at, crate::specs::Reading::two_at))]
-fn indexes<'a>(kind: Kind, bytes: &'a [u8]) -> Result<(Constant<'a>, &'a [u8]), Stop>
+fn indexes<'a>(kind: Kind, bytes: &'a [u8]) -> Result<(Constant<Bytes<'a>>, &'a [u8]), Stop>
     requires { has_indexes kind ≡ true }
     ensures { GivesExactly (λ x. (x.0, x.1.now)) result (info_at kind bytes.now) }
 {
@@ -150,7 +150,7 @@ fn indexes<'a>(kind: Kind, bytes: &'a [u8]) -> Result<(Constant<'a>, &'a [u8]), 
 
 /// What stands behind a tag.
 #[tactic(auto, unfolding(crate::specs::Reading::utf8_at))]
-fn info<'a>(kind: Kind, bytes: &'a [u8]) -> Result<(Constant<'a>, &'a [u8]), Stop>
+fn info<'a>(kind: Kind, bytes: &'a [u8]) -> Result<(Constant<Bytes<'a>>, &'a [u8]), Stop>
     ensures { GivesExactly (λ x. (x.0, x.1.now)) result (info_at kind bytes.now) }
 {
     match kind {
@@ -165,7 +165,7 @@ fn info<'a>(kind: Kind, bytes: &'a [u8]) -> Result<(Constant<'a>, &'a [u8]), Sto
 }
 
 #[tactic(auto, unfolding(crate::specs::Reading::constant_at))]
-fn constant<'a>(left: u16, bytes: &'a [u8]) -> Result<(Constant<'a>, &'a [u8]), Stop>
+fn constant<'a>(left: u16, bytes: &'a [u8]) -> Result<(Constant<Bytes<'a>>, &'a [u8]), Stop>
     ensures { GivesExactly (λ x. (x.0, x.1.now)) result (constant_at left bytes.now) }
 {
     let (tag, rest) = tag(left, bytes)?;

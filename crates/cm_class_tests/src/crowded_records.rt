@@ -1,7 +1,8 @@
 //! Members and code of records whose indexes cost much to look at, so that they are found by marks.
 use crate::member_samples::{Indexes, class_bytes};
 use crate::record_samples::record_of;
-use cm_record::{Constant, Record};
+use cm_class::Constant;
+use cm_record::Record;
 use std::alloc::{AllocError, Global};
 use std::test::Fail;
 
@@ -134,10 +135,10 @@ fn what_stands_behind_longs_is_found(rt: HostRuntime) -> Result<(), Fail> {
 
 // The directory's word of `Code`.
 fn word_of_code(record: &Record) -> Result<u64, Fail> {
-    let Some(Constant::Utf8 { at, len }) = record.constant(JUNK + 1) else {
+    let Some(Constant::Utf8(place)) = record.constant(JUNK + 1) else {
         return Err(Fail::new("it has the name"));
     };
-    Ok(1 + (u64::from(len) << 16) + (u64::from(at / 8) << 32))
+    Ok(1 + (u64::from(place.len) << 16) + (u64::from(place.at / 8) << 32))
 }
 
 // The second slot of the last Long has the word of `Code`, and is none.

@@ -1,16 +1,17 @@
 //! Constants, fields, methods and code, found in records.
 use crate::record_samples::{ALL_TAGS, record_bytes, record_of};
 use crate::samples::{CLASS_A, join_parts, with_byte};
-use cm_record::{Code, Constant, Member, Record};
+use cm_class::Constant;
+use cm_record::{Code, Member, Record, Utf8Place};
 use std::alloc::Global;
 use std::cmp::Ordering;
 use std::process::Abort;
 use std::test::Fail;
 
 // The constants of the class with all tags, by their indexes; its first run begins at word 39.
-static CONSTANTS: [(u16, Option<Constant>); 18] = [
+static CONSTANTS: [(u16, Option<Constant<Utf8Place>>); 18] = [
     (0, None),
-    (1, Some(Constant::Utf8 { at: 312, len: 9 })),
+    (1, Some(Constant::Utf8(Utf8Place { at: 312, len: 9 }))),
     (2, Some(Constant::Integer(0x0102_0304))),
     (3, Some(Constant::Float(0xfffe_fdfc))),
     (4, Some(Constant::Long(0x0102_0304_0506_0708))),
@@ -65,7 +66,7 @@ static CONSTANTS: [(u16, Option<Constant>); 18] = [
     (17, None),
 ];
 
-fn has_constants(rt: &impl Abort, record: &Record, rows: &[(u16, Option<Constant>)]) {
+fn has_constants(rt: &impl Abort, record: &Record, rows: &[(u16, Option<Constant<Utf8Place>>)]) {
     for (index, constant) in rows {
         assert!(rt; record.constant(*index) == *constant, "at {index}");
     }
@@ -89,7 +90,7 @@ const LONGS: [u8; 32] = [
     5, 0, 0, 0, 0, 0, 0, 0, 5, 5, 0, 0, 0, 0, 0, 0, 0, 6, 5, 0, 0, 0, 0, 0, 0, 0, 7, 3, 0, 0, 0, 9,
 ];
 
-const BEHIND_LONGS: [(u16, Option<Constant>); 8] = [
+const BEHIND_LONGS: [(u16, Option<Constant<Utf8Place>>); 8] = [
     (5, Some(Constant::Long(5))),
     (6, None),
     (7, Some(Constant::Long(6))),

@@ -4,13 +4,13 @@ use Rattle.std.proofs.Common.{◌≡◌, ℕ, zero, suc, ◌-◌, List, [], ◌�
 use Rattle.std.specs.Prelude.{◌&&◌, slice_get, unwrap_or, option_and_then}
 use Rattle.std.specs.List.{list_all}
 use Rattle.std.specs.Option.{option_map_or}
-use Rattle.cm_class.specs.declared.constant.Constant.{Constant}
 use Rattle.cm_class.specs.declared.constant.Constant.TheVariants as constant
 use Rattle.cm_class.specs.declared.constant.Slot.{Slot}
 use Rattle.cm_class.specs.declared.constant.Slot.TheVariants.{Usable, Unusable}
 use Rattle.cm_class.specs.declared.class_file.ClassFile.{ClassFile}
 use Rattle.cm_names.specs.declared.judgement.Judgement.{Judgement}
 use Rattle.cm_class.specs.Names.{constant_in, utf8, utf8_in}
+use Rattle.cm_class.specs.Spelling.{ClassConstant}
 use Rattle.cm_names.specs.Judgement.{judgement}
 use Rattle.cm_names.specs.Forms.{has_utf8_form, has_utf8_form_after}
 use Rattle.cm_constraints.specs.Subject.{judgement_in}
@@ -45,7 +45,7 @@ unfolding judgement has_utf8_form has_utf8_form_after
 utf8_in_slot Unusable = refl
 utf8_in_slot (Usable c) = of c
   where
-    of : (c : Constant) → (judgement_in (Usable c)).utf8 ≡ in_slot utf8_has_form (Usable c)
+    of : (c : ClassConstant) → (judgement_in (Usable c)).utf8 ≡ in_slot utf8_has_form (Usable c)
     of (constant.Utf8 bytes) = refl
     of (constant.Integer n) = refl
     of (constant.Float n) = refl

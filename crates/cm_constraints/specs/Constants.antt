@@ -2,7 +2,6 @@
 -- only where those above it hold.
 use Rattle.std.specs.Prelude.{ℕ, Bool, true, false, ◌&&◌, ◌||◌, not, ◌==◌, if◌then◌else◌}
 use Rattle.std.specs.Prelude.{List, Option, Some, None, bytes_eq, nat_lt}
-use Rattle.cm_class.specs.declared.constant.Constant.{Constant}
 use Rattle.cm_class.specs.declared.constant.Constant.TheVariants as constant
 use Rattle.cm_class.specs.declared.constant.Slot.{Slot}
 use Rattle.cm_class.specs.declared.class_file.ClassFile.{ClassFile}
@@ -17,13 +16,14 @@ use Rattle.cm_constraints.specs.declared.reference_kind.ReferenceKind.TheVariant
 use Rattle.std.specs.Option.{option_map_or}
 use Rattle.cm_class.specs.Names.{constant_in, is_kind, names, names_such, pair_descriptor}
 use Rattle.cm_class.specs.Names.{pair_name, reference_name, utf8}
+use Rattle.cm_class.specs.Spelling.{ClassConstant}
 
 -- a test of what stands in a slot; the second slot of a constant has nothing
-abbrev pub in_slot : (Constant → Bool) → Slot → Bool
+abbrev pub in_slot : (ClassConstant → Bool) → Slot → Bool
 in_slot test slot = option_map_or test (constant_in slot) true
 
 -- a Utf8 has its form (JVMS 4.4.7)
-abbrev pub utf8_has_form : Constant → Bool
+abbrev pub utf8_has_form : ClassConstant → Bool
 utf8_has_form (constant.Utf8 bytes) = has_utf8_form bytes
 utf8_has_form _ = true
 
@@ -33,7 +33,7 @@ names_member c class name_and_type =
     names kinds.Class c class && names kinds.NameAndType c name_and_type
 
 -- each index names a constant of its kind (what method handles name says `handle_has_kind`)
-abbrev pub names_kinds : ClassFile → Constant → Bool
+abbrev pub names_kinds : ClassFile → ClassConstant → Bool
 names_kinds c (constant.Class name) = names kinds.Utf8 c name
 names_kinds c (constant.String utf8) = names kinds.Utf8 c utf8
 names_kinds c (constant.MethodType descriptor) = names kinds.Utf8 c descriptor
@@ -61,7 +61,7 @@ reference_kind n =
     else None
 
 -- what a method handle of each kind names (JVMS 4.4.8)
-abbrev pub handle_names : ReferenceKind → Constant → Bool
+abbrev pub handle_names : ReferenceKind → ClassConstant → Bool
 handle_names handles.GetField target = is_kind kinds.Fieldref target
 handle_names handles.GetStatic target = is_kind kinds.Fieldref target
 handle_names handles.PutField target = is_kind kinds.Fieldref target
@@ -74,17 +74,17 @@ handle_names handles.InvokeSpecial target =
 handle_names handles.NewInvokeSpecial target = is_kind kinds.Methodref target
 handle_names handles.InvokeInterface target = is_kind kinds.InterfaceMethodref target
 
-abbrev pub handle_has_kind : ClassFile → Constant → Bool
+abbrev pub handle_has_kind : ClassFile → ClassConstant → Bool
 handle_has_kind c (constant.MethodHandle kind reference) =
     option_map_or (λ k. names_such (handle_names k) c reference) (reference_kind kind) false
 handle_has_kind c _ = true
 
-abbrev pub class_has_name : ClassFile → Constant → Bool
+abbrev pub class_has_name : ClassFile → ClassConstant → Bool
 class_has_name c (constant.Class name) =
     is_class_name (utf8 c name) || is_array_descriptor (utf8 c name)
 class_has_name c _ = true
 
-abbrev pub field_reference_is_formed : ClassFile → Constant → Bool
+abbrev pub field_reference_is_formed : ClassFile → ClassConstant → Bool
 field_reference_is_formed c (constant.Fieldref class pair) =
     is_unqualified_name (pair_name c pair) && is_field_descriptor (pair_descriptor c pair)
 field_reference_is_formed c _ = true
@@ -99,17 +99,17 @@ is_callable c pair =
     not (begins_with less (pair_name c pair))
     || (bytes_eq (pair_name c pair) init && ends_in_void (pair_descriptor c pair))
 
-abbrev pub method_reference_is_formed : ClassFile → Constant → Bool
+abbrev pub method_reference_is_formed : ClassFile → ClassConstant → Bool
 method_reference_is_formed c (constant.Methodref class pair) =
     names_method c pair && is_callable c pair
 method_reference_is_formed c (constant.InterfaceMethodref class pair) = names_method c pair
 method_reference_is_formed c _ = true
 
-abbrev pub dynamic_call_is_formed : ClassFile → Constant → Bool
+abbrev pub dynamic_call_is_formed : ClassFile → ClassConstant → Bool
 dynamic_call_is_formed c (constant.InvokeDynamic bootstrap_method pair) = names_method c pair
 dynamic_call_is_formed c _ = true
 
-abbrev pub method_type_is_formed : ClassFile → Constant → Bool
+abbrev pub method_type_is_formed : ClassFile → ClassConstant → Bool
 method_type_is_formed c (constant.MethodType descriptor) = is_method_descriptor (utf8 c descriptor)
 method_type_is_formed c _ = true
 
@@ -122,13 +122,13 @@ name_fits (Some handles.PutStatic) name = true
 name_fits (Some handles.NewInvokeSpecial) name = bytes_eq name init
 name_fits _ name = not (bytes_eq name init || bytes_eq name clinit)
 
-abbrev pub handle_has_name : ClassFile → Constant → Bool
+abbrev pub handle_has_name : ClassFile → ClassConstant → Bool
 handle_has_name c (constant.MethodHandle kind reference) =
     name_fits (reference_kind kind) (reference_name c reference)
 handle_has_name c _ = true
 
 -- a dynamic call names one of the bootstrap methods (JVMS 4.4.10, 4.7.23)
-abbrev pub dynamic_call_is_bound : ClassFile → Constant → Bool
+abbrev pub dynamic_call_is_bound : ClassFile → ClassConstant → Bool
 dynamic_call_is_bound c (constant.InvokeDynamic bootstrap_method name_and_type) =
     nat_lt bootstrap_method (bootstrap_count c)
 dynamic_call_is_bound c _ = true

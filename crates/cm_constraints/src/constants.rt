@@ -11,11 +11,11 @@ ghost use Rattle.cm_constraints.specs.Constants.{dynamic_call_is_bound};
 
 use crate::reference_kind::ReferenceKind;
 use crate::subject::Subject;
-use cm_class::{Class, Constant, Kind};
+use cm_class::{Bytes, Class, Constant, Kind};
 use cm_names::{begins_with, ends_in_void, has_utf8_form};
 
 /// Whether a Utf8 has its form (JVMS 4.4.7).
-pub fn utf8_has_form(constant: &Constant) -> bool
+pub fn utf8_has_form(constant: &Constant<Bytes>) -> bool
     ensures { result ≡ utf8_has_form constant.now }
 {
     match constant {
@@ -33,7 +33,7 @@ fn names_member(class: &Class, of: u16, name_and_type: u16) -> bool
 
 /// Whether each index in a constant names one of the kind that it has to name; of what a method
 /// handle names see `handle_has_kind` (JVMS 4.4).
-pub fn names_kinds(class: &Class, constant: &Constant) -> bool
+pub fn names_kinds(class: &Class, constant: &Constant<Bytes>) -> bool
     ensures { result ≡ names_kinds class.now constant.now }
 {
     match constant {
@@ -83,7 +83,7 @@ fn handle_names(class: &Class, kind: ReferenceKind, reference: u16) -> bool
 }
 
 /// Whether a method handle has one of the kinds, and names what that kind has to name (JVMS 4.4.8).
-pub fn handle_has_kind(class: &Class, constant: &Constant) -> bool
+pub fn handle_has_kind(class: &Class, constant: &Constant<Bytes>) -> bool
     ensures { result ≡ handle_has_kind class.now constant.now }
 {
     let Constant::MethodHandle { kind, reference } = constant else {
@@ -96,7 +96,7 @@ pub fn handle_has_kind(class: &Class, constant: &Constant) -> bool
 }
 
 /// Whether a Class has a class name or the descriptor of an array (JVMS 4.4.1).
-pub fn class_has_name(subject: &Subject, constant: &Constant) -> bool
+pub fn class_has_name(subject: &Subject, constant: &Constant<Bytes>) -> bool
     ensures { result ≡ class_has_name subject.now.class.now constant.now }
 {
     let Constant::Class { name } = constant else {
@@ -106,7 +106,7 @@ pub fn class_has_name(subject: &Subject, constant: &Constant) -> bool
 }
 
 /// Whether a Fieldref has a field's name and descriptor (JVMS 4.4.2).
-pub fn field_reference_is_formed(subject: &Subject, constant: &Constant) -> bool
+pub fn field_reference_is_formed(subject: &Subject, constant: &Constant<Bytes>) -> bool
     ensures { result ≡ field_reference_is_formed subject.now.class.now constant.now }
 {
     let Constant::Fieldref { name_and_type, .. } = constant else {
@@ -137,7 +137,7 @@ fn is_callable(class: &Class, name_and_type: u16) -> bool
 
 /// Whether a Methodref or InterfaceMethodref has a method's name and descriptor; of names with `<`
 /// a Methodref has only `<init>`, which returns nothing (JVMS 4.4.2).
-pub fn method_reference_is_formed(subject: &Subject, constant: &Constant) -> bool
+pub fn method_reference_is_formed(subject: &Subject, constant: &Constant<Bytes>) -> bool
     ensures { result ≡ method_reference_is_formed subject.now.class.now constant.now }
 {
     match constant {
@@ -150,7 +150,7 @@ pub fn method_reference_is_formed(subject: &Subject, constant: &Constant) -> boo
 }
 
 /// Whether an InvokeDynamic has a method's name and descriptor (JVMS 4.4.10).
-pub fn dynamic_call_is_formed(subject: &Subject, constant: &Constant) -> bool
+pub fn dynamic_call_is_formed(subject: &Subject, constant: &Constant<Bytes>) -> bool
     ensures { result ≡ dynamic_call_is_formed subject.now.class.now constant.now }
 {
     match constant {
@@ -160,7 +160,7 @@ pub fn dynamic_call_is_formed(subject: &Subject, constant: &Constant) -> bool
 }
 
 /// Whether a MethodType has the descriptor of a method (JVMS 4.4.9).
-pub fn method_type_is_formed(subject: &Subject, constant: &Constant) -> bool
+pub fn method_type_is_formed(subject: &Subject, constant: &Constant<Bytes>) -> bool
     ensures { result ≡ method_type_is_formed subject.now.class.now constant.now }
 {
     match constant {
@@ -171,7 +171,7 @@ pub fn method_type_is_formed(subject: &Subject, constant: &Constant) -> bool
 
 /// Whether a method handle that makes an object names `<init>`, and any other that calls a method
 /// neither that nor `<clinit>` (JVMS 4.4.8).
-pub fn handle_has_name(class: &Class, constant: &Constant) -> bool
+pub fn handle_has_name(class: &Class, constant: &Constant<Bytes>) -> bool
     ensures { result ≡ handle_has_name class.now constant.now }
 {
     let Constant::MethodHandle { kind, reference } = constant else {
@@ -191,7 +191,7 @@ pub fn handle_has_name(class: &Class, constant: &Constant) -> bool
 }
 
 /// Whether an InvokeDynamic names one of the bootstrap methods of the class (JVMS 4.4.10, 4.7.23).
-pub fn dynamic_call_is_bound(subject: &Subject, constant: &Constant) -> bool
+pub fn dynamic_call_is_bound(subject: &Subject, constant: &Constant<Bytes>) -> bool
     ensures { result ≡ dynamic_call_is_bound subject.now.class.now constant.now }
 {
     match constant {

@@ -8,12 +8,11 @@ use Rattle.std.specs.Prelude.{not, ◌&&◌, ◌==◌, if◌then◌else◌, nat_
 use Rattle.std.proofs.lemmas.Bool.{ne_eqb, le-leb, lt-leb}
 use Rattle.std.proofs.lemmas.Bool.Decides.{leb_tells}
 use Rattle.std.proofs.lemmas.Option.{slice_get_past}
-use Rattle.cm_class.specs.declared.constant.Constant.{Constant as Spelled}
 use Rattle.cm_class.specs.declared.constant.Constant.TheVariants as constant
 use Rattle.cm_class.specs.declared.constant.Slot.{Slot}
 use Rattle.cm_class.specs.declared.constant.Slot.TheVariants.{Usable, Unusable}
 use Rattle.cm_class.specs.declared.class_file.ClassFile.{ClassFile}
-use Rattle.cm_class.specs.Spelling.{is_wide, ConstantFits, SlotsFit, HasSpelling}
+use Rattle.cm_class.specs.Spelling.{ClassConstant, is_wide, ConstantFits, SlotsFit, HasSpelling}
 use Rattle.cm_record_layout.specs.Layout.{lay, constant_words, constant_run, slot_run, directory}
 use Rattle.cm_record_layout.specs.Layout.{utf8_runs, members, runs_at, attributes_at, limit}
 use Rattle.cm_record_layout.specs.Layout.{IsRecordOf}
@@ -37,7 +36,7 @@ two_indexes : (tag n k : ℕ) → tag < 2 ^ 16 → n < 2 ^ 16 → k < 2 ^ 16
     × (fourth_of (tag + 2 ^ 32 * n + 2 ^ 48 * k) ≡ k)
 two_indexes tag n k ht hn hk = (omega arith, omega arith, omega arith)
 
-pub kept_of_word : (at : ℕ) (c : Spelled) (rest : List ℕ) → ConstantFits c → at < 2 ^ 29
+pub kept_of_word : (at : ℕ) (c : ClassConstant) (rest : List ℕ) → ConstantFits c → at < 2 ^ 29
     → word_kept (get_or (constant_words at c) 0 0) (get_or (constant_words at c ++ rest) 1 0)
     ≡ Some (kept_constant at c)
 unfolding word_kept
@@ -91,7 +90,7 @@ narrow : (w : ℕ) → (w ≡ 5 → ⊥) → (w ≡ 6 → ⊥) → is_wide_word 
 narrow w five six = let a : (w == 5) ≡ false = ne_eqb w 5 five in let b : (w == 6) ≡ false =
     ne_eqb w 6 six in rw (a, b) refl
 
-pub wide_by_word : (at : ℕ) (c : Spelled)
+pub wide_by_word : (at : ℕ) (c : ClassConstant)
     → is_wide_word (get_or (constant_words at c) 0 0) ≡ is_wide c
 wide_by_word at (constant.Utf8 bytes) = narrow (1 + 2 ^ 16 * length bytes + 2 ^ 32 * at)
     (λ e. omega arith) (λ e. omega arith)
@@ -127,7 +126,7 @@ abbrev behind : Bool → ℕ → List ℕ → List ℕ
 behind true bits words = bits ∷ words
 behind false bits words = words
 
-words_in_front : (at : ℕ) (c : Spelled) (words : List ℕ)
+words_in_front : (at : ℕ) (c : ClassConstant) (words : List ℕ)
     → constant_words at c ++ words
     ≡ get_or (constant_words at c) 0 0
     ∷ behind (is_wide c) (get_or (constant_words at c) 1 0) words
@@ -149,7 +148,7 @@ words_in_front at (constant.InvokeDynamic a b) words = refl
 -- the words of a usable slot begin at its place, and its run begins behind those of the slots
 -- before it
 pub slot_words : (second : Bool) (bits at : ℕ) (slots : List Slot) (tail : List ℕ) (i : ℕ)
-    (c : Spelled) → SlotsFit second slots → slice_get slots i ≡ Some (Usable c)
+    (c : ClassConstant) → SlotsFit second slots → slice_get slots i ≡ Some (Usable c)
     → (rest : List ℕ)
     × (drop i (behind second bits (directory at slots ++ tail))
     ≡ constant_words (at + length (utf8_runs (take i slots))) c ++ rest)
@@ -179,8 +178,8 @@ slot_words false bits at (Usable d ∷ slots) tail (suc i) c fits e =
           ∙ (more.1 ∙ ap (λ n. constant_words n c ++ more.0) place),
     )
 
-pub fits_at : (second : Bool) (slots : List Slot) (i : ℕ) (c : Spelled) → SlotsFit second slots
-    → slice_get slots i ≡ Some (Usable c) → ConstantFits c
+pub fits_at : (second : Bool) (slots : List Slot) (i : ℕ) (c : ClassConstant)
+    → SlotsFit second slots → slice_get slots i ≡ Some (Usable c) → ConstantFits c
 fits_at second [] i c fits e = absurd (cc)
 fits_at true (Unusable ∷ slots) zero c fits e = absurd (cc)
 fits_at true (Unusable ∷ slots) (suc i) c fits e = fits_at false slots i c fits e
@@ -269,7 +268,7 @@ module _ (c : ClassFile) (spelled : HasSpelling c) where
   words_at i = runs_at c + length (utf8_runs (take i c.slots))
 
   -- the words of a usable slot
-  pub slot_there : (i k : ℕ) (d : Spelled) → k ≡ 9 + i → slice_get c.slots i ≡ Some (Usable d)
+  pub slot_there : (i k : ℕ) (d : ClassConstant) → k ≡ 9 + i → slice_get c.slots i ≡ Some (Usable d)
       → (rest : List ℕ) × (drop k (lay c) ≡ constant_words (words_at i) d ++ rest)
   slot_there i k d ek e =
       let tail =
@@ -282,7 +281,7 @@ module _ (c : ClassFile) (spelled : HasSpelling c) where
             ∙ (sym (drop-drop i 9 (lay c)) ∙ (ap (drop i) (main_there c spelled) ∙ found.1)),
       )
 
-  slot_word : (i k : ℕ) (d : Spelled) → k ≡ 9 + i → slice_get c.slots i ≡ Some (Usable d)
+  slot_word : (i k : ℕ) (d : ClassConstant) → k ≡ 9 + i → slice_get c.slots i ≡ Some (Usable d)
       → get_or (lay c) k 0 ≡ get_or (constant_words (words_at i) d) 0 0
   slot_word i k d ek e =
       let found = slot_there i k d ek e in
@@ -323,7 +322,7 @@ module _ (c : ClassFile) (spelled : HasSpelling c) where
     pub word_place_small : (i : ℕ) → words_at i < 2 ^ 29
     word_place_small i = omega (arith, runs_up_to c.slots i, lay_len c spelled, short)
 
-    kept_at : (i k : ℕ) (d : Spelled) → k ≡ 9 + i → slice_get c.slots i ≡ Some (Usable d)
+    kept_at : (i k : ℕ) (d : ClassConstant) → k ≡ 9 + i → slice_get c.slots i ≡ Some (Usable d)
         → word_kept (get_or (lay c) k 0) (get_or (lay c) (k + 1) 0)
         ≡ Some (kept_constant (words_at i) d)
     kept_at i k d ek e =

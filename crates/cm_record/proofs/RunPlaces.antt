@@ -6,12 +6,11 @@ use Rattle.std.proofs.Common.{◌∙◌, ap, subst, arith, length-append, append
 use Rattle.std.specs.Prelude.{option_map, option_and_then, unwrap_or}
 use Rattle.std.specs.Option.{option_map_or}
 use Rattle.std.proofs.lemmas.List.{drop_at, take_at}
-use Rattle.cm_class.specs.declared.constant.Constant.{Constant as Spelled}
 use Rattle.cm_class.specs.declared.constant.Constant.TheVariants as constant
 use Rattle.cm_class.specs.declared.constant.Slot.{Slot}
 use Rattle.cm_class.specs.declared.constant.Slot.TheVariants.{Usable, Unusable}
 use Rattle.cm_class.specs.declared.class_file.ClassFile.{ClassFile}
-use Rattle.cm_class.specs.Spelling.{AreBytes, HasSpelling}
+use Rattle.cm_class.specs.Spelling.{ClassConstant, AreBytes, HasSpelling}
 use Rattle.cm_class.specs.Names.{constant_in, constant_named, utf8, utf8_in, class_name}
 use Rattle.cm_class.specs.Names.{class_name_index, class_name_of}
 use Rattle.cm_record_layout.specs.Packing.{packed, run_words, second_of, third_of}
@@ -40,7 +39,7 @@ run_split (s ∷ slots) (suc i) bytes e =
           ∙ sym (append_assoc (slot_run s) (utf8_runs (take i slots)) (packed bytes ++ more.0)),
     )
 
-named_usable : (o : Option Slot) (d : Spelled) → option_and_then constant_in o ≡ Some d
+named_usable : (o : Option Slot) (d : ClassConstant) → option_and_then constant_in o ≡ Some d
     → o ≡ Some (Usable d)
 named_usable None d e = absurd (cc)
 named_usable (Some Unusable) d e = absurd (cc)
@@ -51,7 +50,7 @@ empty_run : (words : List ℕ) → IsRunOf words no_bytes []
 empty_run words =
     record { fits = tt; count = refl; within = omega arith; rest = words; split = refl }
 
-by_constant : (words : List ℕ) (at : ℕ) (o : Option Spelled) → ((bytes : List ℕ)
+by_constant : (words : List ℕ) (at : ℕ) (o : Option ClassConstant) → ((bytes : List ℕ)
     → o ≡ Some (constant.Utf8 bytes)
     → IsRunOf words (record { at = 8 * at / 8; len = length bytes }) bytes)
     → IsRunOf words (unwrap_or (run_of_utf8 (option_map (kept_constant at) o)) no_bytes)
@@ -72,7 +71,7 @@ by_constant words at (Some (constant.MethodHandle a b)) h = empty_run words
 by_constant words at (Some (constant.MethodType descriptor)) h = empty_run words
 by_constant words at (Some (constant.InvokeDynamic a b)) h = empty_run words
 
-link_of : (at : ℕ) (o : Option Spelled)
+link_of : (at : ℕ) (o : Option ClassConstant)
     → class_link (option_map (kept_constant at) o) ≡ option_map_or class_name_index o 0
 link_of at None = refl
 link_of at (Some (constant.Utf8 bytes)) = refl

@@ -8,11 +8,11 @@ use Rattle.std.specs.Bool.{Decides}
 use Rattle.std.specs.Option.{option_map_or}
 use Rattle.std.proofs.lemmas.List.{take_rest}
 use Rattle.std.proofs.lemmas.Slice.Eq.{bytes_eq-Decides}
-use Rattle.cm_class.specs.declared.constant.Constant.{Constant as Spelled}
 use Rattle.cm_class.specs.declared.constant.Constant.TheVariants as constant
 use Rattle.cm_class.specs.declared.kind.Kind.TheVariants as kinds
 use Rattle.cm_class.specs.declared.class_file.ClassFile.{ClassFile}
 use Rattle.cm_class.specs.Names.{is_kind, names_utf8, utf8, constant_named}
+use Rattle.cm_class.specs.Spelling.{ClassConstant}
 use Rattle.cm_record_layout.specs.Packing.{packed, word_from}
 use Rattle.cm_record_layout.specs.Layout.{IsRecordOf}
 use Rattle.cm_record.specs.declared.run.Run.{Run}
@@ -54,7 +54,7 @@ module _ (words bytes rest left : List ℕ) (onward : words ≡ packed bytes
 
 -- ---- which constants are Utf8
 
-kind_kept : (at : ℕ) (o : Option Spelled)
+kind_kept : (at : ℕ) (o : Option ClassConstant)
     → option_map_or (is_kind kinds.Utf8) o false
     ≡ is_some (run_of_utf8 (option_map (kept_constant at) o))
 kind_kept at None = refl

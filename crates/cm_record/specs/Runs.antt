@@ -1,12 +1,11 @@
 -- Where the bytes of a Utf8 lie among the words of a record.
 use Rattle.std.specs.Prelude.{◌≡◌, ◌≤◌, ℕ, ◌+◌, ◌/◌, List, ◌++◌, length, drop, get_or, Option}
 use Rattle.std.specs.Prelude.{Some, None, unwrap_or}
+use Rattle.cm_class.specs.declared.constant.Constant.TheVariants as constant
 use Rattle.cm_class.specs.Spelling.{AreBytes}
-use Rattle.cm_record.specs.declared.constant.Constant.{Constant}
-use Rattle.cm_record.specs.declared.constant.Constant.TheVariants as kept
 use Rattle.cm_record.specs.declared.run.Run.{Run}
 use Rattle.cm_record_layout.specs.Packing.{packed, upper_of}
-use Rattle.cm_record.specs.Constants.{constant_at_index}
+use Rattle.cm_record.specs.Constants.{RecordConstant, constant_at_index}
 
 -- the words from run.at on begin with the run of these bytes, run.len of them
 pub record IsRunOf (words : List ℕ) (run : Run) (bytes : List ℕ) : Type 0 where
@@ -20,8 +19,8 @@ abbrev pub HasRun : List ℕ → Run → Type 0
 HasRun words run = (bytes : List ℕ) × IsRunOf words run bytes
 
 -- the run of a Utf8; none of anything else
-abbrev pub run_of_utf8 : Option Constant → Option Run
-run_of_utf8 (Some (kept.Utf8 at count)) = Some (record { at = at / 8; len = count })
+abbrev pub run_of_utf8 : Option RecordConstant → Option Run
+run_of_utf8 (Some (constant.Utf8 place)) = Some (record { at = place.at / 8; len = place.len })
 run_of_utf8 _ = None
 
 -- the run of no bytes
@@ -38,8 +37,8 @@ attribute_run_at words at =
     record { at = get_or words (at + 1) 0; len = upper_of (get_or words at 0) }
 
 -- the index that a Class holds
-abbrev pub class_link : Option Constant → ℕ
-class_link (Some (kept.Class name)) = name
+abbrev pub class_link : Option RecordConstant → ℕ
+class_link (Some (constant.Class name)) = name
 class_link _ = 0
 
 -- the run of a class's name

@@ -7,82 +7,29 @@ ghost use Rattle.cm_record.specs.Constants.{kept_of_kind as kept_of_kind_of};
 ghost use Rattle.cm_record.specs.Constants.{word_kept as word_kept_of};
 ghost use Rattle.cm_record.specs.Constants.{constant_at_index as constant_at_index_of};
 
-use cm_class::Kind;
+use cm_class::{Constant, Kind};
 use cm_record_layout::{DIRECTORY_AT, HEAD_COUNTS, THIRD, first, fourth, second, third, upper};
 
-/// A constant of the pool (JVMS 4.4), as a record keeps it. Each index is one of the pool, from 1
-/// on.
+/// Where the bytes of a Utf8 lie in a record.
 #[derive(Clone, Copy, Debug, PartialEq, Eq)]
-pub enum Constant {
-    /// Tag 1: where its bytes begin, counted in bytes from the record's first, and how many there
-    /// are.
-    Utf8 {
-        at: u32,
-        len: u16,
-    },
-    /// Tag 3: the number's bits.
-    Integer(u32),
-    /// Tag 4: the number's bits.
-    Float(u32),
-    /// Tag 5: the number's bits.
-    Long(u64),
-    /// Tag 6: the number's bits.
-    Double(u64),
-    /// Tag 7.
-    Class {
-        name: u16,
-    },
-    /// Tag 8.
-    String {
-        utf8: u16,
-    },
-    /// Tag 9.
-    Fieldref {
-        class: u16,
-        name_and_type: u16,
-    },
-    /// Tag 10.
-    Methodref {
-        class: u16,
-        name_and_type: u16,
-    },
-    /// Tag 11.
-    InterfaceMethodref {
-        class: u16,
-        name_and_type: u16,
-    },
-    /// Tag 12.
-    NameAndType {
-        name: u16,
-        descriptor: u16,
-    },
-    /// Tag 15: the kind says what the reference names.
-    MethodHandle {
-        kind: u8,
-        reference: u16,
-    },
-    /// Tag 16.
-    MethodType {
-        descriptor: u16,
-    },
-    /// Tag 18: the first is an index of the bootstrap methods, from 0 on, and not of the pool.
-    InvokeDynamic {
-        bootstrap_method: u16,
-        name_and_type: u16,
-    },
+pub struct Utf8Place {
+    /// Where they begin, counted in bytes from the record's first.
+    pub at: u32,
+    /// How many there are.
+    pub len: u16,
 }
 
 /// What a directory word of this kind stands for, with the word behind it.
-fn constant_of_kind(kind: Kind, word: u64, next: u64) -> Constant
+fn constant_of_kind(kind: Kind, word: u64, next: u64) -> Constant<Utf8Place>
     ensures { result ≡ kept_of_kind_of kind word next }
 {
     let (one, two) = (third(word), fourth(word));
     match kind {
-        Kind::Utf8 => Constant::Utf8 {
+        Kind::Utf8 => Constant::Utf8(Utf8Place {
             // A record has fewer than 2^29 words.
             at: (u64::from(upper(word)) * 8 % THIRD) as u32,
             len: second(word),
-        },
+        }),
         Kind::Integer => Constant::Integer(upper(word)),
         Kind::Float => Constant::Float(upper(word)),
         Kind::Long => Constant::Long(next),
@@ -119,7 +66,7 @@ fn constant_of_kind(kind: Kind, word: u64, next: u64) -> Constant
 
 /// A constant, by its directory word and the one behind it.
 #[tactic(auto, unfolding(crate::specs::Constants::word_kept))]
-fn word_kept(word: u64, next: u64) -> Option<Constant>
+fn word_kept(word: u64, next: u64) -> Option<Constant<Utf8Place>>
     ensures { result ≡ word_kept_of word next }
 {
     let kind = Kind::from_tag(first(word))?;
@@ -157,7 +104,7 @@ pub(crate) fn is_next_second(word: u64, is_second: bool) -> bool
 
 /// The constant at an index of the pool, where it is known whether its word is the second of a Long
 /// or a Double.
-pub(crate) fn constant_at(words: &[u64], index: u16, is_second: bool) -> Option<Constant>
+pub(crate) fn constant_at(words: &[u64], index: u16, is_second: bool) -> Option<Constant<Utf8Place>>
     requires within { 8 + first_of (get_or words.now 2 0) ≤ length words.now }
     requires second { is_second ≡ is_second_word_of words.now (8 + index) }
     ensures { result ≡ constant_at_index_of words.now index }
@@ -175,7 +122,7 @@ pub(crate) fn constant_at(words: &[u64], index: u16, is_second: bool) -> Option<
 }
 
 /// The constant at an index of the pool.
-pub(crate) fn constant_at_index(words: &[u64], index: u16) -> Option<Constant>
+pub(crate) fn constant_at_index(words: &[u64], index: u16) -> Option<Constant<Utf8Place>>
     requires { 8 + first_of (get_or words.now 2 0) ≤ length words.now }
     ensures { result ≡ constant_at_index_of words.now index }
 {

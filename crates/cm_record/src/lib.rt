@@ -16,7 +16,7 @@ mod utf8;
 pub use cm_record_reading::{RecordFault, layout_determines_class};
 pub use cm_record_writing::RecordRefusal;
 pub use code::Code;
-pub use constant::Constant;
+pub use constant::Utf8Place;
 pub use fingerprints::fingerprint;
 pub use laws::words_tell_name;
 pub use member::Member;

@@ -4,17 +4,18 @@ ghost use Rattle.cm_record_layout.specs.Packing.{first_of};
 ghost use Rattle.cm_record.specs.Runs.{run_of_utf8, utf8_run as utf8_run_of};
 ghost use Rattle.cm_record.specs.Runs.{name_run as name_run_of};
 
-use crate::constant::{Constant, constant_at_index};
+use crate::constant::{Utf8Place, constant_at_index};
 use crate::run::Run;
+use cm_class::Constant;
 
 /// The run of a Utf8; none of anything else.
-pub(crate) fn run_of_utf8(constant: Option<Constant>) -> Option<Run>
+pub(crate) fn run_of_utf8(constant: Option<Constant<Utf8Place>>) -> Option<Run>
     ensures { result ≡ run_of_utf8 constant }
 {
     match constant {
-        Some(Constant::Utf8 { at, len }) => Some(Run {
-            at: at as usize / 8,
-            len: len as usize,
+        Some(Constant::Utf8(place)) => Some(Run {
+            at: place.at as usize / 8,
+            len: place.len as usize,
         }),
         _ => None,
     }

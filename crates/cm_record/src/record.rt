@@ -18,13 +18,13 @@ ghost use Rattle.cm_class.specs.declared.class_file.Member.{Member as ClassMembe
 ghost use Rattle.cm_class.specs.declared.class_file.Attribute.{Attribute};
 
 use crate::code::{Attributes, Code, attribute_run, code_in_run, find_code, method_attributes};
-use crate::constant::{Constant, constant_at_index};
+use crate::constant::{Utf8Place, constant_at_index};
 use crate::fingerprints::run_fingerprint;
 use crate::member::{Member, find_member};
 use crate::names::name_run;
 use crate::order::{cmp_run_to, cmp_runs};
 use crate::run::{Run, is_same_run, run_bytes};
-use cm_class::{Class, class_of_spelling};
+use cm_class::{Class, Constant, class_of_spelling};
 use cm_record_layout::{
     HEAD_CLASS, HEAD_COUNTS, HEAD_MEMBERS_AT, bytes_tell_words, first, fourth, second, third,
 };
@@ -175,7 +175,7 @@ impl Record {
 
     /// The constant at an index of the pool, which counts from 1; none at 0, at the second index of
     /// a Long or a Double, and behind the pool.
-    pub fn constant(&self, index: u16) -> Option<Constant>
+    pub fn constant(&self, index: u16) -> Option<Constant<Utf8Place>>
         ensures { (c : ClassFile) → IsRecordOf c self.now → result ≡ constant_kept c index }
     {
         constant_at_index(self.as_slice(), index)

@@ -8,10 +8,10 @@ ghost use Rattle.cm_record_layout.specs.Layout.{IsRecord, IsRecordOf};
 ghost use Rattle.cm_record.specs.Constants.{constant_at_index as constant_at_index_of};
 ghost use Rattle.cm_record.specs.Runs.{IsRunOf, HasRun};
 
-use crate::constant::{Constant, constant_at, wide_words_before};
+use crate::constant::{Utf8Place, constant_at, wide_words_before};
 use crate::names::run_of_utf8;
 use crate::run::{Run, run_slice};
-use cm_class::Kind;
+use cm_class::{Constant, Kind};
 use cm_record_layout::{DIRECTORY_AT, HEAD_COUNTS, first, second, word_of};
 
 /// The bytes behind the first eight.
@@ -49,7 +49,7 @@ fn is_run_of(words: &[u64], run: Run, bytes: &[u8]) -> bool
 }
 
 /// Whether the constant at an index of the pool is a Utf8 of these bytes.
-pub(crate) fn is_utf8(words: &[u64], constant: Option<Constant>, bytes: &[u8]) -> bool
+pub(crate) fn is_utf8(words: &[u64], constant: Option<Constant<Utf8Place>>, bytes: &[u8]) -> bool
     requires record { IsRecord words.now }
     requires index { (index : ℕ) × (constant ≡ constant_at_index_of words.now index) }
     ensures { (c : ClassFile) (index : ℕ) → IsRecordOf c words.now

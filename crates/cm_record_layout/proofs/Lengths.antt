@@ -3,11 +3,10 @@
 use Rattle.std.proofs.Common.{◌≡◌, ◌+◌, ◌*◌, ◌^◌, ℕ, suc, List, [], ◌∷◌, ◌++◌, length, refl, sym}
 use Rattle.std.proofs.Common.{◌∙◌, ap, arith, length-append, append_assoc}
 use Rattle.std.proofs.Common.{Bool, true, false, cond}
-use Rattle.cm_class.specs.declared.constant.Constant.{Constant}
 use Rattle.cm_class.specs.declared.constant.Constant.TheVariants as constant
 use Rattle.cm_class.specs.declared.constant.Slot.{Slot}
 use Rattle.cm_class.specs.declared.constant.Slot.TheVariants.{Usable, Unusable}
-use Rattle.cm_class.specs.Spelling.{is_wide, SlotsFit, HasSpelling}
+use Rattle.cm_class.specs.Spelling.{ClassConstant, is_wide, SlotsFit, HasSpelling}
 use Rattle.cm_class.specs.declared.class_file.Attribute.{Attribute}
 use Rattle.cm_class.specs.declared.class_file.Member.{Member}
 use Rattle.cm_class.specs.declared.class_file.ClassFile.{ClassFile}
@@ -89,7 +88,8 @@ slot_more : (wide : Bool) (n words rest all : ℕ) → words ≡ cond wide 2 1
 slot_more true n words rest all ew er ea = omega arith
 slot_more false n words rest all ew er ea = omega arith
 
-constant_words_len : (at : ℕ) (c : Constant) → length (constant_words at c) ≡ cond (is_wide c) 2 1
+constant_words_len : (at : ℕ) (c : ClassConstant)
+    → length (constant_words at c) ≡ cond (is_wide c) 2 1
 constant_words_len at (constant.Utf8 bytes) = refl
 constant_words_len at (constant.Integer bits) = refl
 constant_words_len at (constant.Float bits) = refl

@@ -2,26 +2,25 @@
 -- first word. Source: this project's own layout, docs/RECORD.md.
 use Rattle.std.specs.Prelude.{◌≡◌, ◌≤◌, ℕ, ◌+◌, ◌*◌, ◌^◌, List, [], ◌∷◌, ◌++◌, length, get_or}
 use Rattle.std.specs.List.{flat_map}
-use Rattle.cm_class.specs.declared.constant.Constant.{Constant}
 use Rattle.cm_class.specs.declared.constant.Constant.TheVariants as constant
 use Rattle.cm_class.specs.declared.constant.Slot.{Slot}
 use Rattle.cm_class.specs.declared.constant.Slot.TheVariants.{Usable, Unusable}
 use Rattle.cm_class.specs.declared.class_file.Attribute.{Attribute}
 use Rattle.cm_class.specs.declared.class_file.Member.{Member}
 use Rattle.cm_class.specs.declared.class_file.ClassFile.{ClassFile}
-use Rattle.cm_class.specs.Spelling.{HasSpelling}
+use Rattle.cm_class.specs.Spelling.{ClassConstant, HasSpelling}
 use Rattle.cm_record_layout.specs.Packing.{packed, four_numbers}
 
 -- ---- the constant pool
 
 -- a constant's run: the bytes of a Utf8
-abbrev pub constant_run : Constant → List ℕ
+abbrev pub constant_run : ClassConstant → List ℕ
 constant_run (constant.Utf8 bytes) = packed bytes
 constant_run _ = []
 
 -- A constant's words in the directory, where its run begins at `at`. A Long or a Double takes the
 -- word of its second slot too.
-abbrev pub constant_words : ℕ → Constant → List ℕ
+abbrev pub constant_words : ℕ → ClassConstant → List ℕ
 constant_words at (constant.Utf8 bytes) = (1 + 2 ^ 16 * length bytes + 2 ^ 32 * at) ∷ []
 constant_words at (constant.Integer bits) = (3 + 2 ^ 32 * bits) ∷ []
 constant_words at (constant.Float bits) = (4 + 2 ^ 32 * bits) ∷ []
@@ -44,7 +43,7 @@ constant_words at (constant.InvokeDynamic bootstrap_method name_and_type) =
     (18 + 2 ^ 32 * bootstrap_method + 2 ^ 48 * name_and_type) ∷ []
 
 -- the directory word of a constant whose words don't speak of a run
-abbrev pub whole_word : Constant → ℕ
+abbrev pub whole_word : ClassConstant → ℕ
 whole_word (constant.Utf8 bytes) = 0
 whole_word c = get_or (constant_words 0 c) 0 0
 

@@ -4,7 +4,7 @@ ghost use Rattle.cm_class.specs.Reading.{tag_number};
 ghost use Rattle.cm_record_layout.specs.Layout.{whole_word as whole_word_of};
 
 use crate::packing::{FOURTH, THIRD};
-use cm_class::{Constant, Kind};
+use cm_class::{Bytes, Constant, Kind};
 
 /// A word with a kind's tag and one number.
 fn one(kind: Kind, number: u32) -> u64
@@ -21,7 +21,7 @@ fn two(kind: Kind, first: u16, second: u16) -> u64
 }
 
 /// The word of a constant that doesn't depend on a run; 0 for a Utf8.
-pub fn whole_word(constant: &Constant) -> u64
+pub fn whole_word(constant: &Constant<Bytes>) -> u64
     ensures { result ≡ whole_word_of constant.now }
 {
     match constant {

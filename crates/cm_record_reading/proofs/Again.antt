@@ -5,14 +5,13 @@ use Rattle.std.proofs.Common.{length, Some, refl, ◌∙◌, ap, arith, append_a
 use Rattle.std.specs.Prelude.{◌==◌, nat_lt}
 use Rattle.std.specs.List.{AllByRecursion}
 use Rattle.std.proofs.lemmas.Bool.{eq-eqb, lt-ltb}
-use Rattle.cm_class.specs.declared.constant.Constant.{Constant}
 use Rattle.cm_class.specs.declared.constant.Constant.TheVariants as constant
 use Rattle.cm_class.specs.declared.constant.Slot.{Slot}
 use Rattle.cm_class.specs.declared.constant.Slot.TheVariants.{Usable, Unusable}
 use Rattle.cm_class.specs.declared.class_file.Attribute.{Attribute}
 use Rattle.cm_class.specs.declared.class_file.Member.{Member}
 use Rattle.cm_class.specs.Spelling.{is_wide, IsU2, ConstantFits, SlotsFit, AttributeFits}
-use Rattle.cm_class.specs.Spelling.{MemberFits}
+use Rattle.cm_class.specs.Spelling.{ClassConstant, MemberFits}
 use Rattle.cm_record_reading.specs.declared.entry.DirectoryEntry.{DirectoryEntry}
 use Rattle.cm_record_reading.specs.declared.entry.DirectoryEntry.TheVariants as entry
 use Rattle.cm_record_layout.specs.Packing.{four_numbers, first_of, second_of, third_of, fourth_of}
@@ -44,14 +43,14 @@ entry_found at word e found same = let test : (entry_word at e == word) ≡ true
     eq-eqb (entry_word at e) word same in rw (found, test) refl
 
 -- a constant of a word of its own
-whole_again : (total word : ℕ) (c : Constant) (main runs : List ℕ)
+whole_again : (total word : ℕ) (c : ClassConstant) (main runs : List ℕ)
     → candidate word ≡ Some (entry.Whole c) → whole_word c ≡ word
     → constant_at total (word ∷ main) runs ≡ Some (c, main, runs)
 unfolding constant_at
 whole_again total word c main runs found same =
     rw (entry_found (total - length runs) word (entry.Whole c) found same) refl
 
-pub constant_again : (total at : ℕ) (c : Constant) (main runs : List ℕ) → ConstantFits c
+pub constant_again : (total at : ℕ) (c : ClassConstant) (main runs : List ℕ) → ConstantFits c
     → at ≡ total - length (constant_run c ++ runs)
     → constant_at total (constant_words at c ++ main) (constant_run c ++ runs)
     ≡ Some (c, main, runs)

@@ -6,11 +6,10 @@ use Rattle.std.proofs.Common.{sym, ◌∙◌, ap, arith}
 use Rattle.std.specs.Prelude.{nat_lt}
 use Rattle.std.proofs.lemmas.List.{take_all}
 use Rattle.std.proofs.lemmas.Bool.{lt-ltb, le-ltb}
-use Rattle.cm_class.specs.declared.constant.Constant.{Constant}
 use Rattle.cm_class.specs.declared.constant.Slot.TheVariants.{Usable, Unusable}
 use Rattle.cm_class.specs.declared.class_file.Attribute.{Attribute}
 use Rattle.cm_class.specs.declared.class_file.Member.{Member}
-use Rattle.cm_class.specs.Spelling.{is_wide}
+use Rattle.cm_class.specs.Spelling.{ClassConstant, is_wide}
 use Rattle.cm_record_layout.specs.Packing.{word_bytes}
 use Rattle.cm_record_reading.specs.Reading.{◌>>=◌, run_at, interfaces_from, constant_at}
 use Rattle.cm_record_reading.specs.Reading.{slots_at, attribute_at, attributes_from, member_at}
@@ -66,13 +65,15 @@ left3_none : {A B C D : Type 0} (read : Option (A × B × C × D)) → left3 rea
 left3_none None e = refl
 left3_none (Some read) e = absurd (cc)
 
-width_found : (read : Option (Constant × List ℕ × List ℕ)) (x : Bool × List ℕ × List ℕ)
-    → width_left read ≡ Some x → (c : Constant) × (is_wide c ≡ x.0) × (read ≡ Some (c, x.1, x.2))
+width_found : (read : Option (ClassConstant × List ℕ × List ℕ)) (x : Bool × List ℕ × List ℕ)
+    → width_left read ≡ Some x → (c : ClassConstant) × (is_wide c ≡ x.0)
+    × (read ≡ Some (c, x.1, x.2))
 width_found None x e = absurd (cc)
 width_found (Some read) x e = let same : (is_wide read.0, read.1, read.2) ≡ x =
     cc in (read.0, ap (λ p. p.0) same, ap (λ p. Some (read.0, p.1, p.2)) same)
 
-width_none : (read : Option (Constant × List ℕ × List ℕ)) → width_left read ≡ None → read ≡ None
+width_none : (read : Option (ClassConstant × List ℕ × List ℕ))
+    → width_left read ≡ None → read ≡ None
 width_none None e = refl
 width_none (Some read) e = absurd (cc)
 
@@ -144,7 +145,7 @@ module _ (total : ℕ) (all : Option (List ℕ × List ℕ)) (main runs : List �
   slots_next main' runs' wide (suc n) m kept es en found =
       let same : m ≡ n = omega arith in
       let read = width_found (constant_at total main runs) (wide, main', runs') found in
-      let c : Constant = read.0 in
+      let c : ClassConstant = read.0 in
       rw (same, ← read.1) (sym (left2-more
       (λ these. Usable c ∷ these) (slots_at total (is_wide c) n main' runs'))
       ∙ rw (es, read.2) at kept)

@@ -8,7 +8,6 @@ use Rattle.std.specs.Prelude.{◌==◌, nat_lt}
 use Rattle.std.specs.List.{AllByRecursion}
 use Rattle.std.proofs.lemmas.List.{length-take, get_or_append_left, get_or_past, drop_at}
 use Rattle.std.proofs.lemmas.Bool.{eqb-true, ltb-true, cases_lt}
-use Rattle.cm_class.specs.declared.constant.Constant.{Constant}
 use Rattle.cm_class.specs.declared.constant.Constant.TheVariants as constant
 use Rattle.cm_class.specs.declared.constant.Slot.{Slot}
 use Rattle.cm_class.specs.declared.constant.Slot.TheVariants.{Usable, Unusable}
@@ -19,7 +18,7 @@ use Rattle.cm_class.specs.declared.kind.Kind.TheVariants as kinds
 use Rattle.cm_class.specs.Names.{is_kind}
 use Rattle.cm_class.specs.Reading.{tag_of}
 use Rattle.cm_class.specs.Spelling.{is_wide, IsU2, AreBytes, ConstantFits, SlotsFit, AttributeFits}
-use Rattle.cm_class.specs.Spelling.{MemberFits}
+use Rattle.cm_class.specs.Spelling.{ClassConstant, MemberFits}
 use Rattle.cm_record_reading.specs.declared.entry.DirectoryEntry.{DirectoryEntry}
 use Rattle.cm_record_reading.specs.declared.entry.DirectoryEntry.TheVariants as entry
 use Rattle.cm_record_layout.specs.Packing.{word_from, bytes_of, packed, run_words, four_numbers}
@@ -146,7 +145,7 @@ run_taken count words x e = run_from_taken (run_words count) count words x refl 
 -- ---- the constant pool
 
 -- a constant of one word, which has no run
-pub record IsPlain (c : Constant) : Type 0 where
+pub record IsPlain (c : ClassConstant) : Type 0 where
   pub narrow : is_wide c ≡ false
   pub other : is_kind kinds.Utf8 c ≡ false
   pub no_run : constant_run c ≡ []
@@ -250,12 +249,12 @@ entry_taken at word e read =
 
 -- a constant was laid out from here on, and this is left
 pub record ConstantTaken (at : ℕ) (main runs : List ℕ)
-    (x : Constant × List ℕ × List ℕ) : Type 0 where
+    (x : ClassConstant × List ℕ × List ℕ) : Type 0 where
   pub fits : ConstantFits x.0
   pub main_split : main ≡ constant_words at x.0 ++ x.1
   pub run_split : runs ≡ constant_run x.0 ++ x.2
 
-wide_taken : (make : ℕ → Constant) (main runs : List ℕ) (x : Constant × List ℕ × List ℕ)
+wide_taken : (make : ℕ → ClassConstant) (main runs : List ℕ) (x : ClassConstant × List ℕ × List ℕ)
     → wide_from make main runs ≡ Some x
     → (bits : ℕ) × (rest : List ℕ) × (main ≡ bits ∷ rest) × (bits < 2 ^ 64)
     × ((make bits, rest, runs) ≡ x)
@@ -270,7 +269,7 @@ wide_taken make (bits ∷ main) runs x e =
     )
 
 from_entry : (at word : ℕ) (e : DirectoryEntry) (main runs : List ℕ)
-    (x : Constant × List ℕ × List ℕ)
+    (x : ClassConstant × List ℕ × List ℕ)
     → EntryTaken at word e → constant_from e main runs ≡ Some x
     → ConstantTaken at (word ∷ main) runs x
 from_entry at word (entry.Utf8 count) main runs x taken read =
@@ -305,7 +304,7 @@ from_entry at word (entry.Whole c) main runs x taken read =
       run_split = rw plain.no_run refl;
     })
 
-pub constant_taken : (total : ℕ) (main runs : List ℕ) (x : Constant × List ℕ × List ℕ)
+pub constant_taken : (total : ℕ) (main runs : List ℕ) (x : ClassConstant × List ℕ × List ℕ)
     → constant_at total main runs ≡ Some x → ConstantTaken (total - length runs) main runs x
 unfolding constant_at
 constant_taken total [] runs x e = absurd (cc)

@@ -8,12 +8,11 @@ use Rattle.std.specs.Prelude.{nat_lt}
 use Rattle.std.specs.List.{flat_map}
 use Rattle.std.proofs.lemmas.List.{take_all, append-nil}
 use Rattle.std.proofs.lemmas.Bool.{lt-ltb, le-ltb}
-use Rattle.cm_class.specs.declared.constant.Constant.{Constant}
 use Rattle.cm_class.specs.declared.constant.Slot.TheVariants.{Usable, Unusable}
 use Rattle.cm_class.specs.declared.class_file.Attribute.{Attribute}
 use Rattle.cm_class.specs.declared.class_file.Member.{Member}
 use Rattle.cm_class.specs.Spelling.{is_wide, u2, slot_bytes, constant_bytes, attribute_bytes}
-use Rattle.cm_class.specs.Spelling.{member_bytes, counted}
+use Rattle.cm_class.specs.Spelling.{ClassConstant, member_bytes, counted}
 use Rattle.cm_record_reading.specs.declared.fault.RecordFault.{RecordFault}
 use Rattle.cm_record_reading.specs.declared.fault.RecordFault.TheVariants.{NotARecord, NoMemory}
 use Rattle.cm_record_reading.specs.Reading.{Fails, ◌>>=◌, interfaces_from, constant_at, slots_at}
@@ -172,9 +171,9 @@ interfaces_done out rest all (suc n) kept e = absurd (omega arith)
 
 -- what was read, where this was put behind
 constant_found : (out out' : List ℕ) (wide : Bool) (main' runs' : List ℕ)
-    (read : Option (Constant × List ℕ × List ℕ))
+    (read : Option (ClassConstant × List ℕ × List ℕ))
     → constant_behind out read ≡ Some (out', wide, main', runs')
-    → (c : Constant) × (read ≡ Some (c, main', runs')) × (out' ≡ out ++ constant_bytes c)
+    → (c : ClassConstant) × (read ≡ Some (c, main', runs')) × (out' ≡ out ++ constant_bytes c)
     × (is_wide c ≡ wide)
 constant_found out out' wide main' runs' None e = absurd (cc)
 constant_found out out' wide main' runs' (Some read) e =
@@ -188,7 +187,7 @@ constant_found out out' wide main' runs' (Some read) e =
       ap (λ p. p.1) same,
     )
 
-constant_none : (out : List ℕ) (read : Option (Constant × List ℕ × List ℕ))
+constant_none : (out : List ℕ) (read : Option (ClassConstant × List ℕ × List ℕ))
     → constant_behind out read ≡ None → read ≡ None
 constant_none out None e = refl
 constant_none out (Some read) e = absurd (cc)
@@ -216,7 +215,7 @@ module _ (total : ℕ) (out : List ℕ) (all : Option (List ℕ × List ℕ
   slots_next out' main' runs' wide (suc n) m kept es en found =
       let same : m ≡ n = omega arith in
       let read = constant_found out out' wide main' runs' (constant_at total main runs) found in
-      let c : Constant = read.0 in
+      let c : ClassConstant = read.0 in
       let again = subst (λ (o : List ℕ). behind3 o (flat_map slot_bytes)
       (slots_at total (is_wide c) n main' runs') ≡ all) (sym read.2)
       (behind3-cons slot_bytes out (Usable c) (slots_at total (is_wide c) n main' runs')

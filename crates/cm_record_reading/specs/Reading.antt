@@ -5,7 +5,6 @@ use Rattle.std.specs.Prelude.{◌≡◌, ℕ, zero, suc, ◌+◌, ◌-◌, ◌*�
 use Rattle.std.specs.Prelude.{List, [], ◌∷◌, ◌++◌, length, take, drop, get_or, Option, Some, None}
 use Rattle.std.specs.Prelude.{Result, Ok, Err, nat_lt, nat_le, ◌==◌, ◌&&◌}
 use Rattle.std.specs.List.{flat_map}
-use Rattle.cm_class.specs.declared.constant.Constant.{Constant}
 use Rattle.cm_class.specs.declared.constant.Constant.TheVariants as constant
 use Rattle.cm_class.specs.declared.constant.Slot.{Slot}
 use Rattle.cm_class.specs.declared.constant.Slot.TheVariants.{Usable, Unusable}
@@ -15,7 +14,7 @@ use Rattle.cm_class.specs.declared.class_file.ClassFile.{ClassFile}
 use Rattle.cm_class.specs.declared.kind.Kind.{Kind}
 use Rattle.cm_class.specs.declared.kind.Kind.TheVariants as kinds
 use Rattle.cm_class.specs.Spelling.{is_wide, heading, u2, slot_bytes, constant_bytes}
-use Rattle.cm_class.specs.Spelling.{attribute_bytes, member_bytes, counted, spell}
+use Rattle.cm_class.specs.Spelling.{ClassConstant, attribute_bytes, member_bytes, counted, spell}
 use Rattle.cm_class.specs.Reading.{tag_of}
 use Rattle.cm_record_reading.specs.declared.entry.DirectoryEntry.{DirectoryEntry}
 use Rattle.cm_record_reading.specs.declared.entry.DirectoryEntry.TheVariants as entry
@@ -110,11 +109,13 @@ entry_of at word = do
   only_if (entry_word at e == word) (Some e)
 
 -- a Long or a Double, which has a word of its own
-abbrev pub wide_from : (ℕ → Constant) → List ℕ → List ℕ → Option (Constant × List ℕ × List ℕ)
+abbrev pub wide_from : (ℕ → ClassConstant) → List ℕ → List ℕ
+    → Option (ClassConstant × List ℕ × List ℕ)
 wide_from make [] runs = None
 wide_from make (bits ∷ main) runs = only_if (nat_lt bits (2 ^ 64)) (Some (make bits, main, runs))
 
-abbrev pub constant_from : DirectoryEntry → List ℕ → List ℕ → Option (Constant × List ℕ × List ℕ)
+abbrev pub constant_from : DirectoryEntry → List ℕ → List ℕ
+    → Option (ClassConstant × List ℕ × List ℕ)
 constant_from (entry.Utf8 count) main runs = do
   text ← run_at count runs
   Some (constant.Utf8 text.0, main, text.1)
@@ -124,7 +125,7 @@ constant_from (entry.Whole c) main runs = Some (c, main, runs)
 
 -- A constant, from the directory and the runs: what is left of each says where in the record, which
 -- has `total` words, it begins.
-unfoldable pub constant_at : ℕ → List ℕ → List ℕ → Option (Constant × List ℕ × List ℕ)
+unfoldable pub constant_at : ℕ → List ℕ → List ℕ → Option (ClassConstant × List ℕ × List ℕ)
 constant_at total [] runs = None
 constant_at total (word ∷ main) runs = do
   e ← entry_of (total - length runs) word
@@ -314,8 +315,8 @@ abbrev pub utf8_bytes : List ℕ → List ℕ
 utf8_bytes bytes = constant_bytes (constant.Utf8 bytes)
 
 -- of a constant, and whether it is wide
-abbrev pub constant_behind : List ℕ → Option (Constant × List ℕ × List ℕ) → Option (List ℕ × Bool
-    × List ℕ × List ℕ)
+abbrev pub constant_behind : List ℕ → Option (ClassConstant × List ℕ × List ℕ)
+    → Option (List ℕ × Bool × List ℕ × List ℕ)
 constant_behind front None = None
 constant_behind front (Some read) =
     Some (front ++ constant_bytes read.0, is_wide read.0, read.1, read.2)
@@ -378,7 +379,7 @@ body_left None = None
 body_left (Some read) = Some (read.3, read.4, read.5)
 
 -- whether a constant is wide, and what is left
-abbrev pub width_left : Option (Constant × List ℕ × List ℕ) → Option (Bool × List ℕ × List ℕ)
+abbrev pub width_left : Option (ClassConstant × List ℕ × List ℕ) → Option (Bool × List ℕ × List ℕ)
 width_left None = None
 width_left (Some read) = Some (is_wide read.0, read.1, read.2)
 

@@ -8,7 +8,7 @@ ghost use Rattle.cm_record_reading.specs.Reading.{entry_of_kind as entry_of_kind
 ghost use Rattle.cm_record_reading.specs.Reading.{entry_word as entry_word_of, entry_of};
 ghost use Rattle.cm_record_reading.specs.Reading.{attribute_word as attribute_word_of};
 
-use cm_class::{Constant, Kind};
+use cm_class::{Bytes, Constant, Kind};
 use cm_record_layout::{SECOND, THIRD, first, fourth, second, third, upper, whole_word};
 
 /// What a word of the directory stands for: a Utf8 with its length, the beginning of a wide
@@ -18,7 +18,7 @@ pub(crate) enum DirectoryEntry<'a> {
     Utf8(u16),
     Long,
     Double,
-    Whole(Constant<'a>),
+    Whole(Constant<Bytes<'a>>),
 }
 
 /// What a word of this kind stands for.

@@ -19,7 +19,7 @@ ghost use Rattle.cm_record_reading.specs.Reading.{constant_behind, utf8_bytes, c
 
 use crate::entry::{DirectoryEntry, attribute_word, entry_at};
 use crate::fault::RecordFault;
-use cm_class::{Constant, Kind};
+use cm_class::{Bytes, Constant, Kind};
 use cm_record_layout::{SECOND, bytes_of, first, fourth, second, third, upper, word_of};
 use std::alloc::{AllocError, Global};
 
@@ -154,7 +154,7 @@ fn put_handle(kind: u8, reference: u16, out: &mut Vec<u8>) -> Result<(), AllocEr
 }
 
 /// Puts a constant other than a Utf8 into the buffer.
-fn put_constant(constant: &Constant, out: &mut Vec<u8>) -> Result<(), AllocError>
+fn put_constant(constant: &Constant<Bytes>, out: &mut Vec<u8>) -> Result<(), AllocError>
     requires { is_kind kinds.Utf8 constant.now ≡ false }
     ensures { IfOk result (λ _. out.new.items ≡ out.old.items ++ constant_bytes constant.now) }
 {

@@ -8,7 +8,7 @@ ghost use Rattle.cm_record_layout.specs.Layout.{utf8_runs, members, member_attri
 ghost use Rattle.cm_record_layout.specs.Layout.{attribute_run, attribute_runs, limit};
 
 use crate::runs::push_run;
-use cm_class::{Attribute, Attributes, Constant, Kind, Member, Slot};
+use cm_class::{Attribute, Attributes, Bytes, Constant, Kind, Member, Slot};
 use cm_record_layout::{SECOND, THIRD, four_numbers, run_words, whole_word};
 use cm_words::WordBuf;
 
@@ -21,7 +21,7 @@ fn utf8_word(at: u64, bytes: &[u8]) -> u64
 }
 
 /// Adds a constant's words in the directory, where its run begins at `at`.
-fn push_constant(words: &mut WordBuf, at: u64, constant: &Constant)
+fn push_constant(words: &mut WordBuf, at: u64, constant: &Constant<Bytes>)
     requires short { at + length (constant_run constant.now) ≤ limit }
     requires room { length words.old.words + length (constant_words at constant.now)
         ≤ words.old.capacity }
@@ -39,7 +39,7 @@ fn push_constant(words: &mut WordBuf, at: u64, constant: &Constant)
 }
 
 /// How many words a constant's run takes.
-fn constant_run_words(constant: &Constant) -> u64
+fn constant_run_words(constant: &Constant<Bytes>) -> u64
     ensures { result ≡ length (constant_run constant.now) }
 {
     match constant {

@@ -7,9 +7,9 @@ use Rattle.std.proofs.lemmas.List.{drop_all}
 use Rattle.std.specs.Prelude.{find, option_map}
 use Rattle.std.specs.List.{range_with_len}
 use Rattle.cm_class.specs.declared.class_file.ClassFile.{ClassFile}
-use Rattle.cm_class.specs.declared.constant.Constant.{Constant}
 use Rattle.cm_class.specs.declared.constant.Slot.{Slot}
 use Rattle.cm_class.specs.declared.constant.Slot.TheVariants.{Usable, Unusable}
+use Rattle.cm_class.specs.Spelling.{ClassConstant}
 use Rattle.cm_rules.specs.declared.rule.Rule.{Rule}
 use Rattle.cm_rules.specs.declared.rule.Spot.{Spot}
 use Rattle.cm_rules.specs.declared.rule.Spot.TheVariants.{Pool, This, Super, Interface, Field}
@@ -168,7 +168,8 @@ unfolding first_failing
 nothing_fails test i [] h = refl
 nothing_fails test i (x ∷ items) h = rw (h i x) (nothing_fails test (i + 1) items h)
 
-pub slot_passes : (test : Constant → Bool) (slot : Slot) → ((k : Constant) → test k ≡ true)
+pub slot_passes : (test : ClassConstant → Bool) (slot : Slot)
+    → ((k : ClassConstant) → test k ≡ true)
     → in_slot test slot ≡ true
 slot_passes test (Usable k) h = h k
 slot_passes test Unusable h = refl

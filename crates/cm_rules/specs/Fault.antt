@@ -4,7 +4,6 @@ use Rattle.std.specs.Prelude.{ℕ, ◌+◌, ◌-◌, Bool, true, ◌||◌, not, 
 use Rattle.std.specs.Prelude.{find, Option, Some, None, slice_get, option_map, ◌==◌, if◌then◌else◌}
 use Rattle.std.specs.Option.{option_map_or}
 use Rattle.std.specs.List.{range_with_len}
-use Rattle.cm_class.specs.declared.constant.Constant.{Constant}
 use Rattle.cm_class.specs.declared.class_file.Attribute.{Attribute as AttributeOf}
 use Rattle.cm_class.specs.declared.class_file.Member.{Member}
 use Rattle.cm_class.specs.declared.class_file.ClassFile.{ClassFile}
@@ -16,6 +15,7 @@ use Rattle.cm_rules.specs.declared.rule.Spot.TheVariants.{Method, Attribute}
 use Rattle.cm_rules.specs.declared.rule.Broken.{Broken}
 use Rattle.cm_class.specs.declared.kind.Kind.TheVariants as kinds
 use Rattle.cm_class.specs.Names.{names}
+use Rattle.cm_class.specs.Spelling.{ClassConstant}
 use Rattle.cm_duplicates.specs.Duplicates.{is_first, first_failing}
 use Rattle.cm_constraints.specs.Flags.{class_flags_agree, field_flags_agree}
 use Rattle.cm_constraints.specs.Constants.{in_slot, utf8_has_form, names_kinds, handle_has_kind}
@@ -67,7 +67,7 @@ all_rules =
 -- ---- What each rule says, by the sort of spot. It says nothing of sorts that aren't listed.
 
 -- of a constant
-unfoldable pub pool_rule : Rule → ClassFile → Constant → Bool
+unfoldable pub pool_rule : Rule → ClassFile → ClassConstant → Bool
 pool_rule rules.Utf8Form c constant = utf8_has_form constant
 pool_rule rules.EntryKinds c constant = names_kinds c constant
 pool_rule rules.HandleKind c constant = handle_has_kind c constant

@@ -2,10 +2,10 @@
 -- sort.
 use Rattle.std.specs.Prelude.{ℕ, Bool, ◌&&◌, List, drop}
 use Rattle.std.specs.List.{list_all}
-use Rattle.cm_class.specs.declared.constant.Constant.{Constant}
 use Rattle.cm_class.specs.declared.class_file.Attribute.{Attribute}
 use Rattle.cm_class.specs.declared.class_file.Member.{Member}
 use Rattle.cm_class.specs.declared.class_file.ClassFile.{ClassFile}
+use Rattle.cm_class.specs.Spelling.{ClassConstant}
 use Rattle.cm_rules.specs.declared.rule.Rule.{Rule}
 use Rattle.cm_rules.specs.Fault.{all_rules, pool_rule, this_rule, super_rule, interface_rule}
 use Rattle.cm_rules.specs.Fault.{attribute_rule}
@@ -18,7 +18,7 @@ use Rattle.cm_constraints.specs.Attributes.{field_attributes_are_right, method_a
 abbrev pub later_rules : List Rule
 later_rules = drop 1 all_rules
 
-unfoldable pub constant_keeps : ClassFile → Constant → Bool
+unfoldable pub constant_keeps : ClassFile → ClassConstant → Bool
 constant_keeps c constant = list_all (λ rule. pool_rule rule c constant) later_rules
 
 unfoldable pub this_keeps : ClassFile → Bool

@@ -9,7 +9,7 @@ ghost use Rattle.cm_rules.specs.Kept.{constant_keeps, this_keeps, super_keeps, i
 ghost use Rattle.cm_rules.specs.Kept.{field_keeps, method_keeps, attribute_keeps};
 
 use crate::findings::Findings;
-use cm_class::{Attribute, Class, Constant, Kind, Member, Slot};
+use cm_class::{Attribute, Bytes, Class, Constant, Kind, Member, Slot};
 use cm_constraints::{
     Subject, bootstrap_attribute_is_right, class_attribute_is_right, class_flags_agree,
     class_has_name, code_count_is_right, code_has_form, dynamic_call_is_bound,
@@ -21,7 +21,7 @@ use cm_constraints::{
 
 /// Whether a constant keeps all rules but that on the form of Utf8s.
 #[tactic(auto, unfolding(crate::specs::Kept::constant_keeps, crate::specs::Fault::pool_rule))]
-fn constant_keeps(subject: &Subject, constant: &Constant) -> bool
+fn constant_keeps(subject: &Subject, constant: &Constant<Bytes>) -> bool
     ensures { result ≡ constant_keeps subject.now.class.now constant.now }
 {
     let class = subject.class;

@@ -6,7 +6,7 @@ ghost use Rattle.cm_rules.specs.Fault.{field_constraint, method_constraint, attr
 
 use crate::findings::Findings;
 use crate::rule::Rule;
-use cm_class::{Attribute, Constant, Kind, Member, Slot};
+use cm_class::{Attribute, Bytes, Constant, Kind, Member, Slot};
 use cm_constraints::{
     bootstrap_attribute_is_right, class_attribute_is_right, class_flags_agree, class_has_name,
     code_count_is_right, code_has_form, dynamic_call_is_bound, dynamic_call_is_formed,
@@ -17,7 +17,7 @@ use cm_constraints::{
 };
 
 #[tactic(auto, unfolding(crate::specs::Fault::pool_rule))]
-pub(crate) fn pool_rule(findings: &Findings, rule: Rule, constant: &Constant) -> bool
+pub(crate) fn pool_rule(findings: &Findings, rule: Rule, constant: &Constant<Bytes>) -> bool
     ensures { result ≡ pool_rule rule findings.now.class.now constant.now }
 {
     let class = findings.class;

@@ -1,7 +1,7 @@
 //! The first spot where a class breaks a rule.
 ghost use Rattle.std.specs.Prelude.{◌≡◌, ◌+◌, ◌<◌, ◌^◌, false, true, IfSome};
 ghost use Rattle.cm_class.specs.declared.class_file.ClassFile.{ClassFile};
-ghost use Rattle.cm_class.specs.declared.constant.Constant.{Constant};
+ghost use Rattle.cm_class.specs.Spelling.{ClassConstant};
 ghost use Rattle.cm_duplicates.specs.Duplicates.{first_failing};
 ghost use Rattle.cm_rules.specs.Fault.{field_constraint, method_constraint, slot_failing};
 ghost use Rattle.cm_rules.specs.Fault.{interface_failing, field_failing, method_failing};
@@ -130,7 +130,7 @@ fn own_spot(findings: &Findings, rule: Rule) -> Option<Spot>
 /// Whether a rule speaks of constants of the pool.
 #[tactic(auto, unfolding(crate::specs::Fault::pool_rule))]
 fn speaks_of_pool(rule: Rule) -> bool
-    ensures { result ≡ false → (c : ClassFile) (k : Constant) → pool_rule rule c k ≡ true }
+    ensures { result ≡ false → (c : ClassFile) (k : ClassConstant) → pool_rule rule c k ≡ true }
 {
     match rule {
         Rule::Utf8Form
