@@ -43,6 +43,13 @@ impl<'a> Class<'a> {
         self.file.slots.as_slice()
     }
 
+    /// Does nothing: its clause says that a class file spells the class.
+    pub fn invariant_holds(&self)
+        ensures { HasSpelling self.now }
+    {
+        let _read = self.file.flags; // the read of a field brings the invariant
+    }
+
     /// The access flags (JVMS 4.1).
     pub fn flags(&self) -> u16
         ensures value { result ≡ self.now.flags }

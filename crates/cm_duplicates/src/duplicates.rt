@@ -62,7 +62,7 @@ fn first_by_strong_fingerprints(
 pub fn first_duplicate_field(alloc: Global, class: &Class) -> Result<Option<u16>, AllocError>
     ensures { IfOk result (λ found. found ≡ first_duplicate class.now class.now.fields) }
 {
-    let _spelled = class.flags(); // brings the class's invariant into the proof's scope
+    class.invariant_holds();
     first_duplicate(alloc, class, class.fields())
 }
 
@@ -70,6 +70,6 @@ pub fn first_duplicate_field(alloc: Global, class: &Class) -> Result<Option<u16>
 pub fn first_duplicate_method(alloc: Global, class: &Class) -> Result<Option<u16>, AllocError>
     ensures { IfOk result (λ found. found ≡ first_duplicate class.now class.now.methods) }
 {
-    let _spelled = class.flags(); // brings the class's invariant into the proof's scope
+    class.invariant_holds();
     first_duplicate(alloc, class, class.methods())
 }

@@ -45,7 +45,7 @@ fn utf8_fingerprints(
 ) -> Result<Vec<u64>, AllocError>
     ensures { IfOk result (λ v. v.items ≡ utf8_fingerprints strength class.now) }
 {
-    let _spelled = class.flags(); // brings the class's invariant into the proof's scope
+    class.invariant_holds();
     let count = class.slots().len() as u16 + 1;
     let mut fingerprints = Vec::with_capacity(alloc, usize::from(count))?;
     for index in 0..count {

@@ -49,7 +49,7 @@ impl<'a> Interner<'a> {
     pub(crate) fn new(alloc: Global, class: &'a Class<'a>) -> Result<Interner<'a>, AllocError>
         ensures { IfOk result (λ made. made.class.now ≡ class.entry.now) }
     {
-        let _spelled = class.flags(); // brings the class's invariant into the proof's scope
+        class.invariant_holds();
         let known = vec![in alloc; None; class.slots().len() + 1]?;
         Ok(Interner {
             class,

@@ -55,7 +55,7 @@ pub(crate) fn push_head(words: &mut WordBuf, class: &Class, places: &Places)
     ensures words { words.new.words ≡ words.old.words ++ head class.now }
     ensures capacity { words.new.capacity ≡ words.old.capacity }
 {
-    let _spelled = class.flags(); // brings the class's invariant into the proof's scope
+    class.invariant_holds();
     let interfaces = class.interfaces().len() as u16;
     let slots = (class.slots().len() + 1) as u16;
     let fields = class.fields().len() as u16;
@@ -91,7 +91,7 @@ pub(crate) fn push_pool_and_members(words: &mut WordBuf, class: &Class, places: 
         ++ class.now.interfaces ++ members (attributes_at class.now) (all_members class.now) }
     ensures capacity { words.new.capacity ≡ words.old.capacity }
 {
-    let _spelled = class.flags(); // brings the class's invariant into the proof's scope
+    class.invariant_holds();
     words.push(0);
     push_directory(words, places.runs, class.slots());
     push_interfaces(words, class.interfaces());

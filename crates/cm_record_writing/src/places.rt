@@ -75,7 +75,7 @@ pub(crate) struct Places {
 fn words_of(class: &Class) -> u64
     ensures { result ≡ min (record_len class.now) (2 ^ 64 - 1) }
 {
-    let _spelled = class.flags(); // brings the class's invariant into the proof's scope
+    class.invariant_holds();
     let counted = SLOT_1_AT as u64 + class.slots().len() as u64 + class.interfaces().len() as u64;
     counted
         .saturating_add(utf8_words(class.slots()))
@@ -96,7 +96,7 @@ impl Places {
         ensures some { IfSome result (λ places. ArePlaces class.now places
             × (record_len class.now ≤ limit)) }
     {
-        let _spelled = class.flags(); // brings the class's invariant into the proof's scope
+        class.invariant_holds();
         let len = words_of(class);
         if len > MAX_WORDS {
             return None;

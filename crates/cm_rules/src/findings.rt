@@ -25,7 +25,7 @@ impl<'a> Findings<'a> {
     pub(crate) fn new(alloc: Global, class: &'a Class<'a>) -> Result<Findings<'a>, AllocError>
         ensures { IfOk result (λ findings. findings.class.now ≡ class.entry.now) }
     {
-        let _spelled = class.flags(); // brings the class's invariant into the proof's scope
+        class.invariant_holds();
         Ok(Findings {
             class,
             subject: Subject::new(alloc, class)?,
