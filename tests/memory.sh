@@ -71,7 +71,7 @@ sweep() {
     check_last "$1 $2: $((refuse - 1)) refusals were met, and not $3"
 }
 
-for crate in cm_space_tests cm_class_tests cm_world_tests; do
+for crate in cm_space_tests cm_class_tests cm_commit_tests; do
     [ -x "crates/$crate/out/${crate}_tests" ] && continue
     (cd "crates/$crate" && rt test) >"$work/log" 2>&1 || cat "$work/log"
 done
@@ -79,13 +79,13 @@ beside sweep cm_space_tests pools::a_failed_allocation_leaves_the_pool_as_it_was
 beside sweep cm_space_tests arenas::places_words 15
 beside sweep cm_space_tests arenas::takes_larger_chunks_in_a_longer_chain 25
 beside sweep cm_class_tests faults::a_fault_behind_a_refusal 4
-beside sweep cm_world_tests commands::a_left_chunk_waits_for_its_receipt 194
-beside sweep cm_world_tests \
+beside sweep cm_commit_tests commands::a_left_chunk_waits_for_its_receipt 194
+beside sweep cm_commit_tests \
     commands::chunks_of_loaders_that_go_at_once_wait_for_the_receipt 202
-beside sweep cm_world_tests refused::a_class_is_found_after_a_refusal 203
-beside sweep cm_world_tests refused::a_loader_comes_again_after_a_refusal 214
-beside sweep cm_world_tests refused::a_chunk_is_left_after_a_refusal 221
-beside sweep cm_world_tests made_again::a_file_is_made_and_opened_after_a_refusal 109
+beside sweep cm_commit_tests refused::a_class_is_found_after_a_refusal 203
+beside sweep cm_commit_tests refused::a_loader_comes_again_after_a_refusal 214
+beside sweep cm_commit_tests refused::a_chunk_is_left_after_a_refusal 221
+beside sweep cm_commit_tests made_again::a_file_is_made_and_opened_after_a_refusal 109
 
 # The program's own: making a file, and scripts with commands that are done, refused, and looked up,
 # in memory and on a file.

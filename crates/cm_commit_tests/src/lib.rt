@@ -1,4 +1,5 @@
-//! Tests of caches in memory and on disks in memory: fronts, committers, lists and worlds.
+//! Tests of accepted caches and what is listed of them, committers, and worlds over disks in
+//! memory.
 #![tactic(auto)]
 
 #[cfg(test)]

@@ -1,4 +1,5 @@
-//! Tests of what files hold: slots, halves, making, standing, and checking.
+//! Tests of files: slots, what a file's contents stand for or how they are damaged, making and
+//! opening files, and checking them.
 #![tactic(auto)]
 
 #[cfg(test)]
