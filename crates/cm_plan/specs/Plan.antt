@@ -23,6 +23,10 @@ plan_geometry (Lists path) = None
 plan_geometry (Trim path) = None
 plan_geometry (Apply path workers) = None
 
+-- the sizes of a cache where no others are given
+abbrev pub usual_sizes : Sizes
+usual_sizes = record { top = 8; roots = 64; slots = 4096 }
+
 -- how many threads a script may have
 abbrev pub most_workers : ℕ
 most_workers = 16

@@ -1,6 +1,7 @@
 //! The command line as `clap` reads it.
 
-use clap::{Arg, ArgAction, Command, value_parser};
+use crate::number::{ROOTS, SLOTS, TOP, WORKERS};
+use clap::{Arg, ArgAction, Command};
 use std::alloc::{AllocError, Global};
 
 const PROGRAM: &str = "cmcache";
@@ -23,14 +24,6 @@ pub const MEMORY: &str = "memory";
 /// How a command line says it.
 pub const MEMORY_WORD: &str = "--memory";
 
-pub const TOP: &str = "top";
-
-pub const ROOTS: &str = "roots";
-
-pub const SLOTS: &str = "slots";
-
-pub const WORKERS: &str = "workers";
-
 fn file<'a>(alloc: Global, help: &'a str) -> Arg<'a> {
     Arg::new(alloc, FILE)
         .value_name("FILE")
@@ -38,40 +31,13 @@ fn file<'a>(alloc: Global, help: &'a str) -> Arg<'a> {
         .action(ArgAction::Set)
 }
 
-/// An option that takes a whole number.
-fn number<'a>(alloc: Global, name: &'a str, usual: &'a str, help: &'a str) -> Arg<'a> {
-    Arg::new(alloc, name)
-        .long(name)
-        .value_name("N")
-        .help(help)
-        .action(ArgAction::Set)
-        .default_value(usual)
-}
-
 fn format_command<'a>(alloc: Global) -> Result<Command<'a>, AllocError> {
-    let top = number(
-        alloc,
-        TOP,
-        "8",
-        "The order of a root: it has 128 * 2^N words",
-    )
-    .value_parser(value_parser!(u32).range(3..=12));
-    let roots = number(alloc, ROOTS, "64", "How many roots the cache may have").value_parser(
-        value_parser!(u32).range(1..=256),
-    );
-    let slots = number(
-        alloc,
-        SLOTS,
-        "4096",
-        "How many slots each half of the journal has",
-    )
-    .value_parser(value_parser!(u32).range(256..=65_536));
     Command::new(alloc, FORMAT)
         .about("Make an empty cache in a new file")
         .arg(file(alloc, "The file to make; nothing may have that name").required(true))?
-        .arg(top)?
-        .arg(roots)?
-        .arg(slots)
+        .arg(TOP.arg(alloc))?
+        .arg(ROOTS.arg(alloc))?
+        .arg(SLOTS.arg(alloc))
 }
 
 /// A command that only takes a file.
@@ -93,13 +59,6 @@ fn apply_command<'a>(alloc: Global) -> Result<Command<'a>, AllocError> {
         .long(MEMORY)
         .help("Run the script on a fresh cache in memory")
         .action(ArgAction::SetTrue);
-    let workers = number(
-        alloc,
-        WORKERS,
-        "1",
-        "How many threads prepare the classes of the script",
-    )
-    .value_parser(value_parser!(u32).range(1..=16));
     Command::new(alloc, APPLY)
         .about(
             "Run a script from standard input: lines `loader NAME`, `unload NAME`, \
@@ -107,7 +66,7 @@ fn apply_command<'a>(alloc: Global) -> Result<Command<'a>, AllocError> {
         )
         .arg(file)?
         .arg(memory)?
-        .arg(workers)
+        .arg(WORKERS.arg(alloc))
 }
 
 /// All commands. The words that it reads begin behind the program's name.

@@ -8,18 +8,13 @@ ghost use Rattle.clap.specs.declared.error.kind.ErrorKind.TheVariants.{ValueVali
 ghost use Rattle.cm_plan.specs.Plan.{IsOfWords, fault_status, most_workers};
 ghost use Rattle.cm_plan.specs.declared.fault.UsageFault.TheVariants.{NoMemory};
 
-use crate::command::{
-    APPLY, CHECK, FILE, FORMAT, LIST, MEMORY, MEMORY_WORD, ROOTS, SLOTS, TOP, TRIM, WORKERS,
-    whole_command,
-};
+use crate::command::{APPLY, CHECK, FILE, FORMAT, LIST, MEMORY, MEMORY_WORD, TRIM, whole_command};
+use crate::number::{ROOTS, SLOTS, TOP, WORKERS};
 use crate::{Plan, UsageFault};
 use clap::ArgMatches;
 use clap::error::{Error, ErrorKind};
 use cm_pool::Geometry;
 use std::alloc::{AllocError, Global};
-
-/// How many threads may prepare the classes of a script.
-const MOST_WORKERS: u32 = 16;
 
 /// Reads the words of a command line, which begin behind the program's name.
 ///
@@ -114,8 +109,8 @@ fn workers_of(given: &ArgMatches<'_>) -> Option<u32>
     ensures least { IfSome result (λ n. 0 < n) }
     ensures most { IfSome result (λ n. n ≤ most_workers) }
 {
-    let workers = given.get_one(WORKERS)?;
-    if workers == 0 || workers > MOST_WORKERS {
+    let workers = given.get_one(WORKERS.name)?;
+    if workers < WORKERS.least || workers > WORKERS.most {
         return None;
     }
     Some(workers)
@@ -123,8 +118,8 @@ fn workers_of(given: &ArgMatches<'_>) -> Option<u32>
 
 fn geometry_of(given: &ArgMatches<'_>) -> Option<Geometry> {
     Geometry::new(
-        given.get_one(TOP)?,
-        given.get_one(ROOTS)?,
-        given.get_one(SLOTS)?,
+        given.get_one(TOP.name)?,
+        given.get_one(ROOTS.name)?,
+        given.get_one(SLOTS.name)?,
     )
 }
