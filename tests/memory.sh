@@ -106,7 +106,7 @@ beside sweep_program "$work/script" 383 apply --memory
 beside sweep_program "$work/script" 383 apply FILE
 beside sweep_program "$work/script" 91 format FILE
 # Opening a file alone, and looking at it.
-beside sweep_program /dev/null 321 apply FILE
+beside sweep_program /dev/null 322 apply FILE
 beside sweep_program /dev/null 242 check FILE
 beside sweep_program /dev/null 401 list FILE
 # The same for a cache that is started for threads: what they share, and the flusher's thread.

@@ -3,8 +3,7 @@
 use Rattle.std.proofs.Common.{◌≡◌, ℕ, ◌+◌, ◌≤◌, ◌<◌, Bool, true, false, List, [], ◌∷◌}
 use Rattle.std.proofs.Common.{Option, Some, None, Result, Ok, Err, inl, inr, refl, sym, ap, subst}
 use Rattle.std.proofs.Common.{◌∙◌, arith}
-use Rattle.std.specs.Prelude.{◌||◌}
-use Rattle.std.specs.Result.{is_err}
+use Rattle.std.specs.Prelude.{◌||◌, IsOk}
 use Rattle.std.proofs.lemmas.List.{length-append}
 use Rattle.cm_disk.specs.Disk.{View}
 use Rattle.cm_class.specs.declared.class_file.ClassFile.{ClassFile}
@@ -23,7 +22,7 @@ use Rattle.cm_prepare.specs.declared.refusal.Refusal.{Refusal}
 use Rattle.cm_machine.specs.Machine.{Machine, Asks, Seals, accepted_to}
 use Rattle.cm_session.specs.declared.session.Sealed.{Sealed}
 use Rattle.cm_session.specs.Images.{StandsForSome}
-use Rattle.cm_session.specs.declared.storing.NotStored.TheVariants.{Refused, NoMemory, Unsure}
+use Rattle.cm_session.specs.declared.storing.NotStored.TheVariants.{Refused, Unsure}
 use Rattle.cm_session.specs.Moves.{Leads, Accepting, Answers, Sealing, Advancing, Learns, MayTake}
 use Rattle.cm_session.specs.Moves.{Steps}
 use Rattle.cm_session.specs.Storing.{IsWorking, IsTrimmed, NoTrim, IsAtRest, Hands, Storing}
@@ -212,6 +211,12 @@ module _ (sizes : Sizes) (k : Machine) (change : Change ClassFile) (number : ℕ
       let is = a.1.number_is in
       omega (arith, same, all, is)
 
+  pub all_stored : accepted.acknowledged ≡ accepted.sealed
+  all_stored =
+      let sealed = sealed_before in
+      let stored = stored_before in
+      omega (arith, sealed, stored)
+
   all_commands : accepted_to accepted ≡ number
   all_commands =
       let same = ap accepted_to a.1.next_is in
@@ -380,31 +385,11 @@ refuses sizes k asked Moments r rest accepting = record {
   };
 }
 
--- no group was handed out
-pub unsealed : {Accepted Goes : Machine → Type 0} {E : Type 0} (sizes : Sizes) (k : Machine)
-    (asked : Change (List ℕ)) (Moments : (List ℕ → Type 0) → Type 0) (number : ℕ)
-    (result : Result (Option Sealed) E) → true ≡ is_err result
-    → (accepting : Accepting sizes k asked (Ok number) Accepted)
-    → ((j : Machine) → Accepted j → Leads (Sealing j result) Goes)
-    → Storing sizes k asked Moments (Err (NoMemory number)) Goes
-unsealed sizes k asked Moments number (Ok x) is accepting seals = absurd (cc)
-unsealed {Goes} sizes k asked Moments number (Err e) is accepting seals =
-    let s = seals accepting.leads.next accepting.leads.goes in
-    record {
-      change = accepting.change;
-      asks = accepting.asks;
-      leads = record {
-        next = accepting.leads.next;
-        does = accepting.leads.does;
-        goes = subst Goes s.does.1 s.goes;
-      };
-    }
-
 -- the group that was handed out
 pub sealed : {Goes : Machine → Type 0} {E : Type 0} (sizes : Sizes) (k : Machine)
     (change : Change ClassFile) (number : ℕ) (accepted : Machine) (rest : IsAtRest k)
     (a : Answers sizes k change (Ok number) accepted) (result : Result (Option Sealed) E)
-    → false ≡ is_err result → Leads (Sealing accepted result) Goes
+    → IsOk result → Leads (Sealing accepted result) Goes
     → Goes (handed sizes k change number accepted rest a)
 sealed sizes k change number accepted rest a (Ok None) is seals =
     absurd (some_waits sizes k change number accepted rest a seals.does.0)

@@ -13,7 +13,7 @@ use Rattle.cm_commit.specs.States.{Work, Storing as Stored, Trimming}
 use Rattle.cm_machine.specs.Machine.{Machine, Asks, accepted_to}
 use Rattle.cm_session.specs.declared.session.Session.{Session}
 use Rattle.cm_session.specs.declared.storing.NotStored.{NotStored}
-use Rattle.cm_session.specs.declared.storing.NotStored.TheVariants.{Refused, NoMemory, Unsure}
+use Rattle.cm_session.specs.declared.storing.NotStored.TheVariants.{Refused, Unsure}
 use Rattle.cm_session.specs.Images.{StandsForSome}
 use Rattle.cm_session.specs.Moves.{Leads, Answers}
 
@@ -48,8 +48,8 @@ pub record Hands (sizes : Sizes) (k : Machine) (change : Change ClassFile)
   pub handed_is : handed ≡ record accepted { sealed = number }
   pub moments : Moments (StandsForSome sizes handed)
 
--- It is stored; or refused, with nothing changed; or an allocation failed before it was handed out;
--- or the device failed, and the file may hold it or not.
+-- It is stored; or refused, with nothing changed; or the device failed, and the file may hold it or
+-- not.
 abbrev pub Stores : Sizes → Machine → Change ClassFile → ((List ℕ → Type 0) → Type 0)
     → Result ℕ NotStored → Machine → Type 0
 Stores sizes k change Moments (Ok number) next =
@@ -57,8 +57,6 @@ Stores sizes k change Moments (Ok number) next =
     × (next ≡ record handed { acknowledged = number }) × IsAtRest next
 Stores sizes k change Moments (Err (Refused r)) next =
     Answers sizes k change (Err r) next × IsAtRest next
-Stores sizes k change Moments (Err (NoMemory number)) next =
-    Answers sizes k change (Ok number) next
 Stores sizes k change Moments (Err (Unsure number)) next =
     (handed : Machine) × Hands sizes k change Moments number handed
     × (next ≡ record handed { failed = true; noticed = true }) × IsAtRest next
@@ -74,7 +72,6 @@ pub record Storing (sizes : Sizes) (k : Machine) (asked : Change (List ℕ))
 abbrev pub IsUnsure : Result ℕ NotStored → Type 0
 IsUnsure (Ok number) = ⊥
 IsUnsure (Err (Refused r)) = ⊥
-IsUnsure (Err (NoMemory number)) = ⊥
 IsUnsure (Err (Unsure number)) = Unit {0}
 
 -- A command is unsure only where the device failed in this call.
@@ -87,12 +84,10 @@ pub record FailsOnly (before now : ℕ) (result : Result ℕ NotStored) : Type 0
 abbrev pub TellsFront : {D : Type 0} → Session D → Result ℕ NotStored → Session D → Type 0
 TellsFront old (Ok number) new = new.front.learnt ≡ new.committer.number
 TellsFront old (Err (Refused r)) new = new.front ≡ old.front
-TellsFront old (Err (NoMemory number)) new = new.front.learnt ≡ old.front.learnt
 TellsFront old (Err (Unsure number)) new = new.front.learnt ≡ new.committer.number
 
 -- no device call is made
 abbrev pub MakesNoCall : Result ℕ NotStored → Type 0
 MakesNoCall (Ok number) = ⊥
 MakesNoCall (Err (Refused r)) = Unit {0}
-MakesNoCall (Err (NoMemory number)) = Unit {0}
 MakesNoCall (Err (Unsure number)) = ⊥

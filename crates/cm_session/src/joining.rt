@@ -1,6 +1,7 @@
 //! Groups that are joined on their way.
 
 ghost use Rattle.std.specs.Prelude.{◌≡◌, ◌<◌, ◌∷◌, ℕ, IsTrue, false, length};
+ghost use Rattle.std.specs.VecDeque.{deque_capacity};
 ghost use Rattle.cm_session.specs.Session.{commands_of, GoBehind, NoneGoesOn};
 
 use cm_group::Group;
@@ -14,6 +15,7 @@ fn join_next(group: &mut Group, queue: &mut VecDeque<Group>) -> bool
         → GoBehind n (group.new ∷ queue.new.items) }
     ensures fewer { IsTrue result → length queue.new.items < length queue.old.items }
     ensures none { result ≡ false → NoneGoesOn group.new queue.new.items }
+    ensures capacity { deque_capacity queue.new ≡ deque_capacity queue.old }
 {
     let Some(next) = queue.pop_front() else {
         return false;
@@ -38,6 +40,7 @@ pub(crate) fn join_queued(mut group: Group, queue: &mut VecDeque<Group>) -> Grou
     ensures behind { (n : ℕ) → GoBehind n (group ∷ queue.old.items)
         → GoBehind n (result ∷ queue.new.items) }
     ensures all { NoneGoesOn result queue.new.items }
+    ensures capacity { deque_capacity queue.new ≡ deque_capacity queue.old }
 {
     while join_next(&mut group, queue) {}
     group

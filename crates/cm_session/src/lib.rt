@@ -1,6 +1,7 @@
 //! One thread's use of a cache file, each call of it a step of the abstract machine.
 #![tactic(auto)]
 
+mod asked;
 mod joining;
 mod laws;
 mod opening;

@@ -14,7 +14,7 @@ use crate::session::Session;
 use cm_disk::Disk;
 use cm_machine::{committed_rows_are_the_machines, opened_is_ahead};
 use cm_record::words_tell_name;
-use cm_recover::NotOpened;
+use cm_recover::{NotOpened, OpenFault};
 use cm_state::contents_determine_cache;
 use cm_verdict::{found_is_framed, found_is_live, verdict_is_exact};
 use std::alloc::Global;
@@ -24,7 +24,8 @@ use std::collections::VecDeque;
 ///
 /// It goes with the machine that begins with the cache that the file stands for; and whichever
 /// machine the file stands for some of the commands of: it goes on from these, and the file isn't
-/// opened only where the device or an allocation failed.
+/// opened only where the device or an allocation failed. The place of the first group that waits is
+/// taken here, before the file is read.
 pub fn open<D: Disk>(alloc: Global, disk: D) -> Result<Session<D>, NotOpened<D>>
     ensures opened { (sizes : Sizes) (k : Machine) → StandsForSome sizes k (D.view.contents disk)
         → IfOk result (Opened D.view sizes (D.view.contents disk) k) }
@@ -43,6 +44,13 @@ pub fn open<D: Disk>(alloc: Global, disk: D) -> Result<Session<D>, NotOpened<D>>
     verdict_is_exact();
     words_tell_name();
     held_cache_begins_machine();
+    let mut queue = VecDeque::new(alloc);
+    if queue.reserve(1).is_err() {
+        return Err(NotOpened {
+            fault: OpenFault::NoMemory,
+            disk,
+        });
+    }
     let (front, committer) = match cm_recover::open(alloc, disk) {
         Ok(opened) => opened,
         Err(not_opened) => return Err(not_opened),
@@ -52,7 +60,7 @@ pub fn open<D: Disk>(alloc: Global, disk: D) -> Result<Session<D>, NotOpened<D>>
     Ok(Session {
         front,
         committer,
-        queue: VecDeque::new(alloc),
+        queue,
         sealed,
         has_failed: false,
     })

@@ -1,8 +1,9 @@
 //! An accepted cache over its disk.
 
-ghost use Rattle.std.specs.Prelude.{◌≡◌, ◌||◌, None, Some, [], Err, false, IsOk};
+ghost use Rattle.std.specs.Prelude.{◌≡◌, ◌≤◌, ◌||◌, None, Some, [], Err, false, IsOk};
 ghost use Rattle.std.specs.Option.{option_map};
 ghost use Rattle.std.specs.Arc.{arc_value};
+ghost use Rattle.std.specs.VecDeque.{deque_capacity};
 ghost use Rattle.cm_guards.specs.Guards.{EachImage};
 ghost use Rattle.cm_guards.specs.Calls.{LeavesOnly};
 ghost use Rattle.cm_layout.specs.Laws.{IsNewest};
@@ -13,10 +14,10 @@ ghost use Rattle.cm_commit.specs.States.{BeginsTrim};
 ghost use Rattle.cm_machine.specs.Machine.{Machine};
 ghost use Rattle.cm_machine.specs.Laws.{Finds};
 ghost use Rattle.cm_session.specs.Images.{StandsForSome};
-ghost use Rattle.cm_session.specs.Moves.{GoesWith, Leads, Accepting, Sealing, Queues, Advancing};
-ghost use Rattle.cm_session.specs.Moves.{Learns, IsAsked, IsNoCall, is_device, MayTake, Steps};
 
+use crate::asked::look_at;
 use crate::joining::join_queued;
+use crate::storing::has_failed;
 use cm_commit::{AdvanceFault, Committer, NotIdle, Progress};
 use cm_disk::{Disk, SimDisk};
 use cm_front::Front;
@@ -47,40 +48,20 @@ pub struct Sealed {
 pub struct Session<D: Disk> {
     pub(crate) front: Front,
     pub(crate) committer: Committer<D>,
-    /// The groups that the committer hasn't taken yet, oldest first.
+    /// The groups that the committer hasn't taken yet, oldest first. Where none waits, there is a
+    /// place for one.
     pub(crate) queue: VecDeque<Group>,
     /// The number of the last command that was handed out.
     pub(crate) sealed: u64,
     pub(crate) has_failed: bool,
-}
-
-// Brings into a proof's scope which change of classes a command asks for.
-fn look_at(command: &Command<'_>)
-    ensures { IsAsked (change_asked command.now) }
-{
-    match command {
-        Command::AddLoader(_) => {}
-        Command::Define(_, class) => {
-            class.record().invariant_holds();
-        }
-        Command::Unload(_) => {}
-        Command::Tighten(_) => {}
-        Command::UnloadAll(_) => {}
-    }
-}
-
-/// Whether the device has failed by now, before this call or in it.
-fn has_failed(before: bool, progress: &Result<Progress, AdvanceFault>) -> bool
-    ensures { result ≡ before || is_device progress.now }
-{
-    match progress {
-        Err(AdvanceFault::Device) => true,
-        Err(AdvanceFault::Broken) => before,
-        Ok(_) => before,
-    }
+    ghost has_place: { 1 ≤ deque_capacity queue },
+    ghost sealed_is: { sealed ≡ front.sealed },
 }
 
 impl<D: Disk> Session<D> {
+    ghost use Rattle.cm_session.specs.Moves.{GoesWith, Leads, Accepting, Sealing, Queues};
+    ghost use Rattle.cm_session.specs.Moves.{Advancing, Learns, IsNoCall, MayTake, Steps};
+
     /// The sizes of the region.
     pub fn geometry(&self) -> Geometry
         ensures { result ≡ self.now.committer.sizes }
@@ -108,12 +89,15 @@ impl<D: Disk> Session<D> {
 
     /// Hands out the oldest group of accepted commands, with what was learnt by now; it waits until
     /// the committer takes it. `None` where all commands were handed out. `Err` where an allocation
-    /// failed: then they still wait. The disk isn't touched.
+    /// failed: then they still wait; none is made where all that was handed out is stored. The disk
+    /// isn't touched.
     pub fn seal(&mut self) -> Result<Option<Sealed>, AllocError>
         ensures machine { (k : Machine) → GoesWith k self.old
             → Leads (Sealing k result) (λ next. GoesWith next self.new) }
         ensures queued { Queues self.old.front self.old.queue.items result self.new.front
             self.new.queue.items }
+        ensures place { (k : Machine) → GoesWith k self.old → k.acknowledged ≡ k.sealed
+            → IsOk result }
         ensures disk { self.new.committer ≡ self.old.committer }
     {
         committed_rows_are_the_machines();
@@ -121,12 +105,9 @@ impl<D: Disk> Session<D> {
         if self.front.number() == self.sealed {
             return Ok(None);
         }
-        let Ok(()) = self.queue.reserve(1) else {
-            return Err(AllocError);
-        };
-        let Some(group) = self.front.seal() else {
-            return Ok(None);
-        };
+        self.queue.reserve(1)?;
+        self.front.invariant_holds();
+        let group = self.front.seal().unwrap(); // some command waits
         self.front.invariant_holds();
         let first = group.first();
         let last = first + (group.count() as u64 - 1);
@@ -285,6 +266,8 @@ impl<D: Disk> Session<D> {
 }
 
 impl Session<SimDisk> {
+    ghost use Rattle.cm_session.specs.Moves.{GoesWith};
+
     /// Lets the disk's next call fail; a write stores its first bytes, so many of them.
     pub fn arm(&mut self, stores: usize)
         ensures disk { self.new.committer ≡ record self.old.committer {

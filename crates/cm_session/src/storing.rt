@@ -1,13 +1,13 @@
 //! One command after another: each is stored before the next is accepted.
 
-ghost use Rattle.std.specs.Prelude.{◌≡◌, true, Err};
+ghost use Rattle.std.specs.Prelude.{◌≡◌, ◌||◌, true, Err};
 ghost use Rattle.cm_guards.specs.Calls.{LeavesOnly};
 ghost use Rattle.cm_prepare.specs.Commands.{change_asked};
 ghost use Rattle.cm_front.specs.Accepting.{IsReason};
 ghost use Rattle.cm_commit.specs.Advances.{HasRisen};
 ghost use Rattle.cm_machine.specs.Machine.{Machine};
 ghost use Rattle.cm_session.specs.Images.{StandsForSome};
-ghost use Rattle.cm_session.specs.Moves.{GoesWith, Leads, Advancing};
+ghost use Rattle.cm_session.specs.Moves.{GoesWith, Leads, Advancing, is_device};
 ghost use Rattle.cm_session.specs.Storing.{IsWorking, IsAtRest, Storing, FailsOnly, MakesNoCall};
 ghost use Rattle.cm_session.specs.Storing.{TellsFront, IsTrimmed, NoTrim};
 
@@ -21,19 +21,20 @@ use cm_prepare::{Command, Refusal};
 pub enum NotStored {
     /// The command is refused; nothing changed.
     Refused(Refusal),
-    /// The command was accepted with this number, but an allocation failed before it was handed
-    /// out; the disk wasn't touched.
-    NoMemory(u64),
     /// The device failed while the command of this number was being stored: the file holds it, or
     /// it doesn't. No further command is accepted.
     Unsure(u64),
 }
 
-fn is_working(progress: &Result<Progress, AdvanceFault>) -> bool
-    ensures is { result ≡ true → IsWorking progress.now }
-    ensures whenever { IsWorking progress.now → result ≡ true }
+/// Whether the device has failed by now, before this call or in it.
+pub(crate) fn has_failed(before: bool, progress: &Result<Progress, AdvanceFault>) -> bool
+    ensures { result ≡ before || is_device progress.now }
 {
-    matches!(progress, Ok(Progress::Working))
+    match progress {
+        Err(AdvanceFault::Device) => true,
+        Err(AdvanceFault::Broken) => before,
+        Ok(_) => before,
+    }
 }
 
 fn is_trimmed(progress: &Result<Progress, AdvanceFault>) -> bool
@@ -60,7 +61,7 @@ impl<D: Disk> Session<D> {
         ensures trimmed { IsTrimmed result → NoTrim self.new.committer.underway }
     {
         let mut progress = self.advance();
-        while is_working(&progress) {
+        while let Ok(Progress::Working) = progress {
             progress = self.advance();
         }
         progress
@@ -112,9 +113,7 @@ impl<D: Disk> Session<D> {
             Ok(number) => number,
             Err(refusal) => return Err(NotStored::Refused(refusal)),
         };
-        if self.seal().is_err() {
-            return Err(NotStored::NoMemory(number));
-        }
+        let _sealed = self.seal(); // nothing waits, so there is a place for it
         let progress = self.advance_group();
         self.learn();
         match progress {

@@ -23,7 +23,7 @@ use Rattle.cm_machine.specs.Machine.{Machine, Asks, Refuses}
 use Rattle.cm_machine.specs.Laws.{Finds}
 use Rattle.cm_session.specs.declared.session.Session.{Session}
 use Rattle.cm_session.specs.declared.storing.NotStored.{NotStored}
-use Rattle.cm_session.specs.declared.storing.NotStored.TheVariants.{Refused, NoMemory, Unsure}
+use Rattle.cm_session.specs.declared.storing.NotStored.TheVariants.{Refused, Unsure}
 use Rattle.cm_session.specs.Moves.{GoesWith}
 use Rattle.cm_session.specs.Storing.{Storing, Stores, FailsOnly, MakesNoCall}
 use Rattle.cm_lines.specs.Escapes.{unescaped}
@@ -34,7 +34,7 @@ use Rattle.cm_tool.specs.Texts.{ReplyText, number_reply, defined_reply, none_rep
 use Rattle.cm_tool.specs.Texts.{refusal_reply, unsure_reply, bad_line_reply}
 use Rattle.cm_tool.specs.Replies.{IsReply}
 use Rattle.cm_tool.specs.Answers.{Served, served, AnswersCommand, AnswersAsked, AnswersDefine}
-use Rattle.cm_tool.specs.Answers.{AnswersFind, IsChangeOf, IsDefineOf}
+use Rattle.cm_tool.specs.Answers.{AnswersFind}
 use Rattle.cm_tool.specs.Serving.{IsReady, LedTo, MayGoOn, IsLeft, IsAskedBy, Replies, Tells}
 use Rattle.cm_tool.proofs.Moments.{stored_goes_on}
 
@@ -57,13 +57,12 @@ stays k failures does goes = record { next = k; does = does; goes = goes }
 
 -- ---- commands
 
--- a question asks for the changes that a command asks for
-pub record Fits (sizes : Sizes) (question : Option Asked) (told : ℕ → ReplyText)
-    (asked : Change (List ℕ)) : Type 0 where
-  pub answers : (change : Change ClassFile) → Asks asked change → (old : Served)
-      (given : ReplyText) (new : Served) → AnswersCommand sizes change told old given new
-      → AnswersAsked sizes question old given new
-  pub change_of : (change : Change ClassFile) → Asks asked change → IsChangeOf question change
+-- a question asks for the changes that a command asks for, and is answered as they are
+abbrev pub Fits : Sizes → Option Asked → (ℕ → ReplyText) → Change (List ℕ) → Type 0
+Fits sizes question told asked =
+    (change : Change ClassFile) → Asks asked change → (old : Served) (given : ReplyText)
+    (new : Served) → AnswersCommand sizes change told old given new
+    → AnswersAsked sizes question old given new
 
 -- of the one change that a command asks for, where the question is answered by its number
 of_one : (sizes : Sizes) (question : Asked) (asked : Change (List ℕ)) (one : Change ClassFile)
@@ -71,14 +70,11 @@ of_one : (sizes : Sizes) (question : Asked) (asked : Change (List ℕ)) (one : C
     → ((old : Served) (given : ReplyText) (new : Served)
     → AnswersCommand sizes one number_reply old given new
     → AnswersAsked sizes (Some question) old given new)
-    → IsChangeOf (Some question) one → Fits sizes (Some question) number_reply asked
-of_one sizes question asked one only answers is = record {
-  answers = λ change asks old given new h.
-      answers old given new
-      (subst (λ (d : Change ClassFile). AnswersCommand sizes d number_reply old given new)
-      (only change asks) h);
-  change_of = λ change asks. subst (IsChangeOf (Some question)) (sym (only change asks)) is;
-}
+    → Fits sizes (Some question) number_reply asked
+of_one sizes question asked one only answers change asks old given new h =
+    answers old given new
+    (subst (λ (d : Change ClassFile). AnswersCommand sizes d number_reply old given new)
+    (only change asks) h)
 
 -- a question that asks for a command is answered by the command's number
 pub number_fits : (sizes : Sizes) (question : Asked) (asked : Change (List ℕ))
@@ -86,20 +82,20 @@ pub number_fits : (sizes : Sizes) (question : Asked) (asked : Change (List ℕ))
 number_fits sizes (AsksLoader name) asked is =
     subst (Fits sizes (Some (AsksLoader name)) number_reply) (sym is)
     (of_one sizes (AsksLoader name) (AddLoader name) (AddLoader name) (λ change asks. asks)
-    (λ old given new h. h) refl)
+    (λ old given new h. h))
 number_fits sizes (AsksUnload name) asked is =
     subst (Fits sizes (Some (AsksUnload name)) number_reply) (sym is)
     (of_one sizes (AsksUnload name) (Unload name) (Unload name) (λ change asks. asks)
-    (λ old given new h. h) refl)
+    (λ old given new h. h))
 number_fits sizes (AsksTighten name) asked is =
     subst (Fits sizes (Some (AsksTighten name)) number_reply) (sym is)
     (of_one sizes (AsksTighten name) (Tighten name) (Tighten name) (λ change asks. asks)
-    (λ old given new h. h) refl)
+    (λ old given new h. h))
 number_fits sizes (AsksUnloadAll names) asked is =
     let kept = take names_kept names in
     subst (Fits sizes (Some (AsksUnloadAll names)) number_reply) (sym is)
     (of_one sizes (AsksUnloadAll names) (UnloadAll kept) (UnloadAll kept) (λ change asks. asks)
-    (λ old given new h. h) refl)
+    (λ old given new h. h))
 number_fits sizes (AsksDefine loader digits) asked is = absurd is
 number_fits sizes (AsksFind loader class) asked is = absurd is
 
@@ -126,11 +122,9 @@ module _ (one : LayIsOne) (sizes : Sizes) (loader digits bytes words name : List
       subst (λ (d : ClassFile). length (lay d) ≤ limit)
       (its_class asks.0 asks.1.kept.spelled asks.2) asks.1.short
 
-  answers_define : (change : Change ClassFile) → Asks (Define loader words) change → (old : Served)
-      (given : ReplyText) (new : Served)
-      → AnswersCommand sizes change (λ n. defined_reply n name) old given new
-      → AnswersAsked sizes (Some (AsksDefine loader digits)) old given new
-  answers_define change asks old given new h =
+  pub define_fits : Fits sizes (Some (AsksDefine loader digits)) (λ n. defined_reply n name)
+      (Define loader words)
+  define_fits change asks old given new h =
       subst (λ r. AnswersDefine sizes loader r old given new) (sym decoded)
       (inr (record {
         c = c;
@@ -143,15 +137,6 @@ module _ (one : LayIsOne) (sizes : Sizes) (loader digits bytes words name : List
             AnswersCommand sizes d (λ n. defined_reply n name) old given new)
             (its_change change asks) h);
       }))
-
-  change_of_define : (change : Change ClassFile) → Asks (Define loader words) change
-      → IsChangeOf (Some (AsksDefine loader digits)) change
-  change_of_define change asks =
-      subst (λ r. IsDefineOf loader r change) (sym decoded) (c, right, its_change change asks)
-
-  pub define_fits : Fits sizes (Some (AsksDefine loader digits)) (λ n. defined_reply n name)
-      (Define loader words)
-  define_fits = record { answers = answers_define; change_of = change_of_define }
 
 -- a record's words tell the name of its class
 abbrev pub TellName : Type 0
@@ -207,8 +192,8 @@ module _ (sizes : Sizes) (question : Option Asked) (told : ℕ → ReplyText) (k
       → AnswersCommand sizes change told old given new → IsLeft given next
       → Replies sizes question result old new
   replied given (Ok reply) says h left =
-      (given, says, fits.answers change asks old given new h, left)
-  replied given (Err e) says h left = inr (inl (given, fits.answers change asks old given new h))
+      (given, says, fits change asks old given new h, left)
+  replied given (Err e) says h left = inr (given, fits change asks old given new h)
 
   was_stored : {E : Type 0} (number : ℕ) (result : Result Reply E)
       → Stores sizes k change Moments (Ok number) next
@@ -279,15 +264,6 @@ module _ (sizes : Sizes) (question : Option Asked) (told : ℕ → ReplyText) (k
       → Replies sizes question result old new
   store_replies (Ok number) result s fails same says = was_stored number result s fails says
   store_replies (Err (Refused r)) result s fails same says = was_refused r result s (same tt) says
-  store_replies (Err (NoMemory n)) (Ok reply) s fails same says = absurd says
-  store_replies (Err (NoMemory n)) (Err e) s fails same says =
-      inr (inr (record {
-        change = change;
-        asked = fits.change_of change asks;
-        number = n;
-        accepts = s.1;
-        failures = same tt;
-      }))
   store_replies (Err (Unsure n)) result s fails same says = was_lost n result s fails says
 
 module _ {D : Type 0} (view : View D) where

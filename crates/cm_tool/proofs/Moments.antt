@@ -13,7 +13,7 @@ use Rattle.cm_commit.specs.States.{CommitterState}
 use Rattle.cm_machine.specs.Machine.{Machine}
 use Rattle.cm_session.specs.declared.session.Session.{Session}
 use Rattle.cm_session.specs.declared.storing.NotStored.{NotStored}
-use Rattle.cm_session.specs.declared.storing.NotStored.TheVariants.{Refused, NoMemory, Unsure}
+use Rattle.cm_session.specs.declared.storing.NotStored.TheVariants.{Refused, Unsure}
 use Rattle.cm_session.specs.Images.{StandsForSome}
 use Rattle.cm_session.specs.Moves.{GoesWith}
 use Rattle.cm_session.specs.Storing.{Hands, Stores, MakesNoCall}
@@ -96,13 +96,6 @@ module _ {D : Type 0} (view : View D) where
         }
     stored_goes_on (Err (Refused r)) s none =
         let same = ap (λ (m : Machine). m.acknowledged) s.0.0 in
-        record {
-          goes = goes;
-          no_less = omega (arith, same);
-          moments = inl (ap (λ (c : CommitterState D). c.disk) (none tt));
-        }
-    stored_goes_on (Err (NoMemory number)) s none =
-        let same = ap (λ (m : Machine). m.acknowledged) s.1.next_is in
         record {
           goes = goes;
           no_less = omega (arith, same);

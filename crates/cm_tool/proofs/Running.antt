@@ -31,9 +31,9 @@ use Rattle.cm_tool.specs.declared.script.ToolFault.TheVariants as fault
 use Rattle.cm_tool.specs.Answers.{Served, served, Pause, pause}
 use Rattle.cm_tool.specs.Answers.{StandsBetween, RunsLine, AnswersEach, EndsUnsure}
 use Rattle.cm_tool.specs.Serving.{IsReady, LedTo, GoesOn, Replies}
-use Rattle.cm_tool.specs.Runs.{fault_of, Turned, HasEnded, BreaksIn, BreaksBefore, LeavesUnstored}
+use Rattle.cm_tool.specs.Runs.{fault_of, Turned, HasEnded, BreaksIn, BreaksBefore}
 use Rattle.cm_tool.specs.Runs.{Breaks, Turns, IsAnswered, EndsEarly, EndsBefore, EndsIn}
-use Rattle.cm_tool.specs.Runs.{EndsUnstored, Ends, IsRun}
+use Rattle.cm_tool.specs.Runs.{Ends, IsRun}
 
 -- ---- lines
 
@@ -297,24 +297,13 @@ module _ {D : Type 0} (Leaves : D → D → (List ℕ → Type 0) → Type 0) (s
         written = Appends-trans h k m (reply_lines so.replies) w.part so.written w.written;
       }
 
-  unstored : LeavesUnstored sizes (io b k m) t.served u.served
-      → EndsUnstored sizes (io a h m) so.lines so.replies t.served u.served
-  unstored leaves =
-      record {
-        line = leaves.line;
-        begins = begins_more a b so.lines (leaves.line ∷ []) so.taken leaves.next;
-        unstored = leaves.unstored;
-        written = Appends-kept h k m (reply_lines so.replies) so.written leaves.nothing;
-      }
-
   broken : (e : ToolFault) → Breaks sizes e (io b k m) t.served u.served
       → Ends sizes e (io a h m) so.lines so.replies t.served u.served
   unfolding late
   broken fault.Input breaks = early breaks
   broken fault.Output breaks = late breaks
   broken fault.NoMemory (inl breaks) = inl (early breaks)
-  broken fault.NoMemory (inr (inl breaks)) = inr (inl (late breaks.0, breaks.1))
-  broken fault.NoMemory (inr (inr leaves)) = inr (inr (unstored leaves))
+  broken fault.NoMemory (inr breaks) = inr (late breaks.0, breaks.1)
 
   run_broken : (e : ToolFault) → Breaks sizes e (io b k m) t.served u.served
       → Leaves t.disk u.disk (StandsBetween sizes t.served.machine u.served.machine)
@@ -460,13 +449,13 @@ asked_line : {E : Type 0} (sizes : Sizes) (a b : Option (List ℕ)) (buffer : Li
 asked_line sizes a b buffer question result old new read says replies =
     subst (λ q. Replies sizes q result old new) (says read.0 read.2) replies
 
--- no memory for the reply, or for the command
+-- no memory for the reply
 unmade : {E : Type 0} (sizes : Sizes) (a b h : Option (List ℕ)) (s u : Served) (line : List ℕ)
     (e : E) → TakesLines a b (line ∷ []) → Replies sizes (asked_by line) (Err e) s u
     → Breaks sizes fault.NoMemory (io a h h) s u
 unmade sizes a b h s u line e taken (inl same) =
     inl (record { same = same; nothing = Keeps-refl h })
-unmade sizes a b h s u line e taken (inr (inl answered)) =
+unmade sizes a b h s u line e taken (inr answered) =
     let cut : BreaksIn sizes (io a h h) s u = record {
       line = line;
       given = answered.0;
@@ -480,14 +469,7 @@ unmade sizes a b h s u line e taken (inr (inl answered)) =
         written = Appends-nil h;
       };
     } in
-    inr (inl (cut, refl))
-unmade sizes a b h s u line e taken (inr (inr left)) =
-    inr (inr (record {
-      line = line;
-      next = begins_with a b (line ∷ []) taken;
-      unstored = left;
-      nothing = Keeps-refl h;
-    }))
+    inr (cut, refl)
 
 module _ {D : Type 0} (sizes : Sizes) (a b h : Option (List ℕ)) (old : Served) (now : ℕ)
     (d e : D) (Goes : Machine → Type 0) (buffer : LineBuffer) (question : Option Line)

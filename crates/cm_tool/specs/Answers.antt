@@ -142,32 +142,6 @@ AnswersAsked sizes (Some (AsksFind loader name)) old given new =
 abbrev pub AnswersLine : Sizes → List ℕ → Served → ReplyText → Served → Type 0
 AnswersLine sizes line old given new = AnswersAsked sizes (asked_by line) old given new
 
--- ---- a command that isn't answered
-
--- the bytes are a class, and it is to be defined
-abbrev pub IsDefineOf : List ℕ → Result (List ℕ) FromHexError → Change ClassFile → Type 0
-IsDefineOf loader (Err e) change = ⊥
-IsDefineOf loader (Ok bytes) change =
-    (c : ClassFile) × IsRight bytes c × (change ≡ Define loader c)
-
--- the question asks for this change of classes
-abbrev pub IsChangeOf : Option Asked → Change ClassFile → Type 0
-IsChangeOf None change = ⊥
-IsChangeOf (Some (AsksLoader name)) change = change ≡ AddLoader name
-IsChangeOf (Some (AsksUnload name)) change = change ≡ Unload name
-IsChangeOf (Some (AsksTighten name)) change = change ≡ Tighten name
-IsChangeOf (Some (AsksUnloadAll names)) change = change ≡ UnloadAll (take names_kept names)
-IsChangeOf (Some (AsksDefine loader digits)) change = IsDefineOf loader (decode_of digits) change
-IsChangeOf (Some (AsksFind loader name)) change = ⊥
-
--- The command was accepted, and an allocation failed before it was handed out: no file holds it.
-pub record IsUnstored (sizes : Sizes) (question : Option Asked) (old new : Served) : Type 0 where
-  pub change : Change ClassFile
-  pub asked : IsChangeOf question change
-  pub number : ℕ
-  pub accepts : Accepts sizes old.machine change number new.machine
-  pub failures : new.failures ≡ old.failures
-
 -- ---- a script
 
 -- where a script stands between two lines: what it runs on, and the disk

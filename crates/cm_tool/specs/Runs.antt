@@ -8,7 +8,7 @@ use Rattle.cm_pool.specs.Geometry.{Sizes}
 use Rattle.cm_session.specs.Storing.{IsAtRest}
 use Rattle.cm_lines.specs.declared.fault.LineFault.{LineFault}
 use Rattle.cm_lines.specs.declared.fault.LineFault.TheVariants as line_fault
-use Rattle.cm_lines.specs.Lines.{lines_of, asked_by}
+use Rattle.cm_lines.specs.Lines.{lines_of}
 use Rattle.cm_lines.specs.Streams.{Io, TakesLines, HasNoLine, Begins, WritesPart}
 use Rattle.cm_tool.specs.declared.reply.ReplyKind.{ReplyKind}
 use Rattle.cm_tool.specs.Texts.{ReplyText}
@@ -16,7 +16,7 @@ use Rattle.cm_tool.specs.Replies.{is_refused, is_unsure, reply_line, reply_lines
 use Rattle.cm_tool.specs.declared.script.Outcome.{Outcome}
 use Rattle.cm_tool.specs.declared.script.ToolFault.{ToolFault}
 use Rattle.cm_tool.specs.declared.script.ToolFault.TheVariants as fault
-use Rattle.cm_tool.specs.Answers.{Served, AnswersLine, IsUnstored, Pause, StandsBetween}
+use Rattle.cm_tool.specs.Answers.{Served, AnswersLine, Pause, StandsBetween}
 use Rattle.cm_tool.specs.Answers.{AnswersEach, Answers}
 
 abbrev pub fault_of : LineFault → ToolFault
@@ -52,26 +52,18 @@ pub record BreaksIn (sizes : Sizes) (io : Io) (old new : Served) : Type 0 where
   pub answer : AnswersLine sizes line old given new
   pub written : WritesPart io.before io.after (reply_line given)
 
--- the next line's command was accepted and isn't stored, and nothing was written
-pub record LeavesUnstored (sizes : Sizes) (io : Io) (old new : Served) : Type 0 where
-  pub line : List ℕ
-  pub next : Begins io.script (line ∷ [])
-  pub unstored : IsUnstored sizes (asked_by line) old new
-  pub nothing : Keeps io.before io.after
-
 -- nothing was run, and nothing was written
 pub record BreaksBefore (io : Io) (old new : Served) : Type 0 where
   pub same : new ≡ old
   pub nothing : Keeps io.before io.after
 
 -- A failing reader breaks before a line, a failing writer in one. A failed allocation breaks before
--- it, or in it with nothing of its reply written, or leaves its command unstored.
+-- it, or in it with nothing of its reply written.
 abbrev pub Breaks : Sizes → ToolFault → Io → Served → Served → Type 0
 Breaks sizes fault.Input io old new = BreaksBefore io old new
 Breaks sizes fault.Output io old new = BreaksIn sizes io old new
 Breaks sizes fault.NoMemory io old new =
-    BreaksBefore io old new
-    ⊎ (((b : BreaksIn sizes io old new) × (b.written.part ≡ [])) ⊎ LeavesUnstored sizes io old new)
+    BreaksBefore io old new ⊎ ((b : BreaksIn sizes io old new) × (b.written.part ≡ []))
 
 -- the rest is what the reader gives behind the line
 abbrev pub Turns : {D : Type 0} → Sizes → Option (List ℕ) → Io → Result (Option ReplyKind) ToolFault
@@ -113,21 +105,12 @@ pub record EndsIn (sizes : Sizes) (io : Io) (lines : List (List ℕ)) (replies :
   pub whole : reply_line given ≡ part ++ rest
   pub written : Appends io.before io.after (reply_lines replies ++ part)
 
--- the next line's command was accepted too and isn't stored, and nothing more is written
-pub record EndsUnstored (sizes : Sizes) (io : Io) (lines : List (List ℕ)) (replies : List ReplyText)
-    (between new : Served) : Type 0 where
-  pub line : List ℕ
-  pub begins : Begins io.script (lines ++ line ∷ [])
-  pub unstored : IsUnstored sizes (asked_by line) between new
-  pub written : Appends io.before io.after (reply_lines replies)
-
 abbrev pub Ends : Sizes → ToolFault → Io → List (List ℕ) → List ReplyText → Served → Served → Type 0
 Ends sizes fault.Input io lines replies between new = EndsBefore io replies between new
 Ends sizes fault.Output io lines replies between new = EndsIn sizes io lines replies between new
 Ends sizes fault.NoMemory io lines replies between new =
     EndsBefore io replies between new
-    ⊎ (((e : EndsIn sizes io lines replies between new) × (e.part ≡ []))
-    ⊎ EndsUnstored sizes io lines replies between new)
+    ⊎ ((e : EndsIn sizes io lines replies between new) × (e.part ≡ []))
 
 -- The script's first lines were answered, each reply is written, and none is unsure. Then the run
 -- broke: by a failing reader before the next line was run, by a failing writer in it, and by a

@@ -10,7 +10,7 @@ use Rattle.cm_prepare.specs.Names.{names_kept}
 use Rattle.cm_machine.specs.Machine.{Machine}
 use Rattle.cm_session.specs.declared.session.Session.{Session}
 use Rattle.cm_session.specs.declared.storing.NotStored.{NotStored}
-use Rattle.cm_session.specs.declared.storing.NotStored.TheVariants.{Refused, NoMemory, Unsure}
+use Rattle.cm_session.specs.declared.storing.NotStored.TheVariants.{Refused, Unsure}
 use Rattle.cm_session.specs.Images.{StandsForSome}
 use Rattle.cm_session.specs.Moves.{GoesWith}
 use Rattle.cm_session.specs.Storing.{IsAtRest}
@@ -19,7 +19,7 @@ use Rattle.cm_lines.specs.Lines.{AsksUnloadAll}
 use Rattle.cm_tool.specs.declared.reply.Reply.{Reply}
 use Rattle.cm_tool.specs.Texts.{ReplyText, refusal_reply, unsure_reply}
 use Rattle.cm_tool.specs.Replies.{IsReply, is_unsure}
-use Rattle.cm_tool.specs.Answers.{Served, served, AnswersAsked, IsUnstored, StandsBetween}
+use Rattle.cm_tool.specs.Answers.{Served, served, AnswersAsked, StandsBetween}
 
 -- everything that was accepted is acknowledged, and the device works
 pub record IsReady (k : Machine) : Type 0 where
@@ -66,21 +66,17 @@ pub record IsLeft (given : ReplyText) (k : Machine) : Type 0 where
   pub works : is_unsure given.kind ≡ false → k.failed ≡ false
 
 -- A reply answers what was asked. Where memory for it was refused, the command was answered so, or
--- is left unstored, or nothing was done.
+-- nothing was done.
 abbrev pub Replies : {E : Type 0} → Sizes → Option Asked → Result Reply E → Served → Served → Type 0
 Replies sizes question (Ok reply) old new =
     (given : ReplyText) × IsReply given reply × AnswersAsked sizes question old given new
     × IsLeft given new.machine
 Replies sizes question (Err e) old new =
-    (new ≡ old)
-    ⊎ (((given : ReplyText) × AnswersAsked sizes question old given new)
-    ⊎ IsUnstored sizes question old new)
+    (new ≡ old) ⊎ ((given : ReplyText) × AnswersAsked sizes question old given new)
 
--- a command that isn't stored has a reply, but where an allocation failed before it was handed out
+-- a command that isn't stored has a reply
 abbrev pub TellsNotStored : {E : Type 0} → NotStored → Result Reply E → Type 0
 TellsNotStored (Refused r) result = IfOk result (IsReply (refusal_reply r))
-TellsNotStored (NoMemory n) (Ok reply) = ⊥
-TellsNotStored (NoMemory n) (Err e) = Unit {0}
 TellsNotStored (Unsure n) result = IfOk result (IsReply (unsure_reply n))
 
 abbrev pub Tells : {E : Type 0} → (ℕ → ReplyText) → Result ℕ NotStored → Result Reply E → Type 0

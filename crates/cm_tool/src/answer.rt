@@ -26,7 +26,7 @@ use hex::FromHexError;
 use std::alloc::{AllocError, Global};
 
 /// Runs what a line asks for, and makes its reply. An `Err` says that an allocation failed: for the
-/// reply, or before a command was handed out, or before anything was done.
+/// reply, or before anything was done.
 pub fn answer<D: Disk>(
     alloc: Global,
     session: &mut Session<D>,
@@ -102,7 +102,6 @@ fn reply_to_not_stored(alloc: Global, fault: NotStored) -> Result<Reply, AllocEr
 {
     match fault {
         NotStored::Refused(refusal) => Reply::refused(alloc, refusal),
-        NotStored::NoMemory(_) => Err(AllocError),
         NotStored::Unsure(number) => Reply::unsure(alloc, number),
     }
 }

@@ -37,8 +37,7 @@ pub enum ToolFault {
     /// A reply couldn't be written.
     #[error("the output failed")]
     Output,
-    /// An allocation failed for a line, a reply, or a command that was accepted and not handed out
-    /// yet.
+    /// An allocation failed for a line or a reply.
     #[error("out of memory")]
     NoMemory,
 }
@@ -73,9 +72,8 @@ impl Outcome {
 ///
 /// A line ends at a newline; a rest that isn't empty is a line too. The run ends at an unsure
 /// command, since no further one would be accepted. It is an `Err` where the reader fails
-/// (`Input`), where the writer does (`Output`), or where an allocation failed for a line, a reply,
-/// or a command that was accepted and not handed out yet (`NoMemory`): what was acknowledged is
-/// stored.
+/// (`Input`), where the writer does (`Output`), or where an allocation failed for a line or a reply
+/// (`NoMemory`): what was acknowledged is stored.
 pub fn run_script<R: BufRead, W: Write, D: Disk>(
     alloc: Global,
     reader: &mut R,

@@ -30,12 +30,10 @@ returns-clause-opened g c =
     let is = c.invariant_holds.ensures in
     record {
       leads = subst (λ (q : List Handed). Leads (Reopening sizes k bytes)
-          (λ j. IsSession j front committer q c.number-sealed.result false))
-          (sym c.new.ensures.items)
-          (subst (λ (n : ℕ). Leads (Reopening sizes k bytes)
-          (λ j. IsSession j front committer [] n false)) (sym c.number-sealed.ensures)
+          (λ j. IsSession j front committer q false))
+          (sym (c.reserve.ensures.items ∙ c.new-queue.ensures.items))
           (reopened one live framed stands c.words_tell_name.ensures c.opened_is_ahead.ensures on
-          sizes k bytes some front committer opens is));
+          sizes k bytes some front committer opens is);
       sizes_are = same_sizes one live framed stands c.words_tell_name.ensures
           c.opened_is_ahead.ensures on sizes k bytes some front committer opens is;
       settled = c.in-Ok.ensures.stored;
@@ -59,6 +57,6 @@ returns-clause-begins g c =
       stands = subst (λ (z : Sizes). Stands z bytes state arenas number) (sym o.sizes_are)
           opens.stands;
       goes = subst (λ (j : Machine). IsSession j c.in-Ok.opened.0 c.in-Ok.opened.1
-          c.new.result.items c.number-sealed.result false) (fresh base o.leads.does.number
+          c.reserve.new.self.items false) (fresh base o.leads.does.number
           o.leads.next o.leads.does.reopens) o.leads.goes;
     }

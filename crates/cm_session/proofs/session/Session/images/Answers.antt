@@ -8,5 +8,5 @@ returns g c =
     λ k i. record {
       each = λ image is.
           stands_for_some laws.committed laws.counted laws.rows k s.front s.committer s.queue.items
-          s.sealed s.has_failed i image (c.images.ensures.each image is);
+          s.has_failed i image (c.images.ensures.each image is);
     }

@@ -22,15 +22,15 @@ returns-clause-machine g c =
     let same = c.join_queued-group.ensures.commands ∙ sym (ap commands_of items) in
     let joined : (n : ℕ) → GoBehind n s.queue.items → GoBehind n (group ∷ rest) =
     (λ n b. c.join_queued-group.ensures.behind n (subst (GoBehind n) items b)) in
-    let may = is_taken law k s.front s.committer s.queue.items rest s.sealed s.has_failed group i
+    let may = is_taken law k s.front s.committer s.queue.items rest s.has_failed group i
     none same joined sound in
     let taken = on_ok c.offer-taken.result (c.offer-taken.ensures.takes.1 may)
     c.offer-taken.ensures.taken in
     let steps = on_ok c.offer-taken.result (c.offer-taken.ensures.takes.1 may)
     c.offer-taken.ensures.steps in
     let calls = ap (λ (z : CommitterState _). calls_left z.left) taken in
-    subst (λ (z : CommitterState _). IsSession k s.front z rest s.sealed s.has_failed) (sym taken)
-    (takes law k s.front s.committer s.queue.items rest s.sealed s.has_failed group i none same
+    subst (λ (z : CommitterState _). IsSession k s.front z rest s.has_failed) (sym taken)
+    (takes law k s.front s.committer s.queue.items rest s.has_failed group i none same
     joined (with_taken g.D.Disk.view s.committer group).left (omega (arith, steps, calls)))
 
 pub returns-clause-taken : goal.returns-clause-taken
@@ -49,7 +49,7 @@ returns-clause-taken g c =
     let same = c.join_queued-group.ensures.commands ∙ sym (ap commands_of items) in
     let joined : (n : ℕ) → GoBehind n s.queue.items → GoBehind n (group ∷ rest) =
     (λ n b. c.join_queued-group.ensures.behind n (subst (GoBehind n) items b)) in
-    let may = is_taken law k s.front s.committer s.queue.items rest s.sealed s.has_failed group i
+    let may = is_taken law k s.front s.committer s.queue.items rest s.has_failed group i
     none same joined sound in
     let taken = on_ok c.offer-taken.result (c.offer-taken.ensures.takes.1 may)
     c.offer-taken.ensures.taken in
