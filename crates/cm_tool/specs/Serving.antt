@@ -19,7 +19,7 @@ use Rattle.cm_lines.specs.Lines.{AsksUnloadAll}
 use Rattle.cm_tool.specs.declared.reply.Reply.{Reply}
 use Rattle.cm_tool.specs.Texts.{ReplyText, refusal_reply, unsure_reply}
 use Rattle.cm_tool.specs.Replies.{IsReply, is_unsure}
-use Rattle.cm_tool.specs.Answers.{Served, served, AnswersAsked, StandsBetween}
+use Rattle.cm_tool.specs.Answers.{Served, served, AnswersAsked, Pause, pause, StandsBetween}
 
 -- everything that was accepted is acknowledged, and the device works
 pub record IsReady (k : Machine) : Type 0 where
@@ -31,6 +31,16 @@ pub record LedTo (Does : Served → Type 0) (failures : ℕ) (Goes : Machine →
   pub next : Machine
   pub does : Does (served next failures)
   pub goes : Goes next
+
+-- Whichever machine the session goes with, everything stored and the device working: what is done
+-- between the two pauses leads the machine to another one, and the session goes on with that one.
+abbrev pub Proceeds : {D : Type 0} → View D → (Pause D → Pause D → Type 0)
+    → (Machine → Machine → Type 0) → Session D → Session D → Type 0
+Proceeds view Does GoesFrom old new =
+    (k : Machine) → GoesWith k old → IsReady k
+    → LedTo (λ next. Does (pause (served k (view.failures old.committer.disk)) old.committer.disk)
+    (pause next new.committer.disk))
+    (view.failures new.committer.disk) (GoesFrom k)
 
 -- The session goes with the machine, and at each moment on the way a crash left what stands for all
 -- that was acknowledged before, and for nothing that wasn't handed out by now.
@@ -73,6 +83,15 @@ Replies sizes question (Ok reply) old new =
     × IsLeft given new.machine
 Replies sizes question (Err e) old new =
     (new ≡ old) ⊎ ((given : ReplyText) × AnswersAsked sizes question old given new)
+
+-- What is done is what the question asks for, and the result is the reply to it: the session goes on
+-- with the machine that this leads to, and at no moment did a crash take back what was acknowledged.
+abbrev pub Serves : {D E : Type 0} → View D → Option Asked → Result Reply E → Session D → Session D
+    → Type 0
+Serves view question result old new =
+    Proceeds view
+    (λ before now. Replies old.committer.sizes question result before.served now.served)
+    (λ k. MayGoOn view k old new) old new
 
 -- a command that isn't stored has a reply
 abbrev pub TellsNotStored : {E : Type 0} → NotStored → Result Reply E → Type 0

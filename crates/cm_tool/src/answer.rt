@@ -7,14 +7,10 @@ ghost use Rattle.hex.specs.declared.error.FromHexError.TheVariants.{OutOfMemory}
 ghost use Rattle.cm_class.specs.declared.class_file.ClassFile.{ClassFile};
 ghost use Rattle.cm_record.specs.Layout.{lay};
 ghost use Rattle.cm_rules.specs.Answer.{IsRight};
-ghost use Rattle.cm_machine.specs.Machine.{Machine};
-ghost use Rattle.cm_session.specs.Moves.{GoesWith};
 ghost use Rattle.cm_lines.specs.Lines.{Asked, seen, AsksDefine, AsksFind};
 ghost use Rattle.cm_prepare.specs.Commands.{change_asked};
 ghost use Rattle.cm_tool.specs.Texts.{number_reply, defined_reply};
-ghost use Rattle.cm_tool.specs.Answers.{served};
-ghost use Rattle.cm_tool.specs.Serving.{IsReady, LedTo, MayGoOn, Replies, Tells, TellsNotStored};
-ghost use Rattle.cm_tool.specs.Serving.{IsAskedBy};
+ghost use Rattle.cm_tool.specs.Serving.{Serves, IsAskedBy, Tells, TellsNotStored};
 
 use crate::Reply;
 use cm_disk::Disk;
@@ -32,11 +28,8 @@ pub fn answer<D: Disk>(
     session: &mut Session<D>,
     question: Option<Line<'_>>,
 ) -> Result<Reply, AllocError>
-    ensures machine { (k : Machine) → GoesWith k session.old → IsReady k
-        → LedTo (Replies session.old.committer.sizes (option_map seen question.entry) result
-        (served k (D.view.failures session.old.committer.disk)))
-        (D.view.failures session.new.committer.disk)
-        (MayGoOn D.view k session.old session.new) }
+    ensures machine { Serves D.view (option_map seen question.entry) result session.old
+        session.new }
     ensures sizes { session.new.committer.sizes ≡ session.old.committer.sizes }
 {
     match question {
@@ -50,11 +43,7 @@ fn answer_question<D: Disk>(
     session: &mut Session<D>,
     question: Line<'_>,
 ) -> Result<Reply, AllocError>
-    ensures machine { (k : Machine) → GoesWith k session.old → IsReady k
-        → LedTo (Replies session.old.committer.sizes (Some (seen question.entry)) result
-        (served k (D.view.failures session.old.committer.disk)))
-        (D.view.failures session.new.committer.disk)
-        (MayGoOn D.view k session.old session.new) }
+    ensures machine { Serves D.view (Some (seen question.entry)) result session.old session.new }
     ensures sizes { session.new.committer.sizes ≡ session.old.committer.sizes }
 {
     match question {
@@ -76,11 +65,7 @@ fn answer_number<D: Disk>(
     command: Command<'_>,
 ) -> Result<Reply, AllocError>
     ensures machine { (question : Asked) → IsAskedBy question (change_asked command.entry)
-        → (k : Machine) → GoesWith k session.old → IsReady k
-        → LedTo (Replies session.old.committer.sizes (Some question) result
-        (served k (D.view.failures session.old.committer.disk)))
-        (D.view.failures session.new.committer.disk)
-        (MayGoOn D.view k session.old session.new) }
+        → Serves D.view (Some question) result session.old session.new }
     ensures sizes { session.new.committer.sizes ≡ session.old.committer.sizes }
 {
     let stored = session.store(command);
@@ -112,12 +97,7 @@ fn define<D: Disk>(
     loader: &[u8],
     digits: &[u8],
 ) -> Result<Reply, AllocError>
-    ensures machine { (k : Machine) → GoesWith k session.old → IsReady k
-        → LedTo (Replies session.old.committer.sizes
-        (Some (AsksDefine loader.now digits.now)) result
-        (served k (D.view.failures session.old.committer.disk)))
-        (D.view.failures session.new.committer.disk)
-        (MayGoOn D.view k session.old session.new) }
+    ensures machine { Serves D.view (Some (AsksDefine loader.now digits.now)) result session.old session.new }
     ensures sizes { session.new.committer.sizes ≡ session.old.committer.sizes }
 {
     match hex::decode(alloc, digits) {
@@ -146,11 +126,7 @@ fn define_bytes<D: Disk>(
     bytes: &[u8],
 ) -> Result<Reply, AllocError>
     ensures machine { (digits : List ℕ) → decode_of digits ≡ Ok bytes.now
-        → (k : Machine) → GoesWith k session.old → IsReady k
-        → LedTo (Replies session.old.committer.sizes (Some (AsksDefine loader.now digits)) result
-        (served k (D.view.failures session.old.committer.disk)))
-        (D.view.failures session.new.committer.disk)
-        (MayGoOn D.view k session.old session.new) }
+        → Serves D.view (Some (AsksDefine loader.now digits)) result session.old session.new }
     ensures sizes { session.new.committer.sizes ≡ session.old.committer.sizes }
 {
     match prepare(alloc, bytes) {
@@ -167,11 +143,7 @@ fn define_class<D: Disk>(
 ) -> Result<Reply, AllocError>
     ensures machine { (digits bytes : List ℕ) (c : ClassFile) → decode_of digits ≡ Ok bytes
         → IsRight bytes c → class ≡ lay c
-        → (k : Machine) → GoesWith k session.old → IsReady k
-        → LedTo (Replies session.old.committer.sizes (Some (AsksDefine loader.now digits)) result
-        (served k (D.view.failures session.old.committer.disk)))
-        (D.view.failures session.new.committer.disk)
-        (MayGoOn D.view k session.old session.new) }
+        → Serves D.view (Some (AsksDefine loader.now digits)) result session.old session.new }
     ensures sizes { session.new.committer.sizes ≡ session.old.committer.sizes }
 {
     layout_determines_class();
@@ -204,11 +176,7 @@ fn find<D: Disk>(
     loader: &[u8],
     class: &[u8],
 ) -> Result<Reply, AllocError>
-    ensures { (k : Machine) → GoesWith k session.now → IsReady k
-        → LedTo (Replies session.now.committer.sizes (Some (AsksFind loader.now class.now)) result
-        (served k (D.view.failures session.now.committer.disk)))
-        (D.view.failures session.now.committer.disk)
-        (MayGoOn D.view k session.now session.now) }
+    ensures { Serves D.view (Some (AsksFind loader.now class.now)) result session.now session.now }
 {
     let name = match unescape(alloc, class) {
         Ok(name) => name,

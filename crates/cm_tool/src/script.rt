@@ -8,7 +8,7 @@ ghost use Rattle.cm_lines.specs.Streams.{io};
 ghost use Rattle.cm_tool.specs.Replies.{is_refused, is_unsure};
 ghost use Rattle.cm_tool.specs.Answers.{Served, served, pause};
 ghost use Rattle.cm_tool.specs.Runs.{fault_of, Turns, IsRun};
-ghost use Rattle.cm_tool.specs.Serving.{IsReady, LedTo, GoesOn, MayGoOn, medium, LeavesDisk};
+ghost use Rattle.cm_tool.specs.Serving.{IsReady, Proceeds, GoesOn, MayGoOn, medium, LeavesDisk};
 
 use crate::ReplyKind;
 use crate::answer::answer;
@@ -80,12 +80,9 @@ pub fn run_script<R: BufRead, W: Write, D: Disk>(
     writer: &mut W,
     session: &mut Session<D>,
 ) -> Result<Outcome, ToolFault>
-    ensures machine { (k : Machine) → GoesWith k session.old → IsReady k
-        → LedTo (λ next. IsRun (LeavesOnly D.view) session.old.committer.sizes
-        (io (R.remaining reader.old) (W.contents writer.old) (W.contents writer.new)) result
-        (pause (served k (D.view.failures session.old.committer.disk)) session.old.committer.disk)
-        (pause next session.new.committer.disk))
-        (D.view.failures session.new.committer.disk) (λ next. GoesWith next session.new) }
+    ensures machine { Proceeds D.view (IsRun (LeavesOnly D.view) session.old.committer.sizes
+        (io (R.remaining reader.old) (W.contents writer.old) (W.contents writer.new)) result)
+        (λ k next. GoesWith next session.new) session.old session.new }
     ensures sizes { session.new.committer.sizes ≡ session.old.committer.sizes }
 {
     let mut line = LineBuffer::new(alloc);
@@ -141,13 +138,9 @@ fn run_line<R: BufRead, W: Write, D: Disk>(
     session: &mut Session<D>,
     line: &mut LineBuffer,
 ) -> Result<Option<ReplyKind>, ToolFault>
-    ensures machine { (k : Machine) → GoesWith k session.old → IsReady k
-        → LedTo (λ next. Turns session.old.committer.sizes (R.remaining reader.new)
-        (io (R.remaining reader.old) (W.contents writer.old) (W.contents writer.new)) result
-        (pause (served k (D.view.failures session.old.committer.disk)) session.old.committer.disk)
-        (pause next session.new.committer.disk))
-        (D.view.failures session.new.committer.disk)
-        (GoesOn D.view k session.old session.new) }
+    ensures machine { Proceeds D.view (Turns session.old.committer.sizes (R.remaining reader.new)
+        (io (R.remaining reader.old) (W.contents writer.old) (W.contents writer.new)) result)
+        (λ k. GoesOn D.view k session.old session.new) session.old session.new }
     ensures sizes { session.new.committer.sizes ≡ session.old.committer.sizes }
 {
     let turned = take_line(alloc, reader, writer, session, line);
@@ -163,13 +156,9 @@ fn take_line<R: BufRead, W: Write, D: Disk>(
     session: &mut Session<D>,
     line: &mut LineBuffer,
 ) -> Result<Option<ReplyKind>, ToolFault>
-    ensures machine { (k : Machine) → GoesWith k session.old → IsReady k
-        → LedTo (λ next. Turns session.old.committer.sizes (R.remaining reader.new)
-        (io (R.remaining reader.old) (W.contents writer.old) (W.contents writer.new)) result
-        (pause (served k (D.view.failures session.old.committer.disk)) session.old.committer.disk)
-        (pause next session.new.committer.disk))
-        (D.view.failures session.new.committer.disk)
-        (MayGoOn D.view k session.old session.new) }
+    ensures machine { Proceeds D.view (Turns session.old.committer.sizes (R.remaining reader.new)
+        (io (R.remaining reader.old) (W.contents writer.old) (W.contents writer.new)) result)
+        (λ k. MayGoOn D.view k session.old session.new) session.old session.new }
     ensures sizes { session.new.committer.sizes ≡ session.old.committer.sizes }
 {
     match read_line(reader, line) {

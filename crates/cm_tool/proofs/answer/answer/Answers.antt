@@ -3,21 +3,16 @@ use Rattle.std.specs.Option.{option_map}
 use Rattle.cm_lines.specs.Lines.{seen}
 use Rattle.cm_tool.specs.Texts.{bad_line_reply}
 use Rattle.cm_tool.specs.Answers.{served, AnswersAsked}
-use Rattle.cm_tool.specs.Serving.{LedTo, MayGoOn, Replies}
+use Rattle.cm_tool.specs.Serving.{Serves}
 use Rattle.cm_tool.proofs.Commands.{stays, replies_same}
 use Rattle.cm_tool.proofs.Moments.{still}
 use Rattle.cm_tool.proofs.answer.answer.Goals as goal
 
 pub returns-in-Some-clause-machine : goal.returns-in-Some-clause-machine
 returns-in-Some-clause-machine g c =
-    let s = c.args.session.now in
-    let failures = g.D.Disk.view.failures in
-    let new = c.answer_question.new.session in
-    λ k goes ready.
-    subst (λ q. LedTo (Replies s.committer.sizes (option_map seen q) c.answer_question.result
-    (served k (failures s.committer.disk))) (failures new.committer.disk)
-    (MayGoOn g.D.Disk.view k s new)) (sym c.in-Some.is)
-    (c.answer_question.ensures.machine k goes ready)
+    subst (λ q. Serves g.D.Disk.view (option_map seen q) c.answer_question.result
+    c.args.session.now c.answer_question.new.session) (sym c.in-Some.is)
+    c.answer_question.ensures.machine
 
 pub returns-in-None-clause-machine : goal.returns-in-None-clause-machine
 returns-in-None-clause-machine g c =
