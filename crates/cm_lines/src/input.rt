@@ -3,6 +3,7 @@
 ghost use Rattle.std.specs.Prelude.{◌≡◌, ◌≢◌, ◌≤◌, ℕ, List, length, take, IfOk, IfErr};
 ghost use Rattle.cm_lines.specs.Streams.{IsPiece, TakesPiece, ReadsLine, Grows};
 
+use crate::bound::MOST_STEPS;
 use crate::cutting::cut;
 use crate::fault::LineFault;
 use crate::line_buffer::LineBuffer;
@@ -30,14 +31,13 @@ pub fn read_line<R: BufRead>(reader: &mut R, line: &mut LineBuffer) -> Result<bo
     ensures fault { IfErr result (λ e. e ≢ LineFault.Output) }
 {
     line.clear();
-    'pieces: for _ in 0..u64::MAX {
+    'pieces: for _ in 0..MOST_STEPS {
         match take_piece(reader, line)? {
             Piece::More => {}
             Piece::Newline => return Ok(true),
             Piece::End => return Ok(line.has_bytes()),
         }
     }
-    // No line comes in 2^64 pieces: the bound only shows that the loop ends.
     Err(LineFault::Input)
 }
 

@@ -1,6 +1,7 @@
 //! The text of scripts: lines and what they ask for, names' spelling, reading and writing.
 #![tactic(auto)]
 
+mod bound;
 mod cutting;
 mod escape;
 mod fault;
@@ -10,6 +11,7 @@ mod line;
 mod line_buffer;
 mod output;
 
+pub use bound::MOST_STEPS;
 pub use cutting::cut;
 pub use escape::{NameFault, escape_into, unescape};
 pub use fault::LineFault;

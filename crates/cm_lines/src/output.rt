@@ -4,6 +4,7 @@ ghost use Rattle.std.specs.Prelude.{◌≡◌, ◌≤◌, [], length, take, IfOk
 ghost use Rattle.std.specs.Io.KnownBytes.{Appends};
 ghost use Rattle.cm_lines.specs.Streams.{WritesPart};
 
+use crate::bound::MOST_STEPS;
 use crate::fault::LineFault;
 use std::io::{ErrorKind, Write};
 
@@ -30,7 +31,7 @@ fn write_whole<W: Write>(writer: &mut W, text: &[u8]) -> Result<(), LineFault>
     ensures fault { IfErr result (λ e. e ≡ LineFault.Output) }
 {
     let mut rest = text;
-    'writes: for _ in 0..u64::MAX {
+    'writes: for _ in 0..MOST_STEPS {
         if rest.is_empty() {
             return Ok(());
         }
@@ -38,7 +39,6 @@ fn write_whole<W: Write>(writer: &mut W, text: &[u8]) -> Result<(), LineFault>
         let (_, behind) = rest.split_at(count);
         rest = behind;
     }
-    // No line is written in 2^64 parts: the bound only shows that the loop ends.
     Err(LineFault::Output)
 }
 

@@ -84,8 +84,8 @@ Replies sizes question (Ok reply) old new =
 Replies sizes question (Err e) old new =
     (new ≡ old) ⊎ ((given : ReplyText) × AnswersAsked sizes question old given new)
 
--- What is done is what the question asks for, and the result is the reply to it: the session goes on
--- with the machine that this leads to, and at no moment did a crash take back what was acknowledged.
+-- The question is served: the result answers it by what it makes of the machine, and the session
+-- goes on with that, whatever a crash may have left meanwhile.
 abbrev pub Serves : {D E : Type 0} → View D → Option Asked → Result Reply E → Session D → Session D
     → Type 0
 Serves view question result old new =

@@ -97,7 +97,8 @@ fn define<D: Disk>(
     loader: &[u8],
     digits: &[u8],
 ) -> Result<Reply, AllocError>
-    ensures machine { Serves D.view (Some (AsksDefine loader.now digits.now)) result session.old session.new }
+    ensures machine { Serves D.view (Some (AsksDefine loader.now digits.now)) result session.old
+        session.new }
     ensures sizes { session.new.committer.sizes ≡ session.old.committer.sizes }
 {
     match hex::decode(alloc, digits) {

@@ -13,7 +13,7 @@ ghost use Rattle.cm_tool.specs.Serving.{IsReady, Proceeds, GoesOn, MayGoOn, medi
 use crate::ReplyKind;
 use crate::answer::answer;
 use cm_disk::Disk;
-use cm_lines::{LineBuffer, LineFault, read_line, write_line};
+use cm_lines::{LineBuffer, LineFault, MOST_STEPS, read_line, write_line};
 use cm_session::Session;
 use std::alloc::Global;
 use std::io::{BufRead, Write};
@@ -90,7 +90,7 @@ pub fn run_script<R: BufRead, W: Write, D: Disk>(
         refused: false,
         unsure: false,
     };
-    'lines: for _ in 0..u64::MAX {
+    'lines: for _ in 0..MOST_STEPS {
         match run_line(alloc, reader, writer, session, &mut line) {
             Ok(Some(kind)) => {
                 outcome = outcome.with_reply(kind);
@@ -102,7 +102,6 @@ pub fn run_script<R: BufRead, W: Write, D: Disk>(
             Err(fault) => return Err(fault),
         }
     }
-    // No script has 2^64 lines: the bound only shows that the loop ends.
     session.images(); // so the proof knows what a crash leaves now
     Err(ToolFault::Input)
 }
