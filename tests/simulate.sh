@@ -31,6 +31,6 @@ checks() {
 }
 
 checks
-checks "$library" 403
+checks "$library" 404
 
 finish

@@ -39,11 +39,11 @@ is_asked x words right short = (
 
 -- what is found is what the machine has
 pub finds : {D : Type 0} (there : FoundIsThere) (k : Machine) (front : FrontState)
-    (committer : CommitterState D) (queue : List Handed) (failed : Bool)
-    → IsSession k front committer queue failed → (loader class : List ℕ)
+    (committer : CommitterState D) (queue : List Handed) (sealed : ℕ) (failed : Bool)
+    → IsSession k front committer queue sealed failed → (loader class : List ℕ)
     (found : Option (List ℕ)) → found ≡ class_in (state_of words_show front.rows) loader class
     → Finds committer.sizes k loader class found
-finds there k front committer queue failed i loader class found same =
+finds there k front committer queue sealed failed i loader class found same =
     subst (λ o. Finds committer.sizes k loader class o) (sym same)
     (subst (λ z. Finds z k loader class (class_in (state_of words_show front.rows) loader class))
     i.sizes
@@ -53,14 +53,14 @@ finds there k front committer queue failed i loader class found same =
 
 module _ {D : Type 0} (made : AcceptedIsMade) (refused : RefusedIsRefused) (ahead : AcceptedIsAhead)
     (k : Machine) (front new : FrontState) (committer : CommitterState D) (queue : List Handed)
-    (failed : Bool) (asked : Change (List ℕ)) (change : Change ClassFile)
+    (sealed : ℕ) (failed : Bool) (asked : Change (List ℕ)) (change : Change ClassFile)
     (asks : Asks asked change) (is_new : IsFront new)
-    (i : IsSession k front committer queue failed) where
+    (i : IsSession k front committer queue sealed failed) where
   abbrev out : List Carried
   out = commands_of (of_underway committer.underway ++ queue)
 
   abbrev Goes : Machine → Type 0
-  Goes next = IsSession next new committer queue failed
+  Goes next = IsSession next new committer queue sealed failed
 
   was_accepted : (n : ℕ) → FrontAnswers front asked (Ok n) new
       → Accepting committer.sizes k asked (Ok n) Goes
@@ -96,6 +96,7 @@ module _ {D : Type 0} (made : AcceptedIsMade) (refused : RefusedIsRefused) (ahea
             sealed_is =
                 ap (λ (j : Machine). j.sealed) m.accepts.next_is
                 ∙ (i.sealed_is ∙ sym (ap (λ (s : FrontState). s.sealed) same));
+            sealed_told = i.sealed_told ∙ sym (ap (λ (s : FrontState). s.sealed) same);
             failed_is = ap (λ (j : Machine). j.failed) m.accepts.next_is ∙ i.failed_is;
             failed_told = i.failed_told;
             noticed_is =
@@ -113,7 +114,7 @@ module _ {D : Type 0} (made : AcceptedIsMade) (refused : RefusedIsRefused) (ahea
     leads = record {
       next = k;
       does = (refl, reason);
-      goes = subst (λ s. IsSession k s committer queue failed) (sym answer.0) i;
+      goes = subst (λ s. IsSession k s committer queue sealed failed) (sym answer.0) i;
     };
   }
     where
@@ -138,9 +139,3 @@ module _ {D : Type 0} (made : AcceptedIsMade) (refused : RefusedIsRefused) (ahea
       → Accepting committer.sizes k asked result Goes
   answers (Ok n) answer = was_accepted n answer
   answers (Err r) answer = was_refused r answer
-
--- a command that is accepted isn't handed out yet
-pub accept_sealed : (s new : FrontState) (asked : Change (List ℕ)) (result : Result ℕ Refusal)
-    → FrontAnswers s asked result new → new.sealed ≡ s.sealed
-accept_sealed s new asked (Ok n) answer = ap (λ (f : FrontState). f.sealed) answer.2.after
-accept_sealed s new asked (Err r) answer = ap (λ (f : FrontState). f.sealed) answer.0

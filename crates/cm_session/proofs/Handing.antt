@@ -1,16 +1,16 @@
 -- A group that is handed out, what is learnt, and a failure that is noticed.
 -- For `Session::learn`, `Session::offer_next`, `Session::seal`.
 use Rattle.std.proofs.Common.{◌≡◌, ℕ, ◌+◌, ◌-◌, ◌≤◌, ◌<◌, Bool, List, [], ◌∷◌, ◌++◌, length}
-use Rattle.std.proofs.Common.{Option, Some, None, Result, Ok, Err, map, refl, sym, ap, subst, ◌∙◌}
-use Rattle.std.proofs.Common.{arith, append_assoc}
+use Rattle.std.proofs.Common.{Result, Ok, Err, map, refl, sym, ap, subst, ◌∙◌, arith, append_assoc}
 use Rattle.std.proofs.lemmas.List.{length-append}
 use Rattle.cm_pool.specs.Geometry.{Sizes}
 use Rattle.cm_group.specs.Groups.{Carried, Handed, IsGroup, group_limit}
-use Rattle.std.specs.Prelude.{◌||◌, IsSome, IsOk, OnOk, OnErr}
+use Rattle.std.specs.Prelude.{◌||◌, true, IsOk, OnOk, OnErr}
+use Rattle.std.specs.Result.{is_err}
 use Rattle.cm_commit.specs.Offers.{filled}
 use Rattle.cm_commit.specs.States.{CommitterState}
 use Rattle.cm_front.specs.Front.{FrontState, IsFront}
-use Rattle.cm_front.specs.Accepting.{HandsOut, Seals as SealsFront, with_learnt}
+use Rattle.cm_front.specs.Accepting.{HandsOut, with_learnt}
 use Rattle.cm_front.specs.Unsealed.{Follow}
 use Rattle.cm_machine.specs.Ahead.{IsAhead, pending}
 use Rattle.cm_machine.specs.Handover.{HandedIsAhead, LearntIsAhead, FailedIsAhead}
@@ -48,6 +48,10 @@ pub on_ok : {A E P : Type 0} (r : Result A E) → IsOk r → OnOk r P → P
 on_ok (Ok x) is p = p
 on_ok (Err e) is p = absurd (cc)
 
+pub on_err : {A E P : Type 0} (r : Result A E) → true ≡ is_err r → OnErr r P → P
+on_err (Ok x) is p = absurd (cc)
+on_err (Err e) is p = p
+
 -- ---- what isn't handed out yet
 
 no_commands : (n : ℕ) (groups : List Handed) → GoBehind n groups
@@ -63,29 +67,31 @@ no_more [] queue none = none
 no_more (group ∷ groups) queue none = absurd (cc)
 
 module _ {D : Type 0} (counted : CommandsAreCounted) (k : Machine) (front : FrontState)
-    (committer : CommitterState D) (queue : List Handed) (failed : Bool)
-    (i : IsSession k front committer queue failed) where
+    (committer : CommitterState D) (queue : List Handed) (sealed : ℕ) (failed : Bool)
+    (i : IsSession k front committer queue sealed failed) where
   all_commands : accepted_to k ≡ front.number
   all_commands =
       let all = counted front.sizes k committer.rows committer.number
       (pending (commands_of (of_underway committer.underway ++ queue)) front) i.follows in
       all ∙ i.ahead.numbers
 
-  pub none_waits : front.number ≡ front.sealed → k.sealed ≡ accepted_to k
+  pub none_waits : front.number ≡ sealed → k.sealed ≡ accepted_to k
   none_waits same =
       let all = all_commands in
       let is = i.sealed_is in
-      omega (arith, same, all, is)
+      let told = i.sealed_told in
+      omega (arith, same, all, is, told)
 
-  pub some_wait : (front.number ≡ front.sealed → ⊥) → k.sealed < accepted_to k
+  pub some_wait : (front.number ≡ sealed → ⊥) → k.sealed < accepted_to k
   some_wait differ =
       let all = all_commands in
       let is = i.sealed_is in
+      let told = i.sealed_told in
       let numbers = i.ahead.numbers in
       let handed = i.ahead.sealed in
       let long = length-append (commands_of (of_underway committer.underway ++ queue))
       (commands_of front.unsealed) in
-      omega (arith, differ, all, is, numbers, handed, long)
+      omega (arith, differ, all, is, told, numbers, handed, long)
 
   -- what was handed out is stored, so none of it waits
   pub none_queued : k.acknowledged ≡ k.sealed → queue ≡ []
@@ -97,47 +103,26 @@ module _ {D : Type 0} (counted : CommandsAreCounted) (k : Machine) (front : Fron
       (no_commands committer.number (of_underway committer.underway ++ queue) i.groups
       (omega (arith, same, stored, is, handed)))
 
--- an empty queue that keeps a place isn't full
+  -- the accepted cache has nothing to hand out
+  pub none_left : front.unsealed ≡ [] → k.sealed ≡ accepted_to k
+  none_left none =
+      let all = all_commands in
+      let is = i.sealed_is in
+      let same = subst (λ l. Follow (front.sealed + 1) l (front.number + 1)) none i.is.groups in
+      omega (arith, same, all, is)
+
+-- an empty queue with a place isn't full
 pub not_full : (capacity long : ℕ) (queue : List Handed) → long ≡ length queue → 1 ≤ capacity
     → capacity < long + 1 → queue ≡ [] → ⊥
 not_full capacity long queue long_is place full none =
-    let zero = ap length none in absurd (omega (arith, long_is, place, full, zero))
+    let zero = ap length none in omega (arith, long_is, place, full, zero)
 
 -- ---- handing out
 
-pub seals_some : (front new : FrontState) (result : Option Handed) → IsFront front
-    → (front.number ≡ front.sealed → ⊥) → SealsFront front result new → IsSome result
-seals_some front new None is differ seals =
-    let same = subst (λ l. Follow (front.sealed + 1) l (front.number + 1)) seals.0 is.groups in
-    absurd (differ (omega (arith, same)))
-seals_some front new (Some group) is differ seals = refl
-
-module _ (front new : FrontState) (group : Handed) (is_front : IsFront front)
-    (h : HandsOut front group new) where
-  oldest_first : h.oldest.first ≡ front.sealed + 1
-  oldest_first =
-      (subst (λ l. Follow (front.sealed + 1) l (front.number + 1)) h.is_oldest is_front.groups).0
-
-  first_is : group.first ≡ front.sealed + 1
-  first_is = ap (λ (g : Handed). g.first) h.group_is ∙ oldest_first
-
-  entries_are : group.entries ≡ h.oldest.entries
-  entries_are = ap (λ (g : Handed). g.entries) h.group_is
-
-  -- the last command that was handed out is the last one of the group
-  pub sealed_after : IsGroup group → new.sealed ≡ group.first + (length group.entries - 1)
-  sealed_after is =
-      ap (λ (s : FrontState). s.sealed) h.after
-      ∙ (let first = oldest_first in
-      let here = first_is in
-      let long = ap length entries_are in
-      let some = is.some in
-      omega (arith, first, here, long, some))
-
 module _ {D : Type 0} (counted : CommandsAreCounted) (handed : HandedIsAhead) (k : Machine)
-    (front new : FrontState) (committer : CommitterState D) (queue : List Handed)
+    (front new : FrontState) (committer : CommitterState D) (queue : List Handed) (sealed : ℕ)
     (failed : Bool) (group : Handed) (is : IsGroup group) (h : HandsOut front group new)
-    (is_new : IsFront new) (i : IsSession k front committer queue failed) where
+    (is_new : IsFront new) (i : IsSession k front committer queue sealed failed) where
   abbrev groups : List Handed
   groups = of_underway committer.underway ++ queue
 
@@ -147,11 +132,24 @@ module _ {D : Type 0} (counted : CommandsAreCounted) (handed : HandedIsAhead) (k
   abbrev last : ℕ
   last = group.first + (length group.entries - 1)
 
-  begins : group.first ≡ front.sealed + 1
-  begins = first_is front new group i.is h
+  oldest_first : h.oldest.first ≡ front.sealed + 1
+  oldest_first =
+      (subst (λ l. Follow (front.sealed + 1) l (front.number + 1)) h.is_oldest i.is.groups).0
 
-  ends : new.sealed ≡ last
-  ends = sealed_after front new group i.is h is
+  first_is : group.first ≡ front.sealed + 1
+  first_is = ap (λ (g : Handed). g.first) h.group_is ∙ oldest_first
+
+  entries_are : group.entries ≡ h.oldest.entries
+  entries_are = ap (λ (g : Handed). g.entries) h.group_is
+
+  sealed_after : new.sealed ≡ last
+  sealed_after =
+      ap (λ (s : FrontState). s.sealed) h.after
+      ∙ (let first = oldest_first in
+      let here = first_is in
+      let long = ap length entries_are in
+      let some = is.some in
+      omega (arith, first, here, long, some))
 
   groups_are : of_underway committer.underway ++ (queue ++ group ∷ []) ≡ groups ++ group ∷ []
   groups_are = sym (append_assoc (of_underway committer.underway) queue (group ∷ []))
@@ -167,8 +165,7 @@ module _ {D : Type 0} (counted : CommandsAreCounted) (handed : HandedIsAhead) (k
   waits_are : pending (out ++ group.entries) new ≡ pending out front
   waits_are =
       ap (λ (s : FrontState). pending (out ++ group.entries) s) h.after
-      ∙ (ap (λ l. pending (out ++ l) (record front { unsealed = h.rest }))
-      (entries_are front new group i.is h)
+      ∙ (ap (λ l. pending (out ++ l) (record front { unsealed = h.rest })) entries_are
       ∙ (append_assoc out h.oldest.entries (commands_of h.rest)
       ∙ ap (λ l. out ++ commands_of l) (sym h.is_oldest)))
 
@@ -196,21 +193,21 @@ module _ {D : Type 0} (counted : CommandsAreCounted) (handed : HandedIsAhead) (k
       let numbers = i.ahead.numbers in
       let then = ahead_then.numbers in
       let sealed = ahead_then.sealed in
-      let after = ends in
+      let after = sealed_after in
       let long = ap length waits_are in
       let more = length-append (out ++ group.entries) (commands_of new.unsealed) in
       omega (arith, all, numbers, then, sealed, after, long, more)
 
   pub hands : Leads (λ (j : Machine). Seals k group.first last j)
-      (λ j. IsSession j new committer (queue ++ group ∷ []) failed)
+      (λ j. IsSession j new committer (queue ++ group ∷ []) last failed)
   hands = record {
     next = next;
     does = record {
-      first_is = begins ∙ ap (λ n. n + 1) (sym i.sealed_is);
+      first_is = first_is ∙ ap (λ n. n + 1) (sym i.sealed_is);
       some = let some = is.some in omega (arith, some);
       few =
           let many = many in
-          let first = begins in
+          let first = first_is in
           let sealed = i.sealed_is in
           let some = is.some in
           omega (arith, many, first, sealed, some);
@@ -223,7 +220,7 @@ module _ {D : Type 0} (counted : CommandsAreCounted) (handed : HandedIsAhead) (k
       running = ap (λ (s : FrontState). s.closed) h.after ∙ i.running;
       groups = subst (GoBehind committer.number) (sym groups_are)
           (behind_more committer.number groups group i.groups
-          (let first = begins in
+          (let first = first_is in
           let sealed = i.ahead.sealed in
           omega (arith, first, sealed)) is);
       busy = i.busy;
@@ -236,7 +233,8 @@ module _ {D : Type 0} (counted : CommandsAreCounted) (handed : HandedIsAhead) (k
       follows = subst (λ l. FollowsFront next committer.rows committer.number l new) (sym out_are)
           follows_then;
       acknowledged_is = i.acknowledged_is;
-      sealed_is = sym ends;
+      sealed_is = sym sealed_after;
+      sealed_told = sym sealed_after;
       failed_is = i.failed_is;
       failed_told = i.failed_told;
       noticed_is = i.noticed_is ∙ sym (ap (λ (s : FrontState). s.broken) h.after);
@@ -246,25 +244,21 @@ module _ {D : Type 0} (counted : CommandsAreCounted) (handed : HandedIsAhead) (k
   pub hands_as : (first to : ℕ) (behind : List Handed) → first ≡ group.first → to ≡ last
       → behind ≡ queue ++ group ∷ []
       → Leads (λ (j : Machine). Seals k first to j)
-      (λ j. IsSession j new committer behind failed)
+      (λ j. IsSession j new committer behind to failed)
   hands_as first to behind first_same to_same behind_same =
       subst (λ q. Leads (λ (j : Machine). Seals k first to j)
-      (λ j. IsSession j new committer q failed)) (sym behind_same)
+      (λ j. IsSession j new committer q to failed)) (sym behind_same)
       (subst (λ n. Leads (λ (j : Machine). Seals k first n j)
-      (λ j. IsSession j new committer (queue ++ group ∷ []) failed)) (sym to_same)
+      (λ j. IsSession j new committer (queue ++ group ∷ []) n failed)) (sym to_same)
       (subst (λ n. Leads (λ (j : Machine). Seals k n last j)
-      (λ j. IsSession j new committer (queue ++ group ∷ []) failed)) (sym first_same) hands))
+      (λ j. IsSession j new committer (queue ++ group ∷ []) last failed)) (sym first_same) hands))
 
 -- ---- learning
 
-pub learn_sealed : {A E : Type 0} (s new : FrontState) (number : ℕ) (result : Result A E)
-    → OnOk result (new ≡ with_learnt s number) → OnErr result (new ≡ s) → new.sealed ≡ s.sealed
-learn_sealed s new number (Ok x) learnt same = ap (λ (f : FrontState). f.sealed) learnt
-learn_sealed s new number (Err e) learnt same = ap (λ (f : FrontState). f.sealed) same
-
 module _ {D : Type 0} (frees : LearntIsAhead) (fails : FailedIsAhead) (k : Machine)
-    (front new : FrontState) (committer : CommitterState D) (queue : List Handed) (failed : Bool)
-    (is_new : IsFront new) (i : IsSession k front committer queue failed) where
+    (front new : FrontState) (committer : CommitterState D) (queue : List Handed) (sealed : ℕ)
+    (failed : Bool) (is_new : IsFront new)
+    (i : IsSession k front committer queue sealed failed) where
   abbrev all_out : List Carried
   all_out = commands_of (of_underway committer.underway ++ queue)
 
@@ -293,7 +287,7 @@ module _ {D : Type 0} (frees : LearntIsAhead) (fails : FailedIsAhead) (k : Machi
 
   pub learns : (broken : Bool) → k.noticed || k.failed ≡ broken
       → new ≡ with_learnt (record front { broken = broken }) committer.number
-      → Leads (Learns k committer.number) (λ j. IsSession j new committer queue failed)
+      → Leads (Learns k committer.number) (λ j. IsSession j new committer queue sealed failed)
   learns broken told after = record {
     next = next;
     does = record { number_is = sym i.acknowledged_is; next_is = refl };
@@ -312,6 +306,7 @@ module _ {D : Type 0} (frees : LearntIsAhead) (fails : FailedIsAhead) (k : Machi
           (sym after) (same_commands front.sizes k next refl refl i.follows);
       acknowledged_is = i.acknowledged_is;
       sealed_is = i.sealed_is ∙ sym (ap (λ (s : FrontState). s.sealed) after);
+      sealed_told = i.sealed_told ∙ sym (ap (λ (s : FrontState). s.sealed) after);
       failed_is = i.failed_is;
       failed_told = i.failed_told;
       noticed_is = told ∙ sym (ap (λ (s : FrontState). s.broken) after);

@@ -132,7 +132,7 @@ module _ {D : Type 0} (one : StandForOne) (live : FoundIsLive) (framed : FoundIs
   front_is = o.front_is.front_is
 
   pub reopened : Leads (Reopening sizes k contents)
-      (λ j. IsSession j front committer [] false)
+      (λ j. IsSession j front committer [] committer.number false)
   reopened = record {
     next = next;
     does = record {
@@ -144,7 +144,7 @@ module _ {D : Type 0} (one : StandForOne) (live : FoundIsLive) (framed : FoundIs
       };
       stands = subst (λ n. StandsFor sizes k n contents) (sym number_is) some.stands;
     };
-    goes = subst (λ (c : CommitterState D). IsSession next front c [] false)
+    goes = subst (λ (c : CommitterState D). IsSession next front c [] c.number false)
         (sym o.committer_is) (record {
           is = is;
           sizes = ap (λ (f : FrontState). f.sizes) front_is;
@@ -157,6 +157,7 @@ module _ {D : Type 0} (one : StandForOne) (live : FoundIsLive) (framed : FoundIs
           follows = follows;
           acknowledged_is = refl;
           sealed_is = sym (ap (λ (f : FrontState). f.sealed) front_is);
+          sealed_told = sym (ap (λ (f : FrontState). f.sealed) front_is);
           failed_is = refl;
           failed_told = refl;
           noticed_is = sym (ap (λ (f : FrontState). f.broken) front_is);
@@ -176,11 +177,6 @@ module _ {D : Type 0} (one : StandForOne) (live : FoundIsLive) (framed : FoundIs
           (sym (ap (λ (f : FrontState). f.unsealed) front_is))
           (goes_on s.found.sizes k next rows number after refl refl
           (let known = some.stands.known in let n = number_is in omega (arith, known, n))))
-
-  pub sealed_to : committer.number ≡ front.sealed
-  sealed_to =
-      ap (λ (c : CommitterState D). c.number) o.committer_is
-      ∙ sym (ap (λ (f : FrontState). f.sealed) front_is)
 
   pub same_sizes : committer.sizes ≡ sizes
   same_sizes = ap (λ (c : CommitterState D). c.sizes) o.committer_is ∙ same.0

@@ -71,8 +71,8 @@ either (Cut len ∷ stages) before after image l = inl l
 
 module _ {D : Type 0} (committed : CommittedFollows) (counted : CommandsAreCounted)
     (after : RowsAreAfter) (k : Machine) (front : FrontState) (committer : CommitterState D)
-    (queue : List Handed) (failed : Bool)
-    (i : IsSession k front committer queue failed) where
+    (queue : List Handed) (sealed : ℕ) (failed : Bool)
+    (i : IsSession k front committer queue sealed failed) where
   abbrev sizes : Sizes
   sizes = committer.sizes
 

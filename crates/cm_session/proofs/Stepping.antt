@@ -74,16 +74,16 @@ still_busy (Some work) left busy more =
     let less = one_call_less left (some_left left busy) in omega (arith, less, more)
 
 module _ {D : Type 0} (k : Machine) (front : FrontState) (old new : CommitterState D)
-    (queue : List Handed) (failed : Bool)
-    (i : IsSession k front old queue failed) where
+    (queue : List Handed) (sealed : ℕ) (failed : Bool)
+    (i : IsSession k front old queue sealed failed) where
   -- ---- nothing is left
 
   pub rests : (old.underway ≡ None → queue ≡ []) → Rests old new
-      → Leads (Advancing k (Ok Idle)) (λ j. IsSession j front new queue failed)
+      → Leads (Advancing k (Ok Idle)) (λ j. IsSession j front new queue sealed failed)
   rests empty r = record {
     next = k;
     does = (i.failed_is ∙ r.sound, all, refl);
-    goes = subst (λ c. IsSession k front c queue failed) (sym r.stays) i;
+    goes = subst (λ c. IsSession k front c queue sealed failed) (sym r.stays) i;
   }
     where
       none : old.underway ≡ None
@@ -105,11 +105,11 @@ module _ {D : Type 0} (k : Machine) (front : FrontState) (old new : CommitterSta
   -- ---- a call is made
 
   pub works : Works old new
-      → Leads (Advancing k (Ok Working)) (λ j. IsSession j front new queue failed)
+      → Leads (Advancing k (Ok Working)) (λ j. IsSession j front new queue sealed failed)
   works w = record {
     next = k;
     does = (i.failed_is ∙ w.sound, refl);
-    goes = subst (λ c. IsSession k front c queue failed) (sym w.new_is) (record {
+    goes = subst (λ c. IsSession k front c queue sealed failed) (sym w.new_is) (record {
       is = i.is;
       sizes = i.sizes;
       running = i.running;
@@ -120,6 +120,7 @@ module _ {D : Type 0} (k : Machine) (front : FrontState) (old new : CommitterSta
       follows = i.follows;
       acknowledged_is = i.acknowledged_is;
       sealed_is = i.sealed_is;
+      sealed_told = i.sealed_told;
       failed_is = i.failed_is;
       failed_told = i.failed_told;
       noticed_is = i.noticed_is;
@@ -130,7 +131,7 @@ module _ {D : Type 0} (k : Machine) (front : FrontState) (old new : CommitterSta
 
   pub finishes : CommittedIsAhead → CommittedFollows → (receipt : Receipt)
       → Finishes old receipt new
-      → Leads (Advancing k (Ok (Done receipt))) (λ j. IsSession j front new queue failed)
+      → Leads (Advancing k (Ok (Done receipt))) (λ j. IsSession j front new queue sealed failed)
   finishes next_ahead committed receipt f = record {
     next = next;
     does = (
@@ -150,7 +151,7 @@ module _ {D : Type 0} (k : Machine) (front : FrontState) (old new : CommitterSta
         next_is = refl;
       },
     );
-    goes = subst (λ c. IsSession next front c queue failed) (sym f.new_is) (record {
+    goes = subst (λ c. IsSession next front c queue sealed failed) (sym f.new_is) (record {
       is = i.is;
       sizes = i.sizes;
       running = i.running;
@@ -164,6 +165,7 @@ module _ {D : Type 0} (k : Machine) (front : FrontState) (old new : CommitterSta
       follows = same_commands front.sizes k next refl refl follows;
       acknowledged_is = f.told;
       sealed_is = i.sealed_is;
+      sealed_told = i.sealed_told;
       failed_is = i.failed_is;
       failed_told = i.failed_told;
       noticed_is = i.noticed_is;
@@ -208,11 +210,11 @@ module _ {D : Type 0} (k : Machine) (front : FrontState) (old new : CommitterSta
 
   -- without the trim
   pub trims : (roots : ℕ) → Trims old roots new
-      → Leads (Advancing k (Ok (Trimmed roots))) (λ j. IsSession j front new queue failed)
+      → Leads (Advancing k (Ok (Trimmed roots))) (λ j. IsSession j front new queue sealed failed)
   trims roots t = record {
     next = k;
     does = (i.failed_is ∙ t.sound, refl);
-    goes = subst (λ c. IsSession k front c queue failed) (sym t.new_is) (record {
+    goes = subst (λ c. IsSession k front c queue sealed failed) (sym t.new_is) (record {
       is = i.is;
       sizes = i.sizes;
       running = i.running;
@@ -226,6 +228,7 @@ module _ {D : Type 0} (k : Machine) (front : FrontState) (old new : CommitterSta
           (commands_of (of_underway u ++ queue)) front) t.underway i.follows;
       acknowledged_is = i.acknowledged_is;
       sealed_is = i.sealed_is;
+      sealed_told = i.sealed_told;
       failed_is = i.failed_is;
       failed_told = i.failed_told;
       noticed_is = i.noticed_is;
@@ -234,9 +237,9 @@ module _ {D : Type 0} (k : Machine) (front : FrontState) (old new : CommitterSta
 
   -- with one more
   pub begins_trim : old.underway ≡ None → new ≡ with_trim old
-      → IsSession k front new queue failed
+      → IsSession k front new queue sealed failed
   begins_trim none is =
-      subst (λ c. IsSession k front c queue failed) (sym is) (record {
+      subst (λ c. IsSession k front c queue sealed failed) (sym is) (record {
         is = i.is;
         sizes = i.sizes;
         running = i.running;
@@ -250,6 +253,7 @@ module _ {D : Type 0} (k : Machine) (front : FrontState) (old new : CommitterSta
             (commands_of (of_underway u ++ queue)) front) none i.follows;
         acknowledged_is = i.acknowledged_is;
         sealed_is = i.sealed_is;
+        sealed_told = i.sealed_told;
         failed_is = i.failed_is;
         failed_told = i.failed_told;
         noticed_is = i.noticed_is;
@@ -258,11 +262,11 @@ module _ {D : Type 0} (k : Machine) (front : FrontState) (old new : CommitterSta
   -- ---- a call fails
 
   pub breaks : Breaks old new
-      → Leads (Advancing k (Err Device)) (λ j. IsSession j front new queue true)
+      → Leads (Advancing k (Err Device)) (λ j. IsSession j front new queue sealed true)
   breaks b = record {
     next = next;
     does = (i.failed_is ∙ b.sound, refl);
-    goes = subst (λ c. IsSession next front c queue true) (sym b.new_is) (record {
+    goes = subst (λ c. IsSession next front c queue sealed true) (sym b.new_is) (record {
       is = i.is;
       sizes = i.sizes;
       running = i.running;
@@ -273,6 +277,7 @@ module _ {D : Type 0} (k : Machine) (front : FrontState) (old new : CommitterSta
       follows = same_commands front.sizes k next refl refl i.follows;
       acknowledged_is = i.acknowledged_is;
       sealed_is = i.sealed_is;
+      sealed_told = i.sealed_told;
       failed_is = refl;
       failed_told = refl;
       noticed_is = i.noticed_is;
@@ -283,11 +288,11 @@ module _ {D : Type 0} (k : Machine) (front : FrontState) (old new : CommitterSta
       next = record k { failed = true }
 
   pub stays : StaysBroken old new
-      → Leads (Advancing k (Err Broken)) (λ j. IsSession j front new queue failed)
+      → Leads (Advancing k (Err Broken)) (λ j. IsSession j front new queue sealed failed)
   stays s = record {
     next = k;
     does = (i.failed_is ∙ s.broken, refl);
-    goes = subst (λ c. IsSession k front c queue failed) (sym s.stays) i;
+    goes = subst (λ c. IsSession k front c queue sealed failed) (sym s.stays) i;
   }
 
 -- ---- whichever it is
@@ -302,33 +307,33 @@ or_true false = refl
 
 pub advanced : {D : Type 0} (next_ahead : CommittedIsAhead) (committed : CommittedFollows)
     (k : Machine) (front : FrontState) (old new : CommitterState D) (queue : List Handed)
-    (failed : Bool) → IsSession k front old queue failed
+    (sealed : ℕ) (failed : Bool) → IsSession k front old queue sealed failed
     → (failed ≡ false → old.underway ≡ None → queue ≡ [])
     → (result : Result Progress AdvanceFault) → Advances old result new
     → Leads (Advancing k result)
-    (λ j. IsSession j front new queue (failed || is_device result))
-advanced next_ahead committed k front old new queue failed i empty (Ok Idle) r =
-    subst (λ b. Leads (Advancing k (Ok Idle)) (λ j. IsSession j front new queue b))
+    (λ j. IsSession j front new queue sealed (failed || is_device result))
+advanced next_ahead committed k front old new queue sealed failed i empty (Ok Idle) r =
+    subst (λ b. Leads (Advancing k (Ok Idle)) (λ j. IsSession j front new queue sealed b))
     (sym (or_false failed))
-    (rests k front old new queue failed i (empty (i.failed_told ∙ r.sound)) r)
-advanced next_ahead committed k front old new queue failed i empty (Ok Working) w =
-    subst (λ b. Leads (Advancing k (Ok Working)) (λ j. IsSession j front new queue b))
-    (sym (or_false failed)) (works k front old new queue failed i w)
-advanced next_ahead committed k front old new queue failed i empty (Ok (Done receipt)) f =
+    (rests k front old new queue sealed failed i (empty (i.failed_told ∙ r.sound)) r)
+advanced next_ahead committed k front old new queue sealed failed i empty (Ok Working) w =
+    subst (λ b. Leads (Advancing k (Ok Working)) (λ j. IsSession j front new queue sealed b))
+    (sym (or_false failed)) (works k front old new queue sealed failed i w)
+advanced next_ahead committed k front old new queue sealed failed i empty (Ok (Done receipt)) f =
     subst (λ b. Leads (Advancing k (Ok (Done receipt)))
-    (λ j. IsSession j front new queue b))
+    (λ j. IsSession j front new queue sealed b))
     (sym (or_false failed))
-    (finishes k front old new queue failed i next_ahead committed receipt f)
-advanced next_ahead committed k front old new queue failed i empty (Ok (Trimmed roots)) t =
+    (finishes k front old new queue sealed failed i next_ahead committed receipt f)
+advanced next_ahead committed k front old new queue sealed failed i empty (Ok (Trimmed roots)) t =
     subst (λ b. Leads (Advancing k (Ok (Trimmed roots)))
-    (λ j. IsSession j front new queue b))
-    (sym (or_false failed)) (trims k front old new queue failed i roots t)
-advanced next_ahead committed k front old new queue failed i empty (Err Device) b =
-    subst (λ t. Leads (Advancing k (Err Device)) (λ j. IsSession j front new queue t))
-    (sym (or_true failed)) (breaks k front old new queue failed i b)
-advanced next_ahead committed k front old new queue failed i empty (Err Broken) s =
-    subst (λ b. Leads (Advancing k (Err Broken)) (λ j. IsSession j front new queue b))
-    (sym (or_false failed)) (stays k front old new queue failed i s)
+    (λ j. IsSession j front new queue sealed b))
+    (sym (or_false failed)) (trims k front old new queue sealed failed i roots t)
+advanced next_ahead committed k front old new queue sealed failed i empty (Err Device) b =
+    subst (λ t. Leads (Advancing k (Err Device)) (λ j. IsSession j front new queue sealed t))
+    (sym (or_true failed)) (breaks k front old new queue sealed failed i b)
+advanced next_ahead committed k front old new queue sealed failed i empty (Err Broken) s =
+    subst (λ b. Leads (Advancing k (Err Broken)) (λ j. IsSession j front new queue sealed b))
+    (sym (or_false failed)) (stays k front old new queue sealed failed i s)
 
 -- ---- the next group is taken
 
@@ -343,8 +348,8 @@ none_busy None left busy none = refl
 none_busy (Some work) left busy none = absurd (omega (arith, busy, none))
 
 module _ {D : Type 0} (next : HandedMayBeNext) (k : Machine) (front : FrontState)
-    (committer : CommitterState D) (queue rest : List Handed) (failed : Bool)
-    (group : Handed) (i : IsSession k front committer queue failed)
+    (committer : CommitterState D) (queue rest : List Handed) (sealed : ℕ) (failed : Bool)
+    (group : Handed) (i : IsSession k front committer queue sealed failed)
     (none : committer.underway ≡ None)
     (same : commands_of (group ∷ rest) ≡ commands_of queue)
     (joined : (n : ℕ) → GoBehind n queue → GoBehind n (group ∷ rest)) where
@@ -379,7 +384,7 @@ module _ {D : Type 0} (next : HandedMayBeNext) (k : Machine) (front : FrontState
 
   pub takes : (left : List Stage) → 1 ≤ calls_left left
       → IsSession k front (record committer { underway = Some (Storing group); left = left }) rest
-      failed
+      sealed failed
   takes left some = record {
     is = i.is;
     sizes = i.sizes;
@@ -392,6 +397,7 @@ module _ {D : Type 0} (next : HandedMayBeNext) (k : Machine) (front : FrontState
     follows = subst (λ l. FollowsFront k committer.rows committer.number l front) out i.follows;
     acknowledged_is = i.acknowledged_is;
     sealed_is = i.sealed_is;
+    sealed_told = i.sealed_told;
     failed_is = i.failed_is;
     failed_told = i.failed_told;
     noticed_is = i.noticed_is;
@@ -421,12 +427,12 @@ trim_sound view old new (Ok false) b is = b.0.sound
 trim_sound view old new (Err e) b is = absurd (cc)
 
 pub trim_begins : {D E : Type 0} (view : View D) (k : Machine) (front : FrontState)
-    (old new : CommitterState D) (queue : List Handed) (failed : Bool)
-    → IsSession k front old queue failed → (result : Result Bool E)
-    → BeginsTrim view old result new → IsSession k front new queue failed
-trim_begins view k front old new queue failed i (Ok true) b =
-    begins_trim k front old new queue failed i b.0.idle b.2
-trim_begins view k front old new queue failed i (Ok false) b =
-    subst (λ c. IsSession k front c queue failed) (sym b.2) i
-trim_begins view k front old new queue failed i (Err e) b =
-    subst (λ c. IsSession k front c queue failed) (sym b.1) i
+    (old new : CommitterState D) (queue : List Handed) (sealed : ℕ) (failed : Bool)
+    → IsSession k front old queue sealed failed → (result : Result Bool E)
+    → BeginsTrim view old result new → IsSession k front new queue sealed failed
+trim_begins view k front old new queue sealed failed i (Ok true) b =
+    begins_trim k front old new queue sealed failed i b.0.idle b.2
+trim_begins view k front old new queue sealed failed i (Ok false) b =
+    subst (λ c. IsSession k front c queue sealed failed) (sym b.2) i
+trim_begins view k front old new queue sealed failed i (Err e) b =
+    subst (λ c. IsSession k front c queue sealed failed) (sym b.1) i

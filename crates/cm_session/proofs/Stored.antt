@@ -4,6 +4,7 @@ use Rattle.std.proofs.Common.{◌≡◌, ℕ, ◌+◌, ◌≤◌, ◌<◌, Bool,
 use Rattle.std.proofs.Common.{Option, Some, None, Result, Ok, Err, inl, inr, refl, sym, ap, subst}
 use Rattle.std.proofs.Common.{◌∙◌, arith}
 use Rattle.std.specs.Prelude.{◌||◌, IsOk}
+use Rattle.std.specs.Result.{is_err}
 use Rattle.std.proofs.lemmas.List.{length-append}
 use Rattle.cm_disk.specs.Disk.{View}
 use Rattle.cm_class.specs.declared.class_file.ClassFile.{ClassFile}
@@ -384,6 +385,11 @@ refuses sizes k asked Moments r rest accepting = record {
     goes = accepting.leads.goes;
   };
 }
+
+-- what comes never where a place is sure
+pub no_place : {T E : Type 0} {X : Type 0} (r : Result T E) → true ≡ is_err r → IsOk r → X
+no_place (Ok x) refused ok = absurd (cc)
+no_place (Err e) refused ok = absurd (cc)
 
 -- the group that was handed out
 pub sealed : {Goes : Machine → Type 0} {E : Type 0} (sizes : Sizes) (k : Machine)

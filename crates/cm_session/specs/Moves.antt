@@ -30,7 +30,7 @@ use Rattle.cm_session.specs.Session.{NoneGoesOn, IsSession}
 
 -- the session goes with the machine
 abbrev pub GoesWith : {D : Type 0} → Machine → Session D → Type 0
-GoesWith k s = IsSession k s.front s.committer s.queue.items s.has_failed
+GoesWith k s = IsSession k s.front s.committer s.queue.groups.items s.sealed s.has_failed
 
 -- The call leads the machine to another one, by what it does, and the session goes with that one.
 pub record Leads (Does Goes : Machine → Type 0) : Type 0 where

@@ -57,7 +57,7 @@ pub record IsAheadOfLearnt (rows : List (Row (List ℕ))) (number : ℕ) (out : 
 -- The parts of a session, which go with what the machine is at: the groups under way and queued
 -- lead from what is committed to what is accepted, and the machine's numbers and flags are theirs.
 pub record IsSession {D : Type 0} (k : Machine) (front : FrontState) (committer : CommitterState D)
-    (queue : List Handed) (failed : Bool) : Type 0 where
+    (queue : List Handed) (sealed : ℕ) (failed : Bool) : Type 0 where
   pub is : IsFront front
   pub sizes : front.sizes ≡ committer.sizes
   pub running : front.closed ≡ false
@@ -71,6 +71,7 @@ pub record IsSession {D : Type 0} (k : Machine) (front : FrontState) (committer 
       (commands_of (of_underway committer.underway ++ queue)) front
   pub acknowledged_is : k.acknowledged ≡ committer.number
   pub sealed_is : k.sealed ≡ front.sealed
+  pub sealed_told : sealed ≡ front.sealed
   pub failed_is : k.failed ≡ committer.broken
   pub failed_told : failed ≡ committer.broken
   pub noticed_is : k.noticed ≡ front.broken

@@ -5,6 +5,8 @@ use Rattle.std.specs.Prelude.{Err}
 use Rattle.cm_class.specs.declared.class_file.ClassFile.{ClassFile}
 use Rattle.cm_pool.specs.Geometry.{Sizes}
 use Rattle.cm_state.specs.Step.{Change}
+use Rattle.cm_prepare.specs.declared.refusal.Refusal.{Refusal}
+use Rattle.cm_prepare.specs.declared.refusal.Refusal.TheVariants as refusal
 use Rattle.cm_commit.specs.declared.progress.Progress.{Progress}
 use Rattle.cm_commit.specs.declared.progress.Progress.TheVariants.{Idle, Working, Done}
 use Rattle.cm_commit.specs.declared.progress.Progress.TheVariants.{Trimmed}
@@ -60,6 +62,11 @@ Stores sizes k change Moments (Err (Refused r)) next =
 Stores sizes k change Moments (Err (Unsure number)) next =
     (handed : Machine) × Hands sizes k change Moments number handed
     × (next ≡ record handed { failed = true; noticed = true }) × IsAtRest next
+
+-- the refusal that tells why a command isn't known to be stored
+abbrev pub refusal_told : NotStored → Refusal
+refusal_told (Refused r) = r
+refusal_told (Unsure number) = refusal.Unsure number
 
 -- for the change of classes that a command asks for
 pub record Storing (sizes : Sizes) (k : Machine) (asked : Change (List ℕ))

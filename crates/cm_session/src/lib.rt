@@ -1,10 +1,10 @@
 //! One thread's use of a cache file, each call of it a step of the abstract machine.
 #![tactic(auto)]
 
-mod asked;
 mod joining;
 mod laws;
 mod opening;
+mod queue;
 mod session;
 mod storing;
 

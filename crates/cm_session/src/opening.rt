@@ -10,6 +10,7 @@ ghost use Rattle.cm_session.specs.Images.{StandsForSome};
 ghost use Rattle.cm_session.specs.Moves.{Opened, Begins, IsOutside, disk_of, MeetsDevice};
 
 use crate::laws::held_cache_begins_machine;
+use crate::queue::Queue;
 use crate::session::Session;
 use cm_disk::Disk;
 use cm_machine::{committed_rows_are_the_machines, opened_is_ahead};
@@ -18,14 +19,13 @@ use cm_recover::{NotOpened, OpenFault};
 use cm_state::contents_determine_cache;
 use cm_verdict::{found_is_framed, found_is_live, verdict_is_exact};
 use std::alloc::Global;
-use std::collections::VecDeque;
 
 /// Opens the cache of a file, as [`cm_recover::open`] does, for one thread's use.
 ///
 /// It goes with the machine that begins with the cache that the file stands for; and whichever
 /// machine the file stands for some of the commands of: it goes on from these, and the file isn't
-/// opened only where the device or an allocation failed. The place of the first group that waits is
-/// taken here, before the file is read.
+/// opened only where the device or an allocation failed. The place of a group that waits is taken
+/// before the file is read.
 pub fn open<D: Disk>(alloc: Global, disk: D) -> Result<Session<D>, NotOpened<D>>
     ensures opened { (sizes : Sizes) (k : Machine) → StandsForSome sizes k (D.view.contents disk)
         → IfOk result (Opened D.view sizes (D.view.contents disk) k) }
@@ -44,13 +44,12 @@ pub fn open<D: Disk>(alloc: Global, disk: D) -> Result<Session<D>, NotOpened<D>>
     verdict_is_exact();
     words_tell_name();
     held_cache_begins_machine();
-    let mut queue = VecDeque::new(alloc);
-    if queue.reserve(1).is_err() {
+    let Ok(queue) = Queue::new(alloc) else {
         return Err(NotOpened {
             fault: OpenFault::NoMemory,
             disk,
         });
-    }
+    };
     let (front, committer) = match cm_recover::open(alloc, disk) {
         Ok(opened) => opened,
         Err(not_opened) => return Err(not_opened),

@@ -1,9 +1,8 @@
 //! An accepted cache over its disk.
 
-ghost use Rattle.std.specs.Prelude.{◌≡◌, ◌≤◌, ◌||◌, None, Some, [], Err, false, IsOk};
+ghost use Rattle.std.specs.Prelude.{◌≡◌, ◌||◌, None, Some, [], Err, false, IsOk};
 ghost use Rattle.std.specs.Option.{option_map};
 ghost use Rattle.std.specs.Arc.{arc_value};
-ghost use Rattle.std.specs.VecDeque.{deque_capacity};
 ghost use Rattle.cm_guards.specs.Guards.{EachImage};
 ghost use Rattle.cm_guards.specs.Calls.{LeavesOnly};
 ghost use Rattle.cm_layout.specs.Laws.{IsNewest};
@@ -14,14 +13,15 @@ ghost use Rattle.cm_commit.specs.States.{BeginsTrim};
 ghost use Rattle.cm_machine.specs.Machine.{Machine};
 ghost use Rattle.cm_machine.specs.Laws.{Finds};
 ghost use Rattle.cm_session.specs.Images.{StandsForSome};
+ghost use Rattle.cm_session.specs.Moves.{GoesWith, Leads, Accepting, Sealing, Queues, Advancing};
+ghost use Rattle.cm_session.specs.Moves.{Learns, IsAsked, IsNoCall, is_device, MayTake, Steps};
 
-use crate::asked::look_at;
 use crate::joining::join_queued;
-use crate::storing::has_failed;
+use crate::queue::Queue;
 use cm_commit::{AdvanceFault, Committer, NotIdle, Progress};
 use cm_disk::{Disk, SimDisk};
 use cm_front::Front;
-use cm_group::{Group, Receipt};
+use cm_group::Receipt;
 use cm_machine::{
     ahead_stays_ahead, commands_follow_the_machine, committed_rows_are_the_machines,
     handed_groups_are_next,
@@ -30,7 +30,6 @@ use cm_pool::Geometry;
 use cm_prepare::{Command, Refusal};
 use cm_record::Record;
 use std::alloc::{AllocError, Global};
-use std::collections::VecDeque;
 use std::sync::Arc;
 
 /// The commands that were handed out as a group, by their numbers.
@@ -48,20 +47,40 @@ pub struct Sealed {
 pub struct Session<D: Disk> {
     pub(crate) front: Front,
     pub(crate) committer: Committer<D>,
-    /// The groups that the committer hasn't taken yet, oldest first. Where none waits, there is a
-    /// place for one.
-    pub(crate) queue: VecDeque<Group>,
+    /// The groups that the committer hasn't taken yet.
+    pub(crate) queue: Queue,
     /// The number of the last command that was handed out.
     pub(crate) sealed: u64,
     pub(crate) has_failed: bool,
-    ghost has_place: { 1 ≤ deque_capacity queue },
-    ghost sealed_is: { sealed ≡ front.sealed },
+}
+
+// Brings into a proof's scope which change of classes a command asks for.
+fn look_at(command: &Command<'_>)
+    ensures { IsAsked (change_asked command.now) }
+{
+    match command {
+        Command::AddLoader(_) => {}
+        Command::Define(_, class) => {
+            class.record().invariant_holds();
+        }
+        Command::Unload(_) => {}
+        Command::Tighten(_) => {}
+        Command::UnloadAll(_) => {}
+    }
+}
+
+/// Whether the device has failed by now, before this call or in it.
+fn has_failed(before: bool, progress: &Result<Progress, AdvanceFault>) -> bool
+    ensures { result ≡ before || is_device progress.now }
+{
+    match progress {
+        Err(AdvanceFault::Device) => true,
+        Err(AdvanceFault::Broken) => before,
+        Ok(_) => before,
+    }
 }
 
 impl<D: Disk> Session<D> {
-    ghost use Rattle.cm_session.specs.Moves.{GoesWith, Leads, Accepting, Sealing, Queues};
-    ghost use Rattle.cm_session.specs.Moves.{Advancing, Learns, IsNoCall, MayTake, Steps};
-
     /// The sizes of the region.
     pub fn geometry(&self) -> Geometry
         ensures { result ≡ self.now.committer.sizes }
@@ -94,24 +113,29 @@ impl<D: Disk> Session<D> {
     pub fn seal(&mut self) -> Result<Option<Sealed>, AllocError>
         ensures machine { (k : Machine) → GoesWith k self.old
             → Leads (Sealing k result) (λ next. GoesWith next self.new) }
-        ensures queued { Queues self.old.front self.old.queue.items result self.new.front
-            self.new.queue.items }
+        ensures queued { Queues self.old.front self.old.queue.groups.items result self.new.front
+            self.new.queue.groups.items }
         ensures place { (k : Machine) → GoesWith k self.old → k.acknowledged ≡ k.sealed
             → IsOk result }
         ensures disk { self.new.committer ≡ self.old.committer }
     {
         committed_rows_are_the_machines();
         ahead_stays_ahead();
-        if self.front.number() == self.sealed {
-            return Ok(None);
+        if self.queue.groups.reserve(1).is_err() {
+            // Where all commands were handed out, no place is needed.
+            return if self.front.number() == self.sealed {
+                Ok(None)
+            } else {
+                Err(AllocError)
+            };
         }
-        self.queue.reserve(1)?;
-        self.front.invariant_holds();
-        let group = self.front.seal().unwrap(); // some command waits
+        let Some(group) = self.front.seal() else {
+            return Ok(None);
+        };
         self.front.invariant_holds();
         let first = group.first();
         let last = first + (group.count() as u64 - 1);
-        self.queue.push_back_reserved(group);
+        self.queue.groups.push_back_reserved(group);
         self.sealed = last;
         Ok(Some(Sealed { first, last }))
     }
@@ -121,10 +145,10 @@ impl<D: Disk> Session<D> {
     fn offer_next(&mut self)
         ensures machine { (k : Machine) → GoesWith k self.old → GoesWith k self.new }
         ensures taken { (k : Machine) → GoesWith k self.old → self.new.has_failed ≡ false
-            → self.new.committer.underway ≡ None → self.new.queue.items ≡ [] }
+            → self.new.committer.underway ≡ None → self.new.queue.groups.items ≡ [] }
         ensures disk { self.new.committer.disk ≡ self.old.committer.disk }
         ensures sizes { self.new.committer.sizes ≡ self.old.committer.sizes }
-        ensures takes { MayTake D.view self.new.queue.items self.old.committer
+        ensures takes { MayTake D.view self.new.queue.groups.items self.old.committer
             self.new.committer }
     {
         handed_groups_are_next();
@@ -134,10 +158,10 @@ impl<D: Disk> Session<D> {
         if self.committer.steps_left() > 0 {
             return;
         }
-        let Some(group) = self.queue.pop_front() else {
+        let Some(group) = self.queue.groups.pop_front() else {
             return;
         };
-        let group = join_queued(group, &mut self.queue);
+        let group = join_queued(group, &mut self.queue.groups);
         let _taken = self.committer.offer(group); // it is what comes next, so it is taken
     }
 
@@ -155,7 +179,7 @@ impl<D: Disk> Session<D> {
             self.new.committer.disk }
         ensures no_call { IsNoCall result → self.new.committer.disk ≡ self.old.committer.disk }
         ensures sizes { self.new.committer.sizes ≡ self.old.committer.sizes }
-        ensures steps { Steps D.view self.new.queue.items self.old.committer result
+        ensures steps { Steps D.view self.new.queue.groups.items self.old.committer result
             self.new.committer }
         ensures trimmed { EndsBehind self.new.committer.sizes
             (D.view.contents self.new.committer.disk) (D.view.unsynced self.new.committer.disk)
@@ -266,8 +290,6 @@ impl<D: Disk> Session<D> {
 }
 
 impl Session<SimDisk> {
-    ghost use Rattle.cm_session.specs.Moves.{GoesWith};
-
     /// Lets the disk's next call fail; a write stores its first bytes, so many of them.
     pub fn arm(&mut self, stores: usize)
         ensures disk { self.new.committer ≡ record self.old.committer {

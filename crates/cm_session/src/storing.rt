@@ -1,23 +1,25 @@
 //! One command after another: each is stored before the next is accepted.
 
-ghost use Rattle.std.specs.Prelude.{◌≡◌, ◌||◌, true, Err};
+ghost use Rattle.std.specs.Prelude.{◌≡◌, true, Err};
 ghost use Rattle.cm_guards.specs.Calls.{LeavesOnly};
 ghost use Rattle.cm_prepare.specs.Commands.{change_asked};
 ghost use Rattle.cm_front.specs.Accepting.{IsReason};
 ghost use Rattle.cm_commit.specs.Advances.{HasRisen};
 ghost use Rattle.cm_machine.specs.Machine.{Machine};
 ghost use Rattle.cm_session.specs.Images.{StandsForSome};
-ghost use Rattle.cm_session.specs.Moves.{GoesWith, Leads, Advancing, is_device};
+ghost use Rattle.cm_session.specs.Moves.{GoesWith, Leads, Advancing};
 ghost use Rattle.cm_session.specs.Storing.{IsWorking, IsAtRest, Storing, FailsOnly, MakesNoCall};
-ghost use Rattle.cm_session.specs.Storing.{TellsFront, IsTrimmed, NoTrim};
+ghost use Rattle.cm_session.specs.Storing.{TellsFront, IsTrimmed, NoTrim, refusal_told};
 
 use crate::session::Session;
 use cm_commit::{AdvanceFault, Progress};
 use cm_disk::Disk;
 use cm_prepare::{Command, Refusal};
+use thiserror::Error;
 
-/// Why a command isn't known to be stored.
-#[derive(Clone, Copy, Debug, PartialEq, Eq)]
+/// Why a command isn't known to be stored, with the text of the refusal that tells of it.
+#[derive(Clone, Copy, Debug, PartialEq, Eq, Error)]
+#[error("{refusal}", refusal = Refusal::from(*self))]
 pub enum NotStored {
     /// The command is refused; nothing changed.
     Refused(Refusal),
@@ -26,15 +28,22 @@ pub enum NotStored {
     Unsure(u64),
 }
 
-/// Whether the device has failed by now, before this call or in it.
-pub(crate) fn has_failed(before: bool, progress: &Result<Progress, AdvanceFault>) -> bool
-    ensures { result ≡ before || is_device progress.now }
-{
-    match progress {
-        Err(AdvanceFault::Device) => true,
-        Err(AdvanceFault::Broken) => before,
-        Ok(_) => before,
+impl From<NotStored> for Refusal {
+    ghost from_gives = { λ fault refusal. refusal ≡ refusal_told fault };
+
+    fn from(fault: NotStored) -> Refusal {
+        match fault {
+            NotStored::Refused(refusal) => refusal,
+            NotStored::Unsure(number) => Refusal::Unsure(number),
+        }
     }
+}
+
+fn is_working(progress: &Result<Progress, AdvanceFault>) -> bool
+    ensures is { result ≡ true → IsWorking progress.now }
+    ensures whenever { IsWorking progress.now → result ≡ true }
+{
+    matches!(progress, Ok(Progress::Working))
 }
 
 fn is_trimmed(progress: &Result<Progress, AdvanceFault>) -> bool
@@ -61,7 +70,7 @@ impl<D: Disk> Session<D> {
         ensures trimmed { IsTrimmed result → NoTrim self.new.committer.underway }
     {
         let mut progress = self.advance();
-        while let Ok(Progress::Working) = progress {
+        while is_working(&progress) {
             progress = self.advance();
         }
         progress
@@ -92,7 +101,8 @@ impl<D: Disk> Session<D> {
     /// A refusal is exactly that of [`Front::accept`](cm_front::Front::accept).
     ///
     /// For a session in which everything accepted is stored, as it is when it was opened, and as
-    /// it is again after an `Ok` or a refusal.
+    /// it is again after an `Ok` or a refusal. Where groups wait, memory for one more may be
+    /// refused too: that is `Unsure`, and the command waits.
     pub fn store(&mut self, command: Command<'_>) -> Result<u64, NotStored>
         ensures machine { (k : Machine) → GoesWith k self.old → IsAtRest k
             → Storing self.old.committer.sizes k (change_asked command.entry)
@@ -113,7 +123,9 @@ impl<D: Disk> Session<D> {
             Ok(number) => number,
             Err(refusal) => return Err(NotStored::Refused(refusal)),
         };
-        let _sealed = self.seal(); // nothing waits, so there is a place for it
+        if self.seal().is_err() {
+            return Err(NotStored::Unsure(number));
+        }
         let progress = self.advance_group();
         self.learn();
         match progress {

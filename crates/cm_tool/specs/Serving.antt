@@ -10,14 +10,13 @@ use Rattle.cm_prepare.specs.Names.{names_kept}
 use Rattle.cm_machine.specs.Machine.{Machine}
 use Rattle.cm_session.specs.declared.session.Session.{Session}
 use Rattle.cm_session.specs.declared.storing.NotStored.{NotStored}
-use Rattle.cm_session.specs.declared.storing.NotStored.TheVariants.{Refused, Unsure}
 use Rattle.cm_session.specs.Images.{StandsForSome}
 use Rattle.cm_session.specs.Moves.{GoesWith}
-use Rattle.cm_session.specs.Storing.{IsAtRest}
+use Rattle.cm_session.specs.Storing.{IsAtRest, refusal_told}
 use Rattle.cm_lines.specs.Lines.{Asked, AsksLoader, AsksUnload, AsksTighten, AsksDefine, AsksFind}
 use Rattle.cm_lines.specs.Lines.{AsksUnloadAll}
 use Rattle.cm_tool.specs.declared.reply.Reply.{Reply}
-use Rattle.cm_tool.specs.Texts.{ReplyText, refusal_reply, unsure_reply}
+use Rattle.cm_tool.specs.Texts.{ReplyText, refusal_reply}
 use Rattle.cm_tool.specs.Replies.{IsReply, is_unsure}
 use Rattle.cm_tool.specs.Answers.{Served, served, AnswersAsked, Pause, pause, StandsBetween}
 
@@ -84,8 +83,8 @@ Replies sizes question (Ok reply) old new =
 Replies sizes question (Err e) old new =
     (new ≡ old) ⊎ ((given : ReplyText) × AnswersAsked sizes question old given new)
 
--- The question is served: the result answers it by what it makes of the machine, and the session
--- goes on with that, whatever a crash may have left meanwhile.
+-- The question is served from any such machine: the result is the reply to it, or tells that no
+-- memory was there for one, and the session goes on with the machine that this leads to.
 abbrev pub Serves : {D E : Type 0} → View D → Option Asked → Result Reply E → Session D → Session D
     → Type 0
 Serves view question result old new =
@@ -93,14 +92,10 @@ Serves view question result old new =
     (λ before now. Replies old.committer.sizes question result before.served now.served)
     (λ k. MayGoOn view k old new) old new
 
--- a command that isn't stored has a reply
-abbrev pub TellsNotStored : {E : Type 0} → NotStored → Result Reply E → Type 0
-TellsNotStored (Refused r) result = IfOk result (IsReply (refusal_reply r))
-TellsNotStored (Unsure n) result = IfOk result (IsReply (unsure_reply n))
-
+-- the reply to a command that is stored, or isn't known to be
 abbrev pub Tells : {E : Type 0} → (ℕ → ReplyText) → Result ℕ NotStored → Result Reply E → Type 0
 Tells told (Ok number) result = IfOk result (IsReply (told number))
-Tells told (Err fault) result = TellsNotStored fault result
+Tells told (Err fault) result = IfOk result (IsReply (refusal_reply (refusal_told fault)))
 
 -- ---- the disk that a run leaves
 

@@ -1,6 +1,6 @@
 //! The answer of a cache to a line.
 
-ghost use Rattle.std.specs.Prelude.{◌≡◌, ℕ, true, List, Some, Ok};
+ghost use Rattle.std.specs.Prelude.{◌≡◌, ℕ, true, List, Some, Ok, IfOk};
 ghost use Rattle.std.specs.Option.{option_map};
 ghost use Rattle.hex.specs.Hex.{decode_of};
 ghost use Rattle.hex.specs.declared.error.FromHexError.TheVariants.{OutOfMemory};
@@ -9,13 +9,15 @@ ghost use Rattle.cm_record.specs.Layout.{lay};
 ghost use Rattle.cm_rules.specs.Answer.{IsRight};
 ghost use Rattle.cm_lines.specs.Lines.{Asked, seen, AsksDefine, AsksFind};
 ghost use Rattle.cm_prepare.specs.Commands.{change_asked};
-ghost use Rattle.cm_tool.specs.Texts.{number_reply, defined_reply};
-ghost use Rattle.cm_tool.specs.Serving.{Serves, IsAskedBy, Tells, TellsNotStored};
+ghost use Rattle.cm_session.specs.Storing.{refusal_told};
+ghost use Rattle.cm_tool.specs.Texts.{number_reply, defined_reply, refusal_reply};
+ghost use Rattle.cm_tool.specs.Replies.{IsReply};
+ghost use Rattle.cm_tool.specs.Serving.{Serves, IsAskedBy, Tells};
 
 use crate::Reply;
 use cm_disk::Disk;
 use cm_lines::{Line, NameFault, unescape};
-use cm_prepare::{Command, Names, Prepared, prepare};
+use cm_prepare::{Command, Names, Prepared, Refusal, prepare};
 use cm_record::{layout_determines_class, words_tell_name};
 use cm_session::{NotStored, Session};
 use hex::FromHexError;
@@ -83,12 +85,9 @@ fn tell_number(alloc: Global, stored: Result<u64, NotStored>) -> Result<Reply, A
 }
 
 fn reply_to_not_stored(alloc: Global, fault: NotStored) -> Result<Reply, AllocError>
-    ensures { TellsNotStored fault result }
+    ensures { IfOk result (IsReply (refusal_reply (refusal_told fault))) }
 {
-    match fault {
-        NotStored::Refused(refusal) => Reply::refused(alloc, refusal),
-        NotStored::Unsure(number) => Reply::unsure(alloc, number),
-    }
+    Reply::refused(alloc, Refusal::from(fault))
 }
 
 fn define<D: Disk>(

@@ -17,10 +17,10 @@ returns-in-Err-clause-stands g c =
 
 pub returns-clause-opened : goal.returns-clause-opened
 returns-clause-opened g c =
-    let front = c.in-Ok.opened.0 in
-    let committer = c.in-Ok.opened.1 in
+    let front = c.in-Ok-open.opened.0 in
+    let committer = c.in-Ok-open.opened.1 in
     let bytes = g.D.Disk.view.contents c.args.disk in
-    let opens = c.in-Ok.ensures.opened in
+    let opens = c.in-Ok-open.ensures.opened in
     λ sizes k some.
     let live = c.found_is_live.ensures in
     let framed = c.found_is_framed.ensures.framed in
@@ -30,19 +30,21 @@ returns-clause-opened g c =
     let is = c.invariant_holds.ensures in
     record {
       leads = subst (λ (q : List Handed). Leads (Reopening sizes k bytes)
-          (λ j. IsSession j front committer q false))
-          (sym (c.reserve.ensures.items ∙ c.new-queue.ensures.items))
+          (λ j. IsSession j front committer q c.number-sealed.result false))
+          (sym c.in-Ok.ensures)
+          (subst (λ (n : ℕ). Leads (Reopening sizes k bytes)
+          (λ j. IsSession j front committer [] n false)) (sym c.number-sealed.ensures)
           (reopened one live framed stands c.words_tell_name.ensures c.opened_is_ahead.ensures on
-          sizes k bytes some front committer opens is);
+          sizes k bytes some front committer opens is));
       sizes_are = same_sizes one live framed stands c.words_tell_name.ensures
           c.opened_is_ahead.ensures on sizes k bytes some front committer opens is;
-      settled = c.in-Ok.ensures.stored;
+      settled = c.in-Ok-open.ensures.stored;
     }
 
 pub returns-clause-begins : goal.returns-clause-begins
 returns-clause-begins g c =
     let bytes = g.D.Disk.view.contents c.args.disk in
-    let opens = c.in-Ok.ensures.opened in
+    let opens = c.in-Ok-open.ensures.opened in
     let s = opens.standing in
     let sizes = s.found.sizes in
     let state = state_in s in
@@ -56,7 +58,7 @@ returns-clause-begins g c =
       arenas = arenas;
       stands = subst (λ (z : Sizes). Stands z bytes state arenas number) (sym o.sizes_are)
           opens.stands;
-      goes = subst (λ (j : Machine). IsSession j c.in-Ok.opened.0 c.in-Ok.opened.1
-          c.reserve.new.self.items false) (fresh base o.leads.does.number
+      goes = subst (λ (j : Machine). IsSession j c.in-Ok-open.opened.0 c.in-Ok-open.opened.1
+          c.in-Ok.queue.groups.items c.number-sealed.result false) (fresh base o.leads.does.number
           o.leads.next o.leads.does.reopens) o.leads.goes;
     }

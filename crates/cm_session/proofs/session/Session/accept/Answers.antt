@@ -6,6 +6,6 @@ returns-clause-machine g c =
     let s = c.args.self.now in
     let laws = c.commands_follow_the_machine.ensures in
     λ k i. answers laws.accepted laws.refused c.ahead_stays_ahead.ensures.accepted k s.front
-    c.accept-number.new.self s.committer s.queue.items s.has_failed _ c.look_at.ensures.0
-    c.look_at.ensures.1 c.invariant_holds.ensures i c.accept-number.result
+    c.accept-number.new.self s.committer s.queue.groups.items s.sealed s.has_failed _
+    c.look_at.ensures.0 c.look_at.ensures.1 c.invariant_holds.ensures i c.accept-number.result
     c.accept-number.ensures

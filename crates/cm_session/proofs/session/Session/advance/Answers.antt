@@ -14,11 +14,11 @@ pub returns-clause-machine : goal.returns-clause-machine
 returns-clause-machine g c =
     let s = c.offer_next.new.self in
     λ k i. subst (λ (b : Bool). Leads (Advancing k c.advance-progress.result)
-    (λ j. IsSession j s.front c.advance-progress.new.self s.queue.items b))
+    (λ j. IsSession j s.front c.advance-progress.new.self s.queue.groups.items s.sealed b))
     (sym c.has_failed-self.ensures)
     (advanced c.handed_groups_are_next.ensures.committed
     c.committed_rows_are_the_machines.ensures.committed k s.front s.committer
-    c.advance-progress.new.self s.queue.items s.has_failed
+    c.advance-progress.new.self s.queue.groups.items s.sealed s.has_failed
     (c.offer_next.ensures.machine k i) (c.offer_next.ensures.taken k i)
     c.advance-progress.result c.advance-progress.ensures.moved)
 
@@ -33,8 +33,8 @@ returns-clause-any_moment g c =
     c.advance-progress.new.self.disk (StandsForSome z k)) c.offer_next.ensures.sizes
     (leaves_so disk.view s.committer.disk c.advance-progress.new.self.disk
     (MayLeave s.committer) (StandsForSome s.committer.sizes k)
-    (stands_for_some laws.committed laws.counted laws.rows k s.front s.committer s.queue.items
-    s.has_failed (c.offer_next.ensures.machine k i))
+    (stands_for_some laws.committed laws.counted laws.rows k s.front s.committer
+    s.queue.groups.items s.sealed s.has_failed (c.offer_next.ensures.machine k i))
     c.advance-progress.ensures.any_moment))
 
 pub returns-clause-call : goal.returns-clause-call

@@ -18,7 +18,7 @@ loop-progress-preserved g c =
     let working = c.is_working.ensures.is c.loop-progress-test.true in (
       λ k goes. does.machine k
           (goes_on k c.loop-progress.progress working (kept.0 k goes)),
-      λ again. some_left disk.view call.new.self.queue.items now new call.result does.steps
+      λ again. some_left disk.view call.new.self.queue.groups.items now new call.result does.steps
           again,
       λ k goes. leaves_on disk.view old.disk now.disk new.disk
           (StandsForSome old.sizes k) (kept.2 k goes)
@@ -29,9 +29,9 @@ loop-progress-preserved g c =
           (disk.view.failures new.disk)
           c.loop-progress.progress call.result kept.3 does.cause,
       does.sizes ∙ kept.4,
-      λ none. no_trim disk.view call.new.self.queue.items now new call.result (kept.5 none).0
+      λ none. no_trim disk.view call.new.self.queue.groups.items now new call.result (kept.5 none).0
           does.steps,
-      λ is. trim_done disk.view call.new.self.queue.items now new call.result does.steps is,
+      λ is. trim_done disk.view call.new.self.queue.groups.items now new call.result does.steps is,
     )
 
 pub loop-progress-init : goal.loop-progress-init
@@ -41,13 +41,13 @@ loop-progress-init g c =
     let old = c.args.self.now.committer in
     let new = call.new.self.committer in (
       call.ensures.machine,
-      λ again. some_left disk.view call.new.self.queue.items old new call.result
+      λ again. some_left disk.view call.new.self.queue.groups.items old new call.result
           call.ensures.steps again,
       call.ensures.any_moment,
       call.ensures.cause,
       call.ensures.sizes,
-      λ none. no_trim disk.view call.new.self.queue.items old new call.result none
+      λ none. no_trim disk.view call.new.self.queue.groups.items old new call.result none
           call.ensures.steps,
-      λ is. trim_done disk.view call.new.self.queue.items old new call.result
+      λ is. trim_done disk.view call.new.self.queue.groups.items old new call.result
           call.ensures.steps is,
     )

@@ -7,6 +7,6 @@ returns g c =
     let laws = c.committed_rows_are_the_machines.ensures in
     λ k i. record {
       each = λ image is.
-          stands_for_some laws.committed laws.counted laws.rows k s.front s.committer s.queue.items
-          s.has_failed i image (c.images.ensures.each image is);
+          stands_for_some laws.committed laws.counted laws.rows k s.front s.committer
+          s.queue.groups.items s.sealed s.has_failed i image (c.images.ensures.each image is);
     }

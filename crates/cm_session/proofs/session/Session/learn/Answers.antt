@@ -15,8 +15,9 @@ returns-clause-machine g c =
     let same = c.notice.ensures in
     let laws = c.ahead_stays_ahead.ensures in
     λ k i.
-    let then : IsSession k s.front n.committer n.queue.items n.has_failed =
-    subst (λ (z : Session _). IsSession k s.front z.committer z.queue.items z.has_failed)
+    let then : IsSession k s.front n.committer n.queue.groups.items n.sealed n.has_failed =
+    subst (λ (z : Session _). IsSession k s.front z.committer z.queue.groups.items z.sealed
+    z.has_failed)
     (sym same) i in
     let sealed = ap (λ (z : Session _). z.front.sealed) same in
     let number = c.number-number.ensures in
@@ -25,10 +26,11 @@ returns-clause-machine g c =
     (c.learn-known.ensures.known.1 (omega (arith, sealed, number, handed)))
     c.learn-known.ensures.ok in
     subst (λ (m : ℕ). Leads (Learns k m)
-    (λ j. IsSession j c.learn-known.new.self n.committer n.queue.items n.has_failed))
-    (sym number)
-    (learns laws.learnt laws.failed k s.front c.learn-known.new.self n.committer n.queue.items
-    n.has_failed c.invariant_holds.ensures then (s.front.broken || s.has_failed)
+    (λ j. IsSession j c.learn-known.new.self n.committer n.queue.groups.items n.sealed
+    n.has_failed)) (sym number)
+    (learns laws.learnt laws.failed k s.front c.learn-known.new.self n.committer
+    n.queue.groups.items n.sealed n.has_failed c.invariant_holds.ensures then
+    (s.front.broken || s.has_failed)
     (λ j. i.noticed_is j || (i.failed_is ∙ sym i.failed_told) j)
     (learnt
     ∙ (λ j. with_learnt (ap (λ (z : Session _). z.front) same j) (number j))))

@@ -20,18 +20,18 @@ returns-clause-machine g c =
     (no_calls s.committer.broken (calls_left s.committer.left) c.steps_left.result
     c.steps_left.ensures sound (omega (arith, zero))) in
     let same = c.join_queued-group.ensures.commands ∙ sym (ap commands_of items) in
-    let joined : (n : ℕ) → GoBehind n s.queue.items → GoBehind n (group ∷ rest) =
+    let joined : (n : ℕ) → GoBehind n s.queue.groups.items → GoBehind n (group ∷ rest) =
     (λ n b. c.join_queued-group.ensures.behind n (subst (GoBehind n) items b)) in
-    let may = is_taken law k s.front s.committer s.queue.items rest s.has_failed group i
-    none same joined sound in
+    let may = is_taken law k s.front s.committer s.queue.groups.items rest s.sealed s.has_failed
+    group i none same joined sound in
     let taken = on_ok c.offer-taken.result (c.offer-taken.ensures.takes.1 may)
     c.offer-taken.ensures.taken in
     let steps = on_ok c.offer-taken.result (c.offer-taken.ensures.takes.1 may)
     c.offer-taken.ensures.steps in
     let calls = ap (λ (z : CommitterState _). calls_left z.left) taken in
-    subst (λ (z : CommitterState _). IsSession k s.front z rest s.has_failed) (sym taken)
-    (takes law k s.front s.committer s.queue.items rest s.has_failed group i none same
-    joined (with_taken g.D.Disk.view s.committer group).left (omega (arith, steps, calls)))
+    subst (λ (z : CommitterState _). IsSession k s.front z rest s.sealed s.has_failed) (sym taken)
+    (takes law k s.front s.committer s.queue.groups.items rest s.sealed s.has_failed group i none
+    same joined (with_taken g.D.Disk.view s.committer group).left (omega (arith, steps, calls)))
 
 pub returns-clause-taken : goal.returns-clause-taken
 returns-clause-taken g c =
@@ -47,10 +47,10 @@ returns-clause-taken g c =
     (no_calls s.committer.broken (calls_left s.committer.left) c.steps_left.result
     c.steps_left.ensures sound (omega (arith, zero))) in
     let same = c.join_queued-group.ensures.commands ∙ sym (ap commands_of items) in
-    let joined : (n : ℕ) → GoBehind n s.queue.items → GoBehind n (group ∷ rest) =
+    let joined : (n : ℕ) → GoBehind n s.queue.groups.items → GoBehind n (group ∷ rest) =
     (λ n b. c.join_queued-group.ensures.behind n (subst (GoBehind n) items b)) in
-    let may = is_taken law k s.front s.committer s.queue.items rest s.has_failed group i
-    none same joined sound in
+    let may = is_taken law k s.front s.committer s.queue.groups.items rest s.sealed s.has_failed
+    group i none same joined sound in
     let taken = on_ok c.offer-taken.result (c.offer-taken.ensures.takes.1 may)
     c.offer-taken.ensures.taken in
     absurd (not_none (Storing group) c.offer-taken.new.self.underway

@@ -6,7 +6,8 @@ use Rattle.cm_machine.specs.Machine.{Machine}
 use Rattle.cm_session.specs.Images.{StandsForSome}
 use Rattle.cm_session.specs.declared.storing.NotStored.TheVariants.{Unsure}
 use Rattle.cm_session.specs.Storing.{FailsOnly}
-use Rattle.cm_session.proofs.Stored.{refuses, sealed, all_stored, handed, stores, loses, fails}
+use Rattle.cm_session.proofs.Stored.{refuses, no_place, sealed, all_stored, handed, stores, loses}
+use Rattle.cm_session.proofs.Stored.{fails}
 use Rattle.cm_session.proofs.session.Session.store.Goals as goal
 
 pub returns-in-Err-clause-machine : goal.returns-in-Err-clause-machine
@@ -17,6 +18,33 @@ returns-in-Err-clause-machine g c =
     (LeavesOnly g.D.Disk.view s.committer.disk
     c.accept.new.self.committer.disk)
     c.in-Err.refusal rest (c.in-Err.ensures.machine k goes)
+
+pub returns-then-is_err-clause-machine : goal.returns-then-is_err-clause-machine
+returns-then-is_err-clause-machine g c =
+    let sizes = c.args.self.now.committer.sizes in
+    λ k goes rest.
+    let a = c.in-Ok.ensures.machine k goes in
+    no_place c.seal.result c.if-is_err.ensures.value
+    (c.seal.ensures.place a.leads.next a.leads.goes
+    (all_stored sizes k a.change c.in-Ok.number a.leads.next rest a.leads.does))
+
+pub returns-then-is_err-clause-cause : goal.returns-then-is_err-clause-cause
+returns-then-is_err-clause-cause g c =
+    let sizes = c.args.self.now.committer.sizes in
+    λ k goes rest.
+    let a = c.in-Ok.ensures.machine k goes in
+    no_place c.seal.result c.if-is_err.ensures.value
+    (c.seal.ensures.place a.leads.next a.leads.goes
+    (all_stored sizes k a.change c.in-Ok.number a.leads.next rest a.leads.does))
+
+pub returns-then-is_err-clause-told : goal.returns-then-is_err-clause-told
+returns-then-is_err-clause-told g c =
+    let sizes = c.args.self.now.committer.sizes in
+    λ k goes rest.
+    let a = c.in-Ok.ensures.machine k goes in
+    no_place c.seal.result c.if-is_err.ensures.value
+    (c.seal.ensures.place a.leads.next a.leads.goes
+    (all_stored sizes k a.change c.in-Ok.number a.leads.next rest a.leads.does))
 
 pub returns-in-Ok-progress-clause-machine : goal.returns-in-Ok-progress-clause-machine
 returns-in-Ok-progress-clause-machine g c =
@@ -30,11 +58,11 @@ returns-in-Ok-progress-clause-machine g c =
     let answers = a.leads.does in
     let number = c.in-Ok.number in
     let h : Machine = handed sizes k a.change number accepted rest answers in
-    let with_it = sealed sizes k a.change number accepted rest answers c.seal-sealed.result
-    (c.seal-sealed.ensures.place accepted a.leads.goes
+    let with_it = sealed sizes k a.change number accepted rest answers c.seal.result
+    (c.seal.ensures.place accepted a.leads.goes
     (all_stored sizes k a.change number accepted rest answers))
-    (c.seal-sealed.ensures.machine accepted a.leads.goes) in
-    let same = c.seal-sealed.ensures.disk ∙ c.accept.ensures.disk in
+    (c.seal.ensures.machine accepted a.leads.goes) in
+    let same = c.seal.ensures.disk ∙ c.accept.ensures.disk in
     let moments : LeavesOnly disk.view s.committer.disk left
     (StandsForSome sizes h) =
     subst (λ (d : CommitterState _). LeavesOnly disk.view s.committer.disk d.disk
@@ -60,11 +88,11 @@ returns-in-Err-progress-clause-machine g c =
     let answers = a.leads.does in
     let number = c.in-Ok.number in
     let h : Machine = handed sizes k a.change number accepted rest answers in
-    let with_it = sealed sizes k a.change number accepted rest answers c.seal-sealed.result
-    (c.seal-sealed.ensures.place accepted a.leads.goes
+    let with_it = sealed sizes k a.change number accepted rest answers c.seal.result
+    (c.seal.ensures.place accepted a.leads.goes
     (all_stored sizes k a.change number accepted rest answers))
-    (c.seal-sealed.ensures.machine accepted a.leads.goes) in
-    let same = c.seal-sealed.ensures.disk ∙ c.accept.ensures.disk in
+    (c.seal.ensures.machine accepted a.leads.goes) in
+    let same = c.seal.ensures.disk ∙ c.accept.ensures.disk in
     let moments : LeavesOnly disk.view s.committer.disk left
     (StandsForSome sizes h) =
     subst (λ (d : CommitterState _). LeavesOnly disk.view s.committer.disk d.disk
@@ -87,17 +115,17 @@ returns-in-Err-progress-clause-cause g c =
     let answers = a.leads.does in
     let number = c.in-Ok.number in
     let h : Machine = handed sizes k a.change number accepted rest answers in
-    let with_it = sealed sizes k a.change number accepted rest answers c.seal-sealed.result
-    (c.seal-sealed.ensures.place accepted a.leads.goes
+    let with_it = sealed sizes k a.change number accepted rest answers c.seal.result
+    (c.seal.ensures.place accepted a.leads.goes
     (all_stored sizes k a.change number accepted rest answers))
-    (c.seal-sealed.ensures.machine accepted a.leads.goes) in
-    let same = c.seal-sealed.ensures.disk ∙ c.accept.ensures.disk in
+    (c.seal.ensures.machine accepted a.leads.goes) in
+    let same = c.seal.ensures.disk ∙ c.accept.ensures.disk in
     let now = failures c.advance_group-progress.new.self.committer.disk in
     subst (λ (d : CommitterState _). FailsOnly (failures s.committer.disk) (failures d.disk)
     (Err (Unsure number))) (sym c.learn.ensures.disk)
     (subst (λ (b : CommitterState _). FailsOnly (failures b.disk) now (Err (Unsure number))) same
     (fails sizes k a.change number accepted rest answers
-    (failures c.seal-sealed.new.self.committer.disk) now c.in-Err-progress.field-0
+    (failures c.seal.new.self.committer.disk) now c.in-Err-progress.field-0
     (c.in-Err-progress.ensures.machine h with_it) c.in-Err-progress.ensures.cause))
 
 pub returns-in-Ok-progress-clause-told : goal.returns-in-Ok-progress-clause-told
@@ -107,9 +135,9 @@ returns-in-Ok-progress-clause-told g c =
     let a = c.in-Ok.ensures.machine k goes in
     let h = handed sizes k a.change c.in-Ok.number a.leads.next rest a.leads.does in
     let with_it = sealed sizes k a.change c.in-Ok.number a.leads.next rest a.leads.does
-    c.seal-sealed.result (c.seal-sealed.ensures.place a.leads.next a.leads.goes
+    c.seal.result (c.seal.ensures.place a.leads.next a.leads.goes
     (all_stored sizes k a.change c.in-Ok.number a.leads.next rest a.leads.does))
-    (c.seal-sealed.ensures.machine a.leads.next a.leads.goes) in
+    (c.seal.ensures.machine a.leads.next a.leads.goes) in
     let stored = c.in-Ok-progress.ensures.machine h with_it in
     c.learn.ensures.told stored.next stored.goes
 
@@ -120,8 +148,8 @@ returns-in-Err-progress-clause-told g c =
     let a = c.in-Ok.ensures.machine k goes in
     let h = handed sizes k a.change c.in-Ok.number a.leads.next rest a.leads.does in
     let with_it = sealed sizes k a.change c.in-Ok.number a.leads.next rest a.leads.does
-    c.seal-sealed.result (c.seal-sealed.ensures.place a.leads.next a.leads.goes
+    c.seal.result (c.seal.ensures.place a.leads.next a.leads.goes
     (all_stored sizes k a.change c.in-Ok.number a.leads.next rest a.leads.does))
-    (c.seal-sealed.ensures.machine a.leads.next a.leads.goes) in
+    (c.seal.ensures.machine a.leads.next a.leads.goes) in
     let lost = c.in-Err-progress.ensures.machine h with_it in
     c.learn.ensures.told lost.next lost.goes

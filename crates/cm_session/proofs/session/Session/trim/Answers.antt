@@ -5,8 +5,8 @@ use Rattle.cm_session.proofs.session.Session.trim.Goals as goal
 pub returns-clause-machine : goal.returns-clause-machine
 returns-clause-machine g c =
     let s = c.args.self.now in
-    λ k i. trim_begins g.D.Disk.view k s.front s.committer c.trim.new.self s.queue.items
-    s.has_failed i c.trim.result c.trim.ensures
+    λ k i. trim_begins g.D.Disk.view k s.front s.committer c.trim.new.self s.queue.groups.items
+    s.sealed s.has_failed i c.trim.result c.trim.ensures
 
 pub returns-clause-sound : goal.returns-clause-sound
 returns-clause-sound g c =

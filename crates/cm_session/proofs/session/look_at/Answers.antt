@@ -5,7 +5,7 @@ use Rattle.cm_prepare.specs.Commands.{change_asked}
 use Rattle.cm_state.specs.Step.{AddLoader, Unload, Tighten, UnloadAll}
 use Rattle.cm_session.specs.Moves.{IsAsked}
 use Rattle.cm_session.proofs.Commands.{is_asked}
-use Rattle.cm_session.proofs.asked.look_at.Goals as goal
+use Rattle.cm_session.proofs.session.look_at.Goals as goal
 
 pub returns-in-AddLoader : goal.returns-in-AddLoader
 returns-in-AddLoader c =
