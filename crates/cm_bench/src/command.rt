@@ -2,6 +2,7 @@
 
 use anyhow::Result;
 use clap::{Arg, ArgAction, ArgMatches, Command, value_parser};
+use cm_plan::{ROOTS, SLOTS, TOP};
 use cm_pool::Geometry;
 use std::alloc::{AllocError, Global};
 use std::env;
@@ -123,21 +124,6 @@ fn group<'a>(alloc: Global) -> Arg<'a> {
     )
 }
 
-fn top<'a>(alloc: Global) -> Arg<'a> {
-    let help = "The order of a root: it has 128 * 2^N words";
-    number(alloc, "top", "8", (3, 12), help)
-}
-
-fn roots<'a>(alloc: Global) -> Arg<'a> {
-    let help = "How many roots the cache may have";
-    number(alloc, "roots", "64", (1, 256), help)
-}
-
-fn slots<'a>(alloc: Global) -> Arg<'a> {
-    let help = "How many slots each half of the journal has";
-    number(alloc, "slots", "4096", (256, 65_536), help)
-}
-
 fn passes<'a>(alloc: Global) -> Arg<'a> {
     Arg::new(alloc, "passes")
         .long("passes")
@@ -175,9 +161,9 @@ fn put_command<'a>(alloc: Global) -> Result<Command<'a>> {
         .arg(file(alloc, "The file to make"))?
         .arg(times(alloc))?
         .arg(group(alloc))?
-        .arg(top(alloc))?
-        .arg(roots(alloc))?
-        .arg(slots(alloc))?;
+        .arg(TOP.arg(alloc))?
+        .arg(ROOTS.arg(alloc))?
+        .arg(SLOTS.arg(alloc))?;
     Ok(command)
 }
 
@@ -223,9 +209,9 @@ fn threads_command<'a>(alloc: Global) -> Result<Command<'a>> {
         .arg(finders(alloc))?
         .arg(unprepared(alloc))?
         .arg(times(alloc))?
-        .arg(top(alloc))?
-        .arg(roots(alloc))?
-        .arg(slots(alloc))?;
+        .arg(TOP.arg(alloc))?
+        .arg(ROOTS.arg(alloc))?
+        .arg(SLOTS.arg(alloc))?;
     Ok(command)
 }
 
@@ -244,9 +230,9 @@ fn whole_command<'a>(alloc: Global) -> Result<Command<'a>> {
 
 fn geometry_of(given: &ArgMatches<'_>) -> Option<Geometry> {
     Geometry::new(
-        given.get_one("top")?,
-        given.get_one("roots")?,
-        given.get_one("slots")?,
+        given.get_one(TOP.name)?,
+        given.get_one(ROOTS.name)?,
+        given.get_one(SLOTS.name)?,
     )
 }
 

@@ -20,7 +20,7 @@ use Rattle.cm_guards.specs.Stages.{StagesStand}
 use Rattle.cm_guards.proofs.{settled_images, leaves_more, takes_call, stages_leave, call_done}
 use Rattle.cm_guards.proofs.{call_failed, call_moments as moments_of, leaves_so, leaves_one}
 use Rattle.cm_rows.specs.Rows.{LiveRows, is_above}
-use Rattle.cm_group.specs.Groups.{Handed, AreRight, entries_in, slots_taken}
+use Rattle.cm_group.specs.Groups.{Handed, AreRight, entries_in}
 use Rattle.cm_state.specs.State.{words_show}
 use Rattle.cm_state.specs.Entries.{AreCacheRows}
 use Rattle.cm_commit.specs.declared.journal.Journal.{Journal}
@@ -31,7 +31,7 @@ use Rattle.cm_commit.specs.declared.step.PlanStep.TheVariants as plan
 use Rattle.cm_commit.specs.declared.step.CommitStep.TheVariants as step
 use Rattle.cm_commit.specs.Committed.{Committed, journal_of, with_group}
 use Rattle.cm_commit.specs.Checkpoints.{ready_for, target_of}
-use Rattle.cm_commit.specs.Offers.{rows_after_group, committed_after}
+use Rattle.cm_commit.specs.Offers.{committed_after}
 use Rattle.cm_commit.specs.GroupPlans.{whole_roots, roots_of_entries, all_writes}
 use Rattle.cm_commit.specs.Guarding.{Shows, Holds, IsCommitted}
 use Rattle.cm_commit.specs.States.{Work, Storing, Trimming, NoGroup, CommitterState, MayLeave}
@@ -490,18 +490,9 @@ module _ {D : Type 0} (view : View D) (s : CommitterState D)
 
         -- it was the last; the group went where the journal goes on so
         abbrev done_at : Journal → CommitterState D
-        done_at to = record {
-          disk = new;
+        done_at to = record (with_committed s to group new) {
           sizes = to.geometry;
-          rows = rows_after_group s.rows group.entries;
           number = to.number + length group.entries;
-          half = to.half;
-          end = to.end + 1 + slots_taken group.entries;
-          epoch = to.epoch;
-          other_open = to.other_open;
-          underway = None;
-          left = [];
-          broken = s.broken;
         }
 
         finished_ready : (x : T) → r ≡ Ok x → after_call s.left ≡ [] → (more : ℕ) → room ≤ more
@@ -574,33 +565,16 @@ steps_are false left n e same = same
 -- what is seen once a group is committed, where it went to such a journal
 pub as_committed : {D : Type 0} (s : CommitterState D) (to target : Journal) (group : Handed)
     (disk : D) → to ≡ target → target.geometry ≡ s.sizes → target.number ≡ s.number
-    → record {
-      disk = disk;
+    → record (with_committed s to group disk) {
       sizes = to.geometry;
-      rows = rows_after_group s.rows group.entries;
       number = to.number + length group.entries;
-      half = to.half;
-      end = to.end + 1 + slots_taken group.entries;
-      epoch = to.epoch;
-      other_open = to.other_open;
-      underway = None;
-      left = [];
-      broken = s.broken;
     }
     ≡ with_committed s target group disk
-as_committed s to target group disk e sizes number = λ i. record {
-  disk = disk;
-  sizes = (ap (λ (j : Journal). j.geometry) e ∙ sizes) i;
-  rows = rows_after_group s.rows group.entries;
-  number = (ap (λ (j : Journal). j.number) e ∙ number) i + length group.entries;
-  half = (e i).half;
-  end = (e i).end + 1 + slots_taken group.entries;
-  epoch = (e i).epoch;
-  other_open = (e i).other_open;
-  underway = None;
-  left = [];
-  broken = s.broken;
-}
+as_committed s to target group disk e sizes number =
+    λ i. record (with_committed s (e i) group disk) {
+      sizes = (ap (λ (j : Journal). j.geometry) e ∙ sizes) i;
+      number = (ap (λ (j : Journal). j.number) e ∙ number) i + length group.entries;
+    }
 
 pub told_ok : {T E : Type 0} (r : Result T E) (P : T → Type 0) (x : T) → r ≡ Ok x → IfOk r P → P x
 told_ok (Ok y) P x e p = subst P (cc) p

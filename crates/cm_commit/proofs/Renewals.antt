@@ -13,7 +13,7 @@ use Rattle.cm_guards.specs.Calls.{LeavesOnly}
 use Rattle.cm_guards.specs.Stages.{Stage, StagesStand, IsReady, CallsOnce, TakesCall, after_call}
 use Rattle.cm_guards.specs.Stages.{leaves}
 use Rattle.cm_guards.proofs.{ready_stands, takes_call, call_done, call_moments, leaves_more}
-use Rattle.cm_guards.proofs.{leaves_one, leaves_so}
+use Rattle.cm_guards.proofs.{leaves_none, leaves_on, leaves_one, leaves_so, settled_images}
 use Rattle.cm_commit.specs.declared.journal.Journal.{Journal}
 use Rattle.cm_commit.specs.declared.step.CheckpointStep.{CheckpointStep}
 use Rattle.cm_commit.specs.declared.step.CheckpointStep.TheVariants as checkpoint
@@ -97,7 +97,7 @@ module _ (contents : List ℕ) (unsynced : Unsynced) (journal : Journal)
   }
 
   -- what is framed at entry
-  pub framed_here : Frames contents
+  framed_here : Frames contents
   framed_here = record {
     framing = may.held.framing;
     right = right;
@@ -114,7 +114,7 @@ module _ (contents : List ℕ) (unsynced : Unsynced) (journal : Journal)
   some_left checkpoint.SyncOpened e = absurd (cc)
 
   -- where the next step is known, or none is
-  pub stands_at : (next : Option CheckpointStep) (at : CheckpointStep) → next ≡ Some at
+  stands_at : (next : Option CheckpointStep) (at : CheckpointStep) → next ≡ Some at
       → (now : List ℕ) (loose : Unsynced)
       → Stand (checkpoint_rest journal (bare rows) next) now loose
       → Stand (checkpoint_left journal (bare rows) at) now loose
@@ -122,7 +122,7 @@ module _ (contents : List ℕ) (unsynced : Unsynced) (journal : Journal)
       subst (λ (o : Option CheckpointStep). Stand (checkpoint_rest journal (bare rows) o) now loose)
       is
 
-  pub stands_end : (next : Option CheckpointStep)
+  stands_end : (next : Option CheckpointStep)
       → ((at : CheckpointStep) → next ≡ Some at → ⊥)
       → (now : List ℕ) (loose : Unsynced)
       → Stand (checkpoint_rest journal (bare rows) next) now loose
@@ -133,21 +133,27 @@ module _ (contents : List ℕ) (unsynced : Unsynced) (journal : Journal)
   -- ---- one call
 
   module _ {D E : Type 0} (view : View D) (only_now : OnlyNow view) (old new : D)
-      (at : CheckpointStep) (r : Result (Option CheckpointStep) E)
-      (stands : Stand (checkpoint_left journal (bare rows) at) (view.contents old)
+      (next : Option CheckpointStep) (at : CheckpointStep) (is : next ≡ Some at)
+      (r : Result (Option CheckpointStep) E)
+      (stands : Stand (checkpoint_rest journal (bare rows) next) (view.contents old)
       (view.unsynced old))
       (call : CallsOnce view (checkpoint_left journal (bare rows) at) old new r) where
     abbrev left : List Stage
     left = checkpoint_left journal (bare rows) at
 
-    pub frames_on : LeavesOnly view old new Frames
-    frames_on =
-        leaves_more view old new (leaves left (Holds kept) (Shows (renewed kept))) Frames
+    here : Stand left (view.contents old) (view.unsynced old)
+    here = stands_at next at is (view.contents old) (view.unsynced old) stands
+
+    pub frames_on : (first : D) → LeavesOnly view first old Frames
+        → LeavesOnly view first new Frames
+    frames_on first so_far =
+        leaves_on view first old new Frames so_far
+        (leaves_more view old new (leaves left (Holds kept) (Shows (renewed kept))) Frames
         (λ image l. leaves_one left Frames image
         (leaves_so left (Holds kept) (Shows (renewed kept)) Frames Frames held_frames shown_frames
         image l))
         (call_moments view only_now (Holds kept) (Shows (renewed kept)) (length contents) old new r
-        left stands call)
+        left here call))
 
     pub stands_on : (s : Option CheckpointStep) → r ≡ Ok s
         → checkpoint_rest journal (bare rows) s ≡ after_call left
@@ -156,15 +162,17 @@ module _ (contents : List ℕ) (unsynced : Unsynced) (journal : Journal)
         subst (λ (l : List Stage). Stand l (view.contents new) (view.unsynced new)) (sym next)
         (of_ok r (Stand (after_call left) (view.contents new) (view.unsynced new)) s e
         (call_done view only_now (Holds kept) (Shows (renewed kept)) (length contents) old new r
-        left stands call))
+        left here call))
 
   -- the next call can be made
-  pub takes : (at : CheckpointStep) (now : List ℕ) (loose : Unsynced) → IsSound now loose
-      → Stand (checkpoint_left journal (bare rows) at) now loose
+  pub takes : (next : Option CheckpointStep) (at : CheckpointStep) → next ≡ Some at
+      → (now : List ℕ) (loose : Unsynced) → IsSound now loose
+      → Stand (checkpoint_rest journal (bare rows) next) now loose
       → TakesCall (checkpoint_left journal (bare rows) at) (length now)
-  takes at now loose sound stands =
+  takes next at is now loose sound stands =
       takes_call (Holds kept) (Shows (renewed kept)) (length contents)
-      (checkpoint_left journal (bare rows) at) now loose sound (some_left at) stands
+      (checkpoint_left journal (bare rows) at) now loose sound (some_left at)
+      (stands_at next at is now loose stands)
 
   -- ---- the end
 
@@ -174,10 +182,10 @@ module _ (contents : List ℕ) (unsynced : Unsynced) (journal : Journal)
       ap (λ (j : Journal). renewed_journal j (bare rows)) journal_is
       ∙ (λ i. record (journal_of (renewed kept)) { end = end i })
 
-  pub held_then : (now : List ℕ) (loose : Unsynced) → Stand [] now loose
+  held_so : (now : List ℕ) (loose : Unsynced) → Stand [] now loose
       → IsHeld now loose (renewed_journal journal (bare rows)) rows
       (whole_roots journal.geometry (length contents)) entry_version
-  held_then now loose stands = record {
+  held_so now loose stands = record {
     settled = stands.settled;
     framing = renewed_framing kept;
     version_is = refl;
@@ -189,6 +197,26 @@ module _ (contents : List ℕ) (unsynced : Unsynced) (journal : Journal)
     number_is = may.held.number_is;
     roots_are = ap (whole_roots journal.geometry) (sym stands.ready.size);
   }
+
+  pub held_then : (next : Option CheckpointStep)
+      → ((at : CheckpointStep) → next ≡ Some at → ⊥)
+      → (now : List ℕ) (loose : Unsynced)
+      → Stand (checkpoint_rest journal (bare rows) next) now loose
+      → IsHeld now loose (renewed_journal journal (bare rows)) rows
+      (whole_roots journal.geometry (length contents)) entry_version
+  held_then next none now loose stands =
+      held_so now loose (stands_end next none now loose stands)
+
+-- before the first call a crash leaves what is framed at entry
+pub nothing_left : {D : Type 0} (view : View D) → OnlyNow view → (disk : D) (journal : Journal)
+    (rows : List (Row (List ℕ)))
+    → MayRenew (view.contents disk) (view.unsynced disk) journal rows
+    → LeavesOnly view disk disk (λ image. IsFramed journal.geometry image rows journal.number)
+nothing_left view only_now disk journal rows may =
+    let frames = λ (image : List ℕ). IsFramed journal.geometry image rows journal.number in
+    leaves_none view only_now disk frames
+    (settled_images frames (view.contents disk) (view.unsynced disk) may.held.settled
+    (framed_here (view.contents disk) (view.unsynced disk) journal rows may))
 
 pub no_ok : {T E : Type 0} (r : Result T E) (P : E → Type 0) → IsErrAnd r P → IsOk r → ⊥
 no_ok (Ok x) P failed ok = failed

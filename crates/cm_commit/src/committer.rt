@@ -38,8 +38,10 @@ use cm_pool::Geometry;
 use cm_record::Record;
 use cm_rows::Book;
 use std::alloc::{AllocError, Global};
+use std::fmt::Debug;
 use std::marker::Model;
 use std::sync::Arc;
+use thiserror::Error;
 
 /// The one that writes groups to a region file: it owns the disk, the rows that are committed with
 /// the records of their classes, and the number of the last command. A group is offered to it, and
@@ -87,7 +89,9 @@ impl<D: Disk> Model for Committer<D> {
 }
 
 /// A committer that wasn't made, since an allocation failed; its disk.
-#[derive(Debug)]
+#[derive(Debug, Drop, Error)]
+#[error("out of memory")]
+#[error_bound(D: Debug + Drop)]
 pub struct NotMade<D> {
     /// As it was.
     pub disk: D,

@@ -62,7 +62,8 @@ pub fn simulate(alloc: Global, text: &[u8]) -> Result<Simulated, SimulateFault>
 }
 
 /// Why the bytes of a disk in memory aren't had: an allocation failed.
-#[derive(Clone, Copy, Debug, PartialEq, Eq)]
+#[derive(Clone, Copy, Debug, PartialEq, Eq, Error)]
+#[error("out of memory")]
 pub struct NoBytes;
 
 impl From<DeviceFault> for NoBytes {

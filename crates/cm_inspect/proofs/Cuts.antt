@@ -27,7 +27,7 @@ use Rattle.cm_verdict.specs.Verdict.{Standing, verdict}
 use Rattle.cm_recover.specs.declared.fault.OpenFault.{OpenFault}
 use Rattle.cm_recover.specs.declared.fault.OpenFault.TheVariants as open_fault
 use Rattle.cm_recover.specs.Opened.{Opens}
-use Rattle.cm_recover.specs.Standing.{Answers}
+use Rattle.cm_recover.specs.Standing.{GoesByVerdict}
 use Rattle.cm_inspect.specs.declared.fault.InspectFault.{InspectFault}
 use Rattle.cm_inspect.specs.declared.status.Status.{Status}
 use Rattle.cm_inspect.specs.declared.status.Status.TheVariants as status
@@ -177,7 +177,7 @@ module _ {D : Type 0} (contents : List ℕ) (front : FrontState) (committer : Co
   pub roots_told : (result : Result ℕ OpenFault)
       → IfOk result (λ roots. roots ≡ roots_of_rows committer.rows)
       → (IsErr result → result ≡ Err open_fault.Device)
-      → Answers (Uses contents) result (verdict contents)
+      → GoesByVerdict (Uses contents) result (verdict contents)
   roots_told (Ok roots) told device = record {
     told = s;
     verdict_is = opens.verdict_is;
@@ -187,7 +187,7 @@ module _ {D : Type 0} (contents : List ℕ) (front : FrontState) (committer : Co
     };
   }
   roots_told (Err f) told device =
-      subst (λ (r : Result ℕ OpenFault). Answers (Uses contents) r (verdict contents))
+      subst (λ (r : Result ℕ OpenFault). GoesByVerdict (Uses contents) r (verdict contents))
       (sym (device refl)) tt
 
   pub trimmed_so : (roots : ℕ) (left : List ℕ) → roots ≡ roots_of_rows committer.rows

@@ -7,7 +7,7 @@ use Rattle.cm_state.specs.Stands.{Stands}
 use Rattle.cm_verdict.specs.Verdict.{Standing, state_in, arenas_in, verdict}
 use Rattle.cm_recover.specs.declared.fault.OpenFault.{OpenFault}
 use Rattle.cm_recover.specs.declared.fault.OpenFault.TheVariants as open_fault
-use Rattle.cm_recover.specs.Standing.{Answers}
+use Rattle.cm_recover.specs.Standing.{GoesByVerdict}
 use Rattle.cm_inspect.specs.Report.{Reports}
 use Rattle.cm_inspect.specs.declared.listing.ListedClass.{ListedClass}
 use Rattle.cm_inspect.specs.Listing.{listing}
@@ -63,7 +63,7 @@ pub record Tells {A : Type 0} (Alike : A → Standing → Type 0) (lines : A →
     (contents : List ℕ) (Failed : Type 0) (held holds : Option (List ℕ))
     (result : Result Status InspectFault) : Type 0 where
   pub answer : Result A OpenFault
-  pub answers : Answers Alike answer (verdict contents)
+  pub answers : GoesByVerdict Alike answer (verdict contents)
   pub device : answer ≡ Err open_fault.Device → Failed
   pub written : Writes held holds (told lines answer) (status_of answer) result
 

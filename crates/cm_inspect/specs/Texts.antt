@@ -4,9 +4,8 @@ use Rattle.std.specs.List.{flat_map}
 use Rattle.std.specs.Fmt.{decimal}
 use Rattle.cm_pool.specs.declared.place.Place.{Place}
 use Rattle.cm_record.specs.Names.{class_name_in}
-use Rattle.cm_verdict.specs.Faults.{damage_number}
 use Rattle.cm_recover.specs.declared.fault.OpenFault.{OpenFault}
-use Rattle.cm_recover.specs.declared.fault.OpenFault.TheVariants as open_fault
+use Rattle.cm_recover.specs.Texts.{open_fault_text}
 use Rattle.cm_inspect.specs.declared.report.Report.{Report}
 use Rattle.cm_inspect.specs.declared.listing.ListedClass.{ListedClass}
 use Rattle.cm_lines.specs.Escapes.{escaped}
@@ -50,8 +49,4 @@ roots_line roots = codes "roots " ++ decimal roots ++ 10 ∷ []
 -- ---- of a file that isn't opened
 
 abbrev pub fault_line : OpenFault → List ℕ
-fault_line open_fault.NotACache = codes "not a cache" ++ 10 ∷ []
-fault_line (open_fault.Damaged what slot) =
-    codes "damaged " ++ decimal (damage_number what) ++ codes " " ++ decimal slot ++ 10 ∷ []
-fault_line open_fault.Device = codes "device" ++ 10 ∷ []
-fault_line open_fault.NoMemory = codes "memory" ++ 10 ∷ []
+fault_line fault = open_fault_text fault ++ 10 ∷ []

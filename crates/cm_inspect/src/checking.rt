@@ -4,7 +4,7 @@ ghost use Rattle.std.specs.Prelude.{◌≡◌, Err};
 ghost use Rattle.cm_guards.specs.Calls.{Reads};
 ghost use Rattle.cm_verdict.specs.Verdict.{verdict};
 ghost use Rattle.cm_recover.specs.declared.fault.OpenFault.TheVariants as open_fault;
-ghost use Rattle.cm_recover.specs.Standing.{Answers};
+ghost use Rattle.cm_recover.specs.Standing.{GoesByVerdict};
 ghost use Rattle.cm_inspect.specs.Report.{Reports};
 
 use crate::report::{Report, count};
@@ -21,7 +21,7 @@ use std::alloc::Global;
 /// `NotACache` and `Damaged` exactly where the verdict on the file's bytes says so, as when the
 /// file is opened; `Device` where the device failed; `NoMemory` where an allocation failed.
 pub fn check<D: Disk>(alloc: Global, disk: &mut D) -> Result<Report, OpenFault>
-    ensures verdict { Answers (Reports (D.view.contents disk.old)) result
+    ensures verdict { GoesByVerdict (Reports (D.view.contents disk.old)) result
         (verdict (D.view.contents disk.old)) }
     ensures reads { Reads D.view disk.old disk.new
         (result ≡ Err open_fault.Device) }

@@ -1,5 +1,6 @@
 //! Why a file isn't told of.
 
+use std::fmt::Debug;
 use thiserror::Error;
 
 /// Why what a file holds isn't told, or not to the end. `Display` gives the text that the program
@@ -15,7 +16,9 @@ pub enum InspectFault {
 }
 
 /// A file that isn't told of to the end: why, and its disk.
-#[derive(Debug)]
+#[derive(Debug, Drop, Error)]
+#[error("{fault}")]
+#[error_bound(D: Debug + Drop)]
 pub struct NotInspected<D> {
     pub fault: InspectFault,
     /// With the contents that it had.

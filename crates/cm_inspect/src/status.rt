@@ -9,20 +9,24 @@ pub enum Status {
     Done,
     /// A line was refused, a file is no cache or damaged, or a name is taken.
     Refused,
+    /// The words of the command line ask for nothing that can be done.
+    WrongWords,
     /// The device, memory, the input or the output failed.
     Failed,
 }
 
 impl Status {
-    /// The number that a process ends with. 2 is that of wrong words of a command line.
+    /// The number that a process ends with.
     pub fn number(self) -> u8
         ensures done { self ≡ Status.Done → result ≡ 0 }
         ensures refused { self ≡ Status.Refused → result ≡ 1 }
+        ensures wrong_words { self ≡ Status.WrongWords → result ≡ 2 }
         ensures failed { self ≡ Status.Failed → result ≡ 3 }
     {
         match self {
             Status::Done => 0,
             Status::Refused => 1,
+            Status::WrongWords => 2,
             Status::Failed => 3,
         }
     }

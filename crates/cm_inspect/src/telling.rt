@@ -6,7 +6,7 @@ ghost use Rattle.cm_inspect.specs.Inspecting.{Writes, fault_status, status_in, d
 
 use crate::fault::{InspectFault, NotInspected};
 use crate::status::Status;
-use crate::texts::line_of_damage;
+use crate::texts::line_of_fault;
 use cm_lines::write_line;
 use cm_recover::OpenFault;
 use std::alloc::Global;
@@ -26,8 +26,18 @@ pub(crate) fn tell<W: Write>(
     }
 }
 
-/// Writes why a file isn't opened, and gives the status, as [`crate::check_to`] does. Only a
-/// damage's line takes memory.
+/// The status that goes with why a file isn't opened.
+fn status_of_fault(fault: OpenFault) -> Status
+    ensures { result ≡ fault_status fault }
+{
+    match fault {
+        OpenFault::NotACache | OpenFault::Damaged { .. } => Status::Refused,
+        OpenFault::Device | OpenFault::NoMemory => Status::Failed,
+    }
+}
+
+/// Writes why a file isn't opened, and gives the status, as [`crate::check_to`] does. Where an
+/// allocation failed, no other is asked for.
 pub fn tell_fault<W: Write>(
     alloc: Global,
     writer: &mut W,
@@ -37,13 +47,11 @@ pub fn tell_fault<W: Write>(
         (fault_status fault) result }
 {
     match fault {
-        OpenFault::NotACache => tell(writer, b"not a cache\n", Status::Refused),
-        OpenFault::Damaged { what, slot } => match line_of_damage(alloc, what, slot) {
-            Ok(line) => tell(writer, &line, Status::Refused),
+        OpenFault::NoMemory => tell(writer, b"memory\n", Status::Failed),
+        _ => match line_of_fault(alloc, fault) {
+            Ok(line) => tell(writer, &line, status_of_fault(fault)),
             Err(_) => Err(InspectFault::NoMemory),
         },
-        OpenFault::Device => tell(writer, b"device\n", Status::Failed),
-        OpenFault::NoMemory => tell(writer, b"memory\n", Status::Failed),
     }
 }
 

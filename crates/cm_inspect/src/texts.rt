@@ -3,7 +3,6 @@
 ghost use Rattle.std.specs.Prelude.{◌≡◌, ◌+◌, ◌++◌, [], ◌∷◌, IfOk, OnOk};
 ghost use Rattle.std.specs.Fmt.{decimal};
 ghost use Rattle.std.specs.List.{flat_map};
-ghost use Rattle.cm_recover.specs.declared.fault.OpenFault.TheVariants as open_fault;
 ghost use Rattle.cm_inspect.specs.Listing.{shown};
 ghost use Rattle.cm_inspect.specs.Texts.{report_line, listed_line, list_lines, fault_line};
 ghost use Rattle.cm_inspect.specs.Texts.{roots_line};
@@ -11,7 +10,7 @@ ghost use Rattle.cm_inspect.specs.Texts.{roots_line};
 use crate::{ListedClass, ListedLoader, Report};
 use cm_lines::escape_into;
 use cm_pool::Place;
-use cm_verdict::Damage;
+use cm_recover::OpenFault;
 use std::alloc::{AllocError, Global};
 
 /// `ok loaders L classes C chunks K number N`.
@@ -40,16 +39,12 @@ pub(crate) fn line_of_roots(alloc: Global, roots: u32) -> Result<Vec<u8>, AllocE
     Ok(line)
 }
 
-/// `damaged KIND SLOT`.
-pub(crate) fn line_of_damage(alloc: Global, what: Damage, slot: u32) -> Result<Vec<u8>, AllocError>
-    ensures { IfOk result (λ line. line.items ≡ fault_line (open_fault.Damaged what slot)) }
+/// `not a cache`, `damaged KIND SLOT`, `device` or `memory`.
+pub(crate) fn line_of_fault(alloc: Global, fault: OpenFault) -> Result<Vec<u8>, AllocError>
+    ensures { IfOk result (λ line. line.items ≡ fault_line fault) }
 {
-    let mut line = Vec::from_slice(alloc, b"damaged ")?;
-    push_number(alloc, &mut line, u64::from(what.number()))?;
-    line.extend_from_slice(b" ")?;
-    push_number(alloc, &mut line, u64::from(slot))?;
-    line.push(b'\n')?;
-    Ok(line)
+    let line = format!(in alloc; "{fault}\n")?;
+    Ok(line.into_bytes())
 }
 
 /// The lines of a list: those of one loader behind those of the one before.

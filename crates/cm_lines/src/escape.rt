@@ -8,13 +8,16 @@ ghost use Rattle.cm_lines.specs.Escapes.{spelled_after, is_plain, escaped, unesc
 ghost use Rattle.cm_lines.specs.Escapes.{digit_value, upper_digit};
 
 use std::alloc::{AllocError, Global};
+use thiserror::Error;
 
 /// Why a word is no class name.
-#[derive(Clone, Copy, Debug, PartialEq, Eq)]
+#[derive(Clone, Copy, Debug, PartialEq, Eq, Error)]
 pub enum NameFault {
     /// It isn't the one spelling of a name.
+    #[error("not the spelling of a name")]
     BadEscape,
     /// An allocation failed.
+    #[error("out of memory")]
     NoMemory,
 }
 

@@ -55,8 +55,14 @@ pub record IsOfWords (words : List (Bor (List ℕ))) (plan : Plan) : Type 0 wher
   pub numbers : IfSome (plan_geometry plan) IsGeometry
   pub workers : IfSome (plan_workers plan) (λ n. (0 < n) × (n ≤ most_workers))
 
--- the status to end with
-abbrev pub fault_status : UsageFault → ℕ
-fault_status (Help text) = 0
-fault_status (Words text) = 2
-fault_status NoMemory = 3
+-- its words ask for help
+abbrev pub IsHelp : UsageFault → Type 0
+IsHelp (Help text) = Unit {0}
+IsHelp (Words text) = ⊥
+IsHelp NoMemory = ⊥
+
+-- its words are wrong
+abbrev pub IsWrong : UsageFault → Type 0
+IsWrong (Help text) = ⊥
+IsWrong (Words text) = Unit {0}
+IsWrong NoMemory = ⊥

@@ -27,18 +27,3 @@ impl From<AllocError> for UsageFault {
         UsageFault::NoMemory
     }
 }
-
-impl UsageFault {
-    ghost use Rattle.cm_plan.specs.Plan.{fault_status};
-
-    /// The status to end with: 0 after help, 2 for wrong words, 3 where memory was short.
-    pub fn status(&self) -> u8
-        ensures { result ≡ fault_status self.now }
-    {
-        match self {
-            UsageFault::Help(_) => 0,
-            UsageFault::Words(_) => 2,
-            UsageFault::NoMemory => 3,
-        }
-    }
-}

@@ -5,7 +5,7 @@ ghost use Rattle.clap.specs.Words.{first_value, found_of, kind_of};
 ghost use Rattle.clap.specs.declared.error.kind.ErrorKind.TheVariants.{DisplayHelp, DisplayVersion};
 ghost use Rattle.clap.specs.declared.error.kind.ErrorKind.TheVariants.{OutOfMemory};
 ghost use Rattle.clap.specs.declared.error.kind.ErrorKind.TheVariants.{ValueValidation};
-ghost use Rattle.cm_plan.specs.Plan.{IsOfWords, fault_status, most_workers};
+ghost use Rattle.cm_plan.specs.Plan.{IsOfWords, IsHelp, IsWrong, most_workers};
 ghost use Rattle.cm_plan.specs.declared.fault.UsageFault.TheVariants.{NoMemory};
 
 use crate::command::{APPLY, CHECK, FILE, FORMAT, LIST, MEMORY, MEMORY_WORD, TRIM, whole_command};
@@ -37,7 +37,7 @@ pub fn plan<'a>(alloc: Global, words: &'a [&'a str]) -> Result<Plan<'a>, UsageFa
 /// The fault of words that can't be read at all, as where one of them isn't UTF-8: its text begins
 /// with `why` and tells how the words are used.
 pub fn wrong_words(alloc: Global, why: &str) -> UsageFault
-    ensures no_help { 0 < fault_status result }
+    ensures no_help { ¬ IsHelp result }
 {
     match usage_error(alloc, why) {
         Ok(error) => fault_of(alloc, &error),
@@ -53,9 +53,9 @@ fn usage_error(alloc: Global, why: &str) -> Result<Error, AllocError>
 
 fn fault_of(alloc: Global, error: &Error) -> UsageFault
     ensures memory { kind_of error.now ≡ OutOfMemory → result ≡ NoMemory }
-    ensures help { fault_status result ≡ 0
+    ensures help { IsHelp result
         → (kind_of error.now ≡ DisplayHelp) ⊎ (kind_of error.now ≡ DisplayVersion) }
-    ensures words { fault_status result ≡ 2
+    ensures words { IsWrong result
         → (kind_of error.now ≢ DisplayHelp) × (kind_of error.now ≢ DisplayVersion) }
 {
     if error.kind() == ErrorKind::OutOfMemory {

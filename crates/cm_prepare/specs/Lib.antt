@@ -1,4 +1,5 @@
 pub mod Refusals
+pub mod Texts
 pub mod Commands
 pub mod Prepare
 pub mod Names

@@ -1,68 +1,81 @@
 //! Why a command is refused.
 
-ghost use Rattle.std.specs.Prelude.{◌≡◌};
+ghost use Rattle.std.specs.Prelude.{◌≡◌, Some};
 ghost use Rattle.cm_prepare.specs.Refusals.{refusal_number};
+ghost use Rattle.cm_prepare.specs.Texts.{refusal_text};
 ghost use Rattle.cm_prepare.specs.declared.refusal.Refusal.TheVariants.{NoMemory};
 
 use crate::bad_class::BadClass;
 use std::alloc::AllocError;
-use thiserror::Error;
+use std::error::Error;
+use std::fmt::{self, Display, Formatter};
 
-/// Why a command isn't done. `Display` gives the text behind `refused N` in a reply, but for the
-/// places in a class that breaks a rule.
-#[derive(Clone, Copy, Debug, PartialEq, Eq, Error)]
+/// Why a command isn't done. `Display` gives the text of a reply: of an unsure command the whole
+/// reply, otherwise what follows `refused N`.
+#[derive(Clone, Copy, Debug, PartialEq, Eq)]
 pub enum Refusal {
     /// A loader's name isn't 1 to 96 bytes from 21 to 7E.
-    #[error("name")]
     BadName,
     /// The name is taken.
-    #[error("loader exists")]
     LoaderExists,
     /// There is no such loader.
-    #[error("no loader")]
     NoLoader,
     /// The loader has a class of that name.
-    #[error("class exists")]
     ClassExists,
     /// The record is longer than a root, or than any record may be.
-    #[error("record too long")]
     RecordTooLong,
     /// No chunk is free that holds the record, and all roots are present.
-    #[error("region full")]
     RegionFull,
     /// The journal has no room for what would live then.
-    #[error("journal full")]
     JournalFull,
     /// The records on the loader's last chunk have no smaller chunk to move to, and none that lies
     /// before it.
-    #[error("no move")]
     NoMove,
     /// An allocation failed.
-    #[error("memory")]
     NoMemory,
     /// The device failed earlier.
-    #[error("broken")]
     Broken,
     /// The cache was closed.
-    #[error("closed")]
     Closed,
     /// There is no next number.
-    #[error("numbers spent")]
     NumbersSpent,
     /// The device failed before the receipt of the command of this number: it may be there once the
     /// file is opened again.
-    #[error("unsure {0}")]
     Unsure(u64),
     /// The bytes are no class that keeps the rules.
-    #[error("{0}")]
     BadClass(BadClass),
     /// A line of a script has no known form.
-    #[error("line")]
     BadLine,
     /// There is no name, there are more than seven, or one stands there twice.
-    #[error("list")]
     BadList,
 }
+
+impl Display for Refusal {
+    ghost output = { λ refusal. Some (refusal_text refusal) };
+
+    fn fmt<W: fmt::Write>(&self, f: &mut Formatter<W>) -> fmt::Result {
+        match self {
+            Refusal::BadName => write!(f, "name"),
+            Refusal::LoaderExists => write!(f, "loader exists"),
+            Refusal::NoLoader => write!(f, "no loader"),
+            Refusal::ClassExists => write!(f, "class exists"),
+            Refusal::RecordTooLong => write!(f, "record too long"),
+            Refusal::RegionFull => write!(f, "region full"),
+            Refusal::JournalFull => write!(f, "journal full"),
+            Refusal::NoMove => write!(f, "no move"),
+            Refusal::NoMemory => write!(f, "memory"),
+            Refusal::Broken => write!(f, "broken"),
+            Refusal::Closed => write!(f, "closed"),
+            Refusal::NumbersSpent => write!(f, "numbers spent"),
+            Refusal::Unsure(number) => write!(f, "unsure {number}"),
+            Refusal::BadClass(bad) => write!(f, "{bad}"),
+            Refusal::BadLine => write!(f, "line"),
+            Refusal::BadList => write!(f, "list"),
+        }
+    }
+}
+
+impl Error for Refusal {}
 
 impl Refusal {
     /// The number in a reply.

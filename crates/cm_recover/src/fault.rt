@@ -1,14 +1,16 @@
 //! Why a file isn't made, or isn't opened.
 
-ghost use Rattle.std.specs.Prelude.{◌≡◌};
+ghost use Rattle.std.specs.Prelude.{◌≡◌, Some};
 ghost use Rattle.cm_recover.specs.declared.fault.FormatFault.TheVariants as fault;
 ghost use Rattle.cm_recover.specs.declared.fault.OpenFault.TheVariants as open_fault;
 ghost use Rattle.cm_recover.specs.Opening.{fault_of, fault_of_renewal};
+ghost use Rattle.cm_recover.specs.Texts.{open_fault_text};
 
 use cm_commit::RenewFault;
 use cm_disk::DeviceFault;
 use cm_verdict::{Damage, FileFault};
 use std::alloc::AllocError;
+use std::fmt::{self, Display, Formatter};
 use thiserror::Error;
 
 /// Why a file isn't made.
@@ -42,22 +44,33 @@ impl From<AllocError> for FormatFault {
 }
 
 /// Why a file isn't opened. It stands for what it stood for.
-#[derive(Clone, Copy, Debug, PartialEq, Eq, Error)]
+#[derive(Clone, Copy, Debug, PartialEq, Eq)]
 pub enum OpenFault {
     /// The file is shorter than a superblock, or its first bytes or the gate of its superblock are
     /// others.
-    #[error("not a cache")]
     NotACache,
     /// The file's first damage, with the slot where it was met, as in [`FileFault`].
-    #[error("damaged at slot {slot}")]
     Damaged { what: Damage, slot: u32 },
     /// The device failed.
-    #[error("device")]
     Device,
     /// An allocation failed.
-    #[error("memory")]
     NoMemory,
 }
+
+impl Display for OpenFault {
+    ghost output = { λ fault. Some (open_fault_text fault) };
+
+    fn fmt<W: fmt::Write>(&self, f: &mut Formatter<W>) -> fmt::Result {
+        match *self {
+            OpenFault::NotACache => FileFault::NotACache.fmt(f),
+            OpenFault::Damaged { what, slot } => FileFault::Damaged { what, slot }.fmt(f),
+            OpenFault::Device => write!(f, "device"),
+            OpenFault::NoMemory => write!(f, "memory"),
+        }
+    }
+}
+
+impl std::error::Error for OpenFault {}
 
 impl From<FileFault> for OpenFault {
     ghost from_gives = { λ fault e. e ≡ fault_of fault };

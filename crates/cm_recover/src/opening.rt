@@ -19,9 +19,13 @@ use cm_front::{Front, arenas_are_of_rows};
 use cm_record::words_tell_name;
 use cm_verdict::{found_is_framed, found_is_live, verdict_is_exact};
 use std::alloc::Global;
+use std::fmt::Debug;
+use thiserror::Error;
 
 /// A file that isn't opened: why, and its disk.
-#[derive(Debug)]
+#[derive(Debug, Drop, Error)]
+#[error("{fault}")]
+#[error_bound(D: Debug + Drop)]
 pub struct NotOpened<D> {
     pub fault: OpenFault,
     /// What a crash may leave of it is what it might have left before, or stands for the same

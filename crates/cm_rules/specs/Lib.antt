@@ -1,4 +1,5 @@
 pub mod Fault
+pub mod Texts
 pub mod Least
 pub mod Kept
 pub mod Answer

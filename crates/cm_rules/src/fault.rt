@@ -15,7 +15,7 @@ pub enum ClassFault {
     #[error("malformed {0}")]
     Malformed(usize),
     /// The bytes are a class file, and this is the first rule that it breaks, where it does first.
-    #[error("rule {0:?}")]
+    #[error("{0}")]
     Rule(Broken),
     /// An allocation failed.
     #[error("memory")]

@@ -1,4 +1,7 @@
-ghost use Rattle.std.specs.Prelude.{◌≡◌};
+ghost use Rattle.std.specs.Prelude.{◌≡◌, Some};
+ghost use Rattle.cm_rules.specs.Texts.{spot_text, broken_text};
+
+use std::fmt::{self, Display, Formatter};
 
 /// The rules, in the order in which they are judged. A rule is read only where all before it hold.
 #[derive(Clone, Copy, Debug, PartialEq, Eq)]
@@ -68,11 +71,37 @@ pub enum Spot {
     Attribute(u16),
 }
 
+impl Display for Spot {
+    ghost output = { λ spot. Some (spot_text spot) };
+
+    fn fmt<W: fmt::Write>(&self, f: &mut Formatter<W>) -> fmt::Result {
+        match self {
+            Spot::Pool(index) => write!(f, "pool {index}"),
+            Spot::This => write!(f, "this"),
+            Spot::Super => write!(f, "super"),
+            Spot::Interface(at) => write!(f, "interface {at}"),
+            Spot::Field(at) => write!(f, "field {at}"),
+            Spot::Method(at) => write!(f, "method {at}"),
+            Spot::Attribute(at) => write!(f, "attribute {at}"),
+        }
+    }
+}
+
 /// A rule that a class breaks, and the first place where it does.
 #[derive(Clone, Copy, Debug, PartialEq, Eq)]
 pub struct Broken {
     pub rule: Rule,
     pub spot: Spot,
+}
+
+impl Display for Broken {
+    ghost output = { λ broken. Some (broken_text broken) };
+
+    fn fmt<W: fmt::Write>(&self, f: &mut Formatter<W>) -> fmt::Result {
+        let number = self.rule.number();
+        let spot = self.spot;
+        write!(f, "V{number} {spot}")
+    }
 }
 
 impl Rule {

@@ -1,5 +1,6 @@
 //! The command line.
 
+use crate::UNKNOWN;
 use clap::error::{Error, ErrorKind};
 use clap::{Arg, ArgAction, Command};
 use std::alloc::{AllocError, Global};
@@ -60,15 +61,15 @@ fn words(rt: &(impl Env + AllocGlobal)) -> Result<Option<Vec<String>>, WordsFaul
     }
 }
 
-/// Prints the help or what is wrong with the words, and gives the status: of wrong words it is 2,
-/// though their text may not reach anyone.
+/// Prints the help or what is wrong with the words, and gives the status: of wrong words it is
+/// [`UNKNOWN`], though their text may not reach anyone.
 fn print_text(rt: &(impl Print + Eprint), text: &Error) -> Result<Request, WordsFault> {
     if text.kind() == ErrorKind::OutOfMemory {
         return Err(WordsFault::NoMemory);
     }
     let printed = text.print(rt);
     if text.use_stderr() {
-        Ok(Request::Printed(2))
+        Ok(Request::Printed(UNKNOWN))
     } else if printed.is_ok() {
         Ok(Request::Printed(0))
     } else {

@@ -196,8 +196,8 @@ pub record EndsUnsure {D : Type 0} (Leaves : D → D → (List ℕ → Type 0) �
   pub runs : RunsLine Leaves sizes line between last new
   pub unsure : is_unsure last.kind ≡ true
 
-abbrev pub Answers : {D : Type 0} → (D → D → (List ℕ → Type 0) → Type 0) → Sizes
+abbrev pub AnswersAll : {D : Type 0} → (D → D → (List ℕ → Type 0) → Type 0) → Sizes
     → List (List ℕ) → Pause D → List ReplyText → Pause D → Type 0
-Answers Leaves sizes lines old replies new =
+AnswersAll Leaves sizes lines old replies new =
     AnswersEach Leaves sizes lines old replies new
     ⊎ EndsUnsure Leaves sizes lines old replies new

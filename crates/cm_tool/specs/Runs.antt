@@ -17,7 +17,7 @@ use Rattle.cm_tool.specs.declared.script.Outcome.{Outcome}
 use Rattle.cm_tool.specs.declared.script.ToolFault.{ToolFault}
 use Rattle.cm_tool.specs.declared.script.ToolFault.TheVariants as fault
 use Rattle.cm_tool.specs.Answers.{Served, AnswersLine, Pause, StandsBetween}
-use Rattle.cm_tool.specs.Answers.{AnswersEach, Answers}
+use Rattle.cm_tool.specs.Answers.{AnswersEach, AnswersAll}
 
 abbrev pub fault_of : LineFault → ToolFault
 fault_of line_fault.Input = fault.Input
@@ -82,7 +82,7 @@ pub record IsAnswered {D : Type 0} (Leaves : D → D → (List ℕ → Type 0) �
   pub lines : List (List ℕ)
   pub lines_are : IfSome io.script (λ script. lines ≡ lines_of script)
   pub replies : List ReplyText
-  pub answers : Answers Leaves sizes lines old replies new
+  pub answers : AnswersAll Leaves sizes lines old replies new
   pub written : Appends io.before io.after (reply_lines replies)
   pub refused : outcome.refused ≡ list_any (λ given. is_refused given.kind) replies
   pub unsure : outcome.unsure ≡ list_any (λ given. is_unsure given.kind) replies

@@ -4,15 +4,10 @@ use Rattle.std.specs.Prelude.{codes, Option, Some, None}
 use Rattle.std.specs.Fmt.{decimal}
 use Rattle.cm_class.specs.declared.class_file.ClassFile.{ClassFile}
 use Rattle.cm_record.specs.Names.{super_name_of}
-use Rattle.cm_rules.specs.declared.rule.Spot.{Spot}
-use Rattle.cm_rules.specs.declared.rule.Spot.TheVariants as spot
-use Rattle.cm_rules.specs.declared.rule.Broken.{Broken}
-use Rattle.cm_rules.specs.Fault.{number}
-use Rattle.cm_prepare.specs.declared.bad_class.BadClass.{BadClass}
-use Rattle.cm_prepare.specs.declared.bad_class.BadClass.TheVariants as bad
 use Rattle.cm_prepare.specs.declared.refusal.Refusal.{Refusal}
 use Rattle.cm_prepare.specs.declared.refusal.Refusal.TheVariants as refusal
 use Rattle.cm_prepare.specs.Refusals.{refusal_number}
+use Rattle.cm_prepare.specs.Texts.{refusal_text}
 use Rattle.cm_lines.specs.Escapes.{escaped}
 use Rattle.cm_tool.specs.declared.reply.ReplyKind.{ReplyKind}
 use Rattle.cm_tool.specs.declared.reply.ReplyKind.TheVariants as kind
@@ -57,45 +52,6 @@ class_reply name c words =
           codes "class " ++ escaped name ++ codes " flags " ++ flags_text c.flags ++ codes " super "
           ++ super_text (super_name_of c) ++ codes " words " ++ decimal words;
     }
-
--- ---- why commands aren't done
-
--- where in a class a rule is broken
-abbrev pub spot_text : Spot → List ℕ
-spot_text (spot.Pool index) = codes " pool " ++ decimal index
-spot_text spot.This = codes " this"
-spot_text spot.Super = codes " super"
-spot_text (spot.Interface at) = codes " interface " ++ decimal at
-spot_text (spot.Field at) = codes " field " ++ decimal at
-spot_text (spot.Method at) = codes " method " ++ decimal at
-spot_text (spot.Attribute at) = codes " attribute " ++ decimal at
-
-abbrev pub broken_text : Broken → List ℕ
-broken_text b = codes "V" ++ decimal (number b.rule) ++ spot_text b.spot
-
-abbrev pub bad_class_text : BadClass → List ℕ
-bad_class_text bad.Truncated = codes "truncated"
-bad_class_text (bad.Trailing at) = codes "trailing " ++ decimal at
-bad_class_text (bad.Malformed at) = codes "malformed " ++ decimal at
-bad_class_text (bad.Rule broken) = broken_text broken
-
-abbrev pub refusal_text : Refusal → List ℕ
-refusal_text refusal.BadName = codes "name"
-refusal_text refusal.LoaderExists = codes "loader exists"
-refusal_text refusal.NoLoader = codes "no loader"
-refusal_text refusal.ClassExists = codes "class exists"
-refusal_text refusal.RecordTooLong = codes "record too long"
-refusal_text refusal.RegionFull = codes "region full"
-refusal_text refusal.JournalFull = codes "journal full"
-refusal_text refusal.NoMove = codes "no move"
-refusal_text refusal.NoMemory = codes "memory"
-refusal_text refusal.Broken = codes "broken"
-refusal_text refusal.Closed = codes "closed"
-refusal_text refusal.NumbersSpent = codes "numbers spent"
-refusal_text (refusal.Unsure n) = codes "unsure " ++ decimal n
-refusal_text (refusal.BadClass bad) = bad_class_text bad
-refusal_text refusal.BadLine = codes "line"
-refusal_text refusal.BadList = codes "list"
 
 -- ---- of commands that aren't done
 

@@ -8,7 +8,7 @@ ghost use Rattle.cm_tool.specs.Texts.{refused_reply, unsure_reply, refusal_reply
 ghost use Rattle.cm_tool.specs.Texts.{bad_line_reply};
 ghost use Rattle.cm_tool.specs.Replies.{IsReply};
 
-use crate::texts::{push_flags, push_number, text, text_of_refusal, word_with_number};
+use crate::texts::{push_flags, push_number, text, word_with_number};
 use cm_lines::escape_into;
 use cm_prepare::Refusal;
 use cm_record::Record;
@@ -82,7 +82,7 @@ impl Reply {
     pub fn refused(alloc: Global, refusal: Refusal) -> Result<Reply, AllocError>
         ensures { IfOk result (IsReply (refusal_reply refusal)) }
     {
-        let why = text_of_refusal(alloc, refusal)?;
+        let why = refusal.to_string(alloc)?.into_bytes();
         match refusal {
             Refusal::Unsure(_) => end(ReplyKind::Unsure, why),
             _ => refusal_line(alloc, refusal.number(), &why),

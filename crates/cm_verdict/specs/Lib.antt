@@ -1,4 +1,5 @@
 pub mod Faults
+pub mod Texts
 pub mod Decoding
 pub mod Walk
 pub mod Found

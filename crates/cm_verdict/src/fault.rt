@@ -1,7 +1,11 @@
 //! What is wrong with a file.
 
-ghost use Rattle.std.specs.Prelude.{◌≡◌};
+ghost use Rattle.std.specs.Prelude.{◌≡◌, Some};
 ghost use Rattle.cm_verdict.specs.Faults.{damage_number};
+ghost use Rattle.cm_verdict.specs.Texts.{file_fault_text};
+
+use std::error::Error;
+use std::fmt::{self, Display, Formatter};
 
 /// What is damaged in a region file.
 #[derive(Clone, Copy, Debug, PartialEq, Eq)]
@@ -57,3 +61,19 @@ pub enum FileFault {
     /// record's is that of the entry that defined its class. Where no slot is meant it is 0.
     Damaged { what: Damage, slot: u32 },
 }
+
+impl Display for FileFault {
+    ghost output = { λ fault. Some (file_fault_text fault) };
+
+    fn fmt<W: fmt::Write>(&self, f: &mut Formatter<W>) -> fmt::Result {
+        match self {
+            FileFault::NotACache => write!(f, "not a cache"),
+            FileFault::Damaged { what, slot } => {
+                let number = what.number();
+                write!(f, "damaged {number} {slot}")
+            }
+        }
+    }
+}
+
+impl Error for FileFault {}

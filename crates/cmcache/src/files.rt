@@ -1,11 +1,11 @@
 //! Caches that lie in files.
 
 use crate::scripts::run_script;
-use crate::status::say;
+use crate::status::{say, say_not_made};
 use cm_file_disk::{CreateError, FileDisk, OpenError, OpenedFile};
 use cm_inspect::Status;
 use cm_pool::Geometry;
-use cm_recover::{FormatFault, bytes_read, format};
+use cm_recover::{FormatFault, OpenFault, bytes_read, format};
 use std::fs::{self, File, Files};
 use std::io;
 use std::sync::Wait;
@@ -19,22 +19,18 @@ pub fn format_file(
 ) -> Status {
     let mut disk = match FileDisk::create(rt, rt.alloc(), path) {
         Ok(disk) => disk,
-        Err(CreateError::Exists) => return say(rt, "exists", Status::Refused),
+        Err(CreateError::Exists) => return say_not_made(rt, FormatFault::NotEmpty),
         Err(CreateError::Device(cause)) => {
             tell_cause(rt, path, cause);
-            return say(rt, "device", Status::Failed);
+            return say_not_made(rt, FormatFault::Device);
         }
     };
     match format(rt.alloc(), &mut disk, geometry) {
         Ok(()) => say(rt, "ok", Status::Done),
-        Err(FormatFault::NotEmpty) => say(rt, "exists", Status::Refused),
-        Err(FormatFault::Device) => {
+        Err(FormatFault::NotEmpty) => say_not_made(rt, FormatFault::NotEmpty),
+        Err(fault) => {
             give_up(rt, path, disk);
-            say(rt, "device", Status::Failed)
-        }
-        Err(FormatFault::NoMemory) => {
-            give_up(rt, path, disk);
-            say(rt, "memory", Status::Failed)
+            say_not_made(rt, fault)
         }
     }
 }
@@ -78,10 +74,10 @@ where
 /// Says that a file can't be opened, and tells why.
 pub fn say_not_opened(rt: &(impl Print + Eprint), path: &str, error: OpenError) -> Status {
     if let OpenError::NoMemory = error {
-        return say(rt, "memory", Status::Failed);
+        return say(rt, OpenFault::NoMemory, Status::Failed);
     }
     let _ = eprintln!(rt; "cmcache: {path}: {error}");
-    say(rt, "device", Status::Failed)
+    say(rt, OpenFault::Device, Status::Failed)
 }
 
 /// Tells why a file's first call that failed did so, if one has.

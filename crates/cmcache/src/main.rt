@@ -22,11 +22,11 @@ use std::sync::Wait;
 use std::thread::Threads;
 
 fn main(rt: HostRuntime) -> ExitCode {
-    ExitCode::from(run(&rt))
+    ExitCode::from(run(&rt).number())
 }
 
-/// Does what the command line asks for, and gives the number of the status.
-fn run<R>(rt: &R) -> u8
+/// Does what the command line asks for, and gives the status.
+fn run<R>(rt: &R) -> Status
 where
     R: Env + Input + Print + Eprint + Files<File = File> + AllocGlobal,
     R: Threads + Wait + Copy + Send + Sync + 'static,
@@ -39,7 +39,7 @@ where
         return tell_fault(rt, &UsageFault::NoMemory);
     };
     match plan(rt.alloc(), &texts) {
-        Ok(plan) => carry_out(rt, &plan).number(),
+        Ok(plan) => carry_out(rt, &plan),
         Err(fault) => tell_fault(rt, &fault),
     }
 }

@@ -1,9 +1,9 @@
 //! Scripts from standard input.
 
-use crate::status::{OUT_OF_MEMORY, fail, say_fault, status_of};
+use crate::status::{fail, say_fault, status_of};
 use cm_disk::Disk;
 use cm_inspect::Status;
-use cm_tool::{ApplyFault, Outcome, apply_script, apply_threads};
+use cm_tool::{ApplyFault, Outcome, ToolFault, apply_script, apply_threads};
 use std::io::{self, BufReader, BufWriter};
 use std::sync::Wait;
 use std::thread::Threads;
@@ -28,10 +28,10 @@ where
         READ_AT_ONCE
     };
     let Ok(mut reader) = BufReader::with_capacity(alloc, capacity, rt.reader()) else {
-        return (fail(rt, OUT_OF_MEMORY), Some(disk));
+        return (fail(rt, ToolFault::NoMemory), Some(disk));
     };
     let Ok(mut writer) = BufWriter::new(alloc, io::writer(rt)) else {
-        return (fail(rt, OUT_OF_MEMORY), Some(disk));
+        return (fail(rt, ToolFault::NoMemory), Some(disk));
     };
     if workers > 1 {
         let (run, disk) = apply_threads(rt, alloc, &mut reader, &mut writer, disk, workers);

@@ -1,16 +1,14 @@
 //! The statuses that the program ends with, and what it says of its own.
 
 ghost use Rattle.std.specs.Prelude.{◌≡◌, true, false};
+ghost use Rattle.cm_plan.specs.Plan.{IsHelp, IsWrong};
 
 use cm_inspect::{Status, tell_fault};
-use cm_recover::OpenFault;
-use cm_tool::Outcome;
+use cm_plan::UsageFault;
+use cm_recover::{FormatFault, OpenFault};
+use cm_tool::{Outcome, ToolFault};
 use std::fmt::Display;
 use std::io;
-
-pub const OUTPUT_FAILED: &str = "the output failed";
-
-pub const OUT_OF_MEMORY: &str = "out of memory";
 
 /// The status of a script that was run: that of a failure comes before that of a refusal.
 pub fn status_of(outcome: Outcome) -> Status
@@ -27,13 +25,35 @@ pub fn status_of(outcome: Outcome) -> Status
     }
 }
 
-/// Writes a word of the program's own to standard output, and gives the status: this one, or that
-/// of a failure where the output fails.
-pub fn say(rt: &(impl Print + Eprint), word: &str, status: Status) -> Status {
-    match println!(rt; "{word}") {
-        Ok(()) => status,
-        Err(_) => fail(rt, OUTPUT_FAILED),
+/// The status of words that give no plan.
+pub fn status_of_usage(fault: &UsageFault) -> Status
+    ensures help { IsHelp fault.now → result ≡ Status.Done }
+    ensures wrong { IsWrong fault.now → result ≡ Status.WrongWords }
+    ensures memory { fault.now ≡ UsageFault.NoMemory → result ≡ Status.Failed }
+{
+    match fault {
+        UsageFault::Help(_) => Status::Done,
+        UsageFault::Words(_) => Status::WrongWords,
+        UsageFault::NoMemory => Status::Failed,
     }
+}
+
+/// Writes a text of the program's own to standard output, and gives the status: this one, or that
+/// of a failure where the output fails.
+pub fn say(rt: &(impl Print + Eprint), text: impl Display + Drop, status: Status) -> Status {
+    match println!(rt; "{text}") {
+        Ok(()) => status,
+        Err(_) => fail(rt, ToolFault::Output),
+    }
+}
+
+/// Says why a file isn't made, as [`say`] does.
+pub fn say_not_made(rt: &(impl Print + Eprint), fault: FormatFault) -> Status {
+    let status = match fault {
+        FormatFault::NotEmpty => Status::Refused,
+        FormatFault::Device | FormatFault::NoMemory => Status::Failed,
+    };
+    say(rt, fault, status)
 }
 
 /// Says why a file isn't opened, as [`say`] does.

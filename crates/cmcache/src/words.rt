@@ -1,7 +1,9 @@
 //! The words of the command line, and what is said where they ask for nothing that can be done.
 
-use crate::status::{OUTPUT_FAILED, fail};
+use crate::status::{fail, status_of_usage};
+use cm_inspect::Status;
 use cm_plan::{UsageFault, wrong_words};
+use cm_tool::ToolFault;
 use std::rt::Env;
 use std::{env, io};
 
@@ -17,13 +19,13 @@ pub fn read_words(rt: &(impl Env + AllocGlobal)) -> Result<Vec<String>, UsageFau
     }
 }
 
-/// Prints the help, or what is wrong with the words, and gives the number of the fault's status.
-/// Of wrong words it is the same whether or not their text reaches anyone.
-pub fn tell_fault(rt: &(impl Print + Eprint), fault: &UsageFault) -> u8 {
+/// Prints the help, or what is wrong with the words, and gives the status. Of wrong words it is the
+/// same whether or not their text reaches anyone.
+pub fn tell_fault(rt: &(impl Print + Eprint), fault: &UsageFault) -> Status {
     match fault {
         UsageFault::Help(text) => {
             if print!(rt; "{text}").is_err() {
-                return fail(rt, OUTPUT_FAILED).number();
+                return fail(rt, ToolFault::Output);
             }
         }
         UsageFault::Words(text) => {
@@ -33,5 +35,5 @@ pub fn tell_fault(rt: &(impl Print + Eprint), fault: &UsageFault) -> u8 {
             let _ = eprintln!(rt; "cmcache: {fault}");
         }
     }
-    fault.status()
+    status_of_usage(fault)
 }
