@@ -26,18 +26,8 @@ pub(crate) fn tell<W: Write>(
     }
 }
 
-/// The status that goes with why a file isn't opened.
-fn status_of_fault(fault: OpenFault) -> Status
-    ensures { result ≡ fault_status fault }
-{
-    match fault {
-        OpenFault::NotACache | OpenFault::Damaged { .. } => Status::Refused,
-        OpenFault::Device | OpenFault::NoMemory => Status::Failed,
-    }
-}
-
-/// Writes why a file isn't opened, and gives the status, as [`crate::check_to`] does. Where an
-/// allocation failed, no other is asked for.
+/// Writes why a file isn't opened, and gives the status, as [`crate::check_to`] does. Only a
+/// damage's line takes memory.
 pub fn tell_fault<W: Write>(
     alloc: Global,
     writer: &mut W,
@@ -47,11 +37,13 @@ pub fn tell_fault<W: Write>(
         (fault_status fault) result }
 {
     match fault {
-        OpenFault::NoMemory => tell(writer, b"memory\n", Status::Failed),
-        _ => match line_of_fault(alloc, fault) {
-            Ok(line) => tell(writer, &line, status_of_fault(fault)),
+        OpenFault::NotACache => tell(writer, b"not a cache\n", Status::Refused),
+        OpenFault::Damaged { .. } => match line_of_fault(alloc, fault) {
+            Ok(line) => tell(writer, &line, Status::Refused),
             Err(_) => Err(InspectFault::NoMemory),
         },
+        OpenFault::Device => tell(writer, b"device\n", Status::Failed),
+        OpenFault::NoMemory => tell(writer, b"memory\n", Status::Failed),
     }
 }
 
