@@ -2,14 +2,14 @@
 """Measures what `cmcache check` takes for files that are full of records, the longest that there
 may be among them. It isn't part of the gate.
 
-    bench/full_file.py PROGRAM [RUNS] [FOLDER]
+    bench/full_file.py PROGRAM [RUNS] [FOLDER] [ROOTS..]
 
 A file has the greatest sizes that there are: roots of 4 MiB, up to 256, and 65,536 slots in each
 half. In each root lie the 127 classes of one loader, one after another in one chunk, so of 256
 roots 32,768 rows live, which is as many as there may be. It is written from docs/REGION.md, and its
 records are tests/oracle.py's; nothing of the program's code is in it. Each row has the least of
 RUNS runs (3), with the file in the page cache; the files lie in FOLDER (one beside the program) and
-go again.
+go again. There is one for each of ROOTS (32, 64, 128 and 256).
 """
 import os
 import struct
@@ -76,7 +76,7 @@ def slots(roots):
     rows = roots * (CLASSES + 1)
     yield region.head_slot(rows, 1, roots, gate=region.OPEN)
     for root in range(roots):
-        yield region.entry_slot(("loader", root + 1, b"loader%03d" % root))
+        yield region.entry_slots(("loader", root + 1, b"loader%03d" % root))
     for root in range(roots):
         for place in range(CLASSES):
             yield region.spelled(region.DEFINE, "2xIQIIII", WORDS, root + 1, root, TOP, 0,
@@ -108,13 +108,13 @@ def measured(program, path, wanted):
     return took, used.ru_utime + used.ru_stime, used.ru_maxrss
 
 
-def main(program, runs=3, folder=None):
+def main(program, runs=3, folder=None, *sizes):
     records = b"".join(record(b"Class%03d" % place)
                        for place in range(CLASSES)).ljust(8 * ROOT_WORDS, b"\0")
     with tempfile.TemporaryDirectory(
             dir=folder or os.path.dirname(os.path.abspath(program))) as folder:
         path = os.path.join(folder, "full")
-        for roots in (32, 64, 128, 256):
+        for roots in sizes or (32, 64, 128, 256):
             long = write_file(path, records, roots)
             classes = CLASSES * roots
             wanted = b"ok loaders %d classes %d chunks %d number %d\n" % (
@@ -127,4 +127,4 @@ def main(program, runs=3, folder=None):
 
 
 if __name__ == "__main__":
-    main(sys.argv[1], *map(int, sys.argv[2:3]), *sys.argv[3:4])
+    main(sys.argv[1], *map(int, sys.argv[2:3]), *sys.argv[3:4], *map(int, sys.argv[4:]))

@@ -1,6 +1,7 @@
 #!/usr/bin/env bash
 # What the benchmark counts: the calls of the accepted cache, a class stored in a file and found
-# there, and what threads store at once. Times aren't looked at.
+# there, and what threads store at once; and that the scripts that measure run. Times aren't looked
+# at.
 set -u
 cd "$(dirname "$0")/.." || exit 1
 . tests/lib.sh
@@ -34,5 +35,25 @@ check "threads store it" 0
 "$bench" nothing >"$work/got" 2>"$work/errors"
 status=$?
 check_status "a verb that isn't known" 2 says
+
+# Three classes, made of one that has 32 fields; their records are found in the file, each with its
+# length and its place before it.
+bench/bench_classes.py --hostile fields-few | bench/many_classes.py 3 >"$work/classes"
+read -r _ records _ bytes _ < <("$bench" put "$work/many" --top 12 --roots 1 <"$work/classes")
+[ "$records" = 3 ]
+check_last "three classes of one are stored"
+[ "$(bench/records.py "$work/many" | wc -c)" = $((bytes + 3 * 12)) ]
+check_last "the records of a file"
+
+# They end badly where the program's replies aren't what they expect.
+measure() {
+    "bench/$1" "${@:2}" >"$work/got" 2>"$work/errors"
+    status=$?
+    check_status "bench/$1" 0
+}
+measured=$(executable)
+measure full_file.py "$measured" 1 "$work" 1
+measure checkpoints.py "$measured" 40 1 "$work"
+measure tighten.py "$measured" 40 4 "$work"
 
 finish
