@@ -45,15 +45,15 @@ check_last "three classes of one are stored"
 [ "$(bench/records.py "$work/many" | wc -c)" = $((bytes + 3 * 12)) ]
 check_last "the records of a file"
 
-# They end badly where the program's replies aren't what they expect.
+# The scripts that measure the program end badly where its replies aren't what they expect.
 measure() {
     "bench/$1" "${@:2}" >"$work/got" 2>"$work/errors"
     status=$?
     check_status "bench/$1" 0
 }
-measured=$(executable)
-measure full_file.py "$measured" 1 "$work" 1
-measure checkpoints.py "$measured" 40 1 "$work"
-measure tighten.py "$measured" 40 4 "$work"
+cmcache=$(executable)
+measure full_file.py "$cmcache" 1 "$work" 1
+measure checkpoints.py "$cmcache" 40 1 "$work"
+measure tighten.py "$cmcache" 40 4 "$work"
 
 finish
