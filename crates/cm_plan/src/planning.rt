@@ -1,6 +1,6 @@
 //! From the words of a command line to a plan.
 ghost use Rattle.std.specs.Prelude.{◌≡◌, ◌≢◌, ◌<◌, ◌≤◌, ◌⊎◌, IfOk, IfSome, Some, Contains};
-ghost use Rattle.std.specs.Prelude.{codes};
+ghost use Rattle.std.specs.Prelude.{None, codes, map};
 ghost use Rattle.clap.specs.Words.{first_value, found_of, kind_of};
 ghost use Rattle.clap.specs.declared.error.kind.ErrorKind.TheVariants.{DisplayHelp, DisplayVersion};
 ghost use Rattle.clap.specs.declared.error.kind.ErrorKind.TheVariants.{OutOfMemory};
@@ -80,13 +80,22 @@ fn plan_of<'a>(matches: &ArgMatches<'a>, words: &'a [&'a str]) -> Option<Plan<'a
         CHECK => Some(Plan::Check(path_of(given, rest)?)),
         LIST => Some(Plan::List(path_of(given, rest)?)),
         TRIM => Some(Plan::Trim(path_of(given, rest)?)),
-        APPLY if given.get_flag(MEMORY) => {
-            find(rest, MEMORY_WORD)?;
-            Some(Plan::Apply(None, workers_of(given)?))
-        }
-        APPLY => Some(Plan::Apply(Some(path_of(given, rest)?), workers_of(given)?)),
+        APPLY => Some(Plan::Apply(place_of(given, rest)?, workers_of(given)?)),
         _ => None,
     }
+}
+
+/// Where a script is to run: on the cache in a file, or in memory.
+fn place_of<'a>(given: &ArgMatches<'a>, words: &'a [&'a str]) -> Option<Option<&'a str>>
+    ensures path { IfSome result (λ path. IfSome path (Contains words.now)) }
+    ensures memory { IfSome result (λ path.
+        path ≡ None → Contains (map (λ w. w.now) words.now) (codes "--memory")) }
+{
+    if given.get_flag(MEMORY) {
+        find(words, MEMORY_WORD)?;
+        return Some(None);
+    }
+    Some(Some(path_of(given, words)?))
 }
 
 fn path_of<'a>(given: &ArgMatches<'a>, words: &'a [&'a str]) -> Option<&'a str>
