@@ -213,14 +213,14 @@ LIMITS = (
     ("record of a class", 0, "cm_record_layout/src/packing.rt", "MAX_WORDS: u64 = N;"),
     ("a root", 2, "cm_pool/src/geometry.rt", "LEAST_TOP: u32 = N;"),
     ("a root", 3, "cm_pool/src/geometry.rt", "MOST_TOP: u32 = N;"),
-    ("a root", 4, "cm_plan/src/number.rt", '"top",\n    N,'),
+    ("a root", 4, "cm_arguments/src/number.rt", '"top",\n    N,'),
     ("roots of a file", 0, "cm_pool/src/geometry.rt", "LEAST_ROOTS: u32 = N;"),
     ("roots of a file", 1, "cm_pool/src/geometry.rt", "MOST_ROOTS: u32 = N;"),
-    ("roots of a file", 2, "cm_plan/src/number.rt", '"roots",\n    N,'),
+    ("roots of a file", 2, "cm_arguments/src/number.rt", '"roots",\n    N,'),
     ("slots in a half of the journal", 0, "cm_pool/src/geometry.rt",
      "LEAST_SLOTS: u32 = N;"),
     ("slots in a half of the journal", 1, "cm_pool/src/geometry.rt", "MOST_SLOTS: u32 = N;"),
-    ("slots in a half of the journal", 2, "cm_plan/src/number.rt", '"slots",\n    N,'),
+    ("slots in a half of the journal", 2, "cm_arguments/src/number.rt", '"slots",\n    N,'),
     ("name of a loader", 0, "cm_layout/src/name.rt", "LONG_NAME_ROOM: usize = N;\n\n"
      "/// How many bytes a loader's name has at most.\n"
      "pub const NAME_LIMIT: usize = LONG_NAME_ROOM;"),
@@ -231,7 +231,7 @@ LIMITS = (
     ("commands stored together", 0, "cm_layout/src/entry.rt", "GROUP_SLOTS: usize = N;"),
     ("commands of a file", 1, "cm_layout/src/heads.rt", "LAST_NUMBER: u64 = 1 << N;"),
     ("passes of a running cache", 0, "cm_cache/src/shared.rt", "MOST_PASSES: u64 = N;"),
-    ("workers", 1, "cm_plan/src/number.rt", '"workers",\n    1,\n    1,\n    N,'),
+    ("workers", 1, "cm_arguments/src/number.rt", '"workers",\n    1,\n    1,\n    N,'),
 )
 
 

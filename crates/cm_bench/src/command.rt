@@ -2,7 +2,7 @@
 
 use anyhow::Result;
 use clap::{Arg, ArgAction, ArgMatches, Command, value_parser};
-use cm_plan::{ROOTS, SLOTS, TOP};
+use cm_arguments::{ROOTS, SLOTS, TOP};
 use cm_pool::Geometry;
 use std::alloc::{AllocError, Global};
 use std::env;

@@ -13,7 +13,7 @@ use crate::inspection::{check_file, list_file, trim_file};
 use crate::memory::apply_in_memory;
 use crate::words::{read_words, tell_fault};
 use cm_inspect::Status;
-use cm_plan::{Plan, UsageFault, plan};
+use cm_arguments::{Action, UsageFault, parse};
 use std::alloc::{AllocError, Global};
 use std::fs::{File, Files};
 use std::process::ExitCode;
@@ -38,8 +38,8 @@ where
     let Ok(texts) = texts_of(rt.alloc(), &words) else {
         return tell_fault(rt, &UsageFault::NoMemory);
     };
-    match plan(rt.alloc(), &texts) {
-        Ok(plan) => carry_out(rt, &plan),
+    match parse(rt.alloc(), &texts) {
+        Ok(action) => carry_out(rt, &action),
         Err(fault) => tell_fault(rt, &fault),
     }
 }
@@ -53,17 +53,17 @@ fn texts_of(alloc: Global, words: &[String]) -> Result<Vec<&str>, AllocError> {
         .collect(alloc)
 }
 
-fn carry_out<R>(rt: &R, plan: &Plan<'_>) -> Status
+fn carry_out<R>(rt: &R, action: &Action<'_>) -> Status
 where
     R: Input + Print + Eprint + Files<File = File> + AllocGlobal,
     R: Threads + Wait + Copy + Send + Sync + 'static,
 {
-    match plan {
-        Plan::Format(path, geometry) => format_file(rt, path, *geometry),
-        Plan::Check(path) => check_file(rt, path),
-        Plan::List(path) => list_file(rt, path),
-        Plan::Trim(path) => trim_file(rt, path),
-        Plan::Apply(Some(path), workers) => apply_file(rt, path, *workers as usize),
-        Plan::Apply(None, workers) => apply_in_memory(rt, *workers as usize),
+    match action {
+        Action::Format(path, geometry) => format_file(rt, path, *geometry),
+        Action::Check(path) => check_file(rt, path),
+        Action::List(path) => list_file(rt, path),
+        Action::Trim(path) => trim_file(rt, path),
+        Action::Apply(Some(path), workers) => apply_file(rt, path, *workers as usize),
+        Action::Apply(None, workers) => apply_in_memory(rt, *workers as usize),
     }
 }

@@ -4,7 +4,7 @@ use crate::scripts::run_script;
 use crate::status::say_not_made;
 use cm_disk::SimDisk;
 use cm_inspect::Status;
-use cm_plan::usual_geometry;
+use cm_arguments::usual_geometry;
 use cm_recover::format;
 use std::sync::Wait;
 use std::thread::Threads;

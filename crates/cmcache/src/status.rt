@@ -1,10 +1,10 @@
 //! The statuses that the program ends with, and what it says of its own.
 
 ghost use Rattle.std.specs.Prelude.{◌≡◌, true, false};
-ghost use Rattle.cm_plan.specs.Plan.{IsHelp, IsWrong};
+ghost use Rattle.cm_arguments.specs.Action.{IsHelp, IsWrong};
 
 use cm_inspect::{Status, tell_fault};
-use cm_plan::UsageFault;
+use cm_arguments::UsageFault;
 use cm_recover::{FormatFault, OpenFault};
 use cm_tool::{Outcome, ToolFault};
 use std::fmt::Display;
@@ -25,7 +25,7 @@ pub fn status_of(outcome: Outcome) -> Status
     }
 }
 
-/// The status of words that give no plan.
+/// The status of words that ask for nothing that can be done.
 pub fn status_of_usage(fault: &UsageFault) -> Status
     ensures help { IsHelp fault.now → result ≡ Status.Done }
     ensures wrong { IsWrong fault.now → result ≡ Status.WrongWords }

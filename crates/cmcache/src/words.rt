@@ -2,7 +2,7 @@
 
 use crate::status::{fail, status_of_usage};
 use cm_inspect::Status;
-use cm_plan::{UsageFault, wrong_words};
+use cm_arguments::{UsageFault, wrong_words};
 use cm_tool::ToolFault;
 use std::rt::Env;
 use std::{env, io};
@@ -13,9 +13,9 @@ pub fn read_words(rt: &(impl Env + AllocGlobal)) -> Result<Vec<String>, UsageFau
         Ok(words) => Ok(words.collect(rt.alloc())?),
         Err(error) if error.kind() == io::ErrorKind::OutOfMemory => Err(UsageFault::NoMemory),
         Err(error) if error.kind() == io::ErrorKind::InvalidData => {
-            Err(wrong_words(rt.alloc(), "a word is not UTF-8"))
+            Err(wrong_words(rt.alloc(), "an argument is not UTF-8"))
         }
-        Err(_) => Err(wrong_words(rt.alloc(), "the words can't be read")),
+        Err(_) => Err(wrong_words(rt.alloc(), "cannot read the arguments")),
     }
 }
 

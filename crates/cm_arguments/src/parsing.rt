@@ -1,41 +1,41 @@
-//! From the words of a command line to a plan.
+//! From the words of a command line to what it asks for.
 ghost use Rattle.std.specs.Prelude.{◌≡◌, ◌≢◌, ◌<◌, ◌≤◌, ◌⊎◌, IfOk, IfSome, Some, Contains};
 ghost use Rattle.std.specs.Prelude.{None, codes, map};
 ghost use Rattle.clap.specs.Words.{first_value, found_of, kind_of};
 ghost use Rattle.clap.specs.declared.error.kind.ErrorKind.TheVariants.{DisplayHelp, DisplayVersion};
 ghost use Rattle.clap.specs.declared.error.kind.ErrorKind.TheVariants.{OutOfMemory};
 ghost use Rattle.clap.specs.declared.error.kind.ErrorKind.TheVariants.{ValueValidation};
-ghost use Rattle.cm_plan.specs.Plan.{IsOfWords, IsHelp, IsWrong, most_workers};
-ghost use Rattle.cm_plan.specs.declared.fault.UsageFault.TheVariants.{NoMemory};
+ghost use Rattle.cm_arguments.specs.Action.{IsOfWords, IsHelp, IsWrong, most_workers};
+ghost use Rattle.cm_arguments.specs.declared.fault.UsageFault.TheVariants.{NoMemory};
 
 use crate::command::{APPLY, CHECK, FILE, FORMAT, LIST, MEMORY, MEMORY_WORD, TRIM, whole_command};
 use crate::number::{ROOTS, SLOTS, TOP, WORKERS};
-use crate::{Plan, UsageFault};
+use crate::{Action, UsageFault};
 use clap::ArgMatches;
 use clap::error::{Error, ErrorKind};
 use cm_pool::Geometry;
 use std::alloc::{AllocError, Global};
 
-/// Reads the words of a command line, which begin behind the program's name.
+/// Reads the words of a command line, which begin after the program's name.
 ///
 /// # Errors
-/// [`UsageFault::Help`] where they ask for help; [`UsageFault::Words`] where they are wrong, or a
-/// number is outside its limits; [`UsageFault::NoMemory`] where an allocation failed.
-pub fn plan<'a>(alloc: Global, words: &'a [&'a str]) -> Result<Plan<'a>, UsageFault>
+/// [`UsageFault::Help`] if they ask for help; [`UsageFault::Words`] if they are wrong, or a number
+/// is outside its limits; [`UsageFault::NoMemory`] if an allocation failed.
+pub fn parse<'a>(alloc: Global, words: &'a [&'a str]) -> Result<Action<'a>, UsageFault>
     ensures { IfOk result (IsOfWords words.now) }
 {
     let matches = match whole_command(alloc)?.try_get_matches_from(words) {
         Ok(matches) => matches,
         Err(error) => return Err(fault_of(alloc, &error)),
     };
-    match plan_of(&matches, words) {
-        Some(plan) => Ok(plan),
-        None => Err(wrong_words(alloc, "the words are not known")),
+    match action_of(&matches, words) {
+        Some(action) => Ok(action),
+        None => Err(wrong_words(alloc, "unknown command")),
     }
 }
 
-/// The fault of words that can't be read at all, as where one of them isn't UTF-8: its text begins
-/// with `why` and tells how the words are used.
+/// The fault of words that can't be read at all, as when one of them isn't UTF-8: its text begins
+/// with `why` and says how the program is used.
 pub fn wrong_words(alloc: Global, why: &str) -> UsageFault
     ensures no_help { ¬ IsHelp result }
 {
@@ -68,19 +68,19 @@ fn fault_of(alloc: Global, error: &Error) -> UsageFault
     }
 }
 
-/// The plan of words that `clap` took. No clause of it says which word is the command or the path,
+/// What words ask for that `clap` took. No clause of it says which word is the command or the path,
 /// or that a number is within its limits, so this is looked at again.
-fn plan_of<'a>(matches: &ArgMatches<'a>, words: &'a [&'a str]) -> Option<Plan<'a>>
+fn action_of<'a>(matches: &ArgMatches<'a>, words: &'a [&'a str]) -> Option<Action<'a>>
     ensures { IfSome result (IsOfWords words.now) }
 {
     let (_, given) = matches.subcommand()?;
     let (command, rest) = words.split_first()?;
     match *command {
-        FORMAT => Some(Plan::Format(path_of(given, rest)?, geometry_of(given)?)),
-        CHECK => Some(Plan::Check(path_of(given, rest)?)),
-        LIST => Some(Plan::List(path_of(given, rest)?)),
-        TRIM => Some(Plan::Trim(path_of(given, rest)?)),
-        APPLY => Some(Plan::Apply(place_of(given, rest)?, workers_of(given)?)),
+        FORMAT => Some(Action::Format(path_of(given, rest)?, geometry_of(given)?)),
+        CHECK => Some(Action::Check(path_of(given, rest)?)),
+        LIST => Some(Action::List(path_of(given, rest)?)),
+        TRIM => Some(Action::Trim(path_of(given, rest)?)),
+        APPLY => Some(Action::Apply(place_of(given, rest)?, workers_of(given)?)),
         _ => None,
     }
 }

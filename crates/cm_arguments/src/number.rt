@@ -1,7 +1,7 @@
 //! The numbers that a command line may give.
 
 ghost use Rattle.std.specs.Prelude.{◌≡◌};
-ghost use Rattle.cm_plan.specs.Plan.{usual_sizes};
+ghost use Rattle.cm_arguments.specs.Action.{usual_sizes};
 
 use clap::{Arg, ArgAction, value_parser};
 use cm_pool::{Geometry, LEAST_ROOTS, LEAST_SLOTS, LEAST_TOP, MOST_ROOTS, MOST_SLOTS, MOST_TOP};
@@ -12,7 +12,7 @@ use std::alloc::Global;
 pub struct Number {
     /// The option's name.
     pub name: &'static str,
-    /// What it is where it isn't given.
+    /// What it is if it isn't given.
     pub usual: u32,
     /// The same as a text.
     text: &'static str,
@@ -50,7 +50,7 @@ pub const ROOTS: Number = number!(
     64,
     LEAST_ROOTS,
     MOST_ROOTS,
-    "How many roots the cache may have"
+    "The most roots that the cache may have"
 );
 
 /// How many slots each half of the journal has.
@@ -59,7 +59,7 @@ pub const SLOTS: Number = number!(
     4096,
     LEAST_SLOTS,
     MOST_SLOTS,
-    "How many slots each half of the journal has"
+    "The slots in each half of the journal"
 );
 
 /// How many threads prepare the classes of a script.
@@ -68,7 +68,7 @@ pub(crate) const WORKERS: Number = number!(
     1,
     1,
     16,
-    "How many threads prepare the classes of the script"
+    "The threads that prepare the classes of the script"
 );
 
 impl Number {
@@ -84,7 +84,7 @@ impl Number {
     }
 }
 
-/// The sizes of a cache where no others are given.
+/// The sizes of a cache if no others are given.
 pub fn usual_geometry() -> Geometry
     ensures { result ≡ usual_sizes }
 {

@@ -6,6 +6,9 @@ use std::alloc::{AllocError, Global};
 
 const PROGRAM: &str = "cmcache";
 
+// The version is that of the newest heading in CHANGELOG.md.
+const ABOUT: &str = "A crash-safe cache of class metadata, version 0.1.0";
+
 // The names of the commands and of what they take.
 pub const FORMAT: &str = "format";
 
@@ -33,8 +36,8 @@ fn file<'a>(alloc: Global, help: &'a str) -> Arg<'a> {
 
 fn format_command<'a>(alloc: Global) -> Result<Command<'a>, AllocError> {
     Command::new(alloc, FORMAT)
-        .about("Make an empty cache in a new file")
-        .arg(file(alloc, "The file to make; nothing may have that name").required(true))?
+        .about("Make a new file with an empty cache")
+        .arg(file(alloc, "The file to make; it must not exist").required(true))?
         .arg(TOP.arg(alloc))?
         .arg(ROOTS.arg(alloc))?
         .arg(SLOTS.arg(alloc))
@@ -48,16 +51,16 @@ fn file_command<'a>(
 ) -> Result<Command<'a>, AllocError> {
     Command::new(alloc, name)
         .about(about)
-        .arg(file(alloc, "The file of the cache").required(true))
+        .arg(file(alloc, "The cache file").required(true))
 }
 
 fn apply_command<'a>(alloc: Global) -> Result<Command<'a>, AllocError> {
-    let file = file(alloc, "The file of the cache")
+    let file = file(alloc, "The cache file")
         .required_unless_present(MEMORY)?
         .conflicts_with(MEMORY)?;
     let memory = Arg::new(alloc, MEMORY)
         .long(MEMORY)
-        .help("Run the script on a fresh cache in memory")
+        .help("Use a cache in memory, discarded at the end")
         .action(ArgAction::SetTrue);
     Command::new(alloc, APPLY)
         .about(
@@ -69,20 +72,23 @@ fn apply_command<'a>(alloc: Global) -> Result<Command<'a>, AllocError> {
         .arg(WORKERS.arg(alloc))
 }
 
-/// All commands. The words that it reads begin behind the program's name.
+/// The commands that only take a file, and what each does.
+const FILE_COMMANDS: [(&str, &str); 3] = [
+    (CHECK, "Check a cache file for damage"),
+    (LIST, "List the loaders and classes of a cache file"),
+    (TRIM, "Truncate a cache file after its last root in use"),
+];
+
+/// All commands. The words that it reads begin after the program's name.
 pub(crate) fn whole_command<'a>(alloc: Global) -> Result<Command<'a>, AllocError> {
-    Command::new(alloc, PROGRAM)
-        .about("A crash-safe cache of class metadata")
+    let mut whole = Command::new(alloc, PROGRAM)
+        .about(ABOUT)
         .no_binary_name(true)
         .bin_name(PROGRAM)?
         .subcommand_required(true)
-        .subcommand(format_command(alloc)?)?
-        .subcommand(file_command(alloc, CHECK, "Look for damage in a cache")?)?
-        .subcommand(file_command(alloc, LIST, "List the loaders and classes of a cache")?)?
-        .subcommand(file_command(
-            alloc,
-            TRIM,
-            "Cut a cache's file behind the last root that is in use",
-        )?)?
-        .subcommand(apply_command(alloc)?)
+        .subcommand(format_command(alloc)?)?;
+    for (name, about) in FILE_COMMANDS {
+        whole = whole.subcommand(file_command(alloc, name, about)?)?;
+    }
+    whole.subcommand(apply_command(alloc)?)
 }

@@ -1,13 +1,13 @@
 //! What a command line asks of the program.
 #![tactic(auto)]
 
+mod action;
 mod command;
 mod fault;
 mod number;
-mod planning;
-mod plans;
+mod parsing;
 
+pub use action::Action;
 pub use fault::UsageFault;
 pub use number::{Number, ROOTS, SLOTS, TOP, usual_geometry};
-pub use planning::{plan, wrong_words};
-pub use plans::Plan;
+pub use parsing::{parse, wrong_words};

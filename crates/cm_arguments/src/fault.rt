@@ -1,18 +1,18 @@
-//! Why a command line asks for nothing that can be done.
+//! Usage errors.
 
 ghost use Rattle.std.specs.Prelude.{◌≡◌};
-ghost use Rattle.cm_plan.specs.declared.fault.UsageFault.TheVariants as fault;
+ghost use Rattle.cm_arguments.specs.declared.fault.UsageFault.TheVariants as fault;
 
 use std::alloc::AllocError;
 use thiserror::Error;
 
-/// Why there is no plan, with the text to print.
+/// Why a command line asks for nothing that can be done, with the text to print.
 #[derive(Debug, Drop, Error)]
 pub enum UsageFault {
     /// It asks for help: the help text, for standard output.
     #[error("{0}")]
     Help(String),
-    /// Its words aren't known: what is wrong with them and how they are used, for standard error.
+    /// A usage error: what is wrong with its words, and how the program is used, for standard error.
     #[error("{0}")]
     Words(String),
     /// An allocation failed.
