@@ -54,6 +54,33 @@ pub struct Closed<D> {
     pub disk: D,
 }
 
+// Starts the flusher's thread, which writes on the Board. An `Err` drops both.
+fn start_flusher<R, K, D>(
+    rt: &R,
+    alloc: Global,
+    flushing: Flushing<K, D>,
+    board: Board<K>,
+) -> Result<(Arc<Board<K>>, Flusher<K, D>), AllocError>
+where
+    R: Threads + Wait + Copy + Send + 'static,
+    K: Naming + Send + Sync + 'static,
+    D: Disk + Drop + Send + 'static,
+{
+    let (board, theirs) = share_board(alloc, board)?;
+    let flusher = Flusher::spawn(rt, flushing, theirs)?;
+    Ok((board, flusher))
+}
+
+// The Board for two threads.
+fn share_board<K: Naming>(
+    alloc: Global,
+    board: Board<K>,
+) -> Result<(Arc<Board<K>>, Arc<Board<K>>), AllocError> {
+    let board = Arc::new(alloc, board)?;
+    let theirs = Arc::try_clone(&board)?;
+    Ok((board, theirs))
+}
+
 impl<K: Naming> Cache<K> {
     /// Starts a cache that was just opened: its flusher, in a thread of its own, takes the
     /// committer. An `Err` drops both; the file can be opened again.
@@ -81,9 +108,7 @@ impl<K: Naming> Cache<K> {
         let (board, poster) = board.named::<K>();
         let shared = Shared::new(Handing::new(front, outgoing), ledger);
         let flushing = Flushing::new(committer, incoming, poster);
-        let board = Arc::new(alloc, board)?;
-        let theirs = Arc::try_clone(&board)?;
-        let flusher = Flusher::spawn(rt, flushing, theirs)?;
+        let (board, flusher) = start_flusher(rt, alloc, flushing, board)?;
         let cache = Cache {
             shared: Mutex::new(shared),
             board,
