@@ -10,7 +10,7 @@ use crate::turns::{Course, Run, START, Stop, name, push_opening, push_runs, push
 use cm_commit::Committer;
 use cm_disk::SimDisk;
 use cm_front::Front;
-use cm_inspect::list_accepted;
+use cm_maintenance::list_accepted;
 use cm_prepare::Refusal;
 use std::alloc::Global;
 use std::test::*;

@@ -4,7 +4,7 @@ use crate::classes::push_parts;
 use crate::list_calls::Call::{Define, Loader, Tighten, Unload};
 use crate::list_calls::{Call, accept_all, small_front};
 use cm_front::Front;
-use cm_inspect::{ListedClass, ListedLoader, list_accepted};
+use cm_maintenance::{ListedClass, ListedLoader, list_accepted};
 use std::alloc::Global;
 use std::test::*;
 

@@ -3,7 +3,7 @@
 use crate::disks::{bytes_of, disk_of, put};
 use crate::file_samples::{CLASS_A, CLASS_B, file_of};
 use cm_disk::{Choice, FuseDisk, SimDisk};
-use cm_inspect::check;
+use cm_maintenance::check;
 use cm_pool::Geometry;
 use cm_recover::{NotOpened, OpenFault, format, open};
 use cm_verdict::Damage;

@@ -4,11 +4,11 @@
 #[cfg(test)]
 mod disks;
 #[cfg(test)]
-mod inspect_disks;
+mod maintenance_disks;
 #[cfg(test)]
-mod inspect_faults;
+mod maintenance_faults;
 #[cfg(test)]
-mod inspect_writers;
+mod maintenance_writers;
 #[cfg(test)]
 mod line_forms;
 #[cfg(test)]

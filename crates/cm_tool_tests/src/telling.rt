@@ -1,8 +1,8 @@
 //! What is told of sound caches.
 
-use crate::inspect_disks::{Verb, cache_after, status_of, tell, tell_to_end};
+use crate::maintenance_disks::{Verb, cache_after, status_of, tell, tell_to_end};
 use cm_disk::{DeviceFault, Disk, SimDisk};
-use cm_inspect::Status;
+use cm_maintenance::Status;
 use std::alloc::Global;
 use std::test::*;
 

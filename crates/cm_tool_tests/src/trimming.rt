@@ -1,9 +1,9 @@
 //! Files that are cut behind the last root that is in use.
 
 use crate::disks::{new_disk, replies};
-use crate::inspect_disks::{Verb, cache_after, status_of, tell, tell_to_end};
+use crate::maintenance_disks::{Verb, cache_after, status_of, tell, tell_to_end};
 use cm_disk::{Disk, FuseDisk, SimDisk};
-use cm_inspect::Status;
+use cm_maintenance::Status;
 use std::alloc::Global;
 use std::test::*;
 

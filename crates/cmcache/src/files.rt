@@ -3,7 +3,7 @@
 use crate::scripts::run_script;
 use crate::status::{say, say_not_made};
 use cm_file_disk::{CreateError, FileDisk, OpenError, OpenedFile};
-use cm_inspect::Status;
+use cm_maintenance::Status;
 use cm_pool::Geometry;
 use cm_recover::{FormatFault, OpenFault, bytes_read, format};
 use std::fs::{self, File, Files};
@@ -44,7 +44,7 @@ fn give_up(rt: &(impl Eprint + Files<File = File>), path: &str, disk: FileDisk) 
     }
 }
 
-/// The disk of a cache's file, with as much of it in memory as is read: what lies behind the last
+/// The disk of a cache's file, with as much of it in memory as is read: what lies after the last
 /// root that its sizes allow isn't, however long it is.
 pub fn disk_of(opened: Result<OpenedFile, OpenError>) -> Result<FileDisk, OpenError> {
     let file = opened?;
@@ -52,7 +52,7 @@ pub fn disk_of(opened: Result<OpenedFile, OpenError>) -> Result<FileDisk, OpenEr
     FileDisk::of_file(file, reach)
 }
 
-/// Runs the script on standard input on the cache in a file, with so many workers, and gives the
+/// Runs the script on standard input on the cache in a file, with this many workers, and gives the
 /// status.
 pub fn apply_file<R>(rt: &R, path: &str, workers: usize) -> Status
 where
@@ -71,7 +71,7 @@ where
     }
 }
 
-/// Says that a file can't be opened, and tells why.
+/// Says why a file can't be opened.
 pub fn say_not_opened(rt: &(impl Print + Eprint), path: &str, error: OpenError) -> Status {
     if let OpenError::NoMemory = error {
         return say(rt, OpenFault::NoMemory, Status::Failed);

@@ -2,17 +2,17 @@
 #![tactic(auto)]
 
 mod files;
-mod inspection;
+mod maintenance;
 mod memory;
 mod scripts;
 mod status;
 mod words;
 
 use crate::files::{apply_file, format_file};
-use crate::inspection::{check_file, list_file, trim_file};
+use crate::maintenance::{check_file, list_file, trim_file};
 use crate::memory::apply_in_memory;
 use crate::words::{read_words, tell_fault};
-use cm_inspect::Status;
+use cm_maintenance::Status;
 use cm_arguments::{Action, UsageFault, parse};
 use std::alloc::{AllocError, Global};
 use std::fs::{File, Files};
@@ -44,7 +44,7 @@ where
     }
 }
 
-/// The words behind the program's name.
+/// The words after the program's name.
 fn texts_of(alloc: Global, words: &[String]) -> Result<Vec<&str>, AllocError> {
     words
         .iter()

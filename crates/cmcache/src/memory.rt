@@ -3,13 +3,13 @@
 use crate::scripts::run_script;
 use crate::status::say_not_made;
 use cm_disk::SimDisk;
-use cm_inspect::Status;
+use cm_maintenance::Status;
 use cm_arguments::usual_geometry;
 use cm_recover::format;
 use std::sync::Wait;
 use std::thread::Threads;
 
-/// Runs the script on standard input on a fresh cache in memory of the usual sizes, with so many
+/// Runs the script on standard input on a fresh cache in memory of the usual sizes, with this many
 /// workers, and gives the status.
 pub fn apply_in_memory<R>(rt: &R, workers: usize) -> Status
 where

@@ -2,7 +2,7 @@
 
 use crate::status::{fail, say_fault, status_of};
 use cm_disk::Disk;
-use cm_inspect::Status;
+use cm_maintenance::Status;
 use cm_tool::{ApplyFault, Outcome, ToolFault, apply_script, apply_threads};
 use std::io::{self, BufReader, BufWriter};
 use std::sync::Wait;
@@ -14,7 +14,7 @@ const READ_AT_ONCE: usize = 8_192;
 const READ_AHEAD: usize = 262_144;
 
 /// Runs the script on standard input on a disk's cache, with its replies on standard output and so
-/// many workers, and gives the status and the disk. There is no disk where the threads can't be
+/// many workers, and gives the status and the disk. There is no disk if the threads can't be
 /// had.
 pub fn run_script<R, D>(rt: &R, disk: D, workers: usize) -> (Status, Option<D>)
 where

@@ -3,7 +3,7 @@
 ghost use Rattle.std.specs.Prelude.{◌≡◌, true, false};
 ghost use Rattle.cm_arguments.specs.Action.{IsHelp, IsWrong};
 
-use cm_inspect::{Status, tell_fault};
+use cm_maintenance::{Status, tell_fault};
 use cm_arguments::UsageFault;
 use cm_recover::{FormatFault, OpenFault};
 use cm_tool::{Outcome, ToolFault};
@@ -39,7 +39,7 @@ pub fn status_of_usage(fault: &UsageFault) -> Status
 }
 
 /// Writes a text of the program's own to standard output, and gives the status: this one, or that
-/// of a failure where the output fails.
+/// of a failure if the output fails.
 pub fn say(rt: &(impl Print + Eprint), text: impl Display + Drop, status: Status) -> Status {
     match println!(rt; "{text}") {
         Ok(()) => status,

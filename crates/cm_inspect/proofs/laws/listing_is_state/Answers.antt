@@ -1,5 +1,0 @@
-use Rattle.cm_inspect.proofs.Records.{lists_state}
-use Rattle.cm_inspect.proofs.laws.listing_is_state.Goals as goal
-
-pub returns : goal.returns
-returns c = lists_state

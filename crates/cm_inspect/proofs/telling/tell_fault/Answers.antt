@@ -1,5 +1,0 @@
-use Rattle.cm_inspect.proofs.telling.tell_fault.Goals as goal
-
--- the text of such a fault stands with the verdict
-pub returns-in-NotACache : goal.returns-in-NotACache
-returns-in-NotACache g c = rw c.in-NotACache.is c.tell.ensures

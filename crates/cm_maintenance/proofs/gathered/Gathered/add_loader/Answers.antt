@@ -1,0 +1,12 @@
+use Rattle.std.proofs.Common.{ap, ◌∙◌}
+use Rattle.cm_maintenance.specs.Gathered.{by_bytes, with_entry}
+use Rattle.cm_maintenance.proofs.Entries.{by_bytes-insert}
+use Rattle.cm_maintenance.proofs.gathered.Gathered.add_loader.Goals as goal
+
+pub returns-clause-numbers : goal.returns-clause-numbers
+returns-clause-numbers c =
+    let old = c.args.self.now.numbers.entries in
+    ap by_bytes c.in_ok-insert.ensures.entries
+    ∙ (by_bytes-insert old c.in_ok-name.name c.args.row.now.number
+    ∙ ap (λ name. with_entry name c.args.row.now.number (by_bytes old))
+    (c.in_ok-name.ensures.items ∙ c.as_bytes.ensures.value))

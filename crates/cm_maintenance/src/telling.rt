@@ -1,0 +1,62 @@
+//! Writing reports, and the statuses that go with them.
+
+ghost use Rattle.std.specs.Prelude.{◌≡◌, IfOk};
+ghost use Rattle.cm_maintenance.specs.Texts.{fault_line};
+ghost use Rattle.cm_maintenance.specs.Reporting.{Writes, fault_status, status_in, disk_left};
+
+use crate::fault::{MaintenanceFault, NotReported};
+use crate::status::Status;
+use crate::texts::line_of_fault;
+use cm_lines::write_line;
+use cm_recover::OpenFault;
+use std::alloc::Global;
+use std::io::Write;
+
+/// Writes lines, and gives the status that goes with them.
+pub(crate) fn tell<W: Write>(
+    writer: &mut W,
+    lines: &[u8],
+    status: Status,
+) -> Result<Status, MaintenanceFault>
+    ensures { Writes (W.contents writer.old) (W.contents writer.new) lines.now status result }
+{
+    match write_line(writer, lines) {
+        Ok(()) => Ok(status),
+        Err(_) => Err(MaintenanceFault::Output),
+    }
+}
+
+/// Writes why a file isn't opened, and gives the status, as [`crate::check_to`] does. Only a
+/// damage's line takes memory.
+pub fn tell_fault<W: Write>(
+    alloc: Global,
+    writer: &mut W,
+    fault: OpenFault,
+) -> Result<Status, MaintenanceFault>
+    ensures { Writes (W.contents writer.old) (W.contents writer.new) (fault_line fault)
+        (fault_status fault) result }
+{
+    match fault {
+        OpenFault::NotACache => tell(writer, b"not a cache\n", Status::Refused),
+        OpenFault::Damaged { .. } => match line_of_fault(alloc, fault) {
+            Ok(line) => tell(writer, &line, Status::Refused),
+            Err(_) => Err(MaintenanceFault::NoMemory),
+        },
+        OpenFault::Device => tell(writer, b"device\n", Status::Failed),
+        OpenFault::NoMemory => tell(writer, b"memory\n", Status::Failed),
+    }
+}
+
+/// What came of a report, with the disk.
+pub(crate) fn with_disk<D>(
+    status: Result<Status, MaintenanceFault>,
+    disk: D,
+) -> Result<(Status, D), NotReported<D>>
+    ensures status { status_in result ≡ status }
+    ensures disk { disk_left result ≡ disk }
+{
+    match status {
+        Ok(status) => Ok((status, disk)),
+        Err(fault) => Err(NotReported { fault, disk }),
+    }
+}

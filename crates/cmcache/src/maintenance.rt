@@ -1,0 +1,83 @@
+//! Files that are checked, listed and truncated.
+
+use crate::files::{disk_of, say_not_opened, tell_failure};
+use crate::status::fail;
+use cm_file_disk::{FileDisk, OpenError, OpenedFile};
+use cm_maintenance::{NotReported, Status, check_to, list_to, trim_to};
+use cm_recover::is_older;
+use std::fs::{File, Files};
+use std::io;
+
+/// Checks the cache in a file for damage, and gives the status. The file is only read.
+pub fn check_file(
+    rt: &(impl Print + Eprint + Files<File = File> + AllocGlobal),
+    path: &str,
+) -> Status {
+    match disk_of(OpenedFile::open_read_only(rt, rt.alloc(), path)) {
+        Ok(disk) => {
+            let told = check_to(rt.alloc(), &mut io::writer(rt), disk);
+            status_of_told(rt, path, told)
+        }
+        Err(error) => say_not_opened(rt, path, error),
+    }
+}
+
+/// The disk of a file that is listed. No right to write to it is needed, unless it is of version 1:
+/// then opening its cache upgrades it.
+fn disk_to_list(
+    rt: &(impl Files<File = File> + AllocGlobal),
+    path: &str,
+) -> Result<FileDisk, OpenError> {
+    let mut disk = disk_of(OpenedFile::open_read_only(rt, rt.alloc(), path))?;
+    match is_older(rt.alloc(), &mut disk) {
+        Ok(true) => disk_of(OpenedFile::open(rt, rt.alloc(), path)),
+        _ => Ok(disk),
+    }
+}
+
+/// Lists what the cache in a file holds, and gives the status. The file is opened as for a script,
+/// with a sync, and nothing is written, unless it is of an older version.
+pub fn list_file(
+    rt: &(impl Print + Eprint + Files<File = File> + AllocGlobal),
+    path: &str,
+) -> Status {
+    match disk_to_list(rt, path) {
+        Ok(disk) => {
+            let told = list_to(rt.alloc(), &mut io::writer(rt), disk);
+            status_of_told(rt, path, told)
+        }
+        Err(error) => say_not_opened(rt, path, error),
+    }
+}
+
+/// Truncates the file of a cache after the last root that is in use, and gives the status.
+pub fn trim_file(
+    rt: &(impl Print + Eprint + Files<File = File> + AllocGlobal),
+    path: &str,
+) -> Status {
+    match disk_of(OpenedFile::open(rt, rt.alloc(), path)) {
+        Ok(disk) => {
+            let told = trim_to(rt.alloc(), &mut io::writer(rt), disk);
+            status_of_told(rt, path, told)
+        }
+        Err(error) => say_not_opened(rt, path, error),
+    }
+}
+
+/// Tells why the file's device failed, if it did, and why not all is written.
+fn status_of_told(
+    rt: &impl Eprint,
+    path: &str,
+    told: Result<(Status, FileDisk), NotReported<FileDisk>>,
+) -> Status {
+    match told {
+        Ok((status, disk)) => {
+            tell_failure(rt, path, &disk);
+            status
+        }
+        Err(NotReported { fault, disk }) => {
+            tell_failure(rt, path, &disk);
+            fail(rt, fault)
+        }
+    }
+}
