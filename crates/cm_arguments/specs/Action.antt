@@ -51,7 +51,8 @@ action_command (Apply path workers) = codes "apply"
 pub record IsOfWords (words : List (Bor (List ℕ))) (action : Action) : Type 0 where
   pub command : option_map (λ w. w.now) (slice_get words 0) ≡ Some (action_command action)
   pub path : IfSome (action_path action) (Contains (drop 1 words))
-  pub memory : action_path action ≡ None → Contains (map (λ w. w.now) (drop 1 words)) (codes "--memory")
+  pub memory : action_path action ≡ None
+      → Contains (map (λ w. w.now) (drop 1 words)) (codes "--memory")
   pub numbers : IfSome (action_geometry action) IsGeometry
   pub workers : IfSome (action_workers action) (λ n. (0 < n) × (n ≤ most_workers))
 

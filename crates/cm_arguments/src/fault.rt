@@ -12,7 +12,8 @@ pub enum UsageFault {
     /// It asks for help: the help text, for standard output.
     #[error("{0}")]
     Help(String),
-    /// A usage error: what is wrong with its words, and how the program is used, for standard error.
+    /// A usage error: what is wrong with its words, and how the program is used, for standard
+    /// error.
     #[error("{0}")]
     Words(String),
     /// An allocation failed.

@@ -85,7 +85,7 @@ fn action_of<'a>(matches: &ArgMatches<'a>, words: &'a [&'a str]) -> Option<Actio
     }
 }
 
-/// Where a script is to run: on the cache in a file, or in memory.
+/// If a script is to run: on the cache in a file, or in memory.
 fn place_of<'a>(given: &ArgMatches<'a>, words: &'a [&'a str]) -> Option<Option<&'a str>>
     ensures path { IfSome result (λ path. IfSome path (Contains words.now)) }
     ensures memory { IfSome result (λ path.

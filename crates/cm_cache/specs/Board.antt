@@ -59,7 +59,7 @@ pub record IsBoard (s : State (Unit {0}) BoardView) : Type 0 where
   pub each : (id : ℕ) (v : BoardView) → get_elem? s.views id ≡ some v
       → FitsBoard seat posted failed id v
 
--- ---- what each step tells: of what was known before, the word that was found or written, and what
+-- ---- what each step says: of what was known before, the word that was found or written, and what
 -- is known after
 
 abbrev pub Mine : Type 0

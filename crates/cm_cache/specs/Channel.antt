@@ -85,7 +85,7 @@ pub record IsRelayed (items : List Message) (views : List ChannelView) : Type 0 
   pub each : (port : ℕ) (v : ChannelView) → get_elem? views port ≡ some v
       → FitsChannel writer reader base sent received port v
 
--- ---- what each step tells
+-- ---- what each step says
 
 abbrev pub HasSent : ChannelView → Message → ChannelView → Type 0
 HasSent v message after = after ≡ record v { sent = v.sent ++ message ∷ [] }

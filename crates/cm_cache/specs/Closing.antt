@@ -34,7 +34,7 @@ pub record AreTaken (old : TallyState) (posted : Seen) (passes : List PassState)
 
 -- ---- images
 
--- The image holds what was opened with a beginning of these entries, at least so many.
+-- The image holds what was opened with a beginning of these entries, at least this many.
 pub record ShowsBeginning (base : Base) (all : List Carried) (least : ℕ)
     (image : List ℕ) : Type 0 where
   pub stored : ℕ

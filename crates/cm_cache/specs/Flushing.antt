@@ -86,7 +86,7 @@ IsOldest (Some Trimming) rest = Unit {0}
 IsOldest (Some (Storing group)) rest = (more : List Carried) × (rest ≡ group.entries ++ more)
 
 -- What was received is what is committed, which the Board says, and a rest. There is a rest only
--- where the device failed, and the Board says that too.
+-- if the device failed, and the Board says that too.
 pub record IsEnded {D : Type 0} (base : Base) (failed : ℕ) (failures : D → ℕ)
     (e : EndedState D) : Type 0 where
   pub done : List Carried

@@ -27,7 +27,7 @@ pub record PassState : Type 0 where
 abbrev pub counted : PassState → Change (List ℕ) → ℕ → PassState
 counted p change n = record p { share = p.share + 1; last = Some (change, n) }
 
--- What a changing call tells, from its pass before to its pass after it. `Ok`: the command was
+-- What a changing call says, from its pass before to its pass after it. `Ok`: the command was
 -- accepted with this number through the pass, which has seen a receipt of at least that number.
 -- `Unsure`: it was accepted all the same, and the pass is marked. Any other refusal: through the
 -- pass nothing was accepted.

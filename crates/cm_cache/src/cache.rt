@@ -117,7 +117,7 @@ impl<K: Naming> Cache<K> {
         Ok((cache, flusher))
     }
 
-    /// A new pass, through which a thread changes the cache. `NumbersSpent` where 65,536 were given
+    /// A new pass, through which a thread changes the cache. `NumbersSpent` if 65,536 were given
     /// out. Waits for the lock.
     pub fn pass<R: Wait>(&self, rt: &R) -> Result<Pass<K>, Refusal>
         ensures ok { IfOk result
@@ -130,7 +130,7 @@ impl<K: Naming> Cache<K> {
     /// Makes a loader of this name, without classes.
     ///
     /// Each changing call waits for the lock, and then, without it, until its command is stored; it
-    /// answers the command's number. `Unsure` where the device failed first: the command may be
+    /// answers the command's number. `Unsure` if the device failed first: the command may be
     /// there once the file is opened again. Any other refusal is of [`Front::accept`].
     pub fn add_loader<R: Wait>(
         &self,
@@ -164,7 +164,7 @@ impl<K: Naming> Cache<K> {
     }
 
     /// Moves the records on the last chunk of the loader of this name to a smaller chunk, or to one
-    /// that lies before it; what is found stays. `NoMove` where there is no such chunk.
+    /// that lies before it; what is found stays. `NoMove` if there is no such chunk.
     pub fn tighten<R: Wait>(&self, rt: &R, pass: &mut Pass<K>, name: &[u8]) -> Result<u64, Refusal>
         ensures { Tells pass.old (Tighten name.now) result pass.new }
     {
@@ -172,7 +172,7 @@ impl<K: Naming> Cache<K> {
     }
 
     /// Unloads the loaders of these names at once, with all their classes: all of them or none,
-    /// under one number. `BadList` where there is no name, there are more than seven, or one stands
+    /// under one number. `BadList` if there is no name, there are more than seven, or one stands
     /// there twice.
     pub fn unload_all<R: Wait>(
         &self,
@@ -205,7 +205,7 @@ impl<K: Naming> Cache<K> {
     }
 
     /// The record of the class of a name in the loader of a name, as accepted, whether or not it is
-    /// stored; also once the cache is stopped, or the device failed. `Err` where an allocation
+    /// stored; also once the cache is stopped, or the device failed. `Err` if an allocation
     /// failed. Waits for the lock alone.
     pub fn find<R: Wait>(
         &self,

@@ -135,7 +135,7 @@ impl<K: Naming> Outgoing<K> {
         unreachable!()
     }
 
-    // The message comes back where the channel reports an error: no clause says when it does.
+    // The message comes back if the channel reports an error: no clause says when it does.
     fn send_once<R: Wait>(&mut self, rt: &R, message: Message) -> Result<(), Message>
         requires still_open { is_open self.old ≡ true }
         requires may { MayBeSent K.base (entries_of self.old) message }
@@ -181,7 +181,7 @@ impl<K: Naming> Incoming<K> {
         unreachable!()
     }
 
-    // `None` where the channel reports an error: no clause says when it does.
+    // `None` if the channel reports an error: no clause says when it does.
     fn receive_once<R: Wait>(&mut self, rt: &R) -> Option<Message>
         ensures received { IfSome result (λ m. self.new ≡ self.old ++ m ∷ []) }
         ensures may { IfSome result (λ m. MayBeSent K.base (entries_of self.old) m) }
@@ -192,7 +192,7 @@ impl<K: Naming> Incoming<K> {
             .ok()
     }
 
-    /// Receives the next message without waiting for one. `None` where it finds none; there may be
+    /// Receives the next message without waiting for one. `None` if it finds none; there may be
     /// one all the same while another thread is sending.
     pub fn receive_now<R: Wait>(&mut self, rt: &R) -> Option<Message>
         ensures received { IfSome result (λ m. self.new ≡ self.old ++ m ∷ []) }

@@ -108,7 +108,7 @@ impl<K: Naming, D: Disk> Flushing<K, D> {
         }
     }
 
-    /// Joins what was received since to the group that is stored next, as far as it goes on and
+    /// Joins what was received since to the group that is stored next, as far as it continues and
     /// has room. Waits for nobody.
     fn join<R: Wait>(&mut self, rt: &R)
         ensures { self.new.committer ≡ self.old.committer }
@@ -120,7 +120,7 @@ impl<K: Naming, D: Disk> Flushing<K, D> {
         }
     }
 
-    /// The same with one group. `false` where none was joined.
+    /// The same with one group. `false` if none was joined.
     fn join_one<R: Wait>(&mut self, rt: &R) -> bool
         ensures { self.new.committer ≡ self.old.committer }
     {
@@ -155,7 +155,7 @@ impl<K: Naming, D: Disk> Flushing<K, D> {
         }
     }
 
-    /// Stores the next group, and writes its receipt on the Board. Where the device fails, that is
+    /// Stores the next group, and writes its receipt on the Board. If the device fails, that is
     /// written, and nothing more is stored.
     fn store<R: Wait>(self, rt: &R, board: &Board<K>) -> Result<Flushing<K, D>, Ended<K, D>>
         ensures { IfErr result (λ e. e.committer.broken ≡ true) }

@@ -149,7 +149,7 @@ impl<K: Naming> Handing<K> {
     }
 }
 
-/// Accepts a command where all others were handed out, and hands it out.
+/// Accepts a command once all others were handed out, and hands it out.
 fn take_out(front: &mut Front, command: Command<'_>) -> Result<(u64, Group), Refusal>
     requires { front.old.unsealed ≡ [] }
     ensures ok { IfOk result

@@ -91,7 +91,7 @@ impl<K: Naming> Pass<K> {
         self.seen
     }
 
-    /// Waits until the command of this number is stored. `Unsure` where the device failed first:
+    /// Waits until the command of this number is stored. `Unsure` if the device failed first:
     /// then the pass is marked, and whether the command lives on is known once the file is opened
     /// again.
     pub fn wait_for<R: Wait>(
@@ -211,7 +211,7 @@ impl<K: Naming> Shared<K> {
         self.handing.close();
     }
 
-    /// A new pass. `NumbersSpent` where 65,536 were given out, and then nothing is changed.
+    /// A new pass. `NumbersSpent` if 65,536 were given out, and then nothing is changed.
     pub fn pass(&mut self, board: &Board<K>) -> Result<Pass<K>, Refusal>
         ensures room { IsOk result ↔ (self.old.made < most_passes) }
         ensures ok { IfOk result

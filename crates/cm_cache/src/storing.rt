@@ -9,7 +9,7 @@ use cm_commit::{Committer, Progress};
 use cm_disk::Disk;
 use cm_group::{Group, Receipt};
 
-/// Stores a group that may come next. `None` where the device failed: then the committer is broken.
+/// Stores a group that may come next. `None` if the device failed: then the committer is broken.
 pub(crate) fn store_group<D: Disk>(committer: &mut Committer<D>, group: Group) -> Option<Receipt>
     requires { Takes committer.old group }
     ensures stored { IfSome result (λ r. IsStored committer.old group r.number committer.new) }

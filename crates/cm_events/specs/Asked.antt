@@ -72,7 +72,7 @@ asked_of_two verb word last =
     then option_and_then (λ len. crash_of len last) (number_in word)
     else None
 
--- of a verb and the words behind it, where the verb wants two at most
+-- of a verb and the words after it, if the verb wants two at most
 abbrev pub asked_of_few : List ℕ → List (List ℕ) → Option Asked
 asked_of_few verb [] = asked_alone verb
 asked_of_few verb (word ∷ []) = asked_of_one verb word

@@ -96,7 +96,7 @@ pub record AreOf (lines : List (List ℕ)) (events : List Event) (turns : List T
   pub events_are : events ≡ flat_map event_in made
   pub turns_are : turns ≡ map turn_of made
 
--- the first line gives the sizes, and those behind it the events
+-- the first line gives the sizes, and those after it the events
 pub record IsSimulation (lines : List (List ℕ)) (s : Simulation) : Type 0 where
   pub first : List ℕ
   pub rest : List (List ℕ)
@@ -106,13 +106,13 @@ pub record IsSimulation (lines : List (List ℕ)) (s : Simulation) : Type 0 wher
 
 -- ---- lines of another form
 
--- the number of the first line that is no event, where the first of these has this number
+-- the number of the first line that is no event, if the first of these has this number
 abbrev pub first_bad_from : ℕ → List (List ℕ) → Option ℕ
 first_bad_from n [] = None
 first_bad_from n (line ∷ lines) =
     if is_some (event_of_line line) then first_bad_from (n + 1) lines else Some n
 
--- of the first line that has another form than it must have, counted from 1; where there is no
+-- of the first line that has another form than it must have, counted from 1; if there is no
 -- line, the first is missing
 abbrev pub first_bad : List (List ℕ) → Option ℕ
 first_bad [] = Some 1
@@ -123,7 +123,7 @@ abbrev pub IsFault : List (List ℕ) → SimulationFault → Type 0
 IsFault lines (fault.BadLine n) = first_bad lines ≡ Some n
 IsFault lines fault.NoMemory = Unit {0}
 
--- the line's events and its turn are behind those that there were
+-- the line's events and its turn are after those that there were
 pub record Takes (line : List ℕ) (old new : Simulation) : Type 0 where
   pub taken : Made
   pub comes : Comes (event_of_line line) taken

@@ -58,7 +58,7 @@ answers (turn.Refused r ∷ turns) replies = with_newline (refused_text r) ++ an
 answers (turn.Runs ∷ turns) [] = []
 answers (turn.Runs ∷ turns) (r ∷ replies) = with_newline (reply_text r) ++ answers turns replies
 
--- of the turns that are left, where there are replies for them
+-- of the turns that are left, if there are replies for them
 abbrev pub answers_behind : List Turn → Option (Bor (List Reply)) → List ℕ
 answers_behind turns None = []
 answers_behind turns (Some replies) = answers turns replies.now

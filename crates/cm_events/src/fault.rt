@@ -5,9 +5,9 @@ use thiserror::Error;
 /// Why a text isn't read as a simulation.
 #[derive(Clone, Copy, Debug, PartialEq, Eq, Error)]
 pub enum SimulationFault {
-    /// The line of this number, counted from 1, has another form than it must have. All in front of
-    /// it are right.
-    #[error("line {0} has another form")]
+    /// The line of this number, counted from 1, isn't an event, or the first line doesn't give the
+    /// sizes. All lines before it are right.
+    #[error("line {0}: not an event")]
     BadLine(usize),
     /// An allocation failed.
     #[error("out of memory")]

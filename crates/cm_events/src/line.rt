@@ -69,7 +69,7 @@ fn parse_words(line: &[u8]) -> Option<EventLine<'_>>
     }
 }
 
-/// Of a verb and the words behind it.
+/// Of a verb and the words after it.
 fn with_words<'a>(verb: &[u8], rest: &'a [u8]) -> Option<EventLine<'a>>
     ensures { option_and_then seen result ≡ asked_of_words (verb.now ∷ pieces 32 rest.now) }
 {

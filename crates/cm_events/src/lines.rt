@@ -5,7 +5,7 @@ ghost use Rattle.cm_lines.specs.Lines.{lines_of};
 
 use cm_lines::cut;
 
-/// The first line of a text and what is behind it; `None` where there is no line.
+/// The first line of a text and what is after it; `None` if there is no line.
 pub(crate) fn next_line(text: &[u8]) -> Option<(&[u8], &[u8])>
     ensures some { IfSome result (λ parts. lines_of text.now ≡ parts.0.now ∷ lines_of parts.1.now) }
     ensures shorter { IfSome result (λ parts. length parts.1.now < length text.now) }

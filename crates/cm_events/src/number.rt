@@ -3,7 +3,7 @@
 ghost use Rattle.std.specs.Prelude.{◌≡◌};
 ghost use Rattle.cm_events.specs.Numbers.{digit_behind, number_in};
 
-/// A number with one more digit behind it.
+/// A number with one more digit after it.
 fn push_digit(number: u64, byte: u8) -> Option<u64>
     ensures { result ≡ digit_behind number byte }
 {

@@ -30,14 +30,14 @@ pub struct Simulation<'a> {
     pub geometry: Geometry,
     /// The events, in order.
     pub events: Vec<Event<'a>>,
-    /// What becomes of each line behind the first.
+    /// What becomes of each line after the first.
     pub turns: Vec<Turn>,
 }
 
 /// Reads the first line for the sizes and the others for the events.
 ///
-/// `BadLine` tells the first line of another form than it must have; a text without a line lacks
-/// the first. `NoMemory` comes where an allocation failed, but for a class's own: such a line is
+/// `BadLine` names the first line of another form than it must have; a text without a line lacks
+/// the first. `NoMemory` if an allocation failed, but for a class's own: such a line is
 /// refused.
 pub fn read_simulation<'a>(alloc: Global, text: &'a [u8]) -> Result<Simulation<'a>, SimulationFault>
     ensures read { IfOk result (IsSimulation (lines_of text.now)) }
@@ -52,7 +52,7 @@ pub fn read_simulation<'a>(alloc: Global, text: &'a [u8]) -> Result<Simulation<'
     read_events(alloc, geometry, rest)
 }
 
-/// Reads the lines behind the first.
+/// Reads the lines after the first.
 fn read_events<'a>(
     alloc: Global,
     geometry: Geometry,

@@ -15,7 +15,7 @@ use cm_world::Reply;
 use std::alloc::{AllocError, Global};
 use std::sync::Arc;
 
-/// The lines that answer those behind a simulation's first, where these are the replies to its
+/// The lines that answer those after a simulation's first, if these are the replies to its
 /// events: one for each line, as far as there are replies.
 pub fn answer_lines(alloc: Global, turns: &[Turn], replies: &[Reply]) -> Result<Vec<u8>, AllocError>
     ensures { IfOk result (λ text. text.items ≡ answers turns.now replies.now) }
@@ -31,7 +31,7 @@ pub fn answer_lines(alloc: Global, turns: &[Turn], replies: &[Reply]) -> Result<
     Ok(text)
 }
 
-/// Adds the line of one turn, and answers which replies are left; `None` where there was none for
+/// Adds the line of one turn, and answers which replies are left; `None` if there was none for
 /// it.
 fn push_turn<'a>(
     alloc: Global,

@@ -29,7 +29,7 @@ struct Part<K: Naming> {
     pass: Pass<K>,
 }
 
-/// What came of it: how many words the class's record has, 0 where it isn't there.
+/// What came of it: how many words the class's record has, 0 if it isn't there.
 #[derive(Drop)]
 struct Done<K: Naming> {
     words: u32,

@@ -50,7 +50,7 @@ spelled_from (Low high) (d ∷ text) =
 abbrev pub unescaped : List ℕ → Option (List ℕ)
 unescaped text = spelled_from Any text
 
--- the name that is spelled by what one byte came to and a text behind it
+-- the name that is spelled by what one byte came to and a text after it
 abbrev pub spelled_after : Result Read NameFault → List ℕ → Option (List ℕ)
 spelled_after (Ok (Awaits next)) text = spelled_from next text
 spelled_after (Ok (Byte b)) text = option_map (λ n. b ∷ n) (spelled_from Any text)
@@ -77,7 +77,7 @@ named_by front (Some name) = Some (front ++ name)
 abbrev pub in_upper_case : ℕ → ℕ
 in_upper_case d = if nat_le 97 d && nat_le d 102 then d - 32 else d
 
--- a text whose first so many bytes are digits, with the digits behind each `%` in upper case
+-- a text of which this many first bytes are digits, with those after each `%` in upper case
 unfoldable pub upper_from : ℕ → List ℕ → List ℕ
 upper_from n [] = []
 upper_from zero (b ∷ text) = b ∷ upper_from (if b == 37 then 2 else 0) text

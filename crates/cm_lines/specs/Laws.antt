@@ -8,11 +8,11 @@ use Rattle.cm_lines.specs.Lines.{AsksUnloadAll, question_in, lines_of}
 
 -- ---- lines
 
--- each line with a newline behind it
+-- each line with a newline after it
 abbrev pub put_together : List (List ℕ) → List ℕ
 put_together lines = flat_map (λ line. line ++ 10 ∷ []) lines
 
--- No line has a newline, and put together they are the script, or the script with a newline behind
+-- No line has a newline, and put together they are the script, or the script with a newline after
 -- it.
 abbrev pub LinesMakeScript : Type 0
 LinesMakeScript =
@@ -40,7 +40,7 @@ spelled (AsksDefine loader digits) = codes "define " ++ (loader ++ 32 ∷ digits
 spelled (AsksFind loader name) = codes "find " ++ (loader ++ 32 ∷ name)
 spelled (AsksUnloadAll names) = codes "unloadall" ++ flat_map (λ name. 32 ∷ name) names
 
--- A line asks for something exactly where it is spelled so, in words.
+-- A line asks for something exactly if it is spelled so, in words.
 abbrev pub OneSpelling : Type 0
 OneSpelling =
     (line : List ℕ) (question : Asked) → (question_in line ≡ Some question)

@@ -6,7 +6,7 @@ use Rattle.std.specs.Str.{bytes_eq}
 use Rattle.cm_lines.specs.declared.line.Line.{Line}
 use Rattle.cm_lines.specs.declared.line.Line.TheVariants as line
 
--- a text cut at each byte of this value: the parts in front of them, and what is behind the last
+-- a text cut at each byte of this value: the parts in front of them, and what is after the last
 abbrev pub pieces : ℕ → List ℕ → List (List ℕ)
 pieces at text = slice_split (λ b. b == at) text
 
@@ -43,7 +43,7 @@ is_word text = nat_lt 0 (length text)
 abbrev pub are_words : List (List ℕ) → Bool
 are_words texts = nat_lt 0 (length texts) && list_all is_word texts
 
--- of a verb and the words behind it, where the verb wants one or two
+-- of a verb and the words after it, if the verb wants one or two
 abbrev pub question_of_few : List ℕ → List (List ℕ) → Option Asked
 question_of_few verb [] = None
 question_of_few verb (name ∷ []) =

@@ -1,4 +1,4 @@
--- What is taken from a reader and given to a writer, where those tell their bytes.
+-- What is taken from a reader and given to a writer, if those tell their bytes.
 use Rattle.std.specs.Prelude.{◌≡◌, ◌≢◌, ◌<◌, ◌≤◌, ℕ, ◌++◌, Bool, true, false, List, [], ◌∷◌, length}
 use Rattle.std.specs.Prelude.{Option, Some, None, IfSome, OnSome}
 use Rattle.std.specs.List.{All}
@@ -11,7 +11,7 @@ use Rattle.cm_lines.specs.Lines.{lines_of, line_limit}
 -- ---- what goes in and out
 
 -- The script that a reader still gives, and what a writer holds before a run and after it; nothing
--- where they don't tell.
+-- if they don't tell.
 pub record Io : Type 0 where
   pub script : Option (List ℕ)
   pub before : Option (List ℕ)
@@ -49,7 +49,7 @@ ReadsLine old new buffer false = HasNoLine old
 abbrev pub Grows : LineBuffer → LineBuffer → List ℕ → Type 0
 Grows old new bytes = (line : List ℕ) → Holds line old → Holds (line ++ bytes) new
 
--- what a piece of a line takes: its bytes, and the newline behind them
+-- what a piece of a line takes: its bytes, and the newline after them
 abbrev pub taken_by : Piece → List ℕ → List ℕ
 taken_by piece.End bytes = bytes
 taken_by piece.More bytes = bytes

@@ -3,7 +3,7 @@
 ghost use Rattle.std.specs.Prelude.{◌≡◌, ◌≢◌, ◌∷◌, ◌++◌, IfSome, IfNone};
 ghost use Rattle.std.specs.List.{All};
 
-/// What is in front of the first such byte, and what is behind it; `None` where there is no such
+/// What is in front of the first such byte, and what is after it; `None` if there is no such
 /// byte.
 pub fn cut(text: &[u8], at: u8) -> Option<(&[u8], &[u8])>
     ensures found { IfSome result (λ parts. text.now ≡ parts.0.now ++ at ∷ parts.1.now) }

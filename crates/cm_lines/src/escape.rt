@@ -53,7 +53,7 @@ fn digit_of_value(value: u8) -> u8
     }
 }
 
-/// Writes a name's spelling behind what is there. At an `Err`, where an allocation failed, a part
+/// Writes a name's spelling after what is there. At an `Err`, if an allocation failed, a part
 /// of it may stand there.
 pub fn escape_into(out: &mut Vec<u8>, name: &[u8]) -> Result<(), AllocError>
     ensures ok { OnOk result (out.new.items ≡ out.old.items ++ escaped name.now) }
@@ -80,13 +80,13 @@ fn escape_byte_into(out: &mut Vec<u8>, byte: u8) -> Result<(), AllocError>
 enum Awaited {
     /// A byte that stands for itself, or a `%`.
     Any,
-    /// The first digit behind a `%`.
+    /// The first digit after a `%`.
     High,
-    /// The second digit, behind one of this value.
+    /// The second digit, after one of this value.
     Low(u8),
 }
 
-/// The name that a word spells. `BadEscape` comes exactly where it spells none.
+/// The name that a word spells. `BadEscape` comes exactly if it spells none.
 pub fn unescape(alloc: Global, word: &[u8]) -> Result<Vec<u8>, NameFault>
     ensures name { IfOk result (λ name. unescaped word.now ≡ Some name.items) }
     ensures bad { IsErrOf result NameFault.BadEscape → unescaped word.now ≡ None }

@@ -23,7 +23,7 @@ enum Piece {
 /// Reads up to the next newline and takes it too, and answers whether there was a line: at a
 /// script's end, a rest that isn't empty is one. What `line` held before is gone.
 ///
-/// `Input` comes where the reader fails, `NoMemory` where an allocation failed. How much was taken
+/// `Input` if the reader fails, `NoMemory` if an allocation failed. How much was taken
 /// is then left open.
 pub fn read_line<R: BufRead>(reader: &mut R, line: &mut LineBuffer) -> Result<bool, LineFault>
     ensures read { IfOk result

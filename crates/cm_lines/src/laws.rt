@@ -19,7 +19,7 @@ pub fn unescaping_undoes_escaping()
     ensures { UnescapingUndoes }
 {}
 
-/// Only a name's own spelling is read as it, in which each digit behind a `%` may have either case.
+/// Only a name's own spelling is read as it, in which each digit after a `%` may have either case.
 pub fn names_have_one_spelling()
     ensures { SpellingIsOne }
 {}

@@ -23,7 +23,7 @@ pub fn write_line<W: Write>(writer: &mut W, line: &[u8]) -> Result<(), LineFault
     }
 }
 
-/// `write_all`, which also says what is written where it fails.
+/// `write_all`, which also says what is written if it fails.
 fn write_whole<W: Write>(writer: &mut W, text: &[u8]) -> Result<(), LineFault>
     ensures ok { OnOk result (Appends (W.contents writer.old) (W.contents writer.new) text.now) }
     ensures err { OnErr result
@@ -42,7 +42,7 @@ fn write_whole<W: Write>(writer: &mut W, text: &[u8]) -> Result<(), LineFault>
     Err(LineFault::Output)
 }
 
-/// Writes a beginning of the text, none of it where a signal came in between.
+/// Writes a beginning of the text, none of it if a signal came in between.
 fn write_some<W: Write>(writer: &mut W, text: &[u8]) -> Result<usize, LineFault>
     ensures within { IfOk result (λ count. count ≤ length text.now) }
     ensures ok { IfOk result

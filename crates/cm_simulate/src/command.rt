@@ -13,7 +13,7 @@ const DISK: &str = "disk";
 /// What the command line asks for.
 #[derive(Debug, Drop)]
 pub enum Request {
-    /// To run the simulation on standard input; where there is a path, the bytes that its disk has
+    /// To run the simulation on standard input; if there is a path, the bytes that its disk has
     /// at the end go to that file.
     Run(Option<String>),
     /// Nothing more: the help or a usage text was printed. The status to end with.
@@ -51,7 +51,7 @@ fn whole_command<'a>(alloc: Global) -> Result<Command<'a>, AllocError> {
         .arg(disk)
 }
 
-/// The words of the command line; `None` where one of them isn't UTF-8.
+/// The words of the command line; `None` if one of them isn't UTF-8.
 fn words(rt: &(impl Env + AllocGlobal)) -> Result<Option<Vec<String>>, WordsFault> {
     match env::args(rt) {
         Ok(words) => Ok(Some(words.collect(rt.alloc())?)),

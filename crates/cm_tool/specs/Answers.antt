@@ -67,7 +67,7 @@ pub record IsLost (sizes : Sizes) (change : Change ClassFile) (old : Served) (gi
   }
   pub failed : old.failures < new.failures
 
--- of a command, with the reply that tells its number once it is done
+-- of a command, with the reply that says its number once it is done
 abbrev pub AnswersCommand : Sizes → Change ClassFile → (ℕ → ReplyText) → Served → ReplyText → Served
     → Type 0
 AnswersCommand sizes change told old given new =

@@ -13,7 +13,7 @@ reply_line given = given.text ++ 10 ∷ []
 abbrev pub reply_lines : List ReplyText → List ℕ
 reply_lines replies = flat_map reply_line replies
 
--- the reply tells that, and its line is that text with the newline
+-- the reply says that, and its line is that text with the newline
 pub record IsReply (given : ReplyText) (reply : Reply) : Type 0 where
   pub kind : reply.kind ≡ given.kind
   pub line : reply.line.items ≡ reply_line given

@@ -1,4 +1,4 @@
--- What a run of a script takes from its reader and gives to its writer, where those tell their
+-- What a run of a script takes from its reader and gives to its writer, if those tell their
 -- bytes.
 use Rattle.std.specs.Prelude.{◌≡◌, ◌⊎◌, ℕ, ◌++◌, false, List, [], ◌∷◌, Option, Some, None}
 use Rattle.std.specs.Prelude.{IfSome, Result, Ok, Err}
@@ -65,7 +65,7 @@ Breaks sizes fault.Output io old new = BreaksIn sizes io old new
 Breaks sizes fault.NoMemory io old new =
     BreaksBefore io old new ⊎ ((b : BreaksIn sizes io old new) × (b.written.part ≡ []))
 
--- the rest is what the reader gives behind the line
+-- the rest is what the reader gives after the line
 abbrev pub Turns : {D : Type 0} → Sizes → Option (List ℕ) → Io → Result (Option ReplyKind) ToolFault
     → Pause D → Pause D → Type 0
 Turns sizes rest io (Ok (Some k)) old new = Turned sizes rest io k old.served new.served
@@ -74,8 +74,8 @@ Turns sizes rest io (Err e) old new = Breaks sizes e io old.served new.served
 
 -- ---- a whole script
 
--- Where the reader tells its script, the lines are that script's; the replies are answers to them,
--- and they are what is written. The outcome tells whether some reply is a refusal, and whether one
+-- If the reader's bytes are known, the lines are those of that script; the replies answer them,
+-- and they are what is written. The outcome says whether some reply is a refusal, and whether one
 -- is unsure. All that was answered `ok` is acknowledged.
 pub record IsAnswered {D : Type 0} (Leaves : D → D → (List ℕ → Type 0) → Type 0) (sizes : Sizes)
     (io : Io) (outcome : Outcome) (old new : Pause D) : Type 0 where

@@ -32,7 +32,7 @@ pub record LedTo (Does : Served → Type 0) (failures : ℕ) (Goes : Machine →
   pub goes : Goes next
 
 -- Whichever machine the session goes with, everything stored and the device working: what is done
--- between the two pauses leads the machine to another one, and the session goes on with that one.
+-- between the two pauses leads the machine to another one, and the session continues with that one.
 abbrev pub Proceeds : {D : Type 0} → View D → (Pause D → Pause D → Type 0)
     → (Machine → Machine → Type 0) → Session D → Session D → Type 0
 Proceeds view Does GoesFrom old new =
@@ -49,7 +49,7 @@ pub record GoesOn {D : Type 0} (view : View D)
   pub moments : LeavesOnly view old.committer.disk new.committer.disk
       (StandsBetween old.committer.sizes k next)
 
--- the same, where it may be that the disk wasn't touched
+-- the same, if it may be that the disk wasn't touched
 pub record MayGoOn {D : Type 0} (view : View D)
     (k : Machine) (old new : Session D) (next : Machine) : Type 0 where
   pub goes : GoesWith next new
@@ -60,7 +60,7 @@ pub record MayGoOn {D : Type 0} (view : View D)
 
 -- ---- replies
 
--- the change is what the question asks for, and the reply tells no more than its number
+-- the change is what the question asks for, and the reply is just its number
 abbrev pub IsAskedBy : Asked → Change (List ℕ) → Type 0
 IsAskedBy (AsksLoader name) change = change ≡ AddLoader name
 IsAskedBy (AsksUnload name) change = change ≡ Unload name
@@ -74,7 +74,7 @@ pub record IsLeft (given : ReplyText) (k : Machine) : Type 0 where
   pub rest : IsAtRest k
   pub works : is_unsure given.kind ≡ false → k.failed ≡ false
 
--- A reply answers what was asked. Where memory for it was refused, the command was answered so, or
+-- A reply answers what was asked. If memory for it was refused, the command was answered so, or
 -- nothing was done.
 abbrev pub Replies : {E : Type 0} → Sizes → Option Asked → Result Reply E → Served → Served → Type 0
 Replies sizes question (Ok reply) old new =
@@ -83,8 +83,8 @@ Replies sizes question (Ok reply) old new =
 Replies sizes question (Err e) old new =
     (new ≡ old) ⊎ ((given : ReplyText) × AnswersAsked sizes question old given new)
 
--- The question is served from any such machine: the result is the reply to it, or tells that no
--- memory was there for one, and the session goes on with the machine that this leads to.
+-- The question is served from any such machine: the result is the reply to it, or says that no
+-- memory was there for one, and the session continues with the machine that this leads to.
 abbrev pub Serves : {D E : Type 0} → View D → Option Asked → Result Reply E → Session D → Session D
     → Type 0
 Serves view question result old new =
@@ -112,8 +112,8 @@ medium view disk = record {
   failures = view.failures disk;
 }
 
--- While the cache is opened a crash leaves what it might have left before; or, where the file is of
--- an older version and is moved over, what stands for the same cache.
+-- While the cache is opened a crash leaves what it might have left before; or, if the file is of
+-- an older version and is upgraded, what stands for the same cache.
 pub record LeavesOpening {D : Type 0} (Leaves : D → D → (List ℕ → Type 0) → Type 0)
     (begun opened : D) (disk : Medium) : Type 0 where
   pub alone : (IsOlderFile disk.bytes → ⊥)

@@ -1,4 +1,4 @@
--- The texts of replies, without their newlines, and what each tells of its command.
+-- The texts of replies, without their newlines, and what each says of its command.
 use Rattle.std.specs.Prelude.{ℕ, ◌+◌, ◌-◌, ◌/◌, ◌%◌, nat_lt, if◌then◌else◌, List, [], ◌∷◌, ◌++◌}
 use Rattle.std.specs.Prelude.{codes, Option, Some, None}
 use Rattle.std.specs.Fmt.{decimal}
@@ -12,7 +12,7 @@ use Rattle.cm_lines.specs.Escapes.{escaped}
 use Rattle.cm_tool.specs.declared.reply.ReplyKind.{ReplyKind}
 use Rattle.cm_tool.specs.declared.reply.ReplyKind.TheVariants as kind
 
--- what a reply tells of its command, and its text
+-- what a reply says of its command, and its text
 pub record ReplyText : Type 0 where
   pub kind : ReplyKind
   pub text : List ℕ
@@ -42,7 +42,7 @@ abbrev pub super_text : Option (List ℕ) → List ℕ
 super_text None = codes "-"
 super_text (Some name) = escaped name
 
--- a class that is found under a name, with a record of so many words
+-- a class that is found under a name, with a record of this many words
 abbrev pub class_reply : List ℕ → ClassFile → ℕ → ReplyText
 class_reply name c words =
     record {

@@ -48,7 +48,7 @@ pub record RunsInThreads {D : Type 0} (Leaves : D → D → (List ℕ → Type 0
   pub leaves : IfSome left (LeavesRun (base_in standing) failures)
   pub came : Came failures
 
--- Why a run isn't there, or ended early. The disk is given up only where the threads can't be had.
+-- Why a run isn't there, or ended early. The disk is given up only if the threads can't be had.
 abbrev pub IsStoppedInThreads : {D : Type 0} → (D → D → (List ℕ → Type 0) → Type 0)
     → (D → Medium) → D → Option D → Io → ApplyFault → Type 0
 IsStoppedInThreads Leaves medium_of begun left io (apply.Open f) =
@@ -58,7 +58,7 @@ IsStoppedInThreads Leaves medium_of begun left io (apply.Script e) =
     RunsInThreads Leaves begun (medium_of begun) (option_map medium_of left)
     (λ _. left ≡ None → e ≡ fault.NoMemory)
 
--- a command is unsure only where a call of the disk failed
+-- a command is unsure only if a call of the disk failed
 abbrev pub IsSureWithout : {D : Type 0} → (D → ℕ) → Option D → Outcome → ℕ → Type 0
 IsSureWithout failures left outcome failed =
     outcome.unsure ≡ true → IfSome left (λ d. failures d ≡ failed → ⊥)

@@ -126,7 +126,7 @@ impl Batch {
         Batch { lines, more }
     }
 
-    /// Prepares the classes that the lines define, in so many threads at most.
+    /// Prepares the classes that the lines define, in this many threads at most.
     pub fn prepare<T: Threads + Sync>(&mut self, rt: &T, alloc: Global, workers: usize)
         requires { 0 < workers }
     {
@@ -152,7 +152,7 @@ fn count_newlines(bytes: &[u8]) -> usize {
     bytes.iter().filter(|byte| **byte == b'\n').count()
 }
 
-/// Reads so many lines, if there are as many. Those before an `Err` are there.
+/// Reads this many lines, if there are as many. Those before an `Err` are there.
 fn read_lines<R: BufRead>(
     alloc: Global,
     reader: &mut R,

@@ -60,7 +60,7 @@ fn answer_question<D: Disk>(
     }
 }
 
-/// Runs a command whose reply tells no more than its number once it is done.
+/// Runs a command whose reply is just its number once it is done.
 fn answer_number<D: Disk>(
     alloc: Global,
     session: &mut Session<D>,
@@ -74,7 +74,7 @@ fn answer_number<D: Disk>(
     tell_number(alloc, stored)
 }
 
-/// The reply to a command that tells no more than its number once it is done.
+/// The reply to a command whose reply is just its number once it is done.
 fn tell_number(alloc: Global, stored: Result<u64, NotStored>) -> Result<Reply, AllocError>
     ensures { Tells number_reply stored result }
 {

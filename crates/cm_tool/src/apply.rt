@@ -30,7 +30,7 @@ pub enum ApplyFault {
 ///
 /// A crash at any moment of a line leaves all that was acknowledged before that line, and nothing
 /// that wasn't handed out by its end; while the cache is opened, what it might have left before,
-/// or, where a file of an older version is moved over, what stands for the same cache.
+/// or, if a file of an older version is upgraded, what stands for the same cache.
 ///
 /// The disk is handed back in any case. After `Open` it stands for what it stood for; after
 /// `Script` all that was acknowledged is stored.

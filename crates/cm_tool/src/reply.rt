@@ -14,7 +14,7 @@ use cm_prepare::Refusal;
 use cm_record::Record;
 use std::alloc::{AllocError, Global};
 
-/// What a reply tells of its command.
+/// What a reply says of its command.
 #[derive(Clone, Copy, Debug, PartialEq, Eq)]
 pub enum ReplyKind {
     /// It is done.

@@ -71,8 +71,8 @@ impl Outcome {
 /// the reply to each as soon as it is there.
 ///
 /// A line ends at a newline; a rest that isn't empty is a line too. The run ends at an unsure
-/// command, since no further one would be accepted. It is an `Err` where the reader fails
-/// (`Input`), where the writer does (`Output`), or where an allocation failed for a line or a reply
+/// command, since no further one would be accepted. It is an `Err` if the reader fails
+/// (`Input`), if the writer does (`Output`), or if an allocation failed for a line or a reply
 /// (`NoMemory`): what was acknowledged is stored.
 pub fn run_script<R: BufRead, W: Write, D: Disk>(
     alloc: Global,
@@ -129,7 +129,7 @@ pub fn run_to_end<R: BufRead, W: Write, D: Disk>(
     (result, session.into_disk())
 }
 
-/// Takes a line, and tells what a crash may have left at each moment of it.
+/// Takes a line, and says what a crash may have left at each moment of it.
 fn run_line<R: BufRead, W: Write, D: Disk>(
     alloc: Global,
     reader: &mut R,

@@ -23,7 +23,7 @@ use std::io::{BufRead, Write};
 use std::sync::Wait;
 use std::thread::Threads;
 
-/// Runs a script on a cache that runs: reads lines ahead, has their classes prepared by so many
+/// Runs a script on a cache that runs: reads lines ahead, has their classes prepared by this many
 /// threads, and answers them in order.
 pub fn serve<K, T, R, W>(
     rt: &T,
@@ -149,7 +149,7 @@ fn or_prepared(alloc: Global, known: Option<LineClass>, digits: &[u8]) -> LineCl
     }
 }
 
-/// The reply to a command that tells no more than its number once it is done.
+/// The reply to a command whose reply is just its number once it is done.
 fn tell_number(alloc: Global, stored: Result<u64, Refusal>) -> Result<Reply, AllocError>
     ensures { IfOk result (IsReply (reply_to number_reply stored)) }
 {

@@ -28,12 +28,12 @@ use std::thread::Threads;
 
 /// Opens the cache on a disk, and runs a script on it as [`apply_script`](crate::apply_script)
 /// does, with the same replies: commands are run in the order of their lines, one after another.
-/// The classes that they define are prepared ahead by so many threads, and one more thread stores
+/// The classes that they define are prepared ahead by this many threads, and one more thread stores
 /// what is accepted.
 ///
 /// Lines are read ahead as far as the reader shows them without waiting.
 ///
-/// The disk is given up where a thread can't be started, or an allocation fails for what threads
+/// The disk is given up if a thread can't be started, or an allocation fails for what threads
 /// share (`NoMemory`); it can be opened again. Else it is handed back.
 pub fn apply_threads<T, R, W, D>(
     rt: &T,
