@@ -27,7 +27,7 @@ struct Adder<K: Naming> {
     pass: Pass<K>,
 }
 
-/// What came of it: the numbers that were answered, 0 where a loader was refused.
+/// What came of it: the numbers that were answered, 0 if a loader was refused.
 #[derive(Drop)]
 struct Added<K: Naming> {
     numbers: [u64; EACH],

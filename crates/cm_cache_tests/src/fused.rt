@@ -164,7 +164,7 @@ fn with_loader(alloc: Global) -> Result<SimDisk, Fail> {
     Ok(disk)
 }
 
-/// Whether so many device calls are enough to open what a disk holds; and the disk.
+/// Whether this many device calls are enough to open what a disk holds; and the disk.
 fn opens_in(alloc: Global, disk: SimDisk, calls: u64) -> (bool, SimDisk) {
     match open(alloc, FuseDisk::new(disk, calls, 0)) {
         Ok((_front, committer)) => (true, committer.into_disk().into_inner()),

@@ -1,4 +1,4 @@
-//! A disk in memory, one sync of which waits until the test lets it go on.
+//! A disk in memory, one sync of which waits until the test lets it continue.
 
 ghost use Rattle.std.specs.Prelude.{◌≡◌};
 
@@ -43,7 +43,7 @@ impl Gate {
         self.held.load(Ordering::SeqCst) != 0
     }
 
-    /// Waits until the count reaches a number, for so many turns. Whether it did.
+    /// Waits until the count reaches a number, for this many turns. Whether it did.
     fn wait(&self, count: u64, turns: u64) -> bool {
         self.held.store(1, Ordering::SeqCst);
         for _ in 0..turns {
@@ -64,7 +64,7 @@ pub struct Hold {
     pub turns: u64,
 }
 
-/// A disk in memory, of which one sync waits at a gate. Where it waits for too long, it fails.
+/// A disk in memory, of which one sync waits at a gate. If it waits for too long, it fails.
 #[derive(Drop)]
 pub struct HeldDisk {
     disk: SimDisk,

@@ -16,7 +16,7 @@ use std::test::*;
 use std::thread;
 use std::thread::{Threads, yield_now};
 
-/// Class `A` with the name's letter left out: what stands before it, and behind it.
+/// Class `A` with the name's letter left out: what stands before it, and after it.
 const BEFORE_NAME: &[u8] = b"\xca\xfe\xba\xbe\0\0\0\x34\0\x05\x07\0\x02\x01\0\x01";
 
 const BEHIND_NAME: &[u8] =
@@ -40,7 +40,7 @@ enum Job<K: Naming> {
     Define(Pass<K>, Prepared),
     /// The same, once a sync is held.
     DefineHeld(Pass<K>, Prepared),
-    /// Lets the sync go on, once the classes `B` and `C` are found.
+    /// Lets the sync continue, once the classes `B` and `C` are found.
     Watch(Pass<K>),
 }
 

@@ -58,7 +58,7 @@ fn members_of_one_long_name_are_found(rt: HostRuntime) -> Result<(), Fail> {
 
 const LONGS: u16 = 100;
 
-// The first index behind the Longs, that of `Junk`.
+// The first index after the Longs, that of `Junk`.
 const JUNK: u16 = 2 * LONGS + 1;
 
 const UTF8S: [u8; 20] = *b"\x01\0\x04Junk\x01\0\x04Code\x01\0\x03()V";

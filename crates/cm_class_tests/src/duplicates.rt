@@ -16,7 +16,7 @@ fn find_duplicate_in(alloc: Global, class: &Class) -> Result<Found, Fail> {
     Ok((field, method))
 }
 
-/// What is found where the fields and the methods are these.
+/// What is found if the fields and the methods are these.
 fn find_duplicate(
     alloc: Global,
     utf8s: &[&[u8]],
@@ -76,8 +76,8 @@ fn few_members(rt: HostRuntime) -> Result<(), Fail> {
     Ok(())
 }
 
-/// That none of 64 members is a duplicate, and the first that comes behind them is one, with and
-/// without those behind it.
+/// That none of 64 members is a duplicate, and the first that comes after them is one, with and
+/// without those after it.
 fn are_told_apart(
     rt: &(impl Abort + AllocGlobal),
     utf8s: &[&[u8]],

@@ -4,7 +4,7 @@ use cm_class::{ShapeFault, read_shape};
 use std::alloc::{AllocError, Global};
 use std::test::Fail;
 
-/// Bytes of class A, what stands in their place, and the first byte with which no class goes on.
+/// Bytes of class A, what stands in their place, and the first byte with which no class continues.
 const WRONG: [(usize, u8, usize); 11] = [
     (0, 0xcb, 0),
     (3, 0xbf, 3),
@@ -46,7 +46,7 @@ fn fault_with(
     Ok(fault(alloc, &bytes))
 }
 
-/// Whether bytes behind a class begin what is trailing, at this place.
+/// Whether bytes after a class begin what is trailing, at this place.
 fn are_trailing(alloc: Global, bytes: &[u8], behind: &[u8], at: usize) -> Result<bool, AllocError> {
     Ok(fault_with(alloc, bytes, behind)? == Some(ShapeFault::Trailing(at)))
 }
@@ -69,7 +69,7 @@ fn the_first_wrong_byte(rt: HostRuntime) {
     }
 }
 
-/// A Long or a Double at the last index is wrong at its tag, wherever the bytes end behind it.
+/// A Long or a Double at the last index is wrong at its tag, wherever the bytes end after it.
 #[test]
 fn no_second_slot(rt: HostRuntime) {
     let alloc = rt.alloc();

@@ -75,7 +75,7 @@ fn field_descriptors(rt: HostRuntime) {
     }
 }
 
-/// Bytes, and the units of what they take, where they are a method's descriptor.
+/// Bytes, and the units of what they take, if they are a method's descriptor.
 static METHODS: [(&[u8], Option<u8>); 10] = [
     (b"()V", Some(0)),
     (b"(I)I", Some(1)),

@@ -8,7 +8,7 @@ use std::test::Fail;
 /// have. Of a Utf8 the tag alone.
 type Numbers = (u8, u64, u16);
 
-/// Nothing where the slot can't be used.
+/// Nothing if the slot can't be used.
 fn numbers(slot: &Slot) -> Option<Numbers> {
     let Slot::Usable(constant) = slot else {
         return None;
@@ -53,7 +53,7 @@ fn has_slots(class: &Class, expected: &[Option<Numbers>]) -> bool {
     class.slots().len() == expected.len()
 }
 
-/// Whether the slots of a class have these texts, where a slot that holds no Utf8 has none.
+/// Whether the slots of a class have these texts, if a slot that holds no Utf8 has none.
 fn has_texts(class: &Class, expected: &[&[u8]]) -> bool {
     for (slot, expected) in class.slots().iter().zip(expected) {
         let text = match slot {
@@ -130,7 +130,7 @@ fn is_one_attribute(attributes: &Attributes, name: u16, bytes: &[u8]) -> bool {
     }
 }
 
-/// The one member, where there is one, of these flags and these indexes of its name and descriptor.
+/// The one member, if there is one, of these flags and these indexes of its name and descriptor.
 fn one_member<'m, 'a>(members: &'m [Member<'a>], expected: [u16; 3]) -> Option<&'m Member<'a>> {
     let (first, others) = members.split_first()?;
     let numbers = [first.flags, first.name, first.descriptor];

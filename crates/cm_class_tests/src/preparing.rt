@@ -6,7 +6,7 @@ use cm_rules::{Broken, Rule, Spot};
 use std::alloc::{AllocError, Global};
 use std::test::Fail;
 
-// Asked once more where an allocation failed: nothing is changed then.
+// Asked once more if an allocation failed: nothing is changed then.
 fn prepare_bytes(alloc: Global, bytes: &[u8]) -> Result<Prepared, Refusal> {
     match prepare(alloc, bytes) {
         Err(Refusal::NoMemory) => prepare(alloc, bytes),
@@ -47,7 +47,7 @@ fn is_refused(alloc: Global, parts: &[&[u8]], expected: BadClass) -> Result<bool
     Ok(prepare_bytes(alloc, &bytes).err() == Some(Refusal::BadClass(expected)))
 }
 
-/// What class A begins with here, what stands behind it, and why it is no class: a byte more; other
+/// What class A begins with here, what stands after it, and why it is no class: a byte more; other
 /// versions; half a heading.
 static NO_CLASS: [(&[u8], &[u8], BadClass); 4] = [
     (
@@ -102,7 +102,7 @@ fn words_of(alloc: Global, bytes: &[u8]) -> Result<u32, Refusal> {
     Ok(prepare_bytes(alloc, bytes)?.words())
 }
 
-/// Whether a class that has an attribute of so many bytes has so many words, or this refusal.
+/// Whether a class that has an attribute of this many bytes has this many words, or this refusal.
 fn has_words(
     alloc: Global,
     count: u32,

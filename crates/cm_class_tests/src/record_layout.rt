@@ -13,7 +13,7 @@ fn has_words(alloc: Global, record: &Record, words: &[u64]) -> Result<bool, Allo
     Ok(found == bytes_of(alloc, words)?)
 }
 
-/// Whether the record of a class has so many words, and these.
+/// Whether the record of a class has this many words, and these.
 fn is_laid(alloc: Global, bytes: &[u8], words: &[u64], count: u32) -> Result<bool, Fail> {
     let record = record_of(alloc, bytes)?;
     Ok(has_words(alloc, &record, words)? && record.words() == count)
@@ -52,14 +52,14 @@ fn words_of(alloc: Global, class: &Class) -> Result<u32, RecordRefusal> {
     Ok(build(alloc, class)?.words())
 }
 
-/// How many words the record of class A has, with an attribute of so many bytes.
+/// How many words the record of class A has, with an attribute of this many bytes.
 fn words_with(alloc: Global, count: u32) -> Result<Result<u32, RecordRefusal>, Fail> {
     let bytes = with_attribute(alloc, count)?;
     let class = read_shape(alloc, &bytes)?;
     Ok(words_of(alloc, &class))
 }
 
-/// As many bytes of an attribute as the longest record has, behind 20 words.
+/// As many bytes of an attribute as the longest record has, after 20 words.
 const MOST: u32 = 8 * (524_288 - 20);
 
 /// Bytes of an attribute, and the words of the record: 20, and one for each eight bytes.

@@ -117,7 +117,7 @@ fn bits_that_look_like_constants_are_none(rt: HostRuntime) -> Result<(), Fail> {
     Ok(())
 }
 
-// Slots 5 to 8 behind those of class A: `m`, `()V`, `Code` and `I`.
+// Slots 5 to 8 after those of class A: `m`, `()V`, `Code` and `I`.
 const MORE_SLOTS: [u8; 21] = [
     1, 0, 1, 0x6d, 1, 0, 3, 0x28, 0x29, 0x56, 1, 0, 4, 0x43, 0x6f, 0x64, 0x65, 1, 0, 1, 0x49,
 ];
@@ -262,7 +262,7 @@ fn is_code(alloc: Global, body: &[u8]) -> Result<bool, Fail> {
     Ok(record.code(&method).is_some())
 }
 
-// Ten bytes are there before the code's end is known, and the handlers begin behind a byte of code
+// Ten bytes are there before the code's end is known, and the handlers begin after a byte of code
 // and their number.
 #[test]
 fn a_code_that_ends_early_is_none(rt: HostRuntime) -> Result<(), Fail> {

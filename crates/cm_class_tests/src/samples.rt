@@ -28,7 +28,7 @@ pub fn with_byte(place: usize, byte: u8) -> [u8; 53] {
     bytes
 }
 
-/// The bytes of these parts, one behind another.
+/// The bytes of these parts, one after another.
 pub fn join_parts(alloc: Global, parts: &[&[u8]]) -> Result<Vec<u8>, AllocError> {
     let mut bytes = Vec::new(alloc);
     for part in parts {
@@ -37,7 +37,7 @@ pub fn join_parts(alloc: Global, parts: &[&[u8]]) -> Result<Vec<u8>, AllocError>
     Ok(bytes)
 }
 
-/// Class A with one attribute of so many bytes 00: a fifth slot `X`, and its name.
+/// Class A with one attribute of this many bytes 00: a fifth slot `X`, and its name.
 pub fn with_attribute(alloc: Global, count: u32) -> Result<Vec<u8>, AllocError> {
     let zeros = Vec::from_elem(alloc, 0u8, count as usize)?;
     let parts: [&[u8]; 8] = [

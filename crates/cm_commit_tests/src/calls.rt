@@ -36,7 +36,7 @@ pub enum Answer {
     Group(u64, usize, u64),
     /// The order of the chunk that the group's last entry names, and how many words it takes.
     Order(u32, u32),
-    /// The chunks from which and to which the group's last entry moves so many records.
+    /// The chunks from which and to which the group's last entry moves this many records.
     Moved(Chunk, Chunk, usize),
     Done,
     Nothing,

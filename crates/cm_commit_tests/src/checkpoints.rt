@@ -1,4 +1,4 @@
-//! Checkpoints: where the half of the journal that counts has no room for a group, the live rows go
+//! Checkpoints: if the half of the journal that counts has no room for a group, the live rows go
 //! to the other half before it.
 
 use crate::committers::{new_file, open_committer};
@@ -102,7 +102,7 @@ fn count_again(alloc: Global, disk: SimDisk) -> Result<(usize, u64), Fail> {
     }
 }
 
-/// What comes of a loader behind so many that stand in a file's half 0, and of one more.
+/// What comes of a loader after this many that stand in a file's half 0, and of one more.
 fn go_on_and_close(
     front: &mut Front,
     committer: Committer<SimDisk>,
@@ -151,7 +151,7 @@ fn remove_first(front: &mut Front, committer: &mut Committer<SimDisk>) -> Option
     commit(front, committer)
 }
 
-/// The first loader goes and comes, so many times: how many device calls that takes.
+/// The first loader goes and comes, this many times: how many device calls that takes.
 fn make_again(front: &mut Front, committer: &mut Committer<SimDisk>, times: usize) -> Option<u64> {
     let mut calls: u64 = 0;
     for _time in 0..times {
@@ -201,7 +201,7 @@ fn a_loader_is_made_again_and_again(rt: HostRuntime) -> Result<(), Fail> {
     Ok(())
 }
 
-/// Groups on the border of a half, behind each of which the file is opened again; and the heads of
+/// Groups on the border of a half, after each of which the file is opened again; and the heads of
 /// both halves in the end.
 const BORDERS: [(&[Run], [Head; 2]); 4] = [
     // 64, 64, 64 and 59 commands take the last slot
@@ -231,7 +231,7 @@ const BORDERS: [(&[Run], [Head; 2]); 4] = [
         ],
         [[OPEN, 0, 5, 696], [OPEN, 64, 4, 508]],
     ),
-    // as many live rows as there may be, and one checkpoint behind another
+    // as many live rows as there may be, and one checkpoint after another
     (
         &[
             (2, (0, 64, 4)),
@@ -291,8 +291,8 @@ fn a_checkpoint_comes_exactly_where_a_group_has_no_room(rt: HostRuntime) -> Resu
     Ok(())
 }
 
-/// Stops of a checkpoint that leave the half that counts before it: behind each call, in each call,
-/// with bytes of 00 and of A5 where a crash may change them, and without a crash.
+/// Stops of a checkpoint that leave the half that counts before it: after each call, in each call,
+/// with bytes of 00 and of A5 if a crash may change them, and without a crash.
 const EARLY: [Stop; 30] = [
     (0, None, Happens::CrashTo(0)),
     (0, None, Happens::CrashTo(0xA5)),
@@ -336,7 +336,7 @@ const LATE: [Stop; 6] = [
     (6, None, Happens::CrashTo(0)),
 ];
 
-/// Groups behind which a half that holds 128 live rows and three slots more, or one less, is full.
+/// Groups after which a half that holds 128 live rows and three slots more, or one less, is full.
 const UP_TO_BORDER: [Run; 2] = [(1, (32, 32, 4)), (1, (29, 29, 4))];
 
 const UP_TO_FIRST_BORDER: [Run; 2] = [(1, (32, 32, 4)), (1, (30, 30, 4))];

@@ -8,7 +8,7 @@ use std::test::Fail;
 pub const CLASS_A: &[u8] = b"cafebabe000000340005070002010001410700040100106a6176612f6c616e672f4f\
     626a6563740021000100030000000000000000";
 
-/// The class of these bytes. It is asked for once more where an allocation failed.
+/// The class of these bytes. It is asked for once more if an allocation failed.
 pub fn class_of(alloc: Global, bytes: &[u8]) -> Result<Prepared, Fail> {
     let class = match prepare(alloc, bytes) {
         Err(Refusal::NoMemory) => prepare(alloc, bytes),
@@ -17,7 +17,7 @@ pub fn class_of(alloc: Global, bytes: &[u8]) -> Result<Prepared, Fail> {
     Ok(class.ok().ok_or("a class")?)
 }
 
-/// The class that a text spells. It is read once more where an allocation failed.
+/// The class that a text spells. It is read once more if an allocation failed.
 pub fn class(alloc: Global, text: &[u8]) -> Result<Prepared, Fail> {
     let bytes = match hex::decode(alloc, text) {
         Ok(bytes) => bytes,
@@ -26,7 +26,7 @@ pub fn class(alloc: Global, text: &[u8]) -> Result<Prepared, Fail> {
     class_of(alloc, &bytes)
 }
 
-/// Appends parts, one behind another.
+/// Appends parts, one after another.
 pub fn push_parts(bytes: &mut Vec<u8>, parts: &[&[u8]]) -> Option<()> {
     for part in parts {
         bytes.extend_from_slice(part).ok()?;
@@ -41,7 +41,7 @@ fn push_zeros(bytes: &mut Vec<u8>, count: usize) -> Option<()> {
     Some(())
 }
 
-// Parts one behind another, and so many bytes of 0 behind them.
+// Parts one after another, and this many bytes of 0 after them.
 fn join(alloc: Global, parts: &[&[u8]], zeros: usize) -> Option<Vec<u8>> {
     let mut bytes = Vec::new(alloc);
     push_parts(&mut bytes, parts)?;
@@ -49,8 +49,8 @@ fn join(alloc: Global, parts: &[&[u8]], zeros: usize) -> Option<Vec<u8>> {
     Some(bytes)
 }
 
-/// The class that has these parts and so many bytes of 0 behind them. It is asked for once more
-/// where an allocation failed.
+/// The class that has these parts and this many bytes of 0 after them. It is asked for once more
+/// if an allocation failed.
 pub fn class_of_parts(alloc: Global, parts: &[&[u8]], zeros: usize) -> Result<Prepared, Fail> {
     let bytes = match join(alloc, parts, zeros) {
         Some(bytes) => bytes,

@@ -10,7 +10,7 @@ use cm_world::{Event, Reply, World};
 use std::alloc::Global;
 use std::test::*;
 
-/// An event: its loader is `a` where none is named, its class `A`, or `B` of 128 words; a crash
+/// An event: its loader is `a` if none is named, its class `A`, or `B` of 128 words; a crash
 /// leaves all bytes that were written.
 #[derive(Clone, Copy)]
 pub enum Happens {
@@ -29,7 +29,7 @@ pub enum Happens {
     Learn,
     Look,
     LookB,
-    /// The next device call fails; a write stores so many bytes.
+    /// The next device call fails; a write stores this many bytes.
     Fault(usize),
     Reopen,
     Crash,
@@ -149,7 +149,7 @@ fn events(alloc: Global, list: &[Exchange]) -> Result<Vec<Event<'static>>, Fail>
 }
 
 // Runs events over a file of two roots of 1,024 words and of 256 slots in each half: the replies,
-// and the disk behind them.
+// and the disk after them.
 fn run(alloc: Global, events: Vec<Event<'static>>) -> Result<(Vec<Reply>, SimDisk), Fail> {
     let geometry = Geometry::new(3, 2, 256).ok_or("within the limits")?;
     let Ok((replies, world)) = World::run(alloc, geometry, events) else {
@@ -180,7 +180,7 @@ pub fn first_other(alloc: Global, list: &[Exchange]) -> Result<Option<usize>, Fa
     Ok(first_wrong(&replies, list))
 }
 
-/// The same, and the bytes of the disk behind the last event.
+/// The same, and the bytes of the disk after the last event.
 pub fn first_other_and_bytes(
     alloc: Global,
     list: &[Exchange],
@@ -213,7 +213,7 @@ const CALLS: &[Exchange] = &[
     (Happens::Advance, Told::Done(2)),
 ];
 
-/// How many of them are made; and the number and the words that are found behind a crash then.
+/// How many of them are made; and the number and the words that are found after a crash then.
 const STOPPED: [(usize, u64, u32); 7] = [
     (0, 1, 0),
     (1, 1, 0),
@@ -224,7 +224,7 @@ const STOPPED: [(usize, u64, u32); 7] = [
     (6, 2, 16),
 ];
 
-/// Appends parts, one behind another.
+/// Appends parts, one after another.
 pub fn push_parts(list: &mut Vec<Exchange>, parts: &[&[Exchange]]) -> Option<()> {
     for part in parts {
         list.extend_from_slice(part).ok()?;
@@ -232,7 +232,7 @@ pub fn push_parts(list: &mut Vec<Exchange>, parts: &[&[Exchange]]) -> Option<()>
     Some(())
 }
 
-// Which event is the first that gets another reply where a crash comes behind these calls of the
+// Which event is the first that gets another reply if a crash comes after these calls of the
 // class's group, and it is looked up then.
 fn first_other_of_crash(
     alloc: Global,

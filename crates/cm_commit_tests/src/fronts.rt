@@ -1,5 +1,5 @@
 //! Accepted caches to look at. What a test does with one stands in a function that borrows it.
-//! Where an allocation failed a call is made once more: the cache is as it was, so the answer is
+//! If an allocation failed a call is made once more: the cache is as it was, so the answer is
 //! the one that was due.
 
 use crate::classes::class_of_parts;
@@ -24,14 +24,14 @@ pub fn empty_of(alloc: Global, geometry: Geometry) -> Result<Front, Fail> {
     }
 }
 
-/// One with so many roots of this order.
+/// One with this many roots of this order.
 pub fn empty(alloc: Global, top: u32, roots: u32) -> Result<Front, Fail> {
     let geometry = Geometry::new(top, roots, 65_536).ok_or("sizes")?;
     empty_of(alloc, geometry)
 }
 
-/// The class of this name with so many bytes in its attribute: its record has 20 words and one for
-/// each eight bytes.
+/// The class of this name with this many bytes in its attribute: its record has 20 words and one
+/// for each eight bytes.
 pub fn class(alloc: Global, name: u8, count: u32) -> Result<Prepared, Fail> {
     let long = count.to_be_bytes();
     let parts: [&[u8]; 4] = [BEFORE_NAME, &[name], BEHIND_NAME, &long];
@@ -80,7 +80,7 @@ pub fn define(front: &mut Front, name: &[u8], class: &Prepared) -> Result<u64, R
     }
 }
 
-/// How many words the record of a class has, where it is found.
+/// How many words the record of a class has, if it is found.
 pub fn words(front: &Front, loader: &[u8], class: &[u8]) -> Option<u32> {
     let found = front.find(loader, class)?;
     Some(found.words())

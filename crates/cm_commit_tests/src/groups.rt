@@ -17,7 +17,7 @@ pub enum Sample {
     /// The same with its chunk at the front of the second root.
     Far(u64, u8),
     Unload(u64),
-    /// A loader's chunk, by its first word, moves behind it.
+    /// A loader's chunk, by its first word, moves after it.
     Move(u64, u32),
 }
 

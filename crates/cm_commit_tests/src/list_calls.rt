@@ -19,7 +19,7 @@ pub enum Call {
 }
 
 /// A class whose record has 16 words where its name has up to eight bytes: what stands before the
-/// name's length, and behind the name.
+/// name's length, and after the name.
 const BEFORE_NAME: &[u8] = b"\xca\xfe\xba\xbe\0\0\0\x34\0\x05\x07\0\x02\x01";
 
 const BEHIND_NAME: &[u8] = b"\x07\0\x04\x01\0\x10java/lang/Object\

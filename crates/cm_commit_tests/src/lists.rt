@@ -8,7 +8,7 @@ use cm_maintenance::{ListedClass, ListedLoader, list_accepted};
 use std::alloc::Global;
 use std::test::*;
 
-/// Commands, and what is listed then, as text: each loader's name in a line, and behind it each
+/// Commands, and what is listed then, as text: each loader's name in a line, and after it each
 /// class with how many words its record has, its root, its chunk's first word there, and its
 /// offset.
 const CASES: [(&[Call], &[u8]); 9] = [
@@ -62,7 +62,7 @@ const CASES: [(&[Call], &[u8]); 9] = [
         b"a\n Z 16 0 0 32\n a 16 0 0 80\n b 16 0 0 16\n b$C 16 0 0 48\n b/C 16 0 0 0\n\
           \x20\xC3\xA9 16 0 0 64\n",
     ),
-    // a loader that is gone, and one that comes behind it and has its name; what it left isn't free
+    // a loader that is gone, and one that comes after it and has its name; what it left isn't free
     // before its unloading is known to be stored
     (
         &[

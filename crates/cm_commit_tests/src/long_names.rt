@@ -18,7 +18,7 @@ const OPEN: u16 = 0xA5;
 
 const LONG: &[u8] = &[b'm'; 49];
 
-/// A command that is handed out and stored alone, by so many device calls; its number.
+/// A command that is handed out and stored alone, by this many device calls; its number.
 fn push_stored(
     list: &mut Vec<Exchange>,
     number: u64,
@@ -52,7 +52,7 @@ fn stands_in(bytes: &[u8], slot: usize, expected: &[u8]) -> bool {
     }
 }
 
-/// The first name goes on in the slot behind its own.
+/// The first name continues in the slot after its own.
 const FIRST_NAME: [Exchange; 15] = [
     (Happens::Comes(LONG), Told::Number(1)),
     (Happens::Seal, Told::Group(1, 1)),
@@ -106,7 +106,7 @@ fn push_long_names(list: &mut Vec<Exchange>, count: usize) -> Option<()> {
     Some(())
 }
 
-/// What comes of names behind 64 long ones, which take all slots that may live.
+/// What comes of names after 64 long ones, which take all slots that may live.
 const BEHIND_64: [Exchange; 11] = [
     (Happens::Comes(b"a"), Told::Refused(Refusal::JournalFull)),
     (Happens::Comes(LONG), Told::Refused(Refusal::JournalFull)),
@@ -166,7 +166,7 @@ fn long_names_are_in_groups_of_32(rt: HostRuntime) -> Result<(), Fail> {
     list.extend_from_slice(&HANDED_OUT)?;
     let (other, bytes) = first_other_and_bytes(rt.alloc(), &list)?;
     assert_eq!(rt; other, None);
-    // 64 slots behind the first head, and 16 behind the second
+    // 64 slots after the first head, and 16 after the second
     assert!(rt; stands_in(&bytes, 1, &[0xA5, 2, 64, 0, 0, 0, 0, 0, 1, 0]));
     assert!(rt; stands_in(&bytes, 66, &[0xA5, 2, 16, 0, 0, 0, 0, 0, 33, 0]));
     assert!(rt; stands_in(&bytes, 83, &[0; 64]));
@@ -185,7 +185,7 @@ fn push_made_again(list: &mut Vec<Exchange>, number: u64, times: usize) -> Optio
     Some(number)
 }
 
-/// How many long names come, how many of them are made again, commands behind that with how many
+/// How many long names come, how many of them are made again, commands after that with how many
 /// device calls each takes, and the head of half 1 then.
 type Border = (usize, usize, &'static [(Happens, usize)], Head);
 

@@ -1,4 +1,4 @@
-//! A file that is made and opened where an allocation may fail.
+//! A file that is made and opened if an allocation may fail.
 
 use crate::fronts::add_loader;
 use cm_commit::Committer;
@@ -9,7 +9,7 @@ use cm_recover::{FormatFault, NotOpened, OpenFault, format, open};
 use std::alloc::Global;
 use std::test::Fail;
 
-/// Whether this is why no file was made, where an allocation failed: that of the disk is a failure
+/// Whether this is why no file was made, if an allocation failed: that of the disk is a failure
 /// of the device, and any other leaves the disk empty.
 fn is_cause(fault: FormatFault, disk: &mut SimDisk) -> bool {
     match fault {
@@ -19,7 +19,7 @@ fn is_cause(fault: FormatFault, disk: &mut SimDisk) -> bool {
     }
 }
 
-/// Makes a file, and once more on another disk where an allocation failed.
+/// Makes a file, and once more on another disk if an allocation failed.
 fn make(alloc: Global, geometry: Geometry) -> Result<SimDisk, Fail> {
     let mut disk = SimDisk::new(alloc);
     match format(alloc, &mut disk, geometry) {
@@ -36,7 +36,7 @@ fn make(alloc: Global, geometry: Geometry) -> Result<SimDisk, Fail> {
 
 type Opened = (Front, Committer<SimDisk>);
 
-/// Opens a file, and once more where an allocation failed.
+/// Opens a file, and once more if an allocation failed.
 fn open_again(alloc: Global, disk: SimDisk) -> Result<Opened, NotOpened<SimDisk>> {
     match open(alloc, disk) {
         Err(

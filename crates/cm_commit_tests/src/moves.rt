@@ -49,7 +49,7 @@ const OPENINGS: [(Happens, bool); 4] = [
 /// The gate is written by the fourth call, and stored by the fifth.
 const GATE: usize = 4;
 
-/// Both classes are found as ever; and where the move isn't there, it can be made again.
+/// Both classes are found as ever; and if the move isn't there, it can be made again.
 const MOVED: &[Exchange] = &[
     (Happens::Look, Told::Words(16)),
     (Happens::LookB, Told::Words(128)),
@@ -68,7 +68,7 @@ fn append(list: &mut Vec<Exchange>, part: &[Exchange]) -> Result<(), Fail> {
     Ok(())
 }
 
-// Which event is the first that gets another reply where the file is opened so after these events,
+// Which event is the first that gets another reply if the file is opened so after these events,
 // and the move is there or not.
 fn first_other_of_stop(
     alloc: Global,
@@ -85,7 +85,7 @@ fn first_other_of_stop(
     first_other(alloc, &list)
 }
 
-// Of a stop after so many calls, the first way of opening that goes otherwise.
+// Of a stop after this many calls, the first way of opening that goes otherwise.
 fn other_opening(alloc: Global, calls: usize) -> Result<Option<usize>, Fail> {
     let made = CALLS.get(..calls).ok_or("five calls")?;
     for (at, (opened, with_gate)) in OPENINGS.iter().enumerate() {

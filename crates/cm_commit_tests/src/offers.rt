@@ -14,12 +14,12 @@ const FIRST: [Sample; 2] = [Loader(1, b'a'), Class(1, b'A', 0, 0, WORDS)];
 /// Its next class.
 const NEXT: [Sample; 1] = [Class(1, b'B', 0, WORDS, WORDS)];
 
-/// How many calls a group takes, or, where it is refused, whether it came back.
+/// How many calls a group takes, or, if it is refused, whether it came back.
 type Answer = Result<u64, bool>;
 
 const REFUSED: Answer = Err(true);
 
-/// What comes of a group behind the first one, what of the next class then, and the number that is
+/// What comes of a group after the first one, what of the next class then, and the number that is
 /// stored in the end.
 type Answers = (Answer, Answer, Option<u64>);
 
@@ -46,7 +46,7 @@ fn answers(alloc: Global, first: u64, samples: &[Sample]) -> Result<Answers, Fai
 /// Groups that may come next, how many device calls each takes, and the number of its last entry.
 const TAKEN: [(&[Sample], u64, u64); 7] = [
     (&NEXT, 5, 3),
-    // behind one another
+    // after one another
     (
         &[
             Class(1, b'B', 0, WORDS, WORDS),
@@ -71,7 +71,7 @@ const TAKEN: [(&[Sample], u64, u64); 7] = [
 #[test]
 fn a_group_that_may_come_next_is_taken(rt: HostRuntime) -> Result<(), Fail> {
     for (samples, steps, number) in &TAKEN {
-        // the class behind it is refused while it is under way
+        // the class after it is refused while it is under way
         let answers = answers(rt.alloc(), 3, samples)?;
         assert!(rt; answers == (Ok(*steps), REFUSED, Some(*number)));
     }
@@ -127,7 +127,7 @@ fn another_group_comes_back_and_nothing_is_changed(rt: HostRuntime) -> Result<()
     Ok(())
 }
 
-/// Lets the device fail behind so many calls of the first group: whether that is told, what comes
+/// Lets the device fail after this many calls of the first group: whether that is told, what comes
 /// of the group then, and how many calls are left.
 fn fail_behind(
     alloc: Global,

@@ -173,7 +173,7 @@ fn lie_there(group: &Group, model: &mut Model) -> bool {
     true
 }
 
-// Whether a group begins behind the last one, and writes what the model has.
+// Whether a group begins after the last one, and writes what the model has.
 fn is_next(group: &Group, model: &mut Model) -> bool {
     let is_behind = group.first() == model.sealed.wrapping_add(1);
     model.sealed = model.sealed.wrapping_add(group.count() as u64);

@@ -1,4 +1,4 @@
-//! Commands one after another where an allocation may fail: what is refused for want of memory
+//! Commands one after another if an allocation may fail: what is refused for want of memory
 //! changes nothing that is found, and asked for again it takes the number that was due.
 
 use crate::classes::{CLASS_A, class};
@@ -18,7 +18,7 @@ enum Asked {
     Tighten,
 }
 
-/// How many words the classes `A` and `B` have, where they are found.
+/// How many words the classes `A` and `B` have, if they are found.
 type Found = [Option<u32>; 2];
 
 /// A command, what is answered, and what is found then.
@@ -54,7 +54,7 @@ fn accept(
     }
 }
 
-// What is answered; where memory is refused and nothing has changed, what is answered then.
+// What is answered; if memory is refused and nothing has changed, what is answered then.
 fn accept_again(
     front: &mut Front,
     loader: &[u8],

@@ -18,7 +18,7 @@ fn define_both(front: &mut Front, class: Prepared) -> Result<[u64; 4], Refusal> 
     ])
 }
 
-/// How many words the class has in both loaders, where they are the same words.
+/// How many words the class has in both loaders, if they are the same words.
 fn same_words(front: &Front) -> Option<u32> {
     let one = front.find(b"a", b"A")?;
     let other = front.find(b"b", b"A")?;

@@ -75,7 +75,7 @@ fn push_half(bytes: &mut Vec<u8>, loaders: usize) -> Result<(), Fail> {
     Ok(())
 }
 
-/// The bytes of a file in whose half 0 so many loaders stand, each in a group of its own. Half 1
+/// The bytes of a file in whose half 0 this many loaders stand, each in a group of its own. Half 1
 /// was never used.
 pub fn file_of_loaders(alloc: Global, loaders: usize) -> Result<Vec<u8>, Fail> {
     let geometry = Geometry::new(3, 2, 256).ok_or("within the limits")?;

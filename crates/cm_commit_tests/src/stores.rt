@@ -113,7 +113,7 @@ fn store_and_close(
     (other, committer.into_disk())
 }
 
-/// Which group goes another way on a new file, and the disk behind them.
+/// Which group goes another way on a new file, and the disk after them.
 fn store_groups(alloc: Global, classes: &[Prepared]) -> Result<(Option<usize>, SimDisk), Fail> {
     match open_committer(alloc, new_file(alloc)?) {
         Ok((mut front, committer)) => Ok(store_and_close(&mut front, committer, classes)),
@@ -135,7 +135,7 @@ fn what_is_stored_is_found_when_the_file_is_opened(rt: HostRuntime) -> Result<()
     Ok(())
 }
 
-/// Makes so many device calls of a group of two commands.
+/// Makes this many device calls of a group of two commands.
 fn begin(alloc: Global, committer: &mut Committer<SimDisk>, calls: u64) -> Result<(), Fail> {
     let group = [Sample::Loader(1, b'a'), Sample::Class(1, b'A', 0, 0, WORDS)];
     if offer(alloc, committer, 1, &group)?.is_err() {
@@ -147,7 +147,7 @@ fn begin(alloc: Global, committer: &mut Committer<SimDisk>, calls: u64) -> Resul
     Ok(())
 }
 
-/// The disk behind them.
+/// The disk after them.
 fn begin_store(alloc: Global, calls: u64) -> Result<SimDisk, Fail> {
     let mut committer = new_committer(alloc)?;
     let begun = begin(alloc, &mut committer, calls);
@@ -162,8 +162,8 @@ fn find_after_crash(alloc: Global, calls: u64, choice: &Choice) -> Result<u64, F
     Ok(number)
 }
 
-/// The number that is found after a crash behind so many device calls of a group, where bytes that
-/// may have stayed behind are these.
+/// The number that is found after a crash after this many device calls of a group, where bytes that
+/// may have stayed are these.
 fn find_after(alloc: Global, calls: u64, fill: &[u8]) -> Result<u64, Fail> {
     let choice = Choice {
         len: 1 << 20,
@@ -172,7 +172,7 @@ fn find_after(alloc: Global, calls: u64, fill: &[u8]) -> Result<u64, Fail> {
     find_after_crash(alloc, calls, &choice)
 }
 
-/// The number that is found where what isn't synced is left as 0, and where it is left as written.
+/// The number that is found where what isn't synced is left as 0, and if it is left as written.
 fn find_late_and_soon(alloc: Global, calls: u64) -> Result<[u64; 2], Fail> {
     let late = find_after(alloc, calls, b"\0")?;
     let soon = find_after(alloc, calls, b"")?;

@@ -1,4 +1,4 @@
-//! Trims: a file is cut behind the last root that committed rows use.
+//! Trims: a file is cut after the last root that committed rows use.
 
 use crate::committers::{new_committer, offer, store};
 use crate::events::{Exchange, Happens, Told, first_other, first_other_and_bytes, push_parts};
@@ -83,7 +83,7 @@ fn a_trim_gives_roots_back(rt: HostRuntime) -> Result<(), Fail> {
     Ok(())
 }
 
-/// The trim's first events, a fault among them where the call behind it fails; how the file is
+/// The trim's first events, a fault among them if the call after it fails; how the file is
 /// opened then; and whether the root is still there.
 const STOPS: [(&[Exchange], Happens, bool); 12] = [
     (&[], Happens::Crash, true),
@@ -122,7 +122,7 @@ const FAILED_SYNC: [Exchange; 5] = [
     (Happens::Trim, Told::NotIdle),
 ];
 
-/// A trim where the root is still there, and one where it isn't.
+/// A trim if the root is still there, and one if it isn't.
 const WITH_ROOT: &[Exchange] = &[
     (Happens::Trim, Told::TrimDue),
     (Happens::Advance, Told::Working),
@@ -171,7 +171,7 @@ fn trim(committer: &mut Committer<SimDisk>) -> Trim {
     (committer.roots(), due, committer.steps_left())
 }
 
-/// Stores a group, and begins a trim: one while the group is under way, and one behind it.
+/// Stores a group, and begins a trim: one while the group is under way, and one after it.
 fn trims(
     alloc: Global,
     committer: &mut Committer<SimDisk>,
@@ -198,7 +198,7 @@ fn first_other_trim(
     Ok(None)
 }
 
-/// Makes the calls of a trim that is due: whether it takes two, and tells so many roots.
+/// Makes the calls of a trim that is due: whether it takes two, and says this many roots.
 fn finish(committer: &mut Committer<SimDisk>, roots: u32, due: bool) -> bool {
     if !due {
         return true;

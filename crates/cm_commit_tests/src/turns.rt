@@ -34,7 +34,7 @@ pub type Turn = (usize, usize, usize);
 /// How many times a group comes.
 pub type Run = (usize, Turn);
 
-/// How a group is stopped: behind so many device calls; in the next, where it is told how many
+/// How a group is stopped: after this many device calls; in the next, if it is told how many
 /// bytes that stores; and then.
 pub type Stop = (usize, Option<usize>, Happens);
 
@@ -136,7 +136,7 @@ pub fn push_opening(list: &mut Vec<Exchange>, course: &Course) -> Option<()> {
     Some(())
 }
 
-// A group so many times; behind each the file is opened again where that is asked for.
+// A group this many times; after each the file is opened again where that is asked for.
 fn push_run(list: &mut Vec<Exchange>, course: &mut Course, run: Run, opens: bool) -> Option<()> {
     let (times, turn) = run;
     for _time in 0..times {
@@ -148,7 +148,7 @@ fn push_run(list: &mut Vec<Exchange>, course: &mut Course, run: Run, opens: bool
     Some(())
 }
 
-/// Groups one after another; behind each the file is opened again where that is asked for.
+/// Groups one after another; after each the file is opened again where that is asked for.
 pub fn push_runs(
     list: &mut Vec<Exchange>,
     course: &mut Course,
@@ -161,7 +161,7 @@ pub fn push_runs(
     Some(())
 }
 
-// Where a call fails that stores so many bytes.
+// If a call fails that stores this many bytes.
 fn push_fault(list: &mut Vec<Exchange>, stores: Option<usize>) -> Option<()> {
     if let Some(stores) = stores {
         list.push((Happens::Fault(stores), Told::Armed)).ok()?;
@@ -170,7 +170,7 @@ fn push_fault(list: &mut Vec<Exchange>, stores: Option<usize>) -> Option<()> {
     Some(())
 }
 
-/// A group is handed out, behind which there is no room for one loader more, and stopped: the file
+/// A group is handed out, after which there is no room for one loader more, and stopped: the file
 /// is as if it had never come.
 pub fn push_stop(
     list: &mut Vec<Exchange>,

@@ -35,7 +35,7 @@ pub struct Chain {
     records: usize,
 }
 
-/// What a command writes: no record, a class's, or so many that move from the first chunk to the
+/// What a command writes: no record, a class's, or this many that move from the first chunk to the
 /// second.
 #[derive(Clone, Copy, PartialEq, Eq)]
 pub enum Written {
@@ -84,7 +84,7 @@ pub struct Region {
     pub moved: u32,
 }
 
-// The least order whose chunks hold so many words.
+// The least order whose chunks hold this many words.
 fn order_for(words: u32) -> u32 {
     let mut order = 0;
     for smaller in 0..TOP {

@@ -32,7 +32,7 @@ fn writes_over_and_past_the_end(rt: HostRuntime) -> Result<(), Fail> {
     Ok(())
 }
 
-/// How many syncs there were behind each sync, and the length behind a cut and behind a write of
+/// How many syncs there were after each sync, and the length after a cut and after a write of
 /// no bytes.
 fn cut_and_count(disk: &mut SimDisk) -> Result<([u64; 3], [u64; 2]), DeviceFault> {
     fill(disk)?;

@@ -27,7 +27,7 @@ fn an_armed_call_fails_and_the_next_does_not(rt: HostRuntime) -> Result<(), Fail
     Ok(())
 }
 
-/// Whether a write, a sync and a look at the length go through, and nothing behind them.
+/// Whether a write, a sync and a look at the length go through, and nothing after them.
 fn lets_three_through(disk: &mut FuseDisk) -> bool {
     let are_through = fill(disk).is_ok() && disk.sync().is_ok() && disk.len() == Ok(6);
     are_through && fill(disk).is_err() && disk.sync().is_err()

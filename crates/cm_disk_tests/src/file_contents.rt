@@ -6,7 +6,7 @@ use cm_file_disk::{FileDisk, OpenError, OpenedFile};
 use std::fs;
 use std::test::*;
 
-/// The disk of a file with its first bytes, up to so many.
+/// The disk of a file with its first bytes, up to this many.
 fn open_up_to(rt: &HostRuntime, path: &str, reach: u64) -> Result<FileDisk, OpenError> {
     let opened = OpenedFile::open(rt, rt.alloc(), path)?;
     FileDisk::of_file(opened, reach)
@@ -24,7 +24,7 @@ fn store_seven(disk: &mut FileDisk) -> Result<(), DeviceFault> {
     disk.sync()
 }
 
-/// The four bytes in the middle and the last one, which is read behind a sync.
+/// The four bytes in the middle and the last one, which is read after a sync.
 fn middle_and_end(disk: &mut FileDisk) -> Result<([u8; 4], [u8; 1]), DeviceFault> {
     if disk.len()? != 7 {
         return Err(DeviceFault);
@@ -121,7 +121,7 @@ fn a_write_gives_the_bytes_up_and_leaves_the_length(rt: HostRuntime) -> Result<(
     Ok(())
 }
 
-/// Whether the last of so many bytes is read, and none behind them.
+/// Whether the last of this many bytes is read, and none after them.
 fn is_read_up_to(disk: &mut FileDisk, bytes: &[u8], held: u64) -> Result<bool, DeviceFault>
     requires within { length bytes.now < 2 ^ 40 }
 {
@@ -134,7 +134,7 @@ fn is_read_up_to(disk: &mut FileDisk, bytes: &[u8], held: u64) -> Result<bool, D
     Ok(is_held && disk.read(held, &mut byte).is_err())
 }
 
-/// Whether the length is known, and one byte more is written behind it; then it is cut off again.
+/// Whether the length is known, and one byte more is written after it; then it is cut off again.
 /// What isn't read is no failure of the file.
 fn grows_by_one(disk: &mut FileDisk) -> Result<bool, DeviceFault> {
     let len = disk.len()?;

@@ -39,7 +39,7 @@ fn is_read_back(alloc: Global, bytes: &[u8]) -> Result<bool, Fail> {
     Ok(written.as_slice() == bytes && stored.as_slice() == bytes)
 }
 
-/// Whether a write that is to fail stores so many of its bytes, and no more.
+/// Whether a write that is to fail stores this many of its bytes, and no more.
 fn is_torn(alloc: Global, bytes: &[u8], stores: usize) -> Result<bool, Fail> {
     let mut disk = SimDisk::new(alloc);
     disk.arm(stores);

@@ -42,7 +42,7 @@ fn zeros(alloc: Global) -> Result<SimDisk, Fail>
     Ok(disk)
 }
 
-/// Lets so many calls through, and tells whether the gate was opened, with the disk.
+/// Lets this many calls through, and says whether the gate was opened, with the disk.
 fn stop_after(alloc: Global, pass: u64) -> Result<(bool, SimDisk), Fail> {
     let mut fuse = FuseDisk::new(zeros(alloc)?, pass, 2);
     let done = turn::<FuseDisk, Anything, Anything>(&mut fuse, 1, b"xyz", 0).is_ok();
@@ -63,7 +63,7 @@ fn read_left(alloc: Global, disk: SimDisk, fill: &[u8]) -> Result<[u8; 4], Fail>
     Ok(bytes)
 }
 
-/// What a crash leaves where so many calls were let through, and the fill is as it is.
+/// What a crash leaves where this many calls were let through, and the fill is as it is.
 const LEFT: [(u64, &[u8], &[u8; 4]); 8] = [
     (0, b"", b"\0xy\0"),
     (0, b"123", b"\x00123"),

@@ -1,4 +1,4 @@
-//! What lies behind a claim is cut off. Of the disk only the trait is known.
+//! What lies after a claim is cut off. Of the disk only the trait is known.
 ghost use Rattle.std.specs.Prelude.{◌≡◌, ◌≤◌, OnOk, length, take};
 ghost use Rattle.cm_disk.specs.Calls.{HasCause};
 ghost use Rattle.cm_guards.specs.Guards.{Guards};

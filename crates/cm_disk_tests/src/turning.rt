@@ -18,7 +18,7 @@ pub trait Guarded: Claim {
     ghost guard: { Guard };
 }
 
-/// Writes bytes where nothing is guarded.
+/// Writes bytes if nothing is guarded.
 #[tactic(auto, using(cm_guards::proofs::writing))]
 pub fn write_apart<D: Disk, P: Guarded>(
     disk: &mut D,
@@ -63,7 +63,7 @@ pub fn store_apart<D: Disk, P: Guarded>(
     disk.sync()
 }
 
-/// Writes the gate's byte where all is stored.
+/// Writes the gate's byte if all is stored.
 #[tactic(auto, using(cm_guards::proofs::gating))]
 pub fn write_gate<D: Disk, P: Claim, Q: Claim>(disk: &mut D, gate: u64) -> Result<(), DeviceFault>
     requires within_limit { gate + 1 ≤ 2 ^ 40 }

@@ -74,7 +74,7 @@ pub record IsOpened (file : OpenedFile) (reach : ℕ) (disk : FileDisk) : Type 0
   pub failures : file_failures disk ≡ 0
   pub moment : file_moment disk ≡ 0
 
--- A call that asks something: it fails exactly where this isn't known any more, and changes
+-- A call that asks something: it fails exactly if this isn't known any more, and changes
 -- nothing.
 pub record OnlyAsks (is_known : Bool) (old new : FileDisk) (ok : Bool) : Type 0 where
   pub exactly : ok ≡ is_known

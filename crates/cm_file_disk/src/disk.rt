@@ -58,11 +58,11 @@ impl FileDisk {
     ghost use Rattle.cm_file_disk.specs.File.{file_contents, is_lost, file_cause, holds};
     ghost use Rattle.cm_file_disk.specs.File.{IsOpened, IsNew};
 
-    /// The disk of a file that was opened, with its first `reach` bytes, or all where it has fewer.
+    /// The disk of a file that was opened, with its first `reach` bytes, or all if it has fewer.
     /// None of its bytes is known to be stored before the first sync.
     ///
     /// # Errors
-    /// [`OpenError::NoMemory`] where the bytes find no room, [`OpenError::Device`] where the system
+    /// [`OpenError::NoMemory`] if the bytes find no room, [`OpenError::Device`] if the system
     /// doesn't read them. The file stays as it was.
     #[tactic(auto, using(crate::proofs::Followed::begun))]
     pub fn of_file(opened: OpenedFile, reach: u64) -> Result<FileDisk, OpenError>
@@ -78,7 +78,7 @@ impl FileDisk {
         })
     }
 
-    /// Creates a file of no bytes where nothing has that name. It and its name in the folder are
+    /// Creates a file of no bytes if nothing has that name. It and its name in the folder are
     /// stored for good. Where that fails, what was created is removed, if the system lets it.
     ///
     /// # Errors

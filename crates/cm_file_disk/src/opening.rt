@@ -29,20 +29,20 @@ const BEGINNING: u64 = 4096;
 pub struct OpenedFile {
     pub(crate) file: File,
     len: u64,
-    /// The first 4,096 bytes, or all where it has fewer; [`OpenedFile::read_on`] makes them more.
+    /// The first 4,096 bytes, or all if it has fewer; [`OpenedFile::read_on`] makes them more.
     pub(crate) beginning: Vec<u8>,
     ghost is_within_limit: { len ≤ 2 ^ 40 },
     ghost is_beginning: { length beginning.items ≤ len },
 }
 
 impl OpenedFile {
-    /// Opens a regular file that exists, and reads the first 4,096 bytes of it, or all where it has
+    /// Opens a regular file that exists, and reads the first 4,096 bytes of it, or all if it has
     /// fewer. What is no regular file isn't opened, since to open a pipe may take forever.
     ///
     /// # Errors
     /// What is no regular file isn't opened: [`OpenError::NotRegular`]. [`OpenError::TooLong`]
-    /// where it has more bytes than a disk may have, [`OpenError::NoMemory`] where an allocation
-    /// failed, and [`OpenError::Device`] where the system doesn't find, open or read it. The file
+    /// if it has more bytes than a disk may have, [`OpenError::NoMemory`] if an allocation
+    /// failed, and [`OpenError::Device`] if the system doesn't find, open or read it. The file
     /// stays as it was.
     pub fn open(
         rt: &impl Files<File = File>,
@@ -80,7 +80,7 @@ impl OpenedFile {
         &self.beginning
     }
 
-    /// Reads on, up to so many bytes or the file's end.
+    /// Reads on, up to this many bytes or the file's end.
     pub(crate) fn read_on(self, reach: u64) -> Result<OpenedFile, OpenError>
         ensures len { IfOk result (λ f. f.len ≡ self.len) }
         ensures begins { IfOk result (λ f.
@@ -150,7 +150,7 @@ fn open_file(
     })
 }
 
-/// Creates a file where nothing has that name, and stores it and its name for good.
+/// Creates a file if nothing has that name, and stores it and its name for good.
 pub(crate) fn create_file(rt: &impl Files<File = File>, path: &str) -> Result<File, CreateError> {
     let file = File::create_new(rt, path).map_err(why_not_created)?;
     match store_new(rt, file, path) {

@@ -32,7 +32,7 @@ const SLOT: usize = 64;
 const CHANGES: [(usize, u8, Found<Summary>); 28] = [
     // nothing changed
     (ZERO, 0xA5, Sound(WHOLE)),
-    // the superblock: its magic, its gate, its version, a size, a byte behind them
+    // the superblock: its magic, its gate, its version, a size, a byte after them
     (0, 0, NotACache),
     (4_095, 0xA4, NotACache),
     (8, 2, Damaged(Damage::Superblock, 0)),
@@ -78,7 +78,7 @@ fn find_damage(alloc: Global, front: &[u8], at: usize, byte: u8) -> Result<Told,
     find_half(alloc, &bytes)
 }
 
-// Which change is the first behind which something else is found.
+// Which change is the first after which something else is found.
 fn first_other_change(alloc: Global, front: &[u8]) -> Result<Option<(usize, u8)>, Fail> {
     for (at, byte, found) in &CHANGES {
         if find_damage(alloc, front, *at, *byte)? != found.in_bytes() {

@@ -74,8 +74,8 @@ fn push_group(bytes: &mut Vec<u8>, first: u64, entry: &[u8]) -> Result<(), Fail>
     Ok(())
 }
 
-/// Halves of 256 slots: loader `a` and two classes, whose records have so many words, in slots 1 to
-/// 6 of half 0.
+/// Halves of 256 slots: loader `a` and two classes, whose records have this many words, in slots 1
+/// to 6 of half 0.
 pub fn push_halves(bytes: &mut Vec<u8>, first: u32, second: u32) -> Result<(), Fail> {
     let head = HalfHead {
         version: ENTRY_VERSION,

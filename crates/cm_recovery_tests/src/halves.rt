@@ -49,7 +49,7 @@ fn walk_half(
     }
 }
 
-// The halves of a front, which have so many bytes each.
+// The halves of a front, which have this many bytes each.
 fn both_halves(front: &[u8], size: usize) -> Option<(&[u8], &[u8])>
     ensures zero { IfSome result (λ halves. length halves.0.now ≡ size) }
     ensures one { IfSome result (λ halves. length halves.1.now ≡ size) }

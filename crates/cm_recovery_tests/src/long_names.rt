@@ -99,7 +99,7 @@ const LATER: HalfHead = HalfHead {
     base: 3,
 };
 
-/// Which change is the first behind which something else is found.
+/// Which change is the first after which something else is found.
 fn first_other(
     alloc: Global,
     sample: &Sample<'_>,
@@ -142,7 +142,7 @@ const CHANGED_GROUPS: [(usize, u8, Found<Summary>); 34] = [
     (ZERO + 12 * SLOT + 63, b'!', Sound(FIVE)),
     // the version before has no name of 49 bytes
     (ZERO + 2, 1, Damaged(Damage::Slot, 2)),
-    // no rest behind the loader: another slot, a gate that is open
+    // no rest after the loader: another slot, a gate that is open
     (ZERO + 3 * SLOT + 1, 0x00, Damaged(Damage::Slot, 2)),
     (ZERO + 3 * SLOT + 1, 0x11, Damaged(Damage::Slot, 2)),
     (ZERO + 3 * SLOT + 1, 0x17, Damaged(Damage::Slot, 2)),
@@ -177,7 +177,7 @@ const CHANGED_GROUPS: [(usize, u8, Found<Summary>); 34] = [
     // a group that ends between the two slots
     (ZERO + SLOT + 2, 1, Damaged(Damage::Slot, 2)),
     (ZERO + 9 * SLOT + 2, 2, Damaged(Damage::Slot, 11)),
-    // a rest first in its group, and one behind a short name
+    // a rest first in its group, and one after a short name
     (ZERO + 8 * SLOT + 1, 0x16, Damaged(Damage::Slot, 8)),
     (ZERO + 11 * SLOT + 1, 0x16, Damaged(Damage::Slot, 11)),
     // a group that counts the rest before it, and one whose gate isn't open
@@ -219,9 +219,9 @@ const RESTS: [(usize, Found<Summary>); 6] = [
     // first in a group, of one slot and of more
     (8, Damaged(Damage::Slot, 8)),
     (10, Damaged(Damage::Slot, 10)),
-    // behind a short name
+    // after a short name
     (11, Damaged(Damage::Slot, 11)),
-    // behind a name of 96 bytes, 47 of which are 0 then: it is spelled, but no loader may have it
+    // after a name of 96 bytes, 47 of which are 0 then: it is spelled, but no loader may have it
     (12, Damaged(Damage::Rows, 11)),
 ];
 
@@ -296,7 +296,7 @@ const CHANGED_ROWS: [(usize, u8, Found<Summary>); 14] = [
     (ZERO + 2 * SLOT + 1, 0x11, Damaged(Damage::Slot, 1)),
     (ZERO + 2 * SLOT + 16, 0x20, Damaged(Damage::Rows, 1)),
     (ZERO + 2 * SLOT + 17, 0x61, Damaged(Damage::Slot, 1)),
-    // a rest behind a short name, behind another rest, and first of all
+    // a rest after a short name, after another rest, and first of all
     (ZERO + SLOT + 2, 48, Damaged(Damage::Slot, 2)),
     (ZERO + 3 * SLOT + 1, 0x16, Damaged(Damage::Slot, 3)),
     (ZERO + SLOT + 1, 0x16, Damaged(Damage::Slot, 1)),
@@ -312,7 +312,7 @@ fn live_rows_have_rests_too(rt: HostRuntime) -> Result<(), Fail> {
     Ok(())
 }
 
-/// A version, a base, a group behind it, and what is found then. A rest takes no number.
+/// A version, a base, a group after it, and what is found then. A rest takes no number.
 const NUMBERS: [(u16, u64, Group<'_>, Found<Summary>); 7] = [
     (
         ENTRY_VERSION,
@@ -382,7 +382,7 @@ fn a_rest_takes_no_number(rt: HostRuntime) -> Result<(), Fail> {
     Ok(())
 }
 
-/// Of so many long names one after another: each ends with two digits of its own.
+/// Of this many long names one after another: each ends with two digits of its own.
 fn long_name(at: usize) -> [u8; 96] {
     let mut name = [b'l'; 96];
     name[94] = b'0' + (at / 10 % 10) as u8;

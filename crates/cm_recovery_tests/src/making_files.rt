@@ -61,7 +61,7 @@ fn a_file_that_has_bytes_stays(rt: HostRuntime) -> Result<(), Fail> {
     Ok(())
 }
 
-/// Lets so many calls through; a write that fails stores so many bytes.
+/// Lets this many calls through; a write that fails stores this many bytes.
 fn stop_making(
     alloc: Global,
     pass: u64,
@@ -74,7 +74,7 @@ fn stop_making(
 }
 
 /// How many calls are let through, how many bytes a write stores that fails, the length and the
-/// bytes that a crash leaves where it may, and what is found then.
+/// bytes that a crash leaves if it may, and what is found then.
 const LEFT: [(u64, usize, u64, &[u8], Result<Summary, OpenFault>); 14] = [
     // the length isn't told
     (0, 0, 0, b"", NONE),
@@ -96,7 +96,7 @@ const LEFT: [(u64, usize, u64, &[u8], Result<Summary, OpenFault>); 14] = [
     (5, 0, 0, b"\0", EMPTY),
 ];
 
-// Whether the file is made, and what is found where this is chosen at the crash.
+// Whether the file is made, and what is found if this is chosen at the crash.
 fn crash_as_chosen(
     alloc: Global,
     pass: u64,

@@ -18,7 +18,7 @@ const HALF_1: usize = 20_480;
 /// Where a head has its version.
 const VERSION_AT: usize = 2;
 
-/// How many calls opening the file of two classes takes where it isn't moved over: a sync, the
+/// How many calls opening the file of two classes takes if it isn't moved over: a sync, the
 /// length, the superblock, both halves, the length again, and two records.
 const CALLS: u64 = 8;
 
@@ -34,7 +34,7 @@ fn file_of_version(alloc: Global, version: u8) -> Result<Vec<u8>, Fail> {
     Ok(file)
 }
 
-/// What a file is opened as where a call fails after so many, and its disk.
+/// What a file is opened as if a call fails after this many, and its disk.
 fn open_fused(alloc: Global, disk: SimDisk, pass: u64, stores: usize) -> (Told, SimDisk) {
     match open(alloc, FuseDisk::new(disk, pass, stores)) {
         Ok((front, committer)) => {
@@ -46,7 +46,7 @@ fn open_fused(alloc: Global, disk: SimDisk, pass: u64, stores: usize) -> (Told, 
     }
 }
 
-/// What it is opened as where no call fails.
+/// What it is opened as if no call fails.
 fn open_whole(alloc: Global, disk: SimDisk) -> (Told, SimDisk) {
     open_fused(alloc, disk, 100, 0)
 }

@@ -88,7 +88,7 @@ fn a_short_file_is_no_cache_or_damaged(rt: HostRuntime) -> Result<(), Fail> {
     Ok(())
 }
 
-/// What is found where a call fails behind so many, and then where none does, with the syncs.
+/// What is found if a call fails after this many, and then if none does, with the syncs.
 fn find_behind(alloc: Global, pass: u64) -> Result<(Told, Told, u64), Fail> {
     let mut fuse = FuseDisk::new(small(alloc)?, pass, 0);
     let broken = find_in(alloc, &mut fuse);

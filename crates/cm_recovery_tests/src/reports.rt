@@ -133,7 +133,7 @@ const CASES: [(&[Call], [usize; 3], u64); 11] = [
     ),
 ];
 
-/// What a file tells.
+/// What a file says.
 type Told = Result<Report, OpenFault>;
 
 fn tell_after(alloc: Global, calls: &[Call]) -> Result<Told, Fail> {
@@ -174,8 +174,8 @@ fn tell_of_many(alloc: Global, classes: u8) -> Result<Told, Fail> {
     tell_after(alloc, &calls)
 }
 
-// 127 groups of two slots, behind the half's head, fill all but one of its 256 slots. One more
-// group stands behind 127 live rows in the other half.
+// 127 groups of two slots, after the half's head, fill all but one of its 256 slots. One more
+// group stands after 127 live rows in the other half.
 #[test]
 fn a_full_journal_is_counted(rt: HostRuntime) -> Result<(), Fail> {
     assert_eq!(rt; tell_of_many(rt.alloc(), 35)?, report(92, 35, 3, 127));
@@ -183,7 +183,7 @@ fn a_full_journal_is_counted(rt: HostRuntime) -> Result<(), Fail> {
     Ok(())
 }
 
-// What a file tells, and whether its bytes and its syncs are what they were.
+// What a file says, and whether its bytes and its syncs are what they were.
 fn look(alloc: Global, disk: &mut SimDisk) -> Result<(Told, bool, bool), Fail> {
     let (before, syncs) = (bytes_of(alloc, disk)?, disk.syncs());
     let told = check(alloc, disk);
@@ -203,7 +203,7 @@ fn a_file_is_looked_at_by_reads_alone(rt: HostRuntime) -> Result<(), Fail> {
     Ok(())
 }
 
-// What a file of these bytes tells where a call fails behind so many, and then where none does.
+// What a file of these bytes says where a call fails after this many, and then if none does.
 fn tell_behind(alloc: Global, bytes: &[u8], pass: u64) -> Result<(Told, Told), Fail> {
     let mut fuse = FuseDisk::new(disk_of(alloc, bytes)?, pass, 0);
     let told = check(alloc, &mut fuse);
@@ -212,7 +212,7 @@ fn tell_behind(alloc: Global, bytes: &[u8], pass: u64) -> Result<(Told, Told), F
     Ok((told, check(alloc, &mut disk)))
 }
 
-// Behind how many calls a failure is the first that is told otherwise. The seven calls are the
+// After how many calls a failure is the first that is told otherwise. The seven calls are the
 // length, the superblock, both halves, the length again, and two records.
 fn first_other(alloc: Global, bytes: &[u8]) -> Result<Option<u64>, Fail> {
     let whole = report(2, 2, 2, 4);

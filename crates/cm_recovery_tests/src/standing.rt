@@ -67,7 +67,7 @@ const CHANGES: [(usize, u8, Found<Summary>); 7] = [
     (ROOTS_AT + 200, 2, Damaged(Damage::Record, 6)),
     // the name of the second class is that of the first
     (ROOTS_AT + 256, b'A', Damaged(Damage::ClassTwice, 6)),
-    // behind the records
+    // after the records
     (ROOTS_AT + 288, 1, Sound(WHOLE)),
 ];
 
@@ -84,7 +84,7 @@ fn tell_with(alloc: Global, file: &[u8], at: usize, byte: u8) -> Result<Told, Fa
     tell_standing(alloc, &bytes)
 }
 
-// Which change is the first behind which the file stands for something else.
+// Which change is the first after which the file stands for something else.
 fn first_other_change(alloc: Global, file: &[u8]) -> Result<Option<(usize, u8)>, Fail> {
     for (at, byte, found) in &CHANGES {
         if tell_with(alloc, file, *at, *byte)? != found.on_disk() {
@@ -136,7 +136,7 @@ fn a_class_is_defined_once_in_a_loader(rt: HostRuntime) -> Result<(), Fail> {
     Ok(())
 }
 
-/// What a file stands for where a call fails behind so many, and then where none does.
+/// What a file stands for if a call fails after this many, and then if none does.
 fn tell_behind(alloc: Global, file: &[u8], pass: u64) -> Result<(Told, Told), Fail> {
     let mut fuse = FuseDisk::new(disk_of(alloc, file)?, pass, 0);
     let broken = read_standing_of(alloc, &mut fuse);
@@ -145,7 +145,7 @@ fn tell_behind(alloc: Global, file: &[u8], pass: u64) -> Result<(Told, Told), Fa
     Ok((broken, read_standing_of(alloc, &mut disk)))
 }
 
-// Behind how many calls a failure is the first that is told otherwise.
+// After how many calls a failure is the first that is told otherwise.
 fn first_other_failure(alloc: Global, file: &[u8]) -> Result<Option<u64>, Fail> {
     for pass in 0..7 {
         if tell_behind(alloc, file, pass)? != (Err(OpenFault::Device), Ok(WHOLE)) {

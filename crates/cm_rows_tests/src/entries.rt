@@ -231,7 +231,7 @@ fn takes_live_rows_in_their_order(rt: HostRuntime) -> Result<(), Fail> {
     take_each(&rt, &mut book)
 }
 
-// Two classes of the one loader that a book had, and what a copy of another book takes behind that
+// Two classes of the one loader that a book had, and what a copy of another book takes after that
 // one's rows.
 static OLD: [Case<'_>; 2] = [
     (1, Loader(1, b"old"), None),

@@ -52,7 +52,7 @@ fn takes_loader(alloc: Global, group: &mut Group, name: &[u8]) -> Result<bool, F
     Ok(next <= 1 << 63 && group.push(entry).is_ok())
 }
 
-// A group of so many loaders of 96 bytes.
+// A group of this many loaders of 96 bytes.
 fn group_of_long_names(alloc: Global, first: u64, count: u64) -> Result<Group, Fail> {
     if first == 0 || first > 1_000 {
         return Err("a first number from 1 to 1000".into());

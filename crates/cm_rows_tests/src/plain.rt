@@ -173,7 +173,7 @@ impl Plain {
         }
     }
 
-    /// The rule that an entry breaks; where it breaks none, the rows are those after it.
+    /// The rule that an entry breaks; if it breaks none, the rows are those after it.
     pub fn apply(&mut self, entry: &Entry<()>) -> Result<Option<EntryRule>, AllocError> {
         let rule = self.rule(entry);
         if rule.is_some() {

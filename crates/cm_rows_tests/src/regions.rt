@@ -55,7 +55,7 @@ fn is_read_with(bytes: &mut [u8], at: usize, byte: u8) -> bool {
     is_read
 }
 
-// The first place with another byte of which bytes are read, or their end where they are read
+// The first place with another byte of which bytes are read, or their end if they are read
 // without their last one.
 fn first_read(bytes: &mut [u8]) -> Option<usize> {
     for (at, byte) in &WRONG {

@@ -101,7 +101,7 @@ fn adds_and_tells(alloc: Global) -> Result<bool, Fail> {
     tells_of_many(&mut book)
 }
 
-// Whose names are there is told also where the index stands in many blocks, and once it was swept.
+// Whose names are there is told also if the index stands in many blocks, and once it was swept.
 #[test]
 fn finds_each_of_many_loaders(rt: HostRuntime) -> Result<(), Fail> {
     assert!(rt; adds_and_tells(rt.alloc())?);

@@ -37,7 +37,7 @@ pub fn take<P: Kept>(book: &mut Book<P>, number: u64, entry: Entry<P>) -> Result
     }
 }
 
-// A book of a region with so many roots of 1,024 words, and so many slots.
+// A book of a region with this many roots of 1,024 words, and this many slots.
 pub fn sized_book<P: Kept>(alloc: Global, roots: u32, slots: u32) -> Result<Book<P>, Fail>
     ensures { IfOk result (λ book. book.sizes ≡ record { top = 3; roots = roots; slots = slots }) }
 {
@@ -91,7 +91,7 @@ pub fn move_of<P>(loader: u64, from: Chunk, to: Chunk) -> Entry<P> {
     Entry::Move(Move { loader, from, to })
 }
 
-/// An entry as tables write it, of values alone: nothing of a table has to be dropped where it is
+/// An entry as tables write it, of values alone: nothing of a table has to be dropped if it is
 /// left.
 #[derive(Clone, Copy)]
 pub enum Sample<'a> {

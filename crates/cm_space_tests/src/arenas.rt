@@ -7,7 +7,7 @@ use cm_pool::{Chunk, Place, Pool};
 use std::alloc::AllocError;
 use std::test::Fail;
 
-// Asks again where an allocation failed: arena and pool are as they were, so the answer is the one
+// Asks again if an allocation failed: arena and pool are as they were, so the answer is the one
 // that was due.
 fn place(arena: &mut Arena, words: u32, pool: &mut Pool) -> Result<Place, PlaceRefusal>
     requires { 1 ≤ words }
@@ -21,8 +21,8 @@ fn place(arena: &mut Arena, words: u32, pool: &mut Pool) -> Result<Place, PlaceR
 // A chunk and how many words in it are used before, or a refusal.
 type Answer = Result<(Parts, u32), PlaceRefusal>;
 
-// Whether so many words are placed in this chunk behind so many others, or refused, and asking
-// first tells whether the region is full.
+// Whether this many words are placed in this chunk after this many others, or refused, and asking
+// first says whether the region is full.
 fn is_placed(arena: &mut Arena, pool: &mut Pool, words: u32, expected: &Answer) -> bool
     requires { 1 ≤ words }
 {

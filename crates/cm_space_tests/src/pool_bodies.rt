@@ -30,7 +30,7 @@ impl Model for Both {
     ghost invariant = { λ b. AreHeld b.pool b.held.items × AreHeld b.listed b.held_listed.items };
 }
 
-// Adds so many roots to each.
+// Adds this many roots to each.
 fn add_roots(pool: &mut Pool, listed: &mut ListPool, roots: u32) -> Result<(), Fail> {
     for _ in 0..roots {
         if pool.add_root()? != listed.add_root()? {
@@ -73,7 +73,7 @@ impl Both {
     }
 }
 
-// How many of so many chunks, the first ones that are held, are the same where they are given back.
+// How many of this many chunks, the first ones that are held, are the same if they are given back.
 fn give_first(both: &mut Both, times: u32) -> u32 {
     let mut equal = 0;
     for _ in 0..times {
@@ -135,7 +135,7 @@ fn both_answer_alike(rt: HostRuntime) -> Result<(), Fail> {
     Ok(())
 }
 
-// Takes so many of the smallest blocks: how many of these calls both answer with the same block.
+// Takes this many of the smallest blocks: how many of these calls both answer with the same block.
 fn take_smallest(both: &mut Both, times: u32) -> Result<u32, AllocError> {
     let mut equal = 0;
     for _ in 0..times {

@@ -68,7 +68,7 @@ fn meets_where_a_word_is_shared(rt: HostRuntime) {
     }
 }
 
-// Adds a root; once more where an allocation failed, since the pool is as it was.
+// Adds a root; once more if an allocation failed, since the pool is as it was.
 fn add_root(pool: &mut Pool) -> Result<bool, AllocError> {
     match pool.add_root() {
         Ok(added) => Ok(added),
@@ -212,7 +212,7 @@ fn take_first(
 }
 
 // Allocates 2,000 times, and gives back every third chunk: the first call that is answered
-// otherwise than the set of free words tells.
+// otherwise than the set of free words says.
 fn compare_calls(
     pool: &mut Pool,
     held: &mut Vec<Chunk>,

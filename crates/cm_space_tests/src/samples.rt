@@ -11,7 +11,7 @@ pub fn chunk(parts: Parts) -> Chunk {
     Chunk { root, order, at }
 }
 
-// An empty pool; asked for once more where an allocation failed.
+// An empty pool; asked for once more if an allocation failed.
 pub fn empty_pool(alloc: Global, top: u32, roots: u32) -> Result<Pool, Fail> {
     let geometry = Geometry::new(top, roots, 256).ok_or("sizes")?;
     match Pool::new(alloc, geometry) {

@@ -24,7 +24,7 @@ fn place_of(parts: PlaceParts) -> Place {
     }
 }
 
-// An empty space. Like all that follows it is asked for once more where an allocation failed: a
+// An empty space. Like all that follows it is asked for once more if an allocation failed: a
 // space is as it was then, so the answer is the one that was due.
 fn empty(alloc: Global, top: u32, roots: u32) -> Result<Space, Fail>
     ensures { IfOk result (λ space. space.waiting ≡ []) }
@@ -85,7 +85,7 @@ fn leave(space: &mut Space, loader: u64, number: u64) -> Result<(), Fail>
     Ok(())
 }
 
-// Of the roots that an adopted place needs some may have been added where an allocation failed.
+// Of the roots that an adopted place needs some may have been added if an allocation failed.
 fn adopt(space: &mut Space, loader: u64, place: Place) -> Result<bool, Fail> {
     if !space.is_known(loader) {
         return Err("not known".into());
@@ -114,7 +114,7 @@ const LEARNT: [(u64, Result<PlaceParts, PlaceRefusal>); 3] = [
     (4, Ok(((0, 0, 0), 0, 16))),
 ];
 
-// The first number behind which 16 words are answered otherwise, or it isn't told whether the
+// The first number after which 16 words are answered otherwise, or it isn't told whether the
 // region is full.
 fn learn_and_place(space: &mut Space) -> Result<Option<u64>, Fail> {
     for (number, expected) in &LEARNT {
@@ -152,7 +152,7 @@ fn a_left_chunk_waits_for_its_number(rt: HostRuntime) -> Result<(), Fail> {
     leave_and_learn(&rt, &mut space)
 }
 
-// Asks again where an allocation failed.
+// Asks again if an allocation failed.
 fn tighten(space: &mut Space, loader: u64, number: u64) -> Result<Option<Moved>, Fail>
     requires { space.old.waiting ≡ [] }
 {
@@ -180,7 +180,7 @@ fn moves_down_once(space: &mut Space) -> Result<bool, Fail>
     Ok(is_moved && space.is_known(1) && space.is_tight(1))
 }
 
-// Whether words of a new loader find a place in the chunk that was left, behind what is learnt.
+// Whether words of a new loader find a place in the chunk that was left, after what is learnt.
 fn has_left_chunk(space: &mut Space, loader: u64, learnt: u64) -> Result<bool, Fail> {
     space.learn(learnt);
     add_loader(space, loader)?;

@@ -19,12 +19,12 @@ fn three_words(alloc: Global) -> Result<WordBuf, Fail>
     Ok(words)
 }
 
-// Whether there are three, with room for so many more.
+// Whether there are three, with room for this many more.
 fn has_three(words: &WordBuf, room: usize) -> bool {
     words.len() == 3 && words.room() == room
 }
 
-// Whether the second word is 7, and 9 once it is set, and a word behind the last takes all room.
+// Whether the second word is 7, and 9 once it is set, and a word after the last takes all room.
 fn set_and_push(words: &mut WordBuf) -> bool
     requires len { length words.old.words ≡ 3 }
     requires room { words.old.capacity ≡ 4 }
@@ -44,7 +44,7 @@ fn words_are_kept(rt: HostRuntime) -> Result<(), Fail> {
     Ok(())
 }
 
-// Whether a buffer of these words has them, with room for no more, and none behind them.
+// Whether a buffer of these words has them, with room for no more, and none after them.
 fn is_copied_whole(words: &mut WordBuf) -> bool
     requires len { length words.old.words ≡ 3 }
     requires room { words.old.capacity ≡ 3 }
@@ -55,7 +55,7 @@ fn is_copied_whole(words: &mut WordBuf) -> bool
     is_equal && room == 0 && words.len() == 3
 }
 
-// Whether one more word goes behind the three.
+// Whether one more word goes after the three.
 fn is_extended(words: &mut WordBuf) -> bool
     requires len { length words.old.words ≡ 3 }
     requires room { words.old.capacity ≡ 4 }

@@ -12,7 +12,7 @@ pub fn new_disk(alloc: Global) -> Result<SimDisk, Fail> {
     new_disk_of(alloc, 4_096)
 }
 
-/// One with so many slots in each half.
+/// One with this many slots in each half.
 pub fn new_disk_of(alloc: Global, slots: u32) -> Result<SimDisk, Fail> {
     let geometry = Geometry::new(8, 64, slots).ok_or("a geometry")?;
     let mut disk = SimDisk::new(alloc);

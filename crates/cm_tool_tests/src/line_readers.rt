@@ -43,7 +43,7 @@ fn lines_are_read_in_pieces(rt: HostRuntime) -> Result<(), Fail> {
     Ok(())
 }
 
-/// A line of so many bytes that adds a loader, and one behind it that unloads another.
+/// A line of this many bytes that adds a loader, and one after it that unloads another.
 fn push_long_script(script: &mut Vec<u8>, len: usize) -> Result<(), Fail> {
     script.extend_from_slice(b"loader ")?;
     script.resize(len, b'a')?;
@@ -66,7 +66,7 @@ fn first_asks(script: &[u8], line: &mut LineBuffer) -> Option<bool> {
     }
 }
 
-/// Whether a line of so many bytes asks for something.
+/// Whether a line of this many bytes asks for something.
 fn long_line_asks(alloc: Global, len: usize) -> Result<Option<bool>, Fail> {
     let mut script = Vec::new(alloc);
     push_long_script(&mut script, len)?;
@@ -81,7 +81,7 @@ fn a_line_has_at_most_16777216_bytes(rt: HostRuntime) -> Result<(), Fail> {
     Ok(())
 }
 
-/// Is interrupted before each time that it gives its bytes, and fails behind them.
+/// Is interrupted before each time that it gives its bytes, and fails after them.
 #[derive(Drop)]
 struct FailingReader<'a> {
     bytes: &'a [u8],

@@ -5,7 +5,7 @@ use std::alloc::Global;
 use std::io::{self, ErrorKind, Write};
 use std::test::*;
 
-/// Takes one byte at a time, so many in all, and is interrupted before each; then it takes nothing,
+/// Takes one byte at a time, this many in all, and is interrupted before each; then it takes none,
 /// or fails.
 #[derive(Drop)]
 struct NarrowWriter {

@@ -9,7 +9,7 @@ use std::alloc::Global;
 use std::io::Write;
 use std::test::*;
 
-/// The class `A` of `java/lang/Object` up to the length of its name, and from behind its name on.
+/// The class `A` of `java/lang/Object` up to the length of its name, and from after its name on.
 const CLASS: (&[u8], &[u8]) = (
     b"cafebabe0000003400050700020100",
     b"0700040100106a6176612f6c616e672f4f626a6563740021000100030000000000000000",
@@ -117,7 +117,7 @@ pub fn tell_to_end<D: Drop>(
     }
 }
 
-/// Whether these lines were to be told with the status, or that the device failed, where it did.
+/// Whether these lines were to be told with the status, or that the device failed, if it did.
 fn is_due(status: Status, told: &[u8], lines: &[u8]) -> bool {
     match status {
         Status::Failed => told == b"device\n".as_slice(),

@@ -62,7 +62,7 @@ fn short_files_are_refused(rt: HostRuntime) -> Result<(), Fail> {
     Ok(())
 }
 
-/// The status of what is told of a cache of one class where the device fails behind so many calls,
+/// The status of what is told of a cache of one class if the device fails after this many calls,
 /// and whether it is these lines or that the device failed.
 fn tell_behind(alloc: Global, verb: Verb, pass: u64, lines: &[u8]) -> Result<(Status, bool), Fail> {
     let disk = cache_after(alloc, b"loader app\ndefine app <0141>\n")?;

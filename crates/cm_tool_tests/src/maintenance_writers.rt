@@ -8,7 +8,7 @@ use std::alloc::Global;
 use std::io::{self, ErrorKind, Write};
 use std::test::*;
 
-/// Takes one byte at a time, so many in all, and fails then.
+/// Takes one byte at a time, this many in all, and fails then.
 #[derive(Drop)]
 struct NarrowWriter {
     bytes: Vec<u8>,
@@ -55,7 +55,7 @@ fn tell_to_failing(
     }
 }
 
-/// Whether what is told into so much room fails behind the beginning of a text, and the disk.
+/// Whether what is told into so much room fails after the beginning of a text, and the disk.
 fn is_cut(
     alloc: Global,
     verb: Verb,

@@ -137,7 +137,7 @@ fn a_refused_line_shows_in_the_outcome(rt: HostRuntime) -> Result<(), Fail> {
     Ok(())
 }
 
-/// Whether the cache on a disk has the class, and nothing of its loader behind an unloading.
+/// Whether the cache on a disk has the class, and nothing of its loader after an unloading.
 fn finds_class_and_unloads(alloc: Global, disk: SimDisk) -> bool {
     let (written, outcome, _disk) = replies(alloc, b"find app A\nunload app\nfind app A", disk);
     let wanted = b"class A flags 0021 super java/lang/Object words 16\nok 3\nnone\n".as_slice();
@@ -201,7 +201,7 @@ fn reply_for(outcome: Result<Outcome, ApplyFault>) -> &'static [u8] {
     }
 }
 
-/// What comes of a loader where the device fails behind so many calls, and whether that is replied,
+/// What comes of a loader if the device fails after this many calls, and whether that is replied,
 /// and the loader is there.
 fn add_behind(alloc: Global, pass: u64) -> Result<(Result<Outcome, ApplyFault>, [bool; 2]), Fail> {
     let disk = FuseDisk::new(new_disk(alloc)?, pass, 0);
@@ -212,7 +212,7 @@ fn add_behind(alloc: Global, pass: u64) -> Result<(Result<Outcome, ApplyFault>, 
 }
 
 /// A loader takes four calls: its entry is written, synced, its gate written, and synced again.
-/// Where the last of them fails, the file holds it, and it is there when the file is opened again.
+/// If the last of them fails, the file holds it, and it is there when the file is opened again.
 #[test]
 fn a_command_is_unsure_where_the_device_fails(rt: HostRuntime) -> Result<(), Fail> {
     let mut unsure = 0u32;
@@ -237,7 +237,7 @@ fn a_command_is_unsure_where_the_device_fails(rt: HostRuntime) -> Result<(), Fai
     Err("no run met no failure".into())
 }
 
-/// Of three commands, where the device fails behind so many calls: whether the second is unsure and
+/// Of three commands, if the device fails after this many calls: whether the second is unsure and
 /// the last that is replied to, and whether the first is there.
 fn add_three_behind(alloc: Global, pass: u64) -> Result<[bool; 2], Fail> {
     let disk = FuseDisk::new(new_disk(alloc)?, pass, 0);
@@ -292,7 +292,7 @@ fn loader_line(alloc: Global, number: u32) -> Result<String, Fail> {
     Ok(format!(in alloc; "loader l{number}\n")?)
 }
 
-/// Loaders of so many names, and then the first goes, and comes with another.
+/// Loaders of this many names, and then the first goes, and comes with another.
 fn loaders(alloc: Global, count: u32) -> Result<Vec<u8>, Fail> {
     let mut script = Vec::new(alloc);
     for number in 0..count {

@@ -64,7 +64,7 @@ fn a_reader_that_fails_in_mid_line_ends_the_run(rt: HostRuntime) -> Result<(), F
     Ok(())
 }
 
-/// Takes so many replies, and then fails.
+/// Takes this many replies, and then fails.
 #[derive(Drop)]
 struct FailingWriter {
     replies: u8,
@@ -269,7 +269,7 @@ impl<'a> Write for HoldingWriter<'a> {
     }
 }
 
-/// Whether a run goes to its end that reads a line where all replies before it are passed on, and
+/// Whether a run goes to its end that reads a line if all replies before it are passed on, and
 /// these are the replies.
 fn is_passed_on(
     alloc: Global,

@@ -6,7 +6,7 @@ use cm_maintenance::Status;
 use std::alloc::Global;
 use std::test::*;
 
-/// A script, the line that a check tells of the cache after it, and the lines of its list.
+/// A script, the line that a check says of the cache after it, and the lines of its list.
 type Case<'a> = (&'a [u8], &'a [u8], &'a [u8]);
 
 const CASES: [Case<'_>; 7] = [
@@ -22,7 +22,7 @@ const CASES: [Case<'_>; 7] = [
         b"loader app\nclass A words 16 root 0 at 0\n",
     ),
     // loaders and classes in another order than that of their names, names of other bytes, and
-    // chunks and records behind others
+    // chunks and records after others
     (
         b"loader b\nloader a\ndefine b <0141>\ndefine a <02c3a9>\ndefine a <0125>\n\
             define b <024142>\ndefine a <0141>\n",
@@ -103,7 +103,7 @@ fn caches_are_checked_and_listed(rt: HostRuntime) -> Result<(), Fail> {
     Ok(())
 }
 
-/// How many syncs a disk had, has behind a check, and behind a list, and then its length.
+/// How many syncs a disk had, has after a check, and after a list, and then its length.
 fn count_syncs(alloc: Global, disk: SimDisk) -> Result<([u64; 3], Result<u64, DeviceFault>), Fail> {
     let before = disk.syncs();
     let (_, disk) = is_told(alloc, Verb::Check, disk, b"")?;
@@ -122,7 +122,7 @@ fn a_list_syncs_once_and_a_check_never(rt: HostRuntime) -> Result<(), Fail> {
     Ok(())
 }
 
-/// A list of a disk, and behind it a report.
+/// A list of a disk, and after it a report.
 fn list_and_check(alloc: Global, told: &mut Vec<u8>, disk: SimDisk) -> Result<(), Fail> {
     let (_, disk) = tell_to_end(tell(alloc, Verb::List, told, disk))?;
     let (_, _disk) = tell_to_end(tell(alloc, Verb::Check, told, disk))?;

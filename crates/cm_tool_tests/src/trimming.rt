@@ -1,4 +1,4 @@
-//! Files that are cut behind the last root that is in use.
+//! Files that are cut after the last root that is in use.
 
 use crate::disks::{new_disk, replies};
 use crate::maintenance_disks::{Verb, cache_after, status_of, tell, tell_to_end};
@@ -7,8 +7,8 @@ use cm_maintenance::Status;
 use std::alloc::Global;
 use std::test::*;
 
-/// Whether a trim of a disk tells this line, how long the file is then, and whether a second trim
-/// tells the same.
+/// Whether a trim of a disk says this line, how long the file is then, and whether a second trim
+/// says the same.
 fn trim_twice(alloc: Global, disk: SimDisk, line: &[u8]) -> Result<(bool, u64, bool), Fail> {
     let (status, is_told, mut disk) = status_of(alloc, Verb::Trim, disk, line)?;
     let Ok(len) = disk.len() else {
@@ -19,7 +19,7 @@ fn trim_twice(alloc: Global, disk: SimDisk, line: &[u8]) -> Result<(bool, u64, b
     Ok((status == Status::Done && is_told, len, is_same))
 }
 
-/// A script, what a trim of the cache after it tells, and how long the file is then: its halves end
+/// A script, what a trim of the cache after it says, and how long the file is then: its halves end
 /// at 36,864, and each root has 8,192 bytes.
 const CASES: [(&[u8], &[u8], u64); 4] = [
     (b"", b"roots 0\n", 36_864),
@@ -77,7 +77,7 @@ fn a_file_of_the_usual_sizes_gives_its_root_back(rt: HostRuntime) -> Result<(), 
     Ok(())
 }
 
-/// The status of a trim where the device fails behind so many calls, whether it tells that or its
+/// The status of a trim if the device fails after this many calls, whether it says that or its
 /// line, and whether the file is sound then.
 fn trim_behind(alloc: Global, pass: u64) -> Result<(Status, bool, bool), Fail> {
     let disk = cache_after(alloc, b"loader app\ndefine app <0141>\nunload app\n")?;
