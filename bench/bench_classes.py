@@ -1,6 +1,6 @@
 #!/usr/bin/env python3
-"""Writes class files for `cm_bench` to standard output, each preceded by its length (four bytes,
-big-endian).
+"""Writes class files for `cm_bench` and `cm_bench_files` to standard output, each preceded by its
+length (four bytes, big-endian).
 
     bench/bench_classes.py [--only-52] PATH..
     bench/bench_classes.py --hostile KIND

@@ -4,7 +4,7 @@
 #
 #     bench/files.sh [RUNS] [FOLDER]
 #
-# cm_bench put defines ordinary classes (those of bench/run.sh) in a new file in FOLDER (the
+# cm_bench_files put defines ordinary classes (those of bench/run.sh) in a new file in FOLDER (the
 # crate's out/), one a commit and 64 a commit. The same records, as they stand in that file, are
 # then stored by SQLite (write-ahead log, synchronous=FULL), by LMDB, by the bare device calls that
 # the same commits make (bench/stores.c), and by two other choices of these calls, on the same file
@@ -34,17 +34,19 @@ add_store sqlite sqlite3.h -DWITH_SQLITE -lsqlite3
 add_store lmdb lmdb.h -DWITH_LMDB -llmdb
 gcc -O2 -o "$work/stores" "$top/bench/stores.c" "${flags[@]}"
 build cm_bench
+build cm_bench_files
 bench=$top/crates/cm_bench/out/cm_bench
-folder=$(mktemp -d -p "${2:-$top/crates/cm_bench/out}")
+files=$top/crates/cm_bench_files/out/cm_bench_files
+folder=$(mktemp -d -p "${2:-$top/crates/cm_bench_files/out}")
 
 "$top/bench/bench_classes.py" --only-52 "${jars[@]}" >"$work/classes"
-"$bench" put "$folder/first" --group 64 "${sizes[@]}" <"$work/classes"
+"$files" put "$folder/first" --group 64 "${sizes[@]}" <"$work/classes"
 "$top/bench/records.py" "$folder/first" >"$work/records"
 rm "$folder/first"
 
 for group in 1 64; do
     for ((run = 0; run < runs; run++)); do
-        "$bench" put "$folder/cache" --group "$group" "${sizes[@]}" --times <"$work/classes" |
+        "$files" put "$folder/cache" --group "$group" "${sizes[@]}" --times <"$work/classes" |
             awk -v g="$group" '{
                 print "cmcache", g, $2, $6, $15
                 print "cmcache+prepare", g, $2, $6, $20
@@ -77,10 +79,10 @@ done | awk '
 
 for count in 10000 20000 30000; do
     "$top/bench/many_classes.py" "$count" <"$work/classes" >"$work/many"
-    "$bench" put "$folder/many" --group 64 --top 12 --roots 256 --slots 65536 <"$work/many"
+    "$files" put "$folder/many" --group 64 --top 12 --roots 256 --slots 65536 <"$work/many"
     {
         "$bench" classes --passes "$runs" <"$work/many"
-        for ((run = 0; run < runs; run++)); do "$bench" read "$folder/many" --times; done
+        for ((run = 0; run < runs; run++)); do "$files" read "$folder/many" --times; done
     } | awk '
         $1 == "read_class" || $1 == "Record::read" { alone += $9 }
         # classes N found N read in N ns, opened in N ns, looked up in N ns

@@ -1,4 +1,4 @@
-/* Stores records one commit after another, for comparison with `cm_bench put`:
+/* Stores records one commit after another, for comparison with `cm_bench_files put`:
  *
  *     stores sqlite|lmdb|bare|joined|holes FILE GROUP < RECORDS
  *     stores rocksdb FILE THREADS < RECORDS

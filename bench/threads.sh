@@ -4,12 +4,12 @@
 #
 #     bench/threads.sh [RUNS] [FOLDER]
 #
-# cm_bench threads has 1, 2, 4 and 16 threads define the ordinary classes (those of bench/run.sh) in
-# a new file in FOLDER (the crate's out/), each thread its share, one after another, in a loader of
-# its own: classes that were prepared before, and classes that each thread prepares first. The other
-# stores store the same records, one a commit (bench/stores.c). Each row has the best of RUNS runs
-# (5), and the worst for the machine's noise; all take turns. Behind it are the syncs of the best
-# run, and how its rate compares with LMDB's.
+# cm_bench_files threads has 1, 2, 4 and 16 threads define the ordinary classes (those of
+# bench/run.sh) in a new file in FOLDER (the crate's out/), each thread its share, one after
+# another, in a loader of its own: classes that were prepared before, and classes that each thread
+# prepares first. The other stores store the same records, one a commit (bench/stores.c). Each row
+# has the best of RUNS runs (5), and the worst for the machine's noise; all take turns. After it
+# come the syncs of the best run, and how its rate compares with LMDB's.
 #
 # Then one thread defines them while one other, or 16, look up classes all the time, once each. A
 # look-up takes the lock and is done: how long it takes tells how long the lock is held.
@@ -32,10 +32,10 @@ add_store lmdb lmdb.h -DWITH_LMDB -llmdb
 add_store rocksdb rocksdb/c.h -DWITH_ROCKSDB -lrocksdb -lpthread
 gcc -O2 -o "$work/stores" "$top/bench/stores.c" "${flags[@]}"
 if [ -z "${CM_BENCH:-}" ]; then # names another build
-    build cm_bench
+    build cm_bench_files
 fi
-bench=${CM_BENCH:-$top/crates/cm_bench/out/cm_bench}
-folder=$(mktemp -d -p "${2:-$top/crates/cm_bench/out}")
+bench=${CM_BENCH:-$top/crates/cm_bench_files/out/cm_bench_files}
+folder=$(mktemp -d -p "${2:-$top/crates/cm_bench_files/out}")
 
 "$top/bench/bench_classes.py" --only-52 "${jars[@]}" >"$work/classes"
 "$bench" put "$folder/first" --group 64 "${sizes[@]}" <"$work/classes"

@@ -113,16 +113,17 @@ beside sweep_program /dev/null 401 list FILE
 beside sweep_program /dev/null 342 apply FILE --workers 2
 beside sweep_program "$work/script" 419 apply FILE --workers 2
 # The same by the library alone: one thread makes a loader and defines a class.
-bench=$(built cm_bench)
+files=$(built cm_bench_files)
 sweep_threads() {
-    WORK=$work tests/refused_memory.py "$bench" "$library" "$1" threads FILE --threads 1
+    WORK=$work tests/refused_memory.py "$files" "$library" "$1" threads FILE --threads 1
     check_last "a cache for threads with a refused allocation"
 }
 beside sweep_threads 365
 tell_sweeps
 
-# asks NAME HEX: reading, judging and recording this class asks for no more than 16,384 bytes at
-# once, though it claims more; the words of the program's six verbs take some 10,000.
+bench=$(built cm_bench)
+# asks NAME HEX: reading, judging and recording this class asks for no more than 4,096 bytes at
+# once, though it claims more; the words of the program's two verbs take 2,688.
 asks() {
     local length=$((${#2} / 2)) status most
     printf '%08x%s' "$length" "$2" >"$work/hex"
@@ -132,7 +133,7 @@ asks() {
     ALLOCATIONS=$work/counts LD_PRELOAD=$library "$bench" classes <"$work/in" >"$work/got"
     status=$?
     most=$(count 2)
-    [ "$status" = 0 ] && [ "$most" -le 16384 ] && grep -q "faults $3" "$work/got"
+    [ "$status" = 0 ] && [ "$most" -le 4096 ] && grep -q "faults $3" "$work/got"
     check_last "$1: $most bytes were asked for at once"
 }
 asks "class A" "$a" 0

@@ -11,8 +11,8 @@ answered as ever, or `refused 9 memory` where nothing else refuses it, or, of a 
 `unsure N` as the last reply (a disk in memory that can't grow is a device that failed); fewer
 replies than lines come with status 3 alone. A file holds what was acknowledged then, or that and
 the next command; one that `format` didn't make isn't there, and one that is only looked at has its
-bytes. `threads`, of cm_bench, makes a file and has one thread make a loader there and define a
-class, on a cache that is started for threads: it ends with status 3 where that can't be started
+bytes. `threads`, of cm_bench_files, makes a file and has one thread make a loader there and define
+a class, on a cache that is started for threads: it ends with status 3 where that can't be started
 (2 where its words can't be read), and the file, once it is made, holds a beginning of the two
 commands, all of those among them that it says are stored.
 REFUSALS is how many runs have to meet a refusal; the first that meets none ends the sweep.

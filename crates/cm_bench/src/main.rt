@@ -1,29 +1,21 @@
-//! `cm_bench`: what the parts of a cache cost.
+//! `cm_bench`: what the parts of a cache cost that need no file.
 //!
 //! `classes` runs the reader, the rules and the records over class files from standard input, each
-//! behind its length in four bytes. `front` makes calls on accepted caches that it fills itself.
-//! `put FILE` makes a file and defines the classes on standard input in it; `read FILE` opens one
-//! and looks up each of its classes. `threads FILE` has several threads define them, and
-//! `soak FILE` has threads change the cache in a file for a while and prints what they were
-//! answered. Each but the last prints counts alone, unless times are asked for.
+//! preceded by its length in four bytes. `front` makes calls on accepted caches that it fills
+//! itself. Both print counts alone, unless times are asked for. What runs on files is
+//! `cm_bench_files`.
 #![tactic(auto)]
 
 mod classes;
 mod command;
-mod file;
 mod front;
-mod input;
-mod threads;
 
 use crate::command::{Request, read_words};
 use anyhow::Result;
-use std::fs::{File, Files};
 use std::process::ExitCode;
 use std::rt::{Clock, Env};
-use std::sync::Wait;
-use std::thread::Threads;
 
-/// The file, the input, the output, the clock or memory failed.
+/// The input, the output, the clock or memory failed.
 const FAILED: u8 = 3;
 
 fn main(rt: HostRuntime) -> ExitCode {
@@ -31,12 +23,8 @@ fn main(rt: HostRuntime) -> ExitCode {
 }
 
 /// Does what the command line asks for, and gives the status.
-fn run<R>(rt: &R) -> u8
-where
-    R: Clock + Env + Files<File = File> + Input + Print + Eprint + AllocGlobal,
-    R: Threads + Wait + Copy + Send + Sync + 'static,
-{
-    match read_words(rt).and_then(|request| carry_out(rt, &request)) {
+fn run(rt: &(impl Clock + Env + Input + Print + Eprint + AllocGlobal)) -> u8 {
+    match read_words(rt).and_then(|request| carry_out(rt, request)) {
         Ok(status) => status,
         Err(error) => {
             let _ = eprintln!(rt; "cm_bench: {error}");
@@ -46,19 +34,12 @@ where
 }
 
 /// Does what is asked for, and gives the status to end with.
-fn carry_out<R>(rt: &R, request: &Request) -> Result<u8>
-where
-    R: Clock + Files<File = File> + Input + Print + AllocGlobal,
-    R: Threads + Wait + Copy + Send + Sync + 'static,
-{
+fn carry_out(rt: &(impl Clock + Input + Print + AllocGlobal), request: Request) -> Result<u8> {
     match request {
-        Request::Printed(status) => return Ok(*status),
-        Request::Classes(passes) => classes::bench(rt, *passes)?,
+        Request::Printed(status) => return Ok(status),
+        Request::Classes(passes) => classes::bench(rt, passes)?,
         Request::Methods => classes::list_methods(rt)?,
-        Request::Front(times) => front::bench(rt, *times)?,
-        Request::File(job) => file::bench(rt, job)?,
-        Request::Soak(soaking) => threads::soak(rt, soaking)?,
-        Request::Threads(threading) => threads::bench(rt, threading)?,
+        Request::Front(passes) => front::bench(rt, passes)?,
     }
     Ok(0)
 }

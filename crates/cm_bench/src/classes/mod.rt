@@ -14,9 +14,8 @@ use crate::classes::pools::Crowd;
 use crate::classes::report::{report, report_lookup, report_pools};
 use crate::classes::samples::Samples;
 use crate::classes::step::Step;
-use crate::input::read_input;
 use anyhow::Result;
-use cm_stream::classes_in;
+use cm_stream::{classes_in, read_stream};
 use std::rt::Clock;
 
 /// The steps, in the order in which they are run.
@@ -29,8 +28,33 @@ const STEPS: [Step; 4] = [
 
 /// Prints the methods of the classes on standard input.
 pub fn list_methods(rt: &(impl Input + Print + AllocGlobal)) -> Result<()> {
-    let bytes = read_input(rt)?;
+    let bytes = read_stream(rt.alloc(), rt.reader())?;
     print_methods(rt, &classes_in(rt.alloc(), &bytes)?)
+}
+
+/// Runs each step over samples.
+fn bench_steps(
+    rt: &(impl Clock + Print + AllocGlobal),
+    samples: &Samples,
+    passes: Option<u32>,
+) -> Result<()> {
+    for step in STEPS {
+        report(rt, step, samples, passes)?;
+    }
+    Ok(())
+}
+
+/// Looks into the records of class files.
+fn bench_lookups(
+    rt: &(impl Clock + Print + AllocGlobal),
+    recorded: &[&[u8]],
+    passes: Option<u32>,
+) -> Result<()> {
+    let subjects = subjects(rt.alloc(), recorded)?;
+    for lookup in Lookup::ALL {
+        report_lookup(rt, lookup, &subjects, passes)?;
+    }
+    Ok(())
 }
 
 /// Takes blocks of crowded pools. Only where times are asked for: counts say nothing here, and the
@@ -42,18 +66,13 @@ fn bench_pools(rt: &(impl Clock + Print + AllocGlobal), passes: Option<u32>) -> 
     Ok(())
 }
 
-/// Runs each step over the classes on standard input.
+/// Runs the steps over the classes on standard input, and looks into their records.
 pub fn bench(rt: &(impl Clock + Input + Print + AllocGlobal), passes: Option<u32>) -> Result<()> {
     let alloc = rt.alloc();
-    let bytes = read_input(rt)?;
+    let bytes = read_stream(alloc, rt.reader())?;
     let samples = Samples::new(alloc, classes_in(alloc, &bytes)?)?;
-    for step in STEPS {
-        report(rt, step, &samples, passes)?;
-    }
-    let subjects = subjects(alloc, &samples.recorded)?;
-    for lookup in Lookup::ALL {
-        report_lookup(rt, lookup, &subjects, passes)?;
-    }
+    bench_steps(rt, &samples, passes)?;
+    bench_lookups(rt, &samples.recorded, passes)?;
     if passes.is_some() {
         bench_pools(rt, passes)?;
     }

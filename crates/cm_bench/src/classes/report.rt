@@ -61,6 +61,23 @@ pub fn report(
     Ok(())
 }
 
+/// The least time that the calls of a look-up take, in so many passes.
+fn best_of_lookup(
+    rt: &(impl Clock + AllocGlobal),
+    lookup: Lookup,
+    subjects: &[Subject],
+    passes: u32,
+) -> Result<Duration> {
+    let alloc = rt.alloc();
+    let mut best = Duration::MAX;
+    for _ in 0..passes {
+        let start = Instant::now(rt)?;
+        lookup.run(alloc, subjects)?;
+        best = best.min(start.elapsed(rt)?);
+    }
+    Ok(best)
+}
+
 /// Makes the calls of a look-up once, and then in so many timed passes, and prints its line.
 pub fn report_lookup(
     rt: &(impl Clock + Print + AllocGlobal),
@@ -68,19 +85,12 @@ pub fn report_lookup(
     subjects: &[Subject],
     passes: Option<u32>,
 ) -> Result<()> {
-    let alloc = rt.alloc();
     let name = lookup.name();
-    let tally = lookup.run(alloc, subjects)?;
+    let tally = lookup.run(rt.alloc(), subjects)?;
     let (calls, found) = (tally.calls, tally.found);
     print!(rt; "{name} calls {calls} found {found}")?;
     if let Some(passes) = passes {
-        let mut best = Duration::MAX;
-        for _ in 0..passes {
-            let start = Instant::now(rt)?;
-            lookup.run(alloc, subjects)?;
-            best = best.min(start.elapsed(rt)?);
-        }
-        let nanos = best.as_nanos();
+        let nanos = best_of_lookup(rt, lookup, subjects, passes)?.as_nanos();
         let each = nanos / (calls as u128).max(1);
         print!(rt; " best {nanos} ns {each} ns a call")?;
     }

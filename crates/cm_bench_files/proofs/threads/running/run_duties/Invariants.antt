@@ -1,7 +1,7 @@
 use Rattle.crossbeam_channel.specs.Ends.{sends_on}
 use Rattle.cm_cache.specs.Channel.{channel_of}
 use Rattle.cm_cache.specs.Starting.{base_of}
-use Rattle.cm_bench.proofs.threads.running.run_duties.Given as goal
+use Rattle.cm_bench_files.proofs.threads.running.run_duties.Given as goal
 
 -- what was just opened, with what was made for it
 abbrev pub ghosts-run-K-Naming : goal.ghosts-run-K-Naming

@@ -8,13 +8,14 @@ mod scene;
 
 use crate::command::{Soaking, Threading};
 use crate::file::{CountedDisk, make_file, open_file};
-use crate::input::read_input;
 use crate::threads::defining::Turn;
 use crate::threads::mixing::{LOADERS, Mix};
 use crate::threads::report::{print_steps, print_sums};
-use crate::threads::running::{Duty, run_duties};
+use crate::threads::running::{Duty, Ran, run_duties};
 use crate::threads::scene::Scene;
 use anyhow::Result;
+use cm_file_disk::FileDisk;
+use cm_stream::read_stream;
 use std::alloc::{AllocError, Global};
 use std::fs::{File, Files};
 use std::rt::Clock;
@@ -37,6 +38,17 @@ fn mixes(rt: &(impl Clock + AllocGlobal), soaking: &Soaking) -> Result<Vec<Duty>
     Ok(duties)
 }
 
+/// Has threads make calls by chance on the cache in a file.
+fn run_mixes<R>(rt: &R, soaking: &Soaking, scene: &Scene<'_>) -> Result<Ran<FileDisk>>
+where
+    R: Clock + Files<File = File> + AllocGlobal,
+    R: Threads + Wait + Copy + Send + Sync + 'static,
+{
+    let disk = open_file(rt, &soaking.path)?;
+    let duties = mixes(rt, soaking)?;
+    run_duties(rt, rt.alloc(), disk, scene, &duties)
+}
+
 /// Has threads change the cache in a file and look up in it for a while, and prints each call with
 /// what it was answered.
 pub fn soak<R>(rt: &R, soaking: &Soaking) -> Result<()>
@@ -44,12 +56,10 @@ where
     R: Clock + Files<File = File> + Input + Print + AllocGlobal,
     R: Threads + Wait + Copy + Send + Sync + 'static,
 {
-    let bytes = read_input(rt)?;
+    let bytes = read_stream(rt.alloc(), rt.reader())?;
     let loaders = soaking.threads.saturating_mul(LOADERS);
     let scene = Scene::new(rt.alloc(), &bytes, loaders, 0)?;
-    let disk = open_file(rt, &soaking.path)?;
-    let duties = mixes(rt, soaking)?;
-    let ran = run_duties(rt, rt.alloc(), disk, &scene, &duties)?;
+    let ran = run_mixes(rt, soaking, &scene)?;
     print_steps(rt, &scene, &ran.works, ran.totals)
 }
 
@@ -73,6 +83,22 @@ fn turn(threading: &Threading, thread: u32) -> Turn {
     }
 }
 
+/// Makes a file, and has threads do their turns on its cache.
+fn run_turns<R>(
+    rt: &R,
+    threading: &Threading,
+    scene: &Scene<'_>,
+) -> Result<Ran<CountedDisk<FileDisk>>>
+where
+    R: Clock + Files<File = File> + AllocGlobal,
+    R: Threads + Wait + Copy + Send + Sync + 'static,
+{
+    make_file(rt, &threading.path, threading.geometry)?;
+    let disk = CountedDisk::new(open_file(rt, &threading.path)?);
+    let duties = turns(rt.alloc(), threading)?;
+    run_duties(rt, rt.alloc(), disk, scene, &duties)
+}
+
 /// Has threads define classes one at a time in a new file, each in a loader of its own, while
 /// others look them up.
 pub fn bench<R>(rt: &R, threading: &Threading) -> Result<()>
@@ -81,12 +107,9 @@ where
     R: Threads + Wait + Copy + Send + Sync + 'static,
 {
     let alloc = rt.alloc();
-    let bytes = read_input(rt)?;
+    let bytes = read_stream(alloc, rt.reader())?;
     let scene = Scene::new(alloc, &bytes, threading.threads, threading.threads)?;
-    make_file(rt, &threading.path, threading.geometry)?;
-    let disk = CountedDisk::new(open_file(rt, &threading.path)?);
-    let duties = turns(alloc, threading)?;
-    let ran = run_duties(rt, alloc, disk, &scene, &duties)?;
+    let ran = run_turns(rt, threading, &scene)?;
     let time = if threading.is_timed {
         Some(ran.time)
     } else {

@@ -5,18 +5,17 @@ use crate::file::counted::Counts;
 use crate::file::put::Stored;
 use crate::file::read::{open_disk, shuffled_names};
 use crate::file::timed::{find_timed, prepare_timed, put_timed, read_timed};
-use crate::input::read_input;
 use anyhow::Result;
 use cm_front::Front;
 use cm_prepare::Prepared;
-use cm_stream::classes_in;
+use cm_stream::{classes_in, read_stream};
 use std::fs::{File, Files};
 use std::rt::Clock;
 use std::time::Instant;
 
 /// The classes on standard input, prepared.
 fn prepare_input(rt: &(impl Clock + Input + AllocGlobal)) -> Result<(Vec<Prepared>, u128)> {
-    let bytes = read_input(rt)?;
+    let bytes = read_stream(rt.alloc(), rt.reader())?;
     let classes = classes_in(rt.alloc(), &bytes)?;
     prepare_timed(rt, &classes)
 }

@@ -1,4 +1,4 @@
-use Rattle.cm_bench.proofs.threads.running.run_duties.Goals as goal
+use Rattle.cm_bench_files.proofs.threads.running.run_duties.Goals as goal
 
 pub run-requires-clause-opened : goal.run-requires-clause-opened
 run-requires-clause-opened g c =
